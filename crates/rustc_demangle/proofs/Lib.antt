@@ -1,0 +1,4 @@
+pub mod CutLemmas
+pub mod HandsLemmas
+pub mod PrintsLemmas
+pub mod Digits

@@ -1,0 +1,9 @@
+pub mod Array
+pub mod Cut
+pub mod Digits
+pub mod Hands
+pub mod Limit
+pub mod Sink
+pub mod Tally
+pub mod Writer
+pub mod Written

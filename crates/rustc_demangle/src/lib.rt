@@ -1,0 +1,5 @@
+//! Demangling of Rust symbols.
+#![tactic(auto)]
+
+mod cursor;
+pub mod sink;

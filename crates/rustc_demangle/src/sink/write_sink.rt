@@ -1,0 +1,68 @@
+//! A sink into a writer.
+ghost use Rattle.std.specs.Prelude.{◌≡◌, ◌≤◌, Some, None, true, false, is_some, refl, OnOk, IfOk, IsOk};
+ghost use Rattle.std.specs.List.{concat};
+ghost use Rattle.rustc_demangle.specs.Cut.{handed, texts, size};
+ghost use Rattle.rustc_demangle.specs.Array.{text_of};
+ghost use Rattle.std.proofs.Common.{◌∙◌};
+ghost use Rattle.rustc_demangle.specs.Writer.{Wrote, Wrote-nothing, Wrote-joined};
+
+use crate::sink::array_sink::ArraySink;
+use crate::sink::limit::put_all;
+use crate::sink::{SinkRefused, TextSink};
+use std::io;
+use std::io::Write;
+
+/// Hands each piece to a writer, and holds the error that the writer answered.
+pub struct WriteSink<'w, W: Write> {
+    out: &'w mut W,
+    fault: Option<io::Error>,
+}
+
+impl<'w, W: Write> WriteSink<'w, W> {
+    pub fn new(out: &'w mut W) -> Self
+        ensures same_writer { result.out.ghost_name ≡ out.entry.ghost_name }
+        ensures contents { result.out.now ≡ out.old }
+        ensures alive { result.fault ≡ None }
+    {
+        WriteSink { out, fault: None }
+    }
+
+    pub fn into_fault(self) -> Option<io::Error>
+        ensures fault { result ≡ self.entry.fault }
+        ensures written { self.exit.0.now ≡ self.entry.out.now }
+    {
+        let WriteSink { out: _, fault } = self;
+        fault
+    }
+}
+
+impl<'w, W: Write> TextSink for WriteSink<'w, W> {
+    ghost took = { λ s bytes t. (t.out.ghost_name ≡ s.out.ghost_name) × Wrote (W.contents s.out.now) bytes (W.contents t.out.now) };
+
+    ghost failed = { λ s. is_some s.fault };
+
+    ghost room = { λ s. Some 0 };
+
+    ghost keeps = { false };
+
+    fn put(&mut self, s: &str) -> Result<(), SinkRefused> {
+        if s.is_empty() {
+            return Ok(());
+        }
+        match self.out.write_all(s.as_bytes()) {
+            Ok(()) => Ok(()),
+            Err(fault) => {
+                self.fault = Some(fault);
+                Err(SinkRefused)
+            }
+        }
+    }
+
+    fn is_failed(&self) -> bool {
+        self.fault.is_some()
+    }
+
+    ghost took_nothing = { λ s. (refl, Wrote-nothing (W.contents s.out.now)) };
+
+    ghost took_joined = { λ s t u xs ys h k. (k.0 ∙ h.0, Wrote-joined _ _ _ xs ys h.1 k.1) };
+}
