@@ -7,3 +7,8 @@ pub mod Sink
 pub mod Tally
 pub mod Writer
 pub mod Written
+pub mod Legacy
+pub mod Stripped
+pub mod Style
+pub mod Symbols
+pub mod Unescaped

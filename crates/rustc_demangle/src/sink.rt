@@ -9,7 +9,7 @@ mod write_sink;
 
 pub use array_sink::ArraySink;
 pub(crate) use fmt_sink::FmtSink;
-pub(crate) use limit::SizeLimitedFmtAdapter;
+pub(crate) use limit::{SizeLimitedFmtAdapter, put_piece};
 pub use write_sink::WriteSink;
 
 /// A sink took no piece.

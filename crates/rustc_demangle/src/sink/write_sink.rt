@@ -1,13 +1,9 @@
 //! A sink into a writer.
 ghost use Rattle.std.specs.Prelude.{◌≡◌, ◌≤◌, Some, None, true, false, is_some, refl, OnOk, IfOk, IsOk};
-ghost use Rattle.std.specs.List.{concat};
-ghost use Rattle.rustc_demangle.specs.Cut.{handed, texts, size};
-ghost use Rattle.rustc_demangle.specs.Array.{text_of};
 ghost use Rattle.std.proofs.Common.{◌∙◌};
 ghost use Rattle.rustc_demangle.specs.Writer.{Wrote, Wrote-nothing, Wrote-joined};
 
 use crate::sink::array_sink::ArraySink;
-use crate::sink::limit::put_all;
 use crate::sink::{SinkRefused, TextSink};
 use std::io;
 use std::io::Write;
