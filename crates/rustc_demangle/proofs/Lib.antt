@@ -4,3 +4,6 @@ pub mod LegacyLaws
 pub mod PrintsLemmas
 pub mod SymbolSteps
 pub mod Digits
+pub mod LineDivision
+pub mod LineLaws
+pub mod StreamSteps

@@ -12,3 +12,6 @@ pub mod Stripped
 pub mod Style
 pub mod Symbols
 pub mod Unescaped
+pub mod Filtered
+pub mod Lines
+pub mod Stream

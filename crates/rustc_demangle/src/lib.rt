@@ -8,10 +8,12 @@ ghost use Rattle.rustc_demangle.specs.Symbols.{IsSymbol};
 mod cursor;
 mod legacy;
 pub mod sink;
+mod stream;
 mod strip;
 mod value;
 
 pub use cursor::Looks;
+pub use stream::{StreamFault, demangle_stream, demangle_stream_named};
 use strip::without_thin_lto;
 pub use value::Demangle;
 
