@@ -11,7 +11,7 @@ use Rattle.std.proofs.lemmas.Bool.{cases_Bool, true≢false}
 abbrev pub ending : List ℕ → List ℕ
 ending rest = 46 ∷ 108 ∷ 108 ∷ 118 ∷ 109 ∷ 46 ∷ rest
 
-begins : (t : List ℕ) → starts_with nat_eq t (codes ".llvm.") ≡ true → t ≡ ending (drop 6 t)
+pub begins : (t : List ℕ) → starts_with nat_eq t (codes ".llvm.") ≡ true → t ≡ ending (drop 6 t)
 begins t e = sym (take-append-drop 6 t) ∙ ap (λ x. x ++ drop 6 t) (sym ((bytes_decides (codes ".llvm.") (take 6 t)).0 e))
 
 not_here : (t : List ℕ) → ((rest : List ℕ) → t ≡ ending rest → ⊥) → starts_with nat_eq t (codes ".llvm.") ≡ false
