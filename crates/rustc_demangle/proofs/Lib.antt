@@ -10,4 +10,5 @@ pub mod SymbolSteps
 pub mod Digits
 pub mod LineDivision
 pub mod LineLaws
+pub mod RunSteps
 pub mod StreamSteps

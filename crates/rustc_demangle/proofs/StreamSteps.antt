@@ -1,5 +1,5 @@
 -- The stream, one line at a time.
-use Rattle.std.proofs.Common.{zero, suc, eqb, ◌≡◌, ℕ, ◌<◌, Bool, List, [], ◌∷◌, ◌++◌, All, IsUtf8, None, Some, IfSome, Ok, Err, true, false, length, take, get_or, refl, sym, ap, subst, ◌∙◌, arith, append_assoc, append-nil}
+use Rattle.std.proofs.Common.{zero, suc, eqb, ◌≡◌, ℕ, ◌<◌, Bool, cond, List, [], ◌∷◌, ◌++◌, All, IsUtf8, None, Some, IfSome, Ok, Err, true, false, length, take, get_or, refl, sym, ap, subst, ◌∙◌, arith, append_assoc, append-nil}
 use Rattle.std.specs.Bool.{⊤}
 use Rattle.std.proofs.lemmas.List.Elements.{All-append, All-nil, All-cons}
 use Rattle.std.proofs.lemmas.List.Concat.{flat_map-append}
@@ -10,7 +10,7 @@ use Rattle.std.specs.declared.io.Error.{Error}
 use Rattle.std.specs.declared.io.ErrorKind.TheVariants.{OutOfMemory}
 use Rattle.std.specs.IoError.{error_kind}
 use Rattle.std.specs.Io.KnownBytes.{Appends}
-use Rattle.std.specs.Io.BufRead.{take_through, drop_through}
+use Rattle.std.specs.Io.BufRead.{take_through, drop_through, DropsThrough}
 use Rattle.std.proofs.KnownBytes.{Appends-trans, Appends-nil}
 use Rattle.std.proofs.BufReadLemmas.{take_through_nonempty}
 use Rattle.rustc_demangle.specs.Filtered.{filtered}
@@ -76,16 +76,18 @@ streaming_end h b held left next old mid new p copied is =
 written : (h : Bool) (text : List ℕ) (left old mid new : Option (List ℕ)) → Streaming h (Some text) left old mid → new ≡ mid
     → (k : ℕ) × WroteLines text h old new k
 written h text left old mid new p same =
-    let all : p.0 ≡ take (length p.0) (lines text) = sym (ap (take (length p.0)) p.3 ∙ take-append_seam p.0 (lines p.1)) in
-    (length p.0, record {
-      utf8 = subst (All IsUtf8) all p.4;
-      wrote = subst (λ o. Appends old o (output_of h (take (length p.0) (lines text)))) (sym same) (subst (λ l. Appends old mid (output_of h l)) all p.5);
-    })
+    let all : p.0 ≡ take (length p.0) (lines text) = sym (ap (take (length p.0)) p.3 ∙ take-append_seam p.0 (lines p.1)) in (
+      length p.0,
+      record {
+        utf8 = subst (All IsUtf8) all p.4;
+        wrote = subst (λ o. Appends old o (output_of h (take (length p.0) (lines text)))) (sym same) (subst (λ l. Appends old mid (output_of h l)) all p.5);
+      },
+    )
 
 stop_read : (e : Error) (h : Bool) (held left old mid new : Option (List ℕ)) → Streaming h held left old mid → (error_kind e ≡ OutOfMemory → ⊥) → new ≡ mid
     → IfSome held (λ text. Stopped (Read e) text h old new)
 stop_read e h None left old mid new p kind same = tt
-stop_read e h (Some text) left old mid new p kind same = (kind, written h text left old mid new p same)
+stop_read e h (Some text) left old mid new p kind same = let w = written h text left old mid new p same in (kind, w.0, w.1)
 
 stop_memory : (h : Bool) (held left old mid new : Option (List ℕ)) → Streaming h held left old mid → new ≡ mid
     → IfSome held (λ text. Stopped Memory text h old new)
@@ -152,3 +154,24 @@ line_unread Memory h left next old is = refl
 pub some_items : (n : ℕ) (xs : List ℕ) → false ≡ (eqb n 0) → n ≡ length xs → 0 < length xs
 some_items zero xs h e = absurd (grind (arith, h))
 some_items (suc n) xs h e = omega (arith, e)
+
+-- a read that took nothing found nothing
+none_taken : (rest : List ℕ) → take_through 10 rest ≡ [] → rest ≡ []
+none_taken [] e = refl
+none_taken (b ∷ bs) e = at (eqb b 10) e
+  where
+    at : (t : Bool) → cond t (b ∷ []) (b ∷ take_through 10 bs) ≡ [] → (b ∷ bs) ≡ []
+    at true e = cc
+    at false e = cc
+
+no_items : (n : ℕ) (xs : List ℕ) → true ≡ (eqb n 0) → n ≡ length xs → xs ≡ []
+no_items zero [] h e = refl
+no_items zero (x ∷ xs) h e = absurd (omega (arith, e))
+no_items (suc n) xs h e = absurd (grind (arith, h))
+
+pub line_ended : (left next : Option (List ℕ)) (n : ℕ) (before after : List ℕ) → IfSome left (λ xs. after ≡ before ++ take_through 10 xs) → DropsThrough left next 10
+    → before ≡ [] → true ≡ (eqb n 0) → n ≡ length after → IfSome left (λ text. (text ≡ []) × (next ≡ Some []))
+line_ended None next n before after read rest none is count = tt
+line_ended (Some xs) next n before after read rest none is count =
+    let e : xs ≡ [] = none_taken xs (sym (taken xs before after after read none refl) ∙ no_items n after is count) in
+    (e, rest ∙ ap (λ l. Some (drop_through 10 l)) e)

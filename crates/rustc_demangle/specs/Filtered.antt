@@ -61,8 +61,9 @@ unfoldable pub filtered_from : Bool → ℕ → List ℕ → List ℕ
 filtered_from hash skip [] = []
 filtered_from hash (suc skip) (c ∷ s) = filtered_from hash skip s
 filtered_from hash zero (c ∷ s) = elim (begins_run (c ∷ s)) [
-    true ↦ replacement hash (c ∷ take_while is_run s) ++ filtered_from hash (prefix_len is_run s) s
-  | false ↦ c ∷ filtered_from hash zero s ]
+  | true ↦ replacement hash (c ∷ take_while is_run s) ++ filtered_from hash (prefix_len is_run s) s
+  | false ↦ c ∷ filtered_from hash zero s
+]
 
 -- the one `out` with `IsFiltered hash line out`
 abbrev pub filtered : Bool → List ℕ → List ℕ
