@@ -1,4 +1,6 @@
 pub mod CutLemmas
+pub mod FeedLaws
+pub mod FilterLaws
 pub mod HandsLemmas
 pub mod LegacyLaws
 pub mod PrintingLaws

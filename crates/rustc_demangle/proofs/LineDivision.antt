@@ -4,7 +4,7 @@ use Rattle.std.proofs.lemmas.List.Elements.{All-head, All-tail}
 use Rattle.std.proofs.lemmas.Str.{IsUtf8-append, IsUtf8-nil}
 use Rattle.std.specs.List.{concat}
 use Rattle.std.specs.Io.BufRead.{take_through, drop_through}
-use Rattle.rustc_demangle.specs.Lines.{lines, lines_from, onto_first}
+use Rattle.rustc_demangle.specs.Lines.{lines, onto_first}
 
 -- the first line is what a read through a line feed takes
 pub lines_step : (xs : List ℕ) → 0 < length xs → lines xs ≡ take_through 10 xs ∷ lines (drop_through 10 xs)

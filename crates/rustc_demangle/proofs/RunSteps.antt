@@ -1,5 +1,5 @@
 -- Runs in a line, as they are passed one after the other.
-use Rattle.std.proofs.Common.{◌≡◌, ◌≢◌, ℕ, zero, suc, ◌+◌, ◌-◌, ◌<◌, ◌≤◌, ◌⊎◌, inl, inr, ◌||◌, Bool, true, false, eqb, cond, List, [], ◌∷◌, ◌++◌, length, take, drop, get_or, Option, None, Some, refl, sym, ap, subst, ◌∙◌, arith, rules, append_assoc, append-nil, take_all, drop_of_length-le, length-drop, codes, nat_eq}
+use Rattle.std.proofs.Common.{◌≡◌, ℕ, zero, suc, ◌+◌, ◌-◌, ◌<◌, ◌≤◌, ◌⊎◌, inl, inr, ◌||◌, Bool, true, false, cond, List, [], ◌∷◌, ◌++◌, length, take, drop, get_or, Option, None, Some, refl, sym, ap, subst, ◌∙◌, arith, append_assoc, length-drop, codes, nat_eq}
 use Rattle.std.specs.List.{starts_with, prefix_len, take_while}
 use Rattle.std.specs.Option.{option_map_or}
 use Rattle.std.specs.Str.{IsUtf8, IsCharBoundary}
@@ -24,7 +24,7 @@ filtered_skip h zero (c ∷ s) = refl
 filtered_skip h (suc n) (c ∷ s) = filtered_skip h n s
 
 -- one turn, by whether a run begins
-abbrev turn : Bool → ℕ → List ℕ → Bool → List ℕ
+abbrev pub turn : Bool → ℕ → List ℕ → Bool → List ℕ
 turn h c s b = elim b [
   | true ↦ replacement h (c ∷ take_while is_run s) ++ filtered_from h (prefix_len is_run s) s
   | false ↦ c ∷ filtered_from h zero s

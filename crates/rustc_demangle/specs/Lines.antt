@@ -1,5 +1,5 @@
 -- The lines of a text.
-use Rattle.std.specs.Prelude.{◌≡◌, ◌≢◌, ◌<◌, ◌⊎◌, ◌++◌, ℕ, List, [], ◌∷◌, ◌==◌, if◌then◌else◌, length, All}
+use Rattle.std.specs.Prelude.{◌≡◌, ◌≢◌, ◌+◌, ◌<◌, ◌⊎◌, ◌++◌, ℕ, List, [], ◌∷◌, ◌==◌, if◌then◌else◌, length, All}
 use Rattle.std.specs.List.{concat}
 
 -- the byte in front of the first line
@@ -31,3 +31,8 @@ pub record OnlyLines (text : List ℕ) : Type 0 where
   pub are : AreLines (lines text)
   pub whole : concat (lines text) ≡ text
   pub only : (parts : List (List ℕ)) → AreLines parts → concat parts ≡ text → parts ≡ lines text
+
+-- how many line feeds a text has
+abbrev pub feeds : List ℕ → ℕ
+feeds [] = 0
+feeds (b ∷ bs) = (if b == 10 then 1 else 0) + feeds bs

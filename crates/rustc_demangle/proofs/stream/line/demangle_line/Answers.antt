@@ -1,6 +1,6 @@
-use Rattle.std.proofs.Common.{rules, sym, subst, ap, ◌∙◌}
+use Rattle.std.proofs.Common.{rules}
 use Rattle.std.proofs.lemmas.Result.{on_ok_weaker}
-use Rattle.rustc_demangle.proofs.RunSteps.{filtering_init, step_at, less_at, end_at, cut_at}
+use Rattle.rustc_demangle.proofs.RunSteps.{step_at, end_at, cut_at}
 use Rattle.rustc_demangle.proofs.stream.line.demangle_line.Goals as goal
 
 pub split_at-requires-in-Some : goal.split_at-requires-in-Some

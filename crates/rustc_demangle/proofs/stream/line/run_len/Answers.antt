@@ -1,4 +1,4 @@
-use Rattle.std.proofs.Common.{arith, rules, sym, ap, ◌∙◌}
+use Rattle.std.proofs.Common.{arith, sym, ◌∙◌}
 use Rattle.std.proofs.lemmas.List.Sums.{prefix_len_is}
 use Rattle.rustc_demangle.specs.Filtered.{is_run}
 use Rattle.rustc_demangle.proofs.stream.line.run_len.Goals as goal
