@@ -1,4 +1,11 @@
 pub mod CutLemmas
-pub mod HandsLemmas
-pub mod PrintsLemmas
 pub mod Digits
+pub mod HandsLemmas
+pub mod LegacyElements
+pub mod LegacyLaws
+pub mod LegacyPrefix
+pub mod LegacyPrinting
+pub mod LegacyUnits
+pub mod Printed
+pub mod PrintsLemmas
+pub mod Ranges

@@ -2,8 +2,11 @@ pub mod Array
 pub mod Cut
 pub mod Digits
 pub mod Hands
+pub mod Legacy
 pub mod Limit
 pub mod Sink
 pub mod Tally
+pub mod Unescaped
+pub mod Units
 pub mod Writer
 pub mod Written

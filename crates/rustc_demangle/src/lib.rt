@@ -2,4 +2,6 @@
 #![tactic(auto)]
 
 mod cursor;
+pub mod laws;
+mod legacy;
 pub mod sink;
