@@ -2,6 +2,7 @@
 use crate::filter::filter_run;
 use std::alloc::{AllocError, Global};
 use std::io::{BufRead, ErrorKind, Write};
+use std::process::Abort;
 use std::test::Fail;
 use streams::{PartsReader, RefusingWriter};
 
@@ -29,29 +30,53 @@ fn run<R: BufRead, W: Write>(
     Ok(Ended { status, errors })
 }
 
+/// Asserts what a run over a text writes, which succeeds.
+fn assert_writes(
+    rt: &impl Abort,
+    alloc: Global,
+    words: &[&str],
+    text: &[u8],
+    wanted: &[u8],
+) -> Result<(), AllocError> {
+    let mut input = text;
+    let mut output = Vec::new(alloc);
+    let ended = run(alloc, words, &mut input, &mut output)?;
+    assert_eq!(rt; ended.status, 0, "of {text:?}");
+    assert_eq!(rt; output.as_slice(), wanted, "of {text:?}");
+    assert!(rt; ended.errors.is_empty(), "of {text:?}");
+    Ok(())
+}
+
 #[test]
-fn demangles_one_line(rt: HostRuntime) -> Result<(), Fail> {
-    let alloc = rt.alloc();
-    let cases: [(&[&str], &[u8], &[u8]); 7] = [
+fn demangles_one_line(rt: HostRuntime) -> Result<(), AllocError> {
+    let cases: [(&[u8], &[u8]); 6] = [
         (
-            &[],
             b"_ZN3foo17h05af221e174051e9E\n",
             b"foo::h05af221e174051e9\n",
         ),
-        (&["--no-hash"], b"_ZN3foo17h05af221e174051e9E\n", b"foo\n"),
-        (&[], b"_ZN3fooE", b"foo\n"),
-        (&[], b"_ZN3fooE\r\n", b"_ZN3fooE\r\n"),
-        (&[], b"_ZN3fooE\n_ZN3barE\n", b"foo\n"),
-        (&[], b"", b"\n"),
-        (&["--no-hash"], b"x _ZN3fooE\n", b"x _ZN3fooE\n"),
+        (b"_ZN3fooE", b"foo\n"),
+        (b"_ZN3fooE\r\n", b"_ZN3fooE\r\n"),
+        (b"_ZN3fooE\n_ZN3barE\n", b"foo\n"),
+        (b"", b"\n"),
+        (b"x _ZN3fooE\n", b"x _ZN3fooE\n"),
     ];
-    for (words, text, wanted) in cases {
-        let mut input = text;
-        let mut output = Vec::new(alloc);
-        let ended = run(alloc, words, &mut input, &mut output)?;
-        assert_eq!(rt; ended.status, 0, "of {text:?}");
-        assert_eq!(rt; output.as_slice(), wanted, "of {text:?}");
-        assert!(rt; ended.errors.is_empty(), "of {text:?}");
+    for (text, wanted) in cases {
+        assert_writes(&rt, rt.alloc(), &[], text, wanted)?;
+    }
+    Ok(())
+}
+
+#[test]
+fn leaves_out_a_hash(rt: HostRuntime) -> Result<(), AllocError> {
+    let cases: [(&[u8], &[u8]); 2] = [
+        (b"_ZN3foo17h05af221e174051e9E\n", b"foo\n"),
+        (
+            b"_ZN17h05af221e174051e93fooE\n",
+            b"h05af221e174051e9::foo\n",
+        ),
+    ];
+    for (text, wanted) in cases {
+        assert_writes(&rt, rt.alloc(), &["--no-hash"], text, wanted)?;
     }
     Ok(())
 }
