@@ -1,6 +1,10 @@
 pub mod CutLemmas
 pub mod HandsLemmas
 pub mod LegacyLaws
+pub mod PrintingLaws
 pub mod PrintsLemmas
+pub mod StripLaws
+pub mod Stripping
+pub mod SuffixSteps
 pub mod SymbolSteps
 pub mod Digits

@@ -111,10 +111,10 @@ prints_stop sink old new xs ys r (Err u) p err err' = record {
       let more = fitting-more xs ys old.remaining in
       rw (more.1, e) (hands_stop sink _ _ _ more.0 r (Err u) h err refl)
 
-cut-past : (xs : List (List ℕ)) (l : ℕ) → l < size xs → cut xs l ≡ fitting xs l ++ marker ∷ []
+pub cut-past : (xs : List (List ℕ)) (l : ℕ) → l < size xs → cut xs l ≡ fitting xs l ++ marker ∷ []
 cut-past xs l h = elim (leb_tells (size xs) l) [ inl e ↦ let le : size xs ≤ l = e.1 in absurd (omega arith) | inr e ↦ rw e.0 refl ]
 
-cut-within : (xs : List (List ℕ)) (l : ℕ) → size xs ≤ l → cut xs l ≡ xs
+pub cut-within : (xs : List (List ℕ)) (l : ℕ) → size xs ≤ l → cut xs l ≡ xs
 cut-within xs l h = rw (le-leb _ _ h) refl
 
 -- where the limit was reached, the marker goes on behind

@@ -1,9 +1,10 @@
 -- What a text hands over, by what was read of it.
 use Rattle.std.proofs.Common.{◌≡◌, ℕ, ◌+◌, ◌≤◌, ◌<◌, Bool, true, false, List, [], ◌∷◌, ◌++◌, length, Option, None, Some, sym, refl, ap, ◌∙◌, subst, arith, option_map, cond}
-use Rattle.std.specs.Option.{option_map_or}
+use Rattle.std.specs.Option.{option_map_or, is_some}
+use Rattle.std.proofs.lemmas.List.{length-append}
 use Rattle.std.proofs.lemmas.Bool.{false≢true, true≢false}
 use Rattle.rustc_demangle.specs.Cut.{cut}
-use Rattle.rustc_demangle.specs.Legacy.{IsLegacy, legacy_of}
+use Rattle.rustc_demangle.specs.Legacy.{IsElements, IsLegacy, legacy_of}
 use Rattle.rustc_demangle.specs.Stripped.{is_allowed}
 use Rattle.rustc_demangle.specs.Unescaped.{legacy_pieces}
 use Rattle.rustc_demangle.specs.Symbols.{IsSymbol, if_allowed, pieces_of, handed}
@@ -55,3 +56,25 @@ pub no_symbol_unstyled : (text : List ℕ) → HasNoStyle text → IsSymbol text
 no_symbol_unstyled text none symbol = let some : pieces_of true text ≡ Some (legacy_pieces true symbol.0, symbol.1) = pieces-symbol true text symbol in let e : pieces_of true text ≡ None = none true in absurd (none≢some (sym e ∙ some)) where
   none≢some : {x : List (List ℕ) × List ℕ} → None ≡ Some x → ⊥
   none≢some h = cc
+
+pub styled_symbol : (style : Option DemangleStyle) (text suffix : List ℕ) → IsStyled style text suffix → is_some style ≡ true → IsSymbol text
+styled_symbol None text suffix is e = cc
+styled_symbol (Some style) text suffix is e = symbol_styled text style suffix is
+
+pub unstyled_no_symbol : (style : Option DemangleStyle) (text suffix : List ℕ) → IsStyled style text suffix → is_some style ≡ false → IsSymbol text → ⊥
+unstyled_no_symbol None text suffix is e = no_symbol_unstyled text is
+unstyled_no_symbol (Some style) text suffix is e = absurd (true≢false e)
+
+-- what follows the elements is a part of the text
+elements-shorter : (elements : List (List ℕ)) (text suffix : List ℕ) → IsElements elements text suffix → length suffix ≤ length text
+elements-shorter [] text suffix is = omega (arith, ap length is)
+elements-shorter (element ∷ elements) text suffix is =
+    let below : length suffix ≤ length is.1 = elements-shorter elements is.1 suffix is.5 in
+    omega (arith, ap length is.2, length-append is.0 (element ++ is.1), length-append element is.1)
+
+-- a suffix is a part of its symbol
+pub suffix-shorter : (text : List ℕ) (elements : List (List ℕ)) (suffix : List ℕ) → legacy_of text ≡ Some (elements, suffix) → length suffix ≤ length text
+suffix-shorter text elements suffix e =
+    let is = legacy_reads text elements suffix e in
+    let below : length suffix ≤ length is.1 = elements-shorter elements is.1 suffix is.5 in
+    omega (arith, ap length is.2, length-append is.0 is.1)

@@ -7,6 +7,7 @@ pub mod Sink
 pub mod Tally
 pub mod Writer
 pub mod Written
+pub mod Hashes
 pub mod Legacy
 pub mod Stripped
 pub mod Style

@@ -6,6 +6,7 @@ ghost use Rattle.rustc_demangle.specs.Stripped.{stripped};
 ghost use Rattle.rustc_demangle.specs.Symbols.{IsSymbol};
 
 mod cursor;
+pub mod laws;
 mod legacy;
 pub mod sink;
 mod strip;

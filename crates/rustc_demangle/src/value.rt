@@ -5,7 +5,7 @@ ghost use Rattle.rustc_demangle.specs.Cut.{cut, size};
 ghost use Rattle.rustc_demangle.specs.Hands.{Hands, HoldsFront};
 ghost use Rattle.rustc_demangle.specs.Limit.{Prints, Ready};
 ghost use Rattle.rustc_demangle.specs.Sink.{Fits};
-ghost use Rattle.rustc_demangle.specs.Stripped.{is_allowed};
+ghost use Rattle.rustc_demangle.specs.Stripped.{is_allowed, is_graphic};
 ghost use Rattle.rustc_demangle.specs.Style.{style_pieces, style_len, HasNoStyle, HasStyle};
 ghost use Rattle.rustc_demangle.specs.Symbols.{handed, IsSymbol};
 
@@ -190,21 +190,32 @@ impl<'a> Demangle<'a> {
     }
 }
 
+// Whether a byte is a printable ASCII character that is no space.
+fn is_graphic(byte: u8) -> bool
+    ensures { result ≡ is_graphic byte }
+{
+    matches!(byte, 0x21..=0x7E)
+}
+
 // Whether a suffix is allowed: nothing, or `.` and graphic characters alone. It is one look for each byte.
+#[tactic(auto, using(crate::proofs::SuffixSteps::suffix_steps))]
 fn is_allowed(suffix: &str, looks: &mut Looks) -> bool
     ensures allowed { result ≡ is_allowed suffix.now }
     ensures grows { looks.old ≤ looks.new }
     ensures most { looks.new ≤ looks.old + length suffix.now }
 {
     let symbol = Symbol::new(suffix);
-    for at in 0..symbol.len() {
+    if symbol.len() == 0 {
+        return true;
+    }
+    if !symbol.is_at(b'.', 0, looks) {
+        return false;
+    }
+    for at in 1..symbol.len() {
         let Some(byte) = symbol.byte(at, looks) else {
             return false;
         };
-        if at == 0 && byte != b'.' {
-            return false;
-        }
-        if !(0x21..=0x7E).contains(&byte) {
+        if !is_graphic(byte) {
             return false;
         }
     }
