@@ -2,7 +2,7 @@
 ghost use Rattle.std.specs.Prelude.{◌≡◌, ◌-◌, ◌<◌, [], ◌++◌, Some, true, false};
 ghost use Rattle.std.proofs.Common.{sym, ap, ◌∙◌};
 ghost use Rattle.std.proofs.lemmas.List.{append-nil, append_assoc};
-ghost use Rattle.rustc_demangle.specs.Array.{text_of};
+ghost use Rattle.demangle_vectors.specs.Refusing.{taken_text, pieces_left};
 
 use rustc_demangle::sink::{ArraySink, SinkRefused, TextSink};
 
@@ -19,9 +19,9 @@ impl RefusingSink {
     /// Refuses the nonempty piece of this number, counted from 1.
     pub fn new(number: usize) -> RefusingSink
         requires { 0 < number }
-        ensures alive { result.failed ≡ false }
-        ensures empty { text_of result.text ≡ [] }
-        ensures left { result.left ≡ number - 1 }
+        ensures alive { ⟦<RefusingSink as TextSink>⟧.failed result ≡ false }
+        ensures empty { taken_text result ≡ [] }
+        ensures left { pieces_left result ≡ number - 1 }
     {
         RefusingSink {
             text: ArraySink::new(),
@@ -32,14 +32,14 @@ impl RefusingSink {
 
     /// The text that it took.
     pub fn as_str(&self) -> &str
-        ensures { result.now ≡ text_of self.now.text }
+        ensures { result.now ≡ taken_text self.now }
     {
         self.text.as_str()
     }
 }
 
 impl TextSink for RefusingSink {
-    ghost took = { λ s bytes t. text_of t.text ≡ text_of s.text ++ bytes };
+    ghost took = { λ s bytes t. taken_text t ≡ taken_text s ++ bytes };
 
     ghost failed = { λ s. s.failed };
 
@@ -69,7 +69,7 @@ impl TextSink for RefusingSink {
         self.failed
     }
 
-    ghost took_nothing = { λ s. sym (append-nil (text_of s.text)) };
+    ghost took_nothing = { λ s. sym (append-nil (taken_text s)) };
 
-    ghost took_joined = { λ s t u xs ys h k. k ∙ (ap (λ z. z ++ ys) h ∙ append_assoc (text_of s.text) xs ys) };
+    ghost took_joined = { λ s t u xs ys h k. k ∙ (ap (λ z. z ++ ys) h ∙ append_assoc (taken_text s) xs ys) };
 }
