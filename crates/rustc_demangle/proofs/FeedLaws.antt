@@ -7,7 +7,7 @@ use Rattle.std.proofs.lemmas.List.Folds.{concat-append}
 use Rattle.std.proofs.lemmas.Bool.Decides.{leb_tells}
 use Rattle.std.proofs.lemmas.Bool.{true≢false}
 use Rattle.std.specs.Char.{encode_utf8, is_control}
-use Rattle.std.specs.Str.Parse.{digits_value}
+use Rattle.rustc_demangle.specs.Digits.{number}
 use lib.Utf8.{scalar as is_scalar}
 use Rattle.rustc_demangle.specs.Stripped.{stripped, is_thin_lto}
 use Rattle.rustc_demangle.specs.Symbols.{pieces_of, handed, printed, most_bytes}
@@ -20,7 +20,7 @@ use Rattle.rustc_demangle.proofs.SymbolSteps.{symbol-pieces, pieces-symbol}
 use Rattle.rustc_demangle.specs.Cut.{size, fitting, cut, marker}
 use Rattle.rustc_demangle.specs.Lines.{lines, feeds}
 use Rattle.rustc_demangle.specs.Legacy.{IsElements, IsLegacy}
-use Rattle.rustc_demangle.specs.Unescaped.{escape_of_digits, escape_of, unit_of, pieces_from, unescaped, is_hash, shown, continued, joined, legacy_pieces, is_lower_hex, is_dollar, is_special}
+use Rattle.rustc_demangle.specs.Unescaped.{escape_of_code, escape_of_digits, escape_of, lower_hex, unit_of, pieces_from, unescaped, is_hash, shown, continued, joined, legacy_pieces, is_lower_hex, is_dollar, is_special}
 
 cases : (b : Bool) → (b ≡ true) ⊎ (b ≡ false)
 cases true = inl refl
@@ -98,18 +98,22 @@ unfolding in_text
 pick true one rest text none more e = ap (λ o. feeds (in_text o)) (sym e) ∙ none
 pick false one rest text none more e = more e
 
-feeds-digits : (digits text : List ℕ) → escape_of_digits digits ≡ Some text → feeds text ≡ 0
-unfolding escape_of_digits
-feeds-digits digits text e =
-    at (not (length digits == 0) && list_all is_lower_hex digits && is_scalar (digits_value 16 digits)) (is_control (digits_value 16 digits)) refl e
+feeds-code : (c : ℕ) (text : List ℕ) → escape_of_code c ≡ Some text → feeds text ≡ 0
+feeds-code c text e = at (is_scalar c) (is_control c) refl e
   where
-    c : ℕ
-    c = digits_value 16 digits
-
     at : (b control : Bool) → is_control c ≡ control → cond (b && not control) (Some (encode_utf8 c)) None ≡ Some text → feeds text ≡ 0
     at true false is e = pick true (encode_utf8 c) None text (feeds-encode c is) (λ f. absurd (none≢some f)) e
     at true true is e = absurd (none≢some e)
     at false control is e = absurd (none≢some e)
+
+feeds-digits : (digits text : List ℕ) → escape_of_digits digits ≡ Some text → feeds text ≡ 0
+unfolding escape_of_digits
+feeds-digits [] text e = absurd (none≢some e)
+feeds-digits (d ∷ ds) text e = at (list_all is_lower_hex (d ∷ ds)) e
+  where
+    at : (b : Bool) → cond b (escape_of_code (number 16 lower_hex (d ∷ ds))) None ≡ Some text → feeds text ≡ 0
+    at true e = feeds-code (number 16 lower_hex (d ∷ ds)) text e
+    at false e = absurd (none≢some e)
 
 feeds-escape : (name text : List ℕ) → escape_of name ≡ Some text → feeds text ≡ 0
 unfolding escape_of
