@@ -1,5 +1,5 @@
 //! The demangling of a text that comes from a reader.
-ghost use Rattle.std.specs.Prelude.{IfSome, OnOk, IfErr};
+ghost use Rattle.std.specs.Prelude.{◌≡◌, IfSome, OnOk, IfOk, IfErr, IsUtf8};
 ghost use Rattle.rustc_demangle.specs.Stream.{LineCopied, Finished, Stopped, StoppedAs};
 
 use std::alloc::{Allocator, Global};
@@ -16,6 +16,17 @@ pub use fault::StreamFault;
 use line::demangle_line;
 use reading::read_line;
 
+// A line as text.
+fn text_of(line: &[u8]) -> Result<&str, StreamFault>
+    ensures text { IfOk result (λ text. (text.now ≡ line.now) × IsUtf8 line.now) }
+    ensures fault { IfErr result (λ fault. (fault ≡ StreamFault.NotUtf8) × (IsUtf8 line.now → ⊥)) }
+{
+    match str::from_utf8(line) {
+        Ok(text) => Ok(text),
+        Err(_) => Err(StreamFault::NotUtf8),
+    }
+}
+
 // Reads a line whole and then writes it demangled, or answers `false` at the end of the input.
 fn copy_line<R: BufRead, W: Write, A: Allocator>(
     input: &mut R,
@@ -31,12 +42,10 @@ fn copy_line<R: BufRead, W: Write, A: Allocator>(
     if line.is_empty() {
         return Ok(false);
     }
-    match str::from_utf8(line.as_slice()) {
-        Err(_) => Err(StreamFault::NotUtf8),
-        Ok(text) => match demangle_line(text, output, include_hash) {
-            Ok(()) => Ok(true),
-            Err(error) => Err(StreamFault::Write(error)),
-        },
+    let text = text_of(line.as_slice())?;
+    match demangle_line(text, output, include_hash) {
+        Ok(()) => Ok(true),
+        Err(error) => Err(StreamFault::Write(error)),
     }
 }
 
