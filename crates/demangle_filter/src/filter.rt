@@ -1,7 +1,6 @@
 //! The program's work over any streams.
 ghost use Rattle.std.specs.Prelude.{◌≡◌, ◌≤◌};
 
-use crate::pausing::PausingOutput;
 use rustc_demangle::{StreamFault, demangle_stream_named};
 use std::alloc::Global;
 use std::io::{BufRead, Write};
@@ -32,24 +31,18 @@ fn line_of(fault: &StreamFault) -> &'static str {
 
 /// Demangles the input, and answers what is to be told if that failed.
 ///
-/// The output is flushed where the input has to be waited for, and at the end. That a flush failed goes before any
-/// other fault.
+/// The output is flushed in any case. That the flush failed goes before any other fault.
 fn filter<R: BufRead, W: Write>(
     alloc: Global,
     input: &mut R,
     output: &mut W,
     include_hash: bool,
 ) -> Result<(), &'static str> {
-    let output = PausingOutput::new(output);
-    let mut reader = output.reader(input);
-    let mut writer = output.writer();
-    let copied = demangle_stream_named(alloc, &mut reader, &mut writer, include_hash);
-    let flushed = writer.flush();
-    match (copied, flushed) {
-        (Ok(()), Ok(())) => Ok(()),
-        (Err(fault), Ok(())) => Err(line_of(&fault)),
-        (_, Err(_)) => Err(WRITE_FAILED),
+    let copied = demangle_stream_named(alloc, input, output, include_hash);
+    if output.flush().is_err() {
+        return Err(WRITE_FAILED);
     }
+    copied.map_err(|fault| line_of(&fault))
 }
 
 /// Runs the program on the words behind its name, and answers the exit status.

@@ -7,6 +7,7 @@ mod pausing;
 mod tests;
 
 use filter::{OUT_OF_MEMORY, USAGE, filter_run, report};
+use pausing::PausingOutput;
 use std::io::{BufReader, BufWriter, ErrorKind};
 use std::process::ExitCode;
 use std::rt::Env;
@@ -30,17 +31,18 @@ fn main(rt: HostRuntime) -> ExitCode {
             return ExitCode::from(report(&mut errors, USAGE, 2));
         }
     };
-    let Ok(mut input) = BufReader::new(alloc, rt.stdin().lock()) else {
+    let Ok(buffer) = BufWriter::new(alloc, rt.stdout().lock()) else {
         return ExitCode::from(report(&mut errors, OUT_OF_MEMORY, 1));
     };
-    let Ok(mut output) = BufWriter::new(alloc, rt.stdout().lock()) else {
+    let output = PausingOutput::new(buffer);
+    let Ok(mut input) = BufReader::new(alloc, output.reader(rt.stdin().lock())) else {
         return ExitCode::from(report(&mut errors, OUT_OF_MEMORY, 1));
     };
     let status = filter_run(
         alloc,
         words.as_slice(),
         &mut input,
-        &mut output,
+        &mut output.writer(),
         &mut errors,
     );
     ExitCode::from(status)

@@ -1,41 +1,25 @@
 //! An output that is flushed before its program waits for more input.
 use std::cell::RefCell;
 use std::io;
-use std::io::{BufRead, Read, Write};
+use std::io::{Read, Write};
 
-/// What is written, up to a flush, and the error of a flush that failed while the input paused.
+/// A writer, whether something was written since it was last flushed, and the error of a flush that failed while the
+/// input was waited for.
 #[derive(Drop)]
-struct Pending<'w, W: Write> {
-    writer: &'w mut W,
+struct Pending<W: Write + Drop> {
+    writer: W,
     is_unflushed: bool,
     fault: Option<io::Error>,
 }
 
-impl<W: Write> Pending<'_, W> {
-    // Flushes what was written, and answers whether that succeeded.
-    fn pause(&mut self) -> bool {
-        if !self.is_unflushed {
-            return true;
-        }
-        self.is_unflushed = false;
-        match self.writer.flush() {
-            Ok(()) => true,
-            Err(error) => {
-                self.fault = Some(error);
-                false
-            }
-        }
-    }
-}
-
-/// An output that a writer writes, and that a reader flushes.
+/// An output that a `PausingWriter` writes, and that a `PausingReader` flushes.
 #[derive(Drop)]
-pub struct PausingOutput<'w, W: Write> {
-    pending: RefCell<Pending<'w, W>>,
+pub struct PausingOutput<W: Write + Drop> {
+    pending: RefCell<Pending<W>>,
 }
 
-impl<'w, W: Write> PausingOutput<'w, W> {
-    pub fn new(writer: &'w mut W) -> Self {
+impl<W: Write + Drop> PausingOutput<W> {
+    pub fn new(writer: W) -> Self {
         PausingOutput {
             pending: RefCell::new(Pending {
                 writer,
@@ -46,17 +30,32 @@ impl<'w, W: Write> PausingOutput<'w, W> {
     }
 
     /// Writes into the output.
-    pub fn writer(&self) -> PausingWriter<'_, 'w, W> {
+    pub fn writer(&self) -> PausingWriter<'_, W> {
         PausingWriter { output: self }
     }
 
-    /// Reads from the input, and flushes the output before it waits for more.
-    pub fn reader<'r, R: BufRead>(&self, input: &'r mut R) -> PausingReader<'_, 'r, 'w, R, W> {
+    /// Reads from the input, and flushes the output before each read.
+    pub fn reader<R: Read + Drop>(&self, input: R) -> PausingReader<'_, R, W> {
         PausingReader {
             input,
-            filled: 0,
             output: self,
         }
+    }
+
+    // Flushes what was written, and keeps the error where that fails.
+    fn pause(&self) -> io::Result<()> {
+        let Ok(mut pending) = self.pending.try_borrow_mut() else {
+            return Err(is_in_use());
+        };
+        if !pending.is_unflushed {
+            return Ok(());
+        }
+        pending.is_unflushed = false;
+        if let Err(error) = pending.writer.flush() {
+            pending.fault = Some(error);
+            return Err(io::Error::other("the output is broken"));
+        }
+        Ok(())
     }
 }
 
@@ -65,11 +64,11 @@ fn is_in_use() -> io::Error {
 }
 
 #[derive(Drop)]
-pub struct PausingWriter<'a, 'w, W: Write> {
-    output: &'a PausingOutput<'w, W>,
+pub struct PausingWriter<'a, W: Write + Drop> {
+    output: &'a PausingOutput<W>,
 }
 
-impl<W: Write> Write for PausingWriter<'_, '_, W> {
+impl<W: Write + Drop> Write for PausingWriter<'_, W> {
     fn write(&mut self, buf: &[u8]) -> io::Result<usize> {
         let Ok(mut pending) = self.output.pending.try_borrow_mut() else {
             return Err(is_in_use());
@@ -78,7 +77,7 @@ impl<W: Write> Write for PausingWriter<'_, '_, W> {
         pending.writer.write(buf)
     }
 
-    /// Flushes the output. An error of a flush while the input paused is answered here.
+    /// Flushes the output. The error of a flush while the input was waited for is answered here.
     fn flush(&mut self) -> io::Result<()> {
         let Ok(mut pending) = self.output.pending.try_borrow_mut() else {
             return Err(is_in_use());
@@ -91,41 +90,17 @@ impl<W: Write> Write for PausingWriter<'_, '_, W> {
     }
 }
 
+/// Put a buffer over it: then it is read only where the buffer is used up. Where the output can't be flushed, reading
+/// fails, and so does the next flush of the writer.
 #[derive(Drop)]
-pub struct PausingReader<'a, 'r, 'w, R: BufRead, W: Write> {
-    input: &'r mut R,
-    filled: usize,
-    output: &'a PausingOutput<'w, W>,
+pub struct PausingReader<'a, R: Read + Drop, W: Write + Drop> {
+    input: R,
+    output: &'a PausingOutput<W>,
 }
 
-impl<R: BufRead, W: Write> Read for PausingReader<'_, '_, '_, R, W> {
+impl<R: Read + Drop, W: Write + Drop> Read for PausingReader<'_, R, W> {
     fn read(&mut self, buf: &mut [u8]) -> io::Result<usize> {
-        let part = self.fill_buf()?;
-        let count = part.len().min(buf.len());
-        buf[..count].copy_from_slice(&part[..count]);
-        self.consume(count);
-        Ok(count)
-    }
-}
-
-impl<R: BufRead, W: Write> BufRead for PausingReader<'_, '_, '_, R, W> {
-    /// Where the input holds nothing more, the output is flushed first. Where that fails, the input counts as broken.
-    fn fill_buf(&mut self) -> io::Result<&[u8]> {
-        if self.filled == 0 {
-            let Ok(mut pending) = self.output.pending.try_borrow_mut() else {
-                return Err(is_in_use());
-            };
-            if !pending.pause() {
-                return Err(io::Error::other("the output is broken"));
-            }
-        }
-        let part = self.input.fill_buf()?;
-        self.filled = part.len();
-        Ok(part)
-    }
-
-    fn consume(&mut self, amount: usize) {
-        self.filled = self.filled.saturating_sub(amount);
-        self.input.consume(amount);
+        self.output.pause()?;
+        self.input.read(buf)
     }
 }

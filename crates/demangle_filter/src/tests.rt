@@ -1,8 +1,9 @@
 //! The program's answers over streams in memory, and its texts and statuses where one of them refuses.
 use crate::filter::filter_run;
+use crate::pausing::PausingOutput;
 use std::alloc::{AllocError, Global};
 use std::cell::Cell;
-use std::io::{BufRead, ErrorKind, Write};
+use std::io::{BufRead, BufReader, ErrorKind, Read, Write};
 use std::process::Abort;
 use std::test::Fail;
 use streams::{NotingWriter, PartsReader, RefusingWriter, WatchedWriter, WatchingReader};
@@ -115,7 +116,7 @@ fn other_words_read_nothing(rt: HostRuntime) -> Result<(), Fail> {
 fn lines_come_in_parts(rt: HostRuntime) -> Result<(), Fail> {
     let alloc = rt.alloc();
     let parts: [&[u8]; 4] = [b"_ZN3f", b"oo", b"E\nx _Z", b"N3barE"];
-    let mut input = PartsReader::new(&parts, 5, ErrorKind::Other);
+    let mut input = PartsReader::new(&parts, 6, ErrorKind::Other);
     let mut output = Vec::new(alloc);
     let ended = run(alloc, &[], &mut input, &mut output)?;
     assert_eq!(rt; ended.status, 0);
@@ -242,13 +243,24 @@ fn a_flush_fails(rt: HostRuntime) -> Result<(), Fail> {
     Ok(())
 }
 
+/// Runs with an output that is flushed before more is read.
+fn run_pausing<R: Read + Drop, W: Write>(
+    alloc: Global,
+    input: R,
+    output: &mut W,
+) -> Result<Ended, Fail> {
+    let output = PausingOutput::new(output);
+    let mut reader = BufReader::new(alloc, output.reader(input))?;
+    Ok(run(alloc, &[], &mut reader, &mut output.writer())?)
+}
+
 #[test]
 fn an_output_that_breaks_in_a_pause_ends_the_run(rt: HostRuntime) -> Result<(), Fail> {
     let alloc = rt.alloc();
     let parts: [&[u8]; 3] = [b"_ZN3fooE\n\xC3", b"\xA9\n", b"z\n"];
-    let mut input = PartsReader::new(&parts, 100, ErrorKind::Other);
+    let input = PartsReader::new(&parts, 100, ErrorKind::Other);
     let mut output = RefusingWriter::new(alloc, b"", 100, false)?;
-    let ended = run(alloc, &[], &mut input, &mut output)?;
+    let ended = run_pausing(alloc, input, &mut output)?;
     assert_write_failed(&rt, &ended);
     assert_eq!(rt; output.held(), b"foo\n".as_slice());
     Ok(())
@@ -259,9 +271,9 @@ fn finished_lines_are_flushed_before_more_is_read(rt: HostRuntime) -> Result<(),
     let alloc = rt.alloc();
     let is_unflushed = Cell::new(false);
     let parts: [&[u8]; 4] = [b"_ZN3fooE\nx", b"\n", b"a\nb\n", b"_ZN3barE"];
-    let mut input = WatchingReader::new(&parts, &is_unflushed);
+    let input = WatchingReader::new(&parts, &is_unflushed);
     let mut output = WatchedWriter::new(Vec::new(alloc), &is_unflushed);
-    let ended = run(alloc, &[], &mut input, &mut output)?;
+    let ended = run_pausing(alloc, input, &mut output)?;
     assert_eq!(rt; ended.status, 0);
     assert_eq!(rt; output.held(), b"foo\nx\na\nb\nbar".as_slice());
     assert!(rt; !is_unflushed.get());

@@ -24,11 +24,6 @@ impl<'a> PartsReader<'a> {
             fault,
         }
     }
-
-    /// Whether nothing is left of the last part that was handed out.
-    pub fn is_used_up(&self) -> bool {
-        self.taken == 0
-    }
 }
 
 impl Read for PartsReader<'_> {
@@ -43,10 +38,12 @@ impl Read for PartsReader<'_> {
 
 impl BufRead for PartsReader<'_> {
     fn fill_buf(&mut self) -> io::Result<&[u8]> {
-        if self.fills_left == 0 {
-            return Err(io::Error::from(self.fault));
+        if self.taken == 0 {
+            if self.fills_left == 0 {
+                return Err(io::Error::from(self.fault));
+            }
+            self.fills_left -= 1;
         }
-        self.fills_left -= 1;
         match self.parts.get(self.part) {
             None => Ok(b""),
             Some(part) => Ok(part.get(self.taken..).unwrap_or(b"")),
@@ -171,7 +168,7 @@ impl Write for WatchedWriter<'_> {
     }
 }
 
-/// Hands out its parts, and fails where it is filled while something that was written is not flushed.
+/// Hands out its parts, and fails where it is read while something that was written is not flushed.
 #[derive(Drop)]
 pub struct WatchingReader<'a> {
     parts: PartsReader<'a>,
@@ -189,19 +186,9 @@ impl<'a> WatchingReader<'a> {
 
 impl Read for WatchingReader<'_> {
     fn read(&mut self, buf: &mut [u8]) -> io::Result<usize> {
-        self.parts.read(buf)
-    }
-}
-
-impl BufRead for WatchingReader<'_> {
-    fn fill_buf(&mut self) -> io::Result<&[u8]> {
-        if self.parts.is_used_up() && self.is_unflushed.get() {
+        if self.is_unflushed.get() {
             return Err(io::Error::from(ErrorKind::Other));
         }
-        self.parts.fill_buf()
-    }
-
-    fn consume(&mut self, amount: usize) {
-        self.parts.consume(amount);
+        self.parts.read(buf)
     }
 }
