@@ -8,5 +8,10 @@ pub mod LegacyPrinting
 mod LegacyRows
 pub mod LegacyUnits
 pub mod Printed
+pub mod PrintingLaws
 pub mod PrintsLemmas
 pub mod Ranges
+pub mod StripLaws
+pub mod Stripping
+pub mod SuffixSteps
+pub mod SymbolSteps

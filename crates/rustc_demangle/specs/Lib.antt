@@ -2,9 +2,13 @@ pub mod Array
 pub mod Cut
 pub mod Digits
 pub mod Hands
+pub mod Hashes
 pub mod Legacy
 pub mod Limit
 pub mod Sink
+pub mod Stripped
+pub mod Style
+pub mod Symbols
 pub mod Tally
 pub mod Unescaped
 pub mod Units
