@@ -10,7 +10,7 @@ use Rattle.rustc_demangle.specs.Unescaped.{legacy_pieces}
 use Rattle.rustc_demangle.specs.Symbols.{IsSymbol, if_allowed, pieces_of, handed}
 use Rattle.rustc_demangle.specs.Style.{style_pieces, HasNoStyle, HasStyle, IsStyled}
 use Rattle.rustc_demangle.specs.declared.value.DemangleStyle.{DemangleStyle}
-use Rattle.rustc_demangle.proofs.LegacyLaws.{legacy_reads, legacy_reads_all}
+use Rattle.rustc_demangle.proofs.LegacyLaws.{legacy_read, legacy_spelled}
 
 -- a text without a style hands over itself
 pub handed-none : (text : List ℕ) (hash : Bool) (limit : ℕ) → HasNoStyle text → handed text hash limit ≡ text ∷ []
@@ -41,12 +41,12 @@ pub symbol-pieces : (hash : Bool) (text : List ℕ) (r : List (List ℕ) × List
 symbol-pieces hash text r e = go (if_allowed (legacy_of text)) refl e where
   go : (read : Option (List (List ℕ) × List ℕ)) → if_allowed (legacy_of text) ≡ read → option_map (λ p. (legacy_pieces hash p.0, p.1)) read ≡ Some r → IsSymbol text
   go None is e = cc
-  go (Some p) is e = let h = allowed-some (legacy_of text) p is in (p.0, p.1, legacy_reads text p.0 p.1 h.0, h.1)
+  go (Some p) is e = let h = allowed-some (legacy_of text) p is in (p.0, p.1, legacy_read text p.0 p.1 h.0, h.1)
 
 -- and a symbol has pieces
 pub pieces-symbol : (hash : Bool) (text : List ℕ) (symbol : IsSymbol text) → pieces_of hash text ≡ Some (legacy_pieces hash symbol.0, symbol.1)
 pieces-symbol hash text symbol =
-    ap (λ read. option_map (λ (p : List (List ℕ) × List ℕ). (legacy_pieces hash p.0, p.1)) (if_allowed read)) (legacy_reads_all text symbol.0 symbol.1 symbol.2)
+    ap (λ read. option_map (λ (p : List (List ℕ) × List ℕ). (legacy_pieces hash p.0, p.1)) (if_allowed read)) (legacy_spelled text symbol.0 symbol.1 symbol.2)
     ∙ ap (λ b. option_map (λ (p : List (List ℕ) × List ℕ). (legacy_pieces hash p.0, p.1)) (cond b (Some (symbol.0, symbol.1)) None)) symbol.3
 
 pub symbol_styled : (text : List ℕ) (style : DemangleStyle) (suffix : List ℕ) → HasStyle text style suffix → IsSymbol text
@@ -75,6 +75,6 @@ elements-shorter (element ∷ elements) text suffix is =
 -- a suffix is a part of its symbol
 pub suffix-shorter : (text : List ℕ) (elements : List (List ℕ)) (suffix : List ℕ) → legacy_of text ≡ Some (elements, suffix) → length suffix ≤ length text
 suffix-shorter text elements suffix e =
-    let is = legacy_reads text elements suffix e in
+    let is = legacy_read text elements suffix e in
     let below : length suffix ≤ length is.1 = elements-shorter elements is.1 suffix is.5 in
     omega (arith, ap length is.2, length-append is.0 is.1)

@@ -1,9 +1,9 @@
 -- What a legacy element prints.
-use Rattle.std.specs.Prelude.{◌≡◌, ℕ, zero, suc, ◌+◌, ◌-◌, ◌*◌, ◌<◌, ◌≤◌, Bool, true, false, not, ◌&&◌, ◌||◌, ◌==◌, nat_lt, nat_eq, List, [], ◌∷◌, ◌++◌, length, drop, codes, fold, take, position, option_and_then, Option, Some, None, option_map, if◌then◌else◌, map, encode_utf8, bytes_eq, flat_map, slice_index}
+use Rattle.std.specs.Prelude.{ℕ, zero, suc, ◌+◌, ◌-◌, Bool, not, ◌&&◌, ◌||◌, ◌==◌, nat_le, nat_eq, List, [], ◌∷◌, ◌++◌, drop, codes, take, position, option_and_then, Option, Some, None, option_map, if◌then◌else◌, encode_utf8, bytes_eq, flat_map, slice_index}
 use Rattle.std.specs.List.{list_all, starts_with}
 use Rattle.std.specs.Char.{is_ascii_hexdigit, is_control}
 use Rattle.std.specs.Int.{is_in_range}
-use Rattle.std.specs.Str.Parse.{digits_value}
+use Rattle.rustc_demangle.specs.Digits.{number}
 use lib.Utf8.{scalar as is_scalar}
 
 -- '$', and '$' or '.'
@@ -17,11 +17,17 @@ is_special c = c == 36 || c == 46
 abbrev pub is_lower_hex : ℕ → Bool
 is_lower_hex c = is_in_range 48 57 c || is_in_range 97 102 c
 
+abbrev pub lower_hex : ℕ → ℕ
+lower_hex c = if nat_le c 57 then c - 48 else c - 87
+
+-- the character of this code, if it may be escaped: a scalar value, and no control character
+abbrev pub escape_of_code : ℕ → Option (List ℕ)
+escape_of_code c = if is_scalar c && not (is_control c) then Some (encode_utf8 c) else None
+
 -- the character of `u` and these digits, if it may be escaped so
 unfoldable pub escape_of_digits : List ℕ → Option (List ℕ)
-escape_of_digits digits =
-    let c = digits_value 16 digits in
-    if not (length digits == 0) && list_all is_lower_hex digits && is_scalar c && not (is_control c) then Some (encode_utf8 c) else None
+escape_of_digits [] = None
+escape_of_digits (d ∷ ds) = if list_all is_lower_hex (d ∷ ds) then escape_of_code (number 16 lower_hex (d ∷ ds)) else None
 
 -- what `$name$` gives
 unfoldable pub escape_of : List ℕ → Option (List ℕ)
@@ -73,5 +79,6 @@ abbrev pub joined : List (List ℕ) → List (List ℕ)
 joined [] = []
 joined (e ∷ es) = unescaped e ++ continued es
 
+-- what a legacy symbol prints: the pieces of its elements, with the hash or without it
 abbrev pub legacy_pieces : Bool → List (List ℕ) → List (List ℕ)
 legacy_pieces hash elements = joined (shown hash elements)
