@@ -1,8 +1,9 @@
--- What is spelled so, reading without references reads.
-use Rattle.std.specs.Prelude.{ℕ, zero, suc, ◌<◌, ◌≤◌, ◌==◌, codes, slice_get}
+-- What is spelled so is read.
+use Rattle.std.specs.Prelude.{ℕ, zero, suc, ◌<◌, ◌≤◌, ◌==◌, nat_le, codes}
 use Prim.Native.Char.{code}
 use Prim.Native.String.{String}
-use Rattle.std.proofs.Common.{◌≡◌, Bool, true, false, cond, List, [], ◌∷◌, length, Option, Some, None, refl, sym, ◌∙◌, ◌+◌, ◌-◌, subst, arith}
+use Rattle.std.proofs.Common.{◌≡◌, Bool, true, false, cond, List, [], ◌∷◌, length, Option, Some, None, refl, sym, ◌+◌, ◌-◌, subst, arith}
+use Rattle.std.proofs.lemmas.Bool.{le-leb}
 use lib.Utf8.{scalar}
 use Rattle.rustc_demangle.specs.Digits.{is_byte}
 use Rattle.rustc_demangle.specs.Words.{Name, Read, number_of, is_upper, some_or, byte_at, namespace_at, integer_at, optional_at, backref_at, identifier_at, nibbles_at}
@@ -10,16 +11,17 @@ use Rattle.rustc_demangle.specs.Names.{name_pieces, is_empty, is_nameless}
 use Rattle.rustc_demangle.specs.Literals.{literal, string_of}
 use Rattle.rustc_demangle.specs.Items.{Text, Kind, a_path, a_type, a_constant, a_pattern, a_trait_path, Items, done, invalid, say, say_plain, byte, namespace, integer, optional, identifier, nibbles, peek, next, sound, until_end, raise, unit, child, skip, target, lifetime, binder, opens, dyn_trait, bindings}
 use Rattle.rustc_demangle.specs.Table.{variant, typed, constant_inside, says_if, extern, bound, type_tagged, braces, number, string, truth, character, argument, list, tuple, more, says, in_special, in_namespace, path_rows, pattern_rows, variant_rows, constant_rows, field, function, signature, items, type_rows, row_of, after_tag, text_of, basic_types, constructed, say_all, is_among}
-use Rattle.rustc_demangle.specs.Reading.{Tree, Place, Outcome, Level, Surroundings, run, turns, stands, behind, word, followed_by, followed_open, begun, closed, opened, named, bound_by, target_of, target_read, resumed, peeked, forked, raised, max_depth, level_of, levels, nowhere, read_at}
-use Rattle.rustc_demangle.specs.Spelling.{Spells, end_, say_, plain_, byte_, namespace_, integer_, optional_, identifier_, nibbles_, peek_, there, other, sound_, over_, turn_, raise_, unit_, child_, skip_, target_, lifetime_, binder_, opens_, dyn_, past_, bound_}
-use Rattle.rustc_demangle.proofs.Agreement.{without, closed_place}
+use Rattle.rustc_demangle.specs.Reading.{invalid_syntax, piece, Place, fault, all_pieces, letter_of, lifetime_at, Outcome, Level, Surroundings, run, turns, stands, behind, word, followed_by, begun, closed, opened, named, bound_by, target_of, target_read, resumed, peeked, forked, raised, max_depth, level_of, levels, nowhere, read_at}
+use Rattle.rustc_demangle.specs.Spelling.{Rule, MayName, Spells, end_, say_, plain_, byte_, namespace_, integer_, optional_, identifier_, nibbles_, peek_, there, other, sound_, over_, turn_, raise_, unit_, child_, skip_, target_, lifetime_, binder_, opens_, dyn_, past_, bound_}
+use Rattle.rustc_demangle.proofs.Failed.{closed_place}
+use Rattle.rustc_demangle.proofs.Spelled.{rule}
 use Rattle.rustc_demangle.proofs.Digits.{is_byte_within}
 use Rattle.rustc_demangle.proofs.Counts.{placed, byte_placed, namespace_placed, integer_placed, optional_placed, backref_placed, identifier_placed, nibbles_placed}
 
 pub there_placed : (symbol : List ℕ) (b i : ℕ) → is_byte symbol i b ≡ true → i + 1 ≤ length symbol
 there_placed symbol b i e = let w : i < length symbol = is_byte_within symbol i b e in omega (arith, w)
 
-pub grows : {symbol : List ℕ} {p : Items} {d i j : ℕ} → Spells symbol d p i j → i ≤ length symbol → (i ≤ j) × (j ≤ length symbol)
+pub grows : {symbol : List ℕ} {r : Rule} {p : Items} {d m i j : ℕ} → Spells symbol r d m p i j → i ≤ length symbol → (i ≤ j) × (j ≤ length symbol)
 grows end_ b = (omega arith, b)
 grows (say_ a) b = grows a b
 grows (plain_ a) b = grows a b
@@ -45,8 +47,8 @@ grows (raise_ l a) b = grows a b
 grows {symbol} {i = i} (unit_ {k = k} a c) b = let q : (i ≤ k) × (k ≤ length symbol) = grows a b in let r : (k ≤ _) × (_ ≤ length symbol) = grows c q.1 in (omega (arith, q.0, r.0), r.1)
 grows {symbol} {i = i} (child_ {k = k} a c) b = let q : (i ≤ k) × (k ≤ length symbol) = grows a b in let r : (k ≤ _) × (_ ≤ length symbol) = grows c q.1 in (omega (arith, q.0, r.0), r.1)
 grows {symbol} {i = i} (skip_ {k = k} a c) b = let q : (i ≤ k) × (k ≤ length symbol) = grows a b in let r : (k ≤ _) × (_ ≤ length symbol) = grows c q.1 in (omega (arith, q.0, r.0), r.1)
-grows {symbol} {i = i} (target_ v e l) b = let q : (i + 1 ≤ _) × (_ ≤ length symbol) = placed (i + 1) symbol (backref_at symbol i) (backref_placed symbol i) v _ e in (omega (arith, q.0), q.1)
-grows (lifetime_ a) b = grows a b
+grows {symbol} {i = i} (target_ v u e l) b = let q : (i + 1 ≤ _) × (_ ≤ length symbol) = placed (i + 1) symbol (backref_at symbol i) (backref_placed symbol i) v _ e in (omega (arith, q.0), q.1)
+grows (lifetime_ u a) b = grows a b
 grows (binder_ a) b = grows a b
 grows (opens_ a) b = grows a b
 grows {symbol} {i = i} (dyn_ {k = k} a c) b = let q : (i ≤ k) × (k ≤ length symbol) = grows a b in let r : (k ≤ _) × (_ ≤ length symbol) = grows c q.1 in (omega (arith, q.0, r.0), r.1)
@@ -55,38 +57,38 @@ grows {symbol} {i = i} (bound_ {k = k} {l = l} x e w a c) b = let q : (i + 1 + 1
     let r : (k ≤ l) × (l ≤ length symbol) = grows a q.1 in let t : (l ≤ _) × (_ ≤ length symbol) = grows c r.1 in (omega (arith, q.0, r.0, t.0), t.1)
 
 -- a named unit reads a byte at least
-path_moves : {symbol : List ℕ} {d i j : ℕ} (value : Bool) → i ≤ length symbol → Spells symbol d (items a_path value) i j → i + 1 ≤ j
+path_moves : {symbol : List ℕ} {r : Rule} {d m i j : ℕ} (value : Bool) → i ≤ length symbol → Spells symbol r d m (items a_path value) i j → i + 1 ≤ j
 path_moves {symbol} {i = i} value b (raise_ l (byte_ v k e a)) = let q : (i + 1 ≤ k) × (k ≤ length symbol) = placed (i + 1) symbol (byte_at symbol i) (byte_placed symbol i) v k e in omega (arith, q.0, (grows a q.1).0)
 
-byte_moves : {symbol : List ℕ} {d i j : ℕ} {f : ℕ → Items} → i ≤ length symbol → Spells symbol d (byte f) i j → i + 1 ≤ j
+byte_moves : {symbol : List ℕ} {r : Rule} {d m i j : ℕ} {f : ℕ → Items} → i ≤ length symbol → Spells symbol r d m (byte f) i j → i + 1 ≤ j
 byte_moves {symbol} {i = i} b (byte_ v k e a) = let q : (i + 1 ≤ k) × (k ≤ length symbol) = placed (i + 1) symbol (byte_at symbol i) (byte_placed symbol i) v k e in omega (arith, q.0, (grows a q.1).0)
 
-rows_move : {symbol : List ℕ} {d i j : ℕ} (tag : ℕ) (rs : List (String × Items)) → i ≤ length symbol → Spells symbol d (row_of tag (child a_path false done) (after_tag rs)) i j → i + 1 ≤ j
+rows_move : {symbol : List ℕ} {r : Rule} {d m i j : ℕ} (tag : ℕ) (rs : List (String × Items)) → i ≤ length symbol → Spells symbol r d m (row_of tag (child a_path false done) (after_tag rs)) i j → i + 1 ≤ j
 rows_move {symbol} {i = i} tag [] b (child_ {k = k} a end_) = path_moves false b a
-rows_move {symbol} {d} {i} {j} tag (r ∷ rs) b a = go (is_among tag _) (rows_move tag rs b) a
+rows_move {symbol} {r} {d} {m} {i} {j} tag (x ∷ rs) b a = go (is_among tag _) (rows_move tag rs b) a
   where
-    go : (c : Bool) → (Spells symbol d (row_of tag (child a_path false done) (after_tag rs)) i j → i + 1 ≤ j) → Spells symbol d (cond c (byte (λ _. r.1)) (row_of tag (child a_path false done) (after_tag rs))) i j → i + 1 ≤ j
-    go true m x = byte_moves b x
-    go false m x = m x
+    go : (c : Bool) → (Spells symbol r d m (row_of tag (child a_path false done) (after_tag rs)) i j → i + 1 ≤ j) → Spells symbol r d m (cond c (byte (λ _. x.1)) (row_of tag (child a_path false done) (after_tag rs))) i j → i + 1 ≤ j
+    go true h y = byte_moves b y
+    go false h y = h y
 
-constructed_moves : {symbol : List ℕ} {d i j : ℕ} (v : ℕ) → i ≤ length symbol → Spells symbol d (raise (constructed v)) i j → i + 1 ≤ j
+constructed_moves : {symbol : List ℕ} {r : Rule} {d m i j : ℕ} (v : ℕ) → i ≤ length symbol → Spells symbol r d m (raise (constructed v)) i j → i + 1 ≤ j
 constructed_moves v b (raise_ l x) = rows_move v (type_rows v) b x
 
-tagged_moves : {symbol : List ℕ} {d i j : ℕ} → i ≤ length symbol → Spells symbol d type_tagged i j → i + 1 ≤ j
-tagged_moves {symbol} {d} {i} {j} b (peek_ v e a) = go (text_of v basic_types) a
+tagged_moves : {symbol : List ℕ} {r : Rule} {d m i j : ℕ} → i ≤ length symbol → Spells symbol r d m type_tagged i j → i + 1 ≤ j
+tagged_moves {symbol} {r} {d} {m} {i} {j} b (peek_ v e a) = go (text_of v basic_types) a
   where
-    go : (o : Option Text) → Spells symbol d (some_or (raise (constructed v)) o (λ text. byte (λ _. say text done))) i j → i + 1 ≤ j
+    go : (o : Option Text) → Spells symbol r d m (some_or (raise (constructed v)) o (λ text. byte (λ _. say text done))) i j → i + 1 ≤ j
     go (Some t) x = byte_moves b x
     go None x = constructed_moves v b x
 
-there_moves : {symbol : List ℕ} {p q : Items} {d i j c : ℕ} → i ≤ length symbol → (Spells symbol d q i j → i + 1 ≤ j) → Spells symbol d (next c p q) i j → i + 1 ≤ j
+there_moves : {symbol : List ℕ} {r : Rule} {p q : Items} {d m i j c : ℕ} → i ≤ length symbol → (Spells symbol r d m q i j → i + 1 ≤ j) → Spells symbol r d m (next c p q) i j → i + 1 ≤ j
 there_moves {symbol} {i = i} {c = c} b m (there e a) = (grows a (there_placed symbol c i e)).0
 there_moves b m (other e a) = m a
 
-child_moves : {symbol : List ℕ} {p : Items} {d i j : ℕ} (kind : Kind) (value : Bool) → ((k : ℕ) → Spells symbol d (items kind value) i k → i + 1 ≤ k) → i ≤ length symbol → Spells symbol d (child kind value p) i j → i + 1 ≤ j
+child_moves : {symbol : List ℕ} {r : Rule} {p : Items} {d m i j : ℕ} (kind : Kind) (value : Bool) → ((k : ℕ) → Spells symbol r d m (items kind value) i k → i + 1 ≤ k) → i ≤ length symbol → Spells symbol r d m (child kind value p) i j → i + 1 ≤ j
 child_moves {i = i} kind value m b (child_ {k = k} a c) = let q : i + 1 ≤ k = m k a in omega (arith, q, (grows c (grows a b).1).0)
 
-pub moves : {symbol : List ℕ} {d i j : ℕ} (kind : Kind) (value : Bool) → i ≤ length symbol → Spells symbol d (items kind value) i j → i + 1 ≤ j
+pub moves : {symbol : List ℕ} {r : Rule} {d m i j : ℕ} (kind : Kind) (value : Bool) → i ≤ length symbol → Spells symbol r d m (items kind value) i j → i + 1 ≤ j
 moves a_path value b a = path_moves value b a
 moves a_type value b a = there_moves b (λ x. tagged_moves b x) a
 moves a_constant value b a = byte_moves b a
@@ -119,7 +121,7 @@ Moves (opens p) = Moves p
 Moves (dyn_trait p) = Unit {0}
 Moves (bindings o p) = ⊥
 
-pub gains : {symbol : List ℕ} {p : Items} {d i j : ℕ} → Moves p → i ≤ length symbol → Spells symbol d p i j → i + 1 ≤ j
+pub gains : {symbol : List ℕ} {r : Rule} {p : Items} {d m i j : ℕ} → Moves p → i ≤ length symbol → Spells symbol r d m p i j → i + 1 ≤ j
 gains m b end_ = absurd m
 gains m b (say_ a) = gains m b a
 gains m b (plain_ a) = gains m b a
@@ -139,8 +141,8 @@ gains m b (raise_ l a) = gains m b a
 gains {i = i} m b (unit_ {k = k} a c) = let q : i + 1 ≤ k = gains m b a in omega (arith, q, (grows c (grows a b).1).0)
 gains m b (child_ {kind = kind} {value = value} a c) = child_moves kind value (λ _ z. moves kind value b z) b (child_ a c)
 gains {i = i} m b (skip_ {k = k} a c) = let q : i + 1 ≤ k = moves a_path false b a in omega (arith, q, (grows c (grows a b).1).0)
-gains {symbol} {i = i} m b (target_ v e l) = let q : (i + 1 ≤ _) × (_ ≤ length symbol) = placed (i + 1) symbol (backref_at symbol i) (backref_placed symbol i) v _ e in omega (arith, q.0)
-gains m b (lifetime_ a) = gains m b a
+gains {symbol} {i = i} m b (target_ v u e l) = let q : (i + 1 ≤ _) × (_ ≤ length symbol) = placed (i + 1) symbol (backref_at symbol i) (backref_placed symbol i) v _ e in omega (arith, q.0)
+gains m b (lifetime_ u a) = gains m b a
 gains m b (binder_ a) = gains m b a
 gains m b (opens_ a) = gains m b a
 gains {symbol} {i = i} m b (dyn_ {k = k} a c) = let q : i + 1 ≤ k = moves a_trait_path false b a in omega (arith, q, (grows c (grows a b).1).0)
@@ -242,12 +244,12 @@ all_begin (opens p) = all_begin p
 all_begin (dyn_trait p) = (omega arith, all_begin p)
 all_begin (bindings o p) = all_begin p
 
-abbrev IsRead : List ℕ → ℕ → Items → (ℕ → Outcome) → Type 0
-IsRead symbol d p f = (i j : ℕ) → i ≤ length symbol → Spells symbol d p i j → (f i).place ≡ Some j
+abbrev IsRead : List ℕ → Bool → ℕ → ℕ → Items → (ℕ → Outcome) → Type 0
+IsRead symbol c d m p f = (i j : ℕ) → i ≤ length symbol → Spells symbol (rule c) d m p i j → (f i).place ≡ Some j
 
 -- units of a rank below r are read
 abbrev ReadAt : ℕ → List ℕ → ℕ → Level → Type 0
-ReadAt r symbol d l = (kind : Kind) (value : Bool) (n : ℕ) → rank kind < r → IsRead symbol d (items kind value) (l false kind value n)
+ReadAt r symbol d l = (c : Bool) (kind : Kind) (value : Bool) (n : ℕ) → rank kind < r → IsRead symbol c d n (items kind value) (l c kind value n)
 
 abbrev ReadBelow : List ℕ → ℕ → List Level → Type 0
 ReadBelow symbol d [] = max_depth ≤ d
@@ -274,78 +276,88 @@ raised_reads : (symbol : List ℕ) (d : ℕ) (ls : List Level) (f : Level → Li
 raised_reads symbol d [] f i j m l h = absurd (omega (arith, m, l))
 raised_reads symbol d (x ∷ ls) f i j m l h = h x ls m.0 m.1
 
-target_reads : (symbol : List ℕ) (d : ℕ) (ls : List Level) (f : Level → ℕ → Outcome) (t k : ℕ) → ReadBelow symbol d ls → d < max_depth → (target_of ls (λ l. target_read false (f l) t (Some k))).place ≡ Some k
-target_reads symbol d [] f t k m l = absurd (omega (arith, m, l))
-target_reads symbol d (x ∷ ls) f t k m l = refl
+target_reads : (symbol : List ℕ) (d : ℕ) (c : Bool) (ls : List Level) (f : Level → ℕ → Outcome) (t k : ℕ) → ReadBelow symbol d ls → d < max_depth → (target_of ls (λ l. target_read c (f l) t (Some k))).place ≡ Some k
+target_reads symbol d c [] f t k m l = absurd (omega (arith, m, l))
+target_reads symbol d true (x ∷ ls) f t k m l = refl
+target_reads symbol d false (x ∷ ls) f t k m l = refl
+
+lifetime_reads : (c : Bool) (m k i : ℕ) → MayName (rule c) m k → (lifetime_at c m k (Some i)).place ≡ Some i
+lifetime_reads false m k i h = refl
+lifetime_reads true m k i h = go (k == 0) (nat_le k m) (le-leb k m h)
+  where
+    go : (a b : Bool) → b ≡ true → (cond a (behind (piece (codes "_")) (stands (Some i))) (cond b (behind (all_pieces (letter_of (m - k))) (stands (Some i))) (fault invalid_syntax))).place ≡ Some i
+    go true b p = refl
+    go false true p = refl
+    go false false p = cc p
 
 -- the turns end, and it goes on from there
-turns_read : (n : ℕ) (symbol : List ℕ) (d : ℕ) (p q : Items) (f : Place → Outcome) → Moves p → IsRead symbol d p (λ i. f (Some i)) → (i j : ℕ) → suc (length symbol) ≤ n + i → i ≤ length symbol → Spells symbol d (until_end p q) i j
-    → (k : ℕ) × ((turns n symbol f (Some i)).place ≡ Some k) × (k ≤ length symbol) × Spells symbol d q k j
+turns_read : (n : ℕ) (symbol : List ℕ) (c : Bool) (d m : ℕ) (p q : Items) (f : Place → Outcome) → Moves p → IsRead symbol c d m p (λ i. f (Some i)) → (i j : ℕ) → suc (length symbol) ≤ n + i → i ≤ length symbol → Spells symbol (rule c) d m (until_end p q) i j
+    → (k : ℕ) × ((turns n symbol f (Some i)).place ≡ Some k) × (k ≤ length symbol) × Spells symbol (rule c) d m q k j
 unfolding turns
-turns_read zero symbol d p q f m h i j l b a = absurd (omega (arith, l, b))
-turns_read (suc n) symbol d p q f m h i j l b (over_ e a) = (i + 1, forked_there (is_byte symbol i (code "E")) stands (λ k. followed_by (f k) (turns n symbol f)) i (i + 1) e refl, there_placed symbol (code "E") i e, a)
-turns_read (suc n) symbol d p q f m h i j l b (turn_ {k = k} e a c) =
-    let further : i + 1 ≤ k = gains m b a in
-    let after = turns_read n symbol d p q f m h k j (omega (arith, l, further)) (grows a b).1 c in
+turns_read zero symbol c d m p q f u h i j l b a = absurd (omega (arith, l, b))
+turns_read (suc n) symbol c d m p q f u h i j l b (over_ e a) = (i + 1, forked_there (is_byte symbol i (code "E")) stands (λ k. followed_by (f k) (turns n symbol f)) i (i + 1) e refl, there_placed symbol (code "E") i e, a)
+turns_read (suc n) symbol c d m p q f u h i j l b (turn_ {k = k} e a w) =
+    let further : i + 1 ≤ k = gains u b a in
+    let after = turns_read n symbol c d m p q f u h k j (omega (arith, l, further)) (grows a b).1 w in
     (after.0, forked_other (is_byte symbol i (code "E")) stands (λ k. followed_by (f k) (turns n symbol f)) i after.0 e (goes_on (turns n symbol f) (f (Some i)).place k after.0 (h i k b a) after.1), after.2, after.3)
 
 -- bindings are read
-bound_read : (n : ℕ) (s : Surroundings) (d : ℕ) (p : Items) (f : Place → Outcome) → IsRead s.symbol d p (λ i. f (Some i)) → (o x : Bool) (i j : ℕ) → suc (length s.symbol) ≤ n + i → i ≤ length s.symbol → Spells s.symbol d (bindings x p) i j → (bound_by n s f o (Some i)).place ≡ Some j
+bound_read : (n : ℕ) (s : Surroundings) (c : Bool) (d m : ℕ) (p : Items) (f : Place → Outcome) → IsRead s.symbol c d m p (λ i. f (Some i)) → (o x : Bool) (i j : ℕ) → suc (length s.symbol) ≤ n + i → i ≤ length s.symbol → Spells s.symbol (rule c) d m (bindings x p) i j → (bound_by n s f o (Some i)).place ≡ Some j
 unfolding bound_by
-bound_read zero s d p f h o x i j l b a = absurd (omega (arith, l, b))
-bound_read (suc n) s d p f h o x i j l b (past_ e) =
-    forked_other (is_byte s.symbol i (code "p")) (λ k. behind (opened o) (word s k identifier_at (λ a m. behind (named a) (followed_by (f m) (bound_by n s f true))))) (closed o) i j e (closed_place o (Some i))
-bound_read (suc n) s d p f h o x i j l b (bound_ {k = k} {l = m} y e w a c) =
+bound_read zero s c d m p f h o x i j l b a = absurd (omega (arith, l, b))
+bound_read (suc n) s c d m p f h o x i j l b (past_ e) =
+    forked_other (is_byte s.symbol i (code "p")) (λ k. behind (opened o) (word s k identifier_at (λ a x. behind (named a) (followed_by (f x) (bound_by n s f true))))) (closed o) i j e (closed_place o (Some i))
+bound_read (suc n) s c d m p f h o x i j l b (bound_ {k = k} {l = z} y e w a u) =
     let q : (i + 1 + 1 ≤ k) × (k ≤ length s.symbol) = placed (i + 1 + 1) s.symbol (identifier_at s.symbol (i + 1)) (identifier_placed s.symbol (i + 1)) y k w in
-    let r : (k ≤ m) × (m ≤ length s.symbol) = grows a q.1 in
-    forked_there (is_byte s.symbol i (code "p")) (λ k. behind (opened o) (word s k identifier_at (λ a m. behind (named a) (followed_by (f m) (bound_by n s f true))))) (closed o) i j e
-    (resumed_reads (length s.symbol) (i + 1) j (λ a m. behind (named a) (followed_by (f m) (bound_by n s f true))) (identifier_at s.symbol (i + 1)) y k w
-    (goes_on (bound_by n s f true) (f (Some k)).place m j (h k m q.1 a) (bound_read n s d p f h true true m j (omega (arith, l, q.0, r.0)) r.1 c)))
+    let r : (k ≤ z) × (z ≤ length s.symbol) = grows a q.1 in
+    forked_there (is_byte s.symbol i (code "p")) (λ k. behind (opened o) (word s k identifier_at (λ a x. behind (named a) (followed_by (f x) (bound_by n s f true))))) (closed o) i j e
+    (resumed_reads (length s.symbol) (i + 1) j (λ a x. behind (named a) (followed_by (f x) (bound_by n s f true))) (identifier_at s.symbol (i + 1)) y k w
+    (goes_on (bound_by n s f true) (f (Some k)).place z j (h k z q.1 a) (bound_read n s c d m p f h true true z j (omega (arith, l, q.0, r.0)) r.1 u)))
 
-reads : (p : Items) (s : Surroundings) (d : ℕ) → Ahead p → (r : ℕ) → Begins r p → ReadAt r s.symbol d s.here → ReadBelow s.symbol d s.deeper → (i j : ℕ) → i ≤ length s.symbol → Spells s.symbol d p i j → (run p (without s) (Some i)).place ≡ Some j
+reads : (p : Items) (s : Surroundings) (d : ℕ) → Ahead p → (r : ℕ) → Begins r p → ReadAt r s.symbol d s.here → ReadBelow s.symbol d s.deeper → (i j : ℕ) → i ≤ length s.symbol → Spells s.symbol (rule s.printed) d s.lifetimes p i j → (run p s (Some i)).place ≡ Some j
 unfolding run
 reads done s d a u c l m i j z end_ = refl
 reads invalid s d a u c l m i j z e = elim e [ ]
 reads (say t p) s d a u c l m i j z (say_ e) = reads p s d a u c l m i j z e
 reads (say_plain t p) s d a u c l m i j z (plain_ e) = reads p s d a u c l m i j z e
 reads (byte f) s d a u c l m i j z (byte_ v k r e) = let q : (i + 1 ≤ k) × (k ≤ length s.symbol) = placed (i + 1) s.symbol (byte_at s.symbol i) (byte_placed s.symbol i) v k r in
-    resumed_reads (length s.symbol) i j (λ v. run (f v) (without s)) _ v k r (reads (f v) s d (a v) u (c v) l m k j q.1 e)
+    resumed_reads (length s.symbol) i j (λ v. run (f v) s) _ v k r (reads (f v) s d (a v) u (c v) l m k j q.1 e)
 reads (namespace f) s d a u c l m i j z (namespace_ v k r e) = let q : (i + 1 ≤ k) × (k ≤ length s.symbol) = placed (i + 1) s.symbol (namespace_at s.symbol i) (namespace_placed s.symbol i) v k r in
-    resumed_reads (length s.symbol) i j (λ v. run (f v) (without s)) _ v k r (reads (f v) s d (a v) u (c v) l m k j q.1 e)
+    resumed_reads (length s.symbol) i j (λ v. run (f v) s) _ v k r (reads (f v) s d (a v) u (c v) l m k j q.1 e)
 reads (integer f) s d a u c l m i j z (integer_ v k r e) = let q : (i + 1 ≤ k) × (k ≤ length s.symbol) = placed (i + 1) s.symbol (integer_at s.symbol i) (integer_placed s.symbol i) v k r in
-    resumed_reads (length s.symbol) i j (λ v. run (f v) (without s)) _ v k r (reads (f v) s d (a v) u (c v) l m k j q.1 e)
+    resumed_reads (length s.symbol) i j (λ v. run (f v) s) _ v k r (reads (f v) s d (a v) u (c v) l m k j q.1 e)
 reads (optional tag f) s d a u c l m i j z (optional_ v k r e) = let q : (i ≤ k) × (k ≤ length s.symbol) = placed i s.symbol (optional_at tag s.symbol i) (optional_placed tag s.symbol i z) v k r in
-    resumed_reads (length s.symbol) i j (λ v. run (f v) (without s)) _ v k r (reads (f v) s d (a v) u (c v) l m k j q.1 e)
+    resumed_reads (length s.symbol) i j (λ v. run (f v) s) _ v k r (reads (f v) s d (a v) u (c v) l m k j q.1 e)
 reads (identifier f) s d a u c l m i j z (identifier_ v k r e) = let q : (i + 1 ≤ k) × (k ≤ length s.symbol) = placed (i + 1) s.symbol (identifier_at s.symbol i) (identifier_placed s.symbol i) v k r in
-    resumed_reads (length s.symbol) i j (λ v. run (f v) (without s)) _ v k r (reads (f v) s d (a v) u (c v) l m k j q.1 e)
+    resumed_reads (length s.symbol) i j (λ v. run (f v) s) _ v k r (reads (f v) s d (a v) u (c v) l m k j q.1 e)
 reads (nibbles f) s d a u c l m i j z (nibbles_ v k r e) = let q : (i + 1 ≤ k) × (k ≤ length s.symbol) = placed (i + 1) s.symbol (nibbles_at s.symbol i) (nibbles_placed s.symbol i) v k r in
-    resumed_reads (length s.symbol) i j (λ v. run (f v) (without s)) _ v k r (reads (f v) s d (a v) u (c v) l m k j q.1 e)
-reads (peek f) s d a u c l m i j z (peek_ v r e) = peeked_reads j (λ v. run (f v) (without s) (Some i)) _ v r (reads (f v) s d (a v) u (c v) l m i j z e)
-reads (next b' p q) s d a u c l m i j z (there r e) = forked_there _ (run p (without s)) (run q (without s)) i j r
+    resumed_reads (length s.symbol) i j (λ v. run (f v) s) _ v k r (reads (f v) s d (a v) u (c v) l m k j q.1 e)
+reads (peek f) s d a u c l m i j z (peek_ v r e) = peeked_reads j (λ v. run (f v) s (Some i)) _ v r (reads (f v) s d (a v) u (c v) l m i j z e)
+reads (next b' p q) s d a u c l m i j z (there r e) = forked_there _ (run p s) (run q s) i j r
     (reads p s d a.0 u c.0 l m (i + 1) j (there_placed s.symbol b' i r) e)
-reads (next b' p q) s d a u c l m i j z (other r e) = forked_other _ (run p (without s)) (run q (without s)) i j r (reads q s d a.1 u c.1 l m i j z e)
+reads (next b' p q) s d a u c l m i j z (other r e) = forked_other _ (run p s) (run q s) i j r (reads q s d a.1 u c.1 l m i j z e)
 reads (sound p q) s d a u c l m i j z (sound_ e) = reads p s d a u c l m i j z e
 reads (until_end p q) s d a u c l m i j z e =
-    let end = turns_read (suc (length s.symbol)) s.symbol d p q (run p (without s)) a.0 (reads p s d a.1 u c.0 l m) i j (omega arith) z e in
-    goes_on (run q (without s)) _ end.0 j end.1 (reads q s d a.2 u c.1 l m end.0 j end.2 end.3)
-reads (raise p) s d a u c l m i j z (raise_ r e) = raised_reads s.symbol d s.deeper (λ l ls. run p (without (record s { here = l; deeper = ls }))) i j m r
+    let end = turns_read (suc (length s.symbol)) s.symbol s.printed d s.lifetimes p q (run p s) a.0 (reads p s d a.1 u c.0 l m) i j (omega arith) z e in
+    goes_on (run q s) _ end.0 j end.1 (reads q s d a.2 u c.1 l m end.0 j end.2 end.3)
+reads (raise p) s d a u c l m i j z (raise_ r e) = raised_reads s.symbol d s.deeper (λ l ls. run p (record s { here = l; deeper = ls })) i j m r
     (λ l' ls l'' m'. reads p (record s { here = l'; deeper = ls }) (d + 1) a 2 (all_begin p) l'' m' i j z e)
 reads (unit p q) s d a u c l m i j z (unit_ {k = n} c' e) =
-    goes_on (run q (without s)) _ n j (reads p s d a.0 u c.0 l m i n z c') (reads q s d a.1 u c.1 l m n j (grows c' z).1 e)
+    goes_on (run q s) _ n j (reads p s d a.0 u c.0 l m i n z c') (reads q s d a.1 u c.1 l m n j (grows c' z).1 e)
 reads (child kind value p) s d a u c l m i j z (child_ {k = n} c' e) =
-    goes_on (run p (without s)) _ n j (l kind value s.lifetimes c.0 i n z c') (reads p s d a u c.1 l m n j (grows c' z).1 e)
+    goes_on (run p s) _ n j (l s.printed kind value s.lifetimes c.0 i n z c') (reads p s d a u c.1 l m n j (grows c' z).1 e)
 reads (skip p) s d a u c l m i j z (skip_ {k = n} c' e) =
-    goes_on (run p (without s)) _ n j (l a_path false s.lifetimes c.0 i n z c') (reads p s d a u c.1 l m n j (grows c' z).1 e)
-reads (target kind value) s d a u c l m i j z (target_ v r e) = resumed_reads (length s.symbol) i _ (λ t k. target_of s.deeper (λ level. target_read false (level true kind value s.lifetimes) t k)) _ v _ r
-    (target_reads s.symbol d s.deeper (λ level. level true kind value s.lifetimes) v _ m e)
-reads (lifetime n p) s d a u c l m i j z (lifetime_ e) = reads p s d a u c l m i j z e
+    goes_on (run p s) _ n j (l false a_path false s.lifetimes c.0 i n z c') (reads p s d a u c.1 l m n j (grows c' z).1 e)
+reads (target kind value) s d a u c l m i j z (target_ v w r e) = resumed_reads (length s.symbol) i _ (λ t k. target_of s.deeper (λ level. target_read s.printed (level true kind value s.lifetimes) t k)) _ v _ r
+    (target_reads s.symbol d s.printed s.deeper (λ level. level true kind value s.lifetimes) v _ m e)
+reads (lifetime n p) s d a u c l m i j z (lifetime_ w e) = goes_on (run p s) _ i j (lifetime_reads s.printed s.lifetimes n i w) (reads p s d a u c l m i j z e)
 reads (binder n p) s d a u c l m i j z (binder_ e) = reads p (record s { lifetimes = s.lifetimes + n }) d a u c l m i j z e
 reads (opens p) s d a u c l m i j z (opens_ e) = reads p s d a u c l m i j z e
 reads (dyn_trait p) s d a u c l m i j z (dyn_ {k = k} c' e) =
-    let path : Outcome = begun (without s) a_trait_path false (Some i) in
-    goes_on (bound_by (suc (length s.symbol)) (without s) (run p (without s)) path.is_open) path.place k j (l a_trait_path false s.lifetimes c.0 i k z c')
-    (bound_read (suc (length s.symbol)) (without s) d p (run p (without s)) (reads p s d a u c.1 l m) path.is_open false k j (omega arith) (grows c' z).1 e)
-reads (bindings o p) s d a u c l m i j z e = bound_read (suc (length s.symbol)) (without s) d p (run p (without s)) (reads p s d a u c l m) o o i j (omega arith) z e
+    let path : Outcome = begun s a_trait_path false (Some i) in
+    goes_on (bound_by (suc (length s.symbol)) s (run p s) path.is_open) path.place k j (l s.printed a_trait_path false s.lifetimes c.0 i k z c')
+    (bound_read (suc (length s.symbol)) s s.printed d s.lifetimes p (run p s) (reads p s d a u c.1 l m) path.is_open false k j (omega arith) (grows c' z).1 e)
+reads (bindings o p) s d a u c l m i j z e = bound_read (suc (length s.symbol)) s s.printed d s.lifetimes p (run p s) (reads p s d a u c l m) o o i j (omega arith) z e
 
 -- The table: each turn reads a byte.
 
@@ -535,11 +547,11 @@ rank_one a_trait_path = omega arith
 
 level_reads : (symbol : List ℕ) (d : ℕ) (ls : List Level) → ReadBelow symbol d ls → ReadAt 2 symbol d (level_of symbol ls)
 unfolding run level_of
-level_reads symbol d ls m kind value n r i j b e =
-    let at : Level → ℕ → Surroundings = λ here k. record { symbol = symbol; printed = false; here = here; deeper = ls; lifetimes = k } in
-    let inner : Level = λ fl k v o j. run (items k v) (record (at nowhere o) { printed = fl }) (Some j) in
-    reads (items kind value) (at inner n) d (ahead kind value) 1 (begin 1 kind value (rank_one kind))
-    (λ k v o r' i' j' b' e'. reads (items k v) (at nowhere o) d (ahead k v) 0 (begin 0 k v (omega (arith, r'))) (λ _ _ _ x. absurd (omega (arith, x))) m i' j' b' e')
+level_reads symbol d ls m w kind value n r i j b e =
+    let at : Level → Bool → ℕ → Surroundings = λ here pr k. record { symbol = symbol; printed = pr; here = here; deeper = ls; lifetimes = k } in
+    let inner : Level = λ pr k v o j. run (items k v) (at nowhere pr o) (Some j) in
+    reads (items kind value) (at inner w n) d (ahead kind value) 1 (begin 1 kind value (rank_one kind))
+    (λ y k v o r' i' j' b' e'. reads (items k v) (at nowhere y o) d (ahead k v) 0 (begin 0 k v (omega (arith, r'))) (λ _ _ _ _ x. absurd (omega (arith, x))) m i' j' b' e')
     m i j b e
 
 levels_read : (symbol : List ℕ) (n d : ℕ) → n + d ≡ max_depth → ReadBelow symbol d (levels symbol n)
@@ -547,7 +559,6 @@ unfolding levels
 levels_read symbol zero d e = omega arith
 levels_read symbol (suc n) d e = (level_reads symbol (d + 1) (levels symbol n) (levels_read symbol n (d + 1) (omega arith)), levels_read symbol n (d + 1) (omega arith))
 
--- what is spelled so is read
-pub spells_read : (symbol : List ℕ) (kind : Kind) (value : Bool) (i j d n : ℕ) → d ≤ max_depth → i ≤ length symbol → Spells symbol d (items kind value) i j → (read_at symbol false kind i d n value).place ≡ Some j
+pub spells_read : (symbol : List ℕ) (c : Bool) (kind : Kind) (value : Bool) (i j d n : ℕ) → d ≤ max_depth → i ≤ length symbol → Spells symbol (rule c) d n (items kind value) i j → (read_at symbol c kind i d n value).place ≡ Some j
 unfolding read_at
-spells_read symbol kind value i j d n h b e = level_reads symbol d (levels symbol (max_depth - d)) (levels_read symbol (max_depth - d) d (omega arith)) kind value n (rank_below kind) i j b e
+spells_read symbol c kind value i j d n h b e = level_reads symbol d (levels symbol (max_depth - d)) (levels_read symbol (max_depth - d) d (omega arith)) c kind value n (rank_below kind) i j b e

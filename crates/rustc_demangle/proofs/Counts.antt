@@ -1,9 +1,9 @@
 -- Where words end: behind their beginning, and within the symbol.
 use Rattle.std.specs.Prelude.{ℕ, ◌≤◌, ◌<◌, ◌^◌, ◌==◌, ◌&&◌, ◌||◌, nat_lt, nat_le, not, slice_get}
-use Rattle.std.proofs.Common.{◌≡◌, Bool, true, false, cond, List, length, Option, Some, None, refl, ◌+◌, subst, arith, rules}
+use Rattle.std.proofs.Common.{◌≡◌, Bool, true, false, cond, List, length, Option, Some, None, refl, ◌+◌, subst, arith}
 use Rattle.std.proofs.lemmas.Option.{slice_get_within}
 use Rattle.std.proofs.lemmas.Bool.{leb-true, ltb-true}
-use Rattle.rustc_demangle.specs.Digits.{run_end, is_byte, is_digit_10}
+use Rattle.rustc_demangle.specs.Digits.{run_end, is_byte}
 use Rattle.rustc_demangle.specs.Words.{Read, only_if, then_if_some, is_upper, is_lower, byte_at, namespace_at, is_digit_62, integer_value, integer_at, optional_at, backref_at, digits_from, length_end, name_from, name_len, name_of, tail_len, behind, identifier_at, is_nibble, nibbles_at}
 use Rattle.rustc_demangle.proofs.Digits.{is_byte_within}
 

@@ -2,11 +2,11 @@ pub mod CutLemmas
 pub mod HandsLemmas
 pub mod PrintsLemmas
 pub mod Digits
-pub mod Rows
 pub mod Counts
 pub mod Unique
-pub mod Agreement
+pub mod Failed
 pub mod Spelled
 pub mod Complete
 pub mod Accepted
 pub mod Turns
+pub mod Rules

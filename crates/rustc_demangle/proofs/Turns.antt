@@ -1,16 +1,15 @@
 -- The bound on turns has no effect, where each reads a byte.
 use Rattle.std.specs.Prelude.{ℕ, zero, suc, ◌≤◌}
-use Rattle.std.proofs.Common.{◌≡◌, Bool, true, false, cond, List, length, Some, None, refl, ap, ◌∙◌, ◌+◌, ◌-◌, ◌*◌, inl, inr, sym, subst, arith}
+use Rattle.std.proofs.Common.{◌≡◌, Bool, true, false, List, length, Some, None, refl, ap, ◌+◌, ◌-◌, ◌*◌, sym, subst, arith}
 use Prim.Native.Char.{code}
 use Rattle.rustc_demangle.specs.Digits.{is_byte}
 use Rattle.rustc_demangle.specs.Words.{Name, Read, identifier_at}
 use Rattle.rustc_demangle.specs.Items.{Items}
 use Rattle.rustc_demangle.specs.Reading.{looked, node, Place, Outcome, Surroundings, run, turns, stands, behind, word, resumed, forked, followed_by, closed, opened, named, bound_by}
-use Rattle.rustc_demangle.specs.Spelling.{Spells}
-use Rattle.rustc_demangle.proofs.Agreement.{AgreesAt, Agree, Agrees, Stays, with, without, agrees}
-use Rattle.rustc_demangle.proofs.Spelled.{SpeltAt, SpeltBelow, spelt}
+use Rattle.rustc_demangle.specs.Spelling.{Rule, Spells}
+use Rattle.rustc_demangle.proofs.Spelled.{rule, SpeltAt, SpeltBelow, spelt}
 use Rattle.rustc_demangle.proofs.Counts.{Placed, identifier_placed}
-use Rattle.rustc_demangle.proofs.Complete.{Moves, gains, grows, there_placed}
+use Rattle.rustc_demangle.proofs.Complete.{Moves, gains, grows}
 
 abbrev pub Within : List ℕ → ℕ → Place → Type 0
 Within symbol low None = Unit {0}
@@ -39,7 +38,7 @@ more_turns (suc j) zero symbol f a (Some i) h g = absurd (omega (arith, g.0, g.1
 more_turns (suc j) (suc k) symbol f a (Some i) h g =
     let w : Within symbol (i + 1) (f (Some i)).place = a i h.0 in
     let more : turns j symbol f (f (Some i)).place ≡ turns k symbol f (f (Some i)).place =
-        more_turns j k symbol f a (f (Some i)).place (covers_next symbol j i (f (Some i)).place w h.1) (covers_next symbol k i (f (Some i)).place w g.1) in
+    more_turns j k symbol f a (f (Some i)).place (covers_next symbol j i (f (Some i)).place w h.1) (covers_next symbol k i (f (Some i)).place w g.1) in
     fork_same (is_byte symbol i (code "E")) stands stands (λ m. followed_by (f m) (turns j symbol f)) (λ m. followed_by (f m) (turns k symbol f)) i (λ _. refl) (λ _. ap (λ o. behind (node (f (Some i)).tree) o) more)
 
 -- all turns
@@ -56,20 +55,13 @@ turns_on symbol f i a l e =
     (ap (λ o. behind (looked 1) (behind (node (f (Some i)).tree) o)) (more_turns (length symbol) (suc (length symbol)) symbol f a (f (Some i)).place
     (covers_next symbol (length symbol) i (f (Some i)).place w (omega arith)) (covers_next symbol (suc (length symbol)) i (f (Some i)).place w (omega arith))))
 
-spelt_within : (symbol : List ℕ) (d i : ℕ) (p : Items) (x : Place) → Moves p → i ≤ length symbol → ((j : ℕ) → x ≡ Some j → Spells symbol d p i j) → Within symbol (i + 1) x
-spelt_within symbol d i p None m l h = tt
-spelt_within symbol d i p (Some j) m l h = (gains m l (h j refl), (grows (h j refl) l).1)
+spelt_within : (symbol : List ℕ) (r : Rule) (d o i : ℕ) (p : Items) (x : Place) → Moves p → i ≤ length symbol → ((j : ℕ) → x ≡ Some j → Spells symbol r d o p i j) → Within symbol (i + 1) x
+spelt_within symbol r d o i p None m l h = tt
+spelt_within symbol r d o i p (Some j) m l h = (gains m l (h j refl), (grows (h j refl) l).1)
 
-stays_within : (symbol : List ℕ) (low : ℕ) (x y : Place) → Stays x y → Within symbol low y → Within symbol low x
-stays_within symbol low x y (inl e) w = subst (λ z. Within symbol low z) (sym e) w
-stays_within symbol low x y (inr e) w = subst (λ z. Within symbol low z) (sym e) tt
-
--- items that move do, with references followed or not
-pub advances : (p : Items) (s : Surroundings) (d : ℕ) (fl : Bool) → Moves p → AgreesAt s.here → Agree s.deeper → SpeltAt s.symbol d s.here → SpeltBelow s.symbol d s.deeper → Advances s.symbol (run p (record s { printed = fl }))
-unfolding Agrees
-advances p s d false m a b c e i l = spelt_within s.symbol d i p (run p (without s) (Some i)).place m l (λ j x. spelt p s d c e i j x)
-advances p s d true m a b c e i l = stays_within s.symbol (i + 1) (run p (with s) (Some i)).place (run p (without s) (Some i)).place (agrees p s a b (Some i))
-    (spelt_within s.symbol d i p (run p (without s) (Some i)).place m l (λ j x. spelt p s d c e i j x))
+-- items that move do
+pub advances : (p : Items) (s : Surroundings) (d : ℕ) → Moves p → SpeltAt s.symbol d s.here → SpeltBelow s.symbol d s.deeper → Advances s.symbol (run p s)
+advances p s d m c e i l = spelt_within s.symbol (rule s.printed) d s.lifetimes i p (run p s (Some i)).place m l (λ j x. spelt p s d c e i j x)
 
 -- what a binding is bound to ends no earlier than it begins
 abbrev pub Keeps : List ℕ → (Place → Outcome) → Type 0

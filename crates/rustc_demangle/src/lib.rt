@@ -2,4 +2,5 @@
 #![tactic(auto)]
 
 mod cursor;
+pub mod laws;
 pub mod sink;
