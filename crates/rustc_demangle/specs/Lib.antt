@@ -12,6 +12,7 @@ pub mod Punycode
 pub mod Reading
 pub mod Sink
 pub mod Spelling
+pub mod Steps
 pub mod Table
 pub mod Tally
 pub mod V0
