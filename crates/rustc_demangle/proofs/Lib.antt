@@ -16,3 +16,4 @@ pub mod StepsPaid
 pub mod TableCost
 pub mod Turns
 pub mod Unique
+pub mod Whole
