@@ -17,3 +17,4 @@ pub mod TableCost
 pub mod Turns
 pub mod Unique
 pub mod Whole
+pub mod V0Reading

@@ -3,6 +3,7 @@ ghost use Rattle.std.specs.Prelude.{◌≡◌, ◌↔◌, ◌⊎◌, ℕ, ◌≤
 ghost use Rattle.rustc_demangle.specs.Items.{Items, Kind};
 ghost use Rattle.rustc_demangle.specs.Table.{items};
 ghost use Rattle.rustc_demangle.specs.Reading.{IsWhole, max_depth, read_at, suffix_of};
+ghost use Rattle.rustc_demangle.specs.V0.{IsV0, v0_of};
 ghost use Rattle.rustc_demangle.specs.Spelling.{Rule, freely, named, simple, Spells, IsPaths};
 
 /// What a v0 symbol is made of ends at one place at most, for each place at which it begins.
@@ -19,6 +20,7 @@ pub fn reading_accepts_what_is_spelled()
     ensures unit { (symbol : List ℕ) (kind : Kind) (value : Bool) (i j depth lifetimes : ℕ) → depth ≤ max_depth → i ≤ length symbol →
         ((read_at symbol false kind i depth lifetimes value).place ≡ Some j) ↔ Spells symbol freely depth lifetimes (items kind value) i j }
     ensures symbol { (inner : List ℕ) (k : ℕ) → (suffix_of inner ≡ Some k) ↔ IsPaths inner k }
+    ensures whole { (symbol inner suffix : List ℕ) → (v0_of symbol ≡ Some (inner, suffix)) ↔ IsV0 symbol inner suffix }
 {}
 
 /// A printed reading ends where the unprinted one does, or failed. It fails only at a lifetime outside references that
