@@ -18,3 +18,4 @@ pub mod Turns
 pub mod Unique
 pub mod Whole
 pub mod V0Reading
+pub mod WordLaws
