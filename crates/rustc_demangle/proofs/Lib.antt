@@ -10,12 +10,13 @@ pub mod LooksLaw
 pub mod Paid
 pub mod PaysRules
 pub mod PrintsLemmas
+pub mod Rows
 pub mod Rules
 pub mod Spelled
 pub mod StepsPaid
 pub mod TableCost
 pub mod Turns
 pub mod Unique
-pub mod Whole
 pub mod V0Reading
+pub mod Whole
 pub mod WordLaws

@@ -53,11 +53,12 @@ pub integer_law : (s : List ℕ) (i j v : ℕ) → (integer_at s i ≡ Some (v, 
 unfolding integer_at
 integer_law s i j v =
     let end : ℕ = run_end is_digit_62 s i in
-    let w : ℕ = integer_value s i end in
-    (λ e. let p : (is_byte s end 95 && nat_lt w (2 ^ 64) ≡ true) × (v ≡ w) × (j ≡ end + 1) = if_some (is_byte s end 95 && nat_lt w (2 ^ 64)) w v (end + 1) j e in
-    let q : (is_byte s end 95 ≡ true) × (nat_lt w (2 ^ 64) ≡ true) = and_parts (is_byte s end 95) (nat_lt w (2 ^ 64)) p.0 in
-    record { ends = is_byte_there s end 95 q.0; next = p.2; value = p.1; fits = subst (λ z. z < 2 ^ 64) (sym p.1) (ltb-true w (2 ^ 64) q.1) },
-    λ h. if_true (is_byte s end 95 && nat_lt w (2 ^ 64)) w v (end + 1) j (and_both (is_byte s end 95) (nat_lt w (2 ^ 64)) (byte_is s end 95 h.ends) (lt-ltb w (2 ^ 64) (subst (λ z. z < 2 ^ 64) h.value h.fits))) h.value h.next)
+    let w : ℕ = integer_value s i end in (
+      λ e. let p : (is_byte s end 95 && nat_lt w (2 ^ 64) ≡ true) × (v ≡ w) × (j ≡ end + 1) = if_some (is_byte s end 95 && nat_lt w (2 ^ 64)) w v (end + 1) j e in
+          let q : (is_byte s end 95 ≡ true) × (nat_lt w (2 ^ 64) ≡ true) = and_parts (is_byte s end 95) (nat_lt w (2 ^ 64)) p.0 in
+          record { ends = is_byte_there s end 95 q.0; next = p.2; value = p.1; fits = subst (λ z. z < 2 ^ 64) (sym p.1) (ltb-true w (2 ^ 64) q.1) },
+      λ h. if_true (is_byte s end 95 && nat_lt w (2 ^ 64)) w v (end + 1) j (and_both (is_byte s end 95) (nat_lt w (2 ^ 64)) (byte_is s end 95 h.ends) (lt-ltb w (2 ^ 64) (subst (λ z. z < 2 ^ 64) h.value h.fits))) h.value h.next,
+    )
 
 pub optional_law : (tag : ℕ) (s : List ℕ) (i j v : ℕ) → (optional_at tag s i ≡ Some (v, j)) ↔ OptInteger tag s i j v
 unfolding optional_at
@@ -96,10 +97,11 @@ backref_law s i j t = (λ e. from (integer_at s i) refl e, λ h. subst (λ o. th
 pub nibbles_law : (s : List ℕ) (i j : ℕ) (ns : List ℕ) → (nibbles_at s i ≡ Some (ns, j)) ↔ ((end : ℕ) × Hex s i j end × (ns ≡ slice_range s i end))
 unfolding nibbles_at
 nibbles_law s i j ns =
-    let stop : ℕ = run_end is_nibble s i in
-    (λ e. let p : (is_byte s stop 95 ≡ true) × (ns ≡ slice_range s i stop) × (j ≡ stop + 1) = if_some (is_byte s stop 95) (slice_range s i stop) ns (stop + 1) j e in
-    (stop, record { nibbles = refl; ends = is_byte_there s stop 95 p.0; next = p.2 }, p.1),
-    λ h. if_true (is_byte s stop 95) (slice_range s i stop) ns (stop + 1) j (byte_is s stop 95 (subst (λ z. slice_get s z ≡ Some 95) h.1.nibbles h.1.ends)) (subst (λ z. ns ≡ slice_range s i z) h.1.nibbles h.2) (subst (λ z. j ≡ z + 1) h.1.nibbles h.1.next))
+    let stop : ℕ = run_end is_nibble s i in (
+      λ e. let p : (is_byte s stop 95 ≡ true) × (ns ≡ slice_range s i stop) × (j ≡ stop + 1) = if_some (is_byte s stop 95) (slice_range s i stop) ns (stop + 1) j e in
+          (stop, record { nibbles = refl; ends = is_byte_there s stop 95 p.0; next = p.2 }, p.1),
+      λ h. if_true (is_byte s stop 95) (slice_range s i stop) ns (stop + 1) j (byte_is s stop 95 (subst (λ z. slice_get s z ≡ Some 95) h.1.nibbles h.1.ends)) (subst (λ z. ns ≡ slice_range s i z) h.1.nibbles h.2) (subst (λ z. j ≡ z + 1) h.1.nibbles h.1.next),
+    )
 
 -- there is a Punycode part behind the `u`
 some_tail : (u : Bool) (n : ℕ) → not (u && n == 0) ≡ true → u ≡ true → 0 < n
@@ -118,18 +120,19 @@ identifier_law s i j name =
     let tail : ℕ = tail_len s (name_from s i) k in
     let some : Bool = nat_lt d (length_end s d) in
     let inside : Bool = nat_le k (length s) in
-    let full : Bool = not (is_byte s i 117 && tail == 0) in
-    (λ e. let p : (some && inside && full ≡ true) × (name ≡ name_of s i k) × (j ≡ k) = if_some (some && inside && full) (name_of s i k) name k j e in
-    let q : (some && inside ≡ true) × (full ≡ true) = and_parts (some && inside) full p.0 in
-    let r : (some ≡ true) × (inside ≡ true) = and_parts some inside q.0 in
-    record {
-      some = ltb-true d (length_end s d) r.0;
-      next = p.2;
-      inside = subst (λ z. z ≤ length s) (sym p.2) (leb-true k (length s) r.1);
-      not_empty = λ u. subst (λ z. 0 < tail_len s (name_from s i) z) (sym p.2) (some_tail (is_byte s i 117) tail q.1 u);
-      value = subst (λ z. name ≡ name_of s i z) (sym p.2) p.1;
-    },
-    λ h. if_true (some && inside && full) (name_of s i k) name k j
-    (and_both (some && inside) full (and_both some inside (lt-ltb d (length_end s d) h.some) (le-leb k (length s) (subst (λ z. z ≤ length s) h.next h.inside)))
-    (no_empty (is_byte s i 117) tail (λ u. subst (λ z. 0 < tail_len s (name_from s i) z) h.next (h.not_empty u))))
-    (subst (λ z. name ≡ name_of s i z) h.next h.value) h.next)
+    let full : Bool = not (is_byte s i 117 && tail == 0) in (
+      λ e. let p : (some && inside && full ≡ true) × (name ≡ name_of s i k) × (j ≡ k) = if_some (some && inside && full) (name_of s i k) name k j e in
+          let q : (some && inside ≡ true) × (full ≡ true) = and_parts (some && inside) full p.0 in
+          let r : (some ≡ true) × (inside ≡ true) = and_parts some inside q.0 in
+          record {
+            some = ltb-true d (length_end s d) r.0;
+            next = p.2;
+            inside = subst (λ z. z ≤ length s) (sym p.2) (leb-true k (length s) r.1);
+            not_empty = λ u. subst (λ z. 0 < tail_len s (name_from s i) z) (sym p.2) (some_tail (is_byte s i 117) tail q.1 u);
+            value = subst (λ z. name ≡ name_of s i z) (sym p.2) p.1;
+          },
+      λ h. if_true (some && inside && full) (name_of s i k) name k j
+          (and_both (some && inside) full (and_both some inside (lt-ltb d (length_end s d) h.some) (le-leb k (length s) (subst (λ z. z ≤ length s) h.next h.inside)))
+          (no_empty (is_byte s i 117) tail (λ u. subst (λ z. 0 < tail_len s (name_from s i) z) h.next (h.not_empty u))))
+          (subst (λ z. name ≡ name_of s i z) h.next h.value) h.next,
+    )
