@@ -4,7 +4,9 @@ pub mod Cost
 pub mod Cut
 pub mod Digits
 pub mod Hands
+pub mod Hashes
 pub mod Items
+pub mod Legacy
 pub mod Limit
 pub mod Literals
 pub mod Names
@@ -13,8 +15,13 @@ pub mod Reading
 pub mod Sink
 pub mod Spelling
 pub mod Steps
+pub mod Stripped
+pub mod Style
+pub mod Symbols
 pub mod Table
 pub mod Tally
+pub mod Unescaped
+pub mod Units
 pub mod V0
 pub mod Words
 pub mod Writer
