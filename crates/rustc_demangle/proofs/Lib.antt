@@ -1,5 +1,10 @@
+pub mod Accepted
+pub mod Account
+pub mod Complete
+pub mod Counts
 pub mod CutLemmas
 pub mod Digits
+pub mod Failed
 pub mod HandsLemmas
 pub mod LegacyElements
 pub mod LegacyLaws
@@ -7,11 +12,24 @@ pub mod LegacyPrefix
 pub mod LegacyPrinting
 mod LegacyRows
 pub mod LegacyUnits
+pub mod LooksLaw
+pub mod Paid
+pub mod PaysRules
 pub mod Printed
 pub mod PrintingLaws
 pub mod PrintsLemmas
 pub mod Ranges
+pub mod Rows
+pub mod Rules
+pub mod Spelled
+pub mod StepsPaid
 pub mod StripLaws
 pub mod Stripping
 pub mod SuffixSteps
 pub mod SymbolSteps
+pub mod TableCost
+pub mod Turns
+pub mod Unique
+pub mod V0Reading
+pub mod Whole
+pub mod WordLaws
