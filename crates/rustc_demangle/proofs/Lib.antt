@@ -5,13 +5,17 @@ pub mod Counts
 pub mod CutLemmas
 pub mod Digits
 pub mod Failed
+pub mod FeedLaws
+pub mod FilterLaws
 pub mod HandsLemmas
 pub mod LegacyElements
 pub mod LegacyLaws
 pub mod LegacyPrefix
 pub mod LegacyPrinting
-mod LegacyRows
+pub mod LegacyRows
 pub mod LegacyUnits
+pub mod LineDivision
+pub mod LineLaws
 pub mod LooksLaw
 pub mod Paid
 pub mod PaysRules
@@ -21,8 +25,10 @@ pub mod PrintsLemmas
 pub mod Ranges
 pub mod Rows
 pub mod Rules
+pub mod RunSteps
 pub mod Spelled
 pub mod StepsPaid
+pub mod StreamSteps
 pub mod StripLaws
 pub mod Stripping
 pub mod SuffixSteps

@@ -3,11 +3,13 @@ pub mod Array
 pub mod Cost
 pub mod Cut
 pub mod Digits
+pub mod Filtered
 pub mod Hands
 pub mod Hashes
 pub mod Items
 pub mod Legacy
 pub mod Limit
+pub mod Lines
 pub mod Literals
 pub mod Names
 pub mod Punycode
@@ -15,6 +17,7 @@ pub mod Reading
 pub mod Sink
 pub mod Spelling
 pub mod Steps
+pub mod Stream
 pub mod Stripped
 pub mod Style
 pub mod Symbols
