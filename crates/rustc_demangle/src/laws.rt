@@ -2,3 +2,6 @@
 pub mod filtering;
 pub mod legacy;
 pub mod printing;
+pub mod v0_looks;
+pub mod v0_spelling;
+pub mod v0_words;
