@@ -1,4 +1,7 @@
 pub mod CutLemmas
-pub mod HandsLemmas
-pub mod PrintsLemmas
 pub mod Digits
+pub mod HandsLemmas
+pub mod Hex
+pub mod Idents
+pub mod Integers
+pub mod PrintsLemmas

@@ -4,6 +4,7 @@ pub mod Cost
 pub mod Cut
 pub mod Digits
 pub mod Hands
+pub mod Idents
 pub mod Items
 pub mod Limit
 pub mod Literals
