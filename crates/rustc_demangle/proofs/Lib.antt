@@ -1,7 +1,13 @@
+pub mod Characters
 pub mod CutLemmas
+pub mod Deltas
 pub mod Digits
 pub mod HandsLemmas
 pub mod Hex
 pub mod Idents
+pub mod Inserting
 pub mod Integers
+pub mod NamePieces
+pub mod Parts
 pub mod PrintsLemmas
+pub mod PrintsPieces

@@ -2,4 +2,5 @@
 #![tactic(auto)]
 
 mod cursor;
+mod punycode;
 pub mod sink;
