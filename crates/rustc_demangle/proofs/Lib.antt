@@ -2,12 +2,15 @@ pub mod Characters
 pub mod CutLemmas
 pub mod Deltas
 pub mod Digits
+pub mod Escaping
 pub mod HandsLemmas
 pub mod Hex
 pub mod Idents
 pub mod Inserting
 pub mod Integers
 pub mod NamePieces
+pub mod Nibbles
 pub mod Parts
 pub mod PrintsLemmas
 pub mod PrintsPieces
+pub mod StringPieces

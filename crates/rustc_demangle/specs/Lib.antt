@@ -3,12 +3,14 @@ pub mod Array
 pub mod Cost
 pub mod Cut
 pub mod Digits
+pub mod Escapes
 pub mod Hands
 pub mod Idents
 pub mod Items
 pub mod Limit
 pub mod Literals
 pub mod Names
+pub mod Nibbles
 pub mod Punycode
 pub mod Reading
 pub mod Sink

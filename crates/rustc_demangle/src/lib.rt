@@ -2,5 +2,6 @@
 #![tactic(auto)]
 
 mod cursor;
+mod literal;
 mod punycode;
 pub mod sink;
