@@ -8,6 +8,7 @@ pub mod Hex
 pub mod Idents
 pub mod Inserting
 pub mod Integers
+pub mod NameLaws
 pub mod NamePieces
 pub mod Nibbles
 pub mod Parts

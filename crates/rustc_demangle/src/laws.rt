@@ -1,0 +1,2 @@
+//! What follows from the definitions that the contracts name. Each law is the contract of a function that does nothing.
+pub mod names;
