@@ -5,6 +5,7 @@ pub mod LegacyElements
 pub mod LegacyLaws
 pub mod LegacyPrefix
 pub mod LegacyPrinting
+mod LegacyRows
 pub mod LegacyUnits
 pub mod Printed
 pub mod PrintingLaws
