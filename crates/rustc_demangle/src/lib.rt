@@ -9,6 +9,8 @@ mod cursor;
 mod display;
 pub mod laws;
 mod legacy;
+mod literal;
+mod punycode;
 pub mod sink;
 mod stream;
 mod strip;
