@@ -91,6 +91,20 @@ fn a_value_has_two_colons_before_its_arguments(rt: HostRuntime) {
 }
 
 #[test]
+fn constants_can_be_arguments(rt: HostRuntime) {
+    for (symbol, plain, alt) in [
+        ("_RIC1aKj0_E", "a::<0usize>", "a::<0>"),
+        (
+            "_RIC1auKhb_Kb1_E",
+            "a::<(), 11u8, true>",
+            "a::<(), 11, true>",
+        ),
+    ] {
+        assert_prints(&rt, symbol, plain, alt);
+    }
+}
+
+#[test]
 fn names_in_punycode_are_decoded(rt: HostRuntime) {
     for (symbol, text) in [
         ("_RCu9bcher_kva", "bücher"),

@@ -100,6 +100,44 @@ fn what_failed_inside_a_pattern_or_a_dynamic_type_is_marked(rt: HostRuntime) {
 }
 
 #[test]
+fn an_open_trait_path_stays_open_behind_its_reference(rt: HostRuntime) {
+    for (symbol, plain, alt) in [
+        (
+            "_RYTC20DIC1aDC1bEL_Ep1xmEL_B4_EC1b",
+            "<(DIC1aDC1bEL_Ep1xmEL_, dyn a<dyn b, x = u32>) as b>",
+            "<(DIC1aDC1bEL_Ep1xmEL_, dyn a<dyn b, x = u32>) as b>",
+        ),
+        (
+            "_RYTC22DYDIC1amEEL_C1bp1xmEL_B4_EC1b",
+            "<(DYDIC1amEEL_C1bp1xmEL_, dyn <dyn a<u32> as b><x = u32>) as b>",
+            "<(DYDIC1amEEL_C1bp1xmEL_, dyn <dyn a<u32> as b><x = u32>) as b>",
+        ),
+        (
+            "_RYTC24DIC1amEp1xDC1bEL_p1ymEL_B4_EC1b",
+            "<(DIC1amEp1xDC1bEL_p1ymEL_, dyn a<u32, x = dyn b, y = u32>) as b>",
+            "<(DIC1amEp1xDC1bEL_p1ymEL_, dyn a<u32, x = dyn b, y = u32>) as b>",
+        ),
+        (
+            "_RYTC20DC1ap1xDIC1amEEL_EL_B4_EC1b",
+            "<(DC1ap1xDIC1amEEL_EL_, dyn a<x = dyn a<u32>>) as b>",
+            "<(DC1ap1xDIC1amEEL_EL_, dyn a<x = dyn a<u32>>) as b>",
+        ),
+        (
+            "_RYTC9DIC1amEB$B3_EC1b",
+            "<(DIC1amEB$, dyn a<u32> + {invalid syntax}{invalid syntax}) as b>",
+            "<(DIC1amEB$, dyn a<u32> + {invalid syntax}{invalid syntax}) as b>",
+        ),
+        (
+            "_RYTC4I@@@DB3_p1xmEL_EC1b",
+            "<(I@@@, dyn {invalid syntax}<, x = u32>) as b>",
+            "<(I@@@, dyn {invalid syntax}<, x = u32>) as b>",
+        ),
+    ] {
+        assert_prints(&rt, symbol, plain, alt);
+    }
+}
+
+#[test]
 fn references_ahead_are_refused(rt: HostRuntime) {
     for text in [
         "_RB_",
