@@ -1,4 +1,5 @@
 pub mod CutLemmas
+pub mod Digits
+pub mod GrammarRows
 pub mod HandsLemmas
 pub mod PrintsLemmas
-pub mod Digits

@@ -3,6 +3,7 @@ pub mod Array
 pub mod Cost
 pub mod Cut
 pub mod Digits
+pub mod Grammar
 pub mod Hands
 pub mod Items
 pub mod Limit

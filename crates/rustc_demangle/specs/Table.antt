@@ -1,5 +1,5 @@
 -- The productions of v0 symbols (RFC 2603), and what each hands over.
-use Rattle.std.specs.Prelude.{ℕ, Bool, true, false, ◌&&◌, ◌||◌, if◌then◌else◌, ◌==◌, List, [], ◌∷◌, ◌++◌, Option, Some, None, codes, decimal}
+use Rattle.std.specs.Prelude.{ℕ, Bool, true, false, ◌||◌, if◌then◌else◌, ◌==◌, List, [], ◌∷◌, ◌++◌, Option, Some, None, codes, decimal}
 use Rattle.std.specs.Fmt.{digits}
 use lib.Utf8.{scalar}
 use Prim.Native.Char.{code}
@@ -7,7 +7,7 @@ use Prim.Native.String.{String}
 use Rattle.rustc_demangle.specs.Words.{is_upper, some_or, Name, number_of}
 use Rattle.rustc_demangle.specs.Names.{name_pieces, is_empty, is_nameless}
 use Rattle.rustc_demangle.specs.Literals.{literal, string_of}
-use Rattle.rustc_demangle.specs.Items.{Text, Kind, a_path, a_type, a_constant, a_pattern, a_trait_path, Items, done, invalid, say, say_plain, byte, namespace, integer, optional, identifier, nibbles, peek, next, sound, until_end, raise, unit, child, skip, target, lifetime, binder, opens, dyn_trait, bindings}
+use Rattle.rustc_demangle.specs.Items.{Text, Kind, a_path, a_type, a_constant, a_pattern, a_trait_path, Items, done, invalid, say, say_plain, byte, namespace, integer, optional, identifier, nibbles, peek, next, sound, until_end, raise, unit, child, skip, target, lifetime, binder, opens, dyn_trait}
 
 abbrev pub is_among : ℕ → List ℕ → Bool
 is_among b [] = false

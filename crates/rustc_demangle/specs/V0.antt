@@ -1,7 +1,7 @@
 -- A whole v0 symbol, with its prefix.
-use Rattle.std.specs.Prelude.{ℕ, Bool, true, false, ◌&&◌, if◌then◌else◌, nat_lt, ◌==◌, List, [], ◌∷◌, drop, Option, Some, None, codes}
+use Rattle.std.specs.Prelude.{ℕ, Bool, ◌&&◌, if◌then◌else◌, nat_lt, ◌==◌, List, [], ◌∷◌, drop, Option, Some, None, codes}
 use Rattle.std.specs.List.{list_all}
-use Rattle.rustc_demangle.specs.Words.{only_if, then_if_some, some_or}
+use Rattle.rustc_demangle.specs.Words.{then_if_some, some_or}
 use Rattle.rustc_demangle.specs.Items.{Text}
 use Rattle.rustc_demangle.specs.Reading.{goes_on_at, suffix_of, rendered}
 

@@ -1,6 +1,6 @@
 -- The words of a v0 symbol (RFC 2603). Each is a function of the bytes and a place, which gives the word's value and the
 -- place behind it, or none; and a relation of the bytes from one place up to another and the value.
-use Rattle.std.specs.Prelude.{◌≡◌, ◌⊎◌, IsTrue, ◌==◌, ℕ, ◌+◌, ◌-◌, ◌*◌, ◌^◌, ◌<◌, ◌≤◌, ◌&&◌, ◌||◌, Bool, true, false, not, List, length, Option, Some, None, slice_get, slice_range, nat_le, nat_lt, if◌then◌else◌}
+use Rattle.std.specs.Prelude.{◌≡◌, ◌⊎◌, IsTrue, ◌==◌, ℕ, ◌+◌, ◌-◌, ◌^◌, ◌<◌, ◌≤◌, ◌&&◌, ◌||◌, Bool, true, false, not, List, length, Option, Some, None, slice_get, slice_range, nat_le, nat_lt, if◌then◌else◌}
 use Rattle.std.specs.List.{prefix_len, suffix_len}
 use Rattle.rustc_demangle.specs.Digits.{run_end, is_byte, number, is_digit_10, digit_10}
 

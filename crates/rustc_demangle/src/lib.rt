@@ -3,3 +3,4 @@
 
 mod cursor;
 pub mod sink;
+mod v0;

@@ -1,0 +1,2 @@
+//! v0 symbols.
+mod grammar;
