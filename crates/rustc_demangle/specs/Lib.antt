@@ -5,6 +5,7 @@ pub mod Cut
 pub mod Digits
 pub mod Grammar
 pub mod Hands
+pub mod Idents
 pub mod Items
 pub mod Limit
 pub mod Literals

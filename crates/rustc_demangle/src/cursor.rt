@@ -1,13 +1,23 @@
 //! The bytes of a symbol, which only `byte` tells.
-ghost use Rattle.std.specs.Prelude.{◌≡◌, ℕ, ◌+◌, ◌-◌, ◌*◌, ◌<◌, ◌≤◌, length, slice_get, slice_range, ◌^◌, true, false, IfOk, OnErr, IfErr, IfSome, MatchOption, SomeIff, IsTrue, ◌↔◌};
+ghost use Rattle.std.specs.Prelude.{◌≡◌, ℕ, [], ◌∷◌, ◌+◌, ◌-◌, ◌*◌, ◌<◌, ◌≤◌, length, slice_get, slice_range, ◌^◌, true, false, IfOk, OnErr, IfErr, IfSome, MatchOption, SomeIff, IsTrue, ◌↔◌};
 ghost use Rattle.std.specs.Str.{IsAscii};
 ghost use Rattle.rustc_demangle.specs.Digits.{number, is_byte, Decimal, is_digit_10, digit_10};
+ghost use Rattle.rustc_demangle.specs.Limit.{Prints, Ready};
 
+use crate::sink::{SinkRefused, SizeLimitedFmtAdapter, TextSink};
 use std::marker::Model;
 
+mod hex;
+mod ident;
 mod looks;
+#[cfg(test)]
+mod tests;
+mod words;
 
+pub use hex::MAX_NIBBLES;
+pub use ident::Ident;
 pub use looks::Looks;
+pub use words::MAX_DEPTH;
 
 #[derive(Clone, Copy, Debug, PartialEq, Eq)]
 pub enum ParseError {
@@ -57,10 +67,15 @@ impl<'s> Span<'s> {
         self.text.len()
     }
 
-    pub fn as_str(&self) -> &'s str
-        ensures { result.now ≡ self.now }
+    /// Puts it into a sink. It is no look.
+    pub fn write_to<S: TextSink>(
+        &self,
+        out: &mut SizeLimitedFmtAdapter<'_, S>,
+    ) -> Result<(), SinkRefused>
+        requires { Ready S.TextSink out.old }
+        ensures { Prints S.TextSink out.old (self.now ∷ []) result out.new }
     {
-        self.text
+        out.put(self.text)
     }
 }
 
