@@ -1,5 +1,6 @@
 pub mod Accepting
 pub mod Array
+pub mod Begins
 pub mod Cost
 pub mod Cut
 pub mod Digits
@@ -9,6 +10,7 @@ pub mod Idents
 pub mod Items
 pub mod Limit
 pub mod Literals
+pub mod Measures
 pub mod Names
 pub mod Punycode
 pub mod Reading

@@ -1,2 +1,3 @@
 //! v0 symbols.
 mod grammar;
+mod units;

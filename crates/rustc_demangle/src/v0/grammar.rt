@@ -1,5 +1,6 @@
 //! The grammar of v0 symbols: what each production reads and prints, in order.
-ghost use Rattle.std.specs.Prelude.{◌≡◌};
+ghost use Rattle.std.specs.Prelude.{◌≡◌, true, IfSome};
+ghost use Rattle.rustc_demangle.specs.Measures.{is_within};
 ghost use Rattle.rustc_demangle.specs.Grammar.{text, table, found, basic_marks, path_productions, type_productions, constant_productions, variant_productions};
 
 /// What is read as one unit by name.
@@ -613,7 +614,8 @@ pub fn constant_production(tag: u8, value: bool) -> Option<Production>
 
 /// The production of what a variant holds.
 pub fn variant_production(tag: u8, value: bool) -> Option<Production>
-    ensures { result ≡ found tag (variant_productions value) }
+    ensures value { result ≡ found tag (variant_productions value) }
+    ensures within { IfSome result (λ p. is_within p Entry.Variant ≡ true) }
 {
     match tag {
         b'U' if value => Some(Production::Nothing),
