@@ -1,8 +1,14 @@
+pub mod Characters
 pub mod CutLemmas
+pub mod Deltas
 pub mod Digits
 pub mod GrammarRows
 pub mod HandsLemmas
 pub mod Hex
 pub mod Idents
+pub mod Inserting
 pub mod Integers
+pub mod NamePieces
+pub mod Parts
 pub mod PrintsLemmas
+pub mod PrintsPieces

@@ -2,5 +2,6 @@
 #![tactic(auto)]
 
 mod cursor;
+mod punycode;
 pub mod sink;
 mod v0;

@@ -2,7 +2,7 @@
 ghost use Rattle.std.specs.Prelude.{◌≡◌, ℕ, ◌+◌, ◌-◌, ◌*◌, ◌<◌, ◌≤◌, ◌^◌, length, IfOk, OnErr, IfErr, option_map};
 ghost use Rattle.std.specs.Result.{result_ok};
 ghost use Rattle.rustc_demangle.specs.Words.{Name, Length, Identifier, identifier_at, tail_len};
-ghost use Rattle.rustc_demangle.specs.Idents.{IsIdent, name_in, name_size};
+ghost use Rattle.rustc_demangle.specs.Idents.{IsIdent, LiesWithin, name_in, name_size};
 
 use crate::cursor::{Looks, ParseError, Part, Symbol};
 
@@ -55,6 +55,7 @@ impl<'s> Symbol<'s> {
     pub fn ident(&self, place: usize, looks: &mut Looks) -> Result<(Ident, usize), ParseError>
         ensures ok { IfOk result (λ r. IsIdent self.now place r.1 r.0) }
         ensures err { OnErr result ((j : ℕ) (ident : Ident) → IsIdent self.now place j ident → ⊥) }
+        ensures parts { IfOk result (λ r. LiesWithin self.now r.0) }
         ensures spelled { IfOk result (λ r. Identifier self.now place r.1 (name_in self.now r.0)) }
         ensures not_spelled { OnErr result ((j : ℕ) (name : Name) → Identifier self.now place j name → ⊥) }
         ensures read { option_map (λ r. (name_in self.now r.0, r.1)) (result_ok result) ≡ identifier_at self.now place }
