@@ -26,7 +26,7 @@ use Rattle.rustc_demangle.specs.declared.v0.grammar.Item.TheVariants as item
 use Rattle.rustc_demangle.specs.declared.v0.grammar.Production.{Production}
 use Rattle.rustc_demangle.specs.declared.v0.grammar.Production.TheVariants as production
 use Rattle.rustc_demangle.specs.declared.v0.grammar.Count.{Count}
-use Rattle.rustc_demangle.specs.declared.v0.grammar.Count.TheVariants.{Zero, One, More}
+use Rattle.rustc_demangle.specs.declared.v0.grammar.Count.TheVariants.{Zero, One, More, Told}
 
 abbrev pub text : Mark → Text
 text mark.Invalid = codes "{invalid syntax}"
@@ -269,14 +269,12 @@ element e = beginning (element_value e) e
 -- a list that has had `count` elements
 abbrev pub list_left : Joint → Items → Count → Items → Items
 list_left joint.Comma turn Zero p = list ", " turn p
-list_left joint.Comma turn One p = more ", " turn p
-list_left joint.Comma turn More p = more ", " turn p
+list_left joint.Comma turn _ p = more ", " turn p
 list_left joint.Tuple turn Zero p = tuple turn p
 list_left joint.Tuple turn One p = at_end (says "," p) (more ", " turn p)
-list_left joint.Tuple turn More p = more ", " turn p
+list_left joint.Tuple turn _ p = more ", " turn p
 list_left joint.Plus turn Zero p = list " + " turn p
-list_left joint.Plus turn One p = more " + " turn p
-list_left joint.Plus turn More p = more " + " turn p
+list_left joint.Plus turn _ p = more " + " turn p
 list_left joint.Or turn count p = more " | " turn p
 
 -- the items that are left; of a list at their head, `count` elements were read before, and of bindings, it is open or not

@@ -1,10 +1,13 @@
 pub mod Accepting
 pub mod Array
 pub mod Begins
+pub mod Binders
 pub mod Cost
 pub mod Cut
 pub mod Digits
+pub mod Events
 pub mod Grammar
+pub mod Groups
 pub mod Hands
 pub mod Idents
 pub mod Items

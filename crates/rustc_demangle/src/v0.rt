@@ -1,3 +1,5 @@
 //! v0 symbols.
 mod grammar;
+mod stretch;
 mod units;
+mod words;

@@ -218,6 +218,8 @@ pub enum Count {
     Zero,
     One,
     More,
+    /// Of bindings: what stood before them told whether they are open.
+    Told,
 }
 
 /// The text of a mark.
