@@ -17,6 +17,7 @@ pub mod Measures
 pub mod Names
 pub mod Punycode
 pub mod Reading
+pub mod Shares
 pub mod Sink
 pub mod Spelling
 pub mod Table

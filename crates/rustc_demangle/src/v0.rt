@@ -1,5 +1,6 @@
 //! v0 symbols.
 mod grammar;
 mod stretch;
+mod task;
 mod units;
 mod words;
