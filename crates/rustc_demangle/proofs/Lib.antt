@@ -4,6 +4,7 @@ pub mod Deltas
 pub mod Digits
 pub mod GrammarRows
 pub mod HandsLemmas
+pub mod Hearing
 pub mod Hex
 pub mod Idents
 pub mod Inserting
