@@ -20,6 +20,7 @@ pub mod Reading
 pub mod Shares
 pub mod Sink
 pub mod Spelling
+pub mod Steps
 pub mod Table
 pub mod Tally
 pub mod V0

@@ -1,5 +1,5 @@
--- Which bytes a v0 symbol is spelled with: no reference is followed, and no lifetime checked.
-use Rattle.std.specs.Prelude.{◌≡◌, ◌⊎◌, ℕ, ◌+◌, ◌<◌, Bool, true, false, List, Some, slice_get, IsAscii}
+-- Which bytes units of a v0 symbol are spelled with. No reference is followed.
+use Rattle.std.specs.Prelude.{◌≡◌, ◌⊎◌, ℕ, ◌+◌, ◌<◌, ◌≤◌, Bool, true, false, List, Some, slice_get}
 use Prim.Native.Char.{code}
 use Rattle.rustc_demangle.specs.Digits.{is_byte}
 use Rattle.rustc_demangle.specs.Words.{Name, byte_at, namespace_at, integer_at, optional_at, backref_at, identifier_at, nibbles_at}
@@ -7,48 +7,58 @@ use Rattle.rustc_demangle.specs.Items.{Text, Kind, a_path, a_trait_path, Items, 
 use Rattle.rustc_demangle.specs.Table.{items}
 use Rattle.rustc_demangle.specs.Reading.{max_depth, goes_on_at}
 
--- Spells symbol d p i j: from i up to j stand the items p, at depth d
-pub data Spells (symbol : List ℕ) : ℕ → Items → ℕ → ℕ → Type 0 where
-  end_ : {d i : ℕ} → Spells symbol d done i i
-  say_ : {p : Items} {d i j : ℕ} {t : Text} → Spells symbol d p i j → Spells symbol d (say t p) i j
-  plain_ : {p : Items} {d i j : ℕ} {t : Text} → Spells symbol d p i j → Spells symbol d (say_plain t p) i j
-  byte_ : {d i j : ℕ} {f : ℕ → Items} (v k : ℕ) → byte_at symbol i ≡ Some (v, k) → Spells symbol d (f v) k j → Spells symbol d (byte f) i j
-  namespace_ : {d i j : ℕ} {f : ℕ → Items} (v k : ℕ) → namespace_at symbol i ≡ Some (v, k) → Spells symbol d (f v) k j → Spells symbol d (namespace f) i j
-  integer_ : {d i j : ℕ} {f : ℕ → Items} (v k : ℕ) → integer_at symbol i ≡ Some (v, k) → Spells symbol d (f v) k j → Spells symbol d (integer f) i j
-  optional_ : {d i j tag : ℕ} {f : ℕ → Items} (v k : ℕ) → optional_at tag symbol i ≡ Some (v, k) → Spells symbol d (f v) k j → Spells symbol d (optional tag f) i j
-  identifier_ : {d i j : ℕ} {f : Name → Items} (v : Name) (k : ℕ) → identifier_at symbol i ≡ Some (v, k) → Spells symbol d (f v) k j → Spells symbol d (identifier f) i j
-  nibbles_ : {d i j : ℕ} {f : List ℕ → Items} (v : List ℕ) (k : ℕ) → nibbles_at symbol i ≡ Some (v, k) → Spells symbol d (f v) k j → Spells symbol d (nibbles f) i j
-  peek_ : {d i j : ℕ} {f : ℕ → Items} (v : ℕ) → slice_get symbol i ≡ Some v → Spells symbol d (f v) i j → Spells symbol d (peek f) i j
-  there : {p q : Items} {d i j b : ℕ} → is_byte symbol i b ≡ true → Spells symbol d p (i + 1) j → Spells symbol d (next b p q) i j
-  other : {p q : Items} {d i j b : ℕ} → is_byte symbol i b ≡ false → Spells symbol d q i j → Spells symbol d (next b p q) i j
-  sound_ : {p q : Items} {d i j : ℕ} → Spells symbol d p i j → Spells symbol d (sound p q) i j
+-- What is asked of what is printed: nothing; that each lifetime outside references names one in force; that there is no
+-- reference, and no lifetime but that of index 0.
+pub data Rule : Type 0 where
+  freely named simple : Rule
+
+-- with so many lifetimes in force there may be one of this index
+abbrev pub MayName : Rule → ℕ → ℕ → Type 0
+MayName freely m k = Unit {0}
+MayName named m k = k ≤ m
+MayName simple m k = k ≡ 0
+
+abbrev pub MayRefer : Rule → Type 0
+MayRefer freely = Unit {0}
+MayRefer named = Unit {0}
+MayRefer simple = ⊥
+
+-- Spells symbol r d m p i j: from i up to j stand the items p, at depth d, with m lifetimes in force, by the rule r
+pub data Spells (symbol : List ℕ) : Rule → ℕ → ℕ → Items → ℕ → ℕ → Type 0 where
+  end_ : {r : Rule} {d m i : ℕ} → Spells symbol r d m done i i
+  say_ : {r : Rule} {p : Items} {d m i j : ℕ} {t : Text} → Spells symbol r d m p i j → Spells symbol r d m (say t p) i j
+  plain_ : {r : Rule} {p : Items} {d m i j : ℕ} {t : Text} → Spells symbol r d m p i j → Spells symbol r d m (say_plain t p) i j
+  byte_ : {r : Rule} {d m i j : ℕ} {f : ℕ → Items} (v k : ℕ) → byte_at symbol i ≡ Some (v, k) → Spells symbol r d m (f v) k j → Spells symbol r d m (byte f) i j
+  namespace_ : {r : Rule} {d m i j : ℕ} {f : ℕ → Items} (v k : ℕ) → namespace_at symbol i ≡ Some (v, k) → Spells symbol r d m (f v) k j → Spells symbol r d m (namespace f) i j
+  integer_ : {r : Rule} {d m i j : ℕ} {f : ℕ → Items} (v k : ℕ) → integer_at symbol i ≡ Some (v, k) → Spells symbol r d m (f v) k j → Spells symbol r d m (integer f) i j
+  optional_ : {r : Rule} {d m i j tag : ℕ} {f : ℕ → Items} (v k : ℕ) → optional_at tag symbol i ≡ Some (v, k) → Spells symbol r d m (f v) k j → Spells symbol r d m (optional tag f) i j
+  identifier_ : {r : Rule} {d m i j : ℕ} {f : Name → Items} (v : Name) (k : ℕ) → identifier_at symbol i ≡ Some (v, k) → Spells symbol r d m (f v) k j → Spells symbol r d m (identifier f) i j
+  nibbles_ : {r : Rule} {d m i j : ℕ} {f : List ℕ → Items} (v : List ℕ) (k : ℕ) → nibbles_at symbol i ≡ Some (v, k) → Spells symbol r d m (f v) k j → Spells symbol r d m (nibbles f) i j
+  peek_ : {r : Rule} {d m i j : ℕ} {f : ℕ → Items} (v : ℕ) → slice_get symbol i ≡ Some v → Spells symbol r d m (f v) i j → Spells symbol r d m (peek f) i j
+  there : {r : Rule} {p q : Items} {d m i j b : ℕ} → is_byte symbol i b ≡ true → Spells symbol r d m p (i + 1) j → Spells symbol r d m (next b p q) i j
+  other : {r : Rule} {p q : Items} {d m i j b : ℕ} → is_byte symbol i b ≡ false → Spells symbol r d m q i j → Spells symbol r d m (next b p q) i j
+  sound_ : {r : Rule} {p q : Items} {d m i j : ℕ} → Spells symbol r d m p i j → Spells symbol r d m (sound p q) i j
   -- turns up to an `E`
-  over_ : {p q : Items} {d i j : ℕ} → is_byte symbol i (code "E") ≡ true → Spells symbol d q (i + 1) j → Spells symbol d (until_end p q) i j
-  turn_ : {p q : Items} {d i k j : ℕ} → is_byte symbol i (code "E") ≡ false → Spells symbol d p i k → Spells symbol d (until_end p q) k j → Spells symbol d (until_end p q) i j
-  raise_ : {p : Items} {d i j : ℕ} → d < max_depth → Spells symbol (d + 1) p i j → Spells symbol d (raise p) i j
-  unit_ : {p q : Items} {d i k j : ℕ} → Spells symbol d p i k → Spells symbol d q k j → Spells symbol d (unit p q) i j
-  child_ : {p : Items} {d i k j : ℕ} {kind : Kind} {value : Bool} → Spells symbol d (items kind value) i k → Spells symbol d p k j → Spells symbol d (child kind value p) i j
-  skip_ : {p : Items} {d i k j : ℕ} → Spells symbol d (items a_path false) i k → Spells symbol d p k j → Spells symbol d (skip p) i j
-  -- a reference is its word alone; its target is before it, and one more depth is there
-  target_ : {d i j : ℕ} {kind : Kind} {value : Bool} (v : ℕ) → backref_at symbol i ≡ Some (v, j) → d < max_depth → Spells symbol d (target kind value) i j
-  lifetime_ : {p : Items} {d i j k : ℕ} → Spells symbol d p i j → Spells symbol d (lifetime k p) i j
-  binder_ : {p : Items} {d i j m : ℕ} → Spells symbol d p i j → Spells symbol d (binder m p) i j
-  opens_ : {p : Items} {d i j : ℕ} → Spells symbol d p i j → Spells symbol d (opens p) i j
+  over_ : {r : Rule} {p q : Items} {d m i j : ℕ} → is_byte symbol i (code "E") ≡ true → Spells symbol r d m q (i + 1) j → Spells symbol r d m (until_end p q) i j
+  turn_ : {r : Rule} {p q : Items} {d m i k j : ℕ} → is_byte symbol i (code "E") ≡ false → Spells symbol r d m p i k → Spells symbol r d m (until_end p q) k j → Spells symbol r d m (until_end p q) i j
+  raise_ : {r : Rule} {p : Items} {d m i j : ℕ} → d < max_depth → Spells symbol r (d + 1) m p i j → Spells symbol r d m (raise p) i j
+  unit_ : {r : Rule} {p q : Items} {d m i k j : ℕ} → Spells symbol r d m p i k → Spells symbol r d m q k j → Spells symbol r d m (unit p q) i j
+  child_ : {r : Rule} {p : Items} {d m i k j : ℕ} {kind : Kind} {value : Bool} → Spells symbol r d m (items kind value) i k → Spells symbol r d m p k j → Spells symbol r d m (child kind value p) i j
+  skip_ : {r : Rule} {p : Items} {d m i k j : ℕ} → Spells symbol freely d m (items a_path false) i k → Spells symbol r d m p k j → Spells symbol r d m (skip p) i j
+  -- a reference is its word alone: its target begins before it, and there is one more depth
+  target_ : {r : Rule} {d m i j : ℕ} {kind : Kind} {value : Bool} (v : ℕ) → MayRefer r → backref_at symbol i ≡ Some (v, j) → d < max_depth → Spells symbol r d m (target kind value) i j
+  lifetime_ : {r : Rule} {p : Items} {d m i j k : ℕ} → MayName r m k → Spells symbol r d m p i j → Spells symbol r d m (lifetime k p) i j
+  binder_ : {r : Rule} {p : Items} {d m i j n : ℕ} → Spells symbol r d (m + n) p i j → Spells symbol r d m (binder n p) i j
+  opens_ : {r : Rule} {p : Items} {d m i j : ℕ} → Spells symbol r d m p i j → Spells symbol r d m (opens p) i j
   -- a dyn trait path, and then bindings, each behind a `p` and its name
-  dyn_ : {p : Items} {d i k j : ℕ} → Spells symbol d (items a_trait_path false) i k → Spells symbol d (bindings false p) k j → Spells symbol d (dyn_trait p) i j
-  past_ : {p : Items} {d i : ℕ} {o : Bool} → is_byte symbol i (code "p") ≡ false → Spells symbol d (bindings o p) i i
-  bound_ : {p : Items} {d i k l j : ℕ} {o : Bool} (a : Name) → is_byte symbol i (code "p") ≡ true → identifier_at symbol (i + 1) ≡ Some (a, k) → Spells symbol d p k l → Spells symbol d (bindings true p) l j → Spells symbol d (bindings o p) i j
+  dyn_ : {r : Rule} {p : Items} {d m i k j : ℕ} → Spells symbol r d m (items a_trait_path false) i k → Spells symbol r d m (bindings false p) k j → Spells symbol r d m (dyn_trait p) i j
+  past_ : {r : Rule} {p : Items} {d m i : ℕ} {o : Bool} → is_byte symbol i (code "p") ≡ false → Spells symbol r d m (bindings o p) i i
+  bound_ : {r : Rule} {p : Items} {d m i k l j : ℕ} {o : Bool} (a : Name) → is_byte symbol i (code "p") ≡ true → identifier_at symbol (i + 1) ≡ Some (a, k) → Spells symbol r d m p k l → Spells symbol r d m (bindings true p) l j → Spells symbol r d m (bindings o p) i j
 
 -- from i up to j stands a path, at depth 0
 abbrev pub IsPath : List ℕ → ℕ → ℕ → Type 0
-IsPath symbol i j = Spells symbol 0 (items a_path true) i j
+IsPath symbol i j = Spells symbol freely 0 0 (items a_path true) i j
 
 -- the suffix begins at k: behind one path, or behind two where `A` to `Z` stands behind the first
-abbrev pub IsSymbol : List ℕ → ℕ → Type 0
-IsSymbol symbol k = (j : ℕ) × IsPath symbol 0 j × (((goes_on_at symbol j ≡ false) × (k ≡ j)) ⊎ ((goes_on_at symbol j ≡ true) × IsPath symbol j k))
-
--- The bytes behind the scheme's prefix are a v0 symbol whose suffix begins at k: they are ASCII, and begin with `A` to `Z`.
-pub record IsV0 (inner : List ℕ) (k : ℕ) : Type 0 where
-  pub ascii : IsAscii inner
-  pub begins : goes_on_at inner 0 ≡ true
-  pub spelled : IsSymbol inner k
+abbrev pub IsPaths : List ℕ → ℕ → Type 0
+IsPaths inner k = (j : ℕ) × IsPath inner 0 j × (((goes_on_at inner j ≡ false) × (k ≡ j)) ⊎ ((goes_on_at inner j ≡ true) × IsPath inner j k))

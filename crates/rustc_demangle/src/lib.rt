@@ -2,6 +2,6 @@
 #![tactic(auto)]
 
 mod cursor;
+pub mod laws;
 mod punycode;
 pub mod sink;
-mod v0;

@@ -1,0 +1,5 @@
+use Rattle.rustc_demangle.proofs.Accepted.{accepted_is_spelled}
+use Rattle.rustc_demangle.proofs.laws.v0_spelling.reading_accepts_what_is_spelled.Goals as goal
+
+pub returns-clause-symbol : goal.returns-clause-symbol
+returns-clause-symbol c = λ inner k. accepted_is_spelled inner k

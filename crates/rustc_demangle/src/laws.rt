@@ -1,0 +1,3 @@
+//! What follows from the definitions that the contracts name. Each law is the contract of a function that does nothing.
+pub mod v0_looks;
+pub mod v0_spelling;
