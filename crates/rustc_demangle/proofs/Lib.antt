@@ -1,5 +1,6 @@
 pub mod Accepted
 pub mod Account
+pub mod Beyond
 pub mod Characters
 pub mod Complete
 pub mod Counts

@@ -5,3 +5,4 @@ mod cursor;
 pub mod laws;
 mod punycode;
 pub mod sink;
+mod v0;
