@@ -37,7 +37,7 @@ row_found tag other f (r ∷ rs) = go (is_among tag (codes r.0)) (row_found tag 
     go true h = refl
     go false h = h
 
-abbrev says_more : Bool → Items
+abbrev pub says_more : Bool → Items
 says_more value = if value then done else says "}" done
 
 variant_meanings : (value : Bool) (tag : ℕ) → variant_rows (says_more value) ≡ rows_of (unit_of value tag) (variant_productions value)
@@ -63,8 +63,8 @@ type_found value tag other = ap (λ rs. row_of tag other (after_tag rs)) (type_m
 pub constant_found : (value : Bool) (tag : ℕ) → row_of tag invalid (constant_rows value tag) ≡ some_or invalid (found tag (constant_productions value)) (unit_of value tag)
 constant_found value tag = ap (row_of tag invalid) (constant_meanings value tag) ∙ row_found tag invalid (unit_of value tag) (constant_productions value)
 
-pub variant_found : (value : Bool) (tag : ℕ) → row_of tag invalid (variant_rows (says_more value)) ≡ some_or invalid (found tag (variant_productions value)) (unit_of value tag)
-variant_found value tag = ap (row_of tag invalid) (variant_meanings value tag) ∙ row_found tag invalid (unit_of value tag) (variant_productions value)
+pub variant_found : (value : Bool) (note tag : ℕ) → row_of tag invalid (variant_rows (says_more value)) ≡ some_or invalid (found tag (variant_productions value)) (unit_of value note)
+variant_found value note tag = ap (row_of tag invalid) (variant_meanings value note) ∙ row_found tag invalid (unit_of value note) (variant_productions value)
 
 -- the same of the texts of basic types
 text_found : (tag : ℕ) (rs : List (String × String)) → text_of tag rs ≡ found tag (map (λ (r : String × String). (r.0, codes r.1)) rs)

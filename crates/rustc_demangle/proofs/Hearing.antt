@@ -23,11 +23,11 @@ said_append : (out : Bool) (t : Text) (xs ys : List Event) → said out t xs ++ 
 said_append true t xs ys = refl
 said_append false t xs ys = refl
 
-said_all_append : (out : Bool) (ts : List Text) (xs ys : List Event) → said_all out ts xs ++ ys ≡ said_all out ts (xs ++ ys)
+pub said_all_append : (out : Bool) (ts : List Text) (xs ys : List Event) → said_all out ts xs ++ ys ≡ said_all out ts (xs ++ ys)
 said_all_append out [] xs ys = refl
 said_all_append out (t ∷ ts) xs ys = said_append out t (said_all out ts xs) ys ∙ ap (said out t) (said_all_append out ts xs ys)
 
-allowed_append : (ks : List ℕ) (xs ys : List Event) → allowed_all ks xs ++ ys ≡ allowed_all ks (xs ++ ys)
+pub allowed_append : (ks : List ℕ) (xs ys : List Event) → allowed_all ks xs ++ ys ≡ allowed_all ks (xs ++ ys)
 allowed_append [] xs ys = refl
 allowed_append (k ∷ ks) xs ys = ap (λ (zs : List Event). allows k ∷ zs) (allowed_append ks xs ys)
 

@@ -9,6 +9,7 @@ pub mod Deltas
 pub mod Digits
 pub mod Failed
 pub mod GrammarRows
+pub mod GroupReads
 pub mod HandsLemmas
 pub mod Hearing
 pub mod Hex
@@ -17,6 +18,7 @@ pub mod Inserting
 pub mod Integers
 pub mod LooksLaw
 pub mod NamePieces
+pub mod Opening
 pub mod Paid
 pub mod Parts
 pub mod PaysRules
@@ -28,3 +30,4 @@ pub mod StepsPaid
 pub mod TableCost
 pub mod Turns
 pub mod Unique
+pub mod Units

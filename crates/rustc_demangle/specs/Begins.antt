@@ -1,8 +1,9 @@
 -- How the units of a v0 symbol begin, and the looks that are allowed for it.
-use Rattle.std.specs.Prelude.{◌≡◌, ℕ, zero, suc, ◌+◌, ◌-◌, ◌*◌, ◌≤◌, ◌<◌, ◌==◌, Bool, true, false, if◌then◌else◌, Option, Some, None, List, [], ◌∷◌, length, slice_get}
+use Rattle.std.specs.Prelude.{◌≡◌, ℕ, zero, suc, ◌+◌, ◌-◌, ◌*◌, ◌≤◌, ◌<◌, codes, Bool, true, false, if◌then◌else◌, Option, Some, None, List, [], ◌∷◌, length, slice_get}
 use Prim.Native.Char.{code}
 use Rattle.rustc_demangle.specs.Digits.{is_byte}
 use Rattle.rustc_demangle.specs.Words.{Read, byte_at}
+use Rattle.rustc_demangle.specs.Table.{is_among}
 use Rattle.rustc_demangle.specs.Grammar.{found, table, path_productions, type_productions, constant_productions, variant_productions, basic_marks}
 use Rattle.rustc_demangle.specs.Measures.{is_within}
 use Rattle.rustc_demangle.specs.declared.v0.grammar.Entry.{Entry}
@@ -85,9 +86,9 @@ or_pattern (suc left) c j = free (Starts production.OrPattern c j)
 
 abbrev pub pattern_tag : ℕ → ℕ → ℕ → Begun
 pattern_tag left c j =
-    if c == code "R" then free (Continues production.RangePattern (Some j))
-    else if c == code "O" then or_pattern left c j
-    else if c == code "N" then free (Continues production.NotNullPattern (Some j))
+    if is_among c (codes "R") then free (Continues production.RangePattern (Some j))
+    else if is_among c (codes "O") then or_pattern left c j
+    else if is_among c (codes "N") then free (Continues production.NotNullPattern (Some j))
     else free (Faulty Invalid)
 
 abbrev pub begin_pattern : List ℕ → ℕ → ℕ → Begun
