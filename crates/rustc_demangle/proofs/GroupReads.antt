@@ -240,8 +240,8 @@ abi_read plain out unsafe p s i = go
     go = ask_reads c plain out (is_byte c i (code "K")) (λ j. forked (Rattle.rustc_demangle.specs.Reading.stands_at s (code "C") j) (run (says_head unsafe (extern (codes "C")) p) s) (run (identifier (λ a. if is_empty a.ascii then invalid else if is_empty a.punycode then says_head unsafe (extern a.ascii) p else invalid)) s) j)
         (run (says_head unsafe [] p) s) _ _ (λ i. of plain out (run p s i)) i
         (ask_reads c plain out (is_byte c (i + 1) (code "C")) (run (says_head unsafe (extern (codes "C")) p) s) (run (identifier (λ a. if is_empty a.ascii then invalid else if is_empty a.punycode then says_head unsafe (extern a.ascii) p else invalid)) s) _ _ (λ i. of plain out (run p s i)) (i + 1)
-          (head_read c plain out unsafe (extern (codes "C")) p s (Some (i + 1 + 1)))
-          (name_reads c plain out (length c) (i + 1) rest (λ a j. abi_named unsafe a c j) (λ i. of plain out (run p s i)) (λ j. named_read c plain out unsafe (parts_of c (i + 1) j) p s j)))
+        (head_read c plain out unsafe (extern (codes "C")) p s (Some (i + 1 + 1)))
+        (name_reads c plain out (length c) (i + 1) rest (λ a j. abi_named unsafe a c j) (λ i. of plain out (run p s i)) (λ j. named_read c plain out unsafe (parts_of c (i + 1) j) p s j)))
         (head_read c plain out unsafe [] p s (Some i))
 
 -- Numbers and literals.
@@ -309,19 +309,19 @@ word_read b plain left t word.CrateName note p (Some i) =
     let s = surroundings b left t in let k : Place → Heard = λ j. of plain t.output (run p s j) in
     word_reads b plain t.output (length b) i (λ d. run (identifier (λ a. says_name a (if d == 0 then p else say_plain (codes "[") (say_plain (digits 16 false d) (say_plain (codes "]") p))))) s) (λ d j. reading (length b) j (ident_at b j) (λ a m. goes (CrateName a d) (Some m))) k
     (λ d j. name_reads b plain t.output (length b) j (λ a. run (says_name a (if d == 0 then p else say_plain (codes "[") (say_plain (digits 16 false d) (say_plain (codes "]") p)))) s) (λ a m. goes (CrateName a d) (Some m)) k
-      (λ m. crate_read b plain t.output s p (parts_of b j m) (name_of b j m) d (Some m) refl))
+    (λ m. crate_read b plain t.output s p (parts_of b j m) (name_of b j m) d (Some m) refl))
     (optional_at 115 b i)
 word_read b plain left t word.NestedName note p (Some i) =
     let s = surroundings b left t in let k : Place → Heard = λ j. of plain t.output (run p s j) in
     word_reads b plain t.output (length b) i (λ d. run (identifier (λ a. if is_upper note then special_name note d a p else if is_nameless a then p else says "::" (says_name a p))) s) (λ d j. reading (length b) j (ident_at b j) (λ a m. goes (NestedName note d a) (Some m))) k
     (λ d j. name_reads b plain t.output (length b) j (λ a. run (if is_upper note then special_name note d a p else if is_nameless a then p else says "::" (says_name a p)) s) (λ a m. goes (NestedName note d a) (Some m)) k
-      (λ m. nested_read b plain t.output s p (name_of b j m) note d (Some m)))
+    (λ m. nested_read b plain t.output s p (name_of b j m) note d (Some m)))
     (optional_at 115 b i)
 word_read b plain left t word.FieldName note p (Some i) =
     let s = surroundings b left t in let k : Place → Heard = λ j. of plain t.output (run p s j) in
     word_reads b plain t.output (length b) i (λ d. run (identifier (λ a. says_name a p)) s) (λ d j. reading (length b) j (ident_at b j) (λ a m. goes (FieldName a) (Some m))) k
     (λ d j. name_reads b plain t.output (length b) j (λ a. run (says_name a p) s) (λ a m. goes (FieldName a) (Some m)) k
-      (λ m. says_all plain t.output (name_pieces (name_of b j m)) p s (Some m)))
+    (λ m. says_all plain t.output (name_pieces (name_of b j m)) p s (Some m)))
     (optional_at 115 b i)
 word_read b plain left t word.Disambiguator note p (Some i) =
     let s = surroundings b left t in let k : Place → Heard = λ j. of plain t.output (run p s j) in
@@ -334,13 +334,13 @@ word_read b plain left t word.OptionalLifetime note p (Some i) =
     let s = surroundings b left t in let k : Place → Heard = λ j. of plain t.output (run p s j) in
     ask_reads b plain t.output (is_byte b i (code "L")) (run (integer (λ k. if k == 0 then p else lifetime k (says " " p))) s) (run p s) _ (goes Nothing (Some i)) k i
     (word_reads b plain t.output (length b) (i + 1) (λ k. run (if k == 0 then p else lifetime k (says " " p)) s) (λ k j. if k == 0 then goes Nothing (Some j) else checked t.output t.lifetimes k j (SpacedLifetime (t.lifetimes - k)) SpacedFault) k
-      (λ m j. spaced_or b plain left t p m j (m == 0) refl) (integer_at b (i + 1)))
+    (λ m j. spaced_or b plain left t p m j (m == 0) refl) (integer_at b (i + 1)))
     refl
 word_read b plain left t word.DynLifetime note p (Some i) =
     let s = surroundings b left t in let k : Place → Heard = λ j. of plain t.output (run p s j) in
     ask_reads b plain t.output (is_byte b i (code "L")) (run (integer (λ k. if k == 0 then p else says " + " (lifetime k p))) s) (run invalid s) _ faulty k i
     (word_reads b plain t.output (length b) (i + 1) (λ k. run (if k == 0 then p else says " + " (lifetime k p)) s) (λ k j. if k == 0 then goes Nothing (Some j) else checked t.output t.lifetimes k j (DynLifetime (t.lifetimes - k)) DynLifetimeFault) k
-      (λ m j. plus_or b plain left t p m j (m == 0) refl) (integer_at b (i + 1)))
+    (λ m j. plus_or b plain left t p m j (m == 0) refl) (integer_at b (i + 1)))
     refl
 word_read b plain left t word.FunctionHead note p (Some i) =
     let s = surroundings b left t in let k : Place → Heard = λ j. of plain t.output (run p s j) in

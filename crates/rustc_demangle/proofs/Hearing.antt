@@ -13,7 +13,8 @@ use Rattle.rustc_demangle.specs.declared.v0.grammar.Production.TheVariants as pr
 use Rattle.rustc_demangle.specs.declared.v0.task.Task.{Task}
 use Rattle.rustc_demangle.specs.declared.v0.task.Task.TheVariants.{Enter, Rest, Behind}
 use Rattle.rustc_demangle.specs.declared.v0.task.Move.{Move}
-use Rattle.rustc_demangle.specs.Shares.{share, owed, share_of, followed, moved, pushed, weight, weight_of, weights, measure, height, height_of, count_of, bound, bound_of, most_bound, HasRoom, IsNoHigher, Serves, later}
+use Rattle.rustc_demangle.specs.Steps.{Serves}
+use Rattle.rustc_demangle.specs.Shares.{share, owed, share_of, followed, moved, pushed, weight, weight_of, weights, measure, height, height_of, count_of, bound, bound_of, most_bound, HasRoom}
 
 append_none : (xs : List Event) → xs ++ [] ≡ xs
 append_none [] = refl
@@ -98,9 +99,16 @@ pub measure_step : (b : List ℕ) (tasks : List Task) (task : Task) (i : Option 
 measure_step b tasks task i o m costs e l =
     let new = owed b true (pushed (pushed tasks m.outer) m.inner) m.place m.is_open in
     let ts = texts_of b true m.stretch in
-    omega (arith, l, weights_push tasks task, weights_pushed (pushed tasks m.outer) m.inner, weights_pushed tasks m.outer,
+    omega (
+      arith,
+      l,
+      weights_push tasks task,
+      weights_pushed (pushed tasks m.outer) m.inner,
+      weights_pushed tasks m.outer,
       ap (λ (h : Heard). length h.events) (owed_step b true tasks task i o m costs e),
-      allowed_length costs (said_all m.output ts new.events), said_all_longer m.output ts new.events)
+      allowed_length costs (said_all m.output ts new.events),
+      said_all_longer m.output ts new.events,
+    )
 
 -- The room of the row.
 
@@ -156,11 +164,11 @@ length_pushed : (tasks : List Task) (o : Option Task) → length (pushed tasks o
 length_pushed tasks None = omega arith
 length_pushed tasks (Some task) = omega (arith, length-append {A = Task} tasks (task ∷ []))
 
-pub room_for_move : (n : ℕ) (tasks : List Task) (task : Task) (m : Move) → HasRoom n (tasks ++ task ∷ []) → IsNoHigher m task → RoomForMove n tasks m
-room_for_move n tasks task m h k =
+pub room_for_move : (n : ℕ) (tasks : List Task) (task : Task) (m : Move) (b : List ℕ) (i : Option ℕ) (o : Bool) (made : ℕ) → HasRoom n (tasks ++ task ∷ []) → Serves b task i o m made → RoomForMove n tasks m
+room_for_move n tasks task m b i o made h k =
     let top = has_room_top n tasks task h in
-    let one = has_room_pushed n tasks m.outer (has_room_below n tasks task h) (omega (arith, top.0, k.outer)) (omega (arith, top.1, k.outer_bound)) in
-    let two = has_room_pushed n (pushed tasks m.outer) m.inner one (omega (arith, top.0, k.inner, length_pushed tasks m.outer)) (omega (arith, top.1, k.inner_bound)) in
+    let one = has_room_pushed n tasks m.outer (has_room_below n tasks task h) (omega (arith, top.0, k.outer_height)) (omega (arith, top.1, k.outer_bound)) in
+    let two = has_room_pushed n (pushed tasks m.outer) m.inner one (omega (arith, top.0, k.inner_height, length_pushed tasks m.outer)) (omega (arith, top.1, k.inner_bound)) in
     record { outer = has_room_length n (pushed tasks m.outer) one; inner = has_room_length n (pushed (pushed tasks m.outer) m.inner) two; after = two }
 
 pub has_room_one : (n : ℕ) (tasks : List Task) (task : Task) → height task ≤ n → bound task ≤ most_bound → tasks ≡ task ∷ [] → HasRoom n tasks

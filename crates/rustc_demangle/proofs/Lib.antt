@@ -17,6 +17,7 @@ pub mod Idents
 pub mod Inserting
 pub mod Integers
 pub mod LooksLaw
+pub mod Moves
 pub mod NamePieces
 pub mod Opening
 pub mod Paid
@@ -27,6 +28,7 @@ pub mod PrintsPieces
 pub mod Rules
 pub mod Spelled
 pub mod StepsPaid
+pub mod TableChecks
 pub mod TableCost
 pub mod Turns
 pub mod Unique

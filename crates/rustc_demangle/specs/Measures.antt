@@ -59,6 +59,7 @@ rank_of production.Generic = 3
 rank_of production.GenericInValue = 3
 rank_of production.GenericTraitPath = 3
 rank_of production.OrPattern = 3
+rank_of production.PatternType = 3
 rank_of production.BracedText = 3
 rank_of production.TextInValue = 3
 rank_of production.BracedVariant = 3

@@ -3,14 +3,12 @@ use Rattle.std.specs.Prelude.{◌≡◌, ℕ, ◌+◌, ◌-◌, ◌*◌, ◌^◌
 use Rattle.std.proofs.Props.{props}
 use Rattle.rustc_demangle.specs.Items.{Kind, a_path, a_type, a_constant, a_pattern, a_trait_path}
 use Rattle.rustc_demangle.specs.Reading.{nothing, Outcome, Place, Surroundings, run, begun, level_of, levels}
-use Rattle.rustc_demangle.specs.Grammar.{table, meaning, beginning, placed}
+use Rattle.rustc_demangle.specs.Grammar.{table, meaning, beginning}
 use Rattle.rustc_demangle.specs.Measures.{weight_of_entry, weight_of_items, rank_of_entry, rank_of, binders_of_entry, binders_in}
-use Rattle.rustc_demangle.specs.Begins.{total}
-use Rattle.rustc_demangle.specs.Events.{Event, Heard, of, ended, and_then, allowing, handing, shows, allows}
-use Rattle.rustc_demangle.specs.Groups.{texts_of, looks_later}
+use Rattle.rustc_demangle.specs.Events.{Event, Heard, of, ended, and_then, handing}
+use Rattle.rustc_demangle.specs.Groups.{texts_of}
 use Rattle.rustc_demangle.specs.declared.v0.grammar.Entry.{Entry}
 use Rattle.rustc_demangle.specs.declared.v0.grammar.Entry.TheVariants as entry
-use Rattle.rustc_demangle.specs.declared.v0.grammar.Position.{Position}
 use Rattle.rustc_demangle.specs.declared.v0.grammar.Count.{Count}
 use Rattle.rustc_demangle.specs.declared.v0.grammar.Count.TheVariants.{Zero, One, More, Told}
 use Rattle.rustc_demangle.specs.declared.v0.stretch.Stretch.{Stretch}
@@ -123,33 +121,10 @@ unfoldable pub HasRoom : ℕ → List Task → Type 0
 HasRoom n [] = Unit {0}
 HasRoom n (task ∷ above) = (height task ≤ n) × (bound task ≤ most_bound) × HasRoom (n - 1) above
 
--- the tasks of a move stand no higher than the one that they replace
-pub record IsNoHigher (m : Move) (task : Task) : Type 0 where
-  pub outer : height_of m.outer ≤ height task
-  pub inner : height_of m.inner + count_of m.outer ≤ height task
-  pub outer_bound : bound_of m.outer ≤ bound task
-  pub inner_bound : bound_of m.inner ≤ bound task
-
-abbrev pub later : Move → ℕ
-later m = looks_later m.stretch
-
--- A move does one step of a task with so many looks: the task's share is what the move hands over and leaves, and the looks are among those that the share allows.
-pub record Serves (b : List ℕ) (task : Task) (i : Place) (o : Bool) (m : Move) (made : ℕ) : Type 0 where
-  pub costs : List ℕ
-  pub reads : (plain : Bool) → share b plain task i o ≡ allowing costs (moved b plain m)
-  pub enough : made + later m ≤ total costs
-  pub lighter : weight_of m.inner + weight_of m.outer + 1 ≤ weight task + 100 * length costs
-
 -- a row with a task put on top, if there is one
 abbrev pub pushed : List Task → Option Task → List Task
 pushed tasks None = tasks
 pushed tasks (Some task) = tasks ++ task ∷ []
-
-abbrev pub placed_in : Setting → Position → Setting
-placed_in t position = record t { value = placed t.value position }
-
-abbrev pub skipping : Setting → Setting
-skipping t = record t { output = false; value = false }
 
 -- Flat frames.
 

@@ -1,5 +1,6 @@
 //! v0 symbols.
 mod grammar;
+mod reference;
 mod stretch;
 mod task;
 mod units;

@@ -1,8 +1,9 @@
 //! The words of a v0 symbol that are read in one step, and what they hand over.
-ghost use Rattle.std.specs.Prelude.{◌≡◌, ℕ, ◌+◌, ◌-◌, ◌*◌, ◌≤◌, length, MatchOption, IfSome, Some};
+ghost use Rattle.std.specs.Prelude.{◌≡◌, ℕ, ◌+◌, ◌-◌, ◌*◌, ◌≤◌, length, MatchOption, IfSome, Some, List};
 ghost use Rattle.rustc_demangle.specs.Words.{Hex};
 ghost use Rattle.rustc_demangle.specs.Idents.{LiesWithin, name_size};
 ghost use Rattle.rustc_demangle.specs.Begins.{total};
+ghost use Rattle.rustc_demangle.specs.Steps.{LiesIn, PartIn};
 ghost use Rattle.rustc_demangle.specs.Groups.{ident_at, hex_at, read_stretch, looks_later, word_group, word_failed, crate_group, nested_group, field_group, disambiguator_group, checked, lifetime_group, optional_group, dyn_group, abi_named, abi_group, head_group, sign_group, number_group, truth_group, character_group, literal_group};
 
 use crate::cursor::{Ident, Looks, Part, Symbol};
@@ -31,6 +32,7 @@ pub fn read_word(
     ensures value { result ≡ (word_group symbol.now word note output lifetimes place).reads }
     ensures grows { looks.old ≤ looks.new }
     ensures looks { looks.new + looks_later (read_stretch result) ≤ looks.old + total (word_group symbol.now word note output lifetimes place).costs }
+    ensures lies { LiesIn symbol.now (read_stretch result) }
 {
     let Some(at) = place else {
         return word_failed(word);
@@ -57,6 +59,7 @@ pub fn read_word(
 fn word_failed(word: Word) -> WordRead
     ensures value { result ≡ word_failed word }
     ensures later { looks_later (read_stretch result) ≡ 0 }
+    ensures lies { (b : List ℕ) → LiesIn b (read_stretch result) }
 {
     match word {
         Word::NestedName => WordRead::Stops(Stretch::NestedUnread),
@@ -93,6 +96,7 @@ fn name(symbol: &Symbol<'_>, place: usize, looks: &mut Looks) -> Option<(Ident, 
 fn nibbles(symbol: &Symbol<'_>, place: usize, looks: &mut Looks) -> Option<(Part, usize)>
     ensures value { result ≡ hex_at symbol.now place }
     ensures hex { IfSome result (λ r. Hex symbol.now r.0.from r.1 r.0.to) }
+    ensures part { IfSome result (λ r. PartIn symbol.now r.0) }
     ensures grows { looks.old ≤ looks.new }
     ensures looks { MatchOption result (looks.new ≤ looks.old + (length symbol.now - place)) (λ r. looks.new ≤ looks.old + (r.1 - place)) }
 {
@@ -103,6 +107,7 @@ fn read_crate(symbol: &Symbol<'_>, place: usize, looks: &mut Looks) -> WordRead
     ensures value { result ≡ (crate_group symbol.now place).reads }
     ensures grows { looks.old ≤ looks.new }
     ensures looks { looks.new + looks_later (read_stretch result) ≤ looks.old + total (crate_group symbol.now place).costs }
+    ensures lies { LiesIn symbol.now (read_stretch result) }
 {
     let Ok((number, at)) = symbol.disambiguator(place, looks) else {
         return faulty();
@@ -117,6 +122,7 @@ fn read_nested(symbol: &Symbol<'_>, note: u8, place: usize, looks: &mut Looks) -
     ensures value { result ≡ (nested_group symbol.now note place).reads }
     ensures grows { looks.old ≤ looks.new }
     ensures looks { looks.new + looks_later (read_stretch result) ≤ looks.old + total (nested_group symbol.now note place).costs }
+    ensures lies { LiesIn symbol.now (read_stretch result) }
 {
     let Ok((number, at)) = symbol.disambiguator(place, looks) else {
         return faulty();
@@ -131,6 +137,7 @@ fn read_field(symbol: &Symbol<'_>, place: usize, looks: &mut Looks) -> WordRead
     ensures value { result ≡ (field_group symbol.now place).reads }
     ensures grows { looks.old ≤ looks.new }
     ensures looks { looks.new + looks_later (read_stretch result) ≤ looks.old + total (field_group symbol.now place).costs }
+    ensures lies { LiesIn symbol.now (read_stretch result) }
 {
     let Ok((_, at)) = symbol.disambiguator(place, looks) else {
         return faulty();
@@ -145,6 +152,7 @@ fn read_disambiguator(symbol: &Symbol<'_>, place: usize, looks: &mut Looks) -> W
     ensures value { result ≡ (disambiguator_group symbol.now place).reads }
     ensures grows { looks.old ≤ looks.new }
     ensures looks { looks.new + looks_later (read_stretch result) ≤ looks.old + total (disambiguator_group symbol.now place).costs }
+    ensures lies { LiesIn symbol.now (read_stretch result) }
 {
     match symbol.disambiguator(place, looks) {
         Ok((_, next)) => goes(Stretch::Nothing, next),
@@ -161,7 +169,8 @@ fn checked(
     named: Stretch,
     fault: Stretch,
 ) -> WordRead
-    ensures { result ≡ (checked output lifetimes index next named fault).reads }
+    ensures value { result ≡ (checked output lifetimes index next named fault).reads }
+    ensures lies { (b : List ℕ) → LiesIn b named → LiesIn b fault → LiesIn b (read_stretch result) }
 {
     if !output {
         goes(Stretch::Nothing, next)
@@ -182,6 +191,7 @@ fn read_lifetime(
     ensures value { result ≡ (lifetime_group symbol.now output lifetimes place).reads }
     ensures grows { looks.old ≤ looks.new }
     ensures looks { looks.new + looks_later (read_stretch result) ≤ looks.old + total (lifetime_group symbol.now output lifetimes place).costs }
+    ensures lies { LiesIn symbol.now (read_stretch result) }
 {
     let Ok((index, next)) = symbol.integer_62(place, looks) else {
         return faulty();
@@ -211,6 +221,7 @@ fn read_optional(
     ensures value { result ≡ (optional_group symbol.now output lifetimes place).reads }
     ensures grows { looks.old ≤ looks.new }
     ensures looks { looks.new + looks_later (read_stretch result) ≤ looks.old + total (optional_group symbol.now output lifetimes place).costs }
+    ensures lies { LiesIn symbol.now (read_stretch result) }
 {
     if !symbol.is_at(b'L', place, looks) {
         return goes(Stretch::Nothing, place);
@@ -236,6 +247,7 @@ fn read_dyn(
     ensures value { result ≡ (dyn_group symbol.now output lifetimes place).reads }
     ensures grows { looks.old ≤ looks.new }
     ensures looks { looks.new + looks_later (read_stretch result) ≤ looks.old + total (dyn_group symbol.now output lifetimes place).costs }
+    ensures lies { LiesIn symbol.now (read_stretch result) }
 {
     if !symbol.is_at(b'L', place, looks) {
         return faulty();
@@ -263,6 +275,7 @@ fn abi_named(is_unsafe: bool, ident: Ident, symbol: &Symbol<'_>, next: usize) ->
     requires { LiesWithin symbol.now ident }
     ensures value { result ≡ (abi_named is_unsafe ident symbol.now next).reads }
     ensures later { looks_later (read_stretch result) ≤ name_size ident }
+    ensures lies { LiesIn symbol.now (read_stretch result) }
 {
     if ident.ascii.from == ident.ascii.to || ident.punycode.from < ident.punycode.to {
         return faulty();
@@ -275,6 +288,7 @@ fn read_abi(symbol: &Symbol<'_>, is_unsafe: bool, place: usize, looks: &mut Look
     ensures value { result ≡ (abi_group symbol.now is_unsafe place).reads }
     ensures grows { looks.old ≤ looks.new }
     ensures looks { looks.new + looks_later (read_stretch result) ≤ looks.old + total (abi_group symbol.now is_unsafe place).costs }
+    ensures lies { LiesIn symbol.now (read_stretch result) }
 {
     if !symbol.is_at(b'K', place, looks) {
         return goes(Stretch::FunctionHead(is_unsafe, Abi::Rust), place);
@@ -292,6 +306,7 @@ fn read_head(symbol: &Symbol<'_>, place: usize, looks: &mut Looks) -> WordRead
     ensures value { result ≡ (head_group symbol.now place).reads }
     ensures grows { looks.old ≤ looks.new }
     ensures looks { looks.new + looks_later (read_stretch result) ≤ looks.old + total (head_group symbol.now place).costs }
+    ensures lies { LiesIn symbol.now (read_stretch result) }
 {
     if symbol.is_at(b'U', place, looks) {
         read_abi(symbol, true, place + 1, looks)
@@ -304,6 +319,7 @@ fn read_sign(symbol: &Symbol<'_>, place: usize, looks: &mut Looks) -> WordRead
     ensures value { result ≡ (sign_group symbol.now place).reads }
     ensures grows { looks.old ≤ looks.new }
     ensures looks { looks.new + looks_later (read_stretch result) ≤ looks.old + total (sign_group symbol.now place).costs }
+    ensures lies { LiesIn symbol.now (read_stretch result) }
 {
     if symbol.is_at(b'n', place, looks) {
         goes(Stretch::Fixed(Mark::Minus), place + 1)
@@ -316,6 +332,7 @@ fn read_number(symbol: &Symbol<'_>, note: u8, place: usize, looks: &mut Looks) -
     ensures value { result ≡ (number_group symbol.now note place).reads }
     ensures grows { looks.old ≤ looks.new }
     ensures looks { looks.new + looks_later (read_stretch result) ≤ looks.old + total (number_group symbol.now note place).costs }
+    ensures lies { LiesIn symbol.now (read_stretch result) }
 {
     let Some((part, next)) = nibbles(symbol, place, looks) else {
         return faulty();
@@ -328,6 +345,7 @@ fn read_truth(symbol: &Symbol<'_>, place: usize, looks: &mut Looks) -> WordRead
     ensures value { result ≡ (truth_group symbol.now place).reads }
     ensures grows { looks.old ≤ looks.new }
     ensures looks { looks.new + looks_later (read_stretch result) ≤ looks.old + total (truth_group symbol.now place).costs }
+    ensures lies { LiesIn symbol.now (read_stretch result) }
 {
     let Some((part, next)) = nibbles(symbol, place, looks) else {
         return faulty();
@@ -343,6 +361,7 @@ fn read_character(symbol: &Symbol<'_>, place: usize, looks: &mut Looks) -> WordR
     ensures value { result ≡ (character_group symbol.now place).reads }
     ensures grows { looks.old ≤ looks.new }
     ensures looks { looks.new + looks_later (read_stretch result) ≤ looks.old + total (character_group symbol.now place).costs }
+    ensures lies { LiesIn symbol.now (read_stretch result) }
 {
     let Some((part, next)) = nibbles(symbol, place, looks) else {
         return faulty();
@@ -363,6 +382,7 @@ fn read_literal(symbol: &Symbol<'_>, place: usize, looks: &mut Looks) -> WordRea
     ensures value { result ≡ (literal_group symbol.now place).reads }
     ensures grows { looks.old ≤ looks.new }
     ensures looks { looks.new + looks_later (read_stretch result) ≤ looks.old + total (literal_group symbol.now place).costs }
+    ensures lies { LiesIn symbol.now (read_stretch result) }
 {
     let Some((part, next)) = nibbles(symbol, place, looks) else {
         return faulty();

@@ -1,0 +1,79 @@
+-- The machine's grammar is short, light and low.
+use Rattle.std.specs.Prelude.{◌&&◌, nat_le}
+use Rattle.std.proofs.Common.{◌≡◌, ℕ, zero, suc, ◌+◌, ◌≤◌, ◌<◌, Bool, true, false, List, [], ◌∷◌, length, drop, refl, arith, ap, subst, sym}
+use Rattle.std.proofs.lemmas.Bool.{leb-true}
+use Rattle.rustc_demangle.specs.Grammar.{table}
+use Rattle.rustc_demangle.specs.Measures.{rank_of, rank_of_item, weight_of_item, weight_of_items, weight_of_entry, binders_in, entry_of}
+use Rattle.rustc_demangle.specs.Steps.{HeadIs}
+use Rattle.rustc_demangle.specs.declared.v0.grammar.Entry.{Entry}
+use Rattle.rustc_demangle.specs.declared.v0.grammar.Entry.TheVariants as entry
+use Rattle.rustc_demangle.specs.declared.v0.grammar.Item.{Item}
+use Rattle.rustc_demangle.specs.declared.v0.grammar.Item.TheVariants as item
+use Rattle.rustc_demangle.specs.declared.v0.grammar.Production.{Production}
+use Rattle.rustc_demangle.specs.declared.v0.grammar.Production.TheVariants as production
+use Rattle.rustc_demangle.specs.declared.v0.task.Progress.{Progress}
+
+pub table_short : (p : Production) → length (table p) ≤ 20
+table_short production.Crate = omega arith
+table_short p = omega arith
+
+pub rank_small : (p : Production) → rank_of p ≤ 8
+rank_small production.Crate = omega arith
+rank_small p = omega arith
+
+pub weight_small : (p : Production) → weight_of_items (table p) ≤ 80
+weight_small production.Crate = omega arith
+weight_small p = omega arith
+
+pub binders_small : (p : Production) → binders_in (table p) ≤ 1
+binders_small production.Crate = omega arith
+binders_small p = omega arith
+
+pub entry_light : (e : Entry) → weight_of_entry e ≤ 30
+entry_light entry.Path = omega arith
+entry_light e = omega arith
+
+pub item_some : (x : Item) → 1 ≤ weight_of_item x
+item_some item.Skips = omega arith
+item_some (item.Child k p) = omega arith
+item_some (item.Holds e) = omega arith
+item_some (item.GoesOn e) = omega arith
+item_some x = omega arith
+
+all_low : ℕ → List Item → Bool
+all_low r [] = true
+all_low r (x ∷ xs) = nat_le (rank_of_item x) r && all_low r xs
+
+low : (p : Production) → all_low (rank_of p) (table p) ≡ true
+unfolding all_low
+low production.Crate = refl
+low p = refl
+
+both_left : (x y : Bool) → (x && y) ≡ true → x ≡ true
+both_left true y e = refl
+both_left false y e = e
+
+both_right : (x y : Bool) → (x && y) ≡ true → y ≡ true
+both_right true y e = e
+both_right false y e = cc e
+
+at_head : (r n : ℕ) (xs : List Item) (x : Item) (ys : List Item) → all_low r xs ≡ true → drop n xs ≡ x ∷ ys → rank_of_item x ≤ r
+unfolding all_low
+at_head r zero [] x ys h e = cc e
+at_head r (suc n) [] x ys h e = cc e
+at_head r zero (z ∷ xs) x ys h e =
+    let k : rank_of_item z ≤ r = leb-true (rank_of_item z) r (both_left _ _ h) in
+    let f : z ≡ x = cc e in
+    subst (λ w. rank_of_item w ≤ r) f k
+at_head r (suc n) (z ∷ xs) x ys h e = at_head r n xs x ys (both_right _ _ h) e
+
+-- what comes next stands no higher than its production
+pub head_low : (u : Progress) (x : Item) → HeadIs u x → rank_of_item x ≤ rank_of u.production
+head_low u x e = at_head (rank_of u.production) u.index (table u.production) x _ (low u.production) e
+
+-- what comes next is a part of what is left
+pub head_weight : (u : Progress) (x : Item) → HeadIs u x → weight_of_items (drop u.index (table u.production)) ≡ weight_of_item x + weight_of_items (drop (u.index + 1) (table u.production))
+head_weight u x e = ap weight_of_items e
+
+pub head_binders : (u : Progress) (x : Item) → HeadIs u x → binders_in (drop u.index (table u.production)) ≡ Rattle.rustc_demangle.specs.Measures.binders_of_item x + binders_in (drop (u.index + 1) (table u.production))
+head_binders u x e = ap binders_in e
