@@ -7,9 +7,13 @@ pub mod Counts
 pub mod CutLemmas
 pub mod Deltas
 pub mod Digits
+<<<<<<< HEAD
 pub mod Failed
 pub mod GrammarRows
 pub mod GroupReads
+=======
+pub mod Escaping
+>>>>>>> words
 pub mod HandsLemmas
 pub mod Hearing
 pub mod Hex
@@ -19,12 +23,17 @@ pub mod Integers
 pub mod LooksLaw
 pub mod Moves
 pub mod NamePieces
+<<<<<<< HEAD
 pub mod Opening
 pub mod Paid
+=======
+pub mod Nibbles
+>>>>>>> words
 pub mod Parts
 pub mod PaysRules
 pub mod PrintsLemmas
 pub mod PrintsPieces
+<<<<<<< HEAD
 pub mod Rules
 pub mod Spelled
 pub mod StepsPaid
@@ -33,3 +42,6 @@ pub mod TableCost
 pub mod Turns
 pub mod Unique
 pub mod Units
+=======
+pub mod StringPieces
+>>>>>>> words

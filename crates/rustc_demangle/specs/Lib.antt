@@ -5,9 +5,13 @@ pub mod Binders
 pub mod Cost
 pub mod Cut
 pub mod Digits
+<<<<<<< HEAD
 pub mod Events
 pub mod Grammar
 pub mod Groups
+=======
+pub mod Escapes
+>>>>>>> words
 pub mod Hands
 pub mod Idents
 pub mod Items
@@ -15,6 +19,7 @@ pub mod Limit
 pub mod Literals
 pub mod Measures
 pub mod Names
+pub mod Nibbles
 pub mod Punycode
 pub mod Reading
 pub mod Shares

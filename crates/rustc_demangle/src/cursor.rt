@@ -15,6 +15,7 @@ mod tests;
 mod words;
 
 pub use hex::MAX_NIBBLES;
+pub(crate) use hex::nibble_of;
 pub use ident::Ident;
 pub use looks::Looks;
 pub use words::MAX_DEPTH;

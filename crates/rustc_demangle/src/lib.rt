@@ -3,6 +3,7 @@
 
 mod cursor;
 pub mod laws;
+mod literal;
 mod punycode;
 pub mod sink;
 mod v0;
