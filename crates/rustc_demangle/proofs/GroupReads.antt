@@ -22,7 +22,7 @@ use Rattle.rustc_demangle.specs.declared.v0.grammar.Word.TheVariants as word
 use Rattle.rustc_demangle.specs.declared.v0.grammar.Mark.TheVariants as mark
 use Rattle.rustc_demangle.specs.declared.v0.stretch.Abi.TheVariants as abi
 use Rattle.rustc_demangle.specs.declared.v0.stretch.Stretch.{Stretch}
-use Rattle.rustc_demangle.specs.declared.v0.stretch.Stretch.TheVariants.{Nothing, Fixed, CrateName, FieldName, NestedName, NestedUnread, Lifetime, LifetimeFault, SpacedLifetime, SpacedFault, DynLifetime, DynLifetimeFault, FunctionHead, Number, Character, Literal}
+use Rattle.rustc_demangle.specs.declared.v0.stretch.Stretch.TheVariants.{Nothing, Fixed, CrateName, FieldName, NestedName, NestedUnread, Lifetime, LifetimeFault, SpacedLifetime, SpacedFault, DynLifetime, DynLifetimeFault, FunctionHead, Number, Character, Literal, BindingName}
 use Rattle.rustc_demangle.specs.declared.v0.task.Setting.{Setting}
 use Rattle.rustc_demangle.specs.declared.v0.words.WordRead.{WordRead}
 use Rattle.rustc_demangle.specs.declared.v0.words.WordRead.TheVariants.{Goes, Stops}
@@ -288,12 +288,20 @@ literal_read b plain out p s j h = go (string_of (bytes_in b h)) refl
     go None e = refl
     go (Some cs) e = rw e (says_all plain out (literal (code "\"") cs) p s (Some j))
 
+binding_read : (b : List ℕ) (plain : Bool) (left : ℕ) (t : Setting) (p : Items) (a : Name) (j : Place)
+    → of plain t.output (run (says_name a (says " = " p)) (surroundings b left t) j) ≡ handing t.output (name_pieces a ++ codes " = " ∷ []) (of plain t.output (run p (surroundings b left t) j))
+unfolding run
+binding_read b plain left t p a j =
+    says_all plain t.output (name_pieces a) (says " = " p) (surroundings b left t) j
+    ∙ sym (handing_both t.output (name_pieces a) (codes " = " ∷ []) (of plain t.output (run p (surroundings b left t) j)))
+
 pub word_read : (b : List ℕ) (plain : Bool) (left : ℕ) (t : Setting) (w : Word) (note : ℕ) (p : Items) (i : Place)
     → of plain t.output (run (word_items w note p) (surroundings b left t) i) ≡ grouped b plain t.output (word_group b w note t.output t.lifetimes i) (λ j. of plain t.output (run p (surroundings b left t) j))
 unfolding run
 word_read b plain left t word.CrateName note p None = refl
 word_read b plain left t word.NestedName note p None = refl
 word_read b plain left t word.FieldName note p None = refl
+word_read b plain left t word.BindingName note p None = refl
 word_read b plain left t word.Disambiguator note p None = refl
 word_read b plain left t word.LifetimeIndex note p None = refl
 word_read b plain left t word.OptionalLifetime note p None = refl
@@ -323,6 +331,10 @@ word_read b plain left t word.FieldName note p (Some i) =
     (λ d j. name_reads b plain t.output (length b) j (λ a. run (says_name a p) s) (λ a m. goes (FieldName a) (Some m)) k
     (λ m. says_all plain t.output (name_pieces (name_of b j m)) p s (Some m)))
     (optional_at 115 b i)
+word_read b plain left t word.BindingName note p (Some i) =
+    let s = surroundings b left t in let k : Place → Heard = λ j. of plain t.output (run p s j) in
+    name_reads b plain t.output (length b) i (λ a. run (says_name a (says " = " p)) s) (λ a m. goes (BindingName a) (Some m)) k
+    (λ m. binding_read b plain left t p (name_of b i m) (Some m))
 word_read b plain left t word.Disambiguator note p (Some i) =
     let s = surroundings b left t in let k : Place → Heard = λ j. of plain t.output (run p s j) in
     word_reads b plain t.output (length b) i (λ d. run p s) (λ d j. goes Nothing (Some j)) k (λ d j. refl) (optional_at 115 b i)

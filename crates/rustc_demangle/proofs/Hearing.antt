@@ -13,7 +13,7 @@ use Rattle.rustc_demangle.specs.declared.v0.grammar.Production.TheVariants as pr
 use Rattle.rustc_demangle.specs.declared.v0.task.Task.{Task}
 use Rattle.rustc_demangle.specs.declared.v0.task.Task.TheVariants.{Enter, Rest, Behind}
 use Rattle.rustc_demangle.specs.declared.v0.task.Move.{Move}
-use Rattle.rustc_demangle.specs.Steps.{Serves}
+use Rattle.rustc_demangle.specs.Serving.{Serves}
 use Rattle.rustc_demangle.specs.Shares.{share, owed, share_of, followed, moved, pushed, weight, weight_of, weights, measure, height, height_of, count_of, bound, bound_of, most_bound, HasRoom}
 
 append_none : (xs : List Event) → xs ++ [] ≡ xs

@@ -13,7 +13,7 @@ use Rattle.rustc_demangle.specs.Events.{Event, Heard, of, ended, and_then, allow
 use Rattle.rustc_demangle.specs.Groups.{texts_of, looks_later, Group, word_group, read_stretch}
 use Rattle.rustc_demangle.specs.Binders.{binder_texts, more_texts}
 use Rattle.rustc_demangle.specs.Shares.{surroundings, entered, takes, outcome, share, share_of, followed, moved, is_shown, weight, height, bound}
-use Rattle.rustc_demangle.specs.Steps.{HeadIs, rest_of, placed_in, skipping, only, going, entering, Serves, LiesIn, later, Referred, referred, leads, refer}
+use Rattle.rustc_demangle.specs.Serving.{HeadIs, rest_of, placed_in, skipping, only, going, entering, Serves, LiesIn, later, Referred, referred, leads, refer}
 use Rattle.rustc_demangle.specs.declared.v0.grammar.Named.{Named}
 use Rattle.rustc_demangle.specs.declared.v0.grammar.Named.TheVariants as named
 use Rattle.rustc_demangle.specs.declared.v0.grammar.Entry.{Entry}
@@ -24,6 +24,7 @@ use Rattle.rustc_demangle.specs.declared.v0.grammar.Item.{Item}
 use Rattle.rustc_demangle.specs.declared.v0.grammar.Item.TheVariants as item
 use Rattle.rustc_demangle.specs.declared.v0.grammar.Mark.{Mark}
 use Rattle.rustc_demangle.specs.declared.v0.grammar.Mark.TheVariants as mark
+use Rattle.rustc_demangle.specs.declared.v0.grammar.Production.TheVariants as production
 use Rattle.rustc_demangle.specs.declared.v0.grammar.Count.TheVariants.{Zero, One, More, Told}
 use Rattle.rustc_demangle.specs.declared.v0.stretch.Stretch.{Stretch}
 use Rattle.rustc_demangle.specs.declared.v0.stretch.Stretch.TheVariants.{Nothing, Fixed, Binder}
@@ -78,7 +79,7 @@ serves_going b u t i o item x j v r made costs h w g n e l k = record {
   enough = l;
   lighter = omega (arith, w, head_weight u item h, item_some item);
   outer_height = omega (arith, g);
-  inner_height = omega (arith, g);
+  inner_height = omega (arith, g, height_some (Rest u t));
   outer_bound = n;
   inner_bound = omega arith;
   lies = k;
@@ -124,7 +125,7 @@ move_word b u t i o w x j made e h l k =
     let g = word_group b w u.note t.output t.lifetimes i in
     serves_on b u t i o (item.Reads w) x j made g.costs e
     (λ plain. rw e (word_read b plain u.left t w u.note (meaning t.value u.note Zero false (drop (u.index + 1) (table u.production))) i
-      ∙ ap (λ (r : WordRead). allowing g.costs (word_then b plain t.output r (λ j. of plain t.output (run (meaning t.value u.note Zero false (drop (u.index + 1) (table u.production))) (surroundings b u.left t) j)))) (sym h)))
+    ∙ ap (λ (r : WordRead). allowing g.costs (word_then b plain t.output r (λ j. of plain t.output (run (meaning t.value u.note Zero false (drop (u.index + 1) (table u.production))) (surroundings b u.left t) j)))) (sym h)))
     l k
 
 pub move_stops : (b : List ℕ) (u : Progress) (t : Setting) (i : Place) (o : Bool) (w : Word) (x : Stretch) (made : ℕ) → HeadIs u (item.Reads w) → Stops x ≡ (word_group b w u.note t.output t.lifetimes i).reads
@@ -134,7 +135,7 @@ move_stops b u t i o w x made e h l k =
     let g = word_group b w u.note t.output t.lifetimes i in
     serves_only b (Rest u t) i o t.output x None made g.costs
     (λ plain. rw e (word_read b plain u.left t w u.note (meaning t.value u.note Zero false (drop (u.index + 1) (table u.production))) i
-      ∙ ap (λ (r : WordRead). allowing g.costs (word_then b plain t.output r (λ j. of plain t.output (run (meaning t.value u.note Zero false (drop (u.index + 1) (table u.production))) (surroundings b u.left t) j)))) (sym h)))
+    ∙ ap (λ (r : WordRead). allowing g.costs (word_then b plain t.output r (λ j. of plain t.output (run (meaning t.value u.note Zero false (drop (u.index + 1) (table u.production))) (surroundings b u.left t) j)))) (sym h)))
     l k
 
 pub move_child : (b : List ℕ) (u : Progress) (t : Setting) (i : Place) (o : Bool) (k : Named) (position : Position) (made : ℕ) → HeadIs u (item.Child k position) → made ≤ 0
@@ -163,11 +164,40 @@ move_skip b u t None o made e l =
 move_skip b u t (Some i) o made e l =
     serves_entering b u t (Some i) o item.Skips entry.Path (skipping t) (rest_of u) made e refl (omega arith) (omega arith) (omega arith) refl refl refl (λ plain. rw e refl) l
 
-pub move_bindings : (b : List ℕ) (u : Progress) (t : Setting) (i : Place) (o : Bool) (made : ℕ) → HeadIs u item.Bindings → drop (u.index + 1) (table u.production) ≡ item.MoreBindings ∷ drop (u.index + 2) (table u.production) → made ≤ 0
-    → Serves b (Rest u t) i o (entering t.output Nothing i (Enter entry.TraitPath u.left (record t { value = false })) (Some (Rest (record (rest_of u) { count = Told }) t))) made
-unfolding share outcome run
-move_bindings b u t i o made e f l =
-    serves_entering b u t i o item.Bindings entry.TraitPath (record t { value = false }) (record (rest_of u) { count = Told }) made e refl (omega arith) (omega arith) (omega arith) refl refl refl (λ plain. rw (e, f) refl) l
+-- the bindings of a dyn trait path
+abbrev pub told_bindings : ℕ → Progress
+told_bindings left = record { production = production.DynTrait; index = 1; count = Told; note = 0; left = left }
+
+pub move_bindings : (b : List ℕ) (u : Progress) (t : Setting) (i : Place) (o : Bool) (made : ℕ) → HeadIs u item.Bindings → made ≤ 0
+    → Serves b (Rest u t) i o (entering t.output Nothing i (Enter entry.TraitPath u.left (record t { value = false })) (Some (Rest (told_bindings u.left) t))) made
+unfolding moved followed share_of share outcome run
+move_bindings b u t i o made h l = record {
+  costs = [];
+  reads = λ plain. rw h refl;
+  enough = omega arith;
+  lighter = omega (arith, head_weight u item.Bindings h);
+  outer_height = omega (arith, head_low u item.Bindings h);
+  inner_height = omega (arith, head_low u item.Bindings h);
+  outer_bound = omega (arith, head_binders u item.Bindings h);
+  inner_bound = omega (arith, head_binders u item.Bindings h);
+  lies = tt;
+}
+
+holds_read : (b : List ℕ) (u : Progress) (t : Setting) (i : Place) (o : Bool) (e : Entry) (plain : Bool) → HeadIs u (item.Holds e)
+    → run (Rattle.rustc_demangle.specs.Grammar.beginning t.value e) (surroundings b u.left t) i ≡ outcome b (Enter e u.left t) i false
+    → of plain t.output (outcome b (Rest u t) i o) ≡ and_then (of plain t.output (outcome b (Enter e u.left t) i false)) (λ j p. of plain t.output (outcome b (Rest (rest_of u) t) j p))
+unfolding outcome run
+holds_read b u t i o e plain h f = rw h (ap (λ (z : Outcome). of plain t.output (followed_by z (run (meaning t.value u.note Zero false (drop (u.index + 1) (table u.production))) (surroundings b u.left t)))) f)
+
+pub move_holds : (b : List ℕ) (u : Progress) (t : Setting) (i : Place) (o : Bool) (e : Entry) (made : ℕ) → HeadIs u (item.Holds e) → made ≤ 0
+    → run (Rattle.rustc_demangle.specs.Grammar.beginning t.value e) (surroundings b u.left t) i ≡ outcome b (Enter e u.left t) i false
+    → Serves b (Rest u t) i o (entering t.output Nothing i (Enter e u.left t) (Some (Rest (rest_of u) t))) made
+unfolding moved followed share_of share
+move_holds b u t i o e made h l f =
+    serves_entering b u t i o (item.Holds e) e t (rest_of u) made h refl (omega arith) (omega arith) (omega arith) refl refl refl (λ plain. go plain) l
+  where
+    go : (plain : Bool) → of plain t.output (outcome b (Rest u t) i o) ≡ and_then (of plain t.output (outcome b (Enter e u.left t) i false)) (λ j p. of plain t.output (outcome b (Rest (rest_of u) t) j p))
+    go plain = holds_read b u t i o e plain h f
 
 -- a unit of the same depth, and nothing behind it
 pub move_goes_on : (b : List ℕ) (u : Progress) (t : Setting) (i : Place) (o : Bool) (e : Entry) (made : ℕ) → HeadIs u (item.GoesOn e) → made ≤ 0

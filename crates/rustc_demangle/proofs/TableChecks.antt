@@ -4,7 +4,7 @@ use Rattle.std.proofs.Common.{◌≡◌, ℕ, zero, suc, ◌+◌, ◌≤◌, ◌
 use Rattle.std.proofs.lemmas.Bool.{leb-true}
 use Rattle.rustc_demangle.specs.Grammar.{table}
 use Rattle.rustc_demangle.specs.Measures.{rank_of, rank_of_item, weight_of_item, weight_of_items, weight_of_entry, binders_in, entry_of}
-use Rattle.rustc_demangle.specs.Steps.{HeadIs}
+use Rattle.rustc_demangle.specs.Serving.{HeadIs}
 use Rattle.rustc_demangle.specs.declared.v0.grammar.Entry.{Entry}
 use Rattle.rustc_demangle.specs.declared.v0.grammar.Entry.TheVariants as entry
 use Rattle.rustc_demangle.specs.declared.v0.grammar.Item.{Item}
@@ -29,7 +29,7 @@ pub binders_small : (p : Production) → binders_in (table p) ≤ 1
 binders_small production.Crate = omega arith
 binders_small p = omega arith
 
-pub entry_light : (e : Entry) → weight_of_entry e ≤ 30
+pub entry_light : (e : Entry) → weight_of_entry e ≤ 80
 entry_light entry.Path = omega arith
 entry_light e = omega arith
 
@@ -49,11 +49,11 @@ unfolding all_low
 low production.Crate = refl
 low p = refl
 
-both_left : (x y : Bool) → (x && y) ≡ true → x ≡ true
+pub both_left : (x y : Bool) → (x && y) ≡ true → x ≡ true
 both_left true y e = refl
 both_left false y e = e
 
-both_right : (x y : Bool) → (x && y) ≡ true → y ≡ true
+pub both_right : (x y : Bool) → (x && y) ≡ true → y ≡ true
 both_right true y e = e
 both_right false y e = cc e
 

@@ -114,7 +114,7 @@ table production.LifetimeArgument = item.Reads word.LifetimeIndex ∷ []
 table production.ConstantArgument = item.Child named.Constant position.NoValue ∷ []
 table production.TypeArgument = item.Child named.«Type» position.NoValue ∷ []
 table production.DynTraits = item.Binds ∷ item.Elements entry.DynTrait joint.Plus ∷ []
-table production.DynTrait = item.Bindings ∷ item.MoreBindings ∷ item.OpenBindings ∷ []
+table production.DynTrait = item.Bindings ∷ item.MoreBindings ∷ item.Reads word.BindingName ∷ item.Holds entry.Bound ∷ item.OpenBindings ∷ []
 table production.TraitPathReference = item.Refers named.TraitPath position.NoValue ∷ []
 table production.GenericTraitPath = item.Child named.Path position.NoValue ∷ item.Says mark.Less ∷ item.Elements entry.Argument joint.Comma ∷ item.Opens ∷ []
 table production.RangePattern = item.Child named.Constant position.NoValue ∷ item.Says mark.Range ∷ item.Child named.Constant position.NoValue ∷ []
@@ -227,6 +227,7 @@ word_items word.CrateName note p = disambiguator (λ d. identifier (λ a. says_n
     (if d == 0 then p else say_plain (codes "[") (say_plain (digits 16 false d) (say_plain (codes "]") p)))))
 word_items word.NestedName note p = sound (nested_name note p) (says "::" (nested_name note p))
 word_items word.FieldName note p = disambiguator (λ _. identifier (λ a. says_name a p))
+word_items word.BindingName note p = identifier (λ a. says_name a (says " = " p))
 word_items word.Disambiguator note p = disambiguator (λ _. p)
 word_items word.LifetimeIndex note p = integer (λ k. lifetime k p)
 word_items word.OptionalLifetime note p = next (code "L") (integer (λ k. if k == 0 then p else lifetime k (says " " p))) p

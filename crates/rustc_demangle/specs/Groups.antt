@@ -21,7 +21,7 @@ use Rattle.rustc_demangle.specs.declared.v0.grammar.Word.TheVariants as word
 use Rattle.rustc_demangle.specs.declared.v0.stretch.Abi.{Abi}
 use Rattle.rustc_demangle.specs.declared.v0.stretch.Abi.TheVariants as abi
 use Rattle.rustc_demangle.specs.declared.v0.stretch.Stretch.{Stretch}
-use Rattle.rustc_demangle.specs.declared.v0.stretch.Stretch.TheVariants.{Nothing, Fixed, CrateName, FieldName, NestedName, NestedUnread, Lifetime, LifetimeFault, SpacedLifetime, SpacedFault, DynLifetime, DynLifetimeFault, FunctionHead, Number, Character, Literal, Binder, Binding, BindingFault}
+use Rattle.rustc_demangle.specs.declared.v0.stretch.Stretch.TheVariants.{Nothing, Fixed, CrateName, FieldName, NestedName, NestedUnread, Lifetime, LifetimeFault, SpacedLifetime, SpacedFault, DynLifetime, DynLifetimeFault, FunctionHead, Number, Character, Literal, Binder, BindingName}
 use Rattle.rustc_demangle.specs.declared.v0.words.WordRead.{WordRead}
 use Rattle.rustc_demangle.specs.declared.v0.words.WordRead.TheVariants.{Goes, Stops}
 
@@ -60,10 +60,6 @@ abbrev pub number_texts : List ℕ → Option ℕ → List Text
 number_texts h None = codes "0x" ∷ h ∷ []
 number_texts h (Some n) = decimal n ∷ []
 
-abbrev pub opening_text : Bool → Text
-opening_text true = codes ", "
-opening_text false = codes "<"
-
 abbrev pub lifetime_texts : Option ℕ → List Text
 lifetime_texts None = codes "_" ∷ []
 lifetime_texts (Some n) = letter_of n
@@ -91,8 +87,7 @@ texts_of b plain (Number n part tag) = number_texts (bytes_in b part) n ++ some_
 texts_of b plain (Character c) = literal (code "'") (c ∷ [])
 texts_of b plain (Literal part) = some_or [] (string_of (bytes_in b part)) (literal (code "\""))
 texts_of b plain (Binder n m) = binder_texts m n
-texts_of b plain (Binding o a) = opening_text o ∷ (name_pieces (name_in b a) ++ codes " = " ∷ [])
-texts_of b plain (BindingFault o) = opening_text o ∷ codes "{invalid syntax}" ∷ []
+texts_of b plain (BindingName a) = name_pieces (name_in b a) ++ codes " = " ∷ []
 
 -- how many looks are left for printing it
 abbrev pub looks_later : Stretch → ℕ
@@ -101,7 +96,7 @@ looks_later (FieldName a) = name_size a
 looks_later (NestedName n d a) = name_size a
 looks_later (FunctionHead unsafe (abi.Named part)) = part.to - part.from
 looks_later (Literal part) = part.to - part.from
-looks_later (Binding o a) = name_size a
+looks_later (BindingName a) = name_size a
 looks_later _ = 0
 
 -- Words.
@@ -143,6 +138,9 @@ nested_group b note i = reading (length b) i (optional_at 115 b i) (λ d j. read
 
 abbrev pub field_group : List ℕ → ℕ → Group
 field_group b i = reading (length b) i (optional_at 115 b i) (λ d j. reading (length b) j (ident_at b j) (λ a k. goes (FieldName a) (Some k)))
+
+abbrev pub binding_group : List ℕ → ℕ → Group
+binding_group b i = reading (length b) i (ident_at b i) (λ a j. goes (BindingName a) (Some j))
 
 abbrev pub disambiguator_group : List ℕ → ℕ → Group
 disambiguator_group b i = reading (length b) i (optional_at 115 b i) (λ d j. goes Nothing (Some j))
@@ -212,6 +210,7 @@ abbrev pub word_at : List ℕ → Word → ℕ → Bool → ℕ → ℕ → Grou
 word_at b word.CrateName note out lifetimes i = crate_group b i
 word_at b word.NestedName note out lifetimes i = nested_group b note i
 word_at b word.FieldName note out lifetimes i = field_group b i
+word_at b word.BindingName note out lifetimes i = binding_group b i
 word_at b word.Disambiguator note out lifetimes i = disambiguator_group b i
 word_at b word.LifetimeIndex note out lifetimes i = lifetime_group b out lifetimes i
 word_at b word.OptionalLifetime note out lifetimes i = optional_group b out lifetimes i

@@ -24,13 +24,13 @@ weight_of_entry entry.«Type» = 10
 weight_of_entry entry.Constant = 10
 weight_of_entry entry.TaggedType = 10
 weight_of_entry entry.Pattern = 30
-weight_of_entry entry.DynTrait = 30
+weight_of_entry entry.DynTrait = 80
 weight_of_entry _ = 20
 
 abbrev pub weight_of_item : Item → ℕ
 weight_of_item (item.Child k position) = weight_of_entry (entry_of k) + 2
 weight_of_item item.Skips = 12
-weight_of_item item.Bindings = 22
+weight_of_item item.Bindings = 50
 weight_of_item (item.Holds e) = weight_of_entry e + 2
 weight_of_item (item.GoesOn e) = weight_of_entry e + 2
 weight_of_item _ = 1
@@ -74,8 +74,8 @@ rank_of_item (item.Child k position) = rank_of_entry (entry_of k) + 1
 rank_of_item item.Skips = 2
 rank_of_item (item.Elements e joint) = rank_of_entry e + 1
 rank_of_item item.Bindings = 4
-rank_of_item item.MoreBindings = 3
-rank_of_item item.OpenBindings = 3
+rank_of_item item.MoreBindings = 4
+rank_of_item item.OpenBindings = 4
 rank_of_item (item.Holds e) = rank_of_entry e + 1
 rank_of_item (item.GoesOn e) = rank_of_entry e
 rank_of_item _ = 1

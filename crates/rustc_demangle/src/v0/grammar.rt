@@ -117,6 +117,7 @@ pub enum Word {
     CrateName,
     NestedName,
     FieldName,
+    BindingName,
     Disambiguator,
     LifetimeIndex,
     OptionalLifetime,
@@ -401,7 +402,13 @@ pub fn table(production: Production) -> &'static [Item]
         Production::ConstantArgument => &[Item::Child(Named::Constant, Position::NoValue)],
         Production::TypeArgument => &[Item::Child(Named::Type, Position::NoValue)],
         Production::DynTraits => &[Item::Binds, Item::Elements(Entry::DynTrait, Joint::Plus)],
-        Production::DynTrait => &[Item::Bindings, Item::MoreBindings, Item::OpenBindings],
+        Production::DynTrait => &[
+            Item::Bindings,
+            Item::MoreBindings,
+            Item::Reads(Word::BindingName),
+            Item::Holds(Entry::Bound),
+            Item::OpenBindings,
+        ],
         Production::TraitPathReference => &[Item::Refers(Named::TraitPath, Position::NoValue)],
         Production::GenericTraitPath => &[
             Item::Child(Named::Path, Position::NoValue),

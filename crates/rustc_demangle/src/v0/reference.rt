@@ -1,7 +1,7 @@
 //! Back references.
 ghost use Rattle.std.specs.Prelude.{◌≡◌, ◌+◌, ◌≤◌};
 ghost use Rattle.rustc_demangle.specs.Begins.{total};
-ghost use Rattle.rustc_demangle.specs.Steps.{refer, IsDeep};
+ghost use Rattle.rustc_demangle.specs.Serving.{refer, IsDeep};
 
 use crate::cursor::{Looks, Symbol};
 use crate::v0::grammar::Mark;
@@ -36,4 +36,3 @@ pub fn refer(symbol: &Symbol<'_>, left: u32, place: Option<usize>, looks: &mut L
     }
     Reference::Target(target as usize, next)
 }
-

@@ -37,7 +37,6 @@ pub enum Stretch {
     Literal(Part),
     /// The number of the first new lifetime, and how many there are.
     Binder(u128, u64),
-    /// Whether a bracket is open before the binding, and its name.
-    Binding(bool, Ident),
-    BindingFault(bool),
+    /// The name of a binding.
+    BindingName(Ident),
 }

@@ -3,10 +3,12 @@ ghost use Rattle.std.specs.Prelude.{◌≡◌, ℕ, ◌+◌, ◌-◌, ◌*◌, �
 ghost use Rattle.rustc_demangle.specs.Words.{Hex};
 ghost use Rattle.rustc_demangle.specs.Idents.{LiesWithin, name_size};
 ghost use Rattle.rustc_demangle.specs.Begins.{total};
-ghost use Rattle.rustc_demangle.specs.Steps.{LiesIn, PartIn};
-ghost use Rattle.rustc_demangle.specs.Groups.{ident_at, hex_at, read_stretch, looks_later, word_group, word_failed, crate_group, nested_group, field_group, disambiguator_group, checked, lifetime_group, optional_group, dyn_group, abi_named, abi_group, head_group, sign_group, number_group, truth_group, character_group, literal_group};
+ghost use Rattle.rustc_demangle.specs.Nibbles.{HexPart};
+ghost use Rattle.rustc_demangle.specs.Serving.{LiesIn, PartIn};
+ghost use Rattle.rustc_demangle.specs.Groups.{ident_at, hex_at, read_stretch, looks_later, word_group, word_failed, crate_group, nested_group, field_group, binding_group, disambiguator_group, checked, lifetime_group, optional_group, dyn_group, abi_named, abi_group, head_group, sign_group, number_group, truth_group, character_group, literal_group};
 
 use crate::cursor::{Ident, Looks, Part, Symbol};
+use crate::literal::is_string;
 use crate::v0::grammar::{Mark, Word};
 use crate::v0::stretch::{Abi, Stretch};
 
@@ -41,6 +43,7 @@ pub fn read_word(
         Word::CrateName => read_crate(symbol, at, looks),
         Word::NestedName => read_nested(symbol, note, at, looks),
         Word::FieldName => read_field(symbol, at, looks),
+        Word::BindingName => read_binding(symbol, at, looks),
         Word::Disambiguator => read_disambiguator(symbol, at, looks),
         Word::LifetimeIndex => read_lifetime(symbol, output, lifetimes, at, looks),
         Word::OptionalLifetime => read_optional(symbol, output, lifetimes, at, looks),
@@ -97,6 +100,7 @@ fn nibbles(symbol: &Symbol<'_>, place: usize, looks: &mut Looks) -> Option<(Part
     ensures value { result ≡ hex_at symbol.now place }
     ensures hex { IfSome result (λ r. Hex symbol.now r.0.from r.1 r.0.to) }
     ensures part { IfSome result (λ r. PartIn symbol.now r.0) }
+    ensures nibbles { IfSome result (λ r. HexPart symbol.now r.0) }
     ensures grows { looks.old ≤ looks.new }
     ensures looks { MatchOption result (looks.new ≤ looks.old + (length symbol.now - place)) (λ r. looks.new ≤ looks.old + (r.1 - place)) }
 {
@@ -146,6 +150,18 @@ fn read_field(symbol: &Symbol<'_>, place: usize, looks: &mut Looks) -> WordRead
         return faulty();
     };
     goes(Stretch::FieldName(ident), next)
+}
+
+fn read_binding(symbol: &Symbol<'_>, place: usize, looks: &mut Looks) -> WordRead
+    ensures value { result ≡ (binding_group symbol.now place).reads }
+    ensures grows { looks.old ≤ looks.new }
+    ensures looks { looks.new + looks_later (read_stretch result) ≤ looks.old + total (binding_group symbol.now place).costs }
+    ensures lies { LiesIn symbol.now (read_stretch result) }
+{
+    match name(symbol, place, looks) {
+        Some((ident, next)) => goes(Stretch::BindingName(ident), next),
+        None => faulty(),
+    }
 }
 
 fn read_disambiguator(symbol: &Symbol<'_>, place: usize, looks: &mut Looks) -> WordRead
@@ -387,5 +403,8 @@ fn read_literal(symbol: &Symbol<'_>, place: usize, looks: &mut Looks) -> WordRea
     let Some((part, next)) = nibbles(symbol, place, looks) else {
         return faulty();
     };
+    if !is_string(symbol, part, looks) {
+        return faulty();
+    }
     goes(Stretch::Literal(part), next)
 }
