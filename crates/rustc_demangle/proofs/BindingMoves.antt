@@ -11,10 +11,11 @@ use Rattle.rustc_demangle.specs.Reading.{Tree, looked, node, piece, Place, Outco
 use Rattle.rustc_demangle.specs.Begins.{total}
 use Rattle.rustc_demangle.specs.Events.{Heard, of, ended, allowing, handing, said, allows}
 use Rattle.rustc_demangle.specs.Groups.{texts_of}
-use Rattle.rustc_demangle.specs.Shares.{surroundings, outcome, share, share_of, followed, moved, is_shown, weight, height}
+use Rattle.rustc_demangle.specs.Shares.{surroundings, takes, outcome, share, share_of, followed, moved, is_shown, weight, height}
 use Rattle.rustc_demangle.specs.Shares as shares
-use Rattle.rustc_demangle.specs.Serving.{only, going, Serves, IsBinding}
+use Rattle.rustc_demangle.specs.Serving.{only, going, HeadIs, Serves, IsBinding, naming, end_stretch, mark_stretch}
 use Rattle.rustc_demangle.specs.declared.v0.grammar.Mark.TheVariants as mark
+use Rattle.rustc_demangle.specs.declared.v0.grammar.Item.TheVariants as item
 use Rattle.rustc_demangle.specs.declared.v0.grammar.Production.TheVariants as production
 use Rattle.rustc_demangle.specs.declared.v0.grammar.Count.TheVariants.{Zero}
 use Rattle.rustc_demangle.specs.declared.v0.stretch.Stretch.{Stretch}
@@ -26,11 +27,8 @@ use Rattle.rustc_demangle.specs.declared.v0.task.Task.TheVariants.{Rest}
 use Rattle.rustc_demangle.proofs.Counts.{Placed, identifier_placed}
 use Rattle.rustc_demangle.proofs.Spelled.{level_spelt, levels_spelt}
 use Rattle.rustc_demangle.proofs.Turns.{Within, Keeps, Covers, within_later, more_bindings, advances}
+use Rattle.rustc_demangle.proofs.TableChecks.{head_low}
 use Rattle.rustc_demangle.proofs.Moves.{serves_only}
-
--- where the name of a binding stands
-abbrev pub naming : ℕ → Progress
-naming left = record { production = production.DynTrait; index = 2; count = Zero; note = 0; left = left }
 
 all_said : (ts : List Text) (p : Items) (s : Surroundings) (j : Place) → run (say_all ts p) s j ≡ behind (all_pieces ts) (run p s j)
 unfolding run
@@ -70,15 +68,6 @@ named_read b left t i l = go (identifier_at b (i + 1)) (identifier_placed b (i +
         ≡ resumed (length b) (i + 1) (λ a. run (says_name a (says " = " (unit bound (bindings true bound)))) s) r
     go None p = refl
     go (Some r) p = ap (λ (o : Outcome). behind (looked (4 * (r.1 - (i + 1) + 1))) o) (last r.0 r.1 p.0 p.1)
-
--- what bindings end with, and begin with
-abbrev pub end_stretch : Bool → Stretch
-end_stretch true = Fixed mark.Greater
-end_stretch false = Nothing
-
-abbrev pub mark_stretch : Bool → Stretch
-mark_stretch true = Fixed mark.Comma
-mark_stretch false = Fixed mark.Less
 
 end_free : (b : List ℕ) (c : Bool) → (Rattle.rustc_demangle.specs.Groups.looks_later (end_stretch c) ≡ 0) × Rattle.rustc_demangle.specs.Serving.LiesIn b (end_stretch c)
 end_free b true = (refl, tt)
@@ -137,3 +126,11 @@ binding_on b task o c u t i made h e l d q = record {
         ≡ allowing (1 ∷ []) (handing t.output (texts_of b plain (mark_stretch c)) (share b plain (Rest (naming u.left) t) (Some (i + 1)) false))
     go plain true = name_share b u.left t i d plain (codes ", ")
     go plain false = name_share b u.left t i d plain (codes "<")
+
+pub is_more : (b : List ℕ) (u : Progress) (t : Setting) (o : Bool) → HeadIs u item.MoreBindings → IsBinding b (Rest u t) o (takes u.count o) (naming u.left) t
+unfolding outcome
+is_more b u t o h = record { reads = λ i. rw h refl; shown = refl; high = omega (arith, head_low u item.MoreBindings h); bounded = omega arith }
+
+pub is_open_on : (b : List ℕ) (u : Progress) (t : Setting) (o : Bool) → HeadIs u item.OpenBindings → IsBinding b (Rest u t) o true (naming u.left) t
+unfolding outcome
+is_open_on b u t o h = record { reads = λ i. rw h refl; shown = refl; high = omega (arith, head_low u item.OpenBindings h); bounded = omega arith }

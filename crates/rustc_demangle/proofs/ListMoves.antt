@@ -13,7 +13,7 @@ use Rattle.rustc_demangle.specs.Begins.{total}
 use Rattle.rustc_demangle.specs.Events.{Event, Heard, of, ended, and_then, allowing, handing, events, allows, said, said_all}
 use Rattle.rustc_demangle.specs.Groups.{texts_of}
 use Rattle.rustc_demangle.specs.Shares.{surroundings, entered, takes, outcome, share, share_of, followed, moved, is_shown, weight, height, bound}
-use Rattle.rustc_demangle.specs.Serving.{HeadIs, rest_of, element_setting, going, entering, Serves, list_end, end_costs, separator, ending, one_more}
+use Rattle.rustc_demangle.specs.Serving.{HeadIs, rest_of, element_setting, going, entering, Serves, list_end, end_costs, separator, ending, one_more, is_element}
 use Rattle.rustc_demangle.specs.declared.v0.grammar.Entry.{Entry}
 use Rattle.rustc_demangle.specs.declared.v0.grammar.Entry.TheVariants as entry
 use Rattle.rustc_demangle.specs.declared.v0.grammar.Joint.{Joint}
@@ -182,15 +182,27 @@ list_on b plain joint.Or One e left t p i m l n = more_on b plain " | " e left t
 list_on b plain joint.Or More e left t p i m l n = more_on b plain " | " e left t p i m l n
 list_on b plain joint.Or Told e left t p i m l n = more_on b plain " | " e left t p i m l n
 
-pub move_list_on : (b : List ℕ) (u : Progress) (t : Setting) (i : Place) (o : Bool) (e : Entry) (x : Joint) (made : ℕ) → HeadIs u (item.Elements e x) → IsElement e → u.left ≤ max_depth → None ≡ list_end b i → made ≤ total (end_costs i)
+is_one : (e : Entry) → is_element e ≡ true → IsElement e
+is_one entry.«Type» h = tt
+is_one entry.Constant h = tt
+is_one entry.Pattern h = tt
+is_one entry.Argument h = tt
+is_one entry.Field h = tt
+is_one entry.DynTrait h = tt
+is_one e h = cc h
+
+pub move_list_on : (b : List ℕ) (u : Progress) (t : Setting) (i : Place) (o : Bool) (e : Entry) (x : Joint) (made : ℕ) → HeadIs u (item.Elements e x) → is_element e ≡ true → u.left ≤ max_depth → None ≡ list_end b i → made ≤ total (end_costs i)
     → Serves b (Rest u t) i o (entering t.output (separator x u.count) i (Enter e u.left (element_setting t e)) (Some (Rest (record u { count = one_more u.count }) t))) made
 unfolding moved followed share_of share outcome
-move_list_on b u t i o e x made h m l k n =
+move_list_on b u t i o e x made h one l k n =
     let over = not_over b i (sym k) in
     let s = surroundings b u.left t in
     let p = meaning t.value u.note Zero false (drop (u.index + 1) (table u.production)) in
     rw over.1 (serves over.0 over.2 (costs_enough x u.count) (sep_free x u.count) (rw over.1 at n))
   where
+    m : IsElement e
+    m = is_one e one
+
     costs_enough : (x : Joint) (count : Count) → (1 ≤ total (on_costs x count)) × (1 ≤ length (on_costs x count))
     costs_enough joint.Comma count = (omega arith, omega arith)
     costs_enough joint.Plus count = (omega arith, omega arith)

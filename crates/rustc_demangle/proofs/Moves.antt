@@ -13,7 +13,7 @@ use Rattle.rustc_demangle.specs.Events.{Event, Heard, of, ended, and_then, allow
 use Rattle.rustc_demangle.specs.Groups.{texts_of, looks_later, Group, word_group, read_stretch}
 use Rattle.rustc_demangle.specs.Binders.{binder_texts, more_texts}
 use Rattle.rustc_demangle.specs.Shares.{surroundings, entered, takes, outcome, share, share_of, followed, moved, is_shown, weight, height, bound}
-use Rattle.rustc_demangle.specs.Serving.{HeadIs, rest_of, placed_in, skipping, only, going, entering, Serves, LiesIn, later, Referred, referred, leads, refer}
+use Rattle.rustc_demangle.specs.Serving.{told_bindings, HeadIs, rest_of, placed_in, skipping, only, going, entering, Serves, LiesIn, later, Referred, referred, leads, refer}
 use Rattle.rustc_demangle.specs.declared.v0.grammar.Named.{Named}
 use Rattle.rustc_demangle.specs.declared.v0.grammar.Named.TheVariants as named
 use Rattle.rustc_demangle.specs.declared.v0.grammar.Entry.{Entry}
@@ -37,7 +37,7 @@ use Rattle.rustc_demangle.specs.declared.v0.words.WordRead.{WordRead}
 use Rattle.rustc_demangle.specs.declared.v0.words.WordRead.TheVariants.{Goes, Stops}
 use Rattle.rustc_demangle.specs.declared.v0.reference.Reference.{Reference}
 use Rattle.rustc_demangle.specs.declared.v0.reference.Reference.TheVariants.{Faulty, Target}
-use Rattle.rustc_demangle.proofs.TableChecks.{rank_small, item_some, head_low, head_weight, head_binders}
+use Rattle.rustc_demangle.proofs.TableChecks.{rank_small, item_some, head_low, head_weight, head_binders, is_tail, head_holds, head_goes_on}
 use Rattle.rustc_demangle.proofs.Hearing.{height_some}
 use Rattle.rustc_demangle.proofs.GroupReads.{word_then, word_read, pieces_heard}
 use Rattle.rustc_demangle.proofs.Opening.{stop_of}
@@ -164,10 +164,6 @@ move_skip b u t None o made e l =
 move_skip b u t (Some i) o made e l =
     serves_entering b u t (Some i) o item.Skips entry.Path (skipping t) (rest_of u) made e refl (omega arith) (omega arith) (omega arith) refl refl refl (λ plain. rw e refl) l
 
--- the bindings of a dyn trait path
-abbrev pub told_bindings : ℕ → Progress
-told_bindings left = record { production = production.DynTrait; index = 1; count = Told; note = 0; left = left }
-
 pub move_bindings : (b : List ℕ) (u : Progress) (t : Setting) (i : Place) (o : Bool) (made : ℕ) → HeadIs u item.Bindings → made ≤ 0
     → Serves b (Rest u t) i o (entering t.output Nothing i (Enter entry.TraitPath u.left (record t { value = false })) (Some (Rest (told_bindings u.left) t))) made
 unfolding moved followed share_of share outcome run
@@ -182,6 +178,16 @@ move_bindings b u t i o made h l = record {
   inner_bound = omega (arith, head_binders u item.Bindings h);
   lies = tt;
 }
+
+tail_same : (b : List ℕ) (e : Entry) (left : ℕ) (t : Setting) (i : Place) (o : Bool) → is_tail e ≡ true → run (Rattle.rustc_demangle.specs.Grammar.beginning t.value e) (surroundings b left t) i ≡ outcome b (Enter e left t) i o
+unfolding outcome
+tail_same b entry.DynTraits left t i o h = refl
+tail_same b entry.Bound left t i o h = refl
+tail_same b entry.Returns left t i o h = refl
+tail_same b entry.TextConstant left t i o h = refl
+tail_same b entry.ReferenceConstant left t i o h = refl
+tail_same b entry.Variant left t i o h = refl
+tail_same b e left t i o h = cc h
 
 holds_read : (b : List ℕ) (u : Progress) (t : Setting) (i : Place) (o : Bool) (e : Entry) (plain : Bool) → HeadIs u (item.Holds e)
     → run (Rattle.rustc_demangle.specs.Grammar.beginning t.value e) (surroundings b u.left t) i ≡ outcome b (Enter e u.left t) i false
@@ -218,3 +224,9 @@ move_goes_on b u t i o e made h l f = record {
   where
     go : (plain : Bool) → of plain t.output (outcome b (Rest u t) i o) ≡ of plain t.output (outcome b (Enter e u.left t) i false)
     go plain = rw h (ap (of plain t.output) (f false))
+
+pub move_held : (b : List ℕ) (u : Progress) (t : Setting) (i : Place) (o : Bool) (e : Entry) (made : ℕ) → HeadIs u (item.Holds e) → made ≤ 0 → Serves b (Rest u t) i o (entering t.output Nothing i (Enter e u.left t) (Some (Rest (rest_of u) t))) made
+move_held b u t i o e made h l = move_holds b u t i o e made h l (tail_same b e u.left t i false (head_holds u e h))
+
+pub move_tail : (b : List ℕ) (u : Progress) (t : Setting) (i : Place) (o : Bool) (e : Entry) (made : ℕ) → HeadIs u (item.GoesOn e) → made ≤ 0 → Serves b (Rest u t) i o (entering t.output Nothing i (Enter e u.left t) None) made
+move_tail b u t i o e made h l = move_goes_on b u t i o e made h l (λ p. tail_same b e u.left t i p (head_goes_on u e h))

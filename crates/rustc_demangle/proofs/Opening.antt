@@ -9,6 +9,7 @@ use Rattle.rustc_demangle.specs.Table.{is_among, row_of, path, path_rows, type_r
 use Rattle.rustc_demangle.specs.Reading.{Tree, nothing, piece, node, looked, invalid_syntax, too_deep, unread, Place, Outcome, Level, Surroundings, fault, behind, stands, followed_by, begun, run, turns, level_of, levels, nowhere, raised, resumed, peeked, forked, stands_at}
 use Rattle.rustc_demangle.specs.Grammar.{text, meaning, unit_of, table, found, beginning, path_productions, type_productions, constant_productions, variant_productions, basic_marks}
 use Rattle.rustc_demangle.specs.Begins.{Begun, free, paying, tagged, peeking, forking, starts_or, continues_or, begin, begin_at, begin_failed, begin_path, begin_type, begin_tagged, begin_constant, begin_pattern, begin_trait_path, begin_argument, begin_bound, begin_returns, begin_reference, begin_variant, basic_or, constructed_or, begin_constructed, constant_tag, pattern_tag, or_pattern, reference_constant}
+use Rattle.rustc_demangle.specs.Serving.{fresh}
 use Rattle.rustc_demangle.specs.Shares.{outcome, surroundings, entered}
 use Rattle.rustc_demangle.specs.declared.v0.grammar.Entry.{Entry}
 use Rattle.rustc_demangle.specs.declared.v0.grammar.Entry.TheVariants as entry
@@ -29,10 +30,6 @@ stop_of mark.Invalid = invalid_syntax
 stop_of mark.Recursion = too_deep
 stop_of mark.Unread = unread
 stop_of m = piece (text m) nothing
-
--- a production of which nothing was read
-abbrev pub fresh : Production → ℕ → ℕ → Progress
-fresh p note left = record { production = p; index = 0; count = Zero; note = note; left = left }
 
 -- what a unit reads that begins so
 abbrev pub begun_so : List ℕ → ℕ → Setting → Beginning → Outcome

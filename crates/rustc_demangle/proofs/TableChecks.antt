@@ -4,9 +4,10 @@ use Rattle.std.proofs.Common.{◌≡◌, ℕ, zero, suc, ◌+◌, ◌≤◌, ◌
 use Rattle.std.proofs.lemmas.Bool.{leb-true}
 use Rattle.rustc_demangle.specs.Grammar.{table}
 use Rattle.rustc_demangle.specs.Measures.{rank_of, rank_of_item, weight_of_item, weight_of_items, weight_of_entry, binders_in, entry_of}
-use Rattle.rustc_demangle.specs.Serving.{HeadIs}
+use Rattle.rustc_demangle.specs.Serving.{HeadIs, is_element}
 use Rattle.rustc_demangle.specs.declared.v0.grammar.Entry.{Entry}
 use Rattle.rustc_demangle.specs.declared.v0.grammar.Entry.TheVariants as entry
+use Rattle.rustc_demangle.specs.declared.v0.grammar.Joint.{Joint}
 use Rattle.rustc_demangle.specs.declared.v0.grammar.Item.{Item}
 use Rattle.rustc_demangle.specs.declared.v0.grammar.Item.TheVariants as item
 use Rattle.rustc_demangle.specs.declared.v0.grammar.Production.{Production}
@@ -70,6 +71,49 @@ at_head r (suc n) (z ∷ xs) x ys h e = at_head r n xs x ys (both_right _ _ h) e
 -- what comes next stands no higher than its production
 pub head_low : (u : Progress) (x : Item) → HeadIs u x → rank_of_item x ≤ rank_of u.production
 head_low u x e = at_head (rank_of u.production) u.index (table u.production) x _ (low u.production) e
+
+-- what stands at the same depth
+abbrev pub is_tail : Entry → Bool
+is_tail entry.DynTraits = true
+is_tail entry.Bound = true
+is_tail entry.Returns = true
+is_tail entry.TextConstant = true
+is_tail entry.ReferenceConstant = true
+is_tail entry.Variant = true
+is_tail _ = false
+
+abbrev fits : Item → Bool
+fits (item.Elements e x) = is_element e
+fits (item.Holds e) = is_tail e
+fits (item.GoesOn e) = is_tail e
+fits _ = true
+
+all_fit : List Item → Bool
+all_fit [] = true
+all_fit (x ∷ xs) = fits x && all_fit xs
+
+table_fits : (p : Production) → all_fit (table p) ≡ true
+unfolding all_fit
+table_fits production.Crate = refl
+table_fits p = refl
+
+fit_head : (n : ℕ) (xs : List Item) (x : Item) (ys : List Item) → all_fit xs ≡ true → drop n xs ≡ x ∷ ys → fits x ≡ true
+unfolding all_fit
+fit_head zero [] x ys h e = cc e
+fit_head (suc n) [] x ys h e = cc e
+fit_head zero (z ∷ xs) x ys h e =
+    let f : z ≡ x = cc e in
+    subst (λ w. fits w ≡ true) f (both_left _ _ h)
+fit_head (suc n) (z ∷ xs) x ys h e = fit_head n xs x ys (both_right _ _ h) e
+
+pub head_element : (u : Progress) (e : Entry) (x : Joint) → HeadIs u (item.Elements e x) → is_element e ≡ true
+head_element u e x h = fit_head u.index (table u.production) (item.Elements e x) _ (table_fits u.production) h
+
+pub head_holds : (u : Progress) (e : Entry) → HeadIs u (item.Holds e) → is_tail e ≡ true
+head_holds u e h = fit_head u.index (table u.production) (item.Holds e) _ (table_fits u.production) h
+
+pub head_goes_on : (u : Progress) (e : Entry) → HeadIs u (item.GoesOn e) → is_tail e ≡ true
+head_goes_on u e h = fit_head u.index (table u.production) (item.GoesOn e) _ (table_fits u.production) h
 
 -- what comes next is a part of what is left
 pub head_weight : (u : Progress) (x : Item) → HeadIs u x → weight_of_items (drop u.index (table u.production)) ≡ weight_of_item x + weight_of_items (drop (u.index + 1) (table u.production))

@@ -1,10 +1,10 @@
 -- What the steps do that enter a unit, follow a reference or name lifetimes.
 use Rattle.std.specs.Prelude.{nat_lt, nat_le, ◌==◌, ◌&&◌, ◌*◌, ◌^◌, ◌≤◌, codes}
-use Rattle.std.proofs.Common.{◌≡◌, ℕ, zero, suc, ◌+◌, ◌-◌, ◌<◌, Bool, true, false, cond, Option, Some, None, List, [], ◌∷◌, ◌++◌, drop, length, refl, arith, sym, ap, ◌∙◌, sub-one, append_assoc, if◌then◌else◌}
+use Rattle.std.proofs.Common.{◌≡◌, ℕ, zero, suc, ◌+◌, ◌-◌, ◌<◌, Bool, true, false, cond, Option, Some, None, List, [], ◌∷◌, ◌++◌, drop, length, inl, inr, refl, arith, sym, ap, ◌∙◌, sub-one, append_assoc, if◌then◌else◌}
 use Rattle.std.proofs.lemmas.Bool.{leb-true, ltb-true}
 use Prim.Native.Char.{code}
 use Rattle.rustc_demangle.specs.Digits.{is_byte}
-use Rattle.rustc_demangle.specs.Words.{Read, namespace_at, optional_at, backref_at, byte_at}
+use Rattle.rustc_demangle.specs.Words.{OptInteger, Read, namespace_at, optional_at, backref_at, byte_at}
 use Rattle.rustc_demangle.specs.Items.{Text, Items}
 use Rattle.rustc_demangle.specs.Reading.{Tree, nothing, node, piece, Place, Outcome, Surroundings, fault, behind, stands, followed_by, begun, run, resumed, target_of, target_read, level_of, levels, binder_at, binder_of, new_lifetimes, letter_of, all_pieces, looked}
 use Rattle.rustc_demangle.specs.Grammar.{text, table, meaning, kind_of, placed, beginning}
@@ -13,6 +13,7 @@ use Rattle.rustc_demangle.specs.Begins.{Begun, free, paying, tagged, peeking, fo
 use Rattle.rustc_demangle.specs.Events.{Event, Heard, of, ended, and_then, allowing, handing, events, said, said_all, allows}
 use Rattle.rustc_demangle.specs.Groups.{texts_of}
 use Rattle.rustc_demangle.specs.Binders.{binder_texts, more_texts}
+use Rattle.rustc_demangle.specs.Serving.{fresh, splat}
 use Rattle.rustc_demangle.specs.Shares.{surroundings, entered, outcome, share, share_of, followed, moved, weight, height, bound}
 use Rattle.rustc_demangle.specs.Serving.{HeadIs, rest_of, placed_in, only, going, entering, Serves, Referred, referred, leads, refer}
 use Rattle.rustc_demangle.specs.declared.v0.grammar.Named.{Named}
@@ -37,7 +38,7 @@ use Rattle.rustc_demangle.specs.declared.v0.reference.Reference.TheVariants.{Fau
 use Rattle.rustc_demangle.proofs.TableChecks.{rank_small, weight_small, binders_small, head_low, head_weight, head_binders, item_some, both_left, both_right}
 use Rattle.rustc_demangle.proofs.Hearing.{height_some}
 use Rattle.rustc_demangle.proofs.GroupReads.{pieces_heard, says_all}
-use Rattle.rustc_demangle.proofs.Opening.{stop_of, fresh, begun_so, costed, so}
+use Rattle.rustc_demangle.proofs.Opening.{stop_of, begun_so, costed, so}
 use Rattle.rustc_demangle.proofs.Units.{unit_begins}
 use Rattle.rustc_demangle.proofs.Moves.{serves_only, serves_going}
 
@@ -128,15 +129,12 @@ begin_pays b entry.Variant left v (Some i) = tagged_pays (length b) i (byte_at b
 paid_so : (b : List ℕ) (e : Entry) (left : ℕ) (v : Bool) (i : Place) (x : Beginning) → x ≡ (begin b e left v i).begins → paid_if x (length (begin b e left v i).costs)
 paid_so b e left v i x h = Rattle.std.proofs.Common.subst (λ z. paid_if z (length (begin b e left v i).costs)) (sym h) (begin_pays b e left v i)
 
-splat : Bool → Stretch
-splat c = if c then Fixed mark.Splat else Nothing
-
-pub enter_splats : (b : List ℕ) (e : Entry) (left : ℕ) (t : Setting) (i : Place) (o c : Bool) (j : ℕ) (x : Stretch) (made : ℕ) → Splats c j ≡ (begin b e left t.value i).begins → made ≤ total (begin b e left t.value i).costs
-    → x ≡ (if c then Fixed mark.Splat else Nothing) → Serves b (Enter e left t) i o (entering t.output x (Some j) (Enter entry.TaggedType left t) None) made
+pub enter_splats : (b : List ℕ) (e : Entry) (left : ℕ) (t : Setting) (i : Place) (o c : Bool) (j made : ℕ) → Splats c j ≡ (begin b e left t.value i).begins → made ≤ total (begin b e left t.value i).costs
+    → Serves b (Enter e left t) i o (entering t.output (splat c) (Some j) (Enter entry.TaggedType left t) None) made
 unfolding moved followed share_of share
-enter_splats b e left t i o c j x made h l f = rw f (go c h)
+enter_splats b e left t i o c j made h l = go c h
   where
-    go : (c : Bool) → Splats c j ≡ (begin b e left t.value i).begins → Serves b (Enter e left t) i o (entering t.output (cond c (Fixed mark.Splat) Nothing) (Some j) (Enter entry.TaggedType left t) None) made
+    go : (c : Bool) → Splats c j ≡ (begin b e left t.value i).begins → Serves b (Enter e left t) i o (entering t.output (splat c) (Some j) (Enter entry.TaggedType left t) None) made
     go true h = let y = begin b e left t.value i in let p = paid_so b e left t.value i (Splats true j) h in record {
       costs = y.costs;
       reads = λ plain. unit_share b plain e left t i o (Splats true j) h;
@@ -263,6 +261,10 @@ binder_heard plain true (suc m) n rest = ap (λ xs. said true (codes "for<") (sa
     (pieces_heard plain true (letter_of n) (new_lifetimes m (n + 1) (piece (codes "> ") rest))
     ∙ (ap (said_all true (letter_of n)) (more_heard plain m (n + 1) rest) ∙ sym (said_all_both (letter_of n) (more_texts m (n + 1)) (events plain true rest))))
 
+pub opt_fits : (tag : ℕ) (s : List ℕ) (i j v : ℕ) → OptInteger tag s i j v → v < 2 ^ 64
+opt_fits tag s i j v (inl p) = p.1.3
+opt_fits tag s i j v (inr q) = omega (arith, q.2)
+
 pub binder_failed : (b : List ℕ) (u : Progress) (t : Setting) (o : Bool) (made : ℕ) → HeadIs u item.Binds → made ≤ 0 → Serves b (Rest u t) None o (only t.output (Fixed mark.Unread) None) made
 unfolding share outcome run
 binder_failed b u t o made h l = serves_only b (Rest u t) None o t.output (Fixed mark.Unread) None made [] (λ plain. rw h refl) (omega arith) tt
@@ -320,7 +322,7 @@ pub refers_hidden : (b : List ℕ) (u : Progress) (t : Setting) (i : Place) (o :
 refers_hidden b u t i o k position a j made h e l q =
     serves_only b (Rest u t) i o t.output Nothing (Some j) made (refer b u.left i).costs
     (λ plain. refers_share b plain u t i o k position (Target a j) h e
-      ∙ ap (λ (c : Bool). allowing (refer b u.left i).costs (cond c (and_then (share b plain (Enter (entry_of k) (u.left - 1) (record { output = true; value = placed t.value position; lifetimes = t.lifetimes })) (Some a) false) (share b plain (Behind j))) (ended (Some j) false))) q) (omega arith) tt
+    ∙ ap (λ (c : Bool). allowing (refer b u.left i).costs (cond c (and_then (share b plain (Enter (entry_of k) (u.left - 1) (record { output = true; value = placed t.value position; lifetimes = t.lifetimes })) (Some a) false) (share b plain (Behind j))) (ended (Some j) false))) q) (omega arith) tt
 
 refer_paid : (b : List ℕ) (left : ℕ) (i : Place) (a j : ℕ) → Target a j ≡ (refer b left i).refers → 1 ≤ length (refer b left i).costs
 refer_paid b left None a j e = cc e

@@ -9,6 +9,7 @@ use Rattle.rustc_demangle.specs.Table.{is_among, pattern_of, argument, typed, it
 use Rattle.rustc_demangle.specs.Reading.{Tree, node, piece, looked, Place, Outcome, Level, Surroundings, fault, behind, stands, followed_by, begun, run, turns, level_of, levels, nowhere, raised, resumed, forked, stands_at, lifetime_at}
 use Rattle.rustc_demangle.specs.Grammar.{text, meaning, unit_of, table, found, beginning, variant_productions}
 use Rattle.rustc_demangle.specs.Begins.{Begun, free, paying, tagged, forking, continues_or, begin, begin_at, begin_failed, begin_pattern, begin_trait_path, begin_argument, begin_bound, begin_returns, begin_reference, begin_variant, pattern_tag, or_pattern, reference_constant}
+use Rattle.rustc_demangle.specs.Serving.{fresh}
 use Rattle.rustc_demangle.specs.Shares.{outcome, surroundings, entered}
 use Rattle.rustc_demangle.specs.declared.v0.grammar.Entry.{Entry}
 use Rattle.rustc_demangle.specs.declared.v0.grammar.Entry.TheVariants as entry
@@ -19,7 +20,7 @@ use Rattle.rustc_demangle.specs.declared.v0.task.Setting.{Setting}
 use Rattle.rustc_demangle.specs.declared.v0.task.Task.TheVariants.{Enter, Rest}
 use Rattle.rustc_demangle.specs.declared.v0.units.Beginning.TheVariants.{Faulty, Starts, Continues}
 use Rattle.rustc_demangle.proofs.GrammarRows.{variant_found, says_more}
-use Rattle.rustc_demangle.proofs.Opening.{stop_of, fresh, begun_so, costed, so, paid, inner, path_begins, constant_begins, tagged_begins, type_begins, tagged_here}
+use Rattle.rustc_demangle.proofs.Opening.{stop_of, begun_so, costed, so, paid, inner, path_begins, constant_begins, tagged_begins, type_begins, tagged_here}
 
 -- items whose own units are paths, types and constants
 abbrev Shallow : Items → Type 0

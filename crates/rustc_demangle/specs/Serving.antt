@@ -16,6 +16,9 @@ use Rattle.rustc_demangle.specs.Groups.{bytes_in, looks_later}
 use Rattle.rustc_demangle.specs.Shares.{surroundings, outcome, is_shown, share, moved, weight, weight_of, height, height_of, count_of, bound, bound_of}
 use Rattle.rustc_demangle.specs.declared.cursor.Part.{Part}
 use Rattle.rustc_demangle.specs.declared.v0.grammar.Entry.{Entry}
+use Rattle.rustc_demangle.specs.declared.v0.grammar.Entry.TheVariants as entry
+use Rattle.rustc_demangle.specs.declared.v0.grammar.Production.{Production}
+use Rattle.rustc_demangle.specs.declared.v0.grammar.Production.TheVariants as production
 use Rattle.rustc_demangle.specs.declared.v0.grammar.Position.{Position}
 use Rattle.rustc_demangle.specs.declared.v0.grammar.Joint.{Joint}
 use Rattle.rustc_demangle.specs.declared.v0.grammar.Joint.TheVariants as joint
@@ -60,7 +63,42 @@ going out x i rest = record { output = out; stretch = x; place = i; is_open = fa
 abbrev pub entering : Bool → Stretch → Place → Task → Option Task → Move
 entering out x i unit rest = record { output = out; stretch = x; place = i; is_open = false; inner = Some unit; outer = rest }
 
+-- a production of which nothing was read
+abbrev pub fresh : Production → ℕ → ℕ → Progress
+fresh p note left = record { production = p; index = 0; count = Zero; note = note; left = left }
+
+abbrev pub splat : Bool → Stretch
+splat true = Fixed mark.Splat
+splat false = Nothing
+
+-- the bindings of a dyn trait path that was read
+abbrev pub told_bindings : ℕ → Progress
+told_bindings left = record { production = production.DynTrait; index = 1; count = Told; note = 0; left = left }
+
+-- where the name of a binding stands
+abbrev pub naming : ℕ → Progress
+naming left = record { production = production.DynTrait; index = 2; count = Zero; note = 0; left = left }
+
+-- what bindings end with, and begin with
+abbrev pub end_stretch : Bool → Stretch
+end_stretch true = Fixed mark.Greater
+end_stretch false = Nothing
+
+abbrev pub mark_stretch : Bool → Stretch
+mark_stretch true = Fixed mark.Comma
+mark_stretch false = Fixed mark.Less
+
 -- Lists.
+
+-- what lists are of
+abbrev pub is_element : Entry → Bool
+is_element entry.«Type» = true
+is_element entry.Constant = true
+is_element entry.Pattern = true
+is_element entry.Argument = true
+is_element entry.Field = true
+is_element entry.DynTrait = true
+is_element _ = false
 
 -- where a list is over, at its `E` or a failed reading, the place behind it
 abbrev pub list_end : List ℕ → Place → Option Place
@@ -152,6 +190,5 @@ pub record Serves (b : List ℕ) (task : Task) (i : Place) (o : Bool) (m : Move)
 pub record IsBinding (b : List ℕ) (task : Task) (o is_open : Bool) (open_ : Progress) (t : Setting) : Type 0 where
   pub reads : (i : Place) → outcome b task i o ≡ run (bindings is_open bound_items) (surroundings b open_.left t) i
   pub shown : is_shown task ≡ t.output
-  pub heavy : weight (Rest open_ t) ≤ weight task
   pub high : height (Rest open_ t) ≤ height task
   pub bounded : bound (Rest open_ t) ≤ bound task

@@ -1,5 +1,6 @@
 //! v0 symbols.
 mod grammar;
+mod perform;
 mod reference;
 mod stretch;
 mod task;
