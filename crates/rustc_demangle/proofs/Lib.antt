@@ -1,4 +1,5 @@
 pub mod Accepted
+pub mod Accepts
 pub mod Account
 pub mod Beyond
 pub mod BindingMoves
@@ -31,6 +32,7 @@ pub mod PrintsLemmas
 pub mod PrintsPieces
 pub mod Rules
 pub mod Spelled
+pub mod Stepping
 pub mod StepsPaid
 pub mod StringPieces
 pub mod TableChecks

@@ -19,10 +19,11 @@ pub mod Names
 pub mod Nibbles
 pub mod Punycode
 pub mod Reading
+pub mod Running
+pub mod Serving
 pub mod Shares
 pub mod Sink
 pub mod Spelling
-pub mod Serving
 pub mod Steps
 pub mod Table
 pub mod Tally

@@ -1,5 +1,7 @@
 //! v0 symbols.
+mod accept;
 mod grammar;
+mod machine;
 mod perform;
 mod reference;
 mod stretch;
