@@ -1,9 +1,9 @@
 -- What the machine reads with the output off is what is spelled.
-use Rattle.std.proofs.Common.{◌≡◌, ℕ, ◌+◌, Bool, true, false, Some, List, [], ◌∷◌, ◌++◌, refl, arith, ap, ◌∙◌}
+use Rattle.std.proofs.Common.{◌≡◌, ℕ, ◌+◌, Bool, true, false, Some, None, List, [], ◌∷◌, ◌++◌, refl, sym, arith, ap, ◌∙◌}
 use Rattle.rustc_demangle.specs.Cost.{Stretch, looks_of}
 use Rattle.rustc_demangle.specs.Items.{Text, a_path}
-use Rattle.rustc_demangle.specs.Reading.{Tree, nothing, piece, plain_piece, node, looked, hidden, invalid_syntax, too_deep, unread, stretches, unheard, Outcome, run, level_of, levels, read_at, spelled}
-use Rattle.rustc_demangle.specs.Accepting.{looks_in}
+use Rattle.rustc_demangle.specs.Reading.{Tree, nothing, piece, plain_piece, node, looked, hidden, invalid_syntax, too_deep, unread, stretches, unheard, Outcome, run, level_of, levels, read_at, spelled, suffix_of, goes_on_at}
+use Rattle.rustc_demangle.specs.Accepting.{looks_in, suffix_looks, accepting_looks}
 use Rattle.rustc_demangle.specs.Events.{Event, shows, allows, said, events, Heard, of}
 use Rattle.rustc_demangle.specs.Shares.{share, outcome, surroundings}
 use Rattle.rustc_demangle.specs.Running.{allowed_in}
@@ -50,3 +50,18 @@ path_place b i = refl
 
 pub path_looks : (b : List ℕ) (i : ℕ) → allowed_in (share b true (Enter entry.Path 500 (record { output = false; value = true; lifetimes = 0 })) (Some i) false).events ≡ looks_in (read_at b false a_path i 0 0 true)
 path_looks b i = ap (λ (h : Heard). allowed_in h.events) (path_share b true i) ∙ allowed_looks false (read_at b false a_path i 0 0 true).tree
+
+-- The suffix.
+
+pub suffix_none : (b : List ℕ) → None ≡ spelled b a_path 0 0 → (suffix_of b ≡ None) × (accepting_looks b ≡ looks_in (read_at b false a_path 0 0 0 true) + 0)
+unfolding suffix_of accepting_looks spelled
+suffix_none b e = (rw (sym e) refl, rw (sym e) refl)
+
+pub suffix_one : (b : List ℕ) (j : ℕ) → Some j ≡ spelled b a_path 0 0 → goes_on_at b j ≡ false → (suffix_of b ≡ Some j) × (accepting_looks b ≡ looks_in (read_at b false a_path 0 0 0 true) + (1 + suffix_looks b (Some j)))
+unfolding suffix_of accepting_looks spelled
+suffix_one b j e g = (rw (sym e, g) refl, rw (sym e, g) refl)
+
+pub suffix_two : (b : List ℕ) (j : ℕ) → Some j ≡ spelled b a_path 0 0 → goes_on_at b j ≡ true
+    → (suffix_of b ≡ spelled b a_path j 0) × (accepting_looks b ≡ looks_in (read_at b false a_path 0 0 0 true) + (1 + (looks_in (read_at b false a_path j 0 0 true) + suffix_looks b (spelled b a_path j 0))))
+unfolding suffix_of accepting_looks spelled
+suffix_two b j e g = (rw (sym e, g) refl, rw (sym e, g) refl)

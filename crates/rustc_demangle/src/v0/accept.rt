@@ -1,8 +1,8 @@
 //! Acceptance of v0 symbols: the machine with the output off.
 ghost use Rattle.std.specs.Prelude.{◌≡◌, ◌+◌, ◌≤◌, true, false};
 ghost use Rattle.rustc_demangle.specs.Items.{a_path};
-ghost use Rattle.rustc_demangle.specs.Reading.{spelled, suffix_of, read_at};
-ghost use Rattle.rustc_demangle.specs.Accepting.{looks_in, second_looks, suffix_looks, accepting_looks};
+ghost use Rattle.rustc_demangle.specs.Reading.{goes_on_at, spelled, suffix_of, read_at};
+ghost use Rattle.rustc_demangle.specs.Accepting.{looks_in, suffix_looks, accepting_looks};
 
 use crate::cursor::{Looks, Symbol};
 use crate::v0::grammar::Entry;
@@ -30,9 +30,22 @@ pub fn suffix_at(symbol: &Symbol<'_>, looks: &mut Looks) -> Option<usize>
     ensures grows { looks.old ≤ looks.new }
     ensures looks { looks.new + suffix_looks symbol.now result ≤ looks.old + accepting_looks symbol.now }
 {
-    let end = path_end(symbol, 0, looks)?;
-    match symbol.byte(end, looks) {
-        Some(b'A'..=b'Z') => path_end(symbol, end, looks),
-        _ => Some(end),
+    let Some(end) = path_end(symbol, 0, looks) else {
+        return None;
+    };
+    if begins_path(symbol, end, looks) {
+        return path_end(symbol, end, looks);
+    }
+    Some(end)
+}
+
+/// Whether a second path begins at a place.
+fn begins_path(symbol: &Symbol<'_>, place: usize, looks: &mut Looks) -> bool
+    ensures value { result ≡ goes_on_at symbol.now place }
+    ensures look { looks.new ≡ looks.old + 1 }
+{
+    match symbol.byte(place, looks) {
+        Some(b'A'..=b'Z') => true,
+        _ => false,
     }
 }
