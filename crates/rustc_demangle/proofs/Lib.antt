@@ -28,6 +28,7 @@ pub mod Opening
 pub mod Paid
 pub mod Parts
 pub mod PaysRules
+pub mod Printing
 pub mod PrintsLemmas
 pub mod PrintsPieces
 pub mod Rules
