@@ -2,10 +2,10 @@
 use Rattle.std.proofs.Common.{◌≡◌, ℕ, ◌+◌, Bool, true, false, Some, None, List, [], ◌∷◌, ◌++◌, refl, sym, arith, ap, ◌∙◌}
 use Rattle.rustc_demangle.specs.Cost.{Stretch, looks_of}
 use Rattle.rustc_demangle.specs.Items.{Text, a_path}
-use Rattle.rustc_demangle.specs.Reading.{Tree, nothing, piece, plain_piece, node, looked, hidden, invalid_syntax, too_deep, unread, stretches, unheard, Outcome, run, level_of, levels, read_at, spelled, suffix_of, goes_on_at}
+use Rattle.rustc_demangle.specs.Reading.{Tree, nothing, piece, plain_piece, node, looked, hidden, invalid_syntax, too_deep, unread, stretches, unheard, read_at, spelled, suffix_of, goes_on_at}
 use Rattle.rustc_demangle.specs.Accepting.{looks_in, suffix_looks, accepting_looks}
 use Rattle.rustc_demangle.specs.Events.{Event, shows, allows, said, events, Heard, of}
-use Rattle.rustc_demangle.specs.Shares.{share, outcome, surroundings}
+use Rattle.rustc_demangle.specs.Shares.{share, outcome}
 use Rattle.rustc_demangle.specs.Running.{allowed_in}
 use Rattle.rustc_demangle.specs.declared.v0.grammar.Entry.TheVariants as entry
 use Rattle.rustc_demangle.specs.declared.v0.task.Task.TheVariants.{Enter}

@@ -1,24 +1,24 @@
 -- Behind the last byte of the symbol no element of a list is read, and before it each moves on.
-use Rattle.std.specs.Prelude.{ℕ, zero, suc, ◌≤◌, nat_le, slice_get}
-use Rattle.std.proofs.Common.{◌≡◌, Bool, true, false, List, [], ◌∷◌, length, Option, Some, None, refl, sym, ◌∙◌, ap, ◌+◌, ◌-◌, subst, arith}
+use Rattle.std.specs.Prelude.{ℕ, suc, ◌≤◌, nat_le, slice_get}
+use Rattle.std.proofs.Common.{◌≡◌, Bool, true, false, List, [], ◌∷◌, length, Option, Some, None, refl, sym, ap, ◌+◌, ◌-◌, subst, arith}
 use Rattle.std.proofs.lemmas.Option.{slice_get_past}
 use Rattle.std.proofs.lemmas.Bool.{leb-true, leb-false}
 use Prim.Native.Char.{code}
 use Rattle.rustc_demangle.specs.Digits.{is_byte}
-use Rattle.rustc_demangle.specs.Words.{Name, Read, byte_at, optional_at, identifier_at}
-use Rattle.rustc_demangle.specs.Items.{Kind, a_path, a_type, a_constant, a_pattern, a_trait_path, Items, done, say, byte, raise, identifier}
-use Rattle.rustc_demangle.specs.Table.{items, path, constant, pattern_of, typed, argument, bound, field, constant_inside, type_tagged, says, says_name}
-use Rattle.rustc_demangle.specs.Reading.{looked, node, Place, Outcome, Level, Surroundings, run, turns, stands, behind, followed_by, forked, peeked, resumed, raised, begun, bound_by, closed, level_of, levels, nowhere, max_depth}
-use Rattle.rustc_demangle.specs.Grammar.{element, beginning}
+use Rattle.rustc_demangle.specs.Words.{Read, byte_at, optional_at, identifier_at}
+use Rattle.rustc_demangle.specs.Items.{Kind, a_path, a_type, a_constant, a_pattern, a_trait_path, Items, say, byte, raise, identifier}
+use Rattle.rustc_demangle.specs.Table.{items, path, constant, pattern_of, bound, constant_inside, says, says_name}
+use Rattle.rustc_demangle.specs.Reading.{looked, node, Place, Outcome, Level, Surroundings, run, turns, stands, behind, followed_by, forked, peeked, resumed, raised, bound_by, level_of, levels, max_depth}
+use Rattle.rustc_demangle.specs.Grammar.{element}
 use Rattle.rustc_demangle.specs.Shares.{surroundings}
 use Rattle.rustc_demangle.specs.declared.v0.grammar.Entry.{Entry}
 use Rattle.rustc_demangle.specs.declared.v0.grammar.Entry.TheVariants as entry
 use Rattle.rustc_demangle.specs.declared.v0.task.Setting.{Setting}
 use Rattle.rustc_demangle.proofs.Counts.{Placed, byte_placed, identifier_placed}
 use Rattle.rustc_demangle.proofs.Complete.{there_placed, Moves}
-use Rattle.rustc_demangle.proofs.Failed.{closed_place, bound_failed}
+use Rattle.rustc_demangle.proofs.Failed.{bound_failed}
 use Rattle.rustc_demangle.proofs.Spelled.{level_spelt, levels_spelt}
-use Rattle.rustc_demangle.proofs.Turns.{Advances, Within, all_turns, turns_on, advances}
+use Rattle.rustc_demangle.proofs.Turns.{Advances, all_turns, turns_on, advances}
 
 placed_none : {A : Type 0} (i : ℕ) (s : List ℕ) (r : Read A) → Placed (i + 1) s r → length s ≤ i → r ≡ None
 placed_none i s None p h = refl

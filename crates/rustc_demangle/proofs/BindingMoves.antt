@@ -1,25 +1,19 @@
 -- What the steps of bindings do.
-use Rattle.std.specs.Prelude.{◌*◌, ◌≤◌, ◌^◌, codes}
-use Rattle.std.proofs.Common.{◌≡◌, ℕ, zero, suc, ◌+◌, ◌-◌, Bool, true, false, cond, Option, Some, None, List, [], ◌∷◌, drop, length, refl, arith, sym, ap, ◌∙◌, subst, if◌then◌else◌}
+use Rattle.std.specs.Prelude.{◌*◌, ◌≤◌, codes}
+use Rattle.std.proofs.Common.{◌≡◌, ℕ, suc, ◌+◌, ◌-◌, Bool, true, false, Some, None, List, [], ◌∷◌, length, refl, arith, sym, ap, ◌∙◌}
 use Prim.Native.Char.{code}
 use Rattle.rustc_demangle.specs.Digits.{is_byte}
 use Rattle.rustc_demangle.specs.Words.{Name, Read, identifier_at}
 use Rattle.rustc_demangle.specs.Names.{name_pieces}
-use Rattle.rustc_demangle.specs.Items.{Text, Items, say, unit, identifier, bindings}
+use Rattle.rustc_demangle.specs.Items.{Text, Items, unit, bindings}
 use Rattle.rustc_demangle.specs.Table.{bound, says, says_name, say_all}
-use Rattle.rustc_demangle.specs.Reading.{Tree, looked, node, piece, Place, Outcome, Surroundings, behind, stands, followed_by, run, resumed, forked, closed, opened, named, bound_by, all_pieces, levels, max_depth}
-use Rattle.rustc_demangle.specs.Begins.{total}
-use Rattle.rustc_demangle.specs.Events.{Heard, of, ended, allowing, handing, said, allows}
+use Rattle.rustc_demangle.specs.Reading.{looked, node, piece, Place, Outcome, Surroundings, behind, followed_by, run, resumed, closed, opened, named, bound_by, all_pieces, levels, max_depth}
+use Rattle.rustc_demangle.specs.Events.{of, ended, allowing, handing}
 use Rattle.rustc_demangle.specs.Groups.{texts_of}
 use Rattle.rustc_demangle.specs.Shares.{surroundings, takes, outcome, share, share_of, followed, moved, is_shown, weight, height}
 use Rattle.rustc_demangle.specs.Shares as shares
 use Rattle.rustc_demangle.specs.Serving.{only, going, HeadIs, Serves, IsBinding, naming, end_stretch, mark_stretch}
-use Rattle.rustc_demangle.specs.declared.v0.grammar.Mark.TheVariants as mark
 use Rattle.rustc_demangle.specs.declared.v0.grammar.Item.TheVariants as item
-use Rattle.rustc_demangle.specs.declared.v0.grammar.Production.TheVariants as production
-use Rattle.rustc_demangle.specs.declared.v0.grammar.Count.TheVariants.{Zero}
-use Rattle.rustc_demangle.specs.declared.v0.stretch.Stretch.{Stretch}
-use Rattle.rustc_demangle.specs.declared.v0.stretch.Stretch.TheVariants.{Nothing, Fixed}
 use Rattle.rustc_demangle.specs.declared.v0.task.Setting.{Setting}
 use Rattle.rustc_demangle.specs.declared.v0.task.Progress.{Progress}
 use Rattle.rustc_demangle.specs.declared.v0.task.Task.{Task}

@@ -1,19 +1,19 @@
 -- Each word of the machine's grammar reads what its items read.
-use Rattle.std.specs.Prelude.{ℕ, if◌then◌else◌, ◌==◌, nat_le, ◌&&◌, codes, decimal, option_map, slice_range}
+use Rattle.std.specs.Prelude.{ℕ, if◌then◌else◌, ◌==◌, nat_le, codes, decimal, option_map, slice_range}
 use Rattle.std.specs.Fmt.{digits}
-use Rattle.std.proofs.Common.{◌≡◌, Bool, true, false, cond, List, [], ◌∷◌, ◌++◌, length, Option, Some, None, refl, sym, ◌∙◌, ap, ◌+◌, ◌-◌, ◌*◌, subst, sub-one, arith, append_assoc}
+use Rattle.std.proofs.Common.{◌≡◌, Bool, true, false, cond, List, [], ◌∷◌, ◌++◌, length, Option, Some, None, refl, sym, ◌∙◌, ap, ◌+◌, ◌-◌, ◌*◌, subst, arith}
 use Prim.Native.Char.{code}
 use lib.Utf8.{scalar}
 use Rattle.rustc_demangle.specs.Digits.{is_byte, run_end}
-use Rattle.rustc_demangle.specs.Words.{Read, Name, only_if, some_or, name_of, name_from, name_len, digits_from, length_end, tail_len, is_upper, is_nibble, integer_at, optional_at, identifier_at, nibbles_at, number_of}
+use Rattle.rustc_demangle.specs.Words.{Read, Name, only_if, some_or, name_of, name_from, name_len, is_upper, is_nibble, integer_at, optional_at, identifier_at, nibbles_at, number_of}
 use Rattle.rustc_demangle.specs.Names.{name_pieces, is_nameless, is_empty}
 use Rattle.rustc_demangle.specs.Literals.{literal, string_of}
 use Rattle.rustc_demangle.specs.Items.{Text, Items, invalid, say, say_plain, integer, identifier, lifetime}
-use Rattle.rustc_demangle.specs.Table.{says, says_if, say_all, says_name, extern, text_of, basic_types, number_pieces}
+use Rattle.rustc_demangle.specs.Table.{says, say_all, says_name, extern, text_of, basic_types, number_pieces}
 use Rattle.rustc_demangle.specs.Reading.{Tree, nothing, piece, looked, invalid_syntax, Place, Outcome, Surroundings, fault, behind, stands, followed_by, run, resumed, forked, letter_of, all_pieces, lifetime_at, lifetime_named}
-use Rattle.rustc_demangle.specs.Grammar.{word_items, nested_name, special_name, says_head, function_head, says_true, says_char}
+use Rattle.rustc_demangle.specs.Grammar.{word_items, special_name, says_head, function_head, says_true, says_char}
 use Rattle.rustc_demangle.specs.Events.{Event, shows, allows, said, said_all, events, Heard, of, ended, allowing, handing}
-use Rattle.rustc_demangle.specs.Groups.{bytes_in, parts_of, ident_at, hex_at, special_texts, nested_texts, number_texts, lifetime_texts, if_plain, abi_texts, texts_of, Group, goes, stops, faulty, costing, reading, asking, checked, abi_named, abi_group, truth_stretch, character_stretch, literal_stretch, word_at, word_group, word_failed}
+use Rattle.rustc_demangle.specs.Groups.{bytes_in, parts_of, ident_at, hex_at, nested_texts, number_texts, if_plain, texts_of, Group, goes, faulty, reading, asking, checked, abi_named, abi_group, truth_stretch, character_stretch, literal_stretch, word_group}
 use Rattle.rustc_demangle.specs.Shares.{surroundings}
 use Rattle.rustc_demangle.specs.declared.cursor.Part.{Part}
 use Rattle.rustc_demangle.specs.declared.cursor.ident.Ident.{Ident}
@@ -21,8 +21,7 @@ use Rattle.rustc_demangle.specs.declared.v0.grammar.Word.{Word}
 use Rattle.rustc_demangle.specs.declared.v0.grammar.Word.TheVariants as word
 use Rattle.rustc_demangle.specs.declared.v0.grammar.Mark.TheVariants as mark
 use Rattle.rustc_demangle.specs.declared.v0.stretch.Abi.TheVariants as abi
-use Rattle.rustc_demangle.specs.declared.v0.stretch.Stretch.{Stretch}
-use Rattle.rustc_demangle.specs.declared.v0.stretch.Stretch.TheVariants.{Nothing, Fixed, CrateName, FieldName, NestedName, NestedUnread, Lifetime, LifetimeFault, SpacedLifetime, SpacedFault, DynLifetime, DynLifetimeFault, FunctionHead, Number, Character, Literal, BindingName}
+use Rattle.rustc_demangle.specs.declared.v0.stretch.Stretch.TheVariants.{Nothing, Fixed, CrateName, FieldName, NestedName, Lifetime, LifetimeFault, SpacedLifetime, SpacedFault, DynLifetime, DynLifetimeFault, FunctionHead, Number, Character, BindingName}
 use Rattle.rustc_demangle.specs.declared.v0.task.Setting.{Setting}
 use Rattle.rustc_demangle.specs.declared.v0.words.WordRead.{WordRead}
 use Rattle.rustc_demangle.specs.declared.v0.words.WordRead.TheVariants.{Goes, Stops}

@@ -1,9 +1,8 @@
 -- What is heard of a row of tasks, when one is put on top and when a step is done.
-use Rattle.std.specs.Prelude.{◌*◌, ◌^◌}
+use Rattle.std.specs.Prelude.{◌*◌}
 use Rattle.std.proofs.Common.{◌≡◌, ℕ, ◌+◌, ◌-◌, ◌<◌, ◌≤◌, Bool, true, false, Option, Some, None, List, [], ◌∷◌, ◌++◌, length, refl, arith, sym, ap, ◌∙◌, append_assoc, length-append, subst}
 use Rattle.rustc_demangle.specs.Items.{Text}
-use Rattle.rustc_demangle.specs.Begins.{total}
-use Rattle.rustc_demangle.specs.Events.{Event, shows, allows, said, said_all, allowed_all, Heard, ended, and_then, allowing, handing}
+use Rattle.rustc_demangle.specs.Events.{Event, allows, said, said_all, allowed_all, Heard, ended, and_then, allowing, handing}
 use Rattle.rustc_demangle.specs.Groups.{texts_of}
 use Rattle.rustc_demangle.specs.Measures.{rank_of, rank_of_entry}
 use Rattle.rustc_demangle.specs.declared.v0.grammar.Entry.{Entry}

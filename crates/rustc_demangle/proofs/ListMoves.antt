@@ -1,18 +1,18 @@
 -- What the steps of lists do.
-use Rattle.std.specs.Prelude.{◌*◌, ◌≤◌, codes}
-use Rattle.std.proofs.Common.{◌≡◌, ℕ, zero, suc, ◌+◌, ◌-◌, Bool, true, false, cond, Option, Some, None, List, [], ◌∷◌, ◌++◌, drop, length, refl, arith, sym, ap, ◌∙◌, append_assoc}
+use Rattle.std.specs.Prelude.{◌≤◌, codes}
+use Rattle.std.proofs.Common.{◌≡◌, ℕ, ◌+◌, Bool, true, false, cond, Option, Some, None, List, [], ◌∷◌, ◌++◌, drop, length, refl, arith, sym, ap, ◌∙◌, append_assoc}
 use Prim.Native.Char.{code}
 use Prim.Native.String.{String}
 use Rattle.rustc_demangle.specs.Digits.{is_byte}
 use Rattle.rustc_demangle.specs.Items.{Text, Items, a_type, a_constant, a_pattern, say, unit, until_end}
-use Rattle.rustc_demangle.specs.Table.{at_end, list, tuple, more, says}
-use Rattle.rustc_demangle.specs.Reading.{Tree, nothing, node, looked, piece, Place, Outcome, Surroundings, behind, stands, followed_by, begun, run, turns, forked, level_of, levels, max_depth}
+use Rattle.rustc_demangle.specs.Table.{at_end, more, says}
+use Rattle.rustc_demangle.specs.Reading.{Place, Outcome, Surroundings, stands, followed_by, begun, run, turns, forked, max_depth}
 use Rattle.rustc_demangle.specs.Grammar.{text, table, meaning, element, element_value, list_left}
-use Rattle.rustc_demangle.specs.Measures.{weight_of_entry, weight_of_item, weight_of_items, rank_of, rank_of_entry, rank_of_item, binders_of_entry, binders_of_item, binders_in}
+use Rattle.rustc_demangle.specs.Measures.{binders_of_entry}
 use Rattle.rustc_demangle.specs.Begins.{total}
-use Rattle.rustc_demangle.specs.Events.{Event, Heard, of, ended, and_then, allowing, handing, events, allows, said, said_all}
+use Rattle.rustc_demangle.specs.Events.{Event, Heard, of, and_then, allowing, handing, events, allows, said}
 use Rattle.rustc_demangle.specs.Groups.{texts_of}
-use Rattle.rustc_demangle.specs.Shares.{surroundings, entered, takes, outcome, share, share_of, followed, moved, is_shown, weight, height, bound}
+use Rattle.rustc_demangle.specs.Shares.{surroundings, entered, outcome, share, share_of, followed, moved}
 use Rattle.rustc_demangle.specs.Serving.{HeadIs, rest_of, element_setting, going, entering, Serves, list_end, end_costs, separator, ending, one_more, is_element}
 use Rattle.rustc_demangle.specs.declared.v0.grammar.Entry.{Entry}
 use Rattle.rustc_demangle.specs.declared.v0.grammar.Entry.TheVariants as entry
@@ -21,11 +21,10 @@ use Rattle.rustc_demangle.specs.declared.v0.grammar.Joint.TheVariants as joint
 use Rattle.rustc_demangle.specs.declared.v0.grammar.Item.TheVariants as item
 use Rattle.rustc_demangle.specs.declared.v0.grammar.Count.{Count}
 use Rattle.rustc_demangle.specs.declared.v0.grammar.Count.TheVariants.{Zero, One, More, Told}
-use Rattle.rustc_demangle.specs.declared.v0.stretch.Stretch.TheVariants.{Nothing, Fixed}
 use Rattle.rustc_demangle.specs.declared.v0.task.Setting.{Setting}
 use Rattle.rustc_demangle.specs.declared.v0.task.Progress.{Progress}
 use Rattle.rustc_demangle.specs.declared.v0.task.Task.TheVariants.{Enter, Rest}
-use Rattle.rustc_demangle.proofs.TableChecks.{head_low, head_weight, head_binders, entry_light, item_some}
+use Rattle.rustc_demangle.proofs.TableChecks.{head_low, entry_light}
 use Rattle.rustc_demangle.proofs.Turns.{all_turns}
 use Rattle.rustc_demangle.proofs.Beyond.{IsElement, element_turns}
 use Rattle.rustc_demangle.proofs.Moves.{serves_on}

@@ -1,19 +1,15 @@
 -- What the steps of the items do.
-use Rattle.std.specs.Prelude.{nat_lt, ◌==◌, ◌&&◌, ◌*◌, ◌^◌, ◌≤◌, codes}
-use Rattle.std.proofs.Common.{◌≡◌, ℕ, zero, suc, ◌+◌, ◌-◌, ◌<◌, Bool, true, false, cond, Option, Some, None, List, [], ◌∷◌, ◌++◌, drop, length, refl, arith, sym, ap, ◌∙◌, sub-one, append_assoc, if◌then◌else◌}
-use Prim.Native.Char.{code}
-use Rattle.rustc_demangle.specs.Digits.{is_byte}
-use Rattle.rustc_demangle.specs.Words.{Read, namespace_at, optional_at, backref_at}
+use Rattle.std.specs.Prelude.{◌≤◌}
+use Rattle.std.proofs.Common.{◌≡◌, ℕ, ◌+◌, Bool, true, false, Some, None, List, [], drop, refl, arith, sym, ap, ◌∙◌}
 use Rattle.rustc_demangle.specs.Items.{Text, Items, a_path, done, say, unit, until_end}
-use Rattle.rustc_demangle.specs.Reading.{Tree, nothing, node, Place, Outcome, Surroundings, fault, behind, stands, followed_by, begun, run, resumed, target_of, target_read, level_of, levels, max_depth, binder_at, binder_of, new_lifetimes, forked}
+use Rattle.rustc_demangle.specs.Reading.{Place, Outcome, followed_by, run}
 use Rattle.rustc_demangle.specs.Grammar.{text, table, meaning, kind_of, placed}
-use Rattle.rustc_demangle.specs.Measures.{entry_of, weight_of_entry, weight_of_item, weight_of_items, rank_of, rank_of_entry, rank_of_item, binders_of_entry, binders_of_item, binders_in}
+use Rattle.rustc_demangle.specs.Measures.{entry_of, weight_of_entry, weight_of_item, rank_of_entry, rank_of_item, binders_of_entry, binders_of_item}
 use Rattle.rustc_demangle.specs.Begins.{total}
-use Rattle.rustc_demangle.specs.Events.{Event, Heard, of, ended, and_then, allowing, handing, events, said, said_all}
-use Rattle.rustc_demangle.specs.Groups.{texts_of, looks_later, Group, word_group, read_stretch}
-use Rattle.rustc_demangle.specs.Binders.{binder_texts, more_texts}
-use Rattle.rustc_demangle.specs.Shares.{surroundings, entered, takes, outcome, share, share_of, followed, moved, is_shown, weight, height, bound}
-use Rattle.rustc_demangle.specs.Serving.{told_bindings, HeadIs, rest_of, placed_in, skipping, only, going, entering, Serves, LiesIn, later, Referred, referred, leads, refer}
+use Rattle.rustc_demangle.specs.Events.{of, ended, and_then, allowing, handing}
+use Rattle.rustc_demangle.specs.Groups.{texts_of, looks_later, word_group}
+use Rattle.rustc_demangle.specs.Shares.{surroundings, entered, outcome, share, share_of, followed, moved, weight, height, bound}
+use Rattle.rustc_demangle.specs.Serving.{told_bindings, HeadIs, rest_of, placed_in, skipping, only, going, entering, Serves, LiesIn}
 use Rattle.rustc_demangle.specs.declared.v0.grammar.Named.{Named}
 use Rattle.rustc_demangle.specs.declared.v0.grammar.Named.TheVariants as named
 use Rattle.rustc_demangle.specs.declared.v0.grammar.Entry.{Entry}
@@ -23,24 +19,18 @@ use Rattle.rustc_demangle.specs.declared.v0.grammar.Word.{Word}
 use Rattle.rustc_demangle.specs.declared.v0.grammar.Item.{Item}
 use Rattle.rustc_demangle.specs.declared.v0.grammar.Item.TheVariants as item
 use Rattle.rustc_demangle.specs.declared.v0.grammar.Mark.{Mark}
-use Rattle.rustc_demangle.specs.declared.v0.grammar.Mark.TheVariants as mark
-use Rattle.rustc_demangle.specs.declared.v0.grammar.Production.TheVariants as production
-use Rattle.rustc_demangle.specs.declared.v0.grammar.Count.TheVariants.{Zero, One, More, Told}
+use Rattle.rustc_demangle.specs.declared.v0.grammar.Count.TheVariants.{Zero}
 use Rattle.rustc_demangle.specs.declared.v0.stretch.Stretch.{Stretch}
-use Rattle.rustc_demangle.specs.declared.v0.stretch.Stretch.TheVariants.{Nothing, Fixed, Binder}
+use Rattle.rustc_demangle.specs.declared.v0.stretch.Stretch.TheVariants.{Nothing, Fixed}
 use Rattle.rustc_demangle.specs.declared.v0.task.Setting.{Setting}
 use Rattle.rustc_demangle.specs.declared.v0.task.Progress.{Progress}
 use Rattle.rustc_demangle.specs.declared.v0.task.Task.{Task}
 use Rattle.rustc_demangle.specs.declared.v0.task.Task.TheVariants.{Enter, Rest, Behind}
-use Rattle.rustc_demangle.specs.declared.v0.task.Move.{Move}
 use Rattle.rustc_demangle.specs.declared.v0.words.WordRead.{WordRead}
 use Rattle.rustc_demangle.specs.declared.v0.words.WordRead.TheVariants.{Goes, Stops}
-use Rattle.rustc_demangle.specs.declared.v0.reference.Reference.{Reference}
-use Rattle.rustc_demangle.specs.declared.v0.reference.Reference.TheVariants.{Faulty, Target}
-use Rattle.rustc_demangle.proofs.TableChecks.{rank_small, item_some, head_low, head_weight, head_binders, is_tail, head_holds, head_goes_on}
+use Rattle.rustc_demangle.proofs.TableChecks.{item_some, head_low, head_weight, head_binders, is_tail, head_holds, head_goes_on}
 use Rattle.rustc_demangle.proofs.Hearing.{height_some}
-use Rattle.rustc_demangle.proofs.GroupReads.{word_then, word_read, pieces_heard}
-use Rattle.rustc_demangle.proofs.Opening.{stop_of}
+use Rattle.rustc_demangle.proofs.GroupReads.{word_then, word_read}
 
 -- a step after which nothing is left
 pub serves_only : (b : List ℕ) (task : Task) (i : Place) (o out : Bool) (x : Stretch) (j : Place) (made : ℕ) (costs : List ℕ)

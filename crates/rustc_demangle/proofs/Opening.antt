@@ -1,29 +1,26 @@
 -- A unit begins as its bytes say.
-use Rattle.std.specs.Prelude.{ℕ, zero, suc, codes, ◌||◌, slice_get}
-use Rattle.std.proofs.Common.{◌≡◌, Bool, true, false, cond, List, [], ◌∷◌, length, Option, Some, None, refl, sym, ◌∙◌, ap, ◌+◌, ◌-◌, ◌*◌, subst, sub-one}
+use Rattle.std.specs.Prelude.{ℕ, zero, suc, slice_get}
+use Rattle.std.proofs.Common.{◌≡◌, Bool, true, false, List, [], ◌∷◌, length, Option, Some, None, refl, ◌∙◌, ap, ◌+◌, ◌-◌, ◌*◌, sub-one}
 use Prim.Native.Char.{code}
 use Rattle.rustc_demangle.specs.Digits.{is_byte}
 use Rattle.rustc_demangle.specs.Words.{Read, some_or, then_if_some, byte_at}
-use Rattle.rustc_demangle.specs.Items.{Text, Kind, a_path, a_type, a_constant, a_pattern, a_trait_path, Items, child, done, invalid, byte, integer, say, raise, lifetime, next, sound, until_end, unit, opens, identifier}
-use Rattle.rustc_demangle.specs.Table.{is_among, row_of, path, path_rows, type_rows, constant_rows, variant_rows, after_tag, basic_types, text_of, constructed, constant, pattern_of, pattern_rows, variant, argument, typed, items, type_tagged, trait_path, list, says, string, braces, bound}
-use Rattle.rustc_demangle.specs.Reading.{Tree, nothing, piece, node, looked, invalid_syntax, too_deep, unread, Place, Outcome, Level, Surroundings, fault, behind, stands, followed_by, begun, run, turns, level_of, levels, nowhere, raised, resumed, peeked, forked, stands_at}
-use Rattle.rustc_demangle.specs.Grammar.{text, meaning, unit_of, table, found, beginning, path_productions, type_productions, constant_productions, variant_productions, basic_marks}
-use Rattle.rustc_demangle.specs.Begins.{Begun, free, paying, tagged, peeking, forking, starts_or, continues_or, begin, begin_at, begin_failed, begin_path, begin_type, begin_tagged, begin_constant, begin_pattern, begin_trait_path, begin_argument, begin_bound, begin_returns, begin_reference, begin_variant, basic_or, constructed_or, begin_constructed, constant_tag, pattern_tag, or_pattern, reference_constant}
+use Rattle.rustc_demangle.specs.Items.{Text, a_path, Items, child, done, invalid, byte, say, raise}
+use Rattle.rustc_demangle.specs.Table.{path, basic_types, text_of, constructed, constant, items, type_tagged, says}
+use Rattle.rustc_demangle.specs.Reading.{Tree, nothing, piece, looked, invalid_syntax, too_deep, unread, Outcome, Level, Surroundings, fault, behind, stands, run, level_of, levels, nowhere, raised, resumed, peeked, forked}
+use Rattle.rustc_demangle.specs.Grammar.{text, unit_of, found, path_productions, type_productions, constant_productions, basic_marks}
+use Rattle.rustc_demangle.specs.Begins.{Begun, free, tagged, peeking, forking, starts_or, begin_path, begin_type, begin_tagged, begin_constant, basic_or, constructed_or, begin_constructed, constant_tag}
 use Rattle.rustc_demangle.specs.Serving.{fresh}
-use Rattle.rustc_demangle.specs.Shares.{outcome, surroundings, entered}
-use Rattle.rustc_demangle.specs.declared.v0.grammar.Entry.{Entry}
+use Rattle.rustc_demangle.specs.Shares.{outcome, surroundings}
 use Rattle.rustc_demangle.specs.declared.v0.grammar.Entry.TheVariants as entry
 use Rattle.rustc_demangle.specs.declared.v0.grammar.Mark.{Mark}
 use Rattle.rustc_demangle.specs.declared.v0.grammar.Mark.TheVariants as mark
 use Rattle.rustc_demangle.specs.declared.v0.grammar.Production.{Production}
 use Rattle.rustc_demangle.specs.declared.v0.grammar.Production.TheVariants as production
-use Rattle.rustc_demangle.specs.declared.v0.grammar.Count.TheVariants.{Zero}
 use Rattle.rustc_demangle.specs.declared.v0.task.Setting.{Setting}
-use Rattle.rustc_demangle.specs.declared.v0.task.Progress.{Progress}
 use Rattle.rustc_demangle.specs.declared.v0.task.Task.TheVariants.{Enter, Rest}
 use Rattle.rustc_demangle.specs.declared.v0.units.Beginning.{Beginning}
 use Rattle.rustc_demangle.specs.declared.v0.units.Beginning.TheVariants.{Faulty, Basic, Splats, Starts, Continues}
-use Rattle.rustc_demangle.proofs.GrammarRows.{path_found, type_found, constant_found, variant_found, basic_found, says_more}
+use Rattle.rustc_demangle.proofs.GrammarRows.{path_found, type_found, constant_found, basic_found}
 
 abbrev pub stop_of : Mark → Tree
 stop_of mark.Invalid = invalid_syntax

@@ -1,6 +1,6 @@
 -- What the machine's steps hand over, as pieces and as stretches that an account pays.
 use Rattle.std.specs.Prelude.{map}
-use Rattle.std.proofs.Common.{◌≡◌, ℕ, ◌+◌, ◌≤◌, Bool, true, false, Option, Some, None, List, [], ◌∷◌, ◌++◌, refl, arith, sym, ap, ◌∙◌}
+use Rattle.std.proofs.Common.{◌≡◌, ℕ, ◌+◌, Bool, true, false, Option, Some, List, [], ◌∷◌, ◌++◌, refl, arith, ap, ◌∙◌}
 use Rattle.rustc_demangle.specs.Cost.{Stretch}
 use Rattle.rustc_demangle.specs.Cut.{size}
 use Rattle.rustc_demangle.specs.Items.{Text, a_path}
@@ -8,7 +8,7 @@ use Rattle.rustc_demangle.specs.Reading.{Tree, nothing, piece, plain_piece, node
 use Rattle.rustc_demangle.specs.Steps.{Takes}
 use Rattle.rustc_demangle.specs.Steps as steps
 use Rattle.rustc_demangle.specs.Begins.{total}
-use Rattle.rustc_demangle.specs.Events.{Event, shows, allows, said, said_all, allowed_all, events, shown_in, stretch_of, Heard, of, handing, allowing}
+use Rattle.rustc_demangle.specs.Events.{Event, shows, allows, said, said_all, allowed_all, events, shown_in, stretch_of, Heard}
 use Rattle.rustc_demangle.specs.Groups.{texts_of, looks_later}
 use Rattle.rustc_demangle.specs.Shares.{owed, share, outcome}
 use Rattle.rustc_demangle.specs.Running.{StepServes}

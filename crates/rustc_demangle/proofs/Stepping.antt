@@ -1,10 +1,10 @@
 -- A step of the machine serves what its row still reads.
-use Rattle.std.proofs.Common.{◌≡◌, ℕ, ◌+◌, ◌<◌, ◌≤◌, Bool, true, false, Option, Some, None, List, [], ◌∷◌, ◌++◌, length, refl, arith, sym, ap, ◌∙◌}
+use Rattle.std.proofs.Common.{◌≡◌, ℕ, ◌+◌, ◌≤◌, Bool, true, false, Option, List, [], ◌∷◌, ◌++◌, refl, arith, sym, ap, ◌∙◌}
 use Rattle.rustc_demangle.specs.Items.{Text}
 use Rattle.rustc_demangle.specs.Begins.{total}
-use Rattle.rustc_demangle.specs.Events.{Event, shows, allows, said_all, allowed_all, Heard, ended, allowing, handing}
+use Rattle.rustc_demangle.specs.Events.{Event, said_all, allowed_all, Heard, ended, allowing, handing}
 use Rattle.rustc_demangle.specs.Groups.{texts_of, looks_later}
-use Rattle.rustc_demangle.specs.Shares.{owed, pushed, measure, HasRoom, height, bound, most_bound}
+use Rattle.rustc_demangle.specs.Shares.{owed, pushed}
 use Rattle.rustc_demangle.specs.Serving.{Serves, LiesIn}
 use Rattle.rustc_demangle.specs.Running.{StepServes, printed, allowed_in}
 use Rattle.rustc_demangle.specs.declared.v0.stretch.Stretch.{Stretch}

@@ -1,6 +1,6 @@
 -- The machine's grammar is short, light and low.
 use Rattle.std.specs.Prelude.{◌&&◌, nat_le}
-use Rattle.std.proofs.Common.{◌≡◌, ℕ, zero, suc, ◌+◌, ◌≤◌, ◌<◌, Bool, true, false, List, [], ◌∷◌, length, drop, refl, arith, ap, subst, sym}
+use Rattle.std.proofs.Common.{◌≡◌, ℕ, zero, suc, ◌+◌, ◌≤◌, Bool, true, false, List, [], ◌∷◌, length, drop, refl, arith, ap, subst}
 use Rattle.std.proofs.lemmas.Bool.{leb-true}
 use Rattle.rustc_demangle.specs.Grammar.{table}
 use Rattle.rustc_demangle.specs.Measures.{rank_of, rank_of_item, weight_of_item, weight_of_items, weight_of_entry, binders_in, entry_of}

@@ -1,21 +1,18 @@
 -- What the steps do that enter a unit, follow a reference or name lifetimes.
-use Rattle.std.specs.Prelude.{nat_lt, nat_le, ◌==◌, ◌&&◌, ◌*◌, ◌^◌, ◌≤◌, codes}
+use Rattle.std.specs.Prelude.{◌*◌, ◌^◌, ◌≤◌, codes}
 use Rattle.std.proofs.Common.{◌≡◌, ℕ, zero, suc, ◌+◌, ◌-◌, ◌<◌, Bool, true, false, cond, Option, Some, None, List, [], ◌∷◌, ◌++◌, drop, length, inl, inr, refl, arith, sym, ap, ◌∙◌, sub-one, append_assoc, if◌then◌else◌}
 use Rattle.std.proofs.lemmas.Bool.{leb-true, ltb-true}
-use Prim.Native.Char.{code}
-use Rattle.rustc_demangle.specs.Digits.{is_byte}
 use Rattle.rustc_demangle.specs.Words.{OptInteger, Read, namespace_at, optional_at, backref_at, byte_at}
 use Rattle.rustc_demangle.specs.Items.{Text, Items}
-use Rattle.rustc_demangle.specs.Reading.{Tree, nothing, node, piece, Place, Outcome, Surroundings, fault, behind, stands, followed_by, begun, run, resumed, target_of, target_read, level_of, levels, binder_at, binder_of, new_lifetimes, letter_of, all_pieces, looked}
-use Rattle.rustc_demangle.specs.Grammar.{text, table, meaning, kind_of, placed, beginning}
+use Rattle.rustc_demangle.specs.Reading.{Tree, piece, Place, Outcome, fault, run, resumed, target_of, target_read, levels, binder_at, new_lifetimes, letter_of}
+use Rattle.rustc_demangle.specs.Grammar.{text, table, meaning, kind_of, placed}
 use Rattle.rustc_demangle.specs.Measures.{entry_of, weight_of_entry, weight_of_items, rank_of, rank_of_entry, binders_of_entry, binders_in, is_within}
-use Rattle.rustc_demangle.specs.Begins.{Begun, free, paying, tagged, peeking, forking, begin, begin_at, begin_failed, begin_path, total}
+use Rattle.rustc_demangle.specs.Begins.{Begun, paying, tagged, peeking, begin, begin_failed, begin_path, total}
 use Rattle.rustc_demangle.specs.Events.{Event, Heard, of, ended, and_then, allowing, handing, events, said, said_all, allows}
-use Rattle.rustc_demangle.specs.Groups.{texts_of}
 use Rattle.rustc_demangle.specs.Binders.{binder_texts, more_texts}
 use Rattle.rustc_demangle.specs.Serving.{fresh, splat}
-use Rattle.rustc_demangle.specs.Shares.{surroundings, entered, outcome, share, share_of, followed, moved, weight, height, bound}
-use Rattle.rustc_demangle.specs.Serving.{HeadIs, rest_of, placed_in, only, going, entering, Serves, Referred, referred, leads, refer}
+use Rattle.rustc_demangle.specs.Shares.{surroundings, outcome, share, share_of, followed, moved}
+use Rattle.rustc_demangle.specs.Serving.{HeadIs, rest_of, placed_in, only, going, entering, Serves, referred, leads, refer}
 use Rattle.rustc_demangle.specs.declared.v0.grammar.Named.{Named}
 use Rattle.rustc_demangle.specs.declared.v0.grammar.Named.TheVariants as named
 use Rattle.rustc_demangle.specs.declared.v0.grammar.Entry.{Entry}
@@ -26,7 +23,6 @@ use Rattle.rustc_demangle.specs.declared.v0.grammar.Item.TheVariants as item
 use Rattle.rustc_demangle.specs.declared.v0.grammar.Mark.{Mark}
 use Rattle.rustc_demangle.specs.declared.v0.grammar.Mark.TheVariants as mark
 use Rattle.rustc_demangle.specs.declared.v0.grammar.Count.TheVariants.{Zero}
-use Rattle.rustc_demangle.specs.declared.v0.stretch.Stretch.{Stretch}
 use Rattle.rustc_demangle.specs.declared.v0.stretch.Stretch.TheVariants.{Nothing, Fixed, Binder}
 use Rattle.rustc_demangle.specs.declared.v0.task.Setting.{Setting}
 use Rattle.rustc_demangle.specs.declared.v0.task.Progress.{Progress}
@@ -35,10 +31,10 @@ use Rattle.rustc_demangle.specs.declared.v0.units.Beginning.{Beginning}
 use Rattle.rustc_demangle.specs.declared.v0.units.Beginning.TheVariants.{Faulty, Basic, Splats, Starts, Continues}
 use Rattle.rustc_demangle.specs.declared.v0.reference.Reference.{Reference}
 use Rattle.rustc_demangle.specs.declared.v0.reference.Reference.TheVariants.{Faulty as Faults, Target}
-use Rattle.rustc_demangle.proofs.TableChecks.{rank_small, weight_small, binders_small, head_low, head_weight, head_binders, item_some, both_left, both_right}
+use Rattle.rustc_demangle.proofs.TableChecks.{rank_small, weight_small, binders_small, head_binders, both_left, both_right}
 use Rattle.rustc_demangle.proofs.Hearing.{height_some}
-use Rattle.rustc_demangle.proofs.GroupReads.{pieces_heard, says_all}
-use Rattle.rustc_demangle.proofs.Opening.{stop_of, begun_so, costed, so}
+use Rattle.rustc_demangle.proofs.GroupReads.{pieces_heard}
+use Rattle.rustc_demangle.proofs.Opening.{stop_of, begun_so, costed}
 use Rattle.rustc_demangle.proofs.Units.{unit_begins}
 use Rattle.rustc_demangle.proofs.Moves.{serves_only, serves_going}
 

@@ -1,16 +1,16 @@
 -- A pattern, a dyn trait path and what stands at its unit's own depth begin as their bytes say.
-use Rattle.std.specs.Prelude.{ℕ, zero, suc, codes, ◌||◌}
-use Rattle.std.proofs.Common.{◌≡◌, Bool, true, false, cond, List, [], ◌∷◌, length, Option, Some, None, refl, sym, ◌∙◌, ap, ◌+◌, ◌-◌, ◌*◌, subst, sub-one}
+use Rattle.std.specs.Prelude.{ℕ, zero, suc, codes}
+use Rattle.std.proofs.Common.{◌≡◌, Bool, true, false, cond, List, length, Option, Some, None, refl, sym, ◌∙◌, ap, ◌+◌, ◌-◌, ◌*◌, sub-one}
 use Prim.Native.Char.{code}
 use Rattle.rustc_demangle.specs.Digits.{is_byte}
 use Rattle.rustc_demangle.specs.Words.{Read, some_or, byte_at, integer_at}
-use Rattle.rustc_demangle.specs.Items.{Text, Kind, a_path, a_type, a_constant, a_pattern, a_trait_path, Items, child, done, invalid, say, say_plain, byte, namespace, integer, optional, identifier, nibbles, peek, next, sound, until_end, raise, unit, skip, target, lifetime, binder, opens, dyn_trait, bindings}
-use Rattle.rustc_demangle.specs.Table.{is_among, pattern_of, argument, typed, items, type_tagged, trait_path, list, says, string, braces, bound, variant}
-use Rattle.rustc_demangle.specs.Reading.{Tree, node, piece, looked, Place, Outcome, Level, Surroundings, fault, behind, stands, followed_by, begun, run, turns, level_of, levels, nowhere, raised, resumed, forked, stands_at, lifetime_at}
-use Rattle.rustc_demangle.specs.Grammar.{text, meaning, unit_of, table, found, beginning, variant_productions}
-use Rattle.rustc_demangle.specs.Begins.{Begun, free, paying, tagged, forking, continues_or, begin, begin_at, begin_failed, begin_pattern, begin_trait_path, begin_argument, begin_bound, begin_returns, begin_reference, begin_variant, pattern_tag, or_pattern, reference_constant}
+use Rattle.rustc_demangle.specs.Items.{a_path, a_type, a_constant, a_pattern, a_trait_path, Items, child, done, invalid, say, integer, next, sound, until_end, raise, unit, target, lifetime, opens}
+use Rattle.rustc_demangle.specs.Table.{is_among, pattern_of, argument, typed, type_tagged, list, says, string, braces, bound, variant}
+use Rattle.rustc_demangle.specs.Reading.{node, piece, looked, Place, Outcome, Level, Surroundings, behind, stands, followed_by, begun, run, turns, level_of, levels, nowhere, resumed, forked, stands_at, lifetime_at}
+use Rattle.rustc_demangle.specs.Grammar.{unit_of, found, beginning, variant_productions}
+use Rattle.rustc_demangle.specs.Begins.{free, tagged, forking, continues_or, begin, begin_failed, begin_pattern, begin_trait_path, begin_argument, begin_bound, begin_returns, begin_reference, begin_variant, pattern_tag, or_pattern, reference_constant}
 use Rattle.rustc_demangle.specs.Serving.{fresh}
-use Rattle.rustc_demangle.specs.Shares.{outcome, surroundings, entered}
+use Rattle.rustc_demangle.specs.Shares.{outcome, surroundings}
 use Rattle.rustc_demangle.specs.declared.v0.grammar.Entry.{Entry}
 use Rattle.rustc_demangle.specs.declared.v0.grammar.Entry.TheVariants as entry
 use Rattle.rustc_demangle.specs.declared.v0.grammar.Mark.TheVariants as mark
@@ -18,9 +18,9 @@ use Rattle.rustc_demangle.specs.declared.v0.grammar.Production.{Production}
 use Rattle.rustc_demangle.specs.declared.v0.grammar.Production.TheVariants as production
 use Rattle.rustc_demangle.specs.declared.v0.task.Setting.{Setting}
 use Rattle.rustc_demangle.specs.declared.v0.task.Task.TheVariants.{Enter, Rest}
-use Rattle.rustc_demangle.specs.declared.v0.units.Beginning.TheVariants.{Faulty, Starts, Continues}
+use Rattle.rustc_demangle.specs.declared.v0.units.Beginning.TheVariants.{Faulty, Continues}
 use Rattle.rustc_demangle.proofs.GrammarRows.{variant_found, says_more}
-use Rattle.rustc_demangle.proofs.Opening.{stop_of, begun_so, costed, so, paid, inner, path_begins, constant_begins, tagged_begins, type_begins, tagged_here}
+use Rattle.rustc_demangle.proofs.Opening.{begun_so, so, paid, inner, path_begins, constant_begins, tagged_begins, type_begins, tagged_here}
 
 -- items whose own units are paths, types and constants
 abbrev Shallow : Items → Type 0

@@ -1,10 +1,10 @@
 -- How the units of a v0 symbol begin, and the looks that are allowed for it.
-use Rattle.std.specs.Prelude.{◌≡◌, ℕ, zero, suc, ◌+◌, ◌-◌, ◌*◌, ◌≤◌, ◌<◌, codes, Bool, true, false, if◌then◌else◌, Option, Some, None, List, [], ◌∷◌, length, slice_get}
+use Rattle.std.specs.Prelude.{◌≡◌, ℕ, zero, suc, ◌+◌, ◌-◌, ◌*◌, ◌<◌, codes, Bool, true, false, if◌then◌else◌, Option, Some, None, List, [], ◌∷◌, length, slice_get}
 use Prim.Native.Char.{code}
 use Rattle.rustc_demangle.specs.Digits.{is_byte}
 use Rattle.rustc_demangle.specs.Words.{Read, byte_at}
 use Rattle.rustc_demangle.specs.Table.{is_among}
-use Rattle.rustc_demangle.specs.Grammar.{found, table, path_productions, type_productions, constant_productions, variant_productions, basic_marks}
+use Rattle.rustc_demangle.specs.Grammar.{found, path_productions, type_productions, constant_productions, variant_productions, basic_marks}
 use Rattle.rustc_demangle.specs.Measures.{is_within}
 use Rattle.rustc_demangle.specs.declared.v0.grammar.Entry.{Entry}
 use Rattle.rustc_demangle.specs.declared.v0.grammar.Entry.TheVariants as entry

@@ -1,5 +1,5 @@
 -- What the first-order items of the machine's grammar mean, as items of the table of productions.
-use Rattle.std.specs.Prelude.{ℕ, Bool, true, false, if◌then◌else◌, ◌==◌, ◌||◌, Option, Some, None, List, [], ◌∷◌, ◌++◌, codes, decimal}
+use Rattle.std.specs.Prelude.{ℕ, Bool, true, false, if◌then◌else◌, ◌==◌, Option, Some, None, List, [], ◌∷◌, codes, decimal}
 use Rattle.std.specs.Fmt.{digits}
 use Prim.Native.Char.{code}
 use Prim.Native.String.{String}
@@ -7,8 +7,8 @@ use Rattle.rustc_demangle.specs.Words.{Name, some_or}
 use Rattle.rustc_demangle.specs.Names.{is_empty, is_nameless}
 use Rattle.rustc_demangle.specs.Words.{is_upper, number_of}
 use Rattle.rustc_demangle.specs.Literals.{literal, string_of}
-use Rattle.rustc_demangle.specs.Items.{Text, Kind, a_path, a_type, a_constant, a_pattern, a_trait_path, Items, done, invalid, say, say_plain, byte, namespace, integer, identifier, nibbles, next, sound, until_end, unit, child, skip, target, lifetime, opens, dyn_trait, bindings}
-use Rattle.rustc_demangle.specs.Table.{is_among, says, says_if, say_all, says_name, at_end, more, list, tuple, typed, constant_inside, disambiguator, argument, in_binder, extern, bound, field, string, variant, braces, type_tagged, text_of, basic_types, number_pieces, truth, character}
+use Rattle.rustc_demangle.specs.Items.{Text, Kind, a_path, a_type, a_constant, a_pattern, a_trait_path, Items, done, invalid, say, say_plain, byte, namespace, integer, identifier, nibbles, next, sound, unit, child, skip, target, lifetime, opens, dyn_trait, bindings}
+use Rattle.rustc_demangle.specs.Table.{is_among, says, says_if, say_all, says_name, at_end, more, list, tuple, typed, disambiguator, argument, in_binder, extern, bound, field, string, variant, braces, type_tagged, text_of, basic_types, number_pieces}
 use Rattle.rustc_demangle.specs.declared.v0.grammar.Named.{Named}
 use Rattle.rustc_demangle.specs.declared.v0.grammar.Named.TheVariants as named
 use Rattle.rustc_demangle.specs.declared.v0.grammar.Entry.{Entry}
@@ -26,7 +26,7 @@ use Rattle.rustc_demangle.specs.declared.v0.grammar.Item.TheVariants as item
 use Rattle.rustc_demangle.specs.declared.v0.grammar.Production.{Production}
 use Rattle.rustc_demangle.specs.declared.v0.grammar.Production.TheVariants as production
 use Rattle.rustc_demangle.specs.declared.v0.grammar.Count.{Count}
-use Rattle.rustc_demangle.specs.declared.v0.grammar.Count.TheVariants.{Zero, One, More, Told}
+use Rattle.rustc_demangle.specs.declared.v0.grammar.Count.TheVariants.{Zero, One}
 
 abbrev pub text : Mark → Text
 text mark.Invalid = codes "{invalid syntax}"

@@ -1,5 +1,5 @@
 -- How much the machine's tasks have still to do, how high they may stand, and how many binders they may meet.
-use Rattle.std.specs.Prelude.{ℕ, ◌+◌, Bool, true, false, ◌&&◌, nat_le, nat_lt, List, [], ◌∷◌}
+use Rattle.std.specs.Prelude.{ℕ, ◌+◌, Bool, ◌&&◌, nat_le, nat_lt, List, [], ◌∷◌}
 use Rattle.rustc_demangle.specs.Grammar.{table}
 use Rattle.rustc_demangle.specs.declared.v0.grammar.Named.{Named}
 use Rattle.rustc_demangle.specs.declared.v0.grammar.Named.TheVariants as named

@@ -1,18 +1,16 @@
 -- What the machine's tasks stand for: the stretches still to come.
-use Rattle.std.specs.Prelude.{◌≡◌, ℕ, ◌+◌, ◌-◌, ◌*◌, ◌^◌, ◌≤◌, Bool, true, false, if◌then◌else◌, nat_lt, Option, Some, None, List, [], ◌∷◌, ◌++◌, drop, length}
+use Rattle.std.specs.Prelude.{ℕ, ◌+◌, ◌-◌, ◌*◌, ◌^◌, ◌≤◌, Bool, true, false, if◌then◌else◌, nat_lt, Option, Some, None, List, [], ◌∷◌, ◌++◌, drop, length}
 use Rattle.std.proofs.Props.{props}
-use Rattle.rustc_demangle.specs.Items.{Kind, a_path, a_type, a_constant, a_pattern, a_trait_path}
+use Rattle.rustc_demangle.specs.Items.{a_path, a_type, a_constant, a_pattern, a_trait_path}
 use Rattle.rustc_demangle.specs.Reading.{nothing, Outcome, Place, Surroundings, run, begun, level_of, levels}
 use Rattle.rustc_demangle.specs.Grammar.{table, meaning, beginning}
 use Rattle.rustc_demangle.specs.Measures.{weight_of_entry, weight_of_items, rank_of_entry, rank_of, binders_of_entry, binders_in}
-use Rattle.rustc_demangle.specs.Events.{Event, Heard, of, ended, and_then, handing}
+use Rattle.rustc_demangle.specs.Events.{Heard, of, ended, and_then, handing}
 use Rattle.rustc_demangle.specs.Groups.{texts_of}
 use Rattle.rustc_demangle.specs.declared.v0.grammar.Entry.{Entry}
 use Rattle.rustc_demangle.specs.declared.v0.grammar.Entry.TheVariants as entry
 use Rattle.rustc_demangle.specs.declared.v0.grammar.Count.{Count}
-use Rattle.rustc_demangle.specs.declared.v0.grammar.Count.TheVariants.{Zero, One, More, Told}
-use Rattle.rustc_demangle.specs.declared.v0.stretch.Stretch.{Stretch}
-use Rattle.rustc_demangle.specs.declared.v0.stretch.Stretch.TheVariants.{Nothing}
+use Rattle.rustc_demangle.specs.declared.v0.grammar.Count.TheVariants.{Told}
 use Rattle.rustc_demangle.specs.declared.v0.task.Setting.{Setting}
 use Rattle.rustc_demangle.specs.declared.v0.task.Progress.{Progress}
 use Rattle.rustc_demangle.specs.declared.v0.task.Task.{Task}

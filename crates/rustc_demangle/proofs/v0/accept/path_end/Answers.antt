@@ -1,4 +1,4 @@
-use Rattle.std.proofs.Common.{◌≡◌, ◌∙◌, sym, ap, arith, true, false}
+use Rattle.std.proofs.Common.{◌∙◌, sym, ap, arith, true}
 use Rattle.rustc_demangle.specs.Events.{Heard}
 use Rattle.rustc_demangle.specs.Running.{allowed_in}
 use Rattle.rustc_demangle.proofs.Accepts.{path_share, path_place, path_looks}

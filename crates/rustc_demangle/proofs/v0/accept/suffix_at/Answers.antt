@@ -1,4 +1,4 @@
-use Rattle.std.proofs.Common.{◌≡◌, ◌∙◌, sym, ap, arith, true, false}
+use Rattle.std.proofs.Common.{◌∙◌, sym, ap, arith}
 use Rattle.rustc_demangle.specs.Accepting.{suffix_looks}
 use Rattle.rustc_demangle.proofs.Accepts.{suffix_none, suffix_one, suffix_two}
 use Rattle.rustc_demangle.proofs.v0.accept.suffix_at.Goals as goal

@@ -1,4 +1,4 @@
-use Rattle.std.proofs.Common.{◌≡◌, ◌∙◌, sym, ap, arith}
+use Rattle.std.proofs.Common.{◌∙◌, sym, ap, arith}
 use Rattle.rustc_demangle.specs.Events.{Heard}
 use Rattle.rustc_demangle.proofs.Stepping.{step_allowed, step_place, none_left}
 use Rattle.rustc_demangle.proofs.v0.machine.read_all.Goals as goal

@@ -1,4 +1,4 @@
-use Rattle.std.proofs.Common.{◌≡◌, ◌∙◌, refl, sym, arith, Bool, true, false}
+use Rattle.std.proofs.Common.{◌≡◌, ◌∙◌, refl, sym, arith, true, false}
 use Rattle.rustc_demangle.specs.Digits.{is_byte}
 use Rattle.rustc_demangle.proofs.BindingMoves.{binding_failed, binding_over, binding_on}
 use Rattle.rustc_demangle.proofs.v0.perform.go_binding.Goals as goal

@@ -1,7 +1,5 @@
 use Rattle.std.proofs.Common.{Some, false}
 use Rattle.rustc_demangle.proofs.Hearing.{has_room_one, owed_one}
-use Rattle.std.proofs.Common.{ap, ◌∙◌}
-use Rattle.rustc_demangle.specs.Shares.{owed}
 use Rattle.rustc_demangle.proofs.v0.machine.Machine.new.Goals as goal
 
 pub invariant_of-result : goal.invariant_of-result
