@@ -14,6 +14,7 @@ mod punycode;
 pub mod sink;
 mod stream;
 mod strip;
+mod v0;
 mod value;
 
 pub use cursor::Looks;

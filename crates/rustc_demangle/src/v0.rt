@@ -1,0 +1,10 @@
+//! v0 symbols.
+mod accept;
+mod grammar;
+mod machine;
+mod perform;
+mod reference;
+mod stretch;
+mod task;
+mod units;
+mod words;
