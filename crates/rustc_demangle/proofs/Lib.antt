@@ -7,13 +7,10 @@ pub mod Counts
 pub mod CutLemmas
 pub mod Deltas
 pub mod Digits
-<<<<<<< HEAD
+pub mod Escaping
 pub mod Failed
 pub mod GrammarRows
 pub mod GroupReads
-=======
-pub mod Escaping
->>>>>>> words
 pub mod HandsLemmas
 pub mod Hearing
 pub mod Hex
@@ -23,25 +20,21 @@ pub mod Integers
 pub mod LooksLaw
 pub mod Moves
 pub mod NamePieces
-<<<<<<< HEAD
+pub mod Nibbles
 pub mod Opening
 pub mod Paid
-=======
-pub mod Nibbles
->>>>>>> words
 pub mod Parts
 pub mod PaysRules
+pub mod Printed
 pub mod PrintsLemmas
 pub mod PrintsPieces
-<<<<<<< HEAD
 pub mod Rules
 pub mod Spelled
 pub mod StepsPaid
+pub mod StretchTexts
+pub mod StringPieces
 pub mod TableChecks
 pub mod TableCost
 pub mod Turns
 pub mod Unique
 pub mod Units
-=======
-pub mod StringPieces
->>>>>>> words

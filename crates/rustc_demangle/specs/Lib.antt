@@ -5,13 +5,10 @@ pub mod Binders
 pub mod Cost
 pub mod Cut
 pub mod Digits
-<<<<<<< HEAD
+pub mod Escapes
 pub mod Events
 pub mod Grammar
 pub mod Groups
-=======
-pub mod Escapes
->>>>>>> words
 pub mod Hands
 pub mod Idents
 pub mod Items
@@ -26,6 +23,7 @@ pub mod Shares
 pub mod Sink
 pub mod Spelling
 pub mod Steps
+pub mod Stretches
 pub mod Table
 pub mod Tally
 pub mod V0

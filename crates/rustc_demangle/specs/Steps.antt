@@ -1,10 +1,12 @@
 -- One step of a task.
-use Rattle.std.specs.Prelude.{◌≡◌, ℕ, zero, suc, ◌+◌, ◌-◌, ◌*◌, ◌≤◌, ◌<◌, Bool, true, false, if◌then◌else◌, Option, Some, None, List, [], ◌∷◌, drop, length}
+use Rattle.std.specs.Prelude.{◌≡◌, ℕ, zero, suc, ◌+◌, ◌-◌, ◌*◌, ◌^◌, ◌≤◌, ◌<◌, IsSome, Bool, true, false, if◌then◌else◌, Option, Some, None, List, [], ◌∷◌, drop, length}
 use Prim.Native.Char.{code}
 use Rattle.rustc_demangle.specs.Digits.{is_byte}
 use Rattle.rustc_demangle.specs.Words.{Read, backref_at}
 use Rattle.rustc_demangle.specs.Idents.{LiesWithin}
 use Rattle.rustc_demangle.specs.Items.{bindings}
+use Rattle.rustc_demangle.specs.Literals.{string_of}
+use Rattle.rustc_demangle.specs.Nibbles.{HexPart, nibbles_in}
 use Rattle.rustc_demangle.specs.Table.{bound as bound_items}
 use Rattle.rustc_demangle.specs.Reading.{Place, run}
 use Rattle.rustc_demangle.specs.Grammar.{table, placed, element_value}
@@ -24,7 +26,7 @@ use Rattle.rustc_demangle.specs.declared.v0.grammar.Mark.TheVariants as mark
 use Rattle.rustc_demangle.specs.declared.v0.stretch.Abi.{Abi}
 use Rattle.rustc_demangle.specs.declared.v0.stretch.Abi.TheVariants as abi
 use Rattle.rustc_demangle.specs.declared.v0.stretch.Stretch.{Stretch}
-use Rattle.rustc_demangle.specs.declared.v0.stretch.Stretch.TheVariants.{Nothing, Fixed, CrateName, FieldName, NestedName, FunctionHead, Number, Literal, Binding}
+use Rattle.rustc_demangle.specs.declared.v0.stretch.Stretch.TheVariants.{Nothing, Fixed, CrateName, FieldName, NestedName, FunctionHead, Number, Literal, Binder, Binding}
 use Rattle.rustc_demangle.specs.declared.v0.task.Setting.{Setting}
 use Rattle.rustc_demangle.specs.declared.v0.task.Progress.{Progress}
 use Rattle.rustc_demangle.specs.declared.v0.task.Task.{Task}
@@ -119,14 +121,20 @@ abbrev pub AbiIn : List ℕ → Abi → Type 0
 AbiIn b (abi.Named part) = PartIn b part
 AbiIn b _ = Unit {0}
 
--- the parts of the stretch are parts of the symbol
+-- the nibbles of a hex word, which spell a text
+abbrev pub TextIn : List ℕ → Part → Type 0
+TextIn b part = HexPart b part × IsSome (string_of (nibbles_in b part))
+
+-- the parts of the stretch are parts of the symbol, those of a literal spell a text, and the number of each lifetime of a
+-- binder has 128 bits
 abbrev pub LiesIn : List ℕ → Stretch → Type 0
 LiesIn b (CrateName a d) = LiesWithin b a
 LiesIn b (FieldName a) = LiesWithin b a
 LiesIn b (NestedName n d a) = LiesWithin b a
 LiesIn b (FunctionHead unsafe a) = AbiIn b a
 LiesIn b (Number n part tag) = PartIn b part
-LiesIn b (Literal part) = PartIn b part
+LiesIn b (Literal part) = TextIn b part
+LiesIn b (Binder n m) = n + m < 2 ^ 128
 LiesIn b (Binding o a) = LiesWithin b a
 LiesIn b _ = Unit {0}
 

@@ -11,7 +11,7 @@ mod write_sink;
 pub use array_sink::ArraySink;
 pub(crate) use chars::{put_char, put_chars};
 pub(crate) use fmt_sink::FmtSink;
-pub(crate) use limit::SizeLimitedFmtAdapter;
+pub(crate) use limit::{SizeLimitedFmtAdapter, put_each};
 pub use write_sink::WriteSink;
 
 /// A sink took no piece.

@@ -1,6 +1,7 @@
 //! v0 symbols.
 mod grammar;
 mod reference;
+mod render;
 mod stretch;
 mod task;
 mod units;
