@@ -1,10 +1,9 @@
 -- The texts of binders, ABIs, names and numbers, in the order in which they are printed.
-use Rattle.std.proofs.Common.{◌≡◌, ℕ, zero, suc, ◌+◌, ◌-◌, ◌/◌, ◌%◌, ◌^◌, ◌<◌, ◌≤◌, Bool, true, false, cond, eqb, List, [], ◌∷◌, ◌++◌, length, take, get_or, Option, Some, None, refl, sym, ap, ◌∙◌, arith}
-use Rattle.std.specs.Prelude.{◌&&◌, IsSome, codes, nat_lt, encode_utf8}
+use Rattle.std.proofs.Common.{◌≡◌, ℕ, zero, suc, ◌+◌, ◌-◌, ◌/◌, ◌%◌, ◌<◌, ◌≤◌, Bool, true, false, cond, eqb, List, [], ◌∷◌, ◌++◌, length, take, get_or, refl, sym, ap, ◌∙◌, arith}
+use Rattle.std.specs.Prelude.{◌&&◌, codes, nat_lt, encode_utf8}
 use Rattle.std.specs.List.{slice_range}
 use Rattle.std.specs.Str.{IsAscii}
 use Rattle.std.specs.Fmt.{digits, digits_onto, digit_glyph}
-use Rattle.std.proofs.lemmas.Bool.{false≢true}
 use Rattle.std.proofs.lemmas.Bool.Decides.{nat_tests}
 use Rattle.std.proofs.lemmas.Grind.{get_or_default_zero}
 use Rattle.std.proofs.lemmas.List.{take_more, length-take-le}
@@ -13,15 +12,12 @@ use Rattle.std.proofs.lemmas.Option.{slice_get-get_or}
 use Rattle.std.proofs.lemmas.Str.{encode_ascii}
 use Rattle.std.proofs.lemmas.Str.Ascii.{IsAscii-cons, IsAscii-nil}
 use Rattle.rustc_demangle.specs.Digits.{is_byte, option_is}
-use Rattle.rustc_demangle.specs.Words.{Name, some_or}
+use Rattle.rustc_demangle.specs.Words.{Name}
 use Rattle.rustc_demangle.specs.Names.{is_empty, is_nameless, name_pieces}
-use Rattle.rustc_demangle.specs.Stretches.{abi_looks, head_texts, name_behind}
-use Rattle.rustc_demangle.specs.Literals.{literal}
+use Rattle.rustc_demangle.specs.Stretches.{head_texts, name_behind}
 use Rattle.rustc_demangle.specs.declared.v0.stretch.Abi.{Abi}
-use Rattle.rustc_demangle.specs.declared.v0.stretch.Abi.TheVariants.{Rust, C, Named}
-use Rattle.rustc_demangle.specs.declared.v0.stretch.Stretch.TheVariants.{FunctionHead}
 use Rattle.rustc_demangle.specs.Binders.{binder_texts, more_texts}
-use Rattle.rustc_demangle.specs.Groups.{abi_texts, if_plain, looks_later}
+use Rattle.rustc_demangle.specs.Groups.{abi_texts, if_plain}
 use Rattle.rustc_demangle.specs.Reading.{letter_of}
 use Rattle.rustc_demangle.specs.Table.{hyphenated}
 use Rattle.rustc_demangle.proofs.Parts.{part_first}
@@ -72,20 +68,7 @@ hyphen_on s from at to le lt inside e =
 pub hyphen_end : (s : List ℕ) (from at to : ℕ) → at ≡ to → hyphenated (slice_range s from at) (slice_range s at to) ≡ slice_range s from to ∷ []
 hyphen_end s from at to e = rw (e, between_none s to) refl
 
-abbrev no_texts : List (List ℕ)
-no_texts = []
-
--- a disambiguator
-pub brackets_none : (d : ℕ) → d ≡ 0 → (plain : Bool) → cond (eqb d 0) [] (if_plain plain (codes "[" ∷ digits 16 false d ∷ codes "]" ∷ [])) ≡ []
-brackets_none d e plain = rw e refl
-
-pub brackets_alt : (d : ℕ) (plain : Bool) → plain ≡ false → cond (eqb d 0) [] (if_plain plain (codes "[" ∷ digits 16 false d ∷ codes "]" ∷ [])) ≡ []
-brackets_alt d plain e = rw e (go (eqb d 0))
-  where
-    go : (c : Bool) → cond c no_texts no_texts ≡ no_texts
-    go true = refl
-    go false = refl
-
+-- a disambiguator in brackets
 pub brackets_some : (d : ℕ) (plain : Bool) → 0 < d → plain ≡ true → cond (eqb d 0) [] (if_plain plain (codes "[" ∷ digits 16 false d ∷ codes "]" ∷ [])) ≡ codes "[" ∷ digits 16 false d ∷ codes "]" ∷ []
 brackets_some d plain h e = let t : eqb d 0 ≡ false = grind (arith, nat_tests) in rw (t, e) refl
 
@@ -138,25 +121,9 @@ name_left (x ∷ xs) ys h = absurd (omega arith)
 
 pub ruleset name_steps = (name_there, name_left)
 
-pub behind_none : (before : List ℕ) (a : Name) → is_nameless a ≡ true → name_behind before a ≡ []
-behind_none before a e = rw e refl
-
 pub behind_some : (before : List ℕ) (a : Name) → is_nameless a ≡ false → name_behind before a ≡ before ∷ name_pieces a
 behind_some before a e = rw e refl
 
--- a function that is safe, and one that is not
-pub head_safe : (b : List ℕ) (unsafe : Bool) (a : Abi) → unsafe ≡ false → head_texts b unsafe a ≡ abi_texts b a
-head_safe b unsafe a e = rw e refl
-
+-- a function that is not safe
 pub head_unsafe : (b : List ℕ) (unsafe : Bool) (a : Abi) → unsafe ≡ true → head_texts b unsafe a ≡ codes "unsafe " ∷ abi_texts b a
 head_unsafe b unsafe a e = rw e refl
-
-pub head_looks : (unsafe : Bool) (a : Abi) → looks_later (FunctionHead unsafe a) ≡ abi_looks a
-head_looks unsafe Rust = refl
-head_looks unsafe C = refl
-head_looks unsafe (Named part) = refl
-
--- a literal of nibbles that spell a text
-pub literal_some : (o : Option (List ℕ)) (quote : ℕ) → IsSome o → some_or [] o (literal quote) ≡ literal quote (some_or [] o (λ cs. cs))
-literal_some None quote h = absurd (false≢true h)
-literal_some (Some cs) quote h = refl

@@ -1,5 +1,5 @@
 //! Names, with what stands round them.
-ghost use Rattle.std.specs.Prelude.{◌≡◌, ◌+◌, ◌<◌, ◌≤◌, [], ◌∷◌, ◌++◌, IsAscii, codes};
+ghost use Rattle.std.specs.Prelude.{◌≡◌, ◌+◌, ◌<◌, ◌≤◌, [], ◌∷◌, ◌++◌, IsAscii, codes, decimal};
 ghost use Rattle.rustc_demangle.specs.Groups.{nested_texts, special_texts};
 ghost use Rattle.rustc_demangle.specs.Idents.{LiesWithin, name_in, name_size};
 ghost use Rattle.rustc_demangle.specs.Limit.{Prints, Ready};
@@ -7,9 +7,8 @@ ghost use Rattle.rustc_demangle.specs.Names.{is_nameless, name_pieces};
 ghost use Rattle.rustc_demangle.specs.Stretches.{crate_texts, kind_text, name_behind, disambiguator_texts};
 
 use crate::cursor::{Ident, Looks, Symbol};
-use crate::sink::{SinkRefused, SizeLimitedFmtAdapter, TextSink, put_char, put_each};
-use crate::v0::render::numbers::put_hexadecimal;
-use itoa::Buffer;
+use crate::sink::{SinkRefused, SizeLimitedFmtAdapter, TextSink, put_char};
+use crate::v0::render::numbers;
 
 #[tactic(auto, using(crate::proofs::PrintsLemmas::prints_ready, crate::proofs::PrintsLemmas::prints_nothing))]
 /// Puts a disambiguator in brackets, in the plain form alone and where it is not 0.
@@ -28,7 +27,7 @@ fn put_disambiguator<S: TextSink>(
         return Ok(());
     }
     out.put("[")?;
-    put_hexadecimal(number, out)?;
+    numbers::put_hexadecimal(number, out)?;
     out.put("]")
 }
 
@@ -105,6 +104,31 @@ fn put_kind<S: TextSink>(
     }
 }
 
+/// Puts the disambiguator of a special name, in decimal digits.
+fn put_index<S: TextSink>(
+    number: u64,
+    out: &mut SizeLimitedFmtAdapter<'_, S>,
+) -> Result<(), SinkRefused>
+    requires { Ready S.TextSink out.old }
+    ensures { Prints S.TextSink out.old (decimal number ∷ []) result out.new }
+{
+    numbers::put_decimal(number as u128, out)
+}
+
+#[tactic(auto, using(crate::proofs::PrintsLemmas::prints_ready))]
+/// Puts what a special name ends in.
+fn put_ending<S: TextSink>(
+    number: u64,
+    out: &mut SizeLimitedFmtAdapter<'_, S>,
+) -> Result<(), SinkRefused>
+    requires { Ready S.TextSink out.old }
+    ensures { Prints S.TextSink out.old (codes "#" ∷ decimal number ∷ codes "}" ∷ []) result out.new }
+{
+    out.put("#")?;
+    put_index(number, out)?;
+    out.put("}")
+}
+
 #[tactic(auto, using(crate::proofs::PrintsLemmas::prints_ready))]
 /// Puts a name in a special namespace, and its disambiguator.
 fn put_special_name<S: TextSink>(
@@ -126,8 +150,7 @@ fn put_special_name<S: TextSink>(
     out.put("::{")?;
     put_kind(namespace, out)?;
     put_name_behind(":", symbol, name, out, looks)?;
-    let mut buffer = Buffer::new();
-    put_each(&["#", buffer.format(number), "}"], out)
+    put_ending(number, out)
 }
 
 /// Puts a name in a namespace: special where its letter is `A` to `Z`.

@@ -55,7 +55,7 @@ fn put_nibbles<S: TextSink>(
 }
 
 /// Puts a number in decimal digits, as one piece.
-fn put_decimal<S: TextSink>(
+pub(super) fn put_decimal<S: TextSink>(
     number: u128,
     out: &mut SizeLimitedFmtAdapter<'_, S>,
 ) -> Result<(), SinkRefused>

@@ -1,4 +1,4 @@
-use Rattle.std.proofs.Common.{◌≡◌, [], ◌∷◌, ◌+◌, sym, arith, slice_range}
+use Rattle.std.proofs.Common.{[], ◌∷◌, ◌+◌, sym, arith, slice_range}
 use Rattle.std.specs.Prelude.{codes}
 use Rattle.rustc_demangle.proofs.Printed.{printed_start, printed_left, printed_then, printed_stop, printed_last}
 use Rattle.rustc_demangle.proofs.StretchTexts.{hyphen_start, hyphen_turn, hyphen_on, hyphen_end}
@@ -27,21 +27,21 @@ loop-at-preserved g c =
     let to = c.args.name.to in
     elim c.if-is_at.branch [
       | then-is_at+in_ok-put_hyphened w ↦
-        let turn = hyphen_turn s l.from l.at to (omega arith) c.requires.part.1 (sym w.if-is_at.ensures.there) in
-        record {
-          begun = omega (arith, w.from-is, l.invariant.begun, l.invariant.order);
-          order = omega (arith, w.from-is);
-          printed = rw (w.from-is, w.out-is) (printed_then g.S.TextSink _ _ _ _ _ (slice_range s l.from l.at ∷ codes "-" ∷ []) _ l.invariant.printed turn w.in_ok-put_hyphened.ensures);
-          looked = omega (arith, c.is_at.ensures.look, l.invariant.looked);
-        }
+          let turn = hyphen_turn s l.from l.at to (omega arith) c.requires.part.1 (sym w.if-is_at.ensures.there) in
+          record {
+            begun = omega (arith, w.from-is, l.invariant.begun, l.invariant.order);
+            order = omega (arith, w.from-is);
+            printed = rw (w.from-is, w.out-is) (printed_then g.S.TextSink _ _ _ _ _ (slice_range s l.from l.at ∷ codes "-" ∷ []) _ l.invariant.printed turn w.in_ok-put_hyphened.ensures);
+            looked = omega (arith, c.is_at.ensures.look, l.invariant.looked);
+          }
       | else-is_at w ↦
-        let on = hyphen_on s l.from l.at to l.invariant.order (omega arith) c.requires.part.1 (sym w.if-is_at.ensures.there) in
-        record {
-          begun = omega (arith, w.from-is, l.invariant.begun);
-          order = omega (arith, w.from-is, l.invariant.order);
-          printed = rw (w.from-is, w.out-is) (printed_left g.S.TextSink _ _ _ _ _ l.invariant.printed on);
-          looked = omega (arith, c.is_at.ensures.look, l.invariant.looked);
-        }
+          let on = hyphen_on s l.from l.at to l.invariant.order (omega arith) c.requires.part.1 (sym w.if-is_at.ensures.there) in
+          record {
+            begun = omega (arith, w.from-is, l.invariant.begun);
+            order = omega (arith, w.from-is, l.invariant.order);
+            printed = rw (w.from-is, w.out-is) (printed_left g.S.TextSink _ _ _ _ _ l.invariant.printed on);
+            looked = omega (arith, c.is_at.ensures.look, l.invariant.looked);
+          }
     ]
 
 pub returns-clause-prints : goal.returns-clause-prints

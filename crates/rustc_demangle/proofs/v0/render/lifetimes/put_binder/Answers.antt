@@ -1,4 +1,4 @@
-use Rattle.std.proofs.Common.{◌≡◌, suc, ◌+◌, ◌-◌, ◌∷◌, refl, arith}
+use Rattle.std.proofs.Common.{◌+◌, ◌-◌, ◌∷◌, refl, arith}
 use Rattle.std.specs.Prelude.{codes}
 use Rattle.rustc_demangle.specs.Reading.{letter_of}
 use Rattle.rustc_demangle.specs.Binders.{binder_texts}

@@ -1,7 +1,6 @@
 use Rattle.std.proofs.Common.{refl, arith}
-use Rattle.rustc_demangle.proofs.PrintsLemmas.{prints_nothing}
 use Rattle.rustc_demangle.proofs.PrintsPieces.{piece_then, piece_stop}
-use Rattle.rustc_demangle.proofs.StretchTexts.{brackets_none, brackets_alt, brackets_some}
+use Rattle.rustc_demangle.proofs.StretchTexts.{brackets_some}
 use Rattle.rustc_demangle.proofs.v0.render.names.put_disambiguator.Goals as goal
 
 pub returns-in_err-put : goal.returns-in_err-put

@@ -21,4 +21,4 @@ pub returns-clause-prints : goal.returns-clause-prints
 returns-clause-prints g c =
     piece_then g.S.TextSink _ _ _ _ _ _ _ c.in_ok-put.ensures refl
     (piece_then g.S.TextSink _ _ _ _ _ _ _ c.in_ok-put_kind.ensures refl
-    (prints_then g.S.TextSink _ _ _ _ _ _ _ c.in_ok-put_name_behind.ensures.prints refl (rw c.format.ensures.text at c.put_each.ensures)))
+    (prints_then g.S.TextSink _ _ _ _ _ _ _ c.in_ok-put_name_behind.ensures.prints refl c.put_ending.ensures))
