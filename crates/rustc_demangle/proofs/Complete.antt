@@ -211,14 +211,14 @@ Begins r (opens p) = Begins r p
 Begins r (dyn_trait p) = (1 < r) × Begins r p
 Begins r (bindings o p) = Begins r p
 
-rank_below : (kind : Kind) → rank kind < 2
+pub rank_below : (kind : Kind) → rank kind < 2
 rank_below a_path = omega arith
 rank_below a_type = omega arith
 rank_below a_constant = omega arith
 rank_below a_pattern = omega arith
 rank_below a_trait_path = omega arith
 
-all_begin : (p : Items) → Begins 2 p
+pub all_begin : (p : Items) → Begins 2 p
 all_begin done = tt
 all_begin invalid = tt
 all_begin (say t p) = all_begin p
@@ -244,14 +244,14 @@ all_begin (opens p) = all_begin p
 all_begin (dyn_trait p) = (omega arith, all_begin p)
 all_begin (bindings o p) = all_begin p
 
-abbrev IsRead : List ℕ → Bool → ℕ → ℕ → Items → (ℕ → Outcome) → Type 0
+abbrev pub IsRead : List ℕ → Bool → ℕ → ℕ → Items → (ℕ → Outcome) → Type 0
 IsRead symbol c d m p f = (i j : ℕ) → i ≤ length symbol → Spells symbol (rule c) d m p i j → (f i).place ≡ Some j
 
 -- units of a rank below r are read
-abbrev ReadAt : ℕ → List ℕ → ℕ → Level → Type 0
+abbrev pub ReadAt : ℕ → List ℕ → ℕ → Level → Type 0
 ReadAt r symbol d l = (c : Bool) (kind : Kind) (value : Bool) (n : ℕ) → rank kind < r → IsRead symbol c d n (items kind value) (l c kind value n)
 
-abbrev ReadBelow : List ℕ → ℕ → List Level → Type 0
+abbrev pub ReadBelow : List ℕ → ℕ → List Level → Type 0
 ReadBelow symbol d [] = max_depth ≤ d
 ReadBelow symbol d (l ∷ ls) = ReadAt 2 symbol (d + 1) l × ReadBelow symbol (d + 1) ls
 
@@ -261,15 +261,15 @@ resumed_reads m i j f r v k e h = subst (λ x. (resumed m i f x).place ≡ Some 
 peeked_reads : (j : ℕ) (f : ℕ → Outcome) (r : Option ℕ) (v : ℕ) → r ≡ Some v → (f v).place ≡ Some j → (peeked f r).place ≡ Some j
 peeked_reads j f r v e h = subst (λ x. (peeked f x).place ≡ Some j) (sym e) h
 
-forked_there : (c : Bool) (f g : Place → Outcome) (i j : ℕ) → c ≡ true → (f (Some (i + 1))).place ≡ Some j → (forked c f g (Some i)).place ≡ Some j
+pub forked_there : (c : Bool) (f g : Place → Outcome) (i j : ℕ) → c ≡ true → (f (Some (i + 1))).place ≡ Some j → (forked c f g (Some i)).place ≡ Some j
 forked_there true f g i j e h = h
 forked_there false f g i j e h = cc e
 
-forked_other : (c : Bool) (f g : Place → Outcome) (i j : ℕ) → c ≡ false → (g (Some i)).place ≡ Some j → (forked c f g (Some i)).place ≡ Some j
+pub forked_other : (c : Bool) (f g : Place → Outcome) (i j : ℕ) → c ≡ false → (g (Some i)).place ≡ Some j → (forked c f g (Some i)).place ≡ Some j
 forked_other false f g i j e h = h
 forked_other true f g i j e h = cc e
 
-goes_on : (f : Place → Outcome) (x : Place) (k j : ℕ) → x ≡ Some k → (f (Some k)).place ≡ Some j → (f x).place ≡ Some j
+pub goes_on : (f : Place → Outcome) (x : Place) (k j : ℕ) → x ≡ Some k → (f (Some k)).place ≡ Some j → (f x).place ≡ Some j
 goes_on f x k j e h = subst (λ z. (f z).place ≡ Some j) (sym e) h
 
 raised_reads : (symbol : List ℕ) (d : ℕ) (ls : List Level) (f : Level → List Level → Place → Outcome) (i j : ℕ) → ReadBelow symbol d ls → d < max_depth → ((l : Level) (ls : List Level) → ReadAt 2 symbol (d + 1) l → ReadBelow symbol (d + 1) ls → (f l ls (Some i)).place ≡ Some j) → (raised ls f (Some i)).place ≡ Some j
@@ -314,7 +314,7 @@ bound_read (suc n) s c d m p f h o x i j l b (bound_ {k = k} {l = z} y e w a u) 
     (resumed_reads (length s.symbol) (i + 1) j (λ a x. behind (named a) (followed_by (f x) (bound_by n s f true))) (identifier_at s.symbol (i + 1)) y k w
     (goes_on (bound_by n s f true) (f (Some k)).place z j (h k z q.1 a) (bound_read n s c d m p f h true true z j (omega (arith, l, q.0, r.0)) r.1 u)))
 
-reads : (p : Items) (s : Surroundings) (d : ℕ) → Ahead p → (r : ℕ) → Begins r p → ReadAt r s.symbol d s.here → ReadBelow s.symbol d s.deeper → (i j : ℕ) → i ≤ length s.symbol → Spells s.symbol (rule s.printed) d s.lifetimes p i j → (run p s (Some i)).place ≡ Some j
+pub reads : (p : Items) (s : Surroundings) (d : ℕ) → Ahead p → (r : ℕ) → Begins r p → ReadAt r s.symbol d s.here → ReadBelow s.symbol d s.deeper → (i j : ℕ) → i ≤ length s.symbol → Spells s.symbol (rule s.printed) d s.lifetimes p i j → (run p s (Some i)).place ≡ Some j
 unfolding run
 reads done s d a u c l m i j z end_ = refl
 reads invalid s d a u c l m i j z e = elim e [ ]
@@ -526,7 +526,7 @@ ahead a_trait_path value = tt ▸ list_ahead ", " argument (opens done) argument
 
 -- The table: a pattern and a dyn trait path alone begin units before the depth is raised, and neither begins one of these two.
 
-begin : (r : ℕ) (kind : Kind) (value : Bool) → rank kind ≤ r → Begins r (items kind value)
+pub begin : (r : ℕ) (kind : Kind) (value : Bool) → rank kind ≤ r → Begins r (items kind value)
 begin r a_path value h = tt
 begin r a_type value h =
     let tagged : Begins r type_tagged = λ tag. some_begins r (raise (constructed tag)) (text_of tag basic_types) (λ text. byte (λ _. say text done)) tt (λ _ _. tt) in
@@ -538,14 +538,14 @@ begin r a_trait_path value h =
     let ends : Begins r (more ", " argument (opens done)) = one ▸ tt in
     tt ▸ (omega (arith, h) ▸ tt ▸ one ▸ ends) ▸ (omega (arith, h) ▸ tt)
 
-rank_one : (kind : Kind) → rank kind ≤ 1
+pub rank_one : (kind : Kind) → rank kind ≤ 1
 rank_one a_path = omega arith
 rank_one a_type = omega arith
 rank_one a_constant = omega arith
 rank_one a_pattern = omega arith
 rank_one a_trait_path = omega arith
 
-level_reads : (symbol : List ℕ) (d : ℕ) (ls : List Level) → ReadBelow symbol d ls → ReadAt 2 symbol d (level_of symbol ls)
+pub level_reads : (symbol : List ℕ) (d : ℕ) (ls : List Level) → ReadBelow symbol d ls → ReadAt 2 symbol d (level_of symbol ls)
 unfolding run level_of
 level_reads symbol d ls m w kind value n r i j b e =
     let at : Level → Bool → ℕ → Surroundings = λ here pr k. record { symbol = symbol; printed = pr; here = here; deeper = ls; lifetimes = k } in
@@ -554,7 +554,7 @@ level_reads symbol d ls m w kind value n r i j b e =
     (λ y k v o r' i' j' b' e'. reads (items k v) (at nowhere y o) d (ahead k v) 0 (begin 0 k v (omega (arith, r'))) (λ _ _ _ _ x. absurd (omega (arith, x))) m i' j' b' e')
     m i j b e
 
-levels_read : (symbol : List ℕ) (n d : ℕ) → n + d ≡ max_depth → ReadBelow symbol d (levels symbol n)
+pub levels_read : (symbol : List ℕ) (n d : ℕ) → n + d ≡ max_depth → ReadBelow symbol d (levels symbol n)
 unfolding levels
 levels_read symbol zero d e = omega arith
 levels_read symbol (suc n) d e = (level_reads symbol (d + 1) (levels symbol n) (levels_read symbol n (d + 1) (omega arith)), levels_read symbol n (d + 1) (omega arith))

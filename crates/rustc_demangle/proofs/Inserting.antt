@@ -44,7 +44,7 @@ pub inserted_end : (n i : ℕ) (cs : List ℕ) → length cs ≤ 128 → inserte
 unfolding inserted
 inserted_end n i cs h = let t : ltb 128 (length cs) ≡ false = grind (arith, nat_tests) in rw (t, inserted) refl
 
-inserted_long : (n i : ℕ) (cs ds : List ℕ) → 128 < length cs → inserted n i cs ds ≡ None
+pub inserted_long : (n i : ℕ) (cs ds : List ℕ) → 128 < length cs → inserted n i cs ds ≡ None
 unfolding inserted
 inserted_long n i cs [] h = let t : ltb 128 (length cs) ≡ true = grind (arith, nat_tests) in rw (t, inserted) refl
 inserted_long n i cs (d ∷ ds) h = inserted_none n i cs d ds (inr (omega arith))

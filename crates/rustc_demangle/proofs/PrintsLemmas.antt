@@ -1,13 +1,12 @@
 -- One piece printed under a limit, and one list of pieces after another.
 use Rattle.std.proofs.Common.{◌≡◌, ℕ, ◌+◌, ◌-◌, ◌≤◌, ◌<◌, List, [], ◌∷◌, ◌++◌, length, Bool, true, false, Result, Ok, Err, IsOk, IsErr, refl, sym, ap, ◌∙◌, arith, get_or, take, drop, inl, inr}
-use Rattle.std.specs.Borrow.{Bor}
 use Rattle.std.proofs.lemmas.List.{take_more, take-append-drop, map-append}
 use Rattle.std.proofs.lemmas.Bool.{false≢true, true≢false, le-leb}
 use Rattle.std.proofs.lemmas.Bool.Decides.{leb_tells}
 use Rattle.rustc_demangle.specs.declared.sink.TextSink.{Ghosts}
 use Rattle.rustc_demangle.specs.declared.sink.SinkRefused.{SinkRefused}
 use Rattle.rustc_demangle.specs.declared.sink.limit.SizeLimitedFmtAdapter.{SizeLimitedFmtAdapter}
-use Rattle.rustc_demangle.specs.Cut.{size, fitting, texts, cut, marker}
+use Rattle.rustc_demangle.specs.Cut.{size, fitting, cut, marker}
 use Rattle.rustc_demangle.specs.Hands.{Hands}
 use Rattle.rustc_demangle.specs.Limit.{Ready, Prints, sink_result}
 use Rattle.rustc_demangle.proofs.CutLemmas.{size-append, fitting-all, fitting-append, fitting-stop, fitting-more, fitting-none}
@@ -112,22 +111,10 @@ prints_stop sink old new xs ys r (Err u) p err err' = record {
       let more = fitting-more xs ys old.remaining in
       rw (more.1, e) (hands_stop sink _ _ _ more.0 r (Err u) h err refl)
 
-abbrev no_text : Bor (List ℕ)
-no_text = record { ref_ptr = (0, 0); now = [] }
-
--- one more of the texts
-pub texts-take_more : (xs : List (Bor (List ℕ))) (i : ℕ) → i < length xs → texts (take (i + 1) xs) ≡ texts (take i xs) ++ (get_or xs i no_text).now ∷ []
-texts-take_more xs i h = rw (take_more xs i no_text h) (map-append (λ (p : Bor (List ℕ)). p.now) (take i xs) (get_or xs i no_text ∷ []))
-
--- the texts round one
-pub texts-split : (xs : List (Bor (List ℕ))) (i : ℕ) → i < length xs → texts xs ≡ texts (take i xs) ++ ((get_or xs i no_text).now ∷ []) ++ texts (drop (i + 1) xs)
-texts-split xs i h =
-    ap texts (sym (take-append-drop (i + 1) xs)) ∙ (map-append (λ (p : Bor (List ℕ)). p.now) (take (i + 1) xs) (drop (i + 1) xs) ∙ ap (λ ys. ys ++ texts (drop (i + 1) xs)) (texts-take_more xs i h))
-
-cut-past : (xs : List (List ℕ)) (l : ℕ) → l < size xs → cut xs l ≡ fitting xs l ++ marker ∷ []
+pub cut-past : (xs : List (List ℕ)) (l : ℕ) → l < size xs → cut xs l ≡ fitting xs l ++ marker ∷ []
 cut-past xs l h = elim (leb_tells (size xs) l) [ inl e ↦ let le : size xs ≤ l = e.1 in absurd (omega arith) | inr e ↦ rw e.0 refl ]
 
-cut-within : (xs : List (List ℕ)) (l : ℕ) → size xs ≤ l → cut xs l ≡ xs
+pub cut-within : (xs : List (List ℕ)) (l : ℕ) → size xs ≤ l → cut xs l ≡ xs
 cut-within xs l h = rw (le-leb _ _ h) refl
 
 -- where the limit was reached, the marker goes on behind

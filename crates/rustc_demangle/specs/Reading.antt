@@ -32,6 +32,18 @@ pieces plain invalid_syntax = codes "{invalid syntax}" ∷ []
 pieces plain too_deep = codes "{recursion limit reached}" ∷ []
 pieces plain unread = codes "?" ∷ []
 
+-- no stop is handed over
+abbrev pub IsWhole : Tree → Type 0
+IsWhole nothing = Unit {0}
+IsWhole (piece t rest) = IsWhole rest
+IsWhole (plain_piece t rest) = IsWhole rest
+IsWhole (node inside rest) = IsWhole inside × IsWhole rest
+IsWhole (looked k rest) = IsWhole rest
+IsWhole (hidden inside rest) = IsWhole rest
+IsWhole invalid_syntax = ⊥
+IsWhole too_deep = ⊥
+IsWhole unread = ⊥
+
 abbrev pub hands : Text → Stretch
 hands t = record { bytes = length t; looks = 0 }
 

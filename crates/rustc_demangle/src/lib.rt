@@ -1,9 +1,64 @@
 //! Demangling of Rust symbols.
 #![tactic(auto)]
 
+ghost use Rattle.std.specs.Prelude.{◌≡◌, ◌+◌, ◌-◌, ◌*◌, ◌≤◌, length, IfOk, OnOk, OnErr};
+ghost use Rattle.rustc_demangle.specs.Stripped.{stripped};
+ghost use Rattle.rustc_demangle.specs.Symbols.{IsSymbol};
+
 mod cursor;
+mod display;
 pub mod laws;
+mod legacy;
 mod literal;
 mod punycode;
 pub mod sink;
+mod stream;
+mod strip;
 mod v0;
+mod value;
+
+pub use cursor::Looks;
+pub use stream::{StreamFault, demangle_stream, demangle_stream_named};
+use strip::without_thin_lto;
+pub use value::Demangle;
+
+/// The refusal of a text that is no Rust symbol.
+#[derive(Debug, Clone, Drop)]
+pub struct TryDemangleError {
+    _priv: (),
+}
+
+/// Reads a text as a Rust symbol, and counts its looks.
+///
+/// An ending that ThinLTO appended is taken off first. A text that is no symbol is kept as it is. It takes no memory.
+pub fn demangle_counted<'a>(s: &'a str, looks: &mut Looks) -> Demangle<'a>
+    ensures text { result ≡ stripped s.now }
+    ensures grows { looks.old ≤ looks.new }
+    ensures most { looks.new ≤ looks.old + 64 * (length s.now + 1) }
+    ensures least { IsSymbol (stripped s.now) → looks.old + (length (stripped s.now) - 4) ≤ looks.new }
+{
+    Demangle::read(without_thin_lto(s), looks)
+}
+
+/// Reads a text as a Rust symbol, in the legacy scheme.
+///
+/// An ending that ThinLTO appended is taken off first. A text that is no symbol is kept as it is. It takes no memory.
+pub fn demangle(s: &str) -> Demangle<'_>
+    ensures { result ≡ stripped s.now }
+{
+    demangle_counted(s, &mut Looks::new())
+}
+
+/// Reads a text as a Rust symbol, or refuses it where it is none.
+pub fn try_demangle(s: &str) -> Result<Demangle<'_>, TryDemangleError>
+    ensures symbol { OnOk result (IsSymbol (stripped s.now)) }
+    ensures text { IfOk result (λ d. d ≡ stripped s.now) }
+    ensures none { OnErr result (IsSymbol (stripped s.now) → ⊥) }
+{
+    let symbol = demangle(s);
+    if symbol.has_style() {
+        Ok(symbol)
+    } else {
+        Err(TryDemangleError { _priv: () })
+    }
+}

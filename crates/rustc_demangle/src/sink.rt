@@ -1,4 +1,4 @@
-//! What takes text.
+//! Sinks: what takes the text that is printed, a piece at a time.
 ghost use Rattle.std.specs.Prelude.{◌≡◌, ℕ, List, [], ◌++◌, length, Option, Bool, true, false, IsOk, OnOk, OnErr};
 ghost use Rattle.rustc_demangle.specs.Sink.{Fits, room_after};
 
@@ -6,19 +6,24 @@ mod array_sink;
 mod chars;
 mod fmt_sink;
 mod limit;
+mod pieces;
 mod write_sink;
 
 pub use array_sink::ArraySink;
 pub(crate) use chars::{put_char, put_chars};
 pub(crate) use fmt_sink::FmtSink;
-pub(crate) use limit::{SizeLimitedFmtAdapter, put_each};
+pub(crate) use limit::{SizeLimitedFmtAdapter, put_piece};
+pub(crate) use pieces::put_each;
 pub use write_sink::WriteSink;
 
-/// A sink took no piece.
+/// A sink refused a piece, and has failed from then on.
 #[derive(Debug, Clone, Copy)]
 pub struct SinkRefused;
 
 /// What takes pieces of text, until it refuses one.
+///
+/// A sink has a room: a piece within it is surely taken, and the room falls by the piece's bytes. An empty piece is always
+/// taken. A sink that keeps is unchanged by a piece that it refuses.
 pub trait TextSink {
     // The second sink is the first after it took these bytes.
     ghost took: { Self → List ℕ → Self → Type 0 };

@@ -45,3 +45,5 @@ impl Looks {
         self.count = Snapshot::of(&Tally::More(before));
     }
 }
+
+const _: () = prove!(mem::size_of::<Looks>() == 0);

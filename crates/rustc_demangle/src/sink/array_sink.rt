@@ -7,7 +7,7 @@ ghost use Rattle.rustc_demangle.specs.Array.{text_of};
 use crate::sink::{SinkRefused, TextSink};
 use arrayvec::ArrayString;
 
-/// A text of at most `N` bytes, in the value itself.
+/// A text of at most `N` bytes, in the value itself. It refuses a piece that does not fit, and keeps what it took before.
 #[derive(Drop)]
 pub struct ArraySink<const N: usize> {
     text: ArrayString<N>,
@@ -15,6 +15,7 @@ pub struct ArraySink<const N: usize> {
 }
 
 impl<const N: usize> ArraySink<N> {
+    /// The empty text, which has not failed.
     pub fn new() -> Self
         ensures alive { ⟦<ArraySink<N> as TextSink>⟧.failed result ≡ false }
         ensures empty { text_of result ≡ [] }
@@ -25,6 +26,7 @@ impl<const N: usize> ArraySink<N> {
         }
     }
 
+    /// The text that it took.
     pub fn as_str(&self) -> &str
         ensures { result.now ≡ text_of self.now }
     {

@@ -1,24 +1,22 @@
 //! A sink into a writer.
-ghost use Rattle.std.specs.Prelude.{◌≡◌, ◌≤◌, Some, None, true, false, is_some, refl, OnOk, IfOk, IsOk};
-ghost use Rattle.std.specs.List.{concat};
-ghost use Rattle.rustc_demangle.specs.Cut.{handed, texts, size};
-ghost use Rattle.rustc_demangle.specs.Array.{text_of};
+ghost use Rattle.std.specs.Prelude.{◌≡◌, Some, None, false, is_some, refl};
 ghost use Rattle.std.proofs.Common.{◌∙◌};
 ghost use Rattle.rustc_demangle.specs.Writer.{Wrote, Wrote-nothing, Wrote-joined};
 
-use crate::sink::array_sink::ArraySink;
-use crate::sink::limit::put_all;
 use crate::sink::{SinkRefused, TextSink};
 use std::io;
 use std::io::Write;
 
-/// Hands each piece to a writer, and holds the error that the writer answered.
+/// Hands each nonempty piece to a writer by one `write_all`, and keeps the error that the writer answered. It takes no
+/// memory of its own. After a refusal nothing is known of how much of the piece the writer took.
+#[derive(Drop)]
 pub struct WriteSink<'w, W: Write> {
     out: &'w mut W,
     fault: Option<io::Error>,
 }
 
 impl<'w, W: Write> WriteSink<'w, W> {
+    /// A sink into this writer, which has not failed.
     pub fn new(out: &'w mut W) -> Self
         ensures same_writer { result.out.ghost_name ≡ out.entry.ghost_name }
         ensures contents { result.out.now ≡ out.old }
@@ -27,6 +25,7 @@ impl<'w, W: Write> WriteSink<'w, W> {
         WriteSink { out, fault: None }
     }
 
+    /// The error that the writer answered, exactly where the sink has failed.
     pub fn into_fault(self) -> Option<io::Error>
         ensures fault { result ≡ self.entry.fault }
         ensures written { self.exit.0.now ≡ self.entry.out.now }

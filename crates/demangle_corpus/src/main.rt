@@ -1,0 +1,34 @@
+//! Compares the library's answers with those of the Rust crate, which stand on standard input.
+#![tactic(auto)]
+
+mod case;
+mod column;
+mod corpus;
+#[cfg(test)]
+mod tests;
+
+use corpus::{CorpusFault, Counts, corpus_run};
+use std::io::{BufReader, BufWriter};
+use std::process::ExitCode;
+
+fn run(rt: &HostRuntime) -> Result<Counts, CorpusFault> {
+    let alloc = rt.alloc();
+    let Ok(mut input) = BufReader::new(alloc, rt.stdin().lock()) else {
+        return Err(CorpusFault::Memory);
+    };
+    let Ok(mut output) = BufWriter::new(alloc, rt.stdout().lock()) else {
+        return Err(CorpusFault::Memory);
+    };
+    corpus_run(alloc, &mut input, &mut output)
+}
+
+fn main(rt: HostRuntime) -> ExitCode {
+    match run(&rt) {
+        Ok(counts) if counts.differences == 0 => ExitCode::from(0),
+        Ok(_) => ExitCode::from(1),
+        Err(fault) => {
+            let _ = eprintln!(rt; "demangle_corpus: {fault}");
+            ExitCode::from(2)
+        }
+    }
+}

@@ -1,0 +1,49 @@
+//! Copies standard input to standard output with each Rust symbol demangled.
+#![tactic(auto)]
+
+mod filter;
+mod pausing;
+#[cfg(test)]
+mod tests;
+
+use filter::{OUT_OF_MEMORY, USAGE, filter_run, report};
+use pausing::PausingOutput;
+use std::io::{BufReader, BufWriter, ErrorKind};
+use std::process::ExitCode;
+use std::rt::Env;
+use std::{env, io};
+
+/// The arguments behind the program's name.
+fn arguments(rt: &(impl Env + AllocGlobal)) -> io::Result<Vec<String>> {
+    let words = env::args(rt)?;
+    Ok(words.skip(1).collect::<Vec<String>>(rt.alloc())?)
+}
+
+fn main(rt: HostRuntime) -> ExitCode {
+    let alloc = rt.alloc();
+    let mut errors = rt.stderr().lock();
+    let words = match arguments(&rt) {
+        Ok(words) => words,
+        Err(error) => {
+            if error.kind() == ErrorKind::OutOfMemory {
+                return ExitCode::from(report(&mut errors, OUT_OF_MEMORY, 1));
+            }
+            return ExitCode::from(report(&mut errors, USAGE, 2));
+        }
+    };
+    let Ok(buffer) = BufWriter::new(alloc, rt.stdout().lock()) else {
+        return ExitCode::from(report(&mut errors, OUT_OF_MEMORY, 1));
+    };
+    let output = PausingOutput::new(buffer);
+    let Ok(mut input) = BufReader::new(alloc, output.reader(rt.stdin().lock())) else {
+        return ExitCode::from(report(&mut errors, OUT_OF_MEMORY, 1));
+    };
+    let status = filter_run(
+        alloc,
+        words.as_slice(),
+        &mut input,
+        &mut output.writer(),
+        &mut errors,
+    );
+    ExitCode::from(status)
+}

@@ -1,0 +1,48 @@
+//! Vectors of the Rust crate and of the legacy scheme.
+use crate::printed_is;
+use rustc_demangle::sink::WriteSink;
+use rustc_demangle::{demangle, try_demangle};
+use std::alloc::{AllocError, Global};
+use std::process::Abort;
+
+mod calls;
+mod hostile;
+mod legacy;
+mod limits;
+mod refused;
+mod sinks;
+
+/// Asserts that a text is a symbol that prints these, with the hash and without it.
+fn assert_prints(rt: &impl Abort, symbol: &str, plain: &str, alt: &str) {
+    assert!(rt; try_demangle(symbol).is_ok(), "{symbol} is a symbol");
+    assert!(rt; printed_is(symbol, true, plain), "{symbol} with the hash");
+    assert!(rt; printed_is(symbol, false, alt), "{symbol} without the hash");
+}
+
+/// Asserts that a text is no symbol, and prints this in both forms.
+fn assert_refused(rt: &impl Abort, text: &str, printed: &str) {
+    assert!(rt; try_demangle(text).is_err(), "{text} is no symbol");
+    assert!(rt; printed_is(text, true, printed), "{text} with the hash");
+    assert!(rt; printed_is(text, false, printed), "{text} without the hash");
+}
+
+/// What a text prints, of any length.
+fn printed(alloc: Global, symbol: &str, include_hash: bool) -> Result<Vec<u8>, AllocError> {
+    let mut text = Vec::new(alloc);
+    let mut sink = WriteSink::new(&mut text);
+    let _ = demangle(symbol).write_to(&mut sink, include_hash);
+    // A writer into memory fails for want of memory alone.
+    match sink.into_fault() {
+        Some(_) => Err(AllocError),
+        None => Ok(text),
+    }
+}
+
+/// A text so many times over.
+fn repeated(alloc: Global, text: &str, count: usize) -> Result<String, AllocError> {
+    let mut whole = String::new(alloc);
+    for _ in 0..count {
+        whole.push_str(text)?;
+    }
+    Ok(whole)
+}

@@ -1,0 +1,108 @@
+//! Symbols under a limit.
+use super::{printed, repeated};
+use rustc_demangle::demangle;
+use rustc_demangle::sink::{ArraySink, TextSink};
+use std::test::Fail;
+
+/// Whether a text prints this under a limit.
+fn limited_is(symbol: &str, include_hash: bool, limit: usize, text: &str) -> bool {
+    let mut sink: ArraySink<4096> = ArraySink::new();
+    demangle(symbol)
+        .write_limited(&mut sink, include_hash, limit)
+        .is_ok()
+        && sink.as_str() == text
+}
+
+#[test]
+fn a_limit_cuts_whole_pieces(rt: HostRuntime) {
+    for (symbol, limit, text) in [
+        ("_ZN3foo3barE", 5, "foo::{size limit reached}"),
+        ("_ZN3foo3barE", 0, "{size limit reached}"),
+        ("_ZNE", 0, ""),
+        ("_ZN3foo0E", 5, "foo::"),
+        ("_ZN3fooE.x", 0, "{size limit reached}.x"),
+        ("foo", 0, "foo"),
+        ("_ZN1a1bE", 0, "{size limit reached}"),
+        ("_ZN1a1bE", 1, "a{size limit reached}"),
+        ("_ZN1a1bE", 2, "a{size limit reached}"),
+        ("_ZN1a1bE", 3, "a::{size limit reached}"),
+        ("_ZN1a1bE", 4, "a::b"),
+        ("_ZN8$BP$test4foobE", 4, "*{size limit reached}"),
+        ("_ZN4a.$bE.x", 1, "a{size limit reached}.x"),
+        ("_ZN4a.$bE.x", 3, "a.{size limit reached}.x"),
+        ("_ZN4a.$bE.x", 4, "a.$b.x"),
+        ("_ZN4$LT$3barE.llvm.x", 2, "<{size limit reached}.llvm.x"),
+        ("_ZN4$LT$3barE.llvm.x", 5, "<::{size limit reached}.llvm.x"),
+        ("_ZN4$LT$3barE.llvm.x", 6, "<::bar.llvm.x"),
+    ] {
+        for include_hash in [true, false] {
+            assert!(rt;
+                limited_is(symbol, include_hash, limit, text),
+                "{symbol} at {limit}"
+            );
+        }
+    }
+}
+
+#[test]
+fn a_hash_that_is_left_out_counts_nothing(rt: HostRuntime) {
+    let symbol = "_ZN3foo17h05af221e174051e9E";
+    for (limit, text) in [
+        (2, "{size limit reached}"),
+        (3, "foo{size limit reached}"),
+        (21, "foo::{size limit reached}"),
+        (22, "foo::h05af221e174051e9"),
+    ] {
+        assert!(rt; limited_is(symbol, true, limit, text), "at {limit}");
+    }
+    assert!(rt; limited_is(symbol, false, 2, "{size limit reached}"));
+    assert!(rt; limited_is(symbol, false, 3, "foo"));
+}
+
+#[test]
+fn a_million_bytes_are_printed_and_no_more(rt: HostRuntime) -> Result<(), Fail> {
+    let alloc = rt.alloc();
+    let million = repeated(alloc, "a", 1_000_000)?;
+    let million = million.as_str();
+    let full = format!(in alloc; "_ZN1000000{million}E")?;
+    let longer = format!(in alloc; "_ZN1000001a{million}E")?;
+    let followed = format!(in alloc; "_ZN1000000{million}1bE")?;
+    let cut = format!(in alloc; "{million}{{size limit reached}}")?;
+    for include_hash in [true, false] {
+        let text = printed(alloc, full.as_str(), include_hash)?;
+        assert!(rt; text.as_slice() == million.as_bytes());
+        let text = printed(alloc, longer.as_str(), include_hash)?;
+        assert!(rt; text.as_slice() == b"{size limit reached}".as_slice());
+        let text = printed(alloc, followed.as_str(), include_hash)?;
+        assert!(rt; text.as_slice() == cut.as_bytes());
+    }
+    Ok(())
+}
+
+#[test]
+fn the_marker_is_one_piece(rt: HostRuntime) -> Result<(), Fail> {
+    let alloc = rt.alloc();
+    let million = repeated(alloc, "a", 1_000_000)?;
+    let million = million.as_str();
+    let longer = format!(in alloc; "_ZN1000001a{million}E")?;
+    let symbol = demangle(longer.as_str());
+    let mut sink: ArraySink<10> = ArraySink::new();
+    assert!(rt; symbol.write_to(&mut sink, true).is_err());
+    assert!(rt; sink.is_failed());
+    assert_eq!(rt; sink.as_str(), "");
+    let mut sink: ArraySink<20> = ArraySink::new();
+    assert!(rt; symbol.write_to(&mut sink, true).is_ok());
+    assert_eq!(rt; sink.as_str(), "{size limit reached}");
+    Ok(())
+}
+
+#[test]
+fn the_marker_fits_or_is_refused(rt: HostRuntime) {
+    let symbol = demangle("_ZN3foo3barE");
+    let mut sink: ArraySink<25> = ArraySink::new();
+    assert!(rt; symbol.write_limited(&mut sink, true, 5).is_ok());
+    assert_eq!(rt; sink.as_str(), "foo::{size limit reached}");
+    let mut sink: ArraySink<24> = ArraySink::new();
+    assert!(rt; symbol.write_limited(&mut sink, true, 5).is_err());
+    assert_eq!(rt; sink.as_str(), "foo::");
+}

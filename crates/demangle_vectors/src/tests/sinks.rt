@@ -1,0 +1,63 @@
+//! Sinks that take a part, and what they hold then.
+use crate::RefusingSink;
+use rustc_demangle::demangle;
+use rustc_demangle::sink::{ArraySink, TextSink, WriteSink};
+use std::io::ErrorKind;
+
+#[test]
+fn a_full_sink_holds_the_pieces_before_the_refused_one(rt: HostRuntime) {
+    let symbol = demangle("_ZN1a1bE");
+    let mut sink: ArraySink<4> = ArraySink::new();
+    assert!(rt; symbol.write_to(&mut sink, true).is_ok());
+    assert_eq!(rt; sink.as_str(), "a::b");
+    assert!(rt; !sink.is_failed());
+    let mut sink: ArraySink<2> = ArraySink::new();
+    assert!(rt; symbol.write_to(&mut sink, true).is_err());
+    assert_eq!(rt; sink.as_str(), "a");
+    assert!(rt; sink.is_failed());
+}
+
+#[test]
+fn each_piece_is_refused_in_turn(rt: HostRuntime) {
+    let symbol = demangle("_ZN1a1bE.x");
+    let texts = ["", "a", "a::", "a::b", "a::b.x"];
+    for (pieces, text) in texts.iter().enumerate() {
+        for include_hash in [true, false] {
+            let mut sink = RefusingSink::new(pieces.saturating_add(1));
+            let result = symbol.write_to(&mut sink, include_hash);
+            assert_eq!(rt; result.is_ok(), pieces == 4, "after {pieces}");
+            assert_eq!(rt; sink.is_failed(), pieces != 4, "after {pieces}");
+            assert_eq!(rt; sink.as_str(), *text, "after {pieces}");
+        }
+    }
+}
+
+#[test]
+fn empty_pieces_are_taken_where_no_other_is(rt: HostRuntime) {
+    for symbol in ["_ZNE", "_ZN0E", "", ".llvm."] {
+        let mut sink = RefusingSink::new(1);
+        assert!(rt;
+            demangle(symbol).write_to(&mut sink, true).is_ok(),
+            "{symbol}"
+        );
+        let mut room: &mut [u8] = &mut [];
+        let mut sink = WriteSink::new(&mut room);
+        assert!(rt;
+            demangle(symbol).write_to(&mut sink, true).is_ok(),
+            "{symbol}"
+        );
+        assert!(rt; sink.into_fault().is_none(), "{symbol}");
+    }
+}
+
+#[test]
+fn a_write_sink_holds_the_fault_of_its_writer(rt: HostRuntime) {
+    let mut bytes = [0; 4];
+    let mut room = bytes.as_mut_slice();
+    let mut sink = WriteSink::new(&mut room);
+    assert!(rt; demangle("_ZN1a3bcdE").write_to(&mut sink, true).is_err());
+    assert!(rt; sink.is_failed());
+    let fault = sink.into_fault();
+    assert!(rt; matches!(&fault, Some(fault) if fault.kind() == ErrorKind::WriteZero));
+    assert!(rt; bytes.starts_with(b"a::"));
+}

@@ -1,0 +1,93 @@
+-- What texts print, with the hash or without it, and within a limit.
+use Rattle.std.proofs.Common.{◌≡◌, ◌⊎◌, ℕ, ◌+◌, ◌≤◌, ◌<◌, Bool, true, false, not, ◌&&◌, List, [], ◌∷◌, ◌++◌, length, codes, Option, None, Some, refl, sym, ap, ◌∙◌, arith, cond, subst, inl, inr, option_map}
+use Rattle.std.specs.List.{list_all, flat_map}
+use Rattle.std.specs.Option.{option_map_or}
+use Rattle.std.proofs.lemmas.List.{append-nil, append_assoc, length-append}
+use Rattle.std.proofs.lemmas.Grind.{flat_map-append}
+use Rattle.std.proofs.lemmas.Bool.{false≢true, true≢false}
+use Rattle.std.proofs.lemmas.Bool.Decides.{leb_tells}
+use Rattle.rustc_demangle.specs.Cut.{size, fitting, cut, marker}
+use Rattle.rustc_demangle.specs.Hashes.{LeavesHashOut, pieces_behind}
+use Rattle.rustc_demangle.specs.Legacy.{IsLegacy, legacy_of}
+use Rattle.rustc_demangle.specs.Stripped.{is_allowed}
+use Rattle.rustc_demangle.specs.Symbols.{IsSymbol, pieces_of, handed}
+use Rattle.rustc_demangle.specs.Unescaped.{unescaped, is_hash, shown, joined, continued, legacy_pieces}
+use Rattle.rustc_demangle.proofs.CutLemmas.{size-append, fitting-within}
+use Rattle.rustc_demangle.proofs.PrintsLemmas.{cut-within, cut-past}
+use Rattle.rustc_demangle.proofs.SymbolSteps.{symbol-pieces, pieces-symbol, handed-none}
+
+handed-some_of : (text : List ℕ) (hash : Bool) (limit : ℕ) (read : List (List ℕ) × List ℕ) → pieces_of hash text ≡ Some read → handed text hash limit ≡ cut read.0 limit ++ read.1 ∷ []
+handed-some_of text hash limit read e = ap (λ o. option_map_or (λ (r : List (List ℕ) × List ℕ). cut r.0 limit ++ r.1 ∷ []) o (text ∷ [])) e
+
+pub handed-no_symbol : (text : List ℕ) → (IsSymbol text → ⊥) → (hash : Bool) (limit : ℕ) → handed text hash limit ≡ text ∷ []
+handed-no_symbol text none hash limit = go (pieces_of hash text) refl where
+  go : (read : Option (List (List ℕ) × List ℕ)) → pieces_of hash text ≡ read → option_map_or (λ r. cut r.0 limit ++ r.1 ∷ []) read (text ∷ []) ≡ text ∷ []
+  go None e = refl
+  go (Some read) e = absurd (none (symbol-pieces hash text read e))
+
+-- what is cut has the bytes of the limit and of the marker at most
+size-cut : (pieces : List (List ℕ)) (limit : ℕ) → size (cut pieces limit) ≤ limit + 20
+size-cut pieces limit = elim (leb_tells (size pieces) limit) [
+  | inl e ↦ let within : size pieces ≤ limit = e.1 in omega (arith, ap size (cut-within pieces limit within))
+  | inr e ↦ omega (arith, ap size (cut-past pieces limit e.1), size-append (fitting pieces limit) (marker ∷ []), fitting-within pieces limit)
+]
+
+pub size-handed : (text : List ℕ) (hash : Bool) (limit : ℕ) (pieces : List (List ℕ)) (suffix : List ℕ) → pieces_of hash text ≡ Some (pieces, suffix)
+    → size (handed text hash limit) ≤ limit + 20 + length suffix
+size-handed text hash limit pieces suffix e =
+    omega (arith, ap size (handed-some_of text hash limit (pieces, suffix) e), size-append (cut pieces limit) (suffix ∷ []), size-cut pieces limit)
+
+-- with the hash all elements are shown
+shown-all : (elements : List (List ℕ)) → shown true elements ≡ elements
+unfolding shown
+shown-all [] = refl
+shown-all (e ∷ []) = refl
+shown-all (e ∷ f ∷ es) = ap (λ xs. e ∷ xs) (shown-all (f ∷ es))
+
+-- without it, all or all but a last one that is a hash
+shown-cases : (elements : List (List ℕ)) → (shown false elements ≡ elements)
+    ⊎ ((front : List (List ℕ)) × (last : List ℕ) × (elements ≡ front ++ last ∷ []) × (shown false elements ≡ front) × (is_hash last ≡ true))
+unfolding shown
+shown-cases [] = inl refl
+shown-cases (e ∷ []) = go (is_hash e) refl where
+  go : (b : Bool) → is_hash e ≡ b → (cond b [] (e ∷ []) ≡ e ∷ [])
+      ⊎ ((front : List (List ℕ)) × (last : List ℕ) × (e ∷ [] ≡ front ++ last ∷ []) × (cond b [] (e ∷ []) ≡ front) × (is_hash last ≡ true))
+  go true is = inr ([], e, refl, refl, is)
+  go false is = inl refl
+shown-cases (e ∷ f ∷ es) = elim (shown-cases (f ∷ es)) [
+  | inl same ↦ inl (ap (λ xs. e ∷ xs) same)
+  | inr h ↦ inr (e ∷ h.0, h.1, ap (λ xs. e ∷ xs) h.2, ap (λ xs. e ∷ xs) h.3, h.4)
+]
+
+-- the pieces of a list with one element more
+joined-last : (front : List (List ℕ)) (last : List ℕ) → joined (front ++ last ∷ []) ≡ joined front ++ pieces_behind front last
+joined-last [] last = append-nil (unescaped last)
+joined-last (e ∷ es) last =
+    ap (λ xs. unescaped e ++ xs) (flat_map-append (λ f. codes "::" ∷ unescaped f) es (last ∷ []) ∙ ap (λ xs. continued es ++ xs) (append-nil (codes "::" ∷ unescaped last)))
+    ∙ sym (append_assoc (unescaped e) (continued es) (codes "::" ∷ unescaped last))
+
+pub hash-last : (text : List ℕ) (elements : List (List ℕ)) (suffix : List ℕ) (limit : ℕ) → IsLegacy text elements suffix → is_allowed suffix ≡ true
+    → size (legacy_pieces true elements) ≤ limit → (handed text false limit ≡ handed text true limit) ⊎ LeavesHashOut text elements suffix limit
+hash-last text elements suffix limit legacy allowed within =
+    let symbol : IsSymbol text = (elements, suffix, legacy, allowed) in
+    let all : legacy_pieces true elements ≡ joined elements = ap joined (shown-all elements) in
+    let full : handed text true limit ≡ joined elements ++ suffix ∷ [] =
+    handed-some_of text true limit (legacy_pieces true elements, suffix) (pieces-symbol true text symbol)
+    ∙ ap (λ xs. xs ++ suffix ∷ []) (cut-within (legacy_pieces true elements) limit within ∙ all) in
+    let short : handed text false limit ≡ cut (joined (shown false elements)) limit ++ suffix ∷ [] =
+    handed-some_of text false limit (legacy_pieces false elements, suffix) (pieces-symbol false text symbol) in
+    elim (shown-cases elements) [
+      | inl same ↦ inl (short ∙ ap (λ es. cut (joined es) limit ++ suffix ∷ []) same
+          ∙ ap (λ xs. xs ++ suffix ∷ []) (cut-within (joined elements) limit (subst (λ xs. size xs ≤ limit) all within)) ∙ sym full)
+      | inr h ↦
+          let parts : joined elements ≡ joined h.0 ++ pieces_behind h.0 h.1 = ap joined h.2 ∙ joined-last h.0 h.1 in
+          let room : size (joined h.0) ≤ limit = omega (arith, ap size all, ap size parts, size-append (joined h.0) (pieces_behind h.0 h.1)) in
+          inr (record {
+            front = h.0;
+            last = h.1;
+            whole = h.2;
+            hash = h.4;
+            with_hash = full ∙ ap (λ xs. xs ++ suffix ∷ []) parts;
+            without_hash = short ∙ ap (λ es. cut (joined es) limit ++ suffix ∷ []) h.3 ∙ ap (λ xs. xs ++ suffix ∷ []) (cut-within (joined h.0) limit room);
+          })
+    ]

@@ -1,0 +1,91 @@
+-- The first `.llvm.` of a text.
+use Rattle.std.proofs.Common.{◌≡◌, ℕ, zero, suc, ◌+◌, ◌<◌, ◌≤◌, ◌⊎◌, inl, inr, Bool, true, false, cond, List, [], ◌∷◌, ◌++◌, length, take, drop, refl, sym, ap, ◌∙◌, arith, subst, nat_eq}
+use Rattle.std.specs.Prelude.{codes, bytes_eq}
+use Rattle.std.specs.List.{starts_with, list_all}
+use Rattle.std.specs.Cmp.Lexicographic.{bytes_decides}
+use Rattle.std.specs.Str.Pattern.{FindsText, SplitsAroundMatch}
+use Rattle.std.proofs.lemmas.List.{take-append-drop, append-nil, length-append}
+use Rattle.rustc_demangle.specs.Stripped.{stripped, is_thin_lto}
+use Rattle.std.proofs.lemmas.Bool.{cases_Bool, true≢false}
+
+abbrev pub ending : List ℕ → List ℕ
+ending rest = 46 ∷ 108 ∷ 108 ∷ 118 ∷ 109 ∷ 46 ∷ rest
+
+pub begins : (t : List ℕ) → starts_with nat_eq t (codes ".llvm.") ≡ true → t ≡ ending (drop 6 t)
+begins t e = sym (take-append-drop 6 t) ∙ ap (λ x. x ++ drop 6 t) (sym ((bytes_decides (codes ".llvm.") (take 6 t)).0 e))
+
+not_here : (t : List ℕ) → ((rest : List ℕ) → t ≡ ending rest → ⊥) → starts_with nat_eq t (codes ".llvm.") ≡ false
+not_here t h = elim (cases_Bool (starts_with nat_eq t (codes ".llvm."))) [ inr f ↦ f | inl e ↦ absurd (h (drop 6 t) (begins t e)) ]
+
+stripped_later : (c : ℕ) (s : List ℕ) → ((rest : List ℕ) → c ∷ s ≡ ending rest → ⊥) → stripped (c ∷ s) ≡ c ∷ stripped s
+unfolding stripped
+stripped_later c s h = ap (λ b. cond b (cond (list_all is_thin_lto (drop 5 s)) [] (c ∷ s)) (c ∷ stripped s)) (not_here (c ∷ s) h)
+
+pub stripped_none : (s : List ℕ) → ((i : ℕ) → i ≤ length s → (rest : List ℕ) → drop i s ≡ ending rest → ⊥) → s ≡ stripped s
+unfolding stripped
+stripped_none [] h = refl
+stripped_none (c ∷ s) h = ap (λ t. c ∷ t) (stripped_none s (λ i l. h (suc i) (omega arith))) ∙ sym (stripped_later c s (h 0 (omega arith)))
+
+stripped_here : (rest : List ℕ) → stripped (ending rest) ≡ cond (list_all is_thin_lto rest) [] (ending rest)
+unfolding stripped
+stripped_here rest = refl
+
+pub stripped_at : (i : ℕ) (s rest : List ℕ) → ((j : ℕ) → j < i → (r : List ℕ) → drop j s ≡ ending r → ⊥) → drop i s ≡ ending rest → stripped s ≡ cond (list_all is_thin_lto rest) (take i s) s
+stripped_at zero s rest h e = subst (λ t. stripped t ≡ cond (list_all is_thin_lto rest) [] t) (sym e) (stripped_here rest)
+stripped_at (suc i) [] rest h e = cc
+stripped_at (suc i) (c ∷ s) rest h e =
+    stripped_later c s (h 0 (omega arith)) ∙ ap (λ t. c ∷ t) (stripped_at i s rest (λ j l. h (suc j) (omega arith)) e) ∙ both (list_all is_thin_lto rest) where
+      both : (b : Bool) → c ∷ cond b (take i s) s ≡ cond b (c ∷ take i s) (c ∷ s)
+      both true = refl
+      both false = refl
+
+-- what is split off at the first `.llvm.` is cut off where it may be
+pub stripped_split : (s a b : List ℕ) → SplitsAroundMatch (FindsText (codes ".llvm.")) s a b → stripped s ≡ cond (list_all is_thin_lto b) a s
+stripped_split s a b h =
+    let split : drop h.0 s ≡ ending (drop h.1 s) = h.2.1.split in
+    stripped_at h.0 s (drop h.1 s) h.2.0 split
+    ∙ ap (λ r. cond (list_all is_thin_lto r) (take h.0 s) s) (sym h.4)
+    ∙ ap (λ x. cond (list_all is_thin_lto b) x s) (sym h.3)
+
+-- a longer text begins with it too
+begins-append : (t ys : List ℕ) → starts_with nat_eq t (codes ".llvm.") ≡ true → starts_with nat_eq (t ++ ys) (codes ".llvm.") ≡ true
+begins-append t ys e = ap (λ z. starts_with nat_eq (z ++ ys) (codes ".llvm.")) (begins t e)
+
+front_of : (c : ℕ) (s front : List ℕ) (b t : Bool) → (rest : List ℕ) × (s ≡ front ++ rest) → (rest : List ℕ) × (c ∷ s ≡ cond b (cond t [] (c ∷ s)) (c ∷ front) ++ rest)
+front_of c s front true true below = (c ∷ s, refl)
+front_of c s front true false below = ([], sym (append-nil (c ∷ s)))
+front_of c s front false t below = (below.0, ap (λ z. c ∷ z) below.1)
+
+-- the stripped text is a beginning
+pub stripped_front : (s : List ℕ) → (rest : List ℕ) × (s ≡ stripped s ++ rest)
+unfolding stripped
+stripped_front [] = ([], refl)
+stripped_front (c ∷ s) = front_of c s (stripped s) (starts_with nat_eq (c ∷ s) (codes ".llvm.")) (list_all is_thin_lto (drop 5 s)) (stripped_front s)
+
+pub stripped-shorter : (s : List ℕ) → length (stripped s) ≤ length s
+stripped-shorter s = let front = stripped_front s in omega (arith, ap length front.1, length-append (stripped s) front.0)
+
+again : (c : ℕ) (s : List ℕ) (b : Bool) → starts_with nat_eq (c ∷ stripped s) (codes ".llvm.") ≡ b → starts_with nat_eq (c ∷ s) (codes ".llvm.") ≡ false → stripped (stripped s) ≡ stripped s
+    → stripped (c ∷ stripped s) ≡ c ∷ stripped s
+unfolding stripped
+again c s true e h below =
+    let front = stripped_front s in
+    let longer : starts_with nat_eq ((c ∷ stripped s) ++ front.0) (codes ".llvm.") ≡ true = begins-append (c ∷ stripped s) front.0 e in
+    let same : starts_with nat_eq (c ∷ s) (codes ".llvm.") ≡ true = ap (λ z. starts_with nat_eq (c ∷ z) (codes ".llvm.")) front.1 ∙ longer in
+    absurd (true≢false (sym same ∙ h))
+again c s false e h below =
+    ap (λ b. cond b (cond (list_all is_thin_lto (drop 5 (stripped s))) [] (c ∷ stripped s)) (c ∷ stripped (stripped s))) e ∙ ap (λ z. c ∷ z) below
+
+twice : (c : ℕ) (s : List ℕ) (b t : Bool) → starts_with nat_eq (c ∷ s) (codes ".llvm.") ≡ b → list_all is_thin_lto (drop 5 s) ≡ t → stripped (stripped s) ≡ stripped s
+    → stripped (cond b (cond t [] (c ∷ s)) (c ∷ stripped s)) ≡ cond b (cond t [] (c ∷ s)) (c ∷ stripped s)
+unfolding stripped
+twice c s true true e h below = refl
+twice c s true false e h below =
+    ap (λ b. cond b (cond (list_all is_thin_lto (drop 5 s)) [] (c ∷ s)) (c ∷ stripped s)) e ∙ ap (λ t. cond t [] (c ∷ s)) h
+twice c s false t e h below = again c s (starts_with nat_eq (c ∷ stripped s) (codes ".llvm.")) refl e below
+
+-- stripping twice is stripping once
+pub stripped-stripped : (s : List ℕ) → stripped (stripped s) ≡ stripped s
+unfolding stripped
+stripped-stripped [] = refl
+stripped-stripped (c ∷ s) = twice c s (starts_with nat_eq (c ∷ s) (codes ".llvm.")) (list_all is_thin_lto (drop 5 s)) refl refl (stripped-stripped s)

@@ -1,0 +1,13 @@
+use Rattle.std.proofs.Common.{rules, sym}
+use Rattle.rustc_demangle.proofs.PrintsLemmas.{prints_cut_over, prints_cut_all}
+use Rattle.rustc_demangle.proofs.value.write_cut.Goals as goal
+
+pub returns-then-is_over-clause-hands : goal.returns-then-is_over-clause-hands
+returns-then-is_over-clause-hands g c =
+    prints_cut_over g.S.TextSink c.new-limited.result c.write_to-result.new.out _ _ _ _ _ _ _ c.new-limited.ensures.text c.new-limited.ensures.left
+    c.write_to-result.ensures.prints (sym c.if-is_over.ensures) (search rules) c.put_piece.ensures
+
+pub returns-else-is_over-clause-hands : goal.returns-else-is_over-clause-hands
+returns-else-is_over-clause-hands g c =
+    prints_cut_all g.S.TextSink c.new-limited.result c.write_to-result.new.out _ _ _ _ _ c.new-limited.ensures.text c.new-limited.ensures.left
+    c.write_to-result.ensures.prints (sym c.if-is_over.ensures) (search rules)

@@ -1,0 +1,18 @@
+-- A legacy symbol whose last element is its hash.
+use Rattle.std.specs.Prelude.{◌≡◌, ℕ, Bool, true, false, List, [], ◌∷◌, ◌++◌, codes}
+use Rattle.rustc_demangle.specs.Symbols.{handed}
+use Rattle.rustc_demangle.specs.Unescaped.{unescaped, is_hash, joined}
+
+-- the pieces of an element that stands behind others: `::` in front of it where there are any
+abbrev pub pieces_behind : List (List ℕ) → List ℕ → List (List ℕ)
+pieces_behind [] element = unescaped element
+pieces_behind (_ ∷ _) element = codes "::" ∷ unescaped element
+
+-- Without the hash the text hands over what it hands over with it, but for its last element and the `::` before that.
+pub record LeavesHashOut (text : List ℕ) (elements : List (List ℕ)) (suffix : List ℕ) (limit : ℕ) : Type 0 where
+  pub front : List (List ℕ)
+  pub last : List ℕ
+  pub whole : elements ≡ front ++ last ∷ []
+  pub hash : is_hash last ≡ true
+  pub with_hash : handed text true limit ≡ joined front ++ pieces_behind front last ++ suffix ∷ []
+  pub without_hash : handed text false limit ≡ joined front ++ suffix ∷ []

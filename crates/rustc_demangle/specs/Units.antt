@@ -1,0 +1,10 @@
+-- What a unit of a legacy element prints.
+use Rattle.std.specs.Prelude.{ℕ, List, codes, encode_utf8}
+use Rattle.rustc_demangle.specs.declared.legacy.units.Unit.{Unit}
+use Rattle.rustc_demangle.specs.declared.legacy.units.Unit.TheVariants.{Separator, Char, Run}
+
+-- the text of a unit that these bytes are
+abbrev pub text_of : List ℕ → Unit → List ℕ
+text_of bytes Separator = codes "::"
+text_of bytes (Char c) = encode_utf8 c
+text_of bytes Run = bytes

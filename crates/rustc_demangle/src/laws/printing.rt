@@ -1,0 +1,56 @@
+//! What texts print, with the hash or without it, and within a limit.
+ghost use Rattle.std.specs.Prelude.{◌≡◌, ◌⊎◌, ℕ, ◌+◌, ◌≤◌, Bool, true, false, List, [], ◌∷◌, ◌++◌, length, codes, Some, OnOk, if◌then◌else◌};
+ghost use Rattle.std.specs.List.{list_all};
+ghost use Rattle.rustc_demangle.specs.Array.{text_of};
+ghost use Rattle.rustc_demangle.specs.Cut.{size};
+ghost use Rattle.rustc_demangle.specs.Hashes.{LeavesHashOut};
+ghost use Rattle.rustc_demangle.specs.Legacy.{IsLegacy};
+ghost use Rattle.rustc_demangle.specs.Stripped.{stripped, is_thin_lto, is_allowed, IsCut};
+ghost use Rattle.rustc_demangle.specs.Symbols.{IsSymbol, handed, pieces_of};
+ghost use Rattle.rustc_demangle.specs.Unescaped.{legacy_pieces};
+
+use crate::sink::{ArraySink, SinkRefused, TextSink};
+use crate::value::Demangle;
+
+/// A text is cut off from its first `.llvm.` on, where only characters of ThinLTO's endings follow. Twice is as once.
+pub fn stripped_is_cut_once()
+    ensures cut { (text front ending : List ℕ) → IsCut text front ending → stripped text ≡ (if list_all is_thin_lto ending then front else text) }
+    ensures whole { (text : List ℕ) → ((front ending : List ℕ) → IsCut text front ending → ⊥) → stripped text ≡ text }
+    ensures twice { (text : List ℕ) → stripped (stripped text) ≡ stripped text }
+{}
+
+/// A text that is no symbol hands over itself, in one piece and without a limit.
+pub fn no_symbol_prints_itself()
+    ensures { (text : List ℕ) → (IsSymbol text → ⊥) → (hash : Bool) → (limit : ℕ) → handed text hash limit ≡ text ∷ [] }
+{}
+
+/// A symbol hands over at most the bytes of the limit, the 20 of the marker, and its suffix.
+pub fn symbol_stays_within_limit()
+    ensures { (text : List ℕ) → (hash : Bool) → (limit : ℕ) → (pieces : List (List ℕ)) → (suffix : List ℕ) → pieces_of hash text ≡ Some (pieces, suffix) →
+        size (handed text hash limit) ≤ limit + 20 + length suffix }
+{}
+
+/// A legacy symbol whose pieces are within the limit hands over the same without the hash, or all but its last element
+/// and the `::` before that.
+pub fn hash_is_the_last_element()
+    ensures { (text : List ℕ) → (elements : List (List ℕ)) → (suffix : List ℕ) → (limit : ℕ) → IsLegacy text elements suffix → is_allowed suffix ≡ true →
+        size (legacy_pieces true elements) ≤ limit →
+        (handed text false limit ≡ handed text true limit) ⊎ LeavesHashOut text elements suffix limit }
+{}
+
+/// What is printed twice under the same flag is the same text.
+pub fn prints_the_same<const N: usize, const M: usize>(
+    symbol: &Demangle<'_>,
+    include_hash: bool,
+    first: &mut ArraySink<N>,
+    second: &mut ArraySink<M>,
+) -> Result<(), SinkRefused>
+    requires first_alive { ⟦<ArraySink<N> as TextSink>⟧.failed first.old ≡ false }
+    requires second_alive { ⟦<ArraySink<M> as TextSink>⟧.failed second.old ≡ false }
+    requires first_empty { text_of first.old ≡ [] }
+    requires second_empty { text_of second.old ≡ [] }
+    ensures { OnOk result (text_of first.new ≡ text_of second.new) }
+{
+    symbol.write_to(first, include_hash)?;
+    symbol.write_to(second, include_hash)
+}

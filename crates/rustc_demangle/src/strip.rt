@@ -1,0 +1,24 @@
+//! Symbols as ThinLTO leaves them.
+ghost use Rattle.std.specs.Prelude.{◌≡◌};
+ghost use Rattle.std.specs.List.{list_all};
+ghost use Rattle.rustc_demangle.specs.Stripped.{stripped, is_thin_lto};
+
+// Whether all of it may stand behind `.llvm.`.
+fn is_thin_lto(ending: &str) -> bool
+    ensures { result ≡ list_all is_thin_lto ending.now }
+{
+    ending
+        .bytes()
+        .all(|b| matches!(b, b'A'..=b'F' | b'0'..=b'9' | b'@'))
+}
+
+/// The text without an ending that ThinLTO appends: from its first `.llvm.` on, where only `A` to `F`, digits and `@`
+/// follow that.
+pub(crate) fn without_thin_lto(text: &str) -> &str
+    ensures { result.now ≡ stripped text.now }
+{
+    match text.split_once(".llvm.") {
+        Some((name, ending)) if is_thin_lto(ending) => name,
+        _ => text,
+    }
+}

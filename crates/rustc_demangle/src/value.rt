@@ -1,0 +1,272 @@
+//! A demangled symbol, and how it prints.
+ghost use Rattle.std.specs.Prelude.{◌≡◌, ◌+◌, ◌-◌, ◌*◌, ◌≤◌, length, true, false, IsTrue, IsOk, OnOk, OnErr, IfSome, IfNone};
+ghost use Rattle.std.specs.List.{concat};
+ghost use Rattle.rustc_demangle.specs.Cut.{cut, size};
+ghost use Rattle.rustc_demangle.specs.Hands.{Hands, HoldsFront};
+ghost use Rattle.rustc_demangle.specs.Limit.{Prints, Ready};
+ghost use Rattle.rustc_demangle.specs.Sink.{Fits};
+ghost use Rattle.rustc_demangle.specs.Stripped.{is_allowed, is_graphic};
+ghost use Rattle.rustc_demangle.specs.Style.{style_pieces, style_len, HasNoStyle, HasStyle};
+ghost use Rattle.rustc_demangle.specs.Symbols.{handed, IsSymbol};
+
+use crate::cursor::{Looks, Symbol};
+use crate::legacy;
+use crate::sink::{SinkRefused, SizeLimitedFmtAdapter, TextSink, put_piece};
+use std::marker::Model;
+
+/// The most bytes that a call with no limit of its own prints of a symbol, before the marker and the suffix.
+const MAX_SIZE: usize = 1_000_000;
+
+/// The scheme of a symbol, and what was read of it.
+#[derive(Drop)]
+pub(crate) enum DemangleStyle<'a> {
+    Legacy(legacy::Demangle<'a>),
+}
+
+impl DemangleStyle<'_> {
+    /// Prints the symbol without its suffix.
+    fn write_to<S: TextSink>(
+        &self,
+        out: &mut SizeLimitedFmtAdapter<'_, S>,
+        include_hash: bool,
+        looks: &mut Looks,
+    ) -> Result<(), SinkRefused>
+        requires { Ready S.TextSink out.old }
+        ensures prints { Prints S.TextSink out.old (style_pieces include_hash self.now) result out.new }
+        ensures grows { looks.old ≤ looks.new }
+        ensures most { looks.new ≤ looks.old + 16 * (style_len self.now + 1) }
+    {
+        match self {
+            DemangleStyle::Legacy(symbol) => symbol.write_to(out, include_hash, looks),
+        }
+    }
+}
+
+/// A text, demangled where it is a Rust symbol. It prints the path that the symbol names, and any other text as it is.
+#[derive(Drop)]
+pub struct Demangle<'a> {
+    style: Option<DemangleStyle<'a>>,
+    original: &'a str,
+    suffix: &'a str,
+}
+
+impl<'a> Model for Demangle<'a> {
+    ghost use Rattle.std.specs.Prelude.{ℕ, List};
+
+    ghost Value = { List ℕ };
+
+    ghost use Rattle.rustc_demangle.specs.Style.{IsStyled};
+
+    ghost view = { λ d. d.original.now };
+
+    ghost invariant = { λ d. IsStyled d.style d.original.now d.suffix.now };
+}
+
+/// Prints a symbol without its suffix into a sink, cut at the limit.
+fn write_cut<S: TextSink>(
+    style: &DemangleStyle<'_>,
+    out: &mut S,
+    include_hash: bool,
+    limit: usize,
+    looks: &mut Looks,
+) -> Result<(), SinkRefused>
+    requires { S.failed out.old ≡ false }
+    ensures hands { Hands S.TextSink out.old (cut (style_pieces include_hash style.now) limit) result out.new }
+    ensures grows { looks.old ≤ looks.new }
+    ensures most { looks.new ≤ looks.old + 16 * (style_len style.now + 1) }
+{
+    let mut limited = SizeLimitedFmtAdapter::new(out, limit);
+    let result = style.write_to(&mut limited, include_hash, looks);
+    if limited.is_over() {
+        put_piece("{size limit reached}", out)
+    } else {
+        result
+    }
+}
+
+impl<'a> Demangle<'a> {
+    /// The symbol as it was, without an ending that ThinLTO appended.
+    pub fn as_str(&self) -> &'a str
+        ensures { result.now ≡ self.now }
+    {
+        self.original
+    }
+
+    // Prints into a sink, by what it was handed.
+    fn hand_over<S: TextSink>(
+        &self,
+        out: &mut S,
+        include_hash: bool,
+        limit: usize,
+        looks: &mut Looks,
+    ) -> Result<(), SinkRefused>
+        requires { S.failed out.old ≡ false }
+        ensures hands { Hands S.TextSink out.old (handed self.now include_hash limit) result out.new }
+        ensures grows { looks.old ≤ looks.new }
+        ensures most { looks.new ≤ looks.old + 16 * (length self.now + 1) }
+        ensures unread { (IsSymbol self.now → ⊥) → looks.new ≡ looks.old }
+    {
+        let Some(style) = &self.style else {
+            return put_piece(self.original, out);
+        };
+        write_cut(style, out, include_hash, limit, looks)?;
+        put_piece(self.suffix, out)
+    }
+
+    /// Prints into a sink, cut at `limit` bytes before the suffix, and counts its looks.
+    ///
+    /// A piece that would go past the limit ends the path, and `{size limit reached}` and the suffix follow it. A text
+    /// that is no symbol has no limit. It is refused exactly where the sink failed in this call: then the sink was handed
+    /// nothing more, and one that keeps what it took holds the pieces in front of the refused one.
+    pub fn write_limited_counted<S: TextSink>(
+        &self,
+        out: &mut S,
+        include_hash: bool,
+        limit: usize,
+        looks: &mut Looks,
+    ) -> Result<(), SinkRefused>
+        requires { S.failed out.old ≡ false }
+        ensures text { OnOk result (S.took out.old (concat (handed self.now include_hash limit)) out.new) }
+        ensures alive { OnOk result (S.failed out.new ≡ false) }
+        ensures failed { OnErr result (S.failed out.new ≡ true) }
+        ensures kept { OnErr result (S.keeps ≡ true → HoldsFront S.TextSink out.old (handed self.now include_hash limit) out.new) }
+        ensures fits { Fits (size (handed self.now include_hash limit)) (S.room out.old) → IsOk result }
+        ensures grows { looks.old ≤ looks.new }
+        ensures most { looks.new ≤ looks.old + 16 * (length self.now + 1) }
+        ensures unread { (IsSymbol self.now → ⊥) → looks.new ≡ looks.old }
+    {
+        self.hand_over(out, include_hash, limit, looks)
+    }
+
+    /// Prints into a sink, cut at `limit` bytes before the suffix, as `write_limited_counted` does.
+    pub fn write_limited<S: TextSink>(
+        &self,
+        out: &mut S,
+        include_hash: bool,
+        limit: usize,
+    ) -> Result<(), SinkRefused>
+        requires { S.failed out.old ≡ false }
+        ensures text { OnOk result (S.took out.old (concat (handed self.now include_hash limit)) out.new) }
+        ensures alive { OnOk result (S.failed out.new ≡ false) }
+        ensures failed { OnErr result (S.failed out.new ≡ true) }
+        ensures kept { OnErr result (S.keeps ≡ true → HoldsFront S.TextSink out.old (handed self.now include_hash limit) out.new) }
+        ensures fits { Fits (size (handed self.now include_hash limit)) (S.room out.old) → IsOk result }
+    {
+        self.write_limited_counted(out, include_hash, limit, &mut Looks::new())
+    }
+
+    /// Prints into a sink, cut at 1,000,000 bytes before the suffix, and counts its looks, as `write_limited_counted` does.
+    pub fn write_counted<S: TextSink>(
+        &self,
+        out: &mut S,
+        include_hash: bool,
+        looks: &mut Looks,
+    ) -> Result<(), SinkRefused>
+        requires { S.failed out.old ≡ false }
+        ensures text { OnOk result (S.took out.old (concat (handed self.now include_hash MAX_SIZE)) out.new) }
+        ensures alive { OnOk result (S.failed out.new ≡ false) }
+        ensures failed { OnErr result (S.failed out.new ≡ true) }
+        ensures kept { OnErr result (S.keeps ≡ true → HoldsFront S.TextSink out.old (handed self.now include_hash MAX_SIZE) out.new) }
+        ensures fits { Fits (size (handed self.now include_hash MAX_SIZE)) (S.room out.old) → IsOk result }
+        ensures grows { looks.old ≤ looks.new }
+        ensures most { looks.new ≤ looks.old + 16 * (length self.now + 1) }
+        ensures unread { (IsSymbol self.now → ⊥) → looks.new ≡ looks.old }
+    {
+        self.write_limited_counted(out, include_hash, MAX_SIZE, looks)
+    }
+
+    /// Prints into a sink, cut at 1,000,000 bytes before the suffix, with the hash of a legacy symbol or without it.
+    ///
+    /// It is refused exactly where the sink failed in this call, as `write_limited_counted` says, and takes no memory.
+    pub fn write_to<S: TextSink>(&self, out: &mut S, include_hash: bool) -> Result<(), SinkRefused>
+        requires { S.failed out.old ≡ false }
+        ensures text { OnOk result (S.took out.old (concat (handed self.now include_hash MAX_SIZE)) out.new) }
+        ensures alive { OnOk result (S.failed out.new ≡ false) }
+        ensures failed { OnErr result (S.failed out.new ≡ true) }
+        ensures kept { OnErr result (S.keeps ≡ true → HoldsFront S.TextSink out.old (handed self.now include_hash MAX_SIZE) out.new) }
+        ensures fits { Fits (size (handed self.now include_hash MAX_SIZE)) (S.room out.old) → IsOk result }
+    {
+        self.write_limited(out, include_hash, MAX_SIZE)
+    }
+}
+
+// Whether a byte is a printable ASCII character that is no space.
+fn is_graphic(byte: u8) -> bool
+    ensures { result ≡ is_graphic byte }
+{
+    matches!(byte, 0x21..=0x7E)
+}
+
+// Whether a suffix is allowed: nothing, or `.` and graphic characters alone. It is one look for each byte.
+#[tactic(auto, using(crate::proofs::SuffixSteps::suffix_steps))]
+fn is_allowed(suffix: &str, looks: &mut Looks) -> bool
+    ensures allowed { result ≡ is_allowed suffix.now }
+    ensures grows { looks.old ≤ looks.new }
+    ensures most { looks.new ≤ looks.old + length suffix.now }
+{
+    let symbol = Symbol::new(suffix);
+    if symbol.len() == 0 {
+        return true;
+    }
+    if !symbol.is_at(b'.', 0, looks) {
+        return false;
+    }
+    for at in 1..symbol.len() {
+        let Some(byte) = symbol.byte(at, looks) else {
+            return false;
+        };
+        if !is_graphic(byte) {
+            return false;
+        }
+    }
+    true
+}
+
+// The style of a text and its suffix, if it is a symbol.
+fn style_of<'a>(text: &'a str, looks: &mut Looks) -> Option<(DemangleStyle<'a>, &'a str)>
+    ensures some { IfSome result (λ r. HasStyle text.now r.0 r.1.now) }
+    ensures none { IfNone result (HasNoStyle text.now) }
+    ensures grows { looks.old ≤ looks.new }
+    ensures most { looks.new ≤ looks.old + 9 * (length text.now + 1) }
+    ensures least { IfSome result (λ _. looks.old + (length text.now - 4) ≤ looks.new) }
+{
+    let Ok((symbol, suffix)) = legacy::demangle(text, looks) else {
+        return None;
+    };
+    if is_allowed(suffix, looks) {
+        Some((DemangleStyle::Legacy(symbol), suffix))
+    } else {
+        None
+    }
+}
+
+impl<'a> Demangle<'a> {
+    // The text, read as a symbol where it is one.
+    pub(crate) fn read(text: &'a str, looks: &mut Looks) -> Demangle<'a>
+        ensures text { result ≡ text.now }
+        ensures grows { looks.old ≤ looks.new }
+        ensures most { looks.new ≤ looks.old + 9 * (length text.now + 1) }
+        ensures least { IsSymbol text.now → looks.old + (length text.now - 4) ≤ looks.new }
+    {
+        match style_of(text, looks) {
+            Some((style, suffix)) => Demangle {
+                style: Some(style),
+                original: text,
+                suffix,
+            },
+            None => Demangle {
+                style: None,
+                original: text,
+                suffix: "",
+            },
+        }
+    }
+
+    // Whether it is a symbol.
+    pub(crate) fn has_style(&self) -> bool
+        ensures yes { IsTrue result → IsSymbol self.now }
+        ensures no { result ≡ false → IsSymbol self.now → ⊥ }
+    {
+        self.style.is_some()
+    }
+}
