@@ -52,6 +52,7 @@ pub mod Spelled
 pub mod Stepping
 pub mod StepsPaid
 pub mod StreamSteps
+pub mod StretchTexts
 pub mod StringPieces
 pub mod StripLaws
 pub mod Stripping
@@ -59,6 +60,7 @@ pub mod SuffixSteps
 pub mod SymbolSteps
 pub mod TableChecks
 pub mod TableCost
+pub mod TextPieces
 pub mod Turns
 pub mod Unique
 pub mod UnitMoves

@@ -4,6 +4,7 @@ mod grammar;
 mod machine;
 mod perform;
 mod reference;
+mod render;
 mod stretch;
 mod task;
 mod units;
