@@ -3,6 +3,7 @@ mod accept;
 mod grammar;
 mod machine;
 mod perform;
+mod printing;
 mod reference;
 mod render;
 mod stretch;
