@@ -15,6 +15,7 @@ pub mod Hex
 pub mod Idents
 pub mod Inserting
 pub mod Integers
+pub mod ItemFeeds
 pub mod LegacyElements
 pub mod LegacyLaws
 pub mod LegacyPrefix
@@ -47,8 +48,11 @@ pub mod Stripping
 pub mod SuffixSteps
 pub mod SymbolSteps
 pub mod TableCost
+pub mod TableFeeds
 pub mod Turns
 pub mod Unique
+pub mod V0Feeds
 pub mod V0Reading
 pub mod Whole
+pub mod WordFeeds
 pub mod WordLaws
