@@ -21,6 +21,7 @@ pub mod Hex
 pub mod Idents
 pub mod Inserting
 pub mod Integers
+pub mod ItemFeeds
 pub mod LegacyElements
 pub mod LegacyLaws
 pub mod LegacyPrefix
@@ -60,11 +61,14 @@ pub mod SuffixSteps
 pub mod SymbolSteps
 pub mod TableChecks
 pub mod TableCost
+pub mod TableFeeds
 pub mod TextPieces
 pub mod Turns
 pub mod Unique
 pub mod UnitMoves
 pub mod Units
+pub mod V0Feeds
 pub mod V0Reading
 pub mod Whole
+pub mod WordFeeds
 pub mod WordLaws
