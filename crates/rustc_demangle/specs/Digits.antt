@@ -1,5 +1,5 @@
 -- The digits of a symbol.
-use Rattle.std.specs.Prelude.{◌≡◌, ◌==◌, ℕ, ◌+◌, ◌-◌, ◌<◌, ◌&&◌, Bool, true, false, List, map, drop, nat_le, Option, Some, None, slice_get, slice_range}
+use Rattle.std.specs.Prelude.{◌≡◌, ◌==◌, ℕ, ◌+◌, ◌-◌, ◌<◌, ◌&&◌, Bool, false, List, map, drop, nat_le, Option, Some, None, slice_get, slice_range}
 use Rattle.std.specs.List.{prefix_len}
 use Rattle.std.specs.Int.Digits.{number_from_digits}
 

@@ -1,3 +1,5 @@
 //! What follows from the definitions that the contracts name. Each law is the contract of a function that does nothing.
 pub mod legacy;
 pub mod printing;
+pub mod v0_looks;
+pub mod v0_spelling;

@@ -1,4 +1,4 @@
-use Rattle.std.proofs.Common.{◌≡◌, ◌+◌, ◌≤◌}
+use Rattle.std.proofs.Common.{◌≡◌, ◌+◌}
 use Rattle.std.specs.List.{slice_range}
 use Rattle.rustc_demangle.specs.Digits.{run_end, is_digit_10, digit_10, number}
 use Rattle.rustc_demangle.proofs.cursor.Symbol.decimal.Given as goal
