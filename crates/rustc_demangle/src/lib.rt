@@ -10,6 +10,7 @@ pub mod laws;
 mod legacy;
 pub mod sink;
 mod strip;
+mod v0;
 mod value;
 
 pub use cursor::Looks;
