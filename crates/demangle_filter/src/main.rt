@@ -1,11 +1,13 @@
-//! Demangles a line of standard input on standard output.
+//! Copies standard input to standard output with each Rust symbol demangled.
 #![tactic(auto)]
 
 mod filter;
+mod pausing;
 #[cfg(test)]
 mod tests;
 
 use filter::{OUT_OF_MEMORY, USAGE, filter_run, report};
+use pausing::PausingOutput;
 use std::io::{BufReader, BufWriter, ErrorKind};
 use std::process::ExitCode;
 use std::rt::Env;
@@ -29,17 +31,18 @@ fn main(rt: HostRuntime) -> ExitCode {
             return ExitCode::from(report(&mut errors, USAGE, 2));
         }
     };
-    let Ok(mut input) = BufReader::new(alloc, rt.stdin().lock()) else {
+    let Ok(buffer) = BufWriter::new(alloc, rt.stdout().lock()) else {
         return ExitCode::from(report(&mut errors, OUT_OF_MEMORY, 1));
     };
-    let Ok(mut output) = BufWriter::new(alloc, rt.stdout().lock()) else {
+    let output = PausingOutput::new(buffer);
+    let Ok(mut input) = BufReader::new(alloc, output.reader(rt.stdin().lock())) else {
         return ExitCode::from(report(&mut errors, OUT_OF_MEMORY, 1));
     };
     let status = filter_run(
         alloc,
         words.as_slice(),
         &mut input,
-        &mut output,
+        &mut output.writer(),
         &mut errors,
     );
     ExitCode::from(status)

@@ -1,6 +1,11 @@
 //! What symbols print, by vectors from the Rust crate, as tests of the library.
 #![tactic(auto)]
 
+ghost use Rattle.std.specs.Prelude.{◌≡◌, ◌≢◌, ◌≤◌, IsTrue, false};
+ghost use Rattle.rustc_demangle.specs.Cut.{size};
+ghost use Rattle.rustc_demangle.specs.Stripped.{stripped};
+ghost use Rattle.rustc_demangle.specs.Symbols.{handed, most_bytes, printed};
+
 mod refusing_sink;
 #[cfg(test)]
 mod tests;
@@ -10,7 +15,10 @@ use rustc_demangle::demangle;
 use rustc_demangle::sink::ArraySink;
 
 /// Whether a text prints this, with the hash or without it, in at most 4,096 bytes.
-pub fn printed_is(symbol: &str, include_hash: bool, text: &str) -> bool {
+pub fn printed_is(symbol: &str, include_hash: bool, text: &str) -> bool
+    ensures yes { IsTrue result → text.now ≡ printed (stripped symbol.now) include_hash }
+    ensures no { size (handed (stripped symbol.now) include_hash most_bytes) ≤ 4096 → result ≡ false → text.now ≢ printed (stripped symbol.now) include_hash }
+{
     let mut sink: ArraySink<4096> = ArraySink::new();
     demangle(symbol).write_to(&mut sink, include_hash).is_ok() && sink.as_str() == text
 }

@@ -6,11 +6,14 @@ use std::alloc::{AllocError, Global};
 use std::process::Abort;
 
 mod calls;
+mod formats;
 mod hostile;
 mod legacy;
 mod limits;
 mod refused;
 mod sinks;
+mod stream;
+mod streams;
 
 /// Asserts that a text is a symbol that prints these, with the hash and without it.
 fn assert_prints(rt: &impl Abort, symbol: &str, plain: &str, alt: &str) {

@@ -8,7 +8,7 @@ use Rattle.rustc_demangle.specs.Items.{Items}
 use Rattle.rustc_demangle.specs.Reading.{looked, node, Place, Outcome, Surroundings, run, turns, stands, behind, word, resumed, forked, followed_by, closed, opened, named, bound_by}
 use Rattle.rustc_demangle.specs.Spelling.{Rule, Spells}
 use Rattle.rustc_demangle.proofs.Spelled.{rule, SpeltAt, SpeltBelow, spelt}
-use Rattle.rustc_demangle.proofs.Counts.{Placed, identifier_placed}
+use Rattle.rustc_demangle.proofs.Counts.{Placed, placed, identifier_placed}
 use Rattle.rustc_demangle.proofs.Complete.{Moves, gains, grows}
 
 abbrev pub Within : List ℕ → ℕ → Place → Type 0
@@ -88,3 +88,32 @@ more_bindings (suc j) (suc k) s f a o (Some i) h l =
     (λ b m p q. ap (λ z. behind (named b) (behind (node (f (Some m)).tree) z))
     (more_bindings j k s f a true (f (Some m)).place (covers_next s.symbol j i (f (Some m)).place (within_later s.symbol (i + 1) m (f (Some m)).place (omega (arith, p)) (a m q)) h.1) (covers_next s.symbol k i (f (Some m)).place (within_later s.symbol (i + 1) m (f (Some m)).place (omega (arith, p)) (a m q)) l.1)))))
     (λ _. refl)
+
+-- all bindings
+abbrev pub all_bindings : Surroundings → (Place → Outcome) → Bool → Place → Outcome
+all_bindings s f = bound_by (suc (length s.symbol)) s f
+
+-- one of them, and all again
+pub bindings_on : (s : Surroundings) (f : Place → Outcome) (o : Bool) (i k : ℕ) (a : Name) → Keeps s.symbol f → is_byte s.symbol i (code "p") ≡ true → identifier_at s.symbol (i + 1) ≡ Some (a, k) →
+    all_bindings s f o (Some i) ≡ behind (looked 1) (behind (opened o) (behind (looked (4 * (k - (i + 1) + 1))) (behind (named a) (followed_by (f (Some k)) (all_bindings s f true)))))
+unfolding bound_by
+bindings_on s f o i k a keeps e w =
+    let p : (i + 1 + 1 ≤ k) × (k ≤ length s.symbol) = placed (i + 1 + 1) s.symbol (identifier_at s.symbol (i + 1)) (identifier_placed s.symbol (i + 1)) a k w in
+    let h : Within s.symbol k (f (Some k)).place = keeps k p.1 in
+    let same : bound_by (length s.symbol) s f true (f (Some k)).place ≡ all_bindings s f true (f (Some k)).place =
+    more_bindings (length s.symbol) (suc (length s.symbol)) s f keeps true (f (Some k)).place
+    (covers_next s.symbol (length s.symbol) i (f (Some k)).place (within_later s.symbol (i + 1) k (f (Some k)).place (omega (arith, p.0)) h) (omega arith))
+    (covers_next s.symbol (suc (length s.symbol)) i (f (Some k)).place (within_later s.symbol (i + 1) k (f (Some k)).place (omega (arith, p.0)) h) (omega arith)) in
+    subst (λ c. forked c (λ z. behind (opened o) (word s z identifier_at (λ b m. behind (named b) (followed_by (f m) (bound_by (length s.symbol) s f true))))) (closed o) (Some i)
+    ≡ behind (looked 1) (behind (opened o) (behind (looked (4 * (k - (i + 1) + 1))) (behind (named a) (followed_by (f (Some k)) (all_bindings s f true)))))) (sym e)
+    (subst (λ r. behind (looked 1) (behind (opened o) (resumed (length s.symbol) (i + 1) (λ b m. behind (named b) (followed_by (f m) (bound_by (length s.symbol) s f true))) r))
+    ≡ behind (looked 1) (behind (opened o) (behind (looked (4 * (k - (i + 1) + 1))) (behind (named a) (followed_by (f (Some k)) (all_bindings s f true)))))) (sym w)
+    (ap (λ z. behind (looked 1) (behind (opened o) (behind (looked (4 * (k - (i + 1) + 1))) (behind (named a) (behind (node (f (Some k)).tree) z))))) same))
+
+-- items end no earlier than they begin
+pub keeps : (p : Items) (s : Surroundings) (d : ℕ) → SpeltAt s.symbol d s.here → SpeltBelow s.symbol d s.deeper → Keeps s.symbol (run p s)
+keeps p s d c e i l = go (run p s (Some i)).place refl
+  where
+    go : (x : Place) → (run p s (Some i)).place ≡ x → Within s.symbol i x
+    go None h = tt
+    go (Some j) h = grows (spelt p s d c e i j h) l

@@ -20,6 +20,7 @@ IsElements (element ∷ elements) text suffix =
     (word : List ℕ) × (rest : List ℕ) × (text ≡ word ++ (element ++ rest)) × IsDigitWord word (length element)
     × NoDigitFirst (element ++ rest) × IsElements elements rest suffix
 
+-- also without the leading underscore, as on Windows, and with one more, as on macOS
 abbrev pub IsLegacyPrefix : List ℕ → Type 0
 IsLegacyPrefix p = (p ≡ codes "_ZN") ⊎ (p ≡ codes "ZN") ⊎ (p ≡ codes "__ZN")
 
@@ -81,6 +82,7 @@ behind_E (c ∷ s) = if c == 69 then Some s else None
 abbrev pub suffix_of : List ℕ → Option (List ℕ)
 suffix_of inner = behind_E (parts_of inner).1
 
+-- the elements and the suffix of what stands behind the prefix, if all of it is ASCII
 abbrev pub read_inner : List ℕ → Option (List (List ℕ) × List ℕ)
 read_inner inner = if list_all is_ascii inner then option_map (λ suffix. (elements_of inner, suffix)) (suffix_of inner) else None
 

@@ -6,10 +6,11 @@ use Rattle.std.specs.Int.{is_in_range}
 use Rattle.rustc_demangle.specs.Digits.{number}
 use lib.Utf8.{scalar as is_scalar}
 
--- '$', and '$' or '.'
+-- '$'
 abbrev pub is_dollar : ℕ → Bool
 is_dollar c = c == 36
 
+-- '$' or '.'
 abbrev pub is_special : ℕ → Bool
 is_special c = c == 36 || c == 46
 
@@ -17,6 +18,7 @@ is_special c = c == 36 || c == 46
 abbrev pub is_lower_hex : ℕ → Bool
 is_lower_hex c = is_in_range 48 57 c || is_in_range 97 102 c
 
+-- the value of such a digit
 abbrev pub lower_hex : ℕ → ℕ
 lower_hex c = if nat_le c 57 then c - 48 else c - 87
 

@@ -7,9 +7,18 @@ ghost use Rattle.rustc_demangle.specs.Limit.{Prints, Ready};
 use crate::sink::{SinkRefused, SizeLimitedFmtAdapter, TextSink};
 use std::marker::Model;
 
+mod hex;
+mod ident;
 mod looks;
+#[cfg(test)]
+mod tests;
+mod words;
 
+pub use hex::MAX_NIBBLES;
+pub(crate) use hex::nibble_of;
+pub use ident::Ident;
 pub use looks::Looks;
+pub use words::MAX_DEPTH;
 
 #[derive(Clone, Copy, Debug, PartialEq, Eq)]
 pub enum ParseError {

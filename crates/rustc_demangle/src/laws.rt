@@ -1,5 +1,8 @@
 //! What follows from the definitions that the contracts name. Each law is the contract of a function that does nothing.
+pub mod filtering;
 pub mod legacy;
+pub mod names;
 pub mod printing;
 pub mod v0_looks;
 pub mod v0_spelling;
+pub mod v0_words;

@@ -6,14 +6,19 @@ ghost use Rattle.rustc_demangle.specs.Stripped.{stripped};
 ghost use Rattle.rustc_demangle.specs.Symbols.{IsSymbol};
 
 mod cursor;
+mod display;
 pub mod laws;
 mod legacy;
+mod literal;
+mod punycode;
 pub mod sink;
+mod stream;
 mod strip;
 mod v0;
 mod value;
 
 pub use cursor::Looks;
+pub use stream::{StreamFault, demangle_stream, demangle_stream_named};
 use strip::without_thin_lto;
 pub use value::Demangle;
 

@@ -3,11 +3,13 @@ ghost use Rattle.std.specs.Prelude.{◌≡◌, ℕ, List, [], ◌++◌, length, 
 ghost use Rattle.rustc_demangle.specs.Sink.{Fits, room_after};
 
 mod array_sink;
+mod chars;
 mod fmt_sink;
 mod limit;
 mod write_sink;
 
 pub use array_sink::ArraySink;
+pub(crate) use chars::{put_char, put_chars};
 pub(crate) use fmt_sink::FmtSink;
 pub(crate) use limit::{SizeLimitedFmtAdapter, put_piece};
 pub use write_sink::WriteSink;

@@ -1,5 +1,6 @@
 //! Streams in memory that refuse.
 use std::alloc::{AllocError, Global};
+use std::cell::Cell;
 use std::io;
 use std::io::{BufRead, ErrorKind, Read, Write};
 
@@ -37,10 +38,12 @@ impl Read for PartsReader<'_> {
 
 impl BufRead for PartsReader<'_> {
     fn fill_buf(&mut self) -> io::Result<&[u8]> {
-        if self.fills_left == 0 {
-            return Err(io::Error::from(self.fault));
+        if self.taken == 0 {
+            if self.fills_left == 0 {
+                return Err(io::Error::from(self.fault));
+            }
+            self.fills_left -= 1;
         }
-        self.fills_left -= 1;
         match self.parts.get(self.part) {
             None => Ok(b""),
             Some(part) => Ok(part.get(self.taken..).unwrap_or(b"")),
@@ -101,5 +104,91 @@ impl Write for RefusingWriter {
         } else {
             Err(io::Error::from(ErrorKind::BrokenPipe))
         }
+    }
+}
+
+/// Notes each write.
+#[derive(Drop)]
+pub struct NotingWriter {
+    writes: Vec<Vec<u8>>,
+    alloc: Global,
+}
+
+impl NotingWriter {
+    pub fn new(alloc: Global) -> NotingWriter {
+        NotingWriter {
+            writes: Vec::new(alloc),
+            alloc,
+        }
+    }
+
+    pub fn writes(&self) -> &[Vec<u8>] {
+        self.writes.as_slice()
+    }
+}
+
+impl Write for NotingWriter {
+    fn write(&mut self, buf: &[u8]) -> io::Result<usize> {
+        self.writes.push(Vec::from_slice(self.alloc, buf)?)?;
+        Ok(buf.len())
+    }
+
+    fn flush(&mut self) -> io::Result<()> {
+        Ok(())
+    }
+}
+
+/// Holds what is written, and tells its reader whether that was flushed.
+#[derive(Drop)]
+pub struct WatchedWriter<'a> {
+    held: Vec<u8>,
+    is_unflushed: &'a Cell<bool>,
+}
+
+impl<'a> WatchedWriter<'a> {
+    pub fn new(held: Vec<u8>, is_unflushed: &'a Cell<bool>) -> WatchedWriter<'a> {
+        WatchedWriter { held, is_unflushed }
+    }
+
+    pub fn held(&self) -> &[u8] {
+        self.held.as_slice()
+    }
+}
+
+impl Write for WatchedWriter<'_> {
+    fn write(&mut self, buf: &[u8]) -> io::Result<usize> {
+        self.held.extend_from_slice(buf)?;
+        self.is_unflushed.set(true);
+        Ok(buf.len())
+    }
+
+    fn flush(&mut self) -> io::Result<()> {
+        self.is_unflushed.set(false);
+        Ok(())
+    }
+}
+
+/// Hands out its parts, and fails where it is read while something that was written is not flushed.
+#[derive(Drop)]
+pub struct WatchingReader<'a> {
+    parts: PartsReader<'a>,
+    is_unflushed: &'a Cell<bool>,
+}
+
+impl<'a> WatchingReader<'a> {
+    pub fn new(parts: &'a [&'a [u8]], is_unflushed: &'a Cell<bool>) -> WatchingReader<'a> {
+        WatchingReader {
+            parts: PartsReader::new(parts, 100, ErrorKind::Other),
+            is_unflushed,
+        }
+    }
+}
+
+impl Read for WatchingReader<'_> {
+    fn read(&mut self, buf: &mut [u8]) -> io::Result<usize> {
+        if self.is_unflushed.get() {
+            return Err(io::Error::from(ErrorKind::Other));
+        }
+        self.parts.read(buf)
     }
 }

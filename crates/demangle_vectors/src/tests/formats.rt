@@ -1,0 +1,66 @@
+//! What `Display` and `Debug` write.
+use rustc_demangle::demangle;
+use std::fmt;
+use std::fmt::Write;
+use std::test::Fail;
+
+#[test]
+fn the_alternate_flag_leaves_out_the_hash(rt: HostRuntime) -> Result<(), Fail> {
+    let alloc = rt.alloc();
+    for (symbol, plain, alt) in [
+        (
+            "_ZN3foo17h05af221e174051e9E",
+            "foo::h05af221e174051e9",
+            "foo",
+        ),
+        ("_ZN3fooE.x", "foo.x", "foo.x"),
+        ("_ZN1hE", "h", ""),
+        ("no symbol.llvm.AB", "no symbol", "no symbol"),
+    ] {
+        let symbol = demangle(symbol);
+        assert_eq!(rt; format!(in alloc; "{}", symbol)?.as_str(), plain);
+        assert_eq!(rt; format!(in alloc; "{:?}", symbol)?.as_str(), plain);
+        assert_eq!(rt; format!(in alloc; "{:>40}", symbol)?.as_str(), plain);
+        assert_eq!(rt; format!(in alloc; "{:*^+040.2}", symbol)?.as_str(), plain);
+        assert_eq!(rt; format!(in alloc; "{:#}", symbol)?.as_str(), alt);
+        assert_eq!(rt; format!(in alloc; "{:#?}", symbol)?.as_str(), alt);
+    }
+    Ok(())
+}
+
+/// Takes so many texts, and refuses those behind them.
+#[derive(Drop)]
+struct Refusing {
+    left: usize,
+}
+
+impl fmt::Write for Refusing {
+    fn write_str(&mut self, _s: &str) -> fmt::Result {
+        if self.left == 0 {
+            return Err(fmt::Error);
+        }
+        self.left -= 1;
+        Ok(())
+    }
+}
+
+#[test]
+fn a_refused_piece_is_an_error(rt: HostRuntime) {
+    let symbol = demangle("_ZN1a1bE.x");
+    for left in 0..5usize {
+        let mut text = Refusing { left };
+        assert_eq!(rt;
+            write!(text, "{}", symbol).is_ok(),
+            left == 4,
+            "with {left}"
+        );
+        let mut text = Refusing { left };
+        assert_eq!(rt;
+            write!(text, "{:?}", symbol).is_ok(),
+            left == 4,
+            "with {left}"
+        );
+    }
+    let mut text = Refusing { left: 0 };
+    assert!(rt; write!(text, "{}", demangle("_ZNE")).is_ok());
+}

@@ -1,0 +1,308 @@
+-- The line feeds of what is printed and written.
+use Rattle.std.proofs.Common.{◌≡◌, ◌≢◌, ◌==◌, ℕ, zero, suc, ◌+◌, ◌-◌, ◌/◌, ◌%◌, ◌≤◌, ◌⊎◌, inl, inr, not, ◌&&◌, Bool, true, false, eqb, cond, List, [], ◌∷◌, ◌++◌, length, take, drop, Option, None, Some, refl, sym, ap, ◌∙◌, arith, codes, nat_eq, ne_eqb, bytes_eq, ltb, append-nil, option_map, option_and_then}
+use Rattle.std.specs.List.{concat, prefix_len, take_while, list_all, starts_with, position}
+use Rattle.std.specs.Option.{option_map_or}
+use Rattle.std.proofs.lemmas.List.{take-append-drop}
+use Rattle.std.proofs.lemmas.List.Folds.{concat-append}
+use Rattle.std.proofs.lemmas.Bool.Decides.{leb_tells}
+use Rattle.std.proofs.lemmas.Bool.{true≢false}
+use Rattle.std.specs.Char.{encode_utf8, is_control}
+use Rattle.rustc_demangle.specs.Digits.{number}
+use lib.Utf8.{scalar as is_scalar}
+use Rattle.rustc_demangle.specs.Stripped.{stripped, is_thin_lto}
+use Rattle.rustc_demangle.specs.Symbols.{pieces_of, handed, printed, most_bytes}
+use Rattle.rustc_demangle.specs.Filtered.{is_run, begins_run, replacement, filtered_from, filtered}
+use Rattle.rustc_demangle.specs.Stream.{output_of}
+use Rattle.rustc_demangle.proofs.FilterLaws.{run_all}
+use Rattle.rustc_demangle.proofs.LineDivision.{lines_join}
+use Rattle.rustc_demangle.proofs.RunSteps.{turn, first_of_run}
+use Rattle.rustc_demangle.proofs.SymbolSteps.{symbol-pieces, pieces-symbol}
+use Rattle.rustc_demangle.specs.Cut.{size, fitting, cut, marker}
+use Rattle.rustc_demangle.specs.Lines.{lines, feeds}
+use Rattle.rustc_demangle.specs.Legacy.{IsElements, IsLegacy}
+use Rattle.rustc_demangle.specs.Unescaped.{escape_of_code, escape_of_digits, escape_of, lower_hex, unit_of, pieces_from, unescaped, is_hash, shown, continued, joined, legacy_pieces, is_lower_hex, is_dollar, is_special}
+
+cases : (b : Bool) → (b ≡ true) ⊎ (b ≡ false)
+cases true = inl refl
+cases false = inr refl
+
+pub feeds-append : (xs ys : List ℕ) → feeds (xs ++ ys) ≡ feeds xs + feeds ys
+feeds-append [] ys = omega arith
+feeds-append (b ∷ xs) ys = omega (arith, feeds-append xs ys)
+
+pub feeds-concat : (xs ys : List (List ℕ)) → feeds (concat (xs ++ ys)) ≡ feeds (concat xs) + feeds (concat ys)
+feeds-concat xs ys = ap feeds (concat-append xs ys) ∙ feeds-append (concat xs) (concat ys)
+
+feeds-cons : (x : List ℕ) (xs : List (List ℕ)) → feeds (concat (x ∷ xs)) ≡ feeds x + feeds (concat xs)
+feeds-cons x xs = feeds-append x (concat xs)
+
+feeds-take : (n : ℕ) (xs : List ℕ) → feeds (take n xs) ≤ feeds xs
+feeds-take n xs = omega (arith, ap feeds (take-append-drop n xs), feeds-append (take n xs) (drop n xs))
+
+feeds-drop : (n : ℕ) (xs : List ℕ) → feeds (drop n xs) ≤ feeds xs
+feeds-drop n xs = omega (arith, ap feeds (take-append-drop n xs), feeds-append (take n xs) (drop n xs))
+
+feeds-other : (b : ℕ) (xs : List ℕ) → b ≢ 10 → feeds (b ∷ xs) ≡ feeds xs
+feeds-other b xs ne = ap (λ t. cond t 1 0 + feeds xs) (ne_eqb b 10 ne) ∙ omega arith
+
+-- what fits of pieces, and what is cut of them
+feeds-fitting : (pieces : List (List ℕ)) (limit : ℕ) → feeds (concat (fitting pieces limit)) ≤ feeds (concat pieces)
+feeds-fitting [] limit = omega arith
+feeds-fitting (piece ∷ pieces) limit = elim (leb_tells (length piece) limit) [
+  | inl e ↦ rw (e.0) (omega (arith, feeds-fitting pieces (limit - length piece), feeds-cons piece pieces, feeds-cons piece (fitting pieces (limit - length piece))))
+  | inr e ↦ rw (e.0) (omega arith)
+]
+
+feeds-cut : (pieces : List (List ℕ)) (limit : ℕ) → feeds (concat (cut pieces limit)) ≤ feeds (concat pieces)
+feeds-cut pieces limit = elim (leb_tells (size pieces) limit) [
+  | inl e ↦ rw (e.0) (omega arith)
+  | inr e ↦ rw (e.0) (omega (arith, feeds-fitting pieces limit, feeds-concat (fitting pieces limit) (marker ∷ [])))
+]
+
+-- a character that is no control is written without a line feed
+feeds-encode : (c : ℕ) → is_control c ≡ false → feeds (encode_utf8 c) ≡ 0
+unfolding encode_utf8
+feeds-encode c no_control = go (ltb c 128) (ltb c 2048) (ltb c 65536)
+  where
+    ne : c ≢ 10
+    ne same = true≢false (ap is_control (sym same) ∙ no_control)
+
+    two : (x y : ℕ) → feeds ((192 + x) ∷ (128 + y) ∷ []) ≡ 0
+    two x y = feeds-other (192 + x) ((128 + y) ∷ []) (λ same. omega (arith, same)) ∙ feeds-other (128 + y) [] (λ same. omega (arith, same))
+
+    three : (x y z : ℕ) → feeds ((224 + x) ∷ (128 + y) ∷ (128 + z) ∷ []) ≡ 0
+    three x y z = feeds-other (224 + x) ((128 + y) ∷ (128 + z) ∷ []) (λ same. omega (arith, same)) ∙ feeds-other (128 + y) ((128 + z) ∷ []) (λ same. omega (arith, same)) ∙ feeds-other (128 + z) [] (λ same. omega (arith, same))
+
+    four : (x y z w : ℕ) → feeds ((240 + x) ∷ (128 + y) ∷ (128 + z) ∷ (128 + w) ∷ []) ≡ 0
+    four x y z w = feeds-other (240 + x) ((128 + y) ∷ (128 + z) ∷ (128 + w) ∷ []) (λ same. omega (arith, same)) ∙ feeds-other (128 + y) ((128 + z) ∷ (128 + w) ∷ []) (λ same. omega (arith, same))
+        ∙ feeds-other (128 + z) ((128 + w) ∷ []) (λ same. omega (arith, same)) ∙ feeds-other (128 + w) [] (λ same. omega (arith, same))
+
+    go : (x y z : Bool) → feeds (cond x (c ∷ []) (cond y ((192 + c / 64) ∷ (128 + c % 64) ∷ []) (cond z ((224 + c / 4096) ∷ (128 + c / 64 % 64) ∷ (128 + c % 64) ∷ []) ((240 + c / 262144) ∷ (128 + c / 4096 % 64) ∷ (128 + c / 64 % 64) ∷ (128 + c % 64) ∷ [])))) ≡ 0
+    go true y z = feeds-other c [] ne
+    go false true z = two (c / 64) (c % 64)
+    go false false true = three (c / 4096) (c / 64 % 64) (c % 64)
+    go false false false = four (c / 262144) (c / 4096 % 64) (c / 64 % 64) (c % 64)
+
+-- the text in it, or none
+in_text : Option (List ℕ) → List ℕ
+in_text None = []
+in_text (Some text) = text
+
+none≢some : {x : List ℕ} → None ≡ Some x → ⊥
+none≢some e = cc
+
+-- a choice of texts without line feeds
+pick : (b : Bool) (one : List ℕ) (rest : Option (List ℕ)) (text : List ℕ) → feeds one ≡ 0 → (rest ≡ Some text → feeds text ≡ 0)
+    → cond b (Some one) rest ≡ Some text → feeds text ≡ 0
+unfolding in_text
+pick true one rest text none more e = ap (λ o. feeds (in_text o)) (sym e) ∙ none
+pick false one rest text none more e = more e
+
+feeds-code : (c : ℕ) (text : List ℕ) → escape_of_code c ≡ Some text → feeds text ≡ 0
+feeds-code c text e = at (is_scalar c) (is_control c) refl e
+  where
+    at : (b control : Bool) → is_control c ≡ control → cond (b && not control) (Some (encode_utf8 c)) None ≡ Some text → feeds text ≡ 0
+    at true false is e = pick true (encode_utf8 c) None text (feeds-encode c is) (λ f. absurd (none≢some f)) e
+    at true true is e = absurd (none≢some e)
+    at false control is e = absurd (none≢some e)
+
+feeds-digits : (digits text : List ℕ) → escape_of_digits digits ≡ Some text → feeds text ≡ 0
+unfolding escape_of_digits
+feeds-digits [] text e = absurd (none≢some e)
+feeds-digits (d ∷ ds) text e = at (list_all is_lower_hex (d ∷ ds)) e
+  where
+    at : (b : Bool) → cond b (escape_of_code (number 16 lower_hex (d ∷ ds))) None ≡ Some text → feeds text ≡ 0
+    at true e = feeds-code (number 16 lower_hex (d ∷ ds)) text e
+    at false e = absurd (none≢some e)
+
+feeds-escape : (name text : List ℕ) → escape_of name ≡ Some text → feeds text ≡ 0
+unfolding escape_of
+feeds-escape name text e =
+    pick (bytes_eq name (codes "SP")) (codes "@") _ text refl
+    (pick (bytes_eq name (codes "BP")) (codes "*") _ text refl
+    (pick (bytes_eq name (codes "RF")) (codes "&") _ text refl
+    (pick (bytes_eq name (codes "LT")) (codes "<") _ text refl
+    (pick (bytes_eq name (codes "GT")) (codes ">") _ text refl
+    (pick (bytes_eq name (codes "LP")) (codes "(") _ text refl
+    (pick (bytes_eq name (codes "RP")) (codes ")") _ text refl
+    (pick (bytes_eq name (codes "C")) (codes ",") _ text refl
+    (digits (starts_with nat_eq name (codes "u"))))))))))
+    e
+  where
+    digits : (b : Bool) → cond b (escape_of_digits (drop 1 name)) None ≡ Some text → feeds text ≡ 0
+    digits true e = feeds-digits (drop 1 name) text e
+    digits false e = absurd (none≢some e)
+
+-- what a unit prints, and how much of the text it takes
+unit_text : Option (List ℕ × ℕ) → List ℕ
+unit_text None = []
+unit_text (Some u) = u.0
+
+unit_len : Option (List ℕ × ℕ) → ℕ
+unit_len None = 0
+unit_len (Some u) = u.1
+
+-- a unit prints no more line feeds than it takes
+feeds-unit : (c : ℕ) (s : List ℕ) (u : List ℕ × ℕ) → unit_of c s ≡ Some u → feeds u.0 ≤ feeds (c ∷ take u.1 s)
+unfolding unit_of unit_text unit_len
+feeds-unit c s u e = first (eqb c 46) (starts_with nat_eq s (codes ".")) e
+  where
+    none : feeds u.0 ≡ 0 → feeds u.0 ≤ feeds (c ∷ take u.1 s)
+    none is = omega (arith, is)
+
+    escaped : (n : ℕ) (read : Option (List ℕ)) → escape_of (take n s) ≡ read → option_map (λ text. (text, n + 1)) read ≡ Some u → feeds u.0 ≤ feeds (c ∷ take u.1 s)
+    escaped n None is e = cc
+    escaped n (Some text) is e = none (ap (λ o. feeds (unit_text o)) (sym e) ∙ feeds-escape (take n s) text is)
+
+    dollar : (at : Option ℕ) → option_and_then (λ n. option_map (λ text. (text, n + 1)) (escape_of (take n s))) at ≡ Some u → feeds u.0 ≤ feeds (c ∷ take u.1 s)
+    dollar None e = cc
+    dollar (Some n) e = escaped n (escape_of (take n s)) refl e
+
+    plain : (at : Option ℕ) → option_map (λ n. (c ∷ take n s, n)) at ≡ Some u → feeds u.0 ≤ feeds (c ∷ take u.1 s)
+    plain None e = cc
+    plain (Some n) e =
+        let text : feeds u.0 ≡ feeds (c ∷ take n s) = ap (λ o. feeds (unit_text o)) (sym e) in
+        let len : u.1 ≡ n = ap unit_len (sym e) in
+        let same : feeds u.0 ≡ feeds (c ∷ take u.1 s) = text ∙ ap (λ k. feeds (c ∷ take k s)) (sym len) in
+        omega (arith, same)
+
+    second : (b : Bool) → cond b (option_and_then (λ n. option_map (λ text. (text, n + 1)) (escape_of (take n s))) (position is_dollar s)) (option_map (λ n. (c ∷ take n s, n)) (position is_special s)) ≡ Some u
+        → feeds u.0 ≤ feeds (c ∷ take u.1 s)
+    second true e = dollar (position is_dollar s) e
+    second false e = plain (position is_special s) e
+
+    first : (b d : Bool) → cond b (cond d (Some (codes "::", 1)) (Some (codes ".", 0)))
+        (cond (eqb c 36) (option_and_then (λ n. option_map (λ text. (text, n + 1)) (escape_of (take n s))) (position is_dollar s)) (option_map (λ n. (c ∷ take n s, n)) (position is_special s))) ≡ Some u
+        → feeds u.0 ≤ feeds (c ∷ take u.1 s)
+    first true true e = none (ap (λ o. feeds (unit_text o)) (sym e))
+    first true false e = none (ap (λ o. feeds (unit_text o)) (sym e))
+    first false d e = second (eqb c 36) e
+
+feeds-pieces : (skip : ℕ) (s : List ℕ) → feeds (concat (pieces_from skip s)) ≤ feeds (drop skip s)
+unfolding pieces_from
+feeds-pieces zero [] = omega arith
+feeds-pieces (suc skip) [] = omega arith
+feeds-pieces (suc skip) (c ∷ s) = feeds-pieces skip s
+feeds-pieces zero (c ∷ s) = at (λ n. feeds-pieces n s) (unit_of c s) refl
+  where
+    at : ((n : ℕ) → feeds (concat (pieces_from n s)) ≤ feeds (drop n s)) → (read : Option (List ℕ × ℕ)) → unit_of c s ≡ read
+        → feeds (concat (elim read [ None ↦ (c ∷ s) ∷ [] | Some u ↦ u.0 ∷ pieces_from (u.1) s ])) ≤ feeds (c ∷ s)
+    at behind None is = omega (arith, feeds-cons (c ∷ s) [], ap feeds (append-nil (c ∷ s)))
+    at behind (Some u) is =
+        let one = feeds-unit c s u is in
+        let more = behind (u.1) in
+        let whole : feeds (c ∷ s) ≡ feeds (c ∷ take u.1 s) + feeds (drop u.1 s) = ap (λ l. feeds (c ∷ l)) (sym (take-append-drop u.1 s)) ∙ feeds-append (c ∷ take u.1 s) (drop u.1 s) in
+        omega (arith, one, more, whole, feeds-cons u.0 (pieces_from (u.1) s))
+
+feeds-unescaped : (element : List ℕ) → feeds (concat (unescaped element)) ≤ feeds element
+unfolding unescaped
+feeds-unescaped element = at (starts_with nat_eq element (codes "_$"))
+  where
+    at : (b : Bool) → feeds (concat (cond b (pieces_from 1 element) (pieces_from 0 element))) ≤ feeds element
+    at true = omega (arith, feeds-pieces 1 element, feeds-drop 1 element)
+    at false = feeds-pieces 0 element
+
+feeds-continued : (elements : List (List ℕ)) → feeds (concat (continued elements)) ≤ feeds (concat elements)
+feeds-continued [] = omega arith
+feeds-continued (e ∷ es) =
+    omega (arith, feeds-unescaped e, feeds-continued es, feeds-cons e es, feeds-concat (unescaped e) (continued es), feeds-cons (codes "::") (unescaped e ++ continued es))
+
+feeds-joined : (elements : List (List ℕ)) → feeds (concat (joined elements)) ≤ feeds (concat elements)
+feeds-joined [] = omega arith
+feeds-joined (e ∷ es) = omega (arith, feeds-unescaped e, feeds-continued es, feeds-cons e es, feeds-concat (unescaped e) (continued es))
+
+feeds-shown : (hash : Bool) (elements : List (List ℕ)) → feeds (concat (shown hash elements)) ≤ feeds (concat elements)
+unfolding shown
+feeds-shown hash [] = omega arith
+feeds-shown hash (e ∷ []) = at (not hash && is_hash e)
+  where
+    at : (b : Bool) → feeds (concat (cond b [] (e ∷ []))) ≤ feeds (concat (e ∷ []))
+    at true = omega arith
+    at false = omega arith
+feeds-shown hash (e ∷ f ∷ es) = omega (arith, feeds-shown hash (f ∷ es), feeds-cons e (f ∷ es), feeds-cons e (shown hash (f ∷ es)))
+
+feeds-elements : (elements : List (List ℕ)) (text suffix : List ℕ) → IsElements elements text suffix → feeds (concat elements) + feeds suffix ≤ feeds text
+feeds-elements [] text suffix is = omega (arith, ap feeds is)
+feeds-elements (element ∷ elements) text suffix is =
+    omega (arith, feeds-elements elements is.1 suffix is.5, ap feeds is.2, feeds-append is.0 (element ++ is.1), feeds-append element is.1, feeds-cons element elements)
+
+-- what a legacy symbol prints
+feeds-legacy : (hash : Bool) (text : List ℕ) (elements : List (List ℕ)) (suffix : List ℕ) → IsLegacy text elements suffix
+    → feeds (concat (legacy_pieces hash elements)) + feeds suffix ≤ feeds text
+feeds-legacy hash text elements suffix is =
+    omega (arith, feeds-joined (shown hash elements), feeds-shown hash elements, feeds-elements elements is.1 suffix is.5, ap feeds is.2, feeds-append is.0 is.1)
+
+read_of : Option (List (List ℕ) × List ℕ) → List (List ℕ) × List ℕ
+read_of None = ([], [])
+read_of (Some read) = read
+
+-- a symbol without line feeds has none in its pieces, and none in its suffix
+feeds-symbol : (hash : Bool) (text : List ℕ) (read : List (List ℕ) × List ℕ) → pieces_of hash text ≡ Some read → feeds text ≡ 0
+    → (feeds (concat read.0) ≡ 0) × (feeds read.1 ≡ 0)
+unfolding read_of
+feeds-symbol hash text read e none =
+    let symbol = symbol-pieces hash text read e in
+    let same : read ≡ (legacy_pieces hash symbol.0, symbol.1) = ap read_of (sym e ∙ pieces-symbol hash text symbol) in
+    let bound = feeds-legacy hash text symbol.0 symbol.1 symbol.2 in
+    (omega (arith, none, bound, ap (λ r. feeds (concat r.0)) same), omega (arith, none, bound, ap (λ r. feeds r.1) same))
+
+-- a text without line feeds prints none
+pub feeds-handed : (text : List ℕ) (hash : Bool) (limit : ℕ) → feeds text ≡ 0 → feeds (concat (handed text hash limit)) ≡ 0
+feeds-handed text hash limit none = at (pieces_of hash text) refl
+  where
+    at : (read : Option (List (List ℕ) × List ℕ)) → pieces_of hash text ≡ read → feeds (concat (option_map_or (λ r. cut r.0 limit ++ r.1 ∷ []) read (text ∷ []))) ≡ 0
+    at None is = ap feeds (append-nil text) ∙ none
+    at (Some read) is =
+        let h = feeds-symbol hash text read is none in
+        omega (arith, h.0, h.1, feeds-cut read.0 limit, feeds-concat (cut read.0 limit) (read.1 ∷ []), ap feeds (append-nil read.1))
+
+feeds-stripped : (s : List ℕ) → feeds (stripped s) ≤ feeds s
+unfolding stripped
+feeds-stripped [] = omega arith
+feeds-stripped (c ∷ s) = at (feeds-stripped s) (starts_with nat_eq (c ∷ s) (codes ".llvm.")) (list_all is_thin_lto (drop 5 s))
+  where
+    at : feeds (stripped s) ≤ feeds s → (b d : Bool) → feeds (cond b (cond d [] (c ∷ s)) (c ∷ stripped s)) ≤ feeds (c ∷ s)
+    at behind true true = omega arith
+    at behind true false = omega arith
+    at behind false d = omega (arith, behind)
+
+-- what stands for a run without line feeds has none
+feeds-replacement : (h : Bool) (run : List ℕ) → feeds run ≡ 0 → feeds (replacement h run) ≡ 0
+feeds-replacement h run none = at (pieces_of h (stripped run))
+  where
+    at : (read : Option (List (List ℕ) × List ℕ)) → feeds (option_map_or (λ _. printed (stripped run) h) read run) ≡ 0
+    at None = none
+    at (Some read) = feeds-handed (stripped run) h most_bytes (omega (arith, none, feeds-stripped run))
+
+-- run characters are no line feeds
+feeds-run : (run : List ℕ) → list_all is_run run ≡ true → feeds run ≡ 0
+feeds-run [] all = refl
+feeds-run (c ∷ run) all = at (feeds-run run) (is_run c) refl all
+  where
+    at : (list_all is_run run ≡ true → feeds run ≡ 0) → (b : Bool) → is_run c ≡ b → (b && list_all is_run run) ≡ true → feeds (c ∷ run) ≡ 0
+    at behind true is rest = feeds-other c run (λ same. true≢false (sym is ∙ ap is_run same)) ∙ behind rest
+    at behind false is rest = absurd (true≢false (sym rest))
+
+-- a line keeps its line feeds
+feeds-filtered : (h : Bool) (skip : ℕ) (s : List ℕ) → feeds (filtered_from h skip s) ≡ feeds (drop skip s)
+unfolding filtered_from
+feeds-filtered h zero [] = refl
+feeds-filtered h (suc skip) [] = refl
+feeds-filtered h (suc skip) (c ∷ s) = feeds-filtered h skip s
+feeds-filtered h zero (c ∷ s) = elim (cases (begins_run (c ∷ s))) [
+  | inl some ↦
+      let run = c ∷ take_while is_run s in
+      let n = prefix_len is_run s in
+      let clean : feeds run ≡ 0 = feeds-run run (ap (λ b. b && list_all is_run (take_while is_run s)) (ap is_run (first_of_run (c ∷ s) some)) ∙ run_all s) in
+      let whole : feeds (c ∷ s) ≡ feeds run + feeds (drop n s) = ap (λ l. feeds (c ∷ l)) (sym (take-append-drop n s)) ∙ feeds-append run (drop n s) in
+      ap (λ b. feeds (turn h c s b)) some ∙ feeds-append (replacement h run) (filtered_from h n s) ∙ omega (arith, whole, clean, feeds-replacement h run clean, feeds-filtered h n s)
+  | inr none ↦ ap (λ b. feeds (turn h c s b)) none ∙ omega (arith, feeds-filtered h zero s)
+]
+
+-- and so do all lines
+pub feeds-written : (h : Bool) (text : List ℕ) → feeds (output_of h (lines text)) ≡ feeds text
+feeds-written h text = each (lines text) ∙ ap feeds (lines_join text)
+  where
+    each : (parts : List (List ℕ)) → feeds (output_of h parts) ≡ feeds (concat parts)
+    each [] = refl
+    each (line ∷ parts) = omega (arith, feeds-append (filtered h line) (output_of h parts), feeds-append line (concat parts), feeds-filtered h zero line, each parts)

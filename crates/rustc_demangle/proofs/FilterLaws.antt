@@ -1,0 +1,227 @@
+-- What is computed of a line is the one text that its division into runs gives.
+use Rattle.std.proofs.Common.{◌≡◌, ◌≢◌, ℕ, zero, suc, ◌+◌, ◌⊎◌, inl, inr, ◌&&◌, Bool, true, false, cond, List, [], ◌∷◌, ◌++◌, length, take, drop, get_or, refl, sym, ap, subst, ◌∙◌, arith, codes, Option, None, Some}
+use Rattle.std.specs.Option.{option_map_or}
+use Rattle.std.proofs.Math.Seq.{take-append_seam, drop-append_seam}
+use Rattle.std.proofs.lemmas.List.{take-append-drop}
+use Rattle.std.proofs.lemmas.List.Sums.{take_while-cons}
+use Rattle.std.specs.List.{prefix_len, take_while, list_all}
+use Rattle.std.proofs.lemmas.Bool.{true≢false}
+use Rattle.rustc_demangle.specs.Stripped.{stripped}
+use Rattle.rustc_demangle.specs.Symbols.{IsSymbol, pieces_of, printed}
+use Rattle.rustc_demangle.proofs.SymbolSteps.{symbol-pieces, pieces-symbol}
+use Rattle.rustc_demangle.specs.Filtered.{is_run, begins_run, HasNoStart, NoRunFirst, IsRun, StandsFor, AreReplaced, IsFiltered, replacement, filtered_from, filtered}
+use Rattle.rustc_demangle.proofs.RunSteps.{turn, filtered_other, filtered_run, filtered_all, begins_with, first_of_run, replacement-symbol, replacement-no_symbol}
+
+cases : (b : Bool) → (b ≡ true) ⊎ (b ≡ false)
+cases true = inl refl
+cases false = inr refl
+
+-- a text that begins a run still does so with more behind it
+begins_append : (s rest : List ℕ) → begins_run s ≡ true → begins_run (s ++ rest) ≡ true
+begins_append s rest some = let w = begins_with s some in elim (w.1) [
+  | inl e ↦ ap (λ l. begins_run (l ++ rest)) e
+  | inr e ↦ ap (λ l. begins_run (l ++ rest)) e
+]
+
+shorter : (s rest : List ℕ) → begins_run (s ++ rest) ≡ false → begins_run s ≡ false
+shorter s rest none = elim (cases (begins_run s)) [
+  | inl some ↦ absurd (true≢false (sym (begins_append s rest some) ∙ none))
+  | inr e ↦ e
+]
+
+none_in_none : HasNoStart []
+none_in_none [] rest e = ap begins_run (sym e)
+none_in_none (b ∷ before) rest e = cc
+
+-- nothing follows, or a run
+abbrev Starts : List ℕ → Type 0
+Starts rest = (rest ≡ []) ⊎ (begins_run rest ≡ true)
+
+not_inside : (b : ℕ) (t rest : List ℕ) → b ≢ 95 → rest ≡ b ∷ t → Starts rest → ⊥
+not_inside b t rest ne e (inl none) = cc
+not_inside b t rest ne e (inr some) = ne (ap (λ l. get_or l 0 0) (sym e) ∙ first_of_run rest some)
+
+-- no run begins over the seam
+over_seam : (c : ℕ) (p rest t : List ℕ) → Starts rest → (c ∷ p) ++ rest ≡ codes "_ZN" ++ t ⊎ (c ∷ p) ++ rest ≡ codes "_R" ++ t → begins_run (c ∷ p) ≡ true
+over_seam c [] rest t starts (inl e) = absurd (not_inside 90 (78 ∷ t) rest (λ same. omega (arith, same)) (ap (drop 1) e) starts)
+over_seam c [] rest t starts (inr e) = absurd (not_inside 82 t rest (λ same. omega (arith, same)) (ap (drop 1) e) starts)
+over_seam c (d ∷ []) rest t starts (inl e) = absurd (not_inside 78 t rest (λ same. omega (arith, same)) (ap (drop 2) e) starts)
+over_seam c (d ∷ p) rest t starts (inr e) =
+    subst (λ x. begins_run (x ∷ d ∷ p) ≡ true) (sym (ap (λ l. get_or l 0 0) e)) (subst (λ x. begins_run (95 ∷ x ∷ p) ≡ true) (sym (ap (λ l. get_or l 1 0) e)) refl)
+over_seam c (d ∷ f ∷ p) rest t starts (inl e) =
+    subst (λ x. begins_run (x ∷ d ∷ f ∷ p) ≡ true) (sym (ap (λ l. get_or l 0 0) e))
+    (subst (λ x. begins_run (95 ∷ x ∷ f ∷ p) ≡ true) (sym (ap (λ l. get_or l 1 0) e))
+    (subst (λ x. begins_run (95 ∷ 90 ∷ x ∷ p) ≡ true) (sym (ap (λ l. get_or l 2 0) e)) refl))
+
+no_start_append : (c : ℕ) (p rest : List ℕ) → begins_run (c ∷ p) ≡ false → Starts rest → begins_run ((c ∷ p) ++ rest) ≡ false
+no_start_append c p rest none starts = elim (cases (begins_run ((c ∷ p) ++ rest))) [
+  | inl some ↦ let w = begins_with ((c ∷ p) ++ rest) some in absurd (true≢false (sym (over_seam c p rest w.0 starts w.1) ∙ none))
+  | inr e ↦ e
+]
+
+tail_no_start : (c : ℕ) (p : List ℕ) → HasNoStart (c ∷ p) → HasNoStart p
+tail_no_start c p none = λ before rest e. none (c ∷ before) rest (ap (λ l. c ∷ l) e)
+
+-- the kept text in front
+filtered-kept : (h : Bool) (p rest : List ℕ) → HasNoStart p → Starts rest → filtered h (p ++ rest) ≡ p ++ filtered h rest
+filtered-kept h [] rest none starts = refl
+filtered-kept h (c ∷ p) rest none starts =
+    filtered_other h c (p ++ rest) (no_start_append c p rest (none [] (c ∷ p) refl) starts)
+    ∙ ap (λ l. c ∷ l) (filtered-kept h p rest (tail_no_start c p none) starts)
+
+-- the run in front
+run_len : (run behind : List ℕ) → list_all is_run run ≡ true → NoRunFirst behind → prefix_len is_run (run ++ behind) ≡ length run
+run_len [] [] all stop = refl
+run_len [] (c ∷ behind) all stop = ap (λ b. cond b (1 + prefix_len is_run behind) 0) stop
+run_len (c ∷ run) behind all stop = elim (cases (is_run c)) [
+  | inl is ↦ ap (λ b. cond b (1 + prefix_len is_run (run ++ behind)) 0) is
+      ∙ ap (λ n. 1 + n) (run_len run behind (sym (ap (λ b. b && list_all is_run run) is) ∙ all) stop) ∙ omega arith
+  | inr not ↦ absurd (true≢false (sym all ∙ ap (λ b. b && list_all is_run run) not))
+]
+
+filtered-run : (h : Bool) (run behind : List ℕ) → IsRun run behind → filtered h (run ++ behind) ≡ replacement h run ++ filtered h behind
+filtered-run h run behind is =
+    let n = run_len run behind is.all is.longest in
+    filtered_run h (run ++ behind) (begins_append run behind is.begins)
+    ∙ ap (λ k. replacement h (take k (run ++ behind)) ++ filtered h (drop k (run ++ behind))) n
+    ∙ ap (λ l. replacement h l ++ filtered h (drop (length run) (run ++ behind))) (take-append_seam run behind)
+    ∙ ap (λ l. replacement h run ++ filtered h l) (drop-append_seam run behind)
+
+stands : (h : Bool) (run text : List ℕ) → StandsFor h run text → text ≡ replacement h run
+stands h run text (inl s) = s.1 ∙ sym (replacement-symbol h run s.0)
+stands h run text (inr s) = s.1 ∙ sym (replacement-no_symbol h run s.0)
+
+starts_of : (h : Bool) (parts : List (List ℕ × List ℕ)) (line out : List ℕ) → AreReplaced h parts line out → Starts line
+starts_of h [] line out is = inl is.0
+starts_of h ((run, kept) ∷ parts) line out is =
+    inr (subst (λ l. begins_run l ≡ true) (sym is.3) (begins_append run (kept ++ is.0) is.5.begins))
+
+runs_only : (h : Bool) (parts : List (List ℕ × List ℕ)) (line out : List ℕ) → AreReplaced h parts line out → out ≡ filtered h line
+unfolding filtered_from
+runs_only h [] line out is = is.1 ∙ sym (ap (filtered h) is.0)
+runs_only h ((run, kept) ∷ parts) line out is =
+    let rest_is : is.2 ≡ filtered h is.0 = runs_only h parts is.0 is.2 is.8 in
+    let behind : filtered h (kept ++ is.0) ≡ kept ++ filtered h is.0 = filtered-kept h kept is.0 is.7 (starts_of h parts is.0 is.2 is.8) in
+    is.4 ∙ ap (λ l. l ++ (kept ++ is.2)) (stands h run is.1 is.6) ∙ ap (λ l. replacement h run ++ (kept ++ l)) rest_is
+    ∙ ap (λ l. replacement h run ++ l) (sym behind) ∙ sym (filtered-run h run (kept ++ is.0) is.5) ∙ sym (ap (filtered h) is.3)
+
+pub filtered_only : (h : Bool) (line out : List ℕ) → IsFiltered h line out → out ≡ filtered h line
+filtered_only h line out is =
+    is.shown ∙ ap (λ l. is.kept ++ l) (runs_only h is.parts is.rest is.rest_out is.runs)
+    ∙ sym (filtered-kept h is.kept is.rest is.no_start (starts_of h is.parts is.rest is.rest_out is.runs)) ∙ sym (ap (filtered h) is.whole)
+
+-- the longest run in front
+pub run_all : (s : List ℕ) → list_all is_run (take_while is_run s) ≡ true
+run_all [] = refl
+run_all (c ∷ s) = elim (cases (is_run c)) [
+  | inl is ↦ ap (list_all is_run) (take_while-cons is_run c s ∙ ap (λ b. cond b (c ∷ take_while is_run s) []) is)
+      ∙ ap (λ b. b && list_all is_run (take_while is_run s)) is ∙ run_all s
+  | inr not ↦ ap (list_all is_run) (take_while-cons is_run c s ∙ ap (λ b. cond b (c ∷ take_while is_run s) []) not)
+]
+
+run_stops : (s : List ℕ) → NoRunFirst (drop (prefix_len is_run s) s)
+run_stops [] = tt
+run_stops (c ∷ s) = elim (cases (is_run c)) [
+  | inl is ↦
+      let count : prefix_len is_run (c ∷ s) ≡ suc (prefix_len is_run s) = ap (λ b. cond b (1 + prefix_len is_run s) 0) is ∙ omega arith in
+      subst (λ n. NoRunFirst (drop n (c ∷ s))) (sym count) (run_stops s)
+  | inr not ↦ subst (λ n. NoRunFirst (drop n (c ∷ s))) (sym (ap (λ b. cond b (1 + prefix_len is_run s) 0) not)) not
+]
+
+begins_front : (s : List ℕ) → begins_run s ≡ true → begins_run (take_while is_run s) ≡ true
+begins_front s some = let w = begins_with s some in elim (w.1) [
+  | inl e ↦ subst (λ l. begins_run (take_while is_run l) ≡ true) (sym e) (zn w.0)
+  | inr e ↦ subst (λ l. begins_run (take_while is_run l) ≡ true) (sym e) (r w.0)
+]
+  where
+    zn : (t : List ℕ) → begins_run (take_while is_run (95 ∷ 90 ∷ 78 ∷ t)) ≡ true
+    zn t = ap begins_run (take_while-cons is_run 95 (90 ∷ 78 ∷ t) ∙ ap (λ l. 95 ∷ l) (take_while-cons is_run 90 (78 ∷ t) ∙ ap (λ l. 90 ∷ l) (take_while-cons is_run 78 t)))
+
+    r : (t : List ℕ) → begins_run (take_while is_run (95 ∷ 82 ∷ t)) ≡ true
+    r t = ap begins_run (take_while-cons is_run 95 (82 ∷ t) ∙ ap (λ l. 95 ∷ l) (take_while-cons is_run 82 t))
+
+no_pieces : (h : Bool) (text : List ℕ) → pieces_of h text ≡ None → IsSymbol text → ⊥
+no_pieces h text none symbol = none≢some (sym none ∙ pieces-symbol h text symbol)
+  where
+    none≢some : {x : List (List ℕ) × List ℕ} → None ≡ Some x → ⊥
+    none≢some e = cc
+
+replaced : (h : Bool) (run : List ℕ) → StandsFor h run (replacement h run)
+replaced h run = at (pieces_of h (stripped run)) refl
+  where
+    at : (read : Option (List (List ℕ) × List ℕ)) → pieces_of h (stripped run) ≡ read
+        → (IsSymbol (stripped run) × (option_map_or (λ _. printed (stripped run) h) read run ≡ printed (stripped run) h))
+        ⊎ ((IsSymbol (stripped run) → ⊥) × (option_map_or (λ _. printed (stripped run) h) read run ≡ run))
+    at None e = inr (no_pieces h (stripped run) e, refl)
+    at (Some read) e = inl (symbol-pieces h (stripped run) read e, refl)
+
+nothing : (h : Bool) → IsFiltered h [] []
+nothing h = record { kept = []; rest = []; rest_out = []; parts = []; whole = refl; shown = refl; no_start = none_in_none; runs = (refl, refl) }
+
+-- a character in front, where no run begins
+keep : (h : Bool) (c : ℕ) (s out : List ℕ) → begins_run (c ∷ s) ≡ false → IsFiltered h s out → IsFiltered h (c ∷ s) (c ∷ out)
+keep h c s out none is = record {
+  kept = c ∷ is.kept;
+  rest = is.rest;
+  rest_out = is.rest_out;
+  parts = is.parts;
+  whole = ap (λ l. c ∷ l) is.whole;
+  shown = ap (λ l. c ∷ l) is.shown;
+  no_start = more;
+  runs = is.runs;
+}
+  where
+    more : HasNoStart (c ∷ is.kept)
+    more [] rest e = ap begins_run (sym e) ∙ shorter (c ∷ is.kept) is.rest (ap (λ l. begins_run (c ∷ l)) (sym is.whole) ∙ none)
+    more (b ∷ before) rest e = is.no_start before rest (ap (drop 1) e)
+
+-- a run in front
+replace : (h : Bool) (c : ℕ) (s out : List ℕ) → begins_run (c ∷ s) ≡ true → IsFiltered h (drop (prefix_len is_run s) s) out
+    → IsFiltered h (c ∷ s) (replacement h (c ∷ take_while is_run s) ++ out)
+replace h c s out some is = record {
+  kept = [];
+  rest = c ∷ s;
+  rest_out = replacement h run ++ out;
+  parts = (run, is.kept) ∷ is.parts;
+  whole = refl;
+  shown = refl;
+  no_start = none_in_none;
+  runs = (is.rest, replacement h run, is.rest_out, whole, ap (λ l. replacement h run ++ l) is.shown, is_run', replaced h run, is.no_start, is.runs);
+}
+  where
+    run : List ℕ
+    run = c ∷ take_while is_run s
+
+    first : c ≡ 95
+    first = first_of_run (c ∷ s) some
+
+    front : take_while is_run (c ∷ s) ≡ run
+    front = take_while-cons is_run c s ∙ ap (λ b. cond b (c ∷ take_while is_run s) []) (ap is_run first)
+
+    whole : c ∷ s ≡ run ++ (is.kept ++ is.rest)
+    whole = ap (λ l. c ∷ l) (sym (take-append-drop (prefix_len is_run s) s) ∙ ap (λ l. take_while is_run s ++ l) is.whole)
+
+    is_run' : IsRun run (is.kept ++ is.rest)
+    is_run' = record {
+      begins = ap begins_run (sym front) ∙ begins_front (c ∷ s) some;
+      all = ap (list_all is_run) (sym front) ∙ run_all (c ∷ s);
+      longest = subst NoRunFirst is.whole (run_stops s);
+    }
+
+from : (h : Bool) (skip : ℕ) (s : List ℕ) → IsFiltered h (drop skip s) (filtered_from h skip s)
+unfolding filtered_from
+from h zero [] = nothing h
+from h (suc skip) [] = nothing h
+from h (suc skip) (c ∷ s) = from h skip s
+from h zero (c ∷ s) = elim (cases (begins_run (c ∷ s))) [
+  | inl some ↦ subst (IsFiltered h (c ∷ s)) (sym (ap (turn h c s) some)) (replace h c s (filtered_from h (prefix_len is_run s) s) some (from h (prefix_len is_run s) s))
+  | inr none ↦ subst (IsFiltered h (c ∷ s)) (sym (ap (turn h c s) none)) (keep h c s (filtered_from h zero s) none (from h zero s))
+]
+
+-- what is computed is what the division gives, and nothing else is
+pub filtered_is : (h : Bool) (line out : List ℕ) → ((out ≡ filtered h line) → IsFiltered h line out) × (IsFiltered h line out → out ≡ filtered h line)
+filtered_is h line out = (λ e. subst (IsFiltered h line) (sym e) (from h zero line), filtered_only h line out)
+
+-- a text without a run passes
+pub passes : (h : Bool) (line : List ℕ) → HasNoStart line → filtered h line ≡ line
+passes h line none = filtered_all h line (λ k lt. none (take k line) (drop k line) (sym (take-append-drop k line)))

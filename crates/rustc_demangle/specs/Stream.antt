@@ -1,0 +1,71 @@
+-- What holds where the stream stopped.
+use Rattle.std.specs.Prelude.{◌≡◌, ◌<◌, ℕ, List, Bool, true, false, [], length, take, slice_index_or, flat_map, All, IsUtf8, Some, IfSome, Ok, Err}
+use Rattle.std.specs.declared.result.Result.{Result}
+use Rattle.std.specs.Io.BufRead.{take_through, DropsThrough}
+use Rattle.std.specs.declared.option.Option.{Option}
+use Rattle.std.specs.IoError.{error_kind}
+use Rattle.std.specs.declared.io.Error.{Error}
+use Rattle.std.specs.declared.io.ErrorKind.TheVariants.{InvalidData, OutOfMemory}
+use Rattle.std.specs.Io.KnownBytes.{Appends}
+use Rattle.rustc_demangle.specs.Lines.{lines}
+use Rattle.rustc_demangle.specs.Filtered.{filtered}
+use Rattle.rustc_demangle.specs.declared.stream.fault.StreamFault.{StreamFault}
+use Rattle.rustc_demangle.specs.declared.stream.fault.StreamFault.TheVariants.{Read, NotUtf8, Write, Memory}
+
+-- a reader's error is want of memory exactly by its kind
+abbrev pub IsReadFault : Error → StreamFault → Type 0
+IsReadFault error (Read e) = (e ≡ error) × (error_kind error ≡ OutOfMemory → ⊥)
+IsReadFault error NotUtf8 = ⊥
+IsReadFault error (Write e) = ⊥
+IsReadFault error Memory = error_kind error ≡ OutOfMemory
+
+-- a fault while a line was read: want of memory is never called the reader's error
+abbrev pub IsReadingFault : StreamFault → Type 0
+IsReadingFault (Read e) = error_kind e ≡ OutOfMemory → ⊥
+IsReadingFault NotUtf8 = ⊥
+IsReadingFault (Write e) = ⊥
+IsReadingFault Memory = Unit {0}
+
+-- the fault as an `io::Error`
+abbrev pub GivesError : StreamFault → Error → Type 0
+GivesError (Read e) error = error ≡ e
+GivesError NotUtf8 error = error_kind error ≡ InvalidData
+GivesError (Write e) error = error ≡ e
+GivesError Memory error = error_kind error ≡ OutOfMemory
+
+-- what is written for lines
+abbrev pub output_of : Bool → List (List ℕ) → List ℕ
+output_of hash parts = flat_map (filtered hash) parts
+
+-- the writer holds its old bytes and the output of the first k lines, which are UTF-8, and nothing else
+pub record WroteLines (text : List ℕ) (hash : Bool) (old new : Option (List ℕ)) (k : ℕ) : Type 0 where
+  pub utf8 : All IsUtf8 (take k (lines text))
+  pub wrote : Appends old new (output_of hash (take k (lines text)))
+
+-- the text was UTF-8, the writer's bytes grew by the output of each of its lines and by nothing else, and nothing of it is left
+pub record Finished (text : List ℕ) (hash : Bool) (left old new : Option (List ℕ)) : Type 0 where
+  pub utf8 : IsUtf8 text
+  pub wrote : Appends old new (output_of hash (lines text))
+  pub at_end : left ≡ Some []
+
+-- what holds after each fault, where the stream began with the text
+abbrev pub Stopped : StreamFault → List ℕ → Bool → Option (List ℕ) → Option (List ℕ) → Type 0
+Stopped (Read e) text hash old new = (error_kind e ≡ OutOfMemory → ⊥) × (k : ℕ) × WroteLines text hash old new k
+Stopped NotUtf8 text hash old new = (k : ℕ) × WroteLines text hash old new k
+    × (IsUtf8 (slice_index_or (lines text) k []) → ⊥)
+Stopped (Write e) text hash old new = Unit {0}
+Stopped Memory text hash old new = (k : ℕ) × WroteLines text hash old new k
+
+-- the same, of the error that the fault gives
+abbrev pub StoppedAs : Error → List ℕ → Bool → Option (List ℕ) → Option (List ℕ) → Type 0
+StoppedAs error text hash old new = (fault : StreamFault) × GivesError fault error × Stopped fault text hash old new
+
+-- a line was read and what the filter gives for it was written, or nothing was left, or nothing was written
+abbrev pub LineCopied : Result Bool StreamFault → Bool → Option (List ℕ) → Option (List ℕ) → Option (List ℕ) → Option (List ℕ) → Type 0
+LineCopied (Ok true) hash left next old new = DropsThrough left next 10 × IfSome left (λ text. (0 < length text)
+    × IsUtf8 (take_through 10 text) × Appends old new (filtered hash (take_through 10 text)))
+LineCopied (Ok false) hash left next old new = IfSome left (λ text. (text ≡ []) × (next ≡ Some [])) × (new ≡ old)
+LineCopied (Err (Read e)) hash left next old new = (error_kind e ≡ OutOfMemory → ⊥) × (new ≡ old)
+LineCopied (Err NotUtf8) hash left next old new = IfSome left (λ text. (0 < length text) × (IsUtf8 (take_through 10 text) → ⊥)) × (new ≡ old)
+LineCopied (Err (Write e)) hash left next old new = Unit {0}
+LineCopied (Err Memory) hash left next old new = new ≡ old

@@ -1,0 +1,34 @@
+//! How a demangled symbol is formatted.
+ghost use Rattle.std.specs.Prelude.{Some, true, not};
+ghost use Rattle.std.specs.Fmt.{spec_alternate};
+ghost use Rattle.rustc_demangle.specs.Symbols.{printed};
+
+use crate::sink::FmtSink;
+use crate::value::Demangle;
+use std::fmt;
+
+/// Prints with the hash, and under `{:#}` without it. Width, fill, sign and precision have no effect. It fails where the
+/// formatter refuses a piece.
+impl fmt::Display for Demangle<'_> {
+    ghost output = { λ symbol. Some (printed symbol true) };
+
+    ghost styled_output = { λ symbol spec. Some (printed symbol (not (spec_alternate spec))) };
+
+    fn fmt<W: fmt::Write>(&self, f: &mut fmt::Formatter<W>) -> fmt::Result {
+        let include_hash = !f.alternate();
+        let mut sink = FmtSink::new(f);
+        match self.write_to(&mut sink, include_hash) {
+            Ok(()) => Ok(()),
+            Err(_) => Err(fmt::Error),
+        }
+    }
+}
+
+/// As `Display`.
+impl fmt::Debug for Demangle<'_> {
+    ghost debug_output = { λ symbol. Some (printed symbol true) };
+
+    fn fmt<W: fmt::Write>(&self, f: &mut fmt::Formatter<W>) -> fmt::Result {
+        fmt::Display::fmt(self, f)
+    }
+}

@@ -1,0 +1,47 @@
+//! What the lines of a text are, and what is written for them.
+ghost use Rattle.std.specs.Prelude.{◌≡◌, ◌↔◌, ◌++◌, ℕ, List, Bool, Some, OnOk, IfErr, IsUtf8};
+ghost use Rattle.std.specs.List.{concat};
+ghost use Rattle.rustc_demangle.specs.Filtered.{HasNoStart, IsFiltered, filtered};
+ghost use Rattle.rustc_demangle.specs.Lines.{lines, feeds, OnlyLines};
+ghost use Rattle.rustc_demangle.specs.Stream.{output_of, Stopped};
+ghost use Rattle.rustc_demangle.specs.Symbols.{handed};
+
+use crate::stream::{StreamFault, demangle_stream_named};
+use std::alloc::Global;
+
+/// The lines of a text are the only parts of their form that join to it.
+#[tactic(auto, using(crate::proofs::LineLaws::only_lines))]
+pub fn lines_are_the_only_division()
+    ensures { (text : List ℕ) → OnlyLines text }
+{}
+
+/// What is computed of a line is what its division into kept texts and runs gives, and nothing else is.
+pub fn filtered_is_the_only_text()
+    ensures { (hash : Bool) → (line out : List ℕ) → (out ≡ filtered hash line) ↔ IsFiltered hash line out }
+{}
+
+/// A line without `_ZN` and `_R` passes unchanged.
+pub fn line_without_symbols_passes()
+    ensures { (hash : Bool) → (line : List ℕ) → HasNoStart line → filtered hash line ≡ line }
+{}
+
+/// Where all succeeds, as many line feeds are written as were read.
+pub fn as_many_lines_are_written()
+    ensures printed { (text : List ℕ) → (hash : Bool) → (limit : ℕ) → feeds text ≡ 0 → feeds (concat (handed text hash limit)) ≡ 0 }
+    ensures written { (hash : Bool) → (text : List ℕ) → feeds (output_of hash (lines text)) ≡ feeds text }
+{}
+
+/// Demangles a text in memory: the stream's contract over a reader and a writer that tell what they hold.
+pub fn demangle_in_memory(
+    alloc: Global,
+    text: &[u8],
+    output: &mut Vec<u8>,
+    include_hash: bool,
+) -> Result<(), StreamFault>
+    ensures utf8 { OnOk result (IsUtf8 text.now) }
+    ensures written { OnOk result (output.new.items ≡ output.old.items ++ output_of include_hash (lines text.now)) }
+    ensures stopped { IfErr result (λ fault. Stopped fault text.now include_hash (Some output.old.items) (Some output.new.items)) }
+{
+    let mut input = text;
+    demangle_stream_named(alloc, &mut input, output, include_hash)
+}

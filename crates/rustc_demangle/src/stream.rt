@@ -1,0 +1,108 @@
+//! The demangling of a text that comes from a reader.
+ghost use Rattle.std.specs.Prelude.{◌≡◌, IfSome, OnOk, IfOk, IfErr, IsUtf8};
+ghost use Rattle.rustc_demangle.specs.Stream.{LineCopied, Finished, Stopped, StoppedAs};
+
+use std::alloc::{Allocator, Global};
+use std::io::{BufRead, Write};
+use std::{io, str};
+
+mod fault;
+mod line;
+mod reading;
+#[cfg(test)]
+mod tests;
+
+pub use fault::StreamFault;
+use line::demangle_line;
+use reading::read_line;
+
+// A line as text.
+fn text_of(line: &[u8]) -> Result<&str, StreamFault>
+    ensures text { IfOk result (λ text. (text.now ≡ line.now) × IsUtf8 line.now) }
+    ensures fault { IfErr result (λ fault. (fault ≡ StreamFault.NotUtf8) × (IsUtf8 line.now → ⊥)) }
+{
+    match str::from_utf8(line) {
+        Ok(text) => Ok(text),
+        Err(_) => Err(StreamFault::NotUtf8),
+    }
+}
+
+// Reads a line whole and then writes it demangled, or answers `false` at the end of the input.
+fn copy_line<R: BufRead, W: Write, A: Allocator>(
+    input: &mut R,
+    output: &mut W,
+    line: &mut Vec<u8, A>,
+    include_hash: bool,
+) -> Result<bool, StreamFault>
+    ensures { LineCopied result include_hash (R.remaining input.old) (R.remaining input.new)
+        (W.contents output.old) (W.contents output.new) }
+{
+    line.clear();
+    read_line(input, line)?;
+    if line.is_empty() {
+        return Ok(false);
+    }
+    let text = text_of(line.as_slice())?;
+    match demangle_line(text, output, include_hash) {
+        Ok(()) => Ok(true),
+        Err(error) => Err(StreamFault::Write(error)),
+    }
+}
+
+// Copies lines up to the end of the input, with a buffer for the line.
+fn copy_lines<R: BufRead, W: Write, A: Allocator>(
+    input: &mut R,
+    output: &mut W,
+    line: &mut Vec<u8, A>,
+    include_hash: bool,
+) -> Result<(), StreamFault>
+    ensures ok { OnOk result (IfSome (R.remaining input.old) (λ text.
+        Finished text include_hash (R.remaining input.new) (W.contents output.old) (W.contents output.new))) }
+    ensures err { IfErr result (λ fault. IfSome (R.remaining input.old) (λ text.
+        Stopped fault text include_hash (W.contents output.old) (W.contents output.new))) }
+{
+    for _ in 0..=u64::MAX {
+        if !copy_line(input, output, line, include_hash)? {
+            return Ok(());
+        }
+    }
+    Err(StreamFault::Read(io::Error::other("too many lines")))
+}
+
+/// Writes the input with each symbol of it demangled.
+///
+/// A symbol is looked for where `_ZN` or `_R` stands, up to the next character that is no ASCII letter, no digit and none
+/// of `$`, `.` and `_`. What is no symbol is written as it was. A line is read whole before any of it is written.
+///
+/// It is refused where the reader or the writer answers an error, where a line is not UTF-8, and where the buffer of the
+/// line is refused memory.
+pub fn demangle_stream_named<R: BufRead, W: Write>(
+    alloc: Global,
+    input: &mut R,
+    output: &mut W,
+    include_hash: bool,
+) -> Result<(), StreamFault>
+    ensures ok { OnOk result (IfSome (R.remaining input.old) (λ text.
+        Finished text include_hash (R.remaining input.new) (W.contents output.old) (W.contents output.new))) }
+    ensures err { IfErr result (λ fault. IfSome (R.remaining input.old) (λ text.
+        Stopped fault text include_hash (W.contents output.old) (W.contents output.new))) }
+{
+    let mut line = Vec::new(alloc);
+    copy_lines(input, output, &mut line, include_hash)
+}
+
+/// Writes the input with each symbol of it demangled, as `demangle_stream_named` does, and gives its fault as an
+/// `io::Error`.
+pub fn demangle_stream<R: BufRead, W: Write>(
+    alloc: Global,
+    input: &mut R,
+    output: &mut W,
+    include_hash: bool,
+) -> io::Result<()>
+    ensures ok { OnOk result (IfSome (R.remaining input.old) (λ text.
+        Finished text include_hash (R.remaining input.new) (W.contents output.old) (W.contents output.new))) }
+    ensures err { IfErr result (λ error. IfSome (R.remaining input.old) (λ text.
+        StoppedAs error text include_hash (W.contents output.old) (W.contents output.new))) }
+{
+    demangle_stream_named(alloc, input, output, include_hash).map_err(StreamFault::into_io)
+}

@@ -1,0 +1,106 @@
+//! A line with its symbols demangled.
+ghost use Rattle.std.specs.Prelude.{◌≡◌, ℕ, ◌<◌, true, false, length, drop, IfSome, OnOk, IfNone};
+ghost use Rattle.std.specs.List.{prefix_len};
+ghost use Rattle.std.specs.Io.KnownBytes.{Appends};
+ghost use Rattle.rustc_demangle.specs.Filtered.{is_run, begins_run, replacement, filtered};
+ghost use Rattle.rustc_demangle.specs.Symbols.{printed};
+
+use crate::sink::WriteSink;
+use crate::{Demangle, try_demangle};
+use std::io;
+use std::io::Write;
+
+// Whether a run begins here.
+fn begins_run(text: &[u8]) -> bool
+    ensures { result ≡ begins_run text.now }
+{
+    text.starts_with(b"_ZN") || text.starts_with(b"_R")
+}
+
+// The place of the next run.
+fn run_start(text: &[u8]) -> Option<usize>
+    ensures some { IfSome result (λ n. (n < length text.now) × (begins_run (drop n text.now) ≡ true)
+        × ((k : ℕ) → k < n → begins_run (drop k text.now) ≡ false)) }
+    ensures none { IfNone result ((k : ℕ) → k < length text.now → begins_run (drop k text.now) ≡ false) }
+{
+    for at in 0..text.len() {
+        if begins_run(&text[at..]) {
+            return Some(at);
+        }
+    }
+    None
+}
+
+// Whether a run may have this byte.
+fn is_run(byte: u8) -> bool
+    ensures { result ≡ is_run byte }
+{
+    byte == b'$' || byte == b'.' || byte == b'_' || byte.is_ascii_alphanumeric()
+}
+
+// How long a run is that begins here.
+fn run_len(text: &[u8]) -> usize
+    ensures { result ≡ prefix_len is_run text.now }
+{
+    for (at, byte) in text.iter().enumerate() {
+        if !is_run(*byte) {
+            return at;
+        }
+    }
+    text.len()
+}
+
+// Writes a text by one call of the writer, and an empty one by none.
+fn write_kept<W: Write>(text: &str, output: &mut W) -> io::Result<()>
+    ensures { OnOk result (Appends (W.contents output.old) (W.contents output.new) text.now) }
+{
+    if text.is_empty() {
+        return Ok(());
+    }
+    output.write_all(text.as_bytes())
+}
+
+// Writes what a symbol prints, each piece by a call of its own.
+fn write_symbol<W: Write>(
+    symbol: &Demangle<'_>,
+    output: &mut W,
+    include_hash: bool,
+) -> io::Result<()>
+    ensures { OnOk result (Appends (W.contents output.old) (W.contents output.new) (printed symbol.now include_hash)) }
+{
+    let mut sink = WriteSink::new(output);
+    let printed = symbol.write_to(&mut sink, include_hash);
+    match sink.into_fault() {
+        Some(error) => Err(error),
+        None => Ok(()),
+    }
+}
+
+// Writes what stands for a run: what it prints where it is a symbol, else the run.
+fn write_run<W: Write>(run: &str, output: &mut W, include_hash: bool) -> io::Result<()>
+    ensures { OnOk result (Appends (W.contents output.old) (W.contents output.new) (replacement include_hash run.now)) }
+{
+    match try_demangle(run) {
+        Ok(symbol) => write_symbol(&symbol, output, include_hash),
+        Err(_) => write_kept(run, output),
+    }
+}
+
+/// Writes a line with each symbol of it demangled, in one pass over it.
+pub(super) fn demangle_line<W: Write>(
+    line: &str,
+    output: &mut W,
+    include_hash: bool,
+) -> io::Result<()>
+    ensures { OnOk result (Appends (W.contents output.old) (W.contents output.new) (filtered include_hash line.now)) }
+{
+    let mut rest = line;
+    while let Some(start) = run_start(rest.as_bytes()) {
+        let (kept, found) = rest.split_at(start);
+        let (run, behind) = found.split_at(run_len(found.as_bytes()));
+        write_kept(kept, output)?;
+        write_run(run, output, include_hash)?;
+        rest = behind;
+    }
+    write_kept(rest, output)
+}
