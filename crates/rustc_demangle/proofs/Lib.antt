@@ -49,6 +49,7 @@ pub mod SymbolSteps
 pub mod TableCost
 pub mod Turns
 pub mod Unique
+pub mod V0Feeds
 pub mod V0Reading
 pub mod Whole
 pub mod WordLaws
