@@ -10,13 +10,17 @@ use Rattle.std.specs.Char.{encode_utf8, is_control}
 use Rattle.rustc_demangle.specs.Digits.{number}
 use lib.Utf8.{scalar as is_scalar}
 use Rattle.rustc_demangle.specs.Stripped.{stripped, is_thin_lto}
-use Rattle.rustc_demangle.specs.Symbols.{pieces_of, handed, printed, most_bytes}
+use Rattle.rustc_demangle.specs.Symbols.{IsSymbol, pieces_of, handed, printed, most_bytes}
 use Rattle.rustc_demangle.specs.Filtered.{is_run, begins_run, replacement, filtered_from, filtered}
 use Rattle.rustc_demangle.specs.Stream.{output_of}
 use Rattle.rustc_demangle.proofs.FilterLaws.{run_all}
 use Rattle.rustc_demangle.proofs.LineDivision.{lines_join}
 use Rattle.rustc_demangle.proofs.RunSteps.{turn, first_of_run}
-use Rattle.rustc_demangle.proofs.SymbolSteps.{symbol-pieces, pieces-symbol}
+use Rattle.rustc_demangle.proofs.LegacyLaws.{legacy_spelled}
+use Rattle.rustc_demangle.proofs.SymbolSteps.{symbol-pieces, pieces-legacy, pieces-v0}
+use Rattle.rustc_demangle.proofs.V0Reading.{v0_is_read}
+use Rattle.rustc_demangle.proofs.V0Feeds.{feeds-rendered}
+use Rattle.rustc_demangle.specs.Reading.{rendered}
 use Rattle.rustc_demangle.specs.Cut.{size, fitting, cut, marker}
 use Rattle.rustc_demangle.specs.Lines.{lines, feeds}
 use Rattle.rustc_demangle.specs.Legacy.{IsElements, IsLegacy}
@@ -241,11 +245,18 @@ read_of (Some read) = read
 feeds-symbol : (hash : Bool) (text : List ℕ) (read : List (List ℕ) × List ℕ) → pieces_of hash text ≡ Some read → feeds text ≡ 0
     → (feeds (concat read.0) ≡ 0) × (feeds read.1 ≡ 0)
 unfolding read_of
-feeds-symbol hash text read e none =
-    let symbol = symbol-pieces hash text read e in
-    let same : read ≡ (legacy_pieces hash symbol.0, symbol.1) = ap read_of (sym e ∙ pieces-symbol hash text symbol) in
-    let bound = feeds-legacy hash text symbol.0 symbol.1 symbol.2 in
-    (omega (arith, none, bound, ap (λ r. feeds (concat r.0)) same), omega (arith, none, bound, ap (λ r. feeds r.1) same))
+feeds-symbol hash text read e none = go (symbol-pieces hash text read e) where
+  go : IsSymbol text → (feeds (concat read.0) ≡ 0) × (feeds read.1 ≡ 0)
+  go (inl (elements, suffix, legacy, allowed)) =
+      let same : read ≡ (legacy_pieces hash elements, suffix) = ap read_of (sym e ∙ pieces-legacy hash text elements suffix (legacy_spelled text elements suffix legacy) allowed) in
+      let bound = feeds-legacy hash text elements suffix legacy in
+      (omega (arith, none, bound, ap (λ r. feeds (concat r.0)) same), omega (arith, none, bound, ap (λ r. feeds r.1) same))
+  go (inr (inner, suffix, v0, allowed)) =
+      let same : read ≡ (rendered inner hash, suffix) = ap read_of (sym e ∙ pieces-v0 hash text inner suffix (v0_is_read text inner suffix v0) allowed) in
+      let part = v0.5 in
+      let within : feeds inner ≡ 0 = omega (arith, none, ap feeds v0.1, feeds-append v0.0 inner) in
+      (ap (λ r. feeds (concat r.0)) same ∙ feeds-rendered inner hash within,
+       omega (arith, within, ap (λ r. feeds r.1) same, ap feeds part.2, feeds-drop part.0 inner))
 
 -- a text without line feeds prints none
 pub feeds-handed : (text : List ℕ) (hash : Bool) (limit : ℕ) → feeds text ≡ 0 → feeds (concat (handed text hash limit)) ≡ 0
