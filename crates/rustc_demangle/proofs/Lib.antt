@@ -39,6 +39,7 @@ pub mod Opening
 pub mod Paid
 pub mod Parts
 pub mod PaysRules
+pub mod Prefixes
 pub mod Printed
 pub mod Printing
 pub mod PrintingLaws

@@ -21,6 +21,7 @@ pub mod Literals
 pub mod Measures
 pub mod Names
 pub mod Nibbles
+pub mod Prefix
 pub mod Punycode
 pub mod Reading
 pub mod Running
