@@ -9,7 +9,7 @@ use Rattle.rustc_demangle.specs.Words.{Name, Read, byte_at, namespace_at, intege
 use Rattle.rustc_demangle.specs.Names.{name_pieces}
 use Rattle.rustc_demangle.specs.Items.{Text, Kind, a_path, a_trait_path, Items, done, invalid, say, say_plain, byte, namespace, integer, optional, identifier, nibbles, peek, next, sound, until_end, raise, unit, child, skip, target, lifetime, binder, opens, dyn_trait, bindings}
 use Rattle.rustc_demangle.specs.Reading.{Tree, nothing, piece, plain_piece, node, looked, hidden, invalid_syntax, too_deep, unread, pieces, Place, Outcome, Level, Surroundings, stands, behind, followed_by, resumed, word, peeked, forked, raised, turns, begun, skipped, all_pieces, closed, opened, named, bound_by, target_read, target_of, letter_of, lifetime_at, new_lifetimes, binder_at, run}
-use Rattle.rustc_demangle.proofs.FeedLaws.{feeds-append, feeds-concat, feeds-other}
+use Rattle.rustc_demangle.proofs.Feeds.{feeds-append, feeds-concat, feeds-other}
 use Rattle.rustc_demangle.proofs.WordFeeds.{AreClear, number_clear, namespace_clear, nibbles_clear, identifier_clear, name_clear}
 
 -- no piece of a tree holds a line feed

@@ -12,6 +12,7 @@ pub mod Digits
 pub mod Escaping
 pub mod Failed
 pub mod FeedLaws
+pub mod Feeds
 pub mod FilterLaws
 pub mod GrammarRows
 pub mod GroupReads
@@ -40,6 +41,7 @@ pub mod Opening
 pub mod Paid
 pub mod Parts
 pub mod PaysRules
+pub mod Prefixes
 pub mod Printed
 pub mod Printing
 pub mod PrintingLaws

@@ -15,7 +15,7 @@ use Rattle.rustc_demangle.specs.Punycode.{inserted, deltas, next_delta, puny}
 use Rattle.rustc_demangle.specs.Names.{is_empty, undecoded, name_pieces}
 use Rattle.rustc_demangle.specs.Literals.{escaped, literal, is_shown}
 use Rattle.rustc_demangle.specs.Table.{hyphenated, extern}
-use Rattle.rustc_demangle.proofs.FeedLaws.{feeds-append, feeds-take, feeds-drop, feeds-other, feeds-character}
+use Rattle.rustc_demangle.proofs.Feeds.{feeds-append, feeds-take, feeds-drop, feeds-other, feeds-character}
 
 -- texts without line feeds
 abbrev pub AreClear : List (List ℕ) → Type 0

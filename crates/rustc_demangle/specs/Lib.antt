@@ -22,6 +22,7 @@ pub mod Measures
 pub mod Names
 pub mod Nibbles
 pub mod Pieces
+pub mod Prefix
 pub mod Punycode
 pub mod Reading
 pub mod Running

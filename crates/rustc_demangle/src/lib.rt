@@ -10,6 +10,7 @@ mod display;
 pub mod laws;
 mod legacy;
 mod literal;
+mod prefix;
 mod punycode;
 pub mod sink;
 mod stream;

@@ -40,7 +40,7 @@ pub fn suffix_at(symbol: &Symbol<'_>, looks: &mut Looks) -> Option<usize>
 }
 
 /// Whether a second path begins at a place.
-fn begins_path(symbol: &Symbol<'_>, place: usize, looks: &mut Looks) -> bool
+pub fn begins_path(symbol: &Symbol<'_>, place: usize, looks: &mut Looks) -> bool
     ensures value { result ≡ goes_on_at symbol.now place }
     ensures look { looks.new ≡ looks.old + 1 }
 {
