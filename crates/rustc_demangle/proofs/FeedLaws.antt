@@ -10,40 +10,26 @@ use Rattle.std.specs.Char.{encode_utf8, is_control}
 use Rattle.rustc_demangle.specs.Digits.{number}
 use lib.Utf8.{scalar as is_scalar}
 use Rattle.rustc_demangle.specs.Stripped.{stripped, is_thin_lto}
-use Rattle.rustc_demangle.specs.Symbols.{pieces_of, handed, printed, most_bytes}
+use Rattle.rustc_demangle.specs.Symbols.{IsSymbol, pieces_of, handed, printed, most_bytes}
 use Rattle.rustc_demangle.specs.Filtered.{is_run, begins_run, replacement, filtered_from, filtered}
 use Rattle.rustc_demangle.specs.Stream.{output_of}
 use Rattle.rustc_demangle.proofs.FilterLaws.{run_all}
 use Rattle.rustc_demangle.proofs.LineDivision.{lines_join}
 use Rattle.rustc_demangle.proofs.RunSteps.{turn, first_of_run}
-use Rattle.rustc_demangle.proofs.SymbolSteps.{symbol-pieces, pieces-symbol}
+use Rattle.rustc_demangle.proofs.LegacyLaws.{legacy_spelled}
+use Rattle.rustc_demangle.proofs.SymbolSteps.{symbol-pieces, pieces-legacy, pieces-v0}
+use Rattle.rustc_demangle.proofs.V0Reading.{v0_is_read}
+use Rattle.rustc_demangle.proofs.V0Feeds.{feeds-rendered}
+use Rattle.rustc_demangle.specs.Reading.{rendered}
 use Rattle.rustc_demangle.specs.Cut.{size, fitting, cut, marker}
 use Rattle.rustc_demangle.specs.Lines.{lines, feeds}
 use Rattle.rustc_demangle.specs.Legacy.{IsElements, IsLegacy}
 use Rattle.rustc_demangle.specs.Unescaped.{escape_of_code, escape_of_digits, escape_of, lower_hex, unit_of, pieces_from, unescaped, is_hash, shown, continued, joined, legacy_pieces, is_lower_hex, is_dollar, is_special}
+use Rattle.rustc_demangle.proofs.Feeds.{feeds-append, feeds-concat, feeds-cons, feeds-take, feeds-drop, feeds-other, feeds-character}
 
 cases : (b : Bool) → (b ≡ true) ⊎ (b ≡ false)
 cases true = inl refl
 cases false = inr refl
-
-pub feeds-append : (xs ys : List ℕ) → feeds (xs ++ ys) ≡ feeds xs + feeds ys
-feeds-append [] ys = omega arith
-feeds-append (b ∷ xs) ys = omega (arith, feeds-append xs ys)
-
-pub feeds-concat : (xs ys : List (List ℕ)) → feeds (concat (xs ++ ys)) ≡ feeds (concat xs) + feeds (concat ys)
-feeds-concat xs ys = ap feeds (concat-append xs ys) ∙ feeds-append (concat xs) (concat ys)
-
-feeds-cons : (x : List ℕ) (xs : List (List ℕ)) → feeds (concat (x ∷ xs)) ≡ feeds x + feeds (concat xs)
-feeds-cons x xs = feeds-append x (concat xs)
-
-feeds-take : (n : ℕ) (xs : List ℕ) → feeds (take n xs) ≤ feeds xs
-feeds-take n xs = omega (arith, ap feeds (take-append-drop n xs), feeds-append (take n xs) (drop n xs))
-
-feeds-drop : (n : ℕ) (xs : List ℕ) → feeds (drop n xs) ≤ feeds xs
-feeds-drop n xs = omega (arith, ap feeds (take-append-drop n xs), feeds-append (take n xs) (drop n xs))
-
-feeds-other : (b : ℕ) (xs : List ℕ) → b ≢ 10 → feeds (b ∷ xs) ≡ feeds xs
-feeds-other b xs ne = ap (λ t. cond t 1 0 + feeds xs) (ne_eqb b 10 ne) ∙ omega arith
 
 -- what fits of pieces, and what is cut of them
 feeds-fitting : (pieces : List (List ℕ)) (limit : ℕ) → feeds (concat (fitting pieces limit)) ≤ feeds (concat pieces)
@@ -59,29 +45,9 @@ feeds-cut pieces limit = elim (leb_tells (size pieces) limit) [
   | inr e ↦ rw (e.0) (omega (arith, feeds-fitting pieces limit, feeds-concat (fitting pieces limit) (marker ∷ [])))
 ]
 
--- a character that is no control is written without a line feed
+-- and so is one that is no control
 feeds-encode : (c : ℕ) → is_control c ≡ false → feeds (encode_utf8 c) ≡ 0
-unfolding encode_utf8
-feeds-encode c no_control = go (ltb c 128) (ltb c 2048) (ltb c 65536)
-  where
-    ne : c ≢ 10
-    ne same = true≢false (ap is_control (sym same) ∙ no_control)
-
-    two : (x y : ℕ) → feeds ((192 + x) ∷ (128 + y) ∷ []) ≡ 0
-    two x y = feeds-other (192 + x) ((128 + y) ∷ []) (λ same. omega (arith, same)) ∙ feeds-other (128 + y) [] (λ same. omega (arith, same))
-
-    three : (x y z : ℕ) → feeds ((224 + x) ∷ (128 + y) ∷ (128 + z) ∷ []) ≡ 0
-    three x y z = feeds-other (224 + x) ((128 + y) ∷ (128 + z) ∷ []) (λ same. omega (arith, same)) ∙ feeds-other (128 + y) ((128 + z) ∷ []) (λ same. omega (arith, same)) ∙ feeds-other (128 + z) [] (λ same. omega (arith, same))
-
-    four : (x y z w : ℕ) → feeds ((240 + x) ∷ (128 + y) ∷ (128 + z) ∷ (128 + w) ∷ []) ≡ 0
-    four x y z w = feeds-other (240 + x) ((128 + y) ∷ (128 + z) ∷ (128 + w) ∷ []) (λ same. omega (arith, same)) ∙ feeds-other (128 + y) ((128 + z) ∷ (128 + w) ∷ []) (λ same. omega (arith, same))
-        ∙ feeds-other (128 + z) ((128 + w) ∷ []) (λ same. omega (arith, same)) ∙ feeds-other (128 + w) [] (λ same. omega (arith, same))
-
-    go : (x y z : Bool) → feeds (cond x (c ∷ []) (cond y ((192 + c / 64) ∷ (128 + c % 64) ∷ []) (cond z ((224 + c / 4096) ∷ (128 + c / 64 % 64) ∷ (128 + c % 64) ∷ []) ((240 + c / 262144) ∷ (128 + c / 4096 % 64) ∷ (128 + c / 64 % 64) ∷ (128 + c % 64) ∷ [])))) ≡ 0
-    go true y z = feeds-other c [] ne
-    go false true z = two (c / 64) (c % 64)
-    go false false true = three (c / 4096) (c / 64 % 64) (c % 64)
-    go false false false = four (c / 262144) (c / 4096 % 64) (c / 64 % 64) (c % 64)
+feeds-encode c no_control = feeds-character c (λ same. true≢false (ap is_control (sym same) ∙ no_control))
 
 -- the text in it, or none
 in_text : Option (List ℕ) → List ℕ
@@ -240,11 +206,19 @@ read_of (Some read) = read
 feeds-symbol : (hash : Bool) (text : List ℕ) (read : List (List ℕ) × List ℕ) → pieces_of hash text ≡ Some read → feeds text ≡ 0
     → (feeds (concat read.0) ≡ 0) × (feeds read.1 ≡ 0)
 unfolding read_of
-feeds-symbol hash text read e none =
-    let symbol = symbol-pieces hash text read e in
-    let same : read ≡ (legacy_pieces hash symbol.0, symbol.1) = ap read_of (sym e ∙ pieces-symbol hash text symbol) in
-    let bound = feeds-legacy hash text symbol.0 symbol.1 symbol.2 in
-    (omega (arith, none, bound, ap (λ r. feeds (concat r.0)) same), omega (arith, none, bound, ap (λ r. feeds r.1) same))
+feeds-symbol hash text read e none = go (symbol-pieces hash text read e) where
+  go : IsSymbol text → (feeds (concat read.0) ≡ 0) × (feeds read.1 ≡ 0)
+  go (inl (elements, suffix, legacy, allowed)) =
+      let same : read ≡ (legacy_pieces hash elements, suffix) = ap read_of (sym e ∙ pieces-legacy hash text elements suffix (legacy_spelled text elements suffix legacy) allowed) in
+      let bound = feeds-legacy hash text elements suffix legacy in
+      (omega (arith, none, bound, ap (λ r. feeds (concat r.0)) same), omega (arith, none, bound, ap (λ r. feeds r.1) same))
+  go (inr (inner, suffix, v0, allowed)) =
+      let same : read ≡ (rendered inner hash, suffix) = ap read_of (sym e ∙ pieces-v0 hash text inner suffix (v0_is_read text inner suffix v0) allowed) in
+      let part = v0.5 in
+      let within : feeds inner ≡ 0 = omega (arith, none, ap feeds v0.1, feeds-append v0.0 inner) in (
+        ap (λ r. feeds (concat r.0)) same ∙ feeds-rendered inner hash within,
+        omega (arith, within, ap (λ r. feeds r.1) same, ap feeds part.2, feeds-drop part.0 inner),
+      )
 
 -- a text without line feeds prints none
 pub feeds-handed : (text : List ℕ) (hash : Bool) (limit : ℕ) → feeds text ≡ 0 → feeds (concat (handed text hash limit)) ≡ 0

@@ -141,7 +141,7 @@ begins_front s some = let w = begins_with s some in elim (w.1) [
     r t = ap begins_run (take_while-cons is_run 95 (82 ∷ t) ∙ ap (λ l. 95 ∷ l) (take_while-cons is_run 82 t))
 
 no_pieces : (h : Bool) (text : List ℕ) → pieces_of h text ≡ None → IsSymbol text → ⊥
-no_pieces h text none symbol = none≢some (sym none ∙ pieces-symbol h text symbol)
+no_pieces h text none symbol = none≢some (sym none ∙ (pieces-symbol h text symbol).1)
   where
     none≢some : {x : List (List ℕ) × List ℕ} → None ≡ Some x → ⊥
     none≢some e = cc

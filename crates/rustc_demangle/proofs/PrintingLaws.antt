@@ -14,7 +14,8 @@ use Rattle.rustc_demangle.specs.Symbols.{IsSymbol, pieces_of, handed}
 use Rattle.rustc_demangle.specs.Unescaped.{unescaped, is_hash, shown, joined, continued, legacy_pieces}
 use Rattle.rustc_demangle.proofs.CutLemmas.{size-append, fitting-within}
 use Rattle.rustc_demangle.proofs.PrintsLemmas.{cut-within, cut-past}
-use Rattle.rustc_demangle.proofs.SymbolSteps.{symbol-pieces, pieces-symbol, handed-none}
+use Rattle.rustc_demangle.proofs.LegacyLaws.{legacy_spelled}
+use Rattle.rustc_demangle.proofs.SymbolSteps.{symbol-pieces, pieces-legacy}
 
 handed-some_of : (text : List ℕ) (hash : Bool) (limit : ℕ) (read : List (List ℕ) × List ℕ) → pieces_of hash text ≡ Some read → handed text hash limit ≡ cut read.0 limit ++ read.1 ∷ []
 handed-some_of text hash limit read e = ap (λ o. option_map_or (λ (r : List (List ℕ) × List ℕ). cut r.0 limit ++ r.1 ∷ []) o (text ∷ [])) e
@@ -69,13 +70,13 @@ joined-last (e ∷ es) last =
 pub hash-last : (text : List ℕ) (elements : List (List ℕ)) (suffix : List ℕ) (limit : ℕ) → IsLegacy text elements suffix → is_allowed suffix ≡ true
     → size (legacy_pieces true elements) ≤ limit → (handed text false limit ≡ handed text true limit) ⊎ LeavesHashOut text elements suffix limit
 hash-last text elements suffix limit legacy allowed within =
-    let symbol : IsSymbol text = (elements, suffix, legacy, allowed) in
+    let read : legacy_of text ≡ Some (elements, suffix) = legacy_spelled text elements suffix legacy in
     let all : legacy_pieces true elements ≡ joined elements = ap joined (shown-all elements) in
     let full : handed text true limit ≡ joined elements ++ suffix ∷ [] =
-    handed-some_of text true limit (legacy_pieces true elements, suffix) (pieces-symbol true text symbol)
+    handed-some_of text true limit (legacy_pieces true elements, suffix) (pieces-legacy true text elements suffix read allowed)
     ∙ ap (λ xs. xs ++ suffix ∷ []) (cut-within (legacy_pieces true elements) limit within ∙ all) in
     let short : handed text false limit ≡ cut (joined (shown false elements)) limit ++ suffix ∷ [] =
-    handed-some_of text false limit (legacy_pieces false elements, suffix) (pieces-symbol false text symbol) in
+    handed-some_of text false limit (legacy_pieces false elements, suffix) (pieces-legacy false text elements suffix read allowed) in
     elim (shown-cases elements) [
       | inl same ↦ inl (short ∙ ap (λ es. cut (joined es) limit ++ suffix ∷ []) same
           ∙ ap (λ xs. xs ++ suffix ∷ []) (cut-within (joined elements) limit (subst (λ xs. size xs ≤ limit) all within)) ∙ sym full)

@@ -132,7 +132,7 @@ filtering_end h line rest old new end p none last =
 -- a symbol is replaced by what it prints
 pub replacement-symbol : (h : Bool) (run : List ℕ) → IsSymbol (stripped run) → replacement h run ≡ printed (stripped run) h
 replacement-symbol h run symbol =
-    ap (λ read. option_map_or (λ (_ : List (List ℕ) × List ℕ). printed (stripped run) h) read run) (pieces-symbol h (stripped run) symbol)
+    ap (λ read. option_map_or (λ (_ : List (List ℕ) × List ℕ). printed (stripped run) h) read run) (pieces-symbol h (stripped run) symbol).1
 
 -- and what is none stays
 pub replacement-no_symbol : (h : Bool) (run : List ℕ) → (IsSymbol (stripped run) → ⊥) → replacement h run ≡ run

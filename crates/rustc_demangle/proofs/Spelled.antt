@@ -133,7 +133,7 @@ spelt (dyn_trait p) s d l m i j e = dyn_spelt (suc (length s.symbol)) s (run p s
     (λ k x y. dyn_ (l s.printed a_trait_path false s.lifetimes i k x) (bound_spelt (suc (length s.symbol)) s s.printed d s.lifetimes p (run p s) (spelt p s d l m) _ false k j y))
 spelt (bindings o p) s d l m i j e = bound_spelt (suc (length s.symbol)) s s.printed d s.lifetimes p (run p s) (spelt p s d l m) o o i j e
 
-level_spelt : (symbol : List ℕ) (d : ℕ) (ls : List Level) → SpeltBelow symbol d ls → SpeltAt symbol d (level_of symbol ls)
+pub level_spelt : (symbol : List ℕ) (d : ℕ) (ls : List Level) → SpeltBelow symbol d ls → SpeltAt symbol d (level_of symbol ls)
 unfolding run level_of levels read_at
 level_spelt symbol d ls m c kind value n =
     let at : Level → Bool → ℕ → Surroundings = λ here pr k. record { symbol = symbol; printed = pr; here = here; deeper = ls; lifetimes = k } in
@@ -141,7 +141,7 @@ level_spelt symbol d ls m c kind value n =
     spelt (items kind value) (at inner c n) d
     (λ b k v o. spelt (items k v) (at nowhere b o) d (λ _ _ _ _ i j e. none_some e) m) m
 
-levels_spelt : (symbol : List ℕ) (n d : ℕ) → n + d ≡ max_depth → SpeltBelow symbol d (levels symbol n)
+pub levels_spelt : (symbol : List ℕ) (n d : ℕ) → n + d ≡ max_depth → SpeltBelow symbol d (levels symbol n)
 unfolding run level_of levels read_at
 levels_spelt symbol zero d e = tt
 levels_spelt symbol (suc n) d e = (omega arith, level_spelt symbol (d + 1) (levels symbol n) (levels_spelt symbol n (d + 1) (omega arith)), levels_spelt symbol n (d + 1) (omega arith))

@@ -1,27 +1,25 @@
 -- What a text hands over, by what was read of it.
-use Rattle.std.proofs.Common.{◌≡◌, ℕ, ◌+◌, ◌≤◌, ◌<◌, Bool, true, false, List, [], ◌∷◌, ◌++◌, length, Option, None, Some, sym, refl, ap, ◌∙◌, subst, arith, option_map, cond}
+use Rattle.std.proofs.Common.{◌≡◌, ℕ, zero, suc, ◌+◌, ◌*◌, ◌≤◌, ◌<◌, Bool, true, false, List, [], ◌∷◌, ◌++◌, length, Option, None, Some, sym, refl, ap, ◌∙◌, subst, arith, option_map, cond, drop, inl, inr}
 use Rattle.std.specs.Option.{option_map_or, is_some}
 use Rattle.std.proofs.lemmas.List.{length-append}
 use Rattle.std.proofs.lemmas.Bool.{false≢true, true≢false}
 use Rattle.rustc_demangle.specs.Cut.{cut}
-use Rattle.rustc_demangle.specs.Legacy.{IsElements, IsLegacy, legacy_of}
+use Rattle.rustc_demangle.specs.Legacy.{IsElements, IsLegacy, inner_of, legacy_of, elements_of}
 use Rattle.rustc_demangle.specs.Stripped.{is_allowed}
 use Rattle.rustc_demangle.specs.Unescaped.{legacy_pieces}
-use Rattle.rustc_demangle.specs.Symbols.{IsSymbol, if_allowed, pieces_of, handed}
-use Rattle.rustc_demangle.specs.Style.{style_pieces, HasNoStyle, HasStyle, IsStyled}
+use Rattle.rustc_demangle.specs.Reading.{rendered}
+use Rattle.rustc_demangle.specs.V0.{IsV0, IsV0Prefix, v0_of}
+use Rattle.rustc_demangle.specs.Symbols.{IsLegacySymbol, IsSymbol, if_allowed, first_of_both, read_of, pieces_of, handed}
+use Rattle.rustc_demangle.specs.Style.{style_pieces, LooksWithin, IsReadAs, HasNoStyle, HasStyle, IsStyled}
 use Rattle.rustc_demangle.specs.declared.value.DemangleStyle.{DemangleStyle}
-use Rattle.rustc_demangle.proofs.LegacyLaws.{legacy_read, legacy_spelled}
+use Rattle.rustc_demangle.specs.declared.value.DemangleStyle.TheVariants.{Legacy, V0}
+use Rattle.rustc_demangle.proofs.LegacyLaws.{legacy_no_prefix, legacy_read, legacy_spelled}
+use Rattle.rustc_demangle.proofs.V0Reading.{read_is_v0, v0_is_read}
 
 -- a text without a style hands over itself
 pub handed-none : (text : List ℕ) (hash : Bool) (limit : ℕ) → HasNoStyle text → handed text hash limit ≡ text ∷ []
 handed-none text hash limit none =
     ap (λ read. option_map_or (λ (r : List (List ℕ) × List ℕ). cut r.0 limit ++ r.1 ∷ []) read (text ∷ [])) (none hash)
-
--- a symbol hands over its pieces within the limit, and its suffix
-pub handed-some : (text : List ℕ) (hash : Bool) (limit : ℕ) (style : DemangleStyle) (suffix : List ℕ) → HasStyle text style suffix
-    → handed text hash limit ≡ cut (style_pieces hash style) limit ++ suffix ∷ []
-handed-some text hash limit style suffix has =
-    ap (λ read. option_map_or (λ (r : List (List ℕ) × List ℕ). cut r.0 limit ++ r.1 ∷ []) read (text ∷ [])) (has.pieces hash)
 
 pub styled-none : (style : Option DemangleStyle) (text suffix : List ℕ) → IsStyled style text suffix → style ≡ None → HasNoStyle text
 styled-none style text suffix is e = subst (λ s. IsStyled s text suffix) e is
@@ -36,26 +34,97 @@ allowed-some (Some (elements, suffix)) r e = go (is_allowed suffix) refl e where
   go true is e = (e, ap (λ (x : Option (List (List ℕ) × List ℕ)). is_allowed (option_map_or (λ p. p.1) x [])) (sym e) ∙ is)
   go false is e = cc
 
+-- no symbol of the v0 scheme has a prefix of the legacy scheme
+no_legacy : (text inner suffix : List ℕ) → IsV0 text inner suffix → legacy_of text ≡ None
+unfolding inner_of
+no_legacy text inner suffix is = legacy_no_prefix text (sym (ap inner_of is.1 ∙ go is.0 is.2)) where
+  go : (prefix : List ℕ) → IsV0Prefix prefix → inner_of (prefix ++ inner) ≡ None
+  go prefix (inl e) = ap (λ p. inner_of (p ++ inner)) e
+  go prefix (inr (inl e)) = ap (λ p. inner_of (p ++ inner)) e
+  go prefix (inr (inr e)) = ap (λ p. inner_of (p ++ inner)) e
+
+abbrev legacy_parts : Bool → List (List ℕ) × List ℕ → List (List ℕ) × List ℕ
+legacy_parts hash read = (legacy_pieces hash read.0, read.1)
+
+abbrev v0_parts : Bool → List ℕ × List ℕ → List (List ℕ) × List ℕ
+v0_parts hash read = (rendered read.0 hash, read.1)
+
+-- what a legacy symbol hands over
+pub pieces-legacy : (hash : Bool) (text : List ℕ) (elements : List (List ℕ)) (suffix : List ℕ) → legacy_of text ≡ Some (elements, suffix) → is_allowed suffix ≡ true
+    → pieces_of hash text ≡ Some (legacy_pieces hash elements, suffix)
+pieces-legacy hash text elements suffix e allowed =
+    ap (λ read. if_allowed (first_of_both (option_map (legacy_parts hash) read) (option_map (v0_parts hash) (v0_of text)))) e
+    ∙ ap (λ b. cond b (Some (legacy_pieces hash elements, suffix)) None) allowed
+
+-- what a v0 symbol hands over
+pub pieces-v0 : (hash : Bool) (text inner suffix : List ℕ) → v0_of text ≡ Some (inner, suffix) → is_allowed suffix ≡ true
+    → pieces_of hash text ≡ Some (rendered inner hash, suffix)
+pieces-v0 hash text inner suffix e allowed =
+    ap (λ read. if_allowed (first_of_both (option_map (legacy_parts hash) read) (option_map (v0_parts hash) (v0_of text)))) (no_legacy text inner suffix (read_is_v0 text inner suffix e))
+    ∙ ap (λ read. if_allowed (option_map (v0_parts hash) read)) e
+    ∙ ap (λ b. cond b (Some (rendered inner hash, suffix)) None) allowed
+
+-- a text that no scheme reads, or with another suffix, hands over itself
+pub no_pieces : (hash : Bool) (text : List ℕ) → legacy_of text ≡ None → v0_of text ≡ None → pieces_of hash text ≡ None
+no_pieces hash text legacy v0 =
+    ap (λ read. if_allowed (first_of_both (option_map (legacy_parts hash) read) (option_map (v0_parts hash) (v0_of text)))) legacy
+    ∙ ap (λ read. if_allowed (option_map (v0_parts hash) read)) v0
+
+pub no_pieces-legacy : (hash : Bool) (text : List ℕ) (elements : List (List ℕ)) (suffix : List ℕ) → legacy_of text ≡ Some (elements, suffix) → is_allowed suffix ≡ false → pieces_of hash text ≡ None
+no_pieces-legacy hash text elements suffix e other =
+    ap (λ read. if_allowed (first_of_both (option_map (legacy_parts hash) read) (option_map (v0_parts hash) (v0_of text)))) e
+    ∙ ap (λ b. cond b (Some (legacy_pieces hash elements, suffix)) None) other
+
+pub no_pieces-v0 : (hash : Bool) (text inner suffix : List ℕ) → v0_of text ≡ Some (inner, suffix) → is_allowed suffix ≡ false → pieces_of hash text ≡ None
+no_pieces-v0 hash text inner suffix e other =
+    ap (λ read. if_allowed (first_of_both (option_map (legacy_parts hash) read) (option_map (v0_parts hash) (v0_of text)))) (no_legacy text inner suffix (read_is_v0 text inner suffix e))
+    ∙ ap (λ read. if_allowed (option_map (v0_parts hash) read)) e
+    ∙ ap (λ b. cond b (Some (rendered inner hash, suffix)) None) other
+
+none≢some : {x : List (List ℕ) × List ℕ} → None ≡ Some x → ⊥
+none≢some h = cc
+
 -- what has pieces is a symbol
 pub symbol-pieces : (hash : Bool) (text : List ℕ) (r : List (List ℕ) × List ℕ) → pieces_of hash text ≡ Some r → IsSymbol text
-symbol-pieces hash text r e = go (if_allowed (legacy_of text)) refl e where
-  go : (read : Option (List (List ℕ) × List ℕ)) → if_allowed (legacy_of text) ≡ read → option_map (λ p. (legacy_pieces hash p.0, p.1)) read ≡ Some r → IsSymbol text
-  go None is e = cc
-  go (Some p) is e = let h = allowed-some (legacy_of text) p is in (p.0, p.1, legacy_read text p.0 p.1 h.0, h.1)
+symbol-pieces hash text r e = let h = allowed-some (read_of hash text) r e in go (legacy_of text) (v0_of text) refl refl h.0 h.1 where
+  suffix_is : (x y : List (List ℕ) × List ℕ) → Some x ≡ Some y → x.1 ≡ y.1
+  suffix_is x y e = ap (λ (o : Option (List (List ℕ) × List ℕ)). option_map_or (λ p. p.1) o []) e
+
+  go : (a : Option (List (List ℕ) × List ℕ)) (b : Option (List ℕ × List ℕ)) → legacy_of text ≡ a → v0_of text ≡ b
+      → first_of_both (option_map (legacy_parts hash) a) (option_map (v0_parts hash) b) ≡ Some r → is_allowed r.1 ≡ true → IsSymbol text
+  go (Some p) b legacy v0 e allowed = inl (p.0, p.1, legacy_read text p.0 p.1 legacy, ap is_allowed (suffix_is (legacy_parts hash p) r e) ∙ allowed)
+  go None (Some p) legacy v0 e allowed = inr (p.0, p.1, read_is_v0 text p.0 p.1 v0, ap is_allowed (suffix_is (v0_parts hash p) r e) ∙ allowed)
+  go None None legacy v0 e allowed = cc
 
 -- and a symbol has pieces
-pub pieces-symbol : (hash : Bool) (text : List ℕ) (symbol : IsSymbol text) → pieces_of hash text ≡ Some (legacy_pieces hash symbol.0, symbol.1)
-pieces-symbol hash text symbol =
-    ap (λ read. option_map (λ (p : List (List ℕ) × List ℕ). (legacy_pieces hash p.0, p.1)) (if_allowed read)) (legacy_spelled text symbol.0 symbol.1 symbol.2)
-    ∙ ap (λ b. option_map (λ (p : List (List ℕ) × List ℕ). (legacy_pieces hash p.0, p.1)) (cond b (Some (symbol.0, symbol.1)) None)) symbol.3
+pub pieces-symbol : (hash : Bool) (text : List ℕ) → IsSymbol text → (r : List (List ℕ) × List ℕ) × (pieces_of hash text ≡ Some r)
+pieces-symbol hash text (inl (elements, suffix, legacy, allowed)) =
+    ((legacy_pieces hash elements, suffix), pieces-legacy hash text elements suffix (legacy_spelled text elements suffix legacy) allowed)
+pieces-symbol hash text (inr (inner, suffix, v0, allowed)) =
+    ((rendered inner hash, suffix), pieces-v0 hash text inner suffix (v0_is_read text inner suffix v0) allowed)
+
+-- the pieces of a text with a style
+pub styled-pieces : (hash : Bool) (text : List ℕ) (style : DemangleStyle) (suffix : List ℕ) → HasStyle text style suffix → pieces_of hash text ≡ Some (style_pieces hash style, suffix)
+styled-pieces hash text (Legacy symbol) suffix has = pieces-legacy hash text (elements_of symbol) suffix has.read has.allowed
+styled-pieces hash text (V0 symbol) suffix has = pieces-v0 hash text symbol suffix has.read has.allowed
+
+-- a symbol hands over its pieces within the limit, and its suffix
+pub handed-some : (text : List ℕ) (hash : Bool) (limit : ℕ) (style : DemangleStyle) (suffix : List ℕ) → HasStyle text style suffix
+    → handed text hash limit ≡ cut (style_pieces hash style) limit ++ suffix ∷ []
+handed-some text hash limit style suffix has =
+    ap (λ read. option_map_or (λ (r : List (List ℕ) × List ℕ). cut r.0 limit ++ r.1 ∷ []) read (text ∷ [])) (styled-pieces hash text style suffix has)
+
+-- what it costs to print a legacy symbol
+pub looks-legacy : (text : List ℕ) (hash : Bool) (limit old new : ℕ) (style : DemangleStyle) (suffix : List ℕ) → HasStyle text style suffix → IsLegacySymbol text
+    → LooksWithin hash limit style old new → new ≤ old + 16 * (length text + 1)
+looks-legacy text hash limit old new (Legacy symbol) suffix has is looks = let inner : length symbol ≤ length text = has.inner in omega (arith, looks)
+looks-legacy text hash limit old new (V0 symbol) suffix has is looks = absurd (none≢some (sym (no_legacy text symbol suffix (read_is_v0 text symbol suffix has.read)) ∙ legacy_spelled text is.0 is.1 is.2))
 
 pub symbol_styled : (text : List ℕ) (style : DemangleStyle) (suffix : List ℕ) → HasStyle text style suffix → IsSymbol text
-symbol_styled text style suffix has = symbol-pieces true text (style_pieces true style, suffix) (has.pieces true)
+symbol_styled text style suffix has = symbol-pieces true text (style_pieces true style, suffix) (styled-pieces true text style suffix has)
 
 pub no_symbol_unstyled : (text : List ℕ) → HasNoStyle text → IsSymbol text → ⊥
-no_symbol_unstyled text none symbol = let some : pieces_of true text ≡ Some (legacy_pieces true symbol.0, symbol.1) = pieces-symbol true text symbol in let e : pieces_of true text ≡ None = none true in absurd (none≢some (sym e ∙ some)) where
-  none≢some : {x : List (List ℕ) × List ℕ} → None ≡ Some x → ⊥
-  none≢some h = cc
+no_symbol_unstyled text none symbol = let some = pieces-symbol true text symbol in none≢some (sym (none true) ∙ some.1)
 
 pub styled_symbol : (style : Option DemangleStyle) (text suffix : List ℕ) → IsStyled style text suffix → is_some style ≡ true → IsSymbol text
 styled_symbol None text suffix is e = cc
@@ -78,3 +147,23 @@ suffix-shorter text elements suffix e =
     let is = legacy_read text elements suffix e in
     let below : length suffix ≤ length is.1 = elements-shorter elements is.1 suffix is.5 in
     omega (arith, ap length is.2, length-append is.0 is.1)
+
+length-drop_le : (k : ℕ) (xs : List ℕ) → length (drop k xs) ≤ length xs
+length-drop_le zero xs = omega arith
+length-drop_le (suc k) [] = omega arith
+length-drop_le (suc k) (x ∷ xs) = omega (arith, length-drop_le k xs)
+
+pub v0_suffix-shorter : (text inner suffix : List ℕ) → v0_of text ≡ Some (inner, suffix) → length suffix ≤ length text
+v0_suffix-shorter text inner suffix e =
+    let is = read_is_v0 text inner suffix e in
+    let part = is.5 in
+    omega (arith, ap length is.1, length-append is.0 inner, ap length part.2, length-drop_le part.0 inner)
+
+pub style_suffix-shorter : (text : List ℕ) (style : DemangleStyle) (suffix : List ℕ) → IsReadAs text style suffix → length suffix ≤ length text
+style_suffix-shorter text (Legacy symbol) suffix read = suffix-shorter text (elements_of symbol) suffix read
+style_suffix-shorter text (V0 symbol) suffix read = v0_suffix-shorter text symbol suffix read
+
+-- with a suffix that is not allowed there is no style
+pub not_allowed_unstyled : (text : List ℕ) (style : DemangleStyle) (suffix : List ℕ) → IsReadAs text style suffix → is_allowed suffix ≡ false → HasNoStyle text
+not_allowed_unstyled text (Legacy symbol) suffix read other hash = no_pieces-legacy hash text (elements_of symbol) suffix read other
+not_allowed_unstyled text (V0 symbol) suffix read other hash = no_pieces-v0 hash text symbol suffix read other

@@ -22,7 +22,7 @@ fork_same : (c : Bool) (f g f' g' : Place → Outcome) (i : ℕ) → (c ≡ true
 fork_same true f g f' g' i h k = ap (λ o. behind (looked 1) o) (h refl)
 fork_same false f g f' g' i h k = ap (λ o. behind (looked 1) o) (k refl)
 
-abbrev Covers : List ℕ → Place → ℕ → Type 0
+abbrev pub Covers : List ℕ → Place → ℕ → Type 0
 Covers symbol None n = Unit {0}
 Covers symbol (Some i) n = (i ≤ length symbol) × (suc (length symbol) ≤ n + i)
 
@@ -67,7 +67,7 @@ advances p s d m c e i l = spelt_within s.symbol (rule s.printed) d s.lifetimes 
 abbrev pub Keeps : List ℕ → (Place → Outcome) → Type 0
 Keeps symbol f = (i : ℕ) → i ≤ length symbol → Within symbol i (f (Some i)).place
 
-within_later : (symbol : List ℕ) (low high : ℕ) (x : Place) → low ≤ high → Within symbol high x → Within symbol low x
+pub within_later : (symbol : List ℕ) (low high : ℕ) (x : Place) → low ≤ high → Within symbol high x → Within symbol low x
 within_later symbol low high None l h = tt
 within_later symbol low high (Some j) l h = (omega (arith, l, h.0), h.1)
 

@@ -1,15 +1,18 @@
 -- A text is read as a v0 symbol exactly where it is one.
 use Rattle.std.specs.Prelude.{◌≡◌, ◌⊎◌, ◌↔◌, ℕ, zero, suc, ◌<◌, ◌&&◌, nat_lt, ◌==◌, slice_index, codes, drop, Option, Some, None, IsAscii}
 use Rattle.std.specs.List.{list_all}
-use Rattle.std.proofs.Common.{Bool, true, false, cond, List, [], ◌∷◌, ◌++◌, refl, sym, ◌∙◌, ap, subst, arith, inl, inr}
+use Rattle.std.proofs.Common.{◌≤◌, length, Bool, true, false, cond, List, [], ◌∷◌, ◌++◌, refl, sym, ◌∙◌, ap, subst, arith, inl, inr}
 use Rattle.std.proofs.lemmas.Bool.{ltb-true, lt-ltb, eqb-true}
+use Rattle.rustc_demangle.specs.Prefix.{behind_prefix}
 use Rattle.rustc_demangle.specs.Words.{then_if_some, some_or}
 use Rattle.rustc_demangle.specs.Reading.{goes_on_at, suffix_of}
 use Rattle.rustc_demangle.specs.Spelling.{IsPaths}
-use Rattle.rustc_demangle.specs.V0.{IsV0Prefix, IsV0, behind_prefix, inner_of, v0_in, v0_of}
+use Rattle.rustc_demangle.specs.V0.{IsV0Prefix, IsV0, inner_of, v0_in, v0_of}
 use Rattle.rustc_demangle.proofs.Accepted.{accepted, all_accepted}
+use Rattle.rustc_demangle.proofs.Complete.{grows}
+use Rattle.rustc_demangle.proofs.Prefixes.{behind_is}
 
-all_ascii : (xs : List ℕ) → list_all (λ b. nat_lt b 128) xs ≡ true → IsAscii xs
+pub all_ascii : (xs : List ℕ) → list_all (λ b. nat_lt b 128) xs ≡ true → IsAscii xs
 all_ascii [] h i = omega arith
 all_ascii (x ∷ xs) h i = go (nat_lt x 128) refl h (λ h i. all_ascii xs h i) i
   where
@@ -18,7 +21,7 @@ all_ascii (x ∷ xs) h i = go (nat_lt x 128) refl h (λ h i. all_ascii xs h i) i
     go true e h k (suc i) = k h i
     go false e h k i = cc h
 
-ascii_all : (xs : List ℕ) → IsAscii xs → list_all (λ b. nat_lt b 128) xs ≡ true
+pub ascii_all : (xs : List ℕ) → IsAscii xs → list_all (λ b. nat_lt b 128) xs ≡ true
 ascii_all [] h = refl
 ascii_all (x ∷ xs) h = both (nat_lt x 128) (list_all (λ b. nat_lt b 128) xs) (lt-ltb x 128 (h zero)) (ascii_all xs (λ i. h (suc i)))
   where
@@ -26,34 +29,16 @@ ascii_all (x ∷ xs) h = both (nat_lt x 128) (list_all (λ b. nat_lt b 128) xs) 
     both true b p q = q
     both false b p q = cc p
 
--- what stands behind a prefix
-prefix_behind : (p s r : List ℕ) → behind_prefix p s ≡ Some r → s ≡ p ++ r
-prefix_behind [] s r h = some_same h
-  where
-    some_same : {x y : List ℕ} → Some x ≡ Some y → x ≡ y
-    some_same e = cc e
-prefix_behind (x ∷ p) [] r h = cc h
-prefix_behind (x ∷ p) (b ∷ s) r h = go (x == b) refl h (prefix_behind p s r)
-  where
-    go : (c : Bool) → (x == b) ≡ c → cond c (behind_prefix p s) None ≡ Some r → (behind_prefix p s ≡ Some r → s ≡ p ++ r) → b ∷ s ≡ x ∷ (p ++ r)
-    go true e h k = ap (λ y. y ∷ s) (sym (eqb-true x b e)) ∙ ap (λ y. x ∷ y) (k h)
-    go false e h k = cc h
-
-behind_it : (p r : List ℕ) → behind_prefix p (p ++ r) ≡ Some r
-behind_it [] r = refl
-behind_it (x ∷ p) r = subst (λ c. cond c (behind_prefix p (p ++ r)) None ≡ Some r) (sym (same x)) (behind_it p r)
-  where
-    same : (x : ℕ) → (x == x) ≡ true
-    same x = grind arith
+-- each prefix is taken off
 
 inner_prefix : (s r : List ℕ) → inner_of s ≡ Some r → (prefix : List ℕ) × (s ≡ prefix ++ r) × IsV0Prefix prefix
 inner_prefix s r h = go (behind_prefix (codes "_R") s) (behind_prefix (codes "R") s) (behind_prefix (codes "__R") s) refl refl refl h
   where
     go : (a b c : Option (List ℕ)) → behind_prefix (codes "_R") s ≡ a → behind_prefix (codes "R") s ≡ b → behind_prefix (codes "__R") s ≡ c →
         some_or (some_or c b Some) a Some ≡ Some r → (prefix : List ℕ) × (s ≡ prefix ++ r) × IsV0Prefix prefix
-    go (Some x) b c p q w h = (codes "_R", prefix_behind (codes "_R") s r (p ∙ h), inl refl)
-    go None (Some x) c p q w h = (codes "R", prefix_behind (codes "R") s r (q ∙ h), inr (inl refl))
-    go None None c p q w h = (codes "__R", prefix_behind (codes "__R") s r (w ∙ h), inr (inr refl))
+    go (Some x) b c p q w h = (codes "_R", behind_is (codes "_R") s r (p ∙ h), inl refl)
+    go None (Some x) c p q w h = (codes "R", behind_is (codes "R") s r (q ∙ h), inr (inl refl))
+    go None None c p q w h = (codes "__R", behind_is (codes "__R") s r (w ∙ h), inr (inr refl))
 
 prefix_inner : (prefix s r : List ℕ) → s ≡ prefix ++ r → IsV0Prefix prefix → inner_of s ≡ Some r
 prefix_inner prefix s r e h = subst (λ z. inner_of z ≡ Some r) (sym e) (go h)
@@ -116,3 +101,43 @@ v0_is_read symbol inner suffix (prefix, whole, is, ascii, begins, (k, paths, end
 
 pub reading_is_v0 : (symbol inner suffix : List ℕ) → (v0_of symbol ≡ Some (inner, suffix)) ↔ IsV0 symbol inner suffix
 reading_is_v0 symbol inner suffix = (read_is_v0 symbol inner suffix, v0_is_read symbol inner suffix)
+
+-- What `demangle` answers.
+
+pub v0_no_prefix : (symbol : List ℕ) → None ≡ inner_of symbol → v0_of symbol ≡ None
+unfolding v0_of
+v0_no_prefix symbol e = ap (λ (o : Option (List ℕ)). then_if_some o v0_in) (sym e)
+
+v0_behind : (symbol inner : List ℕ) → Some inner ≡ inner_of symbol → v0_of symbol ≡ rest_of (list_all (λ b. nat_lt b 128) inner) (goes_on_at inner 0) inner
+unfolding v0_of v0_in
+v0_behind symbol inner e = ap (λ (o : Option (List ℕ)). then_if_some o v0_in) (sym e)
+
+pub v0_not_ascii : (symbol inner : List ℕ) → Some inner ≡ inner_of symbol → (IsAscii inner → ⊥) → v0_of symbol ≡ None
+v0_not_ascii symbol inner e h = v0_behind symbol inner e ∙ go (list_all (λ b. nat_lt b 128) inner) refl
+  where
+    go : (a : Bool) → list_all (λ b. nat_lt b 128) inner ≡ a → rest_of a (goes_on_at inner 0) inner ≡ None
+    go true p = absurd (h (all_ascii inner p))
+    go false p = refl
+
+v0_ascii : (symbol inner : List ℕ) → Some inner ≡ inner_of symbol → IsAscii inner → v0_of symbol ≡ rest_of true (goes_on_at inner 0) inner
+v0_ascii symbol inner e h = v0_behind symbol inner e ∙ ap (λ a. rest_of a (goes_on_at inner 0) inner) (ascii_all inner h)
+
+pub v0_not_begun : (symbol inner : List ℕ) → Some inner ≡ inner_of symbol → IsAscii inner → goes_on_at inner 0 ≡ false → v0_of symbol ≡ None
+v0_not_begun symbol inner e h g = v0_ascii symbol inner e h ∙ ap (λ b. rest_of true b inner) g
+
+v0_begun : (symbol inner : List ℕ) → Some inner ≡ inner_of symbol → IsAscii inner → goes_on_at inner 0 ≡ true → v0_of symbol ≡ then_if_some (suffix_of inner) (ending inner)
+v0_begun symbol inner e h g = v0_ascii symbol inner e h ∙ ap (λ b. rest_of true b inner) g
+
+pub v0_no_paths : (symbol inner : List ℕ) → Some inner ≡ inner_of symbol → IsAscii inner → goes_on_at inner 0 ≡ true → None ≡ suffix_of inner → v0_of symbol ≡ None
+v0_no_paths symbol inner e h g k = v0_begun symbol inner e h g ∙ ap (λ (o : Option ℕ). then_if_some o (ending inner)) (sym k)
+
+pub v0_there : (symbol inner : List ℕ) (k : ℕ) → Some inner ≡ inner_of symbol → IsAscii inner → goes_on_at inner 0 ≡ true → Some k ≡ suffix_of inner → v0_of symbol ≡ Some (inner, drop k inner)
+v0_there symbol inner k e h g p = v0_begun symbol inner e h g ∙ ap (λ (o : Option ℕ). then_if_some o (ending inner)) (sym p)
+
+-- the suffix begins within the symbol
+pub suffix_within : (inner : List ℕ) (k : ℕ) → Some k ≡ suffix_of inner → k ≤ length inner
+suffix_within inner k e = within (accepted inner k (sym e))
+  where
+    within : IsPaths inner k → k ≤ length inner
+    within (j, p, inl q) = let r : j ≤ length inner = (grows p (omega arith)).1 in omega (arith, r, q.1)
+    within (j, p, inr q) = (grows q.1 ((grows p (omega arith)).1)).1

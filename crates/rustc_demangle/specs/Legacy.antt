@@ -3,6 +3,7 @@ use Rattle.std.specs.Prelude.{◌≡◌, ℕ, zero, suc, ◌==◌, ◌⊎◌, �
 use Rattle.std.specs.List.{list_all, prefix_len}
 use Rattle.std.specs.Char.{is_ascii}
 use Rattle.rustc_demangle.specs.Digits.{number, is_digit_10, digit_10}
+use Rattle.rustc_demangle.specs.Prefix.{behind_prefix}
 
 -- one or more decimal digits that spell n
 abbrev pub IsDigitWord : List ℕ → ℕ → Type 0
@@ -29,12 +30,6 @@ abbrev pub IsLegacy : List ℕ → List (List ℕ) → List ℕ → Type 0
 IsLegacy symbol elements suffix =
     (prefix : List ℕ) × (inner : List ℕ) × (symbol ≡ prefix ++ inner) × IsLegacyPrefix prefix × IsAscii inner
     × IsElements elements inner suffix
-
--- what stands behind this prefix
-abbrev pub behind_prefix : List ℕ → List ℕ → Option (List ℕ)
-behind_prefix [] s = Some s
-behind_prefix (p ∷ ps) [] = None
-behind_prefix (p ∷ ps) (c ∷ s) = if c == p then behind_prefix ps s else None
 
 -- the first of two that is there
 abbrev pub first_there : Option (List ℕ) → Option (List ℕ) → Option (List ℕ)

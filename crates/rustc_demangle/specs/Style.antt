@@ -1,18 +1,33 @@
 -- How a demangled symbol holds what was read of it.
-use Rattle.std.specs.Prelude.{◌≡◌, ℕ, ◌≤◌, Bool, List, Option, None, Some, length}
+use Rattle.std.specs.Prelude.{◌≡◌, ℕ, ◌+◌, ◌*◌, ◌≤◌, Bool, true, List, Option, None, Some, length}
 use Rattle.rustc_demangle.specs.declared.value.DemangleStyle.{DemangleStyle}
-use Rattle.rustc_demangle.specs.declared.value.DemangleStyle.TheVariants.{Legacy}
-use Rattle.rustc_demangle.specs.Legacy.{elements_of}
+use Rattle.rustc_demangle.specs.declared.value.DemangleStyle.TheVariants.{Legacy, V0}
+use Rattle.rustc_demangle.specs.Legacy.{legacy_of, elements_of}
+use Rattle.rustc_demangle.specs.Reading.{rendered}
+use Rattle.rustc_demangle.specs.Stripped.{is_allowed}
 use Rattle.rustc_demangle.specs.Symbols.{pieces_of}
 use Rattle.rustc_demangle.specs.Unescaped.{legacy_pieces}
+use Rattle.rustc_demangle.specs.V0.{v0_of}
 
 -- the pieces of a symbol of this style
 abbrev pub style_pieces : Bool → DemangleStyle → List (List ℕ)
 style_pieces hash (Legacy symbol) = legacy_pieces hash (elements_of symbol)
+style_pieces hash (V0 symbol) = rendered symbol hash
 
 -- how many bytes it has behind its prefix
 abbrev pub style_len : DemangleStyle → ℕ
 style_len (Legacy symbol) = length symbol
+style_len (V0 symbol) = length symbol
+
+-- the looks of printing it within a limit, from a count to another
+abbrev pub LooksWithin : Bool → ℕ → DemangleStyle → ℕ → ℕ → Type 0
+LooksWithin hash limit (Legacy symbol) old new = new ≤ old + 16 * (length symbol + 1)
+LooksWithin hash limit (V0 symbol) old new = old ≤ new
+
+-- the scheme reads the text so
+abbrev pub IsReadAs : List ℕ → DemangleStyle → List ℕ → Type 0
+IsReadAs text (Legacy symbol) suffix = legacy_of text ≡ Some (elements_of symbol, suffix)
+IsReadAs text (V0 symbol) suffix = v0_of text ≡ Some (symbol, suffix)
 
 -- the text has no style
 abbrev pub HasNoStyle : List ℕ → Type 0
@@ -20,7 +35,8 @@ HasNoStyle text = (hash : Bool) → pieces_of hash text ≡ None
 
 -- the text has this style and this suffix
 pub record HasStyle (text : List ℕ) (style : DemangleStyle) (suffix : List ℕ) : Type 0 where
-  pub pieces : (hash : Bool) → pieces_of hash text ≡ Some (style_pieces hash style, suffix)
+  pub read : IsReadAs text style suffix
+  pub allowed : is_allowed suffix ≡ true
   pub inner : style_len style ≤ length text
 
 -- the text has this style and suffix, or none

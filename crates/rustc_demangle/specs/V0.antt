@@ -1,6 +1,7 @@
 -- A whole v0 symbol, with its prefix.
-use Rattle.std.specs.Prelude.{◌≡◌, ◌⊎◌, ℕ, true, ◌&&◌, if◌then◌else◌, nat_lt, ◌==◌, List, [], ◌∷◌, ◌++◌, drop, Option, Some, None, codes, IsAscii}
+use Rattle.std.specs.Prelude.{◌≡◌, ◌⊎◌, ℕ, true, ◌&&◌, if◌then◌else◌, nat_lt, List, ◌++◌, drop, Option, Some, None, codes, IsAscii}
 use Rattle.std.specs.List.{list_all}
+use Rattle.rustc_demangle.specs.Prefix.{behind_prefix}
 use Rattle.rustc_demangle.specs.Words.{then_if_some, some_or}
 use Rattle.rustc_demangle.specs.Reading.{goes_on_at, suffix_of}
 use Rattle.rustc_demangle.specs.Spelling.{IsPaths}
@@ -13,12 +14,6 @@ abbrev pub IsV0 : List ℕ → List ℕ → List ℕ → Type 0
 IsV0 symbol inner suffix =
     (prefix : List ℕ) × (symbol ≡ prefix ++ inner) × IsV0Prefix prefix × IsAscii inner × (goes_on_at inner 0 ≡ true)
     × ((k : ℕ) × IsPaths inner k × (suffix ≡ drop k inner))
-
--- the bytes behind this prefix
-abbrev pub behind_prefix : List ℕ → List ℕ → Option (List ℕ)
-behind_prefix [] s = Some s
-behind_prefix (p ∷ ps) [] = None
-behind_prefix (p ∷ ps) (b ∷ bs) = if p == b then behind_prefix ps bs else None
 
 -- the bytes behind a v0 prefix
 abbrev pub inner_of : List ℕ → Option (List ℕ)

@@ -1,8 +1,9 @@
 //! Legacy symbols: `_ZN`, then elements behind their lengths, then `E`.
 ghost use Rattle.std.specs.Prelude.{◌≡◌, ◌+◌, ◌-◌, ◌*◌, ◌≤◌, IfOk, IfSome, OnErr, Some, None, length, option_map};
-ghost use Rattle.rustc_demangle.specs.Legacy.{legacy_of, elements_of, behind_prefix, inner_of};
+ghost use Rattle.rustc_demangle.specs.Legacy.{legacy_of, elements_of, inner_of};
 
 use crate::cursor::{Looks, Symbol};
+use crate::prefix::behind_prefix;
 
 mod elements;
 mod printing;
@@ -10,14 +11,6 @@ mod units;
 mod value;
 
 pub(crate) use value::Demangle;
-
-/// What stands behind a prefix.
-fn behind_prefix<'s>(s: &'s str, prefix: &str) -> Option<&'s str>
-    ensures rest { option_map (λ x. x.now) result ≡ behind_prefix prefix.now s.now }
-    ensures shorter { IfSome result (λ x. length x.now + length prefix.now ≡ length s.now) }
-{
-    s.strip_prefix(prefix)
-}
 
 /// What stands behind the prefix of a legacy symbol.
 #[tactic(auto, unfolding(crate::specs::Legacy::inner_of))]

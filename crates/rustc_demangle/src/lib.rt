@@ -10,10 +10,12 @@ mod display;
 pub mod laws;
 mod legacy;
 mod literal;
+mod prefix;
 mod punycode;
 pub mod sink;
 mod stream;
 mod strip;
+mod v0;
 mod value;
 
 pub use cursor::Looks;

@@ -1,17 +1,19 @@
 //! A demangled symbol, and how it prints.
-ghost use Rattle.std.specs.Prelude.{◌≡◌, ◌+◌, ◌-◌, ◌*◌, ◌≤◌, length, true, false, IsTrue, IsOk, OnOk, OnErr, IfSome, IfNone};
+ghost use Rattle.std.specs.Prelude.{◌≡◌, ◌+◌, ◌-◌, ◌*◌, ◌≤◌, length, true, false, IsTrue, IsOk, OnOk, OnErr, IfSome, IfNone, None};
 ghost use Rattle.std.specs.List.{concat};
 ghost use Rattle.rustc_demangle.specs.Cut.{cut, size};
 ghost use Rattle.rustc_demangle.specs.Hands.{Hands, HoldsFront};
+ghost use Rattle.rustc_demangle.specs.Legacy.{legacy_of};
 ghost use Rattle.rustc_demangle.specs.Limit.{Prints, Ready};
 ghost use Rattle.rustc_demangle.specs.Sink.{Fits};
 ghost use Rattle.rustc_demangle.specs.Stripped.{is_allowed, is_graphic};
-ghost use Rattle.rustc_demangle.specs.Style.{style_pieces, style_len, HasNoStyle, HasStyle};
-ghost use Rattle.rustc_demangle.specs.Symbols.{handed, IsSymbol};
+ghost use Rattle.rustc_demangle.specs.Style.{style_pieces, style_len, LooksWithin, IsReadAs, HasNoStyle, HasStyle};
+ghost use Rattle.rustc_demangle.specs.Symbols.{handed, IsLegacySymbol, IsSymbol};
+ghost use Rattle.rustc_demangle.specs.V0.{v0_of};
 
 use crate::cursor::{Looks, Symbol};
-use crate::legacy;
 use crate::sink::{SinkRefused, SizeLimitedFmtAdapter, TextSink, put_piece};
+use crate::{legacy, v0};
 use std::marker::Model;
 
 /// The most bytes that a call with no limit of its own prints of a symbol, before the marker and the suffix.
@@ -21,6 +23,7 @@ const MAX_SIZE: usize = 1_000_000;
 #[derive(Drop)]
 pub(crate) enum DemangleStyle<'a> {
     Legacy(legacy::Demangle<'a>),
+    V0(v0::Demangle<'a>),
 }
 
 impl DemangleStyle<'_> {
@@ -34,10 +37,11 @@ impl DemangleStyle<'_> {
         requires { Ready S.TextSink out.old }
         ensures prints { Prints S.TextSink out.old (style_pieces include_hash self.now) result out.new }
         ensures grows { looks.old ≤ looks.new }
-        ensures most { looks.new ≤ looks.old + 16 * (style_len self.now + 1) }
+        ensures looks { LooksWithin include_hash out.old.remaining self.now looks.old looks.new }
     {
         match self {
             DemangleStyle::Legacy(symbol) => symbol.write_to(out, include_hash, looks),
+            DemangleStyle::V0(symbol) => symbol.write_to(out, include_hash, looks),
         }
     }
 }
@@ -73,7 +77,7 @@ fn write_cut<S: TextSink>(
     requires { S.failed out.old ≡ false }
     ensures hands { Hands S.TextSink out.old (cut (style_pieces include_hash style.now) limit) result out.new }
     ensures grows { looks.old ≤ looks.new }
-    ensures most { looks.new ≤ looks.old + 16 * (style_len style.now + 1) }
+    ensures looks { LooksWithin include_hash limit style.now looks.old looks.new }
 {
     let mut limited = SizeLimitedFmtAdapter::new(out, limit);
     let result = style.write_to(&mut limited, include_hash, looks);
@@ -103,7 +107,7 @@ impl<'a> Demangle<'a> {
         requires { S.failed out.old ≡ false }
         ensures hands { Hands S.TextSink out.old (handed self.now include_hash limit) result out.new }
         ensures grows { looks.old ≤ looks.new }
-        ensures most { looks.new ≤ looks.old + 16 * (length self.now + 1) }
+        ensures legacy { IsLegacySymbol self.now → looks.new ≤ looks.old + 16 * (length self.now + 1) }
         ensures unread { (IsSymbol self.now → ⊥) → looks.new ≡ looks.old }
     {
         let Some(style) = &self.style else {
@@ -132,7 +136,7 @@ impl<'a> Demangle<'a> {
         ensures kept { OnErr result (S.keeps ≡ true → HoldsFront S.TextSink out.old (handed self.now include_hash limit) out.new) }
         ensures fits { Fits (size (handed self.now include_hash limit)) (S.room out.old) → IsOk result }
         ensures grows { looks.old ≤ looks.new }
-        ensures most { looks.new ≤ looks.old + 16 * (length self.now + 1) }
+        ensures legacy { IsLegacySymbol self.now → looks.new ≤ looks.old + 16 * (length self.now + 1) }
         ensures unread { (IsSymbol self.now → ⊥) → looks.new ≡ looks.old }
     {
         self.hand_over(out, include_hash, limit, looks)
@@ -169,7 +173,7 @@ impl<'a> Demangle<'a> {
         ensures kept { OnErr result (S.keeps ≡ true → HoldsFront S.TextSink out.old (handed self.now include_hash MAX_SIZE) out.new) }
         ensures fits { Fits (size (handed self.now include_hash MAX_SIZE)) (S.room out.old) → IsOk result }
         ensures grows { looks.old ≤ looks.new }
-        ensures most { looks.new ≤ looks.old + 16 * (length self.now + 1) }
+        ensures legacy { IsLegacySymbol self.now → looks.new ≤ looks.old + 16 * (length self.now + 1) }
         ensures unread { (IsSymbol self.now → ⊥) → looks.new ≡ looks.old }
     {
         self.write_limited_counted(out, include_hash, MAX_SIZE, looks)
@@ -222,19 +226,35 @@ fn is_allowed(suffix: &str, looks: &mut Looks) -> bool
     true
 }
 
+// What a scheme reads of a text, and what it leaves.
+fn read_style<'a>(text: &'a str, looks: &mut Looks) -> Option<(DemangleStyle<'a>, &'a str)>
+    ensures some { IfSome result (λ r. IsReadAs text.now r.0 r.1.now) }
+    ensures inner { IfSome result (λ r. style_len r.0 ≤ length text.now) }
+    ensures none { IfNone result ((legacy_of text.now ≡ None) × (v0_of text.now ≡ None)) }
+    ensures grows { looks.old ≤ looks.new }
+    ensures most { looks.new ≤ looks.old + 60 * (length text.now + 1) }
+    ensures least { IfSome result (λ _. looks.old + (length text.now - 4) ≤ looks.new) }
+{
+    if let Ok((symbol, suffix)) = legacy::demangle(text, looks) {
+        return Some((DemangleStyle::Legacy(symbol), suffix));
+    }
+    match v0::demangle(text, looks) {
+        Ok((symbol, suffix)) => Some((DemangleStyle::V0(symbol), suffix)),
+        Err(_) => None,
+    }
+}
+
 // The style of a text and its suffix, if it is a symbol.
 fn style_of<'a>(text: &'a str, looks: &mut Looks) -> Option<(DemangleStyle<'a>, &'a str)>
     ensures some { IfSome result (λ r. HasStyle text.now r.0 r.1.now) }
     ensures none { IfNone result (HasNoStyle text.now) }
     ensures grows { looks.old ≤ looks.new }
-    ensures most { looks.new ≤ looks.old + 9 * (length text.now + 1) }
+    ensures most { looks.new ≤ looks.old + 61 * (length text.now + 1) }
     ensures least { IfSome result (λ _. looks.old + (length text.now - 4) ≤ looks.new) }
 {
-    let Ok((symbol, suffix)) = legacy::demangle(text, looks) else {
-        return None;
-    };
+    let (style, suffix) = read_style(text, looks)?;
     if is_allowed(suffix, looks) {
-        Some((DemangleStyle::Legacy(symbol), suffix))
+        Some((style, suffix))
     } else {
         None
     }
@@ -245,7 +265,7 @@ impl<'a> Demangle<'a> {
     pub(crate) fn read(text: &'a str, looks: &mut Looks) -> Demangle<'a>
         ensures text { result ≡ text.now }
         ensures grows { looks.old ≤ looks.new }
-        ensures most { looks.new ≤ looks.old + 9 * (length text.now + 1) }
+        ensures most { looks.new ≤ looks.old + 61 * (length text.now + 1) }
         ensures least { IsSymbol text.now → looks.old + (length text.now - 4) ≤ looks.new }
     {
         match style_of(text, looks) {

@@ -1,0 +1,37 @@
+use Rattle.std.proofs.Common.{◌∙◌, sym, ap, arith}
+use Rattle.rustc_demangle.specs.Events.{Heard, shown_in}
+use Rattle.rustc_demangle.proofs.Printed.{printed_start, printed_ready, printed_then, printed_stop, printed_all}
+use Rattle.rustc_demangle.proofs.Printing.{rendered_share, step_shown}
+use Rattle.rustc_demangle.proofs.Stepping.{none_left}
+use Rattle.rustc_demangle.proofs.v0.printing.print.Goals as goal
+
+pub loop-stretch-init : goal.loop-stretch-init
+loop-stretch-init g c = record {
+  printed = printed_start g.S.TextSink _ _ _ c.requires.ready
+      (ap (λ (h : Heard). shown_in h.events) (c.new-machine.ensures c.args.symbol.now c.args.include_hash) ∙ rendered_share c.args.symbol.now c.args.include_hash);
+  grows = omega arith;
+}
+
+pub render-requires-clause-lies : goal.render-requires-clause-lies
+render-requires-clause-lies g c = c.in-Some.ensures.some.lies
+
+pub render-requires-clause-ready : goal.render-requires-clause-ready
+render-requires-clause-ready g c = printed_ready g.S.TextSink _ _ _ _ c.loop-stretch.invariant.printed
+
+pub loop-stretch-preserved : goal.loop-stretch-preserved
+loop-stretch-preserved g c =
+    let shown = step_shown c.args.symbol.now c.args.include_hash _ _ _ _ _ _ _ _ c.in-Some.ensures.some in
+    record {
+      printed = printed_then g.S.TextSink _ _ _ _ _ _ _ c.loop-stretch.invariant.printed shown c.in_ok-render.ensures.prints;
+      grows = omega (arith, c.in-Some.ensures.grows, c.in_ok-render.ensures.grows);
+    }
+
+pub returns-in_err-render-clause-prints : goal.returns-in_err-render-clause-prints
+returns-in_err-render-clause-prints g c =
+    let shown = step_shown c.args.symbol.now c.args.include_hash _ _ _ _ _ _ _ _ c.in-Some.ensures.some in
+    printed_stop g.S.TextSink _ _ _ _ _ _ _ _ _ c.loop-stretch.invariant.printed shown c.in_err-render.ensures.prints c.from_residual.ensures.0
+
+pub returns-clause-prints : goal.returns-clause-prints
+returns-clause-prints g c =
+    printed_all g.S.TextSink _ _ _ _ c.loop-stretch.invariant.printed
+    (ap (λ (h : Heard). shown_in h.events) (none_left c.args.symbol.now c.args.include_hash _ c.loop-stretch.machine.place c.loop-stretch.machine.is_open c.in_default.ensures.none))

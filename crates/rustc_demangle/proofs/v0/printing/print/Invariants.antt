@@ -1,0 +1,15 @@
+use Rattle.std.proofs.Common.{◌≤◌}
+use Rattle.rustc_demangle.specs.Events.{shown_in}
+use Rattle.rustc_demangle.specs.Reading.{rendered}
+use Rattle.rustc_demangle.specs.Shares.{owed, measure}
+use Rattle.rustc_demangle.proofs.Printed.{Printed}
+use Rattle.rustc_demangle.proofs.v0.printing.print.Given as goal
+
+abbrev pub invariant-loop-stretch : goal.invariant-loop-stretch
+invariant-loop-stretch g l = record {
+  printed : Printed g.S.TextSink l.fn.out (rendered l.symbol l.include_hash) (shown_in (owed l.symbol l.include_hash l.machine.tasks l.machine.place l.machine.is_open).events) l.out;
+  grows : l.fn.looks ≤ l.looks;
+}
+
+abbrev pub decreases-loop-stretch : goal.decreases-loop-stretch
+decreases-loop-stretch g l = measure l.symbol l.machine.tasks l.machine.place l.machine.is_open

@@ -1,0 +1,565 @@
+//! One step of a task.
+ghost use Rattle.std.specs.Prelude.{Bool, true, ◌≡◌, ℕ, ◌+◌, ◌-◌, ◌*◌, ◌^◌, ◌<◌, ◌≤◌, [], drop, IfSome, IfNone, OnSome};
+ghost use Rattle.rustc_demangle.specs.Begins.{total};
+ghost use Rattle.rustc_demangle.specs.Grammar.{table};
+ghost use Rattle.rustc_demangle.specs.Measures.{entry_of};
+ghost use Rattle.rustc_demangle.specs.Shares.{bound, height, most_bound, takes};
+ghost use Rattle.rustc_demangle.specs.Serving.{HeadIs, Serves, IsBinding, fresh, splat, naming, told_bindings, end_stretch, mark_stretch, only, going, entering, placed_in, skipping, rest_of, list_end, end_costs, separator, ending, one_more, element_setting, is_element};
+
+use crate::cursor::{Looks, Symbol};
+use crate::v0::grammar::{
+    Count, Entry, Item, Joint, Mark, Named, Position, Production, Word, table,
+};
+use crate::v0::reference::{Reference, refer};
+use crate::v0::stretch::Stretch;
+use crate::v0::task::{Move, Progress, Setting, Task};
+use crate::v0::units::{Beginning, begin};
+use crate::v0::words::{WordRead, read_word};
+
+/// A step after which nothing is left of the task.
+fn only(output: bool, stretch: Stretch, place: Option<usize>) -> Move
+    ensures { result ≡ only output stretch place }
+{
+    Move {
+        output,
+        stretch,
+        place,
+        is_open: false,
+        inner: None,
+        outer: None,
+    }
+}
+
+/// A step after which the task goes on so.
+fn going(output: bool, stretch: Stretch, place: Option<usize>, rest: Task) -> Move
+    ensures { result ≡ going output stretch place rest }
+{
+    Move {
+        output,
+        stretch,
+        place,
+        is_open: false,
+        inner: None,
+        outer: Some(rest),
+    }
+}
+
+/// A step that enters a unit.
+fn entering(
+    output: bool,
+    stretch: Stretch,
+    place: Option<usize>,
+    unit: Task,
+    rest: Option<Task>,
+) -> Move
+    ensures { result ≡ entering output stretch place unit rest }
+{
+    Move {
+        output,
+        stretch,
+        place,
+        is_open: false,
+        inner: Some(unit),
+        outer: rest,
+    }
+}
+
+fn placed(setting: Setting, position: Position) -> Setting
+    ensures { result ≡ placed_in setting position }
+{
+    let value = match position {
+        Position::Same => setting.value,
+        Position::Value => true,
+        Position::NoValue => false,
+    };
+    Setting { value, ..setting }
+}
+
+fn skipping(setting: Setting) -> Setting
+    ensures { result ≡ skipping setting }
+{
+    Setting {
+        output: false,
+        value: false,
+        ..setting
+    }
+}
+
+fn entry_of(named: Named) -> Entry
+    ensures { result ≡ entry_of named }
+{
+    match named {
+        Named::Path => Entry::Path,
+        Named::Type => Entry::Type,
+        Named::Constant => Entry::Constant,
+        Named::Pattern => Entry::Pattern,
+        Named::TraitPath => Entry::TraitPath,
+    }
+}
+
+#[tactic(auto, using(crate::proofs::TableChecks::table_short))]
+/// The item that comes next.
+fn item_at(progress: Progress) -> Option<Item>
+    ensures none { IfNone result (drop progress.index (table progress.production) ≡ []) }
+    ensures some { IfSome result (λ item. HeadIs progress item) }
+    ensures within { OnSome result (progress.index < 2 ^ 31) }
+{
+    let items = table(progress.production);
+    let index = progress.index as usize;
+    if index < items.len() {
+        Some(items[index])
+    } else {
+        None
+    }
+}
+
+/// The progress behind the item that comes next.
+fn rest_of(progress: Progress) -> Progress
+    requires { progress.index < 2 ^ 31 }
+    ensures { result ≡ rest_of progress }
+{
+    Progress {
+        index: progress.index + 1,
+        count: Count::Zero,
+        ..progress
+    }
+}
+
+/// Does one step of a task.
+pub fn perform(
+    symbol: &Symbol<'_>,
+    task: Task,
+    place: Option<usize>,
+    is_open: bool,
+    looks: &mut Looks,
+) -> Move
+    requires height { height task ≤ 4008 }
+    requires bound { bound task ≤ most_bound }
+    ensures serves { Serves symbol.now task place is_open result (looks.new - looks.old) }
+    ensures grows { looks.old ≤ looks.new }
+{
+    match task {
+        Task::Enter(entry, left, setting) => enter(symbol, entry, left, setting, place, looks),
+        Task::Rest(progress, setting) => { go_on(symbol, progress, setting, place, is_open, looks) }
+        Task::Behind(behind) => Move {
+            output: false,
+            stretch: Stretch::Nothing,
+            place: Some(behind),
+            is_open,
+            inner: None,
+            outer: None,
+        },
+    }
+}
+
+/// What the mark of a type prints.
+fn splat(is_marked: bool) -> Stretch
+    ensures { result ≡ splat is_marked }
+{
+    if is_marked {
+        Stretch::Fixed(Mark::Splat)
+    } else {
+        Stretch::Nothing
+    }
+}
+
+/// A production of which nothing was read.
+fn fresh(production: Production, note: u8, left: u32) -> Progress
+    ensures { result ≡ fresh production note left }
+{
+    Progress {
+        production,
+        index: 0,
+        count: Count::Zero,
+        note,
+        left,
+    }
+}
+
+fn enter(
+    symbol: &Symbol<'_>,
+    entry: Entry,
+    left: u32,
+    setting: Setting,
+    place: Option<usize>,
+    looks: &mut Looks,
+) -> Move
+    ensures serves { (o : Bool) → Serves symbol.now (Task.Enter entry left setting) place o result (looks.new - looks.old) }
+    ensures grows { looks.old ≤ looks.new }
+{
+    let output = setting.output;
+    match begin(symbol, entry, left, setting.value, place, looks) {
+        Beginning::Faulty(mark) => only(output, Stretch::Fixed(mark), None),
+        Beginning::Basic(mark, next) => only(output, Stretch::Fixed(mark), Some(next)),
+        Beginning::Splats(is_marked, next) => {
+            let unit = Task::Enter(Entry::TaggedType, left, setting);
+            entering(output, splat(is_marked), Some(next), unit, None)
+        }
+        Beginning::Starts(production, note, next) => {
+            let unit = Task::Rest(fresh(production, note, left - 1), setting);
+            entering(output, Stretch::Nothing, Some(next), unit, None)
+        }
+        Beginning::Continues(production, next) => {
+            let unit = Task::Rest(fresh(production, 0, left), setting);
+            entering(output, Stretch::Nothing, next, unit, None)
+        }
+    }
+}
+
+fn go_on(
+    symbol: &Symbol<'_>,
+    progress: Progress,
+    setting: Setting,
+    place: Option<usize>,
+    is_open: bool,
+    looks: &mut Looks,
+) -> Move
+    requires left { progress.left ≤ 500 }
+    requires bound { bound (Task.Rest progress setting) ≤ most_bound }
+    ensures serves { Serves symbol.now (Task.Rest progress setting) place is_open result (looks.new - looks.old) }
+    ensures grows { looks.old ≤ looks.new }
+{
+    let output = setting.output;
+    let left = progress.left;
+    let Some(item) = item_at(progress) else {
+        return only(output, Stretch::Nothing, place);
+    };
+    let rest = Task::Rest(rest_of(progress), setting);
+    match item {
+        Item::Says(mark) => going(output, Stretch::Fixed(mark), place, rest),
+        Item::Reads(word) => go_over(symbol, word, progress, setting, place, looks),
+        Item::Namespace => go_into(symbol, progress, setting, place, looks),
+        Item::Child(named, position) => {
+            let unit = Task::Enter(entry_of(named), left, placed(setting, position));
+            entering(output, Stretch::Nothing, place, unit, Some(rest))
+        }
+        Item::Skips => {
+            let unit = Task::Enter(Entry::Path, left, skipping(setting));
+            entering(output, Stretch::Nothing, place, unit, Some(rest))
+        }
+        Item::Elements(entry, joint) => {
+            go_along(symbol, entry, joint, progress, setting, place, looks)
+        }
+        Item::Refers(named, position) => {
+            go_back(symbol, named, position, progress, setting, place, looks)
+        }
+        Item::Binds => go_bound(symbol, progress, setting, place, looks),
+        Item::Opens => Move {
+            output,
+            stretch: Stretch::Nothing,
+            place,
+            is_open: true,
+            inner: None,
+            outer: None,
+        },
+        Item::Bindings => {
+            let unit = Task::Enter(Entry::TraitPath, left, placed(setting, Position::NoValue));
+            let told = Task::Rest(told_bindings(left), setting);
+            entering(output, Stretch::Nothing, place, unit, Some(told))
+        }
+        Item::MoreBindings => {
+            let is_open = takes(progress.count, is_open);
+            go_binding(symbol, is_open, left, setting, place, looks)
+        }
+        Item::OpenBindings => go_binding(symbol, true, left, setting, place, looks),
+        Item::Holds(entry) => {
+            let unit = Task::Enter(entry, left, setting);
+            entering(output, Stretch::Nothing, place, unit, Some(rest))
+        }
+        Item::GoesOn(entry) => {
+            let unit = Task::Enter(entry, left, setting);
+            entering(output, Stretch::Nothing, place, unit, None)
+        }
+    }
+}
+
+/// A word.
+fn go_over(
+    symbol: &Symbol<'_>,
+    word: Word,
+    progress: Progress,
+    setting: Setting,
+    place: Option<usize>,
+    looks: &mut Looks,
+) -> Move
+    requires head { HeadIs progress (Item.Reads word) }
+    requires index { progress.index < 2 ^ 31 }
+    ensures serves { (o : Bool) → Serves symbol.now (Task.Rest progress setting) place o result (looks.new - looks.old) }
+    ensures grows { looks.old ≤ looks.new }
+{
+    let output = setting.output;
+    let lifetimes = setting.lifetimes;
+    match read_word(symbol, word, progress.note, output, lifetimes, place, looks) {
+        WordRead::Goes(stretch, next) => {
+            let rest = Task::Rest(rest_of(progress), setting);
+            going(output, stretch, next, rest)
+        }
+        WordRead::Stops(stretch) => only(output, stretch, None),
+    }
+}
+
+/// The letter of a namespace, which is noted.
+fn go_into(
+    symbol: &Symbol<'_>,
+    progress: Progress,
+    setting: Setting,
+    place: Option<usize>,
+    looks: &mut Looks,
+) -> Move
+    requires head { HeadIs progress Item.Namespace }
+    requires index { progress.index < 2 ^ 31 }
+    ensures serves { (o : Bool) → Serves symbol.now (Task.Rest progress setting) place o result (looks.new - looks.old) }
+    ensures grows { looks.old ≤ looks.new }
+{
+    let output = setting.output;
+    let Some(at) = place else {
+        return only(output, Stretch::Fixed(Mark::Unread), None);
+    };
+    let Ok((note, next)) = symbol.namespace(at, looks) else {
+        return only(output, Stretch::Fixed(Mark::Invalid), None);
+    };
+    let noted = Progress {
+        note,
+        ..rest_of(progress)
+    };
+    let rest = Task::Rest(noted, setting);
+    going(output, Stretch::Nothing, Some(next), rest)
+}
+
+/// A binder, whose lifetimes are in force from then on.
+fn go_bound(
+    symbol: &Symbol<'_>,
+    progress: Progress,
+    setting: Setting,
+    place: Option<usize>,
+    looks: &mut Looks,
+) -> Move
+    requires head { HeadIs progress Item.Binds }
+    requires index { progress.index < 2 ^ 31 }
+    requires bound { bound (Task.Rest progress setting) ≤ most_bound }
+    ensures serves { (o : Bool) → Serves symbol.now (Task.Rest progress setting) place o result (looks.new - looks.old) }
+    ensures grows { looks.old ≤ looks.new }
+{
+    let output = setting.output;
+    let Some(at) = place else {
+        return only(output, Stretch::Fixed(Mark::Unread), None);
+    };
+    let Ok((number, next)) = symbol.opt_integer_62(b'G', at, looks) else {
+        return only(output, Stretch::Fixed(Mark::Invalid), None);
+    };
+    let lifetimes = setting.lifetimes + u128::from(number);
+    let body = Setting {
+        lifetimes,
+        ..setting
+    };
+    let rest = Task::Rest(rest_of(progress), body);
+    let stretch = Stretch::Binder(setting.lifetimes, number);
+    going(output, stretch, Some(next), rest)
+}
+
+/// What a list prints before its next element.
+fn separator(joint: Joint, count: Count) -> Stretch
+    ensures { result ≡ separator joint count }
+{
+    match (joint, count) {
+        (Joint::Or, _) => Stretch::Fixed(Mark::Or),
+        (_, Count::Zero) => Stretch::Nothing,
+        (Joint::Plus, _) => Stretch::Fixed(Mark::Plus),
+        _ => Stretch::Fixed(Mark::Comma),
+    }
+}
+
+/// What a list prints behind its last element.
+fn ending(joint: Joint, count: Count) -> Stretch
+    ensures { result ≡ ending joint count }
+{
+    match (joint, count) {
+        (Joint::Tuple, Count::One) => Stretch::Fixed(Mark::OneComma),
+        _ => Stretch::Nothing,
+    }
+}
+
+fn one_more(count: Count) -> Count
+    ensures { result ≡ one_more count }
+{
+    match count {
+        Count::Zero => Count::One,
+        _ => Count::More,
+    }
+}
+
+/// The setting of a list's elements.
+fn element_setting(setting: Setting, entry: Entry) -> Setting
+    ensures { result ≡ element_setting setting entry }
+{
+    let value = matches!(entry, Entry::Constant);
+    Setting { value, ..setting }
+}
+
+/// Where a list is over: the place behind it.
+fn list_end(symbol: &Symbol<'_>, place: Option<usize>, looks: &mut Looks) -> Option<Option<usize>>
+    ensures value { result ≡ list_end symbol.now place }
+    ensures grows { looks.old ≤ looks.new }
+    ensures looks { looks.new ≤ looks.old + total (end_costs place) }
+{
+    let Some(at) = place else {
+        return Some(None);
+    };
+    if symbol.is_at(b'E', at, looks) {
+        Some(Some(at + 1))
+    } else {
+        None
+    }
+}
+
+/// A list: one more element, or its end.
+fn go_along(
+    symbol: &Symbol<'_>,
+    entry: Entry,
+    joint: Joint,
+    progress: Progress,
+    setting: Setting,
+    place: Option<usize>,
+    looks: &mut Looks,
+) -> Move
+    requires head { HeadIs progress (Item.Elements entry joint) }
+    requires element { is_element entry ≡ true }
+    requires index { progress.index < 2 ^ 31 }
+    requires left { progress.left ≤ 500 }
+    ensures serves { (o : Bool) → Serves symbol.now (Task.Rest progress setting) place o result (looks.new - looks.old) }
+    ensures grows { looks.old ≤ looks.new }
+{
+    let output = setting.output;
+    if let Some(behind) = list_end(symbol, place, looks) {
+        let stretch = ending(joint, progress.count);
+        let rest = Task::Rest(rest_of(progress), setting);
+        return going(output, stretch, behind, rest);
+    }
+    let stretch = separator(joint, progress.count);
+    let more = Progress {
+        count: one_more(progress.count),
+        ..progress
+    };
+    let unit = Task::Enter(entry, progress.left, element_setting(setting, entry));
+    entering(
+        output,
+        stretch,
+        place,
+        unit,
+        Some(Task::Rest(more, setting)),
+    )
+}
+
+/// A back reference, which is followed where it is printed.
+fn go_back(
+    symbol: &Symbol<'_>,
+    named: Named,
+    position: Position,
+    progress: Progress,
+    setting: Setting,
+    place: Option<usize>,
+    looks: &mut Looks,
+) -> Move
+    requires head { HeadIs progress (Item.Refers named position) }
+    ensures serves { (o : Bool) → Serves symbol.now (Task.Rest progress setting) place o result (looks.new - looks.old) }
+    ensures grows { looks.old ≤ looks.new }
+{
+    let output = setting.output;
+    match refer(symbol, progress.left, place, looks) {
+        Reference::Faulty(mark) => only(output, Stretch::Fixed(mark), None),
+        Reference::Target(target, next) => {
+            if !output {
+                return only(output, Stretch::Nothing, Some(next));
+            }
+            let unit = Task::Enter(
+                entry_of(named),
+                progress.left - 1,
+                placed(setting, position),
+            );
+            let behind = Some(Task::Behind(next));
+            entering(output, Stretch::Nothing, Some(target), unit, behind)
+        }
+    }
+}
+
+/// Whether bindings are open, where that is told from before.
+fn takes(count: Count, is_open: bool) -> bool
+    ensures { result ≡ takes count is_open }
+{
+    match count {
+        Count::Told => is_open,
+        _ => false,
+    }
+}
+
+/// The bindings of a dyn trait path that was read.
+fn told_bindings(left: u32) -> Progress
+    ensures { result ≡ told_bindings left }
+{
+    Progress {
+        production: Production::DynTrait,
+        index: 1,
+        count: Count::Told,
+        note: 0,
+        left,
+    }
+}
+
+/// The name of a binding, and what it is bound to.
+fn naming(left: u32) -> Progress
+    ensures { result ≡ naming left }
+{
+    Progress {
+        production: Production::DynTrait,
+        index: 2,
+        count: Count::Zero,
+        note: 0,
+        left,
+    }
+}
+
+/// What bindings print at their end.
+fn binding_end(is_open: bool) -> Stretch
+    ensures { result ≡ end_stretch is_open }
+{
+    if is_open {
+        Stretch::Fixed(Mark::Greater)
+    } else {
+        Stretch::Nothing
+    }
+}
+
+/// What a binding prints first.
+fn binding_mark(is_open: bool) -> Stretch
+    ensures { result ≡ mark_stretch is_open }
+{
+    if is_open {
+        Stretch::Fixed(Mark::Comma)
+    } else {
+        Stretch::Fixed(Mark::Less)
+    }
+}
+
+/// Bindings: one more, or their end.
+fn go_binding(
+    symbol: &Symbol<'_>,
+    is_open: bool,
+    left: u32,
+    setting: Setting,
+    place: Option<usize>,
+    looks: &mut Looks,
+) -> Move
+    requires left { left ≤ 500 }
+    ensures serves { (task : Task) (o : Bool) → IsBinding symbol.now task o is_open (naming left) setting → Serves symbol.now task place o result (looks.new - looks.old) }
+    ensures grows { looks.old ≤ looks.new }
+{
+    let output = setting.output;
+    let Some(at) = place else {
+        return only(output, binding_end(is_open), None);
+    };
+    if !symbol.is_at(b'p', at, looks) {
+        return only(output, binding_end(is_open), Some(at));
+    }
+    let name = Task::Rest(naming(left), setting);
+    going(output, binding_mark(is_open), Some(at + 1), name)
+}

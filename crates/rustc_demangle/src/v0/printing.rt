@@ -1,0 +1,37 @@
+//! How a v0 symbol prints: the steps of the machine, each put into a sink as it is made.
+ghost use Rattle.std.specs.Prelude.{IsAscii, ◌≡◌, ◌≤◌, length};
+ghost use Rattle.rustc_demangle.specs.Limit.{Prints, Ready};
+ghost use Rattle.rustc_demangle.specs.Reading.{rendered};
+
+use crate::cursor::{Looks, Symbol};
+use crate::sink::{SinkRefused, SizeLimitedFmtAdapter, TextSink};
+use crate::v0::grammar::Entry;
+use crate::v0::machine::Machine;
+use crate::v0::render::render;
+use crate::v0::task::{Setting, Task};
+
+/// Prints a symbol's first path, with its hash or without it.
+///
+/// It ends at the piece that the limit or the sink refuses.
+pub(crate) fn print<S: TextSink>(
+    symbol: &Symbol<'_>,
+    include_hash: bool,
+    out: &mut SizeLimitedFmtAdapter<'_, S>,
+    looks: &mut Looks,
+) -> Result<(), SinkRefused>
+    requires ascii { IsAscii symbol.now }
+    requires ready { Ready S.TextSink out.old }
+    ensures prints { Prints S.TextSink out.old (rendered symbol.now include_hash) result out.new }
+    ensures grows { looks.old ≤ looks.new }
+{
+    let setting = Setting {
+        output: true,
+        value: true,
+        lifetimes: 0,
+    };
+    let mut machine = Machine::new(Task::Enter(Entry::Path, 500, setting), 0);
+    while let Some(stretch) = machine.step(symbol, looks) {
+        render(symbol, stretch, include_hash, out, looks)?;
+    }
+    Ok(())
+}

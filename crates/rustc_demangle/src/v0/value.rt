@@ -1,0 +1,48 @@
+//! A v0 symbol that was read.
+ghost use Rattle.std.specs.Prelude.{◌≡◌, ◌≤◌, IsAscii};
+ghost use Rattle.rustc_demangle.specs.Limit.{Prints, Ready};
+ghost use Rattle.rustc_demangle.specs.Reading.{rendered};
+
+use crate::cursor::{Looks, Symbol};
+use crate::sink::{SinkRefused, SizeLimitedFmtAdapter, TextSink};
+use crate::v0::printing::print;
+use std::marker::Model;
+
+/// A v0 symbol that was read: the bytes behind its prefix, with the suffix.
+#[derive(Drop)]
+pub(crate) struct Demangle<'s> {
+    inner: Symbol<'s>,
+}
+
+impl<'s> Model for Demangle<'s> {
+    ghost use Rattle.std.specs.Prelude.{ℕ, List, IsAscii};
+
+    ghost Value = { List ℕ };
+
+    ghost view = { λ s. s.inner };
+
+    ghost invariant = { λ s. IsAscii s.inner };
+}
+
+impl<'s> Demangle<'s> {
+    pub(super) fn new(inner: Symbol<'s>) -> Demangle<'s>
+        requires { IsAscii inner }
+        ensures { result ≡ inner.entry }
+    {
+        Demangle { inner }
+    }
+
+    /// Prints the first path, with the hash or without it.
+    pub(crate) fn write_to<S: TextSink>(
+        &self,
+        out: &mut SizeLimitedFmtAdapter<'_, S>,
+        include_hash: bool,
+        looks: &mut Looks,
+    ) -> Result<(), SinkRefused>
+        requires { Ready S.TextSink out.old }
+        ensures prints { Prints S.TextSink out.old (rendered self.now include_hash) result out.new }
+        ensures grows { looks.old ≤ looks.new }
+    {
+        print(&self.inner, include_hash, out, looks)
+    }
+}
