@@ -125,20 +125,25 @@ fn assert_taken(rt: &impl Abort, alloc: Global, text: &str) -> Result<(), Fail> 
     Ok(())
 }
 
-/// Asserts the same of each beginning of a text, itself included.
-fn assert_beginnings_are_taken(rt: &impl Abort, alloc: Global, text: &str) -> Result<(), Fail> {
-    for len in 0..=text.len() {
+/// Asserts the same of the beginnings of a text whose length is a multiple of a number, and of the whole text.
+fn assert_beginnings_are_taken(
+    rt: &impl Abort,
+    alloc: Global,
+    text: &str,
+    stride: usize,
+) -> Result<(), Fail> {
+    for len in (0..=text.len()).step_by(stride) {
         if let Some(beginning) = text.get(..len) {
             assert_taken(rt, alloc, beginning)?;
         }
     }
-    Ok(())
+    assert_taken(rt, alloc, text)
 }
 
 #[test]
 fn beginnings_of_symbols_are_taken(rt: HostRuntime) -> Result<(), Fail> {
     for symbol in SYMBOLS {
-        assert_beginnings_are_taken(&rt, rt.alloc(), symbol)?;
+        assert_beginnings_are_taken(&rt, rt.alloc(), symbol, 1)?;
     }
     Ok(())
 }
@@ -148,7 +153,7 @@ fn beginnings_of_constants_are_taken(rt: HostRuntime) -> Result<(), Fail> {
     let alloc = rt.alloc();
     for constant in CONSTANTS {
         let symbol = format!(in alloc; "_RIC0K{constant}E")?;
-        assert_beginnings_are_taken(&rt, alloc, symbol.as_str())?;
+        assert_beginnings_are_taken(&rt, alloc, symbol.as_str(), 1)?;
     }
     Ok(())
 }
@@ -157,11 +162,13 @@ fn beginnings_of_constants_are_taken(rt: HostRuntime) -> Result<(), Fail> {
 fn beginnings_of_long_symbols_are_taken(rt: HostRuntime) -> Result<(), Fail> {
     let alloc = rt.alloc();
     for leaf in ["p", "Rp", "C1x"] {
-        let symbol = filled(alloc, "_RIC0p", leaf, 1_000, "E")?;
-        assert_beginnings_are_taken(&rt, alloc, symbol.as_str())?;
+        for (leaves, stride) in [(60, 1), (1_000, 13)] {
+            let symbol = filled(alloc, "_RIC0p", leaf, leaves, "E")?;
+            assert_beginnings_are_taken(&rt, alloc, symbol.as_str(), stride)?;
+        }
     }
     let symbol = filled(alloc, "RIC20tRYIMYNRYFG05_EB5_B_B6_", "R", 100, "B_E")?;
-    assert_beginnings_are_taken(&rt, alloc, symbol.as_str())
+    assert_beginnings_are_taken(&rt, alloc, symbol.as_str(), 1)
 }
 
 #[test]

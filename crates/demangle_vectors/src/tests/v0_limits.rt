@@ -169,7 +169,7 @@ fn pairs_text(alloc: Global, pairs: usize) -> Result<String, AllocError> {
 }
 
 #[test]
-fn pairs_of_pairs_are_printed_up_to_the_limit(rt: HostRuntime) -> Result<(), Fail> {
+fn pairs_of_pairs_are_printed(rt: HostRuntime) -> Result<(), Fail> {
     let alloc = rt.alloc();
     let symbol = pairs_symbol(alloc, 6)?;
     assert_eq!(rt; symbol.as_str(), "_RMC0TTTTTTpB8_EB7_EB6_EB5_EB4_EB3_E");
@@ -179,6 +179,12 @@ fn pairs_of_pairs_are_printed_up_to_the_limit(rt: HostRuntime) -> Result<(), Fai
         assert_eq!(rt; text.as_str().len(), len);
         assert_prints_long(&rt, alloc, symbol.as_str(), text.as_str())?;
     }
+    Ok(())
+}
+
+#[test]
+fn pairs_of_pairs_are_cut_at_the_limit(rt: HostRuntime) -> Result<(), Fail> {
+    let alloc = rt.alloc();
     let symbol = pairs_symbol(alloc, 18)?;
     let whole = pairs_text(alloc, 18)?;
     let kept = whole.as_str().get(..999_999).ok_or("shorter")?;
