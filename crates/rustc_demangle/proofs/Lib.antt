@@ -13,6 +13,7 @@ pub mod Escaping
 pub mod Failed
 pub mod FeedLaws
 pub mod FilterLaws
+pub mod FirstLooks
 pub mod GrammarRows
 pub mod GroupReads
 pub mod HandsLemmas

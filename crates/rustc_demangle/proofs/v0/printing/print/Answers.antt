@@ -1,5 +1,7 @@
-use Rattle.std.proofs.Common.{◌∙◌, sym, ap, arith}
+use Rattle.std.proofs.Common.{◌∙◌, List, ap, arith}
 use Rattle.rustc_demangle.specs.Events.{Heard, shown_in}
+use Rattle.rustc_demangle.specs.FirstLooks.{first_looks}
+use Rattle.rustc_demangle.specs.declared.v0.task.Task.{Task}
 use Rattle.rustc_demangle.proofs.Printed.{printed_start, printed_ready, printed_then, printed_stop, printed_all}
 use Rattle.rustc_demangle.proofs.Printing.{rendered_share, step_shown}
 use Rattle.rustc_demangle.proofs.Stepping.{none_left}
@@ -8,8 +10,9 @@ use Rattle.rustc_demangle.proofs.v0.printing.print.Goals as goal
 pub loop-stretch-init : goal.loop-stretch-init
 loop-stretch-init g c = record {
   printed = printed_start g.S.TextSink _ _ _ c.requires.ready
-      (ap (λ (h : Heard). shown_in h.events) (c.new-machine.ensures c.args.symbol.now c.args.include_hash) ∙ rendered_share c.args.symbol.now c.args.include_hash);
+      (ap (λ (h : Heard). shown_in h.events) (c.new-machine.ensures.owed c.args.symbol.now c.args.include_hash) ∙ rendered_share c.args.symbol.now c.args.include_hash);
   grows = omega arith;
+  least = rw (c.new-machine.ensures.tasks, c.new-machine.ensures.place) (omega arith);
 }
 
 pub render-requires-clause-lies : goal.render-requires-clause-lies
@@ -24,6 +27,7 @@ loop-stretch-preserved g c =
     record {
       printed = printed_then g.S.TextSink _ _ _ _ _ _ _ c.loop-stretch.invariant.printed shown c.in_ok-render.ensures.prints;
       grows = omega (arith, c.in-Some.ensures.grows, c.in_ok-render.ensures.grows);
+      least = omega (arith, c.loop-stretch.invariant.least, c.in-Some.ensures.least, c.in_ok-render.ensures.grows);
     }
 
 pub returns-in_err-render-clause-prints : goal.returns-in_err-render-clause-prints
@@ -35,3 +39,11 @@ pub returns-clause-prints : goal.returns-clause-prints
 returns-clause-prints g c =
     printed_all g.S.TextSink _ _ _ _ c.loop-stretch.invariant.printed
     (ap (λ (h : Heard). shown_in h.events) (none_left c.args.symbol.now c.args.include_hash _ c.loop-stretch.machine.place c.loop-stretch.machine.is_open c.in_default.ensures.none))
+
+pub returns-in_err-render-clause-least : goal.returns-in_err-render-clause-least
+returns-in_err-render-clause-least g c = omega (arith, c.loop-stretch.invariant.least, c.in-Some.ensures.least, c.in_err-render.ensures.grows)
+
+pub returns-clause-least : goal.returns-clause-least
+returns-clause-least g c =
+    let none = ap (λ (tasks : List Task). first_looks tasks c.loop-stretch.machine.place) c.in_default.ensures.none in
+    omega (arith, none, c.loop-stretch.invariant.least, c.in_default.ensures.no_looks)
