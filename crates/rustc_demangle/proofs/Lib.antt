@@ -43,6 +43,7 @@ pub mod PaysRules
 pub mod Printed
 pub mod Printing
 pub mod PrintingLaws
+pub mod PrintingLooks
 pub mod PrintsLemmas
 pub mod PrintsPieces
 pub mod Ranges
