@@ -36,13 +36,13 @@ feeds-concat xs ys = ap feeds (concat-append xs ys) ∙ feeds-append (concat xs)
 feeds-cons : (x : List ℕ) (xs : List (List ℕ)) → feeds (concat (x ∷ xs)) ≡ feeds x + feeds (concat xs)
 feeds-cons x xs = feeds-append x (concat xs)
 
-feeds-take : (n : ℕ) (xs : List ℕ) → feeds (take n xs) ≤ feeds xs
+pub feeds-take : (n : ℕ) (xs : List ℕ) → feeds (take n xs) ≤ feeds xs
 feeds-take n xs = omega (arith, ap feeds (take-append-drop n xs), feeds-append (take n xs) (drop n xs))
 
-feeds-drop : (n : ℕ) (xs : List ℕ) → feeds (drop n xs) ≤ feeds xs
+pub feeds-drop : (n : ℕ) (xs : List ℕ) → feeds (drop n xs) ≤ feeds xs
 feeds-drop n xs = omega (arith, ap feeds (take-append-drop n xs), feeds-append (take n xs) (drop n xs))
 
-feeds-other : (b : ℕ) (xs : List ℕ) → b ≢ 10 → feeds (b ∷ xs) ≡ feeds xs
+pub feeds-other : (b : ℕ) (xs : List ℕ) → b ≢ 10 → feeds (b ∷ xs) ≡ feeds xs
 feeds-other b xs ne = ap (λ t. cond t 1 0 + feeds xs) (ne_eqb b 10 ne) ∙ omega arith
 
 -- what fits of pieces, and what is cut of them
@@ -59,14 +59,11 @@ feeds-cut pieces limit = elim (leb_tells (size pieces) limit) [
   | inr e ↦ rw (e.0) (omega (arith, feeds-fitting pieces limit, feeds-concat (fitting pieces limit) (marker ∷ [])))
 ]
 
--- a character that is no control is written without a line feed
-feeds-encode : (c : ℕ) → is_control c ≡ false → feeds (encode_utf8 c) ≡ 0
+-- a character that is no line feed is written without one
+pub feeds-character : (c : ℕ) → c ≢ 10 → feeds (encode_utf8 c) ≡ 0
 unfolding encode_utf8
-feeds-encode c no_control = go (ltb c 128) (ltb c 2048) (ltb c 65536)
+feeds-character c ne = go (ltb c 128) (ltb c 2048) (ltb c 65536)
   where
-    ne : c ≢ 10
-    ne same = true≢false (ap is_control (sym same) ∙ no_control)
-
     two : (x y : ℕ) → feeds ((192 + x) ∷ (128 + y) ∷ []) ≡ 0
     two x y = feeds-other (192 + x) ((128 + y) ∷ []) (λ same. omega (arith, same)) ∙ feeds-other (128 + y) [] (λ same. omega (arith, same))
 
@@ -82,6 +79,10 @@ feeds-encode c no_control = go (ltb c 128) (ltb c 2048) (ltb c 65536)
     go false true z = two (c / 64) (c % 64)
     go false false true = three (c / 4096) (c / 64 % 64) (c % 64)
     go false false false = four (c / 262144) (c / 4096 % 64) (c / 64 % 64) (c % 64)
+
+-- and so is one that is no control
+feeds-encode : (c : ℕ) → is_control c ≡ false → feeds (encode_utf8 c) ≡ 0
+feeds-encode c no_control = feeds-character c (λ same. true≢false (ap is_control (sym same) ∙ no_control))
 
 -- the text in it, or none
 in_text : Option (List ℕ) → List ℕ

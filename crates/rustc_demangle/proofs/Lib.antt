@@ -22,6 +22,7 @@ pub mod Hex
 pub mod Idents
 pub mod Inserting
 pub mod Integers
+pub mod ItemFeeds
 pub mod LegacyElements
 pub mod LegacyLaws
 pub mod LegacyPrefix
@@ -54,6 +55,7 @@ pub mod Spelled
 pub mod Stepping
 pub mod StepsPaid
 pub mod StreamSteps
+pub mod StretchTexts
 pub mod StringPieces
 pub mod StripLaws
 pub mod Stripping
@@ -61,10 +63,14 @@ pub mod SuffixSteps
 pub mod SymbolSteps
 pub mod TableChecks
 pub mod TableCost
+pub mod TableFeeds
+pub mod TextPieces
 pub mod Turns
 pub mod Unique
 pub mod UnitMoves
 pub mod Units
+pub mod V0Feeds
 pub mod V0Reading
 pub mod Whole
+pub mod WordFeeds
 pub mod WordLaws

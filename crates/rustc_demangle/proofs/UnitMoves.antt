@@ -11,7 +11,7 @@ use Rattle.rustc_demangle.specs.Begins.{Begun, paying, tagged, peeking, begin, b
 use Rattle.rustc_demangle.specs.Events.{Event, Heard, of, ended, and_then, allowing, handing, events, said, said_all, allows}
 use Rattle.rustc_demangle.specs.Binders.{binder_texts, more_texts}
 use Rattle.rustc_demangle.specs.Serving.{fresh, splat}
-use Rattle.rustc_demangle.specs.Shares.{surroundings, outcome, share, share_of, followed, moved}
+use Rattle.rustc_demangle.specs.Shares.{surroundings, outcome, share, share_of, followed, moved, bound, most_bound}
 use Rattle.rustc_demangle.specs.Serving.{HeadIs, rest_of, placed_in, only, going, entering, Serves, referred, leads, refer}
 use Rattle.rustc_demangle.specs.declared.v0.grammar.Named.{Named}
 use Rattle.rustc_demangle.specs.declared.v0.grammar.Named.TheVariants as named
@@ -269,14 +269,14 @@ pub binder_stops : (b : List ℕ) (u : Progress) (t : Setting) (i : ℕ) (o : Bo
 unfolding share outcome run
 binder_stops b u t i o made h e l = serves_only b (Rest u t) (Some i) o t.output (Fixed mark.Invalid) None made (4 * (length b - i + 1) ∷ []) (λ plain. rw (h, sym e) refl) (omega arith) tt
 
-pub binder_goes : (b : List ℕ) (u : Progress) (t : Setting) (i : ℕ) (o : Bool) (m j made : ℕ) → HeadIs u item.Binds → Some (m, j) ≡ optional_at 71 b i → made ≤ 4 * (j - i + 1) → m < 2 ^ 64
+pub binder_goes : (b : List ℕ) (u : Progress) (t : Setting) (i : ℕ) (o : Bool) (m j made : ℕ) → HeadIs u item.Binds → Some (m, j) ≡ optional_at 71 b i → made ≤ 4 * (j - i + 1) → m < 2 ^ 64 → bound (Rest u t) ≤ most_bound
     → Serves b (Rest u t) (Some i) o (going t.output (Binder t.lifetimes m) (Some j) (Rest (rest_of u) (record t { lifetimes = t.lifetimes + m }))) made
 unfolding share outcome run
-binder_goes b u t i o m j made h e l n =
+binder_goes b u t i o m j made h e l n small =
     let p = meaning t.value u.note Zero false (drop (u.index + 1) (table u.production)) in
     let z = run p (surroundings b u.left (record t { lifetimes = t.lifetimes + m })) (Some j) in
     serves_going b u t (Some i) o item.Binds (Binder t.lifetimes m) (Some j) (rest_of u) (record t { lifetimes = t.lifetimes + m }) made (4 * (j - i + 1) ∷ []) h refl refl (omega (arith, head_binders u item.Binds h, n))
-    (λ plain. rw (h, sym e) (ap (λ xs. record { events = allows (4 * (j - i + 1)) ∷ xs; place = z.place; is_open = z.is_open }) (binder_heard plain t.output m t.lifetimes z.tree))) (omega arith) tt
+    (λ plain. rw (h, sym e) (ap (λ xs. record { events = allows (4 * (j - i + 1)) ∷ xs; place = z.place; is_open = z.is_open }) (binder_heard plain t.output m t.lifetimes z.tree))) (omega arith) (omega (arith, n, small))
 
 -- References.
 

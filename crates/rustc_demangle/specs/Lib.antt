@@ -22,6 +22,7 @@ pub mod Literals
 pub mod Measures
 pub mod Names
 pub mod Nibbles
+pub mod Pieces
 pub mod Punycode
 pub mod Reading
 pub mod Running
@@ -31,6 +32,7 @@ pub mod Sink
 pub mod Spelling
 pub mod Steps
 pub mod Stream
+pub mod Stretches
 pub mod Stripped
 pub mod Style
 pub mod Symbols

@@ -1,5 +1,5 @@
 -- One step of a task.
-use Rattle.std.specs.Prelude.{◌≡◌, ℕ, zero, suc, ◌+◌, ◌-◌, ◌*◌, ◌≤◌, ◌<◌, Bool, true, false, if◌then◌else◌, Option, Some, None, List, [], ◌∷◌, drop, length, IsSome}
+use Rattle.std.specs.Prelude.{◌≡◌, ℕ, zero, suc, ◌+◌, ◌-◌, ◌*◌, ◌^◌, ◌≤◌, ◌<◌, Bool, true, false, if◌then◌else◌, Option, Some, None, List, [], ◌∷◌, drop, length, IsSome}
 use Prim.Native.Char.{code}
 use Rattle.rustc_demangle.specs.Digits.{is_byte}
 use Rattle.rustc_demangle.specs.Words.{Read, backref_at}
@@ -29,7 +29,7 @@ use Rattle.rustc_demangle.specs.declared.v0.grammar.Mark.TheVariants as mark
 use Rattle.rustc_demangle.specs.declared.v0.stretch.Abi.{Abi}
 use Rattle.rustc_demangle.specs.declared.v0.stretch.Abi.TheVariants as abi
 use Rattle.rustc_demangle.specs.declared.v0.stretch.Stretch.{Stretch}
-use Rattle.rustc_demangle.specs.declared.v0.stretch.Stretch.TheVariants.{Nothing, Fixed, CrateName, FieldName, NestedName, FunctionHead, Number, Literal, BindingName}
+use Rattle.rustc_demangle.specs.declared.v0.stretch.Stretch.TheVariants.{Nothing, Fixed, CrateName, FieldName, NestedName, FunctionHead, Number, Literal, Binder, BindingName}
 use Rattle.rustc_demangle.specs.declared.v0.task.Setting.{Setting}
 use Rattle.rustc_demangle.specs.declared.v0.task.Progress.{Progress}
 use Rattle.rustc_demangle.specs.declared.v0.task.Task.{Task}
@@ -159,7 +159,8 @@ abbrev pub AbiIn : List ℕ → Abi → Type 0
 AbiIn b (abi.Named part) = PartIn b part
 AbiIn b _ = Unit {0}
 
--- the parts of the stretch are parts of the symbol
+-- the parts of the stretch are parts of the symbol, those of a literal spell a text, and the number of each lifetime of a
+-- binder has 128 bits
 abbrev pub LiesIn : List ℕ → Stretch → Type 0
 LiesIn b (CrateName a d) = LiesWithin b a
 LiesIn b (FieldName a) = LiesWithin b a
@@ -167,6 +168,7 @@ LiesIn b (NestedName n d a) = LiesWithin b a
 LiesIn b (FunctionHead unsafe a) = AbiIn b a
 LiesIn b (Number n part tag) = PartIn b part
 LiesIn b (Literal part) = HexPart b part × IsSome (string_of (bytes_in b part))
+LiesIn b (Binder n m) = n + m < 2 ^ 128
 LiesIn b (BindingName a) = LiesWithin b a
 LiesIn b _ = Unit {0}
 

@@ -72,7 +72,7 @@ fn escape_of(quote: char, c: char) -> Escape
 }
 
 // A hexadecimal digit.
-fn digit_char(digit: u32) -> char
+fn digit_char(digit: u64) -> char
     requires { digit < 16 }
     ensures { result ≡ digit_glyph false digit }
 {
@@ -83,13 +83,13 @@ fn digit_char(digit: u32) -> char
     }
 }
 
-// The hexadecimal digits of a number, the highest first.
-fn hexadecimal(number: u32) -> ArrayVec<char, 8>
+/// The hexadecimal digits of a number, the highest first.
+pub(crate) fn hexadecimal(number: u64) -> ArrayVec<char, 16>
     ensures { result.items ≡ digits 16 false number }
 {
     let mut text = ArrayVec::new();
     let mut rest = number;
-    for _turn in 0..8_usize {
+    for _turn in 0..16_usize {
         text.insert(0, digit_char(rest % 16));
         rest /= 16;
         if rest == 0 {
@@ -106,7 +106,7 @@ fn put_code<S: TextSink>(c: char, out: &mut SizeLimitedFmtAdapter<'_, S>) -> Res
     ensures { Prints S.TextSink out.old (map encode_utf8 (codes "\\u{" ++ digits 16 false c ++ codes "}")) result out.new }
 {
     put_chars(&['\\', 'u', '{'], out)?;
-    put_chars(&hexadecimal(c as u32), out)?;
+    put_chars(&hexadecimal(c as u64), out)?;
     put_char('}', out)
 }
 

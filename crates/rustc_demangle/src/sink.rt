@@ -6,12 +6,14 @@ mod array_sink;
 mod chars;
 mod fmt_sink;
 mod limit;
+mod pieces;
 mod write_sink;
 
 pub use array_sink::ArraySink;
 pub(crate) use chars::{put_char, put_chars};
 pub(crate) use fmt_sink::FmtSink;
 pub(crate) use limit::{SizeLimitedFmtAdapter, put_piece};
+pub(crate) use pieces::put_each;
 pub use write_sink::WriteSink;
 
 /// A sink refused a piece, and has failed from then on.

@@ -5,6 +5,7 @@ mod machine;
 mod perform;
 mod printing;
 mod reference;
+mod render;
 mod stretch;
 mod task;
 mod units;

@@ -69,7 +69,8 @@ fn write_symbol<W: Write>(
     ensures { OnOk result (Appends (W.contents output.old) (W.contents output.new) (printed symbol.now include_hash)) }
 {
     let mut sink = WriteSink::new(output);
-    let printed = symbol.write_to(&mut sink, include_hash);
+    // Where it is refused, the sink has a fault.
+    let _ = symbol.write_to(&mut sink, include_hash);
     match sink.into_fault() {
         Some(error) => Err(error),
         None => Ok(()),

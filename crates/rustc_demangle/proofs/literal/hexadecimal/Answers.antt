@@ -30,11 +30,11 @@ loop-turn-preserved c =
     let left : 64 - l._turn ≡ suc (63 - l._turn) = omega arith in
     let next : 64 - (l._turn + 1) ≡ 63 - l._turn = omega arith in
     let some : 0 < l.rest / 16 = omega (arith, c.if-rest-eq0.false) in
-    let left8 : 8 - l._turn ≡ 8 - (l._turn + 1) + 1 = omega arith in
+    let left16 : 16 - l._turn ≡ 16 - (l._turn + 1) + 1 = omega arith in
     let new : c.insert.new.self.items ≡ digit_glyph false (l.rest % 16) ∷ l.text.items = glyphs _ _ _ _ c.insert.ensures.items c.digit_char.ensures in
     record {
       count = omega (arith, c.insert.ensures.len, l.invariant.count);
-      small = shrinks l.rest (8 - (l._turn + 1)) (8 - l._turn) left8 l.invariant.small;
+      small = shrinks l.rest (16 - (l._turn + 1)) (16 - l._turn) left16 l.invariant.small;
       begun = λ _. some;
       onto = ap (λ k. digits_onto k 16 false (l.rest / 16) c.insert.new.self.items) next
           ∙ ap (digits_onto (63 - l._turn) 16 false (l.rest / 16)) new
@@ -45,6 +45,6 @@ loop-turn-preserved c =
 pub returns : goal.returns
 returns c =
     let l = c.loop-turn in
-    let none : 8 - l._turn ≡ 0 = omega arith in
+    let none : 16 - l._turn ≡ 0 = omega arith in
     let small : l.rest < 16 ^ 0 = rw none at l.invariant.small in
     absurd (omega (arith, l.invariant.begun (omega arith)))

@@ -11,4 +11,4 @@ returns-in_default-opt_integer_62-clause-serves c = λ o.
 
 pub returns-clause-serves : goal.returns-clause-serves
 returns-clause-serves c = λ o.
-    rw (c.going.ensures, c.rest_of.ensures, c.from.ensures, c.in-Some.is) (binder_goes _ _ _ c.in-Some.at o c.in-Ok.number c.in-Ok.next _ c.requires.head c.in-Ok.ensures.read (omega (arith, c.in-Ok.ensures.ok_looks)) (opt_fits _ _ _ _ _ c.in-Ok.ensures.ok))
+    rw (c.going.ensures, c.rest_of.ensures, c.from.ensures, c.in-Some.is) (binder_goes _ _ _ c.in-Some.at o c.in-Ok.number c.in-Ok.next _ c.requires.head c.in-Ok.ensures.read (omega (arith, c.in-Ok.ensures.ok_looks)) (opt_fits _ _ _ _ _ c.in-Ok.ensures.ok) c.requires.bound)
