@@ -1,7 +1,7 @@
 //! Vectors of the Rust crate and of the legacy scheme.
 use crate::printed_is;
 use rustc_demangle::sink::WriteSink;
-use rustc_demangle::{demangle, try_demangle};
+use rustc_demangle::{Demangle, demangle, try_demangle};
 use std::alloc::{AllocError, Global};
 use std::process::Abort;
 
@@ -14,6 +14,13 @@ mod refused;
 mod sinks;
 mod stream;
 mod streams;
+mod v0_constants;
+mod v0_hostile;
+mod v0_limits;
+mod v0_literals;
+mod v0_paths;
+mod v0_references;
+mod v0_types;
 
 /// Asserts that a text is a symbol that prints these, with the hash and without it.
 fn assert_prints(rt: &impl Abort, symbol: &str, plain: &str, alt: &str) {
@@ -29,16 +36,40 @@ fn assert_refused(rt: &impl Abort, text: &str, printed: &str) {
     assert!(rt; printed_is(text, false, printed), "{text} without the hash");
 }
 
-/// What a text prints, of any length.
-fn printed(alloc: Global, symbol: &str, include_hash: bool) -> Result<Vec<u8>, AllocError> {
+/// What a symbol prints, of any length.
+fn printed_by(
+    alloc: Global,
+    symbol: &Demangle<'_>,
+    include_hash: bool,
+) -> Result<Vec<u8>, AllocError> {
     let mut text = Vec::new(alloc);
     let mut sink = WriteSink::new(&mut text);
-    let _ = demangle(symbol).write_to(&mut sink, include_hash);
+    let _ = symbol.write_to(&mut sink, include_hash);
     // A writer into memory fails for want of memory alone.
     match sink.into_fault() {
         Some(_) => Err(AllocError),
         None => Ok(text),
     }
+}
+
+/// What a text prints, of any length.
+fn printed(alloc: Global, symbol: &str, include_hash: bool) -> Result<Vec<u8>, AllocError> {
+    printed_by(alloc, &demangle(symbol), include_hash)
+}
+
+/// Asserts that a text is a symbol that prints this in both forms, of any length.
+fn assert_prints_long(
+    rt: &impl Abort,
+    alloc: Global,
+    symbol: &str,
+    text: &str,
+) -> Result<(), AllocError> {
+    assert!(rt; try_demangle(symbol).is_ok(), "it is a symbol");
+    for include_hash in [true, false] {
+        let printed = printed(alloc, symbol, include_hash)?;
+        assert!(rt; printed.as_slice() == text.as_bytes(), "it prints the text");
+    }
+    Ok(())
 }
 
 /// A text so many times over.
@@ -48,4 +79,16 @@ fn repeated(alloc: Global, text: &str, count: usize) -> Result<String, AllocErro
         whole.push_str(text)?;
     }
     Ok(whole)
+}
+
+/// A text so many times over, between two others.
+fn filled(
+    alloc: Global,
+    head: &str,
+    text: &str,
+    count: usize,
+    tail: &str,
+) -> Result<String, AllocError> {
+    let middle = repeated(alloc, text, count)?;
+    format!(in alloc; "{head}{middle}{tail}")
 }

@@ -14,6 +14,12 @@ fn the_alternate_flag_leaves_out_the_hash(rt: HostRuntime) -> Result<(), Fail> {
             "foo",
         ),
         ("_ZN3fooE.x", "foo.x", "foo.x"),
+        ("_RCs_3foo", "foo[1]", "foo"),
+        (
+            "_RMC0WmRm1_m9_.x",
+            "<u32 is 1u32..=9u32>.x",
+            "<u32 is 1..=9>.x",
+        ),
         ("_ZN1hE", "h", ""),
         ("no symbol.llvm.AB", "no symbol", "no symbol"),
     ] {

@@ -34,6 +34,16 @@ fn a_limit_cuts_whole_pieces(rt: HostRuntime) {
         ("_ZN4$LT$3barE.llvm.x", 2, "<{size limit reached}.llvm.x"),
         ("_ZN4$LT$3barE.llvm.x", 5, "<::{size limit reached}.llvm.x"),
         ("_ZN4$LT$3barE.llvm.x", 6, "<::bar.llvm.x"),
+        ("_RMC0FG_RL0_hEu", 20, "<for<'a> fn(&'a u8)>"),
+        (
+            "_RMC0FG_RL0_hEu",
+            19,
+            "<for<'a> fn(&'a u8){size limit reached}",
+        ),
+        ("_RMC0FG_RL0_hEu", 11, "<for<'a> {size limit reached}"),
+        ("_RMC0FG_RL0_hEu", 0, "{size limit reached}"),
+        ("_RC3foo.x", 2, "{size limit reached}.x"),
+        ("_RC3foo.x", 3, "foo.x"),
     ] {
         for include_hash in [true, false] {
             assert!(rt;

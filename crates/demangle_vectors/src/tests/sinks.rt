@@ -33,6 +33,19 @@ fn each_piece_is_refused_in_turn(rt: HostRuntime) {
 }
 
 #[test]
+fn each_piece_of_a_disambiguator_is_refused_in_turn(rt: HostRuntime) {
+    let symbol = demangle("_RCs_3foo");
+    let texts = ["", "foo", "foo[", "foo[1", "foo[1]"];
+    for (pieces, text) in texts.iter().enumerate() {
+        let mut sink = RefusingSink::new(pieces.saturating_add(1));
+        let result = symbol.write_to(&mut sink, true);
+        assert_eq!(rt; result.is_ok(), pieces == 4, "after {pieces}");
+        assert_eq!(rt; sink.is_failed(), pieces != 4, "after {pieces}");
+        assert_eq!(rt; sink.as_str(), *text, "after {pieces}");
+    }
+}
+
+#[test]
 fn empty_pieces_are_taken_where_no_other_is(rt: HostRuntime) {
     for symbol in ["_ZNE", "_ZN0E", "", ".llvm."] {
         let mut sink = RefusingSink::new(1);

@@ -24,7 +24,7 @@ fn assert_writes(
 
 #[test]
 fn symbols_are_replaced_in_lines(rt: HostRuntime) -> Result<(), Fail> {
-    let cases: [(&[u8], &[u8]); 14] = [
+    let cases: [(&[u8], &[u8]); 18] = [
         (b"", b""),
         (b"\n", b"\n"),
         (b"__ZN3fooE", b"_foo"),
@@ -42,6 +42,10 @@ fn symbols_are_replaced_in_lines(rt: HostRuntime) -> Result<(), Fail> {
         (b"x _RCx _ZN3fooE", b"x _RCx foo"),
         (b"_Z _ZN_ _R", b"_Z _ZN_ _R"),
         (b"a\n\nb _ZN1aE\nc", b"a\n\nb a\nc"),
+        (b"_ZN3fooE,_RC1a", b"foo,a"),
+        (b"RC1a __RC1a _RC1aC1b", b"RC1a _a a"),
+        (b"_RMC0FG_RL0_hEu\n", b"<for<'a> fn(&'a u8)>\n"),
+        (b"_R_RC1a _RC1a_RC1b", b"_R_RC1a _RC1a_RC1b"),
     ];
     for (text, wanted) in cases {
         assert_writes(&rt, rt.alloc(), text, true, wanted)?;
@@ -101,24 +105,65 @@ fn a_line_is_not_utf8(rt: HostRuntime) -> Result<(), Fail> {
     Ok(())
 }
 
+/// A line of symbols of both schemes.
+const LINE: &[u8] = b"_ZN3fooE.llvm moocow \
+    _RNvMNtNtNtNtCs8a2262Dv4r_3mio3sys4unix8selector5epollNtB2_8Selector6select _ZN3fooE.llvm\n";
+
+/// The writes of that line, without the hash.
+const WRITES: [&[u8]; 22] = [
+    b"foo",
+    b".llvm",
+    b" moocow ",
+    b"<",
+    b"mio",
+    b"::",
+    b"sys",
+    b"::",
+    b"unix",
+    b"::",
+    b"selector",
+    b"::",
+    b"epoll",
+    b"::",
+    b"Selector",
+    b">",
+    b"::",
+    b"select",
+    b" ",
+    b"foo",
+    b".llvm",
+    b"\n",
+];
+
+#[test]
+fn lines_have_symbols_of_both_schemes(rt: HostRuntime) -> Result<(), Fail> {
+    let alt = b"foo.llvm moocow <mio::sys::unix::selector::epoll::Selector>::select foo.llvm\n";
+    assert_writes(&rt, rt.alloc(), LINE, false, alt.as_slice())?;
+    let plain =
+        b"foo.llvm moocow <mio[1888792e1a78739]::sys::unix::selector::epoll::Selector>::select foo.llvm\n";
+    assert_writes(&rt, rt.alloc(), LINE, true, plain.as_slice())
+}
+
 #[test]
 fn the_writer_fails_at_each_write(rt: HostRuntime) -> Result<(), Fail> {
     let alloc = rt.alloc();
-    let text: &[u8] = b"_ZN3fooE.llvm moocow _ZN3fooE.llvm\n_ZN3fooE.llvm moocow _ZN3fooE.llvm\n";
-    let wanted: &[u8] = b"oldfoo.llvm moocow foo.llvm\nfoo.llvm moocow foo.llvm\n";
-    // A line is six writes: `foo`, `.llvm`, ` moocow `, `foo`, `.llvm`, and the line feed.
-    let ends = [3, 6, 11, 19, 22, 27, 28, 31, 36, 44, 47, 52, 53];
-    for (writes, end) in ends.iter().enumerate() {
-        let mut input = text;
+    let mut text = Vec::from_slice(alloc, LINE)?;
+    text.extend_from_slice(LINE)?;
+    for writes in 0..=45usize {
+        let mut input = text.as_slice();
         let mut output = RefusingWriter::new(alloc, b"old", writes, true)?;
-        let result = demangle_stream(alloc, &mut input, &mut output, true);
+        let result = demangle_stream(alloc, &mut input, &mut output, false);
         let kind = result.map_err(|error| error.kind());
-        if writes < 12 {
+        if writes < 44 {
             assert_eq!(rt; kind, Err(ErrorKind::BrokenPipe), "at {writes}");
         } else {
             assert_eq!(rt; kind, Ok(()));
         }
-        assert_eq!(rt; output.held(), &wanted[..*end], "at {writes}");
+        let mut wanted = Vec::from_slice(alloc, b"old")?;
+        for write in WRITES.iter().chain(WRITES.iter()).take(writes) {
+            wanted.extend_from_slice(write)?;
+        }
+        assert_eq!(rt; output.held(), wanted.as_slice(), "at {writes}");
     }
     Ok(())
 }
@@ -126,9 +171,10 @@ fn the_writer_fails_at_each_write(rt: HostRuntime) -> Result<(), Fail> {
 #[test]
 fn each_text_and_piece_is_a_write(rt: HostRuntime) -> Result<(), Fail> {
     let alloc = rt.alloc();
-    let cases: [(&[u8], &[&[u8]]); 3] = [
+    let cases: [(&[u8], &[&[u8]]); 4] = [
         (b"x _RCx _ZN3fooE", &[b"x ", b"_RCx", b" ", b"foo"]),
         (b"_ZN1a1bE.x\n\n", &[b"a", b"::", b"b", b".x", b"\n", b"\n"]),
+        (b"_RCs_1a.x", &[b"a", b"[", b"1", b"]", b".x"]),
         (b"_ZNE _ZN0E", &[b" "]),
     ];
     for (text, wanted) in cases {
