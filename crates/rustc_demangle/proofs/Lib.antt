@@ -14,6 +14,7 @@ pub mod Failed
 pub mod FeedLaws
 pub mod Feeds
 pub mod FilterLaws
+pub mod FirstLooks
 pub mod GrammarRows
 pub mod GroupReads
 pub mod HandsLemmas
@@ -45,6 +46,7 @@ pub mod Prefixes
 pub mod Printed
 pub mod Printing
 pub mod PrintingLaws
+pub mod PrintingLooks
 pub mod PrintsLemmas
 pub mod PrintsPieces
 pub mod Ranges

@@ -2,15 +2,16 @@
 use Rattle.std.proofs.Common.{◌≡◌, ℕ, zero, suc, ◌+◌, ◌*◌, ◌≤◌, ◌<◌, Bool, true, false, List, [], ◌∷◌, ◌++◌, length, Option, None, Some, sym, refl, ap, ◌∙◌, subst, arith, option_map, cond, drop, inl, inr}
 use Rattle.std.specs.Option.{option_map_or, is_some}
 use Rattle.std.proofs.lemmas.List.{length-append}
+use Rattle.std.proofs.lemmas.Nat.{mul-le}
 use Rattle.std.proofs.lemmas.Bool.{false≢true, true≢false}
-use Rattle.rustc_demangle.specs.Cut.{cut}
+use Rattle.rustc_demangle.specs.Cut.{cut, kept}
 use Rattle.rustc_demangle.specs.Legacy.{IsElements, IsLegacy, inner_of, legacy_of, elements_of}
 use Rattle.rustc_demangle.specs.Stripped.{is_allowed}
 use Rattle.rustc_demangle.specs.Unescaped.{legacy_pieces}
 use Rattle.rustc_demangle.specs.Reading.{rendered}
 use Rattle.rustc_demangle.specs.V0.{IsV0, IsV0Prefix, v0_of}
-use Rattle.rustc_demangle.specs.Symbols.{IsLegacySymbol, IsSymbol, if_allowed, first_of_both, read_of, pieces_of, handed}
-use Rattle.rustc_demangle.specs.Style.{style_pieces, LooksWithin, IsReadAs, HasNoStyle, HasStyle, IsStyled}
+use Rattle.rustc_demangle.specs.Symbols.{IsLegacySymbol, IsV0Symbol, IsSymbol, kept_of, if_allowed, first_of_both, read_of, pieces_of, handed}
+use Rattle.rustc_demangle.specs.Style.{style_pieces, style_looks, style_least, IsReadAs, HasNoStyle, HasStyle, IsStyled}
 use Rattle.rustc_demangle.specs.declared.value.DemangleStyle.{DemangleStyle}
 use Rattle.rustc_demangle.specs.declared.value.DemangleStyle.TheVariants.{Legacy, V0}
 use Rattle.rustc_demangle.proofs.LegacyLaws.{legacy_no_prefix, legacy_read, legacy_spelled}
@@ -114,11 +115,30 @@ pub handed-some : (text : List ℕ) (hash : Bool) (limit : ℕ) (style : Demangl
 handed-some text hash limit style suffix has =
     ap (λ read. option_map_or (λ (r : List (List ℕ) × List ℕ). cut r.0 limit ++ r.1 ∷ []) read (text ∷ [])) (styled-pieces hash text style suffix has)
 
--- what it costs to print a legacy symbol
-pub looks-legacy : (text : List ℕ) (hash : Bool) (limit old new : ℕ) (style : DemangleStyle) (suffix : List ℕ) → HasStyle text style suffix → IsLegacySymbol text
-    → LooksWithin hash limit style old new → new ≤ old + 16 * (length text + 1)
-looks-legacy text hash limit old new (Legacy symbol) suffix has is looks = let inner : length symbol ≤ length text = has.inner in omega (arith, looks)
-looks-legacy text hash limit old new (V0 symbol) suffix has is looks = absurd (none≢some (sym (no_legacy text symbol suffix (read_is_v0 text symbol suffix has.read)) ∙ legacy_spelled text is.0 is.1 is.2))
+pub kept_of-some : (text : List ℕ) (hash : Bool) (limit : ℕ) (style : DemangleStyle) (suffix : List ℕ) → HasStyle text style suffix
+    → kept_of text hash limit ≡ kept (style_pieces hash style) limit
+kept_of-some text hash limit style suffix has =
+    ap (λ read. option_map_or (λ (r : List (List ℕ) × List ℕ). kept r.0 limit) read 0) (styled-pieces hash text style suffix has)
+
+-- what it costs to print a text with this style
+pub style_looks-most : (text : List ℕ) (hash : Bool) (limit : ℕ) (style : DemangleStyle) (suffix : List ℕ) → HasStyle text style suffix
+    → style_looks hash limit style ≤ 100000 * (kept_of text hash limit + 1) * (length text + 1)
+style_looks-most text hash limit (Legacy symbol) suffix has =
+    let inner : length symbol ≤ length text = has.inner in
+    mul-le 16 (length symbol + 1) (100000 * (kept_of text hash limit + 1)) (length text + 1) (omega arith) (omega arith)
+style_looks-most text hash limit (V0 symbol) suffix has =
+    let inner : length symbol ≤ length text = has.inner in
+    let same = kept_of-some text hash limit (V0 symbol) suffix has in
+    mul-le (100000 * (kept (rendered symbol hash) limit + 1)) (length symbol + 1) (100000 * (kept_of text hash limit + 1)) (length text + 1) (omega (arith, same)) (omega arith)
+
+pub style_looks-legacy : (text : List ℕ) (hash : Bool) (limit : ℕ) (style : DemangleStyle) (suffix : List ℕ) → HasStyle text style suffix → IsLegacySymbol text
+    → style_looks hash limit style ≤ 16 * (length text + 1)
+style_looks-legacy text hash limit (Legacy symbol) suffix has is = let inner : length symbol ≤ length text = has.inner in omega arith
+style_looks-legacy text hash limit (V0 symbol) suffix has is = absurd (none≢some (sym (no_legacy text symbol suffix (read_is_v0 text symbol suffix has.read)) ∙ legacy_spelled text is.0 is.1 is.2))
+
+pub style_least-v0 : (text : List ℕ) (style : DemangleStyle) (suffix : List ℕ) → HasStyle text style suffix → IsV0Symbol text → style_least style ≡ 1
+style_least-v0 text (Legacy symbol) suffix has is = absurd (none≢some (sym (no_legacy text is.0 is.1 is.2) ∙ has.read))
+style_least-v0 text (V0 symbol) suffix has is = refl
 
 pub symbol_styled : (text : List ℕ) (style : DemangleStyle) (suffix : List ℕ) → HasStyle text style suffix → IsSymbol text
 symbol_styled text style suffix has = symbol-pieces true text (style_pieces true style, suffix) (styled-pieces true text style suffix has)

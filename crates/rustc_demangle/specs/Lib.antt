@@ -8,6 +8,7 @@ pub mod Digits
 pub mod Escapes
 pub mod Events
 pub mod Filtered
+pub mod FirstLooks
 pub mod Grammar
 pub mod Groups
 pub mod Hands

@@ -2,6 +2,7 @@
 use Rattle.std.specs.Prelude.{◌≡◌, ℕ, ◌+◌, ◌*◌, ◌≤◌, Bool, true, List, Option, None, Some, length}
 use Rattle.rustc_demangle.specs.declared.value.DemangleStyle.{DemangleStyle}
 use Rattle.rustc_demangle.specs.declared.value.DemangleStyle.TheVariants.{Legacy, V0}
+use Rattle.rustc_demangle.specs.Cut.{kept}
 use Rattle.rustc_demangle.specs.Legacy.{legacy_of, elements_of}
 use Rattle.rustc_demangle.specs.Reading.{rendered}
 use Rattle.rustc_demangle.specs.Stripped.{is_allowed}
@@ -19,10 +20,15 @@ abbrev pub style_len : DemangleStyle → ℕ
 style_len (Legacy symbol) = length symbol
 style_len (V0 symbol) = length symbol
 
--- the looks of printing it within a limit, from a count to another
-abbrev pub LooksWithin : Bool → ℕ → DemangleStyle → ℕ → ℕ → Type 0
-LooksWithin hash limit (Legacy symbol) old new = new ≤ old + 16 * (length symbol + 1)
-LooksWithin hash limit (V0 symbol) old new = old ≤ new
+-- the most looks of printing it within a limit
+abbrev pub style_looks : Bool → ℕ → DemangleStyle → ℕ
+style_looks hash limit (Legacy symbol) = 16 * (length symbol + 1)
+style_looks hash limit (V0 symbol) = 100000 * (kept (rendered symbol hash) limit + 1) * (length symbol + 1)
+
+-- the least looks of printing it
+abbrev pub style_least : DemangleStyle → ℕ
+style_least (Legacy symbol) = 0
+style_least (V0 symbol) = 1
 
 -- the scheme reads the text so
 abbrev pub IsReadAs : List ℕ → DemangleStyle → List ℕ → Type 0

@@ -29,7 +29,7 @@ pub struct TryDemangleError {
     _priv: (),
 }
 
-/// Reads a text as a Rust symbol, and counts its looks.
+/// Reads a text as a Rust symbol, in the legacy scheme or in v0 (Rust RFC 2603), and counts its looks.
 ///
 /// An ending that ThinLTO appended is taken off first. A text that is no symbol is kept as it is. It takes no memory.
 pub fn demangle_counted<'a>(s: &'a str, looks: &mut Looks) -> Demangle<'a>
@@ -41,7 +41,7 @@ pub fn demangle_counted<'a>(s: &'a str, looks: &mut Looks) -> Demangle<'a>
     Demangle::read(without_thin_lto(s), looks)
 }
 
-/// Reads a text as a Rust symbol, in the legacy scheme.
+/// Reads a text as a Rust symbol, in the legacy scheme or in v0 (Rust RFC 2603).
 ///
 /// An ending that ThinLTO appended is taken off first. A text that is no symbol is kept as it is. It takes no memory.
 pub fn demangle(s: &str) -> Demangle<'_>

@@ -7,8 +7,8 @@ ghost use Rattle.rustc_demangle.specs.Legacy.{legacy_of};
 ghost use Rattle.rustc_demangle.specs.Limit.{Prints, Ready};
 ghost use Rattle.rustc_demangle.specs.Sink.{Fits};
 ghost use Rattle.rustc_demangle.specs.Stripped.{is_allowed, is_graphic};
-ghost use Rattle.rustc_demangle.specs.Style.{style_pieces, style_len, LooksWithin, IsReadAs, HasNoStyle, HasStyle};
-ghost use Rattle.rustc_demangle.specs.Symbols.{handed, IsLegacySymbol, IsSymbol};
+ghost use Rattle.rustc_demangle.specs.Style.{style_pieces, style_len, style_looks, style_least, IsReadAs, HasNoStyle, HasStyle};
+ghost use Rattle.rustc_demangle.specs.Symbols.{handed, kept_of, IsLegacySymbol, IsV0Symbol, IsSymbol};
 ghost use Rattle.rustc_demangle.specs.V0.{v0_of};
 
 use crate::cursor::{Looks, Symbol};
@@ -37,7 +37,8 @@ impl DemangleStyle<'_> {
         requires { Ready S.TextSink out.old }
         ensures prints { Prints S.TextSink out.old (style_pieces include_hash self.now) result out.new }
         ensures grows { looks.old ≤ looks.new }
-        ensures looks { LooksWithin include_hash out.old.remaining self.now looks.old looks.new }
+        ensures most { looks.new ≤ looks.old + style_looks include_hash out.old.remaining self.now }
+        ensures least { looks.old + style_least self.now ≤ looks.new }
     {
         match self {
             DemangleStyle::Legacy(symbol) => symbol.write_to(out, include_hash, looks),
@@ -77,7 +78,8 @@ fn write_cut<S: TextSink>(
     requires { S.failed out.old ≡ false }
     ensures hands { Hands S.TextSink out.old (cut (style_pieces include_hash style.now) limit) result out.new }
     ensures grows { looks.old ≤ looks.new }
-    ensures looks { LooksWithin include_hash limit style.now looks.old looks.new }
+    ensures most { looks.new ≤ looks.old + style_looks include_hash limit style.now }
+    ensures least { looks.old + style_least style.now ≤ looks.new }
 {
     let mut limited = SizeLimitedFmtAdapter::new(out, limit);
     let result = style.write_to(&mut limited, include_hash, looks);
@@ -107,7 +109,9 @@ impl<'a> Demangle<'a> {
         requires { S.failed out.old ≡ false }
         ensures hands { Hands S.TextSink out.old (handed self.now include_hash limit) result out.new }
         ensures grows { looks.old ≤ looks.new }
+        ensures most { looks.new ≤ looks.old + 100000 * (kept_of self.now include_hash limit + 1) * (length self.now + 1) }
         ensures legacy { IsLegacySymbol self.now → looks.new ≤ looks.old + 16 * (length self.now + 1) }
+        ensures v0 { IsV0Symbol self.now → looks.old + 1 ≤ looks.new }
         ensures unread { (IsSymbol self.now → ⊥) → looks.new ≡ looks.old }
     {
         let Some(style) = &self.style else {
@@ -136,7 +140,9 @@ impl<'a> Demangle<'a> {
         ensures kept { OnErr result (S.keeps ≡ true → HoldsFront S.TextSink out.old (handed self.now include_hash limit) out.new) }
         ensures fits { Fits (size (handed self.now include_hash limit)) (S.room out.old) → IsOk result }
         ensures grows { looks.old ≤ looks.new }
+        ensures most { looks.new ≤ looks.old + 100000 * (kept_of self.now include_hash limit + 1) * (length self.now + 1) }
         ensures legacy { IsLegacySymbol self.now → looks.new ≤ looks.old + 16 * (length self.now + 1) }
+        ensures v0 { IsV0Symbol self.now → looks.old + 1 ≤ looks.new }
         ensures unread { (IsSymbol self.now → ⊥) → looks.new ≡ looks.old }
     {
         self.hand_over(out, include_hash, limit, looks)
@@ -173,7 +179,9 @@ impl<'a> Demangle<'a> {
         ensures kept { OnErr result (S.keeps ≡ true → HoldsFront S.TextSink out.old (handed self.now include_hash MAX_SIZE) out.new) }
         ensures fits { Fits (size (handed self.now include_hash MAX_SIZE)) (S.room out.old) → IsOk result }
         ensures grows { looks.old ≤ looks.new }
+        ensures most { looks.new ≤ looks.old + 100000 * (kept_of self.now include_hash MAX_SIZE + 1) * (length self.now + 1) }
         ensures legacy { IsLegacySymbol self.now → looks.new ≤ looks.old + 16 * (length self.now + 1) }
+        ensures v0 { IsV0Symbol self.now → looks.old + 1 ≤ looks.new }
         ensures unread { (IsSymbol self.now → ⊥) → looks.new ≡ looks.old }
     {
         self.write_limited_counted(out, include_hash, MAX_SIZE, looks)

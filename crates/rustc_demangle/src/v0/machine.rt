@@ -1,6 +1,7 @@
 //! The machine that reads and prints v0 symbols in steps.
 ghost use Rattle.arrayvec.specs.ArrayVec.{array_vec_len};
 ghost use Rattle.std.specs.Prelude.{◌≡◌, ℕ, Bool, ◌+◌, ◌-◌, ◌≤◌, ◌<◌, List, [], ◌∷◌, ◌++◌, length, Some, true, false, IfSome, IfNone};
+ghost use Rattle.rustc_demangle.specs.FirstLooks.{first_looks};
 ghost use Rattle.rustc_demangle.specs.Shares.{share, owed, pushed, height, bound, most_bound, HasRoom, HasRoom-prop};
 ghost use Rattle.rustc_demangle.specs.Running.{StepServes, printed, allowed_in};
 
@@ -77,7 +78,9 @@ impl Machine {
     pub fn new(task: Task, place: usize) -> Self
         requires height { height task ≤ 4008 }
         requires bound { bound task ≤ most_bound }
-        ensures { (b : List ℕ) (plain : Bool) → owed b plain result.tasks result.place result.is_open ≡ share b plain task (Some place) false }
+        ensures tasks { result.tasks ≡ task ∷ [] }
+        ensures place { result.place ≡ Some place }
+        ensures owed { (b : List ℕ) (plain : Bool) → owed b plain result.tasks result.place result.is_open ≡ share b plain task (Some place) false }
     {
         let mut tasks = Row::new();
         tasks.push(task);
@@ -102,6 +105,7 @@ impl Machine {
         ensures same { IfNone result (self.new.tasks ≡ self.old.tasks) }
         ensures place { IfNone result (self.new.place ≡ self.old.place) }
         ensures grows { looks.old ≤ looks.new }
+        ensures least { looks.old + first_looks self.old.tasks self.old.place ≤ looks.new }
         ensures no_looks { IfNone result (looks.new ≡ looks.old) }
     {
         let task = self.tasks.pop()?;

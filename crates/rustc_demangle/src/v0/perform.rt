@@ -1,6 +1,7 @@
 //! One step of a task.
 ghost use Rattle.std.specs.Prelude.{Bool, true, ◌≡◌, ℕ, ◌+◌, ◌-◌, ◌*◌, ◌^◌, ◌<◌, ◌≤◌, [], drop, IfSome, IfNone, OnSome};
 ghost use Rattle.rustc_demangle.specs.Begins.{total};
+ghost use Rattle.rustc_demangle.specs.FirstLooks.{looks_at_tag, looks_of_task};
 ghost use Rattle.rustc_demangle.specs.Grammar.{table};
 ghost use Rattle.rustc_demangle.specs.Measures.{entry_of};
 ghost use Rattle.rustc_demangle.specs.Shares.{bound, height, most_bound, takes};
@@ -137,6 +138,7 @@ pub fn perform(
     requires bound { bound task ≤ most_bound }
     ensures serves { Serves symbol.now task place is_open result (looks.new - looks.old) }
     ensures grows { looks.old ≤ looks.new }
+    ensures least { looks.old + looks_of_task task place ≤ looks.new }
 {
     match task {
         Task::Enter(entry, left, setting) => enter(symbol, entry, left, setting, place, looks),
@@ -186,6 +188,7 @@ fn enter(
 ) -> Move
     ensures serves { (o : Bool) → Serves symbol.now (Task.Enter entry left setting) place o result (looks.new - looks.old) }
     ensures grows { looks.old ≤ looks.new }
+    ensures least { looks.old + looks_at_tag entry left place ≤ looks.new }
 {
     let output = setting.output;
     match begin(symbol, entry, left, setting.value, place, looks) {

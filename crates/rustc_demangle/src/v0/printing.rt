@@ -1,5 +1,6 @@
 //! How a v0 symbol prints: the steps of the machine, each put into a sink as it is made.
-ghost use Rattle.std.specs.Prelude.{IsAscii, ◌≡◌, ◌≤◌, length};
+ghost use Rattle.std.specs.Prelude.{IsAscii, ◌≡◌, ◌+◌, ◌*◌, ◌≤◌, length};
+ghost use Rattle.rustc_demangle.specs.Cut.{kept};
 ghost use Rattle.rustc_demangle.specs.Limit.{Prints, Ready};
 ghost use Rattle.rustc_demangle.specs.Reading.{rendered};
 
@@ -23,6 +24,8 @@ pub(crate) fn print<S: TextSink>(
     requires ready { Ready S.TextSink out.old }
     ensures prints { Prints S.TextSink out.old (rendered symbol.now include_hash) result out.new }
     ensures grows { looks.old ≤ looks.new }
+    ensures least { looks.old + 1 ≤ looks.new }
+    ensures most { looks.new ≤ looks.old + 100000 * (kept (rendered symbol.now include_hash) out.old.remaining + 1) * (length symbol.now + 1) }
 {
     let setting = Setting {
         output: true,

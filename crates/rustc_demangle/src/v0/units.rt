@@ -1,6 +1,7 @@
 //! How the units of a v0 symbol begin.
-ghost use Rattle.std.specs.Prelude.{◌≡◌, ℕ, ◌+◌, ◌≤◌};
+ghost use Rattle.std.specs.Prelude.{◌≡◌, ℕ, ◌+◌, ◌≤◌, min};
 ghost use Rattle.rustc_demangle.specs.Begins.{begin, begin_path, begin_type, begin_tagged, begin_constant, begin_pattern, begin_trait_path, begin_argument, begin_bound, begin_returns, begin_reference, begin_variant, begin_failed, IsLow, total};
+ghost use Rattle.rustc_demangle.specs.FirstLooks.{looks_at_tag};
 
 use crate::cursor::{Looks, Symbol};
 use crate::v0::grammar::{
@@ -35,6 +36,7 @@ pub fn begin(
     ensures value { result ≡ (begin symbol.now entry left value place).begins }
     ensures grows { looks.old ≤ looks.new }
     ensures looks { looks.new ≤ looks.old + total (begin symbol.now entry left value place).costs }
+    ensures least { looks.old + looks_at_tag entry left place ≤ looks.new }
     ensures low { IsLow result left entry }
 {
     let Some(at) = place else {
@@ -89,6 +91,7 @@ fn begin_path(
     ensures value { result ≡ (begin_path symbol.now left value place).begins }
     ensures grows { looks.old ≤ looks.new }
     ensures looks { looks.new ≤ looks.old + total (begin_path symbol.now left value place).costs }
+    ensures least { looks.old + min left 1 ≤ looks.new }
     ensures low { IsLow result left Entry.Path }
 {
     if left == 0 {

@@ -1,5 +1,6 @@
 //! A v0 symbol that was read.
-ghost use Rattle.std.specs.Prelude.{◌≡◌, ◌≤◌, IsAscii};
+ghost use Rattle.std.specs.Prelude.{◌≡◌, ◌+◌, ◌*◌, ◌≤◌, IsAscii, length};
+ghost use Rattle.rustc_demangle.specs.Cut.{kept};
 ghost use Rattle.rustc_demangle.specs.Limit.{Prints, Ready};
 ghost use Rattle.rustc_demangle.specs.Reading.{rendered};
 
@@ -42,6 +43,8 @@ impl<'s> Demangle<'s> {
         requires { Ready S.TextSink out.old }
         ensures prints { Prints S.TextSink out.old (rendered self.now include_hash) result out.new }
         ensures grows { looks.old ≤ looks.new }
+        ensures most { looks.new ≤ looks.old + 100000 * (kept (rendered self.now include_hash) out.old.remaining + 1) * (length self.now + 1) }
+        ensures least { looks.old + 1 ≤ looks.new }
     {
         print(&self.inner, include_hash, out, looks)
     }

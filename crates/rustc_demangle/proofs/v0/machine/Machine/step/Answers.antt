@@ -1,6 +1,8 @@
+use Rattle.rustc_demangle.proofs.FirstLooks.{first_looks_top}
 use Rattle.rustc_demangle.proofs.Hearing.{RoomForMove, room_for_move, has_room_top}
 use Rattle.rustc_demangle.proofs.Stepping.{step_serves}
 use Rattle.std.proofs.Common.{arith}
+use Rattle.rustc_demangle.specs.FirstLooks.{first_looks}
 use Rattle.rustc_demangle.proofs.v0.machine.Machine.step.Goals as goal
 use Rattle.rustc_demangle.proofs.v0.machine.Machine.step.Goals.{After-perform-made}
 
@@ -30,3 +32,6 @@ perform-made-requires-clause-height c = let top = has_room_top 4008 c.pop.new.se
 
 pub perform-made-requires-clause-bound : goal.perform-made-requires-clause-bound
 perform-made-requires-clause-bound c = (has_room_top 4008 c.pop.new.self c.in_ok-task.task (rw c.in_ok-task.ensures.some at c.args.self.now.room)).1
+
+pub returns-clause-least : goal.returns-clause-least
+returns-clause-least c = rw c.in_ok-task.ensures.some (omega (arith, first_looks_top c.pop.new.self c.in_ok-task.task c.args.self.now.place, c.perform-made.ensures.least))
