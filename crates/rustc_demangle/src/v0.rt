@@ -15,6 +15,8 @@ mod reference;
 mod render;
 mod stretch;
 mod task;
+#[cfg(test)]
+mod tests;
 mod units;
 mod value;
 mod words;

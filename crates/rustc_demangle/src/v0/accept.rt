@@ -4,7 +4,7 @@ ghost use Rattle.rustc_demangle.specs.Items.{a_path};
 ghost use Rattle.rustc_demangle.specs.Reading.{goes_on_at, spelled, suffix_of, read_at};
 ghost use Rattle.rustc_demangle.specs.Accepting.{looks_in, suffix_looks, accepting_looks};
 
-use crate::cursor::{Looks, Symbol};
+use crate::cursor::{Looks, MAX_DEPTH, Symbol};
 use crate::v0::grammar::Entry;
 use crate::v0::machine::{Machine, read_all};
 use crate::v0::task::{Setting, Task};
@@ -20,7 +20,7 @@ pub fn path_end(symbol: &Symbol<'_>, place: usize, looks: &mut Looks) -> Option<
         value: true,
         lifetimes: 0,
     };
-    let machine = Machine::new(Task::Enter(Entry::Path, 500, setting), place);
+    let machine = Machine::new(Task::Enter(Entry::Path, MAX_DEPTH, setting), place);
     read_all(machine, symbol, looks)
 }
 

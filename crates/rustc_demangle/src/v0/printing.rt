@@ -4,7 +4,7 @@ ghost use Rattle.rustc_demangle.specs.Cut.{kept};
 ghost use Rattle.rustc_demangle.specs.Limit.{Prints, Ready};
 ghost use Rattle.rustc_demangle.specs.Reading.{rendered};
 
-use crate::cursor::{Looks, Symbol};
+use crate::cursor::{Looks, MAX_DEPTH, Symbol};
 use crate::sink::{SinkRefused, SizeLimitedFmtAdapter, TextSink};
 use crate::v0::grammar::Entry;
 use crate::v0::machine::Machine;
@@ -32,7 +32,7 @@ pub(crate) fn print<S: TextSink>(
         value: true,
         lifetimes: 0,
     };
-    let mut machine = Machine::new(Task::Enter(Entry::Path, 500, setting), 0);
+    let mut machine = Machine::new(Task::Enter(Entry::Path, MAX_DEPTH, setting), 0);
     while let Some(stretch) = machine.step(symbol, looks) {
         render(symbol, stretch, include_hash, out, looks)?;
     }

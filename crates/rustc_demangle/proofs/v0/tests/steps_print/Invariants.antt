@@ -1,0 +1,5 @@
+use Rattle.rustc_demangle.specs.Shares.{measure}
+use Rattle.rustc_demangle.proofs.v0.tests.steps_print.Given as goal
+
+abbrev pub decreases-loop-stretch : goal.decreases-loop-stretch
+decreases-loop-stretch l = measure l.symbol l.machine.tasks l.machine.place l.machine.is_open
