@@ -1,0 +1,117 @@
+#!/usr/bin/env python3
+"""Runs demangle_filter and the other demanglers of this machine over symbols that are made to be costly.
+
+usage: hostile.py [--timeout SECONDS] [--stack KILOBYTES]
+
+Each symbol is one line of standard input. It prints a Markdown table with a row for each symbol; for each program it has
+the seconds from start to end, the peak memory of the process (its greatest resident set) and the bytes that it wrote,
+or how it ended where it did not end well. A program is killed after the timeout (10 s if not said). demangle_filter
+runs again with its stack limited to so many kilobytes (160 if not said).
+Build the program first: `rt run` in crates/demangle_filter.
+"""
+import argparse, ctypes, os, shutil, signal, subprocess, sys, tempfile, threading, time
+
+ROOT = os.path.dirname(os.path.dirname(os.path.abspath(__file__)))
+OURS = os.path.join(ROOT, 'crates', 'demangle_filter', 'out', 'demangle_filter')
+OTHERS = ['rustfilt', 'c++filt', 'llvm-cxxfilt']
+DIGITS = '0123456789abcdefghijklmnopqrstuvwxyzABCDEFGHIJKLMNOPQRSTUVWXYZ'
+MANY = 1_000_000
+
+
+def doubling(k):
+    """k tuples in one another, each of which holds its first element twice, the second time by a back reference."""
+    references = ''.join('B%s_E' % DIGITS[d] for d in range(k + 2, 2, -1))
+    return '_RMC0' + 'T' * k + 'p' + references
+
+
+def chained(count):
+    """So many times 490 references in one another, the last to an i8 by a back reference."""
+    return '_RIC2aa' + ('R' * 490 + 'B3_') * count + 'E'
+
+
+def into_name(count):
+    """A name that reads as 100,000 references in one another, and so many back references into it."""
+    return '_RIC100000' + 'R' * 100_000 + 'B7_' * count + 'E'
+
+
+def cases():
+    for k in (6, 12, 17, 18, 30, 58):
+        yield 'doubling, %d tuples' % k, doubling(k)
+    for count in (1, 1_000):
+        yield '490 `R` and a back reference, {:,} x'.format(count), chained(count)
+    for count in (1, 1_000):
+        yield 'back reference into a name of 10^5 `R`, {:,} x'.format(count), into_name(count)
+    for tag in 'TSRPOA':
+        yield '`_RMC0` and 10^6 `%s`' % tag, '_RMC0' + tag * MANY
+    yield 'legacy, 10^6 elements', '_ZN' + '1a' * MANY + 'E'
+    for count in (10, 11):
+        yield '`_RMC0FG`, %d `Z`, `_Eu`' % count, '_RMC0FG' + 'Z' * count + '_Eu'
+    yield '10^6 times `_ZN1aE `', '_ZN1aE ' * MANY
+
+
+# The shell ends, and leaves the program to this process as a child, which starts when the gate opens. A child that this
+# process forks itself would have the memory of Python up to its exec counted as its own.
+START = '{ read -r go <gate; ulimit -S -s "$1"; exec "$2" <given 2>/dev/null; } >out & echo $!'
+PR_SET_CHILD_SUBREAPER = 36
+# In kilobytes.
+USUAL_STACK = 8192
+
+
+class Run:
+    """A run of a program over a text."""
+
+    def __init__(self, program, text, timeout, stack):
+        with tempfile.TemporaryDirectory() as folder:
+            given, out, gate = (os.path.join(folder, name) for name in ('given', 'out', 'gate'))
+            os.mkfifo(gate)
+            with open(given, 'wb') as file:
+                file.write(text)
+            words = ['sh', '-c', START, 'sh', str(stack), program]
+            pid = int(subprocess.run(words, cwd=folder, stdout=subprocess.PIPE, check=True).stdout)
+            open(gate, 'w').close()
+            began = time.perf_counter()
+            watch = threading.Timer(timeout, os.kill, (pid, signal.SIGKILL))
+            watch.start()
+            _, status, usage = os.wait4(pid, 0)
+            self.seconds = time.perf_counter() - began
+            watch.cancel()
+            self.kilobytes = usage.ru_maxrss
+            self.written = os.path.getsize(out)
+        self.end = self.ended(os.waitstatus_to_exitcode(status), timeout)
+
+    def ended(self, code, timeout):
+        if code == 0:
+            return ''
+        if code > 0:
+            return 'status %d' % code
+        if -code == signal.SIGKILL and self.seconds >= timeout:
+            return 'over %g s' % timeout
+        return signal.Signals(-code).name
+
+    def cell(self):
+        wrote = self.end or '{:,}'.format(self.written)
+        return '{:.2f} s, {:.1f} MB, {}'.format(self.seconds, self.kilobytes / 1024, wrote)
+
+
+def main():
+    words = argparse.ArgumentParser(description=__doc__, formatter_class=argparse.RawDescriptionHelpFormatter)
+    words.add_argument('--timeout', type=float, default=10)
+    words.add_argument('--stack', type=int, default=160)
+    given = words.parse_args()
+    if not os.path.exists(OURS):
+        sys.exit('no ' + OURS + ': build it first')
+    # A program whose parent ends becomes a child of this process.
+    ctypes.CDLL(None, use_errno=True).prctl(PR_SET_CHILD_SUBREAPER, 1, 0, 0, 0)
+    programs = [('demangle_filter', OURS, USUAL_STACK)]
+    programs.append(('demangle_filter, %d KB of stack' % given.stack, OURS, given.stack))
+    programs += [(name, name, USUAL_STACK) for name in OTHERS if shutil.which(name)]
+    print('| symbol | ' + ' | '.join(name for name, _, _ in programs) + ' |')
+    print('| --- |' + ' ---: |' * len(programs))
+    for case, symbol in cases():
+        text = (symbol + '\n').encode()
+        cells = [Run(program, text, given.timeout, stack).cell() for _, program, stack in programs]
+        print('| ' + ' | '.join([case] + cells) + ' |', flush=True)
+
+
+if __name__ == '__main__':
+    main()
