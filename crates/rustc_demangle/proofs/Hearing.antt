@@ -157,6 +157,8 @@ has_room_length n (t ∷ tasks) h =
 pub record RoomForMove (n : ℕ) (tasks : List Task) (m : Move) : Type 0 where
   pub outer : length (pushed tasks m.outer) ≤ n
   pub inner : length (pushed (pushed tasks m.outer) m.inner) ≤ n
+  pub outer_bound : bound_of m.outer ≤ most_bound
+  pub inner_bound : bound_of m.inner ≤ most_bound
   pub after : HasRoom n (pushed (pushed tasks m.outer) m.inner)
 
 length_pushed : (tasks : List Task) (o : Option Task) → length (pushed tasks o) ≡ length tasks + count_of o
@@ -168,7 +170,17 @@ room_for_move n tasks task m b i o made h k =
     let top = has_room_top n tasks task h in
     let one = has_room_pushed n tasks m.outer (has_room_below n tasks task h) (omega (arith, top.0, k.outer_height)) (omega (arith, top.1, k.outer_bound)) in
     let two = has_room_pushed n (pushed tasks m.outer) m.inner one (omega (arith, top.0, k.inner_height, length_pushed tasks m.outer)) (omega (arith, top.1, k.inner_bound)) in
-    record { outer = has_room_length n (pushed tasks m.outer) one; inner = has_room_length n (pushed (pushed tasks m.outer) m.inner) two; after = two }
+    record {
+      outer = has_room_length n (pushed tasks m.outer) one;
+      inner = has_room_length n (pushed (pushed tasks m.outer) m.inner) two;
+      outer_bound = omega (arith, top.1, k.outer_bound);
+      inner_bound = omega (arith, top.1, k.inner_bound);
+      after = two;
+    }
+
+pub has_room_none : (n : ℕ) (tasks : List Task) → tasks ≡ [] → HasRoom n tasks
+unfolding HasRoom
+has_room_none n tasks e = subst (HasRoom n) (sym e) tt
 
 pub has_room_one : (n : ℕ) (tasks : List Task) (task : Task) → height task ≤ n → bound task ≤ most_bound → tasks ≡ task ∷ [] → HasRoom n tasks
 unfolding HasRoom

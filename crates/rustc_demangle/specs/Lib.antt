@@ -9,6 +9,7 @@ pub mod Escapes
 pub mod Events
 pub mod Filtered
 pub mod FirstLooks
+pub mod Frames
 pub mod Grammar
 pub mod Groups
 pub mod Hands

@@ -1,5 +1,5 @@
 -- What the machine's tasks stand for: the stretches still to come.
-use Rattle.std.specs.Prelude.{ℕ, ◌+◌, ◌-◌, ◌*◌, ◌^◌, ◌≤◌, Bool, true, false, if◌then◌else◌, nat_lt, Option, Some, None, List, [], ◌∷◌, ◌++◌, drop, length}
+use Rattle.std.specs.Prelude.{ℕ, ◌+◌, ◌-◌, ◌*◌, ◌^◌, ◌≤◌, Bool, true, false, Option, Some, None, List, [], ◌∷◌, ◌++◌, drop, length}
 use Rattle.std.proofs.Props.{props}
 use Rattle.rustc_demangle.specs.Items.{a_path, a_type, a_constant, a_pattern, a_trait_path}
 use Rattle.rustc_demangle.specs.Reading.{nothing, Outcome, Place, Surroundings, run, begun, level_of, levels}
@@ -16,9 +16,6 @@ use Rattle.rustc_demangle.specs.declared.v0.task.Progress.{Progress}
 use Rattle.rustc_demangle.specs.declared.v0.task.Task.{Task}
 use Rattle.rustc_demangle.specs.declared.v0.task.Task.TheVariants.{Enter, Rest, Behind}
 use Rattle.rustc_demangle.specs.declared.v0.task.Move.{Move}
-use Rattle.rustc_demangle.specs.declared.v0.task.Frame.{Frame}
-use Rattle.rustc_demangle.specs.declared.v0.task.Shape.{Shape}
-use Rattle.rustc_demangle.specs.declared.v0.task.Shape.TheVariants as shape
 
 abbrev pub surroundings : List ℕ → ℕ → Setting → Surroundings
 surroundings b left t = record { symbol = b; printed = t.output; here = level_of b (levels b left); deeper = levels b left; lifetimes = t.lifetimes }
@@ -123,26 +120,6 @@ HasRoom n (task ∷ above) = (height task ≤ n) × (bound task ≤ most_bound) 
 abbrev pub pushed : List Task → Option Task → List Task
 pushed tasks None = tasks
 pushed tasks (Some task) = tasks ++ task ∷ []
-
--- Flat frames.
-
-abbrev pub setting_of : Frame → Setting
-setting_of f = record { output = f.output; value = f.value; lifetimes = f.number }
-
-abbrev pub progress_of : Frame → Progress
-progress_of f = record { production = f.production; index = f.index; count = f.count; note = f.note; left = f.left }
-
--- a number that is a place
-abbrev pub place_of : ℕ → ℕ
-place_of n = if nat_lt n (2 ^ 64) then n else 0
-
-abbrev pub unpacked_by : Shape → Frame → Task
-unpacked_by shape.Behind f = Behind (place_of f.number)
-unpacked_by shape.Enter f = Enter f.entry f.left (setting_of f)
-unpacked_by shape.Rest f = Rest (progress_of f) (setting_of f)
-
-abbrev pub unpacked : Frame → Task
-unpacked f = unpacked_by f.shape f
 
 -- there is one proof at most, so it may be a ghost field
 pub HasRoom-prop : (n : ℕ) (tasks : List Task) → IsProp (HasRoom n tasks)

@@ -1,5 +1,6 @@
 //! The stream where memory is refused, and its faults as errors.
 use super::{StreamFault, copy_lines, demangle_stream};
+use crate::v0::Machine;
 use linked_list_allocator::LocalHeap;
 use std::io::ErrorKind;
 use std::test::Fail;
@@ -22,7 +23,13 @@ fn memory_is_refused(rt: HostRuntime) -> Result<(), Fail> {
         let mut line = Vec::new(&heap);
         let mut input = TEXT;
         let mut output = Vec::new(alloc);
-        match copy_lines(&mut input, &mut output, &mut line, false) {
+        match copy_lines(
+            &mut input,
+            &mut output,
+            &mut line,
+            &mut Machine::new(),
+            false,
+        ) {
             Ok(()) => {
                 assert_eq!(rt; output.as_slice(), WHOLE);
                 succeeded = true;

@@ -2,7 +2,7 @@
 ghost use Rattle.arrayvec.specs.ArrayVec.{array_vec_len};
 ghost use Rattle.std.specs.Prelude.{◌≡◌, ℕ, Bool, ◌+◌, ◌-◌, ◌≤◌, ◌<◌, List, [], ◌∷◌, ◌++◌, length, Some, true, false, IfSome, IfNone};
 ghost use Rattle.rustc_demangle.specs.FirstLooks.{first_looks};
-ghost use Rattle.rustc_demangle.specs.Shares.{share, owed, pushed, height, bound, most_bound, HasRoom, HasRoom-prop};
+ghost use Rattle.rustc_demangle.specs.Shares.{share, owed, pushed, height, bound, bound_of, most_bound, HasRoom, HasRoom-prop};
 ghost use Rattle.rustc_demangle.specs.Running.{StepServes, printed, allowed_in};
 
 use crate::cursor::{Looks, Symbol};
@@ -21,7 +21,7 @@ struct Row {
 impl Model for Row {
     ghost use Rattle.std.specs.Prelude.{List, map};
     ghost use Rattle.rustc_demangle.specs.declared.v0.task.Task.{Task};
-    ghost use Rattle.rustc_demangle.specs.Shares.{unpacked};
+    ghost use Rattle.rustc_demangle.specs.Frames.{unpacked};
 
     ghost Value = { List Task };
 
@@ -37,8 +37,15 @@ impl Row {
         }
     }
 
+    fn clear(&mut self)
+        ensures { self.new ≡ [] }
+    {
+        self.frames.clear();
+    }
+
     fn push(&mut self, task: Task)
-        requires { length self.old < 4096 }
+        requires room { length self.old < 4096 }
+        requires bound { bound task ≤ most_bound }
         ensures { self.new ≡ self.old ++ task ∷ [] }
     {
         self.frames.push(packed(task));
@@ -55,7 +62,8 @@ impl Row {
 }
 
 fn push_some(tasks: &mut Row, task: Option<Task>)
-    requires { length (pushed tasks.old task) ≤ 4008 }
+    requires room { length (pushed tasks.old task) ≤ 4008 }
+    requires bound { bound_of task ≤ most_bound }
     ensures { tasks.new ≡ pushed tasks.old task }
 {
     if let Some(task) = task {
@@ -63,7 +71,7 @@ fn push_some(tasks: &mut Row, task: Option<Task>)
     }
 }
 
-/// A reading under way: its place, and the row of tasks that are left.
+/// A reading under way: its place, and the row of tasks that are left. The row takes 64 KB.
 #[derive(Drop)]
 pub struct Machine {
     tasks: Row,
@@ -74,21 +82,27 @@ pub struct Machine {
 }
 
 impl Machine {
-    /// A machine that has one task.
-    pub fn new(task: Task, place: usize) -> Self
-        requires height { height task ≤ 4008 }
-        requires bound { bound task ≤ most_bound }
-        ensures tasks { result.tasks ≡ task ∷ [] }
-        ensures place { result.place ≡ Some place }
-        ensures owed { (b : List ℕ) (plain : Bool) → owed b plain result.tasks result.place result.is_open ≡ share b plain task (Some place) false }
-    {
-        let mut tasks = Row::new();
-        tasks.push(task);
+    /// A machine that has no task.
+    pub fn new() -> Self {
         Machine {
-            tasks,
-            place: Some(place),
+            tasks: Row::new(),
+            place: None,
             is_open: false,
         }
+    }
+
+    /// Leaves what it had to do, and begins one task at a place.
+    pub fn begin(&mut self, task: Task, place: usize)
+        requires height { height task ≤ 4008 }
+        requires bound { bound task ≤ most_bound }
+        ensures tasks { self.new.tasks ≡ task ∷ [] }
+        ensures place { self.new.place ≡ Some place }
+        ensures owed { (b : List ℕ) (plain : Bool) → owed b plain self.new.tasks self.new.place self.new.is_open ≡ share b plain task (Some place) false }
+    {
+        self.tasks.clear();
+        self.tasks.push(task);
+        self.place = Some(place);
+        self.is_open = false;
     }
 
     /// Where the reading stands.
@@ -125,10 +139,10 @@ fn printed(output: bool, stretch: Stretch) -> Stretch
 }
 
 /// Reads to the end without printing: the place behind what was read.
-pub fn read_all(mut machine: Machine, symbol: &Symbol<'_>, looks: &mut Looks) -> Option<usize>
-    ensures place { (plain : Bool) → result ≡ (owed symbol.now plain machine.tasks machine.place machine.is_open).place }
+pub fn read_all(machine: &mut Machine, symbol: &Symbol<'_>, looks: &mut Looks) -> Option<usize>
+    ensures place { (plain : Bool) → result ≡ (owed symbol.now plain machine.old.tasks machine.old.place machine.old.is_open).place }
     ensures grows { looks.old ≤ looks.new }
-    ensures looks { looks.new ≤ looks.old + allowed_in (owed symbol.now true machine.tasks machine.place machine.is_open).events }
+    ensures looks { looks.new ≤ looks.old + allowed_in (owed symbol.now true machine.old.tasks machine.old.place machine.old.is_open).events }
 {
     while let Some(_) = machine.step(symbol, looks) {}
     machine.place()

@@ -103,10 +103,10 @@ fn entry_of(named: Named) -> Entry
 fn item_at(progress: Progress) -> Option<Item>
     ensures none { IfNone result (drop progress.index (table progress.production) ≡ []) }
     ensures some { IfSome result (λ item. HeadIs progress item) }
-    ensures within { OnSome result (progress.index < 2 ^ 31) }
+    ensures within { OnSome result (progress.index < 2 ^ 7) }
 {
     let items = table(progress.production);
-    let index = progress.index as usize;
+    let index = usize::from(progress.index);
     if index < items.len() {
         Some(items[index])
     } else {
@@ -116,7 +116,7 @@ fn item_at(progress: Progress) -> Option<Item>
 
 /// The progress behind the item that comes next.
 fn rest_of(progress: Progress) -> Progress
-    requires { progress.index < 2 ^ 31 }
+    requires { progress.index < 2 ^ 7 }
     ensures { result ≡ rest_of progress }
 {
     Progress {
@@ -166,7 +166,7 @@ fn splat(is_marked: bool) -> Stretch
 }
 
 /// A production of which nothing was read.
-fn fresh(production: Production, note: u8, left: u32) -> Progress
+fn fresh(production: Production, note: u8, left: u16) -> Progress
     ensures { result ≡ fresh production note left }
 {
     Progress {
@@ -181,7 +181,7 @@ fn fresh(production: Production, note: u8, left: u32) -> Progress
 fn enter(
     symbol: &Symbol<'_>,
     entry: Entry,
-    left: u32,
+    left: u16,
     setting: Setting,
     place: Option<usize>,
     looks: &mut Looks,
@@ -286,7 +286,7 @@ fn go_over(
     looks: &mut Looks,
 ) -> Move
     requires head { HeadIs progress (Item.Reads word) }
-    requires index { progress.index < 2 ^ 31 }
+    requires index { progress.index < 2 ^ 7 }
     ensures serves { (o : Bool) → Serves symbol.now (Task.Rest progress setting) place o result (looks.new - looks.old) }
     ensures grows { looks.old ≤ looks.new }
 {
@@ -310,7 +310,7 @@ fn go_into(
     looks: &mut Looks,
 ) -> Move
     requires head { HeadIs progress Item.Namespace }
-    requires index { progress.index < 2 ^ 31 }
+    requires index { progress.index < 2 ^ 7 }
     ensures serves { (o : Bool) → Serves symbol.now (Task.Rest progress setting) place o result (looks.new - looks.old) }
     ensures grows { looks.old ≤ looks.new }
 {
@@ -338,7 +338,7 @@ fn go_bound(
     looks: &mut Looks,
 ) -> Move
     requires head { HeadIs progress Item.Binds }
-    requires index { progress.index < 2 ^ 31 }
+    requires index { progress.index < 2 ^ 7 }
     requires bound { bound (Task.Rest progress setting) ≤ most_bound }
     ensures serves { (o : Bool) → Serves symbol.now (Task.Rest progress setting) place o result (looks.new - looks.old) }
     ensures grows { looks.old ≤ looks.new }
@@ -427,7 +427,7 @@ fn go_along(
 ) -> Move
     requires head { HeadIs progress (Item.Elements entry joint) }
     requires element { is_element entry ≡ true }
-    requires index { progress.index < 2 ^ 31 }
+    requires index { progress.index < 2 ^ 7 }
     requires left { progress.left ≤ 500 }
     ensures serves { (o : Bool) → Serves symbol.now (Task.Rest progress setting) place o result (looks.new - looks.old) }
     ensures grows { looks.old ≤ looks.new }
@@ -496,7 +496,7 @@ fn takes(count: Count, is_open: bool) -> bool
 }
 
 /// The bindings of a dyn trait path that was read.
-fn told_bindings(left: u32) -> Progress
+fn told_bindings(left: u16) -> Progress
     ensures { result ≡ told_bindings left }
 {
     Progress {
@@ -509,7 +509,7 @@ fn told_bindings(left: u32) -> Progress
 }
 
 /// The name of a binding, and what it is bound to.
-fn naming(left: u32) -> Progress
+fn naming(left: u16) -> Progress
     ensures { result ≡ naming left }
 {
     Progress {
@@ -547,7 +547,7 @@ fn binding_mark(is_open: bool) -> Stretch
 fn go_binding(
     symbol: &Symbol<'_>,
     is_open: bool,
-    left: u32,
+    left: u16,
     setting: Setting,
     place: Option<usize>,
     looks: &mut Looks,

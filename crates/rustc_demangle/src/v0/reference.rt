@@ -16,7 +16,7 @@ pub enum Reference {
 
 #[tactic(auto, unfolding(crate::specs::Words::backref_at))]
 /// Reads where a reference leads, behind its `B`.
-pub fn refer(symbol: &Symbol<'_>, left: u32, place: Option<usize>, looks: &mut Looks) -> Reference
+pub fn refer(symbol: &Symbol<'_>, left: u16, place: Option<usize>, looks: &mut Looks) -> Reference
     ensures value { result ≡ (refer symbol.now left place).refers }
     ensures grows { looks.old ≤ looks.new }
     ensures looks { looks.new ≤ looks.old + total (refer symbol.now left place).costs }

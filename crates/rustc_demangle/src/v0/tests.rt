@@ -77,7 +77,8 @@ fn steps_print(inner: &str, wanted: &str) -> bool {
         value: true,
         lifetimes: 0,
     };
-    let mut machine = Machine::new(Task::Enter(Entry::Path, MAX_DEPTH, setting), 0);
+    let mut machine = Machine::new();
+    machine.begin(Task::Enter(Entry::Path, MAX_DEPTH as u16, setting), 0);
     let mut sink = CountingSink::new();
     while let Some(stretch) = machine.step(&symbol, &mut looks) {
         let (from, pieces) = (sink.text.as_str().len(), sink.pieces);

@@ -28,7 +28,7 @@ pub enum Beginning {
 pub fn begin(
     symbol: &Symbol<'_>,
     entry: Entry,
-    left: u32,
+    left: u16,
     value: bool,
     place: Option<usize>,
     looks: &mut Looks,
@@ -83,7 +83,7 @@ fn begin_failed(entry: Entry, value: bool) -> Beginning
 
 fn begin_path(
     symbol: &Symbol<'_>,
-    left: u32,
+    left: u16,
     value: bool,
     place: usize,
     looks: &mut Looks,
@@ -119,7 +119,7 @@ fn begin_type(symbol: &Symbol<'_>, place: usize, looks: &mut Looks) -> Beginning
     }
 }
 
-fn begin_tagged(symbol: &Symbol<'_>, left: u32, place: usize, looks: &mut Looks) -> Beginning
+fn begin_tagged(symbol: &Symbol<'_>, left: u16, place: usize, looks: &mut Looks) -> Beginning
     ensures value { result ≡ (begin_tagged symbol.now left place).begins }
     ensures grows { looks.old ≤ looks.new }
     ensures looks { looks.new ≤ looks.old + total (begin_tagged symbol.now left place).costs }
@@ -142,7 +142,7 @@ fn begin_tagged(symbol: &Symbol<'_>, left: u32, place: usize, looks: &mut Looks)
 
 fn begin_constant(
     symbol: &Symbol<'_>,
-    left: u32,
+    left: u16,
     value: bool,
     place: usize,
     looks: &mut Looks,
@@ -164,7 +164,7 @@ fn begin_constant(
     }
 }
 
-fn begin_pattern(symbol: &Symbol<'_>, left: u32, place: usize, looks: &mut Looks) -> Beginning
+fn begin_pattern(symbol: &Symbol<'_>, left: u16, place: usize, looks: &mut Looks) -> Beginning
     ensures value { result ≡ (begin_pattern symbol.now left place).begins }
     ensures grows { looks.old ≤ looks.new }
     ensures looks { looks.new ≤ looks.old + total (begin_pattern symbol.now left place).costs }

@@ -11,10 +11,10 @@ use Rattle.rustc_demangle.proofs.v0.printing.print.Goals as goal
 pub loop-stretch-init : goal.loop-stretch-init
 loop-stretch-init g c = record {
   printed = printed_start g.S.TextSink _ _ _ c.requires.ready
-      (ap (λ (h : Heard). shown_in h.events) (c.new-machine.ensures.owed c.args.symbol.now c.args.include_hash) ∙ rendered_share c.args.symbol.now c.args.include_hash);
+      (ap (λ (h : Heard). shown_in h.events) (c.begin.ensures.owed c.args.symbol.now c.args.include_hash) ∙ rendered_share c.args.symbol.now c.args.include_hash);
   grows = omega arith;
-  least = rw (c.new-machine.ensures.tasks, c.new-machine.ensures.place) (omega arith);
-  most = paid_start c.args.symbol.now c.args.include_hash _ _ _ _ _ (c.new-machine.ensures.owed c.args.symbol.now c.args.include_hash);
+  least = rw (c.begin.ensures.tasks, c.begin.ensures.place) (omega arith);
+  most = paid_start c.args.symbol.now c.args.include_hash _ _ _ _ _ (c.begin.ensures.owed c.args.symbol.now c.args.include_hash);
 }
 
 pub render-requires-clause-lies : goal.render-requires-clause-lies

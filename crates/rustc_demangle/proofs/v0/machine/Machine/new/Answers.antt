@@ -1,12 +1,5 @@
-use Rattle.std.proofs.Common.{Some, false, refl}
-use Rattle.rustc_demangle.proofs.Hearing.{has_room_one, owed_one}
+use Rattle.rustc_demangle.proofs.Hearing.{has_room_none}
 use Rattle.rustc_demangle.proofs.v0.machine.Machine.new.Goals as goal
 
 pub invariant_of-result : goal.invariant_of-result
-invariant_of-result c = record { room = has_room_one 4008 _ c.args.task c.requires.height c.requires.bound (rw c.new-tasks.ensures at c.push.ensures) }
-
-pub returns-clause-owed : goal.returns-clause-owed
-returns-clause-owed c = λ b plain. rw (c.push.ensures, c.new-tasks.ensures) (owed_one b plain c.args.task (Some c.args.place) false)
-
-pub returns-clause-tasks : goal.returns-clause-tasks
-returns-clause-tasks c = rw (c.push.ensures, c.new-tasks.ensures) refl
+invariant_of-result c = record { room = has_room_none 4008 _ c.new.ensures }

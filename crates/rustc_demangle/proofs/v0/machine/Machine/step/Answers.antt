@@ -10,12 +10,14 @@ room : (c : After-perform-made) → RoomForMove 4008 c.pop.new.self c.perform-ma
 room c = room_for_move 4008 c.pop.new.self c.in_ok-task.task c.perform-made.result _ _ _ _ (rw c.in_ok-task.ensures.some at c.args.self.now.room) c.perform-made.ensures.serves
 
 pub push_some-requires : goal.push_some-requires
-push_some-requires c = (room (goal.at.push_some-requires c).After-perform-made).outer
+push_some-requires c =
+    let r = room (goal.at.push_some-requires c).After-perform-made in
+    record { room = r.outer; bound = r.outer_bound }
 
 pub push_some-requires-2 : goal.push_some-requires-2
 push_some-requires-2 c =
     let r = room (goal.at.push_some-requires-2 c).After-perform-made in
-    rw c.push_some.ensures r.inner
+    record { room = rw c.push_some.ensures r.inner; bound = r.inner_bound }
 
 pub invariant_of-self-2 : goal.invariant_of-self-2
 invariant_of-self-2 c =
