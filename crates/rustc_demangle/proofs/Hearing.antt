@@ -11,7 +11,7 @@ use Rattle.rustc_demangle.specs.declared.v0.grammar.Production.{Production}
 use Rattle.rustc_demangle.specs.declared.v0.grammar.Production.TheVariants as production
 use Rattle.rustc_demangle.specs.declared.v0.task.Task.{Task}
 use Rattle.rustc_demangle.specs.declared.v0.task.Task.TheVariants.{Enter, Rest, Behind}
-use Rattle.rustc_demangle.specs.declared.v0.task.Move.{Move}
+use Rattle.rustc_demangle.specs.Move.{Move}
 use Rattle.rustc_demangle.specs.Serving.{Serves}
 use Rattle.rustc_demangle.specs.Shares.{share, owed, share_of, followed, moved, pushed, weight, weight_of, weights, measure, height, height_of, count_of, bound, bound_of, most_bound, HasRoom}
 
@@ -145,7 +145,7 @@ has_room_pushed : (n : ℕ) (tasks : List Task) (o : Option Task) → HasRoom n 
 has_room_pushed n tasks None h k l = h
 has_room_pushed n tasks (Some task) h k l = has_room_push n tasks task h k l
 
-has_room_length : (n : ℕ) (tasks : List Task) → HasRoom n tasks → length tasks ≤ n
+pub has_room_length : (n : ℕ) (tasks : List Task) → HasRoom n tasks → length tasks ≤ n
 unfolding HasRoom
 has_room_length n [] h = omega arith
 has_room_length n (t ∷ tasks) h =

@@ -40,6 +40,7 @@ pub mod NamePieces
 pub mod Nibbles
 pub mod Opening
 pub mod Paid
+mod Performed
 pub mod Parts
 pub mod PaysRules
 pub mod Prefixes

@@ -9,7 +9,7 @@ use Rattle.rustc_demangle.specs.Serving.{Serves, LiesIn}
 use Rattle.rustc_demangle.specs.Running.{StepServes, printed, allowed_in}
 use Rattle.rustc_demangle.specs.declared.v0.stretch.Stretch.{Stretch}
 use Rattle.rustc_demangle.specs.declared.v0.task.Task.{Task}
-use Rattle.rustc_demangle.specs.declared.v0.task.Move.{Move}
+use Rattle.rustc_demangle.specs.Move.{Move}
 use Rattle.rustc_demangle.proofs.Hearing.{owed_step, measure_step}
 
 quiet : (ts : List Text) (xs : List Event) → said_all false ts xs ≡ xs

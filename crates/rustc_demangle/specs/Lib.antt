@@ -21,8 +21,10 @@ pub mod Limit
 pub mod Lines
 pub mod Literals
 pub mod Measures
+pub mod Move
 pub mod Names
 pub mod Nibbles
+pub mod Performing
 pub mod Pieces
 pub mod Prefix
 pub mod Punycode

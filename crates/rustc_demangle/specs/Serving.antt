@@ -34,7 +34,7 @@ use Rattle.rustc_demangle.specs.declared.v0.task.Setting.{Setting}
 use Rattle.rustc_demangle.specs.declared.v0.task.Progress.{Progress}
 use Rattle.rustc_demangle.specs.declared.v0.task.Task.{Task}
 use Rattle.rustc_demangle.specs.declared.v0.task.Task.TheVariants.{Rest}
-use Rattle.rustc_demangle.specs.declared.v0.task.Move.{Move}
+use Rattle.rustc_demangle.specs.Move.{Move}
 use Rattle.rustc_demangle.specs.declared.v0.reference.Reference.{Reference}
 use Rattle.rustc_demangle.specs.declared.v0.reference.Reference.TheVariants.{Faulty, Target}
 
@@ -62,6 +62,14 @@ going out x i rest = record { output = out; stretch = x; place = i; is_open = fa
 
 abbrev pub entering : Bool → Stretch → Place → Task → Option Task → Move
 entering out x i unit rest = record { output = out; stretch = x; place = i; is_open = false; inner = Some unit; outer = rest }
+
+-- behind an open bracket
+abbrev pub opening : Bool → Place → Move
+opening out i = record { output = out; stretch = Nothing; place = i; is_open = true; inner = None; outer = None }
+
+-- the reading goes on at a place
+abbrev pub resuming : ℕ → Bool → Move
+resuming j o = record { output = false; stretch = Nothing; place = Some j; is_open = o; inner = None; outer = None }
 
 -- a production of which nothing was read
 abbrev pub fresh : Production → ℕ → ℕ → Progress

@@ -15,7 +15,7 @@ use Rattle.rustc_demangle.specs.declared.v0.task.Setting.{Setting}
 use Rattle.rustc_demangle.specs.declared.v0.task.Progress.{Progress}
 use Rattle.rustc_demangle.specs.declared.v0.task.Task.{Task}
 use Rattle.rustc_demangle.specs.declared.v0.task.Task.TheVariants.{Enter, Rest, Behind}
-use Rattle.rustc_demangle.specs.declared.v0.task.Move.{Move}
+use Rattle.rustc_demangle.specs.Move.{Move}
 
 abbrev pub surroundings : List ℕ → ℕ → Setting → Surroundings
 surroundings b left t = record { symbol = b; printed = t.output; here = level_of b (levels b left); deeper = levels b left; lifetimes = t.lifetimes }

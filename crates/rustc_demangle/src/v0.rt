@@ -20,6 +20,7 @@ mod tests;
 mod units;
 mod value;
 mod words;
+mod work;
 
 pub(crate) use machine::Machine;
 pub(crate) use value::Demangle;

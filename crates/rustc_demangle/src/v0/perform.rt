@@ -1,11 +1,12 @@
 //! One step of a task.
-ghost use Rattle.std.specs.Prelude.{Bool, true, ◌≡◌, ℕ, ◌+◌, ◌-◌, ◌*◌, ◌^◌, ◌<◌, ◌≤◌, [], drop, IfSome, IfNone, OnSome};
+ghost use Rattle.std.specs.Prelude.{Bool, true, ◌≡◌, ℕ, ◌+◌, ◌-◌, ◌*◌, ◌^◌, ◌<◌, ◌≤◌, [], drop, length, IfSome, IfNone, OnSome};
 ghost use Rattle.rustc_demangle.specs.Begins.{total};
 ghost use Rattle.rustc_demangle.specs.FirstLooks.{looks_at_tag, looks_of_task};
 ghost use Rattle.rustc_demangle.specs.Grammar.{table};
 ghost use Rattle.rustc_demangle.specs.Measures.{entry_of};
 ghost use Rattle.rustc_demangle.specs.Shares.{bound, height, most_bound, takes};
-ghost use Rattle.rustc_demangle.specs.Serving.{HeadIs, Serves, IsBinding, fresh, splat, naming, told_bindings, end_stretch, mark_stretch, only, going, entering, placed_in, skipping, rest_of, list_end, end_costs, separator, ending, one_more, element_setting, is_element};
+ghost use Rattle.rustc_demangle.specs.Performing.{Performs};
+ghost use Rattle.rustc_demangle.specs.Serving.{HeadIs, IsBinding, fresh, splat, naming, told_bindings, end_stretch, mark_stretch, placed_in, skipping, rest_of, list_end, end_costs, separator, ending, one_more, element_setting, is_element};
 
 use crate::cursor::{Looks, Symbol};
 use crate::v0::grammar::{
@@ -13,57 +14,10 @@ use crate::v0::grammar::{
 };
 use crate::v0::reference::{Reference, refer};
 use crate::v0::stretch::Stretch;
-use crate::v0::task::{Move, Progress, Setting, Task};
+use crate::v0::task::{Progress, Setting, Task};
 use crate::v0::units::{Beginning, begin};
 use crate::v0::words::{WordRead, read_word};
-
-/// A step after which nothing is left of the task.
-fn only(output: bool, stretch: Stretch, place: Option<usize>) -> Move
-    ensures { result ≡ only output stretch place }
-{
-    Move {
-        output,
-        stretch,
-        place,
-        is_open: false,
-        inner: None,
-        outer: None,
-    }
-}
-
-/// A step after which the task goes on so.
-fn going(output: bool, stretch: Stretch, place: Option<usize>, rest: Task) -> Move
-    ensures { result ≡ going output stretch place rest }
-{
-    Move {
-        output,
-        stretch,
-        place,
-        is_open: false,
-        inner: None,
-        outer: Some(rest),
-    }
-}
-
-/// A step that enters a unit.
-fn entering(
-    output: bool,
-    stretch: Stretch,
-    place: Option<usize>,
-    unit: Task,
-    rest: Option<Task>,
-) -> Move
-    ensures { result ≡ entering output stretch place unit rest }
-{
-    Move {
-        output,
-        stretch,
-        place,
-        is_open: false,
-        inner: Some(unit),
-        outer: rest,
-    }
-}
+use crate::v0::work::Work;
 
 fn placed(setting: Setting, position: Position) -> Setting
     ensures { result ≡ placed_in setting position }
@@ -132,25 +86,24 @@ pub fn perform(
     task: Task,
     place: Option<usize>,
     is_open: bool,
+    work: &mut Work,
     looks: &mut Looks,
-) -> Move
+)
+    requires room { length work.old.tasks ≤ 4008 }
     requires height { height task ≤ 4008 }
     requires bound { bound task ≤ most_bound }
-    ensures serves { Serves symbol.now task place is_open result (looks.new - looks.old) }
+    ensures serves { Performs symbol.now task place is_open work.old work.new (looks.new - looks.old) }
     ensures grows { looks.old ≤ looks.new }
     ensures least { looks.old + looks_of_task task place ≤ looks.new }
 {
     match task {
-        Task::Enter(entry, left, setting) => enter(symbol, entry, left, setting, place, looks),
-        Task::Rest(progress, setting) => { go_on(symbol, progress, setting, place, is_open, looks) }
-        Task::Behind(behind) => Move {
-            output: false,
-            stretch: Stretch::Nothing,
-            place: Some(behind),
-            is_open,
-            inner: None,
-            outer: None,
-        },
+        Task::Enter(entry, left, setting) => enter(
+            symbol, entry, left, setting, place, work, looks,
+        ),
+        Task::Rest(progress, setting) => {
+            go_on(symbol, progress, setting, place, is_open, work, looks)
+        }
+        Task::Behind(behind) => work.resuming(behind, is_open),
     }
 }
 
@@ -184,27 +137,29 @@ fn enter(
     left: u16,
     setting: Setting,
     place: Option<usize>,
+    work: &mut Work,
     looks: &mut Looks,
-) -> Move
-    ensures serves { (o : Bool) → Serves symbol.now (Task.Enter entry left setting) place o result (looks.new - looks.old) }
+)
+    requires room { length work.old.tasks ≤ 4008 }
+    ensures serves { (o : Bool) → Performs symbol.now (Task.Enter entry left setting) place o work.old work.new (looks.new - looks.old) }
     ensures grows { looks.old ≤ looks.new }
     ensures least { looks.old + looks_at_tag entry left place ≤ looks.new }
 {
     let output = setting.output;
     match begin(symbol, entry, left, setting.value, place, looks) {
-        Beginning::Faulty(mark) => only(output, Stretch::Fixed(mark), None),
-        Beginning::Basic(mark, next) => only(output, Stretch::Fixed(mark), Some(next)),
+        Beginning::Faulty(mark) => work.only(output, Stretch::Fixed(mark), None),
+        Beginning::Basic(mark, next) => work.only(output, Stretch::Fixed(mark), Some(next)),
         Beginning::Splats(is_marked, next) => {
             let unit = Task::Enter(Entry::TaggedType, left, setting);
-            entering(output, splat(is_marked), Some(next), unit, None)
+            work.entering(output, splat(is_marked), Some(next), unit, None)
         }
         Beginning::Starts(production, note, next) => {
             let unit = Task::Rest(fresh(production, note, left - 1), setting);
-            entering(output, Stretch::Nothing, Some(next), unit, None)
+            work.entering(output, Stretch::Nothing, Some(next), unit, None)
         }
         Beginning::Continues(production, next) => {
             let unit = Task::Rest(fresh(production, 0, left), setting);
-            entering(output, Stretch::Nothing, next, unit, None)
+            work.entering(output, Stretch::Nothing, next, unit, None)
         }
     }
 }
@@ -215,63 +170,60 @@ fn go_on(
     setting: Setting,
     place: Option<usize>,
     is_open: bool,
+    work: &mut Work,
     looks: &mut Looks,
-) -> Move
+)
+    requires room { length work.old.tasks ≤ 4008 }
     requires left { progress.left ≤ 500 }
     requires bound { bound (Task.Rest progress setting) ≤ most_bound }
-    ensures serves { Serves symbol.now (Task.Rest progress setting) place is_open result (looks.new - looks.old) }
+    ensures serves { Performs symbol.now (Task.Rest progress setting) place is_open work.old work.new (looks.new - looks.old) }
     ensures grows { looks.old ≤ looks.new }
 {
     let output = setting.output;
     let left = progress.left;
     let Some(item) = item_at(progress) else {
-        return only(output, Stretch::Nothing, place);
+        return work.only(output, Stretch::Nothing, place);
     };
     let rest = Task::Rest(rest_of(progress), setting);
     match item {
-        Item::Says(mark) => going(output, Stretch::Fixed(mark), place, rest),
-        Item::Reads(word) => go_over(symbol, word, progress, setting, place, looks),
-        Item::Namespace => go_into(symbol, progress, setting, place, looks),
+        Item::Says(mark) => work.going(output, Stretch::Fixed(mark), place, rest),
+        Item::Reads(word) => go_over(symbol, word, progress, setting, place, work, looks),
+        Item::Namespace => go_into(symbol, progress, setting, place, work, looks),
         Item::Child(named, position) => {
             let unit = Task::Enter(entry_of(named), left, placed(setting, position));
-            entering(output, Stretch::Nothing, place, unit, Some(rest))
+            work.entering(output, Stretch::Nothing, place, unit, Some(rest))
         }
         Item::Skips => {
             let unit = Task::Enter(Entry::Path, left, skipping(setting));
-            entering(output, Stretch::Nothing, place, unit, Some(rest))
+            work.entering(output, Stretch::Nothing, place, unit, Some(rest))
         }
         Item::Elements(entry, joint) => {
-            go_along(symbol, entry, joint, progress, setting, place, looks)
+            go_along(symbol, entry, joint, progress, setting, place, work, looks)
         }
         Item::Refers(named, position) => {
-            go_back(symbol, named, position, progress, setting, place, looks)
+            go_back(
+                symbol, named, position, progress, setting, place, work, looks,
+            )
         }
-        Item::Binds => go_bound(symbol, progress, setting, place, looks),
-        Item::Opens => Move {
-            output,
-            stretch: Stretch::Nothing,
-            place,
-            is_open: true,
-            inner: None,
-            outer: None,
-        },
+        Item::Binds => go_bound(symbol, progress, setting, place, work, looks),
+        Item::Opens => work.opening(output, place),
         Item::Bindings => {
             let unit = Task::Enter(Entry::TraitPath, left, placed(setting, Position::NoValue));
             let told = Task::Rest(told_bindings(left), setting);
-            entering(output, Stretch::Nothing, place, unit, Some(told))
+            work.entering(output, Stretch::Nothing, place, unit, Some(told))
         }
         Item::MoreBindings => {
             let is_open = takes(progress.count, is_open);
-            go_binding(symbol, is_open, left, setting, place, looks)
+            go_binding(symbol, is_open, left, setting, place, work, looks)
         }
-        Item::OpenBindings => go_binding(symbol, true, left, setting, place, looks),
+        Item::OpenBindings => go_binding(symbol, true, left, setting, place, work, looks),
         Item::Holds(entry) => {
             let unit = Task::Enter(entry, left, setting);
-            entering(output, Stretch::Nothing, place, unit, Some(rest))
+            work.entering(output, Stretch::Nothing, place, unit, Some(rest))
         }
         Item::GoesOn(entry) => {
             let unit = Task::Enter(entry, left, setting);
-            entering(output, Stretch::Nothing, place, unit, None)
+            work.entering(output, Stretch::Nothing, place, unit, None)
         }
     }
 }
@@ -283,11 +235,13 @@ fn go_over(
     progress: Progress,
     setting: Setting,
     place: Option<usize>,
+    work: &mut Work,
     looks: &mut Looks,
-) -> Move
+)
+    requires room { length work.old.tasks ≤ 4008 }
     requires head { HeadIs progress (Item.Reads word) }
     requires index { progress.index < 2 ^ 7 }
-    ensures serves { (o : Bool) → Serves symbol.now (Task.Rest progress setting) place o result (looks.new - looks.old) }
+    ensures serves { (o : Bool) → Performs symbol.now (Task.Rest progress setting) place o work.old work.new (looks.new - looks.old) }
     ensures grows { looks.old ≤ looks.new }
 {
     let output = setting.output;
@@ -295,9 +249,9 @@ fn go_over(
     match read_word(symbol, word, progress.note, output, lifetimes, place, looks) {
         WordRead::Goes(stretch, next) => {
             let rest = Task::Rest(rest_of(progress), setting);
-            going(output, stretch, next, rest)
+            work.going(output, stretch, next, rest)
         }
-        WordRead::Stops(stretch) => only(output, stretch, None),
+        WordRead::Stops(stretch) => work.only(output, stretch, None),
     }
 }
 
@@ -307,26 +261,28 @@ fn go_into(
     progress: Progress,
     setting: Setting,
     place: Option<usize>,
+    work: &mut Work,
     looks: &mut Looks,
-) -> Move
+)
+    requires room { length work.old.tasks ≤ 4008 }
     requires head { HeadIs progress Item.Namespace }
     requires index { progress.index < 2 ^ 7 }
-    ensures serves { (o : Bool) → Serves symbol.now (Task.Rest progress setting) place o result (looks.new - looks.old) }
+    ensures serves { (o : Bool) → Performs symbol.now (Task.Rest progress setting) place o work.old work.new (looks.new - looks.old) }
     ensures grows { looks.old ≤ looks.new }
 {
     let output = setting.output;
     let Some(at) = place else {
-        return only(output, Stretch::Fixed(Mark::Unread), None);
+        return work.only(output, Stretch::Fixed(Mark::Unread), None);
     };
     let Ok((note, next)) = symbol.namespace(at, looks) else {
-        return only(output, Stretch::Fixed(Mark::Invalid), None);
+        return work.only(output, Stretch::Fixed(Mark::Invalid), None);
     };
     let noted = Progress {
         note,
         ..rest_of(progress)
     };
     let rest = Task::Rest(noted, setting);
-    going(output, Stretch::Nothing, Some(next), rest)
+    work.going(output, Stretch::Nothing, Some(next), rest)
 }
 
 /// A binder, whose lifetimes are in force from then on.
@@ -335,20 +291,22 @@ fn go_bound(
     progress: Progress,
     setting: Setting,
     place: Option<usize>,
+    work: &mut Work,
     looks: &mut Looks,
-) -> Move
+)
+    requires room { length work.old.tasks ≤ 4008 }
     requires head { HeadIs progress Item.Binds }
     requires index { progress.index < 2 ^ 7 }
     requires bound { bound (Task.Rest progress setting) ≤ most_bound }
-    ensures serves { (o : Bool) → Serves symbol.now (Task.Rest progress setting) place o result (looks.new - looks.old) }
+    ensures serves { (o : Bool) → Performs symbol.now (Task.Rest progress setting) place o work.old work.new (looks.new - looks.old) }
     ensures grows { looks.old ≤ looks.new }
 {
     let output = setting.output;
     let Some(at) = place else {
-        return only(output, Stretch::Fixed(Mark::Unread), None);
+        return work.only(output, Stretch::Fixed(Mark::Unread), None);
     };
     let Ok((number, next)) = symbol.opt_integer_62(b'G', at, looks) else {
-        return only(output, Stretch::Fixed(Mark::Invalid), None);
+        return work.only(output, Stretch::Fixed(Mark::Invalid), None);
     };
     let lifetimes = setting.lifetimes + u128::from(number);
     let body = Setting {
@@ -357,7 +315,7 @@ fn go_bound(
     };
     let rest = Task::Rest(rest_of(progress), body);
     let stretch = Stretch::Binder(setting.lifetimes, number);
-    going(output, stretch, Some(next), rest)
+    work.going(output, stretch, Some(next), rest)
 }
 
 /// What a list prints before its next element.
@@ -423,20 +381,22 @@ fn go_along(
     progress: Progress,
     setting: Setting,
     place: Option<usize>,
+    work: &mut Work,
     looks: &mut Looks,
-) -> Move
+)
+    requires room { length work.old.tasks ≤ 4008 }
     requires head { HeadIs progress (Item.Elements entry joint) }
     requires element { is_element entry ≡ true }
     requires index { progress.index < 2 ^ 7 }
     requires left { progress.left ≤ 500 }
-    ensures serves { (o : Bool) → Serves symbol.now (Task.Rest progress setting) place o result (looks.new - looks.old) }
+    ensures serves { (o : Bool) → Performs symbol.now (Task.Rest progress setting) place o work.old work.new (looks.new - looks.old) }
     ensures grows { looks.old ≤ looks.new }
 {
     let output = setting.output;
     if let Some(behind) = list_end(symbol, place, looks) {
         let stretch = ending(joint, progress.count);
         let rest = Task::Rest(rest_of(progress), setting);
-        return going(output, stretch, behind, rest);
+        return work.going(output, stretch, behind, rest);
     }
     let stretch = separator(joint, progress.count);
     let more = Progress {
@@ -444,7 +404,7 @@ fn go_along(
         ..progress
     };
     let unit = Task::Enter(entry, progress.left, element_setting(setting, entry));
-    entering(
+    work.entering(
         output,
         stretch,
         place,
@@ -461,18 +421,20 @@ fn go_back(
     progress: Progress,
     setting: Setting,
     place: Option<usize>,
+    work: &mut Work,
     looks: &mut Looks,
-) -> Move
+)
+    requires room { length work.old.tasks ≤ 4008 }
     requires head { HeadIs progress (Item.Refers named position) }
-    ensures serves { (o : Bool) → Serves symbol.now (Task.Rest progress setting) place o result (looks.new - looks.old) }
+    ensures serves { (o : Bool) → Performs symbol.now (Task.Rest progress setting) place o work.old work.new (looks.new - looks.old) }
     ensures grows { looks.old ≤ looks.new }
 {
     let output = setting.output;
     match refer(symbol, progress.left, place, looks) {
-        Reference::Faulty(mark) => only(output, Stretch::Fixed(mark), None),
+        Reference::Faulty(mark) => work.only(output, Stretch::Fixed(mark), None),
         Reference::Target(target, next) => {
             if !output {
-                return only(output, Stretch::Nothing, Some(next));
+                return work.only(output, Stretch::Nothing, Some(next));
             }
             let unit = Task::Enter(
                 entry_of(named),
@@ -480,7 +442,7 @@ fn go_back(
                 placed(setting, position),
             );
             let behind = Some(Task::Behind(next));
-            entering(output, Stretch::Nothing, Some(target), unit, behind)
+            work.entering(output, Stretch::Nothing, Some(target), unit, behind)
         }
     }
 }
@@ -550,19 +512,21 @@ fn go_binding(
     left: u16,
     setting: Setting,
     place: Option<usize>,
+    work: &mut Work,
     looks: &mut Looks,
-) -> Move
+)
+    requires room { length work.old.tasks ≤ 4008 }
     requires left { left ≤ 500 }
-    ensures serves { (task : Task) (o : Bool) → IsBinding symbol.now task o is_open (naming left) setting → Serves symbol.now task place o result (looks.new - looks.old) }
+    ensures serves { (task : Task) (o : Bool) → IsBinding symbol.now task o is_open (naming left) setting → Performs symbol.now task place o work.old work.new (looks.new - looks.old) }
     ensures grows { looks.old ≤ looks.new }
 {
     let output = setting.output;
     let Some(at) = place else {
-        return only(output, binding_end(is_open), None);
+        return work.only(output, binding_end(is_open), None);
     };
     if !symbol.is_at(b'p', at, looks) {
-        return only(output, binding_end(is_open), Some(at));
+        return work.only(output, binding_end(is_open), Some(at));
     }
     let name = Task::Rest(naming(left), setting);
-    going(output, binding_mark(is_open), Some(at + 1), name)
+    work.going(output, binding_mark(is_open), Some(at + 1), name)
 }

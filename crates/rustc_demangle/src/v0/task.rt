@@ -4,7 +4,6 @@ ghost use Rattle.rustc_demangle.specs.Frames.{lights_of, stage_of, stage_behind,
 ghost use Rattle.rustc_demangle.specs.Shares.{bound, most_bound};
 
 use crate::v0::grammar::{Count, Entry, Production};
-use crate::v0::stretch::Stretch;
 use std::mem;
 
 const TWO_64: u128 = 1 << 64;
@@ -43,19 +42,6 @@ pub enum Task {
     Rest(Progress, Setting),
     /// The reading goes on at this place.
     Behind(usize),
-}
-
-/// One step of a task: what it hands over, where the reading stands, and the tasks in its place.
-#[derive(Clone, Copy)]
-pub struct Move {
-    /// Whether the stretch is printed.
-    pub output: bool,
-    pub stretch: Stretch,
-    pub place: Option<usize>,
-    /// Of a dyn trait path: whether its bracket is open.
-    pub is_open: bool,
-    pub inner: Option<Task>,
-    pub outer: Option<Task>,
 }
 
 /// What a frame stands for: a place, a unit, or the rest of a production whose list had so many elements.
@@ -163,21 +149,19 @@ fn stage_behind(count: Count) -> Stage
 
 /// A frame that has of its task only what its unit took from the place where it stands.
 fn standing(setting: Setting) -> Frame
-    requires { setting.lifetimes < 2 ^ 78 }
-    ensures { setting_of result ≡ setting }
+    ensures { setting.lifetimes < 2 ^ 78 → setting_of result ≡ setting }
 {
     let lights = lights_of(setting.output, setting.value);
     Frame {
         low: (setting.lifetimes % TWO_64) as u64,
-        high: 4 * (setting.lifetimes / TWO_64) as u16 + lights,
+        high: 4 * (setting.lifetimes / TWO_64 % 0x4000) as u16 + lights,
         ..Frame::default()
     }
 }
 
 /// The frame of a task.
 pub fn packed(task: Task) -> Frame
-    requires { bound task ≤ most_bound }
-    ensures { unpacked result ≡ task }
+    ensures { bound task ≤ most_bound → unpacked result ≡ task }
 {
     match task {
         Task::Enter(entry, left, setting) => Frame {

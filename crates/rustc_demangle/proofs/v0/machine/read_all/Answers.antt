@@ -15,4 +15,4 @@ loop-preserved c =
 
 pub returns-clause-place : goal.returns-clause-place
 returns-clause-place c = λ plain.
-    c.place.ensures ∙ (c.in_default.ensures.place ∙ (sym (ap (λ (h : Heard). h.place) (none_left c.args.symbol.now plain _ c.loop.machine.place c.loop.machine.is_open c.in_default.ensures.none)) ∙ c.loop.invariant.place plain))
+    c.place.ensures ∙ (c.in_default.ensures.place ∙ (sym (ap (λ (h : Heard). h.place) (none_left c.args.symbol.now plain _ c.loop.machine.work.place c.loop.machine.work.is_open c.in_default.ensures.none)) ∙ c.loop.invariant.place plain))

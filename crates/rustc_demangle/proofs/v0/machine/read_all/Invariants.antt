@@ -5,10 +5,10 @@ use Rattle.rustc_demangle.proofs.v0.machine.read_all.Given as goal
 
 abbrev pub invariant-loop : goal.invariant-loop
 invariant-loop l = record {
-  place : (plain : Bool) → (owed l.symbol plain l.machine.tasks l.machine.place l.machine.is_open).place ≡ (owed l.symbol plain l.initial.machine.tasks l.initial.machine.place l.initial.machine.is_open).place;
-  looks : l.looks + allowed_in (owed l.symbol true l.machine.tasks l.machine.place l.machine.is_open).events ≤ l.initial.looks + allowed_in (owed l.symbol true l.initial.machine.tasks l.initial.machine.place l.initial.machine.is_open).events;
+  place : (plain : Bool) → (owed l.symbol plain l.machine.work.tasks l.machine.work.place l.machine.work.is_open).place ≡ (owed l.symbol plain l.initial.machine.work.tasks l.initial.machine.work.place l.initial.machine.work.is_open).place;
+  looks : l.looks + allowed_in (owed l.symbol true l.machine.work.tasks l.machine.work.place l.machine.work.is_open).events ≤ l.initial.looks + allowed_in (owed l.symbol true l.initial.machine.work.tasks l.initial.machine.work.place l.initial.machine.work.is_open).events;
   grows : l.initial.looks ≤ l.looks;
 }
 
 abbrev pub decreases-loop : goal.decreases-loop
-decreases-loop l = measure l.symbol l.machine.tasks l.machine.place l.machine.is_open
+decreases-loop l = measure l.symbol l.machine.work.tasks l.machine.work.place l.machine.work.is_open

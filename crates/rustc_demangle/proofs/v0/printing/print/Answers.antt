@@ -42,14 +42,14 @@ returns-in_err-render-clause-prints g c =
 pub returns-clause-prints : goal.returns-clause-prints
 returns-clause-prints g c =
     printed_all g.S.TextSink _ _ _ _ c.loop-stretch.invariant.printed
-    (ap (λ (h : Heard). shown_in h.events) (none_left c.args.symbol.now c.args.include_hash _ c.loop-stretch.machine.place c.loop-stretch.machine.is_open c.in_default.ensures.none))
+    (ap (λ (h : Heard). shown_in h.events) (none_left c.args.symbol.now c.args.include_hash _ c.loop-stretch.machine.work.place c.loop-stretch.machine.work.is_open c.in_default.ensures.none))
 
 pub returns-in_err-render-clause-least : goal.returns-in_err-render-clause-least
 returns-in_err-render-clause-least g c = omega (arith, c.loop-stretch.invariant.least, c.in-Some.ensures.least, c.in_err-render.ensures.grows)
 
 pub returns-clause-least : goal.returns-clause-least
 returns-clause-least g c =
-    let none = ap (λ (tasks : List Task). first_looks tasks c.loop-stretch.machine.place) c.in_default.ensures.none in
+    let none = ap (λ (tasks : List Task). first_looks tasks c.loop-stretch.machine.work.place) c.in_default.ensures.none in
     omega (arith, none, c.loop-stretch.invariant.least, c.in_default.ensures.no_looks)
 
 pub returns-in_err-render-clause-most : goal.returns-in_err-render-clause-most

@@ -1,0 +1,13 @@
+-- What one step of a task hands over, where the reading then stands, and the tasks in its place.
+use Rattle.std.specs.Prelude.{Bool, Option}
+use Rattle.rustc_demangle.specs.Reading.{Place}
+use Rattle.rustc_demangle.specs.declared.v0.stretch.Stretch.{Stretch}
+use Rattle.rustc_demangle.specs.declared.v0.task.Task.{Task}
+
+pub record Move : Type 0 where
+  pub output : Bool
+  pub stretch : Stretch
+  pub place : Place
+  pub is_open : Bool
+  pub inner : Option Task
+  pub outer : Option Task

@@ -1,0 +1,148 @@
+//! What the machine works on, and what a step leaves of it.
+ghost use Rattle.arrayvec.specs.ArrayVec.{array_vec_len};
+ghost use Rattle.std.specs.Prelude.{◌≡◌, ℕ, ◌+◌, ◌≤◌, ◌<◌, List, [], ◌∷◌, ◌++◌, length, IfSome, IfNone};
+ghost use Rattle.rustc_demangle.specs.Shares.{pushed, bound, bound_of, most_bound};
+ghost use Rattle.rustc_demangle.specs.Running.{printed};
+ghost use Rattle.rustc_demangle.specs.Serving.{only, going, entering, opening, resuming};
+ghost use Rattle.rustc_demangle.specs.Performing.{Done};
+
+use crate::v0::stretch::Stretch;
+use crate::v0::task::{Frame, Task, packed, unpacked};
+use arrayvec::ArrayVec;
+use std::marker::Model;
+
+/// The row of tasks that are left; contracts see the tasks, the one that goes first last.
+#[derive(Drop)]
+pub struct Row {
+    frames: ArrayVec<Frame, 4096>,
+}
+
+impl Model for Row {
+    ghost use Rattle.std.specs.Prelude.{List, map};
+    ghost use Rattle.rustc_demangle.specs.declared.v0.task.Task.{Task};
+    ghost use Rattle.rustc_demangle.specs.Frames.{unpacked};
+
+    ghost Value = { List Task };
+
+    ghost view = { λ row. map unpacked row.frames.items };
+}
+
+impl Row {
+    pub fn new() -> Self
+        ensures { result ≡ [] }
+    {
+        Row {
+            frames: ArrayVec::new(),
+        }
+    }
+
+    pub fn clear(&mut self)
+        ensures { self.new ≡ [] }
+    {
+        self.frames.clear();
+    }
+
+    pub fn push(&mut self, task: Task)
+        requires { length self.old < 4096 }
+        ensures pushed { bound task ≤ most_bound → self.new ≡ self.old ++ task ∷ [] }
+        ensures length { length self.new ≡ length self.old + 1 }
+    {
+        self.frames.push(packed(task));
+    }
+
+    fn push_some(&mut self, task: Option<Task>)
+        requires { length self.old < 4096 }
+        ensures pushed { bound_of task ≤ most_bound → self.new ≡ pushed self.old task }
+        ensures length { length self.new ≤ length self.old + 1 }
+    {
+        if let Some(task) = task {
+            self.push(task);
+        }
+    }
+
+    pub fn pop(&mut self) -> Option<Task>
+        ensures some { IfSome result (λ task. self.old ≡ self.new ++ task ∷ []) }
+        ensures none { IfNone result (self.old ≡ []) }
+        ensures same { IfNone result (self.new ≡ self.old) }
+    {
+        let frame = self.frames.pop()?;
+        Some(unpacked(frame))
+    }
+}
+
+/// What the machine works on: the tasks that are left, and where the last step left the reading.
+#[derive(Drop)]
+pub struct Work {
+    pub tasks: Row,
+    pub place: Option<usize>,
+    /// Of a dyn trait path that was read: whether its bracket is open.
+    pub is_open: bool,
+    /// What the last step handed over.
+    pub stretch: Stretch,
+}
+
+fn printed(output: bool, stretch: Stretch) -> Stretch
+    ensures { result ≡ printed output stretch }
+{
+    if output { stretch } else { Stretch::Nothing }
+}
+
+impl Work {
+    fn hand_over(&mut self, output: bool, stretch: Stretch, place: Option<usize>, is_open: bool)
+        ensures tasks { self.new.tasks ≡ self.old.tasks }
+        ensures place { self.new.place ≡ place }
+        ensures is_open { self.new.is_open ≡ is_open }
+        ensures stretch { self.new.stretch ≡ printed output stretch }
+    {
+        self.stretch = printed(output, stretch);
+        self.place = place;
+        self.is_open = is_open;
+    }
+
+    /// A step after which nothing is left of the task.
+    pub fn only(&mut self, output: bool, stretch: Stretch, place: Option<usize>)
+        ensures { Done self.old self.new (only output stretch place) }
+    {
+        self.hand_over(output, stretch, place, false);
+    }
+
+    /// A step after which the task goes on so.
+    pub fn going(&mut self, output: bool, stretch: Stretch, place: Option<usize>, rest: Task)
+        requires { length self.old.tasks ≤ 4008 }
+        ensures { Done self.old self.new (going output stretch place rest) }
+    {
+        self.tasks.push(rest);
+        self.hand_over(output, stretch, place, false);
+    }
+
+    /// A step that enters a unit.
+    pub fn entering(
+        &mut self,
+        output: bool,
+        stretch: Stretch,
+        place: Option<usize>,
+        unit: Task,
+        rest: Option<Task>,
+    )
+        requires { length self.old.tasks ≤ 4008 }
+        ensures { Done self.old self.new (entering output stretch place unit rest) }
+    {
+        self.tasks.push_some(rest);
+        self.tasks.push(unit);
+        self.hand_over(output, stretch, place, false);
+    }
+
+    /// A step behind which the bracket of a dyn trait path is open.
+    pub fn opening(&mut self, output: bool, place: Option<usize>)
+        ensures { Done self.old self.new (opening output place) }
+    {
+        self.hand_over(output, Stretch::Nothing, place, true);
+    }
+
+    /// A step that goes on at a place.
+    pub fn resuming(&mut self, place: usize, is_open: bool)
+        ensures { Done self.old self.new (resuming place is_open) }
+    {
+        self.hand_over(false, Stretch::Nothing, Some(place), is_open);
+    }
+}
