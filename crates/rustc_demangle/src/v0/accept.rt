@@ -7,7 +7,7 @@ ghost use Rattle.rustc_demangle.specs.Accepting.{looks_in, suffix_looks, accepti
 use crate::cursor::{Looks, MAX_DEPTH, Symbol};
 use crate::v0::grammar::Entry;
 use crate::v0::machine::{Machine, read_all};
-use crate::v0::task::{Setting, Task};
+use crate::v0::task::Setting;
 
 /// Where the path at a place ends, if one is spelled there.
 pub fn path_end(
@@ -25,7 +25,7 @@ pub fn path_end(
         value: true,
         lifetimes: 0,
     };
-    machine.begin(Task::Enter(Entry::Path, MAX_DEPTH as u16, setting), place);
+    machine.begin(Entry::Path, MAX_DEPTH as u16, setting, place);
     read_all(machine, symbol, looks)
 }
 

@@ -150,16 +150,21 @@ fn enter(
         Beginning::Faulty(mark) => work.only(output, Stretch::Fixed(mark), None),
         Beginning::Basic(mark, next) => work.only(output, Stretch::Fixed(mark), Some(next)),
         Beginning::Splats(is_marked, next) => {
-            let unit = Task::Enter(Entry::TaggedType, left, setting);
-            work.entering(output, splat(is_marked), Some(next), unit, None)
+            work.turning(
+                splat(is_marked),
+                Some(next),
+                Entry::TaggedType,
+                left,
+                setting,
+            )
         }
         Beginning::Starts(production, note, next) => {
-            let unit = Task::Rest(fresh(production, note, left - 1), setting);
-            work.entering(output, Stretch::Nothing, Some(next), unit, None)
+            let inside = fresh(production, note, left - 1);
+            work.starting(Stretch::Nothing, Some(next), inside, setting)
         }
         Beginning::Continues(production, next) => {
-            let unit = Task::Rest(fresh(production, 0, left), setting);
-            work.entering(output, Stretch::Nothing, next, unit, None)
+            let inside = fresh(production, 0, left);
+            work.starting(Stretch::Nothing, next, inside, setting)
         }
     }
 }
@@ -184,18 +189,25 @@ fn go_on(
     let Some(item) = item_at(progress) else {
         return work.only(output, Stretch::Nothing, place);
     };
-    let rest = Task::Rest(rest_of(progress), setting);
+    let rest = rest_of(progress);
     match item {
-        Item::Says(mark) => work.going(output, Stretch::Fixed(mark), place, rest),
+        Item::Says(mark) => work.going(Stretch::Fixed(mark), place, rest, setting),
         Item::Reads(word) => go_over(symbol, word, progress, setting, place, work, looks),
         Item::Namespace => go_into(symbol, progress, setting, place, work, looks),
         Item::Child(named, position) => {
-            let unit = Task::Enter(entry_of(named), left, placed(setting, position));
-            work.entering(output, Stretch::Nothing, place, unit, Some(rest))
+            let inside = placed(setting, position);
+            work.entering(
+                Stretch::Nothing,
+                place,
+                entry_of(named),
+                inside,
+                rest,
+                setting,
+            )
         }
         Item::Skips => {
-            let unit = Task::Enter(Entry::Path, left, skipping(setting));
-            work.entering(output, Stretch::Nothing, place, unit, Some(rest))
+            let inside = skipping(setting);
+            work.entering(Stretch::Nothing, place, Entry::Path, inside, rest, setting)
         }
         Item::Elements(entry, joint) => {
             go_along(symbol, entry, joint, progress, setting, place, work, looks)
@@ -208,9 +220,16 @@ fn go_on(
         Item::Binds => go_bound(symbol, progress, setting, place, work, looks),
         Item::Opens => work.opening(output, place),
         Item::Bindings => {
-            let unit = Task::Enter(Entry::TraitPath, left, placed(setting, Position::NoValue));
-            let told = Task::Rest(told_bindings(left), setting);
-            work.entering(output, Stretch::Nothing, place, unit, Some(told))
+            let inside = placed(setting, Position::NoValue);
+            let told = told_bindings(left);
+            work.entering(
+                Stretch::Nothing,
+                place,
+                Entry::TraitPath,
+                inside,
+                told,
+                setting,
+            )
         }
         Item::MoreBindings => {
             let is_open = takes(progress.count, is_open);
@@ -218,13 +237,9 @@ fn go_on(
         }
         Item::OpenBindings => go_binding(symbol, true, left, setting, place, work, looks),
         Item::Holds(entry) => {
-            let unit = Task::Enter(entry, left, setting);
-            work.entering(output, Stretch::Nothing, place, unit, Some(rest))
+            work.entering(Stretch::Nothing, place, entry, setting, rest, setting)
         }
-        Item::GoesOn(entry) => {
-            let unit = Task::Enter(entry, left, setting);
-            work.entering(output, Stretch::Nothing, place, unit, None)
-        }
+        Item::GoesOn(entry) => { work.turning(Stretch::Nothing, place, entry, left, setting) }
     }
 }
 
@@ -247,10 +262,7 @@ fn go_over(
     let output = setting.output;
     let lifetimes = setting.lifetimes;
     match read_word(symbol, word, progress.note, output, lifetimes, place, looks) {
-        WordRead::Goes(stretch, next) => {
-            let rest = Task::Rest(rest_of(progress), setting);
-            work.going(output, stretch, next, rest)
-        }
+        WordRead::Goes(stretch, next) => { work.going(stretch, next, rest_of(progress), setting) }
         WordRead::Stops(stretch) => work.only(output, stretch, None),
     }
 }
@@ -281,8 +293,7 @@ fn go_into(
         note,
         ..rest_of(progress)
     };
-    let rest = Task::Rest(noted, setting);
-    work.going(output, Stretch::Nothing, Some(next), rest)
+    work.going(Stretch::Nothing, Some(next), noted, setting)
 }
 
 /// A binder, whose lifetimes are in force from then on.
@@ -313,9 +324,8 @@ fn go_bound(
         lifetimes,
         ..setting
     };
-    let rest = Task::Rest(rest_of(progress), body);
     let stretch = Stretch::Binder(setting.lifetimes, number);
-    work.going(output, stretch, Some(next), rest)
+    work.going(stretch, Some(next), rest_of(progress), body)
 }
 
 /// What a list prints before its next element.
@@ -392,25 +402,17 @@ fn go_along(
     ensures serves { (o : Bool) → Performs symbol.now (Task.Rest progress setting) place o work.old work.new (looks.new - looks.old) }
     ensures grows { looks.old ≤ looks.new }
 {
-    let output = setting.output;
     if let Some(behind) = list_end(symbol, place, looks) {
         let stretch = ending(joint, progress.count);
-        let rest = Task::Rest(rest_of(progress), setting);
-        return work.going(output, stretch, behind, rest);
+        return work.going(stretch, behind, rest_of(progress), setting);
     }
     let stretch = separator(joint, progress.count);
     let more = Progress {
         count: one_more(progress.count),
         ..progress
     };
-    let unit = Task::Enter(entry, progress.left, element_setting(setting, entry));
-    work.entering(
-        output,
-        stretch,
-        place,
-        unit,
-        Some(Task::Rest(more, setting)),
-    )
+    let inside = element_setting(setting, entry);
+    work.entering(stretch, place, entry, inside, more, setting)
 }
 
 /// A back reference, which is followed where it is printed.
@@ -436,13 +438,9 @@ fn go_back(
             if !output {
                 return work.only(output, Stretch::Nothing, Some(next));
             }
-            let unit = Task::Enter(
-                entry_of(named),
-                progress.left - 1,
-                placed(setting, position),
-            );
-            let behind = Some(Task::Behind(next));
-            work.entering(output, Stretch::Nothing, Some(target), unit, behind)
+            let inside = placed(setting, position);
+            let left = progress.left - 1;
+            work.following(output, target, entry_of(named), left, inside, next)
         }
     }
 }
@@ -527,6 +525,5 @@ fn go_binding(
     if !symbol.is_at(b'p', at, looks) {
         return work.only(output, binding_end(is_open), Some(at));
     }
-    let name = Task::Rest(naming(left), setting);
-    work.going(output, binding_mark(is_open), Some(at + 1), name)
+    work.going(binding_mark(is_open), Some(at + 1), naming(left), setting)
 }

@@ -9,7 +9,7 @@ use crate::sink::{SinkRefused, SizeLimitedFmtAdapter, TextSink};
 use crate::v0::grammar::Entry;
 use crate::v0::machine::Machine;
 use crate::v0::render::render;
-use crate::v0::task::{Setting, Task};
+use crate::v0::task::Setting;
 
 /// Prints a symbol's first path, with its hash or without it.
 ///
@@ -33,7 +33,7 @@ fn print<S: TextSink>(
         value: true,
         lifetimes: 0,
     };
-    machine.begin(Task::Enter(Entry::Path, MAX_DEPTH as u16, setting), 0);
+    machine.begin(Entry::Path, MAX_DEPTH as u16, setting, 0);
     while let Some(stretch) = machine.step(symbol, looks) {
         render(symbol, stretch, include_hash, out, looks)?;
     }

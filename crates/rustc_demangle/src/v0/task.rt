@@ -1,7 +1,6 @@
 //! What the machine has still to do.
-ghost use Rattle.std.specs.Prelude.{◌≡◌, ◌^◌, ◌<◌, ◌≤◌};
+ghost use Rattle.std.specs.Prelude.{◌≡◌, ◌^◌, ◌<◌};
 ghost use Rattle.rustc_demangle.specs.Frames.{lights_of, stage_of, stage_behind, setting_of, unit_of, rest_in, unpacked};
-ghost use Rattle.rustc_demangle.specs.Shares.{bound, most_bound};
 
 use crate::v0::grammar::{Count, Entry, Production};
 use std::mem;
@@ -159,29 +158,39 @@ fn standing(setting: Setting) -> Frame
     }
 }
 
-/// The frame of a task.
-pub fn packed(task: Task) -> Frame
-    ensures { bound task ≤ most_bound → unpacked result ≡ task }
+/// The frame of a unit to enter.
+pub fn unit_frame(entry: Entry, left: u16, setting: Setting) -> Frame
+    ensures { setting.lifetimes < 2 ^ 78 → unpacked result ≡ Task.Enter entry left setting }
 {
-    match task {
-        Task::Enter(entry, left, setting) => Frame {
-            left,
-            stage: stage_of(entry),
-            ..standing(setting)
-        },
-        Task::Rest(progress, setting) => Frame {
-            left: progress.left,
-            stage: stage_behind(progress.count),
-            production: progress.production,
-            index: progress.index,
-            note: progress.note,
-            ..standing(setting)
-        },
-        Task::Behind(place) => Frame {
-            low: place as u64,
-            stage: Stage::Behind,
-            ..Frame::default()
-        },
+    Frame {
+        left,
+        stage: stage_of(entry),
+        ..standing(setting)
+    }
+}
+
+/// The frame of the rest of a production.
+pub fn rest_frame(progress: Progress, setting: Setting) -> Frame
+    ensures { setting.lifetimes < 2 ^ 78 → unpacked result ≡ Task.Rest progress setting }
+{
+    Frame {
+        left: progress.left,
+        stage: stage_behind(progress.count),
+        production: progress.production,
+        index: progress.index,
+        note: progress.note,
+        ..standing(setting)
+    }
+}
+
+/// The frame of a place to go on at.
+pub fn behind_frame(place: usize) -> Frame
+    ensures { unpacked result ≡ Task.Behind place }
+{
+    Frame {
+        low: place as u64,
+        stage: Stage::Behind,
+        ..Frame::default()
     }
 }
 

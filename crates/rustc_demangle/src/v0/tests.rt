@@ -10,7 +10,7 @@ use crate::v0::grammar::{Entry, text};
 use crate::v0::machine::Machine;
 use crate::v0::render::render;
 use crate::v0::stretch::Stretch;
-use crate::v0::task::{Setting, Task};
+use crate::v0::task::Setting;
 use std::test::Fail;
 
 /// Keeps the text that it took, and counts the nonempty pieces.
@@ -78,7 +78,7 @@ fn steps_print(inner: &str, wanted: &str) -> bool {
         lifetimes: 0,
     };
     let mut machine = Machine::new();
-    machine.begin(Task::Enter(Entry::Path, MAX_DEPTH as u16, setting), 0);
+    machine.begin(Entry::Path, MAX_DEPTH as u16, setting, 0);
     let mut sink = CountingSink::new();
     while let Some(stretch) = machine.step(&symbol, &mut looks) {
         let (from, pieces) = (sink.text.as_str().len(), sink.pieces);

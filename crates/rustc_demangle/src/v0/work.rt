@@ -1,13 +1,16 @@
 //! What the machine works on, and what a step leaves of it.
 ghost use Rattle.arrayvec.specs.ArrayVec.{array_vec_len};
-ghost use Rattle.std.specs.Prelude.{◌≡◌, ℕ, ◌+◌, ◌≤◌, ◌<◌, List, [], ◌∷◌, ◌++◌, length, IfSome, IfNone};
-ghost use Rattle.rustc_demangle.specs.Shares.{pushed, bound, bound_of, most_bound};
+ghost use Rattle.std.specs.Prelude.{◌≡◌, ℕ, Some, None, ◌+◌, ◌≤◌, ◌<◌, List, [], ◌∷◌, ◌++◌, length, IfSome, IfNone};
+ghost use Rattle.rustc_demangle.specs.Shares.{bound, most_bound};
 ghost use Rattle.rustc_demangle.specs.Running.{printed};
 ghost use Rattle.rustc_demangle.specs.Serving.{only, going, entering, opening, resuming};
 ghost use Rattle.rustc_demangle.specs.Performing.{Done};
 
+use crate::v0::grammar::Entry;
 use crate::v0::stretch::Stretch;
-use crate::v0::task::{Frame, Task, packed, unpacked};
+use crate::v0::task::{
+    Frame, Progress, Setting, Task, behind_frame, rest_frame, unit_frame, unpacked,
+};
 use arrayvec::ArrayVec;
 use std::marker::Model;
 
@@ -42,22 +45,27 @@ impl Row {
         self.frames.clear();
     }
 
-    pub fn push(&mut self, task: Task)
+    pub fn push_unit(&mut self, entry: Entry, left: u16, setting: Setting)
         requires { length self.old < 4096 }
-        ensures pushed { bound task ≤ most_bound → self.new ≡ self.old ++ task ∷ [] }
+        ensures pushed { bound (Task.Enter entry left setting) ≤ most_bound → self.new ≡ self.old ++ Task.Enter entry left setting ∷ [] }
         ensures length { length self.new ≡ length self.old + 1 }
     {
-        self.frames.push(packed(task));
+        self.frames.push(unit_frame(entry, left, setting));
     }
 
-    fn push_some(&mut self, task: Option<Task>)
+    fn push_rest(&mut self, progress: Progress, setting: Setting)
         requires { length self.old < 4096 }
-        ensures pushed { bound_of task ≤ most_bound → self.new ≡ pushed self.old task }
-        ensures length { length self.new ≤ length self.old + 1 }
+        ensures pushed { bound (Task.Rest progress setting) ≤ most_bound → self.new ≡ self.old ++ Task.Rest progress setting ∷ [] }
+        ensures length { length self.new ≡ length self.old + 1 }
     {
-        if let Some(task) = task {
-            self.push(task);
-        }
+        self.frames.push(rest_frame(progress, setting));
+    }
+
+    fn push_behind(&mut self, place: usize)
+        requires { length self.old < 4096 }
+        ensures { self.new ≡ self.old ++ Task.Behind place ∷ [] }
+    {
+        self.frames.push(behind_frame(place));
     }
 
     pub fn pop(&mut self) -> Option<Task>
@@ -106,30 +114,86 @@ impl Work {
         self.hand_over(output, stretch, place, false);
     }
 
-    /// A step after which the task goes on so.
-    pub fn going(&mut self, output: bool, stretch: Stretch, place: Option<usize>, rest: Task)
-        requires { length self.old.tasks ≤ 4008 }
-        ensures { Done self.old self.new (going output stretch place rest) }
-    {
-        self.tasks.push(rest);
-        self.hand_over(output, stretch, place, false);
-    }
-
-    /// A step that enters a unit.
-    pub fn entering(
+    /// A step after which the production goes on so.
+    pub fn going(
         &mut self,
-        output: bool,
         stretch: Stretch,
         place: Option<usize>,
-        unit: Task,
-        rest: Option<Task>,
+        rest: Progress,
+        setting: Setting,
     )
         requires { length self.old.tasks ≤ 4008 }
-        ensures { Done self.old self.new (entering output stretch place unit rest) }
+        ensures { Done self.old self.new (going setting.output stretch place (Task.Rest rest setting)) }
     {
-        self.tasks.push_some(rest);
-        self.tasks.push(unit);
-        self.hand_over(output, stretch, place, false);
+        self.tasks.push_rest(rest, setting);
+        self.hand_over(setting.output, stretch, place, false);
+    }
+
+    /// A step after which a production takes the place of the task.
+    pub fn starting(
+        &mut self,
+        stretch: Stretch,
+        place: Option<usize>,
+        progress: Progress,
+        setting: Setting,
+    )
+        requires { length self.old.tasks ≤ 4008 }
+        ensures { Done self.old self.new (entering setting.output stretch place (Task.Rest progress setting) None) }
+    {
+        self.tasks.push_rest(progress, setting);
+        self.hand_over(setting.output, stretch, place, false);
+    }
+
+    /// A step after which a unit takes the place of the task.
+    pub fn turning(
+        &mut self,
+        stretch: Stretch,
+        place: Option<usize>,
+        entry: Entry,
+        left: u16,
+        setting: Setting,
+    )
+        requires { length self.old.tasks ≤ 4008 }
+        ensures { Done self.old self.new (entering setting.output stretch place (Task.Enter entry left setting) None) }
+    {
+        self.tasks.push_unit(entry, left, setting);
+        self.hand_over(setting.output, stretch, place, false);
+    }
+
+    /// A step that enters a unit, behind which the production goes on so.
+    pub fn entering(
+        &mut self,
+        stretch: Stretch,
+        place: Option<usize>,
+        entry: Entry,
+        inside: Setting,
+        rest: Progress,
+        setting: Setting,
+    )
+        requires { length self.old.tasks ≤ 4008 }
+        ensures { Done self.old self.new (entering setting.output stretch place (Task.Enter entry rest.left inside) (Some (Task.Rest rest setting))) }
+    {
+        self.tasks.push_rest(rest, setting);
+        self.tasks.push_unit(entry, rest.left, inside);
+        self.hand_over(setting.output, stretch, place, false);
+    }
+
+    /// A step that enters the target of a reference, behind which the reading goes on at a place.
+    pub fn following(
+        &mut self,
+        output: bool,
+        target: usize,
+        entry: Entry,
+        left: u16,
+        inside: Setting,
+        behind: usize,
+    )
+        requires { length self.old.tasks ≤ 4008 }
+        ensures { Done self.old self.new (entering output Stretch.Nothing (Some target) (Task.Enter entry left inside) (Some (Task.Behind behind))) }
+    {
+        self.tasks.push_behind(behind);
+        self.tasks.push_unit(entry, left, inside);
+        self.hand_over(output, Stretch::Nothing, Some(target), false);
     }
 
     /// A step behind which the bracket of a dyn trait path is open.

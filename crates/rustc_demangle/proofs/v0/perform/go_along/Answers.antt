@@ -9,4 +9,4 @@ returns-in-Some-clause-serves c = λ o.
 
 pub returns-clause-serves : goal.returns-clause-serves
 returns-clause-serves c = λ o.
-    performs _ _ _ _ _ _ _ _ c.entering.ensures (rw (c.separator-stretch.ensures, c.one_more.ensures, c.element_setting.ensures) (move_list_on _ _ _ _ o _ _ _ c.requires.head c.requires.element c.requires.left c.in_default.ensures.value (omega (arith, c.in_default.ensures.looks))))
+    performs _ _ _ _ _ _ _ _ c.entering.ensures (rw (c.separator-stretch.ensures, c.one_more.ensures, c.element_setting-inside.ensures) (move_list_on _ _ _ _ o _ _ _ c.requires.head c.requires.element c.requires.left c.in_default.ensures.value (omega (arith, c.in_default.ensures.looks))))

@@ -12,4 +12,4 @@ returns-then-not-output-clause-serves c = λ o.
 
 pub returns-else-not-output-clause-serves : goal.returns-else-not-output-clause-serves
 returns-else-not-output-clause-serves c = λ o.
-    performs _ _ _ _ _ _ _ _ c.entering.ensures (rw (c.entry_of.ensures, c.placed.ensures) (refers_shown _ _ _ _ o _ _ _ _ _ c.requires.head c.in-Target.ensures.value (omega (arith, c.in-Target.ensures.looks)) c.if-not-output.false c.in-Target.ensures.deep))
+    performs _ _ _ _ _ _ _ _ c.following.ensures (rw (c.entry_of.ensures, c.placed-inside.ensures) (refers_shown _ _ _ _ o _ _ _ _ _ c.requires.head c.in-Target.ensures.value (omega (arith, c.in-Target.ensures.looks)) c.if-not-output.false c.in-Target.ensures.deep))

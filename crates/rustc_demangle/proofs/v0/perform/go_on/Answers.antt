@@ -13,19 +13,19 @@ pub go_along-requires-clause-element : goal.go_along-requires-clause-element
 go_along-requires-clause-element c = head_element c.args.progress c.in-Elements.entry c.in-Elements.joint (rw c.in-Elements.is at c.in-Some.ensures.some)
 
 pub returns-in-Says-clause-serves : goal.returns-in-Says-clause-serves
-returns-in-Says-clause-serves c = performs _ _ _ _ _ _ _ _ c.going.ensures (rw c.rest_of.ensures (move_says _ _ _ _ _ _ _ (rw c.in-Says.is at c.in-Some.ensures.some) (omega arith)))
+returns-in-Says-clause-serves c = performs _ _ _ _ _ _ _ _ c.going.ensures (rw c.rest_of-rest.ensures (move_says _ _ _ _ _ _ _ (rw c.in-Says.is at c.in-Some.ensures.some) (omega arith)))
 
 pub returns-in-Child-clause-serves : goal.returns-in-Child-clause-serves
-returns-in-Child-clause-serves c = performs _ _ _ _ _ _ _ _ c.entering.ensures (rw (c.rest_of.ensures, c.entry_of.ensures, c.placed.ensures) (move_child _ _ _ _ _ _ _ _ (rw c.in-Child.is at c.in-Some.ensures.some) (omega arith)))
+returns-in-Child-clause-serves c = performs _ _ _ _ _ _ _ _ c.entering.ensures (rw (c.rest_of-rest.ensures, c.entry_of.ensures, c.placed-inside.ensures) (move_child _ _ _ _ _ _ _ _ (rw c.in-Child.is at c.in-Some.ensures.some) (omega arith)))
 
 pub returns-in-Skips-clause-serves : goal.returns-in-Skips-clause-serves
-returns-in-Skips-clause-serves c = performs _ _ _ _ _ _ _ _ c.entering-in-Skips.ensures (rw (c.rest_of.ensures, c.skipping.ensures) (move_skip _ _ _ _ _ _ (rw c.in-Skips.is at c.in-Some.ensures.some) (omega arith)))
+returns-in-Skips-clause-serves c = performs _ _ _ _ _ _ _ _ c.entering-in-Skips.ensures (rw (c.rest_of-rest.ensures, c.skipping-inside.ensures) (move_skip _ _ _ _ _ _ (rw c.in-Skips.is at c.in-Some.ensures.some) (omega arith)))
 
 pub returns-in-Opens-clause-serves : goal.returns-in-Opens-clause-serves
 returns-in-Opens-clause-serves c = performs _ _ _ _ _ _ _ _ c.opening.ensures (move_opens _ _ _ _ _ _ (rw c.in-Opens.is at c.in-Some.ensures.some) (omega arith))
 
 pub returns-in-Bindings-clause-serves : goal.returns-in-Bindings-clause-serves
-returns-in-Bindings-clause-serves c = performs _ _ _ _ _ _ _ _ c.entering-in-Bindings.ensures (rw (c.told_bindings.ensures, c.placed-in-Bindings.ensures) (move_bindings _ _ _ _ _ _ (rw c.in-Bindings.is at c.in-Some.ensures.some) (omega arith)))
+returns-in-Bindings-clause-serves c = performs _ _ _ _ _ _ _ _ c.entering-in-Bindings.ensures (rw (c.told_bindings-told.ensures, c.placed-inside-in-Bindings.ensures) (move_bindings _ _ _ _ _ _ (rw c.in-Bindings.is at c.in-Some.ensures.some) (omega arith)))
 
 pub returns-in-MoreBindings-clause-serves : goal.returns-in-MoreBindings-clause-serves
 returns-in-MoreBindings-clause-serves c = c.go_binding.ensures.serves _ _ (rw c.takes-is_open.ensures (is_more _ _ _ _ (rw c.in-MoreBindings.is at c.in-Some.ensures.some)))
@@ -34,7 +34,7 @@ pub returns-in-OpenBindings-clause-serves : goal.returns-in-OpenBindings-clause-
 returns-in-OpenBindings-clause-serves c = c.go_binding-in-OpenBindings.ensures.serves _ _ (is_open_on _ _ _ _ (rw c.in-OpenBindings.is at c.in-Some.ensures.some))
 
 pub returns-in-Holds-clause-serves : goal.returns-in-Holds-clause-serves
-returns-in-Holds-clause-serves c = performs _ _ _ _ _ _ _ _ c.entering-in-Holds.ensures (rw c.rest_of.ensures (move_held _ _ _ _ _ _ _ (rw c.in-Holds.is at c.in-Some.ensures.some) (omega arith)))
+returns-in-Holds-clause-serves c = performs _ _ _ _ _ _ _ _ c.entering-in-Holds.ensures (rw c.rest_of-rest.ensures (move_held _ _ _ _ _ _ _ (rw c.in-Holds.is at c.in-Some.ensures.some) (omega arith)))
 
 pub returns-in-GoesOn-clause-serves : goal.returns-in-GoesOn-clause-serves
-returns-in-GoesOn-clause-serves c = performs _ _ _ _ _ _ _ _ c.entering-in-GoesOn.ensures (move_tail _ _ _ _ _ _ _ (rw c.in-GoesOn.is at c.in-Some.ensures.some) (omega arith))
+returns-in-GoesOn-clause-serves c = performs _ _ _ _ _ _ _ _ c.turning.ensures (move_tail _ _ _ _ _ _ _ (rw c.in-GoesOn.is at c.in-Some.ensures.some) (omega arith))

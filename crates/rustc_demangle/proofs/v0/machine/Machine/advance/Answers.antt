@@ -3,7 +3,7 @@ use Rattle.rustc_demangle.proofs.Hearing.{has_room_top, has_room_below, has_room
 use Rattle.rustc_demangle.proofs.Performed.{performed_room, performed_step}
 use Rattle.std.proofs.Common.{arith}
 use Rattle.rustc_demangle.specs.FirstLooks.{first_looks}
-use Rattle.rustc_demangle.proofs.v0.machine.Machine.step.Goals as goal
+use Rattle.rustc_demangle.proofs.v0.machine.Machine.advance.Goals as goal
 
 pub perform-requires-clause-room : goal.perform-requires-clause-room
 perform-requires-clause-room c = has_room_length 4008 c.pop.new.self (has_room_below 4008 c.pop.new.self c.in_ok-task.task (rw c.in_ok-task.ensures.some at c.args.self.now.room))
