@@ -71,3 +71,16 @@ pub fn shortened(alloc: Global, text: &[u8]) -> Result<Vec<u8>, AllocError> {
     let digest = hex::encode(alloc, Sha256::digest(text))?;
     Ok(format!(in alloc; "#len={len} sha256={digest}")?.into_bytes())
 }
+
+/// The escaped pieces, with `\|` between.
+pub fn joined(alloc: Global, pieces: &[String]) -> Result<Vec<u8>, AllocError> {
+    let mut column = Vec::new(alloc);
+    for (number, piece) in pieces.iter().enumerate() {
+        if number > 0 {
+            column.extend_from_slice(b"\\|")?;
+        }
+        let piece = escaped(alloc, piece.as_str().as_bytes())?;
+        column.extend_from_slice(piece.as_slice())?;
+    }
+    Ok(column)
+}

@@ -1,10 +1,8 @@
 //! The library's answers beside those of a corpus.
 ghost use Rattle.std.specs.Prelude.{◌≤◌, IfOk};
 
-use crate::case::{Answers, Case};
-use crate::column::{escaped, shortened};
-use rustc_demangle::sink::WriteSink;
-use rustc_demangle::{Demangle, demangle, try_demangle};
+use crate::answers::{answers_of, limited_forms, pieces_forms};
+use crate::case::{Answers, Case, Forms, Wanted};
 use std::alloc::{AllocError, Global};
 use std::io::{BufRead, ErrorKind, Write};
 use std::{fmt, io};
@@ -48,43 +46,6 @@ impl fmt::Display for Counts {
     }
 }
 
-/// What a symbol prints.
-fn printed(
-    alloc: Global,
-    symbol: &Demangle<'_>,
-    include_hash: bool,
-) -> Result<Vec<u8>, AllocError> {
-    let mut text = Vec::new(alloc);
-    let mut sink = WriteSink::new(&mut text);
-    let _ = symbol.write_to(&mut sink, include_hash);
-    // A writer into memory fails for want of memory alone.
-    match sink.into_fault() {
-        Some(_) => Err(AllocError),
-        None => Ok(text),
-    }
-}
-
-/// What the library says of a text.
-fn answers(alloc: Global, text: &str) -> Result<Answers<Vec<u8>>, AllocError> {
-    let symbol = demangle(text);
-    let status: &[u8] = if try_demangle(text).is_ok() {
-        b"OK"
-    } else {
-        b"ERR"
-    };
-    let as_str = if symbol.as_str() == text {
-        "="
-    } else {
-        symbol.as_str()
-    };
-    Ok(Answers {
-        status: Vec::from_slice(alloc, status)?,
-        as_str: escaped(alloc, as_str.as_bytes())?,
-        plain: shortened(alloc, printed(alloc, &symbol, true)?.as_slice())?,
-        alt: shortened(alloc, printed(alloc, &symbol, false)?.as_slice())?,
-    })
-}
-
 /// Writes a difference in a column, if there is one, and answers how many there are.
 fn compare<W: Write>(
     column: &str,
@@ -106,8 +67,22 @@ fn compare<W: Write>(
     Ok(1)
 }
 
-/// Writes the differences of a line, and answers how many there are.
-fn compare_all<W: Write>(
+/// Writes the differences in what is printed, and answers how many there are.
+fn compare_forms<W: Write>(
+    line: u64,
+    wanted: &Forms<&[u8]>,
+    got: &Forms<Vec<u8>>,
+    output: &mut W,
+) -> io::Result<u64>
+    ensures { IfOk result (λ n. n ≤ 2) }
+{
+    let plain = compare("plain", line, wanted.plain, got.plain.as_slice(), output)?;
+    let alt = compare("alt", line, wanted.alt, got.alt.as_slice(), output)?;
+    Ok(plain + alt)
+}
+
+/// Writes the differences in what every call answers, and answers how many there are.
+fn compare_answers<W: Write>(
     line: u64,
     wanted: &Answers<&[u8]>,
     got: &Answers<Vec<u8>>,
@@ -117,9 +92,8 @@ fn compare_all<W: Write>(
 {
     let status = compare("status", line, wanted.status, got.status.as_slice(), output)?;
     let as_str = compare("as_str", line, wanted.as_str, got.as_str.as_slice(), output)?;
-    let plain = compare("plain", line, wanted.plain, got.plain.as_slice(), output)?;
-    let alt = compare("alt", line, wanted.alt, got.alt.as_slice(), output)?;
-    Ok(status + as_str + plain + alt)
+    let printed = compare_forms(line, &wanted.printed, &got.printed, output)?;
+    Ok(status + as_str + printed)
 }
 
 /// Asks the library about a line, writes each difference, and answers how many there are.
@@ -135,8 +109,19 @@ fn check_line<W: Write>(
         writeln!(output, "line {number} can't be read").map_err(|_| CorpusFault::Write)?;
         return Ok(1);
     };
-    let got = answers(alloc, case.text.as_str())?;
-    compare_all(number, &case.wanted, &got, output).map_err(|_| CorpusFault::Write)
+    let text = case.text.as_str();
+    let differences = match &case.wanted {
+        Wanted::Answers(wanted) => {
+            compare_answers(number, wanted, &answers_of(alloc, text)?, output)
+        }
+        Wanted::Limited(limit, wanted) => {
+            compare_forms(number, wanted, &limited_forms(alloc, text, *limit)?, output)
+        }
+        Wanted::Pieces(wanted) => {
+            compare_forms(number, wanted, &pieces_forms(alloc, text)?, output)
+        }
+    };
+    differences.map_err(|_| CorpusFault::Write)
 }
 
 /// What an error in reading means.

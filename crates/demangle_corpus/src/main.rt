@@ -1,9 +1,11 @@
 //! Compares the library's answers with those of the Rust crate, which stand on standard input.
 #![tactic(auto)]
 
+mod answers;
 mod case;
 mod column;
 mod corpus;
+mod pieces_sink;
 #[cfg(test)]
 mod tests;
 

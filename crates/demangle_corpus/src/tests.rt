@@ -11,6 +11,13 @@ _ZN3fooE.llvm.AB\tOK\t_ZN3fooE\tfoo\tfoo
 foo.llvm.AB\tERR\tfoo\tfoo\tfoo
 \tERR\t=\t\t
 _ZN3foo17h05af221e174051e9E\tOK\t=\tfoo::h05af221e174051e9\tfoo
+\\limit\t_ZN3foo17h05af221e174051e9E\t3\tfoo{size limit reached}\tfoo
+\\limit\t_ZN1\\\\E.x\t00\t{size limit reached}.x\t{size limit reached}.x
+\\limit\tfoo\t0\tfoo\tfoo
+\\pieces\t_ZN3foo17h05af221e174051e9E.x\tfoo\\|::\\|h05af221e174051e9\\|.x\tfoo\\|.x
+\\pieces\t_ZN7a\\\\$u7c$E\ta\\\\\\||\ta\\\\\\||
+\\pieces\tfoo\tfoo\tfoo
+\\pieces\t_ZN0E\t\t
 ";
 
 /// What stands in a column for 2,001 times `a`.
@@ -31,8 +38,8 @@ fn agreeing_lines_are_counted(rt: HostRuntime) -> Result<(), Fail> {
     let counts = corpus_run(alloc, &mut input, &mut output)
         .ok()
         .ok_or("fault")?;
-    assert_eq!(rt; output.as_slice(), b"8 lines, 0 differences\n".as_slice());
-    assert_eq!(rt; counts.lines, 8);
+    assert_eq!(rt; output.as_slice(), b"15 lines, 0 differences\n".as_slice());
+    assert_eq!(rt; counts.lines, 15);
     assert_eq!(rt; counts.differences, 0);
     Ok(())
 }
@@ -44,7 +51,7 @@ fn differences_are_written(rt: HostRuntime) -> Result<(), Fail> {
 _ZN3fooE\tERR\tfoo\tbar\t
 _ZN3fooE\tOK\t=\tfoo
 _ZN1\\xE\tOK\t=\tx\tx
-\\limit\t_ZN3fooE\t0\tfoo\tfoo
+\\limits\t_ZN3fooE\t0\tfoo\tfoo
 _ZN1aE\tOK\t=\ta\tb";
     let mut output = Vec::new(alloc);
     let counts = corpus_run(alloc, &mut input, &mut output)
@@ -72,6 +79,39 @@ line 6: alt
 ";
     assert_eq!(rt; output.as_slice(), wanted);
     assert_eq!(rt; counts.differences, 8);
+    Ok(())
+}
+
+#[test]
+fn differences_of_limits_and_pieces_are_written(rt: HostRuntime) -> Result<(), Fail> {
+    let alloc = rt.alloc();
+    let mut input: &[u8] = b"\\limit\t_ZN1aE\t0\ta\t{size limit reached}
+\\limit\t_ZN1aE\tx\ta\ta
+\\limit\t_ZN1aE\t0\ta
+\\pieces\t_ZN1a1bE\ta\\|::b\ta::\\|b
+\\pieces\t_ZN1\\xE\tx\tx
+\\pieces\t_ZN1aE\ta";
+    let mut output = Vec::new(alloc);
+    let counts = corpus_run(alloc, &mut input, &mut output)
+        .ok()
+        .ok_or("fault")?;
+    let wanted: &[u8] = b"line 1: plain
+  wanted a
+  got    {size limit reached}
+line 2 can't be read
+line 3 can't be read
+line 4: plain
+  wanted a\\|::b
+  got    a\\|::\\|b
+line 4: alt
+  wanted a::\\|b
+  got    a\\|::\\|b
+line 5 can't be read
+line 6 can't be read
+6 lines, 7 differences
+";
+    assert_eq!(rt; output.as_slice(), wanted);
+    assert_eq!(rt; counts.differences, 7);
     Ok(())
 }
 

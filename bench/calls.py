@@ -1,0 +1,289 @@
+#!/usr/bin/env python3
+"""Measures single calls of the library: nanoseconds, and bytes of stack.
+
+usage: calls.py [--keep FOLDER] [--jobs N]
+
+It makes a copy of crates/rustc_demangle outside the repository (in FOLDER, which is not there before and stays, or in a
+temporary one), with its folder out, and beside it a program that makes one call as many times as it is told, and
+builds that by `rt run` (with N jobs if said). Each call stands in a function that
+is not inlined, and is given one of two equal texts in turn, so that no turn can be left out.
+
+Nanoseconds: the program runs with k turns and with 10 k, and the difference of the seconds (each the best of five runs) is
+divided by 9 k; what turns without a call take is taken off. Printing has the making of its empty sink in it. The symbols are the
+legacy one and the v0 one of middle length of those that crates/demangle_corpus/stdin has from libraries and programs. "A
+row" is the smallest v0 symbol, less a text that is refused before its first path: what is left is the making of one row of tasks,
+and a few steps over it.
+
+Bytes of stack: `valgrind --tool=drd --show-stack-usage=yes` over one turn, less those of a turn without a call. What a call is
+handed (the text, the value, the sink) is not counted. The calls are made below an array of 512 KB, so that what was called
+before, to make the value that is printed, does not count.
+"""
+import argparse, os, re, shutil, subprocess, sys, tempfile, time
+
+import hostile
+
+CORPUS = os.path.join(hostile.ROOT, 'crates', 'demangle_corpus', 'stdin')
+TIMED = ['try_demangle', 'write_to, ArraySink<1024>']
+CALLS = ['nothing', 'try_demangle', 'demangle', 'demangle_counted', 'write_to, ArraySink<1024>', 'write_counted, ArraySink<1024>',
+         'write_limited, ArraySink<1024>', 'write_limited_counted, ArraySink<1024>', 'write_to, WriteSink', 'Display', 'Debug',
+         'demangle_stream', 'demangle_stream_named']
+# At least so many seconds for the longer run.
+LONG = 0.5
+
+PROGRAM = '''//! Makes a call of the library, as often as it is told.
+#![tactic(auto)]
+
+ghost use Rattle.std.specs.Prelude.{◌≡◌, false, ◌<◌};
+
+use rustc_demangle::sink::{ArraySink, TextSink, WriteSink};
+use rustc_demangle::{Demangle, Looks};
+use std::alloc::{AllocError, Global};
+use std::env;
+use std::io;
+use std::io::{BufRead, BufReader};
+use std::process::ExitCode;
+
+const PAD: usize = 524288;
+
+#[inline(never)]
+fn call_try_demangle(text: &str) -> usize {
+    if rustc_demangle::try_demangle(text).is_ok() { 1 } else { 0 }
+}
+
+#[inline(never)]
+fn call_demangle<'a>(text: &'a str) -> Demangle<'a> {
+    rustc_demangle::demangle(text)
+}
+
+#[inline(never)]
+fn call_demangle_counted<'a>(text: &'a str) -> Demangle<'a> {
+    rustc_demangle::demangle_counted(text, &mut Looks::new())
+}
+
+#[inline(never)]
+fn call_write_to<S: TextSink>(symbol: &Demangle<'_>, sink: &mut S) -> usize
+    requires { S.failed sink.old ≡ false }
+{
+    if symbol.write_to(sink, true).is_ok() { 1 } else { 0 }
+}
+
+#[inline(never)]
+fn call_write_counted<S: TextSink>(symbol: &Demangle<'_>, sink: &mut S) -> usize
+    requires { S.failed sink.old ≡ false }
+{
+    if symbol.write_counted(sink, true, &mut Looks::new()).is_ok() { 1 } else { 0 }
+}
+
+#[inline(never)]
+fn call_write_limited<S: TextSink>(symbol: &Demangle<'_>, sink: &mut S) -> usize
+    requires { S.failed sink.old ≡ false }
+{
+    if symbol.write_limited(sink, true, 1000).is_ok() { 1 } else { 0 }
+}
+
+#[inline(never)]
+fn call_write_limited_counted<S: TextSink>(symbol: &Demangle<'_>, sink: &mut S) -> usize
+    requires { S.failed sink.old ≡ false }
+{
+    if symbol.write_limited_counted(sink, true, 1000, &mut Looks::new()).is_ok() { 1 } else { 0 }
+}
+
+#[inline(never)]
+fn call_display(symbol: &Demangle<'_>, text: &mut String) -> usize {
+    if write!(text, "{symbol}").is_ok() { 1 } else { 0 }
+}
+
+#[inline(never)]
+fn call_debug(symbol: &Demangle<'_>, text: &mut String) -> usize {
+    if write!(text, "{symbol:?}").is_ok() { 1 } else { 0 }
+}
+
+#[inline(never)]
+fn call_demangle_stream(alloc: Global, input: &mut &[u8], output: &mut Vec<u8>) -> usize {
+    if rustc_demangle::demangle_stream(alloc, input, output, true).is_ok() { 1 } else { 0 }
+}
+
+#[inline(never)]
+fn call_demangle_stream_named(alloc: Global, input: &mut &[u8], output: &mut Vec<u8>) -> usize {
+    if rustc_demangle::demangle_stream_named(alloc, input, output, true).is_ok() { 1 } else { 0 }
+}
+
+// One turn of a call that prints a symbol.
+fn print(alloc: Global, call: usize, symbol: &Demangle<'_>) -> usize {
+    let mut sink: ArraySink<1024> = ArraySink::new();
+    let mut text = String::new(alloc);
+    let done = match call {
+        4 => call_write_to(symbol, &mut sink),
+        5 => call_write_counted(symbol, &mut sink),
+        6 => call_write_limited(symbol, &mut sink),
+        7 => call_write_limited_counted(symbol, &mut sink),
+        9 => call_display(symbol, &mut text),
+        _ => call_debug(symbol, &mut text),
+    };
+    done.wrapping_add(sink.as_str().len()).wrapping_add(text.len())
+}
+
+// One turn of a call that writes into memory.
+fn write(alloc: Global, call: usize, text: &str, symbol: &Demangle<'_>) -> usize {
+    let mut output = Vec::new(alloc);
+    let mut input = text.as_bytes();
+    let done = match call {
+        8 => call_write_to(symbol, &mut WriteSink::new(&mut output)),
+        11 => call_demangle_stream(alloc, &mut input, &mut output),
+        _ => call_demangle_stream_named(alloc, &mut input, &mut output),
+    };
+    done.wrapping_add(output.len())
+}
+
+// One turn.
+fn turn(alloc: Global, call: usize, text: &str, symbol: &Demangle<'_>) -> usize {
+    match call {
+        0 => text.len(),
+        1 => call_try_demangle(text),
+        2 => call_demangle(text).as_str().len(),
+        3 => call_demangle_counted(text).as_str().len(),
+        4..=7 | 9..=10 => print(alloc, call, symbol),
+        _ => write(alloc, call, text, symbol),
+    }
+}
+
+#[inline(never)]
+fn filled(pad: &mut [u8], turns: usize) {
+    for byte in pad.iter_mut() {
+        *byte = (turns & 255) as u8;
+    }
+}
+
+#[inline(never)]
+fn some_of(pad: &[u8], turns: usize) -> usize {
+    pad.get(turns).copied().map_or(0, usize::from)
+}
+
+#[inline(never)]
+fn turns_of<'s>(alloc: Global, call: usize, turns: usize, one: &'s Demangle<'s>, two: &'s Demangle<'s>) -> usize {
+    let mut pad = [0; PAD];
+    filled(pad.as_mut_slice(), turns);
+    let mut done: usize = 0;
+    for at in 0..turns {
+        let symbol = if at % 2 == 0 { one } else { two };
+        done = done.wrapping_add(turn(alloc, call, symbol.as_str(), symbol));
+    }
+    done.wrapping_add(some_of(pad.as_slice(), turns))
+}
+
+fn run(rt: &HostRuntime) -> io::Result<usize> {
+    let alloc = rt.alloc();
+    let words = env::args(rt)?.collect::<Vec<String>>(alloc)?;
+    let [_, call, turns] = words.as_slice() else {
+        return Ok(0);
+    };
+    let (Ok(call), Ok(turns)) = (call.as_str().parse::<usize>(), turns.as_str().parse::<usize>()) else {
+        return Ok(0);
+    };
+    let input = BufReader::new(alloc, rt.stdin().lock())?;
+    let mut texts = Vec::new(alloc);
+    for line in input.lines(alloc) {
+        texts.push(line?)?;
+    }
+    let [one, two] = texts.as_slice() else {
+        return Ok(0);
+    };
+    Ok(turns_of(alloc, call, turns, &call_demangle(one.as_str()), &call_demangle(two.as_str())))
+}
+
+fn main(rt: HostRuntime) -> ExitCode {
+    match run(&rt) {
+        Ok(done) => {
+            let _ = println!(rt; "{done}");
+            ExitCode::from(0)
+        }
+        Err(_) => ExitCode::from(1),
+    }
+}
+'''
+
+
+def built(folder, jobs):
+    """Makes the program, and answers its path."""
+    program = os.path.join(folder, 'crates', 'calls')
+    os.makedirs(os.path.join(program, 'src'))
+    library = os.path.join('crates', 'rustc_demangle')
+    shutil.copytree(os.path.join(hostile.ROOT, library), os.path.join(folder, library), ignore=shutil.ignore_patterns('must-fail'))
+    with open(os.path.join(program, 'src', 'main.rt'), 'w') as file:
+        file.write(PROGRAM)
+    with open(os.path.join(hostile.ROOT, 'crates.txt')) as file:
+        libraries = [line for line in file if line.startswith('rustc_demangle:')]
+    with open(os.path.join(folder, 'crates.txt'), 'w') as file:
+        file.write('calls: rustc_demangle\n' + ''.join(libraries))
+    words = ['rt', 'run'] + (['--jobs', str(jobs)] if jobs else [])
+    build = subprocess.run(words, cwd=program, stdin=subprocess.DEVNULL, stdout=subprocess.PIPE, stderr=subprocess.STDOUT, encoding='utf-8')
+    if build.returncode != 0:
+        sys.exit('rt run ended with status %d\n%s' % (build.returncode, build.stdout))
+    return os.path.join(program, 'out', 'calls')
+
+
+def middle(prefix, lines):
+    """The accepted symbol of middle length of these lines of the corpus."""
+    fields = [line.split('\t') for line in lines]
+    found = sorted((field[0] for field in fields if field[1] == 'OK' and field[0].startswith(prefix)), key=len)
+    return found[len(found) // 2]
+
+
+def typical():
+    with open(CORPUS, encoding='utf-8', newline='\n') as file:
+        lines = file.read().split('\n')
+    return middle('_ZN', lines[:500]), middle('_R', lines[800:1700])
+
+
+def seconds(words, text):
+    best = None
+    for _ in range(5):
+        began = time.perf_counter()
+        subprocess.run(words, input=text, stdout=subprocess.DEVNULL, check=True)
+        took = time.perf_counter() - began
+        best = took if best is None else min(best, took)
+    return best
+
+
+def nanoseconds(program, call, symbol):
+    """What a turn takes, with its loop."""
+    text = (symbol + '\n').encode() * 2
+    turns = 100
+    while seconds([program, str(CALLS.index(call)), str(10 * turns)], text) < LONG:
+        turns *= 3
+    few, many = (seconds([program, str(CALLS.index(call)), str(count)], text) for count in (turns, 10 * turns))
+    return (many - few) / (9 * turns) * 1e9
+
+
+def stack(program, call, symbol):
+    text = (symbol + '\n').encode() * 2
+    words = ['valgrind', '--tool=drd', '--show-stack-usage=yes', program, str(CALLS.index(call)), '1']
+    run = subprocess.run(words, input=text, stdout=subprocess.DEVNULL, stderr=subprocess.PIPE, check=True)
+    return int(re.search(rb'thread 1 finished and used (\d+) bytes', run.stderr).group(1))
+
+
+def main():
+    words = argparse.ArgumentParser(description=__doc__, formatter_class=argparse.RawDescriptionHelpFormatter)
+    words.add_argument('--keep', metavar='FOLDER')
+    words.add_argument('--jobs', type=int, metavar='N')
+    given = words.parse_args()
+    legacy, v0 = typical()
+    with tempfile.TemporaryDirectory() as temporary:
+        program = built(given.keep or temporary, given.jobs)
+        empty = nanoseconds(program, 'nothing', legacy)
+        print('legacy: `%s`\n\nv0: `%s`\n' % (legacy, v0))
+        print('| nanoseconds | legacy | v0 |\n| --- | ---: | ---: |')
+        for call in TIMED:
+            print('| %s | ' % call + ' | '.join('{:,.0f}'.format(nanoseconds(program, call, symbol) - empty) for symbol in (legacy, v0)) + ' |', flush=True)
+        row = nanoseconds(program, 'try_demangle', '_RC0') - nanoseconds(program, 'try_demangle', '_R0')
+        print('| a row | - | {:,.0f} |\n'.format(row), flush=True)
+        symbols = (legacy, v0, hostile.doubling(17))
+        without = [stack(program, 'nothing', symbol) for symbol in symbols]
+        print('| bytes of stack | legacy | v0 | doubling, 17 tuples |\n| --- | ---: | ---: | ---: |')
+        for call in CALLS[1:]:
+            used = [stack(program, call, symbol) - base for symbol, base in zip(symbols, without)]
+            print('| %s | ' % call + ' | '.join('{:,}'.format(count) for count in used) + ' |', flush=True)
+
+
+if __name__ == '__main__':
+    sys.exit(main())

@@ -1,0 +1,219 @@
+#!/usr/bin/env python3
+"""Counts the looks that demangling and printing costly symbols takes, and prints them beside the bounds that are proved.
+
+usage: looks.py [--keep FOLDER] [--jobs N]
+
+Looks take no bytes when a program runs, so no program can tell them. This makes a copy of crates/rustc_demangle outside the
+repository (in FOLDER, which is not there before and stays, or in a temporary one) in which `Looks` also has a number of 64
+bits that each `tick` raises, and a program over it that sums the looks of each symbol of a line. `rt run` proves the copy,
+with all its contracts but one fact, that `Looks` takes no bytes, and builds it (with N jobs if said; it took 12 minutes with
+one, on a loaded machine). That the number is the count of which the contracts speak stands in the text below, and is
+not proved. `rt try` needs no proof, but its checks make a costly symbol take over a minute.
+
+The symbols are those of hostile.py, and 10^6 of each further production that nests. It prints a Markdown table with a row for
+each: the bytes m that are handed in, the bytes n of the value, the looks of `demangle_counted` and their bound, 64 x (m + 1),
+the bytes w that are kept before the marker, the looks of `write_counted` with the hash and their bound: for a v0 symbol
+100,000 x (w + 1) x (n + 1), for a legacy one 16 x (n + 1), for a text that is no symbol 0. Of a line of many symbols each
+column is the sum. It ends with how near the looks of the doublings come to their bounds, of each number of tuples up to 58.
+Its status is 1 where a bound is passed.
+"""
+import argparse, os, shutil, subprocess, sys, tempfile
+
+import hostile
+
+CRATE = os.path.join(hostile.ROOT, 'crates', 'rustc_demangle')
+MOST_TUPLES = 58
+
+# What is put into the text of `Looks`, behind a line of it or in place of one.
+EDITS = [
+    ('    count: Snapshot<Tally>,\n', '    count: Snapshot<Tally>,\n    number: u64,\n'),
+    ('            count: Snapshot::of(&Tally::Zero),\n', '            count: Snapshot::of(&Tally::Zero),\n            number: 0,\n'),
+    ('        self.count = Snapshot::of(&Tally::More(before));\n    }\n',
+     '        self.count = Snapshot::of(&Tally::More(before));\n        self.number = self.number.wrapping_add(1);\n    }\n\n'
+     '    /// How many there are.\n    pub fn number(&self) -> u64 {\n        self.number\n    }\n'),
+    ('\nconst _: () = prove!(mem::size_of::<Looks>() == 0);\n', ''),
+]
+
+PROGRAM = '''//! Prints the looks of each line's symbols, and their bounds.
+#![tactic(auto)]
+
+use rustc_demangle::sink::WriteSink;
+use rustc_demangle::{Looks, demangle_counted, try_demangle};
+use std::io;
+use std::io::{BufRead, BufReader, Write};
+
+/// Counts the bytes that it is handed, but for those of the marker.
+#[derive(Drop)]
+struct Counter {
+    bytes: u64,
+}
+
+impl Write for Counter {
+    fn write(&mut self, piece: &[u8]) -> io::Result<usize> {
+        if piece != b"{size limit reached}".as_slice() {
+            self.bytes = self.bytes.wrapping_add(piece.len() as u64);
+        }
+        Ok(piece.len())
+    }
+
+    fn flush(&mut self) -> io::Result<()> {
+        Ok(())
+    }
+}
+
+/// The sums over a line: the bytes handed in, the values' bytes, the bytes kept, and the looks and their bounds.
+#[derive(Drop)]
+struct Sums {
+    handed: u64,
+    value: u64,
+    kept: u64,
+    reading: u64,
+    reading_bound: u64,
+    printing: u64,
+    printing_bound: u64,
+}
+
+fn bound(text: &str, kept: u64, len: u64) -> u64 {
+    if try_demangle(text).is_err() {
+        return 0;
+    }
+    if text.starts_with("_ZN") {
+        return len.wrapping_add(1).wrapping_mul(16);
+    }
+    kept.wrapping_add(1).wrapping_mul(len.wrapping_add(1)).wrapping_mul(100000)
+}
+
+fn add(sums: &mut Sums, text: &str) {
+    let mut reading = Looks::new();
+    let symbol = demangle_counted(text, &mut reading);
+    let mut printing = Looks::new();
+    let mut output = Counter { bytes: 0 };
+    let mut sink = WriteSink::new(&mut output);
+    let _ = symbol.write_counted(&mut sink, true, &mut printing);
+    let _ = sink.into_fault();
+    let handed = text.len() as u64;
+    let value = symbol.as_str().len() as u64;
+    sums.handed = sums.handed.wrapping_add(handed);
+    sums.value = sums.value.wrapping_add(value);
+    sums.kept = sums.kept.wrapping_add(output.bytes);
+    sums.reading = sums.reading.wrapping_add(reading.number());
+    sums.reading_bound = sums.reading_bound.wrapping_add(handed.wrapping_add(1).wrapping_mul(64));
+    sums.printing = sums.printing.wrapping_add(printing.number());
+    sums.printing_bound = sums.printing_bound.wrapping_add(bound(text, output.bytes, value));
+}
+
+fn main(rt: HostRuntime) -> io::Result<()> {
+    let alloc = rt.alloc();
+    let mut input = BufReader::new(alloc, rt.stdin().lock())?;
+    for line in input.lines(alloc) {
+        let line = line?;
+        let mut sums = Sums {
+            handed: 0,
+            value: 0,
+            kept: 0,
+            reading: 0,
+            reading_bound: 0,
+            printing: 0,
+            printing_bound: 0,
+        };
+        for text in line.as_str().split(' ') {
+            if !text.is_empty() {
+                add(&mut sums, text);
+            }
+        }
+        let Sums { handed, value, kept, reading, reading_bound, printing, printing_bound } = sums;
+        println!(rt; "{handed} {value} {kept} {reading} {reading_bound} {printing} {printing_bound}")?;
+    }
+    Ok(())
+}
+'''
+
+
+def copy(folder):
+    """Makes the copy and the program over it, and answers the program's folder."""
+    library = os.path.join(folder, 'crates', 'rustc_demangle')
+    shutil.copytree(CRATE, library, ignore=shutil.ignore_patterns('must-fail'))
+    place = os.path.join(library, 'src', 'cursor', 'looks.rt')
+    with open(place) as file:
+        text = file.read()
+    for old, new in EDITS:
+        if text.count(old) != 1:
+            sys.exit('not once in %s: %s' % (place, old))
+        text = text.replace(old, new)
+    with open(place, 'w') as file:
+        file.write(text)
+    program = os.path.join(folder, 'crates', 'count_looks')
+    os.makedirs(os.path.join(program, 'src'))
+    with open(os.path.join(program, 'src', 'main.rt'), 'w') as file:
+        file.write(PROGRAM)
+    with open(os.path.join(hostile.ROOT, 'crates.txt')) as file:
+        libraries = [line for line in file if line.startswith('rustc_demangle:')]
+    with open(os.path.join(folder, 'crates.txt'), 'w') as file:
+        file.write('count_looks: rustc_demangle\n' + ''.join(libraries))
+    return program
+
+
+def counted(program, lines, jobs):
+    """The columns that the program prints for each line."""
+    words = ['rt', 'run'] + (['--jobs', str(jobs)] if jobs else [])
+    build = subprocess.run(words, cwd=program, stdin=subprocess.DEVNULL, stdout=subprocess.PIPE, stderr=subprocess.STDOUT, encoding='utf-8')
+    if build.returncode != 0:
+        sys.exit('rt run ended with status %d\n%s' % (build.returncode, build.stdout))
+    text = ''.join(line + '\n' for line in lines)
+    run = subprocess.run([os.path.join(program, 'out', 'count_looks')], input=text, stdout=subprocess.PIPE, check=True, encoding='utf-8')
+    return [[int(word) for word in line.split()] for line in run.stdout.splitlines()]
+
+
+def cases():
+    yield from hostile.cases()
+    for start, nested in (('_RMC0', ('Q', 'F', 'W', 'DIC0')), ('_R', ('M', 'X', 'Y', 'I', 'Nv')), ('_RIC0K', ('R', 'Q', 'A', 'T', 'VC0T'))):
+        for unit in nested:
+            yield '`%s` and 10^6 `%s`' % (start, unit), start + unit * hostile.MANY
+
+
+class Row:
+    """What was counted of a line, and the bounds."""
+
+    def __init__(self, columns):
+        self.handed, self.value, self.kept, self.reading, self.reading_bound, self.printing, self.printing_bound = columns
+
+    def cells(self):
+        columns = (self.handed, self.value, self.reading, self.reading_bound, self.kept, self.printing, self.printing_bound)
+        cells = ['{:,}'.format(column) for column in columns]
+        if self.printing_bound == 0:
+            # No symbol: nothing is cut, so no bytes stand before a marker.
+            cells[4] = '-'
+        return cells
+
+    def holds(self):
+        return self.reading <= self.reading_bound and self.printing <= self.printing_bound
+
+
+def nearest(rows, looks, bound):
+    """The row whose looks are the greatest part of their bound, and that part."""
+    part, place = max((looks(row) / bound(row), place) for place, row in enumerate(rows))
+    return '%.2g of the bound (%d tuples)' % (part, place)
+
+
+def main():
+    words = argparse.ArgumentParser(description=__doc__, formatter_class=argparse.RawDescriptionHelpFormatter)
+    words.add_argument('--keep', metavar='FOLDER')
+    words.add_argument('--jobs', type=int, metavar='N')
+    given = words.parse_args()
+    names, lines = zip(*cases())
+    doublings = [hostile.doubling(tuples) for tuples in range(MOST_TUPLES + 1)]
+    with tempfile.TemporaryDirectory() as temporary:
+        rows = [Row(columns) for columns in counted(copy(given.keep or temporary), list(lines) + doublings, given.jobs)]
+    print('| symbol | m | n | looks of `demangle_counted` | bound | w | looks of `write_counted` | bound |')
+    print('| --- |' + ' ---: |' * 7)
+    for name, row in zip(names, rows):
+        print('| ' + ' | '.join([name] + row.cells()) + ' |')
+    doubled = rows[len(names):]
+    print('\ndoubling, 0 to %d tuples: `demangle_counted` takes at most %s, `write_counted` at most %s' % (
+        MOST_TUPLES, nearest(doubled, lambda row: row.reading, lambda row: row.reading_bound),
+        nearest(doubled, lambda row: row.printing, lambda row: row.printing_bound)))
+    return 0 if all(row.holds() for row in rows) else 1
+
+
+if __name__ == '__main__':
+    sys.exit(main())

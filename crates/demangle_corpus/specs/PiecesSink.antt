@@ -1,0 +1,7 @@
+use Rattle.std.specs.Prelude.{ℕ, List, map}
+use Rattle.std.specs.String.{string_bytes}
+use Rattle.demangle_corpus.specs.declared.pieces_sink.PiecesSink.{PiecesSink}
+
+-- the pieces that a sink took
+abbrev pub pieces_of : PiecesSink → List (List ℕ)
+pieces_of s = map string_bytes s.pieces.items

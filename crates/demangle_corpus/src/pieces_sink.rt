@@ -1,0 +1,81 @@
+//! A sink that keeps its pieces apart.
+ghost use Rattle.std.specs.Prelude.{◌≡◌, [], ◌∷◌, ◌++◌, Some, true, false, map, OnOk, OnErr};
+ghost use Rattle.std.specs.List.{concat};
+ghost use Rattle.std.specs.String.{string_bytes};
+ghost use Rattle.std.proofs.Common.{sym, ap, ◌∙◌};
+ghost use Rattle.std.proofs.lemmas.List.{append-nil, append_assoc};
+ghost use Rattle.demangle_corpus.specs.PiecesSink.{pieces_of};
+
+use rustc_demangle::sink::{SinkRefused, TextSink};
+use std::alloc::{AllocError, Global};
+
+/// Keeps each nonempty piece apart from the others. It refuses one where memory runs out.
+#[derive(Drop)]
+pub struct PiecesSink {
+    alloc: Global,
+    pieces: Vec<String>,
+    failed: bool,
+}
+
+impl PiecesSink {
+    /// A sink of no pieces, which has not failed.
+    pub fn new(alloc: Global) -> PiecesSink
+        ensures alive { ⟦<PiecesSink as TextSink>⟧.failed result ≡ false }
+        ensures empty { pieces_of result ≡ [] }
+    {
+        PiecesSink {
+            alloc,
+            pieces: Vec::new(alloc),
+            failed: false,
+        }
+    }
+
+    /// The pieces that it took.
+    pub fn pieces(&self) -> &[String]
+        ensures { map string_bytes result.now ≡ pieces_of self.now }
+    {
+        self.pieces.as_slice()
+    }
+
+    // Keeps one piece more.
+    fn keep(&mut self, piece: &str) -> Result<(), AllocError>
+        ensures ok { OnOk result (pieces_of self.new ≡ pieces_of self.old ++ piece.now ∷ []) }
+        ensures err { OnErr result (pieces_of self.new ≡ pieces_of self.old) }
+        ensures same { self.new.failed ≡ self.old.failed }
+    {
+        let text = String::from_str(self.alloc, piece)?;
+        self.pieces.push(text)?;
+        Ok(())
+    }
+}
+
+impl TextSink for PiecesSink {
+    ghost took = { λ s bytes t. concat (pieces_of t) ≡ concat (pieces_of s) ++ bytes };
+
+    ghost failed = { λ s. s.failed };
+
+    ghost room = { λ s. Some 0 };
+
+    ghost keeps = { true };
+
+    fn put(&mut self, s: &str) -> Result<(), SinkRefused> {
+        if s.is_empty() {
+            return Ok(());
+        }
+        match self.keep(s) {
+            Ok(()) => Ok(()),
+            Err(_) => {
+                self.failed = true;
+                Err(SinkRefused)
+            }
+        }
+    }
+
+    fn is_failed(&self) -> bool {
+        self.failed
+    }
+
+    ghost took_nothing = { λ s. sym (append-nil (concat (pieces_of s))) };
+
+    ghost took_joined = { λ s t u xs ys h k. k ∙ (ap (λ z. z ++ ys) h ∙ append_assoc (concat (pieces_of s)) xs ys) };
+}
