@@ -6,11 +6,15 @@ use std::alloc::Global;
 use std::process::Abort;
 use std::test::Fail;
 
-/// Asserts that a refused text prints itself, and that an accepted one prints the same by both calls.
+/// Asserts that a refused text prints itself, that an accepted one prints the same by both calls, and that what was
+/// stripped is not stripped again.
 fn assert_printed(rt: &impl Abort, alloc: Global, text: &str) -> Result<(), Fail> {
     let symbol = demangle(text);
     let stripped = symbol.as_str();
-    assert_eq!(rt; demangle(stripped).as_str(), stripped);
+    // Where nothing was stripped, nothing is left to strip.
+    if stripped != text {
+        assert_eq!(rt; demangle(stripped).as_str(), stripped);
+    }
     let tried = try_demangle(text);
     for include_hash in [true, false] {
         let printed = printed_by(alloc, &symbol, include_hash)?;
