@@ -294,3 +294,19 @@ fn each_text_and_piece_is_a_write(rt: HostRuntime) -> Result<(), Fail> {
     }
     Ok(())
 }
+
+#[test]
+fn a_fault_of_the_errors_is_ignored(rt: HostRuntime) -> Result<(), Fail> {
+    let alloc = rt.alloc();
+    let mut words = Vec::new(alloc);
+    for wanted in [1, 2] {
+        let mut input: &[u8] = b"_ZN3fooE\n\xFF";
+        let mut output = Vec::new(alloc);
+        let mut errors = RefusingWriter::new(alloc, b"", 0, false)?;
+        let status = filter_run(alloc, words.as_slice(), &mut input, &mut output, &mut errors);
+        assert_eq!(rt; status, wanted);
+        assert!(rt; errors.held().is_empty());
+        words.push(String::from_str(alloc, "--hash")?)?;
+    }
+    Ok(())
+}

@@ -5,6 +5,7 @@ use rustc_demangle::{Demangle, demangle, try_demangle};
 use std::alloc::{AllocError, Global};
 use std::process::Abort;
 
+mod beginnings;
 mod calls;
 mod formats;
 mod hostile;
@@ -21,6 +22,7 @@ mod v0_literals;
 mod v0_paths;
 mod v0_references;
 mod v0_types;
+mod vectors;
 
 /// Asserts that a text is a symbol that prints these, with the hash and without it.
 fn assert_prints(rt: &impl Abort, symbol: &str, plain: &str, alt: &str) {

@@ -1,6 +1,11 @@
 //! Each public call once, where it succeeds.
 use rustc_demangle::sink::{ArraySink, SinkRefused, TextSink, WriteSink};
-use rustc_demangle::{Looks, demangle, demangle_counted, try_demangle};
+use rustc_demangle::{
+    Looks, StreamFault, demangle, demangle_counted, demangle_stream, demangle_stream_named,
+    try_demangle,
+};
+use std::io;
+use std::io::ErrorKind;
 use std::test::Fail;
 
 const SYMBOL: &str = "_ZN3foo17h05af221e174051e9E.x.llvm.AB";
@@ -63,9 +68,62 @@ fn errors_are_values(rt: HostRuntime) -> Result<(), Fail> {
     assert!(rt; !format!(in alloc; "{again:?}")?.is_empty());
     let refused = SinkRefused;
     let copied = refused;
+    let cloned = refused.clone()?;
     assert_eq!(rt;
-        format!(in alloc; "{refused:?} {copied:?}")?.as_str(),
-        "SinkRefused SinkRefused"
+        format!(in alloc; "{refused:?} {copied:?} {cloned:?}")?.as_str(),
+        "SinkRefused SinkRefused SinkRefused"
+    );
+    Ok(())
+}
+
+#[test]
+fn an_array_is_a_sink(rt: HostRuntime) {
+    let mut sink: ArraySink<4> = ArraySink::new();
+    assert_eq!(rt; sink.as_str(), "");
+    for piece in ["ab", "", "c"] {
+        assert!(rt; !sink.is_failed());
+        assert!(rt; sink.put(piece).is_ok());
+    }
+    assert_eq!(rt; sink.as_str(), "abc");
+    assert!(rt; !sink.is_failed());
+    assert!(rt; sink.put("de").is_err());
+    assert!(rt; sink.is_failed());
+    assert_eq!(rt; sink.as_str(), "abc");
+}
+
+#[test]
+fn streams_are_copied(rt: HostRuntime) -> Result<(), Fail> {
+    let alloc = rt.alloc();
+    let (mut first, mut second) = (SYMBOL.as_bytes(), SYMBOL.as_bytes());
+    let mut output = Vec::from_slice(alloc, b"at ")?;
+    demangle_stream(alloc, &mut first, &mut output, true)?;
+    assert!(rt; first.is_empty());
+    let result = demangle_stream_named(alloc, &mut second, &mut output, false);
+    assert!(rt; result.is_ok());
+    assert!(rt; second.is_empty());
+    assert_eq!(rt;
+        output.as_slice(),
+        b"at foo::h05af221e174051e9.xfoo.x".as_slice()
+    );
+    Ok(())
+}
+
+#[test]
+fn faults_become_errors(rt: HostRuntime) -> Result<(), Fail> {
+    let alloc = rt.alloc();
+    let read = StreamFault::Read(io::Error::new(ErrorKind::TimedOut, "late")).into_io();
+    assert_eq!(rt; read.kind(), ErrorKind::TimedOut);
+    assert_eq!(rt; format!(in alloc; "{read}")?.as_str(), "late");
+    let write = StreamFault::Write(io::Error::new(ErrorKind::BrokenPipe, "gone")).into_io();
+    assert_eq!(rt; write.kind(), ErrorKind::BrokenPipe);
+    assert_eq!(rt; format!(in alloc; "{write}")?.as_str(), "gone");
+    assert_eq!(rt;
+        StreamFault::NotUtf8.into_io().kind(),
+        ErrorKind::InvalidData
+    );
+    assert_eq!(rt;
+        StreamFault::Memory.into_io().kind(),
+        ErrorKind::OutOfMemory
     );
     Ok(())
 }

@@ -1,5 +1,5 @@
 //! Symbols under a limit.
-use super::{printed, repeated};
+use super::{assert_prints_long, repeated};
 use rustc_demangle::demangle;
 use rustc_demangle::sink::{ArraySink, TextSink};
 use std::test::Fail;
@@ -78,14 +78,9 @@ fn a_million_bytes_are_printed_and_no_more(rt: HostRuntime) -> Result<(), Fail> 
     let longer = format!(in alloc; "_ZN1000001a{million}E")?;
     let followed = format!(in alloc; "_ZN1000000{million}1bE")?;
     let cut = format!(in alloc; "{million}{{size limit reached}}")?;
-    for include_hash in [true, false] {
-        let text = printed(alloc, full.as_str(), include_hash)?;
-        assert!(rt; text.as_slice() == million.as_bytes());
-        let text = printed(alloc, longer.as_str(), include_hash)?;
-        assert!(rt; text.as_slice() == b"{size limit reached}".as_slice());
-        let text = printed(alloc, followed.as_str(), include_hash)?;
-        assert!(rt; text.as_slice() == cut.as_bytes());
-    }
+    assert_prints_long(&rt, alloc, full.as_str(), million)?;
+    assert_prints_long(&rt, alloc, longer.as_str(), "{size limit reached}")?;
+    assert_prints_long(&rt, alloc, followed.as_str(), cut.as_str())?;
     Ok(())
 }
 
@@ -96,23 +91,29 @@ fn the_marker_is_one_piece(rt: HostRuntime) -> Result<(), Fail> {
     let million = million.as_str();
     let longer = format!(in alloc; "_ZN1000001a{million}E")?;
     let symbol = demangle(longer.as_str());
-    let mut sink: ArraySink<10> = ArraySink::new();
-    assert!(rt; symbol.write_to(&mut sink, true).is_err());
-    assert!(rt; sink.is_failed());
-    assert_eq!(rt; sink.as_str(), "");
-    let mut sink: ArraySink<20> = ArraySink::new();
-    assert!(rt; symbol.write_to(&mut sink, true).is_ok());
-    assert_eq!(rt; sink.as_str(), "{size limit reached}");
+    for include_hash in [true, false] {
+        let mut sink: ArraySink<10> = ArraySink::new();
+        assert!(rt; symbol.write_to(&mut sink, include_hash).is_err());
+        assert!(rt; sink.is_failed());
+        assert_eq!(rt; sink.as_str(), "");
+        let mut sink: ArraySink<20> = ArraySink::new();
+        assert!(rt; symbol.write_to(&mut sink, include_hash).is_ok());
+        assert!(rt; !sink.is_failed());
+        assert_eq!(rt; sink.as_str(), "{size limit reached}");
+    }
     Ok(())
 }
 
 #[test]
 fn the_marker_fits_or_is_refused(rt: HostRuntime) {
     let symbol = demangle("_ZN3foo3barE");
-    let mut sink: ArraySink<25> = ArraySink::new();
-    assert!(rt; symbol.write_limited(&mut sink, true, 5).is_ok());
-    assert_eq!(rt; sink.as_str(), "foo::{size limit reached}");
-    let mut sink: ArraySink<24> = ArraySink::new();
-    assert!(rt; symbol.write_limited(&mut sink, true, 5).is_err());
-    assert_eq!(rt; sink.as_str(), "foo::");
+    for include_hash in [true, false] {
+        let mut sink: ArraySink<25> = ArraySink::new();
+        assert!(rt; symbol.write_limited(&mut sink, include_hash, 5).is_ok());
+        assert_eq!(rt; sink.as_str(), "foo::{size limit reached}");
+        let mut sink: ArraySink<24> = ArraySink::new();
+        assert!(rt; symbol.write_limited(&mut sink, include_hash, 5).is_err());
+        assert!(rt; sink.is_failed());
+        assert_eq!(rt; sink.as_str(), "foo::");
+    }
 }

@@ -7,14 +7,16 @@ use std::io::ErrorKind;
 #[test]
 fn a_full_sink_holds_the_pieces_before_the_refused_one(rt: HostRuntime) {
     let symbol = demangle("_ZN1a1bE");
-    let mut sink: ArraySink<4> = ArraySink::new();
-    assert!(rt; symbol.write_to(&mut sink, true).is_ok());
-    assert_eq!(rt; sink.as_str(), "a::b");
-    assert!(rt; !sink.is_failed());
-    let mut sink: ArraySink<2> = ArraySink::new();
-    assert!(rt; symbol.write_to(&mut sink, true).is_err());
-    assert_eq!(rt; sink.as_str(), "a");
-    assert!(rt; sink.is_failed());
+    for include_hash in [true, false] {
+        let mut sink: ArraySink<4> = ArraySink::new();
+        assert!(rt; symbol.write_to(&mut sink, include_hash).is_ok());
+        assert_eq!(rt; sink.as_str(), "a::b");
+        assert!(rt; !sink.is_failed());
+        let mut sink: ArraySink<2> = ArraySink::new();
+        assert!(rt; symbol.write_to(&mut sink, include_hash).is_err());
+        assert_eq!(rt; sink.as_str(), "a");
+        assert!(rt; sink.is_failed());
+    }
 }
 
 #[test]

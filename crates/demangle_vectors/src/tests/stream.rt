@@ -88,6 +88,33 @@ fn the_reader_fails(rt: HostRuntime) -> Result<(), Fail> {
 }
 
 #[test]
+fn the_reader_fails_at_each_filling(rt: HostRuntime) -> Result<(), Fail> {
+    let alloc = rt.alloc();
+    let parts: [&[u8]; 4] = [b"x _ZN", b"3fooE\n_ZN3", b"barE", b"\n"];
+    let written: [&[u8]; 6] = [
+        b"",
+        b"",
+        b"x foo\n",
+        b"x foo\n",
+        b"x foo\nbar\n",
+        b"x foo\nbar\n",
+    ];
+    for (fills, wanted) in written.iter().enumerate() {
+        let mut input = PartsReader::new(&parts, fills, ErrorKind::Other);
+        let mut output = Vec::new(alloc);
+        let result = demangle_stream(alloc, &mut input, &mut output, true);
+        let kind = result.map_err(|error| error.kind());
+        if fills < 5 {
+            assert_eq!(rt; kind, Err(ErrorKind::Other), "at {fills}");
+        } else {
+            assert_eq!(rt; kind, Ok(()));
+        }
+        assert_eq!(rt; output.as_slice(), *wanted, "at {fills}");
+    }
+    Ok(())
+}
+
+#[test]
 fn a_line_is_not_utf8(rt: HostRuntime) -> Result<(), Fail> {
     let alloc = rt.alloc();
     let cases: [(&[u8], &[u8]); 3] = [
@@ -107,9 +134,9 @@ fn a_line_is_not_utf8(rt: HostRuntime) -> Result<(), Fail> {
 
 /// A line of symbols of both schemes.
 const LINE: &[u8] = b"_ZN3fooE.llvm moocow \
-    _RNvMNtNtNtNtCs8a2262Dv4r_3mio3sys4unix8selector5epollNtB2_8Selector6select _ZN3fooE.llvm\n";
+    _RNvMNtNtNtNtCs8a2262Dv4r_3mio3sys4unix8selector5epollNtB2_8Selector6select _ZN3fooE.llvm";
 
-/// The writes of that line, without the hash.
+/// The writes of that line and of a line feed, without the hash.
 const WRITES: [&[u8]; 22] = [
     b"foo",
     b".llvm",
@@ -137,18 +164,21 @@ const WRITES: [&[u8]; 22] = [
 
 #[test]
 fn lines_have_symbols_of_both_schemes(rt: HostRuntime) -> Result<(), Fail> {
-    let alt = b"foo.llvm moocow <mio::sys::unix::selector::epoll::Selector>::select foo.llvm\n";
+    let alt = b"foo.llvm moocow <mio::sys::unix::selector::epoll::Selector>::select foo.llvm";
     assert_writes(&rt, rt.alloc(), LINE, false, alt.as_slice())?;
     let plain =
-        b"foo.llvm moocow <mio[1888792e1a78739]::sys::unix::selector::epoll::Selector>::select foo.llvm\n";
+        b"foo.llvm moocow <mio[1888792e1a78739]::sys::unix::selector::epoll::Selector>::select foo.llvm";
     assert_writes(&rt, rt.alloc(), LINE, true, plain.as_slice())
 }
 
 #[test]
 fn the_writer_fails_at_each_write(rt: HostRuntime) -> Result<(), Fail> {
     let alloc = rt.alloc();
-    let mut text = Vec::from_slice(alloc, LINE)?;
-    text.extend_from_slice(LINE)?;
+    let mut text = Vec::new(alloc);
+    for _ in 0..2 {
+        text.extend_from_slice(LINE)?;
+        text.push(b'\n')?;
+    }
     for writes in 0..=45usize {
         let mut input = text.as_slice();
         let mut output = RefusingWriter::new(alloc, b"old", writes, true)?;

@@ -92,9 +92,11 @@ fn a_target_inside_a_long_name_meets_the_limit_of_depth(rt: HostRuntime) -> Resu
     assert_prints_long(&rt, alloc, symbol.as_str(), text.as_str())?;
     let symbol = filled(alloc, "RIC20tRYIMYNRYFG05_EB5_B_B6_", "R", 100, "B_E")?;
     assert!(rt; try_demangle(symbol.as_str()).is_ok());
-    let text = printed(alloc, symbol.as_str(), true)?;
-    let text = String::from_utf8_lossy(alloc, text.as_slice())?;
-    assert!(rt; text.as_str().contains(TOO_DEEP));
+    for include_hash in [true, false] {
+        let text = printed(alloc, symbol.as_str(), include_hash)?;
+        let text = String::from_utf8_lossy(alloc, text.as_slice())?;
+        assert!(rt; text.as_str().contains(TOO_DEEP));
+    }
     Ok(())
 }
 
@@ -137,6 +139,7 @@ fn lifetimes_are_printed_up_to_the_limit(rt: HostRuntime) -> Result<(), Fail> {
     let refused = "_RMC0FGZZZZZZZZZZZ_Eu";
     assert_refused(&rt, refused, refused);
     let text = format!(in alloc; "{lifetimes}, '_111114{MARKER}")?;
+    assert_eq!(rt; text.as_str().len(), 1_000_021);
     for include_hash in [true, false] {
         let mut output = Vec::new(alloc);
         let mut sink = WriteSink::new(&mut output);
@@ -188,7 +191,9 @@ fn pairs_of_pairs_are_cut_at_the_limit(rt: HostRuntime) -> Result<(), Fail> {
     let symbol = pairs_symbol(alloc, 18)?;
     let whole = pairs_text(alloc, 18)?;
     let kept = whole.as_str().get(..999_999).ok_or("shorter")?;
+    assert!(rt; kept.as_bytes().ends_with(b"_))))))".as_slice()));
     let text = format!(in alloc; "{kept}{MARKER}")?;
+    assert_eq!(rt; text.as_str().len(), 1_000_019);
     assert_prints_long(&rt, alloc, symbol.as_str(), text.as_str())?;
     Ok(())
 }

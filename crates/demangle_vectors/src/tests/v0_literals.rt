@@ -5,10 +5,6 @@ use std::test::Fail;
 #[test]
 fn characters_are_quoted(rt: HostRuntime) -> Result<(), Fail> {
     for (constant, text) in [
-        ("c76_", "'v'"),
-        ("c22_", "'\"'"),
-        ("ca_", "'\\n'"),
-        ("c2202_", "'∂'"),
         ("c27_", "'\\''"),
         ("c_", "'\\0'"),
         ("c0_", "'\\0'"),
@@ -48,19 +44,10 @@ fn characters_past_ascii_are_escaped_by_their_category(rt: HostRuntime) -> Resul
 #[test]
 fn strings_are_quoted(rt: HostRuntime) -> Result<(), Fail> {
     for (constant, text) in [
-        ("e616263_", "{*\"abc\"}"),
-        ("e27_", "{*\"'\"}"),
-        ("e090a_", "{*\"\\t\\n\"}"),
-        ("ee28882c3bc_", "{*\"∂ü\"}"),
         ("e22_", "{*\"\\\"\"}"),
         ("e5c_", "{*\"\\\\\"}"),
         ("e_", "{*\"\"}"),
         ("e00_", "{*\"\\0\"}"),
-        ("Re616263_", "\"abc\""),
-        ("Re27_", "\"'\""),
-        ("Re090a_", "\"\\t\\n\""),
-        ("Ree28882c3bc_", "\"∂ü\""),
-        ("RRRe_", "{&&\"\"}"),
         ("QRe61_", "{&mut \"a\"}"),
     ] {
         assert_constant(&rt, rt.alloc(), constant, text, text)?;

@@ -5,7 +5,6 @@ use super::{assert_prints, assert_refused};
 fn a_crate_has_a_disambiguator_in_the_plain_form_alone(rt: HostRuntime) {
     for (symbol, plain, alt) in [
         ("_RCs_3foo", "foo[1]", "foo"),
-        ("_RC4f128", "f128", "f128"),
         ("_RCslYGhA16ahyd_1a", "a[ffffffffffffffff]", "a"),
         ("_RCs0_3foo", "foo[2]", "foo"),
         ("_RCsZ_3foo", "foo[3f]", "foo"),
@@ -17,19 +16,8 @@ fn a_crate_has_a_disambiguator_in_the_plain_form_alone(rt: HostRuntime) {
 #[test]
 fn nested_names_have_two_colons_between(rt: HostRuntime) {
     for (symbol, plain, alt) in [
-        ("_RNvC6_123foo3bar", "123foo::bar", "123foo::bar"),
         ("_RNvC1a0", "a", "a"),
         ("_RNvCs_1as_1b", "a[1]::b", "a::b"),
-        (
-            "_RNvC9backtrace3foo.llvm.A5310EB9",
-            "backtrace::foo",
-            "backtrace::foo",
-        ),
-        (
-            "_RNvNtNtNtNtCs92dm3009vxr_4rand4rngs7adapter9reseeding4fork23FORK_HANDLER_REGISTERED.0.0",
-            "rand[693ea8e72247470f]::rngs::adapter::reseeding::fork::FORK_HANDLER_REGISTERED.0.0",
-            "rand::rngs::adapter::reseeding::fork::FORK_HANDLER_REGISTERED.0.0",
-        ),
         (
             "_RNvMNtNtNtNtCs8a2262Dv4r_3mio3sys4unix8selector5epollNtB2_8Selector6select",
             "<mio[1888792e1a78739]::sys::unix::selector::epoll::Selector>::select",
@@ -50,17 +38,6 @@ fn special_namespaces_have_a_number(rt: HostRuntime) {
         ("_RNAC1a1b", "a::{A:b#0}"),
     ] {
         assert_prints(&rt, symbol, text, text);
-    }
-}
-
-#[test]
-fn closures_in_closures(rt: HostRuntime) {
-    for (symbol, plain, alt) in [(
-        "_RNCNCNgCs6DXkGYLi8lr_2cc5spawn00B5_",
-        "cc[4d6468d6c9fd4bb3]::spawn::{closure#0}::{closure#0}",
-        "cc::spawn::{closure#0}::{closure#0}",
-    )] {
-        assert_prints(&rt, symbol, plain, alt);
     }
 }
 
@@ -120,17 +97,6 @@ fn names_in_punycode_are_decoded(rt: HostRuntime) {
 }
 
 #[test]
-fn a_name_in_punycode_behind_a_disambiguator(rt: HostRuntime) {
-    for (symbol, plain, alt) in [(
-        "_RNqCs4fqI2P2rA04_11utf8_identsu30____7hkackfecea1cbdathfdh9hlq6y",
-        "utf8_idents[317d481089b8c8fe]::საჭმელად_გემრიელი_სადილი",
-        "utf8_idents::საჭმელად_გემრიელი_სადილი",
-    )] {
-        assert_prints(&rt, symbol, plain, alt);
-    }
-}
-
-#[test]
 fn names_that_are_no_punycode_print_as_they_are(rt: HostRuntime) {
     for (symbol, text) in [
         ("_RCu3a_A", "punycode{a-A}"),
@@ -163,8 +129,6 @@ fn an_instantiating_crate_is_not_printed(rt: HostRuntime) {
 #[test]
 fn suffixes_follow_the_path(rt: HostRuntime) {
     for (symbol, text) in [
-        ("_RC3foo.llvm.9D1C9369", "foo"),
-        ("_RC3foo.llvm.9D1C9369@@16", "foo"),
         ("_RC1a.llvm.ab", "a.llvm.ab"),
         ("_RC1a.x", "a.x"),
         ("_RC1a.", "a."),
