@@ -13,6 +13,7 @@ pub mod Escaping
 pub mod Failed
 pub mod FeedLaws
 pub mod Feeds
+pub mod Fillings
 pub mod FilterLaws
 pub mod FirstLooks
 pub mod GrammarRows

@@ -1,12 +1,12 @@
 //! What texts print, with the hash or without it, and within a limit.
-ghost use Rattle.std.specs.Prelude.{◌≡◌, ◌⊎◌, ℕ, ◌+◌, ◌≤◌, Bool, true, false, List, [], ◌∷◌, ◌++◌, length, codes, Some, OnOk, if◌then◌else◌};
+ghost use Rattle.std.specs.Prelude.{◌≡◌, ◌⊎◌, ℕ, ◌+◌, ◌≤◌, Bool, true, false, List, [], ◌∷◌, ◌++◌, length, codes, Some, IsOk, OnOk, if◌then◌else◌};
 ghost use Rattle.std.specs.List.{list_all};
 ghost use Rattle.rustc_demangle.specs.Array.{text_of};
 ghost use Rattle.rustc_demangle.specs.Cut.{size};
 ghost use Rattle.rustc_demangle.specs.Hashes.{LeavesHashOut};
 ghost use Rattle.rustc_demangle.specs.Legacy.{IsLegacy};
 ghost use Rattle.rustc_demangle.specs.Stripped.{stripped, is_thin_lto, is_allowed, IsCut};
-ghost use Rattle.rustc_demangle.specs.Symbols.{IsSymbol, handed, pieces_of};
+ghost use Rattle.rustc_demangle.specs.Symbols.{IsSymbol, handed, most_bytes, pieces_of, printed};
 ghost use Rattle.rustc_demangle.specs.Unescaped.{legacy_pieces};
 
 use crate::sink::{ArraySink, SinkRefused, TextSink};
@@ -38,7 +38,7 @@ pub fn hash_is_the_last_element()
         (handed text false limit ≡ handed text true limit) ⊎ LeavesHashOut text elements suffix limit }
 {}
 
-/// What is printed twice under the same flag is the same text.
+/// What is printed twice under the same flag is the same text, and where there is room for it, it is printed.
 pub fn prints_the_same<const N: usize, const M: usize>(
     symbol: &Demangle<'_>,
     include_hash: bool,
@@ -49,7 +49,9 @@ pub fn prints_the_same<const N: usize, const M: usize>(
     requires second_alive { ⟦<ArraySink<M> as TextSink>⟧.failed second.old ≡ false }
     requires first_empty { text_of first.old ≡ [] }
     requires second_empty { text_of second.old ≡ [] }
-    ensures { OnOk result (text_of first.new ≡ text_of second.new) }
+    ensures same { OnOk result (text_of first.new ≡ text_of second.new) }
+    ensures text { OnOk result (text_of first.new ≡ printed symbol.now include_hash) }
+    ensures fits { size (handed symbol.now include_hash most_bytes) ≤ N → size (handed symbol.now include_hash most_bytes) ≤ M → IsOk result }
 {
     symbol.write_to(first, include_hash)?;
     symbol.write_to(second, include_hash)

@@ -55,6 +55,7 @@ fn first_char(bytes: &[u8]) -> Option<char>
     requires { 0 < length bytes.now }
     ensures scalar { IfSome result (λ c. IsScalar c) }
     ensures some { IfSome result (λ c. (rest : List ℕ) × (bytes.now ≡ encode_utf8 c ++ rest)) }
+    ensures text { IfSome result (λ _. IsUtf8 bytes.now) }
     ensures none { IfNone result (IsUtf8 bytes.now → ⊥) }
 {
     let Ok(text) = str::from_utf8(bytes) else {
@@ -114,6 +115,7 @@ impl StrChars {
         ensures on { IfSome result (λ _. self.old.rest.from < self.new.rest.from) }
         ensures within { IfSome result (λ _. self.new.rest.from ≤ self.new.rest.to) }
         ensures same_end { self.new.rest.to ≡ self.old.rest.to }
+        ensures stays { IfNone result (self.new ≡ self.old) }
         ensures grows { looks.old ≤ looks.new }
         ensures some_looks { IfSome result (λ _. looks.new + self.old.rest.from ≤ looks.old + self.new.rest.from) }
         ensures none_looks { IfNone result (looks.new ≤ looks.old + (self.old.rest.to - self.old.rest.from)) }

@@ -15,6 +15,7 @@ fn len_through_feed(bytes: &[u8]) -> usize
     ensures bound { result ≤ length bytes.now }
     ensures some { 0 < length bytes.now → 0 < result }
     ensures before { All (λ x. x ≢ 10) (take (result - 1) bytes.now) }
+    ensures through { take result bytes.now ≡ take_through 10 bytes.now }
 {
     let mut at = 0;
     while at < bytes.len() {
