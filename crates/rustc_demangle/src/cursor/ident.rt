@@ -64,6 +64,7 @@ impl<'s> Symbol<'s> {
         // With its bytes once more, to print it, it is within the same bound.
         ensures ok_looks { IfOk result (λ r. looks.new + name_size r.0 ≤ looks.old + 4 * (r.1 - place + 1)) }
         ensures err_looks { OnErr result (looks.new ≤ looks.old + 4 * (length self.now - place + 1)) }
+        ensures once { IfOk result (λ r. looks.new ≤ looks.old + (r.1 - place) + 4) }
         ensures within { IfOk result (λ r. (place < r.1) × (r.1 ≤ length self.now)) }
     {
         let digits = self.skip(b'u', place, looks);

@@ -348,6 +348,7 @@ fn read_number(symbol: &Symbol<'_>, note: u8, place: usize, looks: &mut Looks) -
     ensures value { result ≡ (number_group symbol.now note place).reads }
     ensures grows { looks.old ≤ looks.new }
     ensures looks { looks.new + looks_later (read_stretch result) ≤ looks.old + total (number_group symbol.now note place).costs }
+    ensures twice { IfSome (hex_at symbol.now place) (λ r. looks.new ≤ looks.old + 2 * (r.1 - place)) }
     ensures lies { LiesIn symbol.now (read_stretch result) }
 {
     let Some((part, next)) = nibbles(symbol, place, looks) else {
@@ -361,6 +362,7 @@ fn read_truth(symbol: &Symbol<'_>, place: usize, looks: &mut Looks) -> WordRead
     ensures value { result ≡ (truth_group symbol.now place).reads }
     ensures grows { looks.old ≤ looks.new }
     ensures looks { looks.new + looks_later (read_stretch result) ≤ looks.old + total (truth_group symbol.now place).costs }
+    ensures twice { IfSome (hex_at symbol.now place) (λ r. looks.new ≤ looks.old + 2 * (r.1 - place)) }
     ensures lies { LiesIn symbol.now (read_stretch result) }
 {
     let Some((part, next)) = nibbles(symbol, place, looks) else {
@@ -377,6 +379,7 @@ fn read_character(symbol: &Symbol<'_>, place: usize, looks: &mut Looks) -> WordR
     ensures value { result ≡ (character_group symbol.now place).reads }
     ensures grows { looks.old ≤ looks.new }
     ensures looks { looks.new + looks_later (read_stretch result) ≤ looks.old + total (character_group symbol.now place).costs }
+    ensures twice { IfSome (hex_at symbol.now place) (λ r. looks.new ≤ looks.old + 2 * (r.1 - place)) }
     ensures lies { LiesIn symbol.now (read_stretch result) }
 {
     let Some((part, next)) = nibbles(symbol, place, looks) else {
@@ -398,6 +401,7 @@ fn read_literal(symbol: &Symbol<'_>, place: usize, looks: &mut Looks) -> WordRea
     ensures value { result ≡ (literal_group symbol.now place).reads }
     ensures grows { looks.old ≤ looks.new }
     ensures looks { looks.new + looks_later (read_stretch result) ≤ looks.old + total (literal_group symbol.now place).costs }
+    ensures twice { IfSome (hex_at symbol.now place) (λ r. looks.new ≤ looks.old + 2 * (r.1 - place)) }
     ensures lies { LiesIn symbol.now (read_stretch result) }
 {
     let Some((part, next)) = nibbles(symbol, place, looks) else {
