@@ -303,7 +303,13 @@ fn a_fault_of_the_errors_is_ignored(rt: HostRuntime) -> Result<(), Fail> {
         let mut input: &[u8] = b"_ZN3fooE\n\xFF";
         let mut output = Vec::new(alloc);
         let mut errors = RefusingWriter::new(alloc, b"", 0, false)?;
-        let status = filter_run(alloc, words.as_slice(), &mut input, &mut output, &mut errors);
+        let status = filter_run(
+            alloc,
+            words.as_slice(),
+            &mut input,
+            &mut output,
+            &mut errors,
+        );
         assert_eq!(rt; status, wanted);
         assert!(rt; errors.held().is_empty());
         words.push(String::from_str(alloc, "--hash")?)?;

@@ -2,7 +2,7 @@ use Rattle.std.proofs.Common.{◌≡◌, ◌∙◌, refl, sym, arith, true, fals
 use Rattle.rustc_demangle.specs.Digits.{is_byte}
 use Rattle.rustc_demangle.proofs.BindingMoves.{binding_failed, binding_over, binding_on}
 use Rattle.rustc_demangle.proofs.Performed.{performs}
-use Rattle.rustc_demangle.proofs.v0.perform.go_binding.Goals as goal
+use Rattle.rustc_demangle.proofs.v0.perform.bindings.go_binding.Goals as goal
 
 pub returns-in_default-clause-serves : goal.returns-in_default-clause-serves
 returns-in_default-clause-serves c = λ task o h. performs _ _ _ _ _ _ _ _ c.only.ensures (rw (c.binding_end.ensures, c.in_default.is) (binding_failed _ task o _ _ _ _ h (omega arith)))

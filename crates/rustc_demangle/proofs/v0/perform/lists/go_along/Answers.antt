@@ -1,7 +1,7 @@
 use Rattle.std.proofs.Common.{arith}
 use Rattle.rustc_demangle.proofs.ListMoves.{move_list_over, move_list_on}
 use Rattle.rustc_demangle.proofs.Performed.{performs}
-use Rattle.rustc_demangle.proofs.v0.perform.go_along.Goals as goal
+use Rattle.rustc_demangle.proofs.v0.perform.lists.go_along.Goals as goal
 
 pub returns-in-Some-clause-serves : goal.returns-in-Some-clause-serves
 returns-in-Some-clause-serves c = λ o.
