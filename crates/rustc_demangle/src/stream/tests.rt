@@ -2,6 +2,7 @@
 use super::{StreamFault, copy_lines, demangle_stream};
 use crate::v0::Machine;
 use linked_list_allocator::LocalHeap;
+use std::alloc::Global;
 use std::io::ErrorKind;
 use std::test::Fail;
 
@@ -13,41 +14,56 @@ const FIRST: &[u8] = b"foo.llvm moocow foo.llvm\n";
 const WHOLE: &[u8] = b"foo.llvm moocow foo.llvm\n\
     and a longer line, which needs more room than the first one had: foo::bar foo.llvm\n";
 
+const TWICE: &[u8] =
+    b"_ZN3fooE.llvm moocow _RNvMNtNtNtNtCs8a2262Dv4r_3mio3sys4unix8selector5epollNtB2_8Selector6select _ZN3fooE.llvm\n\
+    _ZN3fooE.llvm moocow _RNvMNtNtNtNtCs8a2262Dv4r_3mio3sys4unix8selector5epollNtB2_8Selector6select _ZN3fooE.llvm\n";
+
+const ONCE_COPIED: &[u8] =
+    b"foo.llvm moocow <mio::sys::unix::selector::epoll::Selector>::select foo.llvm\n";
+
+const TWICE_COPIED: &[u8] =
+    b"foo.llvm moocow <mio::sys::unix::selector::epoll::Selector>::select foo.llvm\n\
+    foo.llvm moocow <mio::sys::unix::selector::epoll::Selector>::select foo.llvm\n";
+
+// How many copies ended in each way.
+#[derive(Clone, Copy, Default)]
+struct Copies {
+    refused_first: usize,
+    refused_second: usize,
+    whole: usize,
+    other: usize,
+}
+
 // Each size of a heap lets the buffer grow so far; each refusal leaves whole lines.
-#[test]
-fn memory_is_refused(rt: HostRuntime) -> Result<(), Fail> {
-    let alloc = rt.alloc();
-    let (mut refused_first, mut refused_second, mut succeeded) = (false, false, false);
+fn copied_in_heaps(alloc: Global, text: &[u8], first: &[u8], whole: &[u8]) -> Result<Copies, Fail> {
+    let mut copies = Copies::default();
+    let mut machine = Machine::new();
     for units in 1..64usize {
         let heap = LocalHeap::new(alloc, units * 16)?;
         let mut line = Vec::new(&heap);
-        let mut input = TEXT;
+        let mut input = text;
         let mut output = Vec::new(alloc);
-        match copy_lines(
-            &mut input,
-            &mut output,
-            &mut line,
-            &mut Machine::new(),
-            false,
-        ) {
-            Ok(()) => {
-                assert_eq!(rt; output.as_slice(), WHOLE);
-                succeeded = true;
-            }
-            Err(fault) => {
-                assert!(rt; matches!(&fault, StreamFault::Memory));
-                if output.is_empty() {
-                    refused_first = true;
-                } else {
-                    assert_eq!(rt; output.as_slice(), FIRST);
-                    refused_second = true;
-                }
-            }
-        }
+        let copied = copy_lines(&mut input, &mut output, &mut line, &mut machine, false);
+        let count = match copied {
+            Ok(()) if output.as_slice() == whole => &mut copies.whole,
+            Err(StreamFault::Memory) if output.is_empty() => &mut copies.refused_first,
+            Err(StreamFault::Memory) if output.as_slice() == first => &mut copies.refused_second,
+            _ => &mut copies.other,
+        };
+        *count = count.saturating_add(1);
     }
-    assert!(rt; refused_first);
-    assert!(rt; refused_second);
-    assert!(rt; succeeded);
+    Ok(copies)
+}
+
+#[test]
+fn memory_is_refused(rt: HostRuntime) -> Result<(), Fail> {
+    let growing = copied_in_heaps(rt.alloc(), TEXT, FIRST, WHOLE)?;
+    assert!(rt; growing.refused_first > 0 && growing.refused_second > 0 && growing.whole > 0);
+    assert_eq!(rt; growing.other, 0);
+    // The second line needs no more memory than the first.
+    let equal = copied_in_heaps(rt.alloc(), TWICE, ONCE_COPIED, TWICE_COPIED)?;
+    assert!(rt; equal.refused_first > 0 && equal.refused_second == 0 && equal.whole > 0);
+    assert_eq!(rt; equal.other, 0);
     Ok(())
 }
 

@@ -61,7 +61,7 @@ fn is_of_one_step(stretch: Stretch, added: &str, pieces: usize) -> bool {
     match stretch {
         Stretch::Nothing => added.is_empty() && pieces == 0,
         Stretch::Fixed(mark) => added == text(mark) && pieces <= 1,
-        _ => true,
+        _ => pieces <= 1,
     }
 }
 
