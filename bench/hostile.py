@@ -1,15 +1,15 @@
 #!/usr/bin/env python3
 """Runs demangle_filter and the other demanglers of this machine over symbols that are made to be costly.
 
-usage: hostile.py [--timeout SECONDS] [--stack KILOBYTES]
+usage: hostile.py [--timeout SECONDS] [--stack KILOBYTES] [--also NAME=COMMAND]..
 
 Each symbol is one line of standard input. It prints a Markdown table with a row for each symbol; for each program it has
 the seconds from start to end, the peak memory of the process (its greatest resident set) and the bytes that it wrote,
 or how it ended where it did not end well. A program is killed after the timeout (10 s if not said). demangle_filter
-runs again with its stack limited to so many kilobytes (160 if not said).
+runs again with its stack limited to so many kilobytes (100 if not said).
 Build the program first: `rt run` in crates/demangle_filter.
 """
-import argparse, ctypes, os, shutil, signal, subprocess, sys, tempfile, threading, time
+import argparse, ctypes, os, shlex, shutil, signal, subprocess, sys, tempfile, threading, time
 
 ROOT = os.path.dirname(os.path.dirname(os.path.abspath(__file__)))
 OURS = os.path.join(ROOT, 'crates', 'demangle_filter', 'out', 'demangle_filter')
@@ -51,7 +51,7 @@ def cases():
 
 # The shell ends, and leaves the program to this process as a child, which starts when the gate opens. A child that this
 # process forks itself would have the memory of Python up to its exec counted as its own.
-START = '{ read -r go <gate; ulimit -S -s "$1"; exec "$2" <given 2>/dev/null; } >out & echo $!'
+START = '{ read -r go <gate; ulimit -S -s "$1"; shift; exec "$@" <given 2>/dev/null; } >out & echo $!'
 PR_SET_CHILD_SUBREAPER = 36
 # In kilobytes.
 USUAL_STACK = 8192
@@ -66,7 +66,7 @@ class Run:
             os.mkfifo(gate)
             with open(given, 'wb') as file:
                 file.write(text)
-            words = ['sh', '-c', START, 'sh', str(stack), program]
+            words = ['sh', '-c', START, 'sh', str(stack)] + program
             pid = int(subprocess.run(words, cwd=folder, stdout=subprocess.PIPE, check=True).stdout)
             open(gate, 'w').close()
             began = time.perf_counter()
@@ -96,15 +96,17 @@ class Run:
 def main():
     words = argparse.ArgumentParser(description=__doc__, formatter_class=argparse.RawDescriptionHelpFormatter)
     words.add_argument('--timeout', type=float, default=10)
-    words.add_argument('--stack', type=int, default=160)
+    words.add_argument('--stack', type=int, default=100)
+    words.add_argument('--also', action='append', default=[], metavar='NAME=COMMAND')
     given = words.parse_args()
     if not os.path.exists(OURS):
         sys.exit('no ' + OURS + ': build it first')
     # A program whose parent ends becomes a child of this process.
     ctypes.CDLL(None, use_errno=True).prctl(PR_SET_CHILD_SUBREAPER, 1, 0, 0, 0)
-    programs = [('demangle_filter', OURS, USUAL_STACK)]
-    programs.append(('demangle_filter, %d KB of stack' % given.stack, OURS, given.stack))
-    programs += [(name, name, USUAL_STACK) for name in OTHERS if shutil.which(name)]
+    programs = [('demangle_filter', [OURS], USUAL_STACK)]
+    programs.append(('demangle_filter, %d KB of stack' % given.stack, [OURS], given.stack))
+    programs += [(name, [name], USUAL_STACK) for name in OTHERS if shutil.which(name)]
+    programs += [(name, shlex.split(command), USUAL_STACK) for name, command in (also.split('=', 1) for also in given.also)]
     print('| symbol | ' + ' | '.join(name for name, _, _ in programs) + ' |')
     print('| --- |' + ' ---: |' * len(programs))
     for case, symbol in cases():
