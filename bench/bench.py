@@ -5,10 +5,10 @@ usage: bench.py [--text FILE] [--repeat N] [--also NAME=COMMAND]..
 
 Without --text it makes a log of the symbols that crates/demangle_corpus/stdin has, N times over (20 if not said).
 For each program it prints lines a second (the best of five runs) and instructions a line, counted by
-`valgrind --tool=callgrind` over a twentieth of the text, with those of a run on no input taken off.
+`valgrind --tool=callgrind` over each 21st line, with those of a run on no input taken off.
 Build the program first: `rt run` in crates/demangle_filter.
 """
-import argparse, os, re, shlex, shutil, subprocess, sys, tempfile, time
+import argparse, itertools, os, re, shlex, shutil, subprocess, sys, tempfile, time
 
 ROOT = os.path.dirname(os.path.dirname(os.path.abspath(__file__)))
 OURS = os.path.join(ROOT, 'crates', 'demangle_filter', 'out', 'demangle_filter')
@@ -24,8 +24,8 @@ FORMS = [
 
 
 def symbols():
-    """The symbols of the stored corpus that a line of text can hold."""
-    for line in open(CORPUS, encoding='utf-8'):
+    """The symbols that a line can hold, of those that the stored corpus has from libraries and programs, and its generated legacy ones."""
+    for line in itertools.islice(open(CORPUS, encoding='utf-8'), 1700):
         for field in line.rstrip('\n').split('\t'):
             if re.fullmatch(r'(_ZN|_R)[!-~]+', field) and '\\' not in field:
                 yield field
@@ -66,7 +66,7 @@ def main():
     given = words.parse_args()
     text = open(given.text, 'rb').read() if given.text else made_text(given.repeat)
     lines = text.count(b'\n')
-    few = b''.join(text.splitlines(True)[:max(1, lines // 20)])
+    few = b''.join(text.splitlines(True)[::21])
     few_lines = few.count(b'\n')
     programs = [('demangle_filter', [OURS])]
     programs += [(name, [name]) for name in OTHERS if shutil.which(name)]
