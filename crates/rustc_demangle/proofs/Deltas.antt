@@ -1,10 +1,8 @@
 -- Deltas: one digit more, and what no digit takes back.
-use Rattle.std.proofs.Common.{◌≡◌, ℕ, zero, suc, ◌+◌, ◌-◌, ◌*◌, ◌/◌, ◌%◌, ◌<◌, ◌≤◌, ◌⊎◌, inl, inr, ◌&&◌, Bool, true, false, cond, List, [], ◌∷◌, length, take, drop, get_or, Option, Some, None, IfSome, refl, sym, ap, ◌∙◌, arith, subst, ltb, leb, option_map}
-use Rattle.std.specs.Prelude.{option_and_then, insert, slice_index}
-use lib.Utf8.{scalar}
-use Rattle.std.proofs.lemmas.List.{at_drop_more, at_drop_all}
+use Rattle.std.proofs.Common.{◌≡◌, ℕ, zero, suc, ◌+◌, ◌-◌, ◌*◌, ◌/◌, ◌<◌, ◌≤◌, ◌⊎◌, inl, inr, true, false, List, [], ◌∷◌, Option, Some, None, IfSome, refl, sym, arith, subst, ltb, option_map}
+use Rattle.std.specs.Prelude.{slice_index}
 use Rattle.std.proofs.lemmas.Bool.Decides.{nat_tests}
-use Rattle.rustc_demangle.specs.Punycode.{Reading, digit_of, threshold, with_digit, next_delta, deltas, adapted, bias_after, inserted, puny}
+use Rattle.rustc_demangle.specs.Punycode.{Reading, digit_of, threshold, with_digit, next_delta, deltas, adapted, bias_after}
 use Rattle.std.proofs.lemmas.Bool.{cases_lt}
 
 pub bias_turn : (n delta : ℕ) → 455 < delta → bias_after (suc n) delta ≡ 36 + bias_after n (delta / 35)

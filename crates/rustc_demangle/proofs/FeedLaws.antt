@@ -1,9 +1,8 @@
 -- The line feeds of what is printed and written.
-use Rattle.std.proofs.Common.{◌≡◌, ◌≢◌, ◌==◌, ℕ, zero, suc, ◌+◌, ◌-◌, ◌/◌, ◌%◌, ◌≤◌, ◌⊎◌, inl, inr, not, ◌&&◌, Bool, true, false, eqb, cond, List, [], ◌∷◌, ◌++◌, length, take, drop, Option, None, Some, refl, sym, ap, ◌∙◌, arith, codes, nat_eq, ne_eqb, bytes_eq, ltb, append-nil, option_map, option_and_then}
+use Rattle.std.proofs.Common.{◌≡◌, ℕ, zero, suc, ◌+◌, ◌-◌, ◌≤◌, ◌⊎◌, inl, inr, not, ◌&&◌, Bool, true, false, eqb, cond, List, [], ◌∷◌, ◌++◌, length, take, drop, Option, None, Some, refl, sym, ap, ◌∙◌, arith, codes, nat_eq, bytes_eq, append-nil, option_map, option_and_then}
 use Rattle.std.specs.List.{concat, prefix_len, take_while, list_all, starts_with, position}
 use Rattle.std.specs.Option.{option_map_or}
 use Rattle.std.proofs.lemmas.List.{take-append-drop}
-use Rattle.std.proofs.lemmas.List.Folds.{concat-append}
 use Rattle.std.proofs.lemmas.Bool.Decides.{leb_tells}
 use Rattle.std.proofs.lemmas.Bool.{true≢false}
 use Rattle.std.specs.Char.{encode_utf8, is_control}
@@ -25,7 +24,7 @@ use Rattle.rustc_demangle.specs.Cut.{size, fitting, cut, marker}
 use Rattle.rustc_demangle.specs.Lines.{lines, feeds}
 use Rattle.rustc_demangle.specs.Legacy.{IsElements, IsLegacy}
 use Rattle.rustc_demangle.specs.Unescaped.{escape_of_code, escape_of_digits, escape_of, lower_hex, unit_of, pieces_from, unescaped, is_hash, shown, continued, joined, legacy_pieces, is_lower_hex, is_dollar, is_special}
-use Rattle.rustc_demangle.proofs.Feeds.{feeds-append, feeds-concat, feeds-cons, feeds-take, feeds-drop, feeds-other, feeds-character}
+use Rattle.rustc_demangle.proofs.Feeds.{feeds-append, feeds-concat, feeds-cons, feeds-drop, feeds-other, feeds-character}
 
 cases : (b : Bool) → (b ≡ true) ⊎ (b ≡ false)
 cases true = inl refl

@@ -1,13 +1,9 @@
 -- The line feeds of a text.
-use Rattle.std.proofs.Common.{◌≡◌, ◌≢◌, ◌==◌, ℕ, zero, suc, ◌+◌, ◌-◌, ◌/◌, ◌%◌, ◌≤◌, ◌⊎◌, inl, inr, not, ◌&&◌, Bool, true, false, eqb, cond, List, [], ◌∷◌, ◌++◌, length, take, drop, Option, None, Some, refl, sym, ap, ◌∙◌, arith, codes, nat_eq, ne_eqb, bytes_eq, ltb, append-nil, option_map, option_and_then}
-use Rattle.std.specs.List.{concat, prefix_len, take_while, list_all, starts_with, position}
-use Rattle.std.specs.Option.{option_map_or}
+use Rattle.std.proofs.Common.{◌≡◌, ◌≢◌, ℕ, ◌+◌, ◌/◌, ◌%◌, ◌≤◌, Bool, true, false, cond, List, [], ◌∷◌, ◌++◌, take, drop, ap, ◌∙◌, arith, ne_eqb, ltb}
+use Rattle.std.specs.List.{concat}
 use Rattle.std.proofs.lemmas.List.{take-append-drop}
 use Rattle.std.proofs.lemmas.List.Folds.{concat-append}
-use Rattle.std.proofs.lemmas.Bool.Decides.{leb_tells}
-use Rattle.std.proofs.lemmas.Bool.{true≢false}
-use Rattle.std.specs.Char.{encode_utf8, is_control}
-use lib.Utf8.{scalar as is_scalar}
+use Rattle.std.specs.Char.{encode_utf8}
 use Rattle.rustc_demangle.specs.Lines.{feeds}
 
 pub feeds-append : (xs ys : List ℕ) → feeds (xs ++ ys) ≡ feeds xs + feeds ys

@@ -1,5 +1,5 @@
 -- A task at the top of a row makes the first looks.
-use Rattle.std.proofs.Common.{◌≡◌, ℕ, ◌≤◌, List, [], ◌∷◌, ◌++◌, Option, arith}
+use Rattle.std.proofs.Common.{ℕ, ◌≤◌, List, [], ◌∷◌, ◌++◌, Option, arith}
 use Rattle.rustc_demangle.specs.FirstLooks.{looks_of_task, first_looks}
 use Rattle.rustc_demangle.specs.declared.v0.task.Task.{Task}
 

@@ -1,12 +1,11 @@
 -- Inserting the characters of deltas.
-use Rattle.std.proofs.Common.{◌≡◌, ℕ, zero, suc, ◌+◌, ◌-◌, ◌*◌, ◌/◌, ◌%◌, ◌<◌, ◌≤◌, ◌⊎◌, inl, inr, ◌&&◌, Bool, true, false, cond, List, [], ◌∷◌, length, Option, Some, None, IfSome, refl, sym, ap, ◌∙◌, arith, subst, ltb, leb, option_map}
+use Rattle.std.proofs.Common.{◌≡◌, ℕ, ◌+◌, ◌/◌, ◌%◌, ◌<◌, ◌≤◌, ◌⊎◌, inl, inr, ◌&&◌, Bool, true, false, List, [], ◌∷◌, length, Option, Some, None, IfSome, refl, sym, ap, ◌∙◌, arith, subst, ltb, leb, option_map}
 use Rattle.std.specs.Prelude.{option_and_then, insert, slice_index}
 use lib.Utf8.{scalar}
 use Rattle.std.proofs.lemmas.Nat.{le-div}
 use Rattle.std.proofs.lemmas.Bool.Decides.{nat_tests}
 use Rattle.rustc_demangle.specs.declared.punycode.TheConstants.{MOST}
 use Rattle.rustc_demangle.specs.Punycode.{next_delta, deltas, inserted, puny, adapted}
-use Rattle.rustc_demangle.proofs.Deltas.{option_cases}
 
 pub not_scalar : (c : ℕ) → 0x11_0000 ≤ c → scalar c ≡ false
 not_scalar c h = grind (arith, nat_tests)

@@ -1,5 +1,5 @@
 -- How integers are read, a byte at a time.
-use Rattle.std.proofs.Common.{◌≡◌, ℕ, ◌+◌, ◌-◌, ◌*◌, ◌^◌, ◌<◌, ◌≤◌, Bool, true, false, cond, ltb, nat_lt, List, length, Option, Some, None, sym, refl, ap, ◌∙◌, arith, rules}
+use Rattle.std.proofs.Common.{◌≡◌, ℕ, ◌+◌, ◌*◌, ◌^◌, ◌<◌, ◌≤◌, Bool, true, false, ltb, nat_lt, List, length, Some, None, sym, refl, ap, ◌∙◌, arith, rules}
 use Rattle.std.specs.Prelude.{◌&&◌}
 use Rattle.std.specs.List.{slice_get, slice_range}
 use Rattle.std.proofs.lemmas.Bool.{lt-ltb, ltb-true}
@@ -7,7 +7,7 @@ use Rattle.std.proofs.lemmas.Bool.Decides.{nat_tests}
 use Rattle.std.proofs.lemmas.Option.{slice_get_past}
 use Rattle.std.proofs.lemmas.Grind.{common_steps}
 use Rattle.rustc_demangle.specs.Digits.{run_end, number, is_byte}
-use Rattle.rustc_demangle.specs.Words.{only_if, then_if_some, is_digit_62, digit_62, integer_value, Integer, integer_at, optional_at, OptInteger, backref_at, Backref}
+use Rattle.rustc_demangle.specs.Words.{only_if, is_digit_62, digit_62, integer_value, Integer, integer_at, optional_at}
 use Rattle.rustc_demangle.proofs.Digits.{run_more, run_stops, run_past, number_none, number_more, number_part, is_byte_there}
 
 -- no integer begins at i, whose digits go on at least up to k

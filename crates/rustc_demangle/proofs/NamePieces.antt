@@ -1,12 +1,11 @@
 -- The pieces of a name by the places of its parts.
-use Rattle.std.proofs.Common.{◌≡◌, ℕ, ◌+◌, ◌-◌, ◌<◌, ◌≤◌, Bool, true, false, cond, List, [], ◌∷◌, ◌++◌, length, map, get_or, Option, Some, None, refl, sym, ap, ◌∙◌, arith}
+use Rattle.std.proofs.Common.{◌≡◌, ℕ, ◌<◌, ◌≤◌, true, false, List, [], ◌∷◌, length, map, Some, None, refl, ap}
 use Rattle.std.specs.Prelude.{encode_utf8, codes}
 use Rattle.std.specs.List.{slice_range}
-use Rattle.rustc_demangle.specs.Words.{some_or}
 use Rattle.rustc_demangle.specs.declared.cursor.ident.Ident.{Ident}
 use Rattle.rustc_demangle.specs.Names.{is_empty, name_pieces, undecoded}
 use Rattle.rustc_demangle.specs.Punycode.{puny}
-use Rattle.rustc_demangle.specs.Idents.{LiesWithin, ascii_front, name_in}
+use Rattle.rustc_demangle.specs.Idents.{ascii_front, name_in}
 use Rattle.rustc_demangle.proofs.Parts.{part_first, part_past}
 
 -- a part has bytes, or none

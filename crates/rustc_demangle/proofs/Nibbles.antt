@@ -1,7 +1,7 @@
 -- Pairs of nibbles, and the characters that their bytes spell.
-use Rattle.std.proofs.Common.{◌≡◌, ℕ, zero, suc, ◌+◌, ◌-◌, ◌*◌, ◌<◌, ◌≤◌, ◌⊎◌, inl, inr, Bool, true, false, List, [], ◌∷◌, ◌++◌, length, map, take, drop, get_or, Option, Some, None, option_map, refl, sym, ap, ◌∙◌, subst, arith, IsTrue, length-append, length-drop}
+use Rattle.std.proofs.Common.{◌≡◌, ℕ, zero, suc, ◌+◌, ◌-◌, ◌*◌, ◌<◌, ◌≤◌, ◌⊎◌, inl, inr, Bool, true, false, List, [], ◌∷◌, ◌++◌, length, take, drop, get_or, Option, Some, None, option_map, refl, sym, ap, ◌∙◌, subst, arith, IsTrue, length-append, length-drop}
 use Rattle.std.specs.Prelude.{encode_utf8, chars}
-use Rattle.std.specs.List.{slice_get, slice_range}
+use Rattle.std.specs.List.{slice_range}
 use Rattle.std.specs.Str.{IsUtf8, is_utf8}
 use Rattle.std.specs.Char.{IsScalar, len_utf8}
 use Rattle.std.proofs.Math.Utf8.{scalars, encodes}
@@ -15,7 +15,7 @@ use Rattle.std.proofs.lemmas.List.{take_at, append-nil, take_more, take_more_set
 use Rattle.std.proofs.lemmas.List.Edits.{length-between, get_or-between}
 use Rattle.rustc_demangle.specs.Words.{only_if, then_if_some, is_nibble, nibble, Hex}
 use Rattle.rustc_demangle.specs.Literals.{bytes_of, string_of}
-use Rattle.rustc_demangle.specs.Nibbles.{HexPart, nibbles_in}
+use Rattle.rustc_demangle.specs.Nibbles.{HexPart}
 use Rattle.rustc_demangle.specs.declared.cursor.Part.{Part}
 use Rattle.rustc_demangle.specs.Digits.{run_end}
 use Rattle.rustc_demangle.proofs.Hex.{nibble_there, hex_within}

@@ -7,7 +7,7 @@ use Rattle.rustc_demangle.specs.Serving.{Serves}
 use Rattle.rustc_demangle.specs.Shares.{HasRoom}
 use Rattle.rustc_demangle.specs.declared.v0.task.Task.{Task}
 use Rattle.rustc_demangle.specs.declared.v0.work.Work.{Work}
-use Rattle.rustc_demangle.proofs.Hearing.{RoomForMove, room_for_move}
+use Rattle.rustc_demangle.proofs.Hearing.{room_for_move}
 use Rattle.rustc_demangle.proofs.Stepping.{step_serves}
 
 pub performs : (b : List ℕ) (task : Task) (i : Option ℕ) (o : Bool) (old new : Work) (m : Move) (made : ℕ) → Done old new m → Serves b task i o m made → Performs b task i o old new made

@@ -1,5 +1,5 @@
 -- Printing one piece, and then others.
-use Rattle.std.proofs.Common.{◌≡◌, ℕ, ◌<◌, ◌≤◌, List, [], ◌∷◌, ◌++◌, Result, IsOk, IsErr}
+use Rattle.std.proofs.Common.{ℕ, List, [], ◌∷◌, Result, IsOk, IsErr}
 use Rattle.rustc_demangle.specs.declared.sink.TextSink.{Ghosts}
 use Rattle.rustc_demangle.specs.declared.sink.SinkRefused.{SinkRefused}
 use Rattle.rustc_demangle.specs.declared.sink.limit.SizeLimitedFmtAdapter.{SizeLimitedFmtAdapter}

@@ -1,14 +1,13 @@
 -- The characters of a string constant, one after another, and their pieces.
-use Rattle.std.proofs.Common.{◌≡◌, ℕ, ◌+◌, ◌-◌, ◌*◌, ◌<◌, ◌≤◌, Bool, true, false, List, [], ◌∷◌, ◌++◌, length, map, Option, Some, None, option_map, refl, sym, ap, ◌∙◌, arith, append_assoc}
+use Rattle.std.proofs.Common.{◌≡◌, ℕ, ◌≤◌, true, false, List, [], ◌∷◌, ◌++◌, map, Option, Some, None, option_map, refl, sym, ap, ◌∙◌, append_assoc}
 use Rattle.std.specs.Prelude.{encode_utf8, flat_map, is_some, IsSome}
 use Rattle.std.specs.Str.{is_utf8}
-use Rattle.std.specs.List.{slice_range}
 use Rattle.std.proofs.lemmas.List.{map-append, append-nil}
 use Rattle.std.proofs.lemmas.List.Concat.{flat_map-append}
 use Rattle.std.proofs.lemmas.Str.{is_utf8-from_IsUtf8, IsUtf8-nil, chars-nil}
 use Rattle.rustc_demangle.specs.Words.{some_or}
 use Rattle.rustc_demangle.specs.Literals.{escaped, string_of}
-use Rattle.rustc_demangle.specs.Nibbles.{HexPart, nibbles_in, characters_of, written}
+use Rattle.rustc_demangle.specs.Nibbles.{nibbles_in, characters_of, written}
 use Rattle.rustc_demangle.specs.declared.cursor.Part.{Part}
 use Rattle.rustc_demangle.proofs.Parts.{part_past}
 

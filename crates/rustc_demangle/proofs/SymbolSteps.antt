@@ -1,11 +1,11 @@
 -- What a text hands over, by what was read of it.
-use Rattle.std.proofs.Common.{◌≡◌, ℕ, zero, suc, ◌+◌, ◌*◌, ◌≤◌, ◌<◌, Bool, true, false, List, [], ◌∷◌, ◌++◌, length, Option, None, Some, sym, refl, ap, ◌∙◌, subst, arith, option_map, cond, drop, inl, inr}
+use Rattle.std.proofs.Common.{◌≡◌, ℕ, zero, suc, ◌+◌, ◌*◌, ◌≤◌, Bool, true, false, List, [], ◌∷◌, ◌++◌, length, Option, None, Some, sym, refl, ap, ◌∙◌, subst, arith, option_map, cond, drop, inl, inr}
 use Rattle.std.specs.Option.{option_map_or, is_some}
 use Rattle.std.proofs.lemmas.List.{length-append}
 use Rattle.std.proofs.lemmas.Nat.{mul-le}
-use Rattle.std.proofs.lemmas.Bool.{false≢true, true≢false}
+use Rattle.std.proofs.lemmas.Bool.{true≢false}
 use Rattle.rustc_demangle.specs.Cut.{cut, kept}
-use Rattle.rustc_demangle.specs.Legacy.{IsElements, IsLegacy, inner_of, legacy_of, elements_of}
+use Rattle.rustc_demangle.specs.Legacy.{IsElements, inner_of, legacy_of, elements_of}
 use Rattle.rustc_demangle.specs.Stripped.{is_allowed}
 use Rattle.rustc_demangle.specs.Unescaped.{legacy_pieces}
 use Rattle.rustc_demangle.specs.Reading.{rendered}

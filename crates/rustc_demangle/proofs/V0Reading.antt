@@ -1,8 +1,8 @@
 -- A text is read as a v0 symbol exactly where it is one.
-use Rattle.std.specs.Prelude.{◌≡◌, ◌⊎◌, ◌↔◌, ℕ, zero, suc, ◌<◌, ◌&&◌, nat_lt, ◌==◌, slice_index, codes, drop, Option, Some, None, IsAscii}
+use Rattle.std.specs.Prelude.{◌≡◌, ◌↔◌, ℕ, zero, suc, ◌<◌, ◌&&◌, nat_lt, slice_index, codes, drop, Option, Some, None, IsAscii}
 use Rattle.std.specs.List.{list_all}
 use Rattle.std.proofs.Common.{◌≤◌, length, Bool, true, false, cond, List, [], ◌∷◌, ◌++◌, refl, sym, ◌∙◌, ap, subst, arith, inl, inr}
-use Rattle.std.proofs.lemmas.Bool.{ltb-true, lt-ltb, eqb-true}
+use Rattle.std.proofs.lemmas.Bool.{ltb-true, lt-ltb}
 use Rattle.rustc_demangle.specs.Prefix.{behind_prefix}
 use Rattle.rustc_demangle.specs.Words.{then_if_some, some_or}
 use Rattle.rustc_demangle.specs.Reading.{goes_on_at, suffix_of}

@@ -1,17 +1,17 @@
 -- What is spelled without a reference, and with no lifetime but that of index 0, hands over no stop.
-use Rattle.std.specs.Prelude.{ℕ, zero, suc, ◌<◌, ◌≤◌, ◌==◌, nat_le, codes, slice_get}
+use Rattle.std.specs.Prelude.{ℕ, zero, suc, ◌<◌, ◌≤◌, codes, slice_get}
 use Prim.Native.Char.{code}
-use Rattle.std.proofs.Common.{◌≡◌, Bool, true, false, cond, List, [], ◌∷◌, length, Option, Some, None, refl, sym, ap, ◌+◌, ◌-◌, ◌*◌, subst, arith}
+use Rattle.std.proofs.Common.{◌≡◌, Bool, true, false, List, [], ◌∷◌, length, Option, Some, refl, sym, ◌+◌, ◌-◌, subst, arith}
 use Rattle.rustc_demangle.specs.Digits.{is_byte}
-use Rattle.rustc_demangle.specs.Words.{Name, Read, byte_at, namespace_at, integer_at, optional_at, identifier_at, nibbles_at}
+use Rattle.rustc_demangle.specs.Words.{Read, byte_at, namespace_at, integer_at, optional_at, identifier_at, nibbles_at}
 use Rattle.rustc_demangle.specs.Names.{name_pieces}
 use Rattle.rustc_demangle.specs.Items.{Text, Kind, a_path, a_trait_path, Items, done, invalid, say, say_plain, byte, namespace, integer, optional, identifier, nibbles, peek, next, sound, until_end, raise, unit, child, skip, target, lifetime, binder, opens, dyn_trait, bindings}
 use Rattle.rustc_demangle.specs.Table.{items}
-use Rattle.rustc_demangle.specs.Reading.{Tree, nothing, piece, IsWhole, Place, Outcome, Level, Surroundings, run, turns, stands, behind, word, followed_by, begun, hushed, closed, opened, named as binding_name, bound_by, resumed, peeked, forked, raised, max_depth, all_pieces, letter_of, new_lifetimes, binder_of, lifetime_named, level_of, levels, nowhere, read_at}
+use Rattle.rustc_demangle.specs.Reading.{Tree, piece, IsWhole, Place, Outcome, Level, Surroundings, run, turns, stands, behind, word, followed_by, begun, closed, opened, named as binding_name, bound_by, resumed, peeked, forked, raised, max_depth, all_pieces, letter_of, new_lifetimes, binder_of, lifetime_named, level_of, levels, nowhere, read_at}
 use Rattle.rustc_demangle.specs.Spelling.{Spells, simple, end_, say_, plain_, byte_, namespace_, integer_, optional_, identifier_, nibbles_, peek_, there, other, sound_, over_, turn_, raise_, unit_, child_, skip_, target_, lifetime_, binder_, opens_, dyn_, past_, bound_}
 use Rattle.rustc_demangle.proofs.Counts.{placed, byte_placed, namespace_placed, integer_placed, optional_placed, identifier_placed, nibbles_placed}
 use Rattle.rustc_demangle.proofs.Rules.{simply_named}
-use Rattle.rustc_demangle.proofs.Complete.{IsRead, ReadAt, ReadBelow, reads, rank, Begins, Ahead, ahead, begin, all_begin, rank_one, rank_below, level_reads, levels_read, Moves, gains, grows, there_placed, forked_there, forked_other, goes_on}
+use Rattle.rustc_demangle.proofs.Complete.{ReadAt, ReadBelow, reads, rank, Begins, Ahead, ahead, begin, all_begin, rank_one, rank_below, levels_read, Moves, gains, grows, there_placed, forked_there, forked_other, goes_on}
 
 -- units of a rank below r hand over no stop
 abbrev WholeAt : ℕ → List ℕ → ℕ → Level → Type 0

@@ -1,7 +1,7 @@
 -- Each word's function gives what its relation says, and nothing else.
-use Rattle.std.specs.Prelude.{◌≡◌, ◌⊎◌, ◌↔◌, IsTrue, ℕ, ◌+◌, ◌^◌, ◌<◌, ◌≤◌, ◌&&◌, ◌||◌, ◌==◌, Bool, true, false, not, List, length, Option, Some, None, nat_lt, nat_le, slice_get, slice_range}
+use Rattle.std.specs.Prelude.{◌≡◌, ◌↔◌, IsTrue, ℕ, ◌+◌, ◌^◌, ◌<◌, ◌≤◌, ◌&&◌, ◌||◌, ◌==◌, Bool, true, false, not, List, length, Option, Some, None, nat_lt, nat_le, slice_get, slice_range}
 use Rattle.std.proofs.Common.{cond, refl, sym, ◌∙◌, ap, subst, arith, inl, inr}
-use Rattle.std.proofs.lemmas.Bool.{ltb-true, lt-ltb, leb-true, le-leb, eqb-true}
+use Rattle.std.proofs.lemmas.Bool.{ltb-true, lt-ltb, leb-true, le-leb}
 use Rattle.rustc_demangle.specs.Digits.{run_end, is_byte}
 use Rattle.rustc_demangle.specs.Words.{Name, Read, only_if, then_if_some, is_upper, is_lower, namespace_at, Namespace, is_digit_62, integer_value, integer_at, Integer, optional_at, OptInteger, backref_at, Backref, digits_from, length_end, name_from, name_len, name_of, tail_len, identifier_at, Identifier, is_nibble, nibbles_at, Hex}
 use Rattle.rustc_demangle.proofs.Digits.{is_byte_there}

@@ -1,5 +1,5 @@
 -- A legacy symbol whose last element is its hash.
-use Rattle.std.specs.Prelude.{◌≡◌, ℕ, Bool, true, false, List, [], ◌∷◌, ◌++◌, codes}
+use Rattle.std.specs.Prelude.{◌≡◌, ℕ, true, false, List, [], ◌∷◌, ◌++◌, codes}
 use Rattle.rustc_demangle.specs.Symbols.{handed}
 use Rattle.rustc_demangle.specs.Unescaped.{unescaped, is_hash, joined}
 

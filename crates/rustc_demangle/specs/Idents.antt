@@ -1,5 +1,5 @@
 -- Identifiers by the places of their parts, and back references by their faults.
-use Rattle.std.specs.Prelude.{◌≡◌, ℕ, ◌+◌, ◌-◌, ◌<◌, ◌≤◌, true, List, [], ◌∷◌, codes, length, slice_range, nat_lt, Option, None, Some, Result, Ok, Err, if◌then◌else◌}
+use Rattle.std.specs.Prelude.{◌≡◌, ℕ, ◌+◌, ◌-◌, ◌<◌, ◌≤◌, true, List, [], ◌∷◌, codes, length, slice_range, nat_lt, None, Some, Result, Ok, Err, if◌then◌else◌}
 use Rattle.rustc_demangle.specs.Digits.{is_byte}
 use Rattle.rustc_demangle.specs.Words.{Read, Name, length_end, tail_len, digits_from, name_from, name_len, punycode_len, ascii_to}
 use Rattle.rustc_demangle.specs.Names.{is_empty}

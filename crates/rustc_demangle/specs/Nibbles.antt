@@ -1,5 +1,5 @@
 -- The nibbles of a hex word by their places.
-use Rattle.std.specs.Prelude.{◌≡◌, ℕ, List, [], slice_range, map, flat_map, encode_utf8}
+use Rattle.std.specs.Prelude.{ℕ, List, [], slice_range, map, flat_map, encode_utf8}
 use Rattle.rustc_demangle.specs.Words.{some_or, Hex}
 use Rattle.rustc_demangle.specs.Literals.{escaped, string_of}
 use Rattle.rustc_demangle.specs.declared.cursor.Part.{Part}

@@ -12,7 +12,6 @@ use Rattle.rustc_demangle.specs.declared.v0.grammar.Entry.TheVariants as entry
 use Rattle.rustc_demangle.specs.declared.v0.grammar.Count.{Count}
 use Rattle.rustc_demangle.specs.declared.v0.grammar.Count.TheVariants.{Told}
 use Rattle.rustc_demangle.specs.declared.v0.task.Setting.{Setting}
-use Rattle.rustc_demangle.specs.declared.v0.task.Progress.{Progress}
 use Rattle.rustc_demangle.specs.declared.v0.task.Task.{Task}
 use Rattle.rustc_demangle.specs.declared.v0.task.Task.TheVariants.{Enter, Rest, Behind}
 use Rattle.rustc_demangle.specs.Move.{Move}

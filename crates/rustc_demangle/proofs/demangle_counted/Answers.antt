@@ -1,4 +1,4 @@
-use Rattle.std.proofs.Common.{arith, ap, ◌≤◌, length, subst}
+use Rattle.std.proofs.Common.{arith, ap, length}
 use Rattle.rustc_demangle.proofs.Stripping.{stripped-shorter}
 use Rattle.rustc_demangle.proofs.demangle_counted.Goals as goal
 

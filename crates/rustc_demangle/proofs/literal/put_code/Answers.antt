@@ -1,5 +1,4 @@
 use Rattle.std.proofs.Common.{refl}
-use Rattle.std.specs.Fmt.{digits}
 use Rattle.rustc_demangle.proofs.Escaping.{code_pieces}
 use Rattle.rustc_demangle.proofs.PrintsLemmas.{prints_then, prints_stop}
 use Rattle.rustc_demangle.proofs.literal.put_code.Goals as goal

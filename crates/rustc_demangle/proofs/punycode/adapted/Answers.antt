@@ -1,4 +1,4 @@
-use Rattle.std.proofs.Common.{◌≡◌, ℕ, suc, ◌+◌, ◌-◌, ◌*◌, ◌/◌, ◌≤◌, arith, refl, sym, ap, ◌∙◌, subst, true, false, cond}
+use Rattle.std.proofs.Common.{◌≡◌, suc, ◌+◌, ◌-◌, ◌/◌, arith, sym, ap, ◌∙◌, cond}
 use Rattle.rustc_demangle.specs.Punycode.{bias_after, adapted}
 use Rattle.rustc_demangle.proofs.Deltas.{bias_turn, bias_end}
 use Rattle.rustc_demangle.proofs.punycode.adapted.Goals as goal

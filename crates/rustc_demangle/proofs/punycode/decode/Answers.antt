@@ -1,4 +1,4 @@
-use Rattle.std.proofs.Common.{◌≡◌, ℕ, ◌+◌, ◌-◌, ◌*◌, ◌/◌, ◌%◌, ◌<◌, ◌≤◌, List, [], ◌∷◌, length, Option, Some, None, arith, inl, inr, refl, sym, ap, ◌∙◌, Bool, true, false}
+use Rattle.std.proofs.Common.{◌≡◌, ℕ, ◌+◌, ◌-◌, ◌/◌, ◌<◌, List, length, Option, arith, inl, inr, refl, sym, ap, ◌∙◌, Bool, true, false}
 use Rattle.std.specs.List.{slice_range}
 use Rattle.std.specs.Prelude.{option_and_then}
 use lib.Utf8.{scalar}

@@ -1,4 +1,4 @@
-use Rattle.std.proofs.Common.{◌≡◌, ◌+◌, ◌-◌, ◌*◌, ◌<◌, ◌≤◌, length}
+use Rattle.std.proofs.Common.{◌≡◌, ◌+◌, ◌-◌, ◌<◌, ◌≤◌, length}
 use Rattle.std.specs.List.{slice_range}
 use Rattle.std.specs.Prelude.{option_and_then}
 use Rattle.rustc_demangle.specs.Punycode.{next_delta, deltas, inserted, puny}

@@ -1,4 +1,4 @@
-use Rattle.std.proofs.Common.{◌≡◌, ℕ, ◌+◌, ◌-◌, ◌*◌, ◌<◌, ◌≤◌, Bool, length}
+use Rattle.std.proofs.Common.{◌≡◌, ℕ, ◌+◌, ◌*◌, ◌<◌, ◌≤◌, Bool}
 use Rattle.std.specs.List.{slice_range}
 use Rattle.rustc_demangle.specs.Punycode.{next_delta, deltas}
 use Rattle.rustc_demangle.proofs.punycode.delta_at.Given as goal

@@ -1,4 +1,4 @@
-use Rattle.std.proofs.Common.{◌≡◌, ◌+◌, ◌<◌, ◌≤◌, true, false, length, ap, sym, ◌∙◌, refl, arith, Some, None, Option, ℕ}
+use Rattle.std.proofs.Common.{◌≡◌, true, false, length, ap, sym, refl, arith, Some, None, Option, ℕ}
 use Rattle.std.specs.Prelude.{IsAscii}
 use Rattle.std.proofs.lemmas.Bool.{false≢true}
 use Rattle.rustc_demangle.specs.Reading.{goes_on_at, suffix_of}

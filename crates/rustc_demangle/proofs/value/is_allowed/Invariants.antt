@@ -1,4 +1,4 @@
-use Rattle.std.proofs.Common.{◌≡◌, ◌+◌, drop, ◌≤◌}
+use Rattle.std.proofs.Common.{◌≡◌, ◌+◌, drop}
 use Rattle.std.specs.List.{list_all}
 use Rattle.rustc_demangle.specs.Stripped.{is_allowed, is_graphic}
 use Rattle.rustc_demangle.proofs.value.is_allowed.Given as goal

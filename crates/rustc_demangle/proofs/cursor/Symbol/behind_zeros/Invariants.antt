@@ -1,4 +1,4 @@
-use Rattle.std.proofs.Common.{◌≡◌, ◌+◌, ◌≤◌}
+use Rattle.std.proofs.Common.{◌≡◌, ◌+◌}
 use Rattle.std.specs.List.{slice_range}
 use Rattle.rustc_demangle.specs.Digits.{number}
 use Rattle.rustc_demangle.specs.Words.{nibble, zeros}

@@ -1,4 +1,4 @@
-use Rattle.std.proofs.Common.{◌≡◌, ◌+◌, ◌≤◌}
+use Rattle.std.proofs.Common.{◌≡◌, ◌+◌}
 use Rattle.rustc_demangle.specs.Digits.{run_end}
 use Rattle.rustc_demangle.specs.Words.{is_nibble}
 use Rattle.rustc_demangle.proofs.cursor.Symbol.hex_nibbles.Given as goal

@@ -1,7 +1,6 @@
 use Rattle.std.proofs.Common.{◌≡◌, ◌+◌, ◌*◌, ◌-◌, ◌^◌, ◌<◌, sym, arith}
 use Rattle.rustc_demangle.proofs.Digits.{number_more}
 use Rattle.rustc_demangle.proofs.Hex.{nibbles_fit, nibbles_more}
-use Rattle.rustc_demangle.specs.Digits.{number}
 use Rattle.rustc_demangle.specs.Words.{nibble}
 use Rattle.rustc_demangle.proofs.cursor.Symbol.hex_number.Goals as goal
 

@@ -1,6 +1,5 @@
-use Rattle.std.proofs.Common.{◌≡◌, ◌∙◌, sym, arith}
-use Rattle.rustc_demangle.specs.Digits.{number}
-use Rattle.rustc_demangle.specs.Words.{is_digit_62, digit_62}
+use Rattle.std.proofs.Common.{◌∙◌, sym, arith}
+use Rattle.rustc_demangle.specs.Words.{is_digit_62}
 use Rattle.rustc_demangle.proofs.Digits.{run_more, number_more}
 use Rattle.rustc_demangle.proofs.Integers.{no_integer_large, integer_unread}
 use Rattle.rustc_demangle.proofs.cursor.Symbol.integer_62.Goals as goal

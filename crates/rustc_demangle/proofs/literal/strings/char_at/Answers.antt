@@ -1,4 +1,4 @@
-use Rattle.std.proofs.Common.{◌≡◌, ℕ, ◌+◌, ◌-◌, ◌*◌, ◌<◌, ◌≤◌, List, ◌∷◌, [], ◌++◌, length, take, drop, set, option_map, inl, inr, sym, ap, ◌∙◌, subst, arith, length-take}
+use Rattle.std.proofs.Common.{◌≡◌, ℕ, ◌+◌, ◌*◌, List, ◌∷◌, take, set, option_map, inl, inr, sym, ap, ◌∙◌, subst, arith, length-take}
 use Rattle.std.specs.List.{slice_range}
 use Rattle.std.specs.Str.{IsUtf8}
 use Rattle.std.specs.Prelude.{encode_utf8}

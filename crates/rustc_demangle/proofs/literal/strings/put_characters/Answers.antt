@@ -1,4 +1,4 @@
-use Rattle.std.proofs.Common.{◌≡◌, ℕ, ◌+◌, ◌-◌, ◌<◌, ◌≤◌, List, [], ◌∷◌, ◌++◌, append_assoc, sym, refl, ap, ◌∙◌, arith}
+use Rattle.std.proofs.Common.{◌≡◌, ℕ, List, [], ◌∷◌, ◌++◌, append_assoc, sym, refl, ap, ◌∙◌, arith}
 use Rattle.rustc_demangle.specs.Nibbles.{nibbles_in, characters_of, written}
 use Rattle.rustc_demangle.proofs.PrintsLemmas.{prints_then, prints_stop}
 use Rattle.rustc_demangle.proofs.StringPieces.{characters_on, characters_all, text_left, written-push, written-split}

@@ -2,7 +2,6 @@ use Rattle.rustc_demangle.proofs.FirstLooks.{first_looks_top}
 use Rattle.rustc_demangle.proofs.Hearing.{has_room_top, has_room_below, has_room_length}
 use Rattle.rustc_demangle.proofs.Performed.{performed_room, performed_step}
 use Rattle.std.proofs.Common.{arith}
-use Rattle.rustc_demangle.specs.FirstLooks.{first_looks}
 use Rattle.rustc_demangle.proofs.v0.machine.Machine.advance.Goals as goal
 
 pub perform-requires-clause-room : goal.perform-requires-clause-room

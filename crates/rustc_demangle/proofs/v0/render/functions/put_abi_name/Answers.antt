@@ -1,4 +1,4 @@
-use Rattle.std.proofs.Common.{[], ◌∷◌, ◌+◌, sym, arith, slice_range}
+use Rattle.std.proofs.Common.{[], ◌∷◌, sym, arith, slice_range}
 use Rattle.std.specs.Prelude.{codes}
 use Rattle.rustc_demangle.proofs.Printed.{printed_start, printed_left, printed_then, printed_stop, printed_last}
 use Rattle.rustc_demangle.proofs.StretchTexts.{hyphen_start, hyphen_turn, hyphen_on, hyphen_end}
