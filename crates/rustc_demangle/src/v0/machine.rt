@@ -20,7 +20,9 @@ pub struct Machine {
 
 impl Machine {
     /// A machine that has no task.
-    pub fn new() -> Self {
+    pub fn new() -> Self
+        ensures { result.work.tasks ≡ [] }
+    {
         Machine {
             work: Work {
                 tasks: Row::new(),
