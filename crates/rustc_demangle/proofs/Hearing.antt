@@ -154,6 +154,10 @@ has_room_length n (t ∷ tasks) h =
     let above = has_room_length (n - 1) tasks h.2 in
     omega arith
 
+-- where a row is not full, there is room for two behind what is below its top
+pub room_below : (n : ℕ) (tasks : List Task) (task : Task) → length (tasks ++ task ∷ []) < n → length tasks + 2 ≤ n
+room_below n tasks task h = omega (arith, h, length-append tasks (task ∷ []))
+
 pub record RoomForMove (n : ℕ) (tasks : List Task) (m : Move) : Type 0 where
   pub outer : length (pushed tasks m.outer) ≤ n
   pub inner : length (pushed (pushed tasks m.outer) m.inner) ≤ n

@@ -49,6 +49,7 @@ pub mod Printed
 pub mod Printing
 pub mod PrintingLaws
 pub mod PrintingLooks
+pub mod Progressing
 pub mod PrintsLemmas
 pub mod PrintsPieces
 pub mod Ranges

@@ -5,13 +5,8 @@ use Rattle.rustc_demangle.specs.declared.sink.TextSink.{Ghosts}
 use Rattle.rustc_demangle.specs.declared.sink.SinkRefused.{SinkRefused}
 use Rattle.rustc_demangle.specs.declared.sink.limit.SizeLimitedFmtAdapter.{SizeLimitedFmtAdapter}
 use Rattle.rustc_demangle.specs.Limit.{Ready, Prints}
+use Rattle.rustc_demangle.specs.Progress.{Printed}
 use Rattle.rustc_demangle.proofs.PrintsLemmas.{prints_ready, prints_nothing, prints_then, prints_stop}
-
--- of the whole list all was printed but for the rest
-pub record Printed {S : Type 0} (sink : Ghosts S) (old : SizeLimitedFmtAdapter S) (whole rest : List (List ℕ)) (new : SizeLimitedFmtAdapter S) : Type 0 where
-  pub front : List (List ℕ)
-  pub done : Prints sink old front (Ok tt) new
-  pub is : front ++ rest ≡ whole
 
 module _ {S : Type 0} (sink : Ghosts S) where
   pub printed_start : (out : SizeLimitedFmtAdapter S) (whole rest : List (List ℕ)) → Ready sink out → rest ≡ whole → Printed sink out whole rest out

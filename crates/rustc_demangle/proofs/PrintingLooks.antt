@@ -8,6 +8,7 @@ use Rattle.rustc_demangle.specs.Cut.{size, fitting, kept}
 use Rattle.rustc_demangle.specs.Events.{Event, events, Heard}
 use Rattle.rustc_demangle.specs.Groups.{texts_of, looks_later}
 use Rattle.rustc_demangle.specs.Items.{a_path}
+use Rattle.rustc_demangle.specs.Progress.{Printed, PaidSoFar, had}
 use Rattle.rustc_demangle.specs.Reading.{Tree, nothing, piece, plain_piece, node, looked, hidden, invalid_syntax, too_deep, unread, stretches, unheard, looks, read_at, levels, level_of}
 use Rattle.rustc_demangle.specs.Running.{StepServes}
 use Rattle.rustc_demangle.specs.Shares.{owed, share, outcome}
@@ -21,9 +22,8 @@ use Rattle.rustc_demangle.specs.declared.v0.task.Task.TheVariants.{Enter}
 use Rattle.rustc_demangle.proofs.CutLemmas.{size-append, fitting-append}
 use Rattle.rustc_demangle.proofs.LooksLaw.{printing_pays}
 use Rattle.rustc_demangle.proofs.PaysRules.{Pays-more}
-use Rattle.rustc_demangle.proofs.Printed.{Printed}
 use Rattle.rustc_demangle.proofs.Printing.{weighed, step_takes}
-use Rattle.rustc_demangle.proofs.StepsPaid.{had, pays_takes, taken}
+use Rattle.rustc_demangle.proofs.StepsPaid.{pays_takes, taken}
 
 -- Whatever pays for the stretches of a tree pays for its events.
 
@@ -94,14 +94,6 @@ pays_tree r a c plain t h =
 pub path_paid : (b : List ℕ) (plain : Bool) → Pays (17000 * (length b + 1)) (17034 * (length b + 1)) (weighed (share b plain (Enter entry.Path 500 (record { output = true; value = true; lifetimes = 0 })) (Some 0) false).events) 0
 unfolding share outcome read_at
 path_paid b plain = pays_tree (17000 * (length b + 1)) (17034 * (length b + 1)) 0 plain (level_of b (levels b 500) true a_path true 0 0).tree (printing_pays b plain)
-
--- So far so many looks were made since `start`, and of a room of bytes so many are left: what was handed over has paid for them,
--- and what is still owed is paid for.
-pub record PaidSoFar (b : List ℕ) (plain : Bool) (start made room left : ℕ) (tasks : List Task) (i : Option ℕ) (o : Bool) : Type 0 where
-  pub bytes : ℕ
-  pub handed : left + bytes ≡ room
-  pub looked : made ≤ had start (length b) bytes
-  pub pays : Pays (17000 * (length b + 1)) (had start (length b) bytes - made) (weighed (owed b plain tasks i o).events) 0
 
 pub paid_start : (b : List ℕ) (plain : Bool) (start room : ℕ) (tasks : List Task) (i : Option ℕ) (o : Bool)
     → owed b plain tasks i o ≡ share b plain (Enter entry.Path 500 (record { output = true; value = true; lifetimes = 0 })) (Some 0) false

@@ -5,6 +5,7 @@ use Rattle.std.proofs.Math.Nat.{mul-le-mul_left}
 use Rattle.rustc_demangle.specs.Cost.{Stretch, Pays}
 use Rattle.rustc_demangle.specs.Cut.{size}
 use Rattle.rustc_demangle.specs.Items.{Text}
+use Rattle.rustc_demangle.specs.Progress.{had}
 use Rattle.rustc_demangle.specs.Reading.{looks, hands}
 use Rattle.rustc_demangle.specs.Steps.{total, ahead, Takes}
 use Rattle.rustc_demangle.proofs.PaysRules.{Pays-more}
@@ -46,10 +47,6 @@ pays_ahead r a c (s ∷ xs) h = go (s.bytes == 0) (λ e. grind (arith, e)) (pays
     go : (b : Bool) → (b ≡ true → r * s.bytes ≡ 0) → ahead xs ≤ a - s.looks + r * s.bytes → s.looks + cond b (ahead xs) 0 ≤ a
     go true e q = omega (arith, h.0, q, e refl)
     go false e q = omega (arith, h.0)
-
--- what the account had in all
-abbrev pub had : ℕ → ℕ → ℕ → ℕ
-had start n w = start + 17034 * (n + 1) + 17000 * (n + 1) * w
 
 pub fits : (start looks n w room a : ℕ) → w ≤ room → looks ≤ had start n w → a ≤ had start n w - looks →
     start + 100000 * (room + 1) * (n + 1) < 2 ^ 64 → looks + a < 2 ^ 64

@@ -26,6 +26,7 @@ pub mod Names
 pub mod Nibbles
 pub mod Performing
 pub mod Pieces
+pub mod Progress
 pub mod Prefix
 pub mod Punycode
 pub mod Reading

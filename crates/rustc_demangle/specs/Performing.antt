@@ -9,15 +9,15 @@ use Rattle.rustc_demangle.specs.Move.{Move}
 use Rattle.rustc_demangle.specs.declared.v0.work.Work.{Work}
 
 -- what a move leaves
-abbrev pub after : Work → Move → Work
+abbrev pub after : {N : ℕ} → Work N → Move → Work N
 after w m = record { tasks = pushed (pushed w.tasks m.outer) m.inner; place = m.place; is_open = m.is_open; stretch = printed m.output m.stretch }
 
 -- the move was made, where its tasks keep within the bound on lifetimes
-pub record Done (old new : Work) (m : Move) : Type 0 where
+pub record Done {N : ℕ} (old new : Work N) (m : Move) : Type 0 where
   pub leaves : bound_of m.outer ≤ most_bound → bound_of m.inner ≤ most_bound → new ≡ after old m
 
 -- a move that does one step of a task was made
-pub record Performs (b : List ℕ) (task : Task) (i : Place) (o : Bool) (old new : Work) (made : ℕ) : Type 0 where
+pub record Performs {N : ℕ} (b : List ℕ) (task : Task) (i : Place) (o : Bool) (old new : Work N) (made : ℕ) : Type 0 where
   pub move : Move
   pub serves : Serves b task i o move made
   pub done : Done old new move

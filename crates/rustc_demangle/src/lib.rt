@@ -38,7 +38,7 @@ pub fn demangle_counted<'a>(s: &'a str, looks: &mut Looks) -> Demangle<'a>
     ensures most { looks.new ≤ looks.old + 64 * (length s.now + 1) }
     ensures least { IsSymbol (stripped s.now) → looks.old + (length (stripped s.now) - 4) ≤ looks.new }
 {
-    Demangle::read(without_thin_lto(s), None, looks)
+    Demangle::read(without_thin_lto(s), looks)
 }
 
 /// Reads a text as a Rust symbol, in the legacy scheme or in v0 (Rust RFC 2603).
@@ -50,32 +50,13 @@ pub fn demangle(s: &str) -> Demangle<'_>
     demangle_counted(s, &mut Looks::new())
 }
 
-// Reads a text as `demangle` does, by the machine that is given or one of its own.
-fn demangle_by<'a>(s: &'a str, machine: Option<&mut v0::Machine>) -> Demangle<'a>
-    ensures { result ≡ stripped s.now }
-{
-    Demangle::read(without_thin_lto(s), machine, &mut Looks::new())
-}
-
 /// Reads a text as a Rust symbol, or refuses it where it is none.
 pub fn try_demangle(s: &str) -> Result<Demangle<'_>, TryDemangleError>
     ensures symbol { OnOk result (IsSymbol (stripped s.now)) }
     ensures text { IfOk result (λ d. d ≡ stripped s.now) }
     ensures none { OnErr result (IsSymbol (stripped s.now) → ⊥) }
 {
-    try_demangle_by(s, None)
-}
-
-// Reads a text as `try_demangle` does, by the machine that is given or one of its own.
-fn try_demangle_by<'a>(
-    s: &'a str,
-    machine: Option<&mut v0::Machine>,
-) -> Result<Demangle<'a>, TryDemangleError>
-    ensures symbol { OnOk result (IsSymbol (stripped s.now)) }
-    ensures text { IfOk result (λ d. d ≡ stripped s.now) }
-    ensures none { OnErr result (IsSymbol (stripped s.now) → ⊥) }
-{
-    let symbol = demangle_by(s, machine);
+    let symbol = demangle(s);
     if symbol.has_style() {
         Ok(symbol)
     } else {

@@ -2,7 +2,6 @@
 ghost use Rattle.std.specs.Prelude.{◌≡◌, IfSome, OnOk, IfOk, IfErr, IsUtf8};
 ghost use Rattle.rustc_demangle.specs.Stream.{LineCopied, Finished, Stopped, StoppedAs};
 
-use crate::v0::Machine;
 use std::alloc::{Allocator, Global};
 use std::io::{BufRead, Write};
 use std::{io, str};
@@ -33,7 +32,6 @@ fn copy_line<R: BufRead, W: Write, A: Allocator>(
     input: &mut R,
     output: &mut W,
     line: &mut Vec<u8, A>,
-    machine: &mut Machine,
     include_hash: bool,
 ) -> Result<bool, StreamFault>
     ensures { LineCopied result include_hash (R.remaining input.old) (R.remaining input.new)
@@ -45,7 +43,7 @@ fn copy_line<R: BufRead, W: Write, A: Allocator>(
         return Ok(false);
     }
     let text = text_of(line.as_slice())?;
-    match demangle_line(text, machine, output, include_hash) {
+    match demangle_line(text, output, include_hash) {
         Ok(()) => Ok(true),
         Err(error) => Err(StreamFault::Write(error)),
     }
@@ -56,7 +54,6 @@ fn copy_lines<R: BufRead, W: Write, A: Allocator>(
     input: &mut R,
     output: &mut W,
     line: &mut Vec<u8, A>,
-    machine: &mut Machine,
     include_hash: bool,
 ) -> Result<(), StreamFault>
     ensures ok { OnOk result (IfSome (R.remaining input.old) (λ text.
@@ -65,7 +62,7 @@ fn copy_lines<R: BufRead, W: Write, A: Allocator>(
         Stopped fault text include_hash (W.contents output.old) (W.contents output.new))) }
 {
     for _ in 0..=u64::MAX {
-        if !copy_line(input, output, line, machine, include_hash)? {
+        if !copy_line(input, output, line, include_hash)? {
             return Ok(());
         }
     }
@@ -91,7 +88,7 @@ pub fn demangle_stream_named<R: BufRead, W: Write>(
         Stopped fault text include_hash (W.contents output.old) (W.contents output.new))) }
 {
     let mut line = Vec::new(alloc);
-    copy_lines(input, output, &mut line, &mut Machine::new(), include_hash)
+    copy_lines(input, output, &mut line, include_hash)
 }
 
 /// Writes the input with each symbol of it demangled, as `demangle_stream_named` does, and gives its fault as an

@@ -4,7 +4,7 @@ ghost use Rattle.rustc_demangle.specs.V0.{inner_of, v0_of};
 
 use crate::cursor::{Looks, ParseError, Symbol};
 use crate::prefix::behind_prefix;
-use crate::v0::accept::{begins_path, suffix_by};
+use crate::v0::accept::{begins_path, suffix_at};
 
 mod accept;
 mod grammar;
@@ -22,7 +22,6 @@ mod value;
 mod words;
 mod work;
 
-pub(crate) use machine::Machine;
 pub(crate) use value::Demangle;
 
 /// What stands behind the prefix of a v0 symbol.
@@ -41,10 +40,9 @@ fn inner_of(s: &str) -> Option<&str>
     behind_prefix(s, "__R")
 }
 
-/// Reads a v0 symbol, by the machine that is given or one of its own: the symbol, and the suffix behind its paths.
+/// Reads a v0 symbol: the symbol, and the suffix behind its paths.
 pub(crate) fn demangle<'s>(
     s: &'s str,
-    machine: Option<&mut Machine>,
     looks: &mut Looks,
 ) -> Result<(Demangle<'s>, &'s str), ParseError>
     ensures ok { IfOk result (λ r. v0_of s.now ≡ Some (r.0, r.1.now)) }
@@ -64,7 +62,7 @@ pub(crate) fn demangle<'s>(
     if !begins_path(&symbol, 0, looks) {
         return Err(ParseError::Invalid);
     }
-    let Some(end) = suffix_by(&symbol, machine, looks) else {
+    let Some(end) = suffix_at(&symbol, looks) else {
         return Err(ParseError::Invalid);
     };
     Ok((Demangle::new(symbol), &inner[end..]))

@@ -30,7 +30,6 @@ impl DemangleStyle<'_> {
     /// Prints the symbol without its suffix.
     fn write_to<S: TextSink>(
         &self,
-        machine: Option<&mut v0::Machine>,
         out: &mut SizeLimitedFmtAdapter<'_, S>,
         include_hash: bool,
         looks: &mut Looks,
@@ -43,7 +42,7 @@ impl DemangleStyle<'_> {
     {
         match self {
             DemangleStyle::Legacy(symbol) => symbol.write_to(out, include_hash, looks),
-            DemangleStyle::V0(symbol) => symbol.write_to(machine, out, include_hash, looks),
+            DemangleStyle::V0(symbol) => symbol.write_to(out, include_hash, looks),
         }
     }
 }
@@ -71,7 +70,6 @@ impl<'a> Model for Demangle<'a> {
 /// Prints a symbol without its suffix into a sink, cut at the limit.
 fn write_cut<S: TextSink>(
     style: &DemangleStyle<'_>,
-    machine: Option<&mut v0::Machine>,
     out: &mut S,
     include_hash: bool,
     limit: usize,
@@ -84,7 +82,7 @@ fn write_cut<S: TextSink>(
     ensures least { looks.old + style_least style.now ≤ looks.new }
 {
     let mut limited = SizeLimitedFmtAdapter::new(out, limit);
-    let result = style.write_to(machine, &mut limited, include_hash, looks);
+    let result = style.write_to(&mut limited, include_hash, looks);
     if limited.is_over() {
         put_piece("{size limit reached}", out)
     } else {
@@ -103,7 +101,6 @@ impl<'a> Demangle<'a> {
     // Prints into a sink, by what it was handed.
     fn hand_over<S: TextSink>(
         &self,
-        machine: Option<&mut v0::Machine>,
         out: &mut S,
         include_hash: bool,
         limit: usize,
@@ -120,7 +117,7 @@ impl<'a> Demangle<'a> {
         let Some(style) = &self.style else {
             return put_piece(self.original, out);
         };
-        write_cut(style, machine, out, include_hash, limit, looks)?;
+        write_cut(style, out, include_hash, limit, looks)?;
         put_piece(self.suffix, out)
     }
 
@@ -148,25 +145,7 @@ impl<'a> Demangle<'a> {
         ensures v0 { IsV0Symbol self.now → looks.old + 1 ≤ looks.new }
         ensures unread { (IsSymbol self.now → ⊥) → looks.new ≡ looks.old }
     {
-        self.hand_over(None, out, include_hash, limit, looks)
-    }
-
-    // Prints as `write_limited` does, by the machine that is given or one of its own.
-    pub(crate) fn write_limited_by<S: TextSink>(
-        &self,
-        machine: Option<&mut v0::Machine>,
-        out: &mut S,
-        include_hash: bool,
-        limit: usize,
-    ) -> Result<(), SinkRefused>
-        requires { S.failed out.old ≡ false }
-        ensures text { OnOk result (S.took out.old (concat (handed self.now include_hash limit)) out.new) }
-        ensures alive { OnOk result (S.failed out.new ≡ false) }
-        ensures failed { OnErr result (S.failed out.new ≡ true) }
-        ensures kept { OnErr result (S.keeps ≡ true → HoldsFront S.TextSink out.old (handed self.now include_hash limit) out.new) }
-        ensures fits { Fits (size (handed self.now include_hash limit)) (S.room out.old) → IsOk result }
-    {
-        self.hand_over(machine, out, include_hash, limit, &mut Looks::new())
+        self.hand_over(out, include_hash, limit, looks)
     }
 
     /// Prints into a sink, cut at `limit` bytes before the suffix, as `write_limited_counted` does.
@@ -256,11 +235,7 @@ fn is_allowed(suffix: &str, looks: &mut Looks) -> bool
 }
 
 // What a scheme reads of a text, and what it leaves.
-fn read_style<'a>(
-    text: &'a str,
-    machine: Option<&mut v0::Machine>,
-    looks: &mut Looks,
-) -> Option<(DemangleStyle<'a>, &'a str)>
+fn read_style<'a>(text: &'a str, looks: &mut Looks) -> Option<(DemangleStyle<'a>, &'a str)>
     ensures some { IfSome result (λ r. IsReadAs text.now r.0 r.1.now) }
     ensures inner { IfSome result (λ r. style_len r.0 ≤ length text.now) }
     ensures none { IfNone result ((legacy_of text.now ≡ None) × (v0_of text.now ≡ None)) }
@@ -271,25 +246,21 @@ fn read_style<'a>(
     if let Ok((symbol, suffix)) = legacy::demangle(text, looks) {
         return Some((DemangleStyle::Legacy(symbol), suffix));
     }
-    match v0::demangle(text, machine, looks) {
+    match v0::demangle(text, looks) {
         Ok((symbol, suffix)) => Some((DemangleStyle::V0(symbol), suffix)),
         Err(_) => None,
     }
 }
 
 // The style of a text and its suffix, if it is a symbol.
-fn style_of<'a>(
-    text: &'a str,
-    machine: Option<&mut v0::Machine>,
-    looks: &mut Looks,
-) -> Option<(DemangleStyle<'a>, &'a str)>
+fn style_of<'a>(text: &'a str, looks: &mut Looks) -> Option<(DemangleStyle<'a>, &'a str)>
     ensures some { IfSome result (λ r. HasStyle text.now r.0 r.1.now) }
     ensures none { IfNone result (HasNoStyle text.now) }
     ensures grows { looks.old ≤ looks.new }
     ensures most { looks.new ≤ looks.old + 61 * (length text.now + 1) }
     ensures least { IfSome result (λ _. looks.old + (length text.now - 4) ≤ looks.new) }
 {
-    let (style, suffix) = read_style(text, machine, looks)?;
+    let (style, suffix) = read_style(text, looks)?;
     if is_allowed(suffix, looks) {
         Some((style, suffix))
     } else {
@@ -298,18 +269,14 @@ fn style_of<'a>(
 }
 
 impl<'a> Demangle<'a> {
-    // The text, read as a symbol where it is one, by the machine that is given or one of its own.
-    pub(crate) fn read(
-        text: &'a str,
-        machine: Option<&mut v0::Machine>,
-        looks: &mut Looks,
-    ) -> Demangle<'a>
+    // The text, read as a symbol where it is one.
+    pub(crate) fn read(text: &'a str, looks: &mut Looks) -> Demangle<'a>
         ensures text { result ≡ text.now }
         ensures grows { looks.old ≤ looks.new }
         ensures most { looks.new ≤ looks.old + 61 * (length text.now + 1) }
         ensures least { IsSymbol text.now → looks.old + (length text.now - 4) ≤ looks.new }
     {
-        match style_of(text, machine, looks) {
+        match style_of(text, looks) {
             Some((style, suffix)) => Demangle {
                 style: Some(style),
                 original: text,

@@ -6,9 +6,7 @@ ghost use Rattle.rustc_demangle.specs.Filtered.{is_run, begins_run, replacement,
 ghost use Rattle.rustc_demangle.specs.Symbols.{printed};
 
 use crate::sink::WriteSink;
-use crate::v0::Machine;
-use crate::value::MAX_SIZE;
-use crate::{Demangle, try_demangle_by};
+use crate::{Demangle, try_demangle};
 use std::io;
 use std::io::Write;
 
@@ -65,7 +63,6 @@ fn write_kept<W: Write>(text: &str, output: &mut W) -> io::Result<()>
 // Writes what a symbol prints, each piece by a call of its own.
 fn write_symbol<W: Write>(
     symbol: &Demangle<'_>,
-    machine: &mut Machine,
     output: &mut W,
     include_hash: bool,
 ) -> io::Result<()>
@@ -73,7 +70,7 @@ fn write_symbol<W: Write>(
 {
     let mut sink = WriteSink::new(output);
     // Where it is refused, the sink has a fault.
-    let _ = symbol.write_limited_by(Some(machine), &mut sink, include_hash, MAX_SIZE);
+    let _ = symbol.write_to(&mut sink, include_hash);
     match sink.into_fault() {
         Some(error) => Err(error),
         None => Ok(()),
@@ -81,16 +78,11 @@ fn write_symbol<W: Write>(
 }
 
 // Writes what stands for a run: what it prints where it is a symbol, else the run.
-fn write_run<W: Write>(
-    run: &str,
-    machine: &mut Machine,
-    output: &mut W,
-    include_hash: bool,
-) -> io::Result<()>
+fn write_run<W: Write>(run: &str, output: &mut W, include_hash: bool) -> io::Result<()>
     ensures { OnOk result (Appends (W.contents output.old) (W.contents output.new) (replacement include_hash run.now)) }
 {
-    match try_demangle_by(run, Some(machine)) {
-        Ok(symbol) => write_symbol(&symbol, machine, output, include_hash),
+    match try_demangle(run) {
+        Ok(symbol) => write_symbol(&symbol, output, include_hash),
         Err(_) => write_kept(run, output),
     }
 }
@@ -98,7 +90,6 @@ fn write_run<W: Write>(
 /// Writes a line with each symbol of it demangled, in one pass over it.
 pub(super) fn demangle_line<W: Write>(
     line: &str,
-    machine: &mut Machine,
     output: &mut W,
     include_hash: bool,
 ) -> io::Result<()>
@@ -109,7 +100,7 @@ pub(super) fn demangle_line<W: Write>(
         let (kept, found) = rest.split_at(start);
         let (run, behind) = found.split_at(run_len(found.as_bytes()));
         write_kept(kept, output)?;
-        write_run(run, machine, output, include_hash)?;
+        write_run(run, output, include_hash)?;
         rest = behind;
     }
     write_kept(rest, output)

@@ -1,6 +1,5 @@
 //! The stream where memory is refused, and its faults as errors.
 use super::{StreamFault, copy_lines, demangle_stream};
-use crate::v0::Machine;
 use linked_list_allocator::LocalHeap;
 use std::alloc::Global;
 use std::io::ErrorKind;
@@ -37,13 +36,12 @@ struct Copies {
 // Each size of a heap lets the buffer grow so far; each refusal leaves whole lines.
 fn copied_in_heaps(alloc: Global, text: &[u8], first: &[u8], whole: &[u8]) -> Result<Copies, Fail> {
     let mut copies = Copies::default();
-    let mut machine = Machine::new();
     for units in 1..64usize {
         let heap = LocalHeap::new(alloc, units * 16)?;
         let mut line = Vec::new(&heap);
         let mut input = text;
         let mut output = Vec::new(alloc);
-        match copy_lines(&mut input, &mut output, &mut line, &mut machine, false) {
+        match copy_lines(&mut input, &mut output, &mut line, false) {
             Ok(()) if output.as_slice() == whole => copies.whole = true,
             Err(StreamFault::Memory) if output.is_empty() => copies.refused_first = true,
             Err(StreamFault::Memory) if output.as_slice() == first => copies.refused_second = true,

@@ -10,12 +10,7 @@ use crate::v0::machine::{Machine, read_all};
 use crate::v0::task::Setting;
 
 /// Where the path at a place ends, if one is spelled there.
-pub fn path_end(
-    symbol: &Symbol<'_>,
-    place: usize,
-    machine: &mut Machine,
-    looks: &mut Looks,
-) -> Option<usize>
+pub fn path_end(symbol: &Symbol<'_>, place: usize, looks: &mut Looks) -> Option<usize>
     ensures value { result ≡ spelled symbol.now a_path place 0 }
     ensures grows { looks.old ≤ looks.new }
     ensures looks { looks.new ≤ looks.old + looks_in (read_at symbol.now false a_path place 0 0 true) }
@@ -25,21 +20,21 @@ pub fn path_end(
         value: true,
         lifetimes: 0,
     };
-    machine.begin(Entry::Path, MAX_DEPTH as u16, setting, place);
-    read_all(machine, symbol, looks)
+    let mut machine = Machine::begun(Entry::Path, MAX_DEPTH as u16, setting, place);
+    read_all(&mut machine, symbol, looks)
 }
 
 /// Where the suffix begins, behind one path or two, if they are spelled.
-pub fn suffix_at(symbol: &Symbol<'_>, machine: &mut Machine, looks: &mut Looks) -> Option<usize>
+pub fn suffix_at(symbol: &Symbol<'_>, looks: &mut Looks) -> Option<usize>
     ensures value { result ≡ suffix_of symbol.now }
     ensures grows { looks.old ≤ looks.new }
     ensures looks { looks.new + suffix_looks symbol.now result ≤ looks.old + accepting_looks symbol.now }
 {
-    let Some(end) = path_end(symbol, 0, machine, looks) else {
+    let Some(end) = path_end(symbol, 0, looks) else {
         return None;
     };
     if begins_path(symbol, end, looks) {
-        return path_end(symbol, end, machine, looks);
+        return path_end(symbol, end, looks);
     }
     Some(end)
 }
@@ -52,31 +47,5 @@ pub fn begins_path(symbol: &Symbol<'_>, place: usize, looks: &mut Looks) -> bool
     match symbol.byte(place, looks) {
         Some(b'A'..=b'Z') => true,
         _ => false,
-    }
-}
-
-/// Where the suffix begins, as `suffix_at` says, by a machine of its own.
-#[inline(never)]
-fn suffix_alone(symbol: &Symbol<'_>, looks: &mut Looks) -> Option<usize>
-    ensures value { result ≡ suffix_of symbol.now }
-    ensures grows { looks.old ≤ looks.new }
-    ensures looks { looks.new + suffix_looks symbol.now result ≤ looks.old + accepting_looks symbol.now }
-{
-    suffix_at(symbol, &mut Machine::new(), looks)
-}
-
-/// Where the suffix begins, as `suffix_at` says, by the machine that is given or one of its own.
-pub fn suffix_by(
-    symbol: &Symbol<'_>,
-    machine: Option<&mut Machine>,
-    looks: &mut Looks,
-) -> Option<usize>
-    ensures value { result ≡ suffix_of symbol.now }
-    ensures grows { looks.old ≤ looks.new }
-    ensures looks { looks.new + suffix_looks symbol.now result ≤ looks.old + accepting_looks symbol.now }
-{
-    match machine {
-        Some(machine) => suffix_at(symbol, machine, looks),
-        None => suffix_alone(symbol, looks),
     }
 }

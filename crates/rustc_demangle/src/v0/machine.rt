@@ -1,5 +1,5 @@
 //! The machine that reads and prints v0 symbols in steps.
-ghost use Rattle.std.specs.Prelude.{◌≡◌, ℕ, List, Bool, ◌+◌, ◌-◌, ◌≤◌, [], ◌∷◌, Some, true, false, IfSome, IfNone};
+ghost use Rattle.std.specs.Prelude.{◌≡◌, ℕ, List, Bool, ◌+◌, ◌-◌, ◌<◌, ◌≤◌, [], ◌∷◌, length, Some, true, false, IsTrue, IfSome, IfNone};
 ghost use Rattle.rustc_demangle.specs.FirstLooks.{first_looks};
 ghost use Rattle.rustc_demangle.specs.Shares.{share, owed, height, bound, most_bound, HasRoom, HasRoom-prop};
 ghost use Rattle.rustc_demangle.specs.Running.{StepServes, allowed_in};
@@ -11,40 +11,64 @@ use crate::v0::stretch::Stretch;
 use crate::v0::task::{Setting, Task};
 use crate::v0::work::{Row, Work};
 
-/// A reading under way: its place, and the row of tasks that are left. The row takes 64 KB.
+/// How many tasks the row of a first machine holds, which is enough for all but deep symbols.
+pub const FEW: usize = 64;
+
+/// How many tasks a row holds in which there is room for all that can ever stand there.
+pub const MOST: usize = 4096;
+
+/// A reading under way: its place, and a row of the tasks that are left. Each task takes 16 bytes of it.
 #[derive(Drop)]
-pub struct Machine {
-    work: Work,
+pub struct Machine<const N: usize> {
+    work: Work<N>,
     ghost room: { HasRoom 4008 work.tasks } by { HasRoom-prop 4008 work.tasks },
 }
 
-impl Machine {
-    /// A machine that has no task.
-    pub fn new() -> Self
-        ensures { result.work.tasks ≡ [] }
+impl<const N: usize> Machine<N> {
+    /// A machine that has a unit to read, begun at a place.
+    pub fn begun(entry: Entry, left: u16, setting: Setting, place: usize) -> Self
+        requires room { 0 < N }
+        requires height { height (Task.Enter entry left setting) ≤ 4008 }
+        requires bound { bound (Task.Enter entry left setting) ≤ most_bound }
+        ensures tasks { result.work.tasks ≡ Task.Enter entry left setting ∷ [] }
+        ensures place { result.work.place ≡ Some place }
+        ensures owed { (b : List ℕ) (plain : Bool) → owed b plain result.work.tasks result.work.place result.work.is_open ≡ share b plain (Task.Enter entry left setting) (Some place) false }
     {
+        let mut tasks = Row::new();
+        tasks.push_unit(entry, left, setting);
         Machine {
             work: Work {
-                tasks: Row::new(),
-                place: None,
+                tasks,
+                place: Some(place),
                 is_open: false,
                 stretch: Stretch::Nothing,
             },
         }
     }
 
-    /// Leaves what it had to do, and begins a unit at a place.
-    pub fn begin(&mut self, entry: Entry, left: u16, setting: Setting, place: usize)
-        requires height { height (Task.Enter entry left setting) ≤ 4008 }
-        requires bound { bound (Task.Enter entry left setting) ≤ most_bound }
-        ensures tasks { self.new.work.tasks ≡ Task.Enter entry left setting ∷ [] }
-        ensures place { self.new.work.place ≡ Some place }
-        ensures owed { (b : List ℕ) (plain : Bool) → owed b plain self.new.work.tasks self.new.work.place self.new.work.is_open ≡ share b plain (Task.Enter entry left setting) (Some place) false }
+    /// A machine with more room, as far in the same reading.
+    pub fn widened<const M: usize>(&self) -> Machine<M>
+        requires { 4008 ≤ M }
+        ensures tasks { result.work.tasks ≡ self.now.work.tasks }
+        ensures place { result.work.place ≡ self.now.work.place }
+        ensures is_open { result.work.is_open ≡ self.now.work.is_open }
     {
-        self.work.tasks.clear();
-        self.work.tasks.push_unit(entry, left, setting);
-        self.work.place = Some(place);
-        self.work.is_open = false;
+        Machine {
+            work: Work {
+                tasks: self.work.tasks.widened(),
+                place: self.work.place,
+                is_open: self.work.is_open,
+                stretch: Stretch::Nothing,
+            },
+        }
+    }
+
+    /// Whether its row has room for a step.
+    pub fn has_room(&self) -> bool
+        ensures yes { IsTrue result → length self.now.work.tasks < N }
+        ensures no { result ≡ false → N ≤ length self.now.work.tasks }
+    {
+        self.work.tasks.len() < N
     }
 
     /// Where the reading stands.
@@ -56,6 +80,7 @@ impl Machine {
 
     /// Does one step, if a task is left: takes at most one stretch off those that are still to come.
     pub fn advance(&mut self, symbol: &Symbol<'_>, looks: &mut Looks) -> Option<()>
+        requires { length self.old.work.tasks < N }
         ensures some { IfSome result (λ _. StepServes symbol.now self.old.work.tasks self.old.work.place self.old.work.is_open self.new.work.tasks self.new.work.place self.new.work.is_open self.new.work.stretch (looks.new - looks.old)) }
         ensures none { IfNone result (self.old.work.tasks ≡ []) }
         ensures same { IfNone result (self.new.work.tasks ≡ self.old.work.tasks) }
@@ -72,6 +97,7 @@ impl Machine {
 
     /// Does one step, as `advance` does: the stretch that it takes.
     pub fn step(&mut self, symbol: &Symbol<'_>, looks: &mut Looks) -> Option<Stretch>
+        requires { length self.old.work.tasks < N }
         ensures some { IfSome result (λ x. StepServes symbol.now self.old.work.tasks self.old.work.place self.old.work.is_open self.new.work.tasks self.new.work.place self.new.work.is_open x (looks.new - looks.old)) }
         ensures none { IfNone result (self.old.work.tasks ≡ []) }
         ensures same { IfNone result (self.new.work.tasks ≡ self.old.work.tasks) }
@@ -85,12 +111,43 @@ impl Machine {
     }
 }
 
+/// Reads without printing, until nothing is left or the row may be too short for a step: whether nothing is left.
+fn read_on<const N: usize>(machine: &mut Machine<N>, symbol: &Symbol<'_>, looks: &mut Looks) -> bool
+    ensures place { (plain : Bool) → (owed symbol.now plain machine.new.work.tasks machine.new.work.place machine.new.work.is_open).place ≡ (owed symbol.now plain machine.old.work.tasks machine.old.work.place machine.old.work.is_open).place }
+    ensures grows { looks.old ≤ looks.new }
+    ensures looks { looks.new + allowed_in (owed symbol.now true machine.new.work.tasks machine.new.work.place machine.new.work.is_open).events ≤ looks.old + allowed_in (owed symbol.now true machine.old.work.tasks machine.old.work.place machine.old.work.is_open).events }
+    ensures done { IsTrue result → machine.new.work.tasks ≡ [] }
+    ensures ends { 4008 < N → machine.new.work.tasks ≡ [] }
+{
+    while machine.has_room() {
+        let Some(()) = machine.advance(symbol, looks) else {
+            return true;
+        };
+    }
+    false
+}
+
+/// Reads the rest without printing, with room for every task: the place behind what was read.
+#[inline(never)]
+fn read_rest(machine: &Machine<FEW>, symbol: &Symbol<'_>, looks: &mut Looks) -> Option<usize>
+    ensures place { (plain : Bool) → result ≡ (owed symbol.now plain machine.now.work.tasks machine.now.work.place machine.now.work.is_open).place }
+    ensures grows { looks.old ≤ looks.new }
+    ensures looks { looks.new ≤ looks.old + allowed_in (owed symbol.now true machine.now.work.tasks machine.now.work.place machine.now.work.is_open).events }
+{
+    let mut machine: Machine<MOST> = machine.widened();
+    read_on(&mut machine, symbol, looks);
+    machine.place()
+}
+
 /// Reads to the end without printing: the place behind what was read.
-pub fn read_all(machine: &mut Machine, symbol: &Symbol<'_>, looks: &mut Looks) -> Option<usize>
+pub fn read_all(machine: &mut Machine<FEW>, symbol: &Symbol<'_>, looks: &mut Looks) -> Option<usize>
     ensures place { (plain : Bool) → result ≡ (owed symbol.now plain machine.old.work.tasks machine.old.work.place machine.old.work.is_open).place }
     ensures grows { looks.old ≤ looks.new }
     ensures looks { looks.new ≤ looks.old + allowed_in (owed symbol.now true machine.old.work.tasks machine.old.work.place machine.old.work.is_open).events }
 {
-    while let Some(()) = machine.advance(symbol, looks) {}
-    machine.place()
+    if read_on(machine, symbol, looks) {
+        machine.place()
+    } else {
+        read_rest(machine, symbol, looks)
+    }
 }

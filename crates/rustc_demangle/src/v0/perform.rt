@@ -23,15 +23,15 @@ mod lists;
 mod progress;
 
 /// Does one step of a task.
-pub fn perform(
+pub fn perform<const N: usize>(
     symbol: &Symbol<'_>,
     task: Task,
     place: Option<usize>,
     is_open: bool,
-    work: &mut Work,
+    work: &mut Work<N>,
     looks: &mut Looks,
 )
-    requires room { length work.old.tasks ≤ 4008 }
+    requires room { length work.old.tasks + 2 ≤ N }
     requires height { height task ≤ 4008 }
     requires bound { bound task ≤ most_bound }
     ensures serves { Performs symbol.now task place is_open work.old work.new (looks.new - looks.old) }
@@ -60,16 +60,16 @@ fn splat(is_marked: bool) -> Stretch
     }
 }
 
-fn enter(
+fn enter<const N: usize>(
     symbol: &Symbol<'_>,
     entry: Entry,
     left: u16,
     setting: Setting,
     place: Option<usize>,
-    work: &mut Work,
+    work: &mut Work<N>,
     looks: &mut Looks,
 )
-    requires room { length work.old.tasks ≤ 4008 }
+    requires room { length work.old.tasks + 2 ≤ N }
     ensures serves { (o : Bool) → Performs symbol.now (Task.Enter entry left setting) place o work.old work.new (looks.new - looks.old) }
     ensures grows { looks.old ≤ looks.new }
     ensures least { looks.old + looks_at_tag entry left place ≤ looks.new }
@@ -98,16 +98,16 @@ fn enter(
     }
 }
 
-fn go_on(
+fn go_on<const N: usize>(
     symbol: &Symbol<'_>,
     progress: Progress,
     setting: Setting,
     place: Option<usize>,
     is_open: bool,
-    work: &mut Work,
+    work: &mut Work<N>,
     looks: &mut Looks,
 )
-    requires room { length work.old.tasks ≤ 4008 }
+    requires room { length work.old.tasks + 2 ≤ N }
     requires left { progress.left ≤ 500 }
     requires bound { bound (Task.Rest progress setting) ≤ most_bound }
     ensures serves { Performs symbol.now (Task.Rest progress setting) place is_open work.old work.new (looks.new - looks.old) }
@@ -147,7 +147,7 @@ fn go_on(
             )
         }
         Item::Binds => go_bound(symbol, progress, setting, place, work, looks),
-        Item::Opens => work.opening(output, place),
+        Item::Opens => work.opening(place),
         Item::Bindings => {
             let inside = placed(setting, Position::NoValue);
             let told = told_bindings(left);
@@ -173,16 +173,16 @@ fn go_on(
 }
 
 /// A word.
-fn go_over(
+fn go_over<const N: usize>(
     symbol: &Symbol<'_>,
     word: Word,
     progress: Progress,
     setting: Setting,
     place: Option<usize>,
-    work: &mut Work,
+    work: &mut Work<N>,
     looks: &mut Looks,
 )
-    requires room { length work.old.tasks ≤ 4008 }
+    requires room { length work.old.tasks + 2 ≤ N }
     requires head { HeadIs progress (Item.Reads word) }
     requires index { progress.index < 2 ^ 7 }
     ensures serves { (o : Bool) → Performs symbol.now (Task.Rest progress setting) place o work.old work.new (looks.new - looks.old) }
@@ -197,15 +197,15 @@ fn go_over(
 }
 
 /// The letter of a namespace, which is noted.
-fn go_into(
+fn go_into<const N: usize>(
     symbol: &Symbol<'_>,
     progress: Progress,
     setting: Setting,
     place: Option<usize>,
-    work: &mut Work,
+    work: &mut Work<N>,
     looks: &mut Looks,
 )
-    requires room { length work.old.tasks ≤ 4008 }
+    requires room { length work.old.tasks + 2 ≤ N }
     requires head { HeadIs progress Item.Namespace }
     requires index { progress.index < 2 ^ 7 }
     ensures serves { (o : Bool) → Performs symbol.now (Task.Rest progress setting) place o work.old work.new (looks.new - looks.old) }
@@ -226,15 +226,15 @@ fn go_into(
 }
 
 /// A binder, whose lifetimes are in force from then on.
-fn go_bound(
+fn go_bound<const N: usize>(
     symbol: &Symbol<'_>,
     progress: Progress,
     setting: Setting,
     place: Option<usize>,
-    work: &mut Work,
+    work: &mut Work<N>,
     looks: &mut Looks,
 )
-    requires room { length work.old.tasks ≤ 4008 }
+    requires room { length work.old.tasks + 2 ≤ N }
     requires head { HeadIs progress Item.Binds }
     requires index { progress.index < 2 ^ 7 }
     requires bound { bound (Task.Rest progress setting) ≤ most_bound }
@@ -258,17 +258,17 @@ fn go_bound(
 }
 
 /// A back reference, which is followed where it is printed.
-fn go_back(
+fn go_back<const N: usize>(
     symbol: &Symbol<'_>,
     named: Named,
     position: Position,
     progress: Progress,
     setting: Setting,
     place: Option<usize>,
-    work: &mut Work,
+    work: &mut Work<N>,
     looks: &mut Looks,
 )
-    requires room { length work.old.tasks ≤ 4008 }
+    requires room { length work.old.tasks + 2 ≤ N }
     requires head { HeadIs progress (Item.Refers named position) }
     ensures serves { (o : Bool) → Performs symbol.now (Task.Rest progress setting) place o work.old work.new (looks.new - looks.old) }
     ensures grows { looks.old ≤ looks.new }
@@ -282,7 +282,7 @@ fn go_back(
             }
             let inside = placed(setting, position);
             let left = progress.left - 1;
-            work.following(output, target, entry_of(named), left, inside, next)
+            work.following(target, entry_of(named), left, inside, next)
         }
     }
 }

@@ -21,6 +21,7 @@ use names::{put_binding, put_crate_name, put_nested_name};
 use numbers::put_number_constant;
 
 /// Puts the pieces of a stretch. It ends at the piece that the limit or the sink refuses.
+#[inline(always)]
 pub fn render<S: TextSink>(
     symbol: &Symbol<'_>,
     stretch: Stretch,

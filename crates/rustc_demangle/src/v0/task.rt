@@ -228,6 +228,7 @@ impl Frame {
 }
 
 /// The task of a frame.
+#[inline(always)]
 pub fn unpacked(frame: Frame) -> Task
     ensures { result ≡ unpacked frame }
 {

@@ -7,7 +7,7 @@ ghost use Rattle.rustc_demangle.specs.Array.{text_of};
 use crate::cursor::{Looks, MAX_DEPTH, Symbol};
 use crate::sink::{ArraySink, SinkRefused, SizeLimitedFmtAdapter, TextSink};
 use crate::v0::grammar::{Entry, text};
-use crate::v0::machine::Machine;
+use crate::v0::machine::{MOST, Machine};
 use crate::v0::render::render;
 use crate::v0::stretch::Stretch;
 use crate::v0::task::Setting;
@@ -77,10 +77,12 @@ fn steps_print(inner: &str, wanted: &str) -> bool {
         value: true,
         lifetimes: 0,
     };
-    let mut machine = Machine::new();
-    machine.begin(Entry::Path, MAX_DEPTH as u16, setting, 0);
+    let mut machine: Machine<MOST> = Machine::begun(Entry::Path, MAX_DEPTH as u16, setting, 0);
     let mut sink = CountingSink::new();
-    while let Some(stretch) = machine.step(&symbol, &mut looks) {
+    while machine.has_room() {
+        let Some(stretch) = machine.step(&symbol, &mut looks) else {
+            break;
+        };
         let (from, pieces) = (sink.text.as_str().len(), sink.pieces);
         if sink.is_failed() {
             return false;

@@ -25,6 +25,7 @@ pub enum Beginning {
 }
 
 /// Reads what a unit begins with.
+#[inline(always)]
 pub fn begin(
     symbol: &Symbol<'_>,
     entry: Entry,
@@ -119,6 +120,7 @@ fn begin_type(symbol: &Symbol<'_>, place: usize, looks: &mut Looks) -> Beginning
     }
 }
 
+#[inline(always)]
 fn begin_tagged(symbol: &Symbol<'_>, left: u16, place: usize, looks: &mut Looks) -> Beginning
     ensures value { result ≡ (begin_tagged symbol.now left place).begins }
     ensures grows { looks.old ≤ looks.new }

@@ -6,8 +6,7 @@ ghost use Rattle.rustc_demangle.specs.Reading.{rendered};
 
 use crate::cursor::{Looks, Symbol};
 use crate::sink::{SinkRefused, SizeLimitedFmtAdapter, TextSink};
-use crate::v0::machine::Machine;
-use crate::v0::printing::print_by;
+use crate::v0::printing::print;
 use std::marker::Model;
 
 /// A v0 symbol that was read: the bytes behind its prefix, with the suffix.
@@ -34,10 +33,9 @@ impl<'s> Demangle<'s> {
         Demangle { inner }
     }
 
-    /// Prints the first path, with the hash or without it, by the machine that is given or one of its own.
+    /// Prints the first path, with the hash or without it.
     pub(crate) fn write_to<S: TextSink>(
         &self,
-        machine: Option<&mut Machine>,
         out: &mut SizeLimitedFmtAdapter<'_, S>,
         include_hash: bool,
         looks: &mut Looks,
@@ -48,6 +46,6 @@ impl<'s> Demangle<'s> {
         ensures most { looks.new ≤ looks.old + 100000 * (kept (rendered self.now include_hash) out.old.remaining + 1) * (length self.now + 1) }
         ensures least { looks.old + 1 ≤ looks.new }
     {
-        print_by(&self.inner, include_hash, machine, out, looks)
+        print(&self.inner, include_hash, out, looks)
     }
 }

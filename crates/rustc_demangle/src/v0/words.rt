@@ -34,6 +34,7 @@ pub enum WordRead {
 }
 
 /// Reads a word. The note is the production's tag, or the letter of the namespace.
+#[inline(always)]
 pub fn read_word(
     symbol: &Symbol<'_>,
     word: Word,
@@ -98,6 +99,7 @@ fn goes(stretch: Stretch, next: usize) -> WordRead
 }
 
 /// The identifier at a place, and the place behind it.
+#[inline(always)]
 fn name(symbol: &Symbol<'_>, place: usize, looks: &mut Looks) -> Option<(Ident, usize)>
     ensures value { result ≡ ident_at symbol.now place }
     ensures parts { IfSome result (λ r. LiesWithin symbol.now r.0) }

@@ -1,6 +1,6 @@
 //! What the machine works on, and what a step leaves of it.
 ghost use Rattle.arrayvec.specs.ArrayVec.{array_vec_len};
-ghost use Rattle.std.specs.Prelude.{◌≡◌, ℕ, Some, None, ◌+◌, ◌≤◌, ◌<◌, List, [], ◌∷◌, ◌++◌, length, IfSome, IfNone};
+ghost use Rattle.std.specs.Prelude.{◌≡◌, ℕ, Bool, Some, None, ◌+◌, ◌≤◌, ◌<◌, List, [], ◌∷◌, ◌++◌, length, IfSome, IfNone};
 ghost use Rattle.rustc_demangle.specs.Shares.{bound, most_bound};
 ghost use Rattle.rustc_demangle.specs.Running.{printed};
 ghost use Rattle.rustc_demangle.specs.Serving.{only, going, entering, opening, resuming};
@@ -14,13 +14,13 @@ use crate::v0::task::{
 use arrayvec::ArrayVec;
 use std::marker::Model;
 
-/// The row of tasks that are left; contracts see the tasks, the one that goes first last.
+/// The row of tasks that are left, at most `N`; contracts see the tasks, the one that goes first last.
 #[derive(Drop)]
-pub struct Row {
-    frames: ArrayVec<Frame, 4096>,
+pub struct Row<const N: usize> {
+    frames: ArrayVec<Frame, N>,
 }
 
-impl Model for Row {
+impl<const N: usize> Model for Row<N> {
     ghost use Rattle.std.specs.Prelude.{List, map};
     ghost use Rattle.rustc_demangle.specs.declared.v0.task.Task.{Task};
     ghost use Rattle.rustc_demangle.specs.Frames.{unpacked};
@@ -30,7 +30,7 @@ impl Model for Row {
     ghost view = { λ row. map unpacked row.frames.items };
 }
 
-impl Row {
+impl<const N: usize> Row<N> {
     pub fn new() -> Self
         ensures { result ≡ [] }
     {
@@ -39,14 +39,24 @@ impl Row {
         }
     }
 
-    pub fn clear(&mut self)
-        ensures { self.new ≡ [] }
+    pub fn len(&self) -> usize
+        ensures { result ≡ length self.now }
     {
-        self.frames.clear();
+        self.frames.len()
+    }
+
+    /// The same tasks in a row of `M`.
+    pub fn widened<const M: usize>(&self) -> Row<M>
+        requires { length self.now ≤ M }
+        ensures { result ≡ self.now }
+    {
+        let mut frames = ArrayVec::new();
+        let _ = frames.try_extend_from_slice(self.frames.as_slice());
+        Row { frames }
     }
 
     pub fn push_unit(&mut self, entry: Entry, left: u16, setting: Setting)
-        requires { length self.old < 4096 }
+        requires { length self.old < N }
         ensures pushed { bound (Task.Enter entry left setting) ≤ most_bound → self.new ≡ self.old ++ Task.Enter entry left setting ∷ [] }
         ensures length { length self.new ≡ length self.old + 1 }
     {
@@ -54,7 +64,7 @@ impl Row {
     }
 
     fn push_rest(&mut self, progress: Progress, setting: Setting)
-        requires { length self.old < 4096 }
+        requires { length self.old < N }
         ensures pushed { bound (Task.Rest progress setting) ≤ most_bound → self.new ≡ self.old ++ Task.Rest progress setting ∷ [] }
         ensures length { length self.new ≡ length self.old + 1 }
     {
@@ -62,7 +72,7 @@ impl Row {
     }
 
     fn push_behind(&mut self, place: usize)
-        requires { length self.old < 4096 }
+        requires { length self.old < N }
         ensures { self.new ≡ self.old ++ Task.Behind place ∷ [] }
     {
         self.frames.push(behind_frame(place));
@@ -80,8 +90,8 @@ impl Row {
 
 /// What the machine works on: the tasks that are left, and where the last step left the reading.
 #[derive(Drop)]
-pub struct Work {
-    pub tasks: Row,
+pub struct Work<const N: usize> {
+    pub tasks: Row<N>,
     pub place: Option<usize>,
     /// Of a dyn trait path that was read: whether its bracket is open.
     pub is_open: bool,
@@ -95,7 +105,7 @@ fn printed(output: bool, stretch: Stretch) -> Stretch
     if output { stretch } else { Stretch::Nothing }
 }
 
-impl Work {
+impl<const N: usize> Work<N> {
     fn hand_over(&mut self, output: bool, stretch: Stretch, place: Option<usize>, is_open: bool)
         ensures tasks { self.new.tasks ≡ self.old.tasks }
         ensures place { self.new.place ≡ place }
@@ -122,7 +132,7 @@ impl Work {
         rest: Progress,
         setting: Setting,
     )
-        requires { length self.old.tasks ≤ 4008 }
+        requires { length self.old.tasks + 2 ≤ N }
         ensures { Done self.old self.new (going setting.output stretch place (Task.Rest rest setting)) }
     {
         self.tasks.push_rest(rest, setting);
@@ -137,7 +147,7 @@ impl Work {
         progress: Progress,
         setting: Setting,
     )
-        requires { length self.old.tasks ≤ 4008 }
+        requires { length self.old.tasks + 2 ≤ N }
         ensures { Done self.old self.new (entering setting.output stretch place (Task.Rest progress setting) None) }
     {
         self.tasks.push_rest(progress, setting);
@@ -153,7 +163,7 @@ impl Work {
         left: u16,
         setting: Setting,
     )
-        requires { length self.old.tasks ≤ 4008 }
+        requires { length self.old.tasks + 2 ≤ N }
         ensures { Done self.old self.new (entering setting.output stretch place (Task.Enter entry left setting) None) }
     {
         self.tasks.push_unit(entry, left, setting);
@@ -170,7 +180,7 @@ impl Work {
         rest: Progress,
         setting: Setting,
     )
-        requires { length self.old.tasks ≤ 4008 }
+        requires { length self.old.tasks + 2 ≤ N }
         ensures { Done self.old self.new (entering setting.output stretch place (Task.Enter entry rest.left inside) (Some (Task.Rest rest setting))) }
     {
         self.tasks.push_rest(rest, setting);
@@ -181,26 +191,25 @@ impl Work {
     /// A step that enters the target of a reference, behind which the reading goes on at a place.
     pub fn following(
         &mut self,
-        output: bool,
         target: usize,
         entry: Entry,
         left: u16,
         inside: Setting,
         behind: usize,
     )
-        requires { length self.old.tasks ≤ 4008 }
-        ensures { Done self.old self.new (entering output Stretch.Nothing (Some target) (Task.Enter entry left inside) (Some (Task.Behind behind))) }
+        requires { length self.old.tasks + 2 ≤ N }
+        ensures { (output : Bool) → Done self.old self.new (entering output Stretch.Nothing (Some target) (Task.Enter entry left inside) (Some (Task.Behind behind))) }
     {
         self.tasks.push_behind(behind);
         self.tasks.push_unit(entry, left, inside);
-        self.hand_over(output, Stretch::Nothing, Some(target), false);
+        self.hand_over(false, Stretch::Nothing, Some(target), false);
     }
 
     /// A step behind which the bracket of a dyn trait path is open.
-    pub fn opening(&mut self, output: bool, place: Option<usize>)
-        ensures { Done self.old self.new (opening output place) }
+    pub fn opening(&mut self, place: Option<usize>)
+        ensures { (output : Bool) → Done self.old self.new (opening output place) }
     {
-        self.hand_over(output, Stretch::Nothing, place, true);
+        self.hand_over(false, Stretch::Nothing, place, true);
     }
 
     /// A step that goes on at a place.

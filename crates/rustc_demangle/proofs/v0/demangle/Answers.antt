@@ -19,31 +19,31 @@ returns-then-not-begins_path-clause-err c =
     let begun : false ≡ goes_on_at c.in-Some.inner.now 0 = rw (← c.new-symbol.ensures) c.if-not-begins_path.ensures.value in
     v0_not_begun c.args.s.now c.in-Some.inner.now c.in-Some.ensures.inner ascii (sym begun)
 
-pub returns-in_default-suffix_by-clause-err : goal.returns-in_default-suffix_by-clause-err
-returns-in_default-suffix_by-clause-err c =
+pub returns-in_default-suffix_at-clause-err : goal.returns-in_default-suffix_at-clause-err
+returns-in_default-suffix_at-clause-err c =
     let ascii : IsAscii c.in-Some.inner.now = rw (← c.new-symbol.ensures) (c.if-not-is_ascii.ensures.ascii.0 refl) in
     let begun : true ≡ goes_on_at c.in-Some.inner.now 0 = rw (← c.new-symbol.ensures) c.if-not-begins_path.ensures.value in
-    let none : ◌≡◌ {A = Option ℕ} None (suffix_of c.in-Some.inner.now) = rw (← c.new-symbol.ensures) c.in_default-suffix_by.ensures.value in
+    let none : ◌≡◌ {A = Option ℕ} None (suffix_of c.in-Some.inner.now) = rw (← c.new-symbol.ensures) c.in_default-suffix_at.ensures.value in
     v0_no_paths c.args.s.now c.in-Some.inner.now c.in-Some.ensures.inner ascii (sym begun) none
 
-pub returns-in_default-suffix_by-clause-most : goal.returns-in_default-suffix_by-clause-most
-returns-in_default-suffix_by-clause-most c =
-    omega (arith, accepting_costs c.new-symbol.result, ap length c.new-symbol.ensures, c.in-Some.ensures.shorter.0, c.is_ascii.ensures.most, c.begins_path.ensures.look, c.suffix_by.ensures.looks)
+pub returns-in_default-suffix_at-clause-most : goal.returns-in_default-suffix_at-clause-most
+returns-in_default-suffix_at-clause-most c =
+    omega (arith, accepting_costs c.new-symbol.result, ap length c.new-symbol.ensures, c.in-Some.ensures.shorter.0, c.is_ascii.ensures.most, c.begins_path.ensures.look, c.suffix_at.ensures.looks)
 
 pub range_from-requires : goal.range_from-requires
 range_from-requires c =
     let ascii : IsAscii c.in-Some.inner.now = rw (← c.new-symbol.ensures) (c.if-not-is_ascii.ensures.ascii.0 refl) in
-    let place : Some c.in-Some-suffix_by.end ≡ suffix_of c.in-Some.inner.now = rw (← c.new-symbol.ensures) c.in-Some-suffix_by.ensures.value in
-    λ _. (suffix_within c.in-Some.inner.now c.in-Some-suffix_by.end place, λ _ high. absurd (omega (arith, high, ascii c.in-Some-suffix_by.end)))
+    let place : Some c.in-Some-suffix_at.end ≡ suffix_of c.in-Some.inner.now = rw (← c.new-symbol.ensures) c.in-Some-suffix_at.ensures.value in
+    λ _. (suffix_within c.in-Some.inner.now c.in-Some-suffix_at.end place, λ _ high. absurd (omega (arith, high, ascii c.in-Some-suffix_at.end)))
 
 pub returns-clause-ok : goal.returns-clause-ok
 returns-clause-ok c =
     let ascii : IsAscii c.in-Some.inner.now = rw (← c.new-symbol.ensures) (c.if-not-is_ascii.ensures.ascii.0 refl) in
     let begun : true ≡ goes_on_at c.in-Some.inner.now 0 = rw (← c.new-symbol.ensures) c.if-not-begins_path.ensures.value in
-    let place : Some c.in-Some-suffix_by.end ≡ suffix_of c.in-Some.inner.now = rw (← c.new-symbol.ensures) c.in-Some-suffix_by.ensures.value in
+    let place : Some c.in-Some-suffix_at.end ≡ suffix_of c.in-Some.inner.now = rw (← c.new-symbol.ensures) c.in-Some-suffix_at.ensures.value in
     rw (c.new.ensures, c.new-symbol.ensures, c.range_from.ensures.value)
-    (v0_there c.args.s.now c.in-Some.inner.now c.in-Some-suffix_by.end c.in-Some.ensures.inner ascii (sym begun) place)
+    (v0_there c.args.s.now c.in-Some.inner.now c.in-Some-suffix_at.end c.in-Some.ensures.inner ascii (sym begun) place)
 
 pub returns-clause-most : goal.returns-clause-most
 returns-clause-most c =
-    omega (arith, accepting_costs c.new-symbol.result, ap length c.new-symbol.ensures, c.in-Some.ensures.shorter.0, c.is_ascii.ensures.most, c.begins_path.ensures.look, c.suffix_by.ensures.looks)
+    omega (arith, accepting_costs c.new-symbol.result, ap length c.new-symbol.ensures, c.in-Some.ensures.shorter.0, c.is_ascii.ensures.most, c.begins_path.ensures.look, c.suffix_at.ensures.looks)

@@ -5,6 +5,7 @@ ghost use Rattle.rustc_demangle.specs.Grammar.{table};
 use crate::v0::grammar::{Entry, Item, Joint, Mark, Named, Position, Production, Word};
 
 /// What a production reads and prints.
+#[inline(always)]
 pub fn table(production: Production) -> &'static [Item]
     ensures { result.now ≡ table production }
 {

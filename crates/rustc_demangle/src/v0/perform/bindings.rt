@@ -69,16 +69,16 @@ fn binding_mark(is_open: bool) -> Stretch
 }
 
 /// Bindings: one more, or their end.
-pub(super) fn go_binding(
+pub(super) fn go_binding<const N: usize>(
     symbol: &Symbol<'_>,
     is_open: bool,
     left: u16,
     setting: Setting,
     place: Option<usize>,
-    work: &mut Work,
+    work: &mut Work<N>,
     looks: &mut Looks,
 )
-    requires room { length work.old.tasks ≤ 4008 }
+    requires room { length work.old.tasks + 2 ≤ N }
     requires left { left ≤ 500 }
     ensures serves { (task : Task) (o : Bool) → IsBinding symbol.now task o is_open (naming left) setting → Performs symbol.now task place o work.old work.new (looks.new - looks.old) }
     ensures grows { looks.old ≤ looks.new }

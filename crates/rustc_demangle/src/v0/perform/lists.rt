@@ -67,17 +67,17 @@ fn list_end(symbol: &Symbol<'_>, place: Option<usize>, looks: &mut Looks) -> Opt
 }
 
 /// A list: one more element, or its end.
-pub(super) fn go_along(
+pub(super) fn go_along<const N: usize>(
     symbol: &Symbol<'_>,
     entry: Entry,
     joint: Joint,
     progress: Progress,
     setting: Setting,
     place: Option<usize>,
-    work: &mut Work,
+    work: &mut Work<N>,
     looks: &mut Looks,
 )
-    requires room { length work.old.tasks ≤ 4008 }
+    requires room { length work.old.tasks + 2 ≤ N }
     requires head { HeadIs progress (Item.Elements entry joint) }
     requires element { is_element entry ≡ true }
     requires index { progress.index < 2 ^ 7 }

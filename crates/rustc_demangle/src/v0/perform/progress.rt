@@ -42,6 +42,7 @@ pub(super) fn entry_of(named: Named) -> Entry
 
 #[tactic(auto, using(crate::proofs::TableChecks::table_short))]
 /// The item that comes next.
+#[inline(always)]
 pub(super) fn item_at(progress: Progress) -> Option<Item>
     ensures none { IfNone result (drop progress.index (table progress.production) ≡ []) }
     ensures some { IfSome result (λ item. HeadIs progress item) }

@@ -12,6 +12,7 @@ use crate::v0::render::numbers;
 
 #[tactic(auto, using(crate::proofs::PrintsLemmas::prints_ready, crate::proofs::PrintsLemmas::prints_nothing))]
 /// Puts a disambiguator in brackets, in the plain form alone and where it is not 0.
+#[inline(always)]
 fn put_disambiguator<S: TextSink>(
     number: u64,
     plain: bool,
@@ -33,6 +34,7 @@ fn put_disambiguator<S: TextSink>(
 
 #[tactic(auto, using(crate::proofs::PrintsLemmas::prints_ready))]
 /// Puts the name of a crate, and its disambiguator.
+#[inline(always)]
 pub(super) fn put_crate_name<S: TextSink>(
     symbol: &Symbol<'_>,
     name: Ident,
@@ -154,6 +156,7 @@ fn put_special_name<S: TextSink>(
 }
 
 /// Puts a name in a namespace: special where its letter is `A` to `Z`.
+#[inline(always)]
 pub(super) fn put_nested_name<S: TextSink>(
     symbol: &Symbol<'_>,
     namespace: u8,

@@ -8,6 +8,7 @@ use crate::cursor::{Looks, Symbol};
 use crate::v0::stretch::Stretch;
 use crate::v0::words::{WordRead, faulty, goes, name};
 
+#[inline(always)]
 pub(super) fn read_crate(symbol: &Symbol<'_>, place: usize, looks: &mut Looks) -> WordRead
     ensures value { result ≡ (crate_group symbol.now place).reads }
     ensures grows { looks.old ≤ looks.new }
@@ -23,6 +24,7 @@ pub(super) fn read_crate(symbol: &Symbol<'_>, place: usize, looks: &mut Looks) -
     goes(Stretch::CrateName(ident, number), next)
 }
 
+#[inline(always)]
 pub(super) fn read_nested(
     symbol: &Symbol<'_>,
     note: u8,

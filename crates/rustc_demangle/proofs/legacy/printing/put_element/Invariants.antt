@@ -1,6 +1,6 @@
 use Rattle.std.proofs.Common.{◌+◌, ◌-◌, ◌*◌, ◌≤◌, slice_range}
 use Rattle.rustc_demangle.specs.Unescaped.{unescaped, pieces_from}
-use Rattle.rustc_demangle.proofs.Printed.{Printed}
+use Rattle.rustc_demangle.specs.Progress.{Printed}
 use Rattle.rustc_demangle.proofs.legacy.printing.put_element.Given as goal
 
 abbrev pub invariant-loop-at : goal.invariant-loop-at

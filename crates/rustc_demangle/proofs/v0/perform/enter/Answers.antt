@@ -4,16 +4,16 @@ use Rattle.rustc_demangle.proofs.Performed.{performs}
 use Rattle.rustc_demangle.proofs.v0.perform.enter.Goals as goal
 
 pub returns-in-Faulty-clause-serves : goal.returns-in-Faulty-clause-serves
-returns-in-Faulty-clause-serves c = λ o. performs _ _ _ _ _ _ _ _ c.only.ensures (enter_stops _ _ _ _ _ o _ _ c.in-Faulty.ensures.value (omega (arith, c.in-Faulty.ensures.looks)))
+returns-in-Faulty-clause-serves g c = λ o. performs _ _ _ _ _ _ _ _ c.only.ensures (enter_stops _ _ _ _ _ o _ _ c.in-Faulty.ensures.value (omega (arith, c.in-Faulty.ensures.looks)))
 
 pub returns-in-Basic-clause-serves : goal.returns-in-Basic-clause-serves
-returns-in-Basic-clause-serves c = λ o. performs _ _ _ _ _ _ _ _ c.only-in-Basic.ensures (enter_basic _ _ _ _ _ o _ _ _ c.in-Basic.ensures.value (omega (arith, c.in-Basic.ensures.looks)))
+returns-in-Basic-clause-serves g c = λ o. performs _ _ _ _ _ _ _ _ c.only-in-Basic.ensures (enter_basic _ _ _ _ _ o _ _ _ c.in-Basic.ensures.value (omega (arith, c.in-Basic.ensures.looks)))
 
 pub returns-in-Splats-clause-serves : goal.returns-in-Splats-clause-serves
-returns-in-Splats-clause-serves c = λ o. performs _ _ _ _ _ _ _ _ c.turning.ensures (rw c.splat.ensures (enter_splats _ _ _ _ _ o _ _ _ c.in-Splats.ensures.value (omega (arith, c.in-Splats.ensures.looks))))
+returns-in-Splats-clause-serves g c = λ o. performs _ _ _ _ _ _ _ _ c.turning.ensures (rw c.splat.ensures (enter_splats _ _ _ _ _ o _ _ _ c.in-Splats.ensures.value (omega (arith, c.in-Splats.ensures.looks))))
 
 pub returns-in-Starts-clause-serves : goal.returns-in-Starts-clause-serves
-returns-in-Starts-clause-serves c = λ o. performs _ _ _ _ _ _ _ _ c.starting.ensures (rw c.fresh-inside.ensures (enter_starts _ _ _ _ _ o _ _ _ _ c.in-Starts.ensures.value (omega (arith, c.in-Starts.ensures.looks)) c.in-Starts.ensures.low))
+returns-in-Starts-clause-serves g c = λ o. performs _ _ _ _ _ _ _ _ c.starting.ensures (rw c.fresh-inside.ensures (enter_starts _ _ _ _ _ o _ _ _ _ c.in-Starts.ensures.value (omega (arith, c.in-Starts.ensures.looks)) c.in-Starts.ensures.low))
 
 pub returns-in-Continues-clause-serves : goal.returns-in-Continues-clause-serves
-returns-in-Continues-clause-serves c = λ o. performs _ _ _ _ _ _ _ _ c.starting-in-Continues.ensures (rw c.fresh-inside-in-Continues.ensures (enter_continues _ _ _ _ _ o _ _ _ c.in-Continues.ensures.value (omega (arith, c.in-Continues.ensures.looks)) c.in-Continues.ensures.low))
+returns-in-Continues-clause-serves g c = λ o. performs _ _ _ _ _ _ _ _ c.starting-in-Continues.ensures (rw c.fresh-inside-in-Continues.ensures (enter_continues _ _ _ _ _ o _ _ _ c.in-Continues.ensures.value (omega (arith, c.in-Continues.ensures.looks)) c.in-Continues.ensures.low))

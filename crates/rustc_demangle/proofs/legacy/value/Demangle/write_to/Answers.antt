@@ -2,7 +2,8 @@ use Rattle.std.proofs.Common.{◌++◌, slice_range, drop, refl, sym, arith}
 use Rattle.rustc_demangle.specs.Legacy.{elements_of}
 use Rattle.rustc_demangle.specs.Unescaped.{unescaped, legacy_pieces, continued, shown}
 use Rattle.rustc_demangle.proofs.LegacyPrinting.{elements_end, left_none, left_behind, same_behind, turn_first, turn_next, turn_hash}
-use Rattle.rustc_demangle.proofs.Printed.{Printed, printed_left, printed_then, printed_stop, printed_all}
+use Rattle.rustc_demangle.specs.Progress.{Printed}
+use Rattle.rustc_demangle.proofs.Printed.{printed_left, printed_then, printed_stop, printed_all}
 use Rattle.rustc_demangle.proofs.legacy.value.Demangle.write_to.Goals as goal
 use Rattle.rustc_demangle.proofs.legacy.value.Demangle.write_to.Goals.{then-at-gt0+in_ok-put, else-at-gt0}
 

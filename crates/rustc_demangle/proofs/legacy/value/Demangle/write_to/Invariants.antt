@@ -2,7 +2,7 @@ use Rattle.std.proofs.Common.{◌≡◌, ◌+◌, ◌-◌, ◌*◌, ◌≤◌, l
 use Rattle.rustc_demangle.specs.Legacy.{elements_of, parts_of}
 use Rattle.rustc_demangle.specs.Unescaped.{legacy_pieces}
 use Rattle.rustc_demangle.proofs.LegacyPrinting.{left_pieces}
-use Rattle.rustc_demangle.proofs.Printed.{Printed}
+use Rattle.rustc_demangle.specs.Progress.{Printed}
 use Rattle.rustc_demangle.proofs.legacy.value.Demangle.write_to.Given as goal
 
 abbrev pub invariant-loop-element : goal.invariant-loop-element

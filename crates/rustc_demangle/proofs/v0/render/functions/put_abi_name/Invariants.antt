@@ -1,6 +1,6 @@
 use Rattle.std.proofs.Common.{◌≡◌, ◌+◌, ◌≤◌, [], slice_range}
 use Rattle.rustc_demangle.specs.Table.{hyphenated}
-use Rattle.rustc_demangle.proofs.Printed.{Printed}
+use Rattle.rustc_demangle.specs.Progress.{Printed}
 use Rattle.rustc_demangle.proofs.v0.render.functions.put_abi_name.Given as goal
 
 abbrev pub invariant-loop-at : goal.invariant-loop-at

@@ -1,6 +1,6 @@
 use Rattle.std.proofs.Common.{◌+◌, ◌-◌}
 use Rattle.rustc_demangle.specs.Binders.{binder_texts, more_texts}
-use Rattle.rustc_demangle.proofs.Printed.{Printed}
+use Rattle.rustc_demangle.specs.Progress.{Printed}
 use Rattle.rustc_demangle.proofs.v0.render.lifetimes.put_binder.Given as goal
 
 abbrev pub invariant-loop-at : goal.invariant-loop-at

@@ -1,0 +1,48 @@
+-- How far the printing of a symbol's first path has come, and how it ends.
+use Rattle.std.specs.Prelude.{◌≡◌, ℕ, ◌+◌, ◌-◌, ◌*◌, ◌≤◌, Bool, List, ◌++◌, length, map, Result, Ok, IsErr}
+use Rattle.rustc_demangle.specs.Cost.{Pays}
+use Rattle.rustc_demangle.specs.Cut.{kept}
+use Rattle.rustc_demangle.specs.Events.{shown_in, stretch_of}
+use Rattle.rustc_demangle.specs.FirstLooks.{first_looks}
+use Rattle.rustc_demangle.specs.Limit.{Prints}
+use Rattle.rustc_demangle.specs.Reading.{Place, rendered}
+use Rattle.rustc_demangle.specs.Shares.{owed}
+use Rattle.rustc_demangle.specs.declared.sink.TextSink.{Ghosts}
+use Rattle.rustc_demangle.specs.declared.sink.SinkRefused.{SinkRefused}
+use Rattle.rustc_demangle.specs.declared.sink.limit.SizeLimitedFmtAdapter.{SizeLimitedFmtAdapter}
+use Rattle.rustc_demangle.specs.declared.v0.task.Task.{Task}
+
+-- of the whole list all was printed but for the rest
+pub record Printed {S : Type 0} (sink : Ghosts S) (old : SizeLimitedFmtAdapter S) (whole rest : List (List ℕ)) (new : SizeLimitedFmtAdapter S) : Type 0 where
+  pub front : List (List ℕ)
+  pub done : Prints sink old front (Ok tt) new
+  pub is : front ++ rest ≡ whole
+
+-- how many looks may have been made where w bytes of a symbol of n were handed over, of those before that `start`
+abbrev pub had : ℕ → ℕ → ℕ → ℕ
+had start n w = start + 17034 * (n + 1) + 17000 * (n + 1) * w
+
+-- So far so many looks were made since `start`, and of a room of bytes so many are left: what was handed over has paid for them,
+-- and what is still owed is paid for.
+pub record PaidSoFar (b : List ℕ) (plain : Bool) (start made room left : ℕ) (tasks : List Task) (i : Place) (o : Bool) : Type 0 where
+  pub bytes : ℕ
+  pub handed : left + bytes ≡ room
+  pub looked : made ≤ had start (length b) bytes
+  pub pays : Pays (17000 * (length b + 1)) (had start (length b) bytes - made) (map stretch_of (owed b plain tasks i o).events) 0
+
+-- Printing that began at `from`, when `start` looks had been made, has come to `out` and so many looks, and has these tasks left.
+pub record Reached {S : Type 0} (sink : Ghosts S) (b : List ℕ) (plain : Bool) (from : SizeLimitedFmtAdapter S) (start : ℕ) (out : SizeLimitedFmtAdapter S) (looks : ℕ) (tasks : List Task) (i : Place) (o : Bool) : Type 0 where
+  pub printed : Printed sink from (rendered b plain) (shown_in (owed b plain tasks i o).events) out
+  pub paid : PaidSoFar b plain start looks from.remaining out.remaining tasks i o
+  pub least : start + 1 ≤ looks + first_looks tasks i
+  pub grows : start ≤ looks
+
+-- It ended so.
+pub record Ended {S : Type 0} (sink : Ghosts S) (b : List ℕ) (plain : Bool) (from : SizeLimitedFmtAdapter S) (start : ℕ) (result : Result (Unit {0}) SinkRefused) (out : SizeLimitedFmtAdapter S) (looks : ℕ) : Type 0 where
+  pub prints : Prints sink from (rendered b plain) result out
+  pub most : looks ≤ start + 100000 * (kept (rendered b plain) from.remaining + 1) * (length b + 1)
+  pub least : start + 1 ≤ looks
+
+-- It ended where the sink refused a piece or the limit was reached: in whatever error.
+abbrev pub Stopped : {S : Type 0} → Ghosts S → List ℕ → Bool → SizeLimitedFmtAdapter S → ℕ → SizeLimitedFmtAdapter S → ℕ → Type 0
+Stopped sink b plain from start out looks = (result : Result (Unit {0}) SinkRefused) → IsErr result → Ended sink b plain from start result out looks
