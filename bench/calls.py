@@ -10,9 +10,8 @@ is not inlined, and is given one of two equal texts in turn, so that no turn can
 
 Nanoseconds: the program runs with k turns and with 10 k, and the difference of the seconds (each the best of five runs) is
 divided by 9 k; what turns without a call take is taken off. Printing has the making of its empty sink in it. The symbols are the
-legacy one and the v0 one of middle length of those that crates/demangle_corpus/stdin has from libraries and programs. "A
-row" is the smallest v0 symbol, less a text that is refused before its first path: what is left is the making of one row of tasks,
-and a few steps over it.
+legacy one and the v0 one of middle length of those that crates/demangle_corpus/stdin has from libraries and programs, and a
+v0 one that is deep: 490 references in one another, and a back reference.
 
 Bytes of stack: `valgrind --tool=drd --show-stack-usage=yes` over one turn, less those of a turn without a call. What a call is
 handed (the text, the value, the sink) is not counted. The calls are made below an array of 512 KB, so that what was called
@@ -272,14 +271,14 @@ def main():
         program = built(given.keep or temporary, given.jobs)
         empty = nanoseconds(program, 'nothing', legacy)
         print('legacy: `%s`\n\nv0: `%s`\n' % (legacy, v0))
-        print('| nanoseconds | legacy | v0 |\n| --- | ---: | ---: |')
+        deep = hostile.chained(1)
+        print('| nanoseconds | legacy | v0 | deep v0 |\n| --- | ---: | ---: | ---: |')
         for call in TIMED:
-            print('| %s | ' % call + ' | '.join('{:,.0f}'.format(nanoseconds(program, call, symbol) - empty) for symbol in (legacy, v0)) + ' |', flush=True)
-        row = nanoseconds(program, 'try_demangle', '_RC0') - nanoseconds(program, 'try_demangle', '_R0')
-        print('| a row | - | {:,.0f} |\n'.format(row), flush=True)
-        symbols = (legacy, v0, hostile.doubling(17))
+            print('| %s | ' % call + ' | '.join('{:,.0f}'.format(nanoseconds(program, call, symbol) - empty) for symbol in (legacy, v0, deep)) + ' |', flush=True)
+        print(flush=True)
+        symbols = (legacy, v0, hostile.doubling(17), deep)
         without = [stack(program, 'nothing', symbol) for symbol in symbols]
-        print('| bytes of stack | legacy | v0 | doubling, 17 tuples |\n| --- | ---: | ---: | ---: |')
+        print('| bytes of stack | legacy | v0 | doubling, 17 tuples | deep v0 |\n| --- | ---: | ---: | ---: | ---: |')
         for call in CALLS[1:]:
             used = [stack(program, call, symbol) - base for symbol, base in zip(symbols, without)]
             print('| %s | ' % call + ' | '.join('{:,}'.format(count) for count in used) + ' |', flush=True)

@@ -5,7 +5,7 @@ ghost use Rattle.rustc_demangle.specs.Cut.{cut, size};
 ghost use Rattle.rustc_demangle.specs.Hands.{Hands, HoldsFront};
 ghost use Rattle.rustc_demangle.specs.Legacy.{legacy_of};
 ghost use Rattle.rustc_demangle.specs.Limit.{Prints, Ready};
-ghost use Rattle.rustc_demangle.specs.Sink.{Fits};
+ghost use Rattle.rustc_demangle.specs.Sink.{Fits, room_after};
 ghost use Rattle.rustc_demangle.specs.Stripped.{is_allowed, is_graphic};
 ghost use Rattle.rustc_demangle.specs.Style.{style_pieces, style_len, style_looks, style_least, IsReadAs, HasNoStyle, HasStyle};
 ghost use Rattle.rustc_demangle.specs.Symbols.{handed, kept_of, IsLegacySymbol, IsV0Symbol, IsSymbol};
@@ -125,7 +125,8 @@ impl<'a> Demangle<'a> {
     ///
     /// A piece that would go past the limit ends the path, and `{size limit reached}` and the suffix follow it. A text
     /// that is no symbol has no limit. It is refused exactly where the sink failed in this call: then the sink was handed
-    /// nothing more, and one that keeps what it took holds the pieces in front of the refused one.
+    /// nothing more, and one that keeps what it took holds the pieces in front of the refused one. Where all of it is within
+    /// the sink's room, it is taken, and the room falls by its bytes.
     pub fn write_limited_counted<S: TextSink>(
         &self,
         out: &mut S,
@@ -139,6 +140,7 @@ impl<'a> Demangle<'a> {
         ensures failed { OnErr result (S.failed out.new ≡ true) }
         ensures kept { OnErr result (S.keeps ≡ true → HoldsFront S.TextSink out.old (handed self.now include_hash limit) out.new) }
         ensures fits { Fits (size (handed self.now include_hash limit)) (S.room out.old) → IsOk result }
+        ensures room { Fits (size (handed self.now include_hash limit)) (S.room out.old) → S.room out.new ≡ room_after (size (handed self.now include_hash limit)) (S.room out.old) }
         ensures grows { looks.old ≤ looks.new }
         ensures most { looks.new ≤ looks.old + 100000 * (kept_of self.now include_hash limit + 1) * (length self.now + 1) }
         ensures legacy { IsLegacySymbol self.now → looks.new ≤ looks.old + 16 * (length self.now + 1) }
@@ -161,6 +163,7 @@ impl<'a> Demangle<'a> {
         ensures failed { OnErr result (S.failed out.new ≡ true) }
         ensures kept { OnErr result (S.keeps ≡ true → HoldsFront S.TextSink out.old (handed self.now include_hash limit) out.new) }
         ensures fits { Fits (size (handed self.now include_hash limit)) (S.room out.old) → IsOk result }
+        ensures room { Fits (size (handed self.now include_hash limit)) (S.room out.old) → S.room out.new ≡ room_after (size (handed self.now include_hash limit)) (S.room out.old) }
     {
         self.write_limited_counted(out, include_hash, limit, &mut Looks::new())
     }
@@ -178,6 +181,7 @@ impl<'a> Demangle<'a> {
         ensures failed { OnErr result (S.failed out.new ≡ true) }
         ensures kept { OnErr result (S.keeps ≡ true → HoldsFront S.TextSink out.old (handed self.now include_hash MAX_SIZE) out.new) }
         ensures fits { Fits (size (handed self.now include_hash MAX_SIZE)) (S.room out.old) → IsOk result }
+        ensures room { Fits (size (handed self.now include_hash MAX_SIZE)) (S.room out.old) → S.room out.new ≡ room_after (size (handed self.now include_hash MAX_SIZE)) (S.room out.old) }
         ensures grows { looks.old ≤ looks.new }
         ensures most { looks.new ≤ looks.old + 100000 * (kept_of self.now include_hash MAX_SIZE + 1) * (length self.now + 1) }
         ensures legacy { IsLegacySymbol self.now → looks.new ≤ looks.old + 16 * (length self.now + 1) }
@@ -197,6 +201,7 @@ impl<'a> Demangle<'a> {
         ensures failed { OnErr result (S.failed out.new ≡ true) }
         ensures kept { OnErr result (S.keeps ≡ true → HoldsFront S.TextSink out.old (handed self.now include_hash MAX_SIZE) out.new) }
         ensures fits { Fits (size (handed self.now include_hash MAX_SIZE)) (S.room out.old) → IsOk result }
+        ensures room { Fits (size (handed self.now include_hash MAX_SIZE)) (S.room out.old) → S.room out.new ≡ room_after (size (handed self.now include_hash MAX_SIZE)) (S.room out.old) }
     {
         self.write_limited(out, include_hash, MAX_SIZE)
     }
