@@ -25,6 +25,20 @@ pub struct Machine<const N: usize> {
 }
 
 impl<const N: usize> Machine<N> {
+    /// A machine that has no task.
+    pub fn new() -> Self
+        ensures { result.work.tasks ≡ [] }
+    {
+        Machine {
+            work: Work {
+                tasks: Row::new(),
+                place: None,
+                is_open: false,
+                stretch: Stretch::Nothing,
+            },
+        }
+    }
+
     /// A machine that has a unit to read, begun at a place.
     pub fn begun(entry: Entry, left: u16, setting: Setting, place: usize) -> Self
         requires room { 0 < N }
@@ -46,21 +60,17 @@ impl<const N: usize> Machine<N> {
         }
     }
 
-    /// A machine with more room, as far in the same reading.
-    pub fn widened<const M: usize>(&self) -> Machine<M>
-        requires { 4008 ≤ M }
-        ensures tasks { result.work.tasks ≡ self.now.work.tasks }
-        ensures place { result.work.place ≡ self.now.work.place }
-        ensures is_open { result.work.is_open ≡ self.now.work.is_open }
+    /// Goes on with the reading of another machine from where that stands.
+    pub fn take_over<const M: usize>(&mut self, other: &Machine<M>)
+        requires empty { self.old.work.tasks ≡ [] }
+        requires room { 4008 ≤ N }
+        ensures tasks { self.new.work.tasks ≡ other.now.work.tasks }
+        ensures place { self.new.work.place ≡ other.now.work.place }
+        ensures is_open { self.new.work.is_open ≡ other.now.work.is_open }
     {
-        Machine {
-            work: Work {
-                tasks: self.work.tasks.widened(),
-                place: self.work.place,
-                is_open: self.work.is_open,
-                stretch: Stretch::Nothing,
-            },
-        }
+        self.work.tasks.append(&other.work.tasks);
+        self.work.place = other.work.place;
+        self.work.is_open = other.work.is_open;
     }
 
     /// Whether its row has room for a step.
@@ -129,12 +139,13 @@ fn read_on<const N: usize>(machine: &mut Machine<N>, symbol: &Symbol<'_>, looks:
 
 /// Reads the rest without printing, with room for every task: the place behind what was read.
 #[inline(never)]
-fn read_rest(machine: &Machine<FEW>, symbol: &Symbol<'_>, looks: &mut Looks) -> Option<usize>
-    ensures place { (plain : Bool) → result ≡ (owed symbol.now plain machine.now.work.tasks machine.now.work.place machine.now.work.is_open).place }
+fn read_rest(few: &Machine<FEW>, symbol: &Symbol<'_>, looks: &mut Looks) -> Option<usize>
+    ensures place { (plain : Bool) → result ≡ (owed symbol.now plain few.now.work.tasks few.now.work.place few.now.work.is_open).place }
     ensures grows { looks.old ≤ looks.new }
-    ensures looks { looks.new ≤ looks.old + allowed_in (owed symbol.now true machine.now.work.tasks machine.now.work.place machine.now.work.is_open).events }
+    ensures looks { looks.new ≤ looks.old + allowed_in (owed symbol.now true few.now.work.tasks few.now.work.place few.now.work.is_open).events }
 {
-    let mut machine: Machine<MOST> = machine.widened();
+    let mut machine: Machine<MOST> = Machine::new();
+    machine.take_over(few);
     read_on(&mut machine, symbol, looks);
     machine.place()
 }

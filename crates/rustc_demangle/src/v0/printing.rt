@@ -48,17 +48,18 @@ fn print_on<const N: usize, S: TextSink>(
 fn print_rest<S: TextSink>(
     symbol: &Symbol<'_>,
     include_hash: bool,
-    machine: &Machine<FEW>,
+    few: &Machine<FEW>,
     out: &mut SizeLimitedFmtAdapter<'_, S>,
     looks: &mut Looks,
 ) -> Result<(), SinkRefused>
     requires ascii { IsAscii symbol.now }
     requires ready { Ready S.TextSink out.old }
     ensures { (from : SizeLimitedFmtAdapter S) (start : ℕ) →
-        Reached S.TextSink symbol.now include_hash from start out.old looks.old machine.now.work.tasks machine.now.work.place machine.now.work.is_open →
+        Reached S.TextSink symbol.now include_hash from start out.old looks.old few.now.work.tasks few.now.work.place few.now.work.is_open →
         Ended S.TextSink symbol.now include_hash from start result out.new looks.new }
 {
-    let mut machine: Machine<MOST> = machine.widened();
+    let mut machine: Machine<MOST> = Machine::new();
+    machine.take_over(few);
     print_on(symbol, include_hash, &mut machine, out, looks)?;
     Ok(())
 }

@@ -45,14 +45,12 @@ impl<const N: usize> Row<N> {
         self.frames.len()
     }
 
-    /// The same tasks in a row of `M`.
-    pub fn widened<const M: usize>(&self) -> Row<M>
-        requires { length self.now ≤ M }
-        ensures { result ≡ self.now }
+    /// Puts the tasks of another row on top.
+    pub fn append<const M: usize>(&mut self, other: &Row<M>)
+        requires { length self.old + length other.now ≤ N }
+        ensures { self.new ≡ self.old ++ other.now }
     {
-        let mut frames = ArrayVec::new();
-        let _ = frames.try_extend_from_slice(self.frames.as_slice());
-        Row { frames }
+        let _ = self.frames.try_extend_from_slice(other.frames.as_slice());
     }
 
     pub fn push_unit(&mut self, entry: Entry, left: u16, setting: Setting)

@@ -5,6 +5,6 @@ use Rattle.rustc_demangle.proofs.v0.machine.read_rest.Goals as goal
 
 pub returns-clause-place : goal.returns-clause-place
 returns-clause-place c = λ plain.
-    let w = c.widened-machine.ensures in
+    let w = c.take_over.ensures in
     rw (sym w.tasks, sym w.place, sym w.is_open)
     (c.place.ensures ∙ (sym (ap (λ (h : Heard). h.place) (none_left c.args.symbol.now plain _ c.read_on.new.machine.work.place c.read_on.new.machine.work.is_open (c.read_on.ensures.ends (omega arith)))) ∙ c.read_on.ensures.place plain))
