@@ -1,5 +1,5 @@
 #!/usr/bin/env python3
-"""Measures single calls of the library: nanoseconds, and bytes of stack.
+"""Measures single calls of the library: nanoseconds, instructions, and bytes of stack.
 
 usage: calls.py [--keep FOLDER] [--jobs N]
 
@@ -12,6 +12,8 @@ Nanoseconds: the program runs with k turns and with 10 k, and the difference of 
 divided by 9 k; what turns without a call take is taken off. Printing has the making of its empty sink in it. The symbols are the
 legacy one and the v0 one of middle length of those that crates/demangle_corpus/stdin has from libraries and programs, and a
 v0 one that is deep: 490 references in one another, and a back reference.
+
+Instructions: `valgrind --tool=callgrind` over 100 turns and over 600, less those of turns without a call.
 
 Bytes of stack: `valgrind --tool=drd --show-stack-usage=yes` over one turn, less those of a turn without a call. What a call is
 handed (the text, the value, the sink) is not counted. The calls are made below an array of 512 KB, so that what was called
@@ -254,6 +256,17 @@ def nanoseconds(program, call, symbol):
     return (many - few) / (9 * turns) * 1e9
 
 
+def instructions(program, call, symbol):
+    """What a turn takes, with its loop."""
+    text = (symbol + '\n').encode() * 2
+    counts = []
+    for turns in ('100', '600'):
+        words = ['valgrind', '--tool=callgrind', '--callgrind-out-file=/dev/null', program, str(CALLS.index(call)), turns]
+        run = subprocess.run(words, input=text, stdout=subprocess.DEVNULL, stderr=subprocess.PIPE, check=True)
+        counts.append(int(re.search(rb'Collected : (\d+)', run.stderr).group(1)))
+    return (counts[1] - counts[0]) // 500
+
+
 def stack(program, call, symbol):
     text = (symbol + '\n').encode() * 2
     words = ['valgrind', '--tool=drd', '--show-stack-usage=yes', program, str(CALLS.index(call)), '1']
@@ -275,6 +288,10 @@ def main():
         print('| nanoseconds | legacy | v0 | deep v0 |\n| --- | ---: | ---: | ---: |')
         for call in TIMED:
             print('| %s | ' % call + ' | '.join('{:,.0f}'.format(nanoseconds(program, call, symbol) - empty) for symbol in (legacy, v0, deep)) + ' |', flush=True)
+        print('\n| instructions | legacy | v0 | deep v0 |\n| --- | ---: | ---: | ---: |')
+        empty = instructions(program, 'nothing', legacy)
+        for call in TIMED:
+            print('| %s | ' % call + ' | '.join('{:,}'.format(instructions(program, call, symbol) - empty) for symbol in (legacy, v0, deep)) + ' |', flush=True)
         print(flush=True)
         symbols = (legacy, v0, hostile.doubling(17), deep)
         without = [stack(program, 'nothing', symbol) for symbol in symbols]
