@@ -18,7 +18,7 @@ pub record Printed {S : Type 0} (sink : Ghosts S) (old : SizeLimitedFmtAdapter S
   pub done : Prints sink old front (Ok tt) new
   pub is : front ++ rest ≡ whole
 
--- how many looks may have been made where w bytes of a symbol of n were handed over, of those before that `start`
+-- how many looks may have been made when w bytes of a symbol of n bytes were handed over, with `start` of them before that printing
 abbrev pub had : ℕ → ℕ → ℕ → ℕ
 had start n w = start + 17034 * (n + 1) + 17000 * (n + 1) * w
 
@@ -37,12 +37,12 @@ pub record Reached {S : Type 0} (sink : Ghosts S) (b : List ℕ) (plain : Bool) 
   pub least : start + 1 ≤ looks + first_looks tasks i
   pub grows : start ≤ looks
 
--- It ended so.
+-- Printing that began at `from`, when `start` looks had been made, has ended with this result, at `out` and so many looks.
 pub record Ended {S : Type 0} (sink : Ghosts S) (b : List ℕ) (plain : Bool) (from : SizeLimitedFmtAdapter S) (start : ℕ) (result : Result (Unit {0}) SinkRefused) (out : SizeLimitedFmtAdapter S) (looks : ℕ) : Type 0 where
   pub prints : Prints sink from (rendered b plain) result out
   pub most : looks ≤ start + 100000 * (kept (rendered b plain) from.remaining + 1) * (length b + 1)
   pub least : start + 1 ≤ looks
 
--- It ended where the sink refused a piece or the limit was reached: in whatever error.
+-- It has ended where the sink refused a piece or the limit was reached; which error it answers makes no difference.
 abbrev pub Stopped : {S : Type 0} → Ghosts S → List ℕ → Bool → SizeLimitedFmtAdapter S → ℕ → SizeLimitedFmtAdapter S → ℕ → Type 0
 Stopped sink b plain from start out looks = (result : Result (Unit {0}) SinkRefused) → IsErr result → Ended sink b plain from start result out looks
