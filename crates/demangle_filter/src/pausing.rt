@@ -77,6 +77,14 @@ impl<W: Write + Drop> Write for PausingWriter<'_, W> {
         pending.writer.write(buf)
     }
 
+    fn write_all(&mut self, buf: &[u8]) -> io::Result<()> {
+        let Ok(mut pending) = self.output.pending.try_borrow_mut() else {
+            return Err(is_in_use());
+        };
+        pending.is_unflushed = true;
+        pending.writer.write_all(buf)
+    }
+
     /// Flushes the output. The error of a flush while the input was waited for is answered here.
     fn flush(&mut self) -> io::Result<()> {
         let Ok(mut pending) = self.output.pending.try_borrow_mut() else {

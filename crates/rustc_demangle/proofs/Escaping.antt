@@ -1,7 +1,7 @@
 -- How the hexadecimal digits of a number are found, from the lowest on; and the pieces of a literal.
-use Rattle.std.proofs.Common.{◌≡◌, ℕ, suc, ◌+◌, ◌/◌, ◌%◌, ◌^◌, ◌<◌, true, false, eqb, List, [], ◌∷◌, ◌++◌, map, refl, ap, ◌∙◌, arith, append_assoc}
+use Rattle.std.proofs.Common.{◌≡◌, ℕ, suc, ◌+◌, ◌-◌, ◌≤◌, ◌/◌, ◌%◌, ◌^◌, ◌<◌, true, false, eqb, List, [], ◌∷◌, ◌++◌, map, refl, ap, ◌∙◌, arith, append_assoc, length, drop, set}
 use Rattle.std.specs.Prelude.{encode_utf8, codes, flat_map}
-use Rattle.std.proofs.lemmas.List.{map-append, append-nil}
+use Rattle.std.proofs.lemmas.List.{map-append, append-nil, drop-set}
 use Rattle.rustc_demangle.specs.Literals.{escaped, literal}
 use Rattle.std.specs.Fmt.{digits_onto, digit_glyph}
 use Rattle.std.proofs.lemmas.Bool.Decides.{nat_tests}
@@ -36,3 +36,9 @@ literal_pieces quote cs = map-append encode_utf8 (quote ∷ flat_map (escaped qu
 pub literal_one : (quote c : ℕ) → literal quote (c ∷ []) ≡ encode_utf8 quote ∷ (map encode_utf8 (escaped quote c) ++ encode_utf8 quote ∷ [])
 literal_one quote c =
     literal_pieces quote (c ∷ []) ∙ ap (λ x. encode_utf8 quote ∷ (map encode_utf8 x ++ encode_utf8 quote ∷ [])) (append-nil (escaped quote c))
+
+-- a digit in front of those that stand at the end
+pub digit_before : (text : List ℕ) (at x g : ℕ) → 0 < at → at ≤ length text → x ≡ g → drop (at - 1) (set text (at - 1) x) ≡ g ∷ drop at text
+digit_before text at x g some le e =
+    let next : at - 1 + 1 ≡ at = omega arith in
+    drop-set text (at - 1) x (omega arith) ∙ (λ t. e t ∷ drop (next t) text)

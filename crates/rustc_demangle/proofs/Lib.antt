@@ -54,6 +54,7 @@ pub mod PrintsLemmas
 pub mod PrintsPieces
 pub mod Ranges
 pub mod Rows
+pub mod Searches
 pub mod Rules
 pub mod RunSteps
 pub mod Spelled

@@ -112,15 +112,14 @@ impl<'s> Symbol<'s> {
         ensures most { looks.new ≤ looks.old + length self.now }
         ensures all { IsTrue result → looks.new ≡ looks.old + length self.now }
     {
+        let mut all = true;
         for at in 0..self.len() {
             let Some(byte) = self.byte(at, looks) else {
                 return false;
             };
-            if byte >= 128 {
-                return false;
-            }
+            all &= byte < 128;
         }
-        true
+        all
     }
 
     /// A part of it, to be measured or put into a sink. It is no look.

@@ -71,20 +71,28 @@ fn escape_of(quote: char, c: char) -> Escape
     }
 }
 
-// A hexadecimal digit.
-fn digit_char(digit: u64) -> char
+/// A hexadecimal digit.
+pub(crate) fn digit_byte(digit: u64) -> u8
     requires { digit < 16 }
     ensures { result ≡ digit_glyph false digit }
 {
     if digit < 10 {
-        char::from(b'0' + digit as u8)
+        b'0' + digit as u8
     } else {
-        char::from(b'a' + (digit as u8 - 10))
+        b'a' + (digit as u8 - 10)
     }
 }
 
-/// The hexadecimal digits of a number, the highest first.
-pub(crate) fn hexadecimal(number: u64) -> ArrayVec<char, 16>
+// A hexadecimal digit, as a character.
+fn digit_char(digit: u64) -> char
+    requires { digit < 16 }
+    ensures { result ≡ digit_glyph false digit }
+{
+    char::from(digit_byte(digit))
+}
+
+// The hexadecimal digits of a number, the highest first.
+fn hexadecimal(number: u64) -> ArrayVec<char, 16>
     ensures { result.items ≡ digits 16 false number }
 {
     let mut text = ArrayVec::new();

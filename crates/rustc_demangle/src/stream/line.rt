@@ -1,5 +1,5 @@
 //! A line with its symbols demangled.
-ghost use Rattle.std.specs.Prelude.{◌≡◌, ℕ, ◌<◌, true, false, length, drop, IfSome, OnOk, IfNone};
+ghost use Rattle.std.specs.Prelude.{◌≡◌, ℕ, ◌+◌, ◌<◌, ◌≤◌, true, false, length, drop, slice_index, IfSome, OnOk, IfNone, IsTrue};
 ghost use Rattle.std.specs.List.{prefix_len};
 ghost use Rattle.std.specs.Io.KnownBytes.{Appends};
 ghost use Rattle.rustc_demangle.specs.Filtered.{is_run, begins_run, replacement, filtered};
@@ -7,6 +7,7 @@ ghost use Rattle.rustc_demangle.specs.Symbols.{printed};
 
 use crate::sink::WriteSink;
 use crate::{Demangle, try_demangle};
+use memchr::memchr;
 use std::io;
 use std::io::Write;
 
@@ -23,31 +24,53 @@ fn run_start(text: &[u8]) -> Option<usize>
         × ((k : ℕ) → k < n → begins_run (drop k text.now) ≡ false)) }
     ensures none { IfNone result ((k : ℕ) → k < length text.now → begins_run (drop k text.now) ≡ false) }
 {
-    for at in 0..text.len() {
+    let mut from = 0;
+    while let Some(ahead) = memchr(b'_', &text[from..]) {
+        let at = from + ahead;
         if begins_run(&text[at..]) {
             return Some(at);
         }
+        from = at + 1;
     }
     None
 }
 
 // Whether a run may have this byte.
+#[inline(always)]
 fn is_run(byte: u8) -> bool
     ensures { result ≡ is_run byte }
 {
-    byte == b'$' || byte == b'.' || byte == b'_' || byte.is_ascii_alphanumeric()
+    (byte == b'$') | (byte == b'.') | (byte == b'_') | byte.is_ascii_alphanumeric()
+}
+
+// How many bytes are tested at once: so many that the compiler does it by vectors.
+const GROUP: usize = 32;
+
+// Whether a run may have each byte of the group that begins here.
+#[inline(always)]
+fn is_run_group(text: &[u8], from: usize) -> bool
+    requires { from + 32 ≤ length text.now }
+    ensures { IsTrue result → (k : ℕ) → from ≤ k → k < from + 32 → is_run (slice_index text.now k) ≡ true }
+{
+    let mut all = true;
+    for k in 0..GROUP {
+        all &= is_run(text[from + k]);
+    }
+    all
 }
 
 // How long a run is that begins here.
 fn run_len(text: &[u8]) -> usize
     ensures { result ≡ prefix_len is_run text.now }
 {
-    for (at, byte) in text.iter().enumerate() {
-        if !is_run(*byte) {
-            return at;
-        }
+    let mut at = 0;
+    while text.len() - at >= GROUP && is_run_group(text, at) {
+        at += GROUP;
     }
-    text.len()
+    while at < text.len() && is_run(text[at]) {
+        at += 1;
+    }
+    at
 }
 
 // Writes a text by one call of the writer, and an empty one by none.

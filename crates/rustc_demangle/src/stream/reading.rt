@@ -6,6 +6,7 @@ ghost use Rattle.std.specs.Io.{StartsWith, StopsAt, IsEmptyOrEndsWith, appended_
 ghost use Rattle.rustc_demangle.specs.Stream.{IsReadingFault};
 
 use crate::stream::fault::{StreamFault, read_fault};
+use memchr::memchr;
 use std::alloc::Allocator;
 use std::io;
 use std::io::BufRead;
@@ -17,14 +18,10 @@ fn len_through_feed(bytes: &[u8]) -> usize
     ensures before { All (λ x. x ≢ 10) (take (result - 1) bytes.now) }
     ensures through { take result bytes.now ≡ take_through 10 bytes.now }
 {
-    let mut at = 0;
-    while at < bytes.len() {
-        if bytes[at] == b'\n' {
-            return at + 1;
-        }
-        at += 1;
+    match memchr(b'\n', bytes) {
+        Some(at) => at + 1,
+        None => bytes.len(),
     }
-    at
 }
 
 // Takes one filling, up to and including its first line feed. `true` where the line is whole.

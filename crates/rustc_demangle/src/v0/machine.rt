@@ -105,19 +105,11 @@ impl<const N: usize> Machine<N> {
         Some(())
     }
 
-    /// Does one step, as `advance` does: the stretch that it takes.
-    pub fn step(&mut self, symbol: &Symbol<'_>, looks: &mut Looks) -> Option<Stretch>
-        requires { length self.old.work.tasks < N }
-        ensures some { IfSome result (λ x. StepServes symbol.now self.old.work.tasks self.old.work.place self.old.work.is_open self.new.work.tasks self.new.work.place self.new.work.is_open x (looks.new - looks.old)) }
-        ensures none { IfNone result (self.old.work.tasks ≡ []) }
-        ensures same { IfNone result (self.new.work.tasks ≡ self.old.work.tasks) }
-        ensures place { IfNone result (self.new.work.place ≡ self.old.work.place) }
-        ensures grows { looks.old ≤ looks.new }
-        ensures least { looks.old + first_looks self.old.work.tasks self.old.work.place ≤ looks.new }
-        ensures no_looks { IfNone result (looks.new ≡ looks.old) }
+    /// What the last step took.
+    pub fn stretch(&self) -> &Stretch
+        ensures { result.now ≡ self.now.work.stretch }
     {
-        self.advance(symbol, looks)?;
-        Some(self.work.stretch)
+        &self.work.stretch
     }
 }
 

@@ -35,10 +35,10 @@ fn print_on<const N: usize, S: TextSink>(
     ensures ends { 4008 < N → OnOk result (machine.new.work.tasks ≡ []) }
 {
     while machine.has_room() {
-        let Some(stretch) = machine.step(symbol, looks) else {
+        let Some(()) = machine.advance(symbol, looks) else {
             return Ok(true);
         };
-        render(symbol, stretch, include_hash, out, looks)?;
+        render(symbol, machine.stretch(), include_hash, out, looks)?;
     }
     Ok(false)
 }

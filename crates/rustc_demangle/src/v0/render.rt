@@ -24,45 +24,45 @@ use numbers::put_number_constant;
 #[inline(always)]
 pub fn render<S: TextSink>(
     symbol: &Symbol<'_>,
-    stretch: Stretch,
+    stretch: &Stretch,
     plain: bool,
     out: &mut SizeLimitedFmtAdapter<'_, S>,
     looks: &mut Looks,
 ) -> Result<(), SinkRefused>
     requires ascii { IsAscii symbol.now }
-    requires lies { LiesIn symbol.now stretch }
+    requires lies { LiesIn symbol.now stretch.now }
     requires ready { Ready S.TextSink out.old }
-    ensures prints { Prints S.TextSink out.old (texts_of symbol.now plain stretch) result out.new }
+    ensures prints { Prints S.TextSink out.old (texts_of symbol.now plain stretch.now) result out.new }
     ensures grows { looks.old ≤ looks.new }
-    ensures most { looks.new ≤ looks.old + looks_later stretch }
+    ensures most { looks.new ≤ looks.old + looks_later stretch.now }
 {
     match stretch {
         Stretch::Nothing => Ok(()),
-        Stretch::Fixed(mark) => out.put(text(mark)),
+        Stretch::Fixed(mark) => out.put(text(*mark)),
         Stretch::CrateName(name, number) => {
-            put_crate_name(symbol, name, number, plain, out, looks)
+            put_crate_name(symbol, name, *number, plain, out, looks)
         }
         Stretch::FieldName(name) => name.write_to(symbol, out, looks),
         Stretch::NestedName(namespace, number, name) => {
-            put_nested_name(symbol, namespace, number, name, out, looks)
+            put_nested_name(symbol, *namespace, *number, name, out, looks)
         }
         Stretch::NestedUnread => put_each(&["::", "?"], out),
         Stretch::Lifetime(None) => put_each(&["'", "_"], out),
-        Stretch::Lifetime(Some(number)) => put_lifetime(number, out),
+        Stretch::Lifetime(Some(number)) => put_lifetime(*number, out),
         Stretch::LifetimeFault => put_each(&["'", "{invalid syntax}"], out),
-        Stretch::SpacedLifetime(number) => put_spaced_lifetime(number, out),
+        Stretch::SpacedLifetime(number) => put_spaced_lifetime(*number, out),
         Stretch::SpacedFault => put_each(&["'", "{invalid syntax}", " "], out),
-        Stretch::DynLifetime(number) => put_lifetime_behind(" + ", number, out),
+        Stretch::DynLifetime(number) => put_lifetime_behind(" + ", *number, out),
         Stretch::DynLifetimeFault => put_each(&[" + ", "'", "{invalid syntax}"], out),
         Stretch::FunctionHead(is_unsafe, abi) => {
-            put_function_head(symbol, is_unsafe, abi, out, looks)
+            put_function_head(symbol, *is_unsafe, *abi, out, looks)
         }
         Stretch::Number(value, nibbles, tag) => {
-            put_number_constant(symbol, value, nibbles, tag, plain, out)
+            put_number_constant(symbol, *value, *nibbles, *tag, plain, out)
         }
-        Stretch::Character(c) => put_char_literal(c, out),
-        Stretch::Literal(nibbles) => put_string_literal(symbol, nibbles, out, looks),
-        Stretch::Binder(first, count) => put_binder(first, count, out),
+        Stretch::Character(c) => put_char_literal(*c, out),
+        Stretch::Literal(nibbles) => put_string_literal(symbol, *nibbles, out, looks),
+        Stretch::Binder(first, count) => put_binder(*first, *count, out),
         Stretch::BindingName(name) => put_binding(symbol, name, out, looks),
     }
 }

@@ -80,7 +80,7 @@ fn steps_print(inner: &str, wanted: &str) -> bool {
     let mut machine: Machine<MOST> = Machine::begun(Entry::Path, MAX_DEPTH as u16, setting, 0);
     let mut sink = CountingSink::new();
     while machine.has_room() {
-        let Some(stretch) = machine.step(&symbol, &mut looks) else {
+        let Some(()) = machine.advance(&symbol, &mut looks) else {
             break;
         };
         let (from, pieces) = (sink.text.as_str().len(), sink.pieces);
@@ -88,13 +88,17 @@ fn steps_print(inner: &str, wanted: &str) -> bool {
             return false;
         }
         let mut out = SizeLimitedFmtAdapter::new(&mut sink, 1_000_000);
-        if render(&symbol, stretch, false, &mut out, &mut looks).is_err() {
+        if render(&symbol, machine.stretch(), false, &mut out, &mut looks).is_err() {
             return false;
         }
         let Some(added) = sink.text.as_str().get(from..) else {
             return false;
         };
-        if !is_of_one_step(stretch, added, sink.pieces.saturating_sub(pieces)) {
+        if !is_of_one_step(
+            *machine.stretch(),
+            added,
+            sink.pieces.saturating_sub(pieces),
+        ) {
             return false;
         }
     }

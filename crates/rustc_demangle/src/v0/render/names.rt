@@ -37,18 +37,18 @@ fn put_disambiguator<S: TextSink>(
 #[inline(always)]
 pub(super) fn put_crate_name<S: TextSink>(
     symbol: &Symbol<'_>,
-    name: Ident,
+    name: &Ident,
     number: u64,
     plain: bool,
     out: &mut SizeLimitedFmtAdapter<'_, S>,
     looks: &mut Looks,
 ) -> Result<(), SinkRefused>
-    requires parts { LiesWithin symbol.now name }
+    requires parts { LiesWithin symbol.now name.now }
     requires ascii { IsAscii symbol.now }
     requires ready { Ready S.TextSink out.old }
-    ensures prints { Prints S.TextSink out.old (crate_texts plain (name_in symbol.now name) number) result out.new }
+    ensures prints { Prints S.TextSink out.old (crate_texts plain (name_in symbol.now name.now) number) result out.new }
     ensures grows { looks.old ≤ looks.new }
-    ensures most { looks.new ≤ looks.old + name_size name }
+    ensures most { looks.new ≤ looks.old + name_size name.now }
 {
     name.write_to(symbol, out, looks)?;
     put_disambiguator(number, plain, out)
@@ -56,10 +56,10 @@ pub(super) fn put_crate_name<S: TextSink>(
 
 #[tactic(auto, using(crate::proofs::StretchTexts::name_steps))]
 /// Whether both parts of a name are empty.
-fn is_nameless(symbol: &Symbol<'_>, name: Ident) -> bool
-    requires parts { LiesWithin symbol.now name }
+fn is_nameless(symbol: &Symbol<'_>, name: &Ident) -> bool
+    requires parts { LiesWithin symbol.now name.now }
     requires ascii { IsAscii symbol.now }
-    ensures { result ≡ is_nameless (name_in symbol.now name) }
+    ensures { result ≡ is_nameless (name_in symbol.now name.now) }
 {
     if symbol.span(name.ascii).len() > 0 {
         return false;
@@ -72,16 +72,16 @@ fn is_nameless(symbol: &Symbol<'_>, name: Ident) -> bool
 fn put_name_behind<S: TextSink>(
     before: &str,
     symbol: &Symbol<'_>,
-    name: Ident,
+    name: &Ident,
     out: &mut SizeLimitedFmtAdapter<'_, S>,
     looks: &mut Looks,
 ) -> Result<(), SinkRefused>
-    requires parts { LiesWithin symbol.now name }
+    requires parts { LiesWithin symbol.now name.now }
     requires ascii { IsAscii symbol.now }
     requires ready { Ready S.TextSink out.old }
-    ensures prints { Prints S.TextSink out.old (name_behind before.now (name_in symbol.now name)) result out.new }
+    ensures prints { Prints S.TextSink out.old (name_behind before.now (name_in symbol.now name.now)) result out.new }
     ensures grows { looks.old ≤ looks.new }
-    ensures most { looks.new ≤ looks.old + name_size name }
+    ensures most { looks.new ≤ looks.old + name_size name.now }
 {
     if is_nameless(symbol, name) {
         return Ok(());
@@ -137,17 +137,17 @@ fn put_special_name<S: TextSink>(
     symbol: &Symbol<'_>,
     namespace: u8,
     number: u64,
-    name: Ident,
+    name: &Ident,
     out: &mut SizeLimitedFmtAdapter<'_, S>,
     looks: &mut Looks,
 ) -> Result<(), SinkRefused>
     requires small { namespace < 128 }
-    requires parts { LiesWithin symbol.now name }
+    requires parts { LiesWithin symbol.now name.now }
     requires ascii { IsAscii symbol.now }
     requires ready { Ready S.TextSink out.old }
-    ensures prints { Prints S.TextSink out.old (special_texts namespace number (name_in symbol.now name)) result out.new }
+    ensures prints { Prints S.TextSink out.old (special_texts namespace number (name_in symbol.now name.now)) result out.new }
     ensures grows { looks.old ≤ looks.new }
-    ensures most { looks.new ≤ looks.old + name_size name }
+    ensures most { looks.new ≤ looks.old + name_size name.now }
 {
     out.put("::{")?;
     put_kind(namespace, out)?;
@@ -161,16 +161,16 @@ pub(super) fn put_nested_name<S: TextSink>(
     symbol: &Symbol<'_>,
     namespace: u8,
     number: u64,
-    name: Ident,
+    name: &Ident,
     out: &mut SizeLimitedFmtAdapter<'_, S>,
     looks: &mut Looks,
 ) -> Result<(), SinkRefused>
-    requires parts { LiesWithin symbol.now name }
+    requires parts { LiesWithin symbol.now name.now }
     requires ascii { IsAscii symbol.now }
     requires ready { Ready S.TextSink out.old }
-    ensures prints { Prints S.TextSink out.old (nested_texts namespace number (name_in symbol.now name)) result out.new }
+    ensures prints { Prints S.TextSink out.old (nested_texts namespace number (name_in symbol.now name.now)) result out.new }
     ensures grows { looks.old ≤ looks.new }
-    ensures most { looks.new ≤ looks.old + name_size name }
+    ensures most { looks.new ≤ looks.old + name_size name.now }
 {
     match namespace {
         b'A'..=b'Z' => put_special_name(symbol, namespace, number, name, out, looks),
@@ -182,16 +182,16 @@ pub(super) fn put_nested_name<S: TextSink>(
 /// Puts the name that a binding binds.
 pub(super) fn put_binding<S: TextSink>(
     symbol: &Symbol<'_>,
-    name: Ident,
+    name: &Ident,
     out: &mut SizeLimitedFmtAdapter<'_, S>,
     looks: &mut Looks,
 ) -> Result<(), SinkRefused>
-    requires parts { LiesWithin symbol.now name }
+    requires parts { LiesWithin symbol.now name.now }
     requires ascii { IsAscii symbol.now }
     requires ready { Ready S.TextSink out.old }
-    ensures prints { Prints S.TextSink out.old (name_pieces (name_in symbol.now name) ++ codes " = " ∷ []) result out.new }
+    ensures prints { Prints S.TextSink out.old (name_pieces (name_in symbol.now name.now) ++ codes " = " ∷ []) result out.new }
     ensures grows { looks.old ≤ looks.new }
-    ensures most { looks.new ≤ looks.old + name_size name }
+    ensures most { looks.new ≤ looks.old + name_size name.now }
 {
     name.write_to(symbol, out, looks)?;
     out.put(" = ")

@@ -1,5 +1,5 @@
 //! Numbers.
-ghost use Rattle.std.specs.Prelude.{◌≡◌, ◌≤◌, [], ◌∷◌, false, IsAscii, codes, decimal, length, slice_range};
+ghost use Rattle.std.specs.Prelude.{◌≡◌, ◌≤◌, [], ◌∷◌, false, IsAscii, codes, decimal, drop, slice_range};
 ghost use Rattle.std.specs.Fmt.{digits};
 ghost use Rattle.rustc_demangle.specs.Groups.{number_texts};
 ghost use Rattle.rustc_demangle.specs.Limit.{Prints, Ready};
@@ -7,23 +7,28 @@ ghost use Rattle.rustc_demangle.specs.Serving.{PartIn};
 ghost use Rattle.rustc_demangle.specs.Stretches.{constant_texts, type_texts};
 
 use crate::cursor::{Part, Symbol};
-use crate::literal::hexadecimal;
+use crate::literal::digit_byte;
 use crate::sink::{SinkRefused, SizeLimitedFmtAdapter, TextSink};
 use crate::v0::grammar::{basic_mark, text};
-use arrayvec::ArrayString;
 use itoa::Buffer;
+use std::str;
 
-// Digits as a text.
-fn text_of(digits: &[char]) -> ArrayString<16>
-    requires ascii { IsAscii digits.now }
-    requires short { length digits.now ≤ 16 }
-    ensures { result.bytes ≡ digits.now }
+// Writes the hexadecimal digits of a number at the end of some bytes: where they begin.
+fn write_hexadecimal(number: u64, text: &mut [u8; 64]) -> usize
+    ensures bound { result ≤ 64 }
+    ensures value { drop result text.new ≡ digits 16 false number }
 {
-    let mut text = ArrayString::new();
-    for digit in digits {
-        text.push(*digit);
+    let mut at = 64;
+    let mut rest = number;
+    while at > 0 {
+        at -= 1;
+        text[at] = digit_byte(rest % 16);
+        rest /= 16;
+        if rest == 0 {
+            break;
+        }
     }
-    text
+    at
 }
 
 /// Puts a number in hexadecimal digits, as one piece.
@@ -34,8 +39,12 @@ pub(super) fn put_hexadecimal<S: TextSink>(
     requires { Ready S.TextSink out.old }
     ensures { Prints S.TextSink out.old (digits 16 false number ∷ []) result out.new }
 {
-    let digits = hexadecimal(number);
-    out.put(&text_of(&digits))
+    let mut text = [0; 64];
+    let start = write_hexadecimal(number, &mut text);
+    let Ok(digits) = str::from_utf8(&text[start..]) else {
+        unreachable!()
+    };
+    out.put(digits)
 }
 
 #[tactic(auto, using(crate::proofs::PrintsLemmas::prints_ready))]

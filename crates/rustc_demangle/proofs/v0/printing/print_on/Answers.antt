@@ -8,14 +8,14 @@ pub loop-machine-init : goal.loop-machine-init
 loop-machine-init g c = record { ready = c.requires.ready; reached = λ from start r. r }
 
 pub render-requires-clause-lies : goal.render-requires-clause-lies
-render-requires-clause-lies g c = c.in-Some.ensures.some.lies
+render-requires-clause-lies g c = rw c.stretch.ensures c.in-Some.ensures.some.lies
 
 pub loop-machine-preserved : goal.loop-machine-preserved
 loop-machine-preserved g c = record {
   ready = prints_ready g.S.TextSink _ _ _ _ c.in_ok-render.ensures.prints refl;
   reached = λ from start r.
       reached_step g.S.TextSink c.args.symbol.now c.args.include_hash from _ _ start _ _ _ _ _ _ _ _ _ _ (c.loop-machine.invariant.reached from start r)
-      c.in-Some.ensures.some c.in-Some.ensures.least c.in_ok-render.ensures.grows c.in_ok-render.ensures.most c.in_ok-render.ensures.prints;
+      c.in-Some.ensures.some c.in-Some.ensures.least c.in_ok-render.ensures.grows (rw c.stretch.ensures at c.in_ok-render.ensures.most) (rw c.stretch.ensures at c.in_ok-render.ensures.prints);
 }
 
 pub returns-in_default-clause-reached : goal.returns-in_default-clause-reached
@@ -26,7 +26,7 @@ returns-in_default-clause-reached g c = λ from start r.
 pub returns-in_err-render-clause-stopped : goal.returns-in_err-render-clause-stopped
 returns-in_err-render-clause-stopped g c = λ from start r. on_err c.from_residual.result
     (reached_refused g.S.TextSink c.args.symbol.now c.args.include_hash from _ _ start _ _ _ _ _ _ _ _ _ _ _ (c.loop-machine.invariant.reached from start r)
-    c.in-Some.ensures.some c.in-Some.ensures.least c.in_err-render.ensures.grows c.in_err-render.ensures.most c.in_err-render.ensures.prints)
+    c.in-Some.ensures.some c.in-Some.ensures.least c.in_err-render.ensures.grows (rw c.stretch.ensures at c.in_err-render.ensures.most) (rw c.stretch.ensures at c.in_err-render.ensures.prints))
 
 pub returns-in_default-clause-ready : goal.returns-in_default-clause-ready
 returns-in_default-clause-ready g c = c.loop-machine.invariant.ready

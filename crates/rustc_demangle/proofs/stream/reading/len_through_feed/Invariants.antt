@@ -1,9 +1,0 @@
--- `len_through_feed` stays within the bytes, and has not met a line feed.
-use Rattle.std.proofs.Common.{◌≢◌, ◌-◌, ◌≤◌, All, length, take}
-use Rattle.rustc_demangle.proofs.stream.reading.len_through_feed.Given as goal
-
-abbrev pub invariant-loop-at : goal.invariant-loop-at
-invariant-loop-at l = (l.at ≤ length l.bytes) × All (λ x. x ≢ 10) (take l.at l.bytes)
-
-abbrev pub decreases-loop-at : goal.decreases-loop-at
-decreases-loop-at l = length l.bytes - l.at
