@@ -6,7 +6,7 @@ use Rattle.std.proofs.lemmas.List.{take-append-drop}
 use Rattle.std.proofs.lemmas.Bool.Decides.{leb_tells}
 use Rattle.std.proofs.lemmas.Bool.{true≢false}
 use Rattle.std.specs.Char.{encode_utf8, is_control}
-use Rattle.rustc_demangle.specs.Digits.{number}
+use Rattle.demangle_symbol.specs.Digits.{number}
 use lib.Utf8.{scalar as is_scalar}
 use Rattle.rustc_demangle.specs.Stripped.{stripped, is_thin_lto}
 use Rattle.rustc_demangle.specs.Symbols.{IsSymbol, pieces_of, handed, printed, most_bytes}
@@ -15,15 +15,15 @@ use Rattle.rustc_demangle.specs.Stream.{output_of}
 use Rattle.rustc_demangle.proofs.FilterLaws.{run_all}
 use Rattle.rustc_demangle.proofs.LineDivision.{lines_join}
 use Rattle.rustc_demangle.proofs.RunSteps.{turn, first_of_run}
-use Rattle.rustc_demangle.proofs.LegacyLaws.{legacy_spelled}
+use Rattle.demangle_legacy.proofs.LegacyLaws.{legacy_spelled}
 use Rattle.rustc_demangle.proofs.SymbolSteps.{symbol-pieces, pieces-legacy, pieces-v0}
-use Rattle.rustc_demangle.proofs.V0Reading.{v0_is_read}
+use Rattle.demangle_v0.proofs.V0Reading.{v0_is_read}
 use Rattle.rustc_demangle.proofs.V0Feeds.{feeds-rendered}
-use Rattle.rustc_demangle.specs.Reading.{rendered}
-use Rattle.rustc_demangle.specs.Cut.{size, fitting, cut, marker}
+use Rattle.demangle_v0.specs.Reading.{rendered}
+use Rattle.demangle_sink.specs.Cut.{size, fitting, cut, marker}
 use Rattle.rustc_demangle.specs.Lines.{lines, feeds}
-use Rattle.rustc_demangle.specs.Legacy.{IsElements, IsLegacy}
-use Rattle.rustc_demangle.specs.Unescaped.{escape_of_code, escape_of_digits, escape_of, lower_hex, unit_of, pieces_from, unescaped, is_hash, shown, continued, joined, legacy_pieces, is_lower_hex, is_dollar, is_special}
+use Rattle.demangle_legacy.specs.Legacy.{IsElements, IsLegacy}
+use Rattle.demangle_legacy.specs.Unescaped.{escape_of_code, escape_of_digits, escape_of, lower_hex, unit_of, pieces_from, unescaped, is_hash, shown, continued, joined, legacy_pieces, is_lower_hex, is_dollar, is_special}
 use Rattle.rustc_demangle.proofs.Feeds.{feeds-append, feeds-concat, feeds-cons, feeds-drop, feeds-other, feeds-character}
 
 cases : (b : Bool) → (b ≡ true) ⊎ (b ≡ false)

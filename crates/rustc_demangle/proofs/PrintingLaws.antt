@@ -4,15 +4,15 @@ use Rattle.std.specs.Option.{option_map_or}
 use Rattle.std.proofs.lemmas.List.{append-nil, append_assoc}
 use Rattle.std.proofs.lemmas.Grind.{flat_map-append}
 use Rattle.std.proofs.lemmas.Bool.Decides.{leb_tells}
-use Rattle.rustc_demangle.specs.Cut.{size, fitting, cut, marker}
+use Rattle.demangle_sink.specs.Cut.{size, fitting, cut, marker}
 use Rattle.rustc_demangle.specs.Hashes.{LeavesHashOut, pieces_behind}
-use Rattle.rustc_demangle.specs.Legacy.{IsLegacy, legacy_of}
+use Rattle.demangle_legacy.specs.Legacy.{IsLegacy, legacy_of}
 use Rattle.rustc_demangle.specs.Stripped.{is_allowed}
 use Rattle.rustc_demangle.specs.Symbols.{IsSymbol, pieces_of, handed}
-use Rattle.rustc_demangle.specs.Unescaped.{unescaped, is_hash, shown, joined, continued, legacy_pieces}
-use Rattle.rustc_demangle.proofs.CutLemmas.{size-append, fitting-within}
-use Rattle.rustc_demangle.proofs.PrintsLemmas.{cut-within, cut-past}
-use Rattle.rustc_demangle.proofs.LegacyLaws.{legacy_spelled}
+use Rattle.demangle_legacy.specs.Unescaped.{unescaped, is_hash, shown, joined, continued, legacy_pieces}
+use Rattle.demangle_sink.proofs.CutLemmas.{size-append, fitting-within}
+use Rattle.demangle_sink.proofs.PrintsLemmas.{cut-within, cut-past}
+use Rattle.demangle_legacy.proofs.LegacyLaws.{legacy_spelled}
 use Rattle.rustc_demangle.proofs.SymbolSteps.{symbol-pieces, pieces-legacy}
 
 handed-some_of : (text : List ℕ) (hash : Bool) (limit : ℕ) (read : List (List ℕ) × List ℕ) → pieces_of hash text ≡ Some read → handed text hash limit ≡ cut read.0 limit ++ read.1 ∷ []

@@ -3,7 +3,7 @@ use Rattle.std.proofs.Common.{◌≡◌, ℕ, zero, suc, ◌+◌, ◌<◌, Bool,
 use Rattle.std.specs.List.{list_all, slice_get}
 use Rattle.std.proofs.lemmas.List.{drop_all}
 use Rattle.std.proofs.lemmas.Option.{slice_get_within, get_or_from_slice_get}
-use Rattle.rustc_demangle.specs.Digits.{is_byte}
+use Rattle.demangle_symbol.specs.Digits.{is_byte}
 use Rattle.rustc_demangle.specs.Stripped.{is_graphic, is_allowed}
 
 list_all-drop : (p : ℕ → Bool) (xs : List ℕ) (i : ℕ) → i < length xs → list_all p (drop i xs) ≡ (p (get_or xs i 0) && list_all p (drop (suc i) xs))

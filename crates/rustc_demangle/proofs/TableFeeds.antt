@@ -5,11 +5,11 @@ use Prim.Native.Char.{code}
 use Prim.Native.String.{String}
 use lib.Utf8.{scalar}
 use Rattle.rustc_demangle.specs.Lines.{feeds}
-use Rattle.rustc_demangle.specs.Words.{Name, is_upper, some_or, number_of}
-use Rattle.rustc_demangle.specs.Names.{is_empty, is_nameless, name_pieces}
-use Rattle.rustc_demangle.specs.Literals.{literal, string_of}
-use Rattle.rustc_demangle.specs.Items.{Text, Kind, a_path, a_type, a_constant, a_pattern, a_trait_path, Items, done, invalid, say, say_plain, byte, next, raise, unit, child, opens, dyn_trait}
-use Rattle.rustc_demangle.specs.Table.{is_among, row_of, says, says_if, say_all, list, tuple, typed, constant_inside, argument, in_special, in_namespace, path_rows, basic_types, text_of, extern, signature, function, bound, after_tag, type_rows, constructed, type_tagged, pattern_rows, braces, number, character, truth, string, field, variant, variant_rows, constant_rows, items}
+use Rattle.demangle_symbol.specs.Words.{Name, is_upper, some_or, number_of}
+use Rattle.demangle_symbol.specs.Names.{is_empty, is_nameless, name_pieces}
+use Rattle.demangle_symbol.specs.Literals.{literal, string_of}
+use Rattle.demangle_v0.specs.Items.{Text, Kind, a_path, a_type, a_constant, a_pattern, a_trait_path, Items, done, invalid, say, say_plain, byte, next, raise, unit, child, opens, dyn_trait}
+use Rattle.demangle_v0.specs.Table.{is_among, row_of, says, says_if, say_all, list, tuple, typed, constant_inside, argument, in_special, in_namespace, path_rows, basic_types, text_of, extern, signature, function, bound, after_tag, type_rows, constructed, type_tagged, pattern_rows, braces, number, character, truth, string, field, variant, variant_rows, constant_rows, items}
 use Rattle.rustc_demangle.proofs.Feeds.{feeds-other}
 use Rattle.rustc_demangle.proofs.WordFeeds.{AreClear, number_clear, name_clear, extern_clear, literal_clear}
 use Rattle.rustc_demangle.proofs.ItemFeeds.{SaysClear}

@@ -9,12 +9,12 @@ use Rattle.std.proofs.lemmas.Bool.Decides.{eqb_tells}
 use Prim.Native.Char.{code}
 use lib.Utf8.{scalar as is_scalar}
 use Rattle.rustc_demangle.specs.Lines.{feeds}
-use Rattle.rustc_demangle.specs.Digits.{is_byte, run_end}
-use Rattle.rustc_demangle.specs.Words.{Name, only_if, then_if_some, some_or, is_upper, is_lower, namespace_at, identifier_at, nibbles_at, is_nibble, name_of, name_from, name_len, digits_from, length_end, tail_len, punycode_len, ascii_to}
-use Rattle.rustc_demangle.specs.Punycode.{inserted, deltas, next_delta, puny}
-use Rattle.rustc_demangle.specs.Names.{is_empty, undecoded, name_pieces}
-use Rattle.rustc_demangle.specs.Literals.{escaped, literal, is_shown}
-use Rattle.rustc_demangle.specs.Table.{hyphenated, extern}
+use Rattle.demangle_symbol.specs.Digits.{is_byte, run_end}
+use Rattle.demangle_symbol.specs.Words.{Name, only_if, then_if_some, some_or, is_upper, is_lower, namespace_at, identifier_at, nibbles_at, is_nibble, name_of, name_from, name_len, digits_from, length_end, tail_len, punycode_len, ascii_to}
+use Rattle.demangle_symbol.specs.Punycode.{inserted, deltas, next_delta, puny}
+use Rattle.demangle_symbol.specs.Names.{is_empty, undecoded, name_pieces}
+use Rattle.demangle_symbol.specs.Literals.{escaped, literal, is_shown}
+use Rattle.demangle_v0.specs.Table.{hyphenated, extern}
 use Rattle.rustc_demangle.proofs.Feeds.{feeds-append, feeds-take, feeds-drop, feeds-other, feeds-character}
 
 -- texts without line feeds

@@ -1,7 +1,7 @@
 -- A legacy symbol whose last element is its hash.
 use Rattle.std.specs.Prelude.{◌≡◌, ℕ, true, false, List, [], ◌∷◌, ◌++◌, codes}
 use Rattle.rustc_demangle.specs.Symbols.{handed}
-use Rattle.rustc_demangle.specs.Unescaped.{unescaped, is_hash, joined}
+use Rattle.demangle_legacy.specs.Unescaped.{unescaped, is_hash, joined}
 
 -- the pieces of an element that stands behind others: `::` in front of it where there are any
 abbrev pub pieces_behind : List (List ℕ) → List ℕ → List (List ℕ)

@@ -1,14 +1,15 @@
+-- Internal: no public contract cites this.
 -- How a demangled symbol holds what was read of it.
 use Rattle.std.specs.Prelude.{◌≡◌, ℕ, ◌+◌, ◌*◌, ◌≤◌, Bool, true, List, Option, None, Some, length}
 use Rattle.rustc_demangle.specs.declared.value.DemangleStyle.{DemangleStyle}
 use Rattle.rustc_demangle.specs.declared.value.DemangleStyle.TheVariants.{Legacy, V0}
-use Rattle.rustc_demangle.specs.Cut.{kept}
-use Rattle.rustc_demangle.specs.Legacy.{legacy_of, elements_of}
-use Rattle.rustc_demangle.specs.Reading.{rendered}
+use Rattle.demangle_sink.specs.Cut.{kept}
+use Rattle.demangle_legacy.specs.Legacy.{legacy_of, elements_of}
+use Rattle.demangle_v0.specs.Reading.{rendered}
 use Rattle.rustc_demangle.specs.Stripped.{is_allowed}
 use Rattle.rustc_demangle.specs.Symbols.{pieces_of}
-use Rattle.rustc_demangle.specs.Unescaped.{legacy_pieces}
-use Rattle.rustc_demangle.specs.V0.{v0_of}
+use Rattle.demangle_legacy.specs.Unescaped.{legacy_pieces}
+use Rattle.demangle_v0.specs.V0.{v0_of}
 
 -- the pieces of a symbol of this style
 abbrev pub style_pieces : Bool → DemangleStyle → List (List ℕ)

@@ -2,12 +2,12 @@
 use Rattle.std.specs.Prelude.{◌≡◌, ◌⊎◌, ℕ, Bool, true, List, [], ◌∷◌, ◌++◌, Option, None, Some, option_map, if◌then◌else◌}
 use Rattle.std.specs.List.{concat}
 use Rattle.std.specs.Option.{option_map_or}
-use Rattle.rustc_demangle.specs.Cut.{cut, kept}
-use Rattle.rustc_demangle.specs.Legacy.{IsLegacy, legacy_of}
-use Rattle.rustc_demangle.specs.Reading.{rendered}
+use Rattle.demangle_sink.specs.Cut.{cut, kept}
+use Rattle.demangle_legacy.specs.Legacy.{IsLegacy, legacy_of}
+use Rattle.demangle_v0.specs.Reading.{rendered}
 use Rattle.rustc_demangle.specs.Stripped.{is_allowed}
-use Rattle.rustc_demangle.specs.Unescaped.{legacy_pieces}
-use Rattle.rustc_demangle.specs.V0.{IsV0, v0_of}
+use Rattle.demangle_legacy.specs.Unescaped.{legacy_pieces}
+use Rattle.demangle_v0.specs.V0.{IsV0, v0_of}
 
 -- the text is spelled by the grammar of the legacy scheme, up to an allowed suffix
 abbrev pub IsLegacySymbol : List ℕ → Type 0

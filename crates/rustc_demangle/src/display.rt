@@ -3,8 +3,8 @@ ghost use Rattle.std.specs.Prelude.{Some, true, not};
 ghost use Rattle.std.specs.Fmt.{spec_alternate};
 ghost use Rattle.rustc_demangle.specs.Symbols.{printed};
 
-use crate::sink::FmtSink;
 use crate::value::Demangle;
+use demangle_sink::FmtSink;
 use std::fmt;
 
 /// Prints with the hash, and under `{:#}` without it. Width, fill, sign and precision have no effect. It fails where the

@@ -5,20 +5,14 @@ ghost use Rattle.std.specs.Prelude.{◌≡◌, ◌+◌, ◌-◌, ◌*◌, ◌≤
 ghost use Rattle.rustc_demangle.specs.Stripped.{stripped};
 ghost use Rattle.rustc_demangle.specs.Symbols.{IsSymbol};
 
-mod cursor;
 mod display;
 pub mod laws;
-mod legacy;
-mod literal;
-mod prefix;
-mod punycode;
 pub mod sink;
 mod stream;
 mod strip;
-mod v0;
 mod value;
 
-pub use cursor::Looks;
+pub use demangle_symbol::cursor::Looks;
 pub use stream::{StreamFault, demangle_stream, demangle_stream_named};
 use strip::without_thin_lto;
 pub use value::Demangle;

@@ -1,19 +1,18 @@
 //! A demangled symbol, and how it prints.
 ghost use Rattle.std.specs.Prelude.{◌≡◌, ◌+◌, ◌-◌, ◌*◌, ◌≤◌, length, true, false, IsTrue, IsOk, OnOk, OnErr, IfSome, IfNone, None};
 ghost use Rattle.std.specs.List.{concat};
-ghost use Rattle.rustc_demangle.specs.Cut.{cut, size};
-ghost use Rattle.rustc_demangle.specs.Hands.{Hands, HoldsFront};
-ghost use Rattle.rustc_demangle.specs.Legacy.{legacy_of};
-ghost use Rattle.rustc_demangle.specs.Limit.{Prints, Ready};
-ghost use Rattle.rustc_demangle.specs.Sink.{Fits, room_after};
+ghost use Rattle.demangle_sink.specs.Cut.{cut, size};
+ghost use Rattle.demangle_sink.specs.Hands.{Hands, HoldsFront};
+ghost use Rattle.demangle_legacy.specs.Legacy.{legacy_of};
+ghost use Rattle.demangle_sink.specs.Limit.{Prints, Ready};
+ghost use Rattle.demangle_sink.specs.Sink.{Fits, room_after};
 ghost use Rattle.rustc_demangle.specs.Stripped.{is_allowed, is_graphic};
 ghost use Rattle.rustc_demangle.specs.Style.{style_pieces, style_len, style_looks, style_least, IsReadAs, HasNoStyle, HasStyle};
 ghost use Rattle.rustc_demangle.specs.Symbols.{handed, kept_of, IsLegacySymbol, IsV0Symbol, IsSymbol};
-ghost use Rattle.rustc_demangle.specs.V0.{v0_of};
+ghost use Rattle.demangle_v0.specs.V0.{v0_of};
 
-use crate::cursor::{Looks, Symbol};
-use crate::sink::{SinkRefused, SizeLimitedFmtAdapter, TextSink, put_piece};
-use crate::{legacy, v0};
+use demangle_sink::{SinkRefused, SizeLimitedFmtAdapter, TextSink, put_piece};
+use demangle_symbol::cursor::{Looks, Symbol};
 use std::marker::Model;
 
 /// The most bytes that a call with no limit of its own prints of a symbol, before the marker and the suffix.
@@ -22,8 +21,8 @@ pub(crate) const MAX_SIZE: usize = 1_000_000;
 /// The scheme of a symbol, and what was read of it.
 #[derive(Drop)]
 pub(crate) enum DemangleStyle<'a> {
-    Legacy(legacy::Demangle<'a>),
-    V0(v0::Demangle<'a>),
+    Legacy(demangle_legacy::Demangle<'a>),
+    V0(demangle_v0::Demangle<'a>),
 }
 
 impl DemangleStyle<'_> {
@@ -248,10 +247,10 @@ fn read_style<'a>(text: &'a str, looks: &mut Looks) -> Option<(DemangleStyle<'a>
     ensures most { looks.new ≤ looks.old + 60 * (length text.now + 1) }
     ensures least { IfSome result (λ _. looks.old + (length text.now - 4) ≤ looks.new) }
 {
-    if let Ok((symbol, suffix)) = legacy::demangle(text, looks) {
+    if let Ok((symbol, suffix)) = demangle_legacy::demangle(text, looks) {
         return Some((DemangleStyle::Legacy(symbol), suffix));
     }
-    match v0::demangle(text, looks) {
+    match demangle_v0::demangle(text, looks) {
         Ok((symbol, suffix)) => Some((DemangleStyle::V0(symbol), suffix)),
         Err(_) => None,
     }

@@ -1,6 +1,6 @@
 //! Laws of the legacy scheme.
 ghost use Rattle.std.specs.Prelude.{◌≡◌, ℕ, List, Some};
-ghost use Rattle.rustc_demangle.specs.Legacy.{IsLegacy, legacy_of};
+ghost use Rattle.demangle_legacy.specs.Legacy.{IsLegacy, legacy_of};
 
 /// A text is read as a legacy symbol exactly where the grammar spells it, and in one way at most.
 pub fn legacy_is_read()

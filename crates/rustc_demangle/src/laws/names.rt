@@ -1,6 +1,6 @@
 //! What names decode to.
 ghost use Rattle.std.specs.Prelude.{◌≡◌, ℕ, ◌^◌, ◌<◌, ◌≤◌, Bool, true, false, List, length, All, Some};
-ghost use Rattle.rustc_demangle.specs.Punycode.{next_delta, deltas, puny};
+ghost use Rattle.demangle_symbol.specs.Punycode.{next_delta, deltas, puny};
 
 /// The number of each delta of a name that can be decoded is below 2^28, and so fits machine integers.
 pub fn deltas_are_small()

@@ -1,16 +1,16 @@
 //! What texts print, with the hash or without it, and within a limit.
 ghost use Rattle.std.specs.Prelude.{◌≡◌, ◌⊎◌, ℕ, ◌+◌, ◌≤◌, Bool, true, false, List, [], ◌∷◌, ◌++◌, length, codes, Some, IsOk, OnOk, if◌then◌else◌};
 ghost use Rattle.std.specs.List.{list_all};
-ghost use Rattle.rustc_demangle.specs.Array.{text_of};
-ghost use Rattle.rustc_demangle.specs.Cut.{size};
+ghost use Rattle.demangle_sink.specs.Array.{text_of};
+ghost use Rattle.demangle_sink.specs.Cut.{size};
 ghost use Rattle.rustc_demangle.specs.Hashes.{LeavesHashOut};
-ghost use Rattle.rustc_demangle.specs.Legacy.{IsLegacy};
+ghost use Rattle.demangle_legacy.specs.Legacy.{IsLegacy};
 ghost use Rattle.rustc_demangle.specs.Stripped.{stripped, is_thin_lto, is_allowed, IsCut};
 ghost use Rattle.rustc_demangle.specs.Symbols.{IsSymbol, handed, most_bytes, pieces_of, printed};
-ghost use Rattle.rustc_demangle.specs.Unescaped.{legacy_pieces};
+ghost use Rattle.demangle_legacy.specs.Unescaped.{legacy_pieces};
 
-use crate::sink::{ArraySink, SinkRefused, TextSink};
 use crate::value::Demangle;
+use demangle_sink::{ArraySink, SinkRefused, TextSink};
 
 /// A text is cut off from its first `.llvm.` on, where only characters of ThinLTO's endings follow. Twice is as once.
 pub fn stripped_is_cut_once()

@@ -1,13 +1,13 @@
 //! Which bytes are v0 symbols, and where their readings end.
 ghost use Rattle.std.specs.Prelude.{◌≡◌, ◌↔◌, ◌⊎◌, ℕ, ◌≤◌, Bool, true, false, List, length, Some, None};
-ghost use Rattle.rustc_demangle.specs.Items.{Items, Kind};
-ghost use Rattle.rustc_demangle.specs.Table.{items};
-ghost use Rattle.rustc_demangle.specs.Reading.{IsWhole, max_depth, read_at, suffix_of};
-ghost use Rattle.rustc_demangle.specs.V0.{IsV0, v0_of};
-ghost use Rattle.rustc_demangle.specs.Spelling.{Rule, freely, named, simple, Spells, IsPaths};
+ghost use Rattle.demangle_v0.specs.Items.{Items, Kind};
+ghost use Rattle.demangle_v0.specs.Table.{items};
+ghost use Rattle.demangle_v0.specs.Reading.{IsWhole, max_depth, read_at, suffix_of};
+ghost use Rattle.demangle_v0.specs.V0.{IsV0, v0_of};
+ghost use Rattle.demangle_v0.specs.Spelling.{Rule, freely, named, simple, Spells, IsPaths};
 
 /// What a v0 symbol is made of ends at one place at most, for each place at which it begins.
-#[tactic(auto, using(crate::proofs::Unique::unique, crate::proofs::Accepted::one_suffix))]
+#[tactic(auto, using(demangle_v0::proofs::Unique::unique, demangle_v0::proofs::Accepted::one_suffix))]
 pub fn units_end_once()
     ensures unit { (symbol : List ℕ) (rule : Rule) (depth lifetimes : ℕ) (p : Items) (i j k : ℕ) →
         Spells symbol rule depth lifetimes p i j → Spells symbol rule depth lifetimes p i k → j ≡ k }
@@ -15,7 +15,7 @@ pub fn units_end_once()
 {}
 
 /// Reading without printing accepts exactly what is spelled.
-#[tactic(auto, using(crate::proofs::Accepted::reading_is_spelling))]
+#[tactic(auto, using(demangle_v0::proofs::Accepted::reading_is_spelling))]
 pub fn reading_accepts_what_is_spelled()
     ensures unit { (symbol : List ℕ) (kind : Kind) (value : Bool) (i j depth lifetimes : ℕ) → depth ≤ max_depth → i ≤ length symbol →
         ((read_at symbol false kind i depth lifetimes value).place ≡ Some j) ↔ Spells symbol freely depth lifetimes (items kind value) i j }
@@ -25,7 +25,7 @@ pub fn reading_accepts_what_is_spelled()
 
 /// A printed reading ends where the unprinted one does, or failed. It fails only at a lifetime outside references that
 /// names none in force.
-#[tactic(auto, using(crate::proofs::Accepted::printing_is_spelling, crate::proofs::Accepted::printing_ends, crate::proofs::Rules::named_freely))]
+#[tactic(auto, using(demangle_v0::proofs::Accepted::printing_is_spelling, demangle_v0::proofs::Accepted::printing_ends, demangle_v0::proofs::Rules::named_freely))]
 pub fn printing_ends_where_reading_does()
     ensures named { (symbol : List ℕ) (kind : Kind) (value : Bool) (i j depth lifetimes : ℕ) → depth ≤ max_depth → i ≤ length symbol →
         ((read_at symbol true kind i depth lifetimes value).place ≡ Some j) ↔ Spells symbol named depth lifetimes (items kind value) i j }
@@ -38,7 +38,7 @@ pub fn printing_ends_where_reading_does()
 {}
 
 /// What is spelled without a reference, and with no lifetime but that of index 0, hands over no stop.
-#[tactic(auto, using(crate::proofs::Whole::read_whole, crate::proofs::Rules::simply_named))]
+#[tactic(auto, using(demangle_v0::proofs::Whole::read_whole, demangle_v0::proofs::Rules::simply_named))]
 pub fn simple_units_have_no_stop()
     ensures whole { (symbol : List ℕ) (kind : Kind) (value : Bool) (i j depth lifetimes : ℕ) → depth ≤ max_depth → i ≤ length symbol →
         Spells symbol simple depth lifetimes (items kind value) i j → IsWhole (read_at symbol true kind i depth lifetimes value).tree }

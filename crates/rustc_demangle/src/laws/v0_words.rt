@@ -1,6 +1,6 @@
 //! What the words of v0 symbols spell.
 ghost use Rattle.std.specs.Prelude.{◌≡◌, ◌↔◌, ℕ, ◌+◌, List, Some, slice_range};
-ghost use Rattle.rustc_demangle.specs.Words.{Name, namespace_at, Namespace, integer_at, Integer, optional_at, OptInteger, backref_at, Backref, identifier_at, Identifier, nibbles_at, Hex};
+ghost use Rattle.demangle_symbol.specs.Words.{Name, namespace_at, Namespace, integer_at, Integer, optional_at, OptInteger, backref_at, Backref, identifier_at, Identifier, nibbles_at, Hex};
 
 /// A word's function gives a value and the place behind the word exactly where its relation holds of both.
 pub fn words_are_read_as_spelled()

@@ -5,8 +5,8 @@ ghost use Rattle.std.specs.Io.KnownBytes.{Appends};
 ghost use Rattle.rustc_demangle.specs.Filtered.{is_run, begins_run, replacement, filtered};
 ghost use Rattle.rustc_demangle.specs.Symbols.{printed};
 
-use crate::sink::WriteSink;
 use crate::{Demangle, try_demangle};
+use demangle_sink::WriteSink;
 use memchr::memchr;
 use std::io;
 use std::io::Write;

@@ -1,5 +1,5 @@
 use Rattle.std.proofs.Common.{rules, sym}
-use Rattle.rustc_demangle.proofs.PrintsLemmas.{prints_cut_over, prints_cut_all}
+use Rattle.demangle_sink.proofs.PrintsLemmas.{prints_cut_over, prints_cut_all}
 use Rattle.rustc_demangle.proofs.value.write_cut.Goals as goal
 
 pub returns-then-is_over-clause-hands : goal.returns-then-is_over-clause-hands

@@ -1,4 +1,4 @@
-use Rattle.rustc_demangle.proofs.LegacyLaws.{legacy_read, legacy_spelled, legacy_once}
+use Rattle.demangle_legacy.proofs.LegacyLaws.{legacy_read, legacy_spelled, legacy_once}
 use Rattle.rustc_demangle.proofs.laws.legacy.legacy_is_read.Goals as goal
 
 pub returns : goal.returns

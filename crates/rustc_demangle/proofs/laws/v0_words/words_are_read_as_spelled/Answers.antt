@@ -1,4 +1,4 @@
-use Rattle.rustc_demangle.proofs.WordLaws.{namespace_law, integer_law, optional_law, backref_law, identifier_law, nibbles_law}
+use Rattle.demangle_symbol.proofs.WordLaws.{namespace_law, integer_law, optional_law, backref_law, identifier_law, nibbles_law}
 use Rattle.rustc_demangle.proofs.laws.v0_words.words_are_read_as_spelled.Goals as goal
 
 pub returns-clause-namespace : goal.returns-clause-namespace

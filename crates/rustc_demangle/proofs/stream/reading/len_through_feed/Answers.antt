@@ -1,7 +1,7 @@
 use Rattle.std.proofs.Common.{◌≡◌, ◌≢◌, ◌-◌, All, length, take, get_or, subst, sym, ◌∙◌, arith, le_refl, take_all, take-take}
 use Rattle.std.proofs.lemmas.Bool.Decides.{nat_tests}
 use Rattle.std.proofs.lemmas.List.Elements.{All-take}
-use Rattle.rustc_demangle.proofs.Fillings.{take_through-met, take_through-none}
+use Rattle.demangle_sink.proofs.Fillings.{take_through-met, take_through-none}
 use Rattle.rustc_demangle.proofs.Searches.{none_met}
 use Rattle.rustc_demangle.proofs.stream.reading.len_through_feed.Goals as goal
 

@@ -1,5 +1,5 @@
 use Rattle.std.proofs.Common.{arith, refl, [], ◌∷◌, inr}
-use Rattle.rustc_demangle.proofs.HandsLemmas.{hands_then, hands_stop}
+use Rattle.demangle_sink.proofs.HandsLemmas.{hands_then, hands_stop}
 use Rattle.rustc_demangle.proofs.SymbolSteps.{handed-some, styled-none, styled-some, symbol_styled, no_symbol_unstyled, style_looks-most, style_looks-legacy, style_least-v0}
 use Rattle.rustc_demangle.proofs.value.Demangle.hand_over.Goals as goal
 

@@ -1,4 +1,4 @@
-use Rattle.rustc_demangle.proofs.HandsLemmas.{hands_text, hands_kept}
+use Rattle.demangle_sink.proofs.HandsLemmas.{hands_text, hands_kept}
 use Rattle.rustc_demangle.proofs.value.Demangle.write_limited_counted.Goals as goal
 
 pub returns-clause-text : goal.returns-clause-text

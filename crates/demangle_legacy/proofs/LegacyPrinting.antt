@@ -1,0 +1,117 @@
+-- The pieces of a legacy symbol, an element at a time.
+use Rattle.std.proofs.Common.{◌≡◌, ℕ, ◌+◌, ◌<◌, ◌⊎◌, inl, inr, Bool, true, false, cond, not, ◌&&◌, List, [], ◌∷◌, ◌++◌, length, drop, slice_range, Some, None, refl, sym, ap, ◌∙◌, arith, subst, eqb, IsSome}
+use Rattle.std.specs.Prelude.{codes}
+use Rattle.std.proofs.lemmas.Bool.Decides.{nat_tests}
+use Rattle.std.proofs.lemmas.List.{at_drop_more}
+use Rattle.std.proofs.lemmas.Bool.{false≢true}
+use Rattle.std.proofs.lemmas.Option.{get_or_from_slice_get}
+use Rattle.demangle_symbol.specs.Digits.{is_byte}
+use Rattle.demangle_legacy.specs.Legacy.{element_of, parts_of, elements_of, behind_E, suffix_of}
+use Rattle.demangle_legacy.specs.Unescaped.{unescaped, is_hash, shown, joined, continued}
+use Rattle.demangle_symbol.proofs.Digits.{is_byte_there, is_byte_within}
+use Rattle.demangle_symbol.proofs.Options.{option_cases}
+use Rattle.demangle_legacy.proofs.LegacyElements.{parts_end, parts_more, parts_E, no_byte_E, behind_more}
+
+shown_more : (hash : Bool) (e : List ℕ) (es : List (List ℕ)) → ((not hash && is_hash e) ≡ false) ⊎ (0 < length es) → shown hash (e ∷ es) ≡ e ∷ shown hash es
+unfolding shown
+shown_more hash e [] (inl h) = ap (λ b. cond b [] (e ∷ [])) h
+shown_more hash e [] (inr h) = absurd (omega arith)
+shown_more hash e (f ∷ es) h = refl
+
+shown_less : (hash : Bool) (e : List ℕ) → hash ≡ false → is_hash e ≡ true → shown hash (e ∷ []) ≡ []
+unfolding shown
+shown_less true e h k = cc
+shown_less false e h k = ap (λ b. cond b [] (e ∷ [])) k
+
+-- the pieces of the elements that are left at a place of the symbol: `::` stands before them but at place 0
+abbrev pub left_pieces : Bool → ℕ → List (List ℕ) → List (List ℕ)
+left_pieces hash at left = cond (eqb at 0) (joined (shown hash left)) (continued (shown hash left))
+
+-- the elements from a place on
+
+pub elements_more : (s : List ℕ) (at from to : ℕ) → element_of (drop at s) ≡ Some (slice_range s from to, drop to s) → elements_of (drop at s) ≡ slice_range s from to ∷ elements_of (drop to s)
+elements_more s at from to h = ap (λ (r : List (List ℕ) × List ℕ). r.0) (parts_more (drop at s) (slice_range s from to, drop to s) h)
+
+pub elements_end : (s : List ℕ) (at : ℕ) → element_of (drop at s) ≡ None → elements_of (drop at s) ≡ []
+elements_end s at h = ap (λ (r : List (List ℕ) × List ℕ). r.0) (parts_end (drop at s) h)
+
+-- an `E` stands behind the last element
+pub elements_E : (s : List ℕ) (to : ℕ) → is_byte s to 69 ≡ true → elements_of (drop to s) ≡ []
+elements_E s to h =
+    let is = get_or_from_slice_get s to 69 0 (is_byte_there s to 69 h) in
+    at_drop_more elements_of s to 0 (is_byte_within s to 69 h) ∙ ap (λ c. elements_of (c ∷ drop (to + 1) s)) is ∙ ap (λ (r : List (List ℕ) × List ℕ). r.0) (parts_E (drop (to + 1) s))
+
+none_there : IsSome {T = List ℕ} None → ⊥
+none_there h = false≢true h
+
+-- and no other byte does
+pub elements_left : (s : List ℕ) (to : ℕ) → IsSome (suffix_of s) → (parts_of s).1 ≡ (parts_of (drop to s)).1 → is_byte s to 69 ≡ false → 0 < length (elements_of (drop to s))
+elements_left s to some same h = elim (option_cases (element_of (drop to s))) [
+  | inl e ↦
+      let none : suffix_of s ≡ None = ap behind_E (same ∙ ap (λ (r : List (List ℕ) × List ℕ). r.1) (parts_end (drop to s) e)) ∙ no_byte_E s to h in
+      absurd (none_there (subst (λ o. IsSome o) none some))
+  | inr e ↦ omega (arith, ap (λ (r : List (List ℕ) × List ℕ). length r.0) (parts_more (drop to s) e.0 e.1))
+]
+
+-- one element more
+
+pub left_first : (hash : Bool) (at : ℕ) (e : List ℕ) (es : List (List ℕ)) → ((not hash && is_hash e) ≡ false) ⊎ (0 < length es) → at ≡ 0 → left_pieces hash at (e ∷ es) ≡ unescaped e ++ continued (shown hash es)
+left_first hash at e es keeps first =
+    let t : eqb at 0 ≡ true = grind (arith, nat_tests) in
+    ap (λ b. cond b (joined (shown hash (e ∷ es))) (continued (shown hash (e ∷ es)))) t ∙ ap joined (shown_more hash e es keeps)
+
+pub left_next : (hash : Bool) (at : ℕ) (e : List ℕ) (es : List (List ℕ)) → ((not hash && is_hash e) ≡ false) ⊎ (0 < length es) → 0 < at → left_pieces hash at (e ∷ es) ≡ (codes "::" ∷ []) ++ (unescaped e ++ continued (shown hash es))
+left_next hash at e es keeps later =
+    let t : eqb at 0 ≡ false = grind (arith, nat_tests) in
+    ap (λ b. cond b (joined (shown hash (e ∷ es))) (continued (shown hash (e ∷ es)))) t ∙ ap continued (shown_more hash e es keeps)
+
+pub left_behind : (hash : Bool) (at : ℕ) (es : List (List ℕ)) → 0 < at → continued (shown hash es) ≡ left_pieces hash at es
+left_behind hash at es later =
+    let t : eqb at 0 ≡ false = grind (arith, nat_tests) in
+    ap (λ b. cond b (joined (shown hash es)) (continued (shown hash es))) (sym t)
+
+nothing : (at : ℕ) → cond {A = List (List ℕ)} (eqb at 0) [] [] ≡ []
+nothing at = both (eqb at 0) where
+  both : (b : Bool) → cond {A = List (List ℕ)} b [] [] ≡ []
+  both true = refl
+  both false = refl
+
+pub left_none : (hash : Bool) (at : ℕ) (es : List (List ℕ)) → es ≡ [] → left_pieces hash at es ≡ []
+unfolding shown
+left_none hash at es e = ap (left_pieces hash at) e ∙ nothing at
+
+-- the hash is left out
+pub left_hash : (hash : Bool) (at : ℕ) (e : List ℕ) (es : List (List ℕ)) → hash ≡ false → is_hash e ≡ true → es ≡ [] → left_pieces hash at (e ∷ es) ≡ []
+left_hash hash at e es off h last =
+    ap (λ t. left_pieces hash at (e ∷ t)) last
+    ∙ ap (λ t. cond (eqb at 0) (joined t) (continued t)) (shown_less hash e off h)
+    ∙ nothing at
+
+kept : (hash : Bool) (last h : Bool) (n : ℕ) → (not hash && (last && h)) ≡ false → (last ≡ false → 0 < n) → ((not hash && h) ≡ false) ⊎ (0 < n)
+kept true last h n e left = inl refl
+kept false true h n e left = inl e
+kept false false h n e left = inr (left refl)
+
+-- a turn of the printing: the element at a place of the symbol is printed
+module _ (s : List ℕ) (hash : Bool) (at from to : ℕ) (legacy : IsSome (suffix_of s)) (same : (parts_of s).1 ≡ (parts_of (drop at s)).1) (element : element_of (drop at s) ≡ Some (slice_range s from to, drop to s)) where
+  pub same_behind : (parts_of s).1 ≡ (parts_of (drop to s)).1
+  same_behind = same ∙ behind_more s at from to element
+
+  module _ (shown_too : (not hash && (is_byte s to 69 && is_hash (slice_range s from to))) ≡ false) where
+    keeps : ((not hash && is_hash (slice_range s from to)) ≡ false) ⊎ (0 < length (elements_of (drop to s)))
+    keeps = kept hash (is_byte s to 69) (is_hash (slice_range s from to)) (length (elements_of (drop to s))) shown_too (elements_left s to legacy same_behind)
+
+    pub turn_first : at ≡ 0 → left_pieces hash at (elements_of (drop at s)) ≡ unescaped (slice_range s from to) ++ continued (shown hash (elements_of (drop to s)))
+    turn_first first = ap (left_pieces hash at) (elements_more s at from to element) ∙ left_first hash at (slice_range s from to) (elements_of (drop to s)) keeps first
+
+    pub turn_next : 0 < at → left_pieces hash at (elements_of (drop at s)) ≡ (codes "::" ∷ []) ++ (unescaped (slice_range s from to) ++ continued (shown hash (elements_of (drop to s))))
+    turn_next later = ap (left_pieces hash at) (elements_more s at from to element) ∙ left_next hash at (slice_range s from to) (elements_of (drop to s)) keeps later
+
+  -- it is left out
+  pub turn_hash : (not hash && (is_byte s to 69 && is_hash (slice_range s from to))) ≡ true → left_pieces hash at (elements_of (drop at s)) ≡ []
+  turn_hash out = hidden hash (is_byte s to 69) (is_hash (slice_range s from to)) refl refl refl out where
+    hidden : (h last is : Bool) → h ≡ hash → last ≡ is_byte s to 69 → is ≡ is_hash (slice_range s from to) → (not h && (last && is)) ≡ true → left_pieces hash at (elements_of (drop at s)) ≡ []
+    hidden true last is a b c e = absurd (false≢true e)
+    hidden false false is a b c e = absurd (false≢true e)
+    hidden false true false a b c e = absurd (false≢true e)
+    hidden false true true a b c e = ap (left_pieces hash at) (elements_more s at from to element) ∙ left_hash hash at (slice_range s from to) (elements_of (drop to s)) (sym a) (sym c) (elements_E s to (sym b))

@@ -1,0 +1,6 @@
+pub mod LegacyElements
+pub mod LegacyLaws
+pub mod LegacyPrefix
+pub mod LegacyPrinting
+pub mod LegacyRows
+pub mod LegacyUnits

@@ -1,0 +1,65 @@
+use Rattle.std.proofs.Common.{◌++◌, slice_range, drop, refl, sym, arith}
+use Rattle.demangle_legacy.specs.Legacy.{elements_of}
+use Rattle.demangle_legacy.specs.Unescaped.{unescaped, legacy_pieces, continued, shown}
+use Rattle.demangle_legacy.proofs.LegacyPrinting.{elements_end, left_none, left_behind, same_behind, turn_first, turn_next, turn_hash}
+use Rattle.demangle_sink.specs.Printed.{Printed}
+use Rattle.demangle_sink.proofs.Printed.{printed_left, printed_then, printed_stop, printed_all}
+use Rattle.demangle_legacy.proofs.value.Demangle.write_to.Goals as goal
+use Rattle.demangle_legacy.proofs.value.Demangle.write_to.Goals.{then-at-gt0+in_ok-put, else-at-gt0}
+
+pub returns-then-is_left_out-clause-prints : goal.returns-then-is_left_out-clause-prints
+returns-then-is_left_out-clause-prints g c =
+    let s = c.self.inside.inner in
+    let e = c.in-Some.element in
+    rw (← c.self.view_is) (printed_all g.S.TextSink _ _ _ _ c.loop-element.invariant.printed
+    (turn_hash s c.args.include_hash c.loop-element.at e.from e.to c.self.invariant.1 c.loop-element.invariant.same (sym c.in-Some.ensures.element) (sym c.if-is_left_out.ensures.hash)))
+
+pub returns-in_err-put-clause-prints : goal.returns-in_err-put-clause-prints
+returns-in_err-put-clause-prints g c =
+    let s = c.self.inside.inner in
+    let e = c.in-Some.element in
+    let turn = turn_next s c.args.include_hash c.loop-element.at e.from e.to c.self.invariant.1 c.loop-element.invariant.same (sym c.in-Some.ensures.element) (sym c.if-is_left_out.ensures.hash) (omega arith) in
+    rw (← c.self.view_is) (printed_stop g.S.TextSink _ _ _ _ _ _ _ _ _ c.loop-element.invariant.printed turn c.in_err-put.ensures c.from_residual.ensures.0)
+
+pub returns-in_err-put_element-clause-prints : goal.returns-in_err-put_element-clause-prints
+returns-in_err-put_element-clause-prints g c =
+    let s = c.self.inside.inner in
+    let e = c.in-Some.element in
+    let hash = c.args.include_hash in
+    let at = c.loop-element.at in
+    let mid : Printed g.S.TextSink c.args.out.now (legacy_pieces hash (elements_of s)) (unescaped (slice_range s e.from e.to) ++ continued (shown hash (elements_of (drop e.to s)))) c.if-at-gt0.out =
+    elim c.if-at-gt0.branch [
+      | then-at-gt0+in_ok-put w ↦ rw w.out-is (printed_then g.S.TextSink _ _ _ _ _ _ _ c.loop-element.invariant.printed
+          (turn_next s hash at e.from e.to c.self.invariant.1 c.loop-element.invariant.same (sym c.in-Some.ensures.element) (sym c.if-is_left_out.ensures.hash) (omega arith)) w.in_ok-put.ensures)
+      | else-at-gt0 w ↦ rw w.out-is (printed_left g.S.TextSink _ _ _ _ _ c.loop-element.invariant.printed
+          (turn_first s hash at e.from e.to c.self.invariant.1 c.loop-element.invariant.same (sym c.in-Some.ensures.element) (sym c.if-is_left_out.ensures.hash) (omega arith)))
+    ] in
+    rw (← c.self.view_is) (printed_stop g.S.TextSink _ _ _ _ _ _ _ _ _ mid refl c.in_err-put_element.ensures.prints c.from_residual-in_err-put_element.ensures.0)
+
+pub loop-element-preserved : goal.loop-element-preserved
+loop-element-preserved g c =
+    let s = c.self.inside.inner in
+    let e = c.in-Some.element in
+    let hash = c.args.include_hash in
+    let at = c.loop-element.at in
+    let mid : Printed g.S.TextSink c.args.out.now (legacy_pieces hash (elements_of s)) (unescaped (slice_range s e.from e.to) ++ continued (shown hash (elements_of (drop e.to s)))) c.if-at-gt0.out =
+    elim c.if-at-gt0.branch [
+      | then-at-gt0+in_ok-put w ↦ rw w.out-is (printed_then g.S.TextSink _ _ _ _ _ _ _ c.loop-element.invariant.printed
+          (turn_next s hash at e.from e.to c.self.invariant.1 c.loop-element.invariant.same (sym c.in-Some.ensures.element) (sym c.if-is_left_out.ensures.hash) (omega arith)) w.in_ok-put.ensures)
+      | else-at-gt0 w ↦ rw w.out-is (printed_left g.S.TextSink _ _ _ _ _ c.loop-element.invariant.printed
+          (turn_first s hash at e.from e.to c.self.invariant.1 c.loop-element.invariant.same (sym c.in-Some.ensures.element) (sym c.if-is_left_out.ensures.hash) (omega arith)))
+    ] in
+    let done = printed_then g.S.TextSink _ _ _ _ _ _ (continued (shown hash (elements_of (drop e.to s)))) mid refl c.in_ok-put_element.ensures.prints in
+    record {
+      inside = omega (arith, c.in-Some.ensures.within);
+      same = same_behind s hash at e.from e.to c.self.invariant.1 c.loop-element.invariant.same (sym c.in-Some.ensures.element);
+      printed = printed_left g.S.TextSink _ _ _ _ _ done (left_behind hash e.to (elements_of (drop e.to s)) (omega (arith, c.in-Some.ensures.within)));
+      grows = omega arith;
+      looked = omega (arith, c.in-Some.ensures.within, c.in-Some.ensures.some_looks);
+    }
+
+pub returns-clause-prints : goal.returns-clause-prints
+returns-clause-prints g c =
+    let s = c.self.inside.inner in
+    rw (← c.self.view_is) (printed_all g.S.TextSink _ _ _ _ c.loop-element.invariant.printed
+    (left_none c.args.include_hash c.loop-element.at (elements_of (drop c.loop-element.at s)) (elements_end s c.loop-element.at (sym c.in_default.ensures.element))))

@@ -1,0 +1,86 @@
+-- What a legacy element prints.
+use Rattle.std.specs.Prelude.{ℕ, zero, suc, ◌+◌, ◌-◌, Bool, not, ◌&&◌, ◌||◌, ◌==◌, nat_le, nat_eq, List, [], ◌∷◌, ◌++◌, drop, codes, take, position, option_and_then, Option, Some, None, option_map, if◌then◌else◌, encode_utf8, bytes_eq, flat_map, slice_index}
+use Rattle.std.specs.List.{list_all, starts_with}
+use Rattle.std.specs.Char.{is_ascii_hexdigit, is_control}
+use Rattle.std.specs.Int.{is_in_range}
+use Rattle.demangle_symbol.specs.Digits.{number}
+use lib.Utf8.{scalar as is_scalar}
+
+-- '$'
+abbrev pub is_dollar : ℕ → Bool
+is_dollar c = c == 36
+
+-- '$' or '.'
+abbrev pub is_special : ℕ → Bool
+is_special c = c == 36 || c == 46
+
+-- '0' to '9' and 'a' to 'f'
+abbrev pub is_lower_hex : ℕ → Bool
+is_lower_hex c = is_in_range 48 57 c || is_in_range 97 102 c
+
+-- the value of such a digit
+abbrev pub lower_hex : ℕ → ℕ
+lower_hex c = if nat_le c 57 then c - 48 else c - 87
+
+-- the character of this code, if it may be escaped: a scalar value, and no control character
+abbrev pub escape_of_code : ℕ → Option (List ℕ)
+escape_of_code c = if is_scalar c && not (is_control c) then Some (encode_utf8 c) else None
+
+-- the character of `u` and these digits, if it may be escaped so
+unfoldable pub escape_of_digits : List ℕ → Option (List ℕ)
+escape_of_digits [] = None
+escape_of_digits (d ∷ ds) = if list_all is_lower_hex (d ∷ ds) then escape_of_code (number 16 lower_hex (d ∷ ds)) else None
+
+-- what `$name$` gives
+unfoldable pub escape_of : List ℕ → Option (List ℕ)
+escape_of name =
+    if bytes_eq name (codes "SP") then Some (codes "@") else
+    (if bytes_eq name (codes "BP") then Some (codes "*") else
+    (if bytes_eq name (codes "RF") then Some (codes "&") else
+    (if bytes_eq name (codes "LT") then Some (codes "<") else
+    (if bytes_eq name (codes "GT") then Some (codes ">") else
+    (if bytes_eq name (codes "LP") then Some (codes "(") else
+    (if bytes_eq name (codes "RP") then Some (codes ")") else
+    (if bytes_eq name (codes "C") then Some (codes ",") else
+    (if starts_with nat_eq name (codes "u") then escape_of_digits (drop 1 name) else None))))))))
+
+-- The unit that c and s begin with: what it prints, and how many bytes of s it takes.
+unfoldable pub unit_of : ℕ → List ℕ → Option (List ℕ × ℕ)
+unit_of c s =
+    if c == 46 then (if starts_with nat_eq s (codes ".") then Some (codes "::", 1) else Some (codes ".", 0)) else
+    (if c == 36
+    then option_and_then (λ n. option_map (λ text. (text, n + 1)) (escape_of (take n s))) (position is_dollar s)
+    else option_map (λ n. (c ∷ take n s, n)) (position is_special s))
+
+-- The pieces of the text behind its first `skip` bytes: those of its units, and then the rest as it stands.
+unfoldable pub pieces_from : ℕ → List ℕ → List (List ℕ)
+pieces_from skip [] = [] ∷ []
+pieces_from (suc skip) (c ∷ s) = pieces_from skip s
+pieces_from zero (c ∷ s) = elim (unit_of c s) [ None ↦ (c ∷ s) ∷ [] | Some u ↦ u.0 ∷ pieces_from (u.1) s ]
+
+-- The pieces of an element. A `_` in front of a `$` is left out.
+unfoldable pub unescaped : List ℕ → List (List ℕ)
+unescaped element = if starts_with nat_eq element (codes "_$") then pieces_from 1 element else pieces_from 0 element
+
+-- `h` and then hexadecimal digits of either case alone
+abbrev pub is_hash : List ℕ → Bool
+is_hash s = slice_index s 0 == 104 && list_all is_ascii_hexdigit (drop 1 s)
+
+-- the elements that are printed: with no hash, all but a last one that is a hash
+unfoldable pub shown : Bool → List (List ℕ) → List (List ℕ)
+shown hash [] = []
+shown hash (e ∷ []) = if not hash && is_hash e then [] else e ∷ []
+shown hash (e ∷ f ∷ es) = e ∷ shown hash (f ∷ es)
+
+-- the pieces of elements that follow others
+abbrev pub continued : List (List ℕ) → List (List ℕ)
+continued elements = flat_map (λ e. codes "::" ∷ unescaped e) elements
+
+-- the pieces of each element, with `::` between
+abbrev pub joined : List (List ℕ) → List (List ℕ)
+joined [] = []
+joined (e ∷ es) = unescaped e ++ continued es
+
+-- what a legacy symbol prints: the pieces of its elements, with the hash or without it
+abbrev pub legacy_pieces : Bool → List (List ℕ) → List (List ℕ)
+legacy_pieces hash elements = joined (shown hash elements)

@@ -1,0 +1,11 @@
+-- Internal: no public contract cites this.
+-- What a unit of a legacy element prints.
+use Rattle.std.specs.Prelude.{ℕ, List, codes, encode_utf8}
+use Rattle.demangle_legacy.specs.declared.units.Unit.{Unit}
+use Rattle.demangle_legacy.specs.declared.units.Unit.TheVariants.{Separator, Char, Run}
+
+-- the text of a unit that these bytes are
+abbrev pub text_of : List ℕ → Unit → List ℕ
+text_of bytes Separator = codes "::"
+text_of bytes (Char c) = encode_utf8 c
+text_of bytes Run = bytes

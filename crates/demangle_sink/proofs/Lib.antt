@@ -1,0 +1,9 @@
+pub mod Characters
+pub mod CutLemmas
+pub mod Fillings
+pub mod HandsLemmas
+pub mod Parts
+pub mod Printed
+pub mod PrintsLemmas
+pub mod PrintsPieces
+pub mod TextPieces

@@ -1,0 +1,48 @@
+-- What handing a list of pieces to a sink does.
+use Rattle.std.specs.Prelude.{◌≡◌, ℕ, List, [], ◌∷◌, ◌++◌, length, true, false, Result, IsOk, IsErr}
+use Rattle.std.specs.List.{FoldsTo, concat}
+use Rattle.demangle_sink.specs.declared.TextSink.{Ghosts}
+use Rattle.demangle_sink.specs.declared.SinkRefused.{SinkRefused}
+use Rattle.demangle_sink.specs.Sink.{Fits, room_after}
+use Rattle.demangle_sink.specs.Cut.{size}
+
+-- the sink took the pieces one by one, and has not failed
+pub record Taken {S : Type 0} (sink : Ghosts S) (old : S) (list : List (List ℕ)) (new : S) : Type 0 where
+  pub took : FoldsTo sink.took old list new
+  pub alive : sink.failed new ≡ false
+
+-- the sink took a beginning of the list, and the piece behind that is longer than the room then left
+pub record StoppedWithin {S : Type 0} (sink : Ghosts S) (old : S) (list : List (List ℕ)) (new : S) : Type 0 where
+  pub front : List (List ℕ)
+  pub next : List ℕ
+  pub rest : List (List ℕ)
+  pub whole : list ≡ front ++ next ∷ rest
+  pub at : S
+  pub took : FoldsTo sink.took old front at
+  pub kept : sink.took at [] new
+  pub longer : Fits (length next) (sink.room new) → ⊥
+
+-- the sink failed over the list; one that keeps took the pieces before the refused one
+pub record Refused {S : Type 0} (sink : Ghosts S) (old : S) (list : List (List ℕ)) (new : S) : Type 0 where
+  pub failed : sink.failed new ≡ true
+  pub kept : sink.keeps ≡ true → StoppedWithin sink old list new
+
+-- the list is within the sink's room: then it has not failed, and its room fell by the list's bytes
+pub record FitsRoom {S : Type 0} (sink : Ghosts S) (old : S) (list : List (List ℕ)) (new : S) : Type 0 where
+  pub alive : sink.failed new ≡ false
+  pub room : sink.room new ≡ room_after (size list) (sink.room old)
+
+-- the list was handed to the sink in order, up to a refusal
+pub record Hands {S : Type 0} (sink : Ghosts S) (old : S) (list : List (List ℕ)) (result : Result (Unit {0}) SinkRefused) (new : S) : Type 0 where
+  pub all : IsOk result → Taken sink old list new
+  pub refused : IsErr result → Refused sink old list new
+  pub fits : Fits (size list) (sink.room old) → FitsRoom sink old list new
+
+-- the sink's text grew by a beginning of the list, and the piece behind that is longer than the room then left
+pub record HoldsFront {S : Type 0} (sink : Ghosts S) (old : S) (list : List (List ℕ)) (new : S) : Type 0 where
+  pub front : List (List ℕ)
+  pub next : List ℕ
+  pub rest : List (List ℕ)
+  pub whole : list ≡ front ++ next ∷ rest
+  pub took : sink.took old (concat front) new
+  pub longer : Fits (length next) (sink.room new) → ⊥

@@ -1,0 +1,11 @@
+-- What a reader of the public contracts believes, in reading order.
+pub mod Sink
+pub mod Array
+pub mod Writer
+pub mod Cut
+pub mod Hands
+-- Internal.
+pub mod Limit
+pub mod Pieces
+pub mod Printed
+pub mod Written

@@ -1,0 +1,57 @@
+//! Sinks: what takes the text that is printed, a piece at a time.
+#![tactic(auto)]
+
+ghost use Rattle.std.specs.Prelude.{◌≡◌, ℕ, List, [], ◌++◌, length, Option, Bool, true, false, IsOk, OnOk, OnErr};
+ghost use Rattle.demangle_sink.specs.Sink.{Fits, room_after};
+
+mod array_sink;
+mod chars;
+mod fmt_sink;
+mod limit;
+mod pieces;
+mod write_sink;
+
+pub use array_sink::ArraySink;
+pub use chars::{put_char, put_chars};
+pub use fmt_sink::FmtSink;
+pub use limit::{SizeLimitedFmtAdapter, put_piece};
+pub use pieces::put_each;
+pub use write_sink::WriteSink;
+
+/// A sink refused a piece, and has failed from then on.
+#[derive(Debug, Clone, Copy)]
+pub struct SinkRefused;
+
+/// What takes pieces of text, until it refuses one.
+///
+/// A sink has a room: a piece within it is surely taken, and the room falls by the piece's bytes. An empty piece is always
+/// taken. A sink that keeps is unchanged by a piece that it refuses.
+pub trait TextSink {
+    // The second sink is the first after it took these bytes.
+    ghost took: { Self → List ℕ → Self → Type 0 };
+
+    ghost failed: { Self → Bool };
+
+    // How many more bytes are surely taken; `None` is no bound.
+    ghost room: { Self → Option ℕ };
+
+    // Whether a refused piece leaves the sink's text and room as they were.
+    ghost keeps: { Bool };
+
+    /// Takes the piece, or refuses it and has failed from then on.
+    fn put(&mut self, s: &str) -> Result<(), SinkRefused>
+        requires { failed self.old ≡ false }
+        ensures taken { OnOk result (took self.old s.now self.new) }
+        ensures alive { OnOk result (failed self.new ≡ false) }
+        ensures refused { OnErr result (failed self.new ≡ true) }
+        ensures kept { OnErr result (keeps ≡ true → took self.old [] self.new × (room self.new ≡ room self.old)) }
+        ensures fits { Fits (length s.now) (room self.old) → IsOk result × (room self.new ≡ room_after (length s.now) (room self.old)) };
+
+    /// Whether it has refused a piece.
+    fn is_failed(&self) -> bool
+        ensures { result ≡ failed self.now };
+
+    ghost took_nothing: { (s : Self) → took s [] s };
+
+    ghost took_joined: { (s t u : Self) (xs ys : List ℕ) → took s xs t → took t ys u → took s (xs ++ ys) u };
+}

@@ -1,0 +1,20 @@
+//! Several pieces into a sink.
+ghost use Rattle.demangle_sink.specs.Limit.{Prints, Ready};
+ghost use Rattle.demangle_sink.specs.Pieces.{texts};
+
+use crate::{SinkRefused, SizeLimitedFmtAdapter, TextSink};
+
+#[tactic(auto, using(crate::proofs::PrintsLemmas::prints_ready, crate::proofs::PrintsLemmas::prints_nothing))]
+/// Puts one piece after another.
+pub fn put_each<S: TextSink>(
+    pieces: &[&str],
+    out: &mut SizeLimitedFmtAdapter<'_, S>,
+) -> Result<(), SinkRefused>
+    requires { Ready S.TextSink out.old }
+    ensures { Prints S.TextSink out.old (texts pieces.now) result out.new }
+{
+    for piece in pieces {
+        out.put(piece)?;
+    }
+    Ok(())
+}

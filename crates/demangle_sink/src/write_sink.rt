@@ -1,0 +1,67 @@
+//! A sink into a writer.
+ghost use Rattle.std.specs.Prelude.{◌≡◌, Some, None, false, is_some, refl};
+ghost use Rattle.std.proofs.Common.{◌∙◌};
+ghost use Rattle.demangle_sink.specs.Writer.{Wrote, Wrote-nothing, Wrote-joined};
+
+use crate::{SinkRefused, TextSink};
+use std::io;
+use std::io::Write;
+
+/// Hands each nonempty piece to a writer by one `write_all`, and keeps the error that the writer answered. It takes no
+/// memory of its own. After a refusal nothing is known of how much of the piece the writer took.
+#[derive(Drop)]
+pub struct WriteSink<'w, W: Write> {
+    out: &'w mut W,
+    fault: Option<io::Error>,
+}
+
+impl<'w, W: Write> WriteSink<'w, W> {
+    /// A sink into this writer, which has not failed.
+    pub fn new(out: &'w mut W) -> Self
+        ensures same_writer { result.out.ghost_name ≡ out.entry.ghost_name }
+        ensures contents { result.out.now ≡ out.old }
+        ensures alive { result.fault ≡ None }
+    {
+        WriteSink { out, fault: None }
+    }
+
+    /// The error that the writer answered, exactly where the sink has failed.
+    pub fn into_fault(self) -> Option<io::Error>
+        ensures fault { result ≡ self.entry.fault }
+        ensures written { self.exit.0.now ≡ self.entry.out.now }
+    {
+        let WriteSink { out: _, fault } = self;
+        fault
+    }
+}
+
+impl<'w, W: Write> TextSink for WriteSink<'w, W> {
+    ghost took = { λ s bytes t. (t.out.ghost_name ≡ s.out.ghost_name) × Wrote (W.contents s.out.now) bytes (W.contents t.out.now) };
+
+    ghost failed = { λ s. is_some s.fault };
+
+    ghost room = { λ s. Some 0 };
+
+    ghost keeps = { false };
+
+    fn put(&mut self, s: &str) -> Result<(), SinkRefused> {
+        if s.is_empty() {
+            return Ok(());
+        }
+        match self.out.write_all(s.as_bytes()) {
+            Ok(()) => Ok(()),
+            Err(fault) => {
+                self.fault = Some(fault);
+                Err(SinkRefused)
+            }
+        }
+    }
+
+    fn is_failed(&self) -> bool {
+        self.fault.is_some()
+    }
+
+    ghost took_nothing = { λ s. (refl, Wrote-nothing (W.contents s.out.now)) };
+
+    ghost took_joined = { λ s t u xs ys h k. (k.0 ∙ h.0, Wrote-joined _ _ _ xs ys h.1 k.1) };
+}

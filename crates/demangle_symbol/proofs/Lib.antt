@@ -1,0 +1,16 @@
+pub mod Counts
+pub mod Deltas
+pub mod Digits
+pub mod Escaping
+pub mod Hex
+pub mod Idents
+pub mod Inserting
+pub mod Integers
+pub mod NameLaws
+pub mod NamePieces
+pub mod Nibbles
+pub mod Options
+pub mod Prefixes
+pub mod Ranges
+pub mod StringPieces
+pub mod WordLaws

@@ -1,0 +1,44 @@
+-- Internal: no public contract cites this.
+-- Identifiers by the places of their parts, and back references by their faults.
+use Rattle.std.specs.Prelude.{◌≡◌, ℕ, ◌+◌, ◌-◌, ◌<◌, ◌≤◌, true, List, [], ◌∷◌, codes, length, slice_range, nat_lt, None, Some, Result, Ok, Err, if◌then◌else◌}
+use Rattle.demangle_symbol.specs.Digits.{is_byte}
+use Rattle.demangle_symbol.specs.Words.{Read, Name, length_end, tail_len, digits_from, name_from, name_len, punycode_len, ascii_to}
+use Rattle.demangle_symbol.specs.Names.{is_empty}
+use Rattle.demangle_symbol.specs.declared.cursor.ParseError.{ParseError}
+use Rattle.demangle_symbol.specs.declared.cursor.ParseError.TheVariants.{Invalid, RecursedTooDeep}
+use Rattle.demangle_symbol.specs.declared.cursor.ident.Ident.{Ident}
+
+-- the bytes of both parts
+abbrev pub name_in : List ℕ → Ident → Name
+name_in s ident = record { ascii = slice_range s ident.ascii.from ident.ascii.to; punycode = slice_range s ident.punycode.from ident.punycode.to }
+
+-- how many bytes both parts have
+abbrev pub name_size : Ident → ℕ
+name_size ident = (ident.ascii.to - ident.ascii.from) + (ident.punycode.to - ident.punycode.from)
+
+-- what stands between `punycode{` and the Punycode part of a name that can't be decoded
+abbrev pub ascii_front : Name → List (List ℕ)
+ascii_front a = if is_empty a.ascii then [] else a.ascii ∷ codes "-" ∷ []
+
+-- both parts lie within these bytes
+pub record LiesWithin (s : List ℕ) (ident : Ident) : Type 0 where
+  pub ascii_order : ident.ascii.from ≤ ident.ascii.to
+  pub ascii_inside : ident.ascii.to ≤ length s
+  pub punycode_order : ident.punycode.from ≤ ident.punycode.to
+  pub punycode_inside : ident.punycode.to ≤ length s
+
+-- The bytes from i up to j spell an identifier whose parts stand at these places.
+pub record IsIdent (s : List ℕ) (i j : ℕ) (ident : Ident) : Type 0 where
+  pub some : digits_from s i < length_end s (digits_from s i)
+  pub next : j ≡ name_from s i + name_len s i
+  pub inside : j ≤ length s
+  pub ascii_from : ident.ascii.from ≡ name_from s i
+  pub ascii_to : ident.ascii.to ≡ ascii_to s i j
+  pub punycode_from : ident.punycode.from + punycode_len s i j ≡ j
+  pub punycode_to : ident.punycode.to ≡ j
+  pub not_empty : is_byte s i 117 ≡ true → 0 < tail_len s (name_from s i) j
+
+-- how a back reference is answered at a depth: a word that is none is Invalid, and one at depth 500 is too deep
+abbrev pub referred : ℕ → Read ℕ → Result (ℕ × ℕ) ParseError
+referred depth None = Err Invalid
+referred depth (Some r) = if nat_lt depth 500 then Ok r else Err RecursedTooDeep

@@ -1,0 +1,12 @@
+-- What a reader of the public contracts believes, in reading order.
+pub mod Tally
+pub mod Digits
+pub mod Prefix
+pub mod Words
+pub mod Punycode
+pub mod Names
+pub mod Literals
+-- Internal.
+pub mod Escapes
+pub mod Idents
+pub mod Nibbles

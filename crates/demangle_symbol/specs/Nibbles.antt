@@ -1,0 +1,21 @@
+-- Internal: no public contract cites this.
+-- The nibbles of a hex word by their places.
+use Rattle.std.specs.Prelude.{ℕ, List, [], slice_range, map, flat_map, encode_utf8}
+use Rattle.demangle_symbol.specs.Words.{some_or, Hex}
+use Rattle.demangle_symbol.specs.Literals.{escaped, string_of}
+use Rattle.demangle_symbol.specs.declared.cursor.Part.{Part}
+
+-- the part is all the nibbles of a hex word from a place on
+abbrev pub HexPart : List ℕ → Part → Type 0
+HexPart s part = (j : ℕ) × Hex s part.from j part.to
+
+abbrev pub nibbles_in : List ℕ → Part → List ℕ
+nibbles_in s part = slice_range s part.from part.to
+
+-- the characters of a string constant, and none where it is not one
+abbrev pub characters_of : List ℕ → List ℕ
+characters_of nibbles = some_or [] (string_of nibbles) (λ cs. cs)
+
+-- the pieces of the characters of a string literal
+abbrev pub written : List ℕ → List (List ℕ)
+written cs = map encode_utf8 (flat_map (escaped 34) cs)

@@ -1,0 +1,199 @@
+//! The bytes of a symbol, which only `byte` tells.
+ghost use Rattle.std.specs.Prelude.{◌≡◌, ℕ, [], ◌∷◌, ◌+◌, ◌-◌, ◌*◌, ◌<◌, ◌≤◌, length, slice_get, slice_range, ◌^◌, true, false, IfOk, OnErr, IfErr, IfSome, MatchOption, SomeIff, IsTrue, ◌↔◌};
+ghost use Rattle.std.specs.Str.{IsAscii};
+ghost use Rattle.demangle_symbol.specs.Digits.{number, is_byte, Decimal, is_digit_10, digit_10};
+ghost use Rattle.demangle_sink.specs.Limit.{Prints, Ready};
+
+use demangle_sink::{SinkRefused, SizeLimitedFmtAdapter, TextSink};
+use std::marker::Model;
+
+mod hex;
+mod ident;
+mod looks;
+#[cfg(test)]
+mod tests;
+mod words;
+
+pub use hex::MAX_NIBBLES;
+pub(crate) use hex::nibble_of;
+pub use ident::Ident;
+pub use looks::Looks;
+pub use words::MAX_DEPTH;
+
+#[derive(Clone, Copy, Debug, PartialEq, Eq)]
+pub enum ParseError {
+    Invalid,
+    RecursedTooDeep,
+}
+
+/// A part of a symbol, from a place up to another.
+#[derive(Clone, Copy, Debug, PartialEq, Eq)]
+pub struct Part {
+    pub from: usize,
+    pub to: usize,
+}
+
+/// The bytes of a symbol behind its scheme's prefix.
+#[derive(Drop)]
+pub struct Symbol<'s> {
+    inner: &'s str,
+}
+
+impl<'s> Model for Symbol<'s> {
+    ghost use Rattle.std.specs.Prelude.{ℕ, List};
+
+    ghost Value = { List ℕ };
+
+    ghost view = { λ s. s.inner.now };
+}
+
+/// A part of a symbol, that can only be measured or put into a sink.
+#[derive(Drop)]
+pub struct Span<'s> {
+    text: &'s str,
+}
+
+impl<'s> Model for Span<'s> {
+    ghost use Rattle.std.specs.Prelude.{ℕ, List};
+
+    ghost Value = { List ℕ };
+
+    ghost view = { λ s. s.text.now };
+}
+
+impl<'s> Span<'s> {
+    pub fn len(&self) -> usize
+        ensures { result ≡ length self.now }
+    {
+        self.text.len()
+    }
+
+    /// Puts it into a sink. It is no look.
+    pub fn write_to<S: TextSink>(
+        &self,
+        out: &mut SizeLimitedFmtAdapter<'_, S>,
+    ) -> Result<(), SinkRefused>
+        requires { Ready S.TextSink out.old }
+        ensures { Prints S.TextSink out.old (self.now ∷ []) result out.new }
+    {
+        out.put(self.text)
+    }
+}
+
+impl<'s> Symbol<'s> {
+    pub fn new(inner: &'s str) -> Symbol<'s>
+        ensures { result ≡ inner.now }
+    {
+        Symbol { inner }
+    }
+
+    pub fn len(&self) -> usize
+        ensures { result ≡ length self.now }
+    {
+        self.inner.len()
+    }
+
+    /// The byte at a place, if there is one. It is one look.
+    pub fn byte(&self, place: usize, looks: &mut Looks) -> Option<u8>
+        ensures byte { result ≡ slice_get self.now place }
+        ensures look { looks.new ≡ looks.old + 1 }
+        ensures within { IfSome result (λ _. place < length self.now) }
+        ensures fits { length self.now < 2 ^ 64 }
+    {
+        looks.tick();
+        let _count = self.inner.len();
+        self.inner.as_bytes().get(place).copied()
+    }
+
+    /// Whether all its bytes are ASCII. It is one look for each byte.
+    pub fn is_ascii(&self, looks: &mut Looks) -> bool
+        ensures ascii { IsTrue result ↔ IsAscii self.now }
+        ensures grows { looks.old ≤ looks.new }
+        ensures most { looks.new ≤ looks.old + length self.now }
+        ensures all { IsTrue result → looks.new ≡ looks.old + length self.now }
+    {
+        let mut all = true;
+        for at in 0..self.len() {
+            let Some(byte) = self.byte(at, looks) else {
+                return false;
+            };
+            all &= byte < 128;
+        }
+        all
+    }
+
+    /// A part of it, to be measured or put into a sink. It is no look.
+    pub fn span(&self, part: Part) -> Span<'s>
+        requires ascii { IsAscii self.now }
+        requires order { part.from ≤ part.to }
+        requires inside { part.to ≤ length self.now }
+        ensures { result ≡ slice_range self.now part.from part.to }
+    {
+        Span {
+            text: &self.inner[part.from..part.to],
+        }
+    }
+
+    #[tactic(auto, unfolding(crate::specs::Digits::is_byte))]
+    /// Whether this byte stands at a place. It is one look.
+    pub fn is_at(&self, byte: u8, place: usize, looks: &mut Looks) -> bool
+        ensures there { result ≡ is_byte self.now place byte }
+        ensures look { looks.new ≡ looks.old + 1 }
+        ensures within { IsTrue result → place < length self.now }
+        ensures fits { length self.now < 2 ^ 64 }
+    {
+        match self.byte(place, looks) {
+            Some(b) => b == byte,
+            None => false,
+        }
+    }
+
+    #[tactic(auto, using(crate::proofs::Digits::decimal_steps))]
+    /// The number that decimal digits spell, and the place behind them.
+    pub fn decimal(&self, place: usize, looks: &mut Looks) -> Result<(usize, usize), ParseError>
+        ensures ok { IfOk result (λ r. Decimal self.now place r.1 r.0) }
+        ensures err { OnErr result ((j v : ℕ) → v < 2 ^ 64 → Decimal self.now place j v → ⊥) }
+        ensures fault { IfErr result (λ e. e ≡ ParseError.Invalid) }
+        ensures grows { looks.old ≤ looks.new }
+        ensures ok_looks { IfOk result (λ r. looks.new ≤ looks.old + (r.1 - place + 1)) }
+        ensures err_looks { OnErr result (looks.new ≤ looks.old + (length self.now - place + 1)) }
+        ensures within { IfOk result (λ r. (place < r.1) × (r.1 ≤ length self.now)) }
+    {
+        let mut number: u64 = 0;
+        for at in place..self.len() {
+            let Some(byte) = self.byte(at, looks) else {
+                return Err(ParseError::Invalid);
+            };
+            let Some(digit) = digit_10_of(byte) else {
+                if at == place {
+                    return Err(ParseError::Invalid);
+                }
+                return Ok((number as usize, at));
+            };
+            let Some(sum) = with_digit(number, 10, digit) else {
+                return Err(ParseError::Invalid);
+            };
+            number = sum;
+        }
+        let end = self.len();
+        if end <= place {
+            return Err(ParseError::Invalid);
+        }
+        Ok((number as usize, end))
+    }
+}
+
+fn digit_10_of(byte: u8) -> Option<u8>
+    ensures { MatchOption result (is_digit_10 byte ≡ false) (λ d. (is_digit_10 byte ≡ true) × (d ≡ digit_10 byte)) }
+{
+    match byte {
+        b'0'..=b'9' => Some(byte - b'0'),
+        _ => None,
+    }
+}
+
+pub(crate) fn with_digit(number: u64, base: u64, digit: u8) -> Option<u64>
+    ensures { SomeIff result (number * base + digit < 2 ^ 64) (number * base + digit) }
+{
+    number.checked_mul(base)?.checked_add(u64::from(digit))
+}

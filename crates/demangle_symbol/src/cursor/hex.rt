@@ -1,0 +1,97 @@
+//! The hex words of a v0 symbol, and their numbers.
+ghost use Rattle.std.specs.Prelude.{◌≡◌, ℕ, ◌+◌, ◌-◌, ◌*◌, ◌<◌, ◌≤◌, length, true, false, slice_range, IfOk, OnErr, IfErr, MatchOption, option_map};
+ghost use Rattle.std.specs.Result.{result_ok};
+ghost use Rattle.demangle_symbol.specs.Digits.{number};
+ghost use Rattle.demangle_symbol.specs.Words.{nibbles_at, number_of, hex_number, Hex, is_nibble, nibble, zeros};
+
+use crate::cursor::{Looks, ParseError, Part, Symbol};
+
+/// How many nibbles a number may have behind its leading zeros.
+pub const MAX_NIBBLES: usize = 32;
+
+impl<'s> Symbol<'s> {
+    #[tactic(auto, using(crate::proofs::Hex::hex_steps, crate::proofs::Hex::hex_reads))]
+    /// The hex word at a place: its nibbles, and the place behind its `_`. It is Invalid where another byte, or the end,
+    /// comes before the `_`.
+    pub fn hex_nibbles(&self, place: usize, looks: &mut Looks) -> Result<(Part, usize), ParseError>
+        ensures ok { IfOk result (λ r. Hex self.now place r.1 r.0.to × (r.0.from ≡ place)) }
+        ensures err { OnErr result ((j end : ℕ) → Hex self.now place j end → ⊥) }
+        ensures read { option_map (λ r. (slice_range self.now r.0.from r.0.to, r.1)) (result_ok result) ≡ nibbles_at self.now place }
+        ensures fault { IfErr result (λ e. e ≡ ParseError.Invalid) }
+        ensures grows { looks.old ≤ looks.new }
+        ensures ok_looks { IfOk result (λ r. looks.new ≤ looks.old + (r.1 - place)) }
+        ensures err_looks { OnErr result (looks.new ≤ looks.old + (length self.now - place)) }
+        ensures within { IfOk result (λ r. (place < r.1) × (r.1 ≤ length self.now)) }
+    {
+        for at in place..self.len() {
+            let Some(byte) = self.byte(at, looks) else {
+                return Err(ParseError::Invalid);
+            };
+            if byte == b'_' {
+                let nibbles = Part {
+                    from: place,
+                    to: at,
+                };
+                return Ok((nibbles, at + 1));
+            }
+            let Some(_) = nibble_of(byte) else {
+                return Err(ParseError::Invalid);
+            };
+        }
+        Err(ParseError::Invalid)
+    }
+
+    #[tactic(auto, using(crate::proofs::Hex::zeros_steps))]
+    /// Where the leading zeros of a part end.
+    fn behind_zeros(&self, part: Part, looks: &mut Looks) -> usize
+        requires order { part.from ≤ part.to }
+        requires inside { part.to ≤ length self.now }
+        ensures place { result ≡ part.from + zeros (slice_range self.now part.from part.to) }
+        ensures within { (part.from ≤ result) × (result ≤ part.to) }
+        ensures nothing { number 16 nibble (slice_range self.now part.from result) ≡ 0 }
+        ensures grows { looks.old ≤ looks.new }
+        ensures looks { looks.new ≤ looks.old + (result - part.from + 1) }
+    {
+        for at in part.from..part.to {
+            if !self.is_at(b'0', at, looks) {
+                return at;
+            }
+        }
+        part.to
+    }
+
+    #[tactic(auto, using(crate::proofs::Hex::number_steps), unfolding(crate::specs::Words::number_of))]
+    /// The number of the nibbles of a hex word, if at most 32 are left behind its leading zeros.
+    pub fn hex_number(&self, nibbles: Part, looks: &mut Looks) -> Option<u128>
+        requires { (j : ℕ) × Hex self.now nibbles.from j nibbles.to }
+        ensures number { result ≡ number_of (slice_range self.now nibbles.from nibbles.to) }
+        ensures grows { looks.old ≤ looks.new }
+        ensures looks { looks.new ≤ looks.old + (nibbles.to - nibbles.from + 1) }
+    {
+        let start = self.behind_zeros(nibbles, looks);
+        if nibbles.to - start > MAX_NIBBLES {
+            return None;
+        }
+        let mut number: u128 = 0;
+        for at in start..nibbles.to {
+            let Some(byte) = self.byte(at, looks) else {
+                return None;
+            };
+            let Some(digit) = nibble_of(byte) else {
+                return None;
+            };
+            number = number * 16 + u128::from(digit);
+        }
+        Some(number)
+    }
+}
+
+pub(crate) fn nibble_of(byte: u8) -> Option<u8>
+    ensures { MatchOption result (is_nibble byte ≡ false) (λ d. (is_nibble byte ≡ true) × (d ≡ nibble byte) × (d < 16)) }
+{
+    match byte {
+        b'0'..=b'9' => Some(byte - b'0'),
+        b'a'..=b'f' => Some(byte - b'a' + 10),
+        _ => None,
+    }
+}

@@ -1,0 +1,100 @@
+//! The identifiers of a v0 symbol.
+ghost use Rattle.std.specs.Prelude.{◌≡◌, ℕ, ◌+◌, ◌-◌, ◌*◌, ◌<◌, ◌≤◌, ◌^◌, length, IfOk, OnErr, IfErr, option_map};
+ghost use Rattle.std.specs.Result.{result_ok};
+ghost use Rattle.demangle_symbol.specs.Words.{Name, Length, Identifier, identifier_at, tail_len};
+ghost use Rattle.demangle_symbol.specs.Idents.{IsIdent, LiesWithin, name_in, name_size};
+
+use crate::cursor::{Looks, ParseError, Part, Symbol};
+
+/// A name: its ASCII part, and its Punycode part, which is empty where it has none.
+#[derive(Clone, Copy, Debug, PartialEq, Eq)]
+pub struct Ident {
+    pub ascii: Part,
+    pub punycode: Part,
+}
+
+impl<'s> Symbol<'s> {
+    #[tactic(auto, using(crate::proofs::Idents::length_steps))]
+    /// The length at a place, and the place behind it.
+    fn length(&self, place: usize, looks: &mut Looks) -> Result<(usize, usize), ParseError>
+        ensures ok { IfOk result (λ r. Length self.now place r.1 r.0) }
+        ensures err { OnErr result ((j v : ℕ) → v < 2 ^ 64 → Length self.now place j v → ⊥) }
+        ensures fault { IfErr result (λ e. e ≡ ParseError.Invalid) }
+        ensures grows { looks.old ≤ looks.new }
+        ensures ok_looks { IfOk result (λ r. looks.new ≤ looks.old + (r.1 - place + 2)) }
+        ensures err_looks { OnErr result (looks.new ≤ looks.old + (length self.now - place + 2)) }
+        ensures within { IfOk result (λ r. (place < r.1) × (r.1 ≤ length self.now)) }
+    {
+        if self.is_at(b'0', place, looks) {
+            return Ok((0, place + 1));
+        }
+        self.decimal(place, looks)
+    }
+
+    #[tactic(auto, using(crate::proofs::Idents::tail_steps))]
+    /// Where the bytes behind the last `_` of a part begin, or the part where it has none.
+    fn tail(&self, from: usize, to: usize, looks: &mut Looks) -> usize
+        requires order { from ≤ to }
+        requires inside { to ≤ length self.now }
+        ensures tail { result + tail_len self.now from to ≡ to }
+        ensures within { from ≤ result }
+        ensures grows { looks.old ≤ looks.new }
+        ensures looks { looks.new ≤ looks.old + (to - from) }
+    {
+        for at in (from..to).rev() {
+            if self.is_at(b'_', at, looks) {
+                return at + 1;
+            }
+        }
+        from
+    }
+
+    #[tactic(auto, using(crate::proofs::Idents::ident_steps, crate::proofs::Idents::ident_reads))]
+    /// The identifier at a place, and the place behind it. It is Invalid without a length, where the length goes past
+    /// the end, and where nothing is left for the Punycode part behind a `u`.
+    pub fn ident(&self, place: usize, looks: &mut Looks) -> Result<(Ident, usize), ParseError>
+        ensures ok { IfOk result (λ r. IsIdent self.now place r.1 r.0) }
+        ensures err { OnErr result ((j : ℕ) (ident : Ident) → IsIdent self.now place j ident → ⊥) }
+        ensures parts { IfOk result (λ r. LiesWithin self.now r.0) }
+        ensures spelled { IfOk result (λ r. Identifier self.now place r.1 (name_in self.now r.0)) }
+        ensures not_spelled { OnErr result ((j : ℕ) (name : Name) → Identifier self.now place j name → ⊥) }
+        ensures read { option_map (λ r. (name_in self.now r.0, r.1)) (result_ok result) ≡ identifier_at self.now place }
+        ensures fault { IfErr result (λ e. e ≡ ParseError.Invalid) }
+        ensures grows { looks.old ≤ looks.new }
+        // With its bytes once more, to print it, it is within the same bound.
+        ensures ok_looks { IfOk result (λ r. looks.new + name_size r.0 ≤ looks.old + 4 * (r.1 - place + 1)) }
+        ensures err_looks { OnErr result (looks.new ≤ looks.old + 4 * (length self.now - place + 1)) }
+        ensures once { IfOk result (λ r. looks.new ≤ looks.old + (r.1 - place) + 4) }
+        ensures within { IfOk result (λ r. (place < r.1) × (r.1 ≤ length self.now)) }
+    {
+        let digits = self.skip(b'u', place, looks);
+        let Ok((len, digits_end)) = self.length(digits, looks) else {
+            return Err(ParseError::Invalid);
+        };
+        let from = self.skip(b'_', digits_end, looks);
+        if self.len() - from < len {
+            return Err(ParseError::Invalid);
+        }
+        let to = from + len;
+        if digits == place {
+            let name = Ident {
+                ascii: Part { from, to },
+                punycode: Part { from: to, to },
+            };
+            return Ok((name, to));
+        }
+        let tail = self.tail(from, to, looks);
+        if tail == to {
+            return Err(ParseError::Invalid);
+        }
+        let ascii_end = if tail == from { from } else { tail - 1 };
+        let name = Ident {
+            ascii: Part {
+                from,
+                to: ascii_end,
+            },
+            punycode: Part { from: tail, to },
+        };
+        Ok((name, to))
+    }
+}

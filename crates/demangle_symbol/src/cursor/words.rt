@@ -1,0 +1,180 @@
+//! The words of a v0 symbol that are numbers, letters and references.
+ghost use Rattle.std.specs.Prelude.{◌≡◌, ℕ, ◌+◌, ◌-◌, ◌*◌, ◌<◌, ◌≤◌, ◌^◌, length, true, false, IfOk, OnErr, IfErr, MatchOption, option_map};
+ghost use Rattle.std.specs.Result.{result_ok};
+ghost use Rattle.demangle_symbol.specs.Words.{byte_at, integer_at, optional_at, namespace_at, backref_at, Integer, OptInteger, Namespace, Backref, behind, is_digit_62, digit_62};
+ghost use Rattle.demangle_symbol.specs.Idents.{referred};
+
+use crate::cursor::{Looks, ParseError, Symbol, with_digit};
+
+/// How deep the units of a symbol may lie in one another.
+pub const MAX_DEPTH: u32 = 500;
+
+impl<'s> Symbol<'s> {
+    #[tactic(auto, using(crate::proofs::Integers::integer_steps, crate::proofs::Integers::integer_reads))]
+    /// The integer at a place, and the place behind it. It is Invalid where none is spelled there, and where it is
+    /// not below 2^64.
+    pub fn integer_62(&self, place: usize, looks: &mut Looks) -> Result<(u64, usize), ParseError>
+        ensures ok { IfOk result (λ r. Integer self.now place r.1 r.0) }
+        ensures err { OnErr result ((j v : ℕ) → Integer self.now place j v → ⊥) }
+        ensures read { result_ok result ≡ integer_at self.now place }
+        ensures fault { IfErr result (λ e. e ≡ ParseError.Invalid) }
+        ensures grows { looks.old ≤ looks.new }
+        ensures ok_looks { IfOk result (λ r. looks.new ≤ looks.old + 4 * (r.1 - place + 1)) }
+        ensures err_looks { OnErr result (looks.new ≤ looks.old + 4 * (length self.now - place + 1)) }
+        ensures within { IfOk result (λ r. (place < r.1) × (r.1 ≤ length self.now)) }
+    {
+        let mut number: u64 = 0;
+        for at in place..self.len() {
+            let Some(byte) = self.byte(at, looks) else {
+                return Err(ParseError::Invalid);
+            };
+            if byte == b'_' {
+                if at == place {
+                    return Ok((0, at + 1));
+                }
+                let Some(value) = number.checked_add(1) else {
+                    return Err(ParseError::Invalid);
+                };
+                return Ok((value, at + 1));
+            }
+            let Some(digit) = digit_62_of(byte) else {
+                return Err(ParseError::Invalid);
+            };
+            let Some(sum) = with_digit(number, 62, digit) else {
+                return Err(ParseError::Invalid);
+            };
+            number = sum;
+        }
+        Err(ParseError::Invalid)
+    }
+
+    #[tactic(auto, using(crate::proofs::Integers::optional_reads))]
+    /// The integer behind a tag and one more, or 0 where the tag is not there. It is Invalid where the tag has no
+    /// integer behind it, and where the sum is not below 2^64.
+    pub fn opt_integer_62(
+        &self,
+        tag: u8,
+        place: usize,
+        looks: &mut Looks,
+    ) -> Result<(u64, usize), ParseError>
+        ensures ok { IfOk result (λ r. OptInteger tag self.now place r.1 r.0) }
+        ensures err { OnErr result ((j v : ℕ) → OptInteger tag self.now place j v → ⊥) }
+        ensures read { result_ok result ≡ optional_at tag self.now place }
+        ensures fault { IfErr result (λ e. e ≡ ParseError.Invalid) }
+        ensures grows { looks.old ≤ looks.new }
+        ensures ok_looks { IfOk result (λ r. looks.new ≤ looks.old + 4 * (r.1 - place + 1)) }
+        ensures err_looks { OnErr result (looks.new ≤ looks.old + 4 * (length self.now - place + 1)) }
+        ensures within { IfOk result (λ r. (place ≤ r.1) × (place ≤ length self.now → r.1 ≤ length self.now)) }
+    {
+        if !self.is_at(tag, place, looks) {
+            return Ok((0, place));
+        }
+        let Ok((number, next)) = self.integer_62(place + 1, looks) else {
+            return Err(ParseError::Invalid);
+        };
+        let Some(value) = number.checked_add(1) else {
+            return Err(ParseError::Invalid);
+        };
+        Ok((value, next))
+    }
+
+    /// The disambiguator at a place, which is 0 where there is none. It is Invalid as for an integer behind a tag.
+    pub fn disambiguator(&self, place: usize, looks: &mut Looks) -> Result<(u64, usize), ParseError>
+        ensures ok { IfOk result (λ r. OptInteger 115 self.now place r.1 r.0) }
+        ensures err { OnErr result ((j v : ℕ) → OptInteger 115 self.now place j v → ⊥) }
+        ensures read { result_ok result ≡ optional_at 115 self.now place }
+        ensures fault { IfErr result (λ e. e ≡ ParseError.Invalid) }
+        ensures grows { looks.old ≤ looks.new }
+        ensures ok_looks { IfOk result (λ r. looks.new ≤ looks.old + 4 * (r.1 - place + 1)) }
+        ensures err_looks { OnErr result (looks.new ≤ looks.old + 4 * (length self.now - place + 1)) }
+        ensures within { IfOk result (λ r. (place ≤ r.1) × (place ≤ length self.now → r.1 ≤ length self.now)) }
+    {
+        self.opt_integer_62(b's', place, looks)
+    }
+
+    #[tactic(auto, unfolding(crate::specs::Words::byte_at))]
+    /// The byte at a place, read as a word, and the place behind it. It is Invalid at the end.
+    pub fn tag(&self, place: usize, looks: &mut Looks) -> Result<(u8, usize), ParseError>
+        ensures read { result_ok result ≡ byte_at self.now place }
+        ensures fault { IfErr result (λ e. e ≡ ParseError.Invalid) }
+        ensures look { looks.new ≡ looks.old + 1 }
+        ensures within { IfOk result (λ r. (place < r.1) × (r.1 ≤ length self.now)) }
+    {
+        let Some(byte) = self.byte(place, looks) else {
+            return Err(ParseError::Invalid);
+        };
+        Ok((byte, place + 1))
+    }
+
+    #[tactic(auto, unfolding(crate::specs::Words::namespace_at))]
+    /// The letter of a namespace, and the place behind it. Any other byte is Invalid.
+    pub fn namespace(&self, place: usize, looks: &mut Looks) -> Result<(u8, usize), ParseError>
+        ensures ok { IfOk result (λ r. Namespace self.now place r.0 × (r.1 ≡ place + 1)) }
+        ensures err { OnErr result ((b : ℕ) → Namespace self.now place b → ⊥) }
+        ensures read { result_ok result ≡ namespace_at self.now place }
+        ensures fault { IfErr result (λ e. e ≡ ParseError.Invalid) }
+        ensures look { looks.new ≡ looks.old + 1 }
+        ensures within { IfOk result (λ r. (place < r.1) × (r.1 ≤ length self.now)) }
+    {
+        match self.byte(place, looks) {
+            Some(b @ (b'A'..=b'Z' | b'a'..=b'z')) => Ok((b, place + 1)),
+            _ => Err(ParseError::Invalid),
+        }
+    }
+
+    #[tactic(auto, unfolding(crate::specs::Words::backref_at))]
+    /// The target of a back reference whose `B` stands in front of `place`, and the place behind its word. It is
+    /// Invalid where no integer is spelled, and where the target does not lie in front of the `B`. Then it is
+    /// RecursedTooDeep where `depth`, that of the reference, has no depth below it.
+    pub fn backref(
+        &self,
+        place: usize,
+        depth: u32,
+        looks: &mut Looks,
+    ) -> Result<(usize, usize), ParseError>
+        requires depth { depth ≤ MAX_DEPTH }
+        requires tag { 0 < place }
+        ensures ok { IfOk result (λ r. Backref self.now place r.1 r.0 × (depth < MAX_DEPTH)) }
+        ensures invalid { result ≡ Err ParseError.Invalid → ((j target : ℕ) → Backref self.now place j target → ⊥) }
+        ensures too_deep { result ≡ Err ParseError.RecursedTooDeep → (depth ≡ MAX_DEPTH) × ((j target : ℕ) × Backref self.now place j target) }
+        ensures read { result ≡ referred depth (backref_at self.now place) }
+        ensures grows { looks.old ≤ looks.new }
+        ensures ok_looks { IfOk result (λ r. looks.new ≤ looks.old + 4 * (r.1 - place + 1)) }
+        ensures err_looks { OnErr result (looks.new ≤ looks.old + 4 * (length self.now - place + 1)) }
+        ensures within { IfOk result (λ r. (place < r.1) × (r.1 ≤ length self.now) × (r.0 + 1 < place)) }
+    {
+        let (target, next) = self.integer_62(place, looks)?;
+        if target >= place as u64 - 1 {
+            return Err(ParseError::Invalid);
+        }
+        if depth == MAX_DEPTH {
+            return Err(ParseError::RecursedTooDeep);
+        }
+        Ok((target as usize, next))
+    }
+
+    /// The place behind an optional byte. It is one look.
+    pub fn skip(&self, byte: u8, place: usize, looks: &mut Looks) -> usize
+        ensures place { result ≡ behind byte self.now place }
+        ensures within { place ≤ length self.now → result ≤ length self.now }
+        ensures look { looks.new ≡ looks.old + 1 }
+        ensures fits { length self.now < 2 ^ 64 }
+    {
+        if self.is_at(byte, place, looks) {
+            place + 1
+        } else {
+            place
+        }
+    }
+}
+
+fn digit_62_of(byte: u8) -> Option<u8>
+    ensures { MatchOption result (is_digit_62 byte ≡ false) (λ d. (is_digit_62 byte ≡ true) × (d ≡ digit_62 byte)) }
+{
+    match byte {
+        b'0'..=b'9' => Some(byte - b'0'),
+        b'a'..=b'z' => Some(byte - b'a' + 10),
+        b'A'..=b'Z' => Some(byte - b'A' + 36),
+        _ => None,
+    }
+}

@@ -1,0 +1,378 @@
+-- Each word of the machine's grammar reads what its items read.
+use Rattle.std.specs.Prelude.{ℕ, if◌then◌else◌, ◌==◌, nat_le, codes, decimal, option_map, slice_range}
+use Rattle.std.specs.Fmt.{digits}
+use Rattle.std.proofs.Common.{◌≡◌, Bool, true, false, cond, List, [], ◌∷◌, ◌++◌, length, Option, Some, None, refl, sym, ◌∙◌, ap, ◌+◌, ◌-◌, ◌*◌, subst, arith}
+use Prim.Native.Char.{code}
+use lib.Utf8.{scalar}
+use Rattle.demangle_symbol.specs.Digits.{is_byte, run_end}
+use Rattle.demangle_symbol.specs.Words.{Read, Name, only_if, some_or, name_of, name_from, name_len, is_upper, is_nibble, integer_at, optional_at, identifier_at, nibbles_at, number_of}
+use Rattle.demangle_symbol.specs.Names.{name_pieces, is_nameless, is_empty}
+use Rattle.demangle_symbol.specs.Literals.{literal, string_of}
+use Rattle.demangle_v0.specs.Items.{Text, Items, invalid, say, say_plain, integer, identifier, lifetime}
+use Rattle.demangle_v0.specs.Table.{says, say_all, says_name, extern, text_of, basic_types, number_pieces}
+use Rattle.demangle_v0.specs.Reading.{Tree, nothing, piece, looked, invalid_syntax, Place, Outcome, Surroundings, fault, behind, stands, followed_by, run, resumed, forked, letter_of, all_pieces, lifetime_at, lifetime_named}
+use Rattle.demangle_v0.specs.Grammar.{word_items, special_name, says_head, function_head, says_true, says_char}
+use Rattle.demangle_v0.specs.Events.{Event, shows, allows, said, said_all, events, Heard, of, ended, allowing, handing}
+use Rattle.demangle_v0.specs.Groups.{bytes_in, parts_of, ident_at, hex_at, nested_texts, number_texts, if_plain, texts_of, Group, goes, faulty, reading, asking, checked, abi_named, abi_group, truth_stretch, character_stretch, literal_stretch, word_group}
+use Rattle.demangle_v0.specs.Shares.{surroundings}
+use Rattle.demangle_symbol.specs.declared.cursor.Part.{Part}
+use Rattle.demangle_symbol.specs.declared.cursor.ident.Ident.{Ident}
+use Rattle.demangle_v0.specs.declared.grammar.Word.{Word}
+use Rattle.demangle_v0.specs.declared.grammar.Word.TheVariants as word
+use Rattle.demangle_v0.specs.declared.grammar.Mark.TheVariants as mark
+use Rattle.demangle_v0.specs.declared.stretch.Abi.TheVariants as abi
+use Rattle.demangle_v0.specs.declared.stretch.Stretch.TheVariants.{Nothing, Fixed, CrateName, FieldName, NestedName, Lifetime, LifetimeFault, SpacedLifetime, SpacedFault, DynLifetime, DynLifetimeFault, FunctionHead, Number, Character, BindingName}
+use Rattle.demangle_v0.specs.declared.task.Setting.{Setting}
+use Rattle.demangle_v0.specs.declared.words.WordRead.{WordRead}
+use Rattle.demangle_v0.specs.declared.words.WordRead.TheVariants.{Goes, Stops}
+use Rattle.demangle_v0.proofs.Hearing.{said_all_append}
+
+-- a word, and what follows it unless it ends the unit
+abbrev pub word_then : List ℕ → Bool → Bool → WordRead → (Place → Heard) → Heard
+word_then b plain out (Goes x j) k = handing out (texts_of b plain x) (k j)
+word_then b plain out (Stops x) k = handing out (texts_of b plain x) (ended None false)
+
+abbrev pub grouped : List ℕ → Bool → Bool → Group → (Place → Heard) → Heard
+grouped b plain out g k = allowing g.costs (word_then b plain out g.reads k)
+
+-- what is heard behind an allowance, and behind a text
+abbrev paying : ℕ → Heard → Heard
+paying k h = record { events = allows k ∷ h.events; place = h.place; is_open = h.is_open }
+
+abbrev saying : Bool → Text → Heard → Heard
+saying out t h = record { events = said out t h.events; place = h.place; is_open = h.is_open }
+
+heard : List Event → Heard → Heard
+heard xs h = record { events = xs; place = h.place; is_open = h.is_open }
+
+pub says_all : (plain out : Bool) (ts : List Text) (p : Items) (s : Surroundings) (j : Place) → of plain out (run (say_all ts p) s j) ≡ handing out ts (of plain out (run p s j))
+unfolding run
+says_all plain out [] p s j = refl
+says_all plain out (t ∷ ts) p s j = ap (saying out t) (says_all plain out ts p s j)
+
+said_all_both : (out : Bool) (ts us : List Text) (xs : List Event) → said_all out (ts ++ us) xs ≡ said_all out ts (said_all out us xs)
+said_all_both out [] us xs = refl
+said_all_both out (t ∷ ts) us xs = ap (said out t) (said_all_both out ts us xs)
+
+handing_both : (out : Bool) (ts us : List Text) (h : Heard) → handing out (ts ++ us) h ≡ handing out ts (handing out us h)
+unfolding heard
+handing_both out ts us h = ap (λ xs. heard xs h) (said_all_both out ts us h.events)
+
+pub pieces_heard : (plain out : Bool) (ts : List Text) (rest : Tree) → events plain out (all_pieces ts rest) ≡ said_all out ts (events plain out rest)
+pieces_heard plain out [] rest = refl
+pieces_heard plain out (t ∷ ts) rest = ap (said out t) (pieces_heard plain out ts rest)
+
+-- Words.
+
+word_reads : {A : Type 0} (b : List ℕ) (plain out : Bool) (n i : ℕ) (rest : A → Place → Outcome) (f : A → ℕ → Group) (k : Place → Heard) → ((a : A) (j : ℕ) → of plain out (rest a (Some j)) ≡ grouped b plain out (f a j) k) → (r : Read A)
+    → of plain out (resumed n i rest r) ≡ grouped b plain out (reading n i r f) k
+word_reads b plain out n i rest f k h None = refl
+word_reads b plain out n i rest f k h (Some r) = ap (paying (4 * (r.1 - i + 1))) (h r.0 r.1)
+
+pub name_reads : (b : List ℕ) (plain out : Bool) (n i : ℕ) (rest : Name → Place → Outcome) (f : Ident → ℕ → Group) (k : Place → Heard) → ((j : ℕ) → of plain out (rest (name_of b i j) (Some j)) ≡ grouped b plain out (f (parts_of b i j) j) k)
+    → of plain out (resumed n i rest (identifier_at b i)) ≡ grouped b plain out (reading n i (ident_at b i) f) k
+unfolding identifier_at
+name_reads b plain out n i rest f k h = go _ (name_from b i + name_len b i)
+  where
+    go : (c : Bool) (j : ℕ) → of plain out (resumed n i rest (only_if c (name_of b i j, j))) ≡ grouped b plain out (reading n i (option_map (λ (r : Name × ℕ). (parts_of b i r.1, r.1)) (only_if c (name_of b i j, j))) f) k
+    go true j = ap (paying (4 * (j - i + 1))) (h j)
+    go false j = refl
+
+hex_reads : (b : List ℕ) (plain out : Bool) (n i : ℕ) (rest : List ℕ → Place → Outcome) (f : Part → ℕ → Group) (k : Place → Heard) → ((end j : ℕ) → of plain out (rest (slice_range b i end) (Some j)) ≡ grouped b plain out (f (record { from = i; to = end }) j) k)
+    → of plain out (resumed n i rest (nibbles_at b i)) ≡ grouped b plain out (reading n i (hex_at b i) f) k
+unfolding nibbles_at
+hex_reads b plain out n i rest f k h = go _ (run_end is_nibble b i)
+  where
+    go : (c : Bool) (end : ℕ) → of plain out (resumed n i rest (only_if c (slice_range b i end, end + 1))) ≡ grouped b plain out (reading n i (option_map (λ (r : List ℕ × ℕ). (record { from = i; to = r.1 - 1 }, r.1)) (only_if c (slice_range b i end, end + 1))) f) k
+    go true end =
+        let e : end ≡ end + 1 - 1 = omega arith in
+        ap (paying (4 * (end + 1 - i + 1))) (subst (λ z. of plain out (rest (slice_range b i end) (Some (end + 1))) ≡ grouped b plain out (f (record { from = i; to = z }) (end + 1)) k) e (h end (end + 1)))
+    go false end = refl
+
+ask_reads : (b : List ℕ) (plain out c : Bool) (f g : Place → Outcome) (x y : Group) (k : Place → Heard) (i : ℕ) → of plain out (f (Some (i + 1))) ≡ grouped b plain out x k → of plain out (g (Some i)) ≡ grouped b plain out y k
+    → of plain out (forked c f g (Some i)) ≡ grouped b plain out (asking c x y) k
+ask_reads b plain out true f g x y k i p q = ap (paying 1) p
+ask_reads b plain out false f g x y k i p q = ap (paying 1) q
+
+-- Names.
+
+crate_read : (b : List ℕ) (plain out : Bool) (s : Surroundings) (p : Items) (a : Ident) (name : Name) (d : ℕ) (j : Place) → name ≡ Rattle.demangle_symbol.specs.Idents.name_in b a
+    → of plain out (run (says_name name (if d == 0 then p else say_plain (codes "[") (say_plain (digits 16 false d) (say_plain (codes "]") p)))) s j) ≡ handing out (texts_of b plain (CrateName a d)) (of plain out (run p s j))
+unfolding run
+crate_read b plain out s p a name d j e =
+    rw e (says_all plain out (name_pieces (Rattle.demangle_symbol.specs.Idents.name_in b a)) (cond (d == 0) p more) s j
+    ∙ (ap (handing out (name_pieces (Rattle.demangle_symbol.specs.Idents.name_in b a))) (go plain (d == 0))
+    ∙ sym (handing_both out (name_pieces (Rattle.demangle_symbol.specs.Idents.name_in b a)) (cond (d == 0) [] (if_plain plain ts)) (of plain out (run p s j)))))
+  where
+    more : Items
+    more = say_plain (codes "[") (say_plain (digits 16 false d) (say_plain (codes "]") p))
+
+    ts : List Text
+    ts = codes "[" ∷ digits 16 false d ∷ codes "]" ∷ []
+
+    go : (plain c : Bool) → of plain out (run (cond c p more) s j) ≡ handing out (cond c [] (if_plain plain ts)) (of plain out (run p s j))
+    go plain true = refl
+    go true false = refl
+    go false false = refl
+
+nested_read : (b : List ℕ) (plain out : Bool) (s : Surroundings) (p : Items) (a : Name) (n d : ℕ) (j : Place)
+    → of plain out (run (if is_upper n then special_name n d a p else if is_nameless a then p else says "::" (says_name a p)) s j) ≡ handing out (nested_texts n d a) (of plain out (run p s j))
+unfolding run
+nested_read b plain out s p a n d j = go (is_upper n) (is_nameless a)
+  where
+    ending : Items
+    ending = says "#" (say (decimal d) (says "}" p))
+
+    ends : List Text
+    ends = codes "#" ∷ decimal d ∷ codes "}" ∷ []
+
+    which : Text
+    which = if n == code "C" then codes "closure" else if n == code "S" then codes "shim" else n ∷ []
+
+    go : (u e : Bool) → of plain out (run (cond u (says "::{" (say which (cond e ending (says ":" (says_name a ending))))) (cond e p (says "::" (says_name a p)))) s j)
+        ≡ handing out (cond u (codes "::{" ∷ which ∷ (cond e [] (codes ":" ∷ name_pieces a) ++ ends)) (cond e [] (codes "::" ∷ name_pieces a))) (of plain out (run p s j))
+    go true true = refl
+    go true false =
+        ap (λ (h : Heard). saying out (codes "::{") (saying out which (saying out (codes ":") h)))
+        (says_all plain out (name_pieces a) ending s j ∙ sym (handing_both out (name_pieces a) ends (of plain out (run p s j))))
+    go false true = refl
+    go false false = ap (saying out (codes "::")) (says_all plain out (name_pieces a) p s j)
+
+-- Lifetimes.
+
+abbrev lifetime_heard : Bool → Bool → ℕ → ℕ → ℕ → (Place → Outcome) → Heard
+lifetime_heard plain false n k j f = of plain false (f (Some j))
+lifetime_heard plain true n k j f =
+    if nat_le k n then handing true (codes "'" ∷ letter_of (n - k)) (of plain true (f (Some j)))
+    else handing true (codes "'" ∷ codes "{invalid syntax}" ∷ []) (of plain true (f None))
+
+lifetime_checked : (plain out : Bool) (n k j : ℕ) (f : Place → Outcome) → (k == 0) ≡ false → of plain out (followed_by (lifetime_at out n k (Some j)) f) ≡ lifetime_heard plain out n k j f
+unfolding heard
+lifetime_checked plain false n k j f e = refl
+lifetime_checked plain true n k j f e = rw e (go (nat_le k n))
+  where
+    go : (c : Bool) → of plain true (followed_by (behind (piece (codes "'")) (cond c (behind (all_pieces (letter_of (n - k))) (stands (Some j))) (fault invalid_syntax))) f)
+        ≡ cond c (handing true (codes "'" ∷ letter_of (n - k)) (of plain true (f (Some j)))) (handing true (codes "'" ∷ codes "{invalid syntax}" ∷ []) (of plain true (f None)))
+    go true =
+        ap (λ xs. heard (shows (codes "'") ∷ (xs ++ events plain true (f (Some j)).tree)) (of plain true (f (Some j)))) (pieces_heard plain true (letter_of (n - k)) nothing)
+        ∙ ap (λ xs. heard (shows (codes "'") ∷ xs) (of plain true (f (Some j)))) (said_all_append true (letter_of (n - k)) [] (events plain true (f (Some j)).tree))
+    go false = refl
+
+lifetime_read : (b : List ℕ) (plain out : Bool) (s : Surroundings) (n : ℕ) (p : Items) (k j : ℕ)
+    → of plain out (followed_by (lifetime_at out n k (Some j)) (run p s)) ≡ grouped b plain out (if k == 0 then goes (Lifetime None) (Some j) else checked out n k j (Lifetime (Some (n - k))) LifetimeFault) (λ i. of plain out (run p s i))
+lifetime_read b plain out s n p k j = go (k == 0) refl
+  where
+    zeroth : (out : Bool) → (k == 0) ≡ true → of plain out (followed_by (lifetime_at out n k (Some j)) (run p s)) ≡ handing out (codes "'" ∷ codes "_" ∷ []) (of plain out (run p s (Some j)))
+    zeroth true e = rw e refl
+    zeroth false e = refl
+
+    last : (out d : Bool) → (nat_le k n) ≡ d → lifetime_heard plain out n k j (run p s) ≡ grouped b plain out (checked out n k j (Lifetime (Some (n - k))) LifetimeFault) (λ i. of plain out (run p s i))
+    last false d e = refl
+    last true true e = rw e refl
+    last true false e = rw e refl
+
+    go : (c : Bool) → (k == 0) ≡ c → of plain out (followed_by (lifetime_at out n k (Some j)) (run p s)) ≡ grouped b plain out (cond c (goes (Lifetime None) (Some j)) (checked out n k j (Lifetime (Some (n - k))) LifetimeFault)) (λ i. of plain out (run p s i))
+    go true e = zeroth out e
+    go false e = lifetime_checked plain out n k j (run p s) e ∙ last out (nat_le k n) refl
+
+spaced_read : (b : List ℕ) (plain out : Bool) (s : Surroundings) (n : ℕ) (p : Items) (k j : ℕ) → (k == 0) ≡ false
+    → of plain out (followed_by (lifetime_at out n k (Some j)) (run (says " " p) s)) ≡ grouped b plain out (checked out n k j (SpacedLifetime (n - k)) SpacedFault) (λ i. of plain out (run p s i))
+unfolding run
+spaced_read b plain out s n p k j e = lifetime_checked plain out n k j (run (says " " p) s) e ∙ last out (nat_le k n) refl
+  where
+    last : (out d : Bool) → (nat_le k n) ≡ d → lifetime_heard plain out n k j (run (says " " p) s) ≡ grouped b plain out (checked out n k j (SpacedLifetime (n - k)) SpacedFault) (λ i. of plain out (run p s i))
+    last false d e = refl
+    last true true e = rw e (ap (saying true (codes "'")) (sym (handing_both true (letter_of (n - k)) (codes " " ∷ []) (of plain true (run p s (Some j))))))
+    last true false e = rw e refl
+
+plus_read : (b : List ℕ) (plain out : Bool) (s : Surroundings) (n : ℕ) (p : Items) (k j : ℕ) → (k == 0) ≡ false
+    → saying out (codes " + ") (of plain out (followed_by (lifetime_at out n k (Some j)) (run p s))) ≡ grouped b plain out (checked out n k j (DynLifetime (n - k)) DynLifetimeFault) (λ i. of plain out (run p s i))
+plus_read b plain out s n p k j e = ap (saying out (codes " + ")) (lifetime_checked plain out n k j (run p s) e) ∙ last out (nat_le k n) refl
+  where
+    last : (out d : Bool) → (nat_le k n) ≡ d → saying out (codes " + ") (lifetime_heard plain out n k j (run p s)) ≡ grouped b plain out (checked out n k j (DynLifetime (n - k)) DynLifetimeFault) (λ i. of plain out (run p s i))
+    last false d e = refl
+    last true true e = rw e refl
+    last true false e = rw e refl
+
+spaced_or : (b : List ℕ) (plain : Bool) (left : ℕ) (t : Setting) (p : Items) (k j : ℕ) (c : Bool) → (k == 0) ≡ c
+    → of plain t.output (run (if c then p else lifetime k (says " " p)) (surroundings b left t) (Some j)) ≡ grouped b plain t.output (if c then goes Nothing (Some j) else checked t.output t.lifetimes k j (SpacedLifetime (t.lifetimes - k)) SpacedFault) (λ i. of plain t.output (run p (surroundings b left t) i))
+unfolding run
+spaced_or b plain left t p k j true e = refl
+spaced_or b plain left t p k j false e = spaced_read b plain t.output (surroundings b left t) t.lifetimes p k j e
+
+plus_or : (b : List ℕ) (plain : Bool) (left : ℕ) (t : Setting) (p : Items) (k j : ℕ) (c : Bool) → (k == 0) ≡ c
+    → of plain t.output (run (if c then p else says " + " (lifetime k p)) (surroundings b left t) (Some j)) ≡ grouped b plain t.output (if c then goes Nothing (Some j) else checked t.output t.lifetimes k j (DynLifetime (t.lifetimes - k)) DynLifetimeFault) (λ i. of plain t.output (run p (surroundings b left t) i))
+unfolding run
+plus_or b plain left t p k j true e = refl
+plus_or b plain left t p k j false e = plus_read b plain t.output (surroundings b left t) t.lifetimes p k j e
+
+-- Functions.
+
+head_read : (b : List ℕ) (plain out unsafe : Bool) (ts : List Text) (p : Items) (s : Surroundings) (j : Place) → of plain out (run (says_head unsafe ts p) s j) ≡ handing out (if unsafe then codes "unsafe " ∷ ts else ts) (of plain out (run p s j))
+unfolding run
+head_read b plain out true ts p s j = ap (saying out (codes "unsafe ")) (says_all plain out ts p s j)
+head_read b plain out false ts p s j = says_all plain out ts p s j
+
+named_read : (b : List ℕ) (plain out unsafe : Bool) (a : Ident) (p : Items) (s : Surroundings) (j : ℕ)
+    → of plain out (run (if is_empty (bytes_in b a.ascii) then invalid else if is_empty (bytes_in b a.punycode) then says_head unsafe (extern (bytes_in b a.ascii)) p else invalid) s (Some j))
+    ≡ grouped b plain out (abi_named unsafe a b j) (λ i. of plain out (run p s i))
+unfolding run
+named_read b plain out unsafe a p s j = go (is_empty (bytes_in b a.ascii)) (is_empty (bytes_in b a.punycode))
+  where
+    go : (x y : Bool) → of plain out (run (cond x invalid (cond y (says_head unsafe (extern (bytes_in b a.ascii)) p) invalid)) s (Some j))
+        ≡ grouped b plain out (cond x faulty (cond y (goes (FunctionHead unsafe (abi.Named a.ascii)) (Some j)) faulty)) (λ i. of plain out (run p s i))
+    go true y = refl
+    go false true = head_read b plain out unsafe (extern (bytes_in b a.ascii)) p s (Some j)
+    go false false = refl
+
+abi_read : (plain out unsafe : Bool) (p : Items) (s : Surroundings) (i : ℕ) → of plain out (run (function_head unsafe p) s (Some i)) ≡ grouped s.symbol plain out (abi_group s.symbol unsafe i) (λ i. of plain out (run p s i))
+unfolding run
+abi_read plain out unsafe p s i = go
+  where
+    c : List ℕ
+    c = s.symbol
+
+    rest : Name → Place → Outcome
+    rest a = run (if is_empty a.ascii then invalid else if is_empty a.punycode then says_head unsafe (extern a.ascii) p else invalid) s
+
+    go : of plain out (run (function_head unsafe p) s (Some i)) ≡ grouped c plain out (abi_group c unsafe i) (λ i. of plain out (run p s i))
+    go = ask_reads c plain out (is_byte c i (code "K")) (λ j. forked (Rattle.demangle_v0.specs.Reading.stands_at s (code "C") j) (run (says_head unsafe (extern (codes "C")) p) s) (run (identifier (λ a. if is_empty a.ascii then invalid else if is_empty a.punycode then says_head unsafe (extern a.ascii) p else invalid)) s) j)
+        (run (says_head unsafe [] p) s) _ _ (λ i. of plain out (run p s i)) i
+        (ask_reads c plain out (is_byte c (i + 1) (code "C")) (run (says_head unsafe (extern (codes "C")) p) s) (run (identifier (λ a. if is_empty a.ascii then invalid else if is_empty a.punycode then says_head unsafe (extern a.ascii) p else invalid)) s) _ _ (λ i. of plain out (run p s i)) (i + 1)
+        (head_read c plain out unsafe (extern (codes "C")) p s (Some (i + 1 + 1)))
+        (name_reads c plain out (length c) (i + 1) rest (λ a j. abi_named unsafe a c j) (λ i. of plain out (run p s i)) (λ j. named_read c plain out unsafe (parts_of c (i + 1) j) p s j)))
+        (head_read c plain out unsafe [] p s (Some i))
+
+-- Numbers and literals.
+
+number_read : (b : List ℕ) (plain out : Bool) (note : ℕ) (h : Part) (p : Items) (s : Surroundings) (j : Place)
+    → of plain out (run (number_pieces (bytes_in b h) (some_or p (text_of note basic_types) (λ text. say_plain text p))) s j) ≡ handing out (texts_of b plain (Number (number_of (bytes_in b h)) h note)) (of plain out (run p s j))
+unfolding run
+number_read b plain out note h p s j = go (number_of (bytes_in b h)) (text_of note basic_types) plain
+  where
+    go : (n : Option ℕ) (o : Option Text) (plain : Bool) → of plain out (run (some_or (says "0x" (say (bytes_in b h) (some_or p o (λ text. say_plain text p)))) n (λ n. say (decimal n) (some_or p o (λ text. say_plain text p)))) s j)
+        ≡ handing out (number_texts (bytes_in b h) n ++ some_or [] o (λ t. if_plain plain (t ∷ []))) (of plain out (run p s j))
+    go None None plain = refl
+    go None (Some t) true = refl
+    go None (Some t) false = refl
+    go (Some n) None plain = refl
+    go (Some n) (Some t) true = refl
+    go (Some n) (Some t) false = refl
+
+truth_read : (b : List ℕ) (plain out : Bool) (p : Items) (s : Surroundings) (j : ℕ) (o : Option ℕ) → of plain out (run (says_true p o) s (Some j)) ≡ grouped b plain out (truth_stretch o j) (λ i. of plain out (run p s i))
+unfolding run
+truth_read b plain out p s j None = refl
+truth_read b plain out p s j (Some n) = go (n == 0) (n == 1)
+  where
+    go : (x y : Bool) → of plain out (run (cond x (says "false" p) (cond y (says "true" p) invalid)) s (Some j)) ≡ grouped b plain out (cond x (goes (Fixed mark.False) (Some j)) (cond y (goes (Fixed mark.True) (Some j)) faulty)) (λ i. of plain out (run p s i))
+    go true y = refl
+    go false true = refl
+    go false false = refl
+
+character_read : (b : List ℕ) (plain out : Bool) (p : Items) (s : Surroundings) (j : ℕ) (o : Option ℕ) → of plain out (run (says_char p o) s (Some j)) ≡ grouped b plain out (character_stretch o j) (λ i. of plain out (run p s i))
+unfolding run
+character_read b plain out p s j None = refl
+character_read b plain out p s j (Some c) = go (scalar c)
+  where
+    go : (x : Bool) → of plain out (run (cond x (say_all (literal (code "'") (c ∷ [])) p) invalid) s (Some j)) ≡ grouped b plain out (cond x (goes (Character c) (Some j)) faulty) (λ i. of plain out (run p s i))
+    go true = says_all plain out (literal (code "'") (c ∷ [])) p s (Some j)
+    go false = refl
+
+literal_read : (b : List ℕ) (plain out : Bool) (p : Items) (s : Surroundings) (j : ℕ) (h : Part)
+    → of plain out (run (some_or invalid (string_of (bytes_in b h)) (λ cs. say_all (literal (code "\"") cs) p)) s (Some j)) ≡ grouped b plain out (literal_stretch (string_of (bytes_in b h)) h j) (λ i. of plain out (run p s i))
+unfolding run
+literal_read b plain out p s j h = go (string_of (bytes_in b h)) refl
+  where
+    go : (o : Option (List ℕ)) → string_of (bytes_in b h) ≡ o → of plain out (run (some_or invalid o (λ cs. say_all (literal (code "\"") cs) p)) s (Some j)) ≡ grouped b plain out (literal_stretch o h j) (λ i. of plain out (run p s i))
+    go None e = refl
+    go (Some cs) e = rw e (says_all plain out (literal (code "\"") cs) p s (Some j))
+
+binding_read : (b : List ℕ) (plain : Bool) (left : ℕ) (t : Setting) (p : Items) (a : Name) (j : Place)
+    → of plain t.output (run (says_name a (says " = " p)) (surroundings b left t) j) ≡ handing t.output (name_pieces a ++ codes " = " ∷ []) (of plain t.output (run p (surroundings b left t) j))
+unfolding run
+binding_read b plain left t p a j =
+    says_all plain t.output (name_pieces a) (says " = " p) (surroundings b left t) j
+    ∙ sym (handing_both t.output (name_pieces a) (codes " = " ∷ []) (of plain t.output (run p (surroundings b left t) j)))
+
+pub word_read : (b : List ℕ) (plain : Bool) (left : ℕ) (t : Setting) (w : Word) (note : ℕ) (p : Items) (i : Place)
+    → of plain t.output (run (word_items w note p) (surroundings b left t) i) ≡ grouped b plain t.output (word_group b w note t.output t.lifetimes i) (λ j. of plain t.output (run p (surroundings b left t) j))
+unfolding run
+word_read b plain left t word.CrateName note p None = refl
+word_read b plain left t word.NestedName note p None = refl
+word_read b plain left t word.FieldName note p None = refl
+word_read b plain left t word.BindingName note p None = refl
+word_read b plain left t word.Disambiguator note p None = refl
+word_read b plain left t word.LifetimeIndex note p None = refl
+word_read b plain left t word.OptionalLifetime note p None = refl
+word_read b plain left t word.DynLifetime note p None = refl
+word_read b plain left t word.FunctionHead note p None = refl
+word_read b plain left t word.Soundness note p None = refl
+word_read b plain left t word.Sign note p None = refl
+word_read b plain left t word.Number note p None = refl
+word_read b plain left t word.Truth note p None = refl
+word_read b plain left t word.Character note p None = refl
+word_read b plain left t word.Literal note p None = refl
+word_read b plain left t word.CrateName note p (Some i) =
+    let s = surroundings b left t in let k : Place → Heard = λ j. of plain t.output (run p s j) in
+    word_reads b plain t.output (length b) i (λ d. run (identifier (λ a. says_name a (if d == 0 then p else say_plain (codes "[") (say_plain (digits 16 false d) (say_plain (codes "]") p))))) s) (λ d j. reading (length b) j (ident_at b j) (λ a m. goes (CrateName a d) (Some m))) k
+    (λ d j. name_reads b plain t.output (length b) j (λ a. run (says_name a (if d == 0 then p else say_plain (codes "[") (say_plain (digits 16 false d) (say_plain (codes "]") p)))) s) (λ a m. goes (CrateName a d) (Some m)) k
+    (λ m. crate_read b plain t.output s p (parts_of b j m) (name_of b j m) d (Some m) refl))
+    (optional_at 115 b i)
+word_read b plain left t word.NestedName note p (Some i) =
+    let s = surroundings b left t in let k : Place → Heard = λ j. of plain t.output (run p s j) in
+    word_reads b plain t.output (length b) i (λ d. run (identifier (λ a. if is_upper note then special_name note d a p else if is_nameless a then p else says "::" (says_name a p))) s) (λ d j. reading (length b) j (ident_at b j) (λ a m. goes (NestedName note d a) (Some m))) k
+    (λ d j. name_reads b plain t.output (length b) j (λ a. run (if is_upper note then special_name note d a p else if is_nameless a then p else says "::" (says_name a p)) s) (λ a m. goes (NestedName note d a) (Some m)) k
+    (λ m. nested_read b plain t.output s p (name_of b j m) note d (Some m)))
+    (optional_at 115 b i)
+word_read b plain left t word.FieldName note p (Some i) =
+    let s = surroundings b left t in let k : Place → Heard = λ j. of plain t.output (run p s j) in
+    word_reads b plain t.output (length b) i (λ d. run (identifier (λ a. says_name a p)) s) (λ d j. reading (length b) j (ident_at b j) (λ a m. goes (FieldName a) (Some m))) k
+    (λ d j. name_reads b plain t.output (length b) j (λ a. run (says_name a p) s) (λ a m. goes (FieldName a) (Some m)) k
+    (λ m. says_all plain t.output (name_pieces (name_of b j m)) p s (Some m)))
+    (optional_at 115 b i)
+word_read b plain left t word.BindingName note p (Some i) =
+    let s = surroundings b left t in let k : Place → Heard = λ j. of plain t.output (run p s j) in
+    name_reads b plain t.output (length b) i (λ a. run (says_name a (says " = " p)) s) (λ a m. goes (BindingName a) (Some m)) k
+    (λ m. binding_read b plain left t p (name_of b i m) (Some m))
+word_read b plain left t word.Disambiguator note p (Some i) =
+    let s = surroundings b left t in let k : Place → Heard = λ j. of plain t.output (run p s j) in
+    word_reads b plain t.output (length b) i (λ d. run p s) (λ d j. goes Nothing (Some j)) k (λ d j. refl) (optional_at 115 b i)
+word_read b plain left t word.LifetimeIndex note p (Some i) =
+    let s = surroundings b left t in let k : Place → Heard = λ j. of plain t.output (run p s j) in
+    word_reads b plain t.output (length b) i (λ k. run (lifetime k p) s) (λ k j. if k == 0 then goes (Lifetime None) (Some j) else checked t.output t.lifetimes k j (Lifetime (Some (t.lifetimes - k))) LifetimeFault) k
+    (λ k j. lifetime_read b plain t.output s t.lifetimes p k j) (integer_at b i)
+word_read b plain left t word.OptionalLifetime note p (Some i) =
+    let s = surroundings b left t in let k : Place → Heard = λ j. of plain t.output (run p s j) in
+    ask_reads b plain t.output (is_byte b i (code "L")) (run (integer (λ k. if k == 0 then p else lifetime k (says " " p))) s) (run p s) _ (goes Nothing (Some i)) k i
+    (word_reads b plain t.output (length b) (i + 1) (λ k. run (if k == 0 then p else lifetime k (says " " p)) s) (λ k j. if k == 0 then goes Nothing (Some j) else checked t.output t.lifetimes k j (SpacedLifetime (t.lifetimes - k)) SpacedFault) k
+    (λ m j. spaced_or b plain left t p m j (m == 0) refl) (integer_at b (i + 1)))
+    refl
+word_read b plain left t word.DynLifetime note p (Some i) =
+    let s = surroundings b left t in let k : Place → Heard = λ j. of plain t.output (run p s j) in
+    ask_reads b plain t.output (is_byte b i (code "L")) (run (integer (λ k. if k == 0 then p else says " + " (lifetime k p))) s) (run invalid s) _ faulty k i
+    (word_reads b plain t.output (length b) (i + 1) (λ k. run (if k == 0 then p else says " + " (lifetime k p)) s) (λ k j. if k == 0 then goes Nothing (Some j) else checked t.output t.lifetimes k j (DynLifetime (t.lifetimes - k)) DynLifetimeFault) k
+    (λ m j. plus_or b plain left t p m j (m == 0) refl) (integer_at b (i + 1)))
+    refl
+word_read b plain left t word.FunctionHead note p (Some i) =
+    let s = surroundings b left t in let k : Place → Heard = λ j. of plain t.output (run p s j) in
+    ask_reads b plain t.output (is_byte b i (code "U")) (run (function_head true p) s) (run (function_head false p) s) _ _ k i (abi_read plain t.output true p s (i + 1)) (abi_read plain t.output false p s i)
+word_read b plain left t word.Soundness note p (Some i) = refl
+word_read b plain left t word.Sign note p (Some i) =
+    let s = surroundings b left t in let k : Place → Heard = λ j. of plain t.output (run p s j) in
+    ask_reads b plain t.output (is_byte b i (code "n")) (run (says "-" p) s) (run p s) (goes (Fixed mark.Minus) (Some (i + 1))) (goes Nothing (Some i)) k i refl refl
+word_read b plain left t word.Number note p (Some i) =
+    let s = surroundings b left t in let k : Place → Heard = λ j. of plain t.output (run p s j) in
+    hex_reads b plain t.output (length b) i (λ h. run (number_pieces h (some_or p (text_of note basic_types) (λ text. say_plain text p))) s) (λ h j. goes (Number (number_of (bytes_in b h)) h note) (Some j)) k
+    (λ end j. number_read b plain t.output note (record { from = i; to = end }) p s (Some j))
+word_read b plain left t word.Truth note p (Some i) =
+    let s = surroundings b left t in let k : Place → Heard = λ j. of plain t.output (run p s j) in
+    hex_reads b plain t.output (length b) i (λ h. run (says_true p (number_of h)) s) (λ h j. truth_stretch (number_of (bytes_in b h)) j) k
+    (λ end j. truth_read b plain t.output p s j (number_of (slice_range b i end)))
+word_read b plain left t word.Character note p (Some i) =
+    let s = surroundings b left t in let k : Place → Heard = λ j. of plain t.output (run p s j) in
+    hex_reads b plain t.output (length b) i (λ h. run (says_char p (number_of h)) s) (λ h j. character_stretch (number_of (bytes_in b h)) j) k
+    (λ end j. character_read b plain t.output p s j (number_of (slice_range b i end)))
+word_read b plain left t word.Literal note p (Some i) =
+    let s = surroundings b left t in let k : Place → Heard = λ j. of plain t.output (run p s j) in
+    hex_reads b plain t.output (length b) i (λ h. run (some_or invalid (string_of h) (λ cs. say_all (literal (code "\"") cs) p)) s) (λ h j. literal_stretch (string_of (bytes_in b h)) h j) k
+    (λ end j. literal_read b plain t.output p s j (record { from = i; to = end }))

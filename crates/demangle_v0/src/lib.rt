@@ -1,0 +1,68 @@
+//! v0 symbols (RFC 2603): behind a prefix one path or two, then a suffix.
+#![tactic(auto)]
+
+ghost use Rattle.std.specs.Prelude.{◌≡◌, ◌+◌, ◌-◌, ◌*◌, ◌≤◌, IfOk, IfSome, OnErr, Some, None, length, option_map};
+ghost use Rattle.demangle_v0.specs.V0.{inner_of, v0_of};
+
+use crate::accept::{begins_path, suffix_at};
+use demangle_symbol::cursor::{Looks, ParseError, Symbol};
+use demangle_symbol::prefix::behind_prefix;
+
+mod accept;
+mod grammar;
+mod machine;
+mod perform;
+mod printing;
+mod reference;
+mod render;
+mod stretch;
+mod task;
+#[cfg(test)]
+mod tests;
+mod units;
+mod value;
+mod words;
+mod work;
+
+pub use value::Demangle;
+
+/// What stands behind the prefix of a v0 symbol.
+fn inner_of(s: &str) -> Option<&str>
+    ensures inner { option_map (λ x. x.now) result ≡ inner_of s.now }
+    ensures shorter { IfSome result (λ x. (length x.now ≤ length s.now) × (length s.now ≤ length x.now + 3)) }
+{
+    if let Some(inner) = behind_prefix(s, "_R") {
+        return Some(inner);
+    }
+    // On Windows, dbghelp strips the leading underscore.
+    if let Some(inner) = behind_prefix(s, "R") {
+        return Some(inner);
+    }
+    // On macOS, symbols have one underscore more.
+    behind_prefix(s, "__R")
+}
+
+/// Reads a v0 symbol: the symbol, and the suffix behind its paths.
+pub fn demangle<'s>(s: &'s str, looks: &mut Looks) -> Result<(Demangle<'s>, &'s str), ParseError>
+    ensures ok { IfOk result (λ r. v0_of s.now ≡ Some (r.0, r.1.now)) }
+    ensures err { OnErr result (v0_of s.now ≡ None) }
+    ensures inner { IfOk result (λ r. length r.0 ≤ length s.now) }
+    ensures grows { looks.old ≤ looks.new }
+    ensures most { looks.new ≤ looks.old + 40 * (length s.now + 1) }
+    ensures least { IfOk result (λ r. looks.old + (length s.now - 4) ≤ looks.new) }
+{
+    let Some(inner) = inner_of(s) else {
+        return Err(ParseError::Invalid);
+    };
+    let symbol = Symbol::new(inner);
+    if !symbol.is_ascii(looks) {
+        return Err(ParseError::Invalid);
+    }
+    if !begins_path(&symbol, 0, looks) {
+        return Err(ParseError::Invalid);
+    }
+    let Some(end) = suffix_at(&symbol, looks) else {
+        return Err(ParseError::Invalid);
+    };
+    Ok((Demangle::new(symbol), &inner[end..]))
+}

@@ -1,0 +1,51 @@
+//! A v0 symbol that was read.
+ghost use Rattle.std.specs.Prelude.{◌≡◌, ◌+◌, ◌*◌, ◌≤◌, IsAscii, length};
+ghost use Rattle.demangle_sink.specs.Cut.{kept};
+ghost use Rattle.demangle_sink.specs.Limit.{Prints, Ready};
+ghost use Rattle.demangle_v0.specs.Reading.{rendered};
+
+use crate::printing::print;
+use demangle_sink::{SinkRefused, SizeLimitedFmtAdapter, TextSink};
+use demangle_symbol::cursor::{Looks, Symbol};
+use std::marker::Model;
+
+/// A v0 symbol that was read: the bytes behind its prefix, with the suffix.
+#[derive(Drop)]
+pub struct Demangle<'s> {
+    inner: Symbol<'s>,
+}
+
+impl<'s> Model for Demangle<'s> {
+    ghost use Rattle.std.specs.Prelude.{ℕ, List, IsAscii};
+
+    ghost Value = { List ℕ };
+
+    ghost view = { λ s. s.inner };
+
+    ghost invariant = { λ s. IsAscii s.inner };
+}
+
+impl<'s> Demangle<'s> {
+    pub(super) fn new(inner: Symbol<'s>) -> Demangle<'s>
+        requires { IsAscii inner }
+        ensures { result ≡ inner.entry }
+    {
+        Demangle { inner }
+    }
+
+    /// Prints the first path, with the hash or without it.
+    pub fn write_to<S: TextSink>(
+        &self,
+        out: &mut SizeLimitedFmtAdapter<'_, S>,
+        include_hash: bool,
+        looks: &mut Looks,
+    ) -> Result<(), SinkRefused>
+        requires { Ready S.TextSink out.old }
+        ensures prints { Prints S.TextSink out.old (rendered self.now include_hash) result out.new }
+        ensures grows { looks.old ≤ looks.new }
+        ensures most { looks.new ≤ looks.old + 100000 * (kept (rendered self.now include_hash) out.old.remaining + 1) * (length self.now + 1) }
+        ensures least { looks.old + 1 ≤ looks.new }
+    {
+        print(&self.inner, include_hash, out, looks)
+    }
+}

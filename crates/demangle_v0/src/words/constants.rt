@@ -1,0 +1,98 @@
+//! The values of constants.
+ghost use Rattle.std.specs.Prelude.{◌≡◌, ◌+◌, ◌-◌, ◌*◌, ◌≤◌, IfSome, Some};
+ghost use Rattle.demangle_v0.specs.Begins.{total};
+ghost use Rattle.demangle_v0.specs.Serving.{LiesIn};
+ghost use Rattle.demangle_v0.specs.Groups.{hex_at, read_stretch, looks_later, sign_group, number_group, truth_group, character_group, literal_group};
+
+use crate::grammar::Mark;
+use crate::stretch::Stretch;
+use crate::words::{WordRead, faulty, goes, nibbles};
+use demangle_symbol::cursor::{Looks, Symbol};
+use demangle_symbol::literal::is_string;
+
+pub(super) fn read_sign(symbol: &Symbol<'_>, place: usize, looks: &mut Looks) -> WordRead
+    ensures value { result ≡ (sign_group symbol.now place).reads }
+    ensures grows { looks.old ≤ looks.new }
+    ensures looks { looks.new + looks_later (read_stretch result) ≤ looks.old + total (sign_group symbol.now place).costs }
+    ensures lies { LiesIn symbol.now (read_stretch result) }
+{
+    if symbol.is_at(b'n', place, looks) {
+        goes(Stretch::Fixed(Mark::Minus), place + 1)
+    } else {
+        goes(Stretch::Nothing, place)
+    }
+}
+
+pub(super) fn read_number(
+    symbol: &Symbol<'_>,
+    note: u8,
+    place: usize,
+    looks: &mut Looks,
+) -> WordRead
+    ensures value { result ≡ (number_group symbol.now note place).reads }
+    ensures grows { looks.old ≤ looks.new }
+    ensures looks { looks.new + looks_later (read_stretch result) ≤ looks.old + total (number_group symbol.now note place).costs }
+    ensures twice { IfSome (hex_at symbol.now place) (λ r. looks.new ≤ looks.old + 2 * (r.1 - place)) }
+    ensures lies { LiesIn symbol.now (read_stretch result) }
+{
+    let Some((part, next)) = nibbles(symbol, place, looks) else {
+        return faulty();
+    };
+    let number = symbol.hex_number(part, looks);
+    goes(Stretch::Number(number, part, note), next)
+}
+
+pub(super) fn read_truth(symbol: &Symbol<'_>, place: usize, looks: &mut Looks) -> WordRead
+    ensures value { result ≡ (truth_group symbol.now place).reads }
+    ensures grows { looks.old ≤ looks.new }
+    ensures looks { looks.new + looks_later (read_stretch result) ≤ looks.old + total (truth_group symbol.now place).costs }
+    ensures twice { IfSome (hex_at symbol.now place) (λ r. looks.new ≤ looks.old + 2 * (r.1 - place)) }
+    ensures lies { LiesIn symbol.now (read_stretch result) }
+{
+    let Some((part, next)) = nibbles(symbol, place, looks) else {
+        return faulty();
+    };
+    match symbol.hex_number(part, looks) {
+        Some(0) => goes(Stretch::Fixed(Mark::False), next),
+        Some(1) => goes(Stretch::Fixed(Mark::True), next),
+        _ => faulty(),
+    }
+}
+
+pub(super) fn read_character(symbol: &Symbol<'_>, place: usize, looks: &mut Looks) -> WordRead
+    ensures value { result ≡ (character_group symbol.now place).reads }
+    ensures grows { looks.old ≤ looks.new }
+    ensures looks { looks.new + looks_later (read_stretch result) ≤ looks.old + total (character_group symbol.now place).costs }
+    ensures twice { IfSome (hex_at symbol.now place) (λ r. looks.new ≤ looks.old + 2 * (r.1 - place)) }
+    ensures lies { LiesIn symbol.now (read_stretch result) }
+{
+    let Some((part, next)) = nibbles(symbol, place, looks) else {
+        return faulty();
+    };
+    let Some(number) = symbol.hex_number(part, looks) else {
+        return faulty();
+    };
+    let Ok(code) = u32::try_from(number) else {
+        return faulty();
+    };
+    match char::from_u32(code) {
+        Some(c) => goes(Stretch::Character(c), next),
+        None => faulty(),
+    }
+}
+
+pub(super) fn read_literal(symbol: &Symbol<'_>, place: usize, looks: &mut Looks) -> WordRead
+    ensures value { result ≡ (literal_group symbol.now place).reads }
+    ensures grows { looks.old ≤ looks.new }
+    ensures looks { looks.new + looks_later (read_stretch result) ≤ looks.old + total (literal_group symbol.now place).costs }
+    ensures twice { IfSome (hex_at symbol.now place) (λ r. looks.new ≤ looks.old + 2 * (r.1 - place)) }
+    ensures lies { LiesIn symbol.now (read_stretch result) }
+{
+    let Some((part, next)) = nibbles(symbol, place, looks) else {
+        return faulty();
+    };
+    if !is_string(symbol, part, looks) {
+        return faulty();
+    }
+    goes(Stretch::Literal(part), next)
+}

@@ -1,7 +1,0 @@
-use Rattle.std.proofs.Common.{take, Ok}
-use Rattle.rustc_demangle.specs.Limit.{Prints}
-use Rattle.rustc_demangle.specs.Pieces.{texts}
-use Rattle.rustc_demangle.proofs.sink.pieces.put_each.Given as goal
-
-abbrev pub invariant-loop-piece : goal.invariant-loop-piece
-invariant-loop-piece g l = Prints g.S.TextSink l.fn.out (texts (take l.piece-index l.pieces)) (Ok tt) l.out

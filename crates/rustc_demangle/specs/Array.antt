@@ -1,6 +1,0 @@
-use Rattle.std.specs.Prelude.{ℕ, List}
-use Rattle.rustc_demangle.specs.declared.sink.array_sink.ArraySink.{ArraySink}
-
--- what `as_str` gives
-abbrev pub text_of : {N : ℕ} → ArraySink N → List ℕ
-text_of s = s.text.bytes
