@@ -2,6 +2,7 @@
 pub mod Sink
 pub mod Array
 pub mod Writer
+pub mod Slice
 pub mod Cut
 pub mod Hands
 -- Internal.

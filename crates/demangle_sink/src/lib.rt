@@ -9,6 +9,7 @@ mod chars;
 mod fmt_sink;
 mod limit;
 mod pieces;
+mod slice_sink;
 mod write_sink;
 
 pub use array_sink::ArraySink;
@@ -16,6 +17,7 @@ pub use chars::{put_char, put_chars};
 pub use fmt_sink::FmtSink;
 pub use limit::{SizeLimitedFmtAdapter, put_piece};
 pub use pieces::put_each;
+pub use slice_sink::SliceSink;
 pub use write_sink::WriteSink;
 
 /// A sink refused a piece, and has failed from then on.

@@ -11,6 +11,7 @@ pub mod StreamSteps
 pub mod StripLaws
 pub mod Stripping
 pub mod SuffixSteps
+pub mod SymbolLaws
 pub mod SymbolSteps
 pub mod TableFeeds
 pub mod V0Feeds

@@ -9,6 +9,7 @@ pub mod Stream
 pub use Rattle.demangle_sink.specs.Sink
 pub use Rattle.demangle_sink.specs.Array
 pub use Rattle.demangle_sink.specs.Writer
+pub use Rattle.demangle_sink.specs.Slice
 pub use Rattle.demangle_sink.specs.Cut
 pub use Rattle.demangle_sink.specs.Hands
 -- and of demangle_symbol

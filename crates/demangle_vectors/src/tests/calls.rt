@@ -1,5 +1,5 @@
 //! Each public call once, where it succeeds.
-use rustc_demangle::sink::{ArraySink, SinkRefused, TextSink, WriteSink};
+use rustc_demangle::sink::{ArraySink, SinkRefused, SliceSink, TextSink, WriteSink};
 use rustc_demangle::{
     Looks, StreamFault, demangle, demangle_counted, demangle_stream, demangle_stream_named,
     try_demangle,
@@ -89,6 +89,33 @@ fn an_array_is_a_sink(rt: HostRuntime) {
     assert!(rt; sink.put("de").is_err());
     assert!(rt; sink.is_failed());
     assert_eq!(rt; sink.as_str(), "abc");
+}
+
+#[test]
+fn memory_is_a_sink(rt: HostRuntime) {
+    let mut memory = [9; 5];
+    let mut sink = SliceSink::new(&mut memory[..3]);
+    assert_eq!(rt; sink.len(), 0);
+    for piece in ["a", "", "\u{e9}e", "f"] {
+        assert!(rt; !sink.is_failed());
+        assert!(rt; sink.put(piece).is_ok());
+    }
+    assert_eq!(rt; sink.len(), 5);
+    assert!(rt; memory == *b"a\xc3\xa9\x09\x09");
+}
+
+#[test]
+fn memory_keeps_the_front(rt: HostRuntime) {
+    let mut memory = [9; 12];
+    for (room, text) in [(0, ""), (1, "f"), (4, "foo:"), (8, "foo::bar"), (9, "foo::bar")] {
+        memory = [9; 12];
+        let mut sink = SliceSink::new(&mut memory[..room]);
+        assert!(rt; demangle("_RNvC3foo3bar").write_to(&mut sink, true).is_ok());
+        assert_eq!(rt; sink.len(), 8, "in {room}");
+        let (kept, behind) = memory.split_at(text.len());
+        assert!(rt; kept == text.as_bytes(), "in {room}");
+        assert!(rt; behind.iter().all(|byte| *byte == 9), "in {room}");
+    }
 }
 
 #[test]

@@ -1,6 +1,6 @@
 //! What texts print, with the hash or without it, and within a limit.
-ghost use Rattle.std.specs.Prelude.{◌≡◌, ◌⊎◌, ℕ, ◌+◌, ◌≤◌, Bool, true, false, List, [], ◌∷◌, ◌++◌, length, codes, Some, IsOk, OnOk, if◌then◌else◌};
-ghost use Rattle.std.specs.List.{list_all};
+ghost use Rattle.std.specs.Prelude.{◌≡◌, ◌⊎◌, ℕ, ◌+◌, ◌≤◌, Bool, true, false, IsAscii, List, [], ◌∷◌, ◌++◌, length, codes, Some, IsOk, OnOk, if◌then◌else◌};
+ghost use Rattle.std.specs.List.{concat, list_all};
 ghost use Rattle.demangle_sink.specs.Array.{text_of};
 ghost use Rattle.demangle_sink.specs.Cut.{size};
 ghost use Rattle.rustc_demangle.specs.Hashes.{LeavesHashOut};
@@ -28,6 +28,18 @@ pub fn no_symbol_prints_itself()
 pub fn symbol_stays_within_limit()
     ensures { (text : List ℕ) → (hash : Bool) → (limit : ℕ) → (pieces : List (List ℕ)) → (suffix : List ℕ) → pieces_of hash text ≡ Some (pieces, suffix) →
         size (handed text hash limit) ≤ limit + 20 + length suffix }
+{}
+
+/// A symbol prints at most the bytes of the limit, the 20 of the marker, and as many as it has itself.
+#[tactic(auto, using(crate::proofs::SymbolLaws::length_handed))]
+pub fn symbol_text_is_bounded()
+    ensures { (text : List ℕ) → (hash : Bool) → (limit : ℕ) → IsSymbol text → length (concat (handed text hash limit)) ≤ limit + 20 + length text }
+{}
+
+/// A text that is a symbol once it is stripped is ASCII.
+#[tactic(auto, using(crate::proofs::SymbolLaws::symbols_ascii))]
+pub fn symbols_are_ascii()
+    ensures { (text : List ℕ) → IsSymbol (stripped text) → IsAscii text }
 {}
 
 /// A legacy symbol whose pieces are within the limit hands over the same without the hash, or all but its last element

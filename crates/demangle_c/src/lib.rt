@@ -1,0 +1,96 @@
+//! The demangler for C, C++ and every language that calls C: a static library, whose header is include/kodliwe.h.
+#![tactic(auto)]
+
+ghost use Rattle.std.specs.Prelude.{◌≡◌, ◌+◌, ◌≤◌, ◌↔◌, length, IsTrue, OnSome, IfSome, IfNone};
+ghost use Prim.Native.Nat.{min};
+ghost use Rattle.std.specs.List.{concat};
+ghost use Rattle.rustc_demangle.specs.Cut.{size};
+ghost use Rattle.rustc_demangle.specs.Slice.{covered};
+ghost use Rattle.rustc_demangle.specs.Stripped.{stripped};
+ghost use Rattle.rustc_demangle.specs.Symbols.{handed};
+ghost use Rattle.demangle_c.specs.Naming.{NamesRust, path_of, path_within, c_string};
+
+#[cfg(test)]
+mod tests;
+
+use rustc_demangle::sink::SliceSink;
+use rustc_demangle::{Demangle, try_demangle};
+
+// The most bytes that are printed of a symbol, before the marker and the suffix.
+const MAX_SIZE: usize = 1_000_000;
+
+// The symbol that the bytes are.
+#[tactic(auto, using(rustc_demangle::proofs::SymbolLaws::symbols_utf8))]
+fn symbol_of(bytes: &[u8]) -> Option<Demangle<'_>>
+    ensures symbol { OnSome result (NamesRust bytes.now) }
+    ensures text { IfSome result (λ d. d ≡ stripped bytes.now) }
+    ensures none { IfNone result (NamesRust bytes.now → ⊥) }
+{
+    let Ok(text) = str::from_utf8(bytes) else {
+        return None;
+    };
+    try_demangle(text).ok()
+}
+
+// Writes the path into memory, as much as there is room for, and counts its bytes.
+fn write_path(symbol: &Demangle<'_>, out: &mut [u8], include_hash: bool, limit: usize) -> usize
+    requires { size (handed symbol.now include_hash limit) ≤ usize.MAX }
+    ensures len { result ≡ length (concat (handed symbol.now include_hash limit)) }
+    ensures bytes { out.new ≡ covered out.old (concat (handed symbol.now include_hash limit)) }
+{
+    let mut sink = SliceSink::new(out);
+    match symbol.write_limited(&mut sink, include_hash, limit) {
+        Ok(()) => sink.len(),
+        Err(_) => 0,
+    }
+}
+
+/// Whether the bytes are a Rust symbol, in the legacy scheme or in v0 (Rust RFC 2603), once an ending of ThinLTO is taken off.
+///
+/// It prints nothing, so that a lister of symbols can ask it of each. It takes no memory.
+#[unsafe(no_mangle)]
+pub extern "C" fn kodliwe_is_symbol(symbol: &[u8]) -> bool
+    ensures { IsTrue result ↔ NamesRust symbol.now }
+{
+    symbol_of(symbol).is_some()
+}
+
+/// Writes the path that a Rust symbol names into memory, with a 0 behind it, and answers how many bytes the two want.
+///
+/// The path is cut at `limit` bytes, and at 1,000,000 at most, before `{size limit reached}` and the symbol's suffix. The
+/// answer is 0 where the bytes are no symbol; the memory is then as it was. Else the answer does not depend on the size of the memory, which
+/// holds the path and its 0 where the answer is at most that size, and as much of the path as fits before a 0 where it is
+/// more; no byte behind the 0 is changed, and memory of size 0 stays as it was. It takes no memory of its own.
+#[unsafe(no_mangle)]
+pub extern "C" fn kodliwe_demangle_limited(
+    symbol: &[u8],
+    out: &mut [u8],
+    include_hash: bool,
+    limit: usize,
+) -> usize
+    ensures none { (NamesRust symbol.now → ⊥) → (result ≡ 0) × (out.new ≡ out.old) }
+    ensures size { NamesRust symbol.now → result ≡ length (path_within symbol.now include_hash (min limit MAX_SIZE)) + 1 }
+    ensures text { NamesRust symbol.now →
+        out.new ≡ covered out.old (c_string (length out.old) (path_within symbol.now include_hash (min limit MAX_SIZE))) }
+{
+    let Some(demangled) = symbol_of(symbol) else {
+        return 0;
+    };
+    let most = limit.min(MAX_SIZE);
+    let len = write_path(&demangled, out, include_hash, most);
+    if !out.is_empty() {
+        let end = len.min(out.len() - 1);
+        out[end] = 0;
+    }
+    len + 1
+}
+
+/// Writes the path as `kodliwe_demangle_limited` does, cut at 1,000,000 bytes.
+#[unsafe(no_mangle)]
+pub extern "C" fn kodliwe_demangle(symbol: &[u8], out: &mut [u8], include_hash: bool) -> usize
+    ensures none { (NamesRust symbol.now → ⊥) → (result ≡ 0) × (out.new ≡ out.old) }
+    ensures size { NamesRust symbol.now → result ≡ length (path_of symbol.now include_hash) + 1 }
+    ensures text { NamesRust symbol.now → out.new ≡ covered out.old (c_string (length out.old) (path_of symbol.now include_hash)) }
+{
+    kodliwe_demangle_limited(symbol, out, include_hash, MAX_SIZE)
+}

@@ -1,0 +1,137 @@
+//! The calls, once for each kind of answer and of size. The texts are the Rust crate's.
+use crate::{kodliwe_demangle, kodliwe_demangle_limited, kodliwe_is_symbol};
+
+// Its text doubles with each of 18 tuples, past every limit.
+const TREE: &[u8; 96] =
+    b"_RMC0TTTTTTTTTTTTTTTTTTpBk_EBj_EBi_EBh_EBg_EBf_EBe_EBd_EBc_EBb_EBa_EB9_EB8_EB7_EB6_EB5_EB4_EB3_E";
+
+#[test]
+fn a_path_and_its_end_stand_in_the_memory(rt: HostRuntime) {
+    let mut out = [9; 40];
+    let want = kodliwe_demangle(b"_ZN3foo17h05af221e174051e9E", &mut out, true);
+    assert_eq!(rt; want, 23);
+    assert!(rt; out.starts_with(b"foo::h05af221e174051e9\0\x09\x09"));
+}
+
+#[test]
+fn the_hash_is_left_out(rt: HostRuntime) {
+    let mut out = [9; 40];
+    let want = kodliwe_demangle(b"_ZN3foo17h05af221e174051e9E", &mut out, false);
+    assert_eq!(rt; want, 4);
+    assert!(rt; out.starts_with(b"foo\0\x09\x09"));
+}
+
+#[test]
+fn an_ending_of_thin_lto_is_left_out(rt: HostRuntime) {
+    let mut out = [9; 40];
+    assert_eq!(rt;
+        kodliwe_demangle(b"_RNvC3foo3bar.llvm.0AB@1", &mut out, true),
+        9
+    );
+    assert!(rt; out.starts_with(b"foo::bar\0\x09"));
+}
+
+#[test]
+fn an_exact_fit_is_whole(rt: HostRuntime) {
+    let mut out = [9; 10];
+    assert_eq!(rt; kodliwe_demangle(b"_RNvC3foo3bar", &mut out[..9], false), 9);
+    assert!(rt; out == *b"foo::bar\0\x09");
+}
+
+#[test]
+fn one_byte_less_loses_the_last(rt: HostRuntime) {
+    let mut out = [9; 10];
+    assert_eq!(rt; kodliwe_demangle(b"_RNvC3foo3bar", &mut out[..8], false), 9);
+    assert!(rt; out == *b"foo::ba\0\x09\x09");
+}
+
+#[test]
+fn one_byte_holds_the_end(rt: HostRuntime) {
+    let mut out = [9; 4];
+    assert_eq!(rt; kodliwe_demangle(b"_RNvC3foo3bar", &mut out[..1], false), 9);
+    assert!(rt; out == *b"\0\x09\x09\x09");
+}
+
+#[test]
+fn no_byte_is_counted_alone(rt: HostRuntime) {
+    let mut out = [9; 4];
+    assert_eq!(rt; kodliwe_demangle(b"_RNvC3foo3bar", &mut out[..0], false), 9);
+    assert_eq!(rt;
+        kodliwe_demangle_limited(b"_RNvC3foo3bar", &mut out[..0], false, 4),
+        24
+    );
+    assert!(rt; out == [9; 4]);
+}
+
+#[test]
+fn no_symbol_leaves_the_memory(rt: HostRuntime) {
+    let mut out = [9; 4];
+    assert_eq!(rt; kodliwe_demangle(b"main", &mut out, true), 0);
+    assert_eq!(rt; kodliwe_demangle(b"", &mut out, true), 0);
+    assert_eq!(rt; kodliwe_demangle(b"_ZN\xFF", &mut out, true), 0);
+    assert_eq!(rt;
+        kodliwe_demangle_limited(b"_ZN3foo", &mut out, true, 100),
+        0
+    );
+    assert!(rt; out == [9; 4]);
+}
+
+#[test]
+fn a_length_past_every_number_is_no_symbol(rt: HostRuntime) {
+    let mut out = [9; 4];
+    let legacy = b"_ZN1000000000000000000000000000000fooE";
+    assert_eq!(rt; kodliwe_demangle(legacy, &mut out, true), 0);
+    let v0 = b"_RNvC1000000000000000000000000000000a3foo";
+    assert_eq!(rt; kodliwe_demangle(v0, &mut out, true), 0);
+    assert!(rt; out == [9; 4]);
+}
+
+#[test]
+fn a_limit_cuts_before_the_suffix(rt: HostRuntime) {
+    let mut out = [9; 40];
+    let want = kodliwe_demangle_limited(b"_ZN3foo3barE.cold.7", &mut out, false, 4);
+    assert_eq!(rt; want, 31);
+    assert!(rt; out.starts_with(b"foo{size limit reached}.cold.7\0\x09"));
+}
+
+#[test]
+fn a_limit_that_suffices_cuts_nothing(rt: HostRuntime) {
+    let mut out = [9; 40];
+    let want = kodliwe_demangle_limited(b"_ZN3foo3barE.cold.7", &mut out, false, 8);
+    assert_eq!(rt; want, 16);
+    assert!(rt; out.starts_with(b"foo::bar.cold.7\0\x09"));
+}
+
+#[test]
+fn a_tree_ends_at_the_limit(rt: HostRuntime) {
+    let mut out = [9; 8];
+    assert_eq!(rt; kodliwe_demangle_limited(TREE, &mut out, true, 1000), 1021);
+    assert!(rt; out == *b"<((((((\0");
+}
+
+#[test]
+fn no_limit_is_above_1_000_000(rt: HostRuntime) {
+    let mut out = [9; 8];
+    assert_eq!(rt;
+        kodliwe_demangle_limited(TREE, &mut out, true, 999_990),
+        1_000_011
+    );
+    assert_eq!(rt;
+        kodliwe_demangle_limited(TREE, &mut out, true, 1_000_001),
+        1_000_020
+    );
+    assert_eq!(rt;
+        kodliwe_demangle_limited(TREE, &mut out, true, usize::MAX),
+        1_000_020
+    );
+    assert_eq!(rt; kodliwe_demangle(TREE, &mut out, true), 1_000_020);
+}
+
+#[test]
+fn a_symbol_is_told(rt: HostRuntime) {
+    assert!(rt; kodliwe_is_symbol(b"_ZN3foo17h05af221e174051e9E"));
+    assert!(rt; kodliwe_is_symbol(b"_RNvC3foo3bar.llvm.0AB@1"));
+    assert!(rt; !kodliwe_is_symbol(b"_ZN3foo17h05af221e174051e9"));
+    assert!(rt; !kodliwe_is_symbol(b"_ZN\xFF"));
+    assert!(rt; !kodliwe_is_symbol(b""));
+}

@@ -1,0 +1,80 @@
+//! A sink into memory of the caller's.
+ghost use Rattle.std.specs.Prelude.{◌≡◌, ◌-◌, Some, true, false, refl};
+ghost use Rattle.std.proofs.Common.{◌∙◌};
+ghost use Rattle.std.below.core.specs.declared.int.usize.TheConstants.{MAX};
+ghost use Rattle.demangle_sink.specs.Slice.{covered_from, Laid, Laid-nothing, Laid-joined};
+
+use crate::{SinkRefused, TextSink};
+
+/// Keeps the front of a text in the caller's bytes, as much as there is room for, and counts all of it.
+///
+/// The text stands from the first byte on, with nothing behind it; the bytes that it does not reach stay as they were. A
+/// character may be cut where the memory ends. A piece is refused only where the count would go past `usize::MAX`, and
+/// changes nothing then.
+#[derive(Drop)]
+pub struct SliceSink<'b> {
+    out: &'b mut [u8],
+    len: usize,
+    failed: bool,
+}
+
+impl<'b> SliceSink<'b> {
+    /// A sink into these bytes, which took nothing and has not failed.
+    pub fn new(out: &'b mut [u8]) -> Self
+        ensures same_memory { result.out.ghost_name ≡ out.entry.ghost_name }
+        ensures bytes { result.out.now ≡ out.old }
+        ensures alive { result.failed ≡ false }
+        ensures empty { result.len ≡ 0 }
+    {
+        SliceSink {
+            out,
+            len: 0,
+            failed: false,
+        }
+    }
+
+    /// How many bytes the text has, those that found no room among them.
+    pub fn len(&self) -> usize
+        ensures { result ≡ self.now.len }
+    {
+        self.len
+    }
+}
+
+// Lays bytes into memory from a place on, as far as it reaches.
+fn lay(out: &mut [u8], place: usize, bytes: &[u8])
+    ensures { out.new ≡ covered_from place out.old bytes.now }
+{
+    if place < out.len() {
+        let kept = bytes.len().min(out.len() - place);
+        out[place..place + kept].copy_from_slice(&bytes[..kept]);
+    }
+}
+
+impl<'b> TextSink for SliceSink<'b> {
+    ghost took = { λ s bytes t. (t.out.ghost_name ≡ s.out.ghost_name) × Laid s.out.now s.len bytes t.out.now t.len };
+
+    ghost failed = { λ s. s.failed };
+
+    ghost room = { λ s. Some (MAX - s.len) };
+
+    ghost keeps = { true };
+
+    fn put(&mut self, s: &str) -> Result<(), SinkRefused> {
+        if s.len() > usize::MAX - self.len {
+            self.failed = true;
+            return Err(SinkRefused);
+        }
+        lay(self.out, self.len, s.as_bytes());
+        self.len += s.len();
+        Ok(())
+    }
+
+    fn is_failed(&self) -> bool {
+        self.failed
+    }
+
+    ghost took_nothing = { λ s. (refl, Laid-nothing s.out.now s.len) };
+
+    ghost took_joined = { λ s t u xs ys h k. (k.0 ∙ h.0, Laid-joined _ _ _ _ _ _ xs ys h.1 k.1) };
+}
