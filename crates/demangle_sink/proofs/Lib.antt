@@ -7,3 +7,4 @@ pub mod Printed
 pub mod PrintsLemmas
 pub mod PrintsPieces
 pub mod TextPieces
+pub mod Writing

@@ -5,6 +5,7 @@ pub mod Writer
 pub mod Slice
 pub mod Cut
 pub mod Hands
+pub mod Writes
 -- Internal.
 pub mod Limit
 pub mod Pieces

@@ -1,7 +1,7 @@
 //! A sink into a writer.
-ghost use Rattle.std.specs.Prelude.{◌≡◌, Some, None, false, is_some, refl};
+ghost use Rattle.std.specs.Prelude.{◌≡◌, Some, false, is_some, refl};
 ghost use Rattle.std.proofs.Common.{◌∙◌};
-ghost use Rattle.demangle_sink.specs.Writer.{Wrote, Wrote-nothing, Wrote-joined};
+ghost use Rattle.demangle_sink.specs.Writer.{writer_of, fault_of, Wrote, Wrote-nothing, Wrote-joined};
 
 use crate::{SinkRefused, TextSink};
 use std::io;
@@ -18,17 +18,18 @@ pub struct WriteSink<'w, W: Write> {
 impl<'w, W: Write> WriteSink<'w, W> {
     /// A sink into this writer, which has not failed.
     pub fn new(out: &'w mut W) -> Self
-        ensures same_writer { result.out.ghost_name ≡ out.entry.ghost_name }
-        ensures contents { result.out.now ≡ out.old }
-        ensures alive { result.fault ≡ None }
+        ensures same_writer { (writer_of result).ghost_name ≡ out.entry.ghost_name }
+        ensures contents { (writer_of result).now ≡ out.old }
+        ensures alive { ⟦<WriteSink<'w, W> as TextSink>⟧.failed result ≡ false }
     {
         WriteSink { out, fault: None }
     }
 
     /// The error that the writer answered, exactly where the sink has failed.
     pub fn into_fault(self) -> Option<io::Error>
-        ensures fault { result ≡ self.entry.fault }
-        ensures written { self.exit.0.now ≡ self.entry.out.now }
+        ensures failed { is_some result ≡ ⟦<WriteSink<'w, W> as TextSink>⟧.failed self.entry }
+        ensures fault { result ≡ fault_of self.entry }
+        ensures written { self.exit.0.now ≡ (writer_of self.entry).now }
     {
         let WriteSink { out: _, fault } = self;
         fault

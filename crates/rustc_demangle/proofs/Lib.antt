@@ -5,6 +5,7 @@ pub mod ItemFeeds
 pub mod LineDivision
 pub mod LineLaws
 pub mod PrintingLaws
+pub mod SchemeLaws
 pub mod Searches
 pub mod RunSteps
 pub mod StreamSteps

@@ -4,11 +4,11 @@ use Rattle.std.specs.Option.{option_map_or}
 use Rattle.std.proofs.lemmas.List.{append-nil, append_assoc}
 use Rattle.std.proofs.lemmas.Grind.{flat_map-append}
 use Rattle.std.proofs.lemmas.Bool.Decides.{leb_tells}
-use Rattle.demangle_sink.specs.Cut.{size, fitting, cut, marker}
+use Rattle.demangle_sink.specs.Cut.{size, fitting, cut, kept, marker}
 use Rattle.rustc_demangle.specs.Hashes.{LeavesHashOut, pieces_behind}
 use Rattle.demangle_legacy.specs.Legacy.{IsLegacy, legacy_of}
 use Rattle.rustc_demangle.specs.Stripped.{is_allowed}
-use Rattle.rustc_demangle.specs.Symbols.{IsSymbol, pieces_of, handed}
+use Rattle.rustc_demangle.specs.Symbols.{IsSymbol, pieces_of, handed, kept_of}
 use Rattle.demangle_legacy.specs.Unescaped.{unescaped, is_hash, shown, joined, continued, legacy_pieces}
 use Rattle.demangle_sink.proofs.CutLemmas.{size-append, fitting-within}
 use Rattle.demangle_sink.proofs.PrintsLemmas.{cut-within, cut-past}
@@ -21,6 +21,12 @@ handed-some_of text hash limit read e = ap (λ o. option_map_or (λ (r : List (L
 pub handed-no_symbol : (text : List ℕ) → (IsSymbol text → ⊥) → (hash : Bool) (limit : ℕ) → handed text hash limit ≡ text ∷ []
 handed-no_symbol text none hash limit = go (pieces_of hash text) refl where
   go : (read : Option (List (List ℕ) × List ℕ)) → pieces_of hash text ≡ read → option_map_or (λ r. cut r.0 limit ++ r.1 ∷ []) read (text ∷ []) ≡ text ∷ []
+  go None e = refl
+  go (Some read) e = absurd (none (symbol-pieces hash text read e))
+
+pub kept-no_symbol : (text : List ℕ) → (IsSymbol text → ⊥) → (hash : Bool) (limit : ℕ) → kept_of text hash limit ≡ 0
+kept-no_symbol text none hash limit = go (pieces_of hash text) refl where
+  go : (read : Option (List (List ℕ) × List ℕ)) → pieces_of hash text ≡ read → option_map_or (λ r. kept r.0 limit) read 0 ≡ 0
   go None e = refl
   go (Some read) e = absurd (none (symbol-pieces hash text read e))
 

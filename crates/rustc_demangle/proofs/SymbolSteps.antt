@@ -36,7 +36,7 @@ allowed-some (Some (elements, suffix)) r e = go (is_allowed suffix) refl e where
   go false is e = cc
 
 -- no symbol of the v0 scheme has a prefix of the legacy scheme
-no_legacy : (text inner suffix : List ℕ) → IsV0 text inner suffix → legacy_of text ≡ None
+pub no_legacy : (text inner suffix : List ℕ) → IsV0 text inner suffix → legacy_of text ≡ None
 unfolding inner_of
 no_legacy text inner suffix is = legacy_no_prefix text (sym (ap inner_of is.1 ∙ go is.0 is.2)) where
   go : (prefix : List ℕ) → IsV0Prefix prefix → inner_of (prefix ++ inner) ≡ None
@@ -82,7 +82,7 @@ no_pieces-v0 hash text inner suffix e other =
     ∙ ap (λ read. if_allowed (option_map (v0_parts hash) read)) e
     ∙ ap (λ b. cond b (Some (rendered inner hash, suffix)) None) other
 
-none≢some : {x : List (List ℕ) × List ℕ} → None ≡ Some x → ⊥
+pub none≢some : {x : List (List ℕ) × List ℕ} → None ≡ Some x → ⊥
 none≢some h = cc
 
 -- what has pieces is a symbol

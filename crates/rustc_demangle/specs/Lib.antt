@@ -12,6 +12,7 @@ pub use Rattle.demangle_sink.specs.Writer
 pub use Rattle.demangle_sink.specs.Slice
 pub use Rattle.demangle_sink.specs.Cut
 pub use Rattle.demangle_sink.specs.Hands
+pub use Rattle.demangle_sink.specs.Writes
 -- and of demangle_symbol
 pub use Rattle.demangle_symbol.specs.Tally
 pub use Rattle.demangle_symbol.specs.Digits

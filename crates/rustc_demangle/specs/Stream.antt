@@ -56,10 +56,6 @@ Stopped NotUtf8 text hash old new = (k : ℕ) × WroteLines text hash old new k
 Stopped (Write e) text hash old new = Unit {0}
 Stopped Memory text hash old new = (k : ℕ) × WroteLines text hash old new k
 
--- the same, of the error that the fault gives
-abbrev pub StoppedAs : Error → List ℕ → Bool → Option (List ℕ) → Option (List ℕ) → Type 0
-StoppedAs error text hash old new = (fault : StreamFault) × GivesError fault error × Stopped fault text hash old new
-
 -- a line was read and what the filter gives for it was written, or nothing was left, or nothing was written
 abbrev pub LineCopied : Result Bool StreamFault → Bool → Option (List ℕ) → Option (List ℕ) → Option (List ℕ) → Option (List ℕ) → Type 0
 LineCopied (Ok true) hash left next old new = DropsThrough left next 10 × IfSome left (λ text. (0 < length text)

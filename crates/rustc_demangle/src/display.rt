@@ -1,6 +1,6 @@
 //! How a demangled symbol is formatted.
 ghost use Rattle.std.specs.Prelude.{Some, true, not};
-ghost use Rattle.std.specs.Fmt.{spec_alternate};
+ghost use Rattle.std.specs.Fmt.{DisplaysOnOk, WritesStyledOnOk, formatter_spec, spec_alternate};
 ghost use Rattle.rustc_demangle.specs.Symbols.{printed};
 
 use crate::value::Demangle;
@@ -24,11 +24,14 @@ impl fmt::Display for Demangle<'_> {
     }
 }
 
-/// As `Display`.
+/// As `Display`, whatever the options.
 impl fmt::Debug for Demangle<'_> {
     ghost debug_output = { λ symbol. Some (printed symbol true) };
 
-    fn fmt<W: fmt::Write>(&self, f: &mut fmt::Formatter<W>) -> fmt::Result {
+    fn fmt<W: fmt::Write>(&self, f: &mut fmt::Formatter<W>) -> fmt::Result
+        ensures writes { DisplaysOnOk W.write_str_gives f.old result (Some (printed self.now true)) f.new }
+        ensures styled { WritesStyledOnOk W.write_str_gives f.old result (printed self.now (not (spec_alternate (formatter_spec f.old)))) f.new }
+    {
         fmt::Display::fmt(self, f)
     }
 }

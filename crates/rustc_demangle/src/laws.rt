@@ -3,6 +3,7 @@ pub mod filtering;
 pub mod legacy;
 pub mod names;
 pub mod printing;
+pub mod symbols;
 pub mod v0_looks;
 pub mod v0_spelling;
 pub mod v0_words;

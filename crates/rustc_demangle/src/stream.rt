@@ -1,6 +1,6 @@
 //! The demangling of a text that comes from a reader.
 ghost use Rattle.std.specs.Prelude.{◌≡◌, IfSome, OnOk, IfOk, IfErr, IsUtf8};
-ghost use Rattle.rustc_demangle.specs.Stream.{LineCopied, Finished, Stopped, StoppedAs};
+ghost use Rattle.rustc_demangle.specs.Stream.{LineCopied, Finished, Stopped};
 
 use std::alloc::{Allocator, Global};
 use std::io::{BufRead, Write};
@@ -92,17 +92,15 @@ pub fn demangle_stream_named<R: BufRead, W: Write>(
 }
 
 /// Writes the input with each symbol of it demangled, as `demangle_stream_named` does, and gives its fault as an
-/// `io::Error`.
+/// `io::Error`, by `StreamFault::into_io`. A caller that has to know what was written before a fault calls these two.
 pub fn demangle_stream<R: BufRead, W: Write>(
     alloc: Global,
     input: &mut R,
     output: &mut W,
     include_hash: bool,
 ) -> io::Result<()>
-    ensures ok { OnOk result (IfSome (R.remaining input.old) (λ text.
+    ensures { OnOk result (IfSome (R.remaining input.old) (λ text.
         Finished text include_hash (R.remaining input.new) (W.contents output.old) (W.contents output.new))) }
-    ensures err { IfErr result (λ error. IfSome (R.remaining input.old) (λ text.
-        StoppedAs error text include_hash (W.contents output.old) (W.contents output.new))) }
 {
     demangle_stream_named(alloc, input, output, include_hash).map_err(StreamFault::into_io)
 }

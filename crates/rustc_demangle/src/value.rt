@@ -1,15 +1,14 @@
 //! A demangled symbol, and how it prints.
-ghost use Rattle.std.specs.Prelude.{◌≡◌, ◌+◌, ◌-◌, ◌*◌, ◌≤◌, length, true, false, IsTrue, IsOk, OnOk, OnErr, IfSome, IfNone, None};
-ghost use Rattle.std.specs.List.{concat};
-ghost use Rattle.demangle_sink.specs.Cut.{cut, size};
-ghost use Rattle.demangle_sink.specs.Hands.{Hands, HoldsFront};
+ghost use Rattle.std.specs.Prelude.{◌≡◌, ◌+◌, ◌-◌, ◌*◌, ◌≤◌, length, false, IsTrue, IfSome, IfNone, None};
+ghost use Rattle.demangle_sink.specs.Cut.{cut};
+ghost use Rattle.demangle_sink.specs.Hands.{Hands};
 ghost use Rattle.demangle_legacy.specs.Legacy.{legacy_of};
 ghost use Rattle.demangle_sink.specs.Limit.{Prints, Ready};
-ghost use Rattle.demangle_sink.specs.Sink.{Fits, room_after};
 ghost use Rattle.rustc_demangle.specs.Stripped.{is_allowed, is_graphic};
 ghost use Rattle.rustc_demangle.specs.Style.{style_pieces, style_len, style_looks, style_least, IsReadAs, HasNoStyle, HasStyle};
-ghost use Rattle.rustc_demangle.specs.Symbols.{handed, kept_of, IsLegacySymbol, IsV0Symbol, IsSymbol};
+ghost use Rattle.rustc_demangle.specs.Symbols.{handed, kept_of, most_bytes, IsLegacySymbol, IsV0Symbol, IsSymbol};
 ghost use Rattle.demangle_v0.specs.V0.{v0_of};
+ghost use Rattle.demangle_sink.specs.Writes.{Writes};
 
 use demangle_sink::{SinkRefused, SizeLimitedFmtAdapter, TextSink, put_piece};
 use demangle_symbol::cursor::{Looks, Symbol};
@@ -134,12 +133,7 @@ impl<'a> Demangle<'a> {
         looks: &mut Looks,
     ) -> Result<(), SinkRefused>
         requires { S.failed out.old ≡ false }
-        ensures text { OnOk result (S.took out.old (concat (handed self.now include_hash limit)) out.new) }
-        ensures alive { OnOk result (S.failed out.new ≡ false) }
-        ensures failed { OnErr result (S.failed out.new ≡ true) }
-        ensures kept { OnErr result (S.keeps ≡ true → HoldsFront S.TextSink out.old (handed self.now include_hash limit) out.new) }
-        ensures fits { Fits (size (handed self.now include_hash limit)) (S.room out.old) → IsOk result }
-        ensures room { Fits (size (handed self.now include_hash limit)) (S.room out.old) → S.room out.new ≡ room_after (size (handed self.now include_hash limit)) (S.room out.old) }
+        ensures writes { Writes S.TextSink out.old (handed self.now include_hash limit) result out.new }
         ensures grows { looks.old ≤ looks.new }
         ensures most { looks.new ≤ looks.old + 100000 * (kept_of self.now include_hash limit + 1) * (length self.now + 1) }
         ensures legacy { IsLegacySymbol self.now → looks.new ≤ looks.old + 16 * (length self.now + 1) }
@@ -157,12 +151,7 @@ impl<'a> Demangle<'a> {
         limit: usize,
     ) -> Result<(), SinkRefused>
         requires { S.failed out.old ≡ false }
-        ensures text { OnOk result (S.took out.old (concat (handed self.now include_hash limit)) out.new) }
-        ensures alive { OnOk result (S.failed out.new ≡ false) }
-        ensures failed { OnErr result (S.failed out.new ≡ true) }
-        ensures kept { OnErr result (S.keeps ≡ true → HoldsFront S.TextSink out.old (handed self.now include_hash limit) out.new) }
-        ensures fits { Fits (size (handed self.now include_hash limit)) (S.room out.old) → IsOk result }
-        ensures room { Fits (size (handed self.now include_hash limit)) (S.room out.old) → S.room out.new ≡ room_after (size (handed self.now include_hash limit)) (S.room out.old) }
+        ensures { Writes S.TextSink out.old (handed self.now include_hash limit) result out.new }
     {
         self.write_limited_counted(out, include_hash, limit, &mut Looks::new())
     }
@@ -175,14 +164,9 @@ impl<'a> Demangle<'a> {
         looks: &mut Looks,
     ) -> Result<(), SinkRefused>
         requires { S.failed out.old ≡ false }
-        ensures text { OnOk result (S.took out.old (concat (handed self.now include_hash MAX_SIZE)) out.new) }
-        ensures alive { OnOk result (S.failed out.new ≡ false) }
-        ensures failed { OnErr result (S.failed out.new ≡ true) }
-        ensures kept { OnErr result (S.keeps ≡ true → HoldsFront S.TextSink out.old (handed self.now include_hash MAX_SIZE) out.new) }
-        ensures fits { Fits (size (handed self.now include_hash MAX_SIZE)) (S.room out.old) → IsOk result }
-        ensures room { Fits (size (handed self.now include_hash MAX_SIZE)) (S.room out.old) → S.room out.new ≡ room_after (size (handed self.now include_hash MAX_SIZE)) (S.room out.old) }
+        ensures writes { Writes S.TextSink out.old (handed self.now include_hash most_bytes) result out.new }
         ensures grows { looks.old ≤ looks.new }
-        ensures most { looks.new ≤ looks.old + 100000 * (kept_of self.now include_hash MAX_SIZE + 1) * (length self.now + 1) }
+        ensures most { looks.new ≤ looks.old + 100000 * (kept_of self.now include_hash most_bytes + 1) * (length self.now + 1) }
         ensures legacy { IsLegacySymbol self.now → looks.new ≤ looks.old + 16 * (length self.now + 1) }
         ensures v0 { IsV0Symbol self.now → looks.old + 1 ≤ looks.new }
         ensures unread { (IsSymbol self.now → ⊥) → looks.new ≡ looks.old }
@@ -195,12 +179,7 @@ impl<'a> Demangle<'a> {
     /// It is refused exactly where the sink failed in this call, as `write_limited_counted` says, and takes no memory.
     pub fn write_to<S: TextSink>(&self, out: &mut S, include_hash: bool) -> Result<(), SinkRefused>
         requires { S.failed out.old ≡ false }
-        ensures text { OnOk result (S.took out.old (concat (handed self.now include_hash MAX_SIZE)) out.new) }
-        ensures alive { OnOk result (S.failed out.new ≡ false) }
-        ensures failed { OnErr result (S.failed out.new ≡ true) }
-        ensures kept { OnErr result (S.keeps ≡ true → HoldsFront S.TextSink out.old (handed self.now include_hash MAX_SIZE) out.new) }
-        ensures fits { Fits (size (handed self.now include_hash MAX_SIZE)) (S.room out.old) → IsOk result }
-        ensures room { Fits (size (handed self.now include_hash MAX_SIZE)) (S.room out.old) → S.room out.new ≡ room_after (size (handed self.now include_hash MAX_SIZE)) (S.room out.old) }
+        ensures { Writes S.TextSink out.old (handed self.now include_hash most_bytes) result out.new }
     {
         self.write_limited(out, include_hash, MAX_SIZE)
     }

@@ -6,7 +6,7 @@ ghost use Rattle.demangle_sink.specs.Cut.{size};
 ghost use Rattle.rustc_demangle.specs.Hashes.{LeavesHashOut};
 ghost use Rattle.demangle_legacy.specs.Legacy.{IsLegacy};
 ghost use Rattle.rustc_demangle.specs.Stripped.{stripped, is_thin_lto, is_allowed, IsCut};
-ghost use Rattle.rustc_demangle.specs.Symbols.{IsSymbol, handed, most_bytes, pieces_of, printed};
+ghost use Rattle.rustc_demangle.specs.Symbols.{IsSymbol, handed, kept_of, most_bytes, pieces_of, printed};
 ghost use Rattle.demangle_legacy.specs.Unescaped.{legacy_pieces};
 
 use crate::value::Demangle;
@@ -21,7 +21,8 @@ pub fn stripped_is_cut_once()
 
 /// A text that is no symbol hands over itself, in one piece and without a limit.
 pub fn no_symbol_prints_itself()
-    ensures { (text : List ℕ) → (IsSymbol text → ⊥) → (hash : Bool) → (limit : ℕ) → handed text hash limit ≡ text ∷ [] }
+    ensures handed { (text : List ℕ) → (IsSymbol text → ⊥) → (hash : Bool) → (limit : ℕ) → handed text hash limit ≡ text ∷ [] }
+    ensures kept { (text : List ℕ) → (IsSymbol text → ⊥) → (hash : Bool) → (limit : ℕ) → kept_of text hash limit ≡ 0 }
 {}
 
 /// A symbol hands over at most the bytes of the limit, the 20 of the marker, and its suffix.

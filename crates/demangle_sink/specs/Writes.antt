@@ -1,0 +1,18 @@
+-- What printing into a sink answers, and what it leaves.
+use Rattle.std.specs.Prelude.{◌≡◌, ℕ, List, true, false, Result, IsOk, OnOk, OnErr}
+use Rattle.std.specs.List.{concat}
+use Rattle.demangle_sink.specs.declared.TextSink.{Ghosts}
+use Rattle.demangle_sink.specs.declared.SinkRefused.{SinkRefused}
+use Rattle.demangle_sink.specs.Cut.{size}
+use Rattle.demangle_sink.specs.Hands.{HoldsFront}
+use Rattle.demangle_sink.specs.Sink.{Fits, room_after}
+
+-- The sink was handed these pieces. Ok: it took their text, and has not failed. Err: it has failed, and one that keeps
+-- took those in front of the refused one. Where all of them are within its room it is Ok, and the room fell by their bytes.
+pub record Writes {S : Type 0} (sink : Ghosts S) (old : S) (list : List (List ℕ)) (result : Result (Unit {0}) SinkRefused) (new : S) : Type 0 where
+  pub text : OnOk result (sink.took old (concat list) new)
+  pub alive : OnOk result (sink.failed new ≡ false)
+  pub failed : OnErr result (sink.failed new ≡ true)
+  pub kept : OnErr result (sink.keeps ≡ true → HoldsFront sink old list new)
+  pub fits : Fits (size list) (sink.room old) → IsOk result
+  pub room : Fits (size list) (sink.room old) → sink.room new ≡ room_after (size list) (sink.room old)

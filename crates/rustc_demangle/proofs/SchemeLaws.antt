@@ -1,0 +1,51 @@
+-- What a symbol of each scheme hands over, by the relations of the schemes.
+use Rattle.std.proofs.Common.{◌≡◌, ℕ, Bool, true, List, [], ◌∷◌, ◌++◌, Some, sym, ap, ◌∙◌}
+use Rattle.std.specs.Option.{option_map_or}
+use Rattle.demangle_sink.specs.Cut.{cut, kept}
+use Rattle.demangle_legacy.specs.Legacy.{IsLegacy}
+use Rattle.demangle_v0.specs.Reading.{rendered}
+use Rattle.rustc_demangle.specs.Stripped.{is_allowed}
+use Rattle.rustc_demangle.specs.Symbols.{pieces_of, handed, kept_of}
+use Rattle.demangle_legacy.specs.Unescaped.{legacy_pieces}
+use Rattle.demangle_v0.specs.V0.{IsV0}
+use Rattle.demangle_legacy.proofs.LegacyLaws.{legacy_spelled}
+use Rattle.rustc_demangle.proofs.SymbolSteps.{no_legacy, pieces-legacy, pieces-v0, none≢some}
+use Rattle.demangle_v0.proofs.V0Reading.{v0_is_read}
+
+handed_of : (text : List ℕ) (hash : Bool) (limit : ℕ) (read : List (List ℕ) × List ℕ) → pieces_of hash text ≡ Some read → handed text hash limit ≡ cut read.0 limit ++ read.1 ∷ []
+handed_of text hash limit read e = ap (λ o. option_map_or (λ (r : List (List ℕ) × List ℕ). cut r.0 limit ++ r.1 ∷ []) o (text ∷ [])) e
+
+kept_by : (text : List ℕ) (hash : Bool) (limit : ℕ) (read : List (List ℕ) × List ℕ) → pieces_of hash text ≡ Some read → kept_of text hash limit ≡ kept read.0 limit
+kept_by text hash limit read e = ap (λ o. option_map_or (λ (r : List (List ℕ) × List ℕ). kept r.0 limit) o 0) e
+
+pieces_spelled : (hash : Bool) (text : List ℕ) (elements : List (List ℕ)) (suffix : List ℕ) → IsLegacy text elements suffix → is_allowed suffix ≡ true
+    → pieces_of hash text ≡ Some (legacy_pieces hash elements, suffix)
+pieces_spelled hash text elements suffix is allowed = pieces-legacy hash text elements suffix (legacy_spelled text elements suffix is) allowed
+
+pieces_rendered : (hash : Bool) (text inner suffix : List ℕ) → IsV0 text inner suffix → is_allowed suffix ≡ true
+    → pieces_of hash text ≡ Some (rendered inner hash, suffix)
+pieces_rendered hash text inner suffix is allowed = pieces-v0 hash text inner suffix (v0_is_read text inner suffix is) allowed
+
+pub legacy-handed : (text : List ℕ) (elements : List (List ℕ)) (suffix : List ℕ) (hash : Bool) (limit : ℕ) → IsLegacy text elements suffix → is_allowed suffix ≡ true
+    → handed text hash limit ≡ cut (legacy_pieces hash elements) limit ++ suffix ∷ []
+legacy-handed text elements suffix hash limit is allowed =
+    handed_of text hash limit (legacy_pieces hash elements, suffix) (pieces_spelled hash text elements suffix is allowed)
+
+pub legacy-kept : (text : List ℕ) (elements : List (List ℕ)) (suffix : List ℕ) (hash : Bool) (limit : ℕ) → IsLegacy text elements suffix → is_allowed suffix ≡ true
+    → kept_of text hash limit ≡ kept (legacy_pieces hash elements) limit
+legacy-kept text elements suffix hash limit is allowed =
+    kept_by text hash limit (legacy_pieces hash elements, suffix) (pieces_spelled hash text elements suffix is allowed)
+
+pub v0-handed : (text inner suffix : List ℕ) (hash : Bool) (limit : ℕ) → IsV0 text inner suffix → is_allowed suffix ≡ true
+    → handed text hash limit ≡ cut (rendered inner hash) limit ++ suffix ∷ []
+v0-handed text inner suffix hash limit is allowed =
+    handed_of text hash limit (rendered inner hash, suffix) (pieces_rendered hash text inner suffix is allowed)
+
+pub v0-kept : (text inner suffix : List ℕ) (hash : Bool) (limit : ℕ) → IsV0 text inner suffix → is_allowed suffix ≡ true
+    → kept_of text hash limit ≡ kept (rendered inner hash) limit
+v0-kept text inner suffix hash limit is allowed =
+    kept_by text hash limit (rendered inner hash, suffix) (pieces_rendered hash text inner suffix is allowed)
+
+pub one-scheme : (text : List ℕ) (elements : List (List ℕ)) (inner suffix other : List ℕ) → IsLegacy text elements suffix → IsV0 text inner other → ⊥
+one-scheme text elements inner suffix other legacy v0 =
+    none≢some (sym (no_legacy text inner other v0) ∙ legacy_spelled text elements suffix legacy)
