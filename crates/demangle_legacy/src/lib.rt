@@ -9,6 +9,8 @@ use demangle_symbol::prefix::behind_prefix;
 
 mod elements;
 mod printing;
+#[cfg(test)]
+mod tests;
 mod units;
 mod value;
 

@@ -10,6 +10,8 @@ mod fmt_sink;
 mod limit;
 mod pieces;
 mod slice_sink;
+#[cfg(test)]
+mod tests;
 mod write_sink;
 
 pub use array_sink::ArraySink;
