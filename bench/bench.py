@@ -1,19 +1,16 @@
 #!/usr/bin/env python3
 """Runs demangle_filter and the other demanglers of this machine over the same text, side by side.
 
-usage: bench.py [--text FILE] [--repeat N] [--also NAME=COMMAND]..
-
-Without --text it makes a log of the symbols that crates/demangle_corpus/stdin has, N times over (20 if not said).
+Without --text it makes a log of the symbols that crates/demangle_corpus/stdin has.
 For each program it prints lines a second (the best of five runs) and instructions a line, counted by
-`valgrind --tool=callgrind` over each 21st line, with those of a run on no input taken off.
-Build the program first: `rt run` in crates/demangle_filter.
+`valgrind --tool=callgrind` over each 21st line, with those of a run on no input taken off; without valgrind it prints
+`-` for these. With --save it writes the text that it makes, and runs nothing.
+Build the program first, by `rt run </dev/null` in crates/demangle_filter.
 """
-import argparse, itertools, os, re, shlex, shutil, subprocess, sys, tempfile, time
+import argparse, itertools, re, shlex, shutil, subprocess, sys, tempfile, time
 
-ROOT = os.path.dirname(os.path.dirname(os.path.abspath(__file__)))
-OURS = os.path.join(ROOT, 'crates', 'demangle_filter', 'out', 'demangle_filter')
-CORPUS = os.path.join(ROOT, 'crates', 'demangle_corpus', 'stdin')
-OTHERS = ['rustfilt', 'c++filt', 'llvm-cxxfilt']
+from common import CORPUS, OURS, need_filter, others
+
 FORMS = [
     '  {n:>4}: 0x{a:012x} - {s}\n             at /src/lib.rs:{n}:17\n',
     '{a:016x} t {s}\n',
@@ -32,13 +29,18 @@ def symbols():
                 break
 
 
-def made_text(repeat):
+def made_lines(repeat):
     found = list(symbols())
-    parts = []
     for turn in range(repeat):
         for n, symbol in enumerate(found):
-            parts.append(FORMS[(n + turn) % len(FORMS)].format(n=n, a=0x55d0c0de0000 + 64 * n, s=symbol))
-    return ''.join(parts).encode()
+            yield FORMS[(n + turn) % len(FORMS)].format(n=n, a=0x55d0c0de0000 + 64 * n, s=symbol)
+
+
+def text_of(given):
+    if given.text:
+        with open(given.text, 'rb') as file:
+            return file.read()
+    return ''.join(made_lines(given.repeat)).encode()
 
 
 def seconds(command, text):
@@ -60,16 +62,24 @@ def instructions(command, text):
 
 def main():
     words = argparse.ArgumentParser(description=__doc__, formatter_class=argparse.RawDescriptionHelpFormatter)
-    words.add_argument('--text')
-    words.add_argument('--repeat', type=int, default=20)
-    words.add_argument('--also', action='append', default=[], metavar='NAME=COMMAND')
+    words.add_argument('--text', metavar='FILE', help='run over this text')
+    words.add_argument('--repeat', type=int, default=20, metavar='N', help='how often each symbol stands in the text that is made (default 20)')
+    words.add_argument('--save', metavar='FILE', help='write the text that is made into this file, and run nothing')
+    words.add_argument('--also', action='append', default=[], metavar='NAME=COMMAND', help='a further program to run (may stand more than once)')
     given = words.parse_args()
-    text = open(given.text, 'rb').read() if given.text else made_text(given.repeat)
+    if given.save:
+        with open(given.save, 'w', encoding='utf-8') as file:
+            file.writelines(made_lines(given.repeat))
+        return
+    need_filter()
+    text = text_of(given)
     lines = text.count(b'\n')
     few = b''.join(text.splitlines(True)[::21])
     few_lines = few.count(b'\n')
-    programs = [('demangle_filter', [OURS])]
-    programs += [(name, [name]) for name in OTHERS if shutil.which(name)]
+    counts = shutil.which('valgrind')
+    if not counts:
+        print('no valgrind on this machine (Debian package valgrind): instructions are left out', file=sys.stderr)
+    programs = [('demangle_filter', [OURS])] + list(others())
     programs += [(name, shlex.split(command)) for name, command in (also.split('=', 1) for also in given.also)]
     print('%d lines, %d bytes' % (lines, len(text)))
     print('| program | lines a second | instructions a line |')
@@ -77,7 +87,7 @@ def main():
     for name, command in programs:
         rate = lines / seconds(command, text)
         count = '-'
-        if shutil.which('valgrind'):
+        if counts:
             count = '{:,}'.format((instructions(command, few) - instructions(command, b'')) // few_lines)
         print('| %s | %s | %s |' % (name, '{:,.0f}'.format(rate), count), flush=True)
 

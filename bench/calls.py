@@ -1,12 +1,9 @@
 #!/usr/bin/env python3
 """Measures single calls of the library: nanoseconds, instructions, and bytes of stack.
 
-usage: calls.py [--keep FOLDER] [--jobs N]
-
-It makes a copy of crates/rustc_demangle outside the repository (in FOLDER, which is not there before and stays, or in a
-temporary one), with its folder out, and beside it a program that makes one call as many times as it is told, and
-builds that by `rt run` (with N jobs if said). Each call stands in a function that
-is not inlined, and is given one of two equal texts in turn, so that no turn can be left out.
+It makes a copy of the library's crates outside the repository, with their folders out, and beside it a program that makes
+one call as many times as it is told, and builds that by `rt run`. Each call stands in a function that is not inlined, and is
+given one of two equal texts in turn, so that no turn can be left out. It needs the Rattle kit and valgrind.
 
 Nanoseconds: the program runs with k turns and with 10 k, and the difference of the seconds (each the best of five runs) is
 divided by 9 k; what turns without a call take is taken off. Printing has the making of its empty sink in it. The symbols are the
@@ -19,11 +16,11 @@ Bytes of stack: `valgrind --tool=drd --show-stack-usage=yes` over one turn, less
 handed (the text, the value, the sink) is not counted. The calls are made below an array of 512 KB, so that what was called
 before, to make the value that is printed, does not count.
 """
-import argparse, os, re, shutil, subprocess, sys, tempfile, time
+import argparse, os, re, subprocess, sys, tempfile, time
 
 import hostile
+from common import CORPUS, build, copy_library, need_kit, need_valgrind
 
-CORPUS = os.path.join(hostile.ROOT, 'crates', 'demangle_corpus', 'stdin')
 TIMED = ['try_demangle', 'write_to, ArraySink<1024>']
 CALLS = ['nothing', 'try_demangle', 'demangle', 'demangle_counted', 'write_to, ArraySink<1024>', 'write_counted, ArraySink<1024>',
          'write_limited, ArraySink<1024>', 'write_limited_counted, ArraySink<1024>', 'write_to, WriteSink', 'Display', 'Debug',
@@ -206,21 +203,12 @@ fn main(rt: HostRuntime) -> ExitCode {
 
 def built(folder, jobs):
     """Makes the program, and answers its path."""
-    program = os.path.join(folder, 'crates', 'calls')
-    os.makedirs(os.path.join(program, 'src'))
-    library = os.path.join('crates', 'rustc_demangle')
-    shutil.copytree(os.path.join(hostile.ROOT, library), os.path.join(folder, library), ignore=shutil.ignore_patterns('must-fail'))
-    with open(os.path.join(program, 'src', 'main.rt'), 'w') as file:
+    copy_library(folder, 'calls')
+    source = os.path.join(folder, 'crates', 'calls', 'src')
+    os.makedirs(source)
+    with open(os.path.join(source, 'main.rt'), 'w') as file:
         file.write(PROGRAM)
-    with open(os.path.join(hostile.ROOT, 'crates.txt')) as file:
-        libraries = [line for line in file if line.startswith('rustc_demangle:')]
-    with open(os.path.join(folder, 'crates.txt'), 'w') as file:
-        file.write('calls: rustc_demangle\n' + ''.join(libraries))
-    words = ['rt', 'run'] + (['--jobs', str(jobs)] if jobs else [])
-    build = subprocess.run(words, cwd=program, stdin=subprocess.DEVNULL, stdout=subprocess.PIPE, stderr=subprocess.STDOUT, encoding='utf-8')
-    if build.returncode != 0:
-        sys.exit('rt run ended with status %d\n%s' % (build.returncode, build.stdout))
-    return os.path.join(program, 'out', 'calls')
+    return build(folder, 'calls', jobs)
 
 
 def middle(prefix, lines):
@@ -276,9 +264,11 @@ def stack(program, call, symbol):
 
 def main():
     words = argparse.ArgumentParser(description=__doc__, formatter_class=argparse.RawDescriptionHelpFormatter)
-    words.add_argument('--keep', metavar='FOLDER')
-    words.add_argument('--jobs', type=int, metavar='N')
+    words.add_argument('--keep', metavar='FOLDER', help='make the copy in this folder, which is not there before and stays (default: a temporary one)')
+    words.add_argument('--jobs', type=int, metavar='N', help='how many jobs `rt run` takes')
     given = words.parse_args()
+    need_kit()
+    need_valgrind()
     legacy, v0 = typical()
     with tempfile.TemporaryDirectory() as temporary:
         program = built(given.keep or temporary, given.jobs)

@@ -1,19 +1,15 @@
 #!/usr/bin/env python3
 """Runs demangle_filter and the other demanglers of this machine over symbols that are made to be costly.
 
-usage: hostile.py [--timeout SECONDS] [--stack KILOBYTES] [--also NAME=COMMAND]..
-
 Each symbol is one line of standard input. It prints a Markdown table with a row for each symbol; for each program it has
 the seconds from start to end, the peak memory of the process (its greatest resident set) and the bytes that it wrote,
-or how it ended where it did not end well. A program is killed after the timeout (10 s if not said). demangle_filter
-runs again with its stack limited to so many kilobytes (100 if not said).
-Build the program first: `rt run` in crates/demangle_filter.
+or how it ended where it did not end well. A program is killed after the timeout. demangle_filter runs again with its
+stack limited. Build it first, by `rt run </dev/null` in crates/demangle_filter.
 """
-import argparse, ctypes, os, shlex, shutil, signal, subprocess, sys, tempfile, threading, time
+import argparse, ctypes, os, shlex, signal, subprocess, sys, tempfile, threading, time
 
-ROOT = os.path.dirname(os.path.dirname(os.path.abspath(__file__)))
-OURS = os.path.join(ROOT, 'crates', 'demangle_filter', 'out', 'demangle_filter')
-OTHERS = ['rustfilt', 'c++filt', 'llvm-cxxfilt']
+from common import OURS, need_filter, others
+
 DIGITS = '0123456789abcdefghijklmnopqrstuvwxyzABCDEFGHIJKLMNOPQRSTUVWXYZ'
 MANY = 1_000_000
 
@@ -95,17 +91,16 @@ class Run:
 
 def main():
     words = argparse.ArgumentParser(description=__doc__, formatter_class=argparse.RawDescriptionHelpFormatter)
-    words.add_argument('--timeout', type=float, default=10)
-    words.add_argument('--stack', type=int, default=100)
-    words.add_argument('--also', action='append', default=[], metavar='NAME=COMMAND')
+    words.add_argument('--timeout', type=float, default=10, metavar='SECONDS', help='kill a program after so many seconds (default 10)')
+    words.add_argument('--stack', type=int, default=100, metavar='KILOBYTES', help="demangle_filter's stack in its second run (default 100)")
+    words.add_argument('--also', action='append', default=[], metavar='NAME=COMMAND', help='a further program to run (may stand more than once)')
     given = words.parse_args()
-    if not os.path.exists(OURS):
-        sys.exit('no ' + OURS + ': build it first')
+    need_filter()
     # A program whose parent ends becomes a child of this process.
     ctypes.CDLL(None, use_errno=True).prctl(PR_SET_CHILD_SUBREAPER, 1, 0, 0, 0)
     programs = [('demangle_filter', [OURS], USUAL_STACK)]
     programs.append(('demangle_filter, %d KB of stack' % given.stack, [OURS], given.stack))
-    programs += [(name, [name], USUAL_STACK) for name in OTHERS if shutil.which(name)]
+    programs += [(name, program, USUAL_STACK) for name, program in others()]
     programs += [(name, shlex.split(command), USUAL_STACK) for name, command in (also.split('=', 1) for also in given.also)]
     print('| symbol | ' + ' | '.join(name for name, _, _ in programs) + ' |')
     print('| --- |' + ' ---: |' * len(programs))

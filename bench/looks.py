@@ -1,14 +1,12 @@
 #!/usr/bin/env python3
 """Counts the looks that demangling and printing costly symbols takes, and prints them beside the bounds that are proved.
 
-usage: looks.py [--keep FOLDER] [--jobs N]
-
-Looks take no bytes when a program runs, so no program can tell them. This makes a copy of crates/rustc_demangle outside the
-repository (in FOLDER, which is not there before and stays, or in a temporary one) in which `Looks` also has a number of 64
-bits that each `tick` raises, and a program over it that sums the looks of each symbol of a line. `rt run` proves the copy,
-with all its contracts but one fact, that `Looks` takes no bytes, and builds it (with N jobs if said; it took 12 minutes with
-one, on a loaded machine). That the number is the count of which the contracts speak stands in the text below, and is
-not proved. `rt try` needs no proof, but its checks make a costly symbol take over a minute.
+Looks take no bytes when a program runs, so no program can tell them. This makes a copy of the library's crates outside the
+repository in which `Looks` also has a number of 64 bits that each `tick` raises, and a program over it that sums the looks
+of each symbol of a line. `rt run` proves the copy, with all its contracts but one fact, that `Looks` takes no bytes, and
+builds it (it took 12 minutes with one job, on a loaded machine). That the number is the count of which the contracts speak
+stands in the text below, and is not proved. `rt try` needs no proof, but its checks make a costly symbol take over a minute.
+It needs the Rattle kit.
 
 The symbols are those of hostile.py, and 10^6 of each further production that nests. It prints a Markdown table with a row for
 each: the bytes m that are handed in, the bytes n of the value, the looks of `demangle_counted` and their bound, 64 x (m + 1),
@@ -17,14 +15,16 @@ the bytes w that are kept before the marker, the looks of `write_counted` with t
 column is the sum. It ends with how near the looks of the doublings come to their bounds, of each number of tuples up to 58.
 Its status is 1 where a bound is passed.
 """
-import argparse, os, shutil, subprocess, sys, tempfile
+import argparse, os, subprocess, sys, tempfile
 
 import hostile
+from common import build, copy_library, need_kit
 
-CRATE = os.path.join(hostile.ROOT, 'crates', 'rustc_demangle')
 MOST_TUPLES = 58
 
-# What is put into the text of `Looks`, behind a line of it or in place of one.
+# The file of `Looks`, in the crate that has it.
+LOOKS = os.path.join('src', 'cursor', 'looks.rt')
+# What is put into its text, behind a line of it or in place of one.
 EDITS = [
     ('    count: Snapshot<Tally>,\n', '    count: Snapshot<Tally>,\n    number: u64,\n'),
     ('            count: Snapshot::of(&Tally::Zero),\n', '            count: Snapshot::of(&Tally::Zero),\n            number: 0,\n'),
@@ -129,38 +129,16 @@ fn main(rt: HostRuntime) -> io::Result<()> {
 '''
 
 
-def copy(folder):
-    """Makes the copy and the program over it, and answers the program's folder."""
-    library = os.path.join(folder, 'crates', 'rustc_demangle')
-    shutil.copytree(CRATE, library, ignore=shutil.ignore_patterns('must-fail'))
-    place = os.path.join(library, 'src', 'cursor', 'looks.rt')
-    with open(place) as file:
-        text = file.read()
-    for old, new in EDITS:
-        if text.count(old) != 1:
-            sys.exit('not once in %s: %s' % (place, old))
-        text = text.replace(old, new)
-    with open(place, 'w') as file:
-        file.write(text)
-    program = os.path.join(folder, 'crates', 'count_looks')
-    os.makedirs(os.path.join(program, 'src'))
-    with open(os.path.join(program, 'src', 'main.rt'), 'w') as file:
+def counted(folder, lines, jobs):
+    """Makes the copy and the program over it, and answers the columns that it prints for each line."""
+    copy_library(folder, 'count_looks', [(LOOKS, old, new) for old, new in EDITS])
+    source = os.path.join(folder, 'crates', 'count_looks', 'src')
+    os.makedirs(source)
+    with open(os.path.join(source, 'main.rt'), 'w') as file:
         file.write(PROGRAM)
-    with open(os.path.join(hostile.ROOT, 'crates.txt')) as file:
-        libraries = [line for line in file if line.startswith('rustc_demangle:')]
-    with open(os.path.join(folder, 'crates.txt'), 'w') as file:
-        file.write('count_looks: rustc_demangle\n' + ''.join(libraries))
-    return program
-
-
-def counted(program, lines, jobs):
-    """The columns that the program prints for each line."""
-    words = ['rt', 'run'] + (['--jobs', str(jobs)] if jobs else [])
-    build = subprocess.run(words, cwd=program, stdin=subprocess.DEVNULL, stdout=subprocess.PIPE, stderr=subprocess.STDOUT, encoding='utf-8')
-    if build.returncode != 0:
-        sys.exit('rt run ended with status %d\n%s' % (build.returncode, build.stdout))
+    program = build(folder, 'count_looks', jobs)
     text = ''.join(line + '\n' for line in lines)
-    run = subprocess.run([os.path.join(program, 'out', 'count_looks')], input=text, stdout=subprocess.PIPE, check=True, encoding='utf-8')
+    run = subprocess.run([program], input=text, stdout=subprocess.PIPE, check=True, encoding='utf-8')
     return [[int(word) for word in line.split()] for line in run.stdout.splitlines()]
 
 
@@ -197,13 +175,14 @@ def nearest(rows, looks, bound):
 
 def main():
     words = argparse.ArgumentParser(description=__doc__, formatter_class=argparse.RawDescriptionHelpFormatter)
-    words.add_argument('--keep', metavar='FOLDER')
-    words.add_argument('--jobs', type=int, metavar='N')
+    words.add_argument('--keep', metavar='FOLDER', help='make the copy in this folder, which is not there before and stays (default: a temporary one)')
+    words.add_argument('--jobs', type=int, metavar='N', help='how many jobs `rt run` takes')
     given = words.parse_args()
+    need_kit()
     names, lines = zip(*cases())
     doublings = [hostile.doubling(tuples) for tuples in range(MOST_TUPLES + 1)]
     with tempfile.TemporaryDirectory() as temporary:
-        rows = [Row(columns) for columns in counted(copy(given.keep or temporary), list(lines) + doublings, given.jobs)]
+        rows = [Row(columns) for columns in counted(given.keep or temporary, list(lines) + doublings, given.jobs)]
     print('| symbol | m | n | looks of `demangle_counted` | bound | w | looks of `write_counted` | bound |')
     print('| --- |' + ' ---: |' * 7)
     for name, row in zip(names, rows):

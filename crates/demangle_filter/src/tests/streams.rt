@@ -107,37 +107,6 @@ impl Write for RefusingWriter {
     }
 }
 
-/// Notes each write.
-#[derive(Drop)]
-pub struct NotingWriter {
-    writes: Vec<Vec<u8>>,
-    alloc: Global,
-}
-
-impl NotingWriter {
-    pub fn new(alloc: Global) -> NotingWriter {
-        NotingWriter {
-            writes: Vec::new(alloc),
-            alloc,
-        }
-    }
-
-    pub fn writes(&self) -> &[Vec<u8>] {
-        self.writes.as_slice()
-    }
-}
-
-impl Write for NotingWriter {
-    fn write(&mut self, buf: &[u8]) -> io::Result<usize> {
-        self.writes.push(Vec::from_slice(self.alloc, buf)?)?;
-        Ok(buf.len())
-    }
-
-    fn flush(&mut self) -> io::Result<()> {
-        Ok(())
-    }
-}
-
 /// Holds what is written, and tells its reader whether that was flushed.
 #[derive(Drop)]
 pub struct WatchedWriter<'a> {

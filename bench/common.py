@@ -1,0 +1,93 @@
+"""What the scripts of this folder share: paths, other programs, and a copy of the library's crates."""
+import os, shutil, subprocess, sys
+
+ROOT = os.path.dirname(os.path.dirname(os.path.abspath(__file__)))
+OURS = os.path.join(ROOT, 'crates', 'demangle_filter', 'out', 'demangle_filter')
+CORPUS = os.path.join(ROOT, 'crates', 'demangle_corpus', 'stdin')
+LIBRARY = 'rustc_demangle'
+OTHERS = ['rustfilt', 'c++filt', 'llvm-cxxfilt']
+
+
+def need_filter():
+    """Ends with what is to be done where demangle_filter was not built."""
+    if not os.path.exists(OURS):
+        sys.exit('no %s: build it first, by `rt run </dev/null` in crates/demangle_filter' % OURS)
+
+
+def need_tool(name, package):
+    """Ends where a program is missing, and tells where it is from."""
+    if not shutil.which(name):
+        sys.exit('no %s on this machine: it is %s' % (name, package))
+
+
+def need_kit():
+    need_tool('rt', 'the command of the Rattle kit')
+
+
+def need_valgrind():
+    need_tool('valgrind', 'the Debian package valgrind')
+
+
+def others():
+    """The other demanglers of this machine, by name. Those that are missing are told on standard error."""
+    for name in OTHERS:
+        if shutil.which(name):
+            yield name, [name]
+        else:
+            print('no %s on this machine: left out' % name, file=sys.stderr)
+
+
+def listed():
+    """The lines of crates.txt: what each crate uses, by its name."""
+    with open(os.path.join(ROOT, 'crates.txt')) as file:
+        lines = [line.split('#')[0].strip() for line in file]
+    parted = (line.partition(':') for line in lines if line)
+    return {head.split()[0]: (head, uses.split()) for head, _, uses in parted}
+
+
+def library_crates():
+    """The crates of this repository that a caller of the library needs, the library first."""
+    lines = listed()
+    found = [LIBRARY]
+    for name in found:
+        found += [used for used in lines[name][1] if used in lines and used not in found]
+    return found
+
+
+def copy_library(folder, program, edits=()):
+    """Copies the library's crates into a folder, with their folders out, beside the line of a program that uses the library.
+
+    Each edit is the end of a file's path in one of the crates, an old text that stands in it once, and a new one.
+    """
+    lines = listed()
+    names = library_crates()
+    for name in names:
+        place = os.path.join('crates', name)
+        shutil.copytree(os.path.join(ROOT, place), os.path.join(folder, place), ignore=shutil.ignore_patterns('must-fail'))
+    for end, old, new in edits:
+        edit(os.path.join(folder, 'crates'), end, old, new)
+    with open(os.path.join(folder, 'crates.txt'), 'w') as file:
+        file.write('%s: %s\n' % (program, LIBRARY))
+        file.writelines('%s: %s\n' % (lines[name][0], ' '.join(lines[name][1])) for name in names)
+
+
+def edit(crates, end, old, new):
+    places = [place for place in (os.path.join(crates, name, end) for name in os.listdir(crates)) if os.path.exists(place)]
+    if len(places) != 1:
+        sys.exit('%s stands in %d crates, and not in one' % (end, len(places)))
+    with open(places[0]) as file:
+        text = file.read()
+    if text.count(old) != 1:
+        sys.exit('not once in %s: %s' % (places[0], old))
+    with open(places[0], 'w') as file:
+        file.write(text.replace(old, new))
+
+
+def build(folder, program, jobs):
+    """Builds a program of a folder by `rt run`, and answers its path."""
+    place = os.path.join(folder, 'crates', program)
+    words = ['rt', 'run'] + (['--jobs', str(jobs)] if jobs else [])
+    run = subprocess.run(words, cwd=place, stdin=subprocess.DEVNULL, stdout=subprocess.PIPE, stderr=subprocess.STDOUT, encoding='utf-8')
+    if run.returncode != 0:
+        sys.exit('rt run ended with status %d\n%s' % (run.returncode, run.stdout))
+    return os.path.join(place, 'out', program)
