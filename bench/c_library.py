@@ -1,0 +1,318 @@
+#!/usr/bin/env python3
+"""Builds the static library and tries it from C, C++, Python and Rust.
+
+usage: c_library.py [--rust-crate FOLDER] [--only WORD] [--keep FOLDER] [--jobs N] [--no-build]
+
+It builds crates/demangle_c by `rt lib` (with N jobs if said; --no-build takes the archive that is there), and then, in a folder
+of its own (FOLDER with --keep, which stays), prints a line for each of these, or with --only for those whose name has the word:
+
+  archive     defines the calls of include/kodliwe.h and nothing else that C sees, wants memcpy, memmove and memset
+              alone, has no data that can be written and none of a thread's, and no instruction that locks or calls the system
+  answers     bench/c_library/answers.c gives the stored answers of crates/demangle_corpus/stdin in both forms, at thirteen sizes of the
+              output, with guard bytes and fenced pages; the answers under the stored limits; and refuses bad texts.
+              By gcc and by clang, each linked as usual, with -static, to a shared library, as C++, and with AddressSanitizer
+  hostile     the same program's own checks of the symbols of bench/hostile.py, under limits of 0 and of 4,096 bytes
+  python      examples/demangle.py over the shared library
+  backtrace   examples/backtrace.c prints its own backtrace with paths in place of symbols
+  stack       the bytes of stack that a call in a signal handler touches, over the stored symbols and hostile ones: at most 96 KiB
+  times       hostile trees into 4,096 bytes under a limit of 4,096: below 1 ms
+  binding     the tests of bindings/rust
+  rust        with --rust-crate, the folder of the Rust crate rustc-demangle: one program with both libraries, which are asked in
+              turn for each stored symbol; and the instructions a call, counted by `valgrind --tool=callgrind` over three turns less
+              those over one, for the real legacy and v0 symbols
+
+Status: 0 where all of it held, 1 where something did not, 2 where a tool was lacking and the rest held.
+"""
+import argparse, hashlib, os, re, shutil, struct, subprocess, sys, tempfile
+
+import hostile
+
+ROOT = hostile.ROOT
+HERE = os.path.join(ROOT, 'bench', 'c_library')
+ARCHIVE = os.path.join(ROOT, 'crates', 'demangle_c', 'out', 'libdemangle_c.a')
+CORPUS = os.path.join(ROOT, 'crates', 'demangle_corpus', 'stdin')
+CALLS = ['kodliwe_demangle', 'kodliwe_demangle_limited', 'kodliwe_is_symbol']
+WANTED = ['memcpy', 'memmove', 'memset']
+NO_LIMIT = 2**64 - 1
+# Texts that are no symbols, by what is wrong with them.
+REFUSED = [b'', b'_', b'_R', b'_ZN', b'_ZNE\xff', b'\xff\xfe', b'_ZN3fo\xc3E', b'_RNvC3foo3b\xe4r', b'_ZN3foo', b'_ZN3foo3barE ', b'_ZN3foo\0E',
+           b'_ZN%dfooE' % 10**30, b'_RNvC%da3foo' % 10**30, b'_RNvC3foo%da' % 10**30, b'_RB%s_' % (b'z' * 40), b'_RNvC' + b'9' * 100000,
+           b'_ZN' + b'9' * 100000 + b'E', 'ä_ZN3fooE'.encode(), b'_ZN3f\x80oE']
+REAL = [('legacy', 0, 500), ('v0', 800, 1700)]
+
+
+class Lacking(Exception):
+    """A tool that this machine does not have."""
+
+
+def tool(name):
+    found = shutil.which(name)
+    if found is None:
+        raise Lacking(name)
+    return found
+
+
+def run(command, **more):
+    """What a command wrote; its failure is an error with what it said."""
+    ran = subprocess.run(command, stdout=subprocess.PIPE, stderr=subprocess.PIPE, **more)
+    if ran.returncode != 0:
+        said = (ran.stderr[-1500:] or ran.stdout[-500:]).decode(errors='replace')
+        raise AssertionError('%s: status %s\n%s' % (' '.join(map(str, command))[:300], ran.returncode, said))
+    return ran.stdout
+
+
+def unescaped(text):
+    return re.sub(rb'\\(.)', lambda m: {b'n': b'\n', b't': b'\t', b'r': b'\r', b'0': b'\0'}.get(m[1], m[1]), text)
+
+
+def column(text):
+    """A text as a column of the corpus has it."""
+    if len(text) > 2000:
+        return b'#len=%d sha256=%s' % (len(text), hashlib.sha256(text).hexdigest().encode())
+    for raw, shown in ((b'\\', b'\\\\'), (b'\n', b'\\n'), (b'\t', b'\\t'), (b'\r', b'\\r'), (b'\0', b'\\0')):
+        text = text.replace(raw, shown)
+    return text
+
+
+def cases():
+    """The symbols with their limits, and for each the two columns of its answer, or None where it is refused."""
+    for line in open(CORPUS, 'rb').read().split(b'\n'):
+        fields = line.split(b'\t')
+        if fields[0] == b'\\limit':
+            # The column of a text that is no symbol has the text itself.
+            symbol, refused = unescaped(fields[1]), fields[3] == fields[1] == fields[4]
+            yield symbol, int(fields[2]), None if refused else (fields[3], fields[4])
+        elif len(fields) == 5 and fields[0] != b'\\pieces':
+            yield unescaped(fields[0]), NO_LIMIT, (fields[3], fields[4]) if fields[1] == b'OK' else None
+    for text in REFUSED:
+        yield text, NO_LIMIT, None
+
+
+def record(symbol, limit=NO_LIMIT):
+    return struct.pack('<IQ', len(symbol), limit) + symbol
+
+
+def trees():
+    """Hostile v0 symbols whose text is large and which are small."""
+    found = [hostile.doubling(k) for k in range(6, 59)]
+    found += ['_RMC0' + 'FG' * 1 + 'Z' * k + '_Eu' for k in range(8, 12)]
+    return [text.encode() for text in found] + [hostile.chained(1).encode()]
+
+
+def check_archive():
+    symbols = run([tool('nm'), ARCHIVE]).decode().split('\n')
+    kinds = [line.split()[-2:] for line in symbols if len(line.split()) >= 2 and not line.endswith(':')]
+    defined = sorted(name for kind, name in kinds if kind in 'TDBRCVWi')
+    wanted = sorted({name for kind, name in kinds if kind == 'U'})
+    assert defined == CALLS, 'it defines %s' % defined
+    assert wanted == WANTED, 'it wants %s' % wanted
+    sections = run([tool('readelf'), '-SW', ARCHIVE]).decode()
+    for line in sections.split('\n'):
+        found = re.search(r'\] (\.[\w.]+)\s+\S+\s+\S+\s+\S+\s+([0-9a-f]+)\s+\S+\s+(\w*)', line)
+        if found and int(found[2], 16) > 0 and ('T' in found[3] or 'W' in found[3] and not found[1].startswith('.data.rel.ro')):
+            raise AssertionError('it has the section %s of %s bytes, flags %s' % found.groups())
+    code = run([tool('objdump'), '-d', '--no-show-raw-insn', ARCHIVE]).decode()
+    for line in code.split('\n'):
+        found = re.search(r'\t(lock|xchg .*\(|syscall|sysenter|int |mfence)|%[fg]s:', line)
+        assert not found, 'it has the instruction %s' % line.strip()
+    return 'defines %s; wants %s; no data that is writable or of a thread, no lock, no call of the system' % (', '.join(defined), ', '.join(wanted))
+
+
+def compared(out, expected):
+    at = wrong = 0
+    for symbol, _, answer in expected:
+        for form in range(2):
+            (want,) = struct.unpack_from('<I', out, at)
+            text = out[at + 4:at + 4 + max(want - 1, 0)]
+            at += 4 + len(text)
+            if (want == 0) != (answer is None) or answer is not None and column(text) != answer[form]:
+                wrong += 1
+                print('    differs: %r gives %r' % (symbol[:80], text[:80]))
+    assert at == len(out) and wrong == 0, '%d answers differ' % wrong
+
+
+def shared_library(folder, compiler):
+    run([tool(compiler), '-shared', '-o', os.path.join(folder, 'libkodliwe.so'), '-Wl,--whole-archive', ARCHIVE, '-Wl,--no-whole-archive', '-Wl,-z,defs'])
+    return os.path.join(folder, 'libkodliwe.so')
+
+
+def answers_program(folder, compiler, plus, way):
+    source = os.path.join(HERE, 'answers.c')
+    program = os.path.join(folder, 'answers')
+    includes = ['-I', os.path.join(ROOT, 'include')]
+    command = [tool(compiler), '-O1', '-g', '-Wall', '-Wextra', '-Werror', '-std=c11'] + includes + [source]
+    if way == 'C++':
+        command = [tool(plus), '-O1', '-g', '-Wall', '-Wextra', '-Werror', '-x', 'c++', '-std=c++17'] + includes + [source, '-x', 'none']
+    if way == 'AddressSanitizer':
+        command += ['-fsanitize=address']
+    if way == 'shared':
+        shared_library(folder, compiler)
+        command += ['-L', folder, '-Wl,-rpath,' + folder, '-lkodliwe']
+    else:
+        command += [ARCHIVE]
+    if way == 'static':
+        command += ['-static']
+    try:
+        run(command + ['-o', program])
+    except AssertionError as error:
+        if way == 'AddressSanitizer' and re.search(r'libasan|libclang_rt\.asan|cannot find -lasan', str(error)):
+            raise Lacking("%s's AddressSanitizer (Debian: libasan8, libclang-rt-14-dev)" % compiler)
+        raise
+    return program
+
+
+def check_answers(folder, compiler, plus, way, expected):
+    program = answers_program(folder, compiler, plus, way)
+    out = run([program], input=b''.join(record(symbol, limit) for symbol, limit, _ in expected))
+    compared(out, expected)
+    symbols = sum(answer is not None for _, _, answer in expected)
+    return '%d texts, %d of them symbols, in both forms at 13 sizes: no answer differs' % (len(expected), symbols)
+
+
+def check_hostile(folder):
+    program = answers_program(folder, 'gcc', 'g++', 'usual')
+    texts = [text.encode() for _, text in hostile.cases()] + trees()
+    for limit in (0, 4096):
+        run([program], input=b''.join(record(text, limit) for text in texts))
+    return '%d texts of up to %d bytes: each answered as the header says' % (len(texts), max(map(len, texts)))
+
+
+def check_python(folder, expected):
+    shared = shared_library(folder, 'gcc')
+    program = os.path.join(ROOT, 'examples', 'demangle.py')
+    some = [(symbol, answer) for symbol, limit, answer in expected if limit == NO_LIMIT and answer and b'\0' not in symbol and b'\\' not in answer[1]
+            and not answer[1].startswith(b'#len') and not symbol.startswith(b'-')][:1500]
+    out = run([sys.executable, program, shared] + [symbol for symbol, _ in some]).split(b'\n')
+    wrong = [symbol for (symbol, answer), line in zip(some, out) if line != answer[1]]
+    assert len(out) == len(some) + 1 and not wrong, '%d differ, as %r' % (len(wrong), wrong[:1])
+    return '%d symbols: no answer differs' % len(some)
+
+
+def check_backtrace(folder, compiler):
+    program = os.path.join(folder, 'backtrace')
+    run([tool(compiler), '-O1', '-g', '-Wall', '-Wextra', '-rdynamic', '-I', os.path.join(ROOT, 'include'),
+         os.path.join(ROOT, 'examples', 'backtrace.c'), ARCHIVE, '-o', program])
+    ran = subprocess.run([program], stdout=subprocess.PIPE, stderr=subprocess.PIPE)
+    said = ran.stderr.decode()
+    for path in ('crash::fail', 'crash::parser::deep', '<crash::Table<u32>>::fill'):
+        assert re.search(r'^ *\d+: %s$' % re.escape(path), said, re.M), 'no line for %s in %s' % (path, said)
+    assert ran.returncode == -11, 'status %d' % ran.returncode
+    return 'the handler printed the three paths, and the program ended by SIGSEGV'
+
+
+def compiled(folder, name):
+    program = os.path.join(folder, name)
+    run([tool('gcc'), '-O1', '-Wall', '-Wextra', '-I', os.path.join(ROOT, 'include'), os.path.join(HERE, name + '.c'), ARCHIVE, '-o', program])
+    return program
+
+
+def check_stack(folder, stored):
+    program = compiled(folder, 'in_handler')
+    sets = [('real ' + name, stored[start:end]) for name, start, end in REAL]
+    sets += [('stored', stored), ('trees', trees()), ('deep', [hostile.chained(1000).encode(), hostile.into_name(1000).encode()])]
+    for name, some in sets:
+        print('    %s: %s' % (name, run([program], input=b''.join(map(record, some))).decode().strip().replace('\n', '; ')))
+    return 'at most 96 KiB'
+
+
+def check_times(folder):
+    return run([compiled(folder, 'times')], input=b''.join(map(record, trees()))).decode().strip()
+
+
+def cargo(folder, arguments, **more):
+    env = dict(os.environ, KODLIWE_LIB=os.path.dirname(ARCHIVE), CARGO_TARGET_DIR=os.path.join(folder, 'target'), CARGO_NET_OFFLINE='true')
+    return run([tool('cargo')] + arguments, env=env, **more)
+
+
+def check_binding(folder):
+    out = cargo(folder, ['test', '--manifest-path', os.path.join(ROOT, 'bindings', 'rust', 'Cargo.toml')]).decode()
+    counts = re.findall(r'test result: ok\. (\d+) passed; 0 failed', out)
+    assert counts and sum(map(int, counts)) > 0, out[-500:]
+    return '%d tests passed' % sum(map(int, counts))
+
+
+def instructions(program, which, symbols, folder):
+    counted = []
+    for turns in (1, 3):
+        ran = subprocess.run([tool('valgrind'), '--tool=callgrind', '--callgrind-out-file=' + os.path.join(folder, 'callgrind.out'), program, which, str(turns)],
+                             input=b''.join(map(record, symbols)), stdout=subprocess.DEVNULL, stderr=subprocess.PIPE, check=True)
+        counted.append(int(re.search(rb'Collected : (\d+)', ran.stderr)[1]))
+    return (counted[1] - counted[0]) // (2 * len(symbols))
+
+
+def check_rust(folder, crate, expected):
+    project = os.path.join(folder, 'rust_calls')
+    os.makedirs(os.path.join(project, 'src'), exist_ok=True)
+    shutil.copy(os.path.join(HERE, 'rust_calls.rs'), os.path.join(project, 'src', 'main.rs'))
+    with open(os.path.join(project, 'Cargo.toml'), 'w') as manifest:
+        manifest.write('[package]\nname = "rust_calls"\nversion = "0.0.0"\nedition = "2021"\n\n[dependencies]\n'
+                       'kodliwe = { path = "%s" }\nrustc-demangle = { path = "%s" }\n\n[profile.release]\ndebug = 1\n\n[workspace]\n'
+                       % (os.path.join(ROOT, 'bindings', 'rust'), os.path.abspath(crate)))
+    cargo(folder, ['build', '--release', '--manifest-path', os.path.join(project, 'Cargo.toml')])
+    program = os.path.join(folder, 'target', 'release', 'rust_calls')
+    stored = [symbol for symbol, limit, _ in expected if limit == NO_LIMIT]
+    said = run([program, 'both', '1'], input=b''.join(map(record, stored))).decode().split('\n')
+    differ = {bytes.fromhex(line.split()[1]) for line in said if line.startswith('differs ')}
+    real = {symbol for _, start, end in REAL for symbol in stored[start:end]}
+    assert not differ & real, 'real symbols differ: %r' % sorted(differ & real)[:3]
+    for name, start, end in REAL:
+        some = stored[start:end]
+        ours, theirs = instructions(program, 'kodliwe', some, folder), instructions(program, 'crate', some, folder)
+        print('    %d real %s symbols: %d instructions a call, the Rust crate %d' % (len(some), name, ours, theirs))
+    return '%d texts in both forms, %d answered otherwise by that crate (docs/DIFFERENCES.md), no real symbol among them' % (len(stored), len(differ))
+
+
+def main():
+    parser = argparse.ArgumentParser(usage=argparse.SUPPRESS, description=__doc__, formatter_class=argparse.RawDescriptionHelpFormatter)
+    parser.add_argument('--rust-crate', metavar='FOLDER')
+    parser.add_argument('--only', metavar='WORD')
+    parser.add_argument('--keep', metavar='FOLDER')
+    parser.add_argument('--jobs', default='2')
+    parser.add_argument('--no-build', action='store_true')
+    options = parser.parse_args()
+    folder = os.path.abspath(options.keep) if options.keep else tempfile.mkdtemp()
+    os.makedirs(folder, exist_ok=True)
+    tally = {'held': 0, 'failed': 0, 'lacking': 0}
+
+    def step(name, work, *arguments):
+        if options.only and options.only not in name:
+            return
+        try:
+            print('%s: %s' % (name, work(*arguments)), flush=True)
+            tally['held'] += 1
+        except Lacking as lacking:
+            print('%s: NOT RUN, this machine lacks %s' % (name, lacking), flush=True)
+            tally['lacking'] += 1
+        except (AssertionError, OSError, subprocess.SubprocessError) as error:
+            print('%s: FAILED, %s' % (name, error), flush=True)
+            tally['failed'] += 1
+
+    if not options.no_build:
+        if shutil.which('rt') is None:
+            sys.exit('c_library.py: the Rattle kit\'s `rt` is not on the path; --no-build takes the archive that is there')
+        subprocess.run(['rt', 'lib', '--jobs', options.jobs], cwd=os.path.join(ROOT, 'crates', 'demangle_c'), check=True, stdout=subprocess.DEVNULL)
+    if not os.path.exists(ARCHIVE):
+        sys.exit('c_library.py: there is no %s' % ARCHIVE)
+    expected = list(cases())
+    step('archive', check_archive)
+    for compiler, plus in (('gcc', 'g++'), ('clang', 'clang++')):
+        for way in ('usual', 'static', 'shared', 'C++', 'AddressSanitizer'):
+            step('answers, %s, %s' % (compiler, way), check_answers, folder, compiler, plus, way, expected)
+        step('backtrace, ' + compiler, check_backtrace, folder, compiler)
+    step('hostile', check_hostile, folder)
+    step('python', check_python, folder, expected)
+    step('stack', check_stack, folder, [symbol for symbol, limit, _ in expected if limit == NO_LIMIT])
+    step('times', check_times, folder)
+    step('binding', check_binding, folder)
+    if options.rust_crate:
+        step('rust', check_rust, folder, options.rust_crate, expected)
+    elif not options.only:
+        print('rust: NOT RUN, --rust-crate was not given')
+    print('%(held)d held, %(failed)d failed, %(lacking)d lacked a tool' % tally)
+    if not options.keep:
+        shutil.rmtree(folder)
+    sys.exit(1 if tally['failed'] else 2 if tally['lacking'] else 0)
+
+
+if __name__ == '__main__':
+    main()

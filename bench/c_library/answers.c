@@ -1,0 +1,93 @@
+/* Asks the library for each symbol of standard input, at thirteen sizes of the output in both forms, and writes its answers.
+ *
+ * A record of the input: 4 bytes of the symbol's length, 8 of the limit (all ones: none), the symbol. For each record, with the
+ * hash and without it, the output has 4 bytes of what was returned and the path. The symbol ends, and each output ends, where a
+ * page begins that can be neither read nor written; guard bytes stand before the output, and in it behind the NUL.
+ *
+ * Status 1, with a line on standard error, where a call answers otherwise than kodliwe.h says. */
+#ifndef _GNU_SOURCE
+#define _GNU_SOURCE /* MAP_ANONYMOUS */
+#endif
+#include "rustc_demangle.h"
+
+#include <stdint.h>
+#include <stdio.h>
+#include <stdlib.h>
+#include <string.h>
+#include <sys/mman.h>
+
+enum { PAGE = 4096, ROOM = 8 << 20, GUARD = 64, MARK = 0x5A };
+static const uint64_t NONE = UINT64_MAX;
+
+static char *symbol_end, *out_end; /* the pages behind them are fenced */
+static char *whole;
+static uint64_t limit;
+
+static char *fenced(void) {
+    char *memory = (char *)mmap(NULL, ROOM + PAGE, PROT_READ | PROT_WRITE, MAP_PRIVATE | MAP_ANONYMOUS, -1, 0);
+    if (memory == MAP_FAILED || mprotect(memory + ROOM, PAGE, PROT_NONE) != 0) exit(2);
+    return memory + ROOM;
+}
+
+static size_t call(const char *symbol, size_t len, char *out, size_t size, bool hash) {
+    return limit == NONE ? kodliwe_demangle(symbol, len, out, size, hash)
+                         : kodliwe_demangle_limited(symbol, len, out, size, hash, (size_t)limit);
+}
+
+static void fail(const char *why, const char *symbol, size_t len, size_t size) {
+    fprintf(stderr, "%s, at %zu bytes of output, for %.*s\n", why, size, (int)(len < 80 ? len : 80), symbol);
+    exit(1);
+}
+
+static void try_size(const char *symbol, size_t len, bool hash, size_t want, size_t size) {
+    char *out = out_end - size;
+    memset(out - GUARD, MARK, size + GUARD);
+    if (call(symbol, len, out, size, hash) != want) fail("another number is returned", symbol, len, size);
+    size_t kept = want == 0 ? 0 : want <= size ? want : size;
+    if (kept != 0 && memcmp(out, whole, kept - 1) != 0) fail("another text is written", symbol, len, size);
+    if (kept != 0 && out[kept - 1] != 0) fail("no NUL is written", symbol, len, size);
+    for (size_t i = 0; i < GUARD; i++)
+        if (out[(ptrdiff_t)i - GUARD] != MARK) fail("a byte before the output is changed", symbol, len, size);
+    for (size_t i = kept; i < size; i++)
+        if (out[i] != MARK) fail("a byte behind the NUL is changed", symbol, len, size);
+}
+
+static void try_upstream(const char *symbol, size_t len, size_t want) {
+    char *text = (char *)malloc(len + 1), *out = (char *)malloc(want + 1);
+    if (text == NULL || out == NULL) exit(2);
+    memcpy(text, symbol, len);
+    text[len] = 0;
+    if (rustc_demangle(text, out, want) != (want != 0)) fail("upstream's call refuses", symbol, len, want);
+    if (want != 0 && strcmp(out, whole) != 0) fail("upstream's call writes another text", symbol, len, want);
+    if (want > 0 && rustc_demangle(text, out, want - 1) != 0) fail("upstream's call takes too little", symbol, len, want - 1);
+    if (rustc_demangle(text, NULL, 0) != 0) fail("upstream's call takes nothing", symbol, len, 0);
+    free(text);
+    free(out);
+}
+
+int main(void) {
+    uint32_t len;
+    symbol_end = fenced();
+    out_end = fenced();
+    whole = (char *)malloc(ROOM);
+    if (whole == NULL) return 2;
+    while (fread(&len, sizeof len, 1, stdin) == 1) {
+        char *symbol = symbol_end - len;
+        if (len > ROOM || fread(&limit, sizeof limit, 1, stdin) != 1 || fread(symbol, 1, len, stdin) != len) return 2;
+        for (int form = 0; form < 2; form++) {
+            bool hash = form == 0;
+            size_t want = call(symbol, len, whole, ROOM, hash);
+            uint32_t told = (uint32_t)want;
+            size_t sizes[] = {0, 1, 2, 3, 7, 16, 40, 100, want > 1 ? want - 2 : 0, want ? want - 1 : 0, want, want + 1, want + 50};
+            for (size_t i = 0; i < sizeof sizes / sizeof *sizes; i++) try_size(symbol, len, hash, want, sizes[i]);
+            if (kodliwe_is_symbol(symbol, len) != (want != 0)) fail("kodliwe_is_symbol says otherwise", symbol, len, 0);
+            if (limit == NONE && kodliwe_demangle_limited(symbol, len, whole, ROOM, hash, SIZE_MAX) != want)
+                fail("a limit above 1,000,000 is another", symbol, len, ROOM);
+            if (want > (limit == NONE ? 1000000 : limit) + 21 + len) fail("more than the limit allows", symbol, len, ROOM);
+            if (!hash && limit == NONE && memchr(symbol, 0, len) == NULL) try_upstream(symbol, len, want);
+            fwrite(&told, sizeof told, 1, stdout);
+            if (want != 0) fwrite(whole, 1, want - 1, stdout);
+        }
+    }
+    return 0;
+}

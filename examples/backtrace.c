@@ -1,0 +1,81 @@
+/* A program that prints its own backtrace when it fails, with the paths of Rust functions in place of their symbols.
+ *
+ *     gcc -O1 -g -rdynamic -I include examples/backtrace.c crates/demangle_c/out/libdemangle_c.a -o backtrace && ./backtrace
+ *
+ * The handler of SIGSEGV runs on a stack of its own of 96 KiB, takes no memory and no lock of ours, and asks for at most as
+ * many bytes of a path as it has room for. So that the program needs no Rust compiler, three functions of C carry
+ * the symbols that rustc gives such functions; a program that links Rust code has them of itself. */
+#define _GNU_SOURCE
+#include "kodliwe.h"
+
+#include <dlfcn.h>
+#include <execinfo.h>
+#include <signal.h>
+#include <stdio.h>
+#include <string.h>
+#include <unistd.h>
+
+enum { FRAMES = 64, LINE = 512, STACK = 96 * 1024 };
+
+static char handler_stack[STACK];
+
+static void print(const char *text, size_t len) {
+    while (len > 0) {
+        ssize_t wrote = write(STDERR_FILENO, text, len);
+        if (wrote <= 0) return;
+        text += wrote;
+        len -= (size_t)wrote;
+    }
+}
+
+/* One line: the frame's number, and the path, the symbol or the file that the address lies in. */
+static void print_frame(int number, const char *address) {
+    char line[LINE] = "  0: ";
+    line[1] = (char)(number >= 10 ? '0' + number / 10 : ' ');
+    line[2] = (char)('0' + number % 10);
+    Dl_info info;
+    const char *name = "?";
+    if (dladdr(address, &info) != 0) name = info.dli_sname ? info.dli_sname : info.dli_fname;
+    size_t room = sizeof line - 5, len = strlen(name);
+    size_t want = kodliwe_demangle_limited(name, len, line + 5, room, false, room);
+    if (want == 0) { /* no Rust symbol */
+        if (len >= room) len = room - 1;
+        memcpy(line + 5, name, len + 1);
+        line[5 + len] = 0;
+    }
+    print(line, strlen(line));
+    print("\n", 1);
+}
+
+static void on_fault(int sig) {
+    void *frames[FRAMES];
+    int count = backtrace(frames, FRAMES);
+    print("segmentation fault\n", 19);
+    /* The first two are this handler and what it returns to, the third is where the fault was. The others are return
+     * addresses, which may be the first byte behind the function that called. */
+    for (int i = 2; i < count; i++) print_frame(i - 2, (const char *)frames[i] - (i > 2));
+    /* SA_RESETHAND took the handler off: the fault comes again when we return, and ends the process. */
+    (void)sig;
+}
+
+#define AS(symbol) __asm__(symbol) __attribute__((noinline))
+
+int fail(const volatile int *at) AS("_ZN5crash4fail17h05af221e174051e9E");
+int deep(int n) AS("_RNvNtCs1234_5crash6parser4deep");
+int fill(int n) AS("_RNvMC5crashINtB2_5TablemE4fill");
+
+int fail(const volatile int *at) { return *at + 1; }
+int deep(int n) { return n == 0 ? fail(NULL) + 1 : deep(n - 1) + 1; }
+int fill(int n) { return deep(n) + 1; }
+
+int main(void) {
+    void *first[1];
+    stack_t stack = {.ss_sp = handler_stack, .ss_size = sizeof handler_stack};
+    struct sigaction action;
+    memset(&action, 0, sizeof action);
+    action.sa_handler = on_fault;
+    action.sa_flags = SA_ONSTACK | SA_RESETHAND;
+    backtrace(first, 1); /* its first call loads a library, which a handler must not do */
+    if (sigaltstack(&stack, NULL) != 0 || sigaction(SIGSEGV, &action, NULL) != 0) return 2;
+    return fill(1);
+}
