@@ -43,6 +43,11 @@ symbols =
     codes "_ZN17h05af221e174051e93fooE" ∷
     codes "_ZN3foo16ffaf221e174051e9E" ∷
     codes "_ZN3foo17hg5af221e174051e9E" ∷
+    codes "_ZN4$SP$E" ∷
+    codes "_ZN5$u7f$E" ∷
+    codes "_ZN5$u9f$E" ∷
+    codes "_ZN5$ua0$E" ∷
+    codes "_ZN3foo2h9E" ∷
     []
 
 plain : map (text true) symbols ≡
@@ -77,6 +82,11 @@ plain : map (text true) symbols ≡
     Some (codes "h05af221e174051e9::foo") ∷
     Some (codes "foo::ffaf221e174051e9") ∷
     Some (codes "foo::hg5af221e174051e9") ∷
+    Some (codes "@") ∷
+    Some (codes "$u7f$") ∷
+    Some (codes "$u9f$") ∷
+    Some (194 ∷ 160 ∷ []) ∷
+    Some (codes "foo::h9") ∷
     []
 unfolding number inner_of element_of parts_within parts_of legacy_of escape_of_digits escape_of unit_of pieces_from unescaped shown encode_utf8
 plain = refl
@@ -113,6 +123,11 @@ without_hash : map (text false) symbols ≡
     Some (codes "h05af221e174051e9::foo") ∷
     Some (codes "foo::ffaf221e174051e9") ∷
     Some (codes "foo::hg5af221e174051e9") ∷
+    Some (codes "@") ∷
+    Some (codes "$u7f$") ∷
+    Some (codes "$u9f$") ∷
+    Some (194 ∷ 160 ∷ []) ∷
+    Some (codes "foo") ∷
     []
 unfolding number inner_of element_of parts_within parts_of legacy_of escape_of_digits escape_of unit_of pieces_from unescaped shown encode_utf8
 without_hash = refl

@@ -1444,3 +1444,29 @@ row_345 = refl
 row_346 : shows true "_RIC7IC1auhEKVB2_UE" ≡ Some (marked_text "IC1auhE¦::¦<¦{¦a¦::¦<¦()¦, ¦u8¦>¦}¦>¦")
 unfolding shows marked_text
 row_346 = refl
+
+-- A boundary each: the last two categories of separators, damping, the last letter of a lifetime, a suffix.
+
+row_347 : shows true "_RIC0Kc2028_E" ≡ Some (marked_text "::¦<¦'¦\\¦u¦{¦2¦0¦2¦8¦}¦'¦>¦")
+unfolding shows marked_text
+row_347 = refl
+
+row_348 : shows true "_RIC0Kc2029_E" ≡ Some (marked_text "::¦<¦'¦\\¦u¦{¦2¦0¦2¦9¦}¦'¦>¦")
+unfolding shows marked_text
+row_348 = refl
+
+row_349 : shows true "_RCu11ab_cja24e9f" ≡ Some (marked_text "a¦b¦é¦Ɵ¦Ǉ¦")
+unfolding shows marked_text
+row_349 = refl
+
+row_350 : shows true "_RCu8_9ca22dpd" ≡ Some (marked_text "é¦ș¦Ɂ¦")
+unfolding shows marked_text
+row_350 = refl
+
+row_351 : shows true "_RMC0FGo_RL0_hEu" ≡ Some (marked_text "<¦for<¦'¦a¦, ¦'¦b¦, ¦'¦c¦, ¦'¦d¦, ¦'¦e¦, ¦'¦f¦, ¦'¦g¦, ¦'¦h¦, ¦'¦i¦, ¦'¦j¦, ¦'¦k¦, ¦'¦l¦, ¦'¦m¦, ¦'¦n¦, ¦'¦o¦, ¦'¦p¦, ¦'¦q¦, ¦'¦r¦, ¦'¦s¦, ¦'¦t¦, ¦'¦u¦, ¦'¦v¦, ¦'¦w¦, ¦'¦x¦, ¦'¦y¦, ¦'¦z¦> ¦fn(¦&¦'¦z¦ ¦u8¦)¦>¦")
+unfolding shows marked_text
+row_351 = refl
+
+row_352 : shows true "_RC3foo.a~" ≡ Some (marked_text "foo¦.a~¦")
+unfolding shows marked_text
+row_352 = refl

@@ -7,6 +7,7 @@ use std::process::Abort;
 
 mod beginnings;
 mod calls;
+mod faults;
 mod formats;
 mod hostile;
 mod legacy;

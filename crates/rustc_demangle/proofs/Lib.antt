@@ -15,5 +15,6 @@ pub mod SuffixSteps
 pub mod SymbolLaws
 pub mod SymbolSteps
 pub mod TableFeeds
+pub mod TextRows
 pub mod V0Feeds
 pub mod WordFeeds

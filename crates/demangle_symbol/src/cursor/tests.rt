@@ -6,6 +6,10 @@ fn integer(text: &str) -> Result<(u64, usize), ParseError> {
     Symbol::new(text).integer_62(0, &mut Looks::new())
 }
 
+fn optional(text: &str, tag: u8) -> Result<(u64, usize), ParseError> {
+    Symbol::new(text).opt_integer_62(tag, 0, &mut Looks::new())
+}
+
 fn disambiguator(text: &str) -> Result<(u64, usize), ParseError> {
     Symbol::new(text).disambiguator(0, &mut Looks::new())
 }
@@ -41,6 +45,20 @@ fn integers(rt: HostRuntime) {
     assert_eq!(rt; integer("10_"), Ok((63, 3)));
     assert_eq!(rt; integer("lYGhA16ahye_"), Ok((18446744073709551615, 12)));
     assert_eq!(rt; integer("lYGhA16ahyf_"), Err(ParseError::Invalid));
+}
+
+#[test]
+fn optional_integers(rt: HostRuntime) {
+    assert_eq!(rt; optional("x", b'G'), Ok((0, 0)));
+    assert_eq!(rt; optional("s_", b'G'), Ok((0, 0)));
+    assert_eq!(rt; optional("G_", b'G'), Ok((1, 2)));
+    assert_eq!(rt; optional("G0_", b'G'), Ok((2, 3)));
+    assert_eq!(rt;
+        optional("GlYGhA16ahyd_", b'G'),
+        Ok((18446744073709551615, 13))
+    );
+    assert_eq!(rt; optional("GlYGhA16ahye_", b'G'), Err(ParseError::Invalid));
+    assert_eq!(rt; optional("G", b'G'), Err(ParseError::Invalid));
 }
 
 #[test]

@@ -29,14 +29,34 @@ fn assert_printed(rt: &impl Abort, alloc: Global, text: &str) -> Result<(), Fail
     Ok(())
 }
 
-/// Asserts that the stream takes a text.
-fn assert_copied(rt: &impl Abort, alloc: Global, text: &str) {
-    for include_hash in [true, false] {
-        let mut input = text.as_bytes();
-        let mut output = Vec::new(alloc);
-        let result = demangle_stream(alloc, &mut input, &mut output, include_hash);
-        assert!(rt; result.is_ok(), "{text}");
-        assert!(rt; input.is_empty(), "{text}");
+/// A digest of bytes (FNV-1a with 64 bits), over what was digested before.
+fn digest_of(before: u64, bytes: &[u8]) -> u64 {
+    let mut digest = before;
+    for byte in bytes {
+        digest = (digest ^ u64::from(*byte)).wrapping_mul(0x0100_0000_01B3);
+    }
+    digest
+}
+
+/// The digest of nothing.
+const OF_NOTHING: u64 = 0xCBF2_9CE4_8422_2325;
+
+/// The digests of what the Rust crate's stream writes for the beginnings, with a line feed behind each: with the hash
+/// and without it.
+const WRITTEN: [(bool, u64); 2] = [
+    (true, 0xA761_CF34_3FBD_2746),
+    (false, 0xC1DA_C274_FAC4_9C89),
+];
+
+/// What the stream writes for a text.
+fn copied(alloc: Global, text: &str, include_hash: bool) -> Result<Vec<u8>, Fail> {
+    let mut input = text.as_bytes();
+    let mut output = Vec::new(alloc);
+    demangle_stream(alloc, &mut input, &mut output, include_hash)?;
+    if input.is_empty() {
+        Ok(output)
+    } else {
+        Err("bytes of the input are left".into())
     }
 }
 
@@ -48,9 +68,27 @@ fn each_beginning_of_a_symbol_is_taken(rt: HostRuntime) -> Result<(), Fail> {
         for len in 0..=text.len() {
             if let Some(beginning) = text.get(..len) {
                 assert_printed(&rt, alloc, beginning)?;
-                assert_copied(&rt, alloc, beginning);
             }
         }
+    }
+    Ok(())
+}
+
+#[test]
+fn the_stream_writes_for_each_beginning_what_the_crate_writes(rt: HostRuntime) -> Result<(), Fail> {
+    let alloc = rt.alloc();
+    for (include_hash, wanted) in WRITTEN {
+        let mut digest = OF_NOTHING;
+        for text in texts(alloc)?.iter() {
+            let text = text.as_str();
+            for len in 0..=text.len() {
+                if let Some(beginning) = text.get(..len) {
+                    let output = copied(alloc, beginning, include_hash)?;
+                    digest = digest_of(digest_of(digest, output.as_slice()), b"\n");
+                }
+            }
+        }
+        assert_eq!(rt; digest, wanted);
     }
     Ok(())
 }

@@ -29,7 +29,11 @@ fn the_alternate_flag_leaves_out_the_hash(rt: HostRuntime) -> Result<(), Fail> {
         assert_eq!(rt; format!(in alloc; "{:>40}", symbol)?.as_str(), plain);
         assert_eq!(rt; format!(in alloc; "{:*^+040.2}", symbol)?.as_str(), plain);
         assert_eq!(rt; format!(in alloc; "{:#}", symbol)?.as_str(), alt);
+        assert_eq!(rt; format!(in alloc; "{:>40?}", symbol)?.as_str(), plain);
+        assert_eq!(rt; format!(in alloc; "{:40?}", symbol)?.as_str(), plain);
+        assert_eq!(rt; format!(in alloc; "{:.3?}", symbol)?.as_str(), plain);
         assert_eq!(rt; format!(in alloc; "{:#?}", symbol)?.as_str(), alt);
+        assert_eq!(rt; format!(in alloc; "{:#>40.3?}", symbol)?.as_str(), plain);
     }
     Ok(())
 }

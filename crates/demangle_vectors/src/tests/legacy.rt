@@ -20,6 +20,8 @@ fn escapes_give_their_characters(rt: HostRuntime) {
         ("_ZN4_$C$E", ","),
         ("_ZN6__$C$aE", "__,a"),
         ("_ZN5a...bE", "a::.b"),
+        ("_ZN4$SP$E", "@"),
+        ("_ZN5$ua0$E", "\u{a0}"),
     ] {
         assert_prints(&rt, symbol, path, path);
     }
@@ -31,7 +33,9 @@ fn unknown_escapes_leave_the_rest_as_it_is(rt: HostRuntime) {
         ("_ZN10a$XX$b..cdE", "a$XX$b..cd"),
         ("_ZN5a$u7$E", "a$u7$"),
         ("_ZN2$$E", "$$"),
+        ("_ZN5$u7f$E", "$u7f$"),
         ("_ZN5$u80$E", "$u80$"),
+        ("_ZN5$u9f$E", "$u9f$"),
         ("_ZN3$u$E", "$u$"),
         ("_ZN5$u4A$E", "$u4A$"),
         ("_ZN5$u4G$E", "$u4G$"),
@@ -61,6 +65,8 @@ fn suffixes_follow_the_path(rt: HostRuntime) {
     for (symbol, plain, alt) in [
         ("_ZN3fooE.x", "foo.x", "foo.x"),
         ("_ZNE.", ".", "."),
+        ("_ZN3fooE.!a~", "foo.!a~", "foo.!a~"),
+        ("_ZN3fooE.llvm.AG", "foo.llvm.AG", "foo.llvm.AG"),
         (
             "_ZN3fooE.llvm.x.llvm.AB",
             "foo.llvm.x.llvm.AB",

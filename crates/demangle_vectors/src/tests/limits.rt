@@ -1,16 +1,18 @@
 //! Symbols under a limit.
 use super::{assert_prints_long, repeated};
-use rustc_demangle::demangle;
 use rustc_demangle::sink::{ArraySink, TextSink};
+use rustc_demangle::{Looks, demangle};
 use std::test::Fail;
 
-/// Whether a text prints this under a limit.
+/// Whether a text prints this under a limit, with its looks counted and without.
 fn limited_is(symbol: &str, include_hash: bool, limit: usize, text: &str) -> bool {
+    let symbol = demangle(symbol);
     let mut sink: ArraySink<4096> = ArraySink::new();
-    demangle(symbol)
-        .write_limited(&mut sink, include_hash, limit)
-        .is_ok()
-        && sink.as_str() == text
+    let mut counted: ArraySink<4096> = ArraySink::new();
+    let result = symbol.write_limited(&mut sink, include_hash, limit);
+    let mut looks = Looks::new();
+    let again = symbol.write_limited_counted(&mut counted, include_hash, limit, &mut looks);
+    result.is_ok() && again.is_ok() && sink.as_str() == text && counted.as_str() == text
 }
 
 #[test]

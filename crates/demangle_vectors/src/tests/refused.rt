@@ -31,7 +31,9 @@ fn symbols_with_a_suffix_that_is_not_allowed_print_themselves(rt: HostRuntime) {
         "_ZN3fooE.é",
         "_ZN1aE.llvm.é",
         "_ZN1a1bE.llvm.A B",
+        "_ZN3fooE.a\u{7f}",
         "_RC3foo.a b",
+        "_RC3foo.a\u{7f}",
         "_RC3foo.ü",
     ] {
         assert_refused(&rt, text, text);
@@ -46,6 +48,7 @@ fn an_ending_of_thin_lto_is_taken_off_any_text(rt: HostRuntime) {
         (".llvm.", ""),
         ("_ZNfooE.llvm.AB", "_ZNfooE"),
         ("a.llvm.A.llvm.G", "a.llvm.A.llvm.G"),
+        ("foo.llvm.AG", "foo.llvm.AG"),
     ] {
         assert_refused(&rt, text, printed);
     }

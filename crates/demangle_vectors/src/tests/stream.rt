@@ -24,7 +24,7 @@ fn assert_writes(
 
 #[test]
 fn symbols_are_replaced_in_lines(rt: HostRuntime) -> Result<(), Fail> {
-    let cases: [(&[u8], &[u8]); 18] = [
+    let cases: [(&[u8], &[u8]); 20] = [
         (b"", b""),
         (b"\n", b"\n"),
         (b"__ZN3fooE", b"_foo"),
@@ -46,6 +46,8 @@ fn symbols_are_replaced_in_lines(rt: HostRuntime) -> Result<(), Fail> {
         (b"RC1a __RC1a _RC1aC1b", b"RC1a _a a"),
         (b"_RMC0FG_RL0_hEu\n", b"<for<'a> fn(&'a u8)>\n"),
         (b"_R_RC1a _RC1a_RC1b", b"_R_RC1a _RC1a_RC1b"),
+        (b"x _ZN8$RF$testE y", b"x &test y"),
+        (b"_ZN3fooE.a~ _ZN3fooE.llvm.AG", b"foo.a~ foo.llvm.AG"),
     ];
     for (text, wanted) in cases {
         assert_writes(&rt, rt.alloc(), text, true, wanted)?;
@@ -136,13 +138,12 @@ fn a_line_is_not_utf8(rt: HostRuntime) -> Result<(), Fail> {
 const LINE: &[u8] = b"_ZN3fooE.llvm moocow \
     _RNvMNtNtNtNtCs8a2262Dv4r_3mio3sys4unix8selector5epollNtB2_8Selector6select _ZN3fooE.llvm";
 
-/// The writes of that line and of a line feed, without the hash.
-const WRITES: [&[u8]; 22] = [
-    b"foo",
-    b".llvm",
-    b" moocow ",
-    b"<",
-    b"mio",
+/// The writes of that line up to its disambiguator, which only the plain form shows, behind it, and of a line feed.
+const HEAD: [&[u8]; 5] = [b"foo", b".llvm", b" moocow ", b"<", b"mio"];
+
+const DISAMBIGUATOR: [&[u8]; 3] = [b"[", b"1888792e1a78739", b"]"];
+
+const TAIL: [&[u8]; 17] = [
     b"::",
     b"sys",
     b"::",
@@ -171,31 +172,42 @@ fn lines_have_symbols_of_both_schemes(rt: HostRuntime) -> Result<(), Fail> {
     assert_writes(&rt, rt.alloc(), LINE, true, plain.as_slice())
 }
 
-#[test]
-fn the_writer_fails_at_each_write(rt: HostRuntime) -> Result<(), Fail> {
-    let alloc = rt.alloc();
+/// Asserts that a writer that refuses its write of each number in turn holds those before it, over that line twice.
+fn assert_held(rt: &impl Abort, alloc: Global, include_hash: bool) -> Result<(), Fail> {
     let mut text = Vec::new(alloc);
+    let mut wanted_writes: Vec<&[u8]> = Vec::new(alloc);
     for _ in 0..2 {
         text.extend_from_slice(LINE)?;
         text.push(b'\n')?;
+        wanted_writes.extend_from_slice(&HEAD)?;
+        if include_hash {
+            wanted_writes.extend_from_slice(&DISAMBIGUATOR)?;
+        }
+        wanted_writes.extend_from_slice(&TAIL)?;
     }
-    for writes in 0..=45usize {
+    for writes in 0..=wanted_writes.len() {
         let mut input = text.as_slice();
         let mut output = RefusingWriter::new(alloc, b"old", writes, true)?;
-        let result = demangle_stream(alloc, &mut input, &mut output, false);
+        let result = demangle_stream(alloc, &mut input, &mut output, include_hash);
         let kind = result.map_err(|error| error.kind());
-        if writes < 44 {
+        if writes < wanted_writes.len() {
             assert_eq!(rt; kind, Err(ErrorKind::BrokenPipe), "at {writes}");
         } else {
             assert_eq!(rt; kind, Ok(()));
         }
         let mut wanted = Vec::from_slice(alloc, b"old")?;
-        for write in WRITES.iter().chain(WRITES.iter()).take(writes) {
+        for write in wanted_writes.iter().take(writes) {
             wanted.extend_from_slice(write)?;
         }
         assert_eq!(rt; output.held(), wanted.as_slice(), "at {writes}");
     }
     Ok(())
+}
+
+#[test]
+fn the_writer_fails_at_each_write(rt: HostRuntime) -> Result<(), Fail> {
+    assert_held(&rt, rt.alloc(), true)?;
+    assert_held(&rt, rt.alloc(), false)
 }
 
 #[test]

@@ -2,7 +2,8 @@
 use super::{StreamFault, copy_lines, demangle_stream};
 use linked_list_allocator::LocalHeap;
 use std::alloc::Global;
-use std::io::ErrorKind;
+use std::io;
+use std::io::{BufRead, ErrorKind, Read};
 use std::test::Fail;
 
 const TEXT: &[u8] = b"_ZN3fooE.llvm moocow _ZN3fooE.llvm\n\
@@ -58,6 +59,116 @@ fn memory_is_refused(rt: HostRuntime) -> Result<(), Fail> {
     // The second line needs no more memory than the first.
     let equal = copied_in_heaps(rt.alloc(), TWICE, ONCE_COPIED, TWICE_COPIED)?;
     assert!(rt; equal.refused_first && !equal.refused_second && equal.whole && !equal.other);
+    Ok(())
+}
+
+/// Hands out a text a byte at a filling, and notes at which of its fillings more of the heap came into use.
+#[derive(Drop)]
+struct WatchingReader<'a> {
+    text: &'a [u8],
+    taken: usize,
+    heap: &'a LocalHeap,
+    used: usize,
+    requests: Vec<usize>,
+}
+
+impl<'a> WatchingReader<'a> {
+    fn new(alloc: Global, text: &'a [u8], heap: &'a LocalHeap) -> WatchingReader<'a> {
+        WatchingReader {
+            text,
+            taken: 0,
+            heap,
+            used: heap.used(),
+            requests: Vec::new(alloc),
+        }
+    }
+}
+
+impl Read for WatchingReader<'_> {
+    fn read(&mut self, buf: &mut [u8]) -> io::Result<usize> {
+        let part = self.fill_buf()?;
+        let count = part.len().min(buf.len());
+        buf[..count].copy_from_slice(&part[..count]);
+        self.consume(count);
+        Ok(count)
+    }
+}
+
+impl BufRead for WatchingReader<'_> {
+    fn fill_buf(&mut self) -> io::Result<&[u8]> {
+        let used = self.heap.used();
+        if used != self.used {
+            self.used = used;
+            self.requests.push(self.taken.saturating_sub(1))?;
+        }
+        match self.text.get(self.taken..self.taken.saturating_add(1)) {
+            None => Ok(b""),
+            Some(part) => Ok(part),
+        }
+    }
+
+    fn consume(&mut self, amount: usize) {
+        self.taken = self.taken.saturating_add(amount);
+    }
+}
+
+/// At which fillings a copy asks for memory, where each request is met.
+fn requests_of(alloc: Global, text: &[u8], whole: &[u8]) -> Result<Vec<usize>, Fail> {
+    let heap = LocalHeap::new(alloc, 4_096)?;
+    let mut line = Vec::new(&heap);
+    let mut input = WatchingReader::new(alloc, text, &heap);
+    let mut output = Vec::new(alloc);
+    let result = copy_lines(&mut input, &mut output, &mut line, false);
+    if result.is_err() || output.as_slice() != whole {
+        return Err("it is not copied".into());
+    }
+    Ok(input.requests)
+}
+
+/// At which fillings memory is refused, in heaps of all sizes. A refused copy has written the lines before that filling
+/// alone.
+fn refusals_of(alloc: Global, text: &[u8], first: &[u8], whole: &[u8]) -> Result<Vec<usize>, Fail> {
+    let mut refusals = Vec::new(alloc);
+    for units in 1..64usize {
+        let heap = LocalHeap::new(alloc, units * 16)?;
+        // The smallest heap has room for one block of 16 bytes: this byte takes it, so the first request is refused.
+        let mut held = Vec::new(&heap);
+        held.push(0u8)?;
+        let mut line = Vec::new(&heap);
+        let mut input = WatchingReader::new(alloc, text, &heap);
+        let mut output = Vec::new(alloc);
+        let result = copy_lines(&mut input, &mut output, &mut line, false);
+        let front = text.get(..input.taken).unwrap_or(text);
+        let written = if result.is_ok() {
+            whole
+        } else if front.contains(&b'\n') {
+            first
+        } else {
+            b""
+        };
+        match result {
+            Ok(()) => {}
+            Err(StreamFault::Memory) => refusals.push(input.taken)?,
+            Err(_) => return Err("it is another fault".into()),
+        }
+        if output.as_slice() != written {
+            return Err("it wrote something else".into());
+        }
+    }
+    Ok(refusals)
+}
+
+#[test]
+fn each_request_for_memory_is_refused_once(rt: HostRuntime) -> Result<(), Fail> {
+    let alloc = rt.alloc();
+    for (text, first, whole) in [(TEXT, FIRST, WHOLE), (TWICE, ONCE_COPIED, TWICE_COPIED)] {
+        let requests = requests_of(alloc, text, whole)?;
+        let refusals = refusals_of(alloc, text, first, whole)?;
+        assert!(rt; requests.len() >= 4);
+        for request in requests.iter() {
+            assert!(rt; refusals.contains(request), "at {request}");
+        }
+    }
     Ok(())
 }
 

@@ -1,0 +1,264 @@
+//! Faults of readers and writers: the caller meets their kind and text, and nothing is written behind one.
+use super::repeated;
+use rustc_demangle::sink::{TextSink, WriteSink};
+use rustc_demangle::{StreamFault, demangle, demangle_stream, demangle_stream_named};
+use std::alloc::{AllocError, Global};
+use std::io;
+use std::io::{BufRead, ErrorKind, Read, Write};
+use std::test::Fail;
+
+const RESET: &str = "reset by the other side";
+
+const GONE: &str = "nobody reads any more";
+
+/// A text in parts of at most so many bytes, and behind it an error of this kind and text, or the end.
+#[derive(Drop)]
+struct PartedReader<'a> {
+    text: &'a [u8],
+    part: usize,
+    fault: Option<(ErrorKind, &'static str)>,
+}
+
+impl Read for PartedReader<'_> {
+    fn read(&mut self, buf: &mut [u8]) -> io::Result<usize> {
+        let part = self.fill_buf()?;
+        let count = part.len().min(buf.len());
+        buf[..count].copy_from_slice(&part[..count]);
+        self.consume(count);
+        Ok(count)
+    }
+}
+
+impl BufRead for PartedReader<'_> {
+    fn fill_buf(&mut self) -> io::Result<&[u8]> {
+        if self.text.is_empty() {
+            if let Some((kind, text)) = self.fault {
+                return Err(io::Error::new(kind, text));
+            }
+        }
+        match self.text.get(..self.part) {
+            None => Ok(self.text),
+            Some(part) => Ok(part),
+        }
+    }
+
+    fn consume(&mut self, amount: usize) {
+        self.text = self.text.get(amount..).unwrap_or(b"");
+    }
+}
+
+/// Takes so many writes, refuses one with an error of this kind and text, and counts those behind it.
+#[derive(Drop)]
+struct OnceRefusingWriter {
+    held: Vec<u8>,
+    left: usize,
+    kind: ErrorKind,
+    has_refused: bool,
+    late: usize,
+}
+
+impl OnceRefusingWriter {
+    fn new(alloc: Global, writes: usize, kind: ErrorKind) -> OnceRefusingWriter {
+        OnceRefusingWriter {
+            held: Vec::new(alloc),
+            left: writes,
+            kind,
+            has_refused: false,
+            late: 0,
+        }
+    }
+}
+
+impl Write for OnceRefusingWriter {
+    fn write(&mut self, buf: &[u8]) -> io::Result<usize> {
+        if self.has_refused {
+            self.late = self.late.saturating_add(1);
+        } else if self.left == 0 {
+            self.has_refused = true;
+            return Err(io::Error::new(self.kind, GONE));
+        } else {
+            self.left -= 1;
+        }
+        self.held.extend_from_slice(buf)?;
+        Ok(buf.len())
+    }
+
+    fn flush(&mut self) -> io::Result<()> {
+        Ok(())
+    }
+}
+
+/// The kind and the text of an error.
+fn told(alloc: Global, error: &io::Error) -> Result<(ErrorKind, String), AllocError> {
+    Ok((error.kind(), format!(in alloc; "{error}")?))
+}
+
+#[test]
+fn the_error_of_a_reader_reaches_the_caller(rt: HostRuntime) -> Result<(), Fail> {
+    let alloc = rt.alloc();
+    let reader = |kind: ErrorKind| PartedReader {
+        text: b"x _ZN3fooE\n_ZN3ba",
+        part: 100,
+        fault: Some((kind, RESET)),
+    };
+    let mut output = Vec::new(alloc);
+    let mut input = reader(ErrorKind::ConnectionReset);
+    let result = demangle_stream_named(alloc, &mut input, &mut output, true);
+    let Err(StreamFault::Read(error)) = result else {
+        return Err("no fault of the reader".into());
+    };
+    let (kind, text) = told(alloc, &error)?;
+    assert_eq!(rt; kind, ErrorKind::ConnectionReset);
+    assert_eq!(rt; text.as_str(), RESET);
+    let mut input = reader(ErrorKind::ConnectionReset);
+    let result = demangle_stream(alloc, &mut input, &mut output, true);
+    let (kind, text) = told(alloc, &result.err().ok_or("no error")?)?;
+    assert_eq!(rt; kind, ErrorKind::ConnectionReset);
+    assert_eq!(rt; text.as_str(), RESET);
+    assert_eq!(rt; output.as_slice(), b"x foo\nx foo\n".as_slice());
+    Ok(())
+}
+
+#[test]
+fn want_of_memory_in_a_reader_keeps_its_kind_alone(rt: HostRuntime) -> Result<(), Fail> {
+    let alloc = rt.alloc();
+    let reader = || PartedReader {
+        text: b"x _ZN3fooE\n",
+        part: 100,
+        fault: Some((ErrorKind::OutOfMemory, RESET)),
+    };
+    let mut output = Vec::new(alloc);
+    let result = demangle_stream_named(alloc, &mut reader(), &mut output, true);
+    assert!(rt; matches!(&result, Err(StreamFault::Memory)));
+    let result = demangle_stream(alloc, &mut reader(), &mut output, true);
+    let (kind, text) = told(alloc, &result.err().ok_or("no error")?)?;
+    assert_eq!(rt; kind, ErrorKind::OutOfMemory);
+    assert!(rt; text.as_str() != RESET);
+    Ok(())
+}
+
+#[test]
+fn the_error_of_a_writer_reaches_the_caller(rt: HostRuntime) -> Result<(), Fail> {
+    let alloc = rt.alloc();
+    for wanted in [ErrorKind::BrokenPipe, ErrorKind::OutOfMemory] {
+        let mut output = OnceRefusingWriter::new(alloc, 1, wanted);
+        let mut input = b"x _ZN3fooE\n".as_slice();
+        let result = demangle_stream_named(alloc, &mut input, &mut output, true);
+        let Err(StreamFault::Write(error)) = result else {
+            return Err("no fault of the writer".into());
+        };
+        let (kind, text) = told(alloc, &error)?;
+        assert_eq!(rt; kind, wanted);
+        assert_eq!(rt; text.as_str(), GONE);
+        let mut output = OnceRefusingWriter::new(alloc, 1, wanted);
+        let mut input = b"x _ZN3fooE\n".as_slice();
+        let result = demangle_stream(alloc, &mut input, &mut output, true);
+        let (kind, text) = told(alloc, &result.err().ok_or("no error")?)?;
+        assert_eq!(rt; kind, wanted);
+        assert_eq!(rt; text.as_str(), GONE);
+        let mut output = OnceRefusingWriter::new(alloc, 1, wanted);
+        let mut sink = WriteSink::new(&mut output);
+        assert!(rt; demangle("_ZN1a1bE").write_to(&mut sink, true).is_err());
+        let (kind, text) = told(alloc, &sink.into_fault().ok_or("no fault")?)?;
+        assert_eq!(rt; kind, wanted);
+        assert_eq!(rt; text.as_str(), GONE);
+    }
+    Ok(())
+}
+
+#[test]
+fn both_stream_calls_meet_the_same_fault(rt: HostRuntime) -> Result<(), Fail> {
+    let alloc = rt.alloc();
+    let cases: [(&[u8], ErrorKind, usize); 5] = [
+        (b"x _ZN3fooE\n", ErrorKind::ConnectionReset, 100),
+        (b"x _ZN3fooE\n_ZN3", ErrorKind::OutOfMemory, 100),
+        (b"x _ZN3fooE\n\xFF\n", ErrorKind::Other, 100),
+        (b"x _ZN3fooE\n", ErrorKind::Other, 0),
+        (b"x _ZN3fooE\n", ErrorKind::Other, 2),
+    ];
+    for (text, kind, writes) in cases {
+        for include_hash in [true, false] {
+            let reader = || PartedReader {
+                text,
+                part: 100,
+                fault: Some((kind, RESET)),
+            };
+            let mut named = OnceRefusingWriter::new(alloc, writes, ErrorKind::BrokenPipe);
+            let fault = demangle_stream_named(alloc, &mut reader(), &mut named, include_hash);
+            let fault = fault.err().ok_or("no fault")?.into_io();
+            let mut output = OnceRefusingWriter::new(alloc, writes, ErrorKind::BrokenPipe);
+            let error = demangle_stream(alloc, &mut reader(), &mut output, include_hash);
+            let (wanted_kind, wanted_text) = told(alloc, &fault)?;
+            let (kind, message) = told(alloc, &error.err().ok_or("no error")?)?;
+            assert_eq!(rt; kind, wanted_kind, "of {text:?}");
+            assert_eq!(rt; message.as_str(), wanted_text.as_str(), "of {text:?}");
+            assert_eq!(rt;
+                output.held.as_slice(),
+                named.held.as_slice(),
+                "of {text:?}"
+            );
+        }
+    }
+    Ok(())
+}
+
+#[test]
+fn nothing_is_written_behind_the_first_fault(rt: HostRuntime) -> Result<(), Fail> {
+    let alloc = rt.alloc();
+    for writes in 0..12usize {
+        let mut input = b"a _ZN1a1bE.x b\n_RCs_3foo c\nd\n".as_slice();
+        let mut output = OnceRefusingWriter::new(alloc, writes, ErrorKind::BrokenPipe);
+        let result = demangle_stream_named(alloc, &mut input, &mut output, true);
+        assert!(rt;
+            matches!(&result, Err(StreamFault::Write(_))),
+            "at {writes}"
+        );
+        assert!(rt; output.has_refused, "at {writes}");
+        assert_eq!(rt; output.late, 0, "at {writes}");
+    }
+    for symbol in ["_ZN1a1bE.x", "_RNvC1a1b.x", "a"] {
+        let symbol = demangle(symbol);
+        for writes in 0..4usize {
+            let mut output = OnceRefusingWriter::new(alloc, writes, ErrorKind::BrokenPipe);
+            let mut sink = WriteSink::new(&mut output);
+            let result = symbol.write_to(&mut sink, true);
+            assert_eq!(rt; result.is_err(), sink.is_failed(), "at {writes}");
+            assert_eq!(rt;
+                sink.into_fault().is_some(),
+                output.has_refused,
+                "at {writes}"
+            );
+            assert_eq!(rt; output.late, 0, "at {writes}");
+        }
+    }
+    Ok(())
+}
+
+#[test]
+fn a_hundred_thousand_lines_are_copied(rt: HostRuntime) -> Result<(), Fail> {
+    let alloc = rt.alloc();
+    let text = repeated(alloc, "x _ZN3fooE\n", 100_000)?;
+    let wanted = repeated(alloc, "x foo\n", 100_000)?;
+    let mut input = text.as_str().as_bytes();
+    let mut output = Vec::new(alloc);
+    demangle_stream(alloc, &mut input, &mut output, true)?;
+    assert!(rt; output.as_slice() == wanted.as_str().as_bytes());
+    Ok(())
+}
+
+#[test]
+fn a_line_comes_in_ten_thousand_parts(rt: HostRuntime) -> Result<(), Fail> {
+    let alloc = rt.alloc();
+    let text = repeated(alloc, "x _ZN3fooE, ", 1_000)?;
+    let wanted = repeated(alloc, "x foo, ", 1_000)?;
+    let mut input = PartedReader {
+        text: text.as_str().as_bytes(),
+        part: 1,
+        fault: None,
+    };
+    assert!(rt; text.as_str().len() > 10_000);
+    let mut output = Vec::new(alloc);
+    demangle_stream(alloc, &mut input, &mut output, true)?;
+    assert!(rt; output.as_slice() == wanted.as_str().as_bytes());
+    Ok(())
+}
