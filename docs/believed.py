@@ -31,6 +31,12 @@ def used_crates():
     return found
 
 
+def home(crate, name):
+    """The crate whose file of definitions it is, where the named one may only pass it on."""
+    passed = re.findall(r'^pub use Rattle\.(\w+)\.specs\.%s$' % name, read(CRATES, crate, 'specs', 'Lib.antt'), re.M)
+    return (passed[0] if passed else crate, name)
+
+
 def used(text):
     """What a module brings in by `pub use`: each name, and the path to it."""
     for path, many, one in re.findall(r'^\s*pub use ([\w:]*?)(?:\{([^}]*)\}|(\w+));', text, re.M):
@@ -125,11 +131,11 @@ def main():
     places = {place for name in CALLED if name in crates for place in exported(os.path.join(CRATES, name, 'src'), 'lib')}
     files = with_impls(crates, places)
     believed = set()
-    todo = {place for file in files for place in cited(file, files[file]) if place[0] in crates}
+    todo = {home(*place) for file in files for place in cited(file, files[file]) if place[0] in crates}
     while todo:
         believed |= todo
         reached = {tuple(place) for crate, name in todo for place in SPEC.findall(read(CRATES, crate, 'specs', name + '.antt'))}
-        todo = {place for place in reached if place[0] in crates and place[1] != 'declared'} - believed
+        todo = {home(*place) for place in reached if place[0] in crates and place[1] != 'declared'} - believed
     lines = {place: read(CRATES, place[0], 'specs', place[1] + '.antt').count('\n') for place in believed}
     for crate in reversed(crates):
         print(crate + ': ' + ', '.join('%s %d' % (name, lines[crate, name]) for owner, name in sorted(believed) if owner == crate))

@@ -107,7 +107,13 @@ fn memory_is_a_sink(rt: HostRuntime) {
 #[test]
 fn memory_keeps_the_front(rt: HostRuntime) {
     let mut memory = [9; 12];
-    for (room, text) in [(0, ""), (1, "f"), (4, "foo:"), (8, "foo::bar"), (9, "foo::bar")] {
+    for (room, text) in [
+        (0, ""),
+        (1, "f"),
+        (4, "foo:"),
+        (8, "foo::bar"),
+        (9, "foo::bar"),
+    ] {
         memory = [9; 12];
         let mut sink = SliceSink::new(&mut memory[..room]);
         assert!(rt; demangle("_RNvC3foo3bar").write_to(&mut sink, true).is_ok());
