@@ -4,7 +4,7 @@ ghost use Rattle.demangle_v0.specs.Begins.{total};
 ghost use Rattle.demangle_v0.specs.Serving.{refer, IsDeep};
 
 use crate::grammar::Mark;
-use demangle_symbol::cursor::{Looks, Symbol};
+use demangle_symbol::cursor::{Looks, MAX_DEPTH, ParseError, Symbol};
 
 /// Where a reference leads.
 #[derive(Clone, Copy)]
@@ -25,14 +25,14 @@ pub fn refer(symbol: &Symbol<'_>, left: u16, place: Option<usize>, looks: &mut L
     let Some(at) = place else {
         return Reference::Faulty(Mark::Unread);
     };
-    let Ok((target, next)) = symbol.integer_62(at, looks) else {
-        return Reference::Faulty(Mark::Invalid);
-    };
-    if at == 0 || target >= at as u64 - 1 {
+    // No `B` stands in front of the symbol.
+    if at == 0 {
         return Reference::Faulty(Mark::Invalid);
     }
-    if left == 0 {
-        return Reference::Faulty(Mark::Recursion);
+    let depth = MAX_DEPTH.saturating_sub(u32::from(left));
+    match symbol.backref(at, depth, looks) {
+        Ok((target, behind)) => Reference::Target(target, behind),
+        Err(ParseError::Invalid) => Reference::Faulty(Mark::Invalid),
+        Err(ParseError::RecursedTooDeep) => Reference::Faulty(Mark::Recursion),
     }
-    Reference::Target(target as usize, next)
 }

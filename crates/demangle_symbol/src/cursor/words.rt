@@ -1,5 +1,5 @@
 //! The words of a v0 symbol that are numbers, letters and references.
-ghost use Rattle.std.specs.Prelude.{◌≡◌, ℕ, ◌+◌, ◌-◌, ◌*◌, ◌<◌, ◌≤◌, ◌^◌, length, true, false, IfOk, OnErr, IfErr, MatchOption, option_map};
+ghost use Rattle.std.specs.Prelude.{◌≡◌, ℕ, ◌+◌, ◌-◌, ◌*◌, ◌<◌, ◌≤◌, ◌^◌, length, true, false, IfOk, OnErr, IfErr, IfSome, MatchOption, option_map};
 ghost use Rattle.std.specs.Result.{result_ok};
 ghost use Rattle.demangle_symbol.specs.Words.{byte_at, integer_at, optional_at, namespace_at, backref_at, Integer, OptInteger, Namespace, Backref, behind, is_digit_62, digit_62};
 ghost use Rattle.demangle_symbol.specs.Idents.{referred};
@@ -141,6 +141,7 @@ impl<'s> Symbol<'s> {
         ensures grows { looks.old ≤ looks.new }
         ensures ok_looks { IfOk result (λ r. looks.new ≤ looks.old + 4 * (r.1 - place + 1)) }
         ensures err_looks { OnErr result (looks.new ≤ looks.old + 4 * (length self.now - place + 1)) }
+        ensures word_looks { IfSome (backref_at self.now place) (λ r. looks.new ≤ looks.old + 4 * (r.1 - place + 1)) }
         ensures within { IfOk result (λ r. (place < r.1) × (r.1 ≤ length self.now) × (r.0 + 1 < place)) }
     {
         let (target, next) = self.integer_62(place, looks)?;

@@ -8,7 +8,7 @@ use crate::grammar::Mark;
 use crate::stretch::Stretch;
 use crate::words::{WordRead, faulty, goes, nibbles};
 use demangle_symbol::cursor::{Looks, Symbol};
-use demangle_symbol::literal::is_string;
+use demangle_symbol::literal::{character_of, is_string, truth_of};
 
 pub(super) fn read_sign(symbol: &Symbol<'_>, place: usize, looks: &mut Looks) -> WordRead
     ensures value { result ≡ (sign_group symbol.now place).reads }
@@ -52,10 +52,10 @@ pub(super) fn read_truth(symbol: &Symbol<'_>, place: usize, looks: &mut Looks) -
     let Some((part, next)) = nibbles(symbol, place, looks) else {
         return faulty();
     };
-    match symbol.hex_number(part, looks) {
-        Some(0) => goes(Stretch::Fixed(Mark::False), next),
-        Some(1) => goes(Stretch::Fixed(Mark::True), next),
-        _ => faulty(),
+    match truth_of(symbol.hex_number(part, looks)) {
+        Some(false) => goes(Stretch::Fixed(Mark::False), next),
+        Some(true) => goes(Stretch::Fixed(Mark::True), next),
+        None => faulty(),
     }
 }
 
@@ -69,13 +69,7 @@ pub(super) fn read_character(symbol: &Symbol<'_>, place: usize, looks: &mut Look
     let Some((part, next)) = nibbles(symbol, place, looks) else {
         return faulty();
     };
-    let Some(number) = symbol.hex_number(part, looks) else {
-        return faulty();
-    };
-    let Ok(code) = u32::try_from(number) else {
-        return faulty();
-    };
-    match char::from_u32(code) {
+    match character_of(symbol.hex_number(part, looks)) {
         Some(c) => goes(Stretch::Character(c), next),
         None => faulty(),
     }
