@@ -1,4 +1,4 @@
-//! The demangler for C, C++ and every language that calls C: a static library, whose header is include/kodliwe.h.
+//! The demangler for C, C++ and every language that calls C: a static library, with include/kodliwe.h.
 #![tactic(auto)]
 
 ghost use Rattle.std.specs.Prelude.{◌≡◌, ◌+◌, ◌≤◌, ◌↔◌, length, IsTrue, OnSome, IfSome, IfNone};
@@ -41,11 +41,12 @@ fn write_path(symbol: &Demangle<'_>, out: &mut [u8], include_hash: bool, limit: 
     let mut sink = SliceSink::new(out);
     match symbol.write_limited(&mut sink, include_hash, limit) {
         Ok(()) => sink.len(),
-        Err(_) => 0,
+        Err(_) => unreachable!(),
     }
 }
 
-/// Whether the bytes are a Rust symbol, in the legacy scheme or in v0 (Rust RFC 2603), once an ending of ThinLTO is taken off.
+/// Whether the bytes are a Rust symbol, in the legacy scheme or in v0 (Rust RFC 2603), once an ending
+/// of ThinLTO is taken off.
 ///
 /// It prints nothing, so that a lister of symbols can ask it of each. It takes no memory.
 #[unsafe(no_mangle)]
@@ -55,12 +56,14 @@ pub extern "C" fn kodliwe_is_symbol(symbol: &[u8]) -> bool
     symbol_of(symbol).is_some()
 }
 
-/// Writes the path that a Rust symbol names into memory, with a 0 behind it, and answers how many bytes the two want.
+/// Writes the path that a Rust symbol names into memory, with a 0 behind it, and answers how many
+/// bytes the two want.
 ///
-/// The path is cut at `limit` bytes, and at 1,000,000 at most, before `{size limit reached}` and the symbol's suffix. The
-/// answer is 0 where the bytes are no symbol; the memory is then as it was. Else the answer does not depend on the size of the memory, which
-/// holds the path and its 0 where the answer is at most that size, and as much of the path as fits before a 0 where it is
-/// more; no byte behind the 0 is changed, and memory of size 0 stays as it was. It takes no memory of its own.
+/// The path is cut at `limit` bytes, and at 1,000,000 at most, before `{size limit reached}` and the
+/// symbol's suffix. The answer is 0 where the bytes are no symbol; the memory is then as it was. Else
+/// the answer does not depend on the size of the memory, which holds the path and its 0 where the
+/// answer is at most that size, and as much of the path as fits before a 0 where it is more; no byte
+/// behind the 0 is changed, and memory of size 0 stays as it was. It takes no memory of its own.
 #[unsafe(no_mangle)]
 pub extern "C" fn kodliwe_demangle_limited(
     symbol: &[u8],
@@ -69,9 +72,11 @@ pub extern "C" fn kodliwe_demangle_limited(
     limit: usize,
 ) -> usize
     ensures none { (NamesRust symbol.now → ⊥) → (result ≡ 0) × (out.new ≡ out.old) }
-    ensures size { NamesRust symbol.now → result ≡ length (path_within symbol.now include_hash (min limit MAX_SIZE)) + 1 }
+    ensures size { NamesRust symbol.now →
+        result ≡ length (path_within symbol.now include_hash (min limit MAX_SIZE)) + 1 }
     ensures text { NamesRust symbol.now →
-        out.new ≡ covered out.old (c_string (length out.old) (path_within symbol.now include_hash (min limit MAX_SIZE))) }
+        let path = path_within symbol.now include_hash (min limit MAX_SIZE) in
+        out.new ≡ covered out.old (c_string (length out.old) path) }
 {
     let Some(demangled) = symbol_of(symbol) else {
         return 0;
@@ -90,7 +95,8 @@ pub extern "C" fn kodliwe_demangle_limited(
 pub extern "C" fn kodliwe_demangle(symbol: &[u8], out: &mut [u8], include_hash: bool) -> usize
     ensures none { (NamesRust symbol.now → ⊥) → (result ≡ 0) × (out.new ≡ out.old) }
     ensures size { NamesRust symbol.now → result ≡ length (path_of symbol.now include_hash) + 1 }
-    ensures text { NamesRust symbol.now → out.new ≡ covered out.old (c_string (length out.old) (path_of symbol.now include_hash)) }
+    ensures text { NamesRust symbol.now →
+        out.new ≡ covered out.old (c_string (length out.old) (path_of symbol.now include_hash)) }
 {
     kodliwe_demangle_limited(symbol, out, include_hash, MAX_SIZE)
 }

@@ -3,7 +3,7 @@ use Rattle.std.specs.Prelude.{◌≡◌, ℕ, ◌+◌, List, [], ◌∷◌, ◌+
 use Rattle.std.proofs.Common.{zero, suc, sym, ap, ◌∙◌, arith}
 use Rattle.std.proofs.lemmas.List.{take-append-drop, drop_all, length-append}
 
--- the memory with the text at its beginning, as far as it reaches; behind the text it is as it was
+-- the memory with the text at its beginning, as far as it reaches, and behind it as it was
 abbrev pub covered : List ℕ → List ℕ → List ℕ
 covered memory text = take (length memory) text ++ drop (length text) memory
 
@@ -11,7 +11,8 @@ covered memory text = take (length memory) text ++ drop (length text) memory
 abbrev pub covered_from : ℕ → List ℕ → List ℕ → List ℕ
 covered_from place memory text = take place memory ++ covered (drop place memory) text
 
--- These bytes were laid into the memory behind the text that it had, and the text is so much longer, also where they found no room.
+-- These bytes were laid into the memory behind the text that it had, as far as it reaches, and the
+-- text is longer by all of them.
 pub record Laid (old : List ℕ) (old_len : ℕ) (bytes : List ℕ) (new : List ℕ) (new_len : ℕ) : Type 0 where
   pub counted : new_len ≡ old_len + length bytes
   pub kept : new ≡ covered_from old_len old bytes

@@ -6,11 +6,12 @@ ghost use Rattle.demangle_sink.specs.Slice.{covered_from, Laid, Laid-nothing, La
 
 use crate::{SinkRefused, TextSink};
 
-/// Keeps the front of a text in the caller's bytes, as much as there is room for, and counts all of it.
+/// Keeps the front of a text in the caller's bytes, as much as there is room for, and counts all of
+/// it.
 ///
-/// The text stands from the first byte on, with nothing behind it; the bytes that it does not reach stay as they were. A
-/// character may be cut where the memory ends. A piece is refused only where the count would go past `usize::MAX`, and
-/// changes nothing then.
+/// The text stands from the first byte on, with nothing behind it; the bytes that it does not reach
+/// stay as they were. A character may be cut where the memory ends. A piece is refused only where the
+/// count would go past `usize::MAX`, and changes nothing then.
 #[derive(Drop)]
 pub struct SliceSink<'b> {
     out: &'b mut [u8],
@@ -52,7 +53,8 @@ fn lay(out: &mut [u8], place: usize, bytes: &[u8])
 }
 
 impl<'b> TextSink for SliceSink<'b> {
-    ghost took = { λ s bytes t. (t.out.ghost_name ≡ s.out.ghost_name) × Laid s.out.now s.len bytes t.out.now t.len };
+    ghost took = { λ s bytes t. (t.out.ghost_name ≡ s.out.ghost_name)
+        × Laid s.out.now s.len bytes t.out.now t.len };
 
     ghost failed = { λ s. s.failed };
 
