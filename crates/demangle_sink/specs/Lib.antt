@@ -1,10 +1,10 @@
 -- What a reader of the public contracts believes, in reading order.
 pub mod Sink
+pub mod Cut
+pub mod Hands
 pub mod Array
 pub mod Writer
 pub mod Slice
-pub mod Cut
-pub mod Hands
 pub mod Writes
 -- Internal.
 pub mod Limit

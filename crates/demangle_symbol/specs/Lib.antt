@@ -1,7 +1,7 @@
 -- What a reader of the public contracts believes, in reading order.
-pub mod Tally
-pub mod Digits
 pub mod Prefix
+pub mod Digits
+pub mod Tally
 pub mod Words
 pub mod Punycode
 pub mod Names

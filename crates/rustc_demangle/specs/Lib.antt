@@ -7,16 +7,16 @@ pub mod Filtered
 pub mod Stream
 -- and of demangle_sink
 pub use Rattle.demangle_sink.specs.Sink
+pub use Rattle.demangle_sink.specs.Cut
+pub use Rattle.demangle_sink.specs.Hands
 pub use Rattle.demangle_sink.specs.Array
 pub use Rattle.demangle_sink.specs.Writer
 pub use Rattle.demangle_sink.specs.Slice
-pub use Rattle.demangle_sink.specs.Cut
-pub use Rattle.demangle_sink.specs.Hands
 pub use Rattle.demangle_sink.specs.Writes
 -- and of demangle_symbol
-pub use Rattle.demangle_symbol.specs.Tally
-pub use Rattle.demangle_symbol.specs.Digits
 pub use Rattle.demangle_symbol.specs.Prefix
+pub use Rattle.demangle_symbol.specs.Digits
+pub use Rattle.demangle_symbol.specs.Tally
 pub use Rattle.demangle_symbol.specs.Words
 pub use Rattle.demangle_symbol.specs.Punycode
 pub use Rattle.demangle_symbol.specs.Names
@@ -27,10 +27,10 @@ pub use Rattle.demangle_legacy.specs.Unescaped
 -- and of demangle_v0
 pub use Rattle.demangle_v0.specs.Items
 pub use Rattle.demangle_v0.specs.Table
+pub use Rattle.demangle_v0.specs.Cost
 pub use Rattle.demangle_v0.specs.Reading
 pub use Rattle.demangle_v0.specs.Spelling
 pub use Rattle.demangle_v0.specs.V0
-pub use Rattle.demangle_v0.specs.Cost
 pub use Rattle.demangle_v0.specs.Accepting
 -- Internal.
 pub mod Style
