@@ -1,5 +1,5 @@
 //! The library's answers beside those of a corpus.
-ghost use Rattle.std.specs.Prelude.{◌≤◌, IfOk};
+ghost use Rattle.std.specs.Prelude.{◌*◌, ◌≤◌, IfOk};
 
 use crate::answers::{answers_of, limited_forms, pieces_forms};
 use crate::case::{Answers, Case, Forms, Wanted};
@@ -104,7 +104,9 @@ fn check_line<W: Write>(
     number: u64,
     line: &str,
     output: &mut W,
-) -> Result<u64, CorpusFault> {
+) -> Result<u64, CorpusFault>
+    ensures { IfOk result (λ n. n ≤ 4) }
+{
     let Some(case) = Case::parse(alloc, line)? else {
         writeln!(output, "line {number} can't be read").map_err(|_| CorpusFault::Write)?;
         return Ok(1);
@@ -133,12 +135,15 @@ fn read_fault(error: &io::Error) -> CorpusFault {
     }
 }
 
-/// Asks the library about each line of a corpus, and writes each difference and then the counts.
+/// Asks the library about each line of a corpus, and writes each difference, of which a line has four at most, and then
+/// the counts.
 pub fn corpus_run<R: BufRead, W: Write>(
     alloc: Global,
     input: &mut R,
     output: &mut W,
-) -> Result<Counts, CorpusFault> {
+) -> Result<Counts, CorpusFault>
+    ensures { IfOk result (λ counts. counts.differences ≤ 4 * counts.lines) }
+{
     let mut counts = Counts {
         lines: 0,
         differences: 0,

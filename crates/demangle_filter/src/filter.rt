@@ -1,5 +1,5 @@
 //! The program's work over any streams.
-ghost use Rattle.std.specs.Prelude.{◌≡◌, ◌≤◌};
+ghost use Rattle.std.specs.Prelude.{◌≡◌, ◌≤◌, length};
 
 use rustc_demangle::{StreamFault, demangle_stream_named};
 use std::alloc::Global;
@@ -55,7 +55,8 @@ pub fn filter_run<R: BufRead, W: Write, E: Write>(
     output: &mut W,
     errors: &mut E,
 ) -> u8
-    ensures { result ≤ 2 }
+    ensures status { result ≤ 2 }
+    ensures usage { 2 ≤ length words.now → result ≡ 2 }
 {
     let include_hash = match words {
         [] => true,

@@ -7,9 +7,11 @@ use Rattle.demangle_sink.specs.Cut.{size}
 use Rattle.demangle_sink.specs.Hands.{HoldsFront}
 use Rattle.demangle_sink.specs.Sink.{Fits, room_after}
 
--- The sink was handed these pieces. Ok: it took their text, and has not failed. Err: it has failed, and one that keeps
--- took those in front of the refused one. Where all of them are within its room it is Ok, and the room fell by their bytes.
-pub record Writes {S : Type 0} (sink : Ghosts S) (old : S) (list : List (List ℕ)) (result : Result (Unit {0}) SinkRefused) (new : S) : Type 0 where
+-- The sink was handed these pieces. Ok: it took their text, and has not failed. Err: it has failed,
+-- and one that keeps took those in front of the refused one. Where all of them are within its room
+-- it is Ok, and the room fell by their bytes.
+pub record Writes {S : Type 0} (sink : Ghosts S) (old : S) (list : List (List ℕ))
+    (result : Result (Unit {0}) SinkRefused) (new : S) : Type 0 where
   pub text : OnOk result (sink.took old (concat list) new)
   pub alive : OnOk result (sink.failed new ≡ false)
   pub failed : OnErr result (sink.failed new ≡ true)

@@ -29,8 +29,10 @@ impl fmt::Debug for Demangle<'_> {
     ghost debug_output = { λ symbol. Some (printed symbol true) };
 
     fn fmt<W: fmt::Write>(&self, f: &mut fmt::Formatter<W>) -> fmt::Result
-        ensures writes { DisplaysOnOk W.write_str_gives f.old result (Some (printed self.now true)) f.new }
-        ensures styled { WritesStyledOnOk W.write_str_gives f.old result (printed self.now (not (spec_alternate (formatter_spec f.old)))) f.new }
+        ensures writes { DisplaysOnOk W.write_str_gives f.old result
+            (Some (printed self.now true)) f.new }
+        ensures styled { WritesStyledOnOk W.write_str_gives f.old result
+            (printed self.now (not (spec_alternate (formatter_spec f.old)))) f.new }
     {
         fmt::Display::fmt(self, f)
     }

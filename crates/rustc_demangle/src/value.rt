@@ -133,7 +133,8 @@ impl<'a> Demangle<'a> {
         looks: &mut Looks,
     ) -> Result<(), SinkRefused>
         requires { S.failed out.old ≡ false }
-        ensures writes { Writes S.TextSink out.old (handed self.now include_hash limit) result out.new }
+        ensures writes { Writes S.TextSink out.old (handed self.now include_hash limit)
+            result out.new }
         ensures grows { looks.old ≤ looks.new }
         ensures most { looks.new ≤ looks.old + 100000 * (kept_of self.now include_hash limit + 1) * (length self.now + 1) }
         ensures legacy { IsLegacySymbol self.now → looks.new ≤ looks.old + 16 * (length self.now + 1) }
@@ -151,7 +152,8 @@ impl<'a> Demangle<'a> {
         limit: usize,
     ) -> Result<(), SinkRefused>
         requires { S.failed out.old ≡ false }
-        ensures { Writes S.TextSink out.old (handed self.now include_hash limit) result out.new }
+        ensures { Writes S.TextSink out.old (handed self.now include_hash limit)
+            result out.new }
     {
         self.write_limited_counted(out, include_hash, limit, &mut Looks::new())
     }
@@ -164,7 +166,8 @@ impl<'a> Demangle<'a> {
         looks: &mut Looks,
     ) -> Result<(), SinkRefused>
         requires { S.failed out.old ≡ false }
-        ensures writes { Writes S.TextSink out.old (handed self.now include_hash most_bytes) result out.new }
+        ensures writes { Writes S.TextSink out.old (handed self.now include_hash most_bytes)
+            result out.new }
         ensures grows { looks.old ≤ looks.new }
         ensures most { looks.new ≤ looks.old + 100000 * (kept_of self.now include_hash most_bytes + 1) * (length self.now + 1) }
         ensures legacy { IsLegacySymbol self.now → looks.new ≤ looks.old + 16 * (length self.now + 1) }
@@ -179,7 +182,8 @@ impl<'a> Demangle<'a> {
     /// It is refused exactly where the sink failed in this call, as `write_limited_counted` says, and takes no memory.
     pub fn write_to<S: TextSink>(&self, out: &mut S, include_hash: bool) -> Result<(), SinkRefused>
         requires { S.failed out.old ≡ false }
-        ensures { Writes S.TextSink out.old (handed self.now include_hash most_bytes) result out.new }
+        ensures { Writes S.TextSink out.old (handed self.now include_hash most_bytes)
+            result out.new }
     {
         self.write_limited(out, include_hash, MAX_SIZE)
     }

@@ -21,8 +21,10 @@ pub fn stripped_is_cut_once()
 
 /// A text that is no symbol hands over itself, in one piece and without a limit.
 pub fn no_symbol_prints_itself()
-    ensures handed { (text : List ℕ) → (IsSymbol text → ⊥) → (hash : Bool) → (limit : ℕ) → handed text hash limit ≡ text ∷ [] }
-    ensures kept { (text : List ℕ) → (IsSymbol text → ⊥) → (hash : Bool) → (limit : ℕ) → kept_of text hash limit ≡ 0 }
+    ensures handed { (text : List ℕ) → (IsSymbol text → ⊥) → (hash : Bool) → (limit : ℕ) →
+        handed text hash limit ≡ text ∷ [] }
+    ensures kept { (text : List ℕ) → (IsSymbol text → ⊥) → (hash : Bool) → (limit : ℕ) →
+        kept_of text hash limit ≡ 0 }
 {}
 
 /// A symbol hands over at most the bytes of the limit, the 20 of the marker, and its suffix.

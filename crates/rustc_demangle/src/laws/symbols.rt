@@ -8,23 +8,30 @@ ghost use Rattle.rustc_demangle.specs.Symbols.{handed, kept_of};
 ghost use Rattle.demangle_legacy.specs.Unescaped.{legacy_pieces};
 ghost use Rattle.demangle_v0.specs.V0.{IsV0};
 
-/// A legacy symbol with an allowed suffix hands over the pieces of its elements, cut at the limit, and then its suffix.
+/// A legacy symbol with an allowed suffix hands over the pieces of its elements, cut at the limit,
+/// and then its suffix.
 pub fn legacy_symbol_prints_its_elements()
-    ensures handed { (text : List ℕ) → (elements : List (List ℕ)) → (suffix : List ℕ) → (hash : Bool) → (limit : ℕ) → IsLegacy text elements suffix → is_allowed suffix ≡ true →
+    ensures handed { (text : List ℕ) → (elements : List (List ℕ)) → (suffix : List ℕ) →
+        (hash : Bool) → (limit : ℕ) → IsLegacy text elements suffix → is_allowed suffix ≡ true →
         handed text hash limit ≡ cut (legacy_pieces hash elements) limit ++ suffix ∷ [] }
-    ensures kept { (text : List ℕ) → (elements : List (List ℕ)) → (suffix : List ℕ) → (hash : Bool) → (limit : ℕ) → IsLegacy text elements suffix → is_allowed suffix ≡ true →
+    ensures kept { (text : List ℕ) → (elements : List (List ℕ)) → (suffix : List ℕ) →
+        (hash : Bool) → (limit : ℕ) → IsLegacy text elements suffix → is_allowed suffix ≡ true →
         kept_of text hash limit ≡ kept (legacy_pieces hash elements) limit }
 {}
 
-/// A v0 symbol with an allowed suffix hands over what its tree gives, cut at the limit, and then its suffix.
+/// A v0 symbol with an allowed suffix hands over what its tree gives, cut at the limit, and then its
+/// suffix.
 pub fn v0_symbol_prints_its_tree()
-    ensures handed { (text inner suffix : List ℕ) → (hash : Bool) → (limit : ℕ) → IsV0 text inner suffix → is_allowed suffix ≡ true →
+    ensures handed { (text inner suffix : List ℕ) → (hash : Bool) → (limit : ℕ) →
+        IsV0 text inner suffix → is_allowed suffix ≡ true →
         handed text hash limit ≡ cut (rendered inner hash) limit ++ suffix ∷ [] }
-    ensures kept { (text inner suffix : List ℕ) → (hash : Bool) → (limit : ℕ) → IsV0 text inner suffix → is_allowed suffix ≡ true →
+    ensures kept { (text inner suffix : List ℕ) → (hash : Bool) → (limit : ℕ) →
+        IsV0 text inner suffix → is_allowed suffix ≡ true →
         kept_of text hash limit ≡ kept (rendered inner hash) limit }
 {}
 
 /// No text is a symbol of both schemes.
 pub fn no_symbol_is_of_both_schemes()
-    ensures { (text : List ℕ) → (elements : List (List ℕ)) → (inner suffix other : List ℕ) → IsLegacy text elements suffix → IsV0 text inner other → ⊥ }
+    ensures { (text : List ℕ) → (elements : List (List ℕ)) → (inner suffix other : List ℕ) →
+        IsLegacy text elements suffix → IsV0 text inner other → ⊥ }
 {}
