@@ -1,4 +1,5 @@
-//! The demangler for C, C++ and every language that calls C: a static library, with include/kodliwe.h.
+//! The demangler for C, C++ and every language that calls C: a static library, with
+//! include/kodliwe.h.
 #![tactic(auto)]
 
 ghost use Rattle.std.specs.Prelude.{◌≡◌, ◌+◌, ◌≤◌, ◌↔◌, length, IsTrue, OnSome, IfSome, IfNone};
@@ -45,8 +46,8 @@ fn write_path(symbol: &Demangle<'_>, out: &mut [u8], include_hash: bool, limit: 
     }
 }
 
-/// Whether the bytes are a Rust symbol, in the legacy scheme or in v0 (Rust RFC 2603), once an ending
-/// of ThinLTO is taken off.
+/// Whether the bytes are a Rust symbol, in the legacy scheme or in v0 (Rust RFC 2603), once an
+/// ending of ThinLTO is taken off.
 ///
 /// It prints nothing, so that a lister of symbols can ask it of each. It takes no memory.
 #[unsafe(no_mangle)]
@@ -59,11 +60,12 @@ pub extern "C" fn kodliwe_is_symbol(symbol: &[u8]) -> bool
 /// Writes the path that a Rust symbol names into memory, with a 0 behind it, and answers how many
 /// bytes the two want.
 ///
-/// The path is cut at `limit` bytes, and at 1,000,000 at most, before `{size limit reached}` and the
-/// symbol's suffix. The answer is 0 where the bytes are no symbol; the memory is then as it was. Else
-/// the answer does not depend on the size of the memory, which holds the path and its 0 where the
-/// answer is at most that size, and as much of the path as fits before a 0 where it is more; no byte
-/// behind the 0 is changed, and memory of size 0 stays as it was. It takes no memory of its own.
+/// The path is cut at `limit` bytes, and at 1,000,000 at most, before `{size limit reached}` and
+/// the symbol's suffix. The answer is 0 where the bytes are no symbol; the memory is then as it
+/// was. Else the answer does not depend on the size of the memory, which holds the path and its 0
+/// where the answer is at most that size, and as much of the path as fits before a 0 where it is
+/// more; no byte behind the 0 is changed, and memory of size 0 stays as it was. It takes no memory
+/// of its own.
 #[unsafe(no_mangle)]
 pub extern "C" fn kodliwe_demangle_limited(
     symbol: &[u8],

@@ -41,7 +41,8 @@ pub struct Case<'l> {
 }
 
 impl<'l> Case<'l> {
-    /// Reads a line, or gives `None` where it is none, or its text has an unknown escape, or its limit is no number.
+    /// Reads a line, or gives `None` where it is none, or its text has an unknown escape, or its
+    /// limit is no number.
     pub fn parse(alloc: Global, line: &'l str) -> Result<Option<Case<'l>>, AllocError> {
         let columns: Vec<&'l str> = line.split('\t').collect(alloc)?;
         let (text, wanted) = match columns.as_slice() {

@@ -135,8 +135,8 @@ fn read_fault(error: &io::Error) -> CorpusFault {
     }
 }
 
-/// Asks the library about each line of a corpus, and writes each difference, of which a line has four at most, and then
-/// the counts.
+/// Asks the library about each line of a corpus, and writes each difference, of which a line has
+/// four at most, and then the counts.
 pub fn corpus_run<R: BufRead, W: Write>(
     alloc: Global,
     input: &mut R,

@@ -3,8 +3,8 @@ use std::cell::RefCell;
 use std::io;
 use std::io::{Read, Write};
 
-/// A writer, whether something was written since it was last flushed, and the error of a flush that failed while the
-/// input was waited for.
+/// A writer, whether something was written since it was last flushed, and the error of a flush that
+/// failed while the input was waited for.
 #[derive(Drop)]
 struct Pending<W: Write + Drop> {
     writer: W,
@@ -98,8 +98,8 @@ impl<W: Write + Drop> Write for PausingWriter<'_, W> {
     }
 }
 
-/// Put a buffer over it: then it is read only where the buffer is used up. Where the output can't be flushed, reading
-/// fails, and so does the next flush of the writer.
+/// Put a buffer over it: then it is read only where the buffer is used up. Where the output can't
+/// be flushed, reading fails, and so does the next flush of the writer.
 #[derive(Drop)]
 pub struct PausingReader<'a, R: Read + Drop, W: Write + Drop> {
     input: R,

@@ -1,5 +1,5 @@
-//! What is the program's own: its words, statuses and texts, and when it flushes. What the stream writes is tested with the
-//! library.
+//! What is the program's own: its words, statuses and texts, and when it flushes. What the stream
+//! writes is tested with the library.
 use crate::filter::filter_run;
 use crate::pausing::PausingOutput;
 use std::alloc::{AllocError, Global};

@@ -7,8 +7,11 @@ use demangle_symbol::cursor::{Looks, Part, Symbol};
 /// The element whose length stands at a place, if there is one.
 pub(super) fn element_at(symbol: &Symbol<'_>, at: usize, looks: &mut Looks) -> Option<Part>
     requires { at ≤ length symbol.now }
-    ensures element { option_map (λ e. (slice_range symbol.now e.from e.to, drop e.to symbol.now)) result ≡ element_of (drop at symbol.now) }
-    ensures within { IfSome result (λ e. (at < e.from) × (e.from ≤ e.to) × (e.to ≤ length symbol.now)) }
+    ensures element { option_map
+        (λ e. (slice_range symbol.now e.from e.to, drop e.to symbol.now)) result
+        ≡ element_of (drop at symbol.now) }
+    ensures within { IfSome result
+        (λ e. (at < e.from) × (e.from ≤ e.to) × (e.to ≤ length symbol.now)) }
     ensures grows { looks.old ≤ looks.new }
     ensures some_looks { IfSome result (λ e. looks.new ≤ looks.old + (e.from - at + 1)) }
     ensures none_looks { IfNone result (looks.new ≤ looks.old + (length symbol.now - at + 1)) }

@@ -20,7 +20,8 @@ pub use value::Demangle;
 #[tactic(auto, unfolding(crate::specs::Legacy::inner_of))]
 fn inner_of(s: &str) -> Option<&str>
     ensures inner { option_map (λ x. x.now) result ≡ inner_of s.now }
-    ensures shorter { IfSome result (λ x. (length x.now ≤ length s.now) × (length s.now ≤ length x.now + 4)) }
+    ensures shorter { IfSome result
+        (λ x. (length x.now ≤ length s.now) × (length s.now ≤ length x.now + 4)) }
 {
     if let Some(inner) = behind_prefix(s, "_ZN") {
         return Some(inner);

@@ -42,7 +42,8 @@ pub(super) fn is_left_out(
     looks: &mut Looks,
 ) -> bool
     requires { element.to ≤ length symbol.now }
-    ensures hash { result ≡ (not include_hash && (is_byte symbol.now element.to 69 && is_hash (slice_range symbol.now element.from element.to))) }
+    ensures hash { result ≡ (not include_hash && (is_byte symbol.now element.to 69 && is_hash
+        (slice_range symbol.now element.from element.to))) }
     ensures grows { looks.old ≤ looks.new }
     ensures most { looks.new ≤ looks.old + (element.to - element.from + 1) }
 {
@@ -60,7 +61,8 @@ fn put_unit<S: TextSink>(
     requires order { bytes.from ≤ bytes.to }
     requires inside { bytes.to ≤ length symbol.now }
     requires ready { Ready S.TextSink out.old }
-    ensures { Prints S.TextSink out.old (text_of (slice_range symbol.now bytes.from bytes.to) unit ∷ []) result out.new }
+    ensures { Prints S.TextSink out.old
+        (text_of (slice_range symbol.now bytes.from bytes.to) unit ∷ []) result out.new }
 {
     match unit {
         Unit::Separator => out.put("::"),
@@ -73,7 +75,8 @@ fn put_unit<S: TextSink>(
 fn first_unit(symbol: &Symbol<'_>, element: Part, looks: &mut Looks) -> usize
     requires order { element.from ≤ element.to }
     requires inside { element.to ≤ length symbol.now }
-    ensures units { unescaped (slice_range symbol.now element.from element.to) ≡ pieces_from 0 (slice_range symbol.now result element.to) }
+    ensures units { unescaped (slice_range symbol.now element.from element.to)
+        ≡ pieces_from 0 (slice_range symbol.now result element.to) }
     ensures within { (element.from ≤ result) × (result ≤ element.to) }
     ensures grows { looks.old ≤ looks.new }
     ensures most { looks.new ≤ looks.old + 2 }
@@ -99,7 +102,8 @@ pub(super) fn put_element<S: TextSink>(
     requires order { element.from ≤ element.to }
     requires inside { element.to ≤ length symbol.now }
     requires ready { Ready S.TextSink out.old }
-    ensures prints { Prints S.TextSink out.old (unescaped (slice_range symbol.now element.from element.to)) result out.new }
+    ensures prints { Prints S.TextSink out.old
+        (unescaped (slice_range symbol.now element.from element.to)) result out.new }
     ensures grows { looks.old ≤ looks.new }
     ensures most { looks.new ≤ looks.old + 2 + 3 * (element.to - element.from) }
 {

@@ -19,7 +19,8 @@ pub(super) enum Unit {
 /// The first `$` of a part.
 fn dollar_in(symbol: &Symbol<'_>, part: Part, looks: &mut Looks) -> Option<usize>
     requires { part.to ≤ length symbol.now }
-    ensures first { option_map (λ at. at - part.from) result ≡ position is_dollar (slice_range symbol.now part.from part.to) }
+    ensures first { option_map (λ at. at - part.from) result
+        ≡ position is_dollar (slice_range symbol.now part.from part.to) }
     ensures within { IfSome result (λ at. (part.from ≤ at) × (at < part.to)) }
     ensures grows { looks.old ≤ looks.new }
     ensures most { looks.new ≤ looks.old + (part.to - part.from) }
@@ -40,7 +41,8 @@ fn dollar_in(symbol: &Symbol<'_>, part: Part, looks: &mut Looks) -> Option<usize
 /// The first `$` or `.` of a part.
 fn special_in(symbol: &Symbol<'_>, part: Part, looks: &mut Looks) -> Option<usize>
     requires { part.to ≤ length symbol.now }
-    ensures first { option_map (λ at. at - part.from) result ≡ position is_special (slice_range symbol.now part.from part.to) }
+    ensures first { option_map (λ at. at - part.from) result
+        ≡ position is_special (slice_range symbol.now part.from part.to) }
     ensures within { IfSome result (λ at. (part.from ≤ at) × (at < part.to)) }
     ensures grows { looks.old ≤ looks.new }
     ensures most { looks.new ≤ looks.old + (part.to - part.from) }
@@ -58,7 +60,8 @@ fn special_in(symbol: &Symbol<'_>, part: Part, looks: &mut Looks) -> Option<usiz
 }
 
 fn lower_hex_of(byte: u8) -> Option<u8>
-    ensures { MatchOption result (is_lower_hex byte ≡ false) (λ d. (is_lower_hex byte ≡ true) × (d ≡ lower_hex byte) × (d < 16)) }
+    ensures { MatchOption result (is_lower_hex byte ≡ false)
+        (λ d. (is_lower_hex byte ≡ true) × (d ≡ lower_hex byte) × (d < 16)) }
 {
     match byte {
         b'0'..=b'9' => Some(byte - b'0'),
@@ -81,7 +84,8 @@ fn escaped_code(code: u32) -> Option<char>
 /// The character that `u` and these digits escape.
 fn escaped_char(symbol: &Symbol<'_>, digits: Part, looks: &mut Looks) -> Option<char>
     requires { digits.to ≤ length symbol.now }
-    ensures escape { option_map encode_utf8 result ≡ escape_of_digits (slice_range symbol.now digits.from digits.to) }
+    ensures escape { option_map encode_utf8 result
+        ≡ escape_of_digits (slice_range symbol.now digits.from digits.to) }
     ensures grows { looks.old ≤ looks.new }
     ensures most { looks.new ≤ looks.old + (digits.to - digits.from) }
 {
@@ -121,7 +125,8 @@ fn letters(first: u8, second: u8) -> Option<char>
 /// What a name between `$` gives.
 fn escaped(symbol: &Symbol<'_>, name: Part, looks: &mut Looks) -> Option<char>
     requires { name.to ≤ length symbol.now }
-    ensures escape { option_map encode_utf8 result ≡ escape_of (slice_range symbol.now name.from name.to) }
+    ensures escape { option_map encode_utf8 result
+        ≡ escape_of (slice_range symbol.now name.from name.to) }
     ensures grows { looks.old ≤ looks.new }
     ensures most { looks.new ≤ looks.old + (name.to - name.from) }
 {
@@ -154,7 +159,11 @@ pub(super) fn unit_at(
 ) -> Option<(Unit, usize)>
     requires order { at < to }
     requires inside { to ≤ length symbol.now }
-    ensures unit { option_map (λ r. (text_of (slice_range symbol.now at r.1) r.0, r.1 - (at + 1))) result ≡ unit_of (slice_index symbol.now at) (slice_range symbol.now (at + 1) to) }
+    ensures unit { option_map (λ r. (
+      text_of (slice_range symbol.now at r.1) r.0,
+      r.1 - (at
+          + 1),
+    )) result ≡ unit_of (slice_index symbol.now at) (slice_range symbol.now (at + 1) to) }
     ensures within { IfSome result (λ r. (at < r.1) × (r.1 ≤ to)) }
     ensures grows { looks.old ≤ looks.new }
     ensures most { looks.new ≤ looks.old + 3 * (to - at) }

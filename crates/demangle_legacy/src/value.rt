@@ -45,7 +45,8 @@ impl<'s> Demangle<'s> {
         looks: &mut Looks,
     ) -> Result<(), SinkRefused>
         requires { Ready S.TextSink out.old }
-        ensures prints { Prints S.TextSink out.old (legacy_pieces include_hash (elements_of self.now)) result out.new }
+        ensures prints { Prints S.TextSink out.old
+            (legacy_pieces include_hash (elements_of self.now)) result out.new }
         ensures grows { looks.old ≤ looks.new }
         ensures most { looks.new ≤ looks.old + 16 * (length self.now + 1) }
     {

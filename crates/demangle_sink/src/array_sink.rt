@@ -7,7 +7,8 @@ ghost use Rattle.demangle_sink.specs.Array.{text_of};
 use crate::{SinkRefused, TextSink};
 use arrayvec::ArrayString;
 
-/// A text of at most `N` bytes, in the value itself. It refuses a piece that does not fit, and keeps what it took before.
+/// A text of at most `N` bytes, in the value itself. It refuses a piece that does not fit, and
+/// keeps what it took before.
 #[derive(Drop)]
 pub struct ArraySink<const N: usize> {
     text: ArrayString<N>,

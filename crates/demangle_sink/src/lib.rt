@@ -28,8 +28,8 @@ pub struct SinkRefused;
 
 /// What takes pieces of text, until it refuses one.
 ///
-/// A sink has a room: a piece within it is surely taken, and the room falls by the piece's bytes. An empty piece is always
-/// taken. A sink that keeps is unchanged by a piece that it refuses.
+/// A sink has a room: a piece within it is surely taken, and the room falls by the piece's bytes.
+/// An empty piece is always taken. A sink that keeps is unchanged by a piece that it refuses.
 pub trait TextSink {
     // The second sink is the first after it took these bytes.
     ghost took: { Self → List ℕ → Self → Type 0 };
@@ -48,8 +48,10 @@ pub trait TextSink {
         ensures taken { OnOk result (took self.old s.now self.new) }
         ensures alive { OnOk result (failed self.new ≡ false) }
         ensures refused { OnErr result (failed self.new ≡ true) }
-        ensures kept { OnErr result (keeps ≡ true → took self.old [] self.new × (room self.new ≡ room self.old)) }
-        ensures fits { Fits (length s.now) (room self.old) → IsOk result × (room self.new ≡ room_after (length s.now) (room self.old)) };
+        ensures kept { OnErr result
+            (keeps ≡ true → took self.old [] self.new × (room self.new ≡ room self.old)) }
+        ensures fits { Fits (length s.now) (room self.old) →
+            IsOk result × (room self.new ≡ room_after (length s.now) (room self.old)) };
 
     /// Whether it has refused a piece.
     fn is_failed(&self) -> bool

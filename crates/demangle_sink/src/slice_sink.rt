@@ -10,8 +10,8 @@ use crate::{SinkRefused, TextSink};
 /// it.
 ///
 /// The text stands from the first byte on, with nothing behind it; the bytes that it does not reach
-/// stay as they were. A character may be cut where the memory ends. A piece is refused only where the
-/// count would go past `usize::MAX`, and changes nothing then.
+/// stay as they were. A character may be cut where the memory ends. A piece is refused only where
+/// the count would go past `usize::MAX`, and changes nothing then.
 #[derive(Drop)]
 pub struct SliceSink<'b> {
     out: &'b mut [u8],

@@ -7,8 +7,9 @@ use crate::{SinkRefused, TextSink};
 use std::io;
 use std::io::Write;
 
-/// Hands each nonempty piece to a writer by one `write_all`, and keeps the error that the writer answered. It takes no
-/// memory of its own. After a refusal nothing is known of how much of the piece the writer took.
+/// Hands each nonempty piece to a writer by one `write_all`, and keeps the error that the writer
+/// answered. It takes no memory of its own. After a refusal nothing is known of how much of the
+/// piece the writer took.
 #[derive(Drop)]
 pub struct WriteSink<'w, W: Write> {
     out: &'w mut W,

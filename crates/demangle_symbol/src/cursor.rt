@@ -184,7 +184,8 @@ impl<'s> Symbol<'s> {
 }
 
 fn digit_10_of(byte: u8) -> Option<u8>
-    ensures { MatchOption result (is_digit_10 byte ≡ false) (λ d. (is_digit_10 byte ≡ true) × (d ≡ digit_10 byte)) }
+    ensures { MatchOption result
+        (is_digit_10 byte ≡ false) (λ d. (is_digit_10 byte ≡ true) × (d ≡ digit_10 byte)) }
 {
     match byte {
         b'0'..=b'9' => Some(byte - b'0'),

@@ -111,7 +111,8 @@ fn hexadecimal(number: u64) -> ArrayVec<char, 16>
 // Puts the code of a character between `\u{` and `}`.
 fn put_code<S: TextSink>(c: char, out: &mut SizeLimitedFmtAdapter<'_, S>) -> Result<(), SinkRefused>
     requires { Ready S.TextSink out.old }
-    ensures { Prints S.TextSink out.old (map encode_utf8 (codes "\\u{" ++ digits 16 false c ++ codes "}")) result out.new }
+    ensures { Prints S.TextSink out.old
+        (map encode_utf8 (codes "\\u{" ++ digits 16 false c ++ codes "}")) result out.new }
 {
     put_chars(&['\\', 'u', '{'], out)?;
     put_chars(&hexadecimal(c as u64), out)?;
@@ -161,8 +162,8 @@ pub fn put_char_literal<S: TextSink>(
     put_char('\'', out)
 }
 
-/// The character of a char constant by the number of its hex word. There is none without a number, and where that is
-/// no Unicode scalar value.
+/// The character of a char constant by the number of its hex word. There is none without a number,
+/// and where that is no Unicode scalar value.
 pub fn character_of(number: Option<u128>) -> Option<char>
     ensures { result ≡ character_of number }
 {

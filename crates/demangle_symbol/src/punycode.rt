@@ -13,8 +13,8 @@ mod tests;
 /// How many characters a decoded name has at most.
 pub const SMALL_PUNYCODE_LEN: usize = 128;
 
-// A delta above this gives no character, whatever stands before it: with at most 129 characters the number of the
-// character rises by at least 0x110000.
+// A delta above this gives no character, whatever stands before it: with at most 129 characters the
+// number of the character rises by at least 0x110000.
 const MOST: u64 = 0x11_0000 * 129 - 1;
 
 fn digit_of(byte: u8) -> Option<u64>
@@ -68,9 +68,13 @@ fn delta_at(symbol: &Symbol<'_>, digits: Part, bias: u64, looks: &mut Looks) -> 
     requires some { digits.from < digits.to }
     requires inside { digits.to ≤ length symbol.now }
     ensures within { IfSome result (λ r. (r.0 ≤ MOST) × (digits.from < r.1) × (r.1 ≤ digits.to)) }
-    ensures some { IfSome result (λ r. (count : ℕ) (first : Bool) → deltas (next_delta count first bias) (slice_range symbol.now digits.from digits.to)
-        ≡ option_map (λ ds. r.0 ∷ ds) (deltas (next_delta (count + 1) false (adapted r.0 (count + 1) first)) (slice_range symbol.now r.1 digits.to))) }
-    ensures none { IfNone result ((count : ℕ) (first : Bool) → IfSome (deltas (next_delta count first bias) (slice_range symbol.now digits.from digits.to)) (λ ds. MOST < slice_index ds 0)) }
+    ensures some { IfSome result (λ r. (count : ℕ) (first : Bool) →
+        deltas (next_delta count first bias) (slice_range symbol.now digits.from digits.to)
+        ≡ option_map (λ ds. r.0 ∷ ds) (deltas (next_delta (count + 1) false
+        (adapted r.0 (count + 1) first)) (slice_range symbol.now r.1 digits.to))) }
+    ensures none { IfNone result ((count : ℕ) (first : Bool) →
+        IfSome (deltas (next_delta count first bias)
+        (slice_range symbol.now digits.from digits.to)) (λ ds. MOST < slice_index ds 0)) }
     ensures grows { looks.old ≤ looks.new }
     ensures some_looks { IfSome result (λ r. looks.new ≤ looks.old + (r.1 - digits.from)) }
     ensures none_looks { IfNone result (looks.new ≤ looks.old + (digits.to - digits.from)) }
@@ -123,15 +127,17 @@ fn ascii_characters(
     Some(characters)
 }
 
-/// The characters of a name with a Punycode part. There are none where a digit is bad, a delta is not finished, a value
-/// is no Unicode scalar value, or the characters are more than 128.
+/// The characters of a name with a Punycode part. There are none where a digit is bad, a delta is
+/// not finished, a value is no Unicode scalar value, or the characters are more than 128.
 fn decode(
     symbol: &Symbol<'_>,
     name: Ident,
     looks: &mut Looks,
 ) -> Option<ArrayVec<char, SMALL_PUNYCODE_LEN>>
     requires { LiesWithin symbol.now name }
-    ensures characters { option_map (λ v. v.items) result ≡ puny (slice_range symbol.now name.ascii.from name.ascii.to) (slice_range symbol.now name.punycode.from name.punycode.to) }
+    ensures characters { option_map (λ v. v.items) result
+        ≡ puny (slice_range symbol.now name.ascii.from name.ascii.to)
+        (slice_range symbol.now name.punycode.from name.punycode.to) }
     ensures grows { looks.old ≤ looks.new }
     ensures looks { looks.new ≤ looks.old + name_size name }
 {

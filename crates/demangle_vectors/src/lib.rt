@@ -17,7 +17,8 @@ use rustc_demangle::sink::ArraySink;
 /// Whether a text prints this, with the hash or without it, in at most 4,096 bytes.
 pub fn printed_is(symbol: &str, include_hash: bool, text: &str) -> bool
     ensures yes { IsTrue result → text.now ≡ printed (stripped symbol.now) include_hash }
-    ensures no { size (handed (stripped symbol.now) include_hash most_bytes) ≤ 4096 → result ≡ false → text.now ≢ printed (stripped symbol.now) include_hash }
+    ensures no { size (handed (stripped symbol.now) include_hash most_bytes) ≤ 4096 →
+        result ≡ false → text.now ≢ printed (stripped symbol.now) include_hash }
 {
     let mut sink: ArraySink<4096> = ArraySink::new();
     demangle(symbol).write_to(&mut sink, include_hash).is_ok() && sink.as_str() == text

@@ -6,7 +6,8 @@ ghost use Rattle.demangle_vectors.specs.Refusing.{taken_text, pieces_left};
 
 use rustc_demangle::sink::{ArraySink, SinkRefused, TextSink};
 
-/// Takes every empty piece, and refuses one of the nonempty ones; it keeps the text that it took, of at most 4,096 bytes.
+/// Takes every empty piece, and refuses one of the nonempty ones; it keeps the text that it took,
+/// of at most 4,096 bytes.
 #[derive(Drop)]
 pub struct RefusingSink {
     text: ArraySink<4096>,

@@ -7,8 +7,8 @@ use crate::value::Demangle;
 use demangle_sink::FmtSink;
 use std::fmt;
 
-/// Prints with the hash, and under `{:#}` without it. Width, fill, sign and precision have no effect. It fails where the
-/// formatter refuses a piece.
+/// Prints with the hash, and under `{:#}` without it. Width, fill, sign and precision have no
+/// effect. It fails where the formatter refuses a piece.
 impl fmt::Display for Demangle<'_> {
     ghost output = { λ symbol. Some (printed symbol true) };
 

@@ -1,4 +1,5 @@
-//! What follows from the definitions that the contracts name. Each law is the contract of a function that does nothing.
+//! What follows from the definitions that the contracts name. Each law is the contract of a
+//! function that does nothing.
 pub mod filtering;
 pub mod legacy;
 pub mod names;

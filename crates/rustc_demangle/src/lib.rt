@@ -23,21 +23,25 @@ pub struct TryDemangleError {
     _priv: (),
 }
 
-/// Reads a text as a Rust symbol, in the legacy scheme or in v0 (Rust RFC 2603), and counts its looks.
+/// Reads a text as a Rust symbol, in the legacy scheme or in v0 (Rust RFC 2603), and counts its
+/// looks.
 ///
-/// An ending that ThinLTO appended is taken off first. A text that is no symbol is kept as it is. It takes no memory.
+/// An ending that ThinLTO appended is taken off first. A text that is no symbol is kept as it is.
+/// It takes no memory.
 pub fn demangle_counted<'a>(s: &'a str, looks: &mut Looks) -> Demangle<'a>
     ensures text { result ≡ stripped s.now }
     ensures grows { looks.old ≤ looks.new }
     ensures most { looks.new ≤ looks.old + 64 * (length s.now + 1) }
-    ensures least { IsSymbol (stripped s.now) → looks.old + (length (stripped s.now) - 4) ≤ looks.new }
+    ensures least { IsSymbol (stripped s.now) →
+        looks.old + (length (stripped s.now) - 4) ≤ looks.new }
 {
     Demangle::read(without_thin_lto(s), looks)
 }
 
 /// Reads a text as a Rust symbol, in the legacy scheme or in v0 (Rust RFC 2603).
 ///
-/// An ending that ThinLTO appended is taken off first. A text that is no symbol is kept as it is. It takes no memory.
+/// An ending that ThinLTO appended is taken off first. A text that is no symbol is kept as it is.
+/// It takes no memory.
 pub fn demangle(s: &str) -> Demangle<'_>
     ensures { result ≡ stripped s.now }
 {

@@ -57,7 +57,8 @@ fn copy_lines<R: BufRead, W: Write, A: Allocator>(
     include_hash: bool,
 ) -> Result<(), StreamFault>
     ensures ok { OnOk result (IfSome (R.remaining input.old) (λ text.
-        Finished text include_hash (R.remaining input.new) (W.contents output.old) (W.contents output.new))) }
+        Finished text include_hash (R.remaining input.new)
+        (W.contents output.old) (W.contents output.new))) }
     ensures err { IfErr result (λ fault. IfSome (R.remaining input.old) (λ text.
         Stopped fault text include_hash (W.contents output.old) (W.contents output.new))) }
 {
@@ -71,11 +72,12 @@ fn copy_lines<R: BufRead, W: Write, A: Allocator>(
 
 /// Writes the input with each symbol of it demangled.
 ///
-/// A symbol is looked for where `_ZN` or `_R` stands, up to the next character that is no ASCII letter, no digit and none
-/// of `$`, `.` and `_`. What is no symbol is written as it was. A line is read whole before any of it is written.
+/// A symbol is looked for where `_ZN` or `_R` stands, up to the next character that is no ASCII
+/// letter, no digit and none of `$`, `.` and `_`. What is no symbol is written as it was. A line is
+/// read whole before any of it is written.
 ///
-/// It is refused where the reader or the writer answers an error, where a line is not UTF-8, and where the buffer of the
-/// line is refused memory.
+/// It is refused where the reader or the writer answers an error, where a line is not UTF-8, and
+/// where the buffer of the line is refused memory.
 pub fn demangle_stream_named<R: BufRead, W: Write>(
     alloc: Global,
     input: &mut R,
@@ -83,7 +85,8 @@ pub fn demangle_stream_named<R: BufRead, W: Write>(
     include_hash: bool,
 ) -> Result<(), StreamFault>
     ensures ok { OnOk result (IfSome (R.remaining input.old) (λ text.
-        Finished text include_hash (R.remaining input.new) (W.contents output.old) (W.contents output.new))) }
+        Finished text include_hash (R.remaining input.new)
+        (W.contents output.old) (W.contents output.new))) }
     ensures err { IfErr result (λ fault. IfSome (R.remaining input.old) (λ text.
         Stopped fault text include_hash (W.contents output.old) (W.contents output.new))) }
 {
@@ -91,8 +94,9 @@ pub fn demangle_stream_named<R: BufRead, W: Write>(
     copy_lines(input, output, &mut line, include_hash)
 }
 
-/// Writes the input with each symbol of it demangled, as `demangle_stream_named` does, and gives its fault as an
-/// `io::Error`, by `StreamFault::into_io`. A caller that has to know what was written before a fault calls these two.
+/// Writes the input with each symbol of it demangled, as `demangle_stream_named` does, and gives
+/// its fault as an `io::Error`, by `StreamFault::into_io`. A caller that has to know what was
+/// written before a fault calls these two.
 pub fn demangle_stream<R: BufRead, W: Write>(
     alloc: Global,
     input: &mut R,
@@ -100,7 +104,8 @@ pub fn demangle_stream<R: BufRead, W: Write>(
     include_hash: bool,
 ) -> io::Result<()>
     ensures { OnOk result (IfSome (R.remaining input.old) (λ text.
-        Finished text include_hash (R.remaining input.new) (W.contents output.old) (W.contents output.new))) }
+        Finished text include_hash (R.remaining input.new)
+        (W.contents output.old) (W.contents output.new))) }
 {
     demangle_stream_named(alloc, input, output, include_hash).map_err(StreamFault::into_io)
 }

@@ -12,8 +12,8 @@ fn is_thin_lto(ending: &str) -> bool
         .all(|b| matches!(b, b'A'..=b'F' | b'0'..=b'9' | b'@'))
 }
 
-/// The text without an ending that ThinLTO appends: from its first `.llvm.` on, where only `A` to `F`, digits and `@`
-/// follow that.
+/// The text without an ending that ThinLTO appends: from its first `.llvm.` on, where only `A` to
+/// `F`, digits and `@` follow that.
 pub(crate) fn without_thin_lto(text: &str) -> &str
     ensures { result.now ≡ stripped text.now }
 {

@@ -14,7 +14,8 @@ use demangle_sink::{SinkRefused, SizeLimitedFmtAdapter, TextSink, put_piece};
 use demangle_symbol::cursor::{Looks, Symbol};
 use std::marker::Model;
 
-/// The most bytes that a call with no limit of its own prints of a symbol, before the marker and the suffix.
+/// The most bytes that a call with no limit of its own prints of a symbol, before the marker and
+/// the suffix.
 pub(crate) const MAX_SIZE: usize = 1_000_000;
 
 /// The scheme of a symbol, and what was read of it.
@@ -33,7 +34,8 @@ impl DemangleStyle<'_> {
         looks: &mut Looks,
     ) -> Result<(), SinkRefused>
         requires { Ready S.TextSink out.old }
-        ensures prints { Prints S.TextSink out.old (style_pieces include_hash self.now) result out.new }
+        ensures prints { Prints S.TextSink out.old
+            (style_pieces include_hash self.now) result out.new }
         ensures grows { looks.old ≤ looks.new }
         ensures most { looks.new ≤ looks.old + style_looks include_hash out.old.remaining self.now }
         ensures least { looks.old + style_least self.now ≤ looks.new }
@@ -45,7 +47,8 @@ impl DemangleStyle<'_> {
     }
 }
 
-/// A text, demangled where it is a Rust symbol. It prints the path that the symbol names, and any other text as it is.
+/// A text, demangled where it is a Rust symbol. It prints the path that the symbol names, and any
+/// other text as it is.
 #[derive(Drop)]
 pub struct Demangle<'a> {
     style: Option<DemangleStyle<'a>>,
@@ -74,7 +77,8 @@ fn write_cut<S: TextSink>(
     looks: &mut Looks,
 ) -> Result<(), SinkRefused>
     requires { S.failed out.old ≡ false }
-    ensures hands { Hands S.TextSink out.old (cut (style_pieces include_hash style.now) limit) result out.new }
+    ensures hands { Hands S.TextSink out.old
+        (cut (style_pieces include_hash style.now) limit) result out.new }
     ensures grows { looks.old ≤ looks.new }
     ensures most { looks.new ≤ looks.old + style_looks include_hash limit style.now }
     ensures least { looks.old + style_least style.now ≤ looks.new }
@@ -105,10 +109,14 @@ impl<'a> Demangle<'a> {
         looks: &mut Looks,
     ) -> Result<(), SinkRefused>
         requires { S.failed out.old ≡ false }
-        ensures hands { Hands S.TextSink out.old (handed self.now include_hash limit) result out.new }
+        ensures hands { Hands S.TextSink out.old
+            (handed self.now include_hash limit) result out.new }
         ensures grows { looks.old ≤ looks.new }
-        ensures most { looks.new ≤ looks.old + 100000 * (kept_of self.now include_hash limit + 1) * (length self.now + 1) }
-        ensures legacy { IsLegacySymbol self.now → looks.new ≤ looks.old + 16 * (length self.now + 1) }
+        ensures most { looks.new
+            ≤ looks.old + 100000 * (kept_of self.now include_hash limit + 1)
+            * (length self.now + 1) }
+        ensures legacy { IsLegacySymbol self.now →
+            looks.new ≤ looks.old + 16 * (length self.now + 1) }
         ensures v0 { IsV0Symbol self.now → looks.old + 1 ≤ looks.new }
         ensures unread { (IsSymbol self.now → ⊥) → looks.new ≡ looks.old }
     {
@@ -121,10 +129,11 @@ impl<'a> Demangle<'a> {
 
     /// Prints into a sink, cut at `limit` bytes before the suffix, and counts its looks.
     ///
-    /// A piece that would go past the limit ends the path, and `{size limit reached}` and the suffix follow it. A text
-    /// that is no symbol has no limit. It is refused exactly where the sink failed in this call: then the sink was handed
-    /// nothing more, and one that keeps what it took holds the pieces in front of the refused one. Where all of it is within
-    /// the sink's room, it is taken, and the room falls by its bytes.
+    /// A piece that would go past the limit ends the path, and `{size limit reached}` and the
+    /// suffix follow it. A text that is no symbol has no limit. It is refused exactly where the
+    /// sink failed in this call: then the sink was handed nothing more, and one that keeps what it
+    /// took holds the pieces in front of the refused one. Where all of it is within the sink's
+    /// room, it is taken, and the room falls by its bytes.
     pub fn write_limited_counted<S: TextSink>(
         &self,
         out: &mut S,
@@ -136,8 +145,11 @@ impl<'a> Demangle<'a> {
         ensures writes { Writes S.TextSink out.old (handed self.now include_hash limit)
             result out.new }
         ensures grows { looks.old ≤ looks.new }
-        ensures most { looks.new ≤ looks.old + 100000 * (kept_of self.now include_hash limit + 1) * (length self.now + 1) }
-        ensures legacy { IsLegacySymbol self.now → looks.new ≤ looks.old + 16 * (length self.now + 1) }
+        ensures most { looks.new
+            ≤ looks.old + 100000 * (kept_of self.now include_hash limit + 1)
+            * (length self.now + 1) }
+        ensures legacy { IsLegacySymbol self.now →
+            looks.new ≤ looks.old + 16 * (length self.now + 1) }
         ensures v0 { IsV0Symbol self.now → looks.old + 1 ≤ looks.new }
         ensures unread { (IsSymbol self.now → ⊥) → looks.new ≡ looks.old }
     {
@@ -158,7 +170,8 @@ impl<'a> Demangle<'a> {
         self.write_limited_counted(out, include_hash, limit, &mut Looks::new())
     }
 
-    /// Prints into a sink, cut at 1,000,000 bytes before the suffix, and counts its looks, as `write_limited_counted` does.
+    /// Prints into a sink, cut at 1,000,000 bytes before the suffix, and counts its looks, as
+    /// `write_limited_counted` does.
     pub fn write_counted<S: TextSink>(
         &self,
         out: &mut S,
@@ -169,17 +182,22 @@ impl<'a> Demangle<'a> {
         ensures writes { Writes S.TextSink out.old (handed self.now include_hash most_bytes)
             result out.new }
         ensures grows { looks.old ≤ looks.new }
-        ensures most { looks.new ≤ looks.old + 100000 * (kept_of self.now include_hash most_bytes + 1) * (length self.now + 1) }
-        ensures legacy { IsLegacySymbol self.now → looks.new ≤ looks.old + 16 * (length self.now + 1) }
+        ensures most { looks.new
+            ≤ looks.old + 100000 * (kept_of self.now include_hash most_bytes + 1)
+            * (length self.now + 1) }
+        ensures legacy { IsLegacySymbol self.now →
+            looks.new ≤ looks.old + 16 * (length self.now + 1) }
         ensures v0 { IsV0Symbol self.now → looks.old + 1 ≤ looks.new }
         ensures unread { (IsSymbol self.now → ⊥) → looks.new ≡ looks.old }
     {
         self.write_limited_counted(out, include_hash, MAX_SIZE, looks)
     }
 
-    /// Prints into a sink, cut at 1,000,000 bytes before the suffix, with the hash of a legacy symbol or without it.
+    /// Prints into a sink, cut at 1,000,000 bytes before the suffix, with the hash of a legacy
+    /// symbol or without it.
     ///
-    /// It is refused exactly where the sink failed in this call, as `write_limited_counted` says, and takes no memory.
+    /// It is refused exactly where the sink failed in this call, as `write_limited_counted` says,
+    /// and takes no memory.
     pub fn write_to<S: TextSink>(&self, out: &mut S, include_hash: bool) -> Result<(), SinkRefused>
         requires { S.failed out.old ≡ false }
         ensures { Writes S.TextSink out.old (handed self.now include_hash most_bytes)
@@ -196,7 +214,8 @@ fn is_graphic(byte: u8) -> bool
     matches!(byte, 0x21..=0x7E)
 }
 
-// Whether a suffix is allowed: nothing, or `.` and graphic characters alone. It is one look for each byte.
+// Whether a suffix is allowed: nothing, or `.` and graphic characters alone. It is one look for
+// each byte.
 #[tactic(auto, using(crate::proofs::SuffixSteps::suffix_steps))]
 fn is_allowed(suffix: &str, looks: &mut Looks) -> bool
     ensures allowed { result ≡ is_allowed suffix.now }

@@ -4,7 +4,8 @@ use std::cell::Cell;
 use std::io;
 use std::io::{BufRead, ErrorKind, Read, Write};
 
-/// Hands out its parts, one at a filling, and fails at the filling after so many, with the kind that it is given.
+/// Hands out its parts, one at a filling, and fails at the filling after so many, with the kind
+/// that it is given.
 #[derive(Drop)]
 pub struct PartsReader<'a> {
     parts: &'a [&'a [u8]],
@@ -61,7 +62,8 @@ impl BufRead for PartsReader<'_> {
     }
 }
 
-/// Holds what is written, and fails at the write after so many, and at a flush unless that is taken.
+/// Holds what is written, and fails at the write after so many, and at a flush unless that is
+/// taken.
 #[derive(Drop)]
 pub struct RefusingWriter {
     held: Vec<u8>,

@@ -11,12 +11,13 @@ pub const MAX_NIBBLES: usize = 32;
 
 impl<'s> Symbol<'s> {
     #[tactic(auto, using(crate::proofs::Hex::hex_steps, crate::proofs::Hex::hex_reads))]
-    /// The hex word at a place: its nibbles, and the place behind its `_`. It is Invalid where another byte, or the end,
-    /// comes before the `_`.
+    /// The hex word at a place: its nibbles, and the place behind its `_`. It is Invalid where
+    /// another byte, or the end, comes before the `_`.
     pub fn hex_nibbles(&self, place: usize, looks: &mut Looks) -> Result<(Part, usize), ParseError>
         ensures ok { IfOk result (λ r. Hex self.now place r.1 r.0.to × (r.0.from ≡ place)) }
         ensures err { OnErr result ((j end : ℕ) → Hex self.now place j end → ⊥) }
-        ensures read { option_map (λ r. (slice_range self.now r.0.from r.0.to, r.1)) (result_ok result) ≡ nibbles_at self.now place }
+        ensures read { option_map (λ r. (slice_range self.now r.0.from r.0.to, r.1))
+            (result_ok result) ≡ nibbles_at self.now place }
         ensures fault { IfErr result (λ e. e ≡ ParseError.Invalid) }
         ensures grows { looks.old ≤ looks.new }
         ensures ok_looks { IfOk result (λ r. looks.new ≤ looks.old + (r.1 - place)) }
@@ -87,7 +88,8 @@ impl<'s> Symbol<'s> {
 }
 
 pub(crate) fn nibble_of(byte: u8) -> Option<u8>
-    ensures { MatchOption result (is_nibble byte ≡ false) (λ d. (is_nibble byte ≡ true) × (d ≡ nibble byte) × (d < 16)) }
+    ensures { MatchOption result
+        (is_nibble byte ≡ false) (λ d. (is_nibble byte ≡ true) × (d ≡ nibble byte) × (d < 16)) }
 {
     match byte {
         b'0'..=b'9' => Some(byte - b'0'),

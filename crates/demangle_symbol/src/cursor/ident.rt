@@ -50,20 +50,24 @@ impl<'s> Symbol<'s> {
     }
 
     #[tactic(auto, using(crate::proofs::Idents::ident_steps, crate::proofs::Idents::ident_reads))]
-    /// The identifier at a place, and the place behind it. It is Invalid without a length, where the length goes past
-    /// the end, and where nothing is left for the Punycode part behind a `u`.
+    /// The identifier at a place, and the place behind it. It is Invalid without a length, where
+    /// the length goes past the end, and where nothing is left for the Punycode part behind a `u`.
     pub fn ident(&self, place: usize, looks: &mut Looks) -> Result<(Ident, usize), ParseError>
         ensures ok { IfOk result (λ r. IsIdent self.now place r.1 r.0) }
         ensures err { OnErr result ((j : ℕ) (ident : Ident) → IsIdent self.now place j ident → ⊥) }
         ensures parts { IfOk result (λ r. LiesWithin self.now r.0) }
         ensures spelled { IfOk result (λ r. Identifier self.now place r.1 (name_in self.now r.0)) }
-        ensures not_spelled { OnErr result ((j : ℕ) (name : Name) → Identifier self.now place j name → ⊥) }
-        ensures read { option_map (λ r. (name_in self.now r.0, r.1)) (result_ok result) ≡ identifier_at self.now place }
+        ensures not_spelled { OnErr result
+            ((j : ℕ) (name : Name) → Identifier self.now place j name → ⊥) }
+        ensures read { option_map (λ r. (name_in self.now r.0, r.1)) (result_ok result)
+            ≡ identifier_at self.now place }
         ensures fault { IfErr result (λ e. e ≡ ParseError.Invalid) }
         ensures grows { looks.old ≤ looks.new }
         // With its bytes once more, to print it, it is within the same bound.
-        ensures ok_looks { IfOk result (λ r. looks.new + name_size r.0 ≤ looks.old + 4 * (r.1 - place + 1)) }
-        ensures err_looks { OnErr result (looks.new ≤ looks.old + 4 * (length self.now - place + 1)) }
+        ensures ok_looks { IfOk result
+            (λ r. looks.new + name_size r.0 ≤ looks.old + 4 * (r.1 - place + 1)) }
+        ensures err_looks { OnErr result
+            (looks.new ≤ looks.old + 4 * (length self.now - place + 1)) }
         ensures once { IfOk result (λ r. looks.new ≤ looks.old + (r.1 - place) + 4) }
         ensures within { IfOk result (λ r. (place < r.1) × (r.1 ≤ length self.now)) }
     {

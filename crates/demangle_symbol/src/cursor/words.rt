@@ -11,8 +11,8 @@ pub const MAX_DEPTH: u32 = 500;
 
 impl<'s> Symbol<'s> {
     #[tactic(auto, using(crate::proofs::Integers::integer_steps, crate::proofs::Integers::integer_reads))]
-    /// The integer at a place, and the place behind it. It is Invalid where none is spelled there, and where it is
-    /// not below 2^64.
+    /// The integer at a place, and the place behind it. It is Invalid where none is spelled there,
+    /// and where it is not below 2^64.
     pub fn integer_62(&self, place: usize, looks: &mut Looks) -> Result<(u64, usize), ParseError>
         ensures ok { IfOk result (λ r. Integer self.now place r.1 r.0) }
         ensures err { OnErr result ((j v : ℕ) → Integer self.now place j v → ⊥) }
@@ -20,7 +20,8 @@ impl<'s> Symbol<'s> {
         ensures fault { IfErr result (λ e. e ≡ ParseError.Invalid) }
         ensures grows { looks.old ≤ looks.new }
         ensures ok_looks { IfOk result (λ r. looks.new ≤ looks.old + 4 * (r.1 - place + 1)) }
-        ensures err_looks { OnErr result (looks.new ≤ looks.old + 4 * (length self.now - place + 1)) }
+        ensures err_looks { OnErr result
+            (looks.new ≤ looks.old + 4 * (length self.now - place + 1)) }
         ensures within { IfOk result (λ r. (place < r.1) × (r.1 ≤ length self.now)) }
     {
         let mut number: u64 = 0;
@@ -49,8 +50,8 @@ impl<'s> Symbol<'s> {
     }
 
     #[tactic(auto, using(crate::proofs::Integers::optional_reads))]
-    /// The integer behind a tag and one more, or 0 where the tag is not there. It is Invalid where the tag has no
-    /// integer behind it, and where the sum is not below 2^64.
+    /// The integer behind a tag and one more, or 0 where the tag is not there. It is Invalid where
+    /// the tag has no integer behind it, and where the sum is not below 2^64.
     pub fn opt_integer_62(
         &self,
         tag: u8,
@@ -63,8 +64,10 @@ impl<'s> Symbol<'s> {
         ensures fault { IfErr result (λ e. e ≡ ParseError.Invalid) }
         ensures grows { looks.old ≤ looks.new }
         ensures ok_looks { IfOk result (λ r. looks.new ≤ looks.old + 4 * (r.1 - place + 1)) }
-        ensures err_looks { OnErr result (looks.new ≤ looks.old + 4 * (length self.now - place + 1)) }
-        ensures within { IfOk result (λ r. (place ≤ r.1) × (place ≤ length self.now → r.1 ≤ length self.now)) }
+        ensures err_looks { OnErr result
+            (looks.new ≤ looks.old + 4 * (length self.now - place + 1)) }
+        ensures within { IfOk result
+            (λ r. (place ≤ r.1) × (place ≤ length self.now → r.1 ≤ length self.now)) }
     {
         if !self.is_at(tag, place, looks) {
             return Ok((0, place));
@@ -78,7 +81,8 @@ impl<'s> Symbol<'s> {
         Ok((value, next))
     }
 
-    /// The disambiguator at a place, which is 0 where there is none. It is Invalid as for an integer behind a tag.
+    /// The disambiguator at a place, which is 0 where there is none. It is Invalid as for an
+    /// integer behind a tag.
     pub fn disambiguator(&self, place: usize, looks: &mut Looks) -> Result<(u64, usize), ParseError>
         ensures ok { IfOk result (λ r. OptInteger 115 self.now place r.1 r.0) }
         ensures err { OnErr result ((j v : ℕ) → OptInteger 115 self.now place j v → ⊥) }
@@ -86,8 +90,10 @@ impl<'s> Symbol<'s> {
         ensures fault { IfErr result (λ e. e ≡ ParseError.Invalid) }
         ensures grows { looks.old ≤ looks.new }
         ensures ok_looks { IfOk result (λ r. looks.new ≤ looks.old + 4 * (r.1 - place + 1)) }
-        ensures err_looks { OnErr result (looks.new ≤ looks.old + 4 * (length self.now - place + 1)) }
-        ensures within { IfOk result (λ r. (place ≤ r.1) × (place ≤ length self.now → r.1 ≤ length self.now)) }
+        ensures err_looks { OnErr result
+            (looks.new ≤ looks.old + 4 * (length self.now - place + 1)) }
+        ensures within { IfOk result
+            (λ r. (place ≤ r.1) × (place ≤ length self.now → r.1 ≤ length self.now)) }
     {
         self.opt_integer_62(b's', place, looks)
     }
@@ -123,9 +129,10 @@ impl<'s> Symbol<'s> {
     }
 
     #[tactic(auto, unfolding(crate::specs::Words::backref_at))]
-    /// The target of a back reference whose `B` stands in front of `place`, and the place behind its word. It is
-    /// Invalid where no integer is spelled, and where the target does not lie in front of the `B`. Then it is
-    /// RecursedTooDeep where `depth`, that of the reference, has no depth below it.
+    /// The target of a back reference whose `B` stands in front of `place`, and the place behind
+    /// its word. It is Invalid where no integer is spelled, and where the target does not lie in
+    /// front of the `B`. Then it is RecursedTooDeep where `depth`, that of the reference, has no
+    /// depth below it.
     pub fn backref(
         &self,
         place: usize,
@@ -135,14 +142,19 @@ impl<'s> Symbol<'s> {
         requires depth { depth ≤ MAX_DEPTH }
         requires tag { 0 < place }
         ensures ok { IfOk result (λ r. Backref self.now place r.1 r.0 × (depth < MAX_DEPTH)) }
-        ensures invalid { result ≡ Err ParseError.Invalid → ((j target : ℕ) → Backref self.now place j target → ⊥) }
-        ensures too_deep { result ≡ Err ParseError.RecursedTooDeep → (depth ≡ MAX_DEPTH) × ((j target : ℕ) × Backref self.now place j target) }
+        ensures invalid { result ≡ Err ParseError.Invalid →
+            ((j target : ℕ) → Backref self.now place j target → ⊥) }
+        ensures too_deep { result ≡ Err ParseError.RecursedTooDeep →
+            (depth ≡ MAX_DEPTH) × ((j target : ℕ) × Backref self.now place j target) }
         ensures read { result ≡ referred depth (backref_at self.now place) }
         ensures grows { looks.old ≤ looks.new }
         ensures ok_looks { IfOk result (λ r. looks.new ≤ looks.old + 4 * (r.1 - place + 1)) }
-        ensures err_looks { OnErr result (looks.new ≤ looks.old + 4 * (length self.now - place + 1)) }
-        ensures word_looks { IfSome (backref_at self.now place) (λ r. looks.new ≤ looks.old + 4 * (r.1 - place + 1)) }
-        ensures within { IfOk result (λ r. (place < r.1) × (r.1 ≤ length self.now) × (r.0 + 1 < place)) }
+        ensures err_looks { OnErr result
+            (looks.new ≤ looks.old + 4 * (length self.now - place + 1)) }
+        ensures word_looks { IfSome
+            (backref_at self.now place) (λ r. looks.new ≤ looks.old + 4 * (r.1 - place + 1)) }
+        ensures within { IfOk result
+            (λ r. (place < r.1) × (r.1 ≤ length self.now) × (r.0 + 1 < place)) }
     {
         let (target, next) = self.integer_62(place, looks)?;
         if target >= place as u64 - 1 {
@@ -170,7 +182,8 @@ impl<'s> Symbol<'s> {
 }
 
 fn digit_62_of(byte: u8) -> Option<u8>
-    ensures { MatchOption result (is_digit_62 byte ≡ false) (λ d. (is_digit_62 byte ≡ true) × (d ≡ digit_62 byte)) }
+    ensures { MatchOption result
+        (is_digit_62 byte ≡ false) (λ d. (is_digit_62 byte ≡ true) × (d ≡ digit_62 byte)) }
 {
     match byte {
         b'0'..=b'9' => Some(byte - b'0'),

@@ -42,7 +42,8 @@ fn byte_at(symbol: &Symbol<'_>, rest: Part, place: usize, looks: &mut Looks) -> 
     requires hex { HexPart symbol.now rest }
     requires begun { rest.from ≤ place }
     requires two { place + 2 ≤ rest.to }
-    ensures value { result ≡ nibble (slice_index symbol.now place) * 16 + nibble (slice_index symbol.now (place + 1)) }
+    ensures value { result ≡ nibble (slice_index symbol.now place) * 16
+        + nibble (slice_index symbol.now (place + 1)) }
     ensures looks { looks.new ≡ looks.old + 2 }
 {
     let high = nibble_at(symbol, place, looks);
@@ -68,7 +69,9 @@ fn first_char(bytes: &[u8]) -> Option<char>
 fn char_at(symbol: &Symbol<'_>, rest: Part, looks: &mut Looks) -> Option<(char, usize)>
     requires hex { HexPart symbol.now rest }
     requires some { rest.from < rest.to }
-    ensures some { IfSome result (λ r. string_of (nibbles_in symbol.now rest) ≡ option_map (λ cs. r.0 ∷ cs) (string_of (nibbles_in symbol.now (record rest { from = r.1 })))) }
+    ensures some { IfSome result (λ r. string_of (nibbles_in symbol.now rest)
+        ≡ option_map (λ cs. r.0 ∷ cs)
+        (string_of (nibbles_in symbol.now (record rest { from = r.1 })))) }
     ensures none { IfNone result (string_of (nibbles_in symbol.now rest) ≡ None) }
     ensures within { IfSome result (λ r. (rest.from < r.1) × (r.1 ≤ rest.to)) }
     ensures grows { looks.old ≤ looks.new }
@@ -109,7 +112,8 @@ impl StrChars {
     pub fn next(&mut self, symbol: &Symbol<'_>, looks: &mut Looks) -> Option<char>
         requires hex { HexPart symbol.now self.old.rest }
         requires some { self.old.rest.from < self.old.rest.to }
-        ensures some { IfSome result (λ c. string_of (nibbles_in symbol.now self.old.rest) ≡ option_map (λ cs. c ∷ cs) (string_of (nibbles_in symbol.now self.new.rest))) }
+        ensures some { IfSome result (λ c. string_of (nibbles_in symbol.now self.old.rest)
+            ≡ option_map (λ cs. c ∷ cs) (string_of (nibbles_in symbol.now self.new.rest))) }
         ensures none { IfNone result (string_of (nibbles_in symbol.now self.old.rest) ≡ None) }
         ensures hex { IfSome result (λ _. HexPart symbol.now self.new.rest) }
         ensures on { IfSome result (λ _. self.old.rest.from < self.new.rest.from) }
@@ -117,8 +121,10 @@ impl StrChars {
         ensures same_end { self.new.rest.to ≡ self.old.rest.to }
         ensures stays { IfNone result (self.new ≡ self.old) }
         ensures grows { looks.old ≤ looks.new }
-        ensures some_looks { IfSome result (λ _. looks.new + self.old.rest.from ≤ looks.old + self.new.rest.from) }
-        ensures none_looks { IfNone result (looks.new ≤ looks.old + (self.old.rest.to - self.old.rest.from)) }
+        ensures some_looks { IfSome result
+            (λ _. looks.new + self.old.rest.from ≤ looks.old + self.new.rest.from) }
+        ensures none_looks { IfNone result
+            (looks.new ≤ looks.old + (self.old.rest.to - self.old.rest.from)) }
     {
         let Some((c, next)) = char_at(symbol, self.rest, looks) else {
             return None;
@@ -156,7 +162,8 @@ fn put_characters<S: TextSink>(
     requires hex { HexPart symbol.now nibbles }
     requires text { IsSome (string_of (nibbles_in symbol.now nibbles)) }
     requires ready { Ready S.TextSink out.old }
-    ensures prints { Prints S.TextSink out.old (written (characters_of (nibbles_in symbol.now nibbles))) result out.new }
+    ensures prints { Prints S.TextSink out.old
+        (written (characters_of (nibbles_in symbol.now nibbles))) result out.new }
     ensures grows { looks.old ≤ looks.new }
     ensures looks { looks.new ≤ looks.old + (nibbles.to - nibbles.from) }
 {
@@ -181,7 +188,8 @@ pub fn put_string_literal<S: TextSink>(
     requires hex { HexPart symbol.now nibbles }
     requires text { IsSome (string_of (nibbles_in symbol.now nibbles)) }
     requires ready { Ready S.TextSink out.old }
-    ensures prints { Prints S.TextSink out.old (literal 34 (characters_of (nibbles_in symbol.now nibbles))) result out.new }
+    ensures prints { Prints S.TextSink out.old
+        (literal 34 (characters_of (nibbles_in symbol.now nibbles))) result out.new }
     ensures grows { looks.old ≤ looks.new }
     ensures looks { looks.new ≤ looks.old + (nibbles.to - nibbles.from) }
 {

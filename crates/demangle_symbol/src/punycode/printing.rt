@@ -19,7 +19,8 @@ impl Ident {
         requires parts { LiesWithin symbol.now self.now }
         requires ascii { IsAscii symbol.now }
         requires ready { Ready S.TextSink out.old }
-        ensures { Prints S.TextSink out.old (ascii_front (name_in symbol.now self.now)) result out.new }
+        ensures { Prints S.TextSink out.old
+            (ascii_front (name_in symbol.now self.now)) result out.new }
     {
         if self.ascii.to <= self.ascii.from {
             return Ok(());
@@ -38,7 +39,8 @@ impl Ident {
         requires parts { LiesWithin symbol.now self.now }
         requires ascii { IsAscii symbol.now }
         requires ready { Ready S.TextSink out.old }
-        ensures { Prints S.TextSink out.old (undecoded (name_in symbol.now self.now)) result out.new }
+        ensures { Prints S.TextSink out.old
+            (undecoded (name_in symbol.now self.now)) result out.new }
     {
         out.put("punycode{")?;
         self.write_ascii(symbol, out)?;
@@ -46,8 +48,8 @@ impl Ident {
         out.put("}")
     }
 
-    /// Puts a name: its ASCII part, where it has no Punycode part, or its decoded characters. Where these can't be
-    /// decoded it puts both parts between `punycode{` and `}`.
+    /// Puts a name: its ASCII part, where it has no Punycode part, or its decoded characters. Where
+    /// these can't be decoded it puts both parts between `punycode{` and `}`.
     pub fn write_to<S: TextSink>(
         &self,
         symbol: &Symbol<'_>,
@@ -57,7 +59,8 @@ impl Ident {
         requires parts { LiesWithin symbol.now self.now }
         requires ascii { IsAscii symbol.now }
         requires ready { Ready S.TextSink out.old }
-        ensures prints { Prints S.TextSink out.old (name_pieces (name_in symbol.now self.now)) result out.new }
+        ensures prints { Prints S.TextSink out.old
+            (name_pieces (name_in symbol.now self.now)) result out.new }
         ensures grows { looks.old ≤ looks.new }
         ensures looks { looks.new ≤ looks.old + name_size self.now }
     {

@@ -6,8 +6,8 @@ use std::alloc::Global;
 use std::process::Abort;
 use std::test::Fail;
 
-/// Asserts that a refused text prints itself, that an accepted one prints the same by both calls, and that what was
-/// stripped is not stripped again.
+/// Asserts that a refused text prints itself, that an accepted one prints the same by both calls,
+/// and that what was stripped is not stripped again.
 fn assert_printed(rt: &impl Abort, alloc: Global, text: &str) -> Result<(), Fail> {
     let symbol = demangle(text);
     let stripped = symbol.as_str();
@@ -41,8 +41,8 @@ fn digest_of(before: u64, bytes: &[u8]) -> u64 {
 /// The digest of nothing.
 const OF_NOTHING: u64 = 0xCBF2_9CE4_8422_2325;
 
-/// The digests of what the Rust crate's stream writes for the beginnings, with a line feed behind each: with the hash
-/// and without it.
+/// The digests of what the Rust crate's stream writes for the beginnings, with a line feed behind
+/// each: with the hash and without it.
 const WRITTEN: [(bool, u64); 2] = [
     (true, 0xA761_CF34_3FBD_2746),
     (false, 0xC1DA_C274_FAC4_9C89),

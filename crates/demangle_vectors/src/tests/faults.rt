@@ -1,4 +1,5 @@
-//! Faults of readers and writers: the caller meets their kind and text, and nothing is written behind one.
+//! Faults of readers and writers: the caller meets their kind and text, and nothing is written
+//! behind one.
 use super::repeated;
 use rustc_demangle::sink::{TextSink, WriteSink};
 use rustc_demangle::{StreamFault, demangle, demangle_stream, demangle_stream_named};
@@ -11,7 +12,8 @@ const RESET: &str = "reset by the other side";
 
 const GONE: &str = "nobody reads any more";
 
-/// A text in parts of at most so many bytes, and behind it an error of this kind and text, or the end.
+/// A text in parts of at most so many bytes, and behind it an error of this kind and text, or the
+/// end.
 #[derive(Drop)]
 struct PartedReader<'a> {
     text: &'a [u8],
@@ -47,7 +49,8 @@ impl BufRead for PartedReader<'_> {
     }
 }
 
-/// Takes so many writes, refuses one with an error of this kind and text, and counts those behind it.
+/// Takes so many writes, refuses one with an error of this kind and text, and counts those behind
+/// it.
 #[derive(Drop)]
 struct OnceRefusingWriter {
     held: Vec<u8>,

@@ -138,7 +138,8 @@ fn a_line_is_not_utf8(rt: HostRuntime) -> Result<(), Fail> {
 const LINE: &[u8] = b"_ZN3fooE.llvm moocow \
     _RNvMNtNtNtNtCs8a2262Dv4r_3mio3sys4unix8selector5epollNtB2_8Selector6select _ZN3fooE.llvm";
 
-/// The writes of that line up to its disambiguator, which only the plain form shows, behind it, and of a line feed.
+/// The writes of that line up to its disambiguator, which only the plain form shows, behind it, and
+/// of a line feed.
 const HEAD: [&[u8]; 5] = [b"foo", b".llvm", b" moocow ", b"<", b"mio"];
 
 const DISAMBIGUATOR: [&[u8]; 3] = [b"[", b"1888792e1a78739", b"]"];
@@ -172,7 +173,8 @@ fn lines_have_symbols_of_both_schemes(rt: HostRuntime) -> Result<(), Fail> {
     assert_writes(&rt, rt.alloc(), LINE, true, plain.as_slice())
 }
 
-/// Asserts that a writer that refuses its write of each number in turn holds those before it, over that line twice.
+/// Asserts that a writer that refuses its write of each number in turn holds those before it, over
+/// that line twice.
 fn assert_held(rt: &impl Abort, alloc: Global, include_hash: bool) -> Result<(), Fail> {
     let mut text = Vec::new(alloc);
     let mut wanted_writes: Vec<&[u8]> = Vec::new(alloc);

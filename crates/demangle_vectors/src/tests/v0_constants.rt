@@ -4,7 +4,8 @@ use std::alloc::Global;
 use std::process::Abort;
 use std::test::Fail;
 
-/// Asserts what a constant prints as the one argument of a path, with the types of its numbers and without them.
+/// Asserts what a constant prints as the one argument of a path, with the types of its numbers and
+/// without them.
 pub fn assert_constant(
     rt: &impl Abort,
     alloc: Global,

@@ -112,7 +112,8 @@ fn a_decoded_name_has_up_to_128_characters(rt: HostRuntime) -> Result<(), Fail> 
     Ok(())
 }
 
-/// A binder's lifetimes up to the one of this number, which is 26 at least, without the end of the binder.
+/// A binder's lifetimes up to the one of this number, which is 26 at least, without the end of the
+/// binder.
 fn lifetimes(alloc: Global, last: usize) -> Result<String, AllocError> {
     let mut text = String::new(alloc);
     text.push_str("<for<'a")?;
@@ -150,7 +151,8 @@ fn lifetimes_are_printed_up_to_the_limit(rt: HostRuntime) -> Result<(), Fail> {
     Ok(())
 }
 
-/// A symbol of so many pairs in one another, of which each has the first of its halves as the second, too.
+/// A symbol of so many pairs in one another, of which each has the first of its halves as the
+/// second, too.
 fn pairs_symbol(alloc: Global, pairs: usize) -> Result<String, AllocError> {
     const DIGITS: &[u8] = b"0123456789abcdefghijklmnopqrstuvwxyz";
     let mut symbol = filled(alloc, "_RMC0", "T", pairs, "p")?;

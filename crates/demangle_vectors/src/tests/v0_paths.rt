@@ -86,7 +86,8 @@ fn names_in_punycode_are_decoded(rt: HostRuntime) {
     for (symbol, text) in [
         ("_RCu9bcher_kva", "bücher"),
         ("_RCu3tda", "ü"),
-        // The deltas of 455 and of 456 are the last that is not damped once more, and the first that is.
+        // The deltas of 455 and of 456 are the last that is not damped once more, and the first
+        // that is.
         ("_RCu11ab_cja24e9f", "abéƟǇ"),
         ("_RCu8_9ca22dpd", "éșɁ"),
         ("_RCu8gdel_5qa", "gödel"),

@@ -15,9 +15,11 @@ pub fn lines_are_the_only_division()
     ensures { (text : List ℕ) → OnlyLines text }
 {}
 
-/// What is computed of a line is what its division into kept texts and runs gives, and nothing else is.
+/// What is computed of a line is what its division into kept texts and runs gives, and nothing else
+/// is.
 pub fn filtered_is_the_only_text()
-    ensures { (hash : Bool) → (line out : List ℕ) → (out ≡ filtered hash line) ↔ IsFiltered hash line out }
+    ensures { (hash : Bool) → (line out : List ℕ) →
+        (out ≡ filtered hash line) ↔ IsFiltered hash line out }
 {}
 
 /// A line without `_ZN` and `_R` passes unchanged.
@@ -27,11 +29,14 @@ pub fn line_without_symbols_passes()
 
 /// Where all succeeds, as many line feeds are written as were read.
 pub fn as_many_lines_are_written()
-    ensures printed { (text : List ℕ) → (hash : Bool) → (limit : ℕ) → feeds text ≡ 0 → feeds (concat (handed text hash limit)) ≡ 0 }
-    ensures written { (hash : Bool) → (text : List ℕ) → feeds (output_of hash (lines text)) ≡ feeds text }
+    ensures printed { (text : List ℕ) → (hash : Bool) → (limit : ℕ) → feeds text ≡ 0 →
+        feeds (concat (handed text hash limit)) ≡ 0 }
+    ensures written { (hash : Bool) → (text : List ℕ) →
+        feeds (output_of hash (lines text)) ≡ feeds text }
 {}
 
-/// Demangles a text in memory: the stream's contract over a reader and a writer that tell what they hold.
+/// Demangles a text in memory: the stream's contract over a reader and a writer that tell what they
+/// hold.
 pub fn demangle_in_memory(
     alloc: Global,
     text: &[u8],
@@ -39,8 +44,10 @@ pub fn demangle_in_memory(
     include_hash: bool,
 ) -> Result<(), StreamFault>
     ensures utf8 { OnOk result (IsUtf8 text.now) }
-    ensures written { OnOk result (output.new.items ≡ output.old.items ++ output_of include_hash (lines text.now)) }
-    ensures stopped { IfErr result (λ fault. Stopped fault text.now include_hash (Some output.old.items) (Some output.new.items)) }
+    ensures written { OnOk result
+        (output.new.items ≡ output.old.items ++ output_of include_hash (lines text.now)) }
+    ensures stopped { IfErr result (λ fault. Stopped fault text.now include_hash
+        (Some output.old.items) (Some output.new.items)) }
 {
     let mut input = text;
     demangle_stream_named(alloc, &mut input, output, include_hash)

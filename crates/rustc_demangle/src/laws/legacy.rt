@@ -4,7 +4,11 @@ ghost use Rattle.demangle_legacy.specs.Legacy.{IsLegacy, legacy_of};
 
 /// A text is read as a legacy symbol exactly where the grammar spells it, and in one way at most.
 pub fn legacy_is_read()
-    ensures read { (text : List ℕ) (elements : List (List ℕ)) (suffix : List ℕ) → legacy_of text ≡ Some (elements, suffix) → IsLegacy text elements suffix }
-    ensures spelled { (text : List ℕ) (elements : List (List ℕ)) (suffix : List ℕ) → IsLegacy text elements suffix → legacy_of text ≡ Some (elements, suffix) }
-    ensures once { (text : List ℕ) (elements others : List (List ℕ)) (suffix other : List ℕ) → IsLegacy text elements suffix → IsLegacy text others other → (elements ≡ others) × (suffix ≡ other) }
+    ensures read { (text : List ℕ) (elements : List (List ℕ)) (suffix : List ℕ) →
+        legacy_of text ≡ Some (elements, suffix) → IsLegacy text elements suffix }
+    ensures spelled { (text : List ℕ) (elements : List (List ℕ)) (suffix : List ℕ) →
+        IsLegacy text elements suffix → legacy_of text ≡ Some (elements, suffix) }
+    ensures once { (text : List ℕ) (elements others : List (List ℕ)) (suffix other : List ℕ) →
+        IsLegacy text elements suffix → IsLegacy text others other →
+        (elements ≡ others) × (suffix ≡ other) }
 {}

@@ -12,10 +12,13 @@ ghost use Rattle.demangle_legacy.specs.Unescaped.{legacy_pieces};
 use crate::value::Demangle;
 use demangle_sink::{ArraySink, SinkRefused, TextSink};
 
-/// A text is cut off from its first `.llvm.` on, where only characters of ThinLTO's endings follow. Twice is as once.
+/// A text is cut off from its first `.llvm.` on, where only characters of ThinLTO's endings follow.
+/// Twice is as once.
 pub fn stripped_is_cut_once()
-    ensures cut { (text front ending : List ℕ) → IsCut text front ending → stripped text ≡ (if list_all is_thin_lto ending then front else text) }
-    ensures whole { (text : List ℕ) → ((front ending : List ℕ) → IsCut text front ending → ⊥) → stripped text ≡ text }
+    ensures cut { (text front ending : List ℕ) → IsCut text front ending →
+        stripped text ≡ (if list_all is_thin_lto ending then front else text) }
+    ensures whole { (text : List ℕ) → ((front ending : List ℕ) → IsCut text front ending → ⊥) →
+        stripped text ≡ text }
     ensures twice { (text : List ℕ) → stripped (stripped text) ≡ stripped text }
 {}
 
@@ -29,14 +32,17 @@ pub fn no_symbol_prints_itself()
 
 /// A symbol hands over at most the bytes of the limit, the 20 of the marker, and its suffix.
 pub fn symbol_stays_within_limit()
-    ensures { (text : List ℕ) → (hash : Bool) → (limit : ℕ) → (pieces : List (List ℕ)) → (suffix : List ℕ) → pieces_of hash text ≡ Some (pieces, suffix) →
+    ensures { (text : List ℕ) → (hash : Bool) → (limit : ℕ) → (pieces : List (List ℕ)) →
+        (suffix : List ℕ) → pieces_of hash text ≡ Some (pieces, suffix) →
         size (handed text hash limit) ≤ limit + 20 + length suffix }
 {}
 
-/// A symbol prints at most the bytes of the limit, the 20 of the marker, and as many as it has itself.
+/// A symbol prints at most the bytes of the limit, the 20 of the marker, and as many as it has
+/// itself.
 #[tactic(auto, using(crate::proofs::SymbolLaws::length_handed))]
 pub fn symbol_text_is_bounded()
-    ensures { (text : List ℕ) → (hash : Bool) → (limit : ℕ) → IsSymbol text → length (concat (handed text hash limit)) ≤ limit + 20 + length text }
+    ensures { (text : List ℕ) → (hash : Bool) → (limit : ℕ) → IsSymbol text →
+        length (concat (handed text hash limit)) ≤ limit + 20 + length text }
 {}
 
 /// A text that is a symbol once it is stripped is ASCII.
@@ -45,15 +51,18 @@ pub fn symbols_are_ascii()
     ensures { (text : List ℕ) → IsSymbol (stripped text) → IsAscii text }
 {}
 
-/// A legacy symbol whose pieces are within the limit hands over the same without the hash, or all but its last element
-/// and the `::` before that.
+/// A legacy symbol whose pieces are within the limit hands over the same without the hash, or all
+/// but its last element and the `::` before that.
 pub fn hash_is_the_last_element()
-    ensures { (text : List ℕ) → (elements : List (List ℕ)) → (suffix : List ℕ) → (limit : ℕ) → IsLegacy text elements suffix → is_allowed suffix ≡ true →
+    ensures { (text : List ℕ) → (elements : List (List ℕ)) → (suffix : List ℕ) → (limit : ℕ) →
+        IsLegacy text elements suffix → is_allowed suffix ≡ true →
         size (legacy_pieces true elements) ≤ limit →
-        (handed text false limit ≡ handed text true limit) ⊎ LeavesHashOut text elements suffix limit }
+        (handed text false limit ≡ handed text true limit)
+        ⊎ LeavesHashOut text elements suffix limit }
 {}
 
-/// What is printed twice under the same flag is the same text, and where there is room for it, it is printed.
+/// What is printed twice under the same flag is the same text, and where there is room for it, it
+/// is printed.
 pub fn prints_the_same<const N: usize, const M: usize>(
     symbol: &Demangle<'_>,
     include_hash: bool,
@@ -66,7 +75,8 @@ pub fn prints_the_same<const N: usize, const M: usize>(
     requires second_empty { text_of second.old ≡ [] }
     ensures same { OnOk result (text_of first.new ≡ text_of second.new) }
     ensures text { OnOk result (text_of first.new ≡ printed symbol.now include_hash) }
-    ensures fits { size (handed symbol.now include_hash most_bytes) ≤ N → size (handed symbol.now include_hash most_bytes) ≤ M → IsOk result }
+    ensures fits { size (handed symbol.now include_hash most_bytes) ≤ N →
+        size (handed symbol.now include_hash most_bytes) ≤ M → IsOk result }
 {
     symbol.write_to(first, include_hash)?;
     symbol.write_to(second, include_hash)

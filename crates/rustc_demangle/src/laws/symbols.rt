@@ -19,8 +19,8 @@ pub fn legacy_symbol_prints_its_elements()
         kept_of text hash limit ≡ kept (legacy_pieces hash elements) limit }
 {}
 
-/// A v0 symbol with an allowed suffix hands over what its tree gives, cut at the limit, and then its
-/// suffix.
+/// A v0 symbol with an allowed suffix hands over what its tree gives, cut at the limit, and then
+/// its suffix.
 pub fn v0_symbol_prints_its_tree()
     ensures handed { (text inner suffix : List ℕ) → (hash : Bool) → (limit : ℕ) →
         IsV0 text inner suffix → is_allowed suffix ≡ true →

@@ -6,19 +6,23 @@ ghost use Rattle.demangle_sink.specs.Cut.{size};
 ghost use Rattle.demangle_v0.specs.Items.{Items, Kind, a_path};
 ghost use Rattle.demangle_v0.specs.Reading.{Surroundings, max_depth, stretches, pieces, read_at, rendered, run};
 
-/// However large the tree of a symbol is, the looks up to a stretch, and for it, are bounded by the bytes that were
-/// handed over before it; and so for each unit, by the depths that are left to it.
+/// However large the tree of a symbol is, the looks up to a stretch, and for it, are bounded by the
+/// bytes that were handed over before it; and so for each unit, by the depths that are left to it.
 pub fn printing_looks_stay_linear()
     ensures printing { (symbol : List ℕ) (plain : Bool) (k : ℕ) →
         let all = stretches plain (read_at symbol true a_path 0 0 0 true).tree in
         looks_of (take (k + 1) all) ≤ 100000 * (bytes_of (take k all) + 1) * (length symbol + 1) }
     ensures paid { (symbol : List ℕ) (plain : Bool) →
-        Pays (17000 * (length symbol + 1)) (17034 * (length symbol + 1)) (stretches plain (read_at symbol true a_path 0 0 0 true).tree) 0 }
-    ensures unit { (symbol : List ℕ) (plain : Bool) (kind : Kind) (i depth lifetimes : ℕ) (value : Bool) (k : ℕ) → i ≤ length symbol → depth ≤ max_depth →
+        Pays (17000 * (length symbol + 1)) (17034 * (length symbol + 1))
+        (stretches plain (read_at symbol true a_path 0 0 0 true).tree) 0 }
+    ensures unit { (symbol : List ℕ) (plain : Bool) (kind : Kind)
+        (i depth lifetimes : ℕ) (value : Bool) (k : ℕ) → i ≤ length symbol → depth ≤ max_depth →
         let all = stretches plain (read_at symbol true kind i depth lifetimes value).tree in
-        looks_of (take (k + 1) all) ≤ 34 * (length symbol + 1) * (501 - depth) * (bytes_of (take k all) + 1) }
+        looks_of (take (k + 1) all)
+        ≤ 34 * (length symbol + 1) * (501 - depth) * (bytes_of (take k all) + 1) }
     ensures bytes { (symbol : List ℕ) (plain : Bool) →
-        bytes_of (stretches plain (read_at symbol true a_path 0 0 0 true).tree) ≡ size (rendered symbol plain) }
+        bytes_of (stretches plain (read_at symbol true a_path 0 0 0 true).tree)
+        ≡ size (rendered symbol plain) }
 {}
 
 /// Accepting a symbol takes at most 32 looks for each of its bytes, and 32 more.
@@ -30,5 +34,6 @@ pub fn accepting_looks_stay_linear()
 /// Once a reading failed, what goes on takes no look.
 #[tactic(auto, using(demangle_v0::proofs::LooksLaw::failed_looks))]
 pub fn failed_readings_look_at_nothing()
-    ensures { (p : Items) (s : Surroundings) (plain : Bool) → looks_of (stretches plain (run p s None).tree) ≡ 0 }
+    ensures { (p : Items) (s : Surroundings) (plain : Bool) →
+        looks_of (stretches plain (run p s None).tree) ≡ 0 }
 {}

@@ -10,38 +10,49 @@ ghost use Rattle.demangle_v0.specs.Spelling.{Rule, freely, named, simple, Spells
 #[tactic(auto, using(demangle_v0::proofs::Unique::unique, demangle_v0::proofs::Accepted::one_suffix))]
 pub fn units_end_once()
     ensures unit { (symbol : List ℕ) (rule : Rule) (depth lifetimes : ℕ) (p : Items) (i j k : ℕ) →
-        Spells symbol rule depth lifetimes p i j → Spells symbol rule depth lifetimes p i k → j ≡ k }
+        Spells symbol rule depth lifetimes p i j → Spells symbol rule depth lifetimes p i k →
+        j ≡ k }
     ensures symbol { (inner : List ℕ) (j k : ℕ) → IsPaths inner j → IsPaths inner k → j ≡ k }
 {}
 
 /// Reading without printing accepts exactly what is spelled.
 #[tactic(auto, using(demangle_v0::proofs::Accepted::reading_is_spelling))]
 pub fn reading_accepts_what_is_spelled()
-    ensures unit { (symbol : List ℕ) (kind : Kind) (value : Bool) (i j depth lifetimes : ℕ) → depth ≤ max_depth → i ≤ length symbol →
-        ((read_at symbol false kind i depth lifetimes value).place ≡ Some j) ↔ Spells symbol freely depth lifetimes (items kind value) i j }
+    ensures unit { (symbol : List ℕ) (kind : Kind) (value : Bool) (i j depth lifetimes : ℕ) →
+        depth ≤ max_depth → i ≤ length symbol →
+        ((read_at symbol false kind i depth lifetimes value).place ≡ Some j)
+        ↔ Spells symbol freely depth lifetimes (items kind value) i j }
     ensures symbol { (inner : List ℕ) (k : ℕ) → (suffix_of inner ≡ Some k) ↔ IsPaths inner k }
-    ensures whole { (symbol inner suffix : List ℕ) → (v0_of symbol ≡ Some (inner, suffix)) ↔ IsV0 symbol inner suffix }
+    ensures whole { (symbol inner suffix : List ℕ) →
+        (v0_of symbol ≡ Some (inner, suffix)) ↔ IsV0 symbol inner suffix }
 {}
 
-/// A printed reading ends where the unprinted one does, or failed. It fails only at a lifetime outside references that
-/// names none in force.
+/// A printed reading ends where the unprinted one does, or failed. It fails only at a lifetime
+/// outside references that names none in force.
 #[tactic(auto, using(demangle_v0::proofs::Accepted::printing_is_spelling, demangle_v0::proofs::Accepted::printing_ends, demangle_v0::proofs::Rules::named_freely))]
 pub fn printing_ends_where_reading_does()
-    ensures named { (symbol : List ℕ) (kind : Kind) (value : Bool) (i j depth lifetimes : ℕ) → depth ≤ max_depth → i ≤ length symbol →
-        ((read_at symbol true kind i depth lifetimes value).place ≡ Some j) ↔ Spells symbol named depth lifetimes (items kind value) i j }
+    ensures named { (symbol : List ℕ) (kind : Kind) (value : Bool) (i j depth lifetimes : ℕ) →
+        depth ≤ max_depth → i ≤ length symbol →
+        ((read_at symbol true kind i depth lifetimes value).place ≡ Some j)
+        ↔ Spells symbol named depth lifetimes (items kind value) i j }
     ensures freely { (symbol : List ℕ) (depth lifetimes : ℕ) (p : Items) (i j : ℕ) →
         Spells symbol named depth lifetimes p i j → Spells symbol freely depth lifetimes p i j }
-    ensures fails { (symbol : List ℕ) (kind : Kind) (value : Bool) (i j depth lifetimes : ℕ) → depth ≤ max_depth → i ≤ length symbol →
+    ensures fails { (symbol : List ℕ) (kind : Kind) (value : Bool) (i j depth lifetimes : ℕ) →
+        depth ≤ max_depth → i ≤ length symbol →
         Spells symbol freely depth lifetimes (items kind value) i j →
         ((read_at symbol true kind i depth lifetimes value).place ≡ Some j)
-        ⊎ (((read_at symbol true kind i depth lifetimes value).place ≡ None) × (Spells symbol named depth lifetimes (items kind value) i j → ⊥)) }
+        ⊎ (((read_at symbol true kind i depth lifetimes value).place ≡ None)
+        × (Spells symbol named depth lifetimes (items kind value) i j → ⊥)) }
 {}
 
-/// What is spelled without a reference, and with no lifetime but that of index 0, hands over no stop.
+/// What is spelled without a reference, and with no lifetime but that of index 0, hands over no
+/// stop.
 #[tactic(auto, using(demangle_v0::proofs::Whole::read_whole, demangle_v0::proofs::Rules::simply_named))]
 pub fn simple_units_have_no_stop()
-    ensures whole { (symbol : List ℕ) (kind : Kind) (value : Bool) (i j depth lifetimes : ℕ) → depth ≤ max_depth → i ≤ length symbol →
-        Spells symbol simple depth lifetimes (items kind value) i j → IsWhole (read_at symbol true kind i depth lifetimes value).tree }
+    ensures whole { (symbol : List ℕ) (kind : Kind) (value : Bool) (i j depth lifetimes : ℕ) →
+        depth ≤ max_depth → i ≤ length symbol →
+        Spells symbol simple depth lifetimes (items kind value) i j →
+        IsWhole (read_at symbol true kind i depth lifetimes value).tree }
     ensures named { (symbol : List ℕ) (depth lifetimes : ℕ) (p : Items) (i j : ℕ) →
         Spells symbol simple depth lifetimes p i j → Spells symbol named depth lifetimes p i j }
 {}

@@ -2,12 +2,18 @@
 ghost use Rattle.std.specs.Prelude.{◌≡◌, ◌↔◌, ℕ, ◌+◌, List, Some, slice_range};
 ghost use Rattle.demangle_symbol.specs.Words.{Name, namespace_at, Namespace, integer_at, Integer, optional_at, OptInteger, backref_at, Backref, identifier_at, Identifier, nibbles_at, Hex};
 
-/// A word's function gives a value and the place behind the word exactly where its relation holds of both.
+/// A word's function gives a value and the place behind the word exactly where its relation holds
+/// of both.
 pub fn words_are_read_as_spelled()
-    ensures namespace { (s : List ℕ) (i j b : ℕ) → (namespace_at s i ≡ Some (b, j)) ↔ (Namespace s i b × (j ≡ i + 1)) }
+    ensures namespace { (s : List ℕ) (i j b : ℕ) →
+        (namespace_at s i ≡ Some (b, j)) ↔ (Namespace s i b × (j ≡ i + 1)) }
     ensures integer { (s : List ℕ) (i j v : ℕ) → (integer_at s i ≡ Some (v, j)) ↔ Integer s i j v }
-    ensures optional { (tag : ℕ) (s : List ℕ) (i j v : ℕ) → (optional_at tag s i ≡ Some (v, j)) ↔ OptInteger tag s i j v }
-    ensures backref { (s : List ℕ) (i j target : ℕ) → (backref_at s i ≡ Some (target, j)) ↔ Backref s i j target }
-    ensures identifier { (s : List ℕ) (i j : ℕ) (name : Name) → (identifier_at s i ≡ Some (name, j)) ↔ Identifier s i j name }
-    ensures nibbles { (s : List ℕ) (i j : ℕ) (ns : List ℕ) → (nibbles_at s i ≡ Some (ns, j)) ↔ ((end : ℕ) × Hex s i j end × (ns ≡ slice_range s i end)) }
+    ensures optional { (tag : ℕ) (s : List ℕ) (i j v : ℕ) →
+        (optional_at tag s i ≡ Some (v, j)) ↔ OptInteger tag s i j v }
+    ensures backref { (s : List ℕ) (i j target : ℕ) →
+        (backref_at s i ≡ Some (target, j)) ↔ Backref s i j target }
+    ensures identifier { (s : List ℕ) (i j : ℕ) (name : Name) →
+        (identifier_at s i ≡ Some (name, j)) ↔ Identifier s i j name }
+    ensures nibbles { (s : List ℕ) (i j : ℕ) (ns : List ℕ) →
+        (nibbles_at s i ≡ Some (ns, j)) ↔ ((end : ℕ) × Hex s i j end × (ns ≡ slice_range s i end)) }
 {}

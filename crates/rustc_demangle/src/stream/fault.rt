@@ -6,7 +6,8 @@ use std::io;
 /// Why the stream stopped.
 #[derive(Drop)]
 pub enum StreamFault {
-    /// The reader answered this error, or there were more lines, or parts of one line, than can be counted.
+    /// The reader answered this error, or there were more lines, or parts of one line, than can be
+    /// counted.
     Read(io::Error),
     /// A line is not UTF-8.
     NotUtf8,
@@ -17,7 +18,8 @@ pub enum StreamFault {
 }
 
 impl StreamFault {
-    /// The fault as an `io::Error`: that of the reader or the writer as it was, else a new one of its kind.
+    /// The fault as an `io::Error`: that of the reader or the writer as it was, else a new one of
+    /// its kind.
     pub fn into_io(self) -> io::Error
         ensures { GivesError self result }
     {

@@ -22,7 +22,8 @@ fn begins_run(text: &[u8]) -> bool
 fn run_start(text: &[u8]) -> Option<usize>
     ensures some { IfSome result (λ n. (n < length text.now) × (begins_run (drop n text.now) ≡ true)
         × ((k : ℕ) → k < n → begins_run (drop k text.now) ≡ false)) }
-    ensures none { IfNone result ((k : ℕ) → k < length text.now → begins_run (drop k text.now) ≡ false) }
+    ensures none { IfNone result
+        ((k : ℕ) → k < length text.now → begins_run (drop k text.now) ≡ false) }
 {
     let mut from = 0;
     while let Some(ahead) = memchr(b'_', &text[from..]) {
@@ -50,7 +51,8 @@ const GROUP: usize = 32;
 #[inline(always)]
 fn is_run_group(text: &[u8], from: usize) -> bool
     requires { from + 32 ≤ length text.now }
-    ensures { IsTrue result → (k : ℕ) → from ≤ k → k < from + 32 → is_run (slice_index text.now k) ≡ true }
+    ensures { IsTrue result → (k : ℕ) → from ≤ k → k < from + 32 →
+        is_run (slice_index text.now k) ≡ true }
 {
     let mut all = true;
     for k in 0..GROUP {
@@ -89,7 +91,8 @@ fn write_symbol<W: Write>(
     output: &mut W,
     include_hash: bool,
 ) -> io::Result<()>
-    ensures { OnOk result (Appends (W.contents output.old) (W.contents output.new) (printed symbol.now include_hash)) }
+    ensures { OnOk result (Appends
+        (W.contents output.old) (W.contents output.new) (printed symbol.now include_hash)) }
 {
     let mut sink = WriteSink::new(output);
     // Where it is refused, the sink has a fault.
@@ -102,7 +105,8 @@ fn write_symbol<W: Write>(
 
 // Writes what stands for a run: what it prints where it is a symbol, else the run.
 fn write_run<W: Write>(run: &str, output: &mut W, include_hash: bool) -> io::Result<()>
-    ensures { OnOk result (Appends (W.contents output.old) (W.contents output.new) (replacement include_hash run.now)) }
+    ensures { OnOk result (Appends
+        (W.contents output.old) (W.contents output.new) (replacement include_hash run.now)) }
 {
     match try_demangle(run) {
         Ok(symbol) => write_symbol(&symbol, output, include_hash),
@@ -116,7 +120,8 @@ pub(super) fn demangle_line<W: Write>(
     output: &mut W,
     include_hash: bool,
 ) -> io::Result<()>
-    ensures { OnOk result (Appends (W.contents output.old) (W.contents output.new) (filtered include_hash line.now)) }
+    ensures { OnOk result
+        (Appends (W.contents output.old) (W.contents output.new) (filtered include_hash line.now)) }
 {
     let mut rest = line;
     while let Some(start) = run_start(rest.as_bytes()) {

@@ -62,7 +62,8 @@ fn memory_is_refused(rt: HostRuntime) -> Result<(), Fail> {
     Ok(())
 }
 
-/// Hands out a text a byte at a filling, and notes at which of its fillings more of the heap came into use.
+/// Hands out a text a byte at a filling, and notes at which of its fillings more of the heap came
+/// into use.
 #[derive(Drop)]
 struct WatchingReader<'a> {
     text: &'a [u8],
@@ -125,13 +126,14 @@ fn requests_of(alloc: Global, text: &[u8], whole: &[u8]) -> Result<Vec<usize>, F
     Ok(input.requests)
 }
 
-/// At which fillings memory is refused, in heaps of all sizes. A refused copy has written the lines before that filling
-/// alone.
+/// At which fillings memory is refused, in heaps of all sizes. A refused copy has written the lines
+/// before that filling alone.
 fn refusals_of(alloc: Global, text: &[u8], first: &[u8], whole: &[u8]) -> Result<Vec<usize>, Fail> {
     let mut refusals = Vec::new(alloc);
     for units in 1..64usize {
         let heap = LocalHeap::new(alloc, units * 16)?;
-        // The smallest heap has room for one block of 16 bytes: this byte takes it, so the first request is refused.
+        // The smallest heap has room for one block of 16 bytes: this byte takes it, so the first
+        // request is refused.
         let mut held = Vec::new(&heap);
         held.push(0u8)?;
         let mut line = Vec::new(&heap);
