@@ -11,8 +11,8 @@ use Rattle.demangle_v0.specs.declared.grammar.Mark.{Mark}
 use Rattle.demangle_v0.specs.declared.grammar.Production.{Production}
 
 -- the rows that productions stand for
-abbrev pub rows_of : (Production → Items) → List (String × Production) → List (String × Items)
-rows_of f rs = map (λ (r : String × Production). (r.0, f r.1)) rs
+abbrev pub rows_of : {A : Type 0} → (A → Items) → List (String × A) → List (String × Items)
+rows_of {A = A} f rs = map (λ (r : String × A). (r.0, f r.1)) rs
 
 path_meanings : (value : Bool) (tag : ℕ) → path_rows value ≡ rows_of (unit_of value tag) (path_productions value)
 path_meanings true tag = refl
@@ -29,7 +29,7 @@ constant_meanings : (value : Bool) (tag : ℕ) → constant_rows value tag ≡ r
 constant_meanings true tag = refl
 constant_meanings false tag = refl
 
-row_found : (tag : ℕ) (other : Items) (f : Production → Items) (rs : List (String × Production)) → row_of tag other (rows_of f rs) ≡ some_or other (found tag rs) f
+pub row_found : {A : Type 0} (tag : ℕ) (other : Items) (f : A → Items) (rs : List (String × A)) → row_of tag other (rows_of f rs) ≡ some_or other (found tag rs) f
 row_found tag other f [] = refl
 row_found tag other f (r ∷ rs) = go (is_among tag (codes r.0)) (row_found tag other f rs)
   where

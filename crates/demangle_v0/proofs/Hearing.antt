@@ -37,10 +37,10 @@ and_then_assoc h f g = let m = f h.place h.is_open in let n = g m.place m.is_ope
 pub and_then_ended : (h : Heard) → and_then h ended ≡ h
 and_then_ended h = ap (λ (xs : List Event). record { events = xs; place = h.place; is_open = h.is_open }) (append_none h.events)
 
-handing_then : (out : Bool) (ts : List Text) (h : Heard) (k : Option ℕ → Bool → Heard) → and_then (handing out ts h) k ≡ handing out ts (and_then h k)
+pub handing_then : (out : Bool) (ts : List Text) (h : Heard) (k : Option ℕ → Bool → Heard) → and_then (handing out ts h) k ≡ handing out ts (and_then h k)
 handing_then out ts h k = let g = k h.place h.is_open in ap (λ (xs : List Event). record { events = xs; place = g.place; is_open = g.is_open }) (said_all_append out ts h.events g.events)
 
-allowing_then : (ks : List ℕ) (h : Heard) (k : Option ℕ → Bool → Heard) → and_then (allowing ks h) k ≡ allowing ks (and_then h k)
+pub allowing_then : (ks : List ℕ) (h : Heard) (k : Option ℕ → Bool → Heard) → and_then (allowing ks h) k ≡ allowing ks (and_then h k)
 allowing_then ks h k = let g = k h.place h.is_open in ap (λ (xs : List Event). record { events = xs; place = g.place; is_open = g.is_open }) (allowed_append ks h.events g.events)
 
 pub owed_push : (b : List ℕ) (plain : Bool) (tasks : List Task) (task : Task) (i : Option ℕ) (o : Bool) → owed b plain (tasks ++ task ∷ []) i o ≡ and_then (share b plain task i o) (owed b plain tasks)

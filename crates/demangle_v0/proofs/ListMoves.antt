@@ -55,7 +55,7 @@ end_over plain out p q s (Some i) j e = go (is_byte s.symbol i (code "E")) e
     go true e = let same : Some (i + 1) ≡ j = cc in ap (λ (j : Place). allowing (1 ∷ []) (of plain out (run p s j))) same
     go false e = cc
 
-list_over : (b : List ℕ) (plain out : Bool) (x : Joint) (count : Count) (turn p : Items) (s : Surroundings) (i j : Place) → list_end s.symbol i ≡ Some j
+pub list_over : (b : List ℕ) (plain out : Bool) (x : Joint) (count : Count) (turn p : Items) (s : Surroundings) (i j : Place) → list_end s.symbol i ≡ Some j
     → of plain out (run (list_left x turn count p) s i) ≡ allowing (end_costs i) (handing out (texts_of b plain (ending x count)) (of plain out (run p s j)))
 unfolding run
 list_over b plain out joint.Comma Zero turn p s i j e = end_over plain out p (unit turn (more ", " turn p)) s i j e
@@ -96,14 +96,14 @@ move_list_over b u t i o e x j made h k l =
 -- One more element.
 
 -- what is heard of an element, without whether it is open
-abbrev before : Heard → (Place → Heard) → Heard
+abbrev pub before : Heard → (Place → Heard) → Heard
 before h k = and_then h (λ i o. k i)
 
-append_none : (xs : List Event) → xs ++ [] ≡ xs
+pub append_none : (xs : List Event) → xs ++ [] ≡ xs
 append_none [] = refl
 append_none (x ∷ xs) = ap (λ (ys : List Event). x ∷ ys) (append_none xs)
 
-alone : (plain out : Bool) (o : Outcome) (k : Place → Heard) → before (of plain out (followed_by o stands)) k ≡ before (of plain out o) k
+pub alone : (plain out : Bool) (o : Outcome) (k : Place → Heard) → before (of plain out (followed_by o stands)) k ≡ before (of plain out o) k
 alone plain out o k = ap (λ xs. heard (xs ++ (k o.place).events) (k o.place)) (append_none (events plain out o.tree))
 
 element_heard : (b : List ℕ) (plain : Bool) (e : Entry) (left : ℕ) (t : Setting) (i : Place) (k : Place → Heard) → IsElement e
@@ -157,11 +157,11 @@ unfolding run
 end_on plain out p q s i e = rw e refl
 
 -- what an element may cost before it
-abbrev on_costs : Joint → Count → List ℕ
+abbrev pub on_costs : Joint → Count → List ℕ
 on_costs joint.Tuple One = 1 ∷ 1 ∷ []
 on_costs _ count = 1 ∷ []
 
-list_on : (b : List ℕ) (plain : Bool) (x : Joint) (count : Count) (e : Entry) (left : ℕ) (t : Setting) (p : Items) (i : ℕ) → IsElement e → left ≤ max_depth → is_byte b i (code "E") ≡ false
+pub list_on : (b : List ℕ) (plain : Bool) (x : Joint) (count : Count) (e : Entry) (left : ℕ) (t : Setting) (p : Items) (i : ℕ) → IsElement e → left ≤ max_depth → is_byte b i (code "E") ≡ false
     → let s = surroundings b left t in of plain t.output (run (list_left x (element e) count p) s (Some i)) ≡ allowing (on_costs x count) (handing t.output (texts_of b plain (separator x count)) (before (of plain t.output (run (element e) s (Some i))) (λ j. of plain t.output (run (list_left x (element e) (one_more count) p) s j))))
 unfolding run
 list_on b plain joint.Comma Zero e left t p i m l n = end_on plain t.output p (unit (element e) (more ", " (element e) p)) (surroundings b left t) i n

@@ -86,7 +86,7 @@ pays_events r c plain invalid_syntax ys zs f a h = (h.0, f _ h.1)
 pays_events r c plain too_deep ys zs f a h = (h.0, f _ h.1)
 pays_events r c plain unread ys zs f a h = (h.0, f _ h.1)
 
-pays_tree : (r a c : ℕ) (plain : Bool) (t : Tree) → Pays r a (stretches plain t) c → Pays r a (weighed (events plain true t)) c
+pub pays_tree : (r a c : ℕ) (plain : Bool) (t : Tree) → Pays r a (stretches plain t) c → Pays r a (weighed (events plain true t)) c
 pays_tree r a c plain t h =
     subst (λ ws. Pays r a ws c) (append-nil (weighed (events plain true t)))
     (pays_events r c plain t [] [] (λ a' p. p) a (subst (λ ws. Pays r a ws c) (sym (append-nil (stretches plain t))) h))
@@ -138,7 +138,7 @@ paid_refused b plain start looks mid after room left old i o new j p x a s up on
     within whole up on l h = omega (arith, up, on, l, h)
 
 -- what was handed over is among what is kept
-kept_bytes : {S : Type 0} (sink : Ghosts S) (old new : SizeLimitedFmtAdapter S) (whole rest : List (List ℕ)) (bytes : ℕ) → Printed sink old whole rest new → new.remaining + bytes ≡ old.remaining → bytes ≤ kept whole old.remaining
+pub kept_bytes : {S : Type 0} (sink : Ghosts S) (old new : SizeLimitedFmtAdapter S) (whole rest : List (List ℕ)) (bytes : ℕ) → Printed sink old whole rest new → new.remaining + bytes ≡ old.remaining → bytes ≤ kept whole old.remaining
 kept_bytes sink old new whole rest bytes p e =
     let within : size p.front ≤ old.remaining = p.done.within refl in
     let left : new.remaining ≡ old.remaining - size p.front = p.done.left refl in

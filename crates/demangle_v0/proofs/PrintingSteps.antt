@@ -80,11 +80,11 @@ step_shown b plain old i o new j p x made s =
 abbrev pub weighed : List Event → List Stretch
 weighed xs = map stretch_of xs
 
-weighed_said : (ts : List Text) (xs : List Event) → weighed (said_all true ts xs) ≡ map hands ts ++ weighed xs
+pub weighed_said : (ts : List Text) (xs : List Event) → weighed (said_all true ts xs) ≡ map hands ts ++ weighed xs
 weighed_said [] xs = refl
 weighed_said (t ∷ ts) xs = ap (λ (zs : List Stretch). hands t ∷ zs) (weighed_said ts xs)
 
-weighed_allowed : (ks : List ℕ) (xs : List Event) → weighed (allowed_all ks xs) ≡ map looks ks ++ weighed xs
+pub weighed_allowed : (ks : List ℕ) (xs : List Event) → weighed (allowed_all ks xs) ≡ map looks ks ++ weighed xs
 weighed_allowed [] xs = refl
 weighed_allowed (k ∷ ks) xs = ap (λ (zs : List Stretch). looks k ∷ zs) (weighed_allowed ks xs)
 

@@ -13,7 +13,7 @@ use Rattle.demangle_v0.proofs.PaysRules.{Pays-more}
 abbrev pub all_hands : List Text → List Stretch
 all_hands ts = map hands ts
 
-pays_texts : (r a c : ℕ) (ts : List Text) (xs : List Stretch) → Pays r a (all_hands ts ++ xs) c → Pays r (a + r * size ts) xs c
+pub pays_texts : (r a c : ℕ) (ts : List Text) (xs : List Stretch) → Pays r a (all_hands ts ++ xs) c → Pays r (a + r * size ts) xs c
 pays_texts r a c [] xs h = Pays-more r a (a + r * 0) c c 0 xs (omega arith) (omega arith) h
 pays_texts r a c (t ∷ ts) xs h = Pays-more r (a - 0 + r * length t + r * size ts) (a + r * size (t ∷ ts)) c c 0 xs (sums r a (length t) (size ts) (size (t ∷ ts)) refl) (omega arith)
     (pays_texts r (a - 0 + r * length t) c ts xs h.1)
@@ -24,7 +24,7 @@ pays_texts r a c (t ∷ ts) xs h = Pays-more r (a - 0 + r * length t + r * size 
 pub pays_step : (r a c l : ℕ) (ts : List Text) (xs : List Stretch) → Pays r a (looks l ∷ (all_hands ts ++ xs)) c → (l ≤ a) × Pays r (a - l + r * size ts) xs c
 pays_step r a c l ts xs h = (h.0, Pays-more r (a - l + r * 0 + r * size ts) (a - l + r * size ts) c c 0 xs (omega arith) (omega arith) (pays_texts r (a - l + r * 0) c ts xs h.1))
 
-pays_looks : (r a c : ℕ) (ks : List ℕ) (xs : List Stretch) → Pays r a (map looks ks ++ xs) c → (total ks ≤ a) × Pays r (a - total ks) xs c
+pub pays_looks : (r a c : ℕ) (ks : List ℕ) (xs : List Stretch) → Pays r a (map looks ks ++ xs) c → (total ks ≤ a) × Pays r (a - total ks) xs c
 pays_looks r a c [] xs h = (omega arith, Pays-more r a (a - 0) c c 0 xs (omega arith) (omega arith) h)
 pays_looks r a c (k ∷ ks) xs h =
     let q : (total ks ≤ a - k + r * 0) × Pays r (a - k + r * 0 - total ks) xs c = pays_looks r (a - k + r * 0) c ks xs h.1 in

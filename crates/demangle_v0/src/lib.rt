@@ -12,6 +12,7 @@ mod accept;
 mod grammar;
 mod machine;
 mod perform;
+mod points;
 mod printing;
 mod reference;
 mod render;

@@ -1,0 +1,147 @@
+-- The points of the arguments of a path.
+use Rattle.std.specs.Prelude.{◌*◌, ◌^◌}
+use Rattle.std.proofs.Common.{◌≡◌, ℕ, ◌+◌, ◌-◌, ◌<◌, ◌≤◌, Bool, true, false, cond, if◌then◌else◌, Option, Some, None, List, [], ◌∷◌, ◌++◌, Result, Ok, refl, arith, sym, ap, ◌∙◌}
+use Prim.Native.Char.{code}
+use Rattle.demangle_symbol.specs.Digits.{is_byte}
+use Rattle.demangle_v0.specs.Items.{a_type, Items, done, unit}
+use Rattle.demangle_v0.specs.Begins.{total}
+use Rattle.demangle_v0.specs.Events.{Heard, of, and_then, allowing, handing}
+use Rattle.demangle_v0.specs.Grammar.{text, word_items}
+use Rattle.demangle_v0.specs.declared.grammar.Word.TheVariants as word
+use Rattle.demangle_v0.specs.Table.{at_end, list, more, argument, says}
+use Rattle.demangle_v0.specs.Reading.{Place, begun, run}
+use Rattle.demangle_v0.specs.Arguments.{separator, arguments_point, argument_point, argument_place, argument_costs}
+use Rattle.demangle_v0.specs.Points.{frame_of, followed, share_at, rest_at, closing, around, marked, goes, way_weight, weight_at, height_at, Fits, DidOn, Did}
+use Rattle.demangle_v0.specs.declared.grammar.Mark.TheVariants as mark
+use Rattle.demangle_v0.specs.declared.points.Point.{Point}
+use Rattle.demangle_v0.specs.declared.points.Point.TheVariants as point
+use Rattle.demangle_v0.specs.declared.points.Stop.{Stop}
+use Rattle.demangle_v0.specs.declared.points.frames.Frame.{Frame}
+use Rattle.demangle_v0.specs.declared.points.State.{State}
+use Rattle.demangle_v0.specs.declared.points.voice.Voice.{Ghosts}
+use Rattle.demangle_v0.proofs.Elements.{argument_element}
+use Rattle.demangle_v0.proofs.ListReads.{end_failed, end_over, more_failed, more_over, first_on, more_on, argument_lifetime, argument_constant, argument_type}
+use Rattle.demangle_v0.proofs.ListReads.{followed as behind}
+use Rattle.demangle_v0.proofs.PointSteps.{same}
+use Rattle.demangle_v0.proofs.PointTypes.{heard, heard_at, enters}
+
+module _ {V : Type 0} (voice : Ghosts V) (b : List ℕ) (plain : Bool) where
+  -- Up to their first.
+
+  pub value_opens : (v : Bool) (c left n : ℕ) (i : Place) (o : Bool) (row : List Frame) (u : V) (new : State) (made : ℕ) → v ≡ true → made ≤ 0 → Fits point.OpenArguments left n
+      → new.depth_left ≡ left → new.lifetimes ≡ n → new.place ≡ i → new.mark ≡ Some mark.Colons
+      → DidOn voice b plain (heard_at voice b plain point.Generic v c left n i o) 3 (8 * left + 2) row u (Ok point.OpenArguments) new row u made
+  unfolding run followed share_at
+  value_opens v c left n i o row u new made e l f kl kn kp km =
+      enters voice b plain _ point.OpenArguments left n i (Some mark.Colons) [] [] None 3 (8 * left + 2) row row u new made (rw e refl) kl kn kp km refl (omega (arith, l)) (omega (arith, l)) (omega arith) (omega arith) (omega arith) tt f (λ _. tt)
+
+  pub type_opens : (v : Bool) (c left n : ℕ) (i : Place) (o : Bool) (row : List Frame) (u : V) (new : State) (made : ℕ) → v ≡ false → made ≤ 0 → Fits point.FirstArgument left n
+      → new.depth_left ≡ left → new.lifetimes ≡ n → new.place ≡ i → new.mark ≡ Some mark.Less
+      → DidOn voice b plain (heard_at voice b plain point.Generic v c left n i o) 3 (8 * left + 2) row u (Ok point.FirstArgument) new row u made
+  unfolding run followed share_at
+  type_opens v c left n i o row u new made e l f kl kn kp km =
+      enters voice b plain _ point.FirstArgument left n i (Some mark.Less) [] [] None 3 (8 * left + 2) row row u new made (rw e refl) kl kn kp km refl (omega (arith, l)) (omega (arith, l)) (omega arith) (omega arith) (omega arith) tt f (λ _. tt)
+
+  pub arguments_open : (v : Bool) (c left n : ℕ) (i : Place) (o : Bool) (row : List Frame) (u : V) (new : State) (made : ℕ) → made ≤ 0 → Fits point.FirstArgument left n
+      → new.depth_left ≡ left → new.lifetimes ≡ n → new.place ≡ i → new.mark ≡ Some mark.Less
+      → DidOn voice b plain (heard_at voice b plain point.OpenArguments v c left n i o) 2 (8 * left + 2) row u (Ok point.FirstArgument) new row u made
+  unfolding run followed share_at
+  arguments_open v c left n i o row u new made l f kl kn kp km =
+      enters voice b plain _ point.FirstArgument left n i (Some mark.Less) [] [] None 2 (8 * left + 2) row row u new made refl kl kn kp km refl (omega (arith, l)) (omega (arith, l)) (omega arith) (omega arith) (omega arith) tt f (λ _. tt)
+
+  -- Their end.
+
+  failed_so : (first : Bool) (v : Bool) (c left n : ℕ) (o : Bool) → heard_at voice b plain (arguments_point first) v c left n None o ≡ heard voice b plain (says ">" done) left n None
+  unfolding share_at
+  failed_so true v c left n o = ap closing (end_failed plain voice.loud (around b voice.loud left n) (says ">" done) (unit argument (more ", " argument (says ">" done))))
+  failed_so false v c left n o = ap closing (more_failed plain voice.loud (around b voice.loud left n) ", " argument (says ">" done))
+
+  over_so : (first : Bool) (v : Bool) (c left n i : ℕ) (o : Bool) → is_byte b i (code "E") ≡ true → heard_at voice b plain (arguments_point first) v c left n (Some i) o ≡ allowing (1 ∷ []) (heard voice b plain (says ">" done) left n (Some (i + 1)))
+  unfolding share_at
+  over_so true v c left n i o e = ap closing (end_over plain voice.loud (around b voice.loud left n) (says ">" done) (unit argument (more ", " argument (says ">" done))) i e)
+  over_so false v c left n i o e = ap closing (more_over plain voice.loud (around b voice.loud left n) ", " argument (says ">" done) i e)
+
+  weight_so : (first : Bool) → weight_at (arguments_point first) ≡ 1
+  weight_so true = refl
+  weight_so false = refl
+
+  height_so : (first : Bool) (left : ℕ) → height_at (arguments_point first) left ≡ 8 * left + 2
+  height_so true left = refl
+  height_so false left = refl
+
+  pub failed_closes : (first : Bool) (v : Bool) (c left n : ℕ) (o : Bool) (row : List Frame) (u : V) (new : State) (made : ℕ) → made ≤ 0
+      → new.place ≡ None → new.mark ≡ Some mark.Greater → new.is_open ≡ false
+      → DidOn voice b plain (heard_at voice b plain (arguments_point first) v c left n None o) (weight_at (arguments_point first)) (height_at (arguments_point first) left) row u (Ok point.End) new row u made
+  unfolding run followed share_at
+  failed_closes first v c left n o row u new made l kp km ko = rw (weight_so first, height_so first left)
+      (enters voice b plain _ point.End new.depth_left new.lifetimes None (Some mark.Greater) [] [] None 1 (8 * left + 2) row row u new made
+      (rw ko (failed_so first v c left n o)) refl refl kp km refl (omega (arith, l)) (omega (arith, l)) (omega arith) (omega arith) (omega arith) tt tt (λ _. tt))
+
+  pub arguments_close : (first : Bool) (v : Bool) (c left n i : ℕ) (o : Bool) (row : List Frame) (u : V) (new : State) (made : ℕ) → is_byte b i (code "E") ≡ true → made ≤ 1
+      → new.place ≡ Some (i + 1) → new.mark ≡ Some mark.Greater → new.is_open ≡ false
+      → DidOn voice b plain (heard_at voice b plain (arguments_point first) v c left n (Some i) o) (weight_at (arguments_point first)) (height_at (arguments_point first) left) row u (Ok point.End) new row u made
+  unfolding run followed share_at
+  arguments_close first v c left n i o row u new made e l kp km ko = rw (weight_so first, height_so first left)
+      (enters voice b plain _ point.End new.depth_left new.lifetimes (Some (i + 1)) (Some mark.Greater) (1 ∷ []) [] None 1 (8 * left + 2) row row u new made
+      (rw ko (over_so first v c left n i o e)) refl refl kp km refl (omega (arith, l)) (omega (arith, l)) (omega arith) (omega arith) (omega arith) tt tt (λ _. tt))
+
+  -- An argument.
+
+  abbrev rest : ℕ → ℕ → Place → Heard
+  rest left n j = of plain voice.loud (run (more ", " argument (says ">" done)) (around b voice.loud left n) j)
+
+  argument_so : (left n i c : ℕ) (v o : Bool) → closing (behind (of plain voice.loud (run argument (around b voice.loud left n) (Some i))) (rest left n))
+      ≡ allowing (argument_costs b i) (followed b plain voice.loud (Some (frame_of point.NextArgument v c left n)) (heard_at voice b plain (argument_point b i) false c left n (Some (argument_place b i)) o))
+  unfolding followed share_at
+  argument_so left n i c v o = go (is_byte b i (code "L")) (is_byte b i (code "K")) refl refl
+    where
+      go : (x y : Bool) → is_byte b i (code "L") ≡ x → is_byte b i (code "K") ≡ y → closing (behind (of plain voice.loud (run argument (around b voice.loud left n) (Some i))) (rest left n))
+          ≡ allowing (argument_costs b i) (followed b plain voice.loud (Some (frame_of point.NextArgument v c left n)) (heard_at voice b plain (argument_point b i) false c left n (Some (argument_place b i)) o))
+      go true y e f = rw e (ap (λ (h : Heard). closing (behind h (rest left n))) (argument_lifetime plain voice.loud (around b voice.loud left n) i e))
+      go false true e f = rw (e, f) (ap closing (argument_constant plain voice.loud (around b voice.loud left n) i (rest left n) e f))
+      go false false e f = rw (e, f) (ap closing (argument_type plain voice.loud (around b voice.loud left n) i (rest left n) e f))
+
+  on_so : (first : Bool) (v : Bool) (c left n i : ℕ) (o : Bool) → Fits point.NextArgument left n → is_byte b i (code "E") ≡ false
+      → heard_at voice b plain (arguments_point first) v c left n (Some i) o ≡ allowing (1 ∷ []) (handing voice.loud (marked (separator first)) (closing (behind (of plain voice.loud (run argument (around b voice.loud left n) (Some i))) (rest left n))))
+  unfolding share_at
+  on_so true v c left n i o f e = ap closing (first_on plain voice.loud (around b voice.loud left n) ", " argument (says ">" done) i e)
+  on_so false v c left n i o f e = ap closing (more_on plain voice.loud b left n ", " argument (says ">" done) i (argument_element b voice.loud left n (omega (arith, f))) e)
+
+  argument_light : (i : ℕ) → way_weight (goes (argument_point b i)) ≤ 1
+  argument_light i = go (is_byte b i (code "L")) (is_byte b i (code "K"))
+    where
+      go : (x y : Bool) → way_weight (goes (if x then point.Lifetime else if y then point.Constant else point.«Type»)) ≤ 1
+      go true y = omega arith
+      go false true = omega arith
+      go false false = omega arith
+
+  argument_low : (i left : ℕ) → height_at (argument_point b i) left ≡ 8 * left + 1
+  argument_low i left = go (is_byte b i (code "L")) (is_byte b i (code "K"))
+    where
+      go : (x y : Bool) → height_at (if x then point.Lifetime else if y then point.Constant else point.«Type») left ≡ 8 * left + 1
+      go true y = refl
+      go false true = refl
+      go false false = refl
+
+  argument_fits : (i left n : ℕ) → Fits point.NextArgument left n → Fits (argument_point b i) left n
+  argument_fits i left n f = go (is_byte b i (code "L")) (is_byte b i (code "K"))
+    where
+      go : (x y : Bool) → Fits (if x then point.Lifetime else if y then point.Constant else point.«Type») left n
+      go true y = f
+      go false true = f
+      go false false = f
+
+  pub argument_goes : (first : Bool) (v : Bool) (c left n i : ℕ) (o : Bool) (row now : List Frame) (u : V) (new : State) (made : ℕ) → is_byte b i (code "E") ≡ false → made ≤ 1 + total (argument_costs b i) → made ≤ 3 → Fits point.NextArgument left n
+      → new.in_value ≡ false → new.letter ≡ c → new.depth_left ≡ left → new.lifetimes ≡ n → new.place ≡ Some (argument_place b i) → new.mark ≡ separator first
+      → now ≡ row ++ frame_of point.NextArgument v c left n ∷ []
+      → DidOn voice b plain (heard_at voice b plain (arguments_point first) v c left n (Some i) o) (weight_at (arguments_point first)) (height_at (arguments_point first) left) row u (Ok (argument_point b i)) new now u made
+  argument_goes first v c left n i o row now u new made e l m f kv kc kl kn kp km r = rw (weight_so first, height_so first left)
+      (enters voice b plain _ (argument_point b i) left n (Some (argument_place b i)) (separator first) (1 ∷ []) (argument_costs b i) (Some (frame_of point.NextArgument v c left n)) 1 (8 * left + 2) row now u new made
+      (rw (kv, kc) (on_so first v c left n i o f e ∙ ap (λ (h : Heard). allowing (1 ∷ []) (handing voice.loud (marked (separator first)) h)) (argument_so left n i c v new.is_open)))
+      kl kn kp km r (omega (arith, l)) (omega (arith, m)) (omega (arith, argument_light i)) (omega arith) (omega (arith, argument_low i left)) f (argument_fits i left n f) (λ _. refl))
+
+  -- a lifetime
+  pub lifetime_word : (s : State) (row now : List Frame) (u w : V) (result : Result Point Stop) (new : State) (made : ℕ)
+      → DidOn voice b plain (heard voice b plain (word_items word.LifetimeIndex s.letter done) s.depth_left s.lifetimes s.place) 1 0 row u result new now w made → Did voice b plain point.Lifetime s row u result new now w made
+  unfolding share_at
+  lifetime_word s row now u w result new made d = same voice b plain _ (heard voice b plain (word_items word.LifetimeIndex s.letter done) s.depth_left s.lifetimes s.place) 1 (8 * s.depth_left + 1) 1 0 row u w result new now made refl (omega arith) (omega arith) d

@@ -1,0 +1,468 @@
+-- The points of dyn types.
+use Rattle.std.specs.Prelude.{◌*◌, if◌then◌else◌, codes}
+use Rattle.std.proofs.Common.{◌≡◌, ℕ, ◌+◌, ◌-◌, ◌≤◌, length, Bool, true, false, Option, Some, None, List, [], ◌∷◌, ◌++◌, Result, Ok, Err, refl, arith, sym, ap, ◌∙◌}
+use Rattle.std.proofs.lemmas.Bool.{false≢true}
+use Prim.Native.Char.{code}
+use Rattle.demangle_symbol.specs.Digits.{is_byte}
+use Rattle.demangle_symbol.specs.Words.{Name, Read, identifier_at}
+use Rattle.demangle_symbol.specs.Names.{name_pieces}
+use Rattle.demangle_v0.specs.Items.{Text, Items, integer, lifetime, a_path, a_type, a_constant, a_trait_path, done, identifier, unit, child, dyn_trait, bindings, opens}
+use Rattle.demangle_v0.specs.Table.{says, typed, says_name, list, more, argument, in_binder, bound}
+use Rattle.demangle_v0.specs.Begins.{total}
+use Rattle.demangle_v0.specs.Arguments.{argument_point, argument_place, argument_costs}
+use Rattle.demangle_v0.specs.DynTraits.{dyn_type}
+use Rattle.demangle_v0.specs.Events.{Event, said, said_all, Heard, of, ended, and_then, allowing, handing}
+use Rattle.demangle_v0.specs.Grammar.{word_items, text}
+use Rattle.demangle_v0.specs.Reading.{Place, run, turns, begun, bound_by, max_depth}
+use Rattle.demangle_v0.specs.Points.{marked, share_at, share, share_of, rest_at, bindings_left, closing, around, goes, way_weight, weight_at, height_at, Fits, is_list_over, behind_list, list_costs, DidOn}
+use Rattle.demangle_v0.specs.declared.grammar.Mark.{Mark}
+use Rattle.demangle_v0.specs.declared.grammar.Mark.TheVariants as mark
+use Rattle.demangle_v0.specs.declared.grammar.Word.TheVariants as word
+use Rattle.demangle_v0.specs.declared.points.Point.{Point}
+use Rattle.demangle_v0.specs.declared.points.Point.TheVariants as point
+use Rattle.demangle_v0.specs.declared.points.frames.Frame.{Frame}
+use Rattle.demangle_v0.specs.declared.points.State.{State}
+use Rattle.demangle_v0.specs.declared.points.Stop.{Stop}
+use Rattle.demangle_v0.specs.declared.points.Stop.TheVariants.{Refused, Fault}
+use Rattle.demangle_v0.specs.declared.points.voice.Voice.{Ghosts}
+use Rattle.demangle_v0.proofs.ClosedUnits.{last_child, unit_closed}
+use Rattle.demangle_v0.proofs.Elements.{argument_element, dyn_trait_element}
+use Rattle.demangle_v0.proofs.Hearing.{and_then_assoc, and_then_ended, handing_then, allowing_then}
+use Rattle.demangle_v0.proofs.ListReads.{end_failed, end_over, more_failed, more_over, first_on, more_on, argument_lifetime, argument_constant, argument_type}
+use Rattle.demangle_v0.proofs.PathReads.{trait_path_reads, trait_path_generic, trait_path_plain}
+use Rattle.demangle_v0.proofs.PointFunctions.{heard, mark_goes, plain_goes, moves, enters, separator}
+use Rattle.demangle_v0.proofs.PointSteps.{same, faulty}
+use Rattle.demangle_v0.proofs.TypeReads.{if_so, says_all, bound_constant, bound_type, mark_of, bindings_failed, bindings_over, binding_stops, binding_reads}
+
+-- the state's frame
+abbrev pub frame_at : Point → State → Frame
+frame_at p s = record { point = p; in_value = s.in_value; letter = s.letter; depth_left = s.depth_left; number = s.lifetimes }
+
+abbrev pub first_traits : Items
+first_traits = list " + " (dyn_trait bound) done
+
+abbrev pub next_traits : Items
+next_traits = more " + " (dyn_trait bound) done
+
+abbrev pub left_traits : Bool → Items
+left_traits first = if first then first_traits else next_traits
+
+abbrev pub first_open : Items
+first_open = list ", " argument (opens done)
+
+abbrev pub next_open : Items
+next_open = more ", " argument (opens done)
+
+abbrev pub left_open : Bool → Items
+left_open first = if first then first_open else next_open
+
+-- behind the name of a binding
+abbrev pub behind_name : Items
+behind_name = unit bound (bindings_left true)
+
+-- what bindings print at their end, and each of them first
+abbrev pub end_mark : Bool → Option Mark
+end_mark o = if o then Some mark.Greater else None
+
+abbrev pub first_mark : Bool → Mark
+first_mark o = if o then mark.Comma else mark.Less
+
+end_text : (o : Bool) → if_so o ">" ≡ marked (end_mark o)
+end_text true = refl
+end_text false = refl
+
+first_text : (o : Bool) → mark_of o ≡ text (first_mark o)
+first_text true = refl
+first_text false = refl
+
+said_both : (out : Bool) (ts us : List Text) (xs : List Event) → said_all out (ts ++ us) xs ≡ said_all out ts (said_all out us xs)
+said_both out [] us xs = refl
+said_both out (t ∷ ts) us xs = ap (said out t) (said_both out ts us xs)
+
+handing_both : (out : Bool) (ts us : List Text) (h : Heard) → handing out (ts ++ us) h ≡ handing out ts (handing out us h)
+handing_both out ts us h = ap (λ xs. record { events = xs; place = h.place; is_open = h.is_open }) (said_both out ts us h.events)
+
+-- where an argument goes on, told by its tag
+abbrev told : Bool → Bool → Point
+told x y = if x then point.Lifetime else if y then point.Constant else point.«Type»
+
+told_light : (x y : Bool) → way_weight (goes (told x y)) ≤ 1
+told_light true y = omega arith
+told_light false true = omega arith
+told_light false false = omega arith
+
+told_high : (x y : Bool) (left : ℕ) → height_at (told x y) left ≡ 8 * left + 1
+told_high true y left = refl
+told_high false true left = refl
+told_high false false left = refl
+
+told_fits : (x y : Bool) (left n : ℕ) → Fits point.NextOpenArgument left n → Fits (told x y) left n
+told_fits true y left n f = f
+told_fits false true left n f = f
+told_fits false false left n f = f
+
+costs_most : (b : List ℕ) (i : ℕ) → total (argument_costs b i) ≤ 2
+costs_most b i = go (is_byte b i (code "L"))
+  where
+    go : (x : Bool) → total (if x then 1 ∷ [] else 1 ∷ 1 ∷ []) ≤ 2
+    go true = omega arith
+    go false = omega arith
+
+module _ {V : Type 0} (voice : Ghosts V) (b : List ℕ) (plain : Bool) where
+  -- A dyn type.
+
+  dyn_reads : (s : State) → heard voice b plain dyn_type s.depth_left s.lifetimes s.place
+      ≡ handing voice.loud (text mark.Dyn ∷ []) (and_then (heard voice b plain (in_binder first_traits) s.depth_left s.lifetimes s.place) (share b plain voice.loud (frame_at point.DynLifetime s)))
+  unfolding run share_at
+  dyn_reads s = refl
+
+  pub dyn_type_did : (s : State) (row now : List Frame) (u : V) (new : State) → Fits point.DynBinder s.depth_left s.lifetimes
+      → new.depth_left ≡ s.depth_left → new.lifetimes ≡ s.lifetimes → new.place ≡ s.place → new.mark ≡ Some mark.Dyn → now ≡ row ++ frame_at point.DynLifetime s ∷ []
+      → DidOn voice b plain (heard voice b plain dyn_type s.depth_left s.lifetimes s.place) 4 (8 * s.depth_left + 5) row u (Ok point.DynBinder) new now u 0
+  unfolding share_at
+  dyn_type_did s row now u new f kl kn kp km w =
+      enters voice b plain point.DynBinder (Some mark.Dyn) [] [] (frame_at point.DynLifetime s) _ (heard voice b plain (in_binder first_traits) s.depth_left s.lifetimes s.place) 4 (8 * s.depth_left + 5) row now u new 0
+      (dyn_reads s) (rw (kl, kn, kp) refl) km w (omega arith) (omega arith) (omega arith) (omega arith) (omega (arith, kl)) (omega (arith, f)) (rw (kl, kn) f) refl
+
+  -- Dyn traits.
+
+  abbrev trait_did : Bool → State → List Frame → V → Point → State → List Frame → ℕ → Type 0
+  trait_did first s row u to new now made = let p = if first then point.FirstDynTrait else point.NextDynTrait in
+      DidOn voice b plain (share_of b plain voice.loud p s) (weight_at p) (height_at p s.depth_left) row u (Ok to) new now u made
+
+  trait_as : (first : Bool) (s : State) (row : List Frame) (u : V) (to : Point) (new : State) (now : List Frame) (made : ℕ)
+      → DidOn voice b plain (heard voice b plain (left_traits first) s.depth_left s.lifetimes s.place) 1 (8 * s.depth_left + 4) row u (Ok to) new now u made → trait_did first s row u to new now made
+  unfolding share_at
+  trait_as true s row u to new now made d = d
+  trait_as false s row u to new now made d = d
+
+  done_reads : (left n : ℕ) (i : Place) → heard voice b plain done left n i ≡ ended i false
+  unfolding run
+  done_reads left n i = refl
+
+  traits_end : (first : Bool) (left n : ℕ) (i : Place) → is_list_over b i ≡ true → heard voice b plain (left_traits first) left n i ≡ allowing (list_costs i) (heard voice b plain done left n (behind_list b i))
+  traits_end true left n None e = ap closing (end_failed plain voice.loud (around b voice.loud left n) done (unit (dyn_trait bound) next_traits))
+  traits_end false left n None e = ap closing (more_failed plain voice.loud (around b voice.loud left n) " + " (dyn_trait bound) done)
+  traits_end true left n (Some i) e = rw e (ap closing (end_over plain voice.loud (around b voice.loud left n) done (unit (dyn_trait bound) next_traits) i e))
+  traits_end false left n (Some i) e = rw e (ap closing (more_over plain voice.loud (around b voice.loud left n) " + " (dyn_trait bound) done i e))
+
+  pub traits_over : (first : Bool) (s : State) (row : List Frame) (u : V) (new : State) (made : ℕ) → is_list_over b s.place ≡ true → made ≤ total (list_costs s.place)
+      → new.place ≡ behind_list b s.place → new.is_open ≡ false → new.mark ≡ None → trait_did first s row u point.End new row made
+  unfolding share_at
+  traits_over first s row u new made e l kp ko km = trait_as first s row u point.End new row made
+      (plain_goes voice b plain point.End (list_costs s.place) _ (ended (behind_list b s.place) false) 1 (8 * s.depth_left + 4) row u new made
+      (traits_end first s.depth_left s.lifetimes s.place e ∙ ap (allowing (list_costs s.place)) (done_reads s.depth_left s.lifetimes (behind_list b s.place))) (rw (kp, ko) refl) km l (omega arith) (omega arith) tt)
+
+  -- a dyn trait, and further ones
+  trait_then : (s : State) (i : ℕ)
+      → and_then (of plain voice.loud (run (dyn_trait bound) (around b voice.loud s.depth_left s.lifetimes) (Some i))) (λ j _. heard voice b plain next_traits s.depth_left s.lifetimes j)
+      ≡ and_then (of plain voice.loud (begun (around b voice.loud s.depth_left s.lifetimes) a_trait_path false (Some i))) (share b plain voice.loud (frame_at point.Bindings s))
+  unfolding run share_at
+  trait_then s i =
+      let r = around b voice.loud s.depth_left s.lifetimes in
+      and_then_assoc (of plain voice.loud (begun r a_trait_path false (Some i))) (λ j o. of plain voice.loud (run (bindings o bound) r j)) (λ j _. heard voice b plain next_traits s.depth_left s.lifetimes j)
+
+  trait_reads : (first : Bool) (s : State) (i : ℕ) → s.depth_left ≤ max_depth → is_byte b i (code "E") ≡ false
+      → heard voice b plain (left_traits first) s.depth_left s.lifetimes (Some i)
+      ≡ allowing (1 ∷ []) (handing voice.loud (marked (separator first mark.Plus)) (allowing [] (and_then (of plain voice.loud (begun (around b voice.loud s.depth_left s.lifetimes) a_trait_path false (Some i))) (share b plain voice.loud (frame_at point.Bindings s)))))
+  trait_reads true s i l e =
+      ap closing (first_on plain voice.loud (around b voice.loud s.depth_left s.lifetimes) " + " (dyn_trait bound) done i e) ∙ ap (allowing (1 ∷ [])) (trait_then s i)
+  trait_reads false s i l e =
+      ap closing (more_on plain voice.loud b s.depth_left s.lifetimes " + " (dyn_trait bound) done i (dyn_trait_element b voice.loud s.depth_left s.lifetimes l) e)
+      ∙ ap (λ (h : Heard). allowing (1 ∷ []) (handing voice.loud (codes " + " ∷ []) h)) (trait_then s i)
+
+  pub trait_on : (first : Bool) (s : State) (row now : List Frame) (u : V) (new : State) (made : ℕ)
+      → is_list_over b s.place ≡ false → made ≤ total (list_costs s.place) → Fits point.NextDynTrait s.depth_left s.lifetimes
+      → new.depth_left ≡ s.depth_left → new.lifetimes ≡ s.lifetimes → new.place ≡ behind_list b s.place → new.mark ≡ separator first mark.Plus → now ≡ row ++ frame_at point.Bindings s ∷ []
+      → trait_did first s row u point.TraitPath new now made
+  unfolding share_at
+  trait_on first s row now u new made e l f kl kn kp km w = go s.place refl
+    where
+      go : (x : Place) → s.place ≡ x → trait_did first s row u point.TraitPath new now made
+      go None p = absurd (false≢true (sym (rw p at e)))
+      go (Some i) p =
+          let d : is_byte b i (code "E") ≡ false = rw p at e in
+          let q : new.place ≡ Some i = rw (p, d) at kp in
+          trait_as first s row u point.TraitPath new now made
+          (enters voice b plain point.TraitPath (separator first mark.Plus) (1 ∷ []) [] (frame_at point.Bindings s) _ (of plain voice.loud (begun (around b voice.loud s.depth_left s.lifetimes) a_trait_path false (Some i))) 1 (8 * s.depth_left + 4) row now u new made
+          (rw p (trait_reads first s i (omega (arith, f)) d)) (rw (kl, kn, q) refl) km w (omega (arith, rw p at l)) (omega (arith, rw p at l)) (omega arith) (omega arith) (omega (arith, kl)) f (rw (kl, kn) f) refl)
+
+  -- Paths of dyn traits.
+
+  pub trait_unread : (s : State) (row : List Frame) (u : V) (new : State) (made : ℕ) → s.place ≡ None → new.mark ≡ None → made ≤ 0
+      → DidOn voice b plain (share_of b plain voice.loud point.TraitPath s) 1 (8 * s.depth_left + 2) row u (Err (Fault mark.Unread)) new row u made
+  unfolding share_at
+  trait_unread s row u new made p k l = faulty voice b plain mark.Unread _ 1 (8 * s.depth_left + 2) row u new made k (rw p refl) l (omega arith)
+
+  generic_reads : (s : State) (i : ℕ) → s.place ≡ Some i → is_byte b i (code "B") ≡ false → is_byte b i (code "I") ≡ true
+      → share_of b plain voice.loud point.TraitPath s
+      ≡ allowing (1 ∷ 1 ∷ []) (and_then (closing (of plain voice.loud (begun (around b voice.loud s.depth_left s.lifetimes) a_path false (Some (i + 1))))) (share b plain voice.loud (record (frame_at point.OpenTraitPath s) { in_value = false })))
+  unfolding share_at
+  generic_reads s i p e f = rw p (trait_path_reads plain voice.loud b s.depth_left s.lifetimes false i ∙ trait_path_generic plain voice.loud b s.depth_left s.lifetimes i e f)
+
+  pub generic_trait : (s : State) (i : ℕ) (row now : List Frame) (u : V) (new : State) (made : ℕ) → s.place ≡ Some i → is_byte b i (code "B") ≡ false → is_byte b i (code "I") ≡ true → made ≤ 2 → Fits point.TraitPath s.depth_left s.lifetimes
+      → new.in_value ≡ false → new.depth_left ≡ s.depth_left → new.lifetimes ≡ s.lifetimes → new.place ≡ Some (i + 1) → new.mark ≡ None → now ≡ row ++ record (frame_at point.OpenTraitPath s) { in_value = false } ∷ []
+      → DidOn voice b plain (share_of b plain voice.loud point.TraitPath s) 1 (8 * s.depth_left + 2) row u (Ok point.Path) new now u made
+  unfolding share_at
+  generic_trait s i row now u new made p e g l f kv kl kn kp km w =
+      enters voice b plain point.Path None [] (1 ∷ 1 ∷ []) (record (frame_at point.OpenTraitPath s) { in_value = false }) _ (closing (of plain voice.loud (begun (around b voice.loud s.depth_left s.lifetimes) a_path false (Some (i + 1))))) 1 (8 * s.depth_left + 2) row now u new made
+      (generic_reads s i p e g) (rw (kv, kl, kn, kp) refl) km w (omega (arith, l)) (omega (arith, l)) (omega arith) (omega arith) (omega (arith, kl)) f (rw (kl, kn) f) refl
+
+  shut_path : (left n i : ℕ) → of plain voice.loud (begun (around b voice.loud left n) a_path false (Some i)) ≡ closing (of plain voice.loud (begun (around b voice.loud left n) a_path false (Some i)))
+  shut_path left n i =
+      let h = of plain voice.loud (begun (around b voice.loud left n) a_path false (Some i)) in
+      ap (λ (x : Bool). record { events = h.events; place = h.place; is_open = x }) (unit_closed b voice.loud left n a_path false (Some i) tt)
+
+  plain_reads : (s : State) (i : ℕ) → s.place ≡ Some i → is_byte b i (code "B") ≡ false → is_byte b i (code "I") ≡ false
+      → share_of b plain voice.loud point.TraitPath s ≡ allowing (1 ∷ 1 ∷ []) (closing (of plain voice.loud (begun (around b voice.loud s.depth_left s.lifetimes) a_path false (Some i))))
+  unfolding share_at
+  plain_reads s i p e f = rw p (trait_path_reads plain voice.loud b s.depth_left s.lifetimes false i
+      ∙ (trait_path_plain plain voice.loud b s.depth_left s.lifetimes i e f ∙ ap (allowing (1 ∷ 1 ∷ [])) (shut_path s.depth_left s.lifetimes i)))
+
+  pub plain_trait : (s : State) (i : ℕ) (row : List Frame) (u : V) (new : State) (made : ℕ) → s.place ≡ Some i → is_byte b i (code "B") ≡ false → is_byte b i (code "I") ≡ false → made ≤ 2 → Fits point.TraitPath s.depth_left s.lifetimes
+      → new.in_value ≡ false → new.depth_left ≡ s.depth_left → new.lifetimes ≡ s.lifetimes → new.place ≡ Some i → new.mark ≡ None
+      → DidOn voice b plain (share_of b plain voice.loud point.TraitPath s) 1 (8 * s.depth_left + 2) row u (Ok point.Path) new row u made
+  unfolding share_at
+  plain_trait s i row u new made p e g l f kv kl kn kp km =
+      plain_goes voice b plain point.Path (1 ∷ 1 ∷ []) _ (closing (of plain voice.loud (begun (around b voice.loud s.depth_left s.lifetimes) a_path false (Some i)))) 1 (8 * s.depth_left + 2) row u new made
+      (plain_reads s i p e g) (rw (kv, kl, kn, kp) refl) km (omega (arith, l)) (omega arith) (omega (arith, kl)) (rw (kl, kn) f)
+
+  abbrev open_heard : Items → ℕ → ℕ → Place → Heard
+  open_heard p left n i = of plain voice.loud (run p (around b voice.loud left n) i)
+
+  opening_reads : (left n : ℕ) (i : Place) → open_heard (says "<" first_open) left n i ≡ handing voice.loud (text mark.Less ∷ []) (open_heard first_open left n i)
+  unfolding run
+  opening_reads left n i = refl
+
+  pub open_trait_did : (s : State) (row : List Frame) (u : V) (new : State) → Fits point.OpenTraitPath s.depth_left s.lifetimes → new.depth_left ≡ s.depth_left → new.lifetimes ≡ s.lifetimes → new.place ≡ s.place → new.mark ≡ Some mark.Less
+      → DidOn voice b plain (share_of b plain voice.loud point.OpenTraitPath s) 2 (8 * s.depth_left + 2) row u (Ok point.FirstOpenArgument) new row u 0
+  unfolding share_at
+  open_trait_did s row u new f kl kn kp km =
+      mark_goes voice b plain point.FirstOpenArgument mark.Less [] _ (open_heard first_open s.depth_left s.lifetimes s.place) 2 (8 * s.depth_left + 2) row u new 0
+      (opening_reads s.depth_left s.lifetimes s.place) (rw (kl, kn, kp) refl) km (omega arith) (omega arith) (omega (arith, kl)) (rw (kl, kn) f)
+
+  opens_reads : (left n : ℕ) (i : Place) → open_heard (opens done) left n i ≡ ended i true
+  unfolding run
+  opens_reads left n i = refl
+
+  open_failed : (first : Bool) (left n : ℕ) → open_heard (left_open first) left n None ≡ ended None true
+  open_failed true left n = end_failed plain voice.loud (around b voice.loud left n) (opens done) (unit argument next_open) ∙ opens_reads left n None
+  open_failed false left n = more_failed plain voice.loud (around b voice.loud left n) ", " argument (opens done) ∙ opens_reads left n None
+
+  open_end : (first : Bool) (left n i : ℕ) → is_byte b i (code "E") ≡ true → open_heard (left_open first) left n (Some i) ≡ allowing (1 ∷ []) (ended (Some (i + 1)) true)
+  open_end true left n i e = end_over plain voice.loud (around b voice.loud left n) (opens done) (unit argument next_open) i e ∙ ap (allowing (1 ∷ [])) (opens_reads left n (Some (i + 1)))
+  open_end false left n i e = more_over plain voice.loud (around b voice.loud left n) ", " argument (opens done) i e ∙ ap (allowing (1 ∷ [])) (opens_reads left n (Some (i + 1)))
+
+  abbrev open_did : Bool → State → List Frame → V → Point → State → List Frame → ℕ → Type 0
+  open_did first s row u to new now made = let p = if first then point.FirstOpenArgument else point.NextOpenArgument in
+      DidOn voice b plain (share_of b plain voice.loud p s) (weight_at p) (height_at p s.depth_left) row u (Ok to) new now u made
+
+  open_as : (first : Bool) (s : State) (row : List Frame) (u : V) (to : Point) (new : State) (now : List Frame) (made : ℕ)
+      → DidOn voice b plain (open_heard (left_open first) s.depth_left s.lifetimes s.place) 1 (8 * s.depth_left + 2) row u (Ok to) new now u made → open_did first s row u to new now made
+  unfolding share_at
+  open_as true s row u to new now made d = d
+  open_as false s row u to new now made d = d
+
+  pub open_unread : (first : Bool) (s : State) (row : List Frame) (u : V) (new : State) (made : ℕ) → s.place ≡ None → made ≤ 0 → new.place ≡ None → new.is_open ≡ true → new.mark ≡ None → open_did first s row u point.End new row made
+  unfolding share_at
+  open_unread first s row u new made p l kp ko km = open_as first s row u point.End new row made
+      (plain_goes voice b plain point.End [] _ (ended None true) 1 (8 * s.depth_left + 2) row u new made (rw p (open_failed first s.depth_left s.lifetimes)) (rw (kp, ko) refl) km (omega (arith, l)) (omega arith) (omega arith) tt)
+
+  pub open_over : (first : Bool) (s : State) (i : ℕ) (row : List Frame) (u : V) (new : State) (made : ℕ) → s.place ≡ Some i → is_byte b i (code "E") ≡ true → made ≤ 1
+      → new.place ≡ Some (i + 1) → new.is_open ≡ true → new.mark ≡ None → open_did first s row u point.End new row made
+  unfolding share_at
+  open_over first s i row u new made p e l kp ko km = open_as first s row u point.End new row made
+      (plain_goes voice b plain point.End (1 ∷ []) _ (ended (Some (i + 1)) true) 1 (8 * s.depth_left + 2) row u new made (rw p (open_end first s.depth_left s.lifetimes i e)) (rw (kp, ko) refl) km (omega (arith, l)) (omega arith) (omega arith) tt)
+
+  -- an argument, and what follows
+  abbrev argument_share : State → ℕ → Heard
+  argument_share s i = share_at b plain voice.loud (argument_point b i) false s.letter s.depth_left s.lifetimes (Some (argument_place b i)) s.is_open
+
+  argument_reads : (s : State) (i : ℕ) (k : Place → Heard)
+      → and_then (open_heard argument s.depth_left s.lifetimes (Some i)) (λ j _. k j) ≡ allowing (argument_costs b i) (and_then (argument_share s i) (λ j _. k j))
+  unfolding share_at
+  argument_reads s i k = go (is_byte b i (code "L")) (is_byte b i (code "K")) refl refl
+    where
+      go : (x y : Bool) → is_byte b i (code "L") ≡ x → is_byte b i (code "K") ≡ y
+          → and_then (open_heard argument s.depth_left s.lifetimes (Some i)) (λ j _. k j) ≡ allowing (argument_costs b i) (and_then (argument_share s i) (λ j _. k j))
+      go true y e f = rw e (ap (λ (h : Heard). and_then h (λ j _. k j)) (argument_lifetime plain voice.loud (around b voice.loud s.depth_left s.lifetimes) i e))
+      go false true e f = rw (e, f) (argument_constant plain voice.loud (around b voice.loud s.depth_left s.lifetimes) i k e f)
+      go false false e f = rw (e, f) (argument_type plain voice.loud (around b voice.loud s.depth_left s.lifetimes) i k e f)
+
+  open_reads : (first : Bool) (s : State) (i : ℕ) → s.depth_left ≤ max_depth → is_byte b i (code "E") ≡ false
+      → open_heard (left_open first) s.depth_left s.lifetimes (Some i)
+      ≡ allowing (1 ∷ []) (handing voice.loud (marked (separator first mark.Comma)) (allowing (argument_costs b i) (and_then (argument_share s i) (share b plain voice.loud (frame_at point.NextOpenArgument s)))))
+  unfolding share_at
+  open_reads true s i l e =
+      first_on plain voice.loud (around b voice.loud s.depth_left s.lifetimes) ", " argument (opens done) i e
+      ∙ ap (allowing (1 ∷ [])) (argument_reads s i (λ j. open_heard next_open s.depth_left s.lifetimes j))
+  open_reads false s i l e =
+      more_on plain voice.loud b s.depth_left s.lifetimes ", " argument (opens done) i (argument_element b voice.loud s.depth_left s.lifetimes l) e
+      ∙ ap (λ (h : Heard). allowing (1 ∷ []) (handing voice.loud (codes ", " ∷ []) h)) (argument_reads s i (λ j. open_heard next_open s.depth_left s.lifetimes j))
+
+  pub open_on : (first : Bool) (s : State) (i : ℕ) (row now : List Frame) (u : V) (new : State) (made : ℕ)
+      → s.place ≡ Some i → is_byte b i (code "E") ≡ false → made ≤ 1 + total (argument_costs b i) → Fits point.NextOpenArgument s.depth_left s.lifetimes
+      → new.in_value ≡ false → new.letter ≡ s.letter → new.depth_left ≡ s.depth_left → new.lifetimes ≡ s.lifetimes → new.place ≡ Some (argument_place b i) → new.is_open ≡ s.is_open
+      → new.mark ≡ separator first mark.Comma → now ≡ row ++ frame_at point.NextOpenArgument s ∷ []
+      → open_did first s row u (argument_point b i) new now made
+  open_on first s i row now u new made p e l f kv kc kl kn kp ko km w =
+      let x = is_byte b i (code "L") in let y = is_byte b i (code "K") in
+      let light : way_weight (goes (argument_point b i)) ≤ 1 = told_light x y in
+      let high : height_at (argument_point b i) s.depth_left ≡ 8 * s.depth_left + 1 = told_high x y s.depth_left in
+      open_as first s row u (argument_point b i) new now made
+      (enters voice b plain (argument_point b i) (separator first mark.Comma) (1 ∷ []) (argument_costs b i) (frame_at point.NextOpenArgument s) _ (argument_share s i) 1 (8 * s.depth_left + 2) row now u new made
+      (rw p (open_reads first s i (omega (arith, f)) e)) (rw (kv, kc, kl, kn, kp, ko) refl) km w (omega (arith, l)) (omega (arith, l, costs_most b i)) (omega (arith, light)) (omega arith) (rw kl (omega (arith, high))) f (rw (kl, kn) (told_fits x y s.depth_left s.lifetimes f)) refl)
+
+  -- Bindings.
+
+  abbrev bound_heard : Items → ℕ → ℕ → Place → Heard
+  bound_heard p left n i = of plain voice.loud (run p (around b voice.loud left n) i)
+
+  -- bindings, and the dyn traits behind them
+  left_reads : (o : Bool) (left n : ℕ) (i : Place) → heard voice b plain (bindings_left o) left n i ≡ and_then (bound_heard (bindings o bound) left n i) (λ j _. heard voice b plain next_traits left n j)
+  unfolding run
+  left_reads o left n i = refl
+
+  traits_failed : (left n : ℕ) → heard voice b plain next_traits left n None ≡ ended None false
+  traits_failed left n = traits_end false left n None refl ∙ done_reads left n None
+
+  failed_reads : (o : Bool) (left n : ℕ) → heard voice b plain (bindings_left o) left n None ≡ handing voice.loud (marked (end_mark o)) (ended None false)
+  failed_reads o left n =
+      left_reads o left n None
+      ∙ (ap (λ (h : Heard). and_then h (λ j _. heard voice b plain next_traits left n j)) (bindings_failed plain voice.loud b left n o)
+      ∙ (handing_then voice.loud (if_so o ">") (ended None false) (λ j _. heard voice b plain next_traits left n j)
+      ∙ (ap (handing voice.loud (if_so o ">")) (traits_failed left n) ∙ ap (λ ts. handing voice.loud ts (ended None false)) (end_text o))))
+
+  over_reads : (o : Bool) (left n i : ℕ) → is_byte b i (code "p") ≡ false → heard voice b plain (bindings_left o) left n (Some i) ≡ allowing (1 ∷ []) (handing voice.loud (marked (end_mark o)) (heard voice b plain next_traits left n (Some i)))
+  over_reads o left n i e =
+      let k : Place → Bool → Heard = λ j _. heard voice b plain next_traits left n j in
+      left_reads o left n (Some i)
+      ∙ (ap (λ (h : Heard). and_then h k) (bindings_over plain voice.loud b left n o i e)
+      ∙ (allowing_then (1 ∷ []) (handing voice.loud (if_so o ">") (ended (Some i) false)) k
+      ∙ (ap (allowing (1 ∷ [])) (handing_then voice.loud (if_so o ">") (ended (Some i) false) k)
+      ∙ ap (λ ts. allowing (1 ∷ []) (handing voice.loud ts (k (Some i) false))) (end_text o))))
+
+  abbrev binding_did : Bool → State → List Frame → V → Point → State → ℕ → Type 0
+  binding_did o s row u to new made = DidOn voice b plain (heard voice b plain (bindings_left o) s.depth_left s.lifetimes s.place) 2 (8 * s.depth_left + 4) row u (Ok to) new row u made
+
+  pub binding_unread : (o : Bool) (s : State) (row : List Frame) (u : V) (new : State) (made : ℕ) → s.place ≡ None → made ≤ 0 → new.place ≡ None → new.is_open ≡ false → new.mark ≡ end_mark o → binding_did o s row u point.End new made
+  unfolding share_at
+  binding_unread o s row u new made p l kp ko km =
+      moves voice b plain point.End (end_mark o) [] _ (ended None false) 2 (8 * s.depth_left + 4) row u new made (rw p (failed_reads o s.depth_left s.lifetimes)) (rw (kp, ko) refl) km (omega (arith, l)) (omega arith) (omega arith) tt
+
+  pub binding_over : (o : Bool) (s : State) (i : ℕ) (row : List Frame) (u : V) (new : State) (made : ℕ) → s.place ≡ Some i → is_byte b i (code "p") ≡ false → made ≤ 1 → Fits point.Bindings s.depth_left s.lifetimes
+      → new.depth_left ≡ s.depth_left → new.lifetimes ≡ s.lifetimes → new.place ≡ Some i → new.mark ≡ end_mark o → binding_did o s row u point.NextDynTrait new made
+  unfolding share_at
+  binding_over o s i row u new made p e l f kl kn kp km =
+      moves voice b plain point.NextDynTrait (end_mark o) (1 ∷ []) _ (heard voice b plain next_traits s.depth_left s.lifetimes (Some i)) 2 (8 * s.depth_left + 4) row u new made (rw p (over_reads o s.depth_left s.lifetimes i e)) (rw (kl, kn, kp) refl) km (omega (arith, l)) (omega arith) (omega (arith, kl)) (rw (kl, kn) f)
+
+  name_share : (s : State) → heard voice b plain (word_items word.BindingName 0 behind_name) s.depth_left s.lifetimes s.place ≡ share_of b plain voice.loud point.BindingName s
+  unfolding share_at
+  name_share s = refl
+
+  abbrev name_heard : ℕ → ℕ → ℕ → Heard
+  name_heard left n i = heard voice b plain (word_items word.BindingName 0 behind_name) left n (Some i)
+
+  -- what is bound, and what stands behind it
+  behind_reads : (left n : ℕ) (i : Place) → heard voice b plain behind_name left n i ≡ and_then (bound_heard bound left n i) (λ x _. heard voice b plain (bindings_left true) left n x)
+  unfolding run
+  behind_reads left n i = refl
+
+  no_name : (left n i : ℕ) → identifier_at b i ≡ None → name_heard left n i ≡ allowing (4 * (length b - i + 1) ∷ []) (handing voice.loud (codes "{invalid syntax}" ∷ []) (ended None false))
+  unfolding run
+  no_name left n i f = rw f refl
+
+  name_said : (left n : ℕ) (a : Name) (j : Place) → bound_heard (says_name a (says " = " behind_name)) left n j ≡ handing voice.loud (name_pieces a ++ codes " = " ∷ []) (bound_heard behind_name left n j)
+  unfolding run
+  name_said left n a j =
+      says_all plain voice.loud (name_pieces a) (says " = " behind_name) (around b voice.loud left n) j
+      ∙ sym (handing_both voice.loud (name_pieces a) (codes " = " ∷ []) (bound_heard behind_name left n j))
+
+  a_name : (left n i j : ℕ) (a : Name) → identifier_at b i ≡ Some (a, j)
+      → name_heard left n i ≡ allowing (4 * (j - i + 1) ∷ []) (handing voice.loud (name_pieces a ++ codes " = " ∷ []) (heard voice b plain behind_name left n (Some j)))
+  unfolding run
+  a_name left n i j a f = rw f (ap (λ (h : Heard). allowing (4 * (j - i + 1) ∷ []) (closing h)) (name_said left n a (Some j)))
+
+  further : (left n : ℕ) (i : Place) → and_then (bound_heard bound left n i) (λ x _. and_then (bound_heard (bindings true bound) left n x) (λ j _. heard voice b plain next_traits left n j)) ≡ heard voice b plain behind_name left n i
+  unfolding run
+  further left n i = refl
+
+  on_reads : (o : Bool) (left n i : ℕ) → left ≤ max_depth → is_byte b i (code "p") ≡ true → heard voice b plain (bindings_left o) left n (Some i) ≡ allowing (1 ∷ []) (handing voice.loud (mark_of o ∷ []) (name_heard left n (i + 1)))
+  on_reads o left n i l e = left_reads o left n (Some i) ∙ go (identifier_at b (i + 1)) refl
+    where
+      k : Place → Bool → Heard
+      k = λ j _. heard voice b plain next_traits left n j
+
+      -- looks, and texts behind them
+      out_of : (x : ℕ) (ts : List Text) (h : Heard) → and_then (allowing (x ∷ []) (handing voice.loud ts h)) k ≡ allowing (x ∷ []) (handing voice.loud ts (and_then h k))
+      out_of x ts h = allowing_then (x ∷ []) (handing voice.loud ts h) k ∙ ap (allowing (x ∷ [])) (handing_then voice.loud ts h k)
+
+      go : (r : Read Name) → identifier_at b (i + 1) ≡ r → and_then (bound_heard (bindings o bound) left n (Some i)) k ≡ allowing (1 ∷ []) (handing voice.loud (mark_of o ∷ []) (name_heard left n (i + 1)))
+      go None f =
+          let c = 4 * (length b - (i + 1) + 1) in
+          ap (λ (h : Heard). and_then h k) (binding_stops plain voice.loud b left n o i e f)
+          ∙ (out_of 1 (mark_of o ∷ []) (allowing (c ∷ []) (handing voice.loud (codes "{invalid syntax}" ∷ []) (ended None false)))
+          ∙ ap (λ (h : Heard). allowing (1 ∷ []) (handing voice.loud (mark_of o ∷ []) h))
+          (out_of c (codes "{invalid syntax}" ∷ []) (ended None false)
+          ∙ (ap (λ (h : Heard). allowing (c ∷ []) (handing voice.loud (codes "{invalid syntax}" ∷ []) h)) (traits_failed left n) ∙ sym (no_name left n (i + 1) f))))
+      go (Some r) f =
+          let c = 4 * (r.1 - (i + 1) + 1) in
+          let ts = name_pieces r.0 ++ codes " = " ∷ [] in
+          let m : Place → Bool → Heard = λ x _. bound_heard (bindings true bound) left n x in
+          let h : Heard = and_then (bound_heard bound left n (Some r.1)) m in
+          ap (λ (h : Heard). and_then h k) (binding_reads plain voice.loud b left n o i r.1 r.0 l e f)
+          ∙ (out_of 1 (mark_of o ∷ []) (allowing (c ∷ []) (handing voice.loud ts h))
+          ∙ ap (λ (h : Heard). allowing (1 ∷ []) (handing voice.loud (mark_of o ∷ []) h))
+          (out_of c ts h
+          ∙ (ap (λ (h : Heard). allowing (c ∷ []) (handing voice.loud ts h)) (and_then_assoc (bound_heard bound left n (Some r.1)) m k ∙ further left n (Some r.1)) ∙ sym (a_name left n (i + 1) r.1 r.0 f))))
+
+  pub binding_on : (o : Bool) (s : State) (i : ℕ) (row : List Frame) (u : V) (new : State) (made : ℕ) → s.place ≡ Some i → is_byte b i (code "p") ≡ true → made ≤ 1 → Fits point.Bindings s.depth_left s.lifetimes
+      → new.depth_left ≡ s.depth_left → new.lifetimes ≡ s.lifetimes → new.place ≡ Some (i + 1) → new.mark ≡ Some (first_mark o) → binding_did o s row u point.BindingName new made
+  unfolding share_at
+  binding_on o s i row u new made p e l f kl kn kp km =
+      mark_goes voice b plain point.BindingName (first_mark o) (1 ∷ []) _ (name_heard s.depth_left s.lifetimes (i + 1)) 2 (8 * s.depth_left + 4) row u new made
+      (rw p (on_reads o s.depth_left s.lifetimes i (omega (arith, f)) e ∙ ap (λ (t : Text). allowing (1 ∷ []) (handing voice.loud (t ∷ []) (name_heard s.depth_left s.lifetimes (i + 1)))) (first_text o)))
+      (rw (kl, kn, kp) refl) km (omega (arith, l)) (omega arith) (omega (arith, kl)) (rw (kl, kn) f)
+
+  -- What is bound.
+
+  abbrev bound_did : State → List Frame → V → Point → State → List Frame → ℕ → Type 0
+  bound_did s row u to new now made = DidOn voice b plain (share_of b plain voice.loud point.Bound s) 5 (8 * s.depth_left + 4) row u (Ok to) new now u made
+
+  bound_reads : (s : State) (i : Place) (front : List ℕ) (g : Heard) → s.place ≡ i → bound_heard bound s.depth_left s.lifetimes i ≡ allowing front g
+      → share_of b plain voice.loud point.Bound s ≡ allowing front (handing voice.loud (marked None) (allowing [] (and_then (closing g) (share b plain voice.loud (frame_at point.OpenBindings s)))))
+  unfolding share_at
+  bound_reads s i front g p e = rw p
+      (behind_reads s.depth_left s.lifetimes i
+      ∙ (ap (λ (h : Heard). and_then h (λ x _. heard voice b plain (bindings_left true) s.depth_left s.lifetimes x)) e ∙ allowing_then front g (λ x _. heard voice b plain (bindings_left true) s.depth_left s.lifetimes x)))
+
+  type_heard : (left n : ℕ) (i : Place) → bound_heard typed left n i ≡ of plain voice.loud (begun (around b voice.loud left n) a_type false i)
+  type_heard left n i = last_child plain voice.loud b left n a_type false i tt
+
+  no_bound : (left n : ℕ) → bound_heard bound left n None ≡ bound_heard typed left n None
+  unfolding run
+  no_bound left n = refl
+
+  pub bound_unread : (s : State) (row now : List Frame) (u : V) (new : State) (made : ℕ) → s.place ≡ None → made ≤ 0 → Fits point.Bound s.depth_left s.lifetimes
+      → new.depth_left ≡ s.depth_left → new.lifetimes ≡ s.lifetimes → new.place ≡ None → new.mark ≡ None → now ≡ row ++ frame_at point.OpenBindings s ∷ [] → bound_did s row u point.«Type» new now made
+  unfolding share_at
+  bound_unread s row now u new made p l f kl kn kp km w =
+      let g : Heard = of plain voice.loud (begun (around b voice.loud s.depth_left s.lifetimes) a_type false None) in
+      enters voice b plain point.«Type» None [] [] (frame_at point.OpenBindings s) _ (closing g) 5 (8 * s.depth_left + 4) row now u new made
+      (bound_reads s None [] g p (no_bound s.depth_left s.lifetimes ∙ type_heard s.depth_left s.lifetimes None)) (rw (kl, kn, kp) refl) km w (omega (arith, l)) (omega (arith, l)) (omega arith) (omega arith) (omega (arith, kl)) f (rw (kl, kn) f) refl
+
+  pub bound_constant_on : (s : State) (i : ℕ) (row now : List Frame) (u : V) (new : State) (made : ℕ) → s.place ≡ Some i → is_byte b i (code "K") ≡ true → made ≤ 1 → Fits point.Bound s.depth_left s.lifetimes
+      → new.in_value ≡ false → new.depth_left ≡ s.depth_left → new.lifetimes ≡ s.lifetimes → new.place ≡ Some (i + 1) → new.mark ≡ None → now ≡ row ++ frame_at point.OpenBindings s ∷ [] → bound_did s row u point.Constant new now made
+  unfolding share_at
+  bound_constant_on s i row now u new made p e l f kv kl kn kp km w =
+      let g : Heard = of plain voice.loud (begun (around b voice.loud s.depth_left s.lifetimes) a_constant false (Some (i + 1))) in
+      enters voice b plain point.Constant None (1 ∷ []) [] (frame_at point.OpenBindings s) _ (closing g) 5 (8 * s.depth_left + 4) row now u new made
+      (bound_reads s (Some i) (1 ∷ []) g p (bound_constant plain voice.loud b s.depth_left s.lifetimes i e)) (rw (kv, kl, kn, kp) refl) km w (omega (arith, l)) (omega (arith, l)) (omega arith) (omega arith) (omega (arith, kl)) f (rw (kl, kn) f) refl
+
+  pub bound_type_on : (s : State) (i : ℕ) (row now : List Frame) (u : V) (new : State) (made : ℕ) → s.place ≡ Some i → is_byte b i (code "K") ≡ false → made ≤ 1 → Fits point.Bound s.depth_left s.lifetimes
+      → new.depth_left ≡ s.depth_left → new.lifetimes ≡ s.lifetimes → new.place ≡ Some i → new.mark ≡ None → now ≡ row ++ frame_at point.OpenBindings s ∷ [] → bound_did s row u point.«Type» new now made
+  unfolding share_at
+  bound_type_on s i row now u new made p e l f kl kn kp km w =
+      let g : Heard = of plain voice.loud (begun (around b voice.loud s.depth_left s.lifetimes) a_type false (Some i)) in
+      enters voice b plain point.«Type» None (1 ∷ []) [] (frame_at point.OpenBindings s) _ (closing g) 5 (8 * s.depth_left + 4) row now u new made
+      (bound_reads s (Some i) (1 ∷ []) g p (bound_type plain voice.loud b s.depth_left s.lifetimes i e)) (rw (kl, kn, kp) refl) km w (omega (arith, l)) (omega (arith, l)) (omega arith) (omega arith) (omega (arith, kl)) f (rw (kl, kn) f) refl

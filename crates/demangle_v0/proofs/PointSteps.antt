@@ -1,0 +1,252 @@
+-- Steps of points, one behind another.
+use Rattle.std.specs.Prelude.{◌*◌, ◌==◌, ◌^◌}
+use Rattle.std.proofs.lemmas.Bool.{false≢true}
+use Rattle.std.proofs.lemmas.List.{append-nil}
+use Rattle.std.proofs.Common.{◌≡◌, ℕ, zero, suc, sub-one, if◌then◌else◌, ◌+◌, ◌-◌, ◌<◌, ◌≤◌, length, Bool, true, false, Option, Some, None, List, [], ◌∷◌, ◌++◌, Result, Ok, Err, IsOk, IsErr, refl, arith, sym, ap, ◌∙◌, subst}
+use Rattle.demangle_v0.specs.Items.{Kind, Text, a_path, Items, done, invalid, target, child, byte}
+use Rattle.demangle_v0.specs.Begins.{total}
+use Rattle.demangle_v0.specs.Events.{Heard, of, ended, and_then, allowing, handing}
+use Rattle.demangle_v0.specs.Groups.{texts_of, word_group}
+use Rattle.demangle_v0.specs.Grammar.{word_items, text}
+use Rattle.demangle_v0.specs.Reading.{Place, run}
+use Rattle.demangle_v0.specs.Points.{Bit, pays, puts, heard_bits, bits_looks, Told, marked, followed, Way, goes, fails, way_heard, way_weight, way_height, weight_at, weight_of, height_at, height_of, count_of, FitsFrame, FitsWay, IsInner, pushed_on, share_at, rest_at, closing, share_of, around, Went, Stopped, Kept, DidOn}
+use Rattle.demangle_sink.specs.declared.SinkRefused.{SinkRefused}
+use Rattle.demangle_v0.specs.declared.grammar.Mark.{Mark}
+use Rattle.demangle_v0.specs.declared.grammar.Word.{Word}
+use Rattle.demangle_v0.specs.declared.stretch.Stretch.{Stretch}
+use Rattle.demangle_v0.specs.declared.words.WordRead.{WordRead}
+use Rattle.demangle_v0.specs.declared.words.WordRead.TheVariants as reads
+use Rattle.demangle_v0.specs.declared.points.Point.{Point}
+use Rattle.demangle_v0.specs.declared.points.Point.TheVariants as point
+use Rattle.demangle_v0.specs.declared.points.frames.Frame.{Frame}
+use Rattle.demangle_v0.specs.declared.points.State.{State}
+use Rattle.demangle_v0.specs.declared.points.Stop.{Stop}
+use Rattle.demangle_v0.specs.declared.points.Stop.TheVariants.{Refused, Fault, Uncovered}
+use Rattle.demangle_v0.specs.declared.points.voice.Voice.{Ghosts}
+use Rattle.demangle_v0.proofs.GroupReads.{word_then, word_read}
+
+pub bits_append : (out : Bool) (xs ys : List Bit) (h : Heard) → heard_bits out (xs ++ ys) h ≡ heard_bits out xs (heard_bits out ys h)
+bits_append out [] ys h = refl
+bits_append out (pays k ∷ xs) ys h = ap (allowing k) (bits_append out xs ys h)
+bits_append out (puts ts ∷ xs) ys h = ap (handing out ts) (bits_append out xs ys h)
+
+pub looks_append : (xs ys : List Bit) → bits_looks (xs ++ ys) ≡ bits_looks xs + bits_looks ys
+looks_append [] ys = omega arith
+looks_append (pays k ∷ xs) ys = omega (arith, looks_append xs ys)
+looks_append (puts ts ∷ xs) ys = looks_append xs ys
+
+pub told_append : {V : Type 0} (voice : Ghosts V) (u v w : V) (xs ys : List Bit) → Told voice u xs v → Told voice v ys w → Told voice u (xs ++ ys) w
+told_append voice u v w [] ys h k = subst (λ z. Told voice z ys w) (sym h) k
+told_append voice u v w (pays n ∷ xs) ys h k = told_append voice u v w xs ys h k
+told_append voice u v w (puts ts ∷ xs) ys h k = (h.0, h.1, told_append voice h.0 v w xs ys h.2 k)
+
+-- nothing was put on the row
+pub kept_none : (row : List Frame) → Kept row row
+kept_none row = ([], sym (append-nil row))
+
+abbrev pub refused : SinkRefused → Result (Unit {0}) SinkRefused
+refused e = Err e
+
+module _ {V : Type 0} (voice : Ghosts V) (b : List ℕ) (plain : Bool) where
+  -- what a step does by these looks, before its mark and behind it, and by this frame
+  pub steps : (way : Way) (front back : List ℕ) (pushed : Option Frame) (h : Heard) (weight high : ℕ) (row now : List Frame) (v : V) (new : State) (made : ℕ)
+      → h ≡ allowing front (handing voice.loud (marked new.mark) (allowing back (followed b plain voice.loud pushed (way_heard b plain voice.loud way new))))
+      → now ≡ pushed_on row pushed → made ≤ total front + total back → made ≤ total front + 2
+      → way_weight way + weight_of pushed + 1 ≤ weight + 100 * (total front + total back)
+      → height_of pushed ≤ high → way_height way new + count_of pushed ≤ high → FitsFrame pushed → FitsWay way new → (voice.loud ≡ false → IsInner pushed)
+      → Went voice b plain h weight high row v way new now v made
+  steps way front back pushed h weight high row now v new made e r l m w x y f g q = record {
+    bits = pays front ∷ [];
+    back = back;
+    pushed = pushed;
+    told = refl;
+    reads = e;
+    is_row = r;
+    enough = omega (arith, l);
+    late = omega (arith, m);
+    lighter = omega (arith, w);
+    outer_height = x;
+    inner_height = y;
+    outer_fits = f;
+    inner_fits = g;
+    quiet = q;
+  }
+
+  went_after : (ks : List ℕ) (h k : Heard) (weight high weight' high' : ℕ) (row : List Frame) (v w : V) (way : Way) (new : State) (now : List Frame) (first second made : ℕ)
+      → h ≡ allowing ks k → first ≤ total ks → made ≤ first + second → weight' ≤ weight + 100 * total ks → high' ≤ high
+      → Went voice b plain k weight' high' row v way new now w second → Went voice b plain h weight high row v way new now w made
+  went_after ks h k weight high weight' high' row v w way new now first second made e l m x y d = record {
+    bits = pays ks ∷ d.bits;
+    back = d.back;
+    pushed = d.pushed;
+    told = d.told;
+    reads = e ∙ ap (allowing ks) d.reads;
+    is_row = d.is_row;
+    enough = omega (arith, d.enough);
+    late = omega (arith, d.late);
+    lighter = omega (arith, d.lighter);
+    outer_height = omega (arith, d.outer_height);
+    inner_height = omega (arith, d.inner_height);
+    outer_fits = d.outer_fits;
+    inner_fits = d.inner_fits;
+    quiet = d.quiet;
+  }
+
+  -- a step behind some looks
+  pub after : (ks : List ℕ) (h k : Heard) (weight high weight' high' : ℕ) (row : List Frame) (v w : V) (result : Result Point Stop) (new : State) (now : List Frame) (first second made : ℕ)
+      → h ≡ allowing ks k → first ≤ total ks → made ≤ first + second → weight' ≤ weight + 100 * total ks → high' ≤ high
+      → DidOn voice b plain k weight' high' row v result new now w second → DidOn voice b plain h weight high row v result new now w made
+  after ks h k weight high weight' high' row v w (Ok p) new now first second made e l m x y d = record { comes = went_after ks h k weight high weight' high' row v w (goes p) new now first second made e l m x y d.comes }
+  after ks h k weight high weight' high' row v w (Err (Fault f)) new now first second made e l m x y d = record { comes = went_after ks h k weight high weight' high' row v w (fails f) new now first second made e l m x y d.comes }
+  after ks h k weight high weight' high' row v w (Err Uncovered) new now first second made e l m x y d = record { comes = tt }
+  after ks h k weight high weight' high' row v w (Err Refused) new now first second made e l m x y z = let d = z.comes.0 in record {
+    comes = (
+      record {
+        front = pays ks ∷ d.front;
+        texts = d.texts;
+        rest = d.rest;
+        mid = d.mid;
+        told = d.told;
+        refusal = d.refusal;
+        prints = d.prints;
+        reads = e ∙ ap (allowing ks) d.reads;
+        enough = omega (arith, d.enough);
+        exact = λ q. omega (arith, l, m, d.exact q);
+        fails = d.fails;
+      },
+      z.comes.1,
+    );
+  }
+
+  -- Words with which a unit ends.
+
+  -- the same heard in another way
+  pub same : (h k : Heard) (weight high weight' high' : ℕ) (row : List Frame) (v w : V) (result : Result Point Stop) (new : State) (now : List Frame) (made : ℕ) → h ≡ k → weight' ≤ weight → high' ≤ high
+      → DidOn voice b plain k weight' high' row v result new now w made → DidOn voice b plain h weight high row v result new now w made
+  same h k weight high weight' high' row v w result new now made e x y d = after [] h k weight high weight' high' row v w result new now 0 made made e (omega arith) (omega arith) (omega arith) y d
+
+  abbrev word_heard : Word → ℕ → ℕ → ℕ → Place → Heard
+  word_heard x note left n i = closing (of plain voice.loud (run (word_items x note done) (around b voice.loud left n) i))
+
+  word_shut : (ks : List ℕ) (r : WordRead) → closing (allowing ks (word_then b plain voice.loud r (λ j. ended j false))) ≡ allowing ks (word_then b plain voice.loud r (λ j. ended j false))
+  word_shut ks (reads.Goes x j) = refl
+  word_shut ks (reads.Stops x) = refl
+
+  word_so : (x : Word) (note left n : ℕ) (i : Place) (r : WordRead) → r ≡ (word_group b x note voice.loud n i).reads
+      → word_heard x note left n i ≡ allowing (word_group b x note voice.loud n i).costs (word_then b plain voice.loud r (λ j. ended j false))
+  unfolding run
+  word_so x note left n i r e =
+      let g = word_group b x note voice.loud n i in
+      ap closing (word_read b plain left (record { output = voice.loud; value = false; lifetimes = n }) x note done i)
+      ∙ (word_shut g.costs g.reads ∙ ap (λ (z : WordRead). allowing g.costs (word_then b plain voice.loud z (λ j. ended j false))) (sym e))
+
+  pub word_goes : (x : Word) (note left n : ℕ) (i j : Place) (s : Stretch) (row : List Frame) (v w : V) (new : State) (made : ℕ) → reads.Goes s j ≡ (word_group b x note voice.loud n i).reads → made ≤ total (word_group b x note voice.loud n i).costs
+      → voice.prints v (texts_of b plain s) (Ok tt) w → new.mark ≡ None → new.place ≡ j → new.is_open ≡ false → DidOn voice b plain (word_heard x note left n i) 1 0 row v (Ok point.End) new row w made
+  unfolding followed share_at
+  word_goes x note left n i j s row v w new made e l p m k o = record {
+    comes = record {
+      bits = pays (word_group b x note voice.loud n i).costs ∷ puts (texts_of b plain s) ∷ [];
+      back = [];
+      pushed = None;
+      told = (w, p, refl);
+      reads = rw (m, k, o) (word_so x note left n i (reads.Goes s j) e);
+      is_row = refl;
+      enough = omega arith;
+      late = omega arith;
+      lighter = omega arith;
+      outer_height = omega arith;
+      inner_height = omega arith;
+      outer_fits = tt;
+      inner_fits = tt;
+      quiet = λ _. tt;
+    };
+  }
+
+  pub word_stops : (x : Word) (note left n : ℕ) (i : Place) (s : Stretch) (row : List Frame) (v w : V) (new : State) (made : ℕ) → reads.Stops s ≡ (word_group b x note voice.loud n i).reads → made ≤ total (word_group b x note voice.loud n i).costs
+      → voice.prints v (texts_of b plain s) (Ok tt) w → new.mark ≡ None → new.place ≡ None → new.is_open ≡ false → DidOn voice b plain (word_heard x note left n i) 1 0 row v (Ok point.End) new row w made
+  unfolding followed share_at
+  word_stops x note left n i s row v w new made e l p m k o = record {
+    comes = record {
+      bits = pays (word_group b x note voice.loud n i).costs ∷ puts (texts_of b plain s) ∷ [];
+      back = [];
+      pushed = None;
+      told = (w, p, refl);
+      reads = rw (m, k, o) (word_so x note left n i (reads.Stops s) e);
+      is_row = refl;
+      enough = omega arith;
+      late = omega arith;
+      lighter = omega arith;
+      outer_height = omega arith;
+      inner_height = omega arith;
+      outer_fits = tt;
+      inner_fits = tt;
+      quiet = λ _. tt;
+    };
+  }
+
+  pub word_refused : (x : Word) (note left n : ℕ) (i j : Place) (s : Stretch) (v w : V) (e : SinkRefused) (made : ℕ) → reads.Goes s j ≡ (word_group b x note voice.loud n i).reads → made ≤ total (word_group b x note voice.loud n i).costs
+      → voice.prints v (texts_of b plain s) (Err e) w → (voice.loud ≡ false → IsOk (refused e)) → Stopped voice (word_heard x note left n i) v w made
+  word_refused x note left n i j s v w e made r l p q = record {
+    front = pays (word_group b x note voice.loud n i).costs ∷ [];
+    texts = texts_of b plain s;
+    rest = ended j false;
+    mid = v;
+    told = refl;
+    refusal = e;
+    prints = p;
+    reads = word_so x note left n i (reads.Goes s j) r;
+    enough = omega arith;
+    exact = λ h. omega (arith, l);
+    fails = λ h. absurd (false≢true (q h));
+  }
+
+  pub word_ended : (x : Word) (note left n : ℕ) (i : Place) (s : Stretch) (v w : V) (e : SinkRefused) (made : ℕ) → reads.Stops s ≡ (word_group b x note voice.loud n i).reads → made ≤ total (word_group b x note voice.loud n i).costs
+      → voice.prints v (texts_of b plain s) (Err e) w → Stopped voice (word_heard x note left n i) v w made
+  word_ended x note left n i s v w e made r l p = record {
+    front = pays (word_group b x note voice.loud n i).costs ∷ [];
+    texts = texts_of b plain s;
+    rest = ended None false;
+    mid = v;
+    told = refl;
+    refusal = e;
+    prints = p;
+    reads = word_so x note left n i (reads.Stops s) r;
+    enough = omega arith;
+    exact = λ h. omega (arith, l);
+    fails = λ h. refl;
+  }
+
+  -- Faults.
+
+  pub faulty : (m : Mark) (h : Heard) (weight high : ℕ) (row : List Frame) (v : V) (new : State) (made : ℕ) → new.mark ≡ None → h ≡ handing voice.loud (text m ∷ []) (ended None false) → made ≤ 0 → 1 ≤ weight
+      → DidOn voice b plain h weight high row v (Err (Fault m)) new row v made
+  unfolding followed
+  faulty m h weight high row v new made k e l x = record {
+    comes = record {
+      bits = [];
+      back = [];
+      pushed = None;
+      told = refl;
+      reads = rw k e;
+      is_row = refl;
+      enough = omega arith;
+      late = omega arith;
+      lighter = omega arith;
+      outer_height = omega arith;
+      inner_height = omega arith;
+      outer_fits = tt;
+      inner_fits = tt;
+      quiet = λ _. tt;
+    };
+  }
+
+  -- a fault behind some looks
+  pub faulty_after : (ks : List ℕ) (m : Mark) (h : Heard) (weight high : ℕ) (row : List Frame) (v : V) (new : State) (made : ℕ) → new.mark ≡ None → h ≡ allowing ks (handing voice.loud (text m ∷ []) (ended None false)) → made ≤ total ks → 1 ≤ weight
+      → DidOn voice b plain h weight high row v (Err (Fault m)) new row v made
+  faulty_after ks m h weight high row v new made k e l x =
+      after ks h (handing voice.loud (text m ∷ []) (ended None false)) weight high 1 0 row v v (Err (Fault m)) new row made 0 made e l (omega arith) (omega arith) (omega arith)
+      (faulty m (handing voice.loud (text m ∷ []) (ended None false)) 1 0 row v new 0 k refl (omega arith) (omega arith))
+
+  -- no looks were made
+  pub zero_looks : (h : Heard) (weight high : ℕ) (row : List Frame) (v w : V) (result : Result Point Stop) (new : State) (now : List Frame) (l : ℕ) → DidOn voice b plain h weight high row v result new now w 0 → DidOn voice b plain h weight high row v result new now w (l - l)
+  zero_looks h weight high row v w result new now l d = subst (λ (m : ℕ). DidOn voice b plain h weight high row v result new now w m) (omega arith) d

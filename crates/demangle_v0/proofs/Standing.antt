@@ -1,0 +1,28 @@
+-- A row of frames above others that stand there.
+use Rattle.std.specs.Prelude.{◌≤◌, length}
+use Rattle.std.proofs.Common.{◌≡◌, List, [], ◌∷◌, ◌++◌, refl, sym, ap, ◌∙◌, arith, append_assoc, length-append}
+
+module _ {F : Type 0} where
+  one_more : (f g : F) (xs ys : List F) → f ∷ xs ≡ g ∷ ys → (f ≡ g) × (xs ≡ ys)
+  one_more f g xs ys e = (cc, cc)
+
+  no_end : (f g : F) (xs : List F) → [] ≡ (g ∷ xs) ++ f ∷ [] → ⊥
+  no_end f g xs e = cc
+
+  -- a frame that is put on top stands above the others
+  pub above_push : (below above row : List F) (f : F) → row ≡ below ++ above → row ++ f ∷ [] ≡ below ++ (above ++ f ∷ [])
+  above_push below above row f e = ap (λ (r : List F). r ++ f ∷ []) e ∙ append_assoc below above (f ∷ [])
+
+  -- the frame on top of more than those is not one of them
+  pub above_pop : (below above row : List F) (f : F) → row ++ f ∷ [] ≡ below ++ above → length below ≤ length row → (rest : List F) × (above ≡ rest ++ f ∷ []) × (row ≡ below ++ rest)
+  above_pop [] above row f e l = (row, sym e, refl)
+  above_pop (g ∷ below) above [] f e l = absurd (omega (arith, l))
+  above_pop (g ∷ below) above (h ∷ row) f e l =
+      let heads = one_more h g (row ++ f ∷ []) (below ++ above) e in
+      let inner = above_pop below above row f heads.1 (omega (arith, l)) in
+      (inner.0, inner.1, ap (λ (x : F). x ∷ row) heads.0 ∙ ap (λ (r : List F). g ∷ r) inner.2)
+
+  -- as many as those: nothing stands above them
+  pub above_none : (below above row : List F) → row ≡ below ++ above → length row ≤ length below → above ≡ []
+  above_none below [] row e l = refl
+  above_none below (f ∷ above) row e l = absurd (omega (arith, ap length e, length-append {A = F} below (f ∷ above)))

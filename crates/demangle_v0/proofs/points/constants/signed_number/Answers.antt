@@ -1,0 +1,15 @@
+use Rattle.std.proofs.Common.{arith, refl, ◌-◌}
+use Rattle.demangle_v0.proofs.PointTaggedConstants.{signed_unread, signed_minus, signed_plus}
+use Rattle.demangle_v0.proofs.points.constants.signed_number.Goals as goal
+
+pub returns-in_default-clause-did : goal.returns-in_default-clause-did
+returns-in_default-clause-did g c = λ row. rw c.in_default.is
+    (signed_unread g.V.Voice c.args.symbol.now c.args.plain c.args.state.now.in_value c.args.tag c.args.state.now.depth_left c.args.state.now.lifetimes row _ _ _ c.requires.unmarked (omega arith))
+
+pub returns-then-is_at-clause-did : goal.returns-then-is_at-clause-did
+returns-then-is_at-clause-did g c = λ row. rw c.in-Some.is
+    (signed_minus g.V.Voice c.args.symbol.now c.args.plain c.args.state.now.in_value c.args.tag c.args.state.now.depth_left c.args.state.now.lifetimes c.in-Some.at c.args.state.now.is_open row _ _ _ c.if-is_at.ensures.there (omega (arith, c.is_at.ensures.look)) c.requires.fits refl refl refl refl refl refl refl)
+
+pub returns-clause-did : goal.returns-clause-did
+returns-clause-did g c = λ row. rw c.in-Some.is
+    (signed_plus g.V.Voice c.args.symbol.now c.args.plain c.args.state.now.in_value c.args.tag c.args.state.now.depth_left c.args.state.now.lifetimes c.in-Some.at c.args.state.now.is_open row _ _ _ _ (c.number.new.looks - c.is_at.new.looks) _ c.if-is_at.ensures.there (omega (arith, c.is_at.ensures.look, c.number.ensures.grows)) (rw c.in-Some.is at c.number.ensures.did row))

@@ -1,0 +1,17 @@
+use Rattle.std.proofs.Common.{ℕ, ◌-◌, ◌+◌, ◌≤◌, true}
+use Rattle.demangle_sink.specs.Limit.{Ready}
+use Rattle.demangle_v0.specs.Points.{measure}
+use Rattle.demangle_v0.specs.PointRuns.{Valid, Ran, first_looks}
+use Rattle.demangle_v0.proofs.points.run.print_on.Given as goal
+
+abbrev pub invariant-steps : goal.invariant-steps
+invariant-steps g l = record {
+  ready : Ready g.S.TextSink l.out;
+  valid : Valid l.point l.state l.row;
+  ran : Ran g.S.TextSink l.symbol l.plain l.initial.reading.point l.initial.reading.state l.initial.row l.initial.out l.point l.state l.row l.out (l.looks - l.initial.looks);
+  grows : l.initial.looks ≤ l.looks;
+  least : l.initial.looks + first_looks l.initial.reading.point l.initial.reading.state ≤ l.looks + first_looks l.point l.state;
+}
+
+abbrev pub decreases-steps : goal.decreases-steps
+decreases-steps g l = measure l.symbol l.plain true l.point l.state l.row

@@ -1,0 +1,45 @@
+-- Internal: no public contract cites this.
+-- What constants stand in, one behind the other: the points of their readings.
+use Rattle.demangle_v0.specs.Items.{Items}
+use Rattle.demangle_v0.specs.Table.{constant_inside, field}
+use Rattle.demangle_v0.specs.declared.grammar.Mark.{Mark}
+use Rattle.demangle_v0.specs.declared.grammar.Mark.TheVariants as mark
+use Rattle.demangle_v0.specs.declared.points.Point.{Point}
+use Rattle.demangle_v0.specs.declared.points.Point.TheVariants as point
+use Rattle.demangle_v0.specs.declared.points.constants.ConstantList.{ConstantList}
+use Rattle.demangle_v0.specs.declared.points.constants.ConstantList.TheVariants as list
+
+-- where the first is read, or the end
+abbrev pub first_point : ConstantList → Point
+first_point list.Array = point.FirstArrayConstant
+first_point list.Tuple = point.FirstTupleConstant
+first_point list.TupleVariant = point.FirstVariantConstant
+first_point list.Fields = point.FirstField
+
+-- behind the first
+abbrev pub second_point : ConstantList → Point
+second_point list.Array = point.NextArrayConstant
+second_point list.Tuple = point.SecondTupleConstant
+second_point list.TupleVariant = point.NextVariantConstant
+second_point list.Fields = point.NextField
+
+-- behind another
+abbrev pub next_point : ConstantList → Point
+next_point list.Array = point.NextArrayConstant
+next_point list.Tuple = point.NextTupleConstant
+next_point list.TupleVariant = point.NextVariantConstant
+next_point list.Fields = point.NextField
+
+abbrev pub element_point : ConstantList → Point
+element_point list.Fields = point.Field
+element_point _ = point.Constant
+
+abbrev pub element_of : ConstantList → Items
+element_of list.Fields = field
+element_of _ = constant_inside
+
+abbrev pub close_of : ConstantList → Mark
+close_of list.Array = mark.CloseBracket
+close_of list.Tuple = mark.CloseParen
+close_of list.TupleVariant = mark.CloseParen
+close_of list.Fields = mark.CloseFields

@@ -1,0 +1,8 @@
+-- Internal: no public contract cites this.
+-- The frames that lie packed in a row.
+use Rattle.std.specs.Prelude.{◌+◌, ◌*◌, ◌^◌}
+use Rattle.demangle_v0.specs.declared.points.frames.Frame.{Frame}
+use Rattle.demangle_v0.specs.declared.points.frames.Packed.{Packed}
+
+abbrev pub unpacked : Packed → Frame
+unpacked p = record { point = p.point; in_value = p.in_value; letter = p.letter; depth_left = p.depth_left; number = p.high * 2 ^ 64 + p.low }

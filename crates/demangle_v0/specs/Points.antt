@@ -1,0 +1,408 @@
+-- Internal: no public contract cites this.
+-- What the points of a reading stand for, and what one point does.
+use Rattle.std.specs.Prelude.{◌≡◌, ℕ, ◌+◌, ◌-◌, ◌*◌, ◌^◌, ◌<◌, ◌≤◌, ◌==◌, nat_le, if◌then◌else◌, Bool, true, false, Option, Some, None, List, [], ◌∷◌, ◌++◌, length, Result, Ok, Err}
+use Prim.Native.Char.{code}
+use Rattle.demangle_symbol.specs.Digits.{is_byte}
+use Rattle.demangle_v0.specs.Items.{Text, Kind, Items, a_path, a_type, a_constant, a_pattern, a_trait_path, done, invalid, byte, integer, next, sound, until_end, unit, child, skip, lifetime, opens, dyn_trait, bindings, identifier}
+use Rattle.demangle_v0.specs.Table.{says, says_if, at_end, list, more, tuple, typed, constant_inside, argument, in_namespace, in_binder, function, bound, type_tagged, number, string, field, variant, says_name}
+use Rattle.demangle_v0.specs.Reading.{Outcome, Place, Surroundings, followed_by, run, begun, level_of, levels}
+use Rattle.demangle_v0.specs.Begins.{total}
+use Rattle.demangle_v0.specs.Running.{allowed_in}
+use Rattle.demangle_v0.specs.Events.{Heard, of, ended, and_then, allowing, handing}
+use Rattle.demangle_v0.specs.Grammar.{text}
+use Rattle.demangle_v0.specs.Tags.{referring}
+use Rattle.demangle_v0.specs.declared.grammar.Mark.{Mark}
+use Rattle.demangle_v0.specs.declared.stretch.Stretch.{Stretch}
+use Rattle.demangle_v0.specs.declared.stretch.Stretch.TheVariants.{SpacedLifetime, SpacedFault}
+use Rattle.demangle_v0.specs.declared.points.Point.{Point}
+use Rattle.demangle_v0.specs.declared.points.Point.TheVariants as point
+use Rattle.demangle_v0.specs.declared.points.frames.Frame.{Frame}
+use Rattle.demangle_v0.specs.declared.points.State.{State}
+use Rattle.demangle_v0.specs.declared.points.Stop.{Stop}
+use Rattle.demangle_v0.specs.declared.points.Stop.TheVariants.{Refused, Fault, Uncovered}
+use Rattle.demangle_v0.specs.declared.points.voice.Voice.{Ghosts}
+use Rattle.demangle_sink.specs.declared.SinkRefused.{SinkRefused}
+
+-- What is still to be read.
+
+-- what stands behind the parameters of a function
+abbrev pub returns : Items
+returns = next (code "u") done (says " -> " typed)
+
+-- the bindings of a dyn trait, whose bracket is open or not, and the dyn traits behind it
+abbrev pub bindings_left : Bool → Items
+bindings_left o = unit (bindings o bound) (more " + " (dyn_trait bound) done)
+
+-- the items that a point goes on with, in value position or not, by its letter
+abbrev pub rest_at : Point → Bool → ℕ → Items
+-- paths
+rest_at point.Nested v n = sound (in_namespace n) (says "::" (in_namespace n))
+rest_at point.InherentPath v n = skip (says "<" (child a_type false (says ">" done)))
+rest_at point.ImplPath v n = skip (says "<" (child a_type false (says " as " (child a_path false (says ">" done)))))
+rest_at point.InherentType v n = says "<" (child a_type false (says ">" done))
+rest_at point.SelfType v n = says "<" (child a_type false (says " as " (child a_path false (says ">" done))))
+rest_at point.As v n = says " as " (child a_path false (says ">" done))
+rest_at point.CloseAngle v n = says ">" done
+rest_at point.Generic v n = says_if v "::" (says "<" (list ", " argument (says ">" done)))
+rest_at point.OpenArguments v n = says "<" (list ", " argument (says ">" done))
+rest_at point.FirstArgument v n = list ", " argument (says ">" done)
+rest_at point.NextArgument v n = more ", " argument (says ">" done)
+rest_at point.Lifetime v n = integer (λ k. lifetime k done)
+-- types
+rest_at point.TaggedType v n = type_tagged
+rest_at point.ArrayLength v n = says "; " (child a_constant true (says "]" done))
+rest_at point.CloseBracket v n = says "]" done
+rest_at point.FirstTupleType v n = tuple typed (says ")" done)
+rest_at point.SecondTupleType v n = at_end (says "," (says ")" done)) (more ", " typed (says ")" done))
+rest_at point.NextTupleType v n = more ", " typed (says ")" done)
+rest_at point.CloseParen v n = says ")" done
+rest_at point.ReferenceLifetime v n = referring typed
+rest_at point.MutReferenceLifetime v n = referring (says "mut " typed)
+rest_at point.Mutable v n = says "mut " typed
+rest_at point.Unchanging v n = says "const " typed
+rest_at point.PatternIs v n = says " is " (child a_pattern false done)
+rest_at point.FunctionBinder v n = in_binder (next (code "U") (function true) (function false))
+rest_at point.FunctionHead v n = next (code "U") (function true) (function false)
+rest_at point.OpenParameters v n = says "fn(" (list ", " typed (says ")" returns))
+rest_at point.FirstParameter v n = list ", " typed (says ")" returns)
+rest_at point.NextParameter v n = more ", " typed (says ")" returns)
+rest_at point.Returns v n = returns
+-- dyn traits
+rest_at point.DynBinder v n = in_binder (list " + " (dyn_trait bound) done)
+rest_at point.FirstDynTrait v n = list " + " (dyn_trait bound) done
+rest_at point.NextDynTrait v n = more " + " (dyn_trait bound) done
+rest_at point.OpenTraitPath v n = says "<" (list ", " argument (opens done))
+rest_at point.FirstOpenArgument v n = list ", " argument (opens done)
+rest_at point.NextOpenArgument v n = more ", " argument (opens done)
+rest_at point.OpenBindings v n = bindings_left true
+rest_at point.BindingName v n = identifier (λ a. says_name a (says " = " (unit bound (bindings_left true))))
+rest_at point.Bound v n = unit bound (bindings_left true)
+rest_at point.DynLifetime v n = next (code "L") (integer (λ k. if k == 0 then done else says " + " (lifetime k done))) invalid
+-- patterns
+rest_at point.RangeEnd v n = says "..=" (child a_constant false done)
+rest_at point.NextPattern v n = until_end (says " | " (child a_pattern false done)) (sound done invalid)
+-- constants
+rest_at point.Number v n = number n
+rest_at point.TextConstant v n = says "*" (unit string done)
+rest_at point.Literal v n = string
+rest_at point.ReferenceConstant v n = says "&" (child a_constant true done)
+rest_at point.MutReferenceConstant v n = says "&" (says "mut " (child a_constant true done))
+rest_at point.MutableConstant v n = says "mut " (child a_constant true done)
+rest_at point.ArrayConstant v n = says "[" (list ", " constant_inside (says "]" done))
+rest_at point.FirstArrayConstant v n = list ", " constant_inside (says "]" done)
+rest_at point.NextArrayConstant v n = more ", " constant_inside (says "]" done)
+rest_at point.TupleConstant v n = says "(" (tuple constant_inside (says ")" done))
+rest_at point.FirstTupleConstant v n = tuple constant_inside (says ")" done)
+rest_at point.SecondTupleConstant v n = at_end (says "," (says ")" done)) (more ", " constant_inside (says ")" done))
+rest_at point.NextTupleConstant v n = more ", " constant_inside (says ")" done)
+rest_at point.Variant v n = byte (variant (if v then done else says "}" done))
+rest_at point.FirstVariantConstant v n = list ", " constant_inside (says ")" done)
+rest_at point.NextVariantConstant v n = more ", " constant_inside (says ")" done)
+rest_at point.FirstField v n = list ", " field (says " }" done)
+rest_at point.NextField v n = more ", " field (says " }" done)
+rest_at point.Field v n = field
+rest_at point.FieldColon v n = says ": " constant_inside
+rest_at point.CloseBrace v n = says "}" done
+rest_at _ v n = done
+
+-- Lists are over at their `E`, which is read, or where the reading has failed.
+
+abbrev pub is_list_over : List ℕ → Place → Bool
+is_list_over b None = true
+is_list_over b (Some i) = is_byte b i (code "E")
+
+abbrev pub behind_list : List ℕ → Place → Place
+behind_list b None = None
+behind_list b (Some i) = if is_byte b i (code "E") then Some (i + 1) else Some i
+
+abbrev pub list_costs : Place → List ℕ
+list_costs None = []
+list_costs (Some i) = 1 ∷ []
+
+-- the points of a reference, mutable or not: its lifetime, and what stands behind that
+abbrev pub lifetime_point : Bool → Point
+lifetime_point is_mut = if is_mut then point.MutReferenceLifetime else point.ReferenceLifetime
+
+abbrev pub behind_reference : Bool → Point
+behind_reference is_mut = if is_mut then point.Mutable else point.«Type»
+
+-- what the lifetime of an index above 0 hands over, and the place behind it
+abbrev pub spaced_lifetime : ℕ → ℕ → ℕ → Stretch × Place
+spaced_lifetime lifetimes k j = if nat_le k lifetimes then (SpacedLifetime (lifetimes - k), Some j) else (SpacedFault, None)
+
+abbrev pub around : List ℕ → Bool → ℕ → ℕ → Surroundings
+around b out left lifetimes = record { symbol = b; printed = out; here = level_of b (levels b left); deeper = levels b left; lifetimes = lifetimes }
+
+-- no bracket of a dyn trait path is open behind it
+abbrev pub closing : Heard → Heard
+closing h = record { events = h.events; place = h.place; is_open = false }
+
+-- what a point still reads of its unit
+unfoldable pub share_at : List ℕ → Bool → Bool → Point → Bool → ℕ → ℕ → ℕ → Place → Bool → Heard
+share_at b plain out point.End v c left n i o = ended i o
+share_at b plain out point.Behind v c left n i o = ended (Some n) o
+share_at b plain out point.Path v c left n i o = closing (of plain out (begun (around b out left n) a_path v i))
+share_at b plain out point.«Type» v c left n i o = closing (of plain out (begun (around b out left n) a_type false i))
+share_at b plain out point.Constant v c left n i o = closing (of plain out (begun (around b out left n) a_constant v i))
+share_at b plain out point.Pattern v c left n i o = closing (of plain out (begun (around b out left n) a_pattern false i))
+share_at b plain out point.TraitPath v c left n i o = of plain out (begun (around b out left n) a_trait_path false i)
+share_at b plain out point.OpenTraitPath v c left n i o = of plain out (run (rest_at point.OpenTraitPath v c) (around b out left n) i)
+share_at b plain out point.FirstOpenArgument v c left n i o = of plain out (run (rest_at point.FirstOpenArgument v c) (around b out left n) i)
+share_at b plain out point.NextOpenArgument v c left n i o = of plain out (run (rest_at point.NextOpenArgument v c) (around b out left n) i)
+share_at b plain out point.Bindings v c left n i o = closing (of plain out (run (bindings_left o) (around b out left n) i))
+share_at b plain out p v c left n i o = closing (of plain out (run (rest_at p v c) (around b out left n) i))
+
+-- what a reading that stands so still reads of its unit
+abbrev pub share_of : List ℕ → Bool → Bool → Point → State → Heard
+share_of b plain out p s = share_at b plain out p s.in_value s.letter s.depth_left s.lifetimes s.place s.is_open
+
+abbrev pub share : List ℕ → Bool → Bool → Frame → Place → Bool → Heard
+share b plain out f i o = share_at b plain out f.point f.in_value f.letter f.depth_left f.number i o
+
+-- what a row still reads; the last frame goes first
+unfoldable pub row_owed : List ℕ → Bool → Bool → List Frame → Place → Bool → Heard
+row_owed b plain out [] i o = ended i o
+row_owed b plain out (f ∷ above) i o = and_then (row_owed b plain out above i o) (share b plain out f)
+
+abbrev pub owed : List ℕ → Bool → Bool → Point → State → List Frame → Heard
+owed b plain out p s row = and_then (share_of b plain out p s) (row_owed b plain out row)
+
+abbrev pub frame_of : Point → Bool → ℕ → ℕ → ℕ → Frame
+frame_of p v c left n = record { point = p; in_value = v; letter = c; depth_left = left; number = n }
+
+-- Parts of a step.
+
+-- so many looks are allowed, or texts are handed over
+pub data Bit : Type 0 where
+  pays : List ℕ → Bit
+  puts : List Text → Bit
+
+abbrev pub heard_bits : Bool → List Bit → Heard → Heard
+heard_bits out [] h = h
+heard_bits out (pays ks ∷ bits) h = allowing ks (heard_bits out bits h)
+heard_bits out (puts ts ∷ bits) h = handing out ts (heard_bits out bits h)
+
+abbrev pub bits_looks : List Bit → ℕ
+bits_looks [] = 0
+bits_looks (pays ks ∷ bits) = total ks + bits_looks bits
+bits_looks (puts ts ∷ bits) = bits_looks bits
+
+abbrev pub bits_texts : List Bit → List Text
+bits_texts [] = []
+bits_texts (pays k ∷ bits) = bits_texts bits
+bits_texts (puts ts ∷ bits) = ts ++ bits_texts bits
+
+-- the voice was handed the texts in turn
+abbrev pub Told : {V : Type 0} → Ghosts V → V → List Bit → V → Type 0
+Told voice v [] w = v ≡ w
+Told voice v (pays k ∷ bits) w = Told voice v bits w
+Told {V = V} voice v (puts ts ∷ bits) w = (mid : V) × voice.prints v ts (Ok tt) mid × Told voice mid bits w
+
+-- the text that a step leaves to be handed over
+abbrev pub marked : Option Mark → List Text
+marked None = []
+marked (Some m) = text m ∷ []
+
+abbrev pub pushed_on : List Frame → Option Frame → List Frame
+pushed_on row None = row
+pushed_on row (Some f) = row ++ f ∷ []
+
+-- no reference is followed
+abbrev pub is_inner : Point → Bool
+is_inner point.Behind = false
+is_inner _ = true
+
+abbrev pub IsInner : Option Frame → Type 0
+IsInner None = Unit {0}
+IsInner (Some f) = is_inner f.point ≡ true
+
+abbrev pub AllInner : List Frame → Type 0
+AllInner [] = Unit {0}
+AllInner (f ∷ above) = (is_inner f.point ≡ true) × AllInner above
+
+unfoldable pub followed : List ℕ → Bool → Bool → Option Frame → Heard → Heard
+followed b plain out None h = h
+followed b plain out (Some f) h = and_then h (share b plain out f)
+
+-- where a step goes on: at a point, or with the text of a fault, which ends the unit
+pub data Way : Type 0 where
+  goes : Point → Way
+  fails : Mark → Way
+
+abbrev pub way_heard : List ℕ → Bool → Bool → Way → State → Heard
+way_heard b plain out (goes p) s = share_of b plain out p s
+way_heard b plain out (fails m) s = handing out (text m ∷ []) (ended None false)
+
+-- How much there is still to do, how high frames may stand, and how many lifetimes may be in force.
+
+-- a point that may go on without a look is heavier than what it goes on to, and puts on the row
+abbrev pub weight_at : Point → ℕ
+weight_at point.InherentPath = 7
+weight_at point.ImplPath = 10
+weight_at point.InherentType = 4
+weight_at point.SelfType = 7
+weight_at point.As = 4
+weight_at point.Generic = 3
+weight_at point.OpenArguments = 2
+weight_at point.ArrayLength = 4
+weight_at point.SecondTupleType = 2
+weight_at point.ReferenceLifetime = 2
+weight_at point.MutReferenceLifetime = 3
+weight_at point.Mutable = 2
+weight_at point.Unchanging = 2
+weight_at point.PatternIs = 2
+weight_at point.FunctionHead = 5
+weight_at point.OpenParameters = 4
+weight_at point.FirstParameter = 3
+weight_at point.NextParameter = 3
+weight_at point.Returns = 2
+weight_at point.OpenTraitPath = 2
+weight_at point.Bindings = 2
+weight_at point.OpenBindings = 2
+weight_at point.BindingName = 6
+weight_at point.Bound = 5
+weight_at point.RangeEnd = 2
+weight_at point.TextConstant = 2
+weight_at point.ReferenceConstant = 2
+weight_at point.MutReferenceConstant = 3
+weight_at point.MutableConstant = 2
+weight_at point.ArrayConstant = 2
+weight_at point.TupleConstant = 2
+weight_at point.SecondTupleConstant = 2
+weight_at point.Field = 3
+weight_at point.FieldColon = 2
+weight_at _ = 1
+
+abbrev pub weight_of : Option Frame → ℕ
+weight_of None = 0
+weight_of (Some f) = weight_at f.point + 1
+
+-- where the unit is over, nothing is left to do
+abbrev pub way_weight : Way → ℕ
+way_weight (goes point.End) = 0
+way_weight (goes p) = weight_at p
+way_weight (fails m) = 0
+
+abbrev pub weights : List Frame → ℕ
+weights [] = 0
+weights (f ∷ above) = weight_at f.point + 1 + weights above
+
+abbrev pub measure : List ℕ → Bool → Bool → Point → State → List Frame → ℕ
+measure b plain out p s row = way_weight (goes p) + weights row + 100 * allowed_in (owed b plain out p s row).events
+
+abbrev pub height_at : Point → ℕ → ℕ
+height_at point.End left = 0
+height_at point.Behind left = 1
+height_at point.Path left = 8 * left + 1
+height_at point.«Type» left = 8 * left + 1
+height_at point.TaggedType left = 8 * left + 1
+height_at point.Lifetime left = 8 * left + 1
+height_at point.Constant left = 8 * left + 1
+height_at point.Field left = 8 * left + 1
+height_at point.FieldColon left = 8 * left + 1
+height_at point.Variant left = 8 * left + 3
+height_at point.NextPattern left = 8 * left + 3
+height_at point.DynBinder left = 8 * left + 4
+height_at point.FirstDynTrait left = 8 * left + 4
+height_at point.NextDynTrait left = 8 * left + 4
+height_at point.Bindings left = 8 * left + 4
+height_at point.OpenBindings left = 8 * left + 4
+height_at point.BindingName left = 8 * left + 4
+height_at point.Bound left = 8 * left + 4
+height_at _ left = 8 * left + 2
+
+abbrev pub height_of : Option Frame → ℕ
+height_of None = 0
+height_of (Some f) = height_at f.point f.depth_left
+
+abbrev pub way_height : Way → State → ℕ
+way_height (goes p) s = height_at p s.depth_left
+way_height (fails m) s = 0
+
+abbrev pub count_of : Option Frame → ℕ
+count_of None = 0
+count_of (Some f) = 1
+
+-- how many binders may still be met at the point's own depth
+abbrev pub binders_at : Point → ℕ
+binders_at point.FunctionBinder = 1
+binders_at point.DynBinder = 1
+binders_at _ = 0
+
+abbrev pub most_lifetimes : ℕ
+most_lifetimes = 2 ^ 64 * 500
+
+-- each depth that is left may have a binder, of at most 2^64 - 1 lifetimes
+abbrev pub Fits : Point → ℕ → ℕ → Type 0
+Fits point.End left n = Unit {0}
+Fits point.Behind left n = n < 2 ^ 64
+Fits p left n = n + 2 ^ 64 * (left + binders_at p) ≤ most_lifetimes
+
+abbrev pub FitsFrame : Option Frame → Type 0
+FitsFrame None = Unit {0}
+FitsFrame (Some f) = Fits f.point f.depth_left f.number
+
+abbrev pub FitsWay : Way → State → Type 0
+FitsWay (goes p) s = Fits p s.depth_left s.lifetimes
+FitsWay (fails m) s = Unit {0}
+
+-- each frame has room for all that can ever stand above it in a row of n, and its lifetimes fit
+unfoldable pub HasRoom : ℕ → List Frame → Type 0
+HasRoom n [] = Unit {0}
+HasRoom n (f ∷ above) = (height_at f.point f.depth_left ≤ n) × Fits f.point f.depth_left f.number × HasRoom (n - 1) above
+
+-- Steps, from what is heard of a point, whose weight and height are these.
+
+-- the point was left for another, and a frame may have been put on the row; the state's mark is still to be handed over
+pub record Went {V : Type 0} (voice : Ghosts V) (b : List ℕ) (plain : Bool) (h : Heard) (weight high : ℕ) (row : List Frame) (v : V) (way : Way) (new : State) (now : List Frame) (w : V) (made : ℕ) : Type 0 where
+  pub bits : List Bit
+  pub back : List ℕ
+  pub pushed : Option Frame
+  pub told : Told voice v bits w
+  pub reads : h ≡ heard_bits voice.loud bits (handing voice.loud (marked new.mark) (allowing back (followed b plain voice.loud pushed (way_heard b plain voice.loud way new))))
+  pub is_row : now ≡ pushed_on row pushed
+  pub enough : made ≤ bits_looks bits + total back
+  pub late : made ≤ bits_looks bits + 2
+  pub lighter : way_weight way + weight_of pushed + 1 ≤ weight + 100 * (bits_looks bits + total back)
+  pub outer_height : height_of pushed ≤ high
+  pub inner_height : way_height way new + count_of pushed ≤ high
+  pub outer_fits : FitsFrame pushed
+  pub inner_fits : FitsWay way new
+  pub quiet : voice.loud ≡ false → IsInner pushed
+
+-- The voice refused, or, where it does not speak, the reading failed. At most two looks were made too early, and none
+-- where it does not speak.
+pub record Stopped {V : Type 0} (voice : Ghosts V) (h : Heard) (v w : V) (made : ℕ) : Type 0 where
+  pub front : List Bit
+  pub texts : List Text
+  pub rest : Heard
+  pub mid : V
+  pub told : Told voice v front mid
+  pub refusal : SinkRefused
+  pub prints : voice.prints mid texts (Err refusal) w
+  pub reads : h ≡ heard_bits voice.loud front (handing voice.loud texts rest)
+  pub enough : made ≤ bits_looks front + 2
+  pub exact : voice.loud ≡ false → made ≤ bits_looks front
+  pub fails : voice.loud ≡ false → rest.place ≡ None
+
+-- frames may have been put on the row
+abbrev pub Kept : List Frame → List Frame → Type 0
+Kept row now = (more : List Frame) × (now ≡ row ++ more)
+
+abbrev pub Comes : {V : Type 0} → Ghosts V → List ℕ → Bool → Heard → ℕ → ℕ → List Frame → V → Result Point Stop → State → List Frame → V → ℕ → Type 0
+Comes voice b plain h weight high row v (Ok p) new now w made = Went voice b plain h weight high row v (goes p) new now w made
+Comes voice b plain h weight high row v (Err (Fault m)) new now w made = Went voice b plain h weight high row v (fails m) new now w made
+Comes voice b plain h weight high row v (Err Refused) new now w made = Stopped voice h v w made × Kept row now
+Comes voice b plain h weight high row v (Err Uncovered) new now w made = Unit {0}
+
+-- a record, so that a lemma finds its arguments
+pub record DidOn {V : Type 0} (voice : Ghosts V) (b : List ℕ) (plain : Bool) (h : Heard) (weight high : ℕ) (row : List Frame) (v : V) (result : Result Point Stop) (new : State) (now : List Frame) (w : V) (made : ℕ) : Type 0 where
+  pub comes : Comes voice b plain h weight high row v result new now w made
+
+-- what a point does
+abbrev pub Did : {V : Type 0} → Ghosts V → List ℕ → Bool → Point → State → List Frame → V → Result Point Stop → State → List Frame → V → ℕ → Type 0
+Did voice b plain p old row v result new now w made = DidOn voice b plain (share_of b plain voice.loud p old) (weight_at p) (height_at p old.depth_left) row v result new now w made
+
+-- where a frame goes on
+abbrev pub resumed_of : State → Frame → State
+resumed_of s f = record { in_value = f.in_value; letter = f.letter; depth_left = f.depth_left; lifetimes = f.number; place = s.place; is_open = s.is_open; mark = s.mark }

@@ -1,0 +1,100 @@
+//! The points of the arguments of a path.
+ghost use Rattle.std.specs.Prelude.{◌≡◌, ℕ, ◌-◌, ◌+◌, ◌<◌, ◌≤◌, List, Bool, false, Ok, Some, None, length};
+ghost use Rattle.demangle_v0.specs.Arguments.{arguments_point, argument_point, argument_place, argument_costs};
+ghost use Rattle.demangle_v0.specs.Begins.{total};
+ghost use Rattle.demangle_v0.specs.declared.points.frames.Frame.{Frame};
+ghost use Rattle.demangle_v0.specs.Points.{Did, Fits};
+
+use crate::grammar::Mark;
+use crate::points::frames::FrameStack;
+use crate::points::functions::separator;
+use crate::points::voice::Voice;
+use crate::points::{Point, State};
+use demangle_symbol::cursor::{Looks, Symbol};
+
+/// The arguments of a path, behind it.
+#[inline(always)]
+pub(super) fn generic<V: Voice>(state: &mut State) -> Point
+    requires fits { Fits Point.Generic state.old.depth_left state.old.lifetimes }
+    ensures did { (b : List ℕ) (plain : Bool) (v : V) (row : List Frame) → Did V.Voice b plain Point.Generic state.old row v (Ok result) state.new row v 0 }
+{
+    if state.in_value {
+        state.mark = Some(Mark::Colons);
+        return Point::OpenArguments;
+    }
+    state.mark = Some(Mark::Less);
+    Point::FirstArgument
+}
+
+/// The arguments of a path in value position, behind `::`.
+#[inline(always)]
+pub(super) fn open_arguments<V: Voice>(state: &mut State) -> Point
+    requires fits { Fits Point.OpenArguments state.old.depth_left state.old.lifetimes }
+    ensures did { (b : List ℕ) (plain : Bool) (v : V) (row : List Frame) → Did V.Voice b plain Point.OpenArguments state.old row v (Ok result) state.new row v 0 }
+{
+    state.mark = Some(Mark::Less);
+    Point::FirstArgument
+}
+
+/// An argument of a path, the first or a further one, or their end.
+#[inline(always)]
+pub(super) fn arguments<V: Voice, const N: usize>(
+    symbol: &Symbol<'_>,
+    is_first: bool,
+    state: &mut State,
+    row: &mut FrameStack<N>,
+    looks: &mut Looks,
+) -> Point
+    requires room { length row.old < N }
+    requires fits { Fits Point.NextArgument state.old.depth_left state.old.lifetimes }
+    ensures did { (plain : Bool) (v : V) → Did V.Voice symbol.now plain (arguments_point is_first) state.old row.old v (Ok result) state.new row.new v (looks.new - looks.old) }
+    ensures grows { looks.old ≤ looks.new }
+{
+    let Some(at) = state.place else {
+        return close_arguments(state);
+    };
+    if symbol.is_at(b'E', at, looks) {
+        state.place = Some(at + 1);
+        return close_arguments(state);
+    }
+    row.push(state.frame(Point::NextArgument));
+    state.mark = separator(is_first, Mark::Comma);
+    argument(symbol, at, state, looks)
+}
+
+#[inline(always)]
+fn close_arguments(state: &mut State) -> Point
+    ensures point { result ≡ Point.End }
+    ensures state { state.new ≡ record state.old { mark = Some Mark.Greater; is_open = false } }
+{
+    state.mark = Some(Mark::Greater);
+    state.is_open = false;
+    Point::End
+}
+
+/// An argument of a path: a lifetime, a constant or a type.
+#[inline(always)]
+pub(super) fn argument(
+    symbol: &Symbol<'_>,
+    at: usize,
+    state: &mut State,
+    looks: &mut Looks,
+) -> Point
+    requires place { state.old.place ≡ Some at }
+    ensures point { result ≡ argument_point symbol.now at }
+    ensures state { state.new ≡ record state.old { in_value = false; place = Some (argument_place symbol.now at) } }
+    ensures grows { looks.old ≤ looks.new }
+    ensures looks { looks.new ≤ looks.old + total (argument_costs symbol.now at) }
+    ensures few { looks.new ≤ looks.old + 2 }
+{
+    state.in_value = false;
+    if symbol.is_at(b'L', at, looks) {
+        state.place = Some(at + 1);
+        return Point::Lifetime;
+    }
+    if symbol.is_at(b'K', at, looks) {
+        state.place = Some(at + 1);
+        return Point::Constant;
+    }
+    Point::Type
+}

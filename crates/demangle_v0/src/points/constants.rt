@@ -1,0 +1,456 @@
+//! The points of constants.
+ghost use Rattle.std.specs.Prelude.{true, ◌≡◌, ◌==◌, ◌*◌, ℕ, ◌+◌, ◌-◌, ◌<◌, ◌≤◌, ◌++◌, [], ◌∷◌, Some, None, Ok, Err, IsOk, length, IsAscii, List, Bool, if◌then◌else◌};
+ghost use Rattle.demangle_v0.specs.ConstantLists.{first_point, second_point, next_point, element_point, close_of};
+ghost use Rattle.demangle_v0.specs.Points.{Did, DidOn, share_of, pushed_on, Fits};
+ghost use Rattle.demangle_v0.specs.Table.{constant};
+ghost use Rattle.demangle_v0.specs.PointContracts.{DidFree, brace_behind, heard_of};
+ghost use Rattle.demangle_v0.specs.Tags.{constant_of};
+
+use crate::grammar::{Mark, Word};
+use crate::points::frames::{Frame, FrameStack};
+use crate::points::references::follow;
+use crate::points::tags::{ConstantKind, constant_kind};
+use crate::points::voice::Voice;
+use crate::points::{Point, State, Stop, last_word};
+use demangle_symbol::cursor::{Looks, Symbol};
+
+/// A string, behind its `e`.
+#[inline(always)]
+pub(super) fn text_constant<V: Voice>(state: &mut State) -> Point
+    requires fits { Fits Point.TextConstant state.old.depth_left state.old.lifetimes }
+    ensures did { DidFree V.Voice Point.TextConstant state.old result state.new }
+{
+    state.mark = Some(Mark::Star);
+    Point::Literal
+}
+
+/// What a reference refers to, behind its tag.
+#[inline(always)]
+pub(super) fn reference_constant<V: Voice>(state: &mut State) -> Point
+    requires fits { Fits Point.ReferenceConstant state.old.depth_left state.old.lifetimes }
+    ensures did { DidFree V.Voice Point.ReferenceConstant state.old result state.new }
+{
+    state.mark = Some(Mark::Ampersand);
+    state.in_value = true;
+    Point::Constant
+}
+
+/// What a mutable reference refers to, behind its tag.
+#[inline(always)]
+pub(super) fn mut_reference_constant<V: Voice>(state: &mut State) -> Point
+    requires fits { Fits Point.MutReferenceConstant state.old.depth_left state.old.lifetimes }
+    ensures did { DidFree V.Voice Point.MutReferenceConstant state.old result state.new }
+{
+    state.mark = Some(Mark::Ampersand);
+    Point::MutableConstant
+}
+
+/// The same behind the `&`.
+#[inline(always)]
+pub(super) fn mutable_constant<V: Voice>(state: &mut State) -> Point
+    requires fits { Fits Point.MutableConstant state.old.depth_left state.old.lifetimes }
+    ensures did { DidFree V.Voice Point.MutableConstant state.old result state.new }
+{
+    state.mark = Some(Mark::Mutable);
+    state.in_value = true;
+    Point::Constant
+}
+
+/// An array, behind its tag.
+#[inline(always)]
+pub(super) fn array_constant<V: Voice>(state: &mut State) -> Point
+    requires fits { Fits Point.ArrayConstant state.old.depth_left state.old.lifetimes }
+    ensures did { DidFree V.Voice Point.ArrayConstant state.old result state.new }
+{
+    state.mark = Some(Mark::OpenBracket);
+    Point::FirstArrayConstant
+}
+
+/// A tuple, behind its tag.
+#[inline(always)]
+pub(super) fn tuple_constant<V: Voice>(state: &mut State) -> Point
+    requires fits { Fits Point.TupleConstant state.old.depth_left state.old.lifetimes }
+    ensures did { DidFree V.Voice Point.TupleConstant state.old result state.new }
+{
+    state.mark = Some(Mark::OpenParen);
+    Point::FirstTupleConstant
+}
+
+/// The brace behind a constant outside value position.
+#[inline(always)]
+pub(super) fn close_brace<V: Voice>(state: &mut State) -> Point
+    requires fits { Fits Point.CloseBrace state.old.depth_left state.old.lifetimes }
+    ensures did { DidFree V.Voice Point.CloseBrace state.old result state.new }
+{
+    state.mark = Some(Mark::CloseBrace);
+    state.is_open = false;
+    Point::End
+}
+
+/// The string of a constant.
+#[inline(always)]
+pub(super) fn literal<V: Voice>(
+    symbol: &Symbol<'_>,
+    plain: bool,
+    state: &mut State,
+    voice: &mut V,
+    looks: &mut Looks,
+) -> Result<Point, Stop>
+    requires ascii { V.loud ≡ true → IsAscii symbol.now }
+    requires ready { V.ready voice.old }
+    requires unmarked { state.old.mark ≡ None }
+    ensures did { (row : List Frame) → Did V.Voice symbol.now plain Point.Literal state.old row voice.old result state.new row voice.new (looks.new - looks.old) }
+    ensures ready { IsOk result → V.ready voice.new }
+    ensures sound { (m : Mark) → result ≡ Err (Stop.Fault m) → V.ready voice.new }
+    ensures grows { looks.old ≤ looks.new }
+{
+    last_word(symbol, Word::Literal, plain, state, voice, looks)
+}
+
+/// The number of a constant, whose tag is the state's letter.
+#[inline(always)]
+pub(super) fn number<V: Voice>(
+    symbol: &Symbol<'_>,
+    plain: bool,
+    state: &mut State,
+    voice: &mut V,
+    looks: &mut Looks,
+) -> Result<Point, Stop>
+    requires ascii { V.loud ≡ true → IsAscii symbol.now }
+    requires ready { V.ready voice.old }
+    requires unmarked { state.old.mark ≡ None }
+    ensures did { (row : List Frame) → Did V.Voice symbol.now plain Point.Number state.old row voice.old result state.new row voice.new (looks.new - looks.old) }
+    ensures ready { IsOk result → V.ready voice.new }
+    ensures sound { (m : Mark) → result ≡ Err (Stop.Fault m) → V.ready voice.new }
+    ensures grows { looks.old ≤ looks.new }
+{
+    last_word(symbol, Word::Number, plain, state, voice, looks)
+}
+
+/// What constants stand in, one behind the other.
+#[derive(Clone, Copy)]
+pub enum ConstantList {
+    Array,
+    Tuple,
+    TupleVariant,
+    Fields,
+}
+
+impl ConstantList {
+    /// What stands behind the last.
+    #[inline(always)]
+    fn close(self) -> Mark
+        ensures { result ≡ close_of self }
+    {
+        match self {
+            ConstantList::Array => Mark::CloseBracket,
+            ConstantList::Tuple | ConstantList::TupleVariant => Mark::CloseParen,
+            ConstantList::Fields => Mark::CloseFields,
+        }
+    }
+
+    /// What is read of each.
+    #[inline(always)]
+    fn element(self) -> Point
+        ensures { result ≡ element_point self }
+    {
+        match self {
+            ConstantList::Fields => Point::Field,
+            _ => Point::Constant,
+        }
+    }
+
+    /// Where it goes on behind the first.
+    #[inline(always)]
+    fn behind_first(self) -> Point
+        ensures { result ≡ second_point self }
+    {
+        match self {
+            ConstantList::Array => Point::NextArrayConstant,
+            ConstantList::Tuple => Point::SecondTupleConstant,
+            ConstantList::TupleVariant => Point::NextVariantConstant,
+            ConstantList::Fields => Point::NextField,
+        }
+    }
+
+    /// Where it goes on behind another.
+    #[inline(always)]
+    fn behind_next(self) -> Point
+        ensures { result ≡ next_point self }
+    {
+        match self {
+            ConstantList::Array => Point::NextArrayConstant,
+            ConstantList::Tuple => Point::NextTupleConstant,
+            ConstantList::TupleVariant => Point::NextVariantConstant,
+            ConstantList::Fields => Point::NextField,
+        }
+    }
+}
+
+/// The first constant of a list, or its end.
+#[inline(always)]
+pub(super) fn first_constant<V: Voice, const N: usize>(
+    symbol: &Symbol<'_>,
+    list: ConstantList,
+    state: &mut State,
+    row: &mut FrameStack<N>,
+    looks: &mut Looks,
+) -> Point
+    requires room { length row.old < N }
+    requires unmarked { state.old.mark ≡ None }
+    requires fits { Fits Point.Constant state.old.depth_left state.old.lifetimes }
+    ensures did { (plain : Bool) (v : V) → DidOn V.Voice symbol.now plain (share_of symbol.now plain V.loud (first_point list) state.old) 1 (8 * state.old.depth_left + 2) row.old v (Ok result) state.new row.new v (looks.new - looks.old) }
+    ensures grows { looks.old ≤ looks.new }
+{
+    let Some(at) = state.place else {
+        state.mark = Some(list.close());
+        state.is_open = false;
+        return Point::End;
+    };
+    if symbol.is_at(b'E', at, looks) {
+        state.place = Some(at + 1);
+        state.mark = Some(list.close());
+        state.is_open = false;
+        return Point::End;
+    }
+    row.push(state.frame(list.behind_first()));
+    state.in_value = true;
+    list.element()
+}
+
+/// The next constant of a list, or its end.
+#[inline(always)]
+pub(super) fn next_constant<V: Voice, const N: usize>(
+    symbol: &Symbol<'_>,
+    list: ConstantList,
+    state: &mut State,
+    row: &mut FrameStack<N>,
+    looks: &mut Looks,
+) -> Point
+    requires room { length row.old < N }
+    requires unmarked { state.old.mark ≡ None }
+    requires fits { Fits Point.Constant state.old.depth_left state.old.lifetimes }
+    ensures did { (plain : Bool) (v : V) → DidOn V.Voice symbol.now plain (share_of symbol.now plain V.loud (next_point list) state.old) 1 (8 * state.old.depth_left + 2) row.old v (Ok result) state.new row.new v (looks.new - looks.old) }
+    ensures grows { looks.old ≤ looks.new }
+{
+    let Some(at) = state.place else {
+        state.mark = Some(list.close());
+        state.is_open = false;
+        return Point::End;
+    };
+    if symbol.is_at(b'E', at, looks) {
+        state.place = Some(at + 1);
+        state.mark = Some(list.close());
+        state.is_open = false;
+        return Point::End;
+    }
+    row.push(state.frame(list.behind_next()));
+    state.mark = Some(Mark::Comma);
+    state.in_value = true;
+    list.element()
+}
+
+/// The second constant of a tuple, or its end behind the one comma.
+#[inline(always)]
+pub(super) fn second_tuple_constant<V: Voice, const N: usize>(
+    symbol: &Symbol<'_>,
+    state: &mut State,
+    row: &mut FrameStack<N>,
+    looks: &mut Looks,
+) -> Point
+    requires room { length row.old < N }
+    requires unmarked { state.old.mark ≡ None }
+    requires fits { Fits Point.SecondTupleConstant state.old.depth_left state.old.lifetimes }
+    ensures did { (plain : Bool) (v : V) → Did V.Voice symbol.now plain Point.SecondTupleConstant state.old row.old v (Ok result) state.new row.new v (looks.new - looks.old) }
+    ensures grows { looks.old ≤ looks.new }
+{
+    let Some(at) = state.place else {
+        state.mark = Some(Mark::OneComma);
+        return Point::CloseParen;
+    };
+    if symbol.is_at(b'E', at, looks) {
+        state.place = Some(at + 1);
+        state.mark = Some(Mark::OneComma);
+        return Point::CloseParen;
+    }
+    row.push(state.frame(Point::NextTupleConstant));
+    state.mark = Some(Mark::Comma);
+    state.in_value = true;
+    Point::Constant
+}
+
+/// A constant that is more than a literal stands in braces, but in value position.
+#[inline(always)]
+fn braced<const N: usize>(constant: Point, state: &mut State, row: &mut FrameStack<N>) -> Point
+    requires room { length row.old < N }
+    requires unmarked { state.old.mark ≡ None }
+    requires fits { Fits Point.Constant state.old.depth_left state.old.lifetimes }
+    ensures point { result ≡ constant }
+    ensures state { state.new ≡ record state.old { mark = if state.old.in_value then None else Some Mark.OpenBrace } }
+    ensures row { row.new ≡ pushed_on row.old (brace_behind state.old) }
+{
+    if !state.in_value {
+        row.push(state.frame(Point::CloseBrace));
+        state.mark = Some(Mark::OpenBrace);
+    }
+    constant
+}
+
+/// A number that may be negative, behind its tag.
+#[inline(always)]
+fn signed_number<V: Voice>(
+    symbol: &Symbol<'_>,
+    tag: u8,
+    plain: bool,
+    state: &mut State,
+    voice: &mut V,
+    looks: &mut Looks,
+) -> Result<Point, Stop>
+    requires ascii { V.loud ≡ true → IsAscii symbol.now }
+    requires ready { V.ready voice.old }
+    requires unmarked { state.old.mark ≡ None }
+    requires fits { Fits Point.Constant state.old.depth_left state.old.lifetimes }
+    ensures did { (row : List Frame) → DidOn V.Voice symbol.now plain (heard_of symbol.now plain V.loud (constant_of state.old.in_value tag ConstantKind.Signed) state.old) 6 (8 * state.old.depth_left + 9) row voice.old result state.new row voice.new (looks.new - looks.old) }
+    ensures ready { IsOk result → V.ready voice.new }
+    ensures sound { (m : Mark) → result ≡ Err (Stop.Fault m) → V.ready voice.new }
+    ensures grows { looks.old ≤ looks.new }
+{
+    let Some(at) = state.place else {
+        return Err(Stop::Fault(Mark::Unread));
+    };
+    state.letter = tag;
+    if symbol.is_at(b'n', at, looks) {
+        state.place = Some(at + 1);
+        state.mark = Some(Mark::Minus);
+        return Ok(Point::Number);
+    }
+    number(symbol, plain, state, voice, looks)
+}
+
+/// A string or a reference, behind its `R`.
+#[inline(always)]
+fn shared_reference<V: Voice, const N: usize>(
+    symbol: &Symbol<'_>,
+    plain: bool,
+    state: &mut State,
+    row: &mut FrameStack<N>,
+    voice: &mut V,
+    looks: &mut Looks,
+) -> Result<Point, Stop>
+    requires ascii { V.loud ≡ true → IsAscii symbol.now }
+    requires ready { V.ready voice.old }
+    requires unmarked { state.old.mark ≡ None }
+    requires room { length row.old < N }
+    requires fits { Fits Point.Constant state.old.depth_left state.old.lifetimes }
+    ensures did { DidOn V.Voice symbol.now plain (heard_of symbol.now plain V.loud (constant state.old.in_value 82) state.old) 6 (8 * state.old.depth_left + 9) row.old voice.old result state.new row.new voice.new (looks.new - looks.old) }
+    ensures ready { IsOk result → V.ready voice.new }
+    ensures sound { (m : Mark) → result ≡ Err (Stop.Fault m) → V.ready voice.new }
+    ensures grows { looks.old ≤ looks.new }
+{
+    let Some(at) = state.place else {
+        return Ok(braced(Point::ReferenceConstant, state, row));
+    };
+    if symbol.is_at(b'e', at, looks) {
+        state.place = Some(at + 1);
+        return literal(symbol, plain, state, voice, looks);
+    }
+    Ok(braced(Point::ReferenceConstant, state, row))
+}
+
+/// The path of a variant, behind its `V`.
+#[inline(always)]
+fn variant_path<V: Voice, const N: usize>(state: &mut State, row: &mut FrameStack<N>) -> Point
+    requires room { length row.old < N }
+    requires unmarked { state.old.mark ≡ None }
+    requires fits { Fits Point.Constant state.old.depth_left state.old.lifetimes }
+    ensures did { (b : List ℕ) (plain : Bool) (v : V) (made : ℕ) → made ≤ 0 → DidOn V.Voice b plain (heard_of b plain V.loud (constant state.old.in_value 86) state.old) 6 (8 * state.old.depth_left + 9) row.old v (Ok result) state.new row.new v made }
+{
+    row.push(state.frame(Point::Variant));
+    if state.in_value {
+        return Point::Path;
+    }
+    state.mark = Some(Mark::OpenBrace);
+    state.in_value = true;
+    Point::Path
+}
+
+/// A constant, behind its tag.
+#[inline(always)]
+fn tagged_constant<V: Voice, const N: usize>(
+    symbol: &Symbol<'_>,
+    tag: u8,
+    plain: bool,
+    state: &mut State,
+    row: &mut FrameStack<N>,
+    voice: &mut V,
+    looks: &mut Looks,
+) -> Result<Point, Stop>
+    requires ascii { V.loud ≡ true → IsAscii symbol.now }
+    requires ready { V.ready voice.old }
+    requires unmarked { state.old.mark ≡ None }
+    requires room { length row.old < N }
+    requires fits { Fits Point.Constant state.old.depth_left state.old.lifetimes }
+    ensures did { DidOn V.Voice symbol.now plain (heard_of symbol.now plain V.loud (constant state.old.in_value tag) state.old) 6 (8 * state.old.depth_left + 9) row.old voice.old result state.new row.new voice.new (looks.new - looks.old) }
+    ensures ready { IsOk result → V.ready voice.new }
+    ensures sound { (m : Mark) → result ≡ Err (Stop.Fault m) → V.ready voice.new }
+    ensures grows { looks.old ≤ looks.new }
+{
+    let Some(kind) = constant_kind(tag) else {
+        return Err(Stop::Fault(Mark::Invalid));
+    };
+    match kind {
+        ConstantKind::Placeholder => {
+            state.mark = Some(Mark::Placeholder);
+            state.is_open = false;
+            Ok(Point::End)
+        }
+        ConstantKind::Unsigned => {
+            state.letter = tag;
+            number(symbol, plain, state, voice, looks)
+        }
+        ConstantKind::Signed => signed_number(symbol, tag, plain, state, voice, looks),
+        ConstantKind::Bool => last_word(symbol, Word::Truth, plain, state, voice, looks),
+        ConstantKind::Char => last_word(symbol, Word::Character, plain, state, voice, looks),
+        ConstantKind::Text => Ok(braced(Point::TextConstant, state, row)),
+        ConstantKind::Shared => shared_reference(symbol, plain, state, row, voice, looks),
+        ConstantKind::Mutable => Ok(braced(Point::MutReferenceConstant, state, row)),
+        ConstantKind::Array => Ok(braced(Point::ArrayConstant, state, row)),
+        ConstantKind::Tuple => Ok(braced(Point::TupleConstant, state, row)),
+        ConstantKind::Variant => Ok(variant_path::<V, N>(state, row)),
+        ConstantKind::Reference => follow(symbol, Point::Constant, state, row, voice, looks),
+    }
+}
+
+/// A constant.
+#[inline(always)]
+pub(super) fn constant<V: Voice, const N: usize>(
+    symbol: &Symbol<'_>,
+    plain: bool,
+    state: &mut State,
+    row: &mut FrameStack<N>,
+    voice: &mut V,
+    looks: &mut Looks,
+) -> Result<Point, Stop>
+    requires ascii { V.loud ≡ true → IsAscii symbol.now }
+    requires ready { V.ready voice.old }
+    requires unmarked { state.old.mark ≡ None }
+    requires room { length row.old < N }
+    requires fits { Fits Point.Constant state.old.depth_left state.old.lifetimes }
+    ensures did { Did V.Voice symbol.now plain Point.Constant state.old row.old voice.old result state.new row.new voice.new (looks.new - looks.old) }
+    ensures ready { IsOk result → V.ready voice.new }
+    ensures sound { (m : Mark) → result ≡ Err (Stop.Fault m) → V.ready voice.new }
+    ensures grows { looks.old ≤ looks.new }
+{
+    let Some(at) = state.place else {
+        return Err(Stop::Fault(Mark::Unread));
+    };
+    let Ok((tag, next)) = symbol.tag(at, looks) else {
+        return Err(Stop::Fault(Mark::Invalid));
+    };
+    if state.depth_left == 0 {
+        return Err(Stop::Fault(Mark::Recursion));
+    }
+    state.depth_left -= 1;
+    state.place = Some(next);
+    tagged_constant(symbol, tag, plain, state, row, voice, looks)
+}

@@ -1,0 +1,140 @@
+//! The frames that stand behind a child, and their row.
+ghost use Rattle.arrayvec.specs.ArrayVec.{array_vec_len};
+ghost use Rattle.std.specs.Prelude.{◌≡◌, ◌^◌, ◌+◌, ◌<◌, ◌≤◌, [], ◌∷◌, ◌++◌, length, IfSome, IfNone};
+ghost use Rattle.demangle_v0.specs.Packing.{unpacked};
+
+use crate::points::Point;
+use arrayvec::ArrayVec;
+use std::marker::Model;
+use std::mem;
+
+const TWO_64: u128 = 1 << 64;
+
+/// What stands behind a child.
+#[derive(Clone, Copy)]
+pub struct Frame {
+    /// Where its production goes on.
+    pub point: Point,
+    /// Whether the path or constant stands in value position.
+    pub in_value: bool,
+    /// The letter of a namespace, or the tag of a number.
+    pub letter: u8,
+    /// How often the depth may be raised.
+    pub depth_left: u16,
+    /// The lifetimes in force; of `Behind` the place behind a reference.
+    pub number: u128,
+}
+
+/// A frame as it lies in the row: 16 bytes.
+#[derive(Clone, Copy)]
+struct Packed {
+    low: u64,
+    high: u16,
+    depth_left: u16,
+    point: Point,
+    in_value: bool,
+    letter: u8,
+}
+
+const _: () = prove!(mem::size_of::<Packed>() == 16);
+
+impl Default for Packed {
+    fn default() -> Self {
+        Packed {
+            low: 0,
+            high: 0,
+            depth_left: 0,
+            point: Point::End,
+            in_value: false,
+            letter: 0,
+        }
+    }
+}
+
+#[inline(always)]
+fn pack(frame: Frame) -> Packed
+    ensures { frame.number < 2 ^ 80 → unpacked result ≡ frame }
+{
+    Packed {
+        low: (frame.number % TWO_64) as u64,
+        high: (frame.number / TWO_64 % 0x10000) as u16,
+        depth_left: frame.depth_left,
+        point: frame.point,
+        in_value: frame.in_value,
+        letter: frame.letter,
+    }
+}
+
+#[inline(always)]
+fn unpack(packed: Packed) -> Frame
+    ensures { result ≡ unpacked packed }
+{
+    Frame {
+        point: packed.point,
+        in_value: packed.in_value,
+        letter: packed.letter,
+        depth_left: packed.depth_left,
+        number: u128::from(packed.high) * TWO_64 + u128::from(packed.low),
+    }
+}
+
+/// The frames that stand, at most `N`, the topmost last.
+#[derive(Drop)]
+pub struct FrameStack<const N: usize> {
+    frames: ArrayVec<Packed, N>,
+}
+
+impl<const N: usize> Model for FrameStack<N> {
+    ghost use Rattle.std.specs.Prelude.{List, map};
+    ghost use Rattle.demangle_v0.specs.declared.points.frames.Frame.{Frame};
+    ghost use Rattle.demangle_v0.specs.Packing.{unpacked};
+
+    ghost Value = { List Frame };
+
+    ghost view = { λ row. map unpacked row.frames.items };
+}
+
+impl<const N: usize> FrameStack<N> {
+    #[inline(always)]
+    pub fn new() -> Self
+        ensures { result ≡ [] }
+    {
+        FrameStack {
+            frames: ArrayVec::new(),
+        }
+    }
+
+    #[inline(always)]
+    pub fn len(&self) -> usize
+        ensures { result ≡ length self.now }
+    {
+        self.frames.len()
+    }
+
+    #[inline(always)]
+    pub fn push(&mut self, frame: Frame)
+        requires room { length self.old < N }
+        ensures pushed { frame.number < 2 ^ 80 → self.new ≡ self.old ++ frame ∷ [] }
+        ensures length { length self.new ≡ length self.old + 1 }
+    {
+        self.frames.push(pack(frame));
+    }
+
+    /// Puts all frames of another row on top.
+    pub fn append<const M: usize>(&mut self, other: &FrameStack<M>)
+        requires room { length self.old + length other.now ≤ N }
+        ensures { self.new ≡ self.old ++ other.now }
+    {
+        let _ = self.frames.try_extend_from_slice(other.frames.as_slice());
+    }
+
+    #[inline(always)]
+    pub fn pop(&mut self) -> Option<Frame>
+        ensures some { IfSome result (λ frame. self.old ≡ self.new ++ frame ∷ []) }
+        ensures none { IfNone result (self.old ≡ []) }
+        ensures same { IfNone result (self.new ≡ self.old) }
+    {
+        let frame = self.frames.pop()?;
+        Some(unpack(frame))
+    }
+}

@@ -1,0 +1,185 @@
+//! The points of function types, and binders.
+ghost use Rattle.std.specs.Prelude.{◌≡◌, ℕ, ◌+◌, ◌-◌, ◌*◌, ◌^◌, ◌<◌, ◌≤◌, List, Bool, Some, None, Ok, Err, IsOk, IsErr, OnOk, IsAscii, length, true, false, if◌then◌else◌, [], ◌∷◌};
+ghost use Rattle.demangle_v0.specs.Binders.{binder_texts};
+ghost use Rattle.demangle_v0.specs.Events.{of};
+ghost use Rattle.demangle_v0.specs.Groups.{texts_of};
+ghost use Rattle.demangle_v0.specs.Points.{Did, Fits, most_lifetimes};
+
+use crate::grammar::{Mark, Word};
+use crate::points::frames::{Frame, FrameStack};
+use crate::points::tuples::is_over;
+use crate::points::voice::Voice;
+use crate::points::{Point, State, Stop, word_at};
+use crate::stretch::{Abi, Stretch};
+use crate::words::WordRead;
+use demangle_sink::SinkRefused;
+use demangle_symbol::cursor::{Looks, Symbol};
+
+/// The lifetimes of a binder come into force, and are handed over.
+#[inline(always)]
+pub(super) fn name_lifetimes<V: Voice>(
+    symbol: &Symbol<'_>,
+    number: u64,
+    plain: bool,
+    state: &mut State,
+    voice: &mut V,
+    looks: &mut Looks,
+) -> Result<(), SinkRefused>
+    requires ascii { V.loud ≡ true → IsAscii symbol.now }
+    requires ready { V.ready voice.old }
+    requires most { state.old.lifetimes ≤ most_lifetimes }
+    ensures prints { V.prints voice.old (binder_texts number state.old.lifetimes) result voice.new }
+    ensures ready { OnOk result (V.ready voice.new) }
+    ensures quiet { V.loud ≡ false → IsOk result }
+    ensures state { state.new ≡ record state.old { lifetimes = state.old.lifetimes + number } }
+    ensures number { number < 2 ^ 64 }
+    ensures looks { looks.new ≡ looks.old }
+{
+    let stretch = Stretch::Binder(state.lifetimes, number);
+    state.lifetimes += u128::from(number);
+    voice.say(symbol, &stretch, plain, looks)
+}
+
+/// A function type, behind its tag.
+#[inline(always)]
+pub(super) fn function_binder<V: Voice>(
+    symbol: &Symbol<'_>,
+    plain: bool,
+    state: &mut State,
+    voice: &mut V,
+    looks: &mut Looks,
+) -> Result<Point, Stop>
+    requires ascii { V.loud ≡ true → IsAscii symbol.now }
+    requires ready { V.ready voice.old }
+    requires unmarked { state.old.mark ≡ None }
+    requires fits { Fits Point.FunctionBinder state.old.depth_left state.old.lifetimes }
+    ensures did { (row : List Frame) → Did V.Voice symbol.now plain Point.FunctionBinder state.old row voice.old result state.new row voice.new (looks.new - looks.old) }
+    ensures ready { IsOk result → V.ready voice.new }
+    ensures sound { (m : Mark) → result ≡ Err (Stop.Fault m) → V.ready voice.new }
+    ensures grows { looks.old ≤ looks.new }
+{
+    let Some(at) = state.place else {
+        return Err(Stop::Fault(Mark::Unread));
+    };
+    let Ok((number, next)) = symbol.opt_integer_62(b'G', at, looks) else {
+        return Err(Stop::Fault(Mark::Invalid));
+    };
+    state.place = Some(next);
+    if number == 0 {
+        return function_head(symbol, plain, state, voice, looks);
+    }
+    let Ok(()) = name_lifetimes(symbol, number, plain, state, voice, looks) else {
+        return Err(Stop::Refused);
+    };
+    Ok(Point::FunctionHead)
+}
+
+/// Whether nothing is handed over of a function's head.
+#[inline(always)]
+fn is_bare(head: &Stretch) -> bool
+    ensures { result ≡ true → (b : List ℕ) (plain : Bool) → texts_of b plain head.now ≡ [] }
+{
+    matches!(head, Stretch::FunctionHead(false, Abi::Rust))
+}
+
+/// Whether a function is unsafe, and its ABI.
+#[inline(always)]
+pub(super) fn function_head<V: Voice>(
+    symbol: &Symbol<'_>,
+    plain: bool,
+    state: &mut State,
+    voice: &mut V,
+    looks: &mut Looks,
+) -> Result<Point, Stop>
+    requires ascii { V.loud ≡ true → IsAscii symbol.now }
+    requires ready { V.ready voice.old }
+    requires unmarked { state.old.mark ≡ None }
+    requires fits { Fits Point.FunctionHead state.old.depth_left state.old.lifetimes }
+    ensures did { (row : List Frame) → Did V.Voice symbol.now plain Point.FunctionHead state.old row voice.old result state.new row voice.new (looks.new - looks.old) }
+    ensures ready { IsOk result → V.ready voice.new }
+    ensures sound { (m : Mark) → result ≡ Err (Stop.Fault m) → V.ready voice.new }
+    ensures grows { looks.old ≤ looks.new }
+{
+    match word_at(symbol, Word::FunctionHead, state, voice, looks) {
+        WordRead::Goes(head, next) => {
+            state.place = next;
+            if is_bare(&head) {
+                return Ok(open_parameters::<V>(state));
+            }
+            let Ok(()) = voice.say(symbol, &head, plain, looks) else {
+                return Err(Stop::Refused);
+            };
+            Ok(Point::OpenParameters)
+        }
+        WordRead::Stops(stretch) => {
+            state.place = None;
+            state.is_open = false;
+            let Ok(()) = voice.stop(symbol, &stretch, plain, looks) else {
+                return Err(Stop::Refused);
+            };
+            Ok(Point::End)
+        }
+    }
+}
+
+/// The parameters of a function.
+#[inline(always)]
+pub(super) fn open_parameters<V: Voice>(state: &mut State) -> Point
+    requires fits { Fits Point.OpenParameters state.old.depth_left state.old.lifetimes }
+    ensures did { (b : List ℕ) (plain : Bool) (v : V) (row : List Frame) → Did V.Voice b plain Point.OpenParameters state.old row v (Ok result) state.new row v 0 }
+{
+    state.mark = Some(Mark::Function);
+    Point::FirstParameter
+}
+
+/// What stands in front of an element, unless it is the first.
+#[inline(always)]
+pub(super) fn separator(is_first: bool, mark: Mark) -> Option<Mark>
+    ensures { result ≡ (if is_first then None else Some mark) }
+{
+    if is_first { None } else { Some(mark) }
+}
+
+/// A parameter, the first or a further one, or their end.
+#[inline(always)]
+pub(super) fn parameter<V: Voice, const N: usize>(
+    symbol: &Symbol<'_>,
+    is_first: bool,
+    state: &mut State,
+    row: &mut FrameStack<N>,
+    looks: &mut Looks,
+) -> Point
+    requires room { length row.old < N }
+    requires fits { Fits Point.NextParameter state.old.depth_left state.old.lifetimes }
+    ensures did { (plain : Bool) (v : V) → Did V.Voice symbol.now plain (if is_first then Point.FirstParameter else Point.NextParameter) state.old row.old v (Ok result) state.new row.new v (looks.new - looks.old) }
+    ensures grows { looks.old ≤ looks.new }
+{
+    if is_over(symbol, &mut state.place, looks) {
+        state.mark = Some(Mark::CloseParen);
+        return Point::Returns;
+    }
+    row.push(state.frame(Point::NextParameter));
+    state.mark = separator(is_first, Mark::Comma);
+    Point::Type
+}
+
+/// The type that a function returns, unless it is `()`.
+#[inline(always)]
+pub(super) fn returns<V: Voice>(symbol: &Symbol<'_>, state: &mut State, looks: &mut Looks) -> Point
+    requires unmarked { state.old.mark ≡ None }
+    requires fits { Fits Point.Returns state.old.depth_left state.old.lifetimes }
+    ensures did { (plain : Bool) (v : V) (row : List Frame) → Did V.Voice symbol.now plain Point.Returns state.old row v (Ok result) state.new row v (looks.new - looks.old) }
+    ensures grows { looks.old ≤ looks.new }
+{
+    let Some(at) = state.place else {
+        state.mark = Some(Mark::Arrow);
+        return Point::Type;
+    };
+    if symbol.is_at(b'u', at, looks) {
+        state.place = Some(at + 1);
+        state.is_open = false;
+        return Point::End;
+    }
+    state.mark = Some(Mark::Arrow);
+    Point::Type
+}

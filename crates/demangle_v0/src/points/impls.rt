@@ -1,0 +1,112 @@
+//! Paths of impls, and of what implements a trait.
+ghost use Rattle.std.specs.Prelude.{◌≡◌, ℕ, ◌+◌, ◌-◌, ◌*◌, ◌<◌, ◌≤◌, None, Ok, Err, length, Bool, List};
+ghost use Rattle.demangle_v0.specs.Events.{of};
+ghost use Rattle.demangle_v0.specs.Impls.{impl_items, skip_point, self_point};
+ghost use Rattle.demangle_v0.specs.Points.{Did, DidOn, Fits, around, closing};
+ghost use Rattle.demangle_v0.specs.Reading.{run};
+
+use crate::grammar::Mark;
+use crate::points::frames::{Frame, FrameStack};
+use crate::points::voice::Voice;
+use crate::points::{Point, State, Stop};
+use demangle_symbol::cursor::{Looks, Symbol};
+
+/// An impl's path, behind its `M`, or its `X` where the impl is of a trait.
+#[inline(always)]
+pub(super) fn impl_path<V: Voice>(
+    symbol: &Symbol<'_>,
+    of_trait: bool,
+    state: &mut State,
+    looks: &mut Looks,
+) -> Result<Point, Stop>
+    requires unmarked { state.old.mark ≡ None }
+    requires fits { Fits Point.Path state.old.depth_left state.old.lifetimes }
+    ensures did { (plain : Bool) (v : V) (row : List Frame) → DidOn V.Voice symbol.now plain (closing (of plain V.loud (run (impl_items of_trait) (around symbol.now V.loud state.old.depth_left state.old.lifetimes) state.old.place))) 1 (8 * state.old.depth_left + 2) row v result state.new row v (looks.new - looks.old) }
+    ensures grows { looks.old ≤ looks.new }
+{
+    let Some(at) = state.place else {
+        return Err(Stop::Fault(Mark::Unread));
+    };
+    let Ok((_, next)) = symbol.opt_integer_62(b's', at, looks) else {
+        return Err(Stop::Fault(Mark::Invalid));
+    };
+    state.place = Some(next);
+    if of_trait {
+        return Ok(Point::ImplPath);
+    }
+    Ok(Point::InherentPath)
+}
+
+/// The impl's own path, which is not printed. A voice that speaks leaves it to the loop.
+#[inline(always)]
+pub(super) fn skipped_path<V: Voice, const N: usize>(
+    of_trait: bool,
+    state: &mut State,
+    row: &mut FrameStack<N>,
+    voice: &V,
+) -> Result<Point, Stop>
+    requires unmarked { state.old.mark ≡ None }
+    requires room { length row.old < N }
+    requires fits { Fits Point.Path state.old.depth_left state.old.lifetimes }
+    ensures did { (b : List ℕ) (plain : Bool) (v : V) → Did V.Voice b plain (skip_point of_trait) state.old row.old v result state.new row.new v 0 }
+{
+    if voice.speaks() {
+        return Err(Stop::Uncovered);
+    }
+    let frame = state.frame(Point::InherentType);
+    state.in_value = false;
+    if of_trait {
+        row.push(Frame {
+            point: Point::SelfType,
+            ..frame
+        });
+        return Ok(Point::Path);
+    }
+    row.push(frame);
+    Ok(Point::Path)
+}
+
+/// The type that an impl is for, and that implements a trait or not.
+#[inline(always)]
+pub(super) fn self_type<V: Voice, const N: usize>(
+    of_trait: bool,
+    state: &mut State,
+    row: &mut FrameStack<N>,
+) -> Point
+    requires room { length row.old < N }
+    requires fits { Fits Point.Path state.old.depth_left state.old.lifetimes }
+    ensures did { (b : List ℕ) (plain : Bool) (v : V) → Did V.Voice b plain (self_point of_trait) state.old row.old v (Ok result) state.new row.new v 0 }
+{
+    state.mark = Some(Mark::Less);
+    if of_trait {
+        row.push(state.frame(Point::As));
+        return Point::Type;
+    }
+    row.push(state.frame(Point::CloseAngle));
+    Point::Type
+}
+
+/// The trait that it implements.
+#[inline(always)]
+pub(super) fn as_trait<V: Voice, const N: usize>(
+    state: &mut State,
+    row: &mut FrameStack<N>,
+) -> Point
+    requires room { length row.old < N }
+    requires fits { Fits Point.Path state.old.depth_left state.old.lifetimes }
+    ensures did { (b : List ℕ) (plain : Bool) (v : V) → Did V.Voice b plain Point.As state.old row.old v (Ok result) state.new row.new v 0 }
+{
+    row.push(state.frame(Point::CloseAngle));
+    state.mark = Some(Mark::As);
+    state.in_value = false;
+    Point::Path
+}
+
+#[inline(always)]
+pub(super) fn close_angle<V: Voice>(state: &mut State) -> Point
+    ensures did { (b : List ℕ) (plain : Bool) (v : V) (row : List Frame) → Did V.Voice b plain Point.CloseAngle state.old row v (Ok result) state.new row v 0 }
+{
+    state.mark = Some(Mark::Greater);
+    state.is_open = false;
+    Point::End
+}

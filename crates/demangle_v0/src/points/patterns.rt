@@ -1,0 +1,95 @@
+//! The points of patterns.
+ghost use Rattle.std.specs.Prelude.{◌≡◌, ◌==◌, ◌*◌, ℕ, ◌+◌, ◌-◌, ◌<◌, ◌≤◌, ◌++◌, [], ◌∷◌, Some, None, Ok, Err, IsOk, length, IsAscii, List, Bool};
+ghost use Rattle.demangle_v0.specs.PointContracts.{DidFree};
+ghost use Rattle.demangle_v0.specs.Points.{Did, Fits};
+
+use crate::grammar::Mark;
+use crate::points::frames::{Frame, FrameStack};
+use crate::points::tags::{PatternKind, pattern_kind};
+use crate::points::voice::Voice;
+use crate::points::{Point, State, Stop};
+use demangle_symbol::cursor::{Looks, Symbol};
+
+/// A pattern.
+#[inline(always)]
+pub(super) fn pattern<V: Voice, const N: usize>(
+    symbol: &Symbol<'_>,
+    state: &mut State,
+    row: &mut FrameStack<N>,
+    looks: &mut Looks,
+) -> Result<Point, Stop>
+    requires room { length row.old < N }
+    requires unmarked { state.old.mark ≡ None }
+    requires fits { Fits Point.Pattern state.old.depth_left state.old.lifetimes }
+    ensures did { (plain : Bool) (v : V) → Did V.Voice symbol.now plain Point.Pattern state.old row.old v result state.new row.new v (looks.new - looks.old) }
+    ensures grows { looks.old ≤ looks.new }
+{
+    let Some(at) = state.place else {
+        return Err(Stop::Fault(Mark::Unread));
+    };
+    let Ok((tag, next)) = symbol.tag(at, looks) else {
+        return Err(Stop::Fault(Mark::Invalid));
+    };
+    let Some(kind) = pattern_kind(tag) else {
+        return Err(Stop::Fault(Mark::Invalid));
+    };
+    state.place = Some(next);
+    match kind {
+        PatternKind::Range => {
+            row.push(state.frame(Point::RangeEnd));
+            state.in_value = false;
+            Ok(Point::Constant)
+        }
+        PatternKind::Or => {
+            if state.depth_left == 0 {
+                return Err(Stop::Fault(Mark::Recursion));
+            }
+            state.depth_left -= 1;
+            row.push(state.frame(Point::NextPattern));
+            Ok(Point::Pattern)
+        }
+        PatternKind::NotNull => {
+            state.mark = Some(Mark::NotNull);
+            state.is_open = false;
+            Ok(Point::End)
+        }
+    }
+}
+
+/// What stands behind the first constant of a range.
+#[inline(always)]
+pub(super) fn range_end<V: Voice>(state: &mut State) -> Point
+    requires fits { Fits Point.RangeEnd state.old.depth_left state.old.lifetimes }
+    ensures did { DidFree V.Voice Point.RangeEnd state.old result state.new }
+{
+    state.mark = Some(Mark::Range);
+    state.in_value = false;
+    Point::Constant
+}
+
+/// Another pattern behind `|`, or the end. Where the reading has failed the end is a new fault.
+#[inline(always)]
+pub(super) fn next_pattern<V: Voice, const N: usize>(
+    symbol: &Symbol<'_>,
+    state: &mut State,
+    row: &mut FrameStack<N>,
+    looks: &mut Looks,
+) -> Result<Point, Stop>
+    requires room { length row.old < N }
+    requires unmarked { state.old.mark ≡ None }
+    requires fits { Fits Point.NextPattern state.old.depth_left state.old.lifetimes }
+    ensures did { (plain : Bool) (v : V) → Did V.Voice symbol.now plain Point.NextPattern state.old row.old v result state.new row.new v (looks.new - looks.old) }
+    ensures grows { looks.old ≤ looks.new }
+{
+    let Some(at) = state.place else {
+        return Err(Stop::Fault(Mark::Invalid));
+    };
+    if symbol.is_at(b'E', at, looks) {
+        state.place = Some(at + 1);
+        state.is_open = false;
+        return Ok(Point::End);
+    }
+    row.push(state.frame(Point::NextPattern));
+    state.mark = Some(Mark::Or);
+    Ok(Point::Pattern)
+}

@@ -1,0 +1,127 @@
+//! The points of variants, and of their fields.
+ghost use Rattle.std.specs.Prelude.{true, ◌≡◌, ◌==◌, ◌*◌, ℕ, ◌+◌, ◌-◌, ◌<◌, ◌≤◌, ◌++◌, [], ◌∷◌, Some, None, Ok, Err, IsOk, length, IsAscii, List, Bool, if◌then◌else◌};
+ghost use Rattle.demangle_v0.specs.Points.{Did, DidOn, pushed_on, Fits};
+ghost use Rattle.demangle_v0.specs.PointContracts.{DidFree, brace_behind, heard_of};
+ghost use Rattle.demangle_v0.specs.Tags.{variant_of};
+
+use crate::grammar::{Mark, Word};
+use crate::points::frames::{Frame, FrameStack};
+use crate::points::tags::{VariantKind, variant_kind};
+use crate::points::voice::Voice;
+use crate::points::{Point, State, Stop, word_at};
+use crate::words::WordRead;
+use demangle_symbol::cursor::{Looks, Symbol};
+
+/// A variant that holds nothing.
+#[inline(always)]
+fn unit_variant<V: Voice>(state: &mut State) -> Point
+    requires unmarked { state.old.mark ≡ None }
+    ensures did { (b : List ℕ) (plain : Bool) (row : List Frame) (v : V) (made : ℕ) → made ≤ 0 → DidOn V.Voice b plain (heard_of b plain V.loud (variant_of state.old.in_value VariantKind.Unit) state.old) 5 (8 * state.old.depth_left + 3) row v (Ok result) state.new row v made }
+{
+    state.is_open = false;
+    if state.in_value {
+        return Point::End;
+    }
+    state.mark = Some(Mark::CloseBrace);
+    Point::End
+}
+
+/// What a variant holds, behind its tag: a brace follows it outside value position.
+#[inline(always)]
+fn held<const N: usize>(
+    mark: Mark,
+    point: Point,
+    state: &mut State,
+    row: &mut FrameStack<N>,
+) -> Point
+    requires room { length row.old < N }
+    requires fits { Fits Point.Variant state.old.depth_left state.old.lifetimes }
+    ensures point { result ≡ point }
+    ensures state { state.new ≡ record state.old { mark = Some mark } }
+    ensures row { row.new ≡ pushed_on row.old (brace_behind state.old) }
+{
+    if !state.in_value {
+        row.push(state.frame(Point::CloseBrace));
+    }
+    state.mark = Some(mark);
+    point
+}
+
+/// What follows the path of a variant.
+#[inline(always)]
+pub(super) fn variant<V: Voice, const N: usize>(
+    symbol: &Symbol<'_>,
+    state: &mut State,
+    row: &mut FrameStack<N>,
+    looks: &mut Looks,
+) -> Result<Point, Stop>
+    requires room { length row.old < N }
+    requires unmarked { state.old.mark ≡ None }
+    requires fits { Fits Point.Variant state.old.depth_left state.old.lifetimes }
+    ensures did { (plain : Bool) (v : V) → Did V.Voice symbol.now plain Point.Variant state.old row.old v result state.new row.new v (looks.new - looks.old) }
+    ensures grows { looks.old ≤ looks.new }
+{
+    let Some(at) = state.place else {
+        return Err(Stop::Fault(Mark::Unread));
+    };
+    let Ok((tag, next)) = symbol.tag(at, looks) else {
+        return Err(Stop::Fault(Mark::Invalid));
+    };
+    let Some(kind) = variant_kind(tag) else {
+        return Err(Stop::Fault(Mark::Invalid));
+    };
+    state.place = Some(next);
+    match kind {
+        VariantKind::Unit => Ok(unit_variant::<V>(state)),
+        VariantKind::Tuple => { Ok(held(Mark::OpenParen, Point::FirstVariantConstant, state, row)) }
+        VariantKind::Fields => Ok(held(Mark::OpenFields, Point::FirstField, state, row)),
+    }
+}
+
+/// The name of a field.
+#[inline(always)]
+pub(super) fn field<V: Voice>(
+    symbol: &Symbol<'_>,
+    plain: bool,
+    state: &mut State,
+    voice: &mut V,
+    looks: &mut Looks,
+) -> Result<Point, Stop>
+    requires ascii { V.loud ≡ true → IsAscii symbol.now }
+    requires ready { V.ready voice.old }
+    requires unmarked { state.old.mark ≡ None }
+    requires fits { Fits Point.Field state.old.depth_left state.old.lifetimes }
+    ensures did { (row : List Frame) → Did V.Voice symbol.now plain Point.Field state.old row voice.old result state.new row voice.new (looks.new - looks.old) }
+    ensures ready { IsOk result → V.ready voice.new }
+    ensures sound { (m : Mark) → result ≡ Err (Stop.Fault m) → V.ready voice.new }
+    ensures grows { looks.old ≤ looks.new }
+{
+    match word_at(symbol, Word::FieldName, state, voice, looks) {
+        WordRead::Goes(stretch, next) => {
+            state.place = next;
+            let Ok(()) = voice.say(symbol, &stretch, plain, looks) else {
+                return Err(Stop::Refused);
+            };
+            Ok(Point::FieldColon)
+        }
+        WordRead::Stops(stretch) => {
+            state.place = None;
+            state.is_open = false;
+            let Ok(()) = voice.stop(symbol, &stretch, plain, looks) else {
+                return Err(Stop::Refused);
+            };
+            Ok(Point::End)
+        }
+    }
+}
+
+/// What stands behind the name of a field.
+#[inline(always)]
+pub(super) fn field_colon<V: Voice>(state: &mut State) -> Point
+    requires fits { Fits Point.FieldColon state.old.depth_left state.old.lifetimes }
+    ensures did { DidFree V.Voice Point.FieldColon state.old result state.new }
+{
+    state.mark = Some(Mark::Colon);
+    state.in_value = true;
+    Point::Constant
+}
