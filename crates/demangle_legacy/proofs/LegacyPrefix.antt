@@ -1,7 +1,8 @@
 -- What stands behind the prefix of a legacy symbol.
 use Rattle.std.proofs.Common.{◌≡◌, ℕ, ◌⊎◌, inl, inr, List, ◌++◌, Option, Some, None, refl, ap}
 use Rattle.std.specs.Prelude.{codes}
-use Rattle.demangle_legacy.specs.Legacy.{IsLegacyPrefix, first_there, inner_of}
+use Rattle.std.specs.Option.{option_or}
+use Rattle.demangle_legacy.specs.Legacy.{IsLegacyPrefix, inner_of}
 use Rattle.demangle_symbol.specs.Prefix.{behind_prefix}
 use Rattle.demangle_symbol.proofs.Prefixes.{behind_is}
 
@@ -13,14 +14,14 @@ inner_spelled p x (inl e) = ap (λ q. inner_of (q ++ x)) e
 inner_spelled p x (inr (inl e)) = ap (λ q. inner_of (q ++ x)) e
 inner_spelled p x (inr (inr e)) = ap (λ q. inner_of (q ++ x)) e
 
-first_is : (a b : Option (List ℕ)) (x : List ℕ) → first_there a b ≡ Some x → (a ≡ Some x) ⊎ (b ≡ Some x)
+first_is : (a b : Option (List ℕ)) (x : List ℕ) → option_or a b ≡ Some x → (a ≡ Some x) ⊎ (b ≡ Some x)
 first_is None b x e = inr e
 first_is (Some y) b x e = inl e
 
 -- and what was taken off is one
 pub inner_is : (s x : List ℕ) → inner_of s ≡ Some x → (prefix : List ℕ) × IsLegacyPrefix prefix × (s ≡ prefix ++ x)
 unfolding inner_of
-inner_is s x e = elim (first_is (behind_prefix (codes "_ZN") s) (first_there (behind_prefix (codes "ZN") s) (behind_prefix (codes "__ZN") s)) x e) [
+inner_is s x e = elim (first_is (behind_prefix (codes "_ZN") s) (option_or (behind_prefix (codes "ZN") s) (behind_prefix (codes "__ZN") s)) x e) [
   | inl h ↦ (codes "_ZN", inl refl, behind_is (codes "_ZN") s x h)
   | inr h ↦ elim (first_is (behind_prefix (codes "ZN") s) (behind_prefix (codes "__ZN") s) x h) [
     | inl k ↦ (codes "ZN", inr (inl refl), behind_is (codes "ZN") s x k)

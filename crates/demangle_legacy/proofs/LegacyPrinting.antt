@@ -1,5 +1,5 @@
 -- The pieces of a legacy symbol, an element at a time.
-use Rattle.std.proofs.Common.{◌≡◌, ℕ, ◌+◌, ◌<◌, ◌⊎◌, inl, inr, Bool, true, false, cond, not, ◌&&◌, List, [], ◌∷◌, ◌++◌, length, drop, slice_range, Some, None, refl, sym, ap, ◌∙◌, arith, subst, eqb, IsSome}
+use Rattle.std.proofs.Common.{◌≡◌, ℕ, ◌+◌, ◌<◌, ◌⊎◌, inl, inr, Bool, true, false, cond, not, ◌&&◌, List, [], ◌∷◌, ◌++◌, length, drop, slice_range, Some, None, Ok, refl, sym, ap, ◌∙◌, arith, subst, eqb, IsSome}
 use Rattle.std.specs.Prelude.{codes}
 use Rattle.std.proofs.lemmas.Bool.Decides.{nat_tests}
 use Rattle.std.proofs.lemmas.List.{at_drop_more}
@@ -7,25 +7,30 @@ use Rattle.std.proofs.lemmas.Bool.{false≢true}
 use Rattle.std.proofs.lemmas.Option.{get_or_from_slice_get}
 use Rattle.demangle_symbol.specs.Digits.{is_byte}
 use Rattle.demangle_legacy.specs.Legacy.{element_of, parts_of, elements_of, behind_E, suffix_of}
-use Rattle.demangle_legacy.specs.Unescaped.{unescaped, is_hash, shown, joined, continued}
+use Rattle.demangle_legacy.specs.Unescaped.{unescaped, is_hash, shown_elements, joined_pieces, following_pieces}
 use Rattle.demangle_symbol.proofs.Digits.{is_byte_there, is_byte_within}
 use Rattle.demangle_symbol.proofs.Options.{option_cases}
+use Rattle.demangle_sink.specs.declared.TextSink.{Ghosts}
+use Rattle.demangle_sink.specs.declared.limit.SizeLimitedFmtAdapter.{SizeLimitedFmtAdapter}
+use Rattle.demangle_sink.specs.Limit.{Prints}
+use Rattle.demangle_sink.specs.Printed.{Printed}
+use Rattle.demangle_sink.proofs.Printed.{printed_left, printed_then}
 use Rattle.demangle_legacy.proofs.LegacyElements.{parts_end, parts_more, parts_E, no_byte_E, behind_more}
 
-shown_more : (hash : Bool) (e : List ℕ) (es : List (List ℕ)) → ((not hash && is_hash e) ≡ false) ⊎ (0 < length es) → shown hash (e ∷ es) ≡ e ∷ shown hash es
-unfolding shown
+shown_more : (hash : Bool) (e : List ℕ) (es : List (List ℕ)) → ((not hash && is_hash e) ≡ false) ⊎ (0 < length es) → shown_elements hash (e ∷ es) ≡ e ∷ shown_elements hash es
+unfolding shown_elements
 shown_more hash e [] (inl h) = ap (λ b. cond b [] (e ∷ [])) h
 shown_more hash e [] (inr h) = absurd (omega arith)
 shown_more hash e (f ∷ es) h = refl
 
-shown_less : (hash : Bool) (e : List ℕ) → hash ≡ false → is_hash e ≡ true → shown hash (e ∷ []) ≡ []
-unfolding shown
+shown_less : (hash : Bool) (e : List ℕ) → hash ≡ false → is_hash e ≡ true → shown_elements hash (e ∷ []) ≡ []
+unfolding shown_elements
 shown_less true e h k = cc
 shown_less false e h k = ap (λ b. cond b [] (e ∷ [])) k
 
 -- the pieces of the elements that are left at a place of the symbol: `::` stands before them but at place 0
 abbrev pub left_pieces : Bool → ℕ → List (List ℕ) → List (List ℕ)
-left_pieces hash at left = cond (eqb at 0) (joined (shown hash left)) (continued (shown hash left))
+left_pieces hash at left = cond (eqb at 0) (joined_pieces (shown_elements hash left)) (following_pieces (shown_elements hash left))
 
 -- the elements from a place on
 
@@ -55,20 +60,20 @@ elements_left s to some same h = elim (option_cases (element_of (drop to s))) [
 
 -- one element more
 
-pub left_first : (hash : Bool) (at : ℕ) (e : List ℕ) (es : List (List ℕ)) → ((not hash && is_hash e) ≡ false) ⊎ (0 < length es) → at ≡ 0 → left_pieces hash at (e ∷ es) ≡ unescaped e ++ continued (shown hash es)
+pub left_first : (hash : Bool) (at : ℕ) (e : List ℕ) (es : List (List ℕ)) → ((not hash && is_hash e) ≡ false) ⊎ (0 < length es) → at ≡ 0 → left_pieces hash at (e ∷ es) ≡ unescaped e ++ following_pieces (shown_elements hash es)
 left_first hash at e es keeps first =
     let t : eqb at 0 ≡ true = grind (arith, nat_tests) in
-    ap (λ b. cond b (joined (shown hash (e ∷ es))) (continued (shown hash (e ∷ es)))) t ∙ ap joined (shown_more hash e es keeps)
+    ap (λ b. cond b (joined_pieces (shown_elements hash (e ∷ es))) (following_pieces (shown_elements hash (e ∷ es)))) t ∙ ap joined_pieces (shown_more hash e es keeps)
 
-pub left_next : (hash : Bool) (at : ℕ) (e : List ℕ) (es : List (List ℕ)) → ((not hash && is_hash e) ≡ false) ⊎ (0 < length es) → 0 < at → left_pieces hash at (e ∷ es) ≡ (codes "::" ∷ []) ++ (unescaped e ++ continued (shown hash es))
+pub left_next : (hash : Bool) (at : ℕ) (e : List ℕ) (es : List (List ℕ)) → ((not hash && is_hash e) ≡ false) ⊎ (0 < length es) → 0 < at → left_pieces hash at (e ∷ es) ≡ (codes "::" ∷ []) ++ (unescaped e ++ following_pieces (shown_elements hash es))
 left_next hash at e es keeps later =
     let t : eqb at 0 ≡ false = grind (arith, nat_tests) in
-    ap (λ b. cond b (joined (shown hash (e ∷ es))) (continued (shown hash (e ∷ es)))) t ∙ ap continued (shown_more hash e es keeps)
+    ap (λ b. cond b (joined_pieces (shown_elements hash (e ∷ es))) (following_pieces (shown_elements hash (e ∷ es)))) t ∙ ap following_pieces (shown_more hash e es keeps)
 
-pub left_behind : (hash : Bool) (at : ℕ) (es : List (List ℕ)) → 0 < at → continued (shown hash es) ≡ left_pieces hash at es
+pub left_behind : (hash : Bool) (at : ℕ) (es : List (List ℕ)) → 0 < at → following_pieces (shown_elements hash es) ≡ left_pieces hash at es
 left_behind hash at es later =
     let t : eqb at 0 ≡ false = grind (arith, nat_tests) in
-    ap (λ b. cond b (joined (shown hash es)) (continued (shown hash es))) (sym t)
+    ap (λ b. cond b (joined_pieces (shown_elements hash es)) (following_pieces (shown_elements hash es))) (sym t)
 
 nothing : (at : ℕ) → cond {A = List (List ℕ)} (eqb at 0) [] [] ≡ []
 nothing at = both (eqb at 0) where
@@ -77,14 +82,14 @@ nothing at = both (eqb at 0) where
   both false = refl
 
 pub left_none : (hash : Bool) (at : ℕ) (es : List (List ℕ)) → es ≡ [] → left_pieces hash at es ≡ []
-unfolding shown
+unfolding shown_elements
 left_none hash at es e = ap (left_pieces hash at) e ∙ nothing at
 
 -- the hash is left out
 pub left_hash : (hash : Bool) (at : ℕ) (e : List ℕ) (es : List (List ℕ)) → hash ≡ false → is_hash e ≡ true → es ≡ [] → left_pieces hash at (e ∷ es) ≡ []
 left_hash hash at e es off h last =
     ap (λ t. left_pieces hash at (e ∷ t)) last
-    ∙ ap (λ t. cond (eqb at 0) (joined t) (continued t)) (shown_less hash e off h)
+    ∙ ap (λ t. cond (eqb at 0) (joined_pieces t) (following_pieces t)) (shown_less hash e off h)
     ∙ nothing at
 
 kept : (hash : Bool) (last h : Bool) (n : ℕ) → (not hash && (last && h)) ≡ false → (last ≡ false → 0 < n) → ((not hash && h) ≡ false) ⊎ (0 < n)
@@ -101,11 +106,19 @@ module _ (s : List ℕ) (hash : Bool) (at from to : ℕ) (legacy : IsSome (suffi
     keeps : ((not hash && is_hash (slice_range s from to)) ≡ false) ⊎ (0 < length (elements_of (drop to s)))
     keeps = kept hash (is_byte s to 69) (is_hash (slice_range s from to)) (length (elements_of (drop to s))) shown_too (elements_left s to legacy same_behind)
 
-    pub turn_first : at ≡ 0 → left_pieces hash at (elements_of (drop at s)) ≡ unescaped (slice_range s from to) ++ continued (shown hash (elements_of (drop to s)))
+    pub turn_first : at ≡ 0 → left_pieces hash at (elements_of (drop at s)) ≡ unescaped (slice_range s from to) ++ following_pieces (shown_elements hash (elements_of (drop to s)))
     turn_first first = ap (left_pieces hash at) (elements_more s at from to element) ∙ left_first hash at (slice_range s from to) (elements_of (drop to s)) keeps first
 
-    pub turn_next : 0 < at → left_pieces hash at (elements_of (drop at s)) ≡ (codes "::" ∷ []) ++ (unescaped (slice_range s from to) ++ continued (shown hash (elements_of (drop to s))))
+    pub turn_next : 0 < at → left_pieces hash at (elements_of (drop at s)) ≡ (codes "::" ∷ []) ++ (unescaped (slice_range s from to) ++ following_pieces (shown_elements hash (elements_of (drop to s))))
     turn_next later = ap (left_pieces hash at) (elements_more s at from to element) ∙ left_next hash at (slice_range s from to) (elements_of (drop to s)) keeps later
+
+    -- `::` was printed where others stand before it, and its own pieces are left
+    pub turn_begun : {S : Type 0} (sink : Ghosts S) (old mid new : SizeLimitedFmtAdapter S) (whole : List (List ℕ))
+        → Printed sink old whole (left_pieces hash at (elements_of (drop at s))) mid
+        → ((0 < at) × Prints sink mid (codes "::" ∷ []) (Ok tt) new) ⊎ ((at ≡ 0) × (new ≡ mid))
+        → Printed sink old whole (unescaped (slice_range s from to) ++ following_pieces (shown_elements hash (elements_of (drop to s)))) new
+    turn_begun sink old mid new whole p (inl (later, put)) = printed_then sink old mid new whole _ _ _ p (turn_next later) put
+    turn_begun sink old mid new whole p (inr (first, none)) = rw none (printed_left sink old mid whole _ _ p (turn_first first))
 
   -- it is left out
   pub turn_hash : (not hash && (is_byte s to 69 && is_hash (slice_range s from to))) ≡ true → left_pieces hash at (elements_of (drop at s)) ≡ []

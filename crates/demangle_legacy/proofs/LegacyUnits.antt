@@ -7,7 +7,7 @@ use lib.Utf8.{scalar}
 use Rattle.std.proofs.lemmas.Option.{get_or_from_slice_get, slice_get-get_or}
 use Rattle.std.proofs.lemmas.Bool.Decides.{nat_tests}
 use Rattle.demangle_symbol.specs.Digits.{number, is_byte}
-use Rattle.demangle_legacy.specs.Unescaped.{is_dollar, is_special, is_lower_hex, lower_hex, escape_of_code, escape_of_digits, escape_of, unit_of, pieces_from, unescaped, is_hash}
+use Rattle.demangle_legacy.specs.Unescaped.{is_dollar, is_special, is_lower_hex, lower_hex, escape_of_code, escape_of_digits, escape_of, leading_unit, pieces_from, unescaped, is_hash}
 use Rattle.demangle_symbol.proofs.Digits.{is_byte_there, number_part, number_more, number_none}
 use Rattle.demangle_symbol.proofs.Ranges.{is_byte_not, range_first, range_past, range_length, range_drop, range_take, all_more, all_fails, all_past}
 
@@ -141,65 +141,65 @@ starts_dot c t h = grind (arith, nat_tests)
 dot_unit : List ℕ → Option (List ℕ × ℕ)
 dot_unit rest = cond (starts_with nat_eq rest (codes ".")) (Some (codes "::", 1)) (Some (codes ".", 0))
 
-unit_of_dot : (rest : List ℕ) → unit_of 46 rest ≡ dot_unit rest
-unfolding unit_of dot_unit
+unit_of_dot : (rest : List ℕ) → leading_unit 46 rest ≡ dot_unit rest
+unfolding leading_unit dot_unit
 unit_of_dot rest = refl
 
-pub unit_dots : (s : List ℕ) (next to : ℕ) → next < to → is_byte s next 46 ≡ true → unit_of 46 (slice_range s next to) ≡ Some (codes "::", 1)
+pub unit_dots : (s : List ℕ) (next to : ℕ) → next < to → is_byte s next 46 ≡ true → leading_unit 46 (slice_range s next to) ≡ Some (codes "::", 1)
 unfolding dot_unit
 unit_dots s next to lt h = unit_of_dot (slice_range s next to) ∙ ap dot_unit (range_first s next to 46 lt (is_byte_there s next 46 h))
 
-pub unit_dot : (s : List ℕ) (next to : ℕ) → next < to → to ≤ length s → is_byte s next 46 ≡ false → unit_of 46 (slice_range s next to) ≡ Some (codes ".", 0)
+pub unit_dot : (s : List ℕ) (next to : ℕ) → next < to → to ≤ length s → is_byte s next 46 ≡ false → leading_unit 46 (slice_range s next to) ≡ Some (codes ".", 0)
 unfolding dot_unit
 unit_dot s next to lt within h =
     let p = is_byte_not s next 46 (omega arith) h in
     unit_of_dot (slice_range s next to) ∙ ap dot_unit (range_first s next to (get_or s next 0) lt p.0)
     ∙ ap (λ b. cond b (Some (codes "::", 1)) (Some (codes ".", 0))) (starts_dot (get_or s next 0) (slice_range s (next + 1) to) p.1)
 
-pub unit_last_dot : (s : List ℕ) (next to : ℕ) → to ≤ next → unit_of 46 (slice_range s next to) ≡ Some (codes ".", 0)
+pub unit_last_dot : (s : List ℕ) (next to : ℕ) → to ≤ next → leading_unit 46 (slice_range s next to) ≡ Some (codes ".", 0)
 unfolding dot_unit
 unit_last_dot s next to past = unit_of_dot (slice_range s next to) ∙ ap dot_unit (range_past s next to past)
 
 escape_unit : List ℕ → Option ℕ → Option (List ℕ × ℕ)
 escape_unit rest end = option_and_then (λ n. option_map (λ text. (text, n + 1)) (escape_of (take n rest))) end
 
-unit_of_dollar : (rest : List ℕ) → unit_of 36 rest ≡ escape_unit rest (position is_dollar rest)
-unfolding unit_of escape_unit
+unit_of_dollar : (rest : List ℕ) → leading_unit 36 rest ≡ escape_unit rest (position is_dollar rest)
+unfolding leading_unit escape_unit
 unit_of_dollar rest = refl
 
-pub unit_escape : (s : List ℕ) (next end to : ℕ) (o : Option (List ℕ)) → next ≤ end → end < to → Some (end - next) ≡ position is_dollar (slice_range s next to) → o ≡ escape_of (slice_range s next end) → unit_of 36 (slice_range s next to) ≡ option_map (λ t. (t, (end - next) + 1)) o
+pub unit_escape : (s : List ℕ) (next end to : ℕ) (o : Option (List ℕ)) → next ≤ end → end < to → Some (end - next) ≡ position is_dollar (slice_range s next to) → o ≡ escape_of (slice_range s next end) → leading_unit 36 (slice_range s next to) ≡ option_map (λ t. (t, (end - next) + 1)) o
 unfolding escape_unit
 unit_escape s next end to o le lt first e =
     unit_of_dollar (slice_range s next to) ∙ ap (escape_unit (slice_range s next to)) (sym first)
     ∙ ap (λ x. option_map (λ (t : List ℕ). (t, (end - next) + 1)) (escape_of x)) (range_take s next end to le (omega arith))
     ∙ ap (option_map (λ (t : List ℕ). (t, (end - next) + 1))) (sym e)
 
-pub unit_open : (s : List ℕ) (next to : ℕ) → None ≡ position is_dollar (slice_range s next to) → unit_of 36 (slice_range s next to) ≡ None
+pub unit_open : (s : List ℕ) (next to : ℕ) → None ≡ position is_dollar (slice_range s next to) → leading_unit 36 (slice_range s next to) ≡ None
 unfolding escape_unit
 unit_open s next to none = unit_of_dollar (slice_range s next to) ∙ ap (escape_unit (slice_range s next to)) (sym none)
 
-unit_of_run : (c : ℕ) (rest : List ℕ) → c ≢ 46 → c ≢ 36 → unit_of c rest ≡ option_map (λ n. (c ∷ take n rest, n)) (position is_special rest)
-unfolding unit_of
+unit_of_run : (c : ℕ) (rest : List ℕ) → c ≢ 46 → c ≢ 36 → leading_unit c rest ≡ option_map (λ n. (c ∷ take n rest, n)) (position is_special rest)
+unfolding leading_unit
 unit_of_run c rest no_dot no_dollar =
     let a : eqb c 46 ≡ false = grind (arith, nat_tests) in
     let b : eqb c 36 ≡ false = grind (arith, nat_tests) in
     rw (a, b) refl
 
-pub unit_run : (s : List ℕ) (at c end to : ℕ) → slice_get s at ≡ Some c → c ≢ 46 → c ≢ 36 → at + 1 ≤ end → end < to → Some (end - (at + 1)) ≡ position is_special (slice_range s (at + 1) to) → unit_of c (slice_range s (at + 1) to) ≡ Some (slice_range s at end, end - (at + 1))
+pub unit_run : (s : List ℕ) (at c end to : ℕ) → slice_get s at ≡ Some c → c ≢ 46 → c ≢ 36 → at + 1 ≤ end → end < to → Some (end - (at + 1)) ≡ position is_special (slice_range s (at + 1) to) → leading_unit c (slice_range s (at + 1) to) ≡ Some (slice_range s at end, end - (at + 1))
 unit_run s at c end to here no_dot no_dollar le lt first =
     unit_of_run c (slice_range s (at + 1) to) no_dot no_dollar
     ∙ ap (option_map (λ n. (c ∷ take n (slice_range s (at + 1) to), n))) (sym first)
     ∙ ap (λ x. Some (c ∷ x, end - (at + 1))) (range_take s (at + 1) end to le (omega arith))
     ∙ ap (λ x. Some (x, end - (at + 1))) (sym (range_first s at end c (omega arith) here))
 
-pub unit_no_run : (s : List ℕ) (at c to : ℕ) → c ≢ 46 → c ≢ 36 → None ≡ position is_special (slice_range s (at + 1) to) → unit_of c (slice_range s (at + 1) to) ≡ None
+pub unit_no_run : (s : List ℕ) (at c to : ℕ) → c ≢ 46 → c ≢ 36 → None ≡ position is_special (slice_range s (at + 1) to) → leading_unit c (slice_range s (at + 1) to) ≡ None
 unit_no_run s at c to no_dot no_dollar none =
     unit_of_run c (slice_range s (at + 1) to) no_dot no_dollar
     ∙ ap (option_map (λ n. (c ∷ take n (slice_range s (at + 1) to), n))) (sym none)
 
 -- the unit that the byte at a place begins
-pub unit_there : (s : List ℕ) (at b n : ℕ) (rest : List ℕ) (o : Option (List ℕ × ℕ)) → slice_get s at ≡ Some b → b ≡ n → unit_of n rest ≡ o → o ≡ unit_of (slice_index s at) rest
-unit_there s at b n rest o here is e = sym e ∙ ap (λ c. unit_of c rest) (sym is ∙ sym (get_or_from_slice_get s at b 0 here))
+pub unit_there : (s : List ℕ) (at b n : ℕ) (rest : List ℕ) (o : Option (List ℕ × ℕ)) → slice_get s at ≡ Some b → b ≡ n → leading_unit n rest ≡ o → o ≡ leading_unit (slice_index s at) rest
+unit_there s at b n rest o here is e = sym e ∙ ap (λ c. leading_unit c rest) (sym is ∙ sym (get_or_from_slice_get s at b 0 here))
 
 pub one_byte : (a n : ℕ) (t : List ℕ) → n ≡ a → ◌≡◌ {A = Option (List ℕ × ℕ)} (Some (t, n)) (Some (t, a))
 one_byte a n t e = ap (λ k. Some (t, k)) e
@@ -262,15 +262,15 @@ first_plain s from to within long other =
 
 -- the pieces of an element from a place on
 
-pieces_unit : (c : ℕ) (s : List ℕ) (u : List ℕ × ℕ) → unit_of c s ≡ Some u → pieces_from 0 (c ∷ s) ≡ u.0 ∷ pieces_from u.1 s
+pieces_unit : (c : ℕ) (s : List ℕ) (u : List ℕ × ℕ) → leading_unit c s ≡ Some u → pieces_from 0 (c ∷ s) ≡ u.0 ∷ pieces_from u.1 s
 unfolding pieces_from
 pieces_unit c s u h = rw (h, pieces_from) refl
 
-pieces_raw : (c : ℕ) (s : List ℕ) → unit_of c s ≡ None → pieces_from 0 (c ∷ s) ≡ (c ∷ s) ∷ []
+pieces_raw : (c : ℕ) (s : List ℕ) → leading_unit c s ≡ None → pieces_from 0 (c ∷ s) ≡ (c ∷ s) ∷ []
 unfolding pieces_from
 pieces_raw c s h = rw (h, pieces_from) refl
 
-pub pieces_turn : (s : List ℕ) (at next to : ℕ) (text : List ℕ) → to ≤ length s → at < to → at < next → next ≤ to → unit_of (slice_index s at) (slice_range s (at + 1) to) ≡ Some (text, next - (at + 1)) → pieces_from 0 (slice_range s at to) ≡ text ∷ pieces_from 0 (slice_range s next to)
+pub pieces_turn : (s : List ℕ) (at next to : ℕ) (text : List ℕ) → to ≤ length s → at < to → at < next → next ≤ to → leading_unit (slice_index s at) (slice_range s (at + 1) to) ≡ Some (text, next - (at + 1)) → pieces_from 0 (slice_range s at to) ≡ text ∷ pieces_from 0 (slice_range s next to)
 pieces_turn s at next to text within lt more le h =
     let k = next - (at + 1) in
     let n : at + 1 + k ≡ next = omega arith in
@@ -278,7 +278,7 @@ pieces_turn s at next to text within lt more le h =
     ∙ pieces_unit (slice_index s at) (slice_range s (at + 1) to) (text, k) h
     ∙ ap (λ ps. text ∷ ps) (pieces_skip k (slice_range s (at + 1) to) ∙ ap (pieces_from 0) (range_drop s (at + 1) k to (omega arith) ∙ ap (λ m. slice_range s m to) n))
 
-pub pieces_stop : (s : List ℕ) (at to : ℕ) → to ≤ length s → at < to → unit_of (slice_index s at) (slice_range s (at + 1) to) ≡ None → pieces_from 0 (slice_range s at to) ≡ slice_range s at to ∷ []
+pub pieces_stop : (s : List ℕ) (at to : ℕ) → to ≤ length s → at < to → leading_unit (slice_index s at) (slice_range s (at + 1) to) ≡ None → pieces_from 0 (slice_range s at to) ≡ slice_range s at to ∷ []
 pieces_stop s at to within lt h =
     let e = range_first s at to (slice_index s at) lt (slice_get-get_or s at 0 (omega arith)) in
     ap (pieces_from 0) e ∙ pieces_raw (slice_index s at) (slice_range s (at + 1) to) h ∙ ap (λ t. t ∷ []) (sym e)

@@ -2,6 +2,7 @@
 use Rattle.std.specs.Prelude.{◌≡◌, ℕ, zero, suc, ◌==◌, ◌⊎◌, ◌≢◌, true, false, List, [], ◌∷◌, ◌++◌, length, take, drop, codes, nat_le, IsAscii, Option, None, Some, option_map, option_and_then, if◌then◌else◌}
 use Rattle.std.specs.List.{list_all, prefix_len}
 use Rattle.std.specs.Char.{is_ascii}
+use Rattle.std.specs.Option.{option_or}
 use Rattle.demangle_symbol.specs.Digits.{number, is_digit_10, digit_10}
 use Rattle.demangle_symbol.specs.Prefix.{behind_prefix}
 
@@ -31,14 +32,9 @@ IsLegacy symbol elements suffix =
     (prefix : List ℕ) × (inner : List ℕ) × (symbol ≡ prefix ++ inner) × IsLegacyPrefix prefix × IsAscii inner
     × IsElements elements inner suffix
 
--- the first of two that is there
-abbrev pub first_there : Option (List ℕ) → Option (List ℕ) → Option (List ℕ)
-first_there None b = b
-first_there (Some x) b = Some x
-
 -- what stands behind the prefix of a legacy symbol
 unfoldable pub inner_of : List ℕ → Option (List ℕ)
-inner_of s = first_there (behind_prefix (codes "_ZN") s) (first_there (behind_prefix (codes "ZN") s) (behind_prefix (codes "__ZN") s))
+inner_of s = option_or (behind_prefix (codes "_ZN") s) (option_or (behind_prefix (codes "ZN") s) (behind_prefix (codes "__ZN") s))
 
 -- the first n bytes, if there are so many and this many digits stood before them, and the text behind them
 abbrev pub cut_at : ℕ → ℕ → List ℕ → Option (List ℕ × List ℕ)

@@ -45,8 +45,8 @@ escape_of name =
     (if starts_with nat_eq name (codes "u") then escape_of_digits (drop 1 name) else None))))))))
 
 -- The unit that c and s begin with: what it prints, and how many bytes of s it takes.
-unfoldable pub unit_of : ℕ → List ℕ → Option (List ℕ × ℕ)
-unit_of c s =
+unfoldable pub leading_unit : ℕ → List ℕ → Option (List ℕ × ℕ)
+leading_unit c s =
     if c == 46 then (if starts_with nat_eq s (codes ".") then Some (codes "::", 1) else Some (codes ".", 0)) else
     (if c == 36
     then option_and_then (λ n. option_map (λ text. (text, n + 1)) (escape_of (take n s))) (position is_dollar s)
@@ -56,7 +56,7 @@ unit_of c s =
 unfoldable pub pieces_from : ℕ → List ℕ → List (List ℕ)
 pieces_from skip [] = [] ∷ []
 pieces_from (suc skip) (c ∷ s) = pieces_from skip s
-pieces_from zero (c ∷ s) = elim (unit_of c s) [ None ↦ (c ∷ s) ∷ [] | Some u ↦ u.0 ∷ pieces_from (u.1) s ]
+pieces_from zero (c ∷ s) = elim (leading_unit c s) [ None ↦ (c ∷ s) ∷ [] | Some u ↦ u.0 ∷ pieces_from (u.1) s ]
 
 -- The pieces of an element. A `_` in front of a `$` is left out.
 unfoldable pub unescaped : List ℕ → List (List ℕ)
@@ -67,20 +67,20 @@ abbrev pub is_hash : List ℕ → Bool
 is_hash s = slice_index s 0 == 104 && list_all is_ascii_hexdigit (drop 1 s)
 
 -- the elements that are printed: with no hash, all but a last one that is a hash
-unfoldable pub shown : Bool → List (List ℕ) → List (List ℕ)
-shown hash [] = []
-shown hash (e ∷ []) = if not hash && is_hash e then [] else e ∷ []
-shown hash (e ∷ f ∷ es) = e ∷ shown hash (f ∷ es)
+unfoldable pub shown_elements : Bool → List (List ℕ) → List (List ℕ)
+shown_elements hash [] = []
+shown_elements hash (e ∷ []) = if not hash && is_hash e then [] else e ∷ []
+shown_elements hash (e ∷ f ∷ es) = e ∷ shown_elements hash (f ∷ es)
 
 -- the pieces of elements that follow others
-abbrev pub continued : List (List ℕ) → List (List ℕ)
-continued elements = flat_map (λ e. codes "::" ∷ unescaped e) elements
+abbrev pub following_pieces : List (List ℕ) → List (List ℕ)
+following_pieces elements = flat_map (λ e. codes "::" ∷ unescaped e) elements
 
 -- the pieces of each element, with `::` between
-abbrev pub joined : List (List ℕ) → List (List ℕ)
-joined [] = []
-joined (e ∷ es) = unescaped e ++ continued es
+abbrev pub joined_pieces : List (List ℕ) → List (List ℕ)
+joined_pieces [] = []
+joined_pieces (e ∷ es) = unescaped e ++ following_pieces es
 
 -- what a legacy symbol prints: the pieces of its elements, with the hash or without it
 abbrev pub legacy_pieces : Bool → List (List ℕ) → List (List ℕ)
-legacy_pieces hash elements = joined (shown hash elements)
+legacy_pieces hash elements = joined_pieces (shown_elements hash elements)

@@ -5,7 +5,7 @@ use Rattle.demangle_legacy.specs.declared.units.Unit.{Unit}
 use Rattle.demangle_legacy.specs.declared.units.Unit.TheVariants.{Separator, Char, Run}
 
 -- the text of a unit that these bytes are
-abbrev pub text_of : List ℕ → Unit → List ℕ
-text_of bytes Separator = codes "::"
-text_of bytes (Char c) = encode_utf8 c
-text_of bytes Run = bytes
+abbrev pub text_of_unit : List ℕ → Unit → List ℕ
+text_of_unit bytes Separator = codes "::"
+text_of_unit bytes (Char c) = encode_utf8 c
+text_of_unit bytes Run = bytes

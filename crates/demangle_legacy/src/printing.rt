@@ -3,14 +3,14 @@ ghost use Rattle.std.specs.Prelude.{◌≡◌, ◌+◌, ◌-◌, ◌*◌, ◌≤
 ghost use Rattle.demangle_symbol.specs.Digits.{is_byte};
 ghost use Rattle.demangle_sink.specs.Limit.{Prints, Ready};
 ghost use Rattle.demangle_legacy.specs.Unescaped.{is_hash, pieces_from, unescaped};
-ghost use Rattle.demangle_legacy.specs.Units.{text_of};
+ghost use Rattle.demangle_legacy.specs.Units.{text_of_unit};
 
 use crate::units::{Unit, unit_at};
 use demangle_sink::{SinkRefused, SizeLimitedFmtAdapter, TextSink};
 use demangle_symbol::cursor::{Looks, Part, Symbol};
 
-#[tactic(auto, using(crate::proofs::LegacyUnits::hash_steps))]
 /// Whether an element is `h` and hexadecimal digits alone.
+#[tactic(auto, using(crate::proofs::LegacyUnits::hash_steps))]
 fn is_hash(symbol: &Symbol<'_>, element: Part, looks: &mut Looks) -> bool
     requires { element.to ≤ length symbol.now }
     ensures hash { result ≡ is_hash (slice_range symbol.now element.from element.to) }
@@ -62,7 +62,7 @@ fn put_unit<S: TextSink>(
     requires inside { bytes.to ≤ length symbol.now }
     requires ready { Ready S.TextSink out.old }
     ensures { Prints S.TextSink out.old
-        (text_of (slice_range symbol.now bytes.from bytes.to) unit ∷ []) result out.new }
+        (text_of_unit (slice_range symbol.now bytes.from bytes.to) unit ∷ []) result out.new }
 {
     match unit {
         Unit::Separator => out.put("::"),

@@ -3,7 +3,7 @@ use crate::demangle;
 use demangle_sink::{ArraySink, SizeLimitedFmtAdapter};
 use demangle_symbol::cursor::Looks;
 
-// Whether a text is read as a symbol that prints so, and leaves this suffix.
+/// Whether a text is read as a symbol that prints so, and leaves this suffix.
 fn prints(symbol: &str, include_hash: bool, text: &str, suffix: &str) -> bool {
     let mut looks = Looks::new();
     let Ok((read, left)) = demangle(symbol, &mut looks) else {

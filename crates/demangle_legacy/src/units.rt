@@ -1,7 +1,7 @@
 //! The units that a legacy element is made of.
 ghost use Rattle.std.specs.Prelude.{◌≡◌, ◌≢◌, ◌+◌, ◌-◌, ◌*◌, ◌<◌, ◌≤◌, [], ◌∷◌, IfSome, MatchOption, true, false, length, slice_index, slice_range, option_map, position, encode_utf8};
-ghost use Rattle.demangle_legacy.specs.Unescaped.{escape_of, escape_of_code, escape_of_digits, is_dollar, is_lower_hex, is_special, lower_hex, unit_of};
-ghost use Rattle.demangle_legacy.specs.Units.{text_of};
+ghost use Rattle.demangle_legacy.specs.Unescaped.{escape_of, escape_of_code, escape_of_digits, is_dollar, is_lower_hex, is_special, lower_hex, leading_unit};
+ghost use Rattle.demangle_legacy.specs.Units.{text_of_unit};
 
 use demangle_symbol::cursor::{Looks, Part, Symbol};
 
@@ -15,8 +15,8 @@ pub(super) enum Unit {
     Run,
 }
 
-#[tactic(auto, using(demangle_symbol::proofs::Ranges::place_steps))]
 /// The first `$` of a part.
+#[tactic(auto, using(demangle_symbol::proofs::Ranges::place_steps))]
 fn dollar_in(symbol: &Symbol<'_>, part: Part, looks: &mut Looks) -> Option<usize>
     requires { part.to ≤ length symbol.now }
     ensures first { option_map (λ at. at - part.from) result
@@ -37,8 +37,8 @@ fn dollar_in(symbol: &Symbol<'_>, part: Part, looks: &mut Looks) -> Option<usize
     None
 }
 
-#[tactic(auto, using(demangle_symbol::proofs::Ranges::place_steps))]
 /// The first `$` or `.` of a part.
+#[tactic(auto, using(demangle_symbol::proofs::Ranges::place_steps))]
 fn special_in(symbol: &Symbol<'_>, part: Part, looks: &mut Looks) -> Option<usize>
     requires { part.to ≤ length symbol.now }
     ensures first { option_map (λ at. at - part.from) result
@@ -80,8 +80,8 @@ fn escaped_code(code: u32) -> Option<char>
     }
 }
 
-#[tactic(auto, using(crate::proofs::LegacyUnits::digit_steps))]
 /// The character that `u` and these digits escape.
+#[tactic(auto, using(crate::proofs::LegacyUnits::digit_steps))]
 fn escaped_char(symbol: &Symbol<'_>, digits: Part, looks: &mut Looks) -> Option<char>
     requires { digits.to ≤ length symbol.now }
     ensures escape { option_map encode_utf8 result
@@ -103,8 +103,8 @@ fn escaped_char(symbol: &Symbol<'_>, digits: Part, looks: &mut Looks) -> Option<
     escaped_code(code)
 }
 
-#[tactic(auto, unfolding(crate::specs::Unescaped::escape_of))]
 /// What two letters between `$` give.
+#[tactic(auto, unfolding(crate::specs::Unescaped::escape_of))]
 fn letters(first: u8, second: u8) -> Option<char>
     requires { first ≢ 117 }
     ensures { option_map encode_utf8 result ≡ escape_of (first ∷ second ∷ []) }
@@ -121,9 +121,9 @@ fn letters(first: u8, second: u8) -> Option<char>
     }
 }
 
-#[tactic(auto, using(crate::proofs::LegacyUnits::name_steps))]
 /// What a name between `$` gives.
-fn escaped(symbol: &Symbol<'_>, name: Part, looks: &mut Looks) -> Option<char>
+#[tactic(auto, using(crate::proofs::LegacyUnits::name_steps))]
+fn escape_in(symbol: &Symbol<'_>, name: Part, looks: &mut Looks) -> Option<char>
     requires { name.to ≤ length symbol.now }
     ensures escape { option_map encode_utf8 result
         ≡ escape_of (slice_range symbol.now name.from name.to) }
@@ -160,10 +160,10 @@ pub(super) fn unit_at(
     requires order { at < to }
     requires inside { to ≤ length symbol.now }
     ensures unit { option_map (λ r. (
-      text_of (slice_range symbol.now at r.1) r.0,
+      text_of_unit (slice_range symbol.now at r.1) r.0,
       r.1 - (at
           + 1),
-    )) result ≡ unit_of (slice_index symbol.now at) (slice_range symbol.now (at + 1) to) }
+    )) result ≡ leading_unit (slice_index symbol.now at) (slice_range symbol.now (at + 1) to) }
     ensures within { IfSome result (λ r. (at < r.1) × (r.1 ≤ to)) }
     ensures grows { looks.old ≤ looks.new }
     ensures most { looks.new ≤ looks.old + 3 * (to - at) }
@@ -185,7 +185,7 @@ pub(super) fn unit_at(
                 from: next,
                 to: end,
             };
-            let c = escaped(symbol, name, looks)?;
+            let c = escape_in(symbol, name, looks)?;
             Some((Unit::Char(c), end + 1))
         }
         _ => Some((Unit::Run, special_in(symbol, rest, looks)?)),

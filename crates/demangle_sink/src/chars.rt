@@ -15,8 +15,8 @@ pub fn put_char<S: TextSink>(
     out.put(c.encode_utf8(&mut [0; 4]))
 }
 
-#[tactic(auto, using(crate::proofs::PrintsLemmas::prints_ready, crate::proofs::PrintsLemmas::prints_nothing))]
 /// Puts one character after another, each as one piece.
+#[tactic(auto, using(crate::proofs::PrintsLemmas::prints_ready, crate::proofs::PrintsLemmas::prints_nothing))]
 pub fn put_chars<S: TextSink>(
     characters: &[char],
     out: &mut SizeLimitedFmtAdapter<'_, S>,

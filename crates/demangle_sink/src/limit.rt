@@ -10,7 +10,7 @@ use crate::{SinkRefused, TextSink};
 pub struct SizeLimitedFmtAdapter<'s, S: TextSink> {
     out: &'s mut S,
     remaining: usize,
-    // Whether a piece did not fit.
+    /// Whether a piece did not fit.
     is_over: bool,
 }
 

@@ -4,8 +4,8 @@ ghost use Rattle.demangle_sink.specs.Pieces.{texts};
 
 use crate::{SinkRefused, SizeLimitedFmtAdapter, TextSink};
 
-#[tactic(auto, using(crate::proofs::PrintsLemmas::prints_ready, crate::proofs::PrintsLemmas::prints_nothing))]
 /// Puts one piece after another.
+#[tactic(auto, using(crate::proofs::PrintsLemmas::prints_ready, crate::proofs::PrintsLemmas::prints_nothing))]
 pub fn put_each<S: TextSink>(
     pieces: &[&str],
     out: &mut SizeLimitedFmtAdapter<'_, S>,

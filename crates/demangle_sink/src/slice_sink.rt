@@ -2,7 +2,7 @@
 ghost use Rattle.std.specs.Prelude.{◌≡◌, ◌-◌, Some, true, false, refl};
 ghost use Rattle.std.proofs.Common.{◌∙◌};
 ghost use Rattle.std.below.core.specs.declared.int.usize.TheConstants.{MAX};
-ghost use Rattle.demangle_sink.specs.Slice.{covered_from, Laid, Laid-nothing, Laid-joined};
+ghost use Rattle.demangle_sink.specs.Slice.{overlay_from, Laid, Laid-nothing, Laid-joined};
 
 use crate::{SinkRefused, TextSink};
 
@@ -42,9 +42,9 @@ impl<'b> SliceSink<'b> {
     }
 }
 
-// Lays bytes into memory from a place on, as far as it reaches.
+/// Lays bytes into memory from a place on, as far as it reaches.
 fn lay(out: &mut [u8], place: usize, bytes: &[u8])
-    ensures { out.new ≡ covered_from place out.old bytes.now }
+    ensures { out.new ≡ overlay_from place out.old bytes.now }
 {
     if place < out.len() {
         let kept = bytes.len().min(out.len() - place);

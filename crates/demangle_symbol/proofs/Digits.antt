@@ -1,14 +1,16 @@
 -- How digits are read, a byte at a time.
-use Rattle.std.proofs.Common.{◌≡◌, ℕ, ◌+◌, ◌-◌, ◌*◌, ◌^◌, ◌<◌, ◌≤◌, Bool, true, false, List, [], ◌∷◌, ◌++◌, length, map, drop, get_or, Option, Some, None, refl, ap, ◌∙◌, arith}
+use Rattle.std.proofs.Common.{◌≡◌, ℕ, ◌+◌, ◌-◌, ◌*◌, ◌^◌, ◌<◌, ◌≤◌, Bool, true, false, List, [], ◌∷◌, ◌++◌, length, map, drop, get_or, Option, Some, None, inl, inr, refl, sym, ap, ◌∙◌, arith}
 use Rattle.std.specs.List.{slice_get, slice_range}
 use Rattle.std.specs.Int.Digits.{number_from_digits}
-use Rattle.std.proofs.lemmas.List.{take-take, take-append-drop, map-append}
+use Rattle.std.proofs.lemmas.List.{take-take, take-append-drop, map-append, length-drop}
 use Rattle.std.proofs.lemmas.List.Edits.{between_more, between_none}
-use Rattle.std.proofs.lemmas.List.Sums.{prefix_len-drop_yes, prefix_len-drop_no, prefix_len-drop_all}
-use Rattle.std.proofs.lemmas.Option.{slice_get_within, get_or_from_slice_get}
+use Rattle.std.proofs.lemmas.List.Sums.{prefix_len-drop_yes, prefix_len-drop_no, prefix_len-drop_all, prefix_len-le-length}
+use Rattle.std.proofs.lemmas.Option.{slice_get_within, slice_get_cases, get_or_from_slice_get}
 use Rattle.std.proofs.lemmas.Int.Digits.{number_push, number_after_append, number_after_ge}
 use Rattle.std.proofs.lemmas.Bool.{eqb-true}
+use Rattle.std.proofs.lemmas.Bool.Decides.{nat_tests}
 use Rattle.demangle_symbol.specs.Digits.{run_end, number, is_digit_10, digit_10, Decimal, option_is, is_byte}
+use Rattle.demangle_symbol.specs.Idents.{DigitsUpTo}
 
 -- a byte that passes is a part of the run
 pub run_more : (p : ℕ → Bool) (s : List ℕ) (k b : ℕ) → slice_get s k ≡ Some b → p b ≡ true → run_end p s k ≡ run_end p s (k + 1)
@@ -27,6 +29,10 @@ run_stops p s k b here fails =
 -- and so does the end
 pub run_past : (p : ℕ → Bool) (s : List ℕ) (k : ℕ) → length s ≤ k → run_end p s k ≡ k
 run_past p s k past = omega (arith, prefix_len-drop_all p s k past)
+
+pub run_none : (p : ℕ → Bool) (s : List ℕ) (k : ℕ) → slice_get s k ≡ None → run_end p s k ≡ k
+run_none p s k none =
+    elim ((slice_get_cases s k).1) [ inl h ↦ let some : slice_get s k ≡ Some h.0 = h.2 in absurd (cc) | inr h ↦ run_past p s k h.0 ]
 
 -- one byte more of a part
 pub range_more : (s : List ℕ) (i k b : ℕ) → i ≤ k → slice_get s k ≡ Some b → slice_range s i (k + 1) ≡ slice_range s i k ++ b ∷ []
@@ -61,19 +67,43 @@ number_part base digit s i k m some le =
     rw (← (take-take (k - i) (m - i) (drop i s) short)) (take-append-drop (k - i) (slice_range s i m)) in
     rw (← parts) (number_append base digit (slice_range s i k) _ some)
 
--- no decimal number below 2 ^ 64 begins at i, where n is the number of the digits before k, and d that of the one at k
-pub no_decimal_large : (s : List ℕ) (i k b n d : ℕ) → run_end is_digit_10 s i ≡ run_end is_digit_10 s k → i ≤ k → slice_get s k ≡ Some b → is_digit_10 b ≡ true → n ≡ number 10 digit_10 (slice_range s i k) → d ≡ digit_10 b → 2 ^ 64 ≤ n * 10 + d → (j v : ℕ) → v < 2 ^ 64 → Decimal s i j v → ⊥
-no_decimal_large s i k b n d run le here passes n_is d_is large j v small h =
+pub digits_none : (s : List ℕ) (i : ℕ) → DigitsUpTo s i i 0
+digits_none s i = record { order = omega arith; run = refl; value = sym (number_none 10 digit_10 s i) }
+
+digit_passes : (d : ℕ) → d < 10 → is_digit_10 (d + 48) ≡ true
+digit_passes d h = grind (arith, nat_tests)
+
+-- one digit more
+pub digits_more : (s : List ℕ) (i k n d : ℕ) → DigitsUpTo s i k n → slice_get s k ≡ Some (d + 48) → d < 10 → DigitsUpTo s i (k + 1) (n * 10 + d)
+digits_more s i k n d h here small = record {
+  order = omega (arith, h.order);
+  run = h.run ∙ run_more is_digit_10 s k (d + 48) here (digit_passes d small);
+  value = omega (arith, number_more 10 digit_10 s i k (d + 48) h.order here, h.value);
+}
+
+pub digits_decimal : (s : List ℕ) (i k n : ℕ) → DigitsUpTo s i k n → i < k → run_end is_digit_10 s k ≡ k → Decimal s i k n
+digits_decimal s i k n h some stops =
+    let e : run_end is_digit_10 s i ≡ k = h.run ∙ stops in
+    record { some = omega (arith, e, some); next = sym e; value = h.value ∙ ap (λ j. number 10 digit_10 (slice_range s i j)) (sym e) }
+
+-- they lie inside
+pub digits_inside : (s : List ℕ) (i k n : ℕ) → DigitsUpTo s i k n → i < length s → k ≤ length s
+digits_inside s i k n h inside =
+    omega (arith, h.run, prefix_len-le-length is_digit_10 (drop i s), length-drop i s)
+
+-- no decimal number below 2 ^ 64 begins at i, where n is the number of the digits before k, and d the digit at k
+pub no_decimal_large : (s : List ℕ) (i k n d : ℕ) → DigitsUpTo s i k n → slice_get s k ≡ Some (d + 48) → d < 10 → 2 ^ 64 ≤ n * 10 + d → (j v : ℕ) → v < 2 ^ 64 → Decimal s i j v → ⊥
+no_decimal_large s i k n d read here digit large j v small h =
+    let more = digits_more s i k n d read here digit in
+    let within : k < length s = slice_get_within s k (d + 48) here in
     let end : ℕ = run_end is_digit_10 s i in
-    let e : end ≡ run_end is_digit_10 s (k + 1) = run ∙ run_more is_digit_10 s k b here passes in
-    let most : number 10 digit_10 (slice_range s i (k + 1)) ≤ number 10 digit_10 (slice_range s i end) = number_part 10 digit_10 s i (k + 1) end (omega arith) (omega arith) in
-    let is = number_more 10 digit_10 s i k b le here in
-    omega (arith, h.value)
+    let most : number 10 digit_10 (slice_range s i (k + 1)) ≤ number 10 digit_10 (slice_range s i end) = number_part 10 digit_10 s i (k + 1) end (omega arith) (omega (arith, more.run)) in
+    omega (arith, h.value, more.value)
 
-pub no_decimal_none : (s : List ℕ) (i : ℕ) → run_end is_digit_10 s i ≡ i → (j v : ℕ) → Decimal s i j v → ⊥
-no_decimal_none s i none j v h = omega (arith, h.some)
+pub no_decimal_none : (s : List ℕ) (i n : ℕ) → DigitsUpTo s i i n → run_end is_digit_10 s i ≡ i → (j v : ℕ) → Decimal s i j v → ⊥
+no_decimal_none s i n read none j v h = omega (arith, h.some)
 
-pub ruleset decimal_steps = (run_more, run_stops, run_past, number_none, number_more, no_decimal_none, no_decimal_large)
+pub ruleset decimal_steps = (run_stops, run_past, digits_none, digits_more, digits_decimal, digits_inside, no_decimal_large, no_decimal_none)
 
 option_is_some : (o : Option ℕ) (b : ℕ) → option_is o b ≡ true → o ≡ Some b
 option_is_some None b h = cc

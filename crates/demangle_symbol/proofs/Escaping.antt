@@ -2,7 +2,7 @@
 use Rattle.std.proofs.Common.{◌≡◌, ℕ, suc, ◌+◌, ◌-◌, ◌≤◌, ◌/◌, ◌%◌, ◌^◌, ◌<◌, true, false, eqb, List, [], ◌∷◌, ◌++◌, map, refl, ap, ◌∙◌, arith, append_assoc, length, drop, set}
 use Rattle.std.specs.Prelude.{encode_utf8, codes, flat_map}
 use Rattle.std.proofs.lemmas.List.{map-append, append-nil, drop-set}
-use Rattle.demangle_symbol.specs.Literals.{escaped, literal}
+use Rattle.demangle_symbol.specs.Literals.{literal_escape, literal}
 use Rattle.std.specs.Fmt.{digits_onto, digit_glyph}
 use Rattle.std.proofs.lemmas.Bool.Decides.{nat_tests}
 use Rattle.std.proofs.lemmas.Grind.{pow_more}
@@ -29,13 +29,13 @@ code_pieces ds =
     ∙ append_assoc (map encode_utf8 (codes "\\u{")) (map encode_utf8 ds) (encode_utf8 125 ∷ [])
 
 -- the pieces of a literal
-pub literal_pieces : (quote : ℕ) (cs : List ℕ) → literal quote cs ≡ encode_utf8 quote ∷ (map encode_utf8 (flat_map (escaped quote) cs) ++ encode_utf8 quote ∷ [])
+pub literal_pieces : (quote : ℕ) (cs : List ℕ) → literal quote cs ≡ encode_utf8 quote ∷ (map encode_utf8 (flat_map (literal_escape quote) cs) ++ encode_utf8 quote ∷ [])
 unfolding literal
-literal_pieces quote cs = map-append encode_utf8 (quote ∷ flat_map (escaped quote) cs) (quote ∷ [])
+literal_pieces quote cs = map-append encode_utf8 (quote ∷ flat_map (literal_escape quote) cs) (quote ∷ [])
 
-pub literal_one : (quote c : ℕ) → literal quote (c ∷ []) ≡ encode_utf8 quote ∷ (map encode_utf8 (escaped quote c) ++ encode_utf8 quote ∷ [])
+pub literal_one : (quote c : ℕ) → literal quote (c ∷ []) ≡ encode_utf8 quote ∷ (map encode_utf8 (literal_escape quote c) ++ encode_utf8 quote ∷ [])
 literal_one quote c =
-    literal_pieces quote (c ∷ []) ∙ ap (λ x. encode_utf8 quote ∷ (map encode_utf8 x ++ encode_utf8 quote ∷ [])) (append-nil (escaped quote c))
+    literal_pieces quote (c ∷ []) ∙ ap (λ x. encode_utf8 quote ∷ (map encode_utf8 x ++ encode_utf8 quote ∷ [])) (append-nil (literal_escape quote c))
 
 -- a digit in front of those that stand at the end
 pub digit_before : (text : List ℕ) (at x g : ℕ) → 0 < at → at ≤ length text → x ≡ g → drop (at - 1) (set text (at - 1) x) ≡ g ∷ drop at text

@@ -1,5 +1,5 @@
 -- How identifiers are read, a byte at a time.
-use Rattle.std.proofs.Common.{◌≡◌, ℕ, zero, suc, ltb, leb, subst, ◌+◌, ◌-◌, ◌^◌, ◌<◌, ◌≤◌, ◌≢◌, Bool, true, false, not, eqb, ◌==◌, cond, List, [], ◌∷◌, ◌++◌, length, get_or, Some, None, sym, refl, ap, ◌∙◌, arith}
+use Rattle.std.proofs.Common.{◌≡◌, ℕ, zero, suc, ltb, leb, subst, ◌+◌, ◌-◌, ◌*◌, ◌^◌, ◌<◌, ◌≤◌, ◌≢◌, Bool, true, false, not, eqb, ◌==◌, cond, List, [], ◌∷◌, ◌++◌, length, get_or, Some, None, sym, refl, ap, ◌∙◌, arith}
 use Rattle.std.specs.List.{slice_get, slice_range, prefix_len, suffix_len}
 use Rattle.std.proofs.lemmas.List.{reverse-append}
 use Rattle.std.proofs.lemmas.List.Edits.{between_none}
@@ -13,8 +13,8 @@ use Rattle.demangle_symbol.proofs.Integers.{only_both, only_not_both}
 use Rattle.std.proofs.lemmas.List.Sums.{suffix_len-le-length}
 use Rattle.std.proofs.lemmas.List.Edits.{length-between}
 use Rattle.demangle_symbol.specs.Words.{Name, length_end, length_value, Length, behind, tail_len, digits_from, name_from, name_len, name_of, punycode_len, ascii_to, identifier_at, Identifier}
-use Rattle.demangle_symbol.specs.Idents.{IsIdent, name_in}
-use Rattle.demangle_symbol.proofs.Digits.{range_more, number_none, number_more, is_byte_there}
+use Rattle.demangle_symbol.specs.Idents.{DigitsUpTo, IsIdent, name_in}
+use Rattle.demangle_symbol.proofs.Digits.{range_more, number_none, number_more, is_byte_there, digits_none, digits_more}
 
 pub length_none : (s : List ℕ) (i : ℕ) → is_byte s i 48 ≡ true → Length s i (i + 1) 0
 unfolding length_end length_value
@@ -35,6 +35,17 @@ unfolding length_end length_value
 decimal_length s i j v other h =
     let e : length_end s i ≡ run_end is_digit_10 s i = rw other refl in
     record { some = omega (arith, h.some); next = h.next ∙ e; value = h.value ∙ ap (λ k. number 10 digit_10 (slice_range s i k)) e }
+
+pub no_length : (s : List ℕ) (i : ℕ) → is_byte s i 48 ≡ false → ((j v : ℕ) → v < 2 ^ 64 → Decimal s i j v → ⊥) → (j v : ℕ) → v < 2 ^ 64 → Length s i j v → ⊥
+no_length s i other none j v small h = none j v small (decimal_length s i j v other h)
+
+pub digits_one : (s : List ℕ) (i d : ℕ) → slice_get s i ≡ Some (d + 48) → d < 10 → DigitsUpTo s i (i + 1) d
+digits_one s i d here small =
+    subst (λ n. DigitsUpTo s i (i + 1) n) (omega arith) (digits_more s i i 0 d (digits_none s i) here small)
+
+pub digits_two : (s : List ℕ) (i d e : ℕ) → slice_get s i ≡ Some (d + 48) → d < 10 → slice_get s (i + 1) ≡ Some (e + 48) → e < 10 → DigitsUpTo s i (i + 2) (d * 10 + e)
+digits_two s i d e here small next next_small =
+    subst (λ k. DigitsUpTo s i k (d * 10 + e)) (omega arith) (digits_more s i (i + 1) d e (digits_one s i d here small) next next_small)
 
 pub ruleset length_steps = (length_none, length_decimal, decimal_length)
 
@@ -97,7 +108,14 @@ no_ident_empty s i d e f len d_is there f_is other empty j ident h =
     let same : tail_len s f (f + len) ≡ tail_len s (name_from s i) j = ap (λ x. tail_len s x (f + len)) from ∙ ap (tail_len s (name_from s i)) (sym j_is) in
     omega arith
 
-pub ruleset ident_steps = (no_ident_length, no_ident_past, no_ident_empty)
+-- where its length begins
+pub behind_u : (s : List ℕ) (i : ℕ) → is_byte s i 117 ≡ true → i + 1 ≡ behind 117 s i
+behind_u s i h = rw h refl
+
+pub behind_no_u : (s : List ℕ) (i : ℕ) → is_byte s i 117 ≡ false → i ≡ behind 117 s i
+behind_no_u s i h = rw h refl
+
+pub ruleset ident_steps = (behind_u, behind_no_u, no_ident_length, no_ident_past, no_ident_empty)
 
 -- its parts, where a `u` stands in front and where none does
 abbrev parts_of : List ℕ → ℕ → ℕ → Ident

@@ -3,7 +3,7 @@ use Rattle.std.proofs.Common.{◌≡◌, ℕ, ◌<◌, ◌≤◌, true, false, L
 use Rattle.std.specs.Prelude.{encode_utf8, codes}
 use Rattle.std.specs.List.{slice_range}
 use Rattle.demangle_symbol.specs.declared.cursor.ident.Ident.{Ident}
-use Rattle.demangle_symbol.specs.Names.{is_empty, name_pieces, undecoded}
+use Rattle.demangle_symbol.specs.Names.{is_empty, name_pieces, fallback_pieces}
 use Rattle.demangle_symbol.specs.Punycode.{puny}
 use Rattle.demangle_symbol.specs.Idents.{ascii_front, name_in}
 use Rattle.demangle_sink.proofs.Parts.{part_first, part_past}
@@ -29,6 +29,6 @@ pub pieces_decoded : (s : List ℕ) (a : Ident) (cs : List ℕ) → a.punycode.f
 unfolding name_pieces
 pieces_decoded s a cs some inside h = let e : is_empty (slice_range s a.punycode.from a.punycode.to) ≡ false = part_filled s _ _ some inside in rw (e, ← h) refl
 
-pub pieces_undecoded : (s : List ℕ) (a : Ident) → a.punycode.from < a.punycode.to → a.punycode.to ≤ length s → None ≡ puny (slice_range s a.ascii.from a.ascii.to) (slice_range s a.punycode.from a.punycode.to) → name_pieces (name_in s a) ≡ undecoded (name_in s a)
+pub pieces_undecoded : (s : List ℕ) (a : Ident) → a.punycode.from < a.punycode.to → a.punycode.to ≤ length s → None ≡ puny (slice_range s a.ascii.from a.ascii.to) (slice_range s a.punycode.from a.punycode.to) → name_pieces (name_in s a) ≡ fallback_pieces (name_in s a)
 unfolding name_pieces
 pieces_undecoded s a some inside h = let e : is_empty (slice_range s a.punycode.from a.punycode.to) ≡ false = part_filled s _ _ some inside in rw (e, ← h) refl

@@ -14,7 +14,7 @@ use Rattle.std.proofs.lemmas.Bool.{cases_lt}
 use Rattle.std.proofs.lemmas.List.{take_at, append-nil, take_more, take_more_set, drop-take, drop-drop}
 use Rattle.std.proofs.lemmas.List.Edits.{length-between, get_or-between}
 use Rattle.demangle_symbol.specs.Words.{only_if, then_if_some, is_nibble, nibble, Hex}
-use Rattle.demangle_symbol.specs.Literals.{bytes_of, string_of}
+use Rattle.demangle_symbol.specs.Literals.{nibble_bytes, string_of}
 use Rattle.demangle_symbol.specs.Nibbles.{HexPart}
 use Rattle.demangle_symbol.specs.declared.cursor.Part.{Part}
 use Rattle.demangle_symbol.specs.Digits.{run_end}
@@ -75,17 +75,17 @@ pair_at (a ∷ b ∷ r) (suc k) h =
     ∙ ap (λ n. nibble (get_or (a ∷ b ∷ r) (2 * suc k) 0) * 16 + nibble (get_or (a ∷ b ∷ r) n 0)) (sym f)
 
 -- an odd number of nibbles, and an even one
-bytes_odd : (ns : List ℕ) → length ns ≡ 2 * length (pairs ns) + 1 → bytes_of ns ≡ None
+bytes_odd : (ns : List ℕ) → length ns ≡ 2 * length (pairs ns) + 1 → nibble_bytes ns ≡ None
 unfolding pairs
 bytes_odd [] h = absurd (omega arith)
 bytes_odd (a ∷ []) h = refl
-bytes_odd (a ∷ b ∷ r) h = let e : bytes_of r ≡ None = bytes_odd r (omega arith) in rw e refl
+bytes_odd (a ∷ b ∷ r) h = let e : nibble_bytes r ≡ None = bytes_odd r (omega arith) in rw e refl
 
-bytes_even : (ns : List ℕ) → length ns ≡ 2 * length (pairs ns) → bytes_of ns ≡ Some (pairs ns)
+bytes_even : (ns : List ℕ) → length ns ≡ 2 * length (pairs ns) → nibble_bytes ns ≡ Some (pairs ns)
 unfolding pairs
 bytes_even [] h = refl
 bytes_even (a ∷ []) h = absurd (omega arith)
-bytes_even (a ∷ b ∷ r) h = let e : bytes_of r ≡ Some (pairs r) = bytes_even r (omega arith) in rw e refl
+bytes_even (a ∷ b ∷ r) h = let e : nibble_bytes r ≡ Some (pairs r) = bytes_even r (omega arith) in rw e refl
 
 map_none : {A : Type 0} (f : A → A) (o : Option A) → ((a : A) → f a ≡ a) → option_map f o ≡ o
 map_none f None h = refl
@@ -96,17 +96,17 @@ step x xs None = refl
 step x xs (Some bs) = refl
 
 -- the first k bytes, and the others
-bytes_front : (ns : List ℕ) (k : ℕ) → 2 * k ≤ length ns → bytes_of ns ≡ option_map (λ bs. take k (pairs ns) ++ bs) (bytes_of (drop (2 * k) ns))
+bytes_front : (ns : List ℕ) (k : ℕ) → 2 * k ≤ length ns → nibble_bytes ns ≡ option_map (λ bs. take k (pairs ns) ++ bs) (nibble_bytes (drop (2 * k) ns))
 unfolding pairs
-bytes_front ns zero h = sym (map_none (λ bs. bs) (bytes_of ns) (λ bs. refl))
+bytes_front ns zero h = sym (map_none (λ bs. bs) (nibble_bytes ns) (λ bs. refl))
 bytes_front [] (suc k) h = absurd (omega arith)
 bytes_front (a ∷ []) (suc k) h = absurd (omega arith)
 bytes_front (a ∷ b ∷ r) (suc k) h =
     let e : 2 * suc k ≡ suc (suc (2 * k)) = omega arith in
     let x : ℕ = nibble a * 16 + nibble b in
     ap (λ o. then_if_some o (λ bs. Some (x ∷ bs))) (bytes_front r k (omega arith))
-    ∙ step x (take k (pairs r)) (bytes_of (drop (2 * k) r))
-    ∙ ap (λ n. option_map (λ bs. (x ∷ take k (pairs r)) ++ bs) (bytes_of (drop n (a ∷ b ∷ r)))) (sym e)
+    ∙ step x (take k (pairs r)) (nibble_bytes (drop (2 * k) r))
+    ∙ ap (λ n. option_map (λ bs. (x ∷ take k (pairs r)) ++ bs) (nibble_bytes (drop n (a ∷ b ∷ r)))) (sym e)
 
 -- a character in front of bytes
 utf8_step : (c : ℕ) (bs : List ℕ) → IsScalar c → only_if (is_utf8 (encode_utf8 c ++ bs)) (chars (encode_utf8 c ++ bs)) ≡ option_map (λ cs. c ∷ cs) (only_if (is_utf8 bs) (chars bs))
@@ -130,8 +130,8 @@ strings_step c (Some bs) sc = utf8_step c bs sc
 pub string_front : (ns : List ℕ) (k c : ℕ) → 2 * k ≤ length ns → take k (pairs ns) ≡ encode_utf8 c → IsScalar c → string_of ns ≡ option_map (λ cs. c ∷ cs) (string_of (drop (2 * k) ns))
 unfolding string_of
 string_front ns k c h e sc =
-    ap (λ o. then_if_some o (λ bs. only_if (is_utf8 bs) (chars bs))) (bytes_front ns k h ∙ ap (λ xs. option_map (λ bs. xs ++ bs) (bytes_of (drop (2 * k) ns))) e)
-    ∙ strings_step c (bytes_of (drop (2 * k) ns)) sc
+    ap (λ o. then_if_some o (λ bs. only_if (is_utf8 bs) (chars bs))) (bytes_front ns k h ∙ ap (λ xs. option_map (λ bs. xs ++ bs) (nibble_bytes (drop (2 * k) ns))) e)
+    ∙ strings_step c (nibble_bytes (drop (2 * k) ns)) sc
 
 -- the bytes of a character in front
 take_char : (c : ℕ) (rest bs : List ℕ) → bs ≡ encode_utf8 c ++ rest → take (len_utf8 c) bs ≡ encode_utf8 c
@@ -174,11 +174,11 @@ string_none ns k some none stop = go (cases_lt (2 * length (pairs ns)) (length n
       let f = first_of_text (pairs ns) (IsUtf8-from_is_utf8 _ u) (omega arith) in
       none f.0 f.1 (within f.0 f.2 f.3 stop) f.4
 
-  go : (2 * length (pairs ns) < length ns) ⊎ (length ns ≤ 2 * length (pairs ns)) → then_if_some (bytes_of ns) (λ bs. only_if (is_utf8 bs) (chars bs)) ≡ None
-  go (inl lt) = let n = length-pairs ns in let e : bytes_of ns ≡ None = bytes_odd ns (omega arith) in rw e refl
+  go : (2 * length (pairs ns) < length ns) ⊎ (length ns ≤ 2 * length (pairs ns)) → then_if_some (nibble_bytes ns) (λ bs. only_if (is_utf8 bs) (chars bs)) ≡ None
+  go (inl lt) = let n = length-pairs ns in let e : nibble_bytes ns ≡ None = bytes_odd ns (omega arith) in rw e refl
   go (inr le) =
       let n = length-pairs ns in
-      let e : bytes_of ns ≡ Some (pairs ns) = bytes_even ns (omega arith) in
+      let e : nibble_bytes ns ≡ Some (pairs ns) = bytes_even ns (omega arith) in
       rw e (only_not (is_utf8 (pairs ns)) (chars (pairs ns)) (none_whole le))
 
 no_bytes : (rest : List ℕ) → length rest ≡ 0 → rest ≡ []

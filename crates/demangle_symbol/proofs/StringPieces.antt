@@ -6,8 +6,8 @@ use Rattle.std.proofs.lemmas.List.{map-append, append-nil}
 use Rattle.std.proofs.lemmas.List.Concat.{flat_map-append}
 use Rattle.std.proofs.lemmas.Str.{is_utf8-from_IsUtf8, IsUtf8-nil, chars-nil}
 use Rattle.demangle_symbol.specs.Words.{some_or}
-use Rattle.demangle_symbol.specs.Literals.{escaped, string_of}
-use Rattle.demangle_symbol.specs.Nibbles.{nibbles_in, characters_of, written}
+use Rattle.demangle_symbol.specs.Literals.{literal_escape, string_of}
+use Rattle.demangle_symbol.specs.Nibbles.{nibbles_in, characters_of, character_pieces}
 use Rattle.demangle_symbol.specs.declared.cursor.Part.{Part}
 use Rattle.demangle_sink.proofs.Parts.{part_past}
 
@@ -43,18 +43,18 @@ pub characters_done : (s : List ℕ) (rest : Part) → rest.to ≤ rest.from →
 characters_done s rest past = ap (λ o. some_or [] o (λ cs. cs)) (string_done s rest past)
 
 -- the pieces of one character more
-pub written-push : (cs : List ℕ) (c : ℕ) → written (cs ++ c ∷ []) ≡ written cs ++ map encode_utf8 (escaped 34 c)
-written-push cs c =
-    ap (map encode_utf8) (flat_map-append (escaped 34) cs (c ∷ []) ∙ ap (λ x. flat_map (escaped 34) cs ++ x) (append-nil (escaped 34 c)))
-    ∙ map-append encode_utf8 (flat_map (escaped 34) cs) (escaped 34 c)
+pub character_pieces-push : (cs : List ℕ) (c : ℕ) → character_pieces (cs ++ c ∷ []) ≡ character_pieces cs ++ map encode_utf8 (literal_escape 34 c)
+character_pieces-push cs c =
+    ap (map encode_utf8) (flat_map-append (literal_escape 34) cs (c ∷ []) ∙ ap (λ x. flat_map (literal_escape 34) cs ++ x) (append-nil (literal_escape 34 c)))
+    ∙ map-append encode_utf8 (flat_map (literal_escape 34) cs) (literal_escape 34 c)
 
 -- the pieces round one character
-pub written-split : (cs rest : List ℕ) (c : ℕ) → written (cs ++ (c ∷ rest)) ≡ (written cs ++ map encode_utf8 (escaped 34 c)) ++ written rest
-written-split cs rest c =
-    ap written (sym (append_assoc cs (c ∷ []) rest))
-    ∙ ap (map encode_utf8) (flat_map-append (escaped 34) (cs ++ c ∷ []) rest)
-    ∙ map-append encode_utf8 (flat_map (escaped 34) (cs ++ c ∷ [])) (flat_map (escaped 34) rest)
-    ∙ ap (λ x. x ++ written rest) (written-push cs c)
+pub character_pieces-split : (cs rest : List ℕ) (c : ℕ) → character_pieces (cs ++ (c ∷ rest)) ≡ (character_pieces cs ++ map encode_utf8 (literal_escape 34 c)) ++ character_pieces rest
+character_pieces-split cs rest c =
+    ap character_pieces (sym (append_assoc cs (c ∷ []) rest))
+    ∙ ap (map encode_utf8) (flat_map-append (literal_escape 34) (cs ++ c ∷ []) rest)
+    ∙ map-append encode_utf8 (flat_map (literal_escape 34) (cs ++ c ∷ [])) (flat_map (literal_escape 34) rest)
+    ∙ ap (λ x. x ++ character_pieces rest) (character_pieces-push cs c)
 
 -- the text after one character more is one
 pub text_left : (s : List ℕ) (a b : Part) (c : ℕ) → string_of (nibbles_in s a) ≡ option_map (λ cs. c ∷ cs) (string_of (nibbles_in s b)) → IsSome (string_of (nibbles_in s a)) → IsSome (string_of (nibbles_in s b))

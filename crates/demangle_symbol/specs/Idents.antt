@@ -1,12 +1,18 @@
 -- Internal: no public contract cites this.
--- Identifiers by the places of their parts, and back references by their faults.
+-- Decimal digits read so far, identifiers by the places of their parts, and back references by their faults.
 use Rattle.std.specs.Prelude.{◌≡◌, ℕ, ◌+◌, ◌-◌, ◌<◌, ◌≤◌, true, List, [], ◌∷◌, codes, length, slice_range, nat_lt, None, Some, Result, Ok, Err, if◌then◌else◌}
-use Rattle.demangle_symbol.specs.Digits.{is_byte}
-use Rattle.demangle_symbol.specs.Words.{Read, Name, length_end, tail_len, digits_from, name_from, name_len, punycode_len, ascii_to}
+use Rattle.demangle_symbol.specs.Digits.{is_byte, run_end, number, is_digit_10, digit_10}
+use Rattle.demangle_symbol.specs.Words.{Read, Name, max_depth, length_end, tail_len, digits_from, name_from, name_len, punycode_len, ascii_to}
 use Rattle.demangle_symbol.specs.Names.{is_empty}
 use Rattle.demangle_symbol.specs.declared.cursor.ParseError.{ParseError}
 use Rattle.demangle_symbol.specs.declared.cursor.ParseError.TheVariants.{Invalid, RecursedTooDeep}
 use Rattle.demangle_symbol.specs.declared.cursor.ident.Ident.{Ident}
+
+-- The bytes from i up to k are digits, and n is their number.
+pub record DigitsUpTo (s : List ℕ) (i k n : ℕ) : Type 0 where
+  pub order : i ≤ k
+  pub run : run_end is_digit_10 s i ≡ run_end is_digit_10 s k
+  pub value : n ≡ number 10 digit_10 (slice_range s i k)
 
 -- the bytes of both parts
 abbrev pub name_in : List ℕ → Ident → Name
@@ -38,7 +44,7 @@ pub record IsIdent (s : List ℕ) (i j : ℕ) (ident : Ident) : Type 0 where
   pub punycode_to : ident.punycode.to ≡ j
   pub not_empty : is_byte s i 117 ≡ true → 0 < tail_len s (name_from s i) j
 
--- how a back reference is answered at a depth: a word that is none is Invalid, and one at depth 500 is too deep
-abbrev pub referred : ℕ → Read ℕ → Result (ℕ × ℕ) ParseError
-referred depth None = Err Invalid
-referred depth (Some r) = if nat_lt depth 500 then Ok r else Err RecursedTooDeep
+-- how a back reference is answered at a depth: a word that is none is Invalid, and one at the greatest depth is too deep
+abbrev pub backref_answer : ℕ → Read ℕ → Result (ℕ × ℕ) ParseError
+backref_answer depth None = Err Invalid
+backref_answer depth (Some r) = if nat_lt depth max_depth then Ok r else Err RecursedTooDeep

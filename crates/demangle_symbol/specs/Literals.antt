@@ -26,8 +26,8 @@ abbrev pub is_shown : ℕ → Bool
 is_shown c = nat_le 128 c && not (is_hidden_category (general_category c)) && not (is_grapheme_extend c)
 
 -- the characters that one character is written with, in a literal with this quote
-abbrev pub escaped : ℕ → ℕ → List ℕ
-escaped quote c =
+abbrev pub literal_escape : ℕ → ℕ → List ℕ
+literal_escape quote c =
     if c == quote || c == code "\\" then code "\\" ∷ c ∷ []
     else if c == 0 then codes "\\0"
     else if c == 9 then codes "\\t"
@@ -38,14 +38,14 @@ escaped quote c =
 
 -- the pieces of a literal of these characters
 unfoldable pub literal : ℕ → List ℕ → List (List ℕ)
-literal quote cs = map encode_utf8 (quote ∷ flat_map (escaped quote) cs ++ quote ∷ [])
+literal quote cs = map encode_utf8 (quote ∷ flat_map (literal_escape quote) cs ++ quote ∷ [])
 
 -- the bytes that pairs of nibbles spell
-abbrev pub bytes_of : List ℕ → Option (List ℕ)
-bytes_of [] = Some []
-bytes_of (a ∷ []) = None
-bytes_of (a ∷ b ∷ r) = then_if_some (bytes_of r) (λ bs. Some ((nibble a * 16 + nibble b) ∷ bs))
+abbrev pub nibble_bytes : List ℕ → Option (List ℕ)
+nibble_bytes [] = Some []
+nibble_bytes (a ∷ []) = None
+nibble_bytes (a ∷ b ∷ r) = then_if_some (nibble_bytes r) (λ bs. Some ((nibble a * 16 + nibble b) ∷ bs))
 
 -- the characters of a string constant: an even number of nibbles whose bytes are UTF-8
 unfoldable pub string_of : List ℕ → Option (List ℕ)
-string_of nibbles = then_if_some (bytes_of nibbles) (λ bs. only_if (is_utf8 bs) (chars bs))
+string_of nibbles = then_if_some (nibble_bytes nibbles) (λ bs. only_if (is_utf8 bs) (chars bs))

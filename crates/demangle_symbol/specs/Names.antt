@@ -11,9 +11,9 @@ abbrev pub is_nameless : Name → Bool
 is_nameless a = is_empty a.ascii && is_empty a.punycode
 
 -- a name whose Punycode can't be decoded
-abbrev pub undecoded : Name → List (List ℕ)
-undecoded a = codes "punycode{" ∷ (if is_empty a.ascii then [] else a.ascii ∷ codes "-" ∷ []) ++ a.punycode ∷ codes "}" ∷ []
+abbrev pub fallback_pieces : Name → List (List ℕ)
+fallback_pieces a = codes "punycode{" ∷ (if is_empty a.ascii then [] else a.ascii ∷ codes "-" ∷ []) ++ a.punycode ∷ codes "}" ∷ []
 
 -- a name without Punycode is one piece, and each decoded character is one
 unfoldable pub name_pieces : Name → List (List ℕ)
-name_pieces a = if is_empty a.punycode then a.ascii ∷ [] else some_or (undecoded a) (puny a.ascii a.punycode) (λ cs. map encode_utf8 cs)
+name_pieces a = if is_empty a.punycode then a.ascii ∷ [] else some_or (fallback_pieces a) (puny a.ascii a.punycode) (λ cs. map encode_utf8 cs)

@@ -2,7 +2,7 @@
 -- The nibbles of a hex word by their places.
 use Rattle.std.specs.Prelude.{ℕ, List, [], slice_range, map, flat_map, encode_utf8}
 use Rattle.demangle_symbol.specs.Words.{some_or, Hex}
-use Rattle.demangle_symbol.specs.Literals.{escaped, string_of}
+use Rattle.demangle_symbol.specs.Literals.{literal_escape, string_of}
 use Rattle.demangle_symbol.specs.declared.cursor.Part.{Part}
 
 -- the part is all the nibbles of a hex word from a place on
@@ -17,5 +17,5 @@ abbrev pub characters_of : List ℕ → List ℕ
 characters_of nibbles = some_or [] (string_of nibbles) (λ cs. cs)
 
 -- the pieces of the characters of a string literal
-abbrev pub written : List ℕ → List (List ℕ)
-written cs = map encode_utf8 (flat_map (escaped 34) cs)
+abbrev pub character_pieces : List ℕ → List (List ℕ)
+character_pieces cs = map encode_utf8 (flat_map (literal_escape 34) cs)

@@ -189,3 +189,9 @@ most_nibbles = 32
 -- the number of a hex word
 unfoldable pub number_of : List ℕ → Option ℕ
 number_of ns = hex_number most_nibbles ns
+
+-- Depth.
+
+-- how often the depth can be raised
+abbrev pub max_depth : ℕ
+max_depth = 500

@@ -1,7 +1,8 @@
 //! The bytes of a symbol, which only `byte` tells.
-ghost use Rattle.std.specs.Prelude.{◌≡◌, ℕ, [], ◌∷◌, ◌+◌, ◌-◌, ◌*◌, ◌<◌, ◌≤◌, length, slice_get, slice_range, ◌^◌, true, false, IfOk, OnErr, IfErr, IfSome, MatchOption, SomeIff, IsTrue, ◌↔◌};
+ghost use Rattle.std.specs.Prelude.{◌≡◌, ℕ, [], ◌∷◌, ◌+◌, ◌-◌, ◌*◌, ◌<◌, ◌≤◌, length, slice_get, slice_range, ◌^◌, true, false, IfOk, OnErr, IfErr, IfSome, IfNone, MatchOption, SomeIff, IsTrue, ◌↔◌};
 ghost use Rattle.std.specs.Str.{IsAscii};
-ghost use Rattle.demangle_symbol.specs.Digits.{number, is_byte, Decimal, is_digit_10, digit_10};
+ghost use Rattle.demangle_symbol.specs.Digits.{is_byte, run_end, Decimal, is_digit_10};
+ghost use Rattle.demangle_symbol.specs.Idents.{DigitsUpTo};
 ghost use Rattle.demangle_sink.specs.Limit.{Prints, Ready};
 
 use demangle_sink::{SinkRefused, SizeLimitedFmtAdapter, TextSink};
@@ -134,8 +135,8 @@ impl<'s> Symbol<'s> {
         }
     }
 
-    #[tactic(auto, unfolding(crate::specs::Digits::is_byte))]
     /// Whether this byte stands at a place. It is one look.
+    #[tactic(auto, unfolding(crate::specs::Digits::is_byte))]
     pub fn is_at(&self, byte: u8, place: usize, looks: &mut Looks) -> bool
         ensures there { result ≡ is_byte self.now place byte }
         ensures look { looks.new ≡ looks.old + 1 }
@@ -148,8 +149,8 @@ impl<'s> Symbol<'s> {
         }
     }
 
-    #[tactic(auto, using(crate::proofs::Digits::decimal_steps))]
     /// The number that decimal digits spell, and the place behind them.
+    #[tactic(auto, using(crate::proofs::Digits::decimal_steps))]
     pub fn decimal(&self, place: usize, looks: &mut Looks) -> Result<(usize, usize), ParseError>
         ensures ok { IfOk result (λ r. Decimal self.now place r.1 r.0) }
         ensures err { OnErr result ((j v : ℕ) → v < 2 ^ 64 → Decimal self.now place j v → ⊥) }
@@ -159,13 +160,33 @@ impl<'s> Symbol<'s> {
         ensures err_looks { OnErr result (looks.new ≤ looks.old + (length self.now - place + 1)) }
         ensures within { IfOk result (λ r. (place < r.1) × (r.1 ≤ length self.now)) }
     {
-        let mut number: u64 = 0;
-        for at in place..self.len() {
-            let Some(byte) = self.byte(at, looks) else {
-                return Err(ParseError::Invalid);
-            };
-            let Some(digit) = digit_10_of(byte) else {
-                if at == place {
+        self.decimal_from(0, place, place, looks)
+    }
+
+    #[tactic(auto, using(crate::proofs::Digits::decimal_steps))]
+    // The same of digits that begin at `start`, of which `number` was read in front of `from`.
+    #[inline(never)]
+    fn decimal_from(
+        &self,
+        number: u64,
+        start: usize,
+        from: usize,
+        looks: &mut Looks,
+    ) -> Result<(usize, usize), ParseError>
+        requires digits { DigitsUpTo self.now start from number }
+        ensures ok { IfOk result (λ r. Decimal self.now start r.1 r.0) }
+        ensures err { OnErr result ((j v : ℕ) → v < 2 ^ 64 → Decimal self.now start j v → ⊥) }
+        ensures fault { IfErr result (λ e. e ≡ ParseError.Invalid) }
+        ensures grows { looks.old ≤ looks.new }
+        ensures ok_looks { IfOk result (λ r. looks.new ≤ looks.old + (r.1 - from + 1)) }
+        ensures err_looks { OnErr result (looks.new ≤ looks.old + (length self.now - from + 1)) }
+        ensures within { IfOk result
+            (λ r. (start < r.1) × (from ≤ r.1) × (r.1 ≤ length self.now)) }
+    {
+        let mut number = number;
+        for at in from..self.len() {
+            let Some(digit) = self.digit(at, looks) else {
+                if at == start {
                     return Err(ParseError::Invalid);
                 }
                 return Ok((number as usize, at));
@@ -176,20 +197,27 @@ impl<'s> Symbol<'s> {
             number = sum;
         }
         let end = self.len();
-        if end <= place {
+        if end <= start {
             return Err(ParseError::Invalid);
         }
         Ok((number as usize, end))
     }
-}
 
-fn digit_10_of(byte: u8) -> Option<u8>
-    ensures { MatchOption result
-        (is_digit_10 byte ≡ false) (λ d. (is_digit_10 byte ≡ true) × (d ≡ digit_10 byte)) }
-{
-    match byte {
-        b'0'..=b'9' => Some(byte - b'0'),
-        _ => None,
+    #[tactic(auto, using(crate::proofs::Digits::run_stops, crate::proofs::Digits::run_none))]
+    // The decimal digit at a place, if one stands there.
+    #[inline(always)]
+    fn digit(&self, place: usize, looks: &mut Looks) -> Option<u8>
+        ensures digit { IfSome result (λ d. slice_get self.now place ≡ Some (d + 48)) }
+        ensures small { IfSome result (λ d. d < 10) }
+        ensures none { IfNone result (run_end is_digit_10 self.now place ≡ place) }
+        ensures within { IfSome result (λ _. place < length self.now) }
+        ensures look { looks.new ≡ looks.old + 1 }
+        ensures fits { length self.now < 2 ^ 64 }
+    {
+        match self.byte(place, looks) {
+            Some(byte @ b'0'..=b'9') => Some(byte - b'0'),
+            _ => None,
+        }
     }
 }
 

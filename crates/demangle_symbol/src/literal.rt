@@ -2,7 +2,7 @@
 ghost use Rattle.std.specs.Prelude.{◌≡◌, ◌+◌, ◌-◌, ◌*◌, ◌^◌, ◌<◌, ◌≤◌, [], ◌∷◌, ◌++◌, false, map, encode_utf8, codes};
 ghost use Rattle.std.specs.Fmt.{digits, digit_glyph};
 ghost use Rattle.demangle_sink.specs.Limit.{Prints, Ready};
-ghost use Rattle.demangle_symbol.specs.Literals.{is_hidden_category, is_shown, escaped, literal};
+ghost use Rattle.demangle_symbol.specs.Literals.{is_hidden_category, is_shown, literal_escape, literal};
 ghost use Rattle.demangle_symbol.specs.Escapes.{escape_text, character_of, truth_of};
 
 use arrayvec::ArrayVec;
@@ -42,7 +42,7 @@ fn is_hidden_category(category: GeneralCategory) -> bool
     }
 }
 
-// Whether a character past ASCII stands for itself.
+/// Whether a character past ASCII stands for itself.
 fn is_shown(c: char) -> bool
     ensures { result ≡ is_shown c }
 {
@@ -50,7 +50,7 @@ fn is_shown(c: char) -> bool
 }
 
 fn escape_of(quote: char, c: char) -> Escape
-    ensures { escape_text result c ≡ escaped quote c }
+    ensures { escape_text result c ≡ literal_escape quote c }
 {
     if c == quote || c == '\\' {
         return Escape::Backslash(c);
@@ -83,7 +83,7 @@ pub fn digit_byte(digit: u64) -> u8
     }
 }
 
-// A hexadecimal digit, as a character.
+/// A hexadecimal digit, as a character.
 fn digit_char(digit: u64) -> char
     requires { digit < 16 }
     ensures { result ≡ digit_glyph false digit }
@@ -91,7 +91,7 @@ fn digit_char(digit: u64) -> char
     char::from(digit_byte(digit))
 }
 
-// The hexadecimal digits of a number, the highest first.
+/// The hexadecimal digits of a number, the highest first.
 fn hexadecimal(number: u64) -> ArrayVec<char, 16>
     ensures { result.items ≡ digits 16 false number }
 {
@@ -107,8 +107,8 @@ fn hexadecimal(number: u64) -> ArrayVec<char, 16>
     text
 }
 
+/// Puts the code of a character between `\u{` and `}`.
 #[tactic(auto, using(demangle_sink::proofs::PrintsLemmas::prints_ready))]
-// Puts the code of a character between `\u{` and `}`.
 fn put_code<S: TextSink>(c: char, out: &mut SizeLimitedFmtAdapter<'_, S>) -> Result<(), SinkRefused>
     requires { Ready S.TextSink out.old }
     ensures { Prints S.TextSink out.old
@@ -119,8 +119,8 @@ fn put_code<S: TextSink>(c: char, out: &mut SizeLimitedFmtAdapter<'_, S>) -> Res
     put_char('}', out)
 }
 
+/// Puts a backslash and a character.
 #[tactic(auto, using(demangle_sink::proofs::PrintsLemmas::prints_ready))]
-// Puts a backslash and a character.
 fn put_backslashed<S: TextSink>(
     letter: char,
     out: &mut SizeLimitedFmtAdapter<'_, S>,
@@ -132,14 +132,14 @@ fn put_backslashed<S: TextSink>(
     put_char(letter, out)
 }
 
-// Puts one character of a literal, each character that it is written with as one piece.
+/// Puts one character of a literal, each character that it is written with as one piece.
 fn put_escaped<S: TextSink>(
     quote: char,
     c: char,
     out: &mut SizeLimitedFmtAdapter<'_, S>,
 ) -> Result<(), SinkRefused>
     requires { Ready S.TextSink out.old }
-    ensures { Prints S.TextSink out.old (map encode_utf8 (escaped quote c)) result out.new }
+    ensures { Prints S.TextSink out.old (map encode_utf8 (literal_escape quote c)) result out.new }
 {
     match escape_of(quote, c) {
         Escape::Itself => put_char(c, out),
@@ -148,8 +148,9 @@ fn put_escaped<S: TextSink>(
     }
 }
 
-#[tactic(auto, using(demangle_sink::proofs::PrintsLemmas::prints_ready))]
 /// Puts the literal of a character: its quote, the character, and its quote.
+#[tactic(auto, using(demangle_sink::proofs::PrintsLemmas::prints_ready))]
+#[inline(never)]
 pub fn put_char_literal<S: TextSink>(
     c: char,
     out: &mut SizeLimitedFmtAdapter<'_, S>,

@@ -13,8 +13,8 @@ mod tests;
 /// How many characters a decoded name has at most.
 pub const SMALL_PUNYCODE_LEN: usize = 128;
 
-// A delta above this gives no character, whatever stands before it: with at most 129 characters the
-// number of the character rises by at least 0x110000.
+/// A delta above this gives no character, whatever stands before it: with at most 129 characters the
+/// number of the character rises by at least 0x110000.
 const MOST: u64 = 0x11_0000 * 129 - 1;
 
 fn digit_of(byte: u8) -> Option<u64>
@@ -27,7 +27,7 @@ fn digit_of(byte: u8) -> Option<u64>
     }
 }
 
-// The digit at a place of the symbol.
+/// The digit at a place of the symbol.
 fn digit_at(symbol: &Symbol<'_>, place: usize, looks: &mut Looks) -> Option<u64>
     requires { place < length symbol.now }
     ensures digit { result ≡ digit_of (slice_index symbol.now place) }
@@ -47,7 +47,7 @@ fn threshold(place: u64, bias: u64) -> u64
     place.saturating_sub(bias).max(1).min(26)
 }
 
-// The bias behind a delta.
+/// The bias behind a delta.
 fn adapted(delta: u64, count: u64, first: bool) -> u64
     requires small { delta ≤ MOST }
     requires some { 0 < count }
@@ -63,7 +63,7 @@ fn adapted(delta: u64, count: u64, first: bool) -> u64
     place + 36 * delta / (delta + 38)
 }
 
-// The delta that begins a part, and the place behind it.
+/// The delta that begins a part, and the place behind it.
 fn delta_at(symbol: &Symbol<'_>, digits: Part, bias: u64, looks: &mut Looks) -> Option<(u64, usize)>
     requires some { digits.from < digits.to }
     requires inside { digits.to ≤ length symbol.now }
@@ -100,8 +100,8 @@ fn delta_at(symbol: &Symbol<'_>, digits: Part, bias: u64, looks: &mut Looks) -> 
     None
 }
 
+/// The characters of an ASCII part, if they are not too many.
 #[tactic(auto, using(crate::proofs::Digits::range_more, demangle_sink::proofs::Parts::part_none))]
-// The characters of an ASCII part, if they are not too many.
 fn ascii_characters(
     symbol: &Symbol<'_>,
     ascii: Part,
@@ -129,6 +129,7 @@ fn ascii_characters(
 
 /// The characters of a name with a Punycode part. There are none where a digit is bad, a delta is
 /// not finished, a value is no Unicode scalar value, or the characters are more than 128.
+#[inline(never)]
 fn decode(
     symbol: &Symbol<'_>,
     name: Ident,

@@ -10,9 +10,10 @@ use crate::cursor::{Looks, ParseError, Part, Symbol};
 pub const MAX_NIBBLES: usize = 32;
 
 impl<'s> Symbol<'s> {
-    #[tactic(auto, using(crate::proofs::Hex::hex_steps, crate::proofs::Hex::hex_reads))]
     /// The hex word at a place: its nibbles, and the place behind its `_`. It is Invalid where
     /// another byte, or the end, comes before the `_`.
+    #[tactic(auto, using(crate::proofs::Hex::hex_steps, crate::proofs::Hex::hex_reads))]
+    #[inline(never)]
     pub fn hex_nibbles(&self, place: usize, looks: &mut Looks) -> Result<(Part, usize), ParseError>
         ensures ok { IfOk result (λ r. Hex self.now place r.1 r.0.to × (r.0.from ≡ place)) }
         ensures err { OnErr result ((j end : ℕ) → Hex self.now place j end → ⊥) }
@@ -42,8 +43,8 @@ impl<'s> Symbol<'s> {
         Err(ParseError::Invalid)
     }
 
-    #[tactic(auto, using(crate::proofs::Hex::zeros_steps))]
     /// Where the leading zeros of a part end.
+    #[tactic(auto, using(crate::proofs::Hex::zeros_steps))]
     fn behind_zeros(&self, part: Part, looks: &mut Looks) -> usize
         requires order { part.from ≤ part.to }
         requires inside { part.to ≤ length self.now }
@@ -61,8 +62,9 @@ impl<'s> Symbol<'s> {
         part.to
     }
 
-    #[tactic(auto, using(crate::proofs::Hex::number_steps), unfolding(crate::specs::Words::number_of))]
     /// The number of the nibbles of a hex word, if at most 32 are left behind its leading zeros.
+    #[tactic(auto, using(crate::proofs::Hex::number_steps), unfolding(crate::specs::Words::number_of))]
+    #[inline(never)]
     pub fn hex_number(&self, nibbles: Part, looks: &mut Looks) -> Option<u128>
         requires { (j : ℕ) × Hex self.now nibbles.from j nibbles.to }
         ensures number { result ≡ number_of (slice_range self.now nibbles.from nibbles.to) }

@@ -1,6 +1,7 @@
 //! The identifiers of a v0 symbol.
-ghost use Rattle.std.specs.Prelude.{◌≡◌, ℕ, ◌+◌, ◌-◌, ◌*◌, ◌<◌, ◌≤◌, ◌^◌, length, IfOk, OnErr, IfErr, option_map};
+ghost use Rattle.std.specs.Prelude.{◌≡◌, ℕ, ◌+◌, ◌-◌, ◌*◌, ◌<◌, ◌≤◌, ◌^◌, length, true, IfOk, OnErr, IfErr, option_map};
 ghost use Rattle.std.specs.Result.{result_ok};
+ghost use Rattle.demangle_symbol.specs.Digits.{is_byte};
 ghost use Rattle.demangle_symbol.specs.Words.{Name, Length, Identifier, identifier_at, tail_len};
 ghost use Rattle.demangle_symbol.specs.Idents.{IsIdent, LiesWithin, name_in, name_size};
 
@@ -14,8 +15,9 @@ pub struct Ident {
 }
 
 impl<'s> Symbol<'s> {
-    #[tactic(auto, using(crate::proofs::Idents::length_steps))]
     /// The length at a place, and the place behind it.
+    #[tactic(auto, using(crate::proofs::Idents::length_steps))]
+    #[inline(always)]
     fn length(&self, place: usize, looks: &mut Looks) -> Result<(usize, usize), ParseError>
         ensures ok { IfOk result (λ r. Length self.now place r.1 r.0) }
         ensures err { OnErr result ((j v : ℕ) → v < 2 ^ 64 → Length self.now place j v → ⊥) }
@@ -28,11 +30,23 @@ impl<'s> Symbol<'s> {
         if self.is_at(b'0', place, looks) {
             return Ok((0, place + 1));
         }
-        self.decimal(place, looks)
+        let Some(first) = self.digit(place, looks) else {
+            return Err(ParseError::Invalid);
+        };
+        // Most names have fewer than 100 bytes.
+        let one = u64::from(first);
+        let Some(second) = self.digit(place + 1, looks) else {
+            return Ok((one as usize, place + 1));
+        };
+        let two = one * 10 + u64::from(second);
+        let Some(third) = self.digit(place + 2, looks) else {
+            return Ok((two as usize, place + 2));
+        };
+        self.decimal_from(two * 10 + u64::from(third), place, place + 3, looks)
     }
 
-    #[tactic(auto, using(crate::proofs::Idents::tail_steps))]
     /// Where the bytes behind the last `_` of a part begin, or the part where it has none.
+    #[tactic(auto, using(crate::proofs::Idents::tail_steps))]
     fn tail(&self, from: usize, to: usize, looks: &mut Looks) -> usize
         requires order { from ≤ to }
         requires inside { to ≤ length self.now }
@@ -49,9 +63,10 @@ impl<'s> Symbol<'s> {
         from
     }
 
-    #[tactic(auto, using(crate::proofs::Idents::ident_steps, crate::proofs::Idents::ident_reads))]
     /// The identifier at a place, and the place behind it. It is Invalid without a length, where
     /// the length goes past the end, and where nothing is left for the Punycode part behind a `u`.
+    #[tactic(auto, using(crate::proofs::Idents::ident_steps, crate::proofs::Idents::ident_reads))]
+    #[inline(always)]
     pub fn ident(&self, place: usize, looks: &mut Looks) -> Result<(Ident, usize), ParseError>
         ensures ok { IfOk result (λ r. IsIdent self.now place r.1 r.0) }
         ensures err { OnErr result ((j : ℕ) (ident : Ident) → IsIdent self.now place j ident → ⊥) }
@@ -71,8 +86,10 @@ impl<'s> Symbol<'s> {
         ensures once { IfOk result (λ r. looks.new ≤ looks.old + (r.1 - place) + 4) }
         ensures within { IfOk result (λ r. (place < r.1) × (r.1 ≤ length self.now)) }
     {
-        let digits = self.skip(b'u', place, looks);
-        let Ok((len, digits_end)) = self.length(digits, looks) else {
+        if self.is_at(b'u', place, looks) {
+            return self.punycode_ident(place, looks);
+        }
+        let Ok((len, digits_end)) = self.length(place, looks) else {
             return Err(ParseError::Invalid);
         };
         let from = self.skip(b'_', digits_end, looks);
@@ -80,13 +97,41 @@ impl<'s> Symbol<'s> {
             return Err(ParseError::Invalid);
         }
         let to = from + len;
-        if digits == place {
-            let name = Ident {
-                ascii: Part { from, to },
-                punycode: Part { from: to, to },
-            };
-            return Ok((name, to));
+        let name = Ident {
+            ascii: Part { from, to },
+            punycode: Part { from: to, to },
+        };
+        Ok((name, to))
+    }
+
+    #[tactic(auto, using(crate::proofs::Idents::ident_steps))]
+    // The identifier at a place where a `u` stands, which was looked at before. Few have one, and
+    // the code of those without stays short where this stands alone.
+    #[inline(never)]
+    fn punycode_ident(&self, place: usize, looks: &mut Looks) -> Result<(Ident, usize), ParseError>
+        requires u { is_byte self.now place 117 ≡ true }
+        requires inside { place < length self.now }
+        requires fits { length self.now < 2 ^ 64 }
+        ensures ok { IfOk result (λ r. IsIdent self.now place r.1 r.0) }
+        ensures err { OnErr result ((j : ℕ) (ident : Ident) → IsIdent self.now place j ident → ⊥) }
+        ensures parts { IfOk result (λ r. LiesWithin self.now r.0) }
+        ensures fault { IfErr result (λ e. e ≡ ParseError.Invalid) }
+        ensures grows { looks.old ≤ looks.new }
+        ensures ok_looks { IfOk result
+            (λ r. looks.new + 1 + name_size r.0 ≤ looks.old + 4 * (r.1 - place + 1)) }
+        ensures err_looks { OnErr result
+            (looks.new + 1 ≤ looks.old + 4 * (length self.now - place + 1)) }
+        ensures once { IfOk result (λ r. looks.new + 1 ≤ looks.old + (r.1 - place) + 4) }
+        ensures within { IfOk result (λ r. (place < r.1) × (r.1 ≤ length self.now)) }
+    {
+        let Ok((len, digits_end)) = self.length(place + 1, looks) else {
+            return Err(ParseError::Invalid);
+        };
+        let from = self.skip(b'_', digits_end, looks);
+        if self.len() - from < len {
+            return Err(ParseError::Invalid);
         }
+        let to = from + len;
         let tail = self.tail(from, to, looks);
         if tail == to {
             return Err(ParseError::Invalid);

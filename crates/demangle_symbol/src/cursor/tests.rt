@@ -18,7 +18,7 @@ fn namespace(text: &str) -> Result<(u8, usize), ParseError> {
     Symbol::new(text).namespace(0, &mut Looks::new())
 }
 
-// Where the parts of a name begin and end, and the place behind it.
+/// Where the parts of a name begin and end, and the place behind it.
 fn parts(text: &str) -> Result<(usize, usize, usize, usize, usize), ParseError> {
     let (name, next) = Symbol::new(text).ident(0, &mut Looks::new())?;
     let Ident { ascii, punycode } = name;

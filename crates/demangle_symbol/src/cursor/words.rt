@@ -2,7 +2,7 @@
 ghost use Rattle.std.specs.Prelude.{◌≡◌, ℕ, ◌+◌, ◌-◌, ◌*◌, ◌<◌, ◌≤◌, ◌^◌, length, true, false, IfOk, OnErr, IfErr, IfSome, MatchOption, option_map};
 ghost use Rattle.std.specs.Result.{result_ok};
 ghost use Rattle.demangle_symbol.specs.Words.{byte_at, integer_at, optional_at, namespace_at, backref_at, Integer, OptInteger, Namespace, Backref, behind, is_digit_62, digit_62};
-ghost use Rattle.demangle_symbol.specs.Idents.{referred};
+ghost use Rattle.demangle_symbol.specs.Idents.{backref_answer};
 
 use crate::cursor::{Looks, ParseError, Symbol, with_digit};
 
@@ -10,9 +10,10 @@ use crate::cursor::{Looks, ParseError, Symbol, with_digit};
 pub const MAX_DEPTH: u32 = 500;
 
 impl<'s> Symbol<'s> {
-    #[tactic(auto, using(crate::proofs::Integers::integer_steps, crate::proofs::Integers::integer_reads))]
     /// The integer at a place, and the place behind it. It is Invalid where none is spelled there,
     /// and where it is not below 2^64.
+    #[tactic(auto, using(crate::proofs::Integers::integer_steps, crate::proofs::Integers::integer_reads))]
+    #[inline(never)]
     pub fn integer_62(&self, place: usize, looks: &mut Looks) -> Result<(u64, usize), ParseError>
         ensures ok { IfOk result (λ r. Integer self.now place r.1 r.0) }
         ensures err { OnErr result ((j v : ℕ) → Integer self.now place j v → ⊥) }
@@ -29,7 +30,10 @@ impl<'s> Symbol<'s> {
             let Some(byte) = self.byte(at, looks) else {
                 return Err(ParseError::Invalid);
             };
-            if byte == b'_' {
+            let Some(digit) = digit_62_of(byte) else {
+                if byte != b'_' {
+                    return Err(ParseError::Invalid);
+                }
                 if at == place {
                     return Ok((0, at + 1));
                 }
@@ -37,9 +41,6 @@ impl<'s> Symbol<'s> {
                     return Err(ParseError::Invalid);
                 };
                 return Ok((value, at + 1));
-            }
-            let Some(digit) = digit_62_of(byte) else {
-                return Err(ParseError::Invalid);
             };
             let Some(sum) = with_digit(number, 62, digit) else {
                 return Err(ParseError::Invalid);
@@ -49,9 +50,10 @@ impl<'s> Symbol<'s> {
         Err(ParseError::Invalid)
     }
 
-    #[tactic(auto, using(crate::proofs::Integers::optional_reads))]
     /// The integer behind a tag and one more, or 0 where the tag is not there. It is Invalid where
     /// the tag has no integer behind it, and where the sum is not below 2^64.
+    #[tactic(auto, using(crate::proofs::Integers::optional_reads))]
+    #[inline(always)]
     pub fn opt_integer_62(
         &self,
         tag: u8,
@@ -83,6 +85,7 @@ impl<'s> Symbol<'s> {
 
     /// The disambiguator at a place, which is 0 where there is none. It is Invalid as for an
     /// integer behind a tag.
+    #[inline(always)]
     pub fn disambiguator(&self, place: usize, looks: &mut Looks) -> Result<(u64, usize), ParseError>
         ensures ok { IfOk result (λ r. OptInteger 115 self.now place r.1 r.0) }
         ensures err { OnErr result ((j v : ℕ) → OptInteger 115 self.now place j v → ⊥) }
@@ -98,8 +101,8 @@ impl<'s> Symbol<'s> {
         self.opt_integer_62(b's', place, looks)
     }
 
-    #[tactic(auto, unfolding(crate::specs::Words::byte_at))]
     /// The byte at a place, read as a word, and the place behind it. It is Invalid at the end.
+    #[tactic(auto, unfolding(crate::specs::Words::byte_at))]
     pub fn tag(&self, place: usize, looks: &mut Looks) -> Result<(u8, usize), ParseError>
         ensures read { result_ok result ≡ byte_at self.now place }
         ensures fault { IfErr result (λ e. e ≡ ParseError.Invalid) }
@@ -112,8 +115,8 @@ impl<'s> Symbol<'s> {
         Ok((byte, place + 1))
     }
 
-    #[tactic(auto, unfolding(crate::specs::Words::namespace_at))]
     /// The letter of a namespace, and the place behind it. Any other byte is Invalid.
+    #[tactic(auto, unfolding(crate::specs::Words::namespace_at))]
     pub fn namespace(&self, place: usize, looks: &mut Looks) -> Result<(u8, usize), ParseError>
         ensures ok { IfOk result (λ r. Namespace self.now place r.0 × (r.1 ≡ place + 1)) }
         ensures err { OnErr result ((b : ℕ) → Namespace self.now place b → ⊥) }
@@ -128,11 +131,12 @@ impl<'s> Symbol<'s> {
         }
     }
 
-    #[tactic(auto, unfolding(crate::specs::Words::backref_at))]
     /// The target of a back reference whose `B` stands in front of `place`, and the place behind
     /// its word. It is Invalid where no integer is spelled, and where the target does not lie in
     /// front of the `B`. Then it is RecursedTooDeep where `depth`, that of the reference, has no
     /// depth below it.
+    #[tactic(auto, unfolding(crate::specs::Words::backref_at))]
+    #[inline(always)]
     pub fn backref(
         &self,
         place: usize,
@@ -146,7 +150,7 @@ impl<'s> Symbol<'s> {
             ((j target : ℕ) → Backref self.now place j target → ⊥) }
         ensures too_deep { result ≡ Err ParseError.RecursedTooDeep →
             (depth ≡ MAX_DEPTH) × ((j target : ℕ) × Backref self.now place j target) }
-        ensures read { result ≡ referred depth (backref_at self.now place) }
+        ensures read { result ≡ backref_answer depth (backref_at self.now place) }
         ensures grows { looks.old ≤ looks.new }
         ensures ok_looks { IfOk result (λ r. looks.new ≤ looks.old + 4 * (r.1 - place + 1)) }
         ensures err_looks { OnErr result
@@ -181,14 +185,32 @@ impl<'s> Symbol<'s> {
     }
 }
 
+// The value of each digit in base 62, and 255 at each other byte.
+#[rattlefmt::skip]
+static DIGITS_62: [u8; 256] = [
+    255, 255, 255, 255, 255, 255, 255, 255, 255, 255, 255, 255, 255, 255, 255, 255,
+    255, 255, 255, 255, 255, 255, 255, 255, 255, 255, 255, 255, 255, 255, 255, 255,
+    255, 255, 255, 255, 255, 255, 255, 255, 255, 255, 255, 255, 255, 255, 255, 255,
+    0, 1, 2, 3, 4, 5, 6, 7, 8, 9, 255, 255, 255, 255, 255, 255,
+    255, 36, 37, 38, 39, 40, 41, 42, 43, 44, 45, 46, 47, 48, 49, 50,
+    51, 52, 53, 54, 55, 56, 57, 58, 59, 60, 61, 255, 255, 255, 255, 255,
+    255, 10, 11, 12, 13, 14, 15, 16, 17, 18, 19, 20, 21, 22, 23, 24,
+    25, 26, 27, 28, 29, 30, 31, 32, 33, 34, 35, 255, 255, 255, 255, 255,
+    255, 255, 255, 255, 255, 255, 255, 255, 255, 255, 255, 255, 255, 255, 255, 255,
+    255, 255, 255, 255, 255, 255, 255, 255, 255, 255, 255, 255, 255, 255, 255, 255,
+    255, 255, 255, 255, 255, 255, 255, 255, 255, 255, 255, 255, 255, 255, 255, 255,
+    255, 255, 255, 255, 255, 255, 255, 255, 255, 255, 255, 255, 255, 255, 255, 255,
+    255, 255, 255, 255, 255, 255, 255, 255, 255, 255, 255, 255, 255, 255, 255, 255,
+    255, 255, 255, 255, 255, 255, 255, 255, 255, 255, 255, 255, 255, 255, 255, 255,
+    255, 255, 255, 255, 255, 255, 255, 255, 255, 255, 255, 255, 255, 255, 255, 255,
+    255, 255, 255, 255, 255, 255, 255, 255, 255, 255, 255, 255, 255, 255, 255, 255,
+];
+
+#[inline(always)]
 fn digit_62_of(byte: u8) -> Option<u8>
     ensures { MatchOption result
         (is_digit_62 byte ≡ false) (λ d. (is_digit_62 byte ≡ true) × (d ≡ digit_62 byte)) }
 {
-    match byte {
-        b'0'..=b'9' => Some(byte - b'0'),
-        b'a'..=b'z' => Some(byte - b'a' + 10),
-        b'A'..=b'Z' => Some(byte - b'A' + 36),
-        _ => None,
-    }
+    let digit = DIGITS_62[usize::from(byte)];
+    if digit < 62 { Some(digit) } else { None }
 }

@@ -4,7 +4,7 @@ ghost use Rattle.std.specs.Str.{IsUtf8};
 ghost use Rattle.std.specs.Char.{IsScalar};
 ghost use Rattle.demangle_sink.specs.Limit.{Prints, Ready};
 ghost use Rattle.demangle_symbol.specs.Literals.{literal, string_of};
-ghost use Rattle.demangle_symbol.specs.Nibbles.{HexPart, nibbles_in, characters_of, written};
+ghost use Rattle.demangle_symbol.specs.Nibbles.{HexPart, nibbles_in, characters_of, character_pieces};
 ghost use Rattle.demangle_symbol.specs.Words.{is_nibble, nibble};
 
 use crate::cursor::{Looks, Part, Symbol, nibble_of};
@@ -15,11 +15,11 @@ use std::str;
 /// The characters that the nibbles of a string constant spell, one after another.
 #[derive(Clone, Copy)]
 pub struct StrChars {
-    // The nibbles that are left.
+    /// The nibbles that are left.
     rest: Part,
 }
 
-// The nibble at a place.
+/// The nibble at a place.
 fn nibble_at(symbol: &Symbol<'_>, place: usize, looks: &mut Looks) -> u8
     requires inside { place < length symbol.now }
     requires hex { IsTrue (is_nibble (slice_index symbol.now place)) }
@@ -36,8 +36,8 @@ fn nibble_at(symbol: &Symbol<'_>, place: usize, looks: &mut Looks) -> u8
     }
 }
 
+/// The byte of the two nibbles from a place on.
 #[tactic(auto, using(crate::proofs::Nibbles::nibble_steps))]
-// The byte of the two nibbles from a place on.
 fn byte_at(symbol: &Symbol<'_>, rest: Part, place: usize, looks: &mut Looks) -> u8
     requires hex { HexPart symbol.now rest }
     requires begun { rest.from ≤ place }
@@ -51,7 +51,7 @@ fn byte_at(symbol: &Symbol<'_>, rest: Part, place: usize, looks: &mut Looks) -> 
     high * 16 + low
 }
 
-// The first character of these bytes, if they are a text.
+/// The first character of these bytes, if they are a text.
 fn first_char(bytes: &[u8]) -> Option<char>
     requires { 0 < length bytes.now }
     ensures scalar { IfSome result (λ c. IsScalar c) }
@@ -65,7 +65,7 @@ fn first_char(bytes: &[u8]) -> Option<char>
     text.chars().next()
 }
 
-// The character that a part begins with, and the place behind it.
+/// The character that a part begins with, and the place behind it.
 fn char_at(symbol: &Symbol<'_>, rest: Part, looks: &mut Looks) -> Option<(char, usize)>
     requires hex { HexPart symbol.now rest }
     requires some { rest.from < rest.to }
@@ -107,8 +107,8 @@ impl StrChars {
         self.rest.to <= self.rest.from
     }
 
-    #[tactic(auto, using(crate::proofs::Nibbles::hex_later))]
     /// The next character, or none where the nibbles begin no character.
+    #[tactic(auto, using(crate::proofs::Nibbles::hex_later))]
     pub fn next(&mut self, symbol: &Symbol<'_>, looks: &mut Looks) -> Option<char>
         requires hex { HexPart symbol.now self.old.rest }
         requires some { self.old.rest.from < self.old.rest.to }
@@ -134,8 +134,9 @@ impl StrChars {
     }
 }
 
-#[tactic(auto, using(crate::proofs::StringPieces::text_steps))]
 /// Whether the nibbles of a hex word spell a text: an even number of them, whose bytes are UTF-8.
+#[tactic(auto, using(crate::proofs::StringPieces::text_steps))]
+#[inline(never)]
 pub fn is_string(symbol: &Symbol<'_>, nibbles: Part, looks: &mut Looks) -> bool
     requires { HexPart symbol.now nibbles }
     ensures text { result ≡ is_some (string_of (nibbles_in symbol.now nibbles)) }
@@ -151,8 +152,8 @@ pub fn is_string(symbol: &Symbol<'_>, nibbles: Part, looks: &mut Looks) -> bool
     true
 }
 
+/// Puts the characters of a string literal.
 #[tactic(auto, using(demangle_sink::proofs::PrintsLemmas::prints_ready, demangle_sink::proofs::PrintsLemmas::prints_nothing))]
-// Puts the characters of a string literal.
 fn put_characters<S: TextSink>(
     symbol: &Symbol<'_>,
     nibbles: Part,
@@ -163,7 +164,7 @@ fn put_characters<S: TextSink>(
     requires text { IsSome (string_of (nibbles_in symbol.now nibbles)) }
     requires ready { Ready S.TextSink out.old }
     ensures prints { Prints S.TextSink out.old
-        (written (characters_of (nibbles_in symbol.now nibbles))) result out.new }
+        (character_pieces (characters_of (nibbles_in symbol.now nibbles))) result out.new }
     ensures grows { looks.old ≤ looks.new }
     ensures looks { looks.new ≤ looks.old + (nibbles.to - nibbles.from) }
 {
@@ -177,8 +178,9 @@ fn put_characters<S: TextSink>(
     Ok(())
 }
 
-#[tactic(auto, using(demangle_sink::proofs::PrintsLemmas::prints_ready))]
 /// Puts the literal of a string constant: its quote, the characters, and its quote.
+#[tactic(auto, using(demangle_sink::proofs::PrintsLemmas::prints_ready))]
+#[inline(never)]
 pub fn put_string_literal<S: TextSink>(
     symbol: &Symbol<'_>,
     nibbles: Part,

@@ -1,16 +1,16 @@
 //! How names print.
-ghost use Rattle.std.specs.Prelude.{◌≡◌, ◌+◌, ◌-◌, ◌≤◌, IsAscii};
+ghost use Rattle.std.specs.Prelude.{◌≡◌, ◌+◌, ◌-◌, ◌<◌, ◌≤◌, IsAscii};
 ghost use Rattle.demangle_symbol.specs.Idents.{LiesWithin, ascii_front, name_in, name_size};
 ghost use Rattle.demangle_sink.specs.Limit.{Prints, Ready};
-ghost use Rattle.demangle_symbol.specs.Names.{name_pieces, undecoded};
+ghost use Rattle.demangle_symbol.specs.Names.{name_pieces, fallback_pieces};
 
 use crate::cursor::{Ident, Looks, Symbol};
 use crate::punycode::decode;
 use demangle_sink::{SinkRefused, SizeLimitedFmtAdapter, TextSink, put_chars};
 
 impl Ident {
+    /// Puts the ASCII part and `-`, where it is not empty.
     #[tactic(auto, using(demangle_sink::proofs::PrintsLemmas::prints_ready, demangle_sink::proofs::PrintsLemmas::prints_nothing))]
-    // Puts the ASCII part and `-`, where it is not empty.
     fn write_ascii<S: TextSink>(
         &self,
         symbol: &Symbol<'_>,
@@ -29,8 +29,8 @@ impl Ident {
         out.put("-")
     }
 
+    /// Puts the parts as they stand, where they can't be decoded.
     #[tactic(auto, using(demangle_sink::proofs::PrintsLemmas::prints_ready))]
-    // Puts the parts as they stand, where they can't be decoded.
     fn write_undecoded<S: TextSink>(
         &self,
         symbol: &Symbol<'_>,
@@ -40,7 +40,7 @@ impl Ident {
         requires ascii { IsAscii symbol.now }
         requires ready { Ready S.TextSink out.old }
         ensures { Prints S.TextSink out.old
-            (undecoded (name_in symbol.now self.now)) result out.new }
+            (fallback_pieces (name_in symbol.now self.now)) result out.new }
     {
         out.put("punycode{")?;
         self.write_ascii(symbol, out)?;
@@ -48,8 +48,33 @@ impl Ident {
         out.put("}")
     }
 
+    // Puts the decoded characters of a name with a Punycode part. Most names have none, and their
+    // printing stays short where this stands alone.
+    #[inline(never)]
+    fn write_decoded<S: TextSink>(
+        &self,
+        symbol: &Symbol<'_>,
+        out: &mut SizeLimitedFmtAdapter<'_, S>,
+        looks: &mut Looks,
+    ) -> Result<(), SinkRefused>
+        requires parts { LiesWithin symbol.now self.now }
+        requires some { self.now.punycode.from < self.now.punycode.to }
+        requires ascii { IsAscii symbol.now }
+        requires ready { Ready S.TextSink out.old }
+        ensures prints { Prints S.TextSink out.old
+            (name_pieces (name_in symbol.now self.now)) result out.new }
+        ensures grows { looks.old ≤ looks.new }
+        ensures looks { looks.new ≤ looks.old + name_size self.now }
+    {
+        match decode(symbol, *self, looks) {
+            Some(characters) => put_chars(&characters, out),
+            None => self.write_undecoded(symbol, out),
+        }
+    }
+
     /// Puts a name: its ASCII part, where it has no Punycode part, or its decoded characters. Where
     /// these can't be decoded it puts both parts between `punycode{` and `}`.
+    #[inline(always)]
     pub fn write_to<S: TextSink>(
         &self,
         symbol: &Symbol<'_>,
@@ -67,9 +92,6 @@ impl Ident {
         if self.punycode.to <= self.punycode.from {
             return symbol.span(self.ascii).write_to(out);
         }
-        match decode(symbol, *self, looks) {
-            Some(characters) => put_chars(&characters, out),
-            None => self.write_undecoded(symbol, out),
-        }
+        self.write_decoded(symbol, out, looks)
     }
 }

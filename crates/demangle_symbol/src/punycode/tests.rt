@@ -2,7 +2,7 @@
 use crate::cursor::{Looks, Symbol};
 use demangle_sink::{ArraySink, SizeLimitedFmtAdapter};
 
-// Whether the identifier at the front of a text prints so.
+/// Whether the identifier at the front of a text prints so.
 fn prints(identifier: &str, text: &str) -> bool {
     let symbol = Symbol::new(identifier);
     let mut looks = Looks::new();

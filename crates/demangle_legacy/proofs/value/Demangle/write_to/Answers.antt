@@ -1,8 +1,7 @@
-use Rattle.std.proofs.Common.{◌++◌, slice_range, drop, refl, sym, arith}
+use Rattle.std.proofs.Common.{drop, inl, inr, refl, sym, arith}
 use Rattle.demangle_legacy.specs.Legacy.{elements_of}
-use Rattle.demangle_legacy.specs.Unescaped.{unescaped, legacy_pieces, continued, shown}
-use Rattle.demangle_legacy.proofs.LegacyPrinting.{elements_end, left_none, left_behind, same_behind, turn_first, turn_next, turn_hash}
-use Rattle.demangle_sink.specs.Printed.{Printed}
+use Rattle.demangle_legacy.specs.Unescaped.{following_pieces, shown_elements}
+use Rattle.demangle_legacy.proofs.LegacyPrinting.{elements_end, left_none, left_behind, same_behind, turn_next, turn_begun, turn_hash}
 use Rattle.demangle_sink.proofs.Printed.{printed_left, printed_then, printed_stop, printed_all}
 use Rattle.demangle_legacy.proofs.value.Demangle.write_to.Goals as goal
 use Rattle.demangle_legacy.proofs.value.Demangle.write_to.Goals.{then-at-gt0+in_ok-put, else-at-gt0}
@@ -25,16 +24,13 @@ pub returns-in_err-put_element-clause-prints : goal.returns-in_err-put_element-c
 returns-in_err-put_element-clause-prints g c =
     let s = c.self.inside.inner in
     let e = c.in-Some.element in
-    let hash = c.args.include_hash in
-    let at = c.loop-element.at in
-    let mid : Printed g.S.TextSink c.args.out.now (legacy_pieces hash (elements_of s)) (unescaped (slice_range s e.from e.to) ++ continued (shown hash (elements_of (drop e.to s)))) c.if-at-gt0.out =
-    elim c.if-at-gt0.branch [
-      | then-at-gt0+in_ok-put w ↦ rw w.out-is (printed_then g.S.TextSink _ _ _ _ _ _ _ c.loop-element.invariant.printed
-          (turn_next s hash at e.from e.to c.self.invariant.1 c.loop-element.invariant.same (sym c.in-Some.ensures.element) (sym c.if-is_left_out.ensures.hash) (omega arith)) w.in_ok-put.ensures)
-      | else-at-gt0 w ↦ rw w.out-is (printed_left g.S.TextSink _ _ _ _ _ c.loop-element.invariant.printed
-          (turn_first s hash at e.from e.to c.self.invariant.1 c.loop-element.invariant.same (sym c.in-Some.ensures.element) (sym c.if-is_left_out.ensures.hash) (omega arith)))
-    ] in
-    rw (← c.self.view_is) (printed_stop g.S.TextSink _ _ _ _ _ _ _ _ _ mid refl c.in_err-put_element.ensures.prints c.from_residual-in_err-put_element.ensures.0)
+    let begun = turn_begun s c.args.include_hash c.loop-element.at e.from e.to c.self.invariant.1 c.loop-element.invariant.same (sym c.in-Some.ensures.element) (sym c.if-is_left_out.ensures.hash)
+    g.S.TextSink c.args.out.now c.loop-element.out c.if-at-gt0.out _ c.loop-element.invariant.printed (elim c.if-at-gt0.branch [
+      | then-at-gt0+in_ok-put w ↦ rw w.out-is (inl (omega arith, w.in_ok-put.ensures))
+      | else-at-gt0 w ↦ rw w.out-is (inr (omega arith, refl))
+    ])
+    in
+    rw (← c.self.view_is) (printed_stop g.S.TextSink _ _ _ _ _ _ _ _ _ begun refl c.in_err-put_element.ensures.prints c.from_residual-in_err-put_element.ensures.0)
 
 pub loop-element-preserved : goal.loop-element-preserved
 loop-element-preserved g c =
@@ -42,14 +38,13 @@ loop-element-preserved g c =
     let e = c.in-Some.element in
     let hash = c.args.include_hash in
     let at = c.loop-element.at in
-    let mid : Printed g.S.TextSink c.args.out.now (legacy_pieces hash (elements_of s)) (unescaped (slice_range s e.from e.to) ++ continued (shown hash (elements_of (drop e.to s)))) c.if-at-gt0.out =
-    elim c.if-at-gt0.branch [
-      | then-at-gt0+in_ok-put w ↦ rw w.out-is (printed_then g.S.TextSink _ _ _ _ _ _ _ c.loop-element.invariant.printed
-          (turn_next s hash at e.from e.to c.self.invariant.1 c.loop-element.invariant.same (sym c.in-Some.ensures.element) (sym c.if-is_left_out.ensures.hash) (omega arith)) w.in_ok-put.ensures)
-      | else-at-gt0 w ↦ rw w.out-is (printed_left g.S.TextSink _ _ _ _ _ c.loop-element.invariant.printed
-          (turn_first s hash at e.from e.to c.self.invariant.1 c.loop-element.invariant.same (sym c.in-Some.ensures.element) (sym c.if-is_left_out.ensures.hash) (omega arith)))
-    ] in
-    let done = printed_then g.S.TextSink _ _ _ _ _ _ (continued (shown hash (elements_of (drop e.to s)))) mid refl c.in_ok-put_element.ensures.prints in
+    let begun = turn_begun s hash at e.from e.to c.self.invariant.1 c.loop-element.invariant.same (sym c.in-Some.ensures.element) (sym c.if-is_left_out.ensures.hash)
+    g.S.TextSink c.args.out.now c.loop-element.out c.if-at-gt0.out _ c.loop-element.invariant.printed (elim c.if-at-gt0.branch [
+      | then-at-gt0+in_ok-put w ↦ rw w.out-is (inl (omega arith, w.in_ok-put.ensures))
+      | else-at-gt0 w ↦ rw w.out-is (inr (omega arith, refl))
+    ])
+    in
+    let done = printed_then g.S.TextSink _ _ _ _ _ _ (following_pieces (shown_elements hash (elements_of (drop e.to s)))) begun refl c.in_ok-put_element.ensures.prints in
     record {
       inside = omega (arith, c.in-Some.ensures.within);
       same = same_behind s hash at e.from e.to c.self.invariant.1 c.loop-element.invariant.same (sym c.in-Some.ensures.element);

@@ -1,7 +1,7 @@
 use Rattle.std.proofs.Common.{◌≡◌, ℕ, List, [], ◌∷◌, ◌++◌, append_assoc, sym, refl, ap, ◌∙◌, arith}
-use Rattle.demangle_symbol.specs.Nibbles.{nibbles_in, characters_of, written}
+use Rattle.demangle_symbol.specs.Nibbles.{nibbles_in, characters_of, character_pieces}
 use Rattle.demangle_sink.proofs.PrintsLemmas.{prints_then, prints_stop}
-use Rattle.demangle_symbol.proofs.StringPieces.{characters_on, characters_all, text_left, written-push, written-split}
+use Rattle.demangle_symbol.proofs.StringPieces.{characters_on, characters_all, text_left, character_pieces-push, character_pieces-split}
 use Rattle.demangle_symbol.proofs.literal.strings.put_characters.Goals as goal
 
 pub loop-chars-preserved : goal.loop-chars-preserved
@@ -21,7 +21,7 @@ loop-chars-preserved g c =
       put = (
         p.0 ++ c.in-Some.c ∷ [],
         on ∙ sym (append_assoc p.0 (c.in-Some.c ∷ []) rest),
-        rw (written-push p.0 c.in-Some.c) (prints_then g.S.TextSink _ _ _ _ _ _ _ p.2 refl c.in_ok-put_escaped.ensures),
+        rw (character_pieces-push p.0 c.in-Some.c) (prints_then g.S.TextSink _ _ _ _ _ _ _ p.2 refl c.in_ok-put_escaped.ensures),
       );
       grows = omega (arith, n.grows);
       looked = omega (arith, n.some_looks);
@@ -34,7 +34,7 @@ returns-in_err-put_escaped-clause-prints g c =
     let p = l.invariant.put in
     let rest : List ℕ = characters_of (nibbles_in s c.next.new.self.rest) in
     let on = characters_on s c.args.nibbles l.chars.rest c.next.new.self.rest p.0 c.in-Some.c p.1 c.in-Some.ensures.some l.invariant.text in
-    let pieces : written (characters_of (nibbles_in s c.args.nibbles)) ≡ _ = ap written on ∙ written-split p.0 rest c.in-Some.c in
+    let pieces : character_pieces (characters_of (nibbles_in s c.args.nibbles)) ≡ _ = ap character_pieces on ∙ character_pieces-split p.0 rest c.in-Some.c in
     rw pieces
     (prints_stop g.S.TextSink _ _ _ _ _ _ (prints_then g.S.TextSink _ _ _ _ _ _ _ p.2 refl c.in_err-put_escaped.ensures) refl c.from_residual.ensures.0)
 
