@@ -57,8 +57,3 @@ module _ (plain out : Bool) (r : Items) (s : Surroundings) where
   extended_reads (unit p q) e i = let o = run p s i in joined_then o (run (extended r q) s) (run q s) (extended_reads q e o.place)
   extended_reads (child k v p) e i = let o = begun s k v i in joined_then o (run (extended r p) s) (run p s) (extended_reads p e o.place)
   extended_reads p e i = absurd e
-
-  -- a unit alone
-  pub unit_alone : (p : Items) (i : Place) → of plain out (run (unit p done) s i) ≡ and_then (of plain out (run p s i)) (λ j _. record { events = []; place = j; is_open = false })
-  unfolding run
-  unit_alone p i = refl

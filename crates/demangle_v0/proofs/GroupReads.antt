@@ -1,4 +1,4 @@
--- Each word of the machine's grammar reads what its items read.
+-- Each word reads what its items read.
 use Rattle.std.specs.Prelude.{ℕ, if◌then◌else◌, ◌==◌, nat_le, codes, decimal, option_map, slice_range}
 use Rattle.std.specs.Fmt.{digits}
 use Rattle.std.proofs.Common.{◌≡◌, Bool, true, false, cond, List, [], ◌∷◌, ◌++◌, length, Option, Some, None, refl, sym, ◌∙◌, ap, ◌+◌, ◌-◌, ◌*◌, subst, arith}
@@ -14,15 +14,14 @@ use Rattle.demangle_v0.specs.Reading.{Tree, nothing, piece, looked, invalid_synt
 use Rattle.demangle_v0.specs.Grammar.{word_items, special_name, says_head, function_head, says_true, says_char}
 use Rattle.demangle_v0.specs.Events.{Event, shows, allows, said, said_all, events, Heard, of, ended, allowing, handing}
 use Rattle.demangle_v0.specs.Groups.{bytes_in, parts_of, ident_at, hex_at, nested_texts, number_texts, if_plain, texts_of, Group, goes, faulty, reading, asking, checked, abi_named, abi_group, truth_stretch, character_stretch, literal_stretch, word_group}
-use Rattle.demangle_v0.specs.Shares.{surroundings}
+use Rattle.demangle_v0.specs.Points.{around}
 use Rattle.demangle_symbol.specs.declared.cursor.Part.{Part}
 use Rattle.demangle_symbol.specs.declared.cursor.ident.Ident.{Ident}
 use Rattle.demangle_v0.specs.declared.grammar.Word.{Word}
 use Rattle.demangle_v0.specs.declared.grammar.Word.TheVariants as word
 use Rattle.demangle_v0.specs.declared.grammar.Mark.TheVariants as mark
 use Rattle.demangle_v0.specs.declared.stretch.Abi.TheVariants as abi
-use Rattle.demangle_v0.specs.declared.stretch.Stretch.TheVariants.{Nothing, Fixed, CrateName, FieldName, NestedName, Lifetime, LifetimeFault, SpacedLifetime, SpacedFault, DynLifetime, DynLifetimeFault, FunctionHead, Number, Character, BindingName}
-use Rattle.demangle_v0.specs.declared.task.Setting.{Setting}
+use Rattle.demangle_v0.specs.declared.stretch.Stretch.TheVariants.{Nothing, Fixed, CrateName, FieldName, NestedName, Lifetime, LifetimeFault, DynLifetime, DynLifetimeFault, FunctionHead, Number, Character, BindingName}
 use Rattle.demangle_v0.specs.declared.words.WordRead.{WordRead}
 use Rattle.demangle_v0.specs.declared.words.WordRead.TheVariants.{Goes, Stops}
 use Rattle.demangle_v0.proofs.Hearing.{said_all_append}
@@ -175,16 +174,6 @@ lifetime_read b plain out s n p k j = go (k == 0) refl
     go true e = zeroth out e
     go false e = lifetime_checked plain out n k j (run p s) e ∙ last out (nat_le k n) refl
 
-spaced_read : (b : List ℕ) (plain out : Bool) (s : Surroundings) (n : ℕ) (p : Items) (k j : ℕ) → (k == 0) ≡ false
-    → of plain out (followed_by (lifetime_at out n k (Some j)) (run (says " " p) s)) ≡ grouped b plain out (checked out n k j (SpacedLifetime (n - k)) SpacedFault) (λ i. of plain out (run p s i))
-unfolding run
-spaced_read b plain out s n p k j e = lifetime_checked plain out n k j (run (says " " p) s) e ∙ last out (nat_le k n) refl
-  where
-    last : (out d : Bool) → (nat_le k n) ≡ d → lifetime_heard plain out n k j (run (says " " p) s) ≡ grouped b plain out (checked out n k j (SpacedLifetime (n - k)) SpacedFault) (λ i. of plain out (run p s i))
-    last false d e = refl
-    last true true e = rw e (ap (saying true (codes "'")) (sym (handing_both true (letter_of (n - k)) (codes " " ∷ []) (of plain true (run p s (Some j))))))
-    last true false e = rw e refl
-
 plus_read : (b : List ℕ) (plain out : Bool) (s : Surroundings) (n : ℕ) (p : Items) (k j : ℕ) → (k == 0) ≡ false
     → saying out (codes " + ") (of plain out (followed_by (lifetime_at out n k (Some j)) (run p s))) ≡ grouped b plain out (checked out n k j (DynLifetime (n - k)) DynLifetimeFault) (λ i. of plain out (run p s i))
 plus_read b plain out s n p k j e = ap (saying out (codes " + ")) (lifetime_checked plain out n k j (run p s) e) ∙ last out (nat_le k n) refl
@@ -194,17 +183,11 @@ plus_read b plain out s n p k j e = ap (saying out (codes " + ")) (lifetime_chec
     last true true e = rw e refl
     last true false e = rw e refl
 
-spaced_or : (b : List ℕ) (plain : Bool) (left : ℕ) (t : Setting) (p : Items) (k j : ℕ) (c : Bool) → (k == 0) ≡ c
-    → of plain t.output (run (if c then p else lifetime k (says " " p)) (surroundings b left t) (Some j)) ≡ grouped b plain t.output (if c then goes Nothing (Some j) else checked t.output t.lifetimes k j (SpacedLifetime (t.lifetimes - k)) SpacedFault) (λ i. of plain t.output (run p (surroundings b left t) i))
+plus_or : (b : List ℕ) (plain : Bool) (left : ℕ) (out : Bool) (n : ℕ) (p : Items) (k j : ℕ) (c : Bool) → (k == 0) ≡ c
+    → of plain out (run (if c then p else says " + " (lifetime k p)) (around b out left n) (Some j)) ≡ grouped b plain out (if c then goes Nothing (Some j) else checked out n k j (DynLifetime (n - k)) DynLifetimeFault) (λ i. of plain out (run p (around b out left n) i))
 unfolding run
-spaced_or b plain left t p k j true e = refl
-spaced_or b plain left t p k j false e = spaced_read b plain t.output (surroundings b left t) t.lifetimes p k j e
-
-plus_or : (b : List ℕ) (plain : Bool) (left : ℕ) (t : Setting) (p : Items) (k j : ℕ) (c : Bool) → (k == 0) ≡ c
-    → of plain t.output (run (if c then p else says " + " (lifetime k p)) (surroundings b left t) (Some j)) ≡ grouped b plain t.output (if c then goes Nothing (Some j) else checked t.output t.lifetimes k j (DynLifetime (t.lifetimes - k)) DynLifetimeFault) (λ i. of plain t.output (run p (surroundings b left t) i))
-unfolding run
-plus_or b plain left t p k j true e = refl
-plus_or b plain left t p k j false e = plus_read b plain t.output (surroundings b left t) t.lifetimes p k j e
+plus_or b plain left out n p k j true e = refl
+plus_or b plain left out n p k j false e = plus_read b plain out (around b out left n) n p k j e
 
 -- Functions.
 
@@ -287,92 +270,75 @@ literal_read b plain out p s j h = go (string_of (bytes_in b h)) refl
     go None e = refl
     go (Some cs) e = rw e (says_all plain out (literal (code "\"") cs) p s (Some j))
 
-binding_read : (b : List ℕ) (plain : Bool) (left : ℕ) (t : Setting) (p : Items) (a : Name) (j : Place)
-    → of plain t.output (run (says_name a (says " = " p)) (surroundings b left t) j) ≡ handing t.output (name_pieces a ++ codes " = " ∷ []) (of plain t.output (run p (surroundings b left t) j))
+binding_read : (b : List ℕ) (plain : Bool) (left : ℕ) (out : Bool) (n : ℕ) (p : Items) (a : Name) (j : Place)
+    → of plain out (run (says_name a (says " = " p)) (around b out left n) j) ≡ handing out (name_pieces a ++ codes " = " ∷ []) (of plain out (run p (around b out left n) j))
 unfolding run
-binding_read b plain left t p a j =
-    says_all plain t.output (name_pieces a) (says " = " p) (surroundings b left t) j
-    ∙ sym (handing_both t.output (name_pieces a) (codes " = " ∷ []) (of plain t.output (run p (surroundings b left t) j)))
+binding_read b plain left out n p a j =
+    says_all plain out (name_pieces a) (says " = " p) (around b out left n) j
+    ∙ sym (handing_both out (name_pieces a) (codes " = " ∷ []) (of plain out (run p (around b out left n) j)))
 
-pub word_read : (b : List ℕ) (plain : Bool) (left : ℕ) (t : Setting) (w : Word) (note : ℕ) (p : Items) (i : Place)
-    → of plain t.output (run (word_items w note p) (surroundings b left t) i) ≡ grouped b plain t.output (word_group b w note t.output t.lifetimes i) (λ j. of plain t.output (run p (surroundings b left t) j))
+pub word_read : (b : List ℕ) (plain : Bool) (left : ℕ) (out : Bool) (n : ℕ) (w : Word) (note : ℕ) (p : Items) (i : Place)
+    → of plain out (run (word_items w note p) (around b out left n) i) ≡ grouped b plain out (word_group b w note out n i) (λ j. of plain out (run p (around b out left n) j))
 unfolding run
-word_read b plain left t word.CrateName note p None = refl
-word_read b plain left t word.NestedName note p None = refl
-word_read b plain left t word.FieldName note p None = refl
-word_read b plain left t word.BindingName note p None = refl
-word_read b plain left t word.Disambiguator note p None = refl
-word_read b plain left t word.LifetimeIndex note p None = refl
-word_read b plain left t word.OptionalLifetime note p None = refl
-word_read b plain left t word.DynLifetime note p None = refl
-word_read b plain left t word.FunctionHead note p None = refl
-word_read b plain left t word.Soundness note p None = refl
-word_read b plain left t word.Sign note p None = refl
-word_read b plain left t word.Number note p None = refl
-word_read b plain left t word.Truth note p None = refl
-word_read b plain left t word.Character note p None = refl
-word_read b plain left t word.Literal note p None = refl
-word_read b plain left t word.CrateName note p (Some i) =
-    let s = surroundings b left t in let k : Place → Heard = λ j. of plain t.output (run p s j) in
-    word_reads b plain t.output (length b) i (λ d. run (identifier (λ a. says_name a (if d == 0 then p else say_plain (codes "[") (say_plain (digits 16 false d) (say_plain (codes "]") p))))) s) (λ d j. reading (length b) j (ident_at b j) (λ a m. goes (CrateName a d) (Some m))) k
-    (λ d j. name_reads b plain t.output (length b) j (λ a. run (says_name a (if d == 0 then p else say_plain (codes "[") (say_plain (digits 16 false d) (say_plain (codes "]") p)))) s) (λ a m. goes (CrateName a d) (Some m)) k
-    (λ m. crate_read b plain t.output s p (parts_of b j m) (name_of b j m) d (Some m) refl))
+word_read b plain left out n word.CrateName note p None = refl
+word_read b plain left out n word.NestedName note p None = refl
+word_read b plain left out n word.FieldName note p None = refl
+word_read b plain left out n word.BindingName note p None = refl
+word_read b plain left out n word.LifetimeIndex note p None = refl
+word_read b plain left out n word.DynLifetime note p None = refl
+word_read b plain left out n word.FunctionHead note p None = refl
+word_read b plain left out n word.Number note p None = refl
+word_read b plain left out n word.Truth note p None = refl
+word_read b plain left out n word.Character note p None = refl
+word_read b plain left out n word.Literal note p None = refl
+word_read b plain left out n word.CrateName note p (Some i) =
+    let s = around b out left n in let k : Place → Heard = λ j. of plain out (run p s j) in
+    word_reads b plain out (length b) i (λ d. run (identifier (λ a. says_name a (if d == 0 then p else say_plain (codes "[") (say_plain (digits 16 false d) (say_plain (codes "]") p))))) s) (λ d j. reading (length b) j (ident_at b j) (λ a m. goes (CrateName a d) (Some m))) k
+    (λ d j. name_reads b plain out (length b) j (λ a. run (says_name a (if d == 0 then p else say_plain (codes "[") (say_plain (digits 16 false d) (say_plain (codes "]") p)))) s) (λ a m. goes (CrateName a d) (Some m)) k
+    (λ m. crate_read b plain out s p (parts_of b j m) (name_of b j m) d (Some m) refl))
     (optional_at 115 b i)
-word_read b plain left t word.NestedName note p (Some i) =
-    let s = surroundings b left t in let k : Place → Heard = λ j. of plain t.output (run p s j) in
-    word_reads b plain t.output (length b) i (λ d. run (identifier (λ a. if is_upper note then special_name note d a p else if is_nameless a then p else says "::" (says_name a p))) s) (λ d j. reading (length b) j (ident_at b j) (λ a m. goes (NestedName note d a) (Some m))) k
-    (λ d j. name_reads b plain t.output (length b) j (λ a. run (if is_upper note then special_name note d a p else if is_nameless a then p else says "::" (says_name a p)) s) (λ a m. goes (NestedName note d a) (Some m)) k
-    (λ m. nested_read b plain t.output s p (name_of b j m) note d (Some m)))
+word_read b plain left out n word.NestedName note p (Some i) =
+    let s = around b out left n in let k : Place → Heard = λ j. of plain out (run p s j) in
+    word_reads b plain out (length b) i (λ d. run (identifier (λ a. if is_upper note then special_name note d a p else if is_nameless a then p else says "::" (says_name a p))) s) (λ d j. reading (length b) j (ident_at b j) (λ a m. goes (NestedName note d a) (Some m))) k
+    (λ d j. name_reads b plain out (length b) j (λ a. run (if is_upper note then special_name note d a p else if is_nameless a then p else says "::" (says_name a p)) s) (λ a m. goes (NestedName note d a) (Some m)) k
+    (λ m. nested_read b plain out s p (name_of b j m) note d (Some m)))
     (optional_at 115 b i)
-word_read b plain left t word.FieldName note p (Some i) =
-    let s = surroundings b left t in let k : Place → Heard = λ j. of plain t.output (run p s j) in
-    word_reads b plain t.output (length b) i (λ d. run (identifier (λ a. says_name a p)) s) (λ d j. reading (length b) j (ident_at b j) (λ a m. goes (FieldName a) (Some m))) k
-    (λ d j. name_reads b plain t.output (length b) j (λ a. run (says_name a p) s) (λ a m. goes (FieldName a) (Some m)) k
-    (λ m. says_all plain t.output (name_pieces (name_of b j m)) p s (Some m)))
+word_read b plain left out n word.FieldName note p (Some i) =
+    let s = around b out left n in let k : Place → Heard = λ j. of plain out (run p s j) in
+    word_reads b plain out (length b) i (λ d. run (identifier (λ a. says_name a p)) s) (λ d j. reading (length b) j (ident_at b j) (λ a m. goes (FieldName a) (Some m))) k
+    (λ d j. name_reads b plain out (length b) j (λ a. run (says_name a p) s) (λ a m. goes (FieldName a) (Some m)) k
+    (λ m. says_all plain out (name_pieces (name_of b j m)) p s (Some m)))
     (optional_at 115 b i)
-word_read b plain left t word.BindingName note p (Some i) =
-    let s = surroundings b left t in let k : Place → Heard = λ j. of plain t.output (run p s j) in
-    name_reads b plain t.output (length b) i (λ a. run (says_name a (says " = " p)) s) (λ a m. goes (BindingName a) (Some m)) k
-    (λ m. binding_read b plain left t p (name_of b i m) (Some m))
-word_read b plain left t word.Disambiguator note p (Some i) =
-    let s = surroundings b left t in let k : Place → Heard = λ j. of plain t.output (run p s j) in
-    word_reads b plain t.output (length b) i (λ d. run p s) (λ d j. goes Nothing (Some j)) k (λ d j. refl) (optional_at 115 b i)
-word_read b plain left t word.LifetimeIndex note p (Some i) =
-    let s = surroundings b left t in let k : Place → Heard = λ j. of plain t.output (run p s j) in
-    word_reads b plain t.output (length b) i (λ k. run (lifetime k p) s) (λ k j. if k == 0 then goes (Lifetime None) (Some j) else checked t.output t.lifetimes k j (Lifetime (Some (t.lifetimes - k))) LifetimeFault) k
-    (λ k j. lifetime_read b plain t.output s t.lifetimes p k j) (integer_at b i)
-word_read b plain left t word.OptionalLifetime note p (Some i) =
-    let s = surroundings b left t in let k : Place → Heard = λ j. of plain t.output (run p s j) in
-    ask_reads b plain t.output (is_byte b i (code "L")) (run (integer (λ k. if k == 0 then p else lifetime k (says " " p))) s) (run p s) _ (goes Nothing (Some i)) k i
-    (word_reads b plain t.output (length b) (i + 1) (λ k. run (if k == 0 then p else lifetime k (says " " p)) s) (λ k j. if k == 0 then goes Nothing (Some j) else checked t.output t.lifetimes k j (SpacedLifetime (t.lifetimes - k)) SpacedFault) k
-    (λ m j. spaced_or b plain left t p m j (m == 0) refl) (integer_at b (i + 1)))
+word_read b plain left out n word.BindingName note p (Some i) =
+    let s = around b out left n in let k : Place → Heard = λ j. of plain out (run p s j) in
+    name_reads b plain out (length b) i (λ a. run (says_name a (says " = " p)) s) (λ a m. goes (BindingName a) (Some m)) k
+    (λ m. binding_read b plain left out n p (name_of b i m) (Some m))
+word_read b plain left out n word.LifetimeIndex note p (Some i) =
+    let s = around b out left n in let k : Place → Heard = λ j. of plain out (run p s j) in
+    word_reads b plain out (length b) i (λ k. run (lifetime k p) s) (λ k j. if k == 0 then goes (Lifetime None) (Some j) else checked out n k j (Lifetime (Some (n - k))) LifetimeFault) k
+    (λ k j. lifetime_read b plain out s n p k j) (integer_at b i)
+word_read b plain left out n word.DynLifetime note p (Some i) =
+    let s = around b out left n in let k : Place → Heard = λ j. of plain out (run p s j) in
+    ask_reads b plain out (is_byte b i (code "L")) (run (integer (λ k. if k == 0 then p else says " + " (lifetime k p))) s) (run invalid s) _ faulty k i
+    (word_reads b plain out (length b) (i + 1) (λ k. run (if k == 0 then p else says " + " (lifetime k p)) s) (λ k j. if k == 0 then goes Nothing (Some j) else checked out n k j (DynLifetime (n - k)) DynLifetimeFault) k
+    (λ m j. plus_or b plain left out n p m j (m == 0) refl) (integer_at b (i + 1)))
     refl
-word_read b plain left t word.DynLifetime note p (Some i) =
-    let s = surroundings b left t in let k : Place → Heard = λ j. of plain t.output (run p s j) in
-    ask_reads b plain t.output (is_byte b i (code "L")) (run (integer (λ k. if k == 0 then p else says " + " (lifetime k p))) s) (run invalid s) _ faulty k i
-    (word_reads b plain t.output (length b) (i + 1) (λ k. run (if k == 0 then p else says " + " (lifetime k p)) s) (λ k j. if k == 0 then goes Nothing (Some j) else checked t.output t.lifetimes k j (DynLifetime (t.lifetimes - k)) DynLifetimeFault) k
-    (λ m j. plus_or b plain left t p m j (m == 0) refl) (integer_at b (i + 1)))
-    refl
-word_read b plain left t word.FunctionHead note p (Some i) =
-    let s = surroundings b left t in let k : Place → Heard = λ j. of plain t.output (run p s j) in
-    ask_reads b plain t.output (is_byte b i (code "U")) (run (function_head true p) s) (run (function_head false p) s) _ _ k i (abi_read plain t.output true p s (i + 1)) (abi_read plain t.output false p s i)
-word_read b plain left t word.Soundness note p (Some i) = refl
-word_read b plain left t word.Sign note p (Some i) =
-    let s = surroundings b left t in let k : Place → Heard = λ j. of plain t.output (run p s j) in
-    ask_reads b plain t.output (is_byte b i (code "n")) (run (says "-" p) s) (run p s) (goes (Fixed mark.Minus) (Some (i + 1))) (goes Nothing (Some i)) k i refl refl
-word_read b plain left t word.Number note p (Some i) =
-    let s = surroundings b left t in let k : Place → Heard = λ j. of plain t.output (run p s j) in
-    hex_reads b plain t.output (length b) i (λ h. run (number_pieces h (some_or p (text_of note basic_types) (λ text. say_plain text p))) s) (λ h j. goes (Number (number_of (bytes_in b h)) h note) (Some j)) k
-    (λ end j. number_read b plain t.output note (record { from = i; to = end }) p s (Some j))
-word_read b plain left t word.Truth note p (Some i) =
-    let s = surroundings b left t in let k : Place → Heard = λ j. of plain t.output (run p s j) in
-    hex_reads b plain t.output (length b) i (λ h. run (says_true p (number_of h)) s) (λ h j. truth_stretch (number_of (bytes_in b h)) j) k
-    (λ end j. truth_read b plain t.output p s j (number_of (slice_range b i end)))
-word_read b plain left t word.Character note p (Some i) =
-    let s = surroundings b left t in let k : Place → Heard = λ j. of plain t.output (run p s j) in
-    hex_reads b plain t.output (length b) i (λ h. run (says_char p (number_of h)) s) (λ h j. character_stretch (number_of (bytes_in b h)) j) k
-    (λ end j. character_read b plain t.output p s j (number_of (slice_range b i end)))
-word_read b plain left t word.Literal note p (Some i) =
-    let s = surroundings b left t in let k : Place → Heard = λ j. of plain t.output (run p s j) in
-    hex_reads b plain t.output (length b) i (λ h. run (some_or invalid (string_of h) (λ cs. say_all (literal (code "\"") cs) p)) s) (λ h j. literal_stretch (string_of (bytes_in b h)) h j) k
-    (λ end j. literal_read b plain t.output p s j (record { from = i; to = end }))
+word_read b plain left out n word.FunctionHead note p (Some i) =
+    let s = around b out left n in let k : Place → Heard = λ j. of plain out (run p s j) in
+    ask_reads b plain out (is_byte b i (code "U")) (run (function_head true p) s) (run (function_head false p) s) _ _ k i (abi_read plain out true p s (i + 1)) (abi_read plain out false p s i)
+word_read b plain left out n word.Number note p (Some i) =
+    let s = around b out left n in let k : Place → Heard = λ j. of plain out (run p s j) in
+    hex_reads b plain out (length b) i (λ h. run (number_pieces h (some_or p (text_of note basic_types) (λ text. say_plain text p))) s) (λ h j. goes (Number (number_of (bytes_in b h)) h note) (Some j)) k
+    (λ end j. number_read b plain out note (record { from = i; to = end }) p s (Some j))
+word_read b plain left out n word.Truth note p (Some i) =
+    let s = around b out left n in let k : Place → Heard = λ j. of plain out (run p s j) in
+    hex_reads b plain out (length b) i (λ h. run (says_true p (number_of h)) s) (λ h j. truth_stretch (number_of (bytes_in b h)) j) k
+    (λ end j. truth_read b plain out p s j (number_of (slice_range b i end)))
+word_read b plain left out n word.Character note p (Some i) =
+    let s = around b out left n in let k : Place → Heard = λ j. of plain out (run p s j) in
+    hex_reads b plain out (length b) i (λ h. run (says_char p (number_of h)) s) (λ h j. character_stretch (number_of (bytes_in b h)) j) k
+    (λ end j. character_read b plain out p s j (number_of (slice_range b i end)))
+word_read b plain left out n word.Literal note p (Some i) =
+    let s = around b out left n in let k : Place → Heard = λ j. of plain out (run p s j) in
+    hex_reads b plain out (length b) i (λ h. run (some_or invalid (string_of h) (λ cs. say_all (literal (code "\"") cs) p)) s) (λ h j. literal_stretch (string_of (bytes_in b h)) h j) k
+    (λ end j. literal_read b plain out p s j (record { from = i; to = end }))

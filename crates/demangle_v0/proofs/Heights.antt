@@ -1,6 +1,6 @@
 -- There is room for each frame that is put on a row.
-use Rattle.std.specs.Prelude.{ℕ, ◌+◌, ◌-◌, ◌*◌, ◌≤◌, ◌<◌, length}
-use Rattle.std.proofs.Common.{◌≡◌, List, [], ◌∷◌, ◌++◌, arith, length-append}
+use Rattle.std.specs.Prelude.{ℕ, ◌+◌, ◌-◌, ◌≤◌, length}
+use Rattle.std.proofs.Common.{List, [], ◌∷◌, ◌++◌, arith, length-append}
 use Rattle.demangle_v0.specs.Heights.{HasRoom, Stands}
 
 module _ {F : Type 0} (height : F → ℕ) where
@@ -41,15 +41,3 @@ module _ {F : Type 0} (height : F → ℕ) where
   stands_resumed n high new row f s l =
       let low : length row ≤ n = omega (arith, s.above, length-append {A = F} row (f ∷ [])) in
       record { room = room_below n row f s.room; above = omega (arith, l, room_top n row f s.room low) }
-
-  -- a row for all that can ever stand there has room for two more at each step
-  pub stands_two : (n high size : ℕ) (row : List F) → Stands height n high row → n + 2 ≤ size → length row + 2 ≤ size
-  stands_two n high size row s l = omega (arith, s.above, l)
-
--- with eight ranks a depth, a symbol's first point needs no more frames than these
-pub height_first : (left rank : ℕ) → left ≤ 500 → rank ≤ 8 → 8 * left + rank ≤ 4008
-height_first left rank l r = omega (arith, l, r)
-
--- one depth on there are eight ranks more
-pub height_deeper : (left rank other : ℕ) → 0 < left → other ≤ 8 + rank → 8 * (left - 1) + other ≤ 8 * left + rank
-height_deeper left rank other l r = omega (arith, l, r)

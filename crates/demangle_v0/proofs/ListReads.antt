@@ -70,10 +70,6 @@ module _ (plain out : Bool) (s : Surroundings) where
   unfolding run
   tuple_on element p i e = rw e refl
 
-  pub second_failed : (element p : Items) → of plain out (run (second element p) s None) ≡ handing out (codes "," ∷ []) (of plain out (run p s None))
-  unfolding run
-  second_failed element p = refl
-
   pub second_over : (element p : Items) (i : ℕ) → is_byte s.symbol i (code "E") ≡ true → of plain out (run (second element p) s (Some i)) ≡ allowing (1 ∷ []) (handing out (codes "," ∷ []) (of plain out (run p s (Some (i + 1)))))
   unfolding run
   second_over element p i e = rw e refl

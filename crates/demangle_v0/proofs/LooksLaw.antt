@@ -64,8 +64,8 @@ unfolding accepting_looks
 accepting_costs symbol = both_cost symbol (looks_in (read_at symbol false a_path 0 0 0 true)) (read_at symbol false a_path 0 0 0 true).place (costs symbol 0 (omega arith))
 
 -- any unit, at any depth
-pub unit_looks : (symbol : List ℕ) (plain : Bool) (kind : Kind) (i d m : ℕ) (value : Bool) (k : ℕ) → i ≤ length symbol → d ≤ 500 →
-    looks_of (take (suc k) (stretches plain (read_at symbol true kind i d m value).tree)) ≤ 34 * (length symbol + 1) * (501 - d) * (bytes_of (take k (stretches plain (read_at symbol true kind i d m value).tree)) + 1)
+pub unit_looks : (symbol : List ℕ) (plain : Bool) (kind : Kind) (i d m : ℕ) (value : Bool) (k : ℕ) → i ≤ length symbol → d ≤ max_depth →
+    looks_of (take (suc k) (stretches plain (read_at symbol true kind i d m value).tree)) ≤ 34 * (length symbol + 1) * (max_depth + 1 - d) * (bytes_of (take k (stretches plain (read_at symbol true kind i d m value).tree)) + 1)
 unit_looks symbol plain kind i d m value k l b = go (read_at symbol true kind i d m value).tree (read_at symbol true kind i d m value).place
     (read_paid plain (34 * (length symbol + 1) * (max_depth - d)) symbol kind i d m value (rate (length symbol) (max_depth - d)) cheap l)
   where
@@ -75,19 +75,19 @@ unit_looks symbol plain kind i d m value k l b = go (read_at symbol true kind i 
     sum : (n c e w looks : ℕ) → c ≤ 34 * (n + 1) * (e + 1) → looks ≤ c + 34 * (n + 1) * e * w → looks ≤ 34 * (n + 1) * (e + 1) * (w + 1)
     sum n c e w looks x y = omega (arith, x, y)
 
-    levels_left : (d : ℕ) → d ≤ 500 → 501 - d ≡ (max_depth - d) + 1
+    levels_left : (d : ℕ) → d ≤ max_depth → max_depth + 1 - d ≡ (max_depth - d) + 1
     levels_left d b = omega (arith, b)
 
     start_money : (n e c : ℕ) → c ≤ 32 * (n + 1) → c + (start kind + money n e) ≤ 34 * (n + 1) * (e + 1)
     start_money n e c x = omega (arith, x, small kind)
 
     bound : (t : Tree) (c : ℕ) → c ≤ 32 * (length symbol + 1) → (z : ℕ) → Pays (34 * (length symbol + 1) * (max_depth - d)) (c + (start kind + money (length symbol) (max_depth - d))) (stretches plain t) z →
-        looks_of (take (suc k) (stretches plain t)) ≤ 34 * (length symbol + 1) * (501 - d) * (bytes_of (take k (stretches plain t)) + 1)
+        looks_of (take (suc k) (stretches plain t)) ≤ 34 * (length symbol + 1) * (max_depth + 1 - d) * (bytes_of (take k (stretches plain t)) + 1)
     bound t c x z h = rw (levels_left d b) (sum (length symbol) (c + (start kind + money (length symbol) (max_depth - d))) (max_depth - d) (bytes_of (take k (stretches plain t))) (looks_of (take (suc k) (stretches plain t)))
         (start_money (length symbol) (max_depth - d) c x) (Pays-bound (34 * (length symbol + 1) * (max_depth - d)) (c + (start kind + money (length symbol) (max_depth - d))) z (stretches plain t) k h))
 
     go : (t : Tree) (x : Place) → Ends (length symbol) (34 * (length symbol + 1) * (max_depth - d)) i (start kind + money (length symbol) (max_depth - d)) 8 (stretches plain t) x →
-        looks_of (take (suc k) (stretches plain t)) ≤ 34 * (length symbol + 1) * (501 - d) * (bytes_of (take k (stretches plain t)) + 1)
+        looks_of (take (suc k) (stretches plain t)) ≤ 34 * (length symbol + 1) * (max_depth + 1 - d) * (bytes_of (take k (stretches plain t)) + 1)
     go t None h = bound t (32 * (length symbol + 1 - i)) (omega arith) 0 h
     go t (Some j) h = bound t (32 * (j - i)) (omega (arith, h.1)) 8 h.2
 

@@ -269,10 +269,6 @@ purse_true : (g : Bool) (R : ℕ) → IsTrue g → R ≤ purse g R
 purse_true true R h = omega arith
 purse_true false R h = absurd (cc h)
 
--- the credit before the money
-sums : (a b c : ℕ) → a + b + c ≡ a + c + b
-sums a b c = omega arith
-
 pub record Holds (plain : Bool) (r R : ℕ) (s : Surroundings) : Type 0 where
   pub enough : R ≤ r
   pub here : LevelPays plain (length s.symbol) r R s.printed s.here

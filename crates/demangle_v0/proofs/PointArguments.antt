@@ -1,17 +1,17 @@
 -- The points of the arguments of a path.
-use Rattle.std.specs.Prelude.{◌*◌, ◌^◌}
-use Rattle.std.proofs.Common.{◌≡◌, ℕ, ◌+◌, ◌-◌, ◌<◌, ◌≤◌, Bool, true, false, cond, if◌then◌else◌, Option, Some, None, List, [], ◌∷◌, ◌++◌, Result, Ok, refl, arith, sym, ap, ◌∙◌}
+use Rattle.std.specs.Prelude.{◌*◌}
+use Rattle.std.proofs.Common.{◌≡◌, ℕ, ◌+◌, ◌≤◌, Bool, true, false, if◌then◌else◌, Some, None, List, [], ◌∷◌, ◌++◌, Result, Ok, refl, arith, ap, ◌∙◌}
 use Prim.Native.Char.{code}
 use Rattle.demangle_symbol.specs.Digits.{is_byte}
-use Rattle.demangle_v0.specs.Items.{a_type, Items, done, unit}
+use Rattle.demangle_v0.specs.Items.{done, unit}
 use Rattle.demangle_v0.specs.Begins.{total}
-use Rattle.demangle_v0.specs.Events.{Heard, of, and_then, allowing, handing}
-use Rattle.demangle_v0.specs.Grammar.{text, word_items}
+use Rattle.demangle_v0.specs.Events.{Heard, of, allowing, handing}
+use Rattle.demangle_v0.specs.Grammar.{word_items}
 use Rattle.demangle_v0.specs.declared.grammar.Word.TheVariants as word
-use Rattle.demangle_v0.specs.Table.{at_end, list, more, argument, says}
-use Rattle.demangle_v0.specs.Reading.{Place, begun, run}
+use Rattle.demangle_v0.specs.Table.{more, argument, says}
+use Rattle.demangle_v0.specs.Reading.{Place, run}
 use Rattle.demangle_v0.specs.Arguments.{separator, arguments_point, argument_point, argument_place, argument_costs}
-use Rattle.demangle_v0.specs.Points.{frame_of, followed, share_at, rest_at, closing, around, marked, goes, way_weight, weight_at, height_at, Fits, DidOn, Did}
+use Rattle.demangle_v0.specs.Points.{frame_of, followed, share_at, closing, around, marked, goes, way_weight, weight_at, height_at, Fits, DidOn, Did}
 use Rattle.demangle_v0.specs.declared.grammar.Mark.TheVariants as mark
 use Rattle.demangle_v0.specs.declared.points.Point.{Point}
 use Rattle.demangle_v0.specs.declared.points.Point.TheVariants as point

@@ -17,8 +17,8 @@ use Rattle.demangle_v0.specs.declared.points.Point.{Point}
 use Rattle.demangle_v0.specs.declared.points.Point.TheVariants as point
 use Rattle.demangle_v0.specs.declared.points.frames.Frame.{Frame}
 use Rattle.demangle_v0.specs.declared.points.State.{State}
-use Rattle.demangle_v0.specs.declared.points.constants.ConstantList.{ConstantList}
-use Rattle.demangle_v0.specs.declared.points.constants.ConstantList.TheVariants as list
+use Rattle.demangle_v0.specs.declared.points.constant_lists.ConstantList.{ConstantList}
+use Rattle.demangle_v0.specs.declared.points.constant_lists.ConstantList.TheVariants as list
 use Rattle.demangle_v0.specs.declared.points.voice.Voice.{Ghosts}
 use Rattle.demangle_v0.proofs.Elements.{Element, constant_element, field_element}
 use Rattle.demangle_v0.proofs.ListReads.{end_failed, end_over, end_on, more_failed, more_over, more_on, second_over}

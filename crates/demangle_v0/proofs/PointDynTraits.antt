@@ -6,15 +6,15 @@ use Prim.Native.Char.{code}
 use Rattle.demangle_symbol.specs.Digits.{is_byte}
 use Rattle.demangle_symbol.specs.Words.{Name, Read, identifier_at}
 use Rattle.demangle_symbol.specs.Names.{name_pieces}
-use Rattle.demangle_v0.specs.Items.{Text, Items, integer, lifetime, a_path, a_type, a_constant, a_trait_path, done, identifier, unit, child, dyn_trait, bindings, opens}
+use Rattle.demangle_v0.specs.Items.{Text, Items, a_path, a_type, a_constant, a_trait_path, done, unit, dyn_trait, bindings, opens, target}
 use Rattle.demangle_v0.specs.Table.{says, typed, says_name, list, more, argument, in_binder, bound}
 use Rattle.demangle_v0.specs.Begins.{total}
 use Rattle.demangle_v0.specs.Arguments.{argument_point, argument_place, argument_costs}
 use Rattle.demangle_v0.specs.DynTraits.{dyn_type}
 use Rattle.demangle_v0.specs.Events.{Event, said, said_all, Heard, of, ended, and_then, allowing, handing}
 use Rattle.demangle_v0.specs.Grammar.{word_items, text}
-use Rattle.demangle_v0.specs.Reading.{Place, run, turns, begun, bound_by, max_depth}
-use Rattle.demangle_v0.specs.Points.{marked, share_at, share, share_of, rest_at, bindings_left, closing, around, goes, way_weight, weight_at, height_at, Fits, is_list_over, behind_list, list_costs, DidOn}
+use Rattle.demangle_v0.specs.Reading.{Place, run, begun, max_depth}
+use Rattle.demangle_v0.specs.Points.{marked, share_at, share, share_of, bindings_left, closing, around, goes, way_weight, weight_at, height_at, Fits, is_list_over, behind_list, list_costs, DidOn}
 use Rattle.demangle_v0.specs.declared.grammar.Mark.{Mark}
 use Rattle.demangle_v0.specs.declared.grammar.Mark.TheVariants as mark
 use Rattle.demangle_v0.specs.declared.grammar.Word.TheVariants as word
@@ -23,15 +23,15 @@ use Rattle.demangle_v0.specs.declared.points.Point.TheVariants as point
 use Rattle.demangle_v0.specs.declared.points.frames.Frame.{Frame}
 use Rattle.demangle_v0.specs.declared.points.State.{State}
 use Rattle.demangle_v0.specs.declared.points.Stop.{Stop}
-use Rattle.demangle_v0.specs.declared.points.Stop.TheVariants.{Refused, Fault}
+use Rattle.demangle_v0.specs.declared.points.Stop.TheVariants.{Fault}
 use Rattle.demangle_v0.specs.declared.points.voice.Voice.{Ghosts}
 use Rattle.demangle_v0.proofs.ClosedUnits.{last_child, unit_closed}
 use Rattle.demangle_v0.proofs.Elements.{argument_element, dyn_trait_element}
-use Rattle.demangle_v0.proofs.Hearing.{and_then_assoc, and_then_ended, handing_then, allowing_then}
+use Rattle.demangle_v0.proofs.Hearing.{and_then_assoc, handing_then, allowing_then}
 use Rattle.demangle_v0.proofs.ListReads.{end_failed, end_over, more_failed, more_over, first_on, more_on, argument_lifetime, argument_constant, argument_type}
-use Rattle.demangle_v0.proofs.PathReads.{trait_path_reads, trait_path_generic, trait_path_plain}
+use Rattle.demangle_v0.proofs.PathReads.{trait_path_reads, trait_path_refers, trait_path_generic, trait_path_plain}
 use Rattle.demangle_v0.proofs.PointFunctions.{heard, mark_goes, plain_goes, moves, enters, separator}
-use Rattle.demangle_v0.proofs.PointSteps.{same, faulty}
+use Rattle.demangle_v0.proofs.PointSteps.{after, faulty}
 use Rattle.demangle_v0.proofs.TypeReads.{if_so, says_all, bound_constant, bound_type, mark_of, bindings_failed, bindings_over, binding_stops, binding_reads}
 
 -- the state's frame
@@ -194,6 +194,18 @@ module _ {V : Type 0} (voice : Ghosts V) (b : List ℕ) (plain : Bool) where
   unfolding share_at
   trait_unread s row u new made p k l = faulty voice b plain mark.Unread _ 1 (8 * s.depth_left + 2) row u new made k (rw p refl) l (omega arith)
 
+  refers_reads : (s : State) (i : ℕ) → s.place ≡ Some i → is_byte b i (code "B") ≡ true
+      → share_of b plain voice.loud point.TraitPath s ≡ allowing (1 ∷ []) (of plain voice.loud (run (target a_trait_path false) (around b voice.loud s.depth_left s.lifetimes) (Some (i + 1))))
+  unfolding share_at
+  refers_reads s i p e = rw p (trait_path_reads plain voice.loud b s.depth_left s.lifetimes false i ∙ trait_path_refers plain voice.loud b s.depth_left s.lifetimes i e)
+
+  pub trait_refers : (s : State) (i : ℕ) (row now : List Frame) (u : V) (result : Result Point Stop) (new : State) (second made : ℕ) → s.place ≡ Some i → is_byte b i (code "B") ≡ true → made ≤ 1 + second
+      → DidOn voice b plain (of plain voice.loud (run (target a_trait_path false) (around b voice.loud s.depth_left s.lifetimes) (Some (i + 1)))) 1 (8 * s.depth_left + 2) row u result new now u second
+      → DidOn voice b plain (share_of b plain voice.loud point.TraitPath s) 1 (8 * s.depth_left + 2) row u result new now u made
+  trait_refers s i row now u result new second made p e l d =
+      after voice b plain (1 ∷ []) _ (of plain voice.loud (run (target a_trait_path false) (around b voice.loud s.depth_left s.lifetimes) (Some (i + 1)))) 1 (8 * s.depth_left + 2) 1 (8 * s.depth_left + 2) row u u result new now 1 second made
+      (refers_reads s i p e) (omega arith) l (omega arith) (omega arith) d
+
   generic_reads : (s : State) (i : ℕ) → s.place ≡ Some i → is_byte b i (code "B") ≡ false → is_byte b i (code "I") ≡ true
       → share_of b plain voice.loud point.TraitPath s
       ≡ allowing (1 ∷ 1 ∷ []) (and_then (closing (of plain voice.loud (begun (around b voice.loud s.depth_left s.lifetimes) a_path false (Some (i + 1))))) (share b plain voice.loud (record (frame_at point.OpenTraitPath s) { in_value = false })))
@@ -355,10 +367,6 @@ module _ {V : Type 0} (voice : Ghosts V) (b : List ℕ) (plain : Bool) where
   unfolding share_at
   binding_over o s i row u new made p e l f kl kn kp km =
       moves voice b plain point.NextDynTrait (end_mark o) (1 ∷ []) _ (heard voice b plain next_traits s.depth_left s.lifetimes (Some i)) 2 (8 * s.depth_left + 4) row u new made (rw p (over_reads o s.depth_left s.lifetimes i e)) (rw (kl, kn, kp) refl) km (omega (arith, l)) (omega arith) (omega (arith, kl)) (rw (kl, kn) f)
-
-  name_share : (s : State) → heard voice b plain (word_items word.BindingName 0 behind_name) s.depth_left s.lifetimes s.place ≡ share_of b plain voice.loud point.BindingName s
-  unfolding share_at
-  name_share s = refl
 
   abbrev name_heard : ℕ → ℕ → ℕ → Heard
   name_heard left n i = heard voice b plain (word_items word.BindingName 0 behind_name) left n (Some i)

@@ -1,19 +1,19 @@
 -- The points of function types, binders, and words behind which a unit goes on.
-use Rattle.std.specs.Prelude.{◌*◌, ◌^◌, if◌then◌else◌, codes}
-use Rattle.std.proofs.Common.{◌≡◌, ℕ, zero, suc, ◌+◌, ◌-◌, ◌<◌, ◌≤◌, length, Bool, true, false, Option, Some, None, List, [], ◌∷◌, ◌++◌, Result, Ok, Err, IsOk, refl, arith, sym, ap, ◌∙◌}
+use Rattle.std.specs.Prelude.{◌*◌, if◌then◌else◌, codes}
+use Rattle.std.proofs.Common.{◌≡◌, ℕ, ◌+◌, ◌-◌, ◌≤◌, length, Bool, true, false, Option, Some, None, List, [], ◌∷◌, ◌++◌, Result, Ok, Err, IsOk, refl, arith, sym, ap, ◌∙◌}
 use Rattle.std.proofs.lemmas.Bool.{false≢true}
 use Prim.Native.Char.{code}
 use Rattle.demangle_symbol.specs.Digits.{is_byte}
 use Rattle.demangle_symbol.specs.Words.{optional_at}
-use Rattle.demangle_v0.specs.Items.{Text, Items, a_type, done, next, unit}
+use Rattle.demangle_v0.specs.Items.{Text, Items, a_type, unit}
 use Rattle.demangle_v0.specs.Table.{says, list, more, typed, in_binder}
 use Rattle.demangle_v0.specs.Begins.{total}
 use Rattle.demangle_v0.specs.Binders.{binder_texts}
 use Rattle.demangle_v0.specs.Events.{Heard, of, ended, and_then, allowing, handing}
 use Rattle.demangle_v0.specs.Grammar.{word_items, text}
 use Rattle.demangle_v0.specs.Groups.{texts_of, word_group}
-use Rattle.demangle_v0.specs.Reading.{Place, run, turns, begun, max_depth}
-use Rattle.demangle_v0.specs.Points.{marked, pays, puts, followed, share_at, share, is_inner, weight_at, share_of, rest_at, returns, closing, around, goes, way_weight, height_at, Fits, is_list_over, behind_list, list_costs, DidOn}
+use Rattle.demangle_v0.specs.Reading.{Place, run, begun, max_depth}
+use Rattle.demangle_v0.specs.Points.{marked, pays, puts, followed, share_at, share, is_inner, weight_at, share_of, returns, closing, around, goes, way_weight, height_at, Fits, is_list_over, behind_list, list_costs, DidOn}
 use Rattle.demangle_sink.specs.declared.SinkRefused.{SinkRefused}
 use Rattle.demangle_v0.specs.declared.grammar.Mark.{Mark}
 use Rattle.demangle_v0.specs.declared.grammar.Mark.TheVariants as mark
@@ -33,7 +33,7 @@ use Rattle.demangle_v0.proofs.ClosedUnits.{last_child}
 use Rattle.demangle_v0.proofs.Elements.{type_element}
 use Rattle.demangle_v0.proofs.GroupReads.{word_then, word_read}
 use Rattle.demangle_v0.proofs.ListReads.{child_followed, end_failed, end_over, more_failed, more_over, first_on, more_on}
-use Rattle.demangle_v0.proofs.PointSteps.{refused, kept_none, steps, after, same, faulty, faulty_after}
+use Rattle.demangle_v0.proofs.PointSteps.{refused, kept_none, steps, after, faulty, faulty_after}
 use Rattle.demangle_v0.proofs.TypeReads.{binder_reads}
 
 abbrev pub parameters : Items
@@ -161,7 +161,7 @@ module _ {V : Type 0} (voice : Ghosts V) (b : List ℕ) (plain : Bool) where
       → heard (word_items x c p) left n i ≡ allowing (word_group b x c voice.loud n i).costs (closing (word_then b plain voice.loud r (λ j. of plain voice.loud (run p (around b voice.loud left n) j))))
   word_so x c p left n i r e =
       let g = word_group b x c voice.loud n i in
-      ap closing (word_read b plain left (record { output = voice.loud; value = false; lifetimes = n }) x c p i)
+      ap closing (word_read b plain left voice.loud n x c p i)
       ∙ ap (λ (z : WordRead). allowing g.costs (closing (word_then b plain voice.loud z (λ j. of plain voice.loud (run p (around b voice.loud left n) j))))) (sym e)
 
   pub word_on : (to : Point) (x : Word) (c : ℕ) (p : Items) (left n : ℕ) (i j : Place) (s : Stretch) (weight high : ℕ) (row : List Frame) (v w : V) (new : State) (made : ℕ)
@@ -244,16 +244,6 @@ module _ {V : Type 0} (voice : Ghosts V) (b : List ℕ) (plain : Bool) where
   binder_refused p left n i j m weight high row v w new r made e l q k =
       put_refused (4 * (j - i + 1) ∷ []) (binder_texts m n) _ (heard p left (n + m) (Some j)) weight high row v w new r made (binder_so p left n i j m e) q (omega (arith, l)) (λ h. absurd (false≢true (k h)))
 
-  -- Function types.
-
-  pub binder_share : (s : State) → share_of b plain voice.loud point.FunctionBinder s ≡ heard (in_binder head) s.depth_left s.lifetimes s.place
-  unfolding share_at
-  binder_share s = refl
-
-  pub head_share : (s : State) → heard head s.depth_left s.lifetimes s.place ≡ share_of b plain voice.loud point.FunctionHead s
-  unfolding share_at
-  head_share s = refl
-
   pub open_share : (s : State) → heard parameters s.depth_left s.lifetimes s.place ≡ share_of b plain voice.loud point.OpenParameters s
   unfolding share_at
   open_share s = refl
@@ -268,13 +258,6 @@ module _ {V : Type 0} (voice : Ghosts V) (b : List ℕ) (plain : Bool) where
   open_did s new row u f kl kn kp km =
       mark_goes point.FirstParameter mark.Function [] _ (heard first_parameters s.depth_left s.lifetimes s.place) 4 (8 * s.depth_left + 2) row u new 0
       (open_reads s.depth_left s.lifetimes s.place) (rw (kl, kn, kp) refl) km (omega arith) (omega arith) (omega (arith, kl)) (rw (kl, kn) f)
-
-  -- Parameters.
-
-  parameter_so : (first v : Bool) (c left n : ℕ) (i : Place) (o : Bool) → share_at b plain voice.loud (if first then point.FirstParameter else point.NextParameter) v c left n i o ≡ heard (left_parameters first) left n i
-  unfolding share_at
-  parameter_so true v c left n i o = refl
-  parameter_so false v c left n i o = refl
 
   abbrev parameter_did : Bool → State → List Frame → V → Point → State → List Frame → ℕ → Type 0
   parameter_did first s row u to new now made = let p = if first then point.FirstParameter else point.NextParameter in

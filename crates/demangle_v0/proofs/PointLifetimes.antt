@@ -1,20 +1,19 @@
 -- The points of lifetimes.
-use Rattle.std.specs.Prelude.{◌*◌, ◌^◌, ◌==◌, nat_le, codes}
+use Rattle.std.specs.Prelude.{◌*◌, nat_le, codes}
 use Rattle.std.proofs.lemmas.Bool.{ne_eqb, false≢true}
-use Rattle.std.proofs.Common.{◌≡◌, ℕ, ◌+◌, ◌-◌, ◌<◌, ◌≤◌, length, Bool, true, false, cond, Option, Some, None, List, [], ◌∷◌, ◌++◌, Result, Ok, Err, refl, arith, sym, ap, ◌∙◌}
+use Rattle.std.proofs.Common.{◌≡◌, ℕ, ◌+◌, ◌-◌, ◌≤◌, length, Bool, true, false, Some, None, List, [], ◌∷◌, Result, Ok, Err, refl, arith, sym, ap, ◌∙◌}
 use Rattle.demangle_symbol.specs.Words.{integer_at}
 use Rattle.demangle_v0.specs.Items.{Text, Items, lifetime}
 use Rattle.demangle_v0.specs.Begins.{total}
-use Rattle.demangle_v0.specs.Events.{Heard, of, events, ended, allowing, handing}
+use Rattle.demangle_v0.specs.Events.{Heard, of, allowing, handing}
 use Rattle.demangle_v0.specs.Groups.{texts_of}
 use Rattle.demangle_v0.specs.Table.{typed, says, says_if}
 use Rattle.demangle_v0.specs.Tags.{referring}
 use Rattle.demangle_v0.specs.Reading.{Place, letter_of, run}
-use Rattle.demangle_v0.specs.Points.{followed, share_at, closing, around, way_weight, weight_at, height_at, Fits, goes, pays, puts, Stopped, DidOn, behind_reference, lifetime_point, spaced_lifetime}
+use Rattle.demangle_v0.specs.Points.{followed, closing, around, way_weight, weight_at, height_at, Fits, goes, pays, puts, Stopped, DidOn, behind_reference, lifetime_point, spaced_lifetime}
 use Rattle.demangle_sink.specs.declared.SinkRefused.{SinkRefused}
 use Rattle.demangle_v0.specs.declared.grammar.Mark.TheVariants as mark
 use Rattle.demangle_v0.specs.declared.stretch.Stretch.{Stretch}
-use Rattle.demangle_v0.specs.declared.stretch.Stretch.TheVariants.{SpacedLifetime, SpacedFault}
 use Rattle.demangle_v0.specs.declared.points.Point.{Point}
 use Rattle.demangle_v0.specs.declared.points.Point.TheVariants as point
 use Rattle.demangle_v0.specs.declared.points.frames.Frame.{Frame}
@@ -24,7 +23,7 @@ use Rattle.demangle_v0.specs.declared.points.Stop.TheVariants.{Refused, Fault}
 use Rattle.demangle_v0.specs.declared.points.voice.Voice.{Ghosts}
 use Rattle.demangle_v0.proofs.PointSteps.{refused, kept_none, same, faulty, faulty_after}
 use Rattle.demangle_v0.proofs.PointTypes.{heard, heard_at, enters, behind_so, behind_light, behind_low, behind_fits, lifetime_so}
-use Rattle.demangle_v0.proofs.TypeReads.{said_both, says_all, lifetime_silent, lifetime_named, lifetime_wrong}
+use Rattle.demangle_v0.proofs.TypeReads.{said_both, says_all, lifetime_named, lifetime_wrong}
 
 module _ {V : Type 0} (voice : Ghosts V) (b : List ℕ) (plain : Bool) where
   -- a step that hands texts over behind some looks, and goes on at a point of this state

@@ -1,16 +1,15 @@
 -- The points of paths.
-use Rattle.std.specs.Prelude.{◌*◌, ◌^◌}
+use Rattle.std.specs.Prelude.{◌*◌}
 use Rattle.std.proofs.Common.{◌≡◌, ℕ, zero, suc, sub-one, ◌+◌, ◌-◌, ◌<◌, ◌≤◌, length, Bool, Option, Some, None, List, [], ◌∷◌, ◌++◌, Result, Ok, Err, refl, arith, sym, ap, ◌∙◌}
-use Rattle.demangle_v0.specs.Items.{a_path, Items, invalid, child, byte, done}
-use Rattle.demangle_v0.specs.Begins.{total}
-use Rattle.demangle_v0.specs.Events.{Heard, of, ended, and_then, allowing, handing}
-use Rattle.demangle_v0.specs.Grammar.{text, found, word_items}
+use Rattle.demangle_v0.specs.Items.{Items, invalid, byte, done}
+use Rattle.demangle_v0.specs.Events.{Heard, of}
+use Rattle.demangle_v0.specs.Grammar.{found, word_items}
 use Rattle.demangle_v0.specs.declared.grammar.Word.TheVariants as word
 use Rattle.demangle_symbol.specs.Words.{some_or, namespace_at, byte_at}
 use Rattle.demangle_v0.specs.Table.{path, path_rows}
 use Rattle.demangle_v0.specs.Tags.{path_kinds, path_of}
 use Rattle.demangle_v0.specs.Reading.{Place, run, level_of, levels}
-use Rattle.demangle_v0.specs.Points.{followed, share_at, rest_at, closing, around, goes, fails, Fits, DidOn}
+use Rattle.demangle_v0.specs.Points.{followed, share_at, closing, around, goes, Fits, DidOn}
 use Rattle.demangle_v0.specs.declared.grammar.Mark.TheVariants as mark
 use Rattle.demangle_v0.specs.declared.points.tags.PathKind.{PathKind}
 use Rattle.demangle_v0.specs.declared.points.tags.PathKind.TheVariants as kind
@@ -19,7 +18,7 @@ use Rattle.demangle_v0.specs.declared.points.Point.TheVariants as point
 use Rattle.demangle_v0.specs.declared.points.frames.Frame.{Frame}
 use Rattle.demangle_v0.specs.declared.points.State.{State}
 use Rattle.demangle_v0.specs.declared.points.Stop.{Stop}
-use Rattle.demangle_v0.specs.declared.points.Stop.TheVariants.{Refused, Fault, Uncovered}
+use Rattle.demangle_v0.specs.declared.points.Stop.TheVariants.{Fault}
 use Rattle.demangle_v0.specs.declared.points.voice.Voice.{Ghosts}
 use Rattle.demangle_v0.proofs.GrammarRows.{rows_of, row_found}
 use Rattle.demangle_v0.proofs.PointSteps.{steps, after, same, faulty, faulty_after}

@@ -1,12 +1,13 @@
 -- Readings that print.
 use Rattle.std.specs.Prelude.{◌*◌}
-use Rattle.std.proofs.Common.{◌≡◌, ℕ, ◌+◌, ◌-◌, ◌≤◌, ◌<◌, Bool, true, false, Option, Some, None, List, [], ◌∷◌, ◌++◌, length, Result, Ok, Err, IsOk, OnErr, refl, arith, sym, ap, ◌∙◌, subst, append_assoc}
+use Rattle.std.proofs.Common.{◌≡◌, ℕ, ◌+◌, ◌-◌, ◌≤◌, Bool, true, false, Option, Some, None, List, [], ◌∷◌, ◌++◌, length, Result, Ok, Err, IsErr, IfSome, IfNone, refl, arith, sym, ap, ◌∙◌, subst, append_assoc}
+use Rattle.std.proofs.lemmas.Bool.{false≢true}
 use Rattle.std.proofs.lemmas.List.{append-nil}
 use Rattle.std.proofs.Math.Nat.{mul-le-mul_left}
 use Rattle.demangle_v0.specs.Items.{Text, a_path}
 use Rattle.demangle_v0.specs.Cost.{Pays}
 use Rattle.demangle_v0.specs.Steps as steps
-use Rattle.demangle_v0.specs.Reading.{rendered, read_at, level_of, levels}
+use Rattle.demangle_v0.specs.Reading.{max_depth, rendered, read_at, level_of, levels}
 use Rattle.demangle_sink.specs.Cut.{size, kept}
 use Rattle.demangle_sink.proofs.CutLemmas.{size-append}
 use Rattle.demangle_sink.proofs.PrintsLemmas.{prints_ready, prints_nothing, prints_then, prints_stop}
@@ -21,27 +22,28 @@ use Rattle.demangle_sink.specs.Limit.{Prints, Ready}
 use Rattle.demangle_sink.specs.declared.TextSink.{Ghosts as Sinks}
 use Rattle.demangle_sink.specs.declared.SinkRefused.{SinkRefused}
 use Rattle.demangle_sink.specs.declared.limit.SizeLimitedFmtAdapter.{SizeLimitedFmtAdapter}
-use Rattle.demangle_v0.specs.Points.{Bit, pays, puts, heard_bits, bits_looks, bits_texts, Told, pushed_on, share_at, share_of, row_owed, owed, Stopped}
-use Rattle.demangle_v0.specs.PointRuns.{Stepped, Resumes, Said, Ran, Broke, RanOn, Ended, first_state}
-use Rattle.demangle_v0.specs.declared.grammar.Mark.{Mark}
+use Rattle.demangle_v0.specs.Points.{Bit, pays, puts, heard_bits, bits_looks, bits_texts, Told, pushed_on, share_at, share_of, row_owed, owed}
+use Rattle.demangle_v0.specs.PointRuns.{Valid, Reads, Stepped, Resumes, Said, Ran, Broke, Skipped, RanOn, Passed, ValidLeft, first_looks, Ended, first_state, silent_of, own_heard}
 use Rattle.demangle_v0.specs.declared.points.Point.{Point}
 use Rattle.demangle_v0.specs.declared.points.Point.TheVariants as point
 use Rattle.demangle_v0.specs.declared.points.frames.Frame.{Frame}
 use Rattle.demangle_v0.specs.declared.points.State.{State}
-use Rattle.demangle_v0.specs.declared.points.Stop.{Stop}
-use Rattle.demangle_v0.specs.declared.points.Stop.TheVariants.{Refused, Fault, Uncovered}
+use Rattle.demangle_v0.specs.declared.points.read.Reading.{Reading}
+use Rattle.demangle_v0.specs.declared.printing.Left.{Left}
+use Rattle.demangle_v0.specs.declared.printing.Left.TheVariants as left
 use Rattle.demangle_v0.specs.declared.points.voice.Voice.{Ghosts}
 use Rattle.demangle_v0.proofs.Hearing.{handing_then}
 use Rattle.demangle_v0.proofs.PointSteps.{bits_append, looks_append}
 use Rattle.demangle_v0.proofs.PointRuns.{step_heard, resume_heard, bits_then}
+use Rattle.demangle_v0.proofs.PointSkips.{resumes_heard, skip_is, skipped_owed, skipped_valid}
+use Rattle.demangle_v0.proofs.SkippedPaths.{allowances, total_allowances}
+use Rattle.demangle_v0.specs.Impls.{skip_point, is_skip}
+use Rattle.demangle_v0.proofs.PointWholes.{valid_length}
 
 pub said_append : {S : Type 0} (sink : Sinks S) (u v w : SizeLimitedFmtAdapter S) (xs ys : List Bit) → Said sink u xs v → Said sink v ys w → Said sink u (xs ++ ys) w
 said_append {S = S} sink u v w [] ys h k = subst (λ (z : SizeLimitedFmtAdapter S). Said sink z ys w) (sym h) k
 said_append sink u v w (pays n ∷ xs) ys h k = said_append sink u v w xs ys h k
 said_append sink u v w (puts ts ∷ xs) ys h k = (h.0, h.1, said_append sink h.0 v w xs ys h.2 k)
-
-pub ran_none : {S : Type 0} (sink : Sinks S) (b : List ℕ) (plain : Bool) (p : Point) (s : State) (row : List Frame) (v : SizeLimitedFmtAdapter S) (made : ℕ) → made ≤ 0 → Ran sink b plain p s row v p s row v made
-ran_none sink b plain p s row v made l = record { bits = []; told = refl; reads = refl; enough = omega (arith, l) }
 
 module _ {S : Type 0} (sink : Sinks S) (voice : Ghosts (SizeLimitedFmtAdapter S)) (b : List ℕ) (plain : Bool)
     (same : (v w : SizeLimitedFmtAdapter S) (ts : List Text) (r : Result (Unit {0}) SinkRefused) → voice.prints v ts r w → Prints sink v ts r w) (loud : voice.loud ≡ true) where
@@ -68,11 +70,9 @@ module _ {S : Type 0} (sink : Sinks S) (voice : Ghosts (SizeLimitedFmtAdapter S)
       }
 
   -- it was refused
-  pub ran_fail : (base : ℕ) (p0 p q end : Point) (s0 s t r u : State) (row0 row mid now : List Frame) (v0 v w : SizeLimitedFmtAdapter S) (first second made : ℕ) (e : Stop) → Ran sink b plain p0 s0 row0 v0 p s row v first
-      → Resumes base p s row q t mid → Stepped voice b plain q t mid v (Err e) r now w second → made ≤ first + second → RanOn sink b plain p0 s0 row0 v0 (Err e) end u now w made
-  ran_fail base p0 p q end s0 s t r u row0 row mid now v0 v w first second made (Fault m) x k z l = absurd z.steps
-  ran_fail base p0 p q end s0 s t r u row0 row mid now v0 v w first second made Uncovered x k z l = record { ran = tt }
-  ran_fail base p0 p q end s0 s t r u row0 row mid now v0 v w first second made Refused x k z l =
+  ran_broke : (base : ℕ) (p0 p q : Point) (s0 s t r : State) (row0 row mid now : List Frame) (v0 v w : SizeLimitedFmtAdapter S) (first second made : ℕ) (e : SinkRefused) → Ran sink b plain p0 s0 row0 v0 p s row v first
+      → Resumes base p s row q t mid → Stepped voice b plain q t mid v (Err e) r now w second → made ≤ first + second → Broke sink b plain p0 s0 row0 v0 w made
+  ran_broke base p0 p q s0 s t r row0 row mid now v0 v w first second made e x k z l =
       let d = z.steps.0 in
       let resumed : owed b plain true p s row ≡ owed b plain true q t mid = subst (λ (out : Bool). owed b plain out p s row ≡ owed b plain out q t mid) loud (resume_heard voice b plain base p q s t row mid k) in
       let rest = and_then d.rest (row_owed b plain true mid) in
@@ -80,74 +80,143 @@ module _ {S : Type 0} (sink : Sinks S) (voice : Ghosts (SizeLimitedFmtAdapter S)
       ap (λ (h : Heard). and_then h (row_owed b plain true mid)) (subst (λ (out : Bool). share_of b plain out q t ≡ heard_bits out d.front (handing out d.texts d.rest)) loud d.reads)
       ∙ (bits_then true d.front (handing true d.texts d.rest) (row_owed b plain true mid) ∙ ap (heard_bits true d.front) (handing_then true d.texts d.rest (row_owed b plain true mid))) in
       record {
-        ran = record {
-          front = x.bits ++ d.front;
-          texts = d.texts;
-          rest = rest;
-          mid = d.mid;
-          told = said_append sink v0 v d.mid x.bits d.front x.told (said_told v d.mid d.front d.told);
-          refusal = d.refusal;
-          prints = same d.mid w d.texts (Err d.refusal) d.prints;
-          reads = x.reads ∙ (ap (heard_bits true x.bits) (resumed ∙ heard) ∙ sym (bits_append true x.bits d.front (handing true d.texts rest)));
-          enough = omega (arith, l, x.enough, d.enough, looks_append x.bits d.front);
-        };
+        front = x.bits ++ d.front;
+        texts = d.texts;
+        rest = rest;
+        mid = d.mid;
+        told = said_append sink v0 v d.mid x.bits d.front x.told (said_told v d.mid d.front d.told);
+        refusal = d.refusal;
+        prints = same d.mid w d.texts (Err d.refusal) d.prints;
+        reads = x.reads ∙ (ap (heard_bits true x.bits) (resumed ∙ heard) ∙ sym (bits_append true x.bits d.front (handing true d.texts rest)));
+        enough = omega (arith, l, x.enough, d.enough, looks_append x.bits d.front);
       }
 
--- nothing is left
-pub ran_over : {S : Type 0} (sink : Sinks S) (b : List ℕ) (plain : Bool) (p0 p : Point) (s0 s t : State) (row0 row now : List Frame) (v0 v : SizeLimitedFmtAdapter S) (first made : ℕ) → Ran sink b plain p0 s0 row0 v0 p s row v first
-    → p ≡ point.End → row ≡ [] → t ≡ s → made ≤ first → (end : Point) → RanOn sink b plain p0 s0 row0 v0 (Ok true) end t now v made
-ran_over sink b plain p0 p s0 s t row0 row now v0 v first made x e r k l end = record {
-  ran = rw k (record { bits = x.bits; told = x.told; reads = rw (e, r) at x.reads; enough = omega (arith, l, x.enough) });
-}
+  pub ran_fail : (base : ℕ) (p0 p q : Point) (s0 s t r : State) (row0 row mid now : List Frame) (v0 v w : SizeLimitedFmtAdapter S) (first second made : ℕ) (e : SinkRefused) (result : Result (Option Left) SinkRefused) (to : Reading) (end : List Frame)
+      → IsErr result → Ran sink b plain p0 s0 row0 v0 p s row v first → Resumes base p s row q t mid → Stepped voice b plain q t mid v (Err e) r now w second → made ≤ first + second → RanOn sink b plain p0 s0 row0 v0 result to end w made
+  ran_fail base p0 p q s0 s t r row0 row mid now v0 v w first second made e (Ok x) to end h a k z l = absurd (false≢true h)
+  ran_fail base p0 p q s0 s t r row0 row mid now v0 v w first second made e (Err f) to end h a k z l = record { ran = ran_broke base p0 p q s0 s t r row0 row mid now v0 v w first second made e a k z l }
+
+-- where it goes on behind a unit
+pub ran_resumes : {S : Type 0} (sink : Sinks S) (b : List ℕ) (plain : Bool) (base : ℕ) (p0 p q : Point) (s0 s t : State) (row0 row mid : List Frame) (v0 v : SizeLimitedFmtAdapter S) (made : ℕ) → Ran sink b plain p0 s0 row0 v0 p s row v made
+    → Resumes base p s row q t mid → Ran sink b plain p0 s0 row0 v0 q t mid v made
+ran_resumes sink b plain base p0 p q s0 s t row0 row mid v0 v made x k = record { bits = x.bits; told = x.told; reads = x.reads ∙ ap (heard_bits true x.bits) (resumes_heard b plain true base p q s t row mid k); enough = x.enough }
+
+-- an impl's own path was read
+pub ran_skips : {S : Type 0} (sink : Sinks S) (b : List ℕ) (plain q : Bool) (p0 p : Point) (s0 s t : State) (row0 below now : List Frame) (v0 v : SizeLimitedFmtAdapter S) (first second made : ℕ) → Ran sink b plain p0 s0 row0 v0 (skip_point q) s below v first
+    → Skipped b plain q s below p t now second → made ≤ first + second → Ran sink b plain p0 s0 row0 v0 p t now v made
+ran_skips sink b plain q p0 p s0 s t row0 below now v0 v first second made x k l =
+    let ks = allowances (own_heard b plain s).events in
+    record {
+      bits = x.bits ++ pays ks ∷ [];
+      told = said_append sink v0 v v x.bits (pays ks ∷ []) x.told refl;
+      reads = x.reads ∙ (ap (heard_bits true x.bits) (skipped_owed q b plain p s t below now second k) ∙ sym (bits_append true x.bits (pays ks ∷ []) (owed b plain true p t now)));
+      enough = omega (arith, l, x.enough, k.looks, total_allowances (own_heard b plain s).events, looks_append x.bits (pays ks ∷ []));
+    }
+
+-- one turn that skips it
+pub turn_skips : {S : Type 0} (sink : Sinks S) (b : List ℕ) (plain : Bool) (base : ℕ) (p0 p q u : Point) (s0 s t r : State) (row0 row mid now : List Frame) (v0 v : SizeLimitedFmtAdapter S) (first second made : ℕ) (k : (x : Bool) × (q ≡ skip_point x))
+    → Ran sink b plain p0 s0 row0 v0 p s row v first → Resumes base p s row q t mid → Skipped b plain k.0 t mid u r now second → made ≤ first + second → Ran sink b plain p0 s0 row0 v0 u r now v made
+turn_skips sink b plain base p0 p q u s0 s t r row0 row mid now v0 v first second made k x y z l =
+    ran_skips sink b plain k.0 p0 u s0 t r row0 mid now v0 v first second made
+    (subst (λ (w : Point). Ran sink b plain p0 s0 row0 v0 w t mid v first) k.1 (ran_resumes sink b plain base p0 p q s0 s t row0 row mid v0 v first x y)) z l
+
+-- the row is full
+pub ran_midway : {S : Type 0} (sink : Sinks S) (b : List ℕ) (plain : Bool) (p0 p : Point) (s0 s : State) (row0 below now : List Frame) (v0 v : SizeLimitedFmtAdapter S) (base : ℕ) (inner r : Reading) (first second made : ℕ) → is_skip p ≡ true → r ≡ record { point = p; state = s }
+    → base ≡ length below → Valid p s below → Reads b plain below point.Path (silent_of s) [] inner.point inner.state now second → Ran sink b plain p0 s0 row0 v0 p s below v first → made ≤ first + second
+    → RanOn sink b plain p0 s0 row0 v0 (Ok (Some (left.Behind base inner))) r now v made
+ran_midway sink b plain p0 p s0 s row0 below now v0 v base inner r first second made e k h valid x ran l = let q = skip_is p e in rw k (record {
+  ran = record {
+    first = first;
+    second = second;
+    skips = record { below = below; height = sym h; of_trait = q.0; at = q.1; valid = valid; reads = x };
+    ran = ran;
+    enough = l;
+  };
+})
 
 -- How whole readings end.
 
-pub true_true : true ≡ false → ⊥
-true_true e = cc
+-- a row for all that can ever stand there is never full
+pub none_left : (b : List ℕ) (plain : Bool) (r : Reading) (row : List Frame) (x : Option Left) → ValidLeft b plain 4096 (Ok x) r row → x ≡ None
+none_left b plain r row None v = refl
+none_left b plain r row (Some left.Row) v = absurd (omega (arith, v.1, valid_length r.point r.state row v.0))
+none_left b plain r row (Some (left.Behind base inner)) v = absurd (omega (arith, v.3, valid_length inner.point inner.state row v.2))
 
-pub ended_all : {S : Type 0} (sink : Sinks S) (b : List ℕ) (plain : Bool) (p q : Point) (s t : State) (row now : List Frame) (v w : SizeLimitedFmtAdapter S) (made : ℕ) (all : Bool) → RanOn sink b plain p s row v (Ok all) q t now w made
-    → (all ≡ false → ⊥) → Ended sink b plain p s row v (Ok true) w made
-ended_all sink b plain p q s t row now v w made true r more = record { ended = (t, r.ran) }
-ended_all sink b plain p q s t row now v w made false r more = absurd (more refl)
+broke_then : {S : Type 0} (sink : Sinks S) (b : List ℕ) (plain : Bool) (p q : Point) (s t : State) (row now : List Frame) (v w x : SizeLimitedFmtAdapter S) (first second made : ℕ) → made ≤ first + second
+    → Ran sink b plain p s row v q t now w first → Broke sink b plain q t now w x second → Broke sink b plain p s row v x made
+broke_then sink b plain p q s t row now v w x first second made l a c = record {
+  front = a.bits ++ c.front;
+  texts = c.texts;
+  rest = c.rest;
+  mid = c.mid;
+  told = said_append sink v w c.mid a.bits c.front a.told c.told;
+  refusal = c.refusal;
+  prints = c.prints;
+  reads = a.reads ∙ (ap (heard_bits true a.bits) c.reads ∙ sym (bits_append true a.bits c.front (handing true c.texts c.rest)));
+  enough = omega (arith, l, a.enough, c.enough, looks_append a.bits c.front);
+}
 
-pub ended_err : {S : Type 0} (sink : Sinks S) (b : List ℕ) (plain : Bool) (p q : Point) (s t : State) (row now : List Frame) (v w : SizeLimitedFmtAdapter S) (made : ℕ) (e : SinkRefused) → RanOn sink b plain p s row v (Err Refused) q t now w made
-    → Ended sink b plain p s row v (Err e) w made
-ended_err sink b plain p q s t row now v w made e r = record { ended = r.ran }
+ran_then : {S : Type 0} (sink : Sinks S) (b : List ℕ) (plain : Bool) (p q r : Point) (s t u : State) (row mid now : List Frame) (v w x : SizeLimitedFmtAdapter S) (first second made : ℕ) → made ≤ first + second
+    → Ran sink b plain p s row v q t mid w first → Ran sink b plain q t mid w r u now x second → Ran sink b plain p s row v r u now x made
+ran_then sink b plain p q r s t u row mid now v w x first second made l a c = record {
+  bits = a.bits ++ c.bits;
+  told = said_append sink v w x a.bits c.bits a.told c.told;
+  reads = a.reads ∙ (ap (heard_bits true a.bits) c.reads ∙ sym (bits_append true a.bits c.bits (owed b plain true r u now)));
+  enough = omega (arith, l, a.enough, c.enough, looks_append a.bits c.bits);
+}
 
--- first in one row, then in another
-pub ended_two : {S : Type 0} (sink : Sinks S) (b : List ℕ) (plain : Bool) (p q : Point) (s t : State) (row now : List Frame) (v w x : SizeLimitedFmtAdapter S) (result : Result Bool SinkRefused) (first second made : ℕ)
-    → RanOn sink b plain p s row v (Ok false) q t now w first → Ended sink b plain q t now w result x second → made ≤ first + second → Ended sink b plain p s row v result x made
-ended_two sink b plain p q s t row now v w x (Ok true) first second made r z l =
-    let a = r.ran in
-    let c = z.ended.1 in
-    record {
-      ended = (
-        z.ended.0,
-        record {
-          bits = a.bits ++ c.bits;
-          told = said_append sink v w x a.bits c.bits a.told c.told;
-          reads = a.reads ∙ (ap (heard_bits true a.bits) c.reads ∙ sym (bits_append true a.bits c.bits (owed b plain true point.End z.ended.0 [])));
-          enough = omega (arith, l, a.enough, c.enough, looks_append a.bits c.bits);
-        },
-      );
-    }
-ended_two sink b plain p q s t row now v w x (Ok false) first second made r z l = record { ended = tt }
-ended_two sink b plain p q s t row now v w x (Err e) first second made r z l =
-    let a = r.ran in
-    let c = z.ended in
-    record {
-      ended = record {
-        front = a.bits ++ c.front;
-        texts = c.texts;
-        rest = c.rest;
-        mid = c.mid;
-        told = said_append sink v w c.mid a.bits c.front a.told c.told;
-        refusal = c.refusal;
-        prints = c.prints;
-        reads = a.reads ∙ (ap (heard_bits true a.bits) c.reads ∙ sym (bits_append true a.bits c.front (handing true c.texts c.rest)));
-        enough = omega (arith, l, a.enough, c.enough, looks_append a.bits c.front);
-      };
-    }
+pub none_read : (n : ℕ) (row : List Frame) (x : Option Reading) → 4096 ≤ n → IfSome x (λ r. Valid r.point r.state row) → IfSome x (λ r. n ≤ length row) → x ≡ None
+none_read n row None m v l = refl
+none_read n row (Some r) m v l = absurd (omega (arith, m, l, valid_length r.point r.state row v))
+
+pub if_none : {A : Type 0} (x : Option Reading) → x ≡ None → IfNone x A → A
+if_none None e h = h
+if_none (Some r) e h = absurd (some_none r e)
+  where
+    some_none : (r : Reading) → Some r ≡ None → ⊥
+    some_none r z = cc
+
+-- behind an impl's own path, if there is one
+pub passed_ran : {S : Type 0} (sink : Sinks S) (b : List ℕ) (plain : Bool) (p : Point) (s : State) (row few now : List Frame) (v w : SizeLimitedFmtAdapter S) (x : Left) (r to : Reading) (first second made : ℕ) → made ≤ first + second
+    → RanOn sink b plain p s row v (Ok (Some x)) r few w first → Passed b plain x r few to now second → Ran sink b plain p s row v to.point to.state now w made
+passed_ran sink b plain p s row few now v w left.Row r to first second made l a k = rw (k.0, k.1) (record { bits = a.ran.bits; told = a.ran.told; reads = a.ran.reads; enough = omega (arith, l, k.2, a.ran.enough) })
+passed_ran sink b plain p s row few now v w (left.Behind base inner) r to first second made l a k =
+    let m = a.ran in
+    let z = k m.skips.below m.skips.of_trait m.second m.skips.reads m.skips.height m.skips.at in
+    ran_skips sink b plain m.skips.of_trait p to.point s r.state to.state row m.skips.below now v w m.first (m.second + second) made (subst (λ (y : Point). Ran sink b plain p s row v y r.state m.skips.below w m.first) m.skips.at m.ran) z (omega (arith, l, m.enough))
+
+pub passed_valid : (b : List ℕ) (plain : Bool) (few now : List Frame) (n : ℕ) (x : Left) (r to : Reading) (second : ℕ) → ValidLeft b plain n (Ok (Some x)) r few → Passed b plain x r few to now second → Valid to.point to.state now
+passed_valid b plain few now n left.Row r to second v k = rw (k.0, k.1) v.0
+passed_valid b plain few now n (left.Behind base inner) r to second v k =
+    let s = v.1 in
+    skipped_valid s.of_trait b plain to.point r.state to.state s.below now (v.0 + second) (k s.below s.of_trait v.0 s.reads s.height s.at) (subst (λ (y : Point). Valid y r.state s.below) s.at s.valid)
+
+-- no tag was looked at where one is skipped
+pub passed_unread : (b : List ℕ) (plain : Bool) (few now : List Frame) (n : ℕ) (x : Left) (r to : Reading) (second : ℕ) → ValidLeft b plain n (Ok (Some x)) r few → Passed b plain x r few to now second
+    → first_looks r.point r.state ≤ first_looks to.point to.state
+passed_unread b plain few now n left.Row r to second v k = rw k.0 (omega arith)
+passed_unread b plain few now n (left.Behind base inner) r to second v k = let s = v.1 in rw s.at (unread s.of_trait)
+  where
+    unread : (q : Bool) → first_looks (skip_point q) r.state ≤ first_looks to.point to.state
+    unread true = omega arith
+    unread false = omega arith
+
+-- in the row for every frame, behind what came before
+pub ended_all : {S : Type 0} (sink : Sinks S) (b : List ℕ) (plain : Bool) (p q : Point) (s t : State) (row mid now : List Frame) (v w x : SizeLimitedFmtAdapter S) (r : Reading) (first second made : ℕ) (answer : Option Left) → made ≤ first + second
+    → Ran sink b plain p s row v q t mid w first → RanOn sink b plain q t mid w (Ok answer) r now x second → answer ≡ None → Ended sink b plain p s row v (Ok tt) x made
+ended_all sink b plain p q s t row mid now v w x r first second made None l a c e = record { ended = (r.state, ran_then sink b plain p q point.End s t r.state row mid [] v w x first second made l a c.ran) }
+ended_all sink b plain p q s t row mid now v w x r first second made (Some y) l a c e = absurd (some_none e)
+  where
+    some_none : Some y ≡ None → ⊥
+    some_none z = cc
+
+pub ended_err : {S : Type 0} (sink : Sinks S) (b : List ℕ) (plain : Bool) (p q : Point) (s t : State) (row mid now : List Frame) (v w x : SizeLimitedFmtAdapter S) (r : Reading) (first second made : ℕ) (e : SinkRefused) (result : Result (Unit {0}) SinkRefused) → made ≤ first + second
+    → IsErr result → Ran sink b plain p s row v q t mid w first → RanOn sink b plain q t mid w (Err e) r now x second → Ended sink b plain p s row v result x made
+ended_err sink b plain p q s t row mid now v w x r first second made e (Ok y) l h a c = absurd (false≢true h)
+ended_err sink b plain p q s t row mid now v w x r first second made e (Err f) l h a c = record { ended = broke_then sink b plain p q s t row mid v w x first second made l a c.ran }
+
+pub ran_begun : {S : Type 0} (sink : Sinks S) (b : List ℕ) (plain : Bool) (p : Point) (s : State) (row : List Frame) (v : SizeLimitedFmtAdapter S) → Ran sink b plain p s row v p s row v 0
+ran_begun sink b plain p s row v = record { bits = []; told = refl; reads = refl; enough = omega arith }
 
 -- What was printed.
 
@@ -172,7 +241,7 @@ said_prints sink v w (puts ts ∷ bits) r t =
 
 whole_shown : (b : List ℕ) (plain : Bool) → shown_in (owed b plain true point.Path (first_state 0) []).events ≡ rendered b plain
 unfolding share_at rendered read_at
-whole_shown b plain = ap (λ (h : Heard). shown_in h.events) (owed_alone b plain true point.Path (first_state 0)) ∙ shown_events plain (level_of b (levels b 500) true a_path true 0 0).tree
+whole_shown b plain = ap (λ (h : Heard). shown_in h.events) (owed_alone b plain true point.Path (first_state 0)) ∙ shown_events plain (level_of b (levels b max_depth) true a_path true 0 0).tree
 
 end_shown : (b : List ℕ) (plain : Bool) (t : State) → shown_in (owed b plain true point.End t []).events ≡ []
 unfolding share_at row_owed
@@ -190,7 +259,7 @@ front_shown sink b plain v w made d =
     ap (λ zs. bits_texts d.front ++ zs) (sym (shown_said d.texts d.rest.events))
     ∙ (sym (shown_bits d.front (handing true d.texts d.rest)) ∙ (ap (λ (h : Heard). shown_in h.events) (sym d.reads) ∙ whole_shown b plain))
 
-pub prints_all : {S : Type 0} (sink : Sinks S) (b : List ℕ) (plain : Bool) (v w : SizeLimitedFmtAdapter S) (made : ℕ) → Ready sink v → Ended sink b plain point.Path (first_state 0) [] v (Ok true) w made → Prints sink v (rendered b plain) (Ok tt) w
+pub prints_all : {S : Type 0} (sink : Sinks S) (b : List ℕ) (plain : Bool) (v w : SizeLimitedFmtAdapter S) (made : ℕ) → Ready sink v → Ended sink b plain point.Path (first_state 0) [] v (Ok tt) w made → Prints sink v (rendered b plain) (Ok tt) w
 prints_all sink b plain v w made ready z =
     let r = z.ended.1 in subst (λ (ts : List Text). Prints sink v ts (Ok tt) w) (all_shown sink b plain z.ended.0 v w made r) (said_prints sink v w r.bits ready r.told)
 
@@ -224,7 +293,7 @@ whole_paid : (b : List ℕ) (plain : Bool) → Pays (17000 * (length b + 1)) (17
 unfolding share_at read_at
 whole_paid b plain =
     subst (λ (h : Heard). Pays (17000 * (length b + 1)) (17034 * (length b + 1)) (weighed h.events) 0) (sym (owed_alone b plain true point.Path (first_state 0)))
-    (pays_tree (17000 * (length b + 1)) (17034 * (length b + 1)) 0 plain (level_of b (levels b 500) true a_path true 0 0).tree (printing_pays b plain))
+    (pays_tree (17000 * (length b + 1)) (17034 * (length b + 1)) 0 plain (level_of b (levels b max_depth) true a_path true 0 0).tree (printing_pays b plain))
 
 -- with two looks that came too early
 within : (n w room made : ℕ) → w ≤ room → made ≤ 17034 * (n + 1) + 17000 * (n + 1) * w + 2 → made ≤ 100000 * (room + 1) * (n + 1)
@@ -238,21 +307,16 @@ bits_most sink b plain v w bits h rest made ready t e s l =
     let paid = bits_paid (17000 * (length b + 1)) (17034 * (length b + 1)) bits h (subst (λ (g : Heard). Pays (17000 * (length b + 1)) (17034 * (length b + 1)) (weighed g.events) 0) e (whole_paid b plain)) in
     within (length b) (size (bits_texts bits)) (kept (rendered b plain) v.remaining) made bytes (omega (arith, l, paid))
 
-pub prints_most : {S : Type 0} (sink : Sinks S) (b : List ℕ) (plain : Bool) (v w : SizeLimitedFmtAdapter S) (made : ℕ) (result : Result Bool SinkRefused) → Ready sink v → Ended sink b plain point.Path (first_state 0) [] v result w made
-    → (result ≡ Ok false → ⊥) → made ≤ 100000 * (kept (rendered b plain) v.remaining + 1) * (length b + 1)
-prints_most sink b plain v w made (Ok true) ready z covered =
+pub prints_most : {S : Type 0} (sink : Sinks S) (b : List ℕ) (plain : Bool) (v w : SizeLimitedFmtAdapter S) (made : ℕ) (result : Result (Unit {0}) SinkRefused) → Ready sink v → Ended sink b plain point.Path (first_state 0) [] v result w made
+    → made ≤ 100000 * (kept (rendered b plain) v.remaining + 1) * (length b + 1)
+prints_most sink b plain v w made (Ok u) ready z =
     let r = z.ended.1 in
     bits_most sink b plain v w r.bits (owed b plain true point.End z.ended.0 []) [] made ready r.told r.reads (append-nil (bits_texts r.bits) ∙ all_shown sink b plain z.ended.0 v w made r) (omega (arith, r.enough))
-prints_most sink b plain v w made (Ok false) ready z covered = absurd (covered refl)
-prints_most sink b plain v w made (Err e) ready z covered =
+prints_most sink b plain v w made (Err e) ready z =
     let d = z.ended in
     bits_most sink b plain v d.mid d.front (handing true d.texts d.rest) (d.texts ++ shown_in d.rest.events) made ready d.told d.reads (front_shown sink b plain v w made d) d.enough
 
-pub on_ended : {S : Type 0} (sink : Sinks S) (b : List ℕ) (plain : Bool) (v w : SizeLimitedFmtAdapter S) (made : ℕ) (result : Result Bool SinkRefused) → Ready sink v → Ended sink b plain point.Path (first_state 0) [] v result w made
-    → OnErr result ((e : SinkRefused) → Prints sink v (rendered b plain) (Err e) w)
-on_ended sink b plain v w made (Ok r) ready z = tt
-on_ended sink b plain v w made (Err e) ready z = λ f. prints_refused sink b plain v w made e f ready z
-
-pub prints_done : {S : Type 0} (sink : Sinks S) (b : List ℕ) (plain : Bool) (v w : SizeLimitedFmtAdapter S) (made : ℕ) (result : Result Bool SinkRefused) → Ready sink v → result ≡ Ok true → Ended sink b plain point.Path (first_state 0) [] v result w made
-    → Prints sink v (rendered b plain) (Ok tt) w
-prints_done {S = S} sink b plain v w made result ready e z = prints_all sink b plain v w made ready (subst (λ (r : Result Bool SinkRefused). Ended {S = S} sink b plain point.Path (first_state 0) [] v r w made) e z)
+pub prints_so : {S : Type 0} (sink : Sinks S) (b : List ℕ) (plain : Bool) (v w : SizeLimitedFmtAdapter S) (made : ℕ) (result : Result (Unit {0}) SinkRefused) → Ready sink v → Ended sink b plain point.Path (first_state 0) [] v result w made
+    → Prints sink v (rendered b plain) result w
+prints_so sink b plain v w made (Ok u) ready z = prints_all sink b plain v w made ready z
+prints_so sink b plain v w made (Err e) ready z = prints_refused sink b plain v w made e e ready z

@@ -1,13 +1,13 @@
 -- References.
 use Rattle.std.specs.Prelude.{◌*◌, ◌^◌, if◌then◌else◌}
 use Rattle.std.proofs.lemmas.Bool.{false≢true}
-use Rattle.std.proofs.Common.{◌≡◌, ℕ, zero, suc, sub-one, ◌+◌, ◌-◌, ◌<◌, ◌≤◌, length, Bool, true, false, Option, Some, None, List, [], ◌∷◌, ◌++◌, Result, Ok, Err, refl, arith, sym, ap, ◌∙◌, subst}
+use Rattle.std.proofs.Common.{◌≡◌, ℕ, zero, suc, sub-one, ◌+◌, ◌-◌, ◌<◌, ◌≤◌, length, Bool, true, false, Some, None, List, [], ◌∷◌, ◌++◌, Ok, Err, refl, arith, sym, ap, ◌∙◌}
 use Rattle.demangle_symbol.specs.Words.{Read, backref_at}
 use Rattle.demangle_v0.specs.Begins.{total}
 use Rattle.demangle_v0.specs.Events.{Heard, of, ended, and_then, allowing, handing}
 use Rattle.demangle_v0.specs.Grammar.{text}
 use Rattle.demangle_v0.specs.Items.{Kind, a_path, a_type, a_constant, a_trait_path, target}
-use Rattle.demangle_v0.specs.Points.{followed, goes, fails, share_at, around, way_weight, weight_at, Fits, DidOn}
+use Rattle.demangle_v0.specs.Points.{followed, goes, share_at, around, way_weight, weight_at, Fits, DidOn}
 use Rattle.demangle_v0.specs.Reading.{Place, run, resumed, level_of, levels, target_of, target_read}
 use Rattle.demangle_v0.specs.References.{IsUnit, shutting}
 use Rattle.demangle_v0.specs.Serving.{refer, referred, leads}
@@ -142,4 +142,11 @@ module _ {V : Type 0} (voice : Ghosts V) (b : List ℕ) (plain : Bool) where
   unfolding followed share_at
   goes_behind s row u new made l kp ko km = record {
     comes = steps voice b plain (goes point.End) [] [] None _ 1 1 row row u new made (rw (kp, ko, km) refl) refl (omega (arith, l)) (omega (arith, l)) (omega arith) (omega arith) (omega arith) tt tt (λ _. tt);
+  }
+
+  -- a unit that is over
+  pub stays_over : (s : State) (row : List Frame) (u : V) (made : ℕ) → made ≤ 0 → s.mark ≡ None → DidOn voice b plain (share_at b plain voice.loud point.End s.in_value s.letter s.depth_left s.lifetimes s.place s.is_open) 1 0 row u (Ok point.End) s row u made
+  unfolding followed share_at
+  stays_over s row u made l k = record {
+    comes = steps voice b plain (goes point.End) [] [] None _ 1 0 row row u s made (rw k refl) refl (omega (arith, l)) (omega (arith, l)) (omega arith) (omega arith) (omega arith) tt tt (λ _. tt);
   }

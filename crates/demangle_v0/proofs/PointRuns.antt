@@ -1,36 +1,28 @@
 -- Steps on a whole row.
-use Rattle.std.specs.Prelude.{◌*◌}
-use Rattle.std.proofs.Common.{◌≡◌, ℕ, ◌+◌, ◌-◌, ◌≤◌, ◌<◌, Bool, true, false, Option, Some, None, List, [], ◌∷◌, ◌++◌, length, Result, Ok, Err, IsOk, refl, arith, sym, ap, ◌∙◌, subst, append_assoc, length-append}
+use Rattle.std.proofs.Common.{◌≡◌, ℕ, ◌+◌, ◌≤◌, ◌<◌, Bool, true, false, Option, Some, None, List, [], ◌∷◌, ◌++◌, length, Result, Ok, Err, IsErr, refl, arith, sym, ap, ◌∙◌, subst, append_assoc, length-append}
 use Rattle.std.proofs.lemmas.Bool.{false≢true}
 use Rattle.demangle_v0.specs.Items.{Text}
 use Rattle.demangle_v0.specs.Begins.{total}
 use Rattle.demangle_v0.specs.Running.{allowed_in}
-use Rattle.demangle_v0.specs.Events.{Event, Heard, of, ended, and_then, allowing, handing, allowed_all, said_all}
+use Rattle.demangle_v0.specs.Events.{Event, Heard, ended, and_then, allowing, handing, allowed_all, said_all}
 use Rattle.demangle_v0.specs.Grammar.{text}
 use Rattle.demangle_v0.specs.Heights as heights
-use Rattle.demangle_v0.specs.Items.{dyn_trait, bindings, done}
-use Rattle.demangle_v0.specs.Table.{more, bound}
-use Rattle.demangle_v0.specs.Reading.{Place, Surroundings, followed_by, run}
+use Rattle.demangle_v0.specs.Reading.{Place}
 use Rattle.demangle_v0.proofs.Failed.{failed}
-use Rattle.demangle_v0.specs.Points.{Bit, pays, puts, heard_bits, bits_looks, Told, marked, pushed_on, followed, Way, goes, fails, way_heard, way_weight, way_height, weight_at, weight_of, weights, height_at, height_of, count_of, FitsFrame, FitsWay, Fits, rest_at, around, closing, share, share_at, share_of, row_owed, owed, measure, is_inner, IsInner, AllInner, Went, Stopped, Kept, DidOn, resumed_of, bindings_left}
-use Rattle.demangle_v0.specs.PointRuns.{Puts, unmarked_of, Stepped, Resumes, stays, pops, frame_height, AllFit, Valid, Quiet, Fails, Reads, ReadOn, first_looks}
+use Rattle.demangle_v0.specs.Points.{most_frames, Bit, pays, puts, heard_bits, bits_looks, Told, marked, pushed_on, followed, Way, goes, fails, way_heard, way_weight, way_height, weight_at, weight_of, weights, height_at, height_of, count_of, FitsFrame, FitsWay, Fits, rest_at, around, share, share_at, share_of, row_owed, owed, measure, is_inner, IsInner, AllInner, Went, Stopped, Kept, DidOn, resumed_of, bindings_left}
+use Rattle.demangle_v0.specs.PointRuns.{Puts, unmarked_of, Stepped, Resumes, stays, pops, frame_height, AllFit, Valid, Quiet, Reads, ReadOn, first_looks}
 use Rattle.demangle_sink.specs.declared.SinkRefused.{SinkRefused}
 use Rattle.demangle_v0.specs.declared.grammar.Mark.{Mark}
 use Rattle.demangle_v0.specs.declared.points.Point.{Point}
 use Rattle.demangle_v0.specs.declared.points.Point.TheVariants as point
 use Rattle.demangle_v0.specs.declared.points.frames.Frame.{Frame}
 use Rattle.demangle_v0.specs.declared.points.State.{State}
-use Rattle.demangle_v0.specs.declared.points.Stop.{Stop}
-use Rattle.demangle_v0.specs.declared.points.Stop.TheVariants.{Refused, Fault, Uncovered}
+use Rattle.demangle_v0.specs.declared.points.Stop.TheVariants.{Fault}
 use Rattle.demangle_v0.specs.declared.points.voice.Voice.{Ghosts}
+use Rattle.demangle_v0.specs.declared.points.read.Halt.TheVariants as halt
 use Rattle.demangle_v0.proofs.Hearing.{and_then_assoc, and_then_ended, handing_then, allowing_then}
 use Rattle.demangle_v0.proofs.Standing.{above_pop, above_none}
 use Rattle.demangle_v0.proofs.PointSteps.{bits_append, looks_append, told_append, refused}
-
--- No reference is followed.
-
-closing_place : (h : Heard) → (closing h).place ≡ h.place
-closing_place h = refl
 
 pub share_failed : (b : List ℕ) (plain out : Bool) (p : Point) (v : Bool) (c left n : ℕ) (o : Bool) → is_inner p ≡ true → (share_at b plain out p v c left n None o).place ≡ None
 unfolding share_at
@@ -184,18 +176,15 @@ module _ {V : Type 0} (voice : Ghosts V) (b : List ℕ) (plain : Bool) where
 
   pub step_refused : (p q : Point) (s new : State) (t : State) (row now : List Frame) (v w x : V) (e : SinkRefused) (first made : ℕ)
       → DidOn voice b plain (share_of b plain voice.loud p s) (weight_at p) (height_at p s.depth_left) row v (Ok q) new now w first → Puts voice new.mark w (Err e) x → made ≤ first
-      → Stepped voice b plain p s row v (Err Refused) t now x made
+      → Stepped voice b plain p s row v (Err e) t now x made
   step_refused p q s new t row now v w x e first made d k l = record {
     steps = (mark_refused (goes q) new _ _ _ row now v w x e first made new.mark refl d.comes k l, kept_pushed row now d.comes.pushed d.comes.is_row);
   }
 
-  -- the same before a fault
-  pub fault_unmarked : (p : Point) (f : Mark) (s new : State) (t : State) (row now : List Frame) (v w x : V) (e : SinkRefused) (first made : ℕ)
-      → DidOn voice b plain (share_of b plain voice.loud p s) (weight_at p) (height_at p s.depth_left) row v (Err (Fault f)) new now w first → Puts voice new.mark w (Err e) x → made ≤ first
-      → Stepped voice b plain p s row v (Err Refused) t now x made
-  fault_unmarked p f s new t row now v w x e first made d k l = record {
-    steps = (mark_refused (fails f) new _ _ _ row now v w x e first made new.mark refl d.comes k l, kept_pushed row now d.comes.pushed d.comes.is_row);
-  }
+  -- which error is answered makes no difference
+  pub stepped_err : (p : Point) (s t : State) (row now : List Frame) (v w : V) (made : ℕ) (e : SinkRefused) (r : Result Point SinkRefused) → IsErr r → Stepped voice b plain p s row v (Err e) t now w made → Stepped voice b plain p s row v r t now w made
+  stepped_err p s t row now v w made e (Ok q) h d = absurd (false≢true h)
+  stepped_err p s t row now v w made e (Err f) h d = record { steps = d.steps }
 
   followed_said : (p : Option Frame) (ts : List Text) → followed b plain voice.loud p (handing voice.loud ts (ended None false)) ≡ handing voice.loud ts (followed b plain voice.loud p (ended None false))
   unfolding followed
@@ -207,14 +196,25 @@ module _ {V : Type 0} (voice : Ghosts V) (b : List ℕ) (plain : Bool) where
   followed_failed None q = refl
   followed_failed (Some f) q = share_failed b plain voice.loud f.point f.in_value f.letter f.depth_left f.number false q
 
+  unput : (m : Option Mark) (v : V) → m ≡ None → Puts voice m v (Ok tt) v
+  unput None v e = (refl, refl)
+  unput (Some m) v e = absurd (some_none e)
+    where
+      some_none : Some m ≡ None → ⊥
+      some_none z = cc
+
+  -- a fault comes with no mark, so that one stretch is handed over
+  pub fault_unmarked : (h : Heard) (weight high : ℕ) (row : List Frame) (v : V) (f : Mark) (new : State) (now : List Frame) (w : V) (made : ℕ) → DidOn voice b plain h weight high row v (Err (Fault f)) new now w made → new.mark ≡ None
+  fault_unmarked h weight high row v f new now w made z = z.comes.1
+
   -- the text of the fault was handed over
-  pub fault_goes : (p : Point) (f : Mark) (s new t : State) (row now : List Frame) (v w x y : V) (first made : ℕ)
-      → DidOn voice b plain (share_of b plain voice.loud p s) (weight_at p) (height_at p s.depth_left) row v (Err (Fault f)) new now w first → Puts voice new.mark w (Ok tt) x → voice.prints x (text f ∷ []) (Ok tt) y
+  pub fault_goes : (p : Point) (f : Mark) (s new t : State) (row now : List Frame) (v x y : V) (first made : ℕ)
+      → DidOn voice b plain (share_of b plain voice.loud p s) (weight_at p) (height_at p s.depth_left) row v (Err (Fault f)) new now x first → voice.prints x (text f ∷ []) (Ok tt) y
       → t.mark ≡ None → t.place ≡ None → t.is_open ≡ false → made ≤ first
       → Stepped voice b plain p s row v (Ok point.End) t now y made
   unfolding share_at
-  fault_goes p f s new t row now v w x y first made z k u c i o l =
-      let d = put_way (fails f) new _ _ _ row now v w x first made refl refl (λ g. g) z.comes k l in
+  fault_goes p f s new t row now v x y first made z u c i o l =
+      let d = put_way (fails f) new _ _ _ row now v x x first made refl refl (λ g. g) z.comes.0 (unput new.mark x z.comes.1) l in
       record {
         steps = (
           record {
@@ -241,12 +241,12 @@ module _ {V : Type 0} (voice : Ghosts V) (b : List ℕ) (plain : Bool) where
       }
 
   -- or refused
-  pub fault_refused : (p : Point) (f : Mark) (s new t : State) (row now : List Frame) (v w x y : V) (e : SinkRefused) (first made : ℕ)
-      → DidOn voice b plain (share_of b plain voice.loud p s) (weight_at p) (height_at p s.depth_left) row v (Err (Fault f)) new now w first → Puts voice new.mark w (Ok tt) x → voice.prints x (text f ∷ []) (Err e) y
+  pub fault_refused : (p : Point) (f : Mark) (s new t : State) (row now : List Frame) (v x y : V) (e : SinkRefused) (first made : ℕ)
+      → DidOn voice b plain (share_of b plain voice.loud p s) (weight_at p) (height_at p s.depth_left) row v (Err (Fault f)) new now x first → voice.prints x (text f ∷ []) (Err e) y
       → made ≤ first
-      → Stepped voice b plain p s row v (Err Refused) t now y made
-  fault_refused p f s new t row now v w x y e first made z k u l =
-      let d = put_way (fails f) new _ _ _ row now v w x first made refl refl (λ g. g) z.comes k l in
+      → Stepped voice b plain p s row v (Err e) t now y made
+  fault_refused p f s new t row now v x y e first made z u l =
+      let d = put_way (fails f) new _ _ _ row now v x x first made refl refl (λ g. g) z.comes.0 (unput new.mark x z.comes.1) l in
       record {
         steps = (
           record {
@@ -270,7 +270,7 @@ module _ {V : Type 0} (voice : Ghosts V) (b : List ℕ) (plain : Bool) where
 
 -- What a row still reads.
 
-row_push : (b : List ℕ) (plain out : Bool) (row : List Frame) (f : Frame) (i : Place) (o : Bool) → row_owed b plain out (row ++ f ∷ []) i o ≡ and_then (share b plain out f i o) (row_owed b plain out row)
+pub row_push : (b : List ℕ) (plain out : Bool) (row : List Frame) (f : Frame) (i : Place) (o : Bool) → row_owed b plain out (row ++ f ∷ []) i o ≡ and_then (share b plain out f i o) (row_owed b plain out row)
 unfolding row_owed
 row_push b plain out [] f i o = sym (and_then_ended (share b plain out f i o))
 row_push b plain out (g ∷ row) f i o = ap (λ (h : Heard). and_then h (share b plain out g)) (row_push b plain out row f i o) ∙ and_then_assoc (share b plain out f i o) (row_owed b plain out row) (share b plain out g)
@@ -306,7 +306,7 @@ place_bits out (puts ts ∷ bits) h = place_bits out bits h
 
 -- no more is left to do
 
-weights_push : (row : List Frame) (f : Frame) → weights (row ++ f ∷ []) ≡ weights row + (weight_at f.point + 1)
+pub weights_push : (row : List Frame) (f : Frame) → weights (row ++ f ∷ []) ≡ weights row + (weight_at f.point + 1)
 weights_push [] f = omega arith
 weights_push (g ∷ row) f = omega (arith, weights_push row f)
 
@@ -346,13 +346,13 @@ fit_below (g ∷ row) f h = let k = fit_below row f h.1 in ((h.0, k.0), k.1)
 valid_push : (p q : Point) (s t : State) (row : List Frame) (f : Option Frame) → Valid p s row → height_of f ≤ height_at p s.depth_left → height_at q t.depth_left + count_of f ≤ height_at p s.depth_left → FitsFrame f → Fits q t.depth_left t.lifetimes → t.mark ≡ None
     → Valid q t (pushed_on row f)
 valid_push p q s t row None v x y g h k = record {
-  stands = Rattle.demangle_v0.proofs.Heights.stands_on frame_height 4008 (height_at p s.depth_left) (height_at q t.depth_left) row v.stands (omega (arith, y));
+  stands = Rattle.demangle_v0.proofs.Heights.stands_on frame_height most_frames (height_at p s.depth_left) (height_at q t.depth_left) row v.stands (omega (arith, y));
   fits = h;
   all_fit = v.all_fit;
   unmarked = k;
 }
 valid_push p q s t row (Some f) v x y g h k = record {
-  stands = Rattle.demangle_v0.proofs.Heights.stands_push frame_height 4008 (height_at p s.depth_left) (height_at q t.depth_left) row f v.stands x (omega (arith, y));
+  stands = Rattle.demangle_v0.proofs.Heights.stands_push frame_height most_frames (height_at p s.depth_left) (height_at q t.depth_left) row f v.stands x (omega (arith, y));
   fits = h;
   all_fit = fit_push row f v.all_fit g;
   unmarked = k;
@@ -363,7 +363,7 @@ valid_resumes base p q s t row now v (stays other e k r) = rw (e, k, r) v
 valid_resumes base p q s t row now v (pops f e l r d k) =
     let fit = fit_below now f (subst AllFit r v.all_fit) in
     rw (d, k) record {
-      stands = Rattle.demangle_v0.proofs.Heights.stands_resumed frame_height 4008 (height_at p s.depth_left) (frame_height f) now f (subst (λ (z : List Frame). heights.Stands frame_height 4008 (height_at p s.depth_left) z) r v.stands) (omega arith);
+      stands = Rattle.demangle_v0.proofs.Heights.stands_resumed frame_height most_frames (height_at p s.depth_left) (frame_height f) now f (subst (λ (z : List Frame). heights.Stands frame_height most_frames (height_at p s.depth_left) z) r v.stands) (omega arith);
       fits = fit.1;
       all_fit = fit.0;
       unmarked = v.unmarked;
@@ -497,11 +497,9 @@ module _ {V : Type 0} (voice : Ghosts V) (b : List ℕ) (plain : Bool) (silent :
       )
 
   -- it failed
-  pub reads_fail : (base : ℕ) (below above : List Frame) (p0 p q end : Point) (s0 s t r u : State) (row mid now : List Frame) (v w : V) (first second made : ℕ) (e : Stop) → Reads b plain below p0 s0 above p s row first → length below ≡ base
-      → Resumes base p s row q t mid → Stepped voice b plain q t mid v (Err e) r now w second → made ≤ first + second → ReadOn b plain below p0 s0 above (Err e) end u now made
-  reads_fail base below above p0 p q end s0 s t r u row mid now v w first second made (Fault m) x l k z h = absurd z.steps
-  reads_fail base below above p0 p q end s0 s t r u row mid now v w first second made Uncovered x l k z h = record { reads = tt }
-  reads_fail base below above p0 p q end s0 s t r u row mid now v w first second made Refused x l k z h =
+  pub reads_fail : (base : ℕ) (below above : List Frame) (p0 p q end : Point) (s0 s t r u : State) (row mid now : List Frame) (v w : V) (first second made : ℕ) (e : SinkRefused) → Reads b plain below p0 s0 above p s row first → length below ≡ base
+      → Resumes base p s row q t mid → Stepped voice b plain q t mid v (Err e) r now w second → made ≤ first + second → ReadOn b plain below p0 s0 above halt.Failed end u now made
+  reads_fail base below above p0 p q end s0 s t r u row mid now v w first second made e x l k z h =
       let y = reads_resume base below above p0 p q s0 s t row mid first x l k in
       let f = stop_quiet q t y.frames v w second y.inner z.steps.0 in
       record {
@@ -513,7 +511,7 @@ module _ {V : Type 0} (voice : Ghosts V) (b : List ℕ) (plain : Bool) (silent :
 
 -- nothing is left above the others
 pub reads_over : (b : List ℕ) (plain : Bool) (base : ℕ) (below above : List Frame) (p0 p q : Point) (s0 s t : State) (row now : List Frame) (first made : ℕ) → Reads b plain below p0 s0 above p s row first → length below ≡ base
-    → p ≡ point.End → length row ≤ base → now ≡ row → t ≡ s → made ≤ first → ReadOn b plain below p0 s0 above (Ok true) q t now made
+    → p ≡ point.End → length row ≤ base → now ≡ row → t ≡ s → made ≤ first → ReadOn b plain below p0 s0 above halt.Over q t now made
 reads_over b plain base below above p0 p q s0 s t row now first made x l e h r k m =
     let none = above_none below x.frames row x.is_row (omega (arith, l, h)) in
     let over : Quiet b plain p0 s0 above point.End s [] first = subst (λ (ys : List Frame). Quiet b plain p0 s0 above point.End s ys first) none (subst (λ (z : Point). Quiet b plain p0 s0 above z s x.frames first) e x.quiet) in

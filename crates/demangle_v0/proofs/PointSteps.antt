@@ -1,15 +1,15 @@
 -- Steps of points, one behind another.
-use Rattle.std.specs.Prelude.{◌*◌, ◌==◌, ◌^◌}
+use Rattle.std.specs.Prelude.{◌*◌}
 use Rattle.std.proofs.lemmas.Bool.{false≢true}
 use Rattle.std.proofs.lemmas.List.{append-nil}
-use Rattle.std.proofs.Common.{◌≡◌, ℕ, zero, suc, sub-one, if◌then◌else◌, ◌+◌, ◌-◌, ◌<◌, ◌≤◌, length, Bool, true, false, Option, Some, None, List, [], ◌∷◌, ◌++◌, Result, Ok, Err, IsOk, IsErr, refl, arith, sym, ap, ◌∙◌, subst}
-use Rattle.demangle_v0.specs.Items.{Kind, Text, a_path, Items, done, invalid, target, child, byte}
+use Rattle.std.proofs.Common.{◌≡◌, ℕ, ◌+◌, ◌-◌, ◌≤◌, Bool, false, Option, None, List, [], ◌∷◌, ◌++◌, Result, Ok, Err, IsOk, refl, arith, sym, ap, ◌∙◌, subst}
+use Rattle.demangle_v0.specs.Items.{done}
 use Rattle.demangle_v0.specs.Begins.{total}
-use Rattle.demangle_v0.specs.Events.{Heard, of, ended, and_then, allowing, handing}
+use Rattle.demangle_v0.specs.Events.{Heard, of, ended, allowing, handing}
 use Rattle.demangle_v0.specs.Groups.{texts_of, word_group}
 use Rattle.demangle_v0.specs.Grammar.{word_items, text}
 use Rattle.demangle_v0.specs.Reading.{Place, run}
-use Rattle.demangle_v0.specs.Points.{Bit, pays, puts, heard_bits, bits_looks, Told, marked, followed, Way, goes, fails, way_heard, way_weight, way_height, weight_at, weight_of, height_at, height_of, count_of, FitsFrame, FitsWay, IsInner, pushed_on, share_at, rest_at, closing, share_of, around, Went, Stopped, Kept, DidOn}
+use Rattle.demangle_v0.specs.Points.{Bit, pays, puts, heard_bits, bits_looks, Told, marked, followed, Way, goes, fails, way_heard, way_weight, way_height, weight_of, height_of, count_of, FitsFrame, FitsWay, IsInner, pushed_on, share_at, closing, around, Went, Stopped, Kept, DidOn}
 use Rattle.demangle_sink.specs.declared.SinkRefused.{SinkRefused}
 use Rattle.demangle_v0.specs.declared.grammar.Mark.{Mark}
 use Rattle.demangle_v0.specs.declared.grammar.Word.{Word}
@@ -21,7 +21,7 @@ use Rattle.demangle_v0.specs.declared.points.Point.TheVariants as point
 use Rattle.demangle_v0.specs.declared.points.frames.Frame.{Frame}
 use Rattle.demangle_v0.specs.declared.points.State.{State}
 use Rattle.demangle_v0.specs.declared.points.Stop.{Stop}
-use Rattle.demangle_v0.specs.declared.points.Stop.TheVariants.{Refused, Fault, Uncovered}
+use Rattle.demangle_v0.specs.declared.points.Stop.TheVariants.{Refused, Fault}
 use Rattle.demangle_v0.specs.declared.points.voice.Voice.{Ghosts}
 use Rattle.demangle_v0.proofs.GroupReads.{word_then, word_read}
 
@@ -97,8 +97,7 @@ module _ {V : Type 0} (voice : Ghosts V) (b : List ℕ) (plain : Bool) where
       → h ≡ allowing ks k → first ≤ total ks → made ≤ first + second → weight' ≤ weight + 100 * total ks → high' ≤ high
       → DidOn voice b plain k weight' high' row v result new now w second → DidOn voice b plain h weight high row v result new now w made
   after ks h k weight high weight' high' row v w (Ok p) new now first second made e l m x y d = record { comes = went_after ks h k weight high weight' high' row v w (goes p) new now first second made e l m x y d.comes }
-  after ks h k weight high weight' high' row v w (Err (Fault f)) new now first second made e l m x y d = record { comes = went_after ks h k weight high weight' high' row v w (fails f) new now first second made e l m x y d.comes }
-  after ks h k weight high weight' high' row v w (Err Uncovered) new now first second made e l m x y d = record { comes = tt }
+  after ks h k weight high weight' high' row v w (Err (Fault f)) new now first second made e l m x y d = record { comes = (went_after ks h k weight high weight' high' row v w (fails f) new now first second made e l m x y d.comes.0, d.comes.1) }
   after ks h k weight high weight' high' row v w (Err Refused) new now first second made e l m x y z = let d = z.comes.0 in record {
     comes = (
       record {
@@ -137,7 +136,7 @@ module _ {V : Type 0} (voice : Ghosts V) (b : List ℕ) (plain : Bool) where
   unfolding run
   word_so x note left n i r e =
       let g = word_group b x note voice.loud n i in
-      ap closing (word_read b plain left (record { output = voice.loud; value = false; lifetimes = n }) x note done i)
+      ap closing (word_read b plain left voice.loud n x note done i)
       ∙ (word_shut g.costs g.reads ∙ ap (λ (z : WordRead). allowing g.costs (word_then b plain voice.loud z (λ j. ended j false))) (sym e))
 
   pub word_goes : (x : Word) (note left n : ℕ) (i j : Place) (s : Stretch) (row : List Frame) (v w : V) (new : State) (made : ℕ) → reads.Goes s j ≡ (word_group b x note voice.loud n i).reads → made ≤ total (word_group b x note voice.loud n i).costs
@@ -222,22 +221,25 @@ module _ {V : Type 0} (voice : Ghosts V) (b : List ℕ) (plain : Bool) where
       → DidOn voice b plain h weight high row v (Err (Fault m)) new row v made
   unfolding followed
   faulty m h weight high row v new made k e l x = record {
-    comes = record {
-      bits = [];
-      back = [];
-      pushed = None;
-      told = refl;
-      reads = rw k e;
-      is_row = refl;
-      enough = omega arith;
-      late = omega arith;
-      lighter = omega arith;
-      outer_height = omega arith;
-      inner_height = omega arith;
-      outer_fits = tt;
-      inner_fits = tt;
-      quiet = λ _. tt;
-    };
+    comes = (
+      record {
+        bits = [];
+        back = [];
+        pushed = None;
+        told = refl;
+        reads = rw k e;
+        is_row = refl;
+        enough = omega arith;
+        late = omega arith;
+        lighter = omega arith;
+        outer_height = omega arith;
+        inner_height = omega arith;
+        outer_fits = tt;
+        inner_fits = tt;
+        quiet = λ _. tt;
+      },
+      k,
+    );
   }
 
   -- a fault behind some looks

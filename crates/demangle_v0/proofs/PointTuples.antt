@@ -1,15 +1,13 @@
 -- The points of tuple types.
-use Rattle.std.specs.Prelude.{◌*◌, ◌^◌}
-use Rattle.std.proofs.Common.{◌≡◌, ℕ, ◌+◌, ◌-◌, ◌<◌, ◌≤◌, Bool, true, false, cond, Option, Some, None, List, [], ◌∷◌, ◌++◌, Ok, refl, arith, sym, ap, ◌∙◌}
-use Prim.Native.Char.{code}
+use Rattle.std.specs.Prelude.{◌*◌}
+use Rattle.std.proofs.Common.{◌≡◌, ℕ, ◌+◌, ◌≤◌, Bool, true, false, Some, None, List, [], ◌∷◌, ◌++◌, Ok, refl, arith, ap, ◌∙◌}
 use Prim.Native.String.{String}
-use Rattle.demangle_symbol.specs.Digits.{is_byte}
 use Rattle.demangle_v0.specs.Items.{a_type, Items, done, unit}
 use Rattle.demangle_v0.specs.Begins.{total}
-use Rattle.demangle_v0.specs.Events.{Heard, of, and_then, allowing, handing}
+use Rattle.demangle_v0.specs.Events.{Heard, of, allowing, handing}
 use Rattle.demangle_v0.specs.Grammar.{text}
-use Rattle.demangle_v0.specs.Table.{at_end, list, more, tuple, typed, says}
-use Rattle.demangle_v0.specs.Reading.{Place, begun, run}
+use Rattle.demangle_v0.specs.Table.{at_end, more, typed, says}
+use Rattle.demangle_v0.specs.Reading.{Place, run}
 use Rattle.demangle_v0.specs.Points.{frame_of, followed, share_at, closing, around, Fits, DidOn, is_list_over, behind_list, list_costs}
 use Rattle.demangle_v0.specs.declared.grammar.Mark.TheVariants as mark
 use Rattle.demangle_v0.specs.declared.points.Point.TheVariants as point
@@ -17,7 +15,7 @@ use Rattle.demangle_v0.specs.declared.points.frames.Frame.{Frame}
 use Rattle.demangle_v0.specs.declared.points.State.{State}
 use Rattle.demangle_v0.specs.declared.points.voice.Voice.{Ghosts}
 use Rattle.demangle_v0.proofs.Elements.{type_element}
-use Rattle.demangle_v0.proofs.ListReads.{child_followed, end_failed, end_over, more_failed, more_over, tuple_on, second_failed, second_over, second_on, more_on}
+use Rattle.demangle_v0.proofs.ListReads.{child_followed, end_failed, end_over, more_failed, more_over, tuple_on, second_on, more_on}
 use Rattle.demangle_v0.proofs.PointTypes.{heard, heard_at, enters}
 
 module _ {V : Type 0} (voice : Ghosts V) (b : List ℕ) (plain : Bool) where

@@ -1,20 +1,20 @@
 -- The points of types.
-use Rattle.std.specs.Prelude.{◌*◌, ◌^◌, ◌==◌, nat_le, slice_get, codes}
-use Rattle.std.proofs.Common.{◌≡◌, ℕ, zero, suc, sub-one, ◌+◌, ◌-◌, ◌<◌, ◌≤◌, length, Bool, true, false, cond, if◌then◌else◌, Option, Some, None, List, [], ◌∷◌, ◌++◌, Result, Ok, Err, refl, arith, sym, ap, ◌∙◌}
+use Rattle.std.specs.Prelude.{if◌then◌else◌, ◌*◌, ◌==◌, slice_get, codes}
+use Rattle.std.proofs.Common.{◌≡◌, ℕ, ◌+◌, ◌-◌, ◌<◌, ◌≤◌, Bool, true, false, cond, Option, Some, None, List, [], ◌∷◌, ◌++◌, Result, Ok, Err, refl, arith, sym, ap, ◌∙◌}
 use Rattle.std.proofs.lemmas.List.{append-nil}
 use Rattle.std.proofs.lemmas.Bool.{false≢true}
 use Prim.Native.Char.{code}
 use Prim.Native.String.{String}
 use Rattle.demangle_symbol.specs.Digits.{is_byte}
 use Rattle.demangle_symbol.specs.Words.{then_if_some}
-use Rattle.demangle_v0.specs.Items.{Text, Kind, a_path, a_type, a_constant, a_pattern, Items, say, child, done}
+use Rattle.demangle_v0.specs.Items.{Text, Kind, a_type, a_constant, a_pattern, Items, say, child, done}
 use Rattle.demangle_v0.specs.Begins.{total}
-use Rattle.demangle_v0.specs.Events.{Heard, of, events, ended, and_then, allowing, handing}
+use Rattle.demangle_v0.specs.Events.{Heard, of, events, allowing, handing}
 use Rattle.demangle_v0.specs.Grammar.{text, found, basic_marks}
 use Rattle.demangle_v0.specs.Table.{says_if, typed, type_rows, is_among, text_of, basic_types}
 use Rattle.demangle_v0.specs.Tags.{type_kinds, type_of, reference_to, referring}
-use Rattle.demangle_v0.specs.Reading.{Place, begun, run, level_of, levels}
-use Rattle.demangle_v0.specs.Points.{frame_of, followed, share_at, rest_at, closing, around, goes, fails, marked, pushed_on, way_weight, weight_of, height_at, height_of, count_of, Fits, FitsFrame, IsInner, DidOn, behind_reference, lifetime_point}
+use Rattle.demangle_v0.specs.Reading.{Place, begun, run}
+use Rattle.demangle_v0.specs.Points.{weight_at, frame_of, followed, share_at, closing, around, goes, marked, pushed_on, way_weight, weight_of, height_at, height_of, count_of, Fits, FitsFrame, IsInner, DidOn, behind_reference, lifetime_point}
 use Rattle.demangle_v0.specs.declared.grammar.Mark.{Mark}
 use Rattle.demangle_v0.specs.declared.grammar.Mark.TheVariants as mark
 use Rattle.demangle_v0.specs.declared.points.tags.TypeKind.{TypeKind}
@@ -24,7 +24,7 @@ use Rattle.demangle_v0.specs.declared.points.Point.TheVariants as point
 use Rattle.demangle_v0.specs.declared.points.frames.Frame.{Frame}
 use Rattle.demangle_v0.specs.declared.points.State.{State}
 use Rattle.demangle_v0.specs.declared.points.Stop.{Stop}
-use Rattle.demangle_v0.specs.declared.points.Stop.TheVariants.{Refused, Fault, Uncovered}
+use Rattle.demangle_v0.specs.declared.points.Stop.TheVariants.{Fault}
 use Rattle.demangle_v0.specs.declared.points.voice.Voice.{Ghosts}
 use Rattle.demangle_v0.proofs.GrammarRows.{rows_of, basic_found}
 use Rattle.demangle_v0.proofs.PointSteps.{steps, after, faulty, faulty_after}
@@ -345,3 +345,18 @@ module _ {V : Type 0} (voice : Ghosts V) (b : List ℕ) (plain : Bool) where
   type_goes v c left n i o row now u w result new second made e l d =
       after voice b plain (1 ∷ []) _ _ 1 (8 * left + 1) 1 (8 * left + 1) row u w result new now 1 second made
       (ap closing (type_reads plain voice.loud b left n false i e)) (omega arith) l (omega arith) (omega arith) d
+
+  -- a type that is begun, or gone on with behind its `w`
+  pub type_either : (q : Bool) (v : Bool) (c left n : ℕ) (i : Place) (o : Bool) (row now : List Frame) (u w : V) (result : Result Point Stop) (new : State) (made : ℕ)
+      → (q ≡ true → DidOn voice b plain (heard_at point.«Type» v c left n i o) 1 (8 * left + 1) row u result new now w made)
+      → (q ≡ false → DidOn voice b plain (heard_at point.TaggedType v c left n i o) 1 (8 * left + 1) row u result new now w made)
+      → DidOn voice b plain (heard_at (if q then point.«Type» else point.TaggedType) v c left n i o) (weight_at (if q then point.«Type» else point.TaggedType)) (height_at (if q then point.«Type» else point.TaggedType) left) row u result new now w made
+  type_either true v c left n i o row now u w result new made h k = h refl
+  type_either false v c left n i o row now u w result new made h k = k refl
+
+  -- behind looks that were not made
+  pub type_stays : (v : Bool) (c left n : ℕ) (i : Place) (o : Bool) (row now : List Frame) (u w : V) (result : Result Point Stop) (new : State) (second made : ℕ) → made ≤ second
+      → DidOn voice b plain (heard_at point.TaggedType v c left n i o) 1 (8 * left + 1) row u result new now w second
+      → DidOn voice b plain (heard_at point.TaggedType v c left n i o) 1 (8 * left + 1) row u result new now w made
+  type_stays v c left n i o row now u w result new second made l d =
+      after voice b plain [] (heard_at point.TaggedType v c left n i o) (heard_at point.TaggedType v c left n i o) 1 (8 * left + 1) 1 (8 * left + 1) row u w result new now 0 second made refl (omega arith) (omega (arith, l)) (omega arith) (omega arith) d

@@ -146,7 +146,7 @@ module _ {V : Type 0} (voice : Ghosts V) (b : List ℕ) (plain : Bool) where
   unfolding share_at
   field_so v c left n i o r e =
       let g = group_of c n i in
-      ap closing (word_read b plain left (record { output = voice.loud; value = false; lifetimes = n }) word.FieldName c (says ": " constant_inside) i)
+      ap closing (word_read b plain left voice.loud n word.FieldName c (says ": " constant_inside) i)
       ∙ (field_shut left n g.costs g.reads ∙ ap (λ (z : WordRead). allowing g.costs (word_then b plain voice.loud z (inside left n))) (sym e))
 
   -- a word was handed over, and the unit goes on

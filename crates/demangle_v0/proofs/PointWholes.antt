@@ -1,28 +1,27 @@
 -- Readings of a whole path.
-use Rattle.std.specs.Prelude.{◌*◌, ◌^◌}
-use Rattle.std.proofs.Common.{◌≡◌, ℕ, ◌+◌, ◌-◌, ◌≤◌, Bool, true, false, Some, None, List, [], ◌∷◌, ◌++◌, length, Result, Ok, Err, IfOk, refl, arith, sym, ap, ◌∙◌, subst}
+use Rattle.std.specs.Prelude.{◌*◌}
+use Rattle.std.proofs.Common.{◌≡◌, ℕ, ◌+◌, ◌≤◌, Bool, true, false, None, List, [], length, refl, arith, sym, ap, ◌∙◌, subst}
 use Rattle.demangle_v0.specs.Accepting.{looks_in}
 use Rattle.demangle_v0.specs.Events.{Heard}
 use Rattle.demangle_v0.specs.Items.{a_path}
-use Rattle.demangle_v0.specs.Reading.{Place, spelled, read_at, level_of, levels}
+use Rattle.demangle_v0.specs.Reading.{max_depth, spelled, read_at, level_of, levels}
 use Rattle.demangle_v0.specs.Running.{allowed_in}
-use Rattle.demangle_v0.specs.Points.{AllInner, share_at, share_of, row_owed, owed}
-use Rattle.demangle_v0.specs.PointRuns.{Valid, frame_height, Quiet, Fails, Reads, ReadOn, first_state}
+use Rattle.demangle_v0.specs.Points.{most_frames, AllInner, share_at, share_of, row_owed, owed}
+use Rattle.demangle_v0.specs.PointRuns.{Valid, frame_height, ReadOn, first_state}
 use Rattle.demangle_v0.specs.declared.points.Point.{Point}
 use Rattle.demangle_v0.specs.declared.points.Point.TheVariants as point
 use Rattle.demangle_v0.specs.declared.points.frames.Frame.{Frame}
 use Rattle.demangle_v0.specs.declared.points.State.{State}
-use Rattle.demangle_v0.specs.declared.points.Stop.{Stop}
-use Rattle.demangle_v0.specs.declared.points.Stop.TheVariants.{Refused, Fault, Uncovered}
+use Rattle.demangle_v0.specs.declared.points.read.Halt.TheVariants as halt
 use Rattle.demangle_v0.proofs.FailedRows.{allowed_looks}
 use Rattle.demangle_v0.proofs.Hearing.{and_then_ended}
 use Rattle.demangle_v0.proofs.Heights.{stands_first}
 
 pub valid_first : (i : ℕ) → Valid point.Path (first_state i) []
-valid_first i = record { stands = stands_first frame_height 4008 (8 * 500 + 1) (omega arith); fits = omega arith; all_fit = tt; unmarked = refl }
+valid_first i = record { stands = stands_first frame_height most_frames (8 * max_depth + 1) (omega arith); fits = omega arith; all_fit = tt; unmarked = refl }
 
 -- a row for all that can ever stand there is never full
-pub valid_length : (p : Point) (s : State) (row : List Frame) → Valid p s row → length row ≤ 4008
+pub valid_length : (p : Point) (s : State) (row : List Frame) → Valid p s row → length row ≤ most_frames
 valid_length p s row v = omega (arith, v.stands.above)
 
 pub owed_alone : (b : List ℕ) (plain out : Bool) (p : Point) (s : State) → owed b plain out p s [] ≡ share_of b plain out p s
@@ -34,14 +33,8 @@ unfolding share_at row_owed
 over_place b plain s = refl
 
 -- it came to an end
-pub read_end : (b : List ℕ) (plain : Bool) (p q : Point) (s t : State) (row now : List Frame) (made : ℕ) (all : Bool) → ReadOn b plain [] p s row (Ok all) q t now made → (all ≡ false → ⊥)
-    → t.place ≡ (owed b plain false p s row).place
-read_end b plain p q s t row now made true r no_more = sym (over_place b plain t) ∙ r.reads.1.place
-read_end b plain p q s t row now made false r no_more = absurd (no_more refl)
-
-pub read_looks : (b : List ℕ) (plain : Bool) (p q : Point) (s t : State) (row now : List Frame) (made : ℕ) (all : Bool) → ReadOn b plain [] p s row (Ok all) q t now made → made ≤ allowed_in (owed b plain false p s row).events
-read_looks b plain p q s t row now made true r = omega (arith, r.reads.1.looks)
-read_looks b plain p q s t row now made false r = omega (arith, r.reads.quiet.looks)
+pub read_end : (b : List ℕ) (plain : Bool) (p q : Point) (s t : State) (row now : List Frame) (made : ℕ) → ReadOn b plain [] p s row halt.Over q t now made → t.place ≡ (owed b plain false p s row).place
+read_end b plain p q s t row now made r = sym (over_place b plain t) ∙ r.reads.1.place
 
 first_place : (b : List ℕ) (i : ℕ) → (owed b true false point.Path (first_state i) []).place ≡ spelled b a_path i 0
 unfolding share_at spelled read_at
@@ -49,41 +42,30 @@ first_place b i = ap (λ (h : Heard). h.place) (owed_alone b true false point.Pa
 
 first_allowed : (b : List ℕ) (i : ℕ) → allowed_in (owed b true false point.Path (first_state i) []).events ≡ looks_in (read_at b false a_path i 0 0 true)
 unfolding share_at read_at
-first_allowed b i = ap (λ (h : Heard). allowed_in h.events) (owed_alone b true false point.Path (first_state i)) ∙ allowed_looks true false (level_of b (levels b 500) false a_path true 0 i).tree
+first_allowed b i = ap (λ (h : Heard). allowed_in h.events) (owed_alone b true false point.Path (first_state i)) ∙ allowed_looks true false (level_of b (levels b max_depth) false a_path true 0 i).tree
 
 -- of a path that is accepted, in one row
 
-pub path_ends : (b : List ℕ) (i made : ℕ) (q : Point) (t : State) (now : List Frame) → ReadOn b true [] point.Path (first_state i) [] (Ok true) q t now made → t.place ≡ spelled b a_path i 0
-path_ends b i made q t now r = read_end b true point.Path q (first_state i) t [] now made true r (λ e. true_false e) ∙ first_place b i
-  where
-    true_false : true ≡ false → ⊥
-    true_false e = cc
+pub path_ends : (b : List ℕ) (i made : ℕ) (q : Point) (t : State) (now : List Frame) → ReadOn b true [] point.Path (first_state i) [] halt.Over q t now made → t.place ≡ spelled b a_path i 0
+path_ends b i made q t now r = read_end b true point.Path q (first_state i) t [] now made r ∙ first_place b i
 
-pub path_looks : (b : List ℕ) (i made : ℕ) (q : Point) (t : State) (now : List Frame) (all : Bool) → ReadOn b true [] point.Path (first_state i) [] (Ok all) q t now made → made ≤ looks_in (read_at b false a_path i 0 0 true)
-path_looks b i made q t now all r = omega (arith, read_looks b true point.Path q (first_state i) t [] now made all r, first_allowed b i)
+pub path_looks : (b : List ℕ) (i made : ℕ) (q : Point) (t : State) (now : List Frame) → ReadOn b true [] point.Path (first_state i) [] halt.Over q t now made → made ≤ looks_in (read_at b false a_path i 0 0 true)
+path_looks b i made q t now r = omega (arith, r.reads.1.looks, first_allowed b i)
 
-pub path_fails : (b : List ℕ) (i made : ℕ) (q : Point) (t : State) (now : List Frame) → ReadOn b true [] point.Path (first_state i) [] (Err Refused) q t now made → None ≡ spelled b a_path i 0
+pub path_fails : (b : List ℕ) (i made : ℕ) (q : Point) (t : State) (now : List Frame) → ReadOn b true [] point.Path (first_state i) [] halt.Failed q t now made → None ≡ spelled b a_path i 0
 path_fails b i made q t now r = sym r.reads.0.place ∙ first_place b i
 
-pub path_fails_looks : (b : List ℕ) (i made : ℕ) (q : Point) (t : State) (now : List Frame) → ReadOn b true [] point.Path (first_state i) [] (Err Refused) q t now made → made ≤ looks_in (read_at b false a_path i 0 0 true)
+pub path_fails_looks : (b : List ℕ) (i made : ℕ) (q : Point) (t : State) (now : List Frame) → ReadOn b true [] point.Path (first_state i) [] halt.Failed q t now made → made ≤ looks_in (read_at b false a_path i 0 0 true)
 path_fails_looks b i made q t now r = omega (arith, r.reads.0.looks, first_allowed b i)
 
 -- in two
 
-pub rest_inner : (b : List ℕ) (plain : Bool) (p q : Point) (s t : State) (row now : List Frame) (made : ℕ) → ReadOn b plain [] p s row (Ok false) q t now made → AllInner now
+pub rest_inner : (b : List ℕ) (plain : Bool) (p q : Point) (s t : State) (row now : List Frame) (made : ℕ) → ReadOn b plain [] p s row halt.Full q t now made → AllInner now
 rest_inner b plain p q s t row now made r = subst AllInner (sym r.reads.is_row) r.reads.inner
 
-pub rest_ends : (b : List ℕ) (i made : ℕ) (q : Point) (t : State) (now : List Frame) → ReadOn b true [] point.Path (first_state i) [] (Ok false) q t now made → (owed b true false q t now).place ≡ spelled b a_path i 0
+pub rest_ends : (b : List ℕ) (i made : ℕ) (q : Point) (t : State) (now : List Frame) → ReadOn b true [] point.Path (first_state i) [] halt.Full q t now made → (owed b true false q t now).place ≡ spelled b a_path i 0
 rest_ends b i made q t now r = ap (λ (ys : List Frame). (owed b true false q t ys).place) r.reads.is_row ∙ (r.reads.quiet.place ∙ first_place b i)
 
-pub rest_looks : (b : List ℕ) (i made : ℕ) (q : Point) (t : State) (now : List Frame) → ReadOn b true [] point.Path (first_state i) [] (Ok false) q t now made
+pub rest_looks : (b : List ℕ) (i made : ℕ) (q : Point) (t : State) (now : List Frame) → ReadOn b true [] point.Path (first_state i) [] halt.Full q t now made
     → made + allowed_in (owed b true false q t now).events ≤ looks_in (read_at b false a_path i 0 0 true)
 rest_looks b i made q t now r = omega (arith, r.reads.quiet.looks, ap (λ (ys : List Frame). allowed_in (owed b true false q t ys).events) r.reads.is_row, first_allowed b i)
-
-pub on_rest : (r : Result Place Stop) (x y : Place) → IfOk r (λ z. z ≡ x) → x ≡ y → IfOk r (λ z. z ≡ y)
-on_rest (Ok z) x y h e = h ∙ e
-on_rest (Err z) x y h e = tt
-
-pub on_rest_looks : (r : Result Place Stop) (l : ℕ) (m : ℕ) → (n : ℕ) → IfOk r (λ z. n ≤ l) → (n ≤ l → n ≤ m) → IfOk r (λ z. n ≤ m)
-on_rest_looks (Ok z) l m n h e = e h
-on_rest_looks (Err z) l m n h e = tt

@@ -1,21 +1,10 @@
--- What the machine's steps hand over, as pieces and as stretches that an account pays.
+-- What is heard, as pieces and as stretches that an account pays.
 use Rattle.std.specs.Prelude.{map}
-use Rattle.std.proofs.Common.{◌≡◌, ℕ, ◌+◌, Bool, true, false, Option, Some, List, [], ◌∷◌, ◌++◌, refl, arith, ap, ◌∙◌}
+use Rattle.std.proofs.Common.{◌≡◌, ℕ, Bool, true, false, List, [], ◌∷◌, ◌++◌, refl, ap, ◌∙◌}
 use Rattle.demangle_v0.specs.Cost.{Stretch}
-use Rattle.demangle_sink.specs.Cut.{size}
-use Rattle.demangle_v0.specs.Items.{Text, a_path}
-use Rattle.demangle_v0.specs.Reading.{Tree, nothing, piece, plain_piece, node, looked, hidden, invalid_syntax, too_deep, unread, pieces, rendered, read_at, looks, hands, level_of, levels}
-use Rattle.demangle_v0.specs.Steps.{Takes}
-use Rattle.demangle_v0.specs.Steps as steps
-use Rattle.demangle_v0.specs.Begins.{total}
-use Rattle.demangle_v0.specs.Events.{Event, shows, allows, said, said_all, allowed_all, events, shown_in, stretch_of, Heard}
-use Rattle.demangle_v0.specs.Groups.{texts_of, looks_later}
-use Rattle.demangle_v0.specs.Shares.{owed, share, outcome}
-use Rattle.demangle_v0.specs.Running.{StepServes}
-use Rattle.demangle_v0.specs.declared.grammar.Entry.TheVariants as entry
-use Rattle.demangle_v0.specs.declared.stretch.Stretch.{Stretch as Piece}
-use Rattle.demangle_v0.specs.declared.task.Task.{Task}
-use Rattle.demangle_v0.specs.declared.task.Task.TheVariants.{Enter}
+use Rattle.demangle_v0.specs.Items.{Text}
+use Rattle.demangle_v0.specs.Reading.{Tree, nothing, piece, plain_piece, node, looked, hidden, invalid_syntax, too_deep, unread, pieces, looks, hands}
+use Rattle.demangle_v0.specs.Events.{Event, shows, allows, said, said_all, allowed_all, events, shown_in, stretch_of}
 
 shown_append : (xs ys : List Event) → shown_in (xs ++ ys) ≡ shown_in xs ++ shown_in ys
 shown_append [] ys = refl
@@ -57,25 +46,6 @@ shown_events plain invalid_syntax = refl
 shown_events plain too_deep = refl
 shown_events plain unread = refl
 
--- the machine that prints a symbol's first path stands for its rendering
-pub rendered_share : (b : List ℕ) (plain : Bool) → shown_in (share b plain (Enter entry.Path 500 (record { output = true; value = true; lifetimes = 0 })) (Some 0) false).events ≡ rendered b plain
-unfolding share outcome rendered read_at
-rendered_share b plain = shown_events plain (level_of b (levels b 500) true a_path true 0 0).tree
-
-shown_allowed : (ks : List ℕ) (xs : List Event) → shown_in (allowed_all ks xs) ≡ shown_in xs
-shown_allowed [] xs = refl
-shown_allowed (k ∷ ks) xs = shown_allowed ks xs
-
-shown_said : (ts : List Text) (xs : List Event) → shown_in (said_all true ts xs) ≡ ts ++ shown_in xs
-shown_said [] xs = refl
-shown_said (t ∷ ts) xs = ap (λ (zs : List Text). t ∷ zs) (shown_said ts xs)
-
--- a step takes its stretch's pieces off those that are still to come
-pub step_shown : (b : List ℕ) (plain : Bool) (old : List Task) (i : Option ℕ) (o : Bool) (new : List Task) (j : Option ℕ) (p : Bool) (x : Piece) (made : ℕ) → StepServes b old i o new j p x made
-    → shown_in (owed b plain old i o).events ≡ texts_of b plain x ++ shown_in (owed b plain new j p).events
-step_shown b plain old i o new j p x made s =
-    ap (λ (h : Heard). shown_in h.events) (s.reads plain) ∙ (shown_allowed s.costs (said_all true (texts_of b plain x) (owed b plain new j p).events) ∙ shown_said (texts_of b plain x) (owed b plain new j p).events)
-
 -- the same as stretches
 abbrev pub weighed : List Event → List Stretch
 weighed xs = map stretch_of xs
@@ -87,18 +57,3 @@ weighed_said (t ∷ ts) xs = ap (λ (zs : List Stretch). hands t ∷ zs) (weighe
 pub weighed_allowed : (ks : List ℕ) (xs : List Event) → weighed (allowed_all ks xs) ≡ map looks ks ++ weighed xs
 weighed_allowed [] xs = refl
 weighed_allowed (k ∷ ks) xs = ap (λ (zs : List Stretch). looks k ∷ zs) (weighed_allowed ks xs)
-
-same_total : (ks : List ℕ) → total ks ≡ steps.total ks
-same_total [] = refl
-same_total (k ∷ ks) = ap (λ (n : ℕ). k + n) (same_total ks)
-
--- with the looks that are left for printing the stretch
-pub step_takes : (b : List ℕ) (plain : Bool) (old : List Task) (i : Option ℕ) (o : Bool) (new : List Task) (j : Option ℕ) (p : Bool) (x : Piece) (made : ℕ) → StepServes b old i o new j p x made
-    → Takes (weighed (owed b plain old i o).events) (size (texts_of b plain x)) (made + looks_later x) (weighed (owed b plain new j p).events)
-step_takes b plain old i o new j p x made s = (
-  s.costs,
-  texts_of b plain x,
-  ap (λ (h : Heard). weighed h.events) (s.reads plain) ∙ (weighed_allowed s.costs (said_all true (texts_of b plain x) (owed b plain new j p).events) ∙ ap (λ zs. map looks s.costs ++ zs) (weighed_said (texts_of b plain x) (owed b plain new j p).events)),
-  omega (arith, s.enough, same_total s.costs),
-  refl,
-)

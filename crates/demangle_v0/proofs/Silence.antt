@@ -1,6 +1,6 @@
 -- What is heard of a reading that is not printed: the same for any lifetimes in force, in value position or not.
 use Rattle.std.specs.Prelude.{ℕ, zero, suc, ◌&&◌, codes, slice_get}
-use Rattle.std.proofs.Common.{◌≡◌, Bool, true, false, cond, List, [], ◌∷◌, ◌++◌, length, Option, Some, None, refl, sym, ap, ◌∙◌, ◌+◌, ◌-◌, ◌*◌}
+use Rattle.std.proofs.Common.{◌≡◌, Bool, true, false, cond, List, [], ◌∷◌, length, Option, Some, None, refl, sym, ap, ◌∙◌, ◌+◌, ◌-◌, ◌*◌}
 use Prim.Native.Char.{code}
 use Prim.Native.String.{String}
 use Rattle.demangle_symbol.specs.Digits.{is_byte}
@@ -8,8 +8,8 @@ use Rattle.demangle_symbol.specs.Words.{Name, Read, byte_at, namespace_at, integ
 use Rattle.demangle_symbol.specs.Names.{name_pieces}
 use Rattle.demangle_v0.specs.Items.{Text, Kind, a_path, a_type, a_constant, a_pattern, a_trait_path, Items, done, invalid, say, say_plain, byte, namespace, integer, optional, identifier, nibbles, peek, next, sound, until_end, raise, unit, child, skip, target, lifetime, binder, opens, dyn_trait, bindings}
 use Rattle.demangle_v0.specs.Table.{items, is_among, row_of, path, path_rows, constant, constant_rows, variant, variant_rows, says}
-use Rattle.demangle_v0.specs.Reading.{Tree, nothing, piece, plain_piece, node, hidden, invalid_syntax, too_deep, Place, Outcome, Level, Surroundings, stands, fault, unread, run, turns, resumed, bound_by, begun, followed_by, followed_open, behind, opened, named, closed, all_pieces, word, forked, peeked, looked, level_of, levels, nowhere}
-use Rattle.demangle_v0.specs.Events.{Event, allows, said, Heard, of, events, and_then, allowing}
+use Rattle.demangle_v0.specs.Reading.{Tree, piece, Place, Outcome, Level, Surroundings, stands, fault, unread, run, turns, resumed, bound_by, followed_by, followed_open, behind, opened, named, closed, all_pieces, word, forked, peeked, level_of, levels, nowhere}
+use Rattle.demangle_v0.specs.Events.{Event, said, Heard, of, events, and_then, allowing}
 
 -- surroundings in which nothing is printed
 abbrev pub silent : List ℕ → Level → List Level → ℕ → Surroundings
@@ -235,7 +235,7 @@ unfolding levels
 levels_uniform plain b zero = tt
 levels_uniform plain b (suc left) = (level_uniform plain b (levels b left) (levels_uniform plain b left), levels_uniform plain b left)
 
--- What the machine cites.
+-- What the readings cite.
 
 -- the surroundings of a depth, printed or not
 abbrev pub around : List ℕ → Bool → ℕ → ℕ → Surroundings
@@ -244,30 +244,3 @@ around b out left m = record { symbol = b; printed = out; here = level_of b (lev
 -- a unit that is not printed: no lifetimes in force and no value position are heard
 pub silent_unit : (plain : Bool) (b : List ℕ) (left : ℕ) (kind : Kind) (v w : Bool) (m n i : ℕ) → of plain false (level_of b (levels b left) false kind v m i) ≡ of plain false (level_of b (levels b left) false kind w n i)
 silent_unit plain b left kind v w m n i = level_uniform plain b (levels b left) (levels_uniform plain b left) kind v w m n i
-
--- the same where it may have failed before
-pub silent_begun : (plain : Bool) (b : List ℕ) (left : ℕ) (kind : Kind) (v w : Bool) (m n : ℕ) (i : Place) → of plain false (begun (around b false left m) kind v i) ≡ of plain false (begun (around b false left n) kind w i)
-silent_begun plain b left kind v w m n None = refl
-silent_begun plain b left kind v w m n (Some i) = silent_unit plain b left kind v w m n i
-
--- items that are not printed
-pub silent_run : (plain : Bool) (b : List ℕ) (left m n : ℕ) (p : Items) (i : Place) → of plain false (run p (around b false left m) i) ≡ of plain false (run p (around b false left n) i)
-silent_run plain b left m n p i =
-    let h = level_uniform plain b (levels b left) (levels_uniform plain b left) in
-    muted plain p b (level_of b (levels b left)) (levels b left) m 0 h (levels_uniform plain b left) i
-    ∙ sym (muted plain p b (level_of b (levels b left)) (levels b left) n 0 h (levels_uniform plain b left) i)
-
-form_silent : (p q : Bool) (t : Tree) → events p false t ≡ events q false t
-form_silent p q nothing = refl
-form_silent p q (piece x t) = form_silent p q t
-form_silent p q (plain_piece x t) = said_plain p x (events p false t) ∙ (form_silent p q t ∙ sym (said_plain q x (events q false t)))
-form_silent p q (node x t) = ap (λ xs. xs ++ events p false t) (form_silent p q x) ∙ ap (λ ys. events q false x ++ ys) (form_silent p q t)
-form_silent p q (looked k t) = ap (λ xs. allows k ∷ xs) (form_silent p q t)
-form_silent p q (hidden x t) = ap (λ xs. xs ++ events p false t) (form_silent p q x) ∙ ap (λ ys. events q false x ++ ys) (form_silent p q t)
-form_silent p q invalid_syntax = refl
-form_silent p q too_deep = refl
-form_silent p q unread = refl
-
--- the plain form or the other
-pub silent_form : (p q : Bool) (o : Outcome) → of p false o ≡ of q false o
-silent_form p q o = ap (λ xs. record { events = xs; place = o.place; is_open = o.is_open }) (form_silent p q o.tree)

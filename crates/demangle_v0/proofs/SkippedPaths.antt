@@ -1,15 +1,13 @@
 -- A path that is read and not printed: its looks within the account of what is printed.
-use Rattle.std.specs.Prelude.{ℕ, ◌+◌, ◌≤◌}
-use Rattle.std.proofs.Common.{◌≡◌, Bool, true, false, List, [], ◌∷◌, ◌++◌, Some, None, refl, ap, ◌∙◌, arith}
-use Rattle.demangle_v0.specs.Accepting.{looks_in}
+use Rattle.std.specs.Prelude.{ℕ, ◌+◌}
+use Rattle.std.proofs.Common.{◌≡◌, Bool, false, List, [], ◌∷◌, ◌++◌, Some, None, refl, ap, ◌∙◌}
 use Rattle.demangle_v0.specs.Begins.{total}
 use Rattle.demangle_v0.specs.Events.{Event, shows, allows, events, shown_in, allowed_all, Heard, of, and_then, allowing}
 use Rattle.demangle_v0.specs.Items.{a_path, Items, skip}
-use Rattle.demangle_v0.specs.Reading.{Place, Outcome, Surroundings, run, level_of, levels, read_at, spelled}
+use Rattle.demangle_v0.specs.Reading.{Place, Outcome, Surroundings, run, level_of, levels}
 use Rattle.demangle_v0.specs.Running.{allowed_in}
-use Rattle.demangle_v0.proofs.FailedRows.{allowed_looks}
 use Rattle.demangle_v0.proofs.PrintingSteps.{quiet_events}
-use Rattle.demangle_v0.proofs.Silence.{around, silent_unit, silent_form}
+use Rattle.demangle_v0.proofs.Silence.{around, silent_unit}
 
 -- the looks that are allowed, one after another
 abbrev pub allowances : List Event → List ℕ
@@ -50,25 +48,3 @@ skip_reads plain out b left n value m p i =
 pub skip_failed : (plain out : Bool) (p : Items) (s : Surroundings) → of plain out (run (skip p) s None) ≡ of plain out (run p s None)
 unfolding run
 skip_failed plain out p s = refl
-
--- A reading of the skipped path that ended there and made no more looks than are allowed in it made no more than the
--- step that skips it may.
-pub skip_paid : (plain out : Bool) (b : List ℕ) (left n : ℕ) (value : Bool) (m : ℕ) (p : Items) (i made : ℕ) (j : Place) → (path_heard plain b left value m i).place ≡ j → made ≤ allowed_in (path_heard plain b left value m i).events
-    → (of plain out (run (skip p) (around b out left n) (Some i)) ≡ allowing (allowances (path_heard plain b left value m i).events) (of plain out (run p (around b out left n) j)))
-    × (made ≤ total (allowances (path_heard plain b left value m i).events))
-skip_paid plain out b left n value m p i made j e l = (
-  skip_reads plain out b left n value m p i ∙ ap (λ (x : Place). allowing (allowances (path_heard plain b left value m i).events) (of plain out (run p (around b out left n) x))) e,
-  omega (arith, l, total_allowances (path_heard plain b left value m i).events),
-)
-
--- The first path of a symbol, or the second, as it is accepted.
-
-pub accepted_place : (plain : Bool) (b : List ℕ) (value : Bool) (m i : ℕ) → (path_heard plain b 500 value m i).place ≡ spelled b a_path i 0
-unfolding spelled read_at
-accepted_place plain b value m i = ap (λ (h : Heard). h.place) (silent_unit plain b 500 a_path value true m 0 i)
-
-pub accepted_looks : (plain : Bool) (b : List ℕ) (value : Bool) (m i : ℕ) → allowed_in (path_heard plain b 500 value m i).events ≡ looks_in (read_at b false a_path i 0 0 true)
-unfolding read_at
-accepted_looks plain b value m i =
-    ap (λ (h : Heard). allowed_in h.events) (silent_unit plain b 500 a_path value true m 0 i ∙ silent_form plain true (level_of b (levels b 500) false a_path true 0 i))
-    ∙ allowed_looks true false (level_of b (levels b 500) false a_path true 0 i).tree

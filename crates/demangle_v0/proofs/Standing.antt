@@ -1,17 +1,10 @@
 -- A row of frames above others that stand there.
 use Rattle.std.specs.Prelude.{◌≤◌, length}
-use Rattle.std.proofs.Common.{◌≡◌, List, [], ◌∷◌, ◌++◌, refl, sym, ap, ◌∙◌, arith, append_assoc, length-append}
+use Rattle.std.proofs.Common.{◌≡◌, List, [], ◌∷◌, ◌++◌, refl, sym, ap, ◌∙◌, arith, length-append}
 
 module _ {F : Type 0} where
   one_more : (f g : F) (xs ys : List F) → f ∷ xs ≡ g ∷ ys → (f ≡ g) × (xs ≡ ys)
   one_more f g xs ys e = (cc, cc)
-
-  no_end : (f g : F) (xs : List F) → [] ≡ (g ∷ xs) ++ f ∷ [] → ⊥
-  no_end f g xs e = cc
-
-  -- a frame that is put on top stands above the others
-  pub above_push : (below above row : List F) (f : F) → row ≡ below ++ above → row ++ f ∷ [] ≡ below ++ (above ++ f ∷ [])
-  above_push below above row f e = ap (λ (r : List F). r ++ f ∷ []) e ∙ append_assoc below above (f ∷ [])
 
   -- the frame on top of more than those is not one of them
   pub above_pop : (below above row : List F) (f : F) → row ++ f ∷ [] ≡ below ++ above → length below ≤ length row → (rest : List F) × (above ≡ rest ++ f ∷ []) × (row ≡ below ++ rest)

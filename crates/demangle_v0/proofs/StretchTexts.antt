@@ -1,15 +1,12 @@
 -- The texts of binders, ABIs, names and numbers, in the order in which they are printed.
-use Rattle.std.proofs.Common.{◌≡◌, ℕ, zero, suc, ◌+◌, ◌/◌, ◌%◌, ◌<◌, ◌≤◌, Bool, true, false, cond, eqb, List, [], ◌∷◌, ◌++◌, length, take, get_or, refl, sym, ap, ◌∙◌, arith}
-use Rattle.std.specs.Prelude.{◌&&◌, codes, nat_lt, encode_utf8}
+use Rattle.std.proofs.Common.{◌≡◌, ℕ, zero, suc, ◌+◌, ◌/◌, ◌%◌, ◌<◌, ◌≤◌, Bool, true, false, cond, eqb, List, [], ◌∷◌, ◌++◌, length, get_or, refl, sym, ap, ◌∙◌, arith}
+use Rattle.std.specs.Prelude.{◌&&◌, codes, nat_lt}
 use Rattle.std.specs.List.{slice_range}
 use Rattle.std.specs.Str.{IsAscii}
 use Rattle.std.specs.Fmt.{digits, digits_onto, digit_glyph}
 use Rattle.std.proofs.lemmas.Bool.Decides.{nat_tests}
-use Rattle.std.proofs.lemmas.Grind.{get_or_default_zero}
-use Rattle.std.proofs.lemmas.List.{take_more, length-take-le}
 use Rattle.std.proofs.lemmas.List.Edits.{between_more, between_none}
 use Rattle.std.proofs.lemmas.Option.{slice_get-get_or}
-use Rattle.std.proofs.lemmas.Str.{encode_ascii}
 use Rattle.std.proofs.lemmas.Str.Ascii.{IsAscii-cons, IsAscii-nil}
 use Rattle.demangle_symbol.specs.Digits.{is_byte, option_is}
 use Rattle.demangle_symbol.specs.Words.{Name}
@@ -93,21 +90,6 @@ onto_ascii (suc k) n text h =
 pub hex_ascii : (n : ℕ) → IsAscii (digits 16 false n)
 unfolding digits
 hex_ascii n = onto_ascii 64 n [] IsAscii-nil
-
--- one of some ASCII characters
-pub digit_small : (ds : List ℕ) (i c : ℕ) → IsAscii ds → i < length ds → c ≡ get_or ds i c → c < 128
-digit_small ds i c h lt is = rw (is ∙ get_or_default_zero ds i c lt) (h i)
-
--- there is room for the next
-pub digit_room : (ds text : List ℕ) (i c most : ℕ) → text ≡ take i ds → c < 128 → i < length ds → length ds ≤ most → length text + length (encode_utf8 c) ≤ most
-digit_room ds text i c most e small lt h =
-    let n : length text ≡ i = ap length e ∙ length-take-le i ds (omega arith) in
-    let one : length (encode_utf8 c) ≡ 1 = ap length (encode_ascii c small) in
-    omega arith
-
--- the text with the next
-pub digit_more : (ds text : List ℕ) (i c : ℕ) → text ≡ take i ds → i < length ds → c ≡ get_or ds i c → text ++ c ∷ [] ≡ take (i + 1) ds
-digit_more ds text i c e lt is = ap (λ t. t ++ c ∷ []) e ∙ ap (λ x. take i ds ++ x ∷ []) is ∙ sym (take_more ds i c lt)
 
 -- a name with bytes in its ASCII part, and one without
 pub name_there : (xs ys : List ℕ) → 0 < length xs → false ≡ (is_empty xs && is_empty ys)

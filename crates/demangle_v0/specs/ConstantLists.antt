@@ -6,8 +6,8 @@ use Rattle.demangle_v0.specs.declared.grammar.Mark.{Mark}
 use Rattle.demangle_v0.specs.declared.grammar.Mark.TheVariants as mark
 use Rattle.demangle_v0.specs.declared.points.Point.{Point}
 use Rattle.demangle_v0.specs.declared.points.Point.TheVariants as point
-use Rattle.demangle_v0.specs.declared.points.constants.ConstantList.{ConstantList}
-use Rattle.demangle_v0.specs.declared.points.constants.ConstantList.TheVariants as list
+use Rattle.demangle_v0.specs.declared.points.constant_lists.ConstantList.{ConstantList}
+use Rattle.demangle_v0.specs.declared.points.constant_lists.ConstantList.TheVariants as list
 
 -- where the first is read, or the end
 abbrev pub first_point : ConstantList → Point

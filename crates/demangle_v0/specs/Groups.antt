@@ -1,5 +1,5 @@
 -- Internal: no public contract cites this.
--- The words of the machine's grammar: what they hand over, and the looks that are allowed for them.
+-- The words: what they hand over, and the looks that are allowed for them.
 use Rattle.std.specs.Prelude.{ℕ, ◌+◌, ◌-◌, ◌*◌, ◌==◌, nat_le, Bool, true, false, if◌then◌else◌, Option, Some, None, option_map, List, [], ◌∷◌, ◌++◌, length, slice_range, codes, decimal}
 use Rattle.std.specs.Fmt.{digits}
 use Prim.Native.Char.{code}
@@ -212,13 +212,9 @@ word_at b word.CrateName note out lifetimes i = crate_group b i
 word_at b word.NestedName note out lifetimes i = nested_group b note i
 word_at b word.FieldName note out lifetimes i = field_group b i
 word_at b word.BindingName note out lifetimes i = binding_group b i
-word_at b word.Disambiguator note out lifetimes i = disambiguator_group b i
 word_at b word.LifetimeIndex note out lifetimes i = lifetime_group b out lifetimes i
-word_at b word.OptionalLifetime note out lifetimes i = optional_group b out lifetimes i
 word_at b word.DynLifetime note out lifetimes i = dyn_group b out lifetimes i
 word_at b word.FunctionHead note out lifetimes i = head_group b i
-word_at b word.Soundness note out lifetimes i = goes Nothing (Some i)
-word_at b word.Sign note out lifetimes i = sign_group b i
 word_at b word.Number note out lifetimes i = number_group b note i
 word_at b word.Truth note out lifetimes i = truth_group b i
 word_at b word.Character note out lifetimes i = character_group b i
@@ -227,11 +223,8 @@ word_at b word.Literal note out lifetimes i = literal_group b i
 -- where the reading has failed
 abbrev pub word_failed : Word → WordRead
 word_failed word.NestedName = Stops NestedUnread
-word_failed word.OptionalLifetime = Goes Nothing None
 word_failed word.DynLifetime = Stops (Fixed mark.Invalid)
 word_failed word.FunctionHead = Goes (FunctionHead false abi.Rust) None
-word_failed word.Soundness = Stops (Fixed mark.Invalid)
-word_failed word.Sign = Goes Nothing None
 word_failed _ = Stops (Fixed mark.Unread)
 
 abbrev pub word_group : List ℕ → Word → ℕ → Bool → ℕ → Place → Group

@@ -1,14 +1,15 @@
 -- Internal: no public contract cites this.
 -- Steps on a whole row of frames.
 use Rattle.std.specs.Prelude.{◌≡◌, ℕ, ◌+◌, ◌≤◌, ◌<◌, min, Bool, true, false, Option, Some, None, List, [], ◌∷◌, ◌++◌, length, Result, Ok, Err, IsOk}
-use Rattle.demangle_v0.specs.Events.{Heard, and_then, handing}
+use Rattle.demangle_v0.specs.Events.{Heard, handing}
 use Rattle.demangle_v0.specs.Grammar.{text}
 use Rattle.demangle_v0.specs.Heights as heights
+use Rattle.demangle_v0.specs.Impls.{skip_point, self_point}
 use Rattle.demangle_v0.specs.declared.grammar.Mark.{Mark}
 use Rattle.demangle_sink.specs.declared.SinkRefused.{SinkRefused}
-use Rattle.demangle_v0.specs.Points.{Bit, pays, puts, heard_bits, bits_looks, Told, Way, goes, Went, Stopped, Kept, AllInner, Fits, share_of, owed, measure, weight_at, height_at, resumed_of}
+use Rattle.demangle_v0.specs.Points.{Bit, pays, puts, heard_bits, bits_looks, goes, Went, Stopped, Kept, AllInner, Fits, share_of, owed, weight_at, height_at, most_frames, resumed_of}
 use Rattle.demangle_v0.specs.Running.{allowed_in}
-use Rattle.demangle_v0.specs.Reading.{Place}
+use Rattle.demangle_v0.specs.Reading.{Place, max_depth}
 use Rattle.demangle_v0.specs.Items.{Text}
 use Rattle.demangle_sink.specs.Limit.{Prints}
 use Rattle.demangle_sink.specs.declared.TextSink.{Ghosts as Sinks}
@@ -17,8 +18,11 @@ use Rattle.demangle_v0.specs.declared.points.Point.{Point}
 use Rattle.demangle_v0.specs.declared.points.Point.TheVariants as point
 use Rattle.demangle_v0.specs.declared.points.frames.Frame.{Frame}
 use Rattle.demangle_v0.specs.declared.points.State.{State}
-use Rattle.demangle_v0.specs.declared.points.Stop.{Stop}
-use Rattle.demangle_v0.specs.declared.points.Stop.TheVariants.{Refused, Fault, Uncovered}
+use Rattle.demangle_v0.specs.declared.points.read.Reading.{Reading}
+use Rattle.demangle_v0.specs.declared.points.read.Halt.{Halt}
+use Rattle.demangle_v0.specs.declared.points.read.Halt.TheVariants as halt
+use Rattle.demangle_v0.specs.declared.printing.Left.{Left}
+use Rattle.demangle_v0.specs.declared.printing.Left.TheVariants as left
 use Rattle.demangle_v0.specs.declared.points.voice.Voice.{Ghosts}
 
 -- A step, whose mark was handed over.
@@ -30,14 +34,12 @@ Puts voice (Some m) v result w = voice.prints v (text m ∷ []) result w × (voi
 abbrev pub unmarked_of : State → State
 unmarked_of s = record { in_value = s.in_value; letter = s.letter; depth_left = s.depth_left; lifetimes = s.lifetimes; place = s.place; is_open = s.is_open; mark = None }
 
-abbrev pub Steps : {V : Type 0} → Ghosts V → List ℕ → Bool → Point → State → List Frame → V → Result Point Stop → State → List Frame → V → ℕ → Type 0
+abbrev pub Steps : {V : Type 0} → Ghosts V → List ℕ → Bool → Point → State → List Frame → V → Result Point SinkRefused → State → List Frame → V → ℕ → Type 0
 Steps voice b plain p s row v (Ok q) t now w made = Went voice b plain (share_of b plain voice.loud p s) (weight_at p) (height_at p s.depth_left) row v (goes q) t now w made × (t.mark ≡ None)
-Steps voice b plain p s row v (Err Refused) t now w made = Stopped voice (share_of b plain voice.loud p s) v w made × Kept row now
-Steps voice b plain p s row v (Err (Fault m)) t now w made = ⊥
-Steps voice b plain p s row v (Err Uncovered) t now w made = Unit {0}
+Steps voice b plain p s row v (Err e) t now w made = Stopped voice (share_of b plain voice.loud p s) v w made × Kept row now
 
 -- a record, so that a lemma finds its arguments
-pub record Stepped {V : Type 0} (voice : Ghosts V) (b : List ℕ) (plain : Bool) (p : Point) (s : State) (row : List Frame) (v : V) (result : Result Point Stop) (t : State) (now : List Frame) (w : V) (made : ℕ) : Type 0 where
+pub record Stepped {V : Type 0} (voice : Ghosts V) (b : List ℕ) (plain : Bool) (p : Point) (s : State) (row : List Frame) (v : V) (result : Result Point SinkRefused) (t : State) (now : List Frame) (w : V) (made : ℕ) : Type 0 where
   pub steps : Steps voice b plain p s row v result t now w made
 
 -- Where a unit is over, the frame on top goes on, if there is one above so many.
@@ -56,7 +58,7 @@ first_looks _ s = 0
 
 -- where the path at a place is begun
 abbrev pub first_state : ℕ → State
-first_state i = record { in_value = true; letter = 0; depth_left = 500; lifetimes = 0; place = Some i; is_open = false; mark = None }
+first_state i = record { in_value = true; letter = 0; depth_left = max_depth; lifetimes = 0; place = Some i; is_open = false; mark = None }
 
 -- What holds wherever a reading stands: there is room for all that can ever stand on its row, and the lifetimes fit.
 
@@ -68,7 +70,7 @@ AllFit [] = Unit {0}
 AllFit (f ∷ above) = Fits f.point f.depth_left f.number × AllFit above
 
 pub record Valid (p : Point) (s : State) (row : List Frame) : Type 0 where
-  pub stands : heights.Stands frame_height 4008 (height_at p s.depth_left) row
+  pub stands : heights.Stands frame_height most_frames (height_at p s.depth_left) row
   pub fits : Fits p s.depth_left s.lifetimes
   pub all_fit : AllFit row
   pub unmarked : s.mark ≡ None
@@ -92,15 +94,38 @@ pub record Reads (b : List ℕ) (plain : Bool) (below : List Frame) (p : Point) 
   pub inner : AllInner frames
   pub quiet : Quiet b plain p s above q t frames made
 
-abbrev pub ReadsOn : List ℕ → Bool → List Frame → Point → State → List Frame → Result Bool Stop → Point → State → List Frame → ℕ → Type 0
-ReadsOn b plain below p s above (Ok true) q t now made = (now ≡ below) × Quiet b plain p s above point.End t [] made
-ReadsOn b plain below p s above (Ok false) q t now made = Reads b plain below p s above q t now made
-ReadsOn b plain below p s above (Err Refused) q t now made = Fails b plain p s above made × Kept below now
-ReadsOn b plain below p s above (Err (Fault m)) q t now made = ⊥
-ReadsOn b plain below p s above (Err Uncovered) q t now made = Unit {0}
+abbrev pub ReadsOn : List ℕ → Bool → List Frame → Point → State → List Frame → Halt → Point → State → List Frame → ℕ → Type 0
+ReadsOn b plain below p s above halt.Over q t now made = (now ≡ below) × Quiet b plain p s above point.End t [] made
+ReadsOn b plain below p s above halt.Full q t now made = Reads b plain below p s above q t now made
+ReadsOn b plain below p s above halt.Failed q t now made = Fails b plain p s above made × Kept below now
 
-pub record ReadOn (b : List ℕ) (plain : Bool) (below : List Frame) (p : Point) (s : State) (above : List Frame) (result : Result Bool Stop) (q : Point) (t : State) (now : List Frame) (made : ℕ) : Type 0 where
+pub record ReadOn (b : List ℕ) (plain : Bool) (below : List Frame) (p : Point) (s : State) (above : List Frame) (result : Halt) (q : Point) (t : State) (now : List Frame) (made : ℕ) : Type 0 where
   pub reads : ReadsOn b plain below p s above result q t now made
+
+-- The own path of an impl, which is read and not printed.
+
+-- where it is begun
+abbrev pub silent_of : State → State
+silent_of s = record { in_value = false; letter = s.letter; depth_left = s.depth_left; lifetimes = s.lifetimes; place = s.place; is_open = s.is_open; mark = s.mark }
+
+abbrev pub own_path : State → Reading
+own_path s = record { point = point.Path; state = silent_of s }
+
+abbrev pub own_heard : List ℕ → Bool → State → Heard
+own_heard b plain s = owed b plain false point.Path (silent_of s) []
+
+-- the same behind it
+abbrev pub placed : State → Place → State
+placed s i = record { in_value = s.in_value; letter = s.letter; depth_left = s.depth_left; lifetimes = s.lifetimes; place = i; is_open = s.is_open; mark = s.mark }
+
+-- it was read, and printing goes on behind it
+pub record Skipped (b : List ℕ) (plain of_trait : Bool) (s : State) (below : List Frame) (p : Point) (t : State) (now : List Frame) (made : ℕ) : Type 0 where
+  pub at : p ≡ self_point of_trait
+  pub place : Place
+  pub ends : (own_heard b plain s).place ≡ place
+  pub state : t ≡ placed s place
+  pub is_row : now ≡ below
+  pub looks : made ≤ allowed_in (own_heard b plain s).events
 
 -- A voice that prints: it was handed these texts in turn.
 abbrev pub Said : {S : Type 0} → Sinks S → SizeLimitedFmtAdapter S → List Bit → SizeLimitedFmtAdapter S → Type 0
@@ -127,21 +152,54 @@ pub record Broke {S : Type 0} (sink : Sinks S) (b : List ℕ) (plain : Bool) (p 
   pub reads : owed b plain true p s row ≡ heard_bits true front (handing true texts rest)
   pub enough : made ≤ bits_looks front + 2
 
-abbrev pub RansOn : {S : Type 0} → Sinks S → List ℕ → Bool → Point → State → List Frame → SizeLimitedFmtAdapter S → Result Bool Stop → Point → State → List Frame → SizeLimitedFmtAdapter S → ℕ → Type 0
-RansOn sink b plain p s row v (Ok true) q t now w made = Ran sink b plain p s row v point.End t [] w made
-RansOn sink b plain p s row v (Ok false) q t now w made = Ran sink b plain p s row v q t now w made
-RansOn sink b plain p s row v (Err Refused) q t now w made = Broke sink b plain p s row v w made
-RansOn sink b plain p s row v (Err (Fault m)) q t now w made = ⊥
-RansOn sink b plain p s row v (Err Uncovered) q t now w made = Unit {0}
+-- an impl's own path was read so far, above so many frames
+pub record Skipping (b : List ℕ) (plain : Bool) (base : ℕ) (inner printing : Reading) (now : List Frame) (made : ℕ) : Type 0 where
+  pub below : List Frame
+  pub height : length below ≡ base
+  pub of_trait : Bool
+  pub at : printing.point ≡ skip_point of_trait
+  pub valid : Valid printing.point printing.state below
+  pub reads : Reads b plain below point.Path (silent_of printing.state) [] inner.point inner.state now made
 
-pub record RanOn {S : Type 0} (sink : Sinks S) (b : List ℕ) (plain : Bool) (p : Point) (s : State) (row : List Frame) (v : SizeLimitedFmtAdapter S) (result : Result Bool Stop) (q : Point) (t : State) (now : List Frame) (w : SizeLimitedFmtAdapter S) (made : ℕ) : Type 0 where
-  pub ran : RansOn sink b plain p s row v result q t now w made
+pub record Midway {S : Type 0} (sink : Sinks S) (b : List ℕ) (plain : Bool) (p : Point) (s : State) (row : List Frame) (v : SizeLimitedFmtAdapter S) (base : ℕ) (inner printing : Reading) (now : List Frame) (w : SizeLimitedFmtAdapter S) (made : ℕ) : Type 0 where
+  pub first : ℕ
+  pub second : ℕ
+  pub skips : Skipping b plain base inner printing now second
+  pub ran : Ran sink b plain p s row v printing.point printing.state skips.below w first
+  pub enough : made ≤ first + second
 
--- how a reading that prints ended: all was printed, or it was refused; or there was no point for a tag
-abbrev pub EndedSo : {S : Type 0} → Sinks S → List ℕ → Bool → Point → State → List Frame → SizeLimitedFmtAdapter S → Result Bool SinkRefused → SizeLimitedFmtAdapter S → ℕ → Type 0
-EndedSo sink b plain p s row v (Ok true) w made = (t : State) × Ran sink b plain p s row v point.End t [] w made
-EndedSo sink b plain p s row v (Ok false) w made = Unit {0}
+abbrev pub RansOn : {S : Type 0} → Sinks S → List ℕ → Bool → Point → State → List Frame → SizeLimitedFmtAdapter S → Result (Option Left) SinkRefused → Reading → List Frame → SizeLimitedFmtAdapter S → ℕ → Type 0
+RansOn sink b plain p s row v (Ok None) r now w made = Ran sink b plain p s row v point.End r.state [] w made
+RansOn sink b plain p s row v (Ok (Some left.Row)) r now w made = Ran sink b plain p s row v r.point r.state now w made
+RansOn sink b plain p s row v (Ok (Some (left.Behind base inner))) r now w made = Midway sink b plain p s row v base inner r now w made
+RansOn sink b plain p s row v (Err e) r now w made = Broke sink b plain p s row v w made
+
+pub record RanOn {S : Type 0} (sink : Sinks S) (b : List ℕ) (plain : Bool) (p : Point) (s : State) (row : List Frame) (v : SizeLimitedFmtAdapter S) (result : Result (Option Left) SinkRefused) (r : Reading) (now : List Frame) (w : SizeLimitedFmtAdapter S) (made : ℕ) : Type 0 where
+  pub ran : RansOn sink b plain p s row v result r now w made
+
+-- what is left stands in a row of at least so many frames
+abbrev pub ValidLeft : List ℕ → Bool → ℕ → Result (Option Left) SinkRefused → Reading → List Frame → Type 0
+ValidLeft b plain n (Ok None) r row = Unit {0}
+ValidLeft b plain n (Ok (Some left.Row)) r row = Valid r.point r.state row × (n ≤ length row)
+ValidLeft b plain n (Ok (Some (left.Behind base inner))) r row = (made : ℕ) × Skipping b plain base inner r row made × Valid inner.point inner.state row × (n ≤ length row)
+ValidLeft b plain n (Err e) r row = Unit {0}
+
+-- the own path of an impl that was read so far was read to its end, if there was one
+abbrev pub Passed : List ℕ → Bool → Left → Reading → List Frame → Reading → List Frame → ℕ → Type 0
+Passed b plain left.Row r row to now made = (to ≡ r) × (now ≡ row) × (made ≤ 0)
+Passed b plain (left.Behind base inner) r row to now made = (below : List Frame) (q : Bool) (first : ℕ) → Reads b plain below point.Path (silent_of r.state) [] inner.point inner.state row first → length below ≡ base → r.point ≡ skip_point q
+    → Skipped b plain q r.state below to.point to.state now (first + made)
+
+-- the looks that what is left makes for certain
+abbrev pub looks_left : Result (Option Left) SinkRefused → Reading → ℕ
+looks_left (Ok None) r = 0
+looks_left (Ok (Some x)) r = first_looks r.point r.state
+looks_left (Err e) r = 0
+
+-- how a reading that prints ended: all was printed, or it was refused
+abbrev pub EndedSo : {S : Type 0} → Sinks S → List ℕ → Bool → Point → State → List Frame → SizeLimitedFmtAdapter S → Result (Unit {0}) SinkRefused → SizeLimitedFmtAdapter S → ℕ → Type 0
+EndedSo sink b plain p s row v (Ok u) w made = (t : State) × Ran sink b plain p s row v point.End t [] w made
 EndedSo sink b plain p s row v (Err e) w made = Broke sink b plain p s row v w made
 
-pub record Ended {S : Type 0} (sink : Sinks S) (b : List ℕ) (plain : Bool) (p : Point) (s : State) (row : List Frame) (v : SizeLimitedFmtAdapter S) (result : Result Bool SinkRefused) (w : SizeLimitedFmtAdapter S) (made : ℕ) : Type 0 where
+pub record Ended {S : Type 0} (sink : Sinks S) (b : List ℕ) (plain : Bool) (p : Point) (s : State) (row : List Frame) (v : SizeLimitedFmtAdapter S) (result : Result (Unit {0}) SinkRefused) (w : SizeLimitedFmtAdapter S) (made : ℕ) : Type 0 where
   pub ended : EndedSo sink b plain p s row v result w made

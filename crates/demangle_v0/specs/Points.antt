@@ -1,11 +1,11 @@
 -- Internal: no public contract cites this.
 -- What the points of a reading stand for, and what one point does.
-use Rattle.std.specs.Prelude.{◌≡◌, ℕ, ◌+◌, ◌-◌, ◌*◌, ◌^◌, ◌<◌, ◌≤◌, ◌==◌, nat_le, if◌then◌else◌, Bool, true, false, Option, Some, None, List, [], ◌∷◌, ◌++◌, length, Result, Ok, Err}
+use Rattle.std.specs.Prelude.{◌≡◌, ℕ, ◌+◌, ◌-◌, ◌*◌, ◌^◌, ◌<◌, ◌≤◌, ◌==◌, nat_le, if◌then◌else◌, Bool, true, false, Option, Some, None, List, [], ◌∷◌, ◌++◌, Result, Ok, Err}
 use Prim.Native.Char.{code}
 use Rattle.demangle_symbol.specs.Digits.{is_byte}
-use Rattle.demangle_v0.specs.Items.{Text, Kind, Items, a_path, a_type, a_constant, a_pattern, a_trait_path, done, invalid, byte, integer, next, sound, until_end, unit, child, skip, lifetime, opens, dyn_trait, bindings, identifier}
+use Rattle.demangle_v0.specs.Items.{Text, Items, a_path, a_type, a_constant, a_pattern, a_trait_path, done, invalid, byte, integer, next, sound, until_end, unit, child, skip, lifetime, opens, dyn_trait, bindings, identifier}
 use Rattle.demangle_v0.specs.Table.{says, says_if, at_end, list, more, tuple, typed, constant_inside, argument, in_namespace, in_binder, function, bound, type_tagged, number, string, field, variant, says_name}
-use Rattle.demangle_v0.specs.Reading.{Outcome, Place, Surroundings, followed_by, run, begun, level_of, levels}
+use Rattle.demangle_v0.specs.Reading.{Place, Surroundings, run, begun, level_of, levels, max_depth}
 use Rattle.demangle_v0.specs.Begins.{total}
 use Rattle.demangle_v0.specs.Running.{allowed_in}
 use Rattle.demangle_v0.specs.Events.{Heard, of, ended, and_then, allowing, handing}
@@ -19,7 +19,7 @@ use Rattle.demangle_v0.specs.declared.points.Point.TheVariants as point
 use Rattle.demangle_v0.specs.declared.points.frames.Frame.{Frame}
 use Rattle.demangle_v0.specs.declared.points.State.{State}
 use Rattle.demangle_v0.specs.declared.points.Stop.{Stop}
-use Rattle.demangle_v0.specs.declared.points.Stop.TheVariants.{Refused, Fault, Uncovered}
+use Rattle.demangle_v0.specs.declared.points.Stop.TheVariants.{Refused, Fault}
 use Rattle.demangle_v0.specs.declared.points.voice.Voice.{Ghosts}
 use Rattle.demangle_sink.specs.declared.SinkRefused.{SinkRefused}
 
@@ -323,6 +323,10 @@ abbrev pub count_of : Option Frame → ℕ
 count_of None = 0
 count_of (Some f) = 1
 
+-- so many frames can stand at once: at most eight a depth, and eight more at the outermost
+abbrev pub most_frames : ℕ
+most_frames = 8 * max_depth + 8
+
 -- how many binders may still be met at the point's own depth
 abbrev pub binders_at : Point → ℕ
 binders_at point.FunctionBinder = 1
@@ -330,7 +334,7 @@ binders_at point.DynBinder = 1
 binders_at _ = 0
 
 abbrev pub most_lifetimes : ℕ
-most_lifetimes = 2 ^ 64 * 500
+most_lifetimes = 2 ^ 64 * max_depth
 
 -- each depth that is left may have a binder, of at most 2^64 - 1 lifetimes
 abbrev pub Fits : Point → ℕ → ℕ → Type 0
@@ -345,11 +349,6 @@ FitsFrame (Some f) = Fits f.point f.depth_left f.number
 abbrev pub FitsWay : Way → State → Type 0
 FitsWay (goes p) s = Fits p s.depth_left s.lifetimes
 FitsWay (fails m) s = Unit {0}
-
--- each frame has room for all that can ever stand above it in a row of n, and its lifetimes fit
-unfoldable pub HasRoom : ℕ → List Frame → Type 0
-HasRoom n [] = Unit {0}
-HasRoom n (f ∷ above) = (height_at f.point f.depth_left ≤ n) × Fits f.point f.depth_left f.number × HasRoom (n - 1) above
 
 -- Steps, from what is heard of a point, whose weight and height are these.
 
@@ -391,9 +390,8 @@ Kept row now = (more : List Frame) × (now ≡ row ++ more)
 
 abbrev pub Comes : {V : Type 0} → Ghosts V → List ℕ → Bool → Heard → ℕ → ℕ → List Frame → V → Result Point Stop → State → List Frame → V → ℕ → Type 0
 Comes voice b plain h weight high row v (Ok p) new now w made = Went voice b plain h weight high row v (goes p) new now w made
-Comes voice b plain h weight high row v (Err (Fault m)) new now w made = Went voice b plain h weight high row v (fails m) new now w made
+Comes voice b plain h weight high row v (Err (Fault m)) new now w made = Went voice b plain h weight high row v (fails m) new now w made × (new.mark ≡ None)
 Comes voice b plain h weight high row v (Err Refused) new now w made = Stopped voice h v w made × Kept row now
-Comes voice b plain h weight high row v (Err Uncovered) new now w made = Unit {0}
 
 -- a record, so that a lemma finds its arguments
 pub record DidOn {V : Type 0} (voice : Ghosts V) (b : List ℕ) (plain : Bool) (h : Heard) (weight high : ℕ) (row : List Frame) (v : V) (result : Result Point Stop) (new : State) (now : List Frame) (w : V) (made : ℕ) : Type 0 where

@@ -4,6 +4,7 @@ use Prim.Native.Char.{code}
 use Rattle.demangle_symbol.specs.Digits.{is_byte}
 use Rattle.demangle_symbol.specs.Words.{Name, Read, is_upper, then_if_some, some_or, byte_at, namespace_at, integer_at, optional_at, backref_at, identifier_at, nibbles_at}
 use Rattle.demangle_symbol.specs.Names.{name_pieces}
+pub use Rattle.demangle_symbol.specs.Words.{max_depth}
 use Rattle.demangle_v0.specs.Items.{Text, Kind, a_path, a_trait_path, Items, done, invalid, say, say_plain, byte, namespace, integer, optional, identifier, nibbles, peek, next, sound, until_end, raise, unit, child, skip, target, lifetime, binder, opens, dyn_trait, bindings}
 use Rattle.demangle_v0.specs.Table.{items}
 use Rattle.demangle_v0.specs.Cost.{Stretch}
@@ -274,10 +275,6 @@ level_of symbol deeper printed kind value lifetimes i =
 unfoldable pub levels : List ℕ → ℕ → List Level
 levels symbol zero = []
 levels symbol (suc n) = let deeper : List Level = levels symbol n in level_of symbol deeper ∷ deeper
-
--- how often the depth can be raised
-abbrev pub max_depth : ℕ
-max_depth = 500
 
 -- a unit at a place and a depth
 unfoldable pub read_at : List ℕ → Bool → Kind → ℕ → ℕ → ℕ → Bool → Outcome

@@ -1,34 +1,64 @@
-//! Acceptance of v0 symbols: the machine with the output off.
-ghost use Rattle.std.specs.Prelude.{◌≡◌, ◌+◌, ◌≤◌, true, false};
+//! Acceptance of v0 symbols: readings without a voice.
+ghost use Rattle.std.specs.Prelude.{◌≡◌, ◌+◌, ◌-◌, ◌≤◌, true, false};
 ghost use Rattle.demangle_v0.specs.Items.{a_path};
+ghost use Rattle.demangle_v0.specs.Points.{AllInner, owed};
+ghost use Rattle.demangle_v0.specs.PointRuns.{Valid};
 ghost use Rattle.demangle_v0.specs.Reading.{goes_on_at, spelled, suffix_of, read_at};
+ghost use Rattle.demangle_v0.specs.Running.{allowed_in};
 ghost use Rattle.demangle_v0.specs.Accepting.{looks_in, suffix_looks, accepting_looks};
 
-use crate::grammar::Entry;
-use crate::machine::{Machine, read_all};
-use crate::task::Setting;
-use demangle_symbol::cursor::{Looks, MAX_DEPTH, Symbol};
+use crate::points::frames::{FEW, FrameStack, MOST};
+use crate::points::read::{Halt, Reading, read_on};
+use demangle_symbol::cursor::{Looks, Symbol};
+
+/// Reads the rest, with room for every frame: where it ends.
+#[inline(never)]
+fn read_rest(
+    symbol: &Symbol<'_>,
+    few: &FrameStack<FEW>,
+    from: &Reading,
+    looks: &mut Looks,
+) -> Option<usize>
+    requires valid { Valid from.now.point from.now.state few.now }
+    requires inner { AllInner few.now }
+    ensures value { result ≡ (owed symbol.now true false from.now.point from.now.state
+        few.now).place }
+    ensures looks { looks.new ≤ looks.old + allowed_in (owed symbol.now true false from.now.point
+        from.now.state few.now).events }
+    ensures grows { looks.old ≤ looks.new }
+{
+    let mut row: FrameStack<MOST> = FrameStack::new();
+    row.append(few);
+    let mut reading = *from;
+    match read_on(symbol, 0, true, &mut reading, &mut row, looks) {
+        Halt::Over => reading.place(),
+        // A row with room for every frame is never full.
+        Halt::Full | Halt::Failed => None,
+    }
+}
 
 /// Where the path at a place ends, if one is spelled there.
 pub fn path_end(symbol: &Symbol<'_>, place: usize, looks: &mut Looks) -> Option<usize>
     ensures value { result ≡ spelled symbol.now a_path place 0 }
     ensures grows { looks.old ≤ looks.new }
-    ensures looks { looks.new ≤ looks.old + looks_in (read_at symbol.now false a_path place 0 0 true) }
+    ensures looks { looks.new ≤ looks.old + looks_in (read_at symbol.now false a_path place 0 0
+        true) }
 {
-    let setting = Setting {
-        output: false,
-        value: true,
-        lifetimes: 0,
-    };
-    let mut machine = Machine::begun(Entry::Path, MAX_DEPTH as u16, setting, place);
-    read_all(&mut machine, symbol, looks)
+    let mut row: FrameStack<FEW> = FrameStack::new();
+    let mut reading = Reading::of_path(place);
+    match read_on(symbol, 0, true, &mut reading, &mut row, looks) {
+        Halt::Over => reading.place(),
+        Halt::Full => read_rest(symbol, &row, &reading, looks),
+        Halt::Failed => None,
+    }
 }
 
 /// Where the suffix begins, behind one path or two, if they are spelled.
 pub fn suffix_at(symbol: &Symbol<'_>, looks: &mut Looks) -> Option<usize>
     ensures value { result ≡ suffix_of symbol.now }
     ensures grows { looks.old ≤ looks.new }
-    ensures looks { looks.new + suffix_looks symbol.now result ≤ looks.old + accepting_looks symbol.now }
+    ensures looks { looks.new + suffix_looks symbol.now result ≤ looks.old + accepting_looks
+        symbol.now }
 {
     let Some(end) = path_end(symbol, 0, looks) else {
         return None;

@@ -1,52 +1,6 @@
-//! The grammar of v0 symbols: its names, and the fixed texts.
+//! The fixed texts of v0 symbols, and the words.
 ghost use Rattle.std.specs.Prelude.{◌≡◌};
-ghost use Rattle.demangle_v0.specs.Grammar.{text};
-
-mod beginnings;
-mod productions;
-
-pub use beginnings::{
-    basic_mark, constant_production, path_production, type_production, variant_production,
-};
-pub use productions::table;
-
-/// What is read as one unit by name.
-#[derive(Clone, Copy)]
-pub enum Named {
-    Path,
-    Type,
-    Constant,
-    Pattern,
-    TraitPath,
-}
-
-/// What is entered as one unit.
-#[derive(Clone, Copy)]
-pub enum Entry {
-    Path,
-    Type,
-    Constant,
-    Pattern,
-    TraitPath,
-    TaggedType,
-    Argument,
-    Bound,
-    Field,
-    DynTrait,
-    DynTraits,
-    Returns,
-    TextConstant,
-    ReferenceConstant,
-    Variant,
-}
-
-/// Whether a child stands in value position.
-#[derive(Clone, Copy)]
-pub enum Position {
-    Same,
-    Value,
-    NoValue,
-}
+ghost use Rattle.demangle_v0.specs.Grammar.{text, found, basic_marks};
 
 /// The fixed texts.
 #[derive(Clone, Copy)]
@@ -109,15 +63,6 @@ pub enum Mark {
     True,
 }
 
-/// What a list prints between its elements, and behind one that stands alone.
-#[derive(Clone, Copy)]
-pub enum Joint {
-    Comma,
-    Tuple,
-    Plus,
-    Or,
-}
-
 /// The words.
 #[derive(Clone, Copy)]
 pub enum Word {
@@ -125,109 +70,13 @@ pub enum Word {
     NestedName,
     FieldName,
     BindingName,
-    Disambiguator,
     LifetimeIndex,
-    OptionalLifetime,
     DynLifetime,
     FunctionHead,
-    Soundness,
-    Sign,
     Number,
     Truth,
     Character,
     Literal,
-}
-
-/// What a production reads and prints, in order.
-#[derive(Clone, Copy)]
-pub enum Item {
-    Says(Mark),
-    Reads(Word),
-    Namespace,
-    Child(Named, Position),
-    Skips,
-    Elements(Entry, Joint),
-    Refers(Named, Position),
-    Binds,
-    Opens,
-    Bindings,
-    MoreBindings,
-    OpenBindings,
-    Holds(Entry),
-    GoesOn(Entry),
-}
-
-/// The productions.
-#[derive(Clone, Copy)]
-pub enum Production {
-    Nothing,
-    Crate,
-    NestedPath,
-    Inherent,
-    TraitImpl,
-    TraitDefinition,
-    Generic,
-    GenericInValue,
-    PathReference,
-    SharedReference,
-    MutReference,
-    ConstPointer,
-    MutPointer,
-    ArrayType,
-    SliceType,
-    TupleType,
-    FunctionType,
-    DynType,
-    TypeReference,
-    PatternType,
-    PathType,
-    ReturnType,
-    LifetimeArgument,
-    ConstantArgument,
-    TypeArgument,
-    DynTraits,
-    DynTrait,
-    TraitPathReference,
-    GenericTraitPath,
-    RangePattern,
-    OrPattern,
-    NotNullPattern,
-    PlaceholderConstant,
-    NumberConstant,
-    SignedConstant,
-    BoolConstant,
-    CharConstant,
-    TextConstant,
-    BracedText,
-    TextInValue,
-    ReferenceConstant,
-    BracedReference,
-    ReferenceInValue,
-    BracedMutReference,
-    MutReferenceInValue,
-    BracedArray,
-    ArrayInValue,
-    BracedTuple,
-    TupleInValue,
-    BracedVariant,
-    VariantInValue,
-    BracedUnitVariant,
-    BracedTupleVariant,
-    TupleVariantInValue,
-    BracedFieldsVariant,
-    FieldsVariantInValue,
-    ConstantReference,
-    Field,
-}
-
-/// How many elements a list had.
-#[derive(Clone, Copy)]
-pub enum Count {
-    Zero,
-    One,
-    More,
-    /// Of bindings: what stood before them told whether they are open.
-    Told,
 }
 
 /// The text of a mark.
@@ -291,5 +140,35 @@ pub fn text(mark: Mark) -> &'static str
         Mark::Minus => "-",
         Mark::False => "false",
         Mark::True => "true",
+    }
+}
+
+/// The text of a basic type.
+pub fn basic_mark(tag: u8) -> Option<Mark>
+    ensures { result ≡ found tag basic_marks }
+{
+    match tag {
+        b'b' => Some(Mark::Bool),
+        b'c' => Some(Mark::Char),
+        b'e' => Some(Mark::Str),
+        b'u' => Some(Mark::Unit),
+        b'a' => Some(Mark::I8),
+        b's' => Some(Mark::I16),
+        b'l' => Some(Mark::I32),
+        b'x' => Some(Mark::I64),
+        b'n' => Some(Mark::I128),
+        b'i' => Some(Mark::Isize),
+        b'h' => Some(Mark::U8),
+        b't' => Some(Mark::U16),
+        b'm' => Some(Mark::U32),
+        b'y' => Some(Mark::U64),
+        b'o' => Some(Mark::U128),
+        b'j' => Some(Mark::Usize),
+        b'f' => Some(Mark::F32),
+        b'd' => Some(Mark::F64),
+        b'z' => Some(Mark::Never),
+        b'p' => Some(Mark::Placeholder),
+        b'v' => Some(Mark::Ellipsis),
+        _ => None,
     }
 }

@@ -10,27 +10,23 @@ use demangle_symbol::prefix::behind_prefix;
 
 mod accept;
 mod grammar;
-mod machine;
-mod perform;
 mod points;
 mod printing;
 mod reference;
 mod render;
 mod stretch;
-mod task;
 #[cfg(test)]
 mod tests;
-mod units;
 mod value;
 mod words;
-mod work;
 
 pub use value::Demangle;
 
 /// What stands behind the prefix of a v0 symbol.
 fn inner_of(s: &str) -> Option<&str>
     ensures inner { option_map (λ x. x.now) result ≡ inner_of s.now }
-    ensures shorter { IfSome result (λ x. (length x.now ≤ length s.now) × (length s.now ≤ length x.now + 3)) }
+    ensures shorter { IfSome result (λ x. (length x.now ≤ length s.now) × (length s.now ≤ length
+        x.now + 3)) }
 {
     if let Some(inner) = behind_prefix(s, "_R") {
         return Some(inner);

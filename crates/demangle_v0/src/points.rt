@@ -1,40 +1,44 @@
-//! Reading by resume points: each reads up to its next child, puts what stands behind that on the frame stack, and answers
+//! Reading by resume points: each reads up to its next child, puts what stands behind that on the
+//! frame stack, and answers
 //! where it goes on.
-ghost use Rattle.std.specs.Prelude.{true, ◌≡◌, ◌==◌, ◌*◌, ℕ, ◌+◌, ◌-◌, ◌<◌, ◌≤◌, ◌++◌, [], ◌∷◌, Some, None, Ok, Err, IsOk, length, IsAscii, List, Bool};
-ghost use Rattle.demangle_v0.specs.Points.{Did, DidOn, around, closing, Fits};
-ghost use Rattle.demangle_v0.specs.PointRuns.{first_looks};
+ghost use Rattle.std.specs.Prelude.{true, ◌≡◌, ◌+◌, ◌-◌, ◌<◌, ◌≤◌, None, Ok, Err, IsOk, IsAscii, List};
+ghost use Rattle.demangle_v0.specs.Points.{DidOn, around, closing};
 ghost use Rattle.demangle_v0.specs.Begins.{total};
 ghost use Rattle.demangle_v0.specs.Groups.{word_group, read_stretch, looks_later};
 ghost use Rattle.demangle_v0.specs.Serving.{LiesIn};
 ghost use Rattle.demangle_v0.specs.Events.{of};
 ghost use Rattle.demangle_v0.specs.Table.{path};
-ghost use Rattle.demangle_v0.specs.Items.{done, Kind};
+ghost use Rattle.demangle_v0.specs.Items.{done};
 ghost use Rattle.demangle_v0.specs.Grammar.{word_items};
 ghost use Rattle.demangle_v0.specs.Reading.{run};
 
 use crate::grammar::{Mark, Word};
-use crate::points::frames::{Frame, FrameStack};
-use crate::points::impls::{impl_path, self_type};
-use crate::points::references::follow;
-use crate::points::tags::{PathKind, path_kind};
+use crate::points::frames::Frame;
 use crate::points::voice::Voice;
 use crate::words::{WordRead, read_word};
 use demangle_symbol::cursor::{Looks, Symbol};
 
 mod arguments;
+mod bindings;
+mod constant_lists;
 mod constants;
 mod dyn_traits;
-mod frames;
+pub mod frames;
 mod functions;
 mod impls;
+mod paths;
 mod patterns;
+mod perform;
+pub mod read;
 mod references;
-mod run;
+pub mod skip;
+pub mod step;
 mod tags;
 mod tuples;
+mod type_references;
 mod types;
 mod variants;
-mod voice;
+pub mod voice;
 
 /// Where a unit begins, or goes on behind a part of it.
 #[derive(Clone, Copy)]
@@ -147,15 +151,20 @@ pub enum Stop {
     Refused,
     /// The unit ends with this text.
     Fault(Mark),
-    /// There is no point for this tag yet.
-    Uncovered,
 }
 
 impl State {
     /// The frame with which the unit goes on.
     #[inline(always)]
     fn frame(&self, point: Point) -> Frame
-        ensures { result ≡ record { point = point; in_value = self.now.in_value; letter = self.now.letter; depth_left = self.now.depth_left; number = self.now.lifetimes } }
+        ensures { result ≡ record {
+          point = point;
+          in_value = self.now.in_value;
+          letter =
+              self.now.letter;
+          depth_left = self.now.depth_left;
+          number = self.now.lifetimes;
+        } }
     {
         Frame {
             point,
@@ -176,9 +185,11 @@ fn word_at<V: Voice>(
     voice: &V,
     looks: &mut Looks,
 ) -> WordRead
-    ensures value { result ≡ (word_group symbol.now word state.now.letter V.loud state.now.lifetimes state.now.place).reads }
+    ensures value { result ≡ (word_group symbol.now word state.now.letter V.loud state.now.lifetimes
+        state.now.place).reads }
     ensures grows { looks.old ≤ looks.new }
-    ensures looks { looks.new + looks_later (read_stretch result) ≤ looks.old + total (word_group symbol.now word state.now.letter V.loud state.now.lifetimes state.now.place).costs }
+    ensures looks { looks.new + looks_later (read_stretch result) ≤ looks.old + total (word_group
+        symbol.now word state.now.letter V.loud state.now.lifetimes state.now.place).costs }
     ensures lies { LiesIn symbol.now (read_stretch result) }
 {
     let speaks = voice.speaks();
@@ -206,7 +217,10 @@ fn last_word<V: Voice>(
     requires ascii { V.loud ≡ true → IsAscii symbol.now }
     requires ready { V.ready voice.old }
     requires unmarked { state.old.mark ≡ None }
-    ensures did { (row : List Frame) → DidOn V.Voice symbol.now plain (closing (of plain V.loud (run (word_items word state.old.letter done) (around symbol.now V.loud state.old.depth_left state.old.lifetimes) state.old.place))) 1 0 row voice.old result state.new row voice.new (looks.new - looks.old) }
+    ensures did { (row : List Frame) → DidOn V.Voice symbol.now plain (closing (of plain V.loud (run
+        (word_items word state.old.letter done) (around symbol.now V.loud state.old.depth_left
+        state.old.lifetimes) state.old.place))) 1 0 row voice.old result state.new row voice.new
+        (looks.new - looks.old) }
     ensures ready { IsOk result → V.ready voice.new }
     ensures sound { (m : Mark) → result ≡ Err (Stop.Fault m) → V.ready voice.new }
     ensures grows { looks.old ≤ looks.new }
@@ -229,112 +243,4 @@ fn last_word<V: Voice>(
             Ok(Point::End)
         }
     }
-}
-
-/// A path of names, behind its `N`.
-#[inline(always)]
-fn nested<V: Voice, const N: usize>(
-    symbol: &Symbol<'_>,
-    state: &mut State,
-    row: &mut FrameStack<N>,
-    looks: &mut Looks,
-) -> Result<Point, Stop>
-    requires room { length row.old < N }
-    requires unmarked { state.old.mark ≡ None }
-    requires fits { Fits Point.Nested state.old.depth_left state.old.lifetimes }
-    ensures did { (plain : Bool) (v : V) → DidOn V.Voice symbol.now plain (closing (of plain V.loud (run (path state.old.in_value 78) (around symbol.now V.loud state.old.depth_left state.old.lifetimes) state.old.place))) 1 (8 * state.old.depth_left + 9) row.old v result state.new row.new v (looks.new - looks.old) }
-    ensures grows { looks.old ≤ looks.new }
-{
-    let Some(at) = state.place else {
-        return Err(Stop::Fault(Mark::Unread));
-    };
-    let Ok((letter, next)) = symbol.namespace(at, looks) else {
-        return Err(Stop::Fault(Mark::Invalid));
-    };
-    let frame = state.frame(Point::Nested);
-    row.push(Frame { letter, ..frame });
-    state.place = Some(next);
-    Ok(Point::Path)
-}
-
-/// A path with arguments, behind its `I`.
-#[inline(always)]
-fn generic_path<const N: usize>(state: &State, row: &mut FrameStack<N>) -> Point
-    requires room { length row.old < N }
-    requires fits { Fits Point.Generic state.now.depth_left state.now.lifetimes }
-    ensures point { result ≡ Point.Path }
-    ensures row { row.new ≡ row.old ++ (record { point = Point.Generic; in_value = state.now.in_value; letter = state.now.letter; depth_left = state.now.depth_left; number = state.now.lifetimes }) ∷ [] }
-{
-    row.push(state.frame(Point::Generic));
-    Point::Path
-}
-
-/// A path, behind its tag.
-#[inline(always)]
-fn tagged_path<V: Voice, const N: usize>(
-    symbol: &Symbol<'_>,
-    tag: u8,
-    plain: bool,
-    state: &mut State,
-    row: &mut FrameStack<N>,
-    voice: &mut V,
-    looks: &mut Looks,
-) -> Result<Point, Stop>
-    requires ascii { V.loud ≡ true → IsAscii symbol.now }
-    requires ready { V.ready voice.old }
-    requires unmarked { state.old.mark ≡ None }
-    requires room { length row.old < N }
-    requires fits { Fits Point.Path state.old.depth_left state.old.lifetimes }
-    ensures did { DidOn V.Voice symbol.now plain (closing (of plain V.loud (run (path state.old.in_value tag) (around symbol.now V.loud state.old.depth_left state.old.lifetimes) state.old.place))) 7 (8 * state.old.depth_left + 9) row.old voice.old result state.new row.new voice.new (looks.new - looks.old) }
-    ensures ready { IsOk result → V.ready voice.new }
-    ensures sound { (m : Mark) → result ≡ Err (Stop.Fault m) → V.ready voice.new }
-    ensures grows { looks.old ≤ looks.new }
-{
-    let Some(kind) = path_kind(tag) else {
-        return Err(Stop::Fault(Mark::Invalid));
-    };
-    match kind {
-        PathKind::CrateRoot => last_word(symbol, Word::CrateName, plain, state, voice, looks),
-        PathKind::Nested => nested::<V, N>(symbol, state, row, looks),
-        PathKind::Generic => Ok(generic_path(state, row)),
-        PathKind::Reference => follow(symbol, Point::Path, state, row, voice, looks),
-        PathKind::InherentImpl => impl_path::<V>(symbol, false, state, looks),
-        PathKind::TraitImpl => impl_path::<V>(symbol, true, state, looks),
-        PathKind::TraitDefinition => Ok(self_type::<V, N>(true, state, row)),
-    }
-}
-
-/// A path.
-#[inline(always)]
-fn path<V: Voice, const N: usize>(
-    symbol: &Symbol<'_>,
-    plain: bool,
-    state: &mut State,
-    row: &mut FrameStack<N>,
-    voice: &mut V,
-    looks: &mut Looks,
-) -> Result<Point, Stop>
-    requires ascii { V.loud ≡ true → IsAscii symbol.now }
-    requires ready { V.ready voice.old }
-    requires unmarked { state.old.mark ≡ None }
-    requires room { length row.old < N }
-    requires fits { Fits Point.Path state.old.depth_left state.old.lifetimes }
-    ensures did { Did V.Voice symbol.now plain Point.Path state.old row.old voice.old result state.new row.new voice.new (looks.new - looks.old) }
-    ensures ready { IsOk result → V.ready voice.new }
-    ensures sound { (m : Mark) → result ≡ Err (Stop.Fault m) → V.ready voice.new }
-    ensures grows { looks.old ≤ looks.new }
-    ensures least { looks.old + first_looks Point.Path state.old ≤ looks.new }
-{
-    let Some(at) = state.place else {
-        return Err(Stop::Fault(Mark::Unread));
-    };
-    if state.depth_left == 0 {
-        return Err(Stop::Fault(Mark::Recursion));
-    }
-    let Ok((tag, next)) = symbol.tag(at, looks) else {
-        return Err(Stop::Fault(Mark::Invalid));
-    };
-    state.depth_left -= 1;
-    state.place = Some(next);
-    tagged_path(symbol, tag, plain, state, row, voice, looks)
 }

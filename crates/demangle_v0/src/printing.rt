@@ -1,66 +1,127 @@
-//! How a v0 symbol prints: the steps of the machine, each put into a sink as it is made.
-ghost use Rattle.std.specs.Prelude.{IsAscii, ℕ, ◌≡◌, ◌+◌, ◌*◌, ◌<◌, ◌≤◌, [], length, true, IfOk, OnOk, OnErr};
+//! How a v0 symbol prints: steps, of which each hands over what it reads as soon as it is known.
+ghost use Rattle.std.specs.Prelude.{ℕ, ◌+◌, ◌-◌, ◌*◌, ◌≤◌, List, IsAscii, IsOk, Ok, Some, length};
 ghost use Rattle.demangle_sink.specs.Cut.{kept};
 ghost use Rattle.demangle_sink.specs.Limit.{Prints, Ready};
-ghost use Rattle.demangle_v0.specs.Progress.{Reached, Ended, Stopped};
+ghost use Rattle.demangle_v0.specs.PointRuns.{Valid, RanOn, Ended, Passed, ValidLeft, looks_left, first_looks};
 ghost use Rattle.demangle_v0.specs.Reading.{rendered};
+ghost use Rattle.demangle_v0.specs.declared.points.frames.Frame.{Frame};
 
-use crate::grammar::Entry;
-use crate::machine::{FEW, MOST, Machine};
-use crate::render::render;
-use crate::task::Setting;
+use crate::points::frames::{FEW, FrameStack, MOST};
+use crate::points::read::Reading;
+use crate::points::skip::{is_skipped, skip};
+use crate::points::step::{resume, step};
+use crate::points::{Point, State};
 use demangle_sink::{SinkRefused, SizeLimitedFmtAdapter, TextSink};
-use demangle_symbol::cursor::{Looks, MAX_DEPTH, Symbol};
+use demangle_symbol::cursor::{Looks, Symbol};
 
-/// Prints on, until nothing is left or the row may be too short for a step: whether nothing is left.
+/// What is left to be printed, where the row is full.
+#[derive(Clone, Copy)]
+pub enum Left {
+    /// What the row tells.
+    Row,
+    /// The same, behind the own path of an impl, which was read so far above so many frames.
+    Behind(usize, Reading),
+}
+
+/// Prints on, until nothing is left or the row is full.
 ///
 /// It ends at the piece that the limit or the sink refuses.
+#[inline(never)]
 fn print_on<const N: usize, S: TextSink>(
     symbol: &Symbol<'_>,
     include_hash: bool,
-    machine: &mut Machine<N>,
+    reading: &mut Reading,
+    row: &mut FrameStack<N>,
     out: &mut SizeLimitedFmtAdapter<'_, S>,
     looks: &mut Looks,
-) -> Result<bool, SinkRefused>
+) -> Result<Option<Left>, SinkRefused>
     requires ascii { IsAscii symbol.now }
     requires ready { Ready S.TextSink out.old }
-    ensures ready { OnOk result (Ready S.TextSink out.new) }
-    ensures reached { (from : SizeLimitedFmtAdapter S) (start : ℕ) →
-        Reached S.TextSink symbol.now include_hash from start out.old looks.old machine.old.work.tasks machine.old.work.place machine.old.work.is_open →
-        OnOk result (Reached S.TextSink symbol.now include_hash from start out.new looks.new machine.new.work.tasks machine.new.work.place machine.new.work.is_open) }
-    ensures stopped { (from : SizeLimitedFmtAdapter S) (start : ℕ) →
-        Reached S.TextSink symbol.now include_hash from start out.old looks.old machine.old.work.tasks machine.old.work.place machine.old.work.is_open →
-        OnErr result (Stopped S.TextSink symbol.now include_hash from start out.new looks.new) }
-    ensures done { IfOk result (λ all. all ≡ true → machine.new.work.tasks ≡ []) }
-    ensures ends { 4008 < N → OnOk result (machine.new.work.tasks ≡ []) }
+    requires valid { Valid reading.old.point reading.old.state row.old }
+    ensures ran { RanOn S.TextSink symbol.now include_hash reading.old.point reading.old.state
+        row.old out.old result reading.new row.new out.new (looks.new - looks.old) }
+    ensures ready { IsOk result → Ready S.TextSink out.new }
+    ensures valid { ValidLeft symbol.now include_hash N result reading.new row.new }
+    ensures grows { looks.old ≤ looks.new }
+    ensures least { looks.old + first_looks reading.old.point reading.old.state ≤ looks.new +
+        looks_left result reading.new }
 {
-    while machine.has_room() {
-        let Some(()) = machine.advance(symbol, looks) else {
-            return Ok(true);
+    let mut point = reading.point;
+    let mut state = reading.state;
+    'steps: while row.len() < N {
+        let Some(at) = resume(0, point, &mut state, row) else {
+            *reading = Reading {
+                point: Point::End,
+                state,
+            };
+            return Ok(None);
         };
-        render(symbol, machine.stretch(), include_hash, out, looks)?;
+        if is_skipped(at) {
+            let mut here = Reading { point: at, state };
+            let base = row.len();
+            let own = here.own_path();
+            if let Some(inner) = skip(symbol, include_hash, base, own, &mut here, row, looks) {
+                *reading = here;
+                return Ok(Some(Left::Behind(base, inner)));
+            }
+            point = here.point;
+            state = here.state;
+        } else {
+            point = step(symbol, at, include_hash, &mut state, row, out, looks)?;
+        }
     }
-    Ok(false)
+    *reading = Reading { point, state };
+    Ok(Some(Left::Row))
 }
 
-/// Prints the rest, with room for every task.
+/// Goes behind the own path of an impl, if one was read so far.
+fn finish_skip(
+    symbol: &Symbol<'_>,
+    include_hash: bool,
+    left: Left,
+    reading: &mut Reading,
+    row: &mut FrameStack<MOST>,
+    looks: &mut Looks,
+)
+    requires valid { ValidLeft symbol.now include_hash 0 (Ok (Some left)) reading.old row.old }
+    ensures passed { Passed symbol.now include_hash left reading.old row.old reading.new row.new
+        (looks.new - looks.old) }
+    ensures grows { looks.old ≤ looks.new }
+{
+    match left {
+        Left::Row => {}
+        Left::Behind(base, inner) => {
+            skip(symbol, include_hash, base, inner, reading, row, looks);
+        }
+    }
+}
+
+/// Prints the rest, with room for every frame.
 #[inline(never)]
 fn print_rest<S: TextSink>(
     symbol: &Symbol<'_>,
     include_hash: bool,
-    few: &Machine<FEW>,
+    few: &FrameStack<FEW>,
+    from: &Reading,
+    left: Left,
     out: &mut SizeLimitedFmtAdapter<'_, S>,
     looks: &mut Looks,
 ) -> Result<(), SinkRefused>
     requires ascii { IsAscii symbol.now }
     requires ready { Ready S.TextSink out.old }
-    ensures { (from : SizeLimitedFmtAdapter S) (start : ℕ) →
-        Reached S.TextSink symbol.now include_hash from start out.old looks.old few.now.work.tasks few.now.work.place few.now.work.is_open →
-        Ended S.TextSink symbol.now include_hash from start result out.new looks.new }
+    requires valid { ValidLeft symbol.now include_hash 0 (Ok (Some left)) from.now few.now }
+    ensures ended { (p : Point) (s : State) (row : List Frame) (v : SizeLimitedFmtAdapter S) (first
+        : ℕ) → RanOn S.TextSink symbol.now include_hash p s row v (Ok (Some left)) from.now few.now
+        out.old first → Ended S.TextSink symbol.now include_hash p s row v result out.new (first +
+        (looks.new - looks.old)) }
+    ensures grows { looks.old ≤ looks.new }
+    ensures least { looks.old + first_looks from.now.point from.now.state ≤ looks.new }
 {
-    let mut machine: Machine<MOST> = Machine::new();
-    machine.take_over(few);
-    print_on(symbol, include_hash, &mut machine, out, looks)?;
+    let mut row: FrameStack<MOST> = FrameStack::new();
+    row.append(few);
+    let mut reading = *from;
+    finish_skip(symbol, include_hash, left, &mut reading, &mut row, looks);
+    print_on(symbol, include_hash, &mut reading, &mut row, out, looks)?;
     Ok(())
 }
 
@@ -78,16 +139,13 @@ pub(crate) fn print<S: TextSink>(
     ensures prints { Prints S.TextSink out.old (rendered symbol.now include_hash) result out.new }
     ensures grows { looks.old ≤ looks.new }
     ensures least { looks.old + 1 ≤ looks.new }
-    ensures most { looks.new ≤ looks.old + 100000 * (kept (rendered symbol.now include_hash) out.old.remaining + 1) * (length symbol.now + 1) }
+    ensures most { looks.new ≤ looks.old + 100000 * (kept (rendered symbol.now include_hash)
+        out.old.remaining + 1) * (length symbol.now + 1) }
 {
-    let setting = Setting {
-        output: true,
-        value: true,
-        lifetimes: 0,
-    };
-    let mut machine: Machine<FEW> = Machine::begun(Entry::Path, MAX_DEPTH as u16, setting, 0);
-    if print_on(symbol, include_hash, &mut machine, out, looks)? {
-        return Ok(());
+    let mut row: FrameStack<FEW> = FrameStack::new();
+    let mut reading = Reading::of_path(0);
+    match print_on(symbol, include_hash, &mut reading, &mut row, out, looks)? {
+        None => Ok(()),
+        Some(left) => print_rest(symbol, include_hash, &row, &reading, left, out, looks),
     }
-    print_rest(symbol, include_hash, &machine, out, looks)
 }

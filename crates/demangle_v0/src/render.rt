@@ -1,4 +1,4 @@
-//! How what a step of the machine hands over is put into a sink, piece by piece.
+//! How what a step hands over is put into a sink, piece by piece.
 ghost use Rattle.std.specs.Prelude.{◌≡◌, ◌+◌, ◌≤◌, IsAscii};
 ghost use Rattle.demangle_v0.specs.Groups.{texts_of, looks_later};
 ghost use Rattle.demangle_sink.specs.Limit.{Prints, Ready};
@@ -32,7 +32,8 @@ pub fn render<S: TextSink>(
     requires ascii { IsAscii symbol.now }
     requires lies { LiesIn symbol.now stretch.now }
     requires ready { Ready S.TextSink out.old }
-    ensures prints { Prints S.TextSink out.old (texts_of symbol.now plain stretch.now) result out.new }
+    ensures prints { Prints S.TextSink out.old (texts_of symbol.now plain stretch.now) result
+        out.new }
     ensures grows { looks.old ≤ looks.new }
     ensures most { looks.new ≤ looks.old + looks_later stretch.now }
 {

@@ -1,4 +1,4 @@
-//! What one step of the machine hands over.
+//! What one step hands over, but for a mark.
 use crate::grammar::Mark;
 use demangle_symbol::cursor::{Ident, Part};
 

@@ -1,16 +1,17 @@
-//! What the machine hands over, step by step.
+//! What is handed over, step by step.
 ghost use Rattle.std.specs.Prelude.{◌≡◌, ◌-◌, [], ◌++◌, length, Some, true, false};
 ghost use Rattle.std.proofs.Common.{sym, ap, ◌∙◌};
 ghost use Rattle.std.proofs.lemmas.List.{append-nil, append_assoc};
+ghost use Rattle.std.specs.Str.{IsAscii};
 ghost use Rattle.demangle_sink.specs.Array.{text_of};
+ghost use Rattle.demangle_v0.specs.PointRuns.{Valid};
 
-use crate::grammar::{Entry, text};
-use crate::machine::{MOST, Machine};
-use crate::render::render;
-use crate::stretch::Stretch;
-use crate::task::Setting;
+use crate::points::frames::{FrameStack, MOST};
+use crate::points::read::Reading;
+use crate::points::skip::{is_skipped, skip};
+use crate::points::step::{resume, step};
 use demangle_sink::{ArraySink, SinkRefused, SizeLimitedFmtAdapter, TextSink};
-use demangle_symbol::cursor::{Looks, MAX_DEPTH, Symbol};
+use demangle_symbol::cursor::{Looks, Symbol};
 use std::test::Fail;
 
 /// Keeps the text that it took, and counts the nonempty pieces.
@@ -56,53 +57,66 @@ impl TextSink for CountingSink {
     ghost took_joined = { λ s t u xs ys h k. k ∙ (ap (λ z. z ++ ys) h ∙ append_assoc (text_of s.text) xs ys) };
 }
 
-/// Whether a step that hands over this stretch may add this text in so many nonempty pieces.
-fn is_of_one_step(stretch: Stretch, added: &str, pieces: usize) -> bool {
-    match stretch {
-        Stretch::Nothing => added.is_empty() && pieces == 0,
-        Stretch::Fixed(mark) => added == text(mark) && pieces <= 1,
-        _ => pieces <= 1,
-    }
-}
-
-/// Whether the steps of the machine, each by itself, print a symbol so.
+/// Whether the steps of a printing hand over at most one piece each, and all of them this text.
 fn steps_print(inner: &str, wanted: &str) -> bool {
     let symbol = Symbol::new(inner);
     let mut looks = Looks::new();
     if !symbol.is_ascii(&mut looks) {
         return false;
     }
-    let setting = Setting {
-        output: true,
-        value: true,
-        lifetimes: 0,
-    };
-    let mut machine: Machine<MOST> = Machine::begun(Entry::Path, MAX_DEPTH as u16, setting, 0);
+    let mut row: FrameStack<MOST> = FrameStack::new();
+    let mut reading = Reading::of_path(0);
     let mut sink = CountingSink::new();
-    while machine.has_room() {
-        let Some(()) = machine.advance(&symbol, &mut looks) else {
-            break;
-        };
-        let (from, pieces) = (sink.text.as_str().len(), sink.pieces);
-        if sink.is_failed() {
-            return false;
+    for _ in 0..200_000 {
+        let before = sink.pieces;
+        match goes_on(&symbol, &mut reading, &mut row, &mut sink, &mut looks) {
+            Some(false) => {}
+            Some(true) => return sink.text.as_str() == wanted,
+            None => return false,
         }
-        let mut out = SizeLimitedFmtAdapter::new(&mut sink, 1_000_000);
-        if render(&symbol, machine.stretch(), false, &mut out, &mut looks).is_err() {
-            return false;
-        }
-        let Some(added) = sink.text.as_str().get(from..) else {
-            return false;
-        };
-        if !is_of_one_step(
-            *machine.stretch(),
-            added,
-            sink.pieces.saturating_sub(pieces),
-        ) {
+        if sink.pieces.saturating_sub(before) > 1 {
             return false;
         }
     }
-    sink.text.as_str() == wanted
+    false
+}
+
+/// Does one step, or reads over the own path of an impl: whether nothing is left, if it was not
+/// refused.
+fn goes_on(
+    symbol: &Symbol<'_>,
+    reading: &mut Reading,
+    row: &mut FrameStack<MOST>,
+    sink: &mut CountingSink,
+    looks: &mut Looks,
+) -> Option<bool>
+    requires ascii { IsAscii symbol.now }
+    requires valid { Valid reading.old.point reading.old.state row.old }
+    ensures valid { result ≡ Some false → Valid reading.new.point reading.new.state row.new }
+{
+    if row.len() >= MOST || sink.is_failed() {
+        return None;
+    }
+    let Some(at) = resume(0, reading.point, &mut reading.state, row) else {
+        return Some(true);
+    };
+    reading.point = at;
+    if is_skipped(at) {
+        let base = row.len();
+        let own = reading.own_path();
+        return match skip(symbol, false, base, own, reading, row, looks) {
+            None => Some(false),
+            Some(_) => None,
+        };
+    }
+    let mut out = SizeLimitedFmtAdapter::new(sink, 1_000_000);
+    match step(symbol, at, false, &mut reading.state, row, &mut out, looks) {
+        Ok(next) => {
+            reading.point = next;
+            Some(false)
+        }
+        Err(_) => None,
+    }
 }
 
 #[test]

@@ -43,7 +43,8 @@ impl<'s> Demangle<'s> {
         requires { Ready S.TextSink out.old }
         ensures prints { Prints S.TextSink out.old (rendered self.now include_hash) result out.new }
         ensures grows { looks.old ≤ looks.new }
-        ensures most { looks.new ≤ looks.old + 100000 * (kept (rendered self.now include_hash) out.old.remaining + 1) * (length self.now + 1) }
+        ensures most { looks.new ≤ looks.old + 100000 * (kept (rendered self.now include_hash)
+            out.old.remaining + 1) * (length self.now + 1) }
         ensures least { looks.old + 1 ≤ looks.new }
     {
         print(&self.inner, include_hash, out, looks)

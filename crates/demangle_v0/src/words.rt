@@ -9,10 +9,10 @@ ghost use Rattle.demangle_v0.specs.Groups.{ident_at, hex_at, read_stretch, looks
 
 use crate::grammar::{Mark, Word};
 use crate::stretch::{Abi, Stretch};
-use crate::words::constants::{read_character, read_literal, read_number, read_sign, read_truth};
+use crate::words::constants::{read_character, read_literal, read_number, read_truth};
 use crate::words::functions::read_head;
-use crate::words::lifetimes::{read_dyn, read_lifetime, read_optional};
-use crate::words::names::{read_binding, read_crate, read_disambiguator, read_field, read_nested};
+use crate::words::lifetimes::{read_dyn, read_lifetime};
+use crate::words::names::{read_binding, read_crate, read_field, read_nested};
 use demangle_symbol::cursor::{Ident, Looks, Part, Symbol};
 
 mod constants;
@@ -29,7 +29,7 @@ pub enum WordRead {
     Stops(Stretch),
 }
 
-/// Reads a word. The note is the production's tag, or the letter of the namespace.
+/// Reads a word. The note is the tag of a number, or the letter of a namespace.
 #[inline(always)]
 pub fn read_word(
     symbol: &Symbol<'_>,
@@ -42,7 +42,8 @@ pub fn read_word(
 ) -> WordRead
     ensures value { result ≡ (word_group symbol.now word note output lifetimes place).reads }
     ensures grows { looks.old ≤ looks.new }
-    ensures looks { looks.new + looks_later (read_stretch result) ≤ looks.old + total (word_group symbol.now word note output lifetimes place).costs }
+    ensures looks { looks.new + looks_later (read_stretch result) ≤ looks.old + total (word_group
+        symbol.now word note output lifetimes place).costs }
     ensures lies { LiesIn symbol.now (read_stretch result) }
 {
     let Some(at) = place else {
@@ -53,13 +54,9 @@ pub fn read_word(
         Word::NestedName => read_nested(symbol, note, at, looks),
         Word::FieldName => read_field(symbol, at, looks),
         Word::BindingName => read_binding(symbol, at, looks),
-        Word::Disambiguator => read_disambiguator(symbol, at, looks),
         Word::LifetimeIndex => read_lifetime(symbol, output, lifetimes, at, looks),
-        Word::OptionalLifetime => read_optional(symbol, output, lifetimes, at, looks),
         Word::DynLifetime => read_dyn(symbol, output, lifetimes, at, looks),
         Word::FunctionHead => read_head(symbol, at, looks),
-        Word::Soundness => WordRead::Goes(Stretch::Nothing, place),
-        Word::Sign => read_sign(symbol, at, looks),
         Word::Number => read_number(symbol, note, at, looks),
         Word::Truth => read_truth(symbol, at, looks),
         Word::Character => read_character(symbol, at, looks),
@@ -68,6 +65,7 @@ pub fn read_word(
 }
 
 /// What a word hands over where the reading has failed.
+#[inline(always)]
 fn word_failed(word: Word) -> WordRead
     ensures value { result ≡ word_failed word }
     ensures later { looks_later (read_stretch result) ≡ 0 }
@@ -75,19 +73,20 @@ fn word_failed(word: Word) -> WordRead
 {
     match word {
         Word::NestedName => WordRead::Stops(Stretch::NestedUnread),
-        Word::OptionalLifetime | Word::Sign => WordRead::Goes(Stretch::Nothing, None),
-        Word::DynLifetime | Word::Soundness => faulty(),
+        Word::DynLifetime => faulty(),
         Word::FunctionHead => WordRead::Goes(Stretch::FunctionHead(false, Abi::Rust), None),
         _ => WordRead::Stops(Stretch::Fixed(Mark::Unread)),
     }
 }
 
+#[inline(always)]
 fn faulty() -> WordRead
     ensures { result ≡ WordRead.Stops (Stretch.Fixed Mark.Invalid) }
 {
     WordRead::Stops(Stretch::Fixed(Mark::Invalid))
 }
 
+#[inline(always)]
 fn goes(stretch: Stretch, next: usize) -> WordRead
     ensures { result ≡ WordRead.Goes stretch (Some next) }
 {
@@ -100,7 +99,8 @@ fn name(symbol: &Symbol<'_>, place: usize, looks: &mut Looks) -> Option<(Ident, 
     ensures value { result ≡ ident_at symbol.now place }
     ensures parts { IfSome result (λ r. LiesWithin symbol.now r.0) }
     ensures grows { looks.old ≤ looks.new }
-    ensures looks { MatchOption result (looks.new ≤ looks.old + 4 * (length symbol.now - place + 1)) (λ r. looks.new + name_size r.0 ≤ looks.old + 4 * (r.1 - place + 1)) }
+    ensures looks { MatchOption result (looks.new ≤ looks.old + 4 * (length symbol.now - place + 1))
+        (λ r. looks.new + name_size r.0 ≤ looks.old + 4 * (r.1 - place + 1)) }
 {
     symbol.ident(place, looks).ok()
 }
@@ -112,7 +112,8 @@ fn nibbles(symbol: &Symbol<'_>, place: usize, looks: &mut Looks) -> Option<(Part
     ensures part { IfSome result (λ r. PartIn symbol.now r.0) }
     ensures nibbles { IfSome result (λ r. HexPart symbol.now r.0) }
     ensures grows { looks.old ≤ looks.new }
-    ensures looks { MatchOption result (looks.new ≤ looks.old + (length symbol.now - place)) (λ r. looks.new ≤ looks.old + (r.1 - place)) }
+    ensures looks { MatchOption result (looks.new ≤ looks.old + (length symbol.now - place)) (λ r.
+        looks.new ≤ looks.old + (r.1 - place)) }
 {
     symbol.hex_nibbles(place, looks).ok()
 }

@@ -1,5 +1,5 @@
 //! The points of the arguments of a path.
-ghost use Rattle.std.specs.Prelude.{◌≡◌, ℕ, ◌-◌, ◌+◌, ◌<◌, ◌≤◌, List, Bool, false, Ok, Some, None, length};
+ghost use Rattle.std.specs.Prelude.{◌≡◌, ℕ, ◌-◌, ◌+◌, ◌<◌, ◌≤◌, List, Bool, false, Ok, Some, length};
 ghost use Rattle.demangle_v0.specs.Arguments.{arguments_point, argument_point, argument_place, argument_costs};
 ghost use Rattle.demangle_v0.specs.Begins.{total};
 ghost use Rattle.demangle_v0.specs.declared.points.frames.Frame.{Frame};
@@ -16,7 +16,8 @@ use demangle_symbol::cursor::{Looks, Symbol};
 #[inline(always)]
 pub(super) fn generic<V: Voice>(state: &mut State) -> Point
     requires fits { Fits Point.Generic state.old.depth_left state.old.lifetimes }
-    ensures did { (b : List ℕ) (plain : Bool) (v : V) (row : List Frame) → Did V.Voice b plain Point.Generic state.old row v (Ok result) state.new row v 0 }
+    ensures did { (b : List ℕ) (plain : Bool) (v : V) (row : List Frame) → Did V.Voice b plain
+        Point.Generic state.old row v (Ok result) state.new row v 0 }
 {
     if state.in_value {
         state.mark = Some(Mark::Colons);
@@ -30,7 +31,8 @@ pub(super) fn generic<V: Voice>(state: &mut State) -> Point
 #[inline(always)]
 pub(super) fn open_arguments<V: Voice>(state: &mut State) -> Point
     requires fits { Fits Point.OpenArguments state.old.depth_left state.old.lifetimes }
-    ensures did { (b : List ℕ) (plain : Bool) (v : V) (row : List Frame) → Did V.Voice b plain Point.OpenArguments state.old row v (Ok result) state.new row v 0 }
+    ensures did { (b : List ℕ) (plain : Bool) (v : V) (row : List Frame) → Did V.Voice b plain
+        Point.OpenArguments state.old row v (Ok result) state.new row v 0 }
 {
     state.mark = Some(Mark::Less);
     Point::FirstArgument
@@ -47,7 +49,8 @@ pub(super) fn arguments<V: Voice, const N: usize>(
 ) -> Point
     requires room { length row.old < N }
     requires fits { Fits Point.NextArgument state.old.depth_left state.old.lifetimes }
-    ensures did { (plain : Bool) (v : V) → Did V.Voice symbol.now plain (arguments_point is_first) state.old row.old v (Ok result) state.new row.new v (looks.new - looks.old) }
+    ensures did { (plain : Bool) (v : V) → Did V.Voice symbol.now plain (arguments_point is_first)
+        state.old row.old v (Ok result) state.new row.new v (looks.new - looks.old) }
     ensures grows { looks.old ≤ looks.new }
 {
     let Some(at) = state.place else {
@@ -82,7 +85,11 @@ pub(super) fn argument(
 ) -> Point
     requires place { state.old.place ≡ Some at }
     ensures point { result ≡ argument_point symbol.now at }
-    ensures state { state.new ≡ record state.old { in_value = false; place = Some (argument_place symbol.now at) } }
+    ensures state { state.new ≡ record state.old {
+      in_value = false;
+      place = Some (argument_place
+          symbol.now at);
+    } }
     ensures grows { looks.old ≤ looks.new }
     ensures looks { looks.new ≤ looks.old + total (argument_costs symbol.now at) }
     ensures few { looks.new ≤ looks.old + 2 }

@@ -1,7 +1,6 @@
 //! The points of constants.
-ghost use Rattle.std.specs.Prelude.{true, ◌≡◌, ◌==◌, ◌*◌, ℕ, ◌+◌, ◌-◌, ◌<◌, ◌≤◌, ◌++◌, [], ◌∷◌, Some, None, Ok, Err, IsOk, length, IsAscii, List, Bool, if◌then◌else◌};
-ghost use Rattle.demangle_v0.specs.ConstantLists.{first_point, second_point, next_point, element_point, close_of};
-ghost use Rattle.demangle_v0.specs.Points.{Did, DidOn, share_of, pushed_on, Fits};
+ghost use Rattle.std.specs.Prelude.{true, ◌≡◌, ◌==◌, ◌*◌, ℕ, ◌+◌, ◌-◌, ◌<◌, ◌≤◌, Some, None, Ok, Err, IsOk, length, IsAscii, List, Bool, if◌then◌else◌};
+ghost use Rattle.demangle_v0.specs.Points.{Did, DidOn, pushed_on, Fits};
 ghost use Rattle.demangle_v0.specs.Table.{constant};
 ghost use Rattle.demangle_v0.specs.PointContracts.{DidFree, brace_behind, heard_of};
 ghost use Rattle.demangle_v0.specs.Tags.{constant_of};
@@ -99,7 +98,8 @@ pub(super) fn literal<V: Voice>(
     requires ascii { V.loud ≡ true → IsAscii symbol.now }
     requires ready { V.ready voice.old }
     requires unmarked { state.old.mark ≡ None }
-    ensures did { (row : List Frame) → Did V.Voice symbol.now plain Point.Literal state.old row voice.old result state.new row voice.new (looks.new - looks.old) }
+    ensures did { (row : List Frame) → Did V.Voice symbol.now plain Point.Literal state.old row
+        voice.old result state.new row voice.new (looks.new - looks.old) }
     ensures ready { IsOk result → V.ready voice.new }
     ensures sound { (m : Mark) → result ≡ Err (Stop.Fault m) → V.ready voice.new }
     ensures grows { looks.old ≤ looks.new }
@@ -119,164 +119,13 @@ pub(super) fn number<V: Voice>(
     requires ascii { V.loud ≡ true → IsAscii symbol.now }
     requires ready { V.ready voice.old }
     requires unmarked { state.old.mark ≡ None }
-    ensures did { (row : List Frame) → Did V.Voice symbol.now plain Point.Number state.old row voice.old result state.new row voice.new (looks.new - looks.old) }
+    ensures did { (row : List Frame) → Did V.Voice symbol.now plain Point.Number state.old row
+        voice.old result state.new row voice.new (looks.new - looks.old) }
     ensures ready { IsOk result → V.ready voice.new }
     ensures sound { (m : Mark) → result ≡ Err (Stop.Fault m) → V.ready voice.new }
     ensures grows { looks.old ≤ looks.new }
 {
     last_word(symbol, Word::Number, plain, state, voice, looks)
-}
-
-/// What constants stand in, one behind the other.
-#[derive(Clone, Copy)]
-pub enum ConstantList {
-    Array,
-    Tuple,
-    TupleVariant,
-    Fields,
-}
-
-impl ConstantList {
-    /// What stands behind the last.
-    #[inline(always)]
-    fn close(self) -> Mark
-        ensures { result ≡ close_of self }
-    {
-        match self {
-            ConstantList::Array => Mark::CloseBracket,
-            ConstantList::Tuple | ConstantList::TupleVariant => Mark::CloseParen,
-            ConstantList::Fields => Mark::CloseFields,
-        }
-    }
-
-    /// What is read of each.
-    #[inline(always)]
-    fn element(self) -> Point
-        ensures { result ≡ element_point self }
-    {
-        match self {
-            ConstantList::Fields => Point::Field,
-            _ => Point::Constant,
-        }
-    }
-
-    /// Where it goes on behind the first.
-    #[inline(always)]
-    fn behind_first(self) -> Point
-        ensures { result ≡ second_point self }
-    {
-        match self {
-            ConstantList::Array => Point::NextArrayConstant,
-            ConstantList::Tuple => Point::SecondTupleConstant,
-            ConstantList::TupleVariant => Point::NextVariantConstant,
-            ConstantList::Fields => Point::NextField,
-        }
-    }
-
-    /// Where it goes on behind another.
-    #[inline(always)]
-    fn behind_next(self) -> Point
-        ensures { result ≡ next_point self }
-    {
-        match self {
-            ConstantList::Array => Point::NextArrayConstant,
-            ConstantList::Tuple => Point::NextTupleConstant,
-            ConstantList::TupleVariant => Point::NextVariantConstant,
-            ConstantList::Fields => Point::NextField,
-        }
-    }
-}
-
-/// The first constant of a list, or its end.
-#[inline(always)]
-pub(super) fn first_constant<V: Voice, const N: usize>(
-    symbol: &Symbol<'_>,
-    list: ConstantList,
-    state: &mut State,
-    row: &mut FrameStack<N>,
-    looks: &mut Looks,
-) -> Point
-    requires room { length row.old < N }
-    requires unmarked { state.old.mark ≡ None }
-    requires fits { Fits Point.Constant state.old.depth_left state.old.lifetimes }
-    ensures did { (plain : Bool) (v : V) → DidOn V.Voice symbol.now plain (share_of symbol.now plain V.loud (first_point list) state.old) 1 (8 * state.old.depth_left + 2) row.old v (Ok result) state.new row.new v (looks.new - looks.old) }
-    ensures grows { looks.old ≤ looks.new }
-{
-    let Some(at) = state.place else {
-        state.mark = Some(list.close());
-        state.is_open = false;
-        return Point::End;
-    };
-    if symbol.is_at(b'E', at, looks) {
-        state.place = Some(at + 1);
-        state.mark = Some(list.close());
-        state.is_open = false;
-        return Point::End;
-    }
-    row.push(state.frame(list.behind_first()));
-    state.in_value = true;
-    list.element()
-}
-
-/// The next constant of a list, or its end.
-#[inline(always)]
-pub(super) fn next_constant<V: Voice, const N: usize>(
-    symbol: &Symbol<'_>,
-    list: ConstantList,
-    state: &mut State,
-    row: &mut FrameStack<N>,
-    looks: &mut Looks,
-) -> Point
-    requires room { length row.old < N }
-    requires unmarked { state.old.mark ≡ None }
-    requires fits { Fits Point.Constant state.old.depth_left state.old.lifetimes }
-    ensures did { (plain : Bool) (v : V) → DidOn V.Voice symbol.now plain (share_of symbol.now plain V.loud (next_point list) state.old) 1 (8 * state.old.depth_left + 2) row.old v (Ok result) state.new row.new v (looks.new - looks.old) }
-    ensures grows { looks.old ≤ looks.new }
-{
-    let Some(at) = state.place else {
-        state.mark = Some(list.close());
-        state.is_open = false;
-        return Point::End;
-    };
-    if symbol.is_at(b'E', at, looks) {
-        state.place = Some(at + 1);
-        state.mark = Some(list.close());
-        state.is_open = false;
-        return Point::End;
-    }
-    row.push(state.frame(list.behind_next()));
-    state.mark = Some(Mark::Comma);
-    state.in_value = true;
-    list.element()
-}
-
-/// The second constant of a tuple, or its end behind the one comma.
-#[inline(always)]
-pub(super) fn second_tuple_constant<V: Voice, const N: usize>(
-    symbol: &Symbol<'_>,
-    state: &mut State,
-    row: &mut FrameStack<N>,
-    looks: &mut Looks,
-) -> Point
-    requires room { length row.old < N }
-    requires unmarked { state.old.mark ≡ None }
-    requires fits { Fits Point.SecondTupleConstant state.old.depth_left state.old.lifetimes }
-    ensures did { (plain : Bool) (v : V) → Did V.Voice symbol.now plain Point.SecondTupleConstant state.old row.old v (Ok result) state.new row.new v (looks.new - looks.old) }
-    ensures grows { looks.old ≤ looks.new }
-{
-    let Some(at) = state.place else {
-        state.mark = Some(Mark::OneComma);
-        return Point::CloseParen;
-    };
-    if symbol.is_at(b'E', at, looks) {
-        state.place = Some(at + 1);
-        state.mark = Some(Mark::OneComma);
-        return Point::CloseParen;
-    }
-    row.push(state.frame(Point::NextTupleConstant));
-    state.mark = Some(Mark::Comma);
-    state.in_value = true;
-    Point::Constant
 }
 
 /// A constant that is more than a literal stands in braces, but in value position.
@@ -286,7 +135,10 @@ fn braced<const N: usize>(constant: Point, state: &mut State, row: &mut FrameSta
     requires unmarked { state.old.mark ≡ None }
     requires fits { Fits Point.Constant state.old.depth_left state.old.lifetimes }
     ensures point { result ≡ constant }
-    ensures state { state.new ≡ record state.old { mark = if state.old.in_value then None else Some Mark.OpenBrace } }
+    ensures state { state.new ≡ record state.old {
+      mark = if state.old.in_value then None else Some
+          Mark.OpenBrace;
+    } }
     ensures row { row.new ≡ pushed_on row.old (brace_behind state.old) }
 {
     if !state.in_value {
@@ -310,7 +162,10 @@ fn signed_number<V: Voice>(
     requires ready { V.ready voice.old }
     requires unmarked { state.old.mark ≡ None }
     requires fits { Fits Point.Constant state.old.depth_left state.old.lifetimes }
-    ensures did { (row : List Frame) → DidOn V.Voice symbol.now plain (heard_of symbol.now plain V.loud (constant_of state.old.in_value tag ConstantKind.Signed) state.old) 6 (8 * state.old.depth_left + 9) row voice.old result state.new row voice.new (looks.new - looks.old) }
+    ensures did { (row : List Frame) → DidOn V.Voice symbol.now plain (heard_of symbol.now plain
+        V.loud (constant_of state.old.in_value tag ConstantKind.Signed) state.old) 6 (8 *
+        state.old.depth_left + 9) row voice.old result state.new row voice.new (looks.new -
+        looks.old) }
     ensures ready { IsOk result → V.ready voice.new }
     ensures sound { (m : Mark) → result ≡ Err (Stop.Fault m) → V.ready voice.new }
     ensures grows { looks.old ≤ looks.new }
@@ -342,7 +197,9 @@ fn shared_reference<V: Voice, const N: usize>(
     requires unmarked { state.old.mark ≡ None }
     requires room { length row.old < N }
     requires fits { Fits Point.Constant state.old.depth_left state.old.lifetimes }
-    ensures did { DidOn V.Voice symbol.now plain (heard_of symbol.now plain V.loud (constant state.old.in_value 82) state.old) 6 (8 * state.old.depth_left + 9) row.old voice.old result state.new row.new voice.new (looks.new - looks.old) }
+    ensures did { DidOn V.Voice symbol.now plain (heard_of symbol.now plain V.loud (constant
+        state.old.in_value 82) state.old) 6 (8 * state.old.depth_left + 9) row.old voice.old result
+        state.new row.new voice.new (looks.new - looks.old) }
     ensures ready { IsOk result → V.ready voice.new }
     ensures sound { (m : Mark) → result ≡ Err (Stop.Fault m) → V.ready voice.new }
     ensures grows { looks.old ≤ looks.new }
@@ -363,7 +220,9 @@ fn variant_path<V: Voice, const N: usize>(state: &mut State, row: &mut FrameStac
     requires room { length row.old < N }
     requires unmarked { state.old.mark ≡ None }
     requires fits { Fits Point.Constant state.old.depth_left state.old.lifetimes }
-    ensures did { (b : List ℕ) (plain : Bool) (v : V) (made : ℕ) → made ≤ 0 → DidOn V.Voice b plain (heard_of b plain V.loud (constant state.old.in_value 86) state.old) 6 (8 * state.old.depth_left + 9) row.old v (Ok result) state.new row.new v made }
+    ensures did { (b : List ℕ) (plain : Bool) (v : V) (made : ℕ) → made ≤ 0 → DidOn V.Voice b plain
+        (heard_of b plain V.loud (constant state.old.in_value 86) state.old) 6 (8 *
+        state.old.depth_left + 9) row.old v (Ok result) state.new row.new v made }
 {
     row.push(state.frame(Point::Variant));
     if state.in_value {
@@ -390,7 +249,9 @@ fn tagged_constant<V: Voice, const N: usize>(
     requires unmarked { state.old.mark ≡ None }
     requires room { length row.old < N }
     requires fits { Fits Point.Constant state.old.depth_left state.old.lifetimes }
-    ensures did { DidOn V.Voice symbol.now plain (heard_of symbol.now plain V.loud (constant state.old.in_value tag) state.old) 6 (8 * state.old.depth_left + 9) row.old voice.old result state.new row.new voice.new (looks.new - looks.old) }
+    ensures did { DidOn V.Voice symbol.now plain (heard_of symbol.now plain V.loud (constant
+        state.old.in_value tag) state.old) 6 (8 * state.old.depth_left + 9) row.old voice.old result
+        state.new row.new voice.new (looks.new - looks.old) }
     ensures ready { IsOk result → V.ready voice.new }
     ensures sound { (m : Mark) → result ≡ Err (Stop.Fault m) → V.ready voice.new }
     ensures grows { looks.old ≤ looks.new }
@@ -436,7 +297,8 @@ pub(super) fn constant<V: Voice, const N: usize>(
     requires unmarked { state.old.mark ≡ None }
     requires room { length row.old < N }
     requires fits { Fits Point.Constant state.old.depth_left state.old.lifetimes }
-    ensures did { Did V.Voice symbol.now plain Point.Constant state.old row.old voice.old result state.new row.new voice.new (looks.new - looks.old) }
+    ensures did { Did V.Voice symbol.now plain Point.Constant state.old row.old voice.old result
+        state.new row.new voice.new (looks.new - looks.old) }
     ensures ready { IsOk result → V.ready voice.new }
     ensures sound { (m : Mark) → result ≡ Err (Stop.Fault m) → V.ready voice.new }
     ensures grows { looks.old ≤ looks.new }

@@ -1,10 +1,8 @@
 //! The frames that stand behind a child, and their row.
-ghost use Rattle.arrayvec.specs.ArrayVec.{array_vec_len};
-ghost use Rattle.std.specs.Prelude.{◌≡◌, ◌^◌, ◌+◌, ◌<◌, ◌≤◌, [], ◌∷◌, ◌++◌, length, IfSome, IfNone};
+ghost use Rattle.std.specs.Prelude.{◌≡◌, ◌^◌, ◌+◌, ◌<◌, ◌≤◌, [], ◌∷◌, ◌++◌, length, take, IfSome, IfNone};
 ghost use Rattle.demangle_v0.specs.Packing.{unpacked};
 
 use crate::points::Point;
-use arrayvec::ArrayVec;
 use std::marker::Model;
 use std::mem;
 
@@ -13,7 +11,7 @@ const TWO_64: u128 = 1 << 64;
 /// What stands behind a child.
 #[derive(Clone, Copy)]
 pub struct Frame {
-    /// Where its production goes on.
+    /// Where its unit goes on.
     pub point: Point,
     /// Whether the path or constant stands in value position.
     pub in_value: bool,
@@ -38,18 +36,15 @@ struct Packed {
 
 const _: () = prove!(mem::size_of::<Packed>() == 16);
 
-impl Default for Packed {
-    fn default() -> Self {
-        Packed {
-            low: 0,
-            high: 0,
-            depth_left: 0,
-            point: Point::End,
-            in_value: false,
-            letter: 0,
-        }
-    }
-}
+/// What lies where no frame stands.
+const EMPTY: Packed = Packed {
+    low: 0,
+    high: 0,
+    depth_left: 0,
+    point: Point::End,
+    in_value: false,
+    letter: 0,
+};
 
 #[inline(always)]
 fn pack(frame: Frame) -> Packed
@@ -78,20 +73,35 @@ fn unpack(packed: Packed) -> Frame
     }
 }
 
+/// How many frames a first row holds, which is enough for all but deep symbols.
+pub const FEW: usize = 32;
+
+/// How many frames a row holds in which there is room for all that can ever stand there.
+pub const MOST: usize = 4096;
+
+/// The places of a row: a struct, since an array of structs in `FrameStack` gets `len` no proof.
+#[derive(Clone, Copy)]
+struct Places<const N: usize> {
+    frames: [Packed; N],
+}
+
 /// The frames that stand, at most `N`, the topmost last.
 #[derive(Drop)]
 pub struct FrameStack<const N: usize> {
-    frames: ArrayVec<Packed, N>,
+    places: Places<N>,
+    len: usize,
 }
 
 impl<const N: usize> Model for FrameStack<N> {
-    ghost use Rattle.std.specs.Prelude.{List, map};
+    ghost use Rattle.std.specs.Prelude.{◌≡◌, ◌≤◌, List, length, map, take};
     ghost use Rattle.demangle_v0.specs.declared.points.frames.Frame.{Frame};
     ghost use Rattle.demangle_v0.specs.Packing.{unpacked};
 
     ghost Value = { List Frame };
 
-    ghost view = { λ row. map unpacked row.frames.items };
+    ghost view = { λ row. map unpacked (take row.len row.places.frames) };
+
+    ghost invariant = { λ row. (row.len ≤ N) × (length row.places.frames ≡ N) };
 }
 
 impl<const N: usize> FrameStack<N> {
@@ -100,7 +110,8 @@ impl<const N: usize> FrameStack<N> {
         ensures { result ≡ [] }
     {
         FrameStack {
-            frames: ArrayVec::new(),
+            places: Places { frames: [EMPTY; N] },
+            len: 0,
         }
     }
 
@@ -108,7 +119,7 @@ impl<const N: usize> FrameStack<N> {
     pub fn len(&self) -> usize
         ensures { result ≡ length self.now }
     {
-        self.frames.len()
+        self.len
     }
 
     #[inline(always)]
@@ -117,7 +128,8 @@ impl<const N: usize> FrameStack<N> {
         ensures pushed { frame.number < 2 ^ 80 → self.new ≡ self.old ++ frame ∷ [] }
         ensures length { length self.new ≡ length self.old + 1 }
     {
-        self.frames.push(pack(frame));
+        self.places.frames[self.len] = pack(frame);
+        self.len += 1;
     }
 
     /// Puts all frames of another row on top.
@@ -125,7 +137,19 @@ impl<const N: usize> FrameStack<N> {
         requires room { length self.old + length other.now ≤ N }
         ensures { self.new ≡ self.old ++ other.now }
     {
-        let _ = self.frames.try_extend_from_slice(other.frames.as_slice());
+        let end = self.len + other.len;
+        let to = &mut self.places.frames[..];
+        to[self.len..end].copy_from_slice(&other.places.frames[..other.len]);
+        self.len = end;
+    }
+
+    /// Keeps so many frames, those at the bottom.
+    pub fn truncate(&mut self, count: usize)
+        ensures { self.new ≡ take count self.old }
+    {
+        if count < self.len {
+            self.len = count;
+        }
     }
 
     #[inline(always)]
@@ -134,7 +158,10 @@ impl<const N: usize> FrameStack<N> {
         ensures none { IfNone result (self.old ≡ []) }
         ensures same { IfNone result (self.new ≡ self.old) }
     {
-        let frame = self.frames.pop()?;
-        Some(unpack(frame))
+        if self.len == 0 {
+            return None;
+        }
+        self.len -= 1;
+        Some(unpack(self.places.frames[self.len]))
     }
 }

@@ -1,5 +1,5 @@
 //! The points of function types, and binders.
-ghost use Rattle.std.specs.Prelude.{◌≡◌, ℕ, ◌+◌, ◌-◌, ◌*◌, ◌^◌, ◌<◌, ◌≤◌, List, Bool, Some, None, Ok, Err, IsOk, IsErr, OnOk, IsAscii, length, true, false, if◌then◌else◌, [], ◌∷◌};
+ghost use Rattle.std.specs.Prelude.{◌≡◌, ℕ, ◌+◌, ◌-◌, ◌^◌, ◌<◌, ◌≤◌, List, Bool, Some, None, Ok, Err, IsOk, OnOk, IsAscii, length, true, false, if◌then◌else◌, []};
 ghost use Rattle.demangle_v0.specs.Binders.{binder_texts};
 ghost use Rattle.demangle_v0.specs.Events.{of};
 ghost use Rattle.demangle_v0.specs.Groups.{texts_of};
@@ -53,7 +53,8 @@ pub(super) fn function_binder<V: Voice>(
     requires ready { V.ready voice.old }
     requires unmarked { state.old.mark ≡ None }
     requires fits { Fits Point.FunctionBinder state.old.depth_left state.old.lifetimes }
-    ensures did { (row : List Frame) → Did V.Voice symbol.now plain Point.FunctionBinder state.old row voice.old result state.new row voice.new (looks.new - looks.old) }
+    ensures did { (row : List Frame) → Did V.Voice symbol.now plain Point.FunctionBinder state.old
+        row voice.old result state.new row voice.new (looks.new - looks.old) }
     ensures ready { IsOk result → V.ready voice.new }
     ensures sound { (m : Mark) → result ≡ Err (Stop.Fault m) → V.ready voice.new }
     ensures grows { looks.old ≤ looks.new }
@@ -95,7 +96,8 @@ pub(super) fn function_head<V: Voice>(
     requires ready { V.ready voice.old }
     requires unmarked { state.old.mark ≡ None }
     requires fits { Fits Point.FunctionHead state.old.depth_left state.old.lifetimes }
-    ensures did { (row : List Frame) → Did V.Voice symbol.now plain Point.FunctionHead state.old row voice.old result state.new row voice.new (looks.new - looks.old) }
+    ensures did { (row : List Frame) → Did V.Voice symbol.now plain Point.FunctionHead state.old row
+        voice.old result state.new row voice.new (looks.new - looks.old) }
     ensures ready { IsOk result → V.ready voice.new }
     ensures sound { (m : Mark) → result ≡ Err (Stop.Fault m) → V.ready voice.new }
     ensures grows { looks.old ≤ looks.new }
@@ -126,7 +128,8 @@ pub(super) fn function_head<V: Voice>(
 #[inline(always)]
 pub(super) fn open_parameters<V: Voice>(state: &mut State) -> Point
     requires fits { Fits Point.OpenParameters state.old.depth_left state.old.lifetimes }
-    ensures did { (b : List ℕ) (plain : Bool) (v : V) (row : List Frame) → Did V.Voice b plain Point.OpenParameters state.old row v (Ok result) state.new row v 0 }
+    ensures did { (b : List ℕ) (plain : Bool) (v : V) (row : List Frame) → Did V.Voice b plain
+        Point.OpenParameters state.old row v (Ok result) state.new row v 0 }
 {
     state.mark = Some(Mark::Function);
     Point::FirstParameter
@@ -151,7 +154,9 @@ pub(super) fn parameter<V: Voice, const N: usize>(
 ) -> Point
     requires room { length row.old < N }
     requires fits { Fits Point.NextParameter state.old.depth_left state.old.lifetimes }
-    ensures did { (plain : Bool) (v : V) → Did V.Voice symbol.now plain (if is_first then Point.FirstParameter else Point.NextParameter) state.old row.old v (Ok result) state.new row.new v (looks.new - looks.old) }
+    ensures did { (plain : Bool) (v : V) → Did V.Voice symbol.now plain (if is_first then
+        Point.FirstParameter else Point.NextParameter) state.old row.old v (Ok result) state.new
+        row.new v (looks.new - looks.old) }
     ensures grows { looks.old ≤ looks.new }
 {
     if is_over(symbol, &mut state.place, looks) {
@@ -168,7 +173,8 @@ pub(super) fn parameter<V: Voice, const N: usize>(
 pub(super) fn returns<V: Voice>(symbol: &Symbol<'_>, state: &mut State, looks: &mut Looks) -> Point
     requires unmarked { state.old.mark ≡ None }
     requires fits { Fits Point.Returns state.old.depth_left state.old.lifetimes }
-    ensures did { (plain : Bool) (v : V) (row : List Frame) → Did V.Voice symbol.now plain Point.Returns state.old row v (Ok result) state.new row v (looks.new - looks.old) }
+    ensures did { (plain : Bool) (v : V) (row : List Frame) → Did V.Voice symbol.now plain
+        Point.Returns state.old row v (Ok result) state.new row v (looks.new - looks.old) }
     ensures grows { looks.old ≤ looks.new }
 {
     let Some(at) = state.place else {

@@ -1,5 +1,5 @@
 //! Paths of impls, and of what implements a trait.
-ghost use Rattle.std.specs.Prelude.{◌≡◌, ℕ, ◌+◌, ◌-◌, ◌*◌, ◌<◌, ◌≤◌, None, Ok, Err, length, Bool, List};
+ghost use Rattle.std.specs.Prelude.{◌≡◌, ℕ, ◌+◌, ◌-◌, ◌*◌, ◌<◌, ◌≤◌, false, None, Ok, Err, length, Bool, List};
 ghost use Rattle.demangle_v0.specs.Events.{of};
 ghost use Rattle.demangle_v0.specs.Impls.{impl_items, skip_point, self_point};
 ghost use Rattle.demangle_v0.specs.Points.{Did, DidOn, Fits, around, closing};
@@ -21,7 +21,10 @@ pub(super) fn impl_path<V: Voice>(
 ) -> Result<Point, Stop>
     requires unmarked { state.old.mark ≡ None }
     requires fits { Fits Point.Path state.old.depth_left state.old.lifetimes }
-    ensures did { (plain : Bool) (v : V) (row : List Frame) → DidOn V.Voice symbol.now plain (closing (of plain V.loud (run (impl_items of_trait) (around symbol.now V.loud state.old.depth_left state.old.lifetimes) state.old.place))) 1 (8 * state.old.depth_left + 2) row v result state.new row v (looks.new - looks.old) }
+    ensures did { (plain : Bool) (v : V) (row : List Frame) → DidOn V.Voice symbol.now plain
+        (closing (of plain V.loud (run (impl_items of_trait) (around symbol.now V.loud
+        state.old.depth_left state.old.lifetimes) state.old.place))) 1 (8 * state.old.depth_left +
+        2) row v result state.new row v (looks.new - looks.old) }
     ensures grows { looks.old ≤ looks.new }
 {
     let Some(at) = state.place else {
@@ -37,22 +40,20 @@ pub(super) fn impl_path<V: Voice>(
     Ok(Point::InherentPath)
 }
 
-/// The impl's own path, which is not printed. A voice that speaks leaves it to the loop.
+/// The impl's own path, where nothing is printed. Where something is, the loop skips it.
 #[inline(always)]
 pub(super) fn skipped_path<V: Voice, const N: usize>(
     of_trait: bool,
     state: &mut State,
     row: &mut FrameStack<N>,
-    voice: &V,
-) -> Result<Point, Stop>
+) -> Point
+    requires silent { V.loud ≡ false }
     requires unmarked { state.old.mark ≡ None }
     requires room { length row.old < N }
     requires fits { Fits Point.Path state.old.depth_left state.old.lifetimes }
-    ensures did { (b : List ℕ) (plain : Bool) (v : V) → Did V.Voice b plain (skip_point of_trait) state.old row.old v result state.new row.new v 0 }
+    ensures did { (b : List ℕ) (plain : Bool) (v : V) → Did V.Voice b plain (skip_point of_trait)
+        state.old row.old v (Ok result) state.new row.new v 0 }
 {
-    if voice.speaks() {
-        return Err(Stop::Uncovered);
-    }
     let frame = state.frame(Point::InherentType);
     state.in_value = false;
     if of_trait {
@@ -60,10 +61,10 @@ pub(super) fn skipped_path<V: Voice, const N: usize>(
             point: Point::SelfType,
             ..frame
         });
-        return Ok(Point::Path);
+        return Point::Path;
     }
     row.push(frame);
-    Ok(Point::Path)
+    Point::Path
 }
 
 /// The type that an impl is for, and that implements a trait or not.
@@ -75,7 +76,8 @@ pub(super) fn self_type<V: Voice, const N: usize>(
 ) -> Point
     requires room { length row.old < N }
     requires fits { Fits Point.Path state.old.depth_left state.old.lifetimes }
-    ensures did { (b : List ℕ) (plain : Bool) (v : V) → Did V.Voice b plain (self_point of_trait) state.old row.old v (Ok result) state.new row.new v 0 }
+    ensures did { (b : List ℕ) (plain : Bool) (v : V) → Did V.Voice b plain (self_point of_trait)
+        state.old row.old v (Ok result) state.new row.new v 0 }
 {
     state.mark = Some(Mark::Less);
     if of_trait {
@@ -94,7 +96,8 @@ pub(super) fn as_trait<V: Voice, const N: usize>(
 ) -> Point
     requires room { length row.old < N }
     requires fits { Fits Point.Path state.old.depth_left state.old.lifetimes }
-    ensures did { (b : List ℕ) (plain : Bool) (v : V) → Did V.Voice b plain Point.As state.old row.old v (Ok result) state.new row.new v 0 }
+    ensures did { (b : List ℕ) (plain : Bool) (v : V) → Did V.Voice b plain Point.As state.old
+        row.old v (Ok result) state.new row.new v 0 }
 {
     row.push(state.frame(Point::CloseAngle));
     state.mark = Some(Mark::As);
@@ -104,7 +107,8 @@ pub(super) fn as_trait<V: Voice, const N: usize>(
 
 #[inline(always)]
 pub(super) fn close_angle<V: Voice>(state: &mut State) -> Point
-    ensures did { (b : List ℕ) (plain : Bool) (v : V) (row : List Frame) → Did V.Voice b plain Point.CloseAngle state.old row v (Ok result) state.new row v 0 }
+    ensures did { (b : List ℕ) (plain : Bool) (v : V) (row : List Frame) → Did V.Voice b plain
+        Point.CloseAngle state.old row v (Ok result) state.new row v 0 }
 {
     state.mark = Some(Mark::Greater);
     state.is_open = false;

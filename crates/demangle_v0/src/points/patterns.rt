@@ -1,10 +1,10 @@
 //! The points of patterns.
-ghost use Rattle.std.specs.Prelude.{◌≡◌, ◌==◌, ◌*◌, ℕ, ◌+◌, ◌-◌, ◌<◌, ◌≤◌, ◌++◌, [], ◌∷◌, Some, None, Ok, Err, IsOk, length, IsAscii, List, Bool};
+ghost use Rattle.std.specs.Prelude.{◌≡◌, ◌==◌, ◌+◌, ◌-◌, ◌<◌, ◌≤◌, Some, None, Ok, Err, length, Bool};
 ghost use Rattle.demangle_v0.specs.PointContracts.{DidFree};
 ghost use Rattle.demangle_v0.specs.Points.{Did, Fits};
 
 use crate::grammar::Mark;
-use crate::points::frames::{Frame, FrameStack};
+use crate::points::frames::FrameStack;
 use crate::points::tags::{PatternKind, pattern_kind};
 use crate::points::voice::Voice;
 use crate::points::{Point, State, Stop};
@@ -21,7 +21,8 @@ pub(super) fn pattern<V: Voice, const N: usize>(
     requires room { length row.old < N }
     requires unmarked { state.old.mark ≡ None }
     requires fits { Fits Point.Pattern state.old.depth_left state.old.lifetimes }
-    ensures did { (plain : Bool) (v : V) → Did V.Voice symbol.now plain Point.Pattern state.old row.old v result state.new row.new v (looks.new - looks.old) }
+    ensures did { (plain : Bool) (v : V) → Did V.Voice symbol.now plain Point.Pattern state.old
+        row.old v result state.new row.new v (looks.new - looks.old) }
     ensures grows { looks.old ≤ looks.new }
 {
     let Some(at) = state.place else {
@@ -78,7 +79,8 @@ pub(super) fn next_pattern<V: Voice, const N: usize>(
     requires room { length row.old < N }
     requires unmarked { state.old.mark ≡ None }
     requires fits { Fits Point.NextPattern state.old.depth_left state.old.lifetimes }
-    ensures did { (plain : Bool) (v : V) → Did V.Voice symbol.now plain Point.NextPattern state.old row.old v result state.new row.new v (looks.new - looks.old) }
+    ensures did { (plain : Bool) (v : V) → Did V.Voice symbol.now plain Point.NextPattern state.old
+        row.old v result state.new row.new v (looks.new - looks.old) }
     ensures grows { looks.old ≤ looks.new }
 {
     let Some(at) = state.place else {

@@ -25,7 +25,11 @@ pub(super) fn follow<V: Voice, const N: usize>(
     requires room { length row.old < N }
     requires unmarked { state.old.mark ≡ None }
     requires fits { Fits Point.Path state.old.depth_left state.old.lifetimes }
-    ensures did { (plain : Bool) (v : V) (shut : Bool) (k : Kind) (value : Bool) → IsUnit symbol.now plain unit state.old.in_value state.old.letter state.old.lifetimes shut k value → DidOn V.Voice symbol.now plain (shutting shut (of plain V.loud (run (target k value) (around symbol.now V.loud state.old.depth_left state.old.lifetimes) state.old.place))) 1 (8 * state.old.depth_left + 2) row.old v result state.new row.new v (looks.new - looks.old) }
+    ensures did { (plain : Bool) (v : V) (shut : Bool) (k : Kind) (value : Bool) → IsUnit symbol.now
+        plain unit state.old.in_value state.old.letter state.old.lifetimes shut k value → DidOn
+        V.Voice symbol.now plain (shutting shut (of plain V.loud (run (target k value) (around
+        symbol.now V.loud state.old.depth_left state.old.lifetimes) state.old.place))) 1 (8 *
+        state.old.depth_left + 2) row.old v result state.new row.new v (looks.new - looks.old) }
     ensures grows { looks.old ≤ looks.new }
 {
     match refer(symbol, state.depth_left, state.place, looks) {
@@ -53,7 +57,8 @@ pub(super) fn follow<V: Voice, const N: usize>(
 pub(super) fn behind<V: Voice>(state: &mut State) -> Point
     requires unmarked { state.old.mark ≡ None }
     requires fits { Fits Point.Behind state.old.depth_left state.old.lifetimes }
-    ensures did { (b : List ℕ) (plain : Bool) (v : V) (row : List Frame) → Did V.Voice b plain Point.Behind state.old row v (Ok result) state.new row v 0 }
+    ensures did { (b : List ℕ) (plain : Bool) (v : V) (row : List Frame) → Did V.Voice b plain
+        Point.Behind state.old row v (Ok result) state.new row v 0 }
 {
     state.place = Some(state.lifetimes as usize);
     Point::End

@@ -39,7 +39,8 @@ pub(super) fn first_tuple_type<V: Voice, const N: usize>(
     requires unmarked { state.old.mark ≡ None }
     requires room { length row.old < N }
     requires fits { Fits Point.FirstTupleType state.old.depth_left state.old.lifetimes }
-    ensures did { (plain : Bool) (v : V) → Did V.Voice symbol.now plain Point.FirstTupleType state.old row.old v (Ok result) state.new row.new v (looks.new - looks.old) }
+    ensures did { (plain : Bool) (v : V) → Did V.Voice symbol.now plain Point.FirstTupleType
+        state.old row.old v (Ok result) state.new row.new v (looks.new - looks.old) }
     ensures grows { looks.old ≤ looks.new }
 {
     if is_over(symbol, &mut state.place, looks) {
@@ -61,7 +62,8 @@ pub(super) fn second_tuple_type<V: Voice, const N: usize>(
 ) -> Point
     requires room { length row.old < N }
     requires fits { Fits Point.SecondTupleType state.old.depth_left state.old.lifetimes }
-    ensures did { (plain : Bool) (v : V) → Did V.Voice symbol.now plain Point.SecondTupleType state.old row.old v (Ok result) state.new row.new v (looks.new - looks.old) }
+    ensures did { (plain : Bool) (v : V) → Did V.Voice symbol.now plain Point.SecondTupleType
+        state.old row.old v (Ok result) state.new row.new v (looks.new - looks.old) }
     ensures grows { looks.old ≤ looks.new }
 {
     if is_over(symbol, &mut state.place, looks) {
@@ -83,7 +85,8 @@ pub(super) fn next_tuple_type<V: Voice, const N: usize>(
 ) -> Point
     requires room { length row.old < N }
     requires fits { Fits Point.NextTupleType state.old.depth_left state.old.lifetimes }
-    ensures did { (plain : Bool) (v : V) → Did V.Voice symbol.now plain Point.NextTupleType state.old row.old v (Ok result) state.new row.new v (looks.new - looks.old) }
+    ensures did { (plain : Bool) (v : V) → Did V.Voice symbol.now plain Point.NextTupleType
+        state.old row.old v (Ok result) state.new row.new v (looks.new - looks.old) }
     ensures grows { looks.old ≤ looks.new }
 {
     if is_over(symbol, &mut state.place, looks) {
@@ -99,7 +102,8 @@ pub(super) fn next_tuple_type<V: Voice, const N: usize>(
 /// The end of a tuple.
 #[inline(always)]
 pub(super) fn close_paren<V: Voice>(state: &mut State) -> Point
-    ensures did { (b : List ℕ) (plain : Bool) (v : V) (row : List Frame) → Did V.Voice b plain Point.CloseParen state.old row v (Ok result) state.new row v 0 }
+    ensures did { (b : List ℕ) (plain : Bool) (v : V) (row : List Frame) → Did V.Voice b plain
+        Point.CloseParen state.old row v (Ok result) state.new row v 0 }
 {
     state.mark = Some(Mark::CloseParen);
     state.is_open = false;

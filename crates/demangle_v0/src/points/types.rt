@@ -1,11 +1,11 @@
 //! The points of types.
-ghost use Rattle.std.specs.Prelude.{◌≡◌, ℕ, ◌*◌, ◌+◌, ◌-◌, ◌<◌, ◌≤◌, List, Bool, Ok, Err, IsOk, length, IsAscii, true, false, ◌^◌, ◌++◌, [], ◌∷◌};
+ghost use Rattle.std.specs.Prelude.{if◌then◌else◌, IsTrue, ◌≡◌, ℕ, ◌*◌, ◌+◌, ◌-◌, ◌<◌, ◌≤◌, List, Bool, Ok, Err, IsOk, length, IsAscii, true, false, ◌^◌, ◌++◌, [], ◌∷◌};
+ghost use Rattle.demangle_symbol.specs.Digits.{is_byte};
 ghost use Rattle.demangle_v0.specs.Events.{of};
 ghost use Rattle.demangle_v0.specs.declared.points.frames.Frame.{Frame};
-ghost use Rattle.demangle_v0.specs.Points.{Did, DidOn, around, closing, Fits, behind_reference, lifetime_point, spaced_lifetime, frame_of};
-ghost use Rattle.demangle_v0.specs.Groups.{looks_later};
+ghost use Rattle.demangle_v0.specs.Points.{Did, DidOn, around, closing, Fits, frame_of};
 ghost use Rattle.demangle_v0.specs.Reading.{run};
-ghost use Rattle.demangle_v0.specs.Tags.{type_of, reference_to};
+ghost use Rattle.demangle_v0.specs.Tags.{type_of};
 
 use crate::grammar::{Mark, basic_mark};
 use crate::points::dyn_traits::dyn_type;
@@ -13,15 +13,41 @@ use crate::points::frames::FrameStack;
 use crate::points::functions::function_binder;
 use crate::points::references::follow;
 use crate::points::tags::{TypeKind, type_kind};
+use crate::points::type_references::reference;
 use crate::points::voice::Voice;
 use crate::points::{Point, State, Stop};
-use crate::stretch::Stretch;
 use demangle_symbol::cursor::{Looks, Symbol};
 
-/// A type.
+/// Whether a type is begun, and not only gone on with behind its `w`.
+#[inline(always)]
+pub(super) fn is_begun(point: Point) -> bool
+    ensures yes { point ≡ Point.«Type» → result ≡ true }
+    ensures no { point ≡ Point.TaggedType → result ≡ false }
+{
+    match point {
+        Point::TaggedType => false,
+        _ => true,
+    }
+}
+
+/// Whether a type that is begun at a place has a `w` before its tag.
+#[inline(always)]
+fn is_splat(symbol: &Symbol<'_>, is_begun: bool, at: usize, looks: &mut Looks) -> bool
+    ensures yes { result ≡ true → (is_begun ≡ true) × (is_byte symbol.now at 119 ≡ true) }
+    ensures no { result ≡ false → is_begun ≡ true → is_byte symbol.now at 119 ≡ false }
+    ensures grows { looks.old ≤ looks.new }
+    ensures begun { is_begun ≡ true → looks.new ≤ looks.old + 1 }
+    ensures further { is_begun ≡ false → looks.new ≤ looks.old }
+    ensures within { IsTrue result → at < 2 ^ 64 - 1 }
+{
+    is_begun && symbol.is_at(b'w', at, looks)
+}
+
+/// A type, with the `w` before its tag where it is begun.
 #[inline(always)]
 pub(super) fn type_<V: Voice, const N: usize>(
     symbol: &Symbol<'_>,
+    is_begun: bool,
     plain: bool,
     state: &mut State,
     row: &mut FrameStack<N>,
@@ -33,7 +59,8 @@ pub(super) fn type_<V: Voice, const N: usize>(
     requires unmarked { state.old.mark ≡ None }
     requires room { length row.old < N }
     requires fits { Fits Point.«Type» state.old.depth_left state.old.lifetimes }
-    ensures did { Did V.Voice symbol.now plain Point.«Type» state.old row.old voice.old result state.new row.new voice.new (looks.new - looks.old) }
+    ensures did { Did V.Voice symbol.now plain (if is_begun then Point.«Type» else Point.TaggedType)
+        state.old row.old voice.old result state.new row.new voice.new (looks.new - looks.old) }
     ensures ready { IsOk result → V.ready voice.new }
     ensures sound { (m : Mark) → result ≡ Err (Stop.Fault m) → V.ready voice.new }
     ensures grows { looks.old ≤ looks.new }
@@ -41,7 +68,7 @@ pub(super) fn type_<V: Voice, const N: usize>(
     let Some(at) = state.place else {
         return Err(Stop::Fault(Mark::Unread));
     };
-    if symbol.is_at(b'w', at, looks) {
+    if is_splat(symbol, is_begun, at, looks) {
         state.place = Some(at + 1);
         state.mark = Some(Mark::Splat);
         return Ok(Point::TaggedType);
@@ -51,7 +78,7 @@ pub(super) fn type_<V: Voice, const N: usize>(
 
 /// A type, from its tag on.
 #[inline(always)]
-pub(super) fn tagged_type<V: Voice, const N: usize>(
+fn tagged_type<V: Voice, const N: usize>(
     symbol: &Symbol<'_>,
     plain: bool,
     state: &mut State,
@@ -64,7 +91,8 @@ pub(super) fn tagged_type<V: Voice, const N: usize>(
     requires unmarked { state.old.mark ≡ None }
     requires room { length row.old < N }
     requires fits { Fits Point.TaggedType state.old.depth_left state.old.lifetimes }
-    ensures did { Did V.Voice symbol.now plain Point.TaggedType state.old row.old voice.old result state.new row.new voice.new (looks.new - looks.old) }
+    ensures did { Did V.Voice symbol.now plain Point.TaggedType state.old row.old voice.old result
+        state.new row.new voice.new (looks.new - looks.old) }
     ensures ready { IsOk result → V.ready voice.new }
     ensures sound { (m : Mark) → result ≡ Err (Stop.Fault m) → V.ready voice.new }
     ensures grows { looks.old ≤ looks.new }
@@ -94,7 +122,7 @@ pub(super) fn tagged_type<V: Voice, const N: usize>(
 }
 
 /// A type that is made of others, behind its tag.
-#[inline(always)]
+#[inline(never)]
 fn constructed_type<V: Voice, const N: usize>(
     symbol: &Symbol<'_>,
     kind: TypeKind,
@@ -109,7 +137,10 @@ fn constructed_type<V: Voice, const N: usize>(
     requires unmarked { state.old.mark ≡ None }
     requires room { length row.old < N }
     requires fits { Fits Point.FunctionBinder state.old.depth_left state.old.lifetimes }
-    ensures did { DidOn V.Voice symbol.now plain (closing (of plain V.loud (run (type_of kind) (around symbol.now V.loud state.old.depth_left state.old.lifetimes) state.old.place))) 50 (8 * state.old.depth_left + 9) row.old voice.old result state.new row.new voice.new (looks.new - looks.old) }
+    ensures did { DidOn V.Voice symbol.now plain (closing (of plain V.loud (run (type_of kind)
+        (around symbol.now V.loud state.old.depth_left state.old.lifetimes) state.old.place))) 50 (8
+        * state.old.depth_left + 9) row.old voice.old result state.new row.new voice.new (looks.new
+        - looks.old) }
     ensures ready { IsOk result → V.ready voice.new }
     ensures sound { (m : Mark) → result ≡ Err (Stop.Fault m) → V.ready voice.new }
     ensures grows { looks.old ≤ looks.new }
@@ -159,7 +190,8 @@ pub(super) fn push_printing<V: Voice, const N: usize>(
 )
     requires room { length row.old < N }
     requires small { state.now.lifetimes < 2 ^ 80 }
-    ensures loud { V.loud ≡ true → row.new ≡ row.old ++ frame_of point state.now.in_value state.now.letter state.now.depth_left state.now.lifetimes ∷ [] }
+    ensures loud { V.loud ≡ true → row.new ≡ row.old ++ frame_of point state.now.in_value
+        state.now.letter state.now.depth_left state.now.lifetimes ∷ [] }
     ensures silent { V.loud ≡ false → row.new ≡ row.old }
 {
     if voice.speaks() {
@@ -167,118 +199,12 @@ pub(super) fn push_printing<V: Voice, const N: usize>(
     }
 }
 
-/// A reference, behind its tag.
-#[inline(always)]
-fn reference<V: Voice>(
-    symbol: &Symbol<'_>,
-    is_mut: bool,
-    state: &mut State,
-    looks: &mut Looks,
-) -> Point
-    requires fits { Fits Point.«Type» state.old.depth_left state.old.lifetimes }
-    ensures did { (plain : Bool) (v : V) (row : List Frame) → DidOn V.Voice symbol.now plain (closing (of plain V.loud (run (reference_to is_mut) (around symbol.now V.loud state.old.depth_left state.old.lifetimes) state.old.place))) 50 (8 * state.old.depth_left + 9) row v (Ok result) state.new row v (looks.new - looks.old) }
-    ensures grows { looks.old ≤ looks.new }
-{
-    state.mark = Some(Mark::Ampersand);
-    let Some(at) = state.place else {
-        return referred(is_mut);
-    };
-    if !symbol.is_at(b'L', at, looks) {
-        return referred(is_mut);
-    }
-    state.place = Some(at + 1);
-    if is_mut {
-        Point::MutReferenceLifetime
-    } else {
-        Point::ReferenceLifetime
-    }
-}
-
-/// What stands behind a reference and its lifetime.
-#[inline(always)]
-fn referred(is_mut: bool) -> Point
-    ensures { result ≡ behind_reference is_mut }
-{
-    if is_mut { Point::Mutable } else { Point::Type }
-}
-
-/// The lifetime of a reference, behind its `L`.
-#[inline(always)]
-pub(super) fn reference_lifetime<V: Voice>(
-    symbol: &Symbol<'_>,
-    is_mut: bool,
-    plain: bool,
-    state: &mut State,
-    voice: &mut V,
-    looks: &mut Looks,
-) -> Result<Point, Stop>
-    requires ascii { V.loud ≡ true → IsAscii symbol.now }
-    requires ready { V.ready voice.old }
-    requires unmarked { state.old.mark ≡ None }
-    requires fits { Fits Point.«Type» state.old.depth_left state.old.lifetimes }
-    ensures did { (row : List Frame) → Did V.Voice symbol.now plain (lifetime_point is_mut) state.old row voice.old result state.new row voice.new (looks.new - looks.old) }
-    ensures ready { IsOk result → V.ready voice.new }
-    ensures sound { (m : Mark) → result ≡ Err (Stop.Fault m) → V.ready voice.new }
-    ensures grows { looks.old ≤ looks.new }
-{
-    let Some(at) = state.place else {
-        return Err(Stop::Fault(Mark::Unread));
-    };
-    let Ok((index, next)) = symbol.integer_62(at, looks) else {
-        return Err(Stop::Fault(Mark::Invalid));
-    };
-    state.place = Some(next);
-    if index == 0 || !voice.speaks() {
-        return Ok(referred(is_mut));
-    }
-    let (stretch, place) = spaced_lifetime(state.lifetimes, index, next);
-    state.place = place;
-    let Ok(()) = voice.say(symbol, &stretch, plain, looks) else {
-        return Err(Stop::Refused);
-    };
-    Ok(referred(is_mut))
-}
-
-/// A lifetime of an index above 0, and the place behind it.
-#[inline(always)]
-fn spaced_lifetime(lifetimes: u128, index: u64, next: usize) -> (Stretch, Option<usize>)
-    ensures value { result ≡ spaced_lifetime lifetimes index next }
-    ensures later { looks_later result.0 ≡ 0 }
-{
-    if u128::from(index) > lifetimes {
-        return (Stretch::SpacedFault, None);
-    }
-    (
-        Stretch::SpacedLifetime(lifetimes - u128::from(index)),
-        Some(next),
-    )
-}
-
-/// The type behind `mut `.
-#[inline(always)]
-pub(super) fn mutable<V: Voice>(state: &mut State) -> Point
-    requires fits { Fits Point.Mutable state.old.depth_left state.old.lifetimes }
-    ensures did { (b : List ℕ) (plain : Bool) (v : V) (row : List Frame) → Did V.Voice b plain Point.Mutable state.old row v (Ok result) state.new row v 0 }
-{
-    state.mark = Some(Mark::Mutable);
-    Point::Type
-}
-
-/// The type behind `const `.
-#[inline(always)]
-pub(super) fn unchanging<V: Voice>(state: &mut State) -> Point
-    requires fits { Fits Point.Unchanging state.old.depth_left state.old.lifetimes }
-    ensures did { (b : List ℕ) (plain : Bool) (v : V) (row : List Frame) → Did V.Voice b plain Point.Unchanging state.old row v (Ok result) state.new row v 0 }
-{
-    state.mark = Some(Mark::Unchanging);
-    Point::Type
-}
-
 /// The pattern of a type, behind the type.
 #[inline(always)]
 pub(super) fn pattern_is<V: Voice>(state: &mut State) -> Point
     requires fits { Fits Point.PatternIs state.old.depth_left state.old.lifetimes }
-    ensures did { (b : List ℕ) (plain : Bool) (v : V) (row : List Frame) → Did V.Voice b plain Point.PatternIs state.old row v (Ok result) state.new row v 0 }
+    ensures did { (b : List ℕ) (plain : Bool) (v : V) (row : List Frame) → Did V.Voice b plain
+        Point.PatternIs state.old row v (Ok result) state.new row v 0 }
 {
     state.mark = Some(Mark::Is);
     Point::Pattern
@@ -293,7 +219,8 @@ pub(super) fn array_length<V: Voice, const N: usize>(
 ) -> Point
     requires room { length row.old < N }
     requires fits { Fits Point.ArrayLength state.old.depth_left state.old.lifetimes }
-    ensures did { (b : List ℕ) (plain : Bool) (v : V) → Did V.Voice b plain Point.ArrayLength state.old row.old v (Ok result) state.new row.new v 0 }
+    ensures did { (b : List ℕ) (plain : Bool) (v : V) → Did V.Voice b plain Point.ArrayLength
+        state.old row.old v (Ok result) state.new row.new v 0 }
 {
     push_printing(Point::CloseBracket, state, row, voice);
     state.mark = Some(Mark::Semicolon);
@@ -303,7 +230,8 @@ pub(super) fn array_length<V: Voice, const N: usize>(
 
 #[inline(always)]
 pub(super) fn close_bracket<V: Voice>(state: &mut State) -> Point
-    ensures did { (b : List ℕ) (plain : Bool) (v : V) (row : List Frame) → Did V.Voice b plain Point.CloseBracket state.old row v (Ok result) state.new row v 0 }
+    ensures did { (b : List ℕ) (plain : Bool) (v : V) (row : List Frame) → Did V.Voice b plain
+        Point.CloseBracket state.old row v (Ok result) state.new row v 0 }
 {
     state.mark = Some(Mark::CloseBracket);
     state.is_open = false;

@@ -1,5 +1,5 @@
 //! The points of variants, and of their fields.
-ghost use Rattle.std.specs.Prelude.{true, ◌≡◌, ◌==◌, ◌*◌, ℕ, ◌+◌, ◌-◌, ◌<◌, ◌≤◌, ◌++◌, [], ◌∷◌, Some, None, Ok, Err, IsOk, length, IsAscii, List, Bool, if◌then◌else◌};
+ghost use Rattle.std.specs.Prelude.{true, ◌≡◌, ◌*◌, ℕ, ◌+◌, ◌-◌, ◌<◌, ◌≤◌, Some, None, Ok, Err, IsOk, length, IsAscii, List, Bool};
 ghost use Rattle.demangle_v0.specs.Points.{Did, DidOn, pushed_on, Fits};
 ghost use Rattle.demangle_v0.specs.PointContracts.{DidFree, brace_behind, heard_of};
 ghost use Rattle.demangle_v0.specs.Tags.{variant_of};
@@ -16,7 +16,10 @@ use demangle_symbol::cursor::{Looks, Symbol};
 #[inline(always)]
 fn unit_variant<V: Voice>(state: &mut State) -> Point
     requires unmarked { state.old.mark ≡ None }
-    ensures did { (b : List ℕ) (plain : Bool) (row : List Frame) (v : V) (made : ℕ) → made ≤ 0 → DidOn V.Voice b plain (heard_of b plain V.loud (variant_of state.old.in_value VariantKind.Unit) state.old) 5 (8 * state.old.depth_left + 3) row v (Ok result) state.new row v made }
+    ensures did { (b : List ℕ) (plain : Bool) (row : List Frame) (v : V) (made : ℕ) → made ≤ 0 →
+        DidOn V.Voice b plain (heard_of b plain V.loud (variant_of state.old.in_value
+        VariantKind.Unit) state.old) 5 (8 * state.old.depth_left + 3) row v (Ok result) state.new
+        row v made }
 {
     state.is_open = false;
     if state.in_value {
@@ -58,7 +61,8 @@ pub(super) fn variant<V: Voice, const N: usize>(
     requires room { length row.old < N }
     requires unmarked { state.old.mark ≡ None }
     requires fits { Fits Point.Variant state.old.depth_left state.old.lifetimes }
-    ensures did { (plain : Bool) (v : V) → Did V.Voice symbol.now plain Point.Variant state.old row.old v result state.new row.new v (looks.new - looks.old) }
+    ensures did { (plain : Bool) (v : V) → Did V.Voice symbol.now plain Point.Variant state.old
+        row.old v result state.new row.new v (looks.new - looks.old) }
     ensures grows { looks.old ≤ looks.new }
 {
     let Some(at) = state.place else {
@@ -91,7 +95,8 @@ pub(super) fn field<V: Voice>(
     requires ready { V.ready voice.old }
     requires unmarked { state.old.mark ≡ None }
     requires fits { Fits Point.Field state.old.depth_left state.old.lifetimes }
-    ensures did { (row : List Frame) → Did V.Voice symbol.now plain Point.Field state.old row voice.old result state.new row voice.new (looks.new - looks.old) }
+    ensures did { (row : List Frame) → Did V.Voice symbol.now plain Point.Field state.old row
+        voice.old result state.new row voice.new (looks.new - looks.old) }
     ensures ready { IsOk result → V.ready voice.new }
     ensures sound { (m : Mark) → result ≡ Err (Stop.Fault m) → V.ready voice.new }
     ensures grows { looks.old ≤ looks.new }

@@ -1,5 +1,5 @@
 //! What becomes of what is read: text, or nothing.
-ghost use Rattle.std.specs.Prelude.{◌≡◌, ◌+◌, ◌≤◌, ℕ, List, Bool, Result, Option, Some, None, Ok, true, false, IsAscii, IsOk, IsErr, OnOk};
+ghost use Rattle.std.specs.Prelude.{◌≡◌, ◌+◌, ◌≤◌, ℕ, List, Bool, Result, Ok, true, false, IsAscii, IsOk, OnOk};
 ghost use Rattle.demangle_v0.specs.Groups.{texts_of, looks_later};
 ghost use Rattle.demangle_sink.specs.Limit.{Prints, Ready};
 ghost use Rattle.demangle_v0.specs.Serving.{LiesIn};
@@ -69,10 +69,12 @@ impl Voice for Silent {
 
     ghost prints = { λ v texts result w. Unit {0} };
 
+    #[inline(always)]
     fn speaks(&self) -> bool {
         false
     }
 
+    #[inline(always)]
     fn say(
         &mut self,
         _symbol: &Symbol<'_>,
@@ -83,6 +85,7 @@ impl Voice for Silent {
         Ok(())
     }
 
+    #[inline(always)]
     fn stop(
         &mut self,
         _symbol: &Symbol<'_>,
@@ -101,10 +104,12 @@ impl<'s, S: TextSink> Voice for SizeLimitedFmtAdapter<'s, S> {
 
     ghost prints = { λ v texts result w. Prints S.TextSink v texts result w };
 
+    #[inline(always)]
     fn speaks(&self) -> bool {
         true
     }
 
+    #[inline(always)]
     fn say(
         &mut self,
         symbol: &Symbol<'_>,
@@ -115,6 +120,7 @@ impl<'s, S: TextSink> Voice for SizeLimitedFmtAdapter<'s, S> {
         render(symbol, stretch, plain, self, looks)
     }
 
+    #[inline(always)]
     fn stop(
         &mut self,
         symbol: &Symbol<'_>,

@@ -37,7 +37,8 @@ fn put_abi_name<S: TextSink>(
     requires ascii { IsAscii symbol.now }
     requires part { PartIn symbol.now name }
     requires ready { Ready S.TextSink out.old }
-    ensures prints { Prints S.TextSink out.old (hyphenated [] (slice_range symbol.now name.from name.to)) result out.new }
+    ensures prints { Prints S.TextSink out.old (hyphenated [] (slice_range symbol.now name.from
+        name.to)) result out.new }
     ensures grows { looks.old ≤ looks.new }
     ensures most { looks.new ≤ looks.old + (name.to - name.from) }
 {
@@ -63,7 +64,8 @@ fn put_extern<S: TextSink>(
     requires ascii { IsAscii symbol.now }
     requires part { PartIn symbol.now name }
     requires ready { Ready S.TextSink out.old }
-    ensures prints { Prints S.TextSink out.old (extern (slice_range symbol.now name.from name.to)) result out.new }
+    ensures prints { Prints S.TextSink out.old (extern (slice_range symbol.now name.from name.to))
+        result out.new }
     ensures grows { looks.old ≤ looks.new }
     ensures most { looks.new ≤ looks.old + (name.to - name.from) }
 {
@@ -95,6 +97,7 @@ fn put_abi<S: TextSink>(
 
 #[tactic(auto, using(demangle_sink::proofs::PrintsLemmas::prints_ready))]
 /// Puts what stands before a function's parameters.
+#[inline(never)]
 pub(super) fn put_function_head<S: TextSink>(
     symbol: &Symbol<'_>,
     is_unsafe: bool,

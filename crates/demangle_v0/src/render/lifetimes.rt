@@ -24,6 +24,7 @@ fn put_letter<S: TextSink>(
 
 #[tactic(auto, using(demangle_sink::proofs::PrintsLemmas::prints_ready))]
 /// Puts the lifetime of a number.
+#[inline(never)]
 pub(super) fn put_lifetime<S: TextSink>(
     number: u128,
     out: &mut SizeLimitedFmtAdapter<'_, S>,
@@ -37,6 +38,7 @@ pub(super) fn put_lifetime<S: TextSink>(
 
 #[tactic(auto, using(demangle_sink::proofs::PrintsLemmas::prints_ready))]
 /// Puts the lifetime of a number, and a space.
+#[inline(never)]
 pub(super) fn put_spaced_lifetime<S: TextSink>(
     number: u128,
     out: &mut SizeLimitedFmtAdapter<'_, S>,
@@ -50,6 +52,7 @@ pub(super) fn put_spaced_lifetime<S: TextSink>(
 
 #[tactic(auto, using(demangle_sink::proofs::PrintsLemmas::prints_ready))]
 /// Puts the lifetime of a number behind a text.
+#[inline(never)]
 pub(super) fn put_lifetime_behind<S: TextSink>(
     before: &str,
     number: u128,
@@ -64,6 +67,7 @@ pub(super) fn put_lifetime_behind<S: TextSink>(
 
 #[tactic(auto, using(demangle_sink::proofs::PrintsLemmas::prints_ready, demangle_sink::proofs::PrintsLemmas::prints_nothing, demangle_sink::proofs::Printed::printed_ready))]
 /// Puts the binder of so many new lifetimes, from a number on. It has none where there are none.
+#[inline(never)]
 pub(super) fn put_binder<S: TextSink>(
     first: u128,
     count: u64,

@@ -34,7 +34,8 @@ fn put_disambiguator<S: TextSink>(
 
 #[tactic(auto, using(demangle_sink::proofs::PrintsLemmas::prints_ready))]
 /// Puts the name of a crate, and its disambiguator.
-#[inline(always)]
+#[inline(never)]
+#[inline(never)]
 pub(super) fn put_crate_name<S: TextSink>(
     symbol: &Symbol<'_>,
     name: &Ident,
@@ -46,7 +47,8 @@ pub(super) fn put_crate_name<S: TextSink>(
     requires parts { LiesWithin symbol.now name.now }
     requires ascii { IsAscii symbol.now }
     requires ready { Ready S.TextSink out.old }
-    ensures prints { Prints S.TextSink out.old (crate_texts plain (name_in symbol.now name.now) number) result out.new }
+    ensures prints { Prints S.TextSink out.old (crate_texts plain (name_in symbol.now name.now)
+        number) result out.new }
     ensures grows { looks.old ≤ looks.new }
     ensures most { looks.new ≤ looks.old + name_size name.now }
 {
@@ -79,7 +81,8 @@ fn put_name_behind<S: TextSink>(
     requires parts { LiesWithin symbol.now name.now }
     requires ascii { IsAscii symbol.now }
     requires ready { Ready S.TextSink out.old }
-    ensures prints { Prints S.TextSink out.old (name_behind before.now (name_in symbol.now name.now)) result out.new }
+    ensures prints { Prints S.TextSink out.old (name_behind before.now (name_in symbol.now
+        name.now)) result out.new }
     ensures grows { looks.old ≤ looks.new }
     ensures most { looks.new ≤ looks.old + name_size name.now }
 {
@@ -133,6 +136,7 @@ fn put_ending<S: TextSink>(
 
 #[tactic(auto, using(demangle_sink::proofs::PrintsLemmas::prints_ready))]
 /// Puts a name in a special namespace, and its disambiguator.
+#[inline(never)]
 fn put_special_name<S: TextSink>(
     symbol: &Symbol<'_>,
     namespace: u8,
@@ -145,7 +149,8 @@ fn put_special_name<S: TextSink>(
     requires parts { LiesWithin symbol.now name.now }
     requires ascii { IsAscii symbol.now }
     requires ready { Ready S.TextSink out.old }
-    ensures prints { Prints S.TextSink out.old (special_texts namespace number (name_in symbol.now name.now)) result out.new }
+    ensures prints { Prints S.TextSink out.old (special_texts namespace number (name_in symbol.now
+        name.now)) result out.new }
     ensures grows { looks.old ≤ looks.new }
     ensures most { looks.new ≤ looks.old + name_size name.now }
 {
@@ -156,7 +161,8 @@ fn put_special_name<S: TextSink>(
 }
 
 /// Puts a name in a namespace: special where its letter is `A` to `Z`.
-#[inline(always)]
+#[inline(never)]
+#[inline(never)]
 pub(super) fn put_nested_name<S: TextSink>(
     symbol: &Symbol<'_>,
     namespace: u8,
@@ -168,7 +174,8 @@ pub(super) fn put_nested_name<S: TextSink>(
     requires parts { LiesWithin symbol.now name.now }
     requires ascii { IsAscii symbol.now }
     requires ready { Ready S.TextSink out.old }
-    ensures prints { Prints S.TextSink out.old (nested_texts namespace number (name_in symbol.now name.now)) result out.new }
+    ensures prints { Prints S.TextSink out.old (nested_texts namespace number (name_in symbol.now
+        name.now)) result out.new }
     ensures grows { looks.old ≤ looks.new }
     ensures most { looks.new ≤ looks.old + name_size name.now }
 {
@@ -180,6 +187,7 @@ pub(super) fn put_nested_name<S: TextSink>(
 
 #[tactic(auto, using(demangle_sink::proofs::PrintsLemmas::prints_ready))]
 /// Puts the name that a binding binds.
+#[inline(never)]
 pub(super) fn put_binding<S: TextSink>(
     symbol: &Symbol<'_>,
     name: &Ident,

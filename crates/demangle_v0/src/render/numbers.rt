@@ -9,29 +9,29 @@ ghost use Rattle.demangle_v0.specs.Stretches.{constant_texts, type_texts};
 use crate::grammar::{basic_mark, text};
 use demangle_sink::{SinkRefused, SizeLimitedFmtAdapter, TextSink};
 use demangle_symbol::cursor::{Part, Symbol};
-use demangle_symbol::literal::digit_byte;
 use itoa::Buffer;
 use std::str;
 
-// Writes the hexadecimal digits of a number at the end of some bytes: where they begin.
-fn write_hexadecimal(number: u64, text: &mut [u8; 64]) -> usize
-    ensures bound { result ≤ 64 }
+static DIGITS_16: [u8; 16] = *b"0123456789abcdef";
+
+// Writes the hexadecimal digits of a number, its leading zeros too: where the others begin.
+#[inline(always)]
+fn write_hexadecimal(number: u64, text: &mut [u8; 16]) -> usize
+    ensures bound { result ≤ 16 }
     ensures value { drop result text.new ≡ digits 16 false number }
 {
-    let mut at = 64;
+    let mut at = 16;
     let mut rest = number;
     while at > 0 {
         at -= 1;
-        text[at] = digit_byte(rest % 16);
+        text[at] = DIGITS_16[(rest % 16) as usize];
         rest /= 16;
-        if rest == 0 {
-            break;
-        }
     }
-    at
+    ((number | 1).leading_zeros() / 4) as usize
 }
 
 /// Puts a number in hexadecimal digits, as one piece.
+#[inline(always)]
 pub(super) fn put_hexadecimal<S: TextSink>(
     number: u64,
     out: &mut SizeLimitedFmtAdapter<'_, S>,
@@ -39,7 +39,7 @@ pub(super) fn put_hexadecimal<S: TextSink>(
     requires { Ready S.TextSink out.old }
     ensures { Prints S.TextSink out.old (digits 16 false number ∷ []) result out.new }
 {
-    let mut text = [0; 64];
+    let mut text = [0; 16];
     let start = write_hexadecimal(number, &mut text);
     let Ok(digits) = str::from_utf8(&text[start..]) else {
         unreachable!()
@@ -85,7 +85,8 @@ fn put_number<S: TextSink>(
     requires ascii { IsAscii symbol.now }
     requires part { PartIn symbol.now nibbles }
     requires ready { Ready S.TextSink out.old }
-    ensures { Prints S.TextSink out.old (number_texts (slice_range symbol.now nibbles.from nibbles.to) value) result out.new }
+    ensures { Prints S.TextSink out.old (number_texts (slice_range symbol.now nibbles.from
+        nibbles.to) value) result out.new }
 {
     match value {
         Some(number) => put_decimal(number, out),
@@ -114,6 +115,7 @@ fn put_type_name<S: TextSink>(
 
 #[tactic(auto, using(demangle_sink::proofs::PrintsLemmas::prints_ready))]
 /// Puts a number, and the name of its type.
+#[inline(never)]
 pub(super) fn put_number_constant<S: TextSink>(
     symbol: &Symbol<'_>,
     value: Option<u128>,
@@ -125,7 +127,8 @@ pub(super) fn put_number_constant<S: TextSink>(
     requires ascii { IsAscii symbol.now }
     requires part { PartIn symbol.now nibbles }
     requires ready { Ready S.TextSink out.old }
-    ensures { Prints S.TextSink out.old (constant_texts symbol.now plain value nibbles tag) result out.new }
+    ensures { Prints S.TextSink out.old (constant_texts symbol.now plain value nibbles tag) result
+        out.new }
 {
     put_number(symbol, value, nibbles, out)?;
     put_type_name(tag, plain, out)

@@ -10,19 +10,7 @@ use crate::words::{WordRead, faulty, goes, nibbles};
 use demangle_symbol::cursor::{Looks, Symbol};
 use demangle_symbol::literal::{character_of, is_string, truth_of};
 
-pub(super) fn read_sign(symbol: &Symbol<'_>, place: usize, looks: &mut Looks) -> WordRead
-    ensures value { result ≡ (sign_group symbol.now place).reads }
-    ensures grows { looks.old ≤ looks.new }
-    ensures looks { looks.new + looks_later (read_stretch result) ≤ looks.old + total (sign_group symbol.now place).costs }
-    ensures lies { LiesIn symbol.now (read_stretch result) }
-{
-    if symbol.is_at(b'n', place, looks) {
-        goes(Stretch::Fixed(Mark::Minus), place + 1)
-    } else {
-        goes(Stretch::Nothing, place)
-    }
-}
-
+#[inline(always)]
 pub(super) fn read_number(
     symbol: &Symbol<'_>,
     note: u8,
@@ -31,8 +19,10 @@ pub(super) fn read_number(
 ) -> WordRead
     ensures value { result ≡ (number_group symbol.now note place).reads }
     ensures grows { looks.old ≤ looks.new }
-    ensures looks { looks.new + looks_later (read_stretch result) ≤ looks.old + total (number_group symbol.now note place).costs }
-    ensures twice { IfSome (hex_at symbol.now place) (λ r. looks.new ≤ looks.old + 2 * (r.1 - place)) }
+    ensures looks { looks.new + looks_later (read_stretch result) ≤ looks.old + total (number_group
+        symbol.now note place).costs }
+    ensures twice { IfSome (hex_at symbol.now place) (λ r. looks.new ≤ looks.old + 2 * (r.1 -
+        place)) }
     ensures lies { LiesIn symbol.now (read_stretch result) }
 {
     let Some((part, next)) = nibbles(symbol, place, looks) else {
@@ -42,11 +32,14 @@ pub(super) fn read_number(
     goes(Stretch::Number(number, part, note), next)
 }
 
+#[inline(always)]
 pub(super) fn read_truth(symbol: &Symbol<'_>, place: usize, looks: &mut Looks) -> WordRead
     ensures value { result ≡ (truth_group symbol.now place).reads }
     ensures grows { looks.old ≤ looks.new }
-    ensures looks { looks.new + looks_later (read_stretch result) ≤ looks.old + total (truth_group symbol.now place).costs }
-    ensures twice { IfSome (hex_at symbol.now place) (λ r. looks.new ≤ looks.old + 2 * (r.1 - place)) }
+    ensures looks { looks.new + looks_later (read_stretch result) ≤ looks.old + total (truth_group
+        symbol.now place).costs }
+    ensures twice { IfSome (hex_at symbol.now place) (λ r. looks.new ≤ looks.old + 2 * (r.1 -
+        place)) }
     ensures lies { LiesIn symbol.now (read_stretch result) }
 {
     let Some((part, next)) = nibbles(symbol, place, looks) else {
@@ -59,11 +52,14 @@ pub(super) fn read_truth(symbol: &Symbol<'_>, place: usize, looks: &mut Looks) -
     }
 }
 
+#[inline(always)]
 pub(super) fn read_character(symbol: &Symbol<'_>, place: usize, looks: &mut Looks) -> WordRead
     ensures value { result ≡ (character_group symbol.now place).reads }
     ensures grows { looks.old ≤ looks.new }
-    ensures looks { looks.new + looks_later (read_stretch result) ≤ looks.old + total (character_group symbol.now place).costs }
-    ensures twice { IfSome (hex_at symbol.now place) (λ r. looks.new ≤ looks.old + 2 * (r.1 - place)) }
+    ensures looks { looks.new + looks_later (read_stretch result) ≤ looks.old + total
+        (character_group symbol.now place).costs }
+    ensures twice { IfSome (hex_at symbol.now place) (λ r. looks.new ≤ looks.old + 2 * (r.1 -
+        place)) }
     ensures lies { LiesIn symbol.now (read_stretch result) }
 {
     let Some((part, next)) = nibbles(symbol, place, looks) else {
@@ -75,11 +71,14 @@ pub(super) fn read_character(symbol: &Symbol<'_>, place: usize, looks: &mut Look
     }
 }
 
+#[inline(always)]
 pub(super) fn read_literal(symbol: &Symbol<'_>, place: usize, looks: &mut Looks) -> WordRead
     ensures value { result ≡ (literal_group symbol.now place).reads }
     ensures grows { looks.old ≤ looks.new }
-    ensures looks { looks.new + looks_later (read_stretch result) ≤ looks.old + total (literal_group symbol.now place).costs }
-    ensures twice { IfSome (hex_at symbol.now place) (λ r. looks.new ≤ looks.old + 2 * (r.1 - place)) }
+    ensures looks { looks.new + looks_later (read_stretch result) ≤ looks.old + total (literal_group
+        symbol.now place).costs }
+    ensures twice { IfSome (hex_at symbol.now place) (λ r. looks.new ≤ looks.old + 2 * (r.1 -
+        place)) }
     ensures lies { LiesIn symbol.now (read_stretch result) }
 {
     let Some((part, next)) = nibbles(symbol, place, looks) else {

@@ -26,7 +26,8 @@ fn abi_named(is_unsafe: bool, ident: Ident, symbol: &Symbol<'_>, next: usize) ->
 fn read_abi(symbol: &Symbol<'_>, is_unsafe: bool, place: usize, looks: &mut Looks) -> WordRead
     ensures value { result ≡ (abi_group symbol.now is_unsafe place).reads }
     ensures grows { looks.old ≤ looks.new }
-    ensures looks { looks.new + looks_later (read_stretch result) ≤ looks.old + total (abi_group symbol.now is_unsafe place).costs }
+    ensures looks { looks.new + looks_later (read_stretch result) ≤ looks.old + total (abi_group
+        symbol.now is_unsafe place).costs }
     ensures lies { LiesIn symbol.now (read_stretch result) }
 {
     if !symbol.is_at(b'K', place, looks) {
@@ -41,10 +42,12 @@ fn read_abi(symbol: &Symbol<'_>, is_unsafe: bool, place: usize, looks: &mut Look
     }
 }
 
+#[inline(always)]
 pub(super) fn read_head(symbol: &Symbol<'_>, place: usize, looks: &mut Looks) -> WordRead
     ensures value { result ≡ (head_group symbol.now place).reads }
     ensures grows { looks.old ≤ looks.new }
-    ensures looks { looks.new + looks_later (read_stretch result) ≤ looks.old + total (head_group symbol.now place).costs }
+    ensures looks { looks.new + looks_later (read_stretch result) ≤ looks.old + total (head_group
+        symbol.now place).costs }
     ensures lies { LiesIn symbol.now (read_stretch result) }
 {
     if symbol.is_at(b'U', place, looks) {

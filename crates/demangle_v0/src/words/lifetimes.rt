@@ -9,6 +9,7 @@ use crate::words::{WordRead, faulty, goes};
 use demangle_symbol::cursor::{Looks, Symbol};
 
 /// A lifetime of an index above 0, which is checked where it is printed.
+#[inline(always)]
 fn checked(
     output: bool,
     lifetimes: u128,
@@ -29,6 +30,7 @@ fn checked(
     }
 }
 
+#[inline(always)]
 pub(super) fn read_lifetime(
     symbol: &Symbol<'_>,
     output: bool,
@@ -38,7 +40,8 @@ pub(super) fn read_lifetime(
 ) -> WordRead
     ensures value { result ≡ (lifetime_group symbol.now output lifetimes place).reads }
     ensures grows { looks.old ≤ looks.new }
-    ensures looks { looks.new + looks_later (read_stretch result) ≤ looks.old + total (lifetime_group symbol.now output lifetimes place).costs }
+    ensures looks { looks.new + looks_later (read_stretch result) ≤ looks.old + total
+        (lifetime_group symbol.now output lifetimes place).costs }
     ensures lies { LiesIn symbol.now (read_stretch result) }
 {
     let Ok((index, next)) = symbol.integer_62(place, looks) else {
@@ -59,32 +62,7 @@ pub(super) fn read_lifetime(
     )
 }
 
-pub(super) fn read_optional(
-    symbol: &Symbol<'_>,
-    output: bool,
-    lifetimes: u128,
-    place: usize,
-    looks: &mut Looks,
-) -> WordRead
-    ensures value { result ≡ (optional_group symbol.now output lifetimes place).reads }
-    ensures grows { looks.old ≤ looks.new }
-    ensures looks { looks.new + looks_later (read_stretch result) ≤ looks.old + total (optional_group symbol.now output lifetimes place).costs }
-    ensures lies { LiesIn symbol.now (read_stretch result) }
-{
-    if !symbol.is_at(b'L', place, looks) {
-        return goes(Stretch::Nothing, place);
-    }
-    let Ok((index, next)) = symbol.integer_62(place + 1, looks) else {
-        return faulty();
-    };
-    if index == 0 {
-        return goes(Stretch::Nothing, next);
-    }
-    let number = lifetimes.saturating_sub(u128::from(index));
-    let named = Stretch::SpacedLifetime(number);
-    checked(output, lifetimes, index, next, named, Stretch::SpacedFault)
-}
-
+#[inline(always)]
 pub(super) fn read_dyn(
     symbol: &Symbol<'_>,
     output: bool,
@@ -94,7 +72,8 @@ pub(super) fn read_dyn(
 ) -> WordRead
     ensures value { result ≡ (dyn_group symbol.now output lifetimes place).reads }
     ensures grows { looks.old ≤ looks.new }
-    ensures looks { looks.new + looks_later (read_stretch result) ≤ looks.old + total (dyn_group symbol.now output lifetimes place).costs }
+    ensures looks { looks.new + looks_later (read_stretch result) ≤ looks.old + total (dyn_group
+        symbol.now output lifetimes place).costs }
     ensures lies { LiesIn symbol.now (read_stretch result) }
 {
     if !symbol.is_at(b'L', place, looks) {

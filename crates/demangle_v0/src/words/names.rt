@@ -9,10 +9,12 @@ use crate::words::{WordRead, faulty, goes, name};
 use demangle_symbol::cursor::{Looks, Symbol};
 
 #[inline(always)]
+#[inline(always)]
 pub(super) fn read_crate(symbol: &Symbol<'_>, place: usize, looks: &mut Looks) -> WordRead
     ensures value { result ≡ (crate_group symbol.now place).reads }
     ensures grows { looks.old ≤ looks.new }
-    ensures looks { looks.new + looks_later (read_stretch result) ≤ looks.old + total (crate_group symbol.now place).costs }
+    ensures looks { looks.new + looks_later (read_stretch result) ≤ looks.old + total (crate_group
+        symbol.now place).costs }
     ensures lies { LiesIn symbol.now (read_stretch result) }
 {
     let Ok((number, at)) = symbol.disambiguator(place, looks) else {
@@ -25,6 +27,7 @@ pub(super) fn read_crate(symbol: &Symbol<'_>, place: usize, looks: &mut Looks) -
 }
 
 #[inline(always)]
+#[inline(always)]
 pub(super) fn read_nested(
     symbol: &Symbol<'_>,
     note: u8,
@@ -33,7 +36,8 @@ pub(super) fn read_nested(
 ) -> WordRead
     ensures value { result ≡ (nested_group symbol.now note place).reads }
     ensures grows { looks.old ≤ looks.new }
-    ensures looks { looks.new + looks_later (read_stretch result) ≤ looks.old + total (nested_group symbol.now note place).costs }
+    ensures looks { looks.new + looks_later (read_stretch result) ≤ looks.old + total (nested_group
+        symbol.now note place).costs }
     ensures lies { LiesIn symbol.now (read_stretch result) }
 {
     let Ok((number, at)) = symbol.disambiguator(place, looks) else {
@@ -45,10 +49,12 @@ pub(super) fn read_nested(
     goes(Stretch::NestedName(note, number, ident), next)
 }
 
+#[inline(always)]
 pub(super) fn read_field(symbol: &Symbol<'_>, place: usize, looks: &mut Looks) -> WordRead
     ensures value { result ≡ (field_group symbol.now place).reads }
     ensures grows { looks.old ≤ looks.new }
-    ensures looks { looks.new + looks_later (read_stretch result) ≤ looks.old + total (field_group symbol.now place).costs }
+    ensures looks { looks.new + looks_later (read_stretch result) ≤ looks.old + total (field_group
+        symbol.now place).costs }
     ensures lies { LiesIn symbol.now (read_stretch result) }
 {
     let Ok((_, at)) = symbol.disambiguator(place, looks) else {
@@ -60,26 +66,16 @@ pub(super) fn read_field(symbol: &Symbol<'_>, place: usize, looks: &mut Looks) -
     goes(Stretch::FieldName(ident), next)
 }
 
+#[inline(always)]
 pub(super) fn read_binding(symbol: &Symbol<'_>, place: usize, looks: &mut Looks) -> WordRead
     ensures value { result ≡ (binding_group symbol.now place).reads }
     ensures grows { looks.old ≤ looks.new }
-    ensures looks { looks.new + looks_later (read_stretch result) ≤ looks.old + total (binding_group symbol.now place).costs }
+    ensures looks { looks.new + looks_later (read_stretch result) ≤ looks.old + total (binding_group
+        symbol.now place).costs }
     ensures lies { LiesIn symbol.now (read_stretch result) }
 {
     match name(symbol, place, looks) {
         Some((ident, next)) => goes(Stretch::BindingName(ident), next),
         None => faulty(),
-    }
-}
-
-pub(super) fn read_disambiguator(symbol: &Symbol<'_>, place: usize, looks: &mut Looks) -> WordRead
-    ensures value { result ≡ (disambiguator_group symbol.now place).reads }
-    ensures grows { looks.old ≤ looks.new }
-    ensures looks { looks.new + looks_later (read_stretch result) ≤ looks.old + total (disambiguator_group symbol.now place).costs }
-    ensures lies { LiesIn symbol.now (read_stretch result) }
-{
-    match symbol.disambiguator(place, looks) {
-        Ok((_, next)) => goes(Stretch::Nothing, next),
-        Err(_) => faulty(),
     }
 }

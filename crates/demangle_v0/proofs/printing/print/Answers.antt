@@ -1,87 +1,46 @@
-use Rattle.std.proofs.Common.{arith}
-use Rattle.demangle_v0.proofs.Progressing.{reached_start, reached_all}
+use Rattle.std.proofs.Common.{arith, [], ◌-◌}
+use Rattle.demangle_v0.specs.PointRuns.{first_state}
+use Rattle.demangle_v0.specs.declared.points.Point.TheVariants as point
+use Rattle.demangle_v0.proofs.PointWholes.{valid_first}
+use Rattle.demangle_v0.proofs.PointPrints.{ran_begun, ended_all, ended_err, prints_so, prints_most}
 use Rattle.demangle_v0.proofs.printing.print.Goals as goal
+
+pub print_on-requires : goal.print_on-requires
+print_on-requires g c = (omega arith, (c.requires.ascii, (c.requires.ready, rw (c.of_path-reading.ensures, c.new-row.ensures) (valid_first 0))))
 
 pub returns-in_err-print_on-clause-prints : goal.returns-in_err-print_on-clause-prints
 returns-in_err-print_on-clause-prints g c =
-    let m = c.begun-machine.ensures in
-    let first = reached_start g.S.TextSink c.args.symbol.now c.args.include_hash _ c.args.looks.now _ _ _ c.requires.ready m.tasks m.place (m.owed c.args.symbol.now c.args.include_hash) in
-    let end = c.in_err-print_on.ensures.stopped _ _ first c.from_residual.result c.from_residual.ensures.0 in
-    end.prints
-
-pub returns-in_err-print_on-clause-grows : goal.returns-in_err-print_on-clause-grows
-returns-in_err-print_on-clause-grows g c =
-    let m = c.begun-machine.ensures in
-    let first = reached_start g.S.TextSink c.args.symbol.now c.args.include_hash _ c.args.looks.now _ _ _ c.requires.ready m.tasks m.place (m.owed c.args.symbol.now c.args.include_hash) in
-    let end = c.in_err-print_on.ensures.stopped _ _ first c.from_residual.result c.from_residual.ensures.0 in
-    omega (arith, end.least)
-
-pub returns-in_err-print_on-clause-least : goal.returns-in_err-print_on-clause-least
-returns-in_err-print_on-clause-least g c =
-    let m = c.begun-machine.ensures in
-    let first = reached_start g.S.TextSink c.args.symbol.now c.args.include_hash _ c.args.looks.now _ _ _ c.requires.ready m.tasks m.place (m.owed c.args.symbol.now c.args.include_hash) in
-    let end = c.in_err-print_on.ensures.stopped _ _ first c.from_residual.result c.from_residual.ensures.0 in
-    end.least
+    prints_so g.S.TextSink c.args.symbol.now c.args.include_hash _ _ _ _ c.requires.ready
+    (ended_err g.S.TextSink c.args.symbol.now c.args.include_hash _ _ _ _ _ _ _ _ _ _ _ 0 (c.print_on.new.looks - c.args.looks.now) (c.print_on.new.looks - c.args.looks.now) _ _ (omega arith) c.from_residual.ensures.0
+    (ran_begun g.S.TextSink c.args.symbol.now c.args.include_hash point.Path (first_state 0) [] c.args.out.now) (rw (c.of_path-reading.ensures, c.new-row.ensures) at c.in_err-print_on.ensures.ran))
 
 pub returns-in_err-print_on-clause-most : goal.returns-in_err-print_on-clause-most
 returns-in_err-print_on-clause-most g c =
-    let m = c.begun-machine.ensures in
-    let first = reached_start g.S.TextSink c.args.symbol.now c.args.include_hash _ c.args.looks.now _ _ _ c.requires.ready m.tasks m.place (m.owed c.args.symbol.now c.args.include_hash) in
-    let end = c.in_err-print_on.ensures.stopped _ _ first c.from_residual.result c.from_residual.ensures.0 in
-    end.most
+    let m = prints_most g.S.TextSink c.args.symbol.now c.args.include_hash _ _ _ c.from_residual.result c.requires.ready
+    (ended_err g.S.TextSink c.args.symbol.now c.args.include_hash _ _ _ _ _ _ _ _ _ _ _ 0 (c.print_on.new.looks - c.args.looks.now) (c.print_on.new.looks - c.args.looks.now) _ _ (omega arith) c.from_residual.ensures.0
+    (ran_begun g.S.TextSink c.args.symbol.now c.args.include_hash point.Path (first_state 0) [] c.args.out.now) (rw (c.of_path-reading.ensures, c.new-row.ensures) at c.in_err-print_on.ensures.ran)) in
+    omega (arith, m, c.in_err-print_on.ensures.grows)
 
-pub returns-then-branch-clause-prints : goal.returns-then-branch-clause-prints
-returns-then-branch-clause-prints g c =
-    let m = c.begun-machine.ensures in
-    let first = reached_start g.S.TextSink c.args.symbol.now c.args.include_hash _ c.args.looks.now _ _ _ c.requires.ready m.tasks m.place (m.owed c.args.symbol.now c.args.include_hash) in
-    let end = reached_all g.S.TextSink c.args.symbol.now c.args.include_hash _ _ c.args.looks.now _ _ _ _ (c.in_ok-print_on.ensures.reached _ _ first) (c.in_ok-print_on.ensures.done c.if-branch.true) in
-    end.prints
+pub returns-in-None-clause-prints : goal.returns-in-None-clause-prints
+returns-in-None-clause-prints g c =
+    prints_so g.S.TextSink c.args.symbol.now c.args.include_hash _ _ _ _ c.requires.ready
+    (ended_all g.S.TextSink c.args.symbol.now c.args.include_hash _ _ _ _ _ _ _ _ _ _ _ 0 (c.print_on.new.looks - c.args.looks.now) (c.print_on.new.looks - c.args.looks.now) _ (omega arith)
+    (ran_begun g.S.TextSink c.args.symbol.now c.args.include_hash point.Path (first_state 0) [] c.args.out.now) (rw (c.of_path-reading.ensures, c.new-row.ensures) at c.in_ok-print_on.ensures.ran) c.in-None.is)
 
-pub returns-then-branch-clause-grows : goal.returns-then-branch-clause-grows
-returns-then-branch-clause-grows g c =
-    let m = c.begun-machine.ensures in
-    let first = reached_start g.S.TextSink c.args.symbol.now c.args.include_hash _ c.args.looks.now _ _ _ c.requires.ready m.tasks m.place (m.owed c.args.symbol.now c.args.include_hash) in
-    let end = reached_all g.S.TextSink c.args.symbol.now c.args.include_hash _ _ c.args.looks.now _ _ _ _ (c.in_ok-print_on.ensures.reached _ _ first) (c.in_ok-print_on.ensures.done c.if-branch.true) in
-    omega (arith, end.least)
+pub returns-in-None-clause-most : goal.returns-in-None-clause-most
+returns-in-None-clause-most g c =
+    let m = prints_most g.S.TextSink c.args.symbol.now c.args.include_hash _ _ _ _ c.requires.ready
+    (ended_all g.S.TextSink c.args.symbol.now c.args.include_hash _ _ _ _ _ _ _ _ _ _ _ 0 (c.print_on.new.looks - c.args.looks.now) (c.print_on.new.looks - c.args.looks.now) _ (omega arith)
+    (ran_begun g.S.TextSink c.args.symbol.now c.args.include_hash point.Path (first_state 0) [] c.args.out.now) (rw (c.of_path-reading.ensures, c.new-row.ensures) at c.in_ok-print_on.ensures.ran) c.in-None.is) in
+    omega (arith, m, c.in_ok-print_on.ensures.grows)
 
-pub returns-then-branch-clause-least : goal.returns-then-branch-clause-least
-returns-then-branch-clause-least g c =
-    let m = c.begun-machine.ensures in
-    let first = reached_start g.S.TextSink c.args.symbol.now c.args.include_hash _ c.args.looks.now _ _ _ c.requires.ready m.tasks m.place (m.owed c.args.symbol.now c.args.include_hash) in
-    let end = reached_all g.S.TextSink c.args.symbol.now c.args.include_hash _ _ c.args.looks.now _ _ _ _ (c.in_ok-print_on.ensures.reached _ _ first) (c.in_ok-print_on.ensures.done c.if-branch.true) in
-    end.least
+pub returns-in-Some-clause-prints : goal.returns-in-Some-clause-prints
+returns-in-Some-clause-prints g c =
+    prints_so g.S.TextSink c.args.symbol.now c.args.include_hash _ _ _ _ c.requires.ready
+    (c.print_rest.ensures.ended point.Path (first_state 0) [] c.args.out.now (c.print_on.new.looks - c.args.looks.now) (rw (c.in-Some.is, c.of_path-reading.ensures, c.new-row.ensures) at c.in_ok-print_on.ensures.ran))
 
-pub returns-then-branch-clause-most : goal.returns-then-branch-clause-most
-returns-then-branch-clause-most g c =
-    let m = c.begun-machine.ensures in
-    let first = reached_start g.S.TextSink c.args.symbol.now c.args.include_hash _ c.args.looks.now _ _ _ c.requires.ready m.tasks m.place (m.owed c.args.symbol.now c.args.include_hash) in
-    let end = reached_all g.S.TextSink c.args.symbol.now c.args.include_hash _ _ c.args.looks.now _ _ _ _ (c.in_ok-print_on.ensures.reached _ _ first) (c.in_ok-print_on.ensures.done c.if-branch.true) in
-    end.most
-
-pub returns-clause-prints : goal.returns-clause-prints
-returns-clause-prints g c =
-    let m = c.begun-machine.ensures in
-    let first = reached_start g.S.TextSink c.args.symbol.now c.args.include_hash _ c.args.looks.now _ _ _ c.requires.ready m.tasks m.place (m.owed c.args.symbol.now c.args.include_hash) in
-    let end = c.print_rest.ensures _ _ (c.in_ok-print_on.ensures.reached _ _ first) in
-    end.prints
-
-pub returns-clause-grows : goal.returns-clause-grows
-returns-clause-grows g c =
-    let m = c.begun-machine.ensures in
-    let first = reached_start g.S.TextSink c.args.symbol.now c.args.include_hash _ c.args.looks.now _ _ _ c.requires.ready m.tasks m.place (m.owed c.args.symbol.now c.args.include_hash) in
-    let end = c.print_rest.ensures _ _ (c.in_ok-print_on.ensures.reached _ _ first) in
-    omega (arith, end.least)
-
-pub returns-clause-least : goal.returns-clause-least
-returns-clause-least g c =
-    let m = c.begun-machine.ensures in
-    let first = reached_start g.S.TextSink c.args.symbol.now c.args.include_hash _ c.args.looks.now _ _ _ c.requires.ready m.tasks m.place (m.owed c.args.symbol.now c.args.include_hash) in
-    let end = c.print_rest.ensures _ _ (c.in_ok-print_on.ensures.reached _ _ first) in
-    end.least
-
-pub returns-clause-most : goal.returns-clause-most
-returns-clause-most g c =
-    let m = c.begun-machine.ensures in
-    let first = reached_start g.S.TextSink c.args.symbol.now c.args.include_hash _ c.args.looks.now _ _ _ c.requires.ready m.tasks m.place (m.owed c.args.symbol.now c.args.include_hash) in
-    let end = c.print_rest.ensures _ _ (c.in_ok-print_on.ensures.reached _ _ first) in
-    end.most
+pub returns-in-Some-clause-most : goal.returns-in-Some-clause-most
+returns-in-Some-clause-most g c =
+    let m = prints_most g.S.TextSink c.args.symbol.now c.args.include_hash _ _ _ _ c.requires.ready
+    (c.print_rest.ensures.ended point.Path (first_state 0) [] c.args.out.now (c.print_on.new.looks - c.args.looks.now) (rw (c.in-Some.is, c.of_path-reading.ensures, c.new-row.ensures) at c.in_ok-print_on.ensures.ran)) in
+    omega (arith, m, c.in_ok-print_on.ensures.grows, c.print_rest.ensures.grows)

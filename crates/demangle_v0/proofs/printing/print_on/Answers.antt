@@ -1,44 +1,67 @@
-use Rattle.std.proofs.Common.{refl, arith}
-use Rattle.demangle_v0.proofs.Hearing.{has_room_length}
-use Rattle.demangle_sink.proofs.PrintsLemmas.{prints_ready}
-use Rattle.demangle_v0.proofs.Progressing.{on_err, reached_step, reached_refused, reached_none}
+use Rattle.std.proofs.Common.{arith, refl, sym, ◌∙◌, ◌-◌, ◌+◌}
+use Rattle.demangle_v0.proofs.PointRuns.{valid_resumes, resumes_length, valid_steps, turn_less, first_resumes}
+use Rattle.demangle_v0.proofs.PointPrints.{ran_resumes, ran_turn, ran_fail, ran_midway, turn_skips}
+use Rattle.demangle_v0.proofs.PointSkips.{skip_is, skip_unread, own_stands, own_reads, skipped_stands, skipping, turn_skipped}
 use Rattle.demangle_v0.proofs.printing.print_on.Goals as goal
 
-pub loop-machine-init : goal.loop-machine-init
-loop-machine-init g c = record { ready = c.requires.ready; reached = λ from start r. r }
+pub skip-requires : goal.skip-requires
+skip-requires g c =
+    (omega arith, own_stands _ _ _ _ (sym c.is_skipped.ensures ∙ c.if-is_skipped.true) c.own_path-own.ensures (valid_resumes _ _ _ _ _ _ _ c.steps.invariant.valid c.in-Some.ensures.some))
 
-pub render-requires-clause-lies : goal.render-requires-clause-lies
-render-requires-clause-lies g c = rw c.stretch.ensures c.in-Some.ensures.some.lies
+pub returns-in-Some-skip-clause-valid : goal.returns-in-Some-skip-clause-valid
+returns-in-Some-skip-clause-valid g c =
+    let reads = c.in-Some-skip.ensures.midway c.resume.new.row 0 (own_reads c.args.symbol.now c.args.include_hash c.resume.new.state c.resume.new.row _ c.own_path-own.ensures) (sym c.len-base.ensures) in (
+      0 + (c.skip.new.looks - c.steps.looks),
+      skipping c.args.symbol.now c.args.include_hash _ _ _ _ _ _ _ _ (sym c.is_skipped.ensures ∙ c.if-is_skipped.true) c.in-Some-skip.ensures.same c.len-base.ensures (valid_resumes _ _ _ _ _ _ _ c.steps.invariant.valid c.in-Some.ensures.some) reads,
+      c.in-Some-skip.ensures.valid,
+      c.in-Some-skip.ensures.full,
+    )
 
-pub loop-machine-preserved : goal.loop-machine-preserved
-loop-machine-preserved g c = record {
-  ready = prints_ready g.S.TextSink _ _ _ _ c.in_ok-render.ensures.prints refl;
-  reached = λ from start r.
-      reached_step g.S.TextSink c.args.symbol.now c.args.include_hash from _ _ start _ _ _ _ _ _ _ _ _ _ (c.loop-machine.invariant.reached from start r)
-      c.in-Some.ensures.some c.in-Some.ensures.least c.in_ok-render.ensures.grows (rw c.stretch.ensures at c.in_ok-render.ensures.most) (rw c.stretch.ensures at c.in_ok-render.ensures.prints);
+pub returns-in-Some-skip-clause-ran : goal.returns-in-Some-skip-clause-ran
+returns-in-Some-skip-clause-ran g c =
+    let reads = c.in-Some-skip.ensures.midway c.resume.new.row 0 (own_reads c.args.symbol.now c.args.include_hash c.resume.new.state c.resume.new.row _ c.own_path-own.ensures) (sym c.len-base.ensures) in
+    ran_midway g.S.TextSink c.args.symbol.now c.args.include_hash _ _ _ _ _ _ _ _ _ _ _ _ (c.steps.looks - c.args.looks.now) _ _ (sym c.is_skipped.ensures ∙ c.if-is_skipped.true) c.in-Some-skip.ensures.same c.len-base.ensures
+    (valid_resumes _ _ _ _ _ _ _ c.steps.invariant.valid c.in-Some.ensures.some) reads
+    (ran_resumes g.S.TextSink c.args.symbol.now c.args.include_hash _ _ _ _ _ _ _ _ _ _ _ _ _ c.steps.invariant.ran c.in-Some.ensures.some) (omega (arith, c.steps.invariant.grows, c.in-Some-skip.ensures.grows))
+
+pub steps-smaller-then-is_skipped : goal.steps-smaller-then-is_skipped
+steps-smaller-then-is_skipped g c =
+    let k = skip_is _ (sym c.is_skipped.ensures ∙ c.if-is_skipped.true) in
+    turn_skipped c.args.symbol.now c.args.include_hash _ _ _ _ _ _ _ _ _ _ _ k c.in-Some.ensures.some
+    (c.in_default-skip.ensures.behind c.resume.new.row k.0 0 (own_reads c.args.symbol.now c.args.include_hash c.resume.new.state c.resume.new.row _ c.own_path-own.ensures) (sym c.len-base.ensures) k.1)
+
+pub steps-preserved-then-is_skipped : goal.steps-preserved-then-is_skipped
+steps-preserved-then-is_skipped g c =
+    let skips = sym c.is_skipped.ensures ∙ c.if-is_skipped.true in
+    let k = skip_is _ skips in
+    let z = c.in_default-skip.ensures.behind c.resume.new.row k.0 0 (own_reads c.args.symbol.now c.args.include_hash c.resume.new.state c.resume.new.row _ c.own_path-own.ensures) (sym c.len-base.ensures) k.1 in
+    record {
+      ready = c.steps.invariant.ready;
+      valid = skipped_stands c.args.symbol.now c.args.include_hash _ _ _ _ _ _ _ k z (valid_resumes _ _ _ _ _ _ _ c.steps.invariant.valid c.in-Some.ensures.some);
+      ran = turn_skips g.S.TextSink c.args.symbol.now c.args.include_hash _ _ _ _ _ _ _ _ _ _ _ _ _ _ _ (c.steps.looks - c.args.looks.now) _ _ k c.steps.invariant.ran c.in-Some.ensures.some z (omega (arith, c.steps.invariant.grows, c.in_default-skip.ensures.grows));
+      grows = omega (arith, c.steps.invariant.grows, c.in_default-skip.ensures.grows);
+      least = omega (arith, c.steps.invariant.least, c.in_default-skip.ensures.grows, first_resumes _ _ _ _ _ _ _ c.in-Some.ensures.some, skip_unread _ c.resume.new.state skips);
+    }
+
+pub step-requires : goal.step-requires
+step-requires g c =
+    let v = valid_resumes _ _ _ _ _ _ _ c.steps.invariant.valid c.in-Some.ensures.some in
+    (omega arith, (λ z. c.requires.ascii, (c.steps.invariant.ready, (v.unmarked, (omega (arith, resumes_length _ _ _ _ _ _ _ c.in-Some.ensures.some, c.steps-test.true, c.len.ensures), (v.fits, λ z. sym c.is_skipped.ensures ∙ c.if-is_skipped.false))))))
+
+pub returns-in_err-point-clause-ran : goal.returns-in_err-point-clause-ran
+returns-in_err-point-clause-ran g c =
+    ran_fail g.S.TextSink _ c.args.symbol.now c.args.include_hash (λ v w ts r p. p) refl _ _ _ _ _ _ _ _ _ _ _ _ _ _ _ (c.steps.looks - c.args.looks.now) (c.step.new.looks - c.steps.looks) _ _ _ _ _ c.from_residual.ensures.0 c.steps.invariant.ran c.in-Some.ensures.some c.in_err-point.ensures.stepped
+    (omega (arith, c.steps.invariant.grows, c.in_err-point.ensures.grows))
+
+pub steps-smaller : goal.steps-smaller
+steps-smaller g c = turn_less _ c.args.symbol.now c.args.include_hash _ _ _ _ _ _ _ _ _ _ _ _ _ c.in-Some.ensures.some c.in_ok-point.ensures.stepped
+
+pub steps-preserved : goal.steps-preserved
+steps-preserved g c = record {
+  ready = c.in_ok-point.ensures.ready refl;
+  valid = valid_steps _ c.args.symbol.now c.args.include_hash _ _ _ _ _ _ _ _ _ (valid_resumes _ _ _ _ _ _ _ c.steps.invariant.valid c.in-Some.ensures.some) c.in_ok-point.ensures.stepped;
+  ran = ran_turn g.S.TextSink _ c.args.symbol.now c.args.include_hash (λ v w ts r p. p) refl _ _ _ _ _ _ _ _ _ _ _ _ _ _ _ _ (c.steps.looks - c.args.looks.now) (c.step.new.looks - c.steps.looks) _ c.steps.invariant.ran c.in-Some.ensures.some c.in_ok-point.ensures.stepped
+      (omega (arith, c.steps.invariant.grows, c.in_ok-point.ensures.grows));
+  grows = omega (arith, c.steps.invariant.grows, c.in_ok-point.ensures.grows);
+  least = omega (arith, c.steps.invariant.least, c.in_ok-point.ensures.least, first_resumes _ _ _ _ _ _ _ c.in-Some.ensures.some);
 }
-
-pub returns-in_default-clause-reached : goal.returns-in_default-clause-reached
-returns-in_default-clause-reached g c = λ from start r.
-    let d = c.in_default.ensures in
-    reached_none g.S.TextSink c.args.symbol.now c.args.include_hash from _ start _ _ _ _ _ _ _ _ (c.loop-machine.invariant.reached from start r) d.none d.same d.place d.no_looks
-
-pub returns-in_err-render-clause-stopped : goal.returns-in_err-render-clause-stopped
-returns-in_err-render-clause-stopped g c = λ from start r. on_err c.from_residual.result
-    (reached_refused g.S.TextSink c.args.symbol.now c.args.include_hash from _ _ start _ _ _ _ _ _ _ _ _ _ _ (c.loop-machine.invariant.reached from start r)
-    c.in-Some.ensures.some c.in-Some.ensures.least c.in_err-render.ensures.grows (rw c.stretch.ensures at c.in_err-render.ensures.most) (rw c.stretch.ensures at c.in_err-render.ensures.prints))
-
-pub returns-in_default-clause-ready : goal.returns-in_default-clause-ready
-returns-in_default-clause-ready g c = c.loop-machine.invariant.ready
-
-pub render-requires-clause-ready : goal.render-requires-clause-ready
-render-requires-clause-ready g c = c.loop-machine.invariant.ready
-
-pub returns-clause-ready : goal.returns-clause-ready
-returns-clause-ready g c = c.loop-machine.invariant.ready
-
-pub returns-clause-reached : goal.returns-clause-reached
-returns-clause-reached g c = c.loop-machine.invariant.reached
-
-pub returns-clause-ends : goal.returns-clause-ends
-returns-clause-ends g c = λ few. absurd (omega (arith, few, has_room_length 4008 _ c.loop-machine.machine.room, c.has_room.ensures.no c.loop-machine-test.false))

@@ -1,17 +1,17 @@
-use Rattle.std.proofs.Common.{ℕ}
+use Rattle.std.proofs.Common.{◌-◌, ◌+◌, ◌≤◌, true}
 use Rattle.demangle_sink.specs.Limit.{Ready}
-use Rattle.demangle_v0.specs.Progress.{Reached}
-use Rattle.demangle_v0.specs.Shares.{measure}
-use Rattle.demangle_sink.specs.declared.limit.SizeLimitedFmtAdapter.{SizeLimitedFmtAdapter}
+use Rattle.demangle_v0.specs.Points.{measure}
+use Rattle.demangle_v0.specs.PointRuns.{Valid, Ran, first_looks}
 use Rattle.demangle_v0.proofs.printing.print_on.Given as goal
 
-abbrev pub invariant-loop-machine : goal.invariant-loop-machine
-invariant-loop-machine g l = record {
+abbrev pub invariant-steps : goal.invariant-steps
+invariant-steps g l = record {
   ready : Ready g.S.TextSink l.out;
-  reached : (from : SizeLimitedFmtAdapter g.row.S.Denot) (start : ℕ) →
-      Reached g.S.TextSink l.symbol l.include_hash from start l.initial.out l.initial.looks l.initial.machine.work.tasks l.initial.machine.work.place l.initial.machine.work.is_open →
-      Reached g.S.TextSink l.symbol l.include_hash from start l.out l.looks l.machine.work.tasks l.machine.work.place l.machine.work.is_open;
+  valid : Valid l.point l.state l.row;
+  ran : Ran g.S.TextSink l.symbol l.include_hash l.initial.reading.point l.initial.reading.state l.initial.row l.initial.out l.point l.state l.row l.out (l.looks - l.initial.looks);
+  grows : l.initial.looks ≤ l.looks;
+  least : l.initial.looks + first_looks l.initial.reading.point l.initial.reading.state ≤ l.looks + first_looks l.point l.state;
 }
 
-abbrev pub decreases-loop-machine : goal.decreases-loop-machine
-decreases-loop-machine g l = measure l.symbol l.machine.work.tasks l.machine.work.place l.machine.work.is_open
+abbrev pub decreases-steps : goal.decreases-steps
+decreases-steps g l = measure l.symbol l.include_hash true l.point l.state l.row

@@ -1,4 +1,5 @@
+use Rattle.demangle_v0.proofs.PointWholes.{valid_first}
 use Rattle.demangle_v0.proofs.tests.steps_print.Goals as goal
 
-pub render-requires-clause-lies : goal.render-requires-clause-lies
-render-requires-clause-lies c = rw c.stretch.ensures c.in-Some.ensures.some.lies
+pub loop-init : goal.loop-init
+loop-init c = record { valid = rw (c.of_path-reading.ensures, c.new-row.ensures) (valid_first 0) }

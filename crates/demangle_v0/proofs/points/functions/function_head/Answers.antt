@@ -1,8 +1,8 @@
-use Rattle.std.proofs.Common.{arith, refl, ◌-◌, ◌+◌, ◌*◌}
+use Rattle.std.proofs.Common.{arith, refl, ◌+◌, ◌*◌}
 use Rattle.demangle_v0.specs.Points.{share_at}
 use Rattle.demangle_v0.specs.declared.points.Point.TheVariants as point
 use Rattle.demangle_v0.specs.declared.grammar.Word.TheVariants as word
-use Rattle.demangle_v0.proofs.PointFunctions.{parameters, open_share, word_on, word_bare, word_on_refused, word_stops, word_stop_refused}
+use Rattle.demangle_v0.proofs.PointFunctions.{parameters, word_on, word_bare, word_on_refused, word_stops, word_stop_refused}
 use Rattle.demangle_v0.proofs.points.functions.function_head.Goals as goal
 
 pub returns-then-is_bare-clause-did : goal.returns-then-is_bare-clause-did

@@ -9,5 +9,5 @@ pub unreachable-requires : goal.unreachable-requires
 unreachable-requires g c =
     let start = c.write_hexadecimal-start.result in
     let text = c.write_hexadecimal-start.new.text in
-    let all : take (64 - start) (drop start text) ≡ drop start text = take_all _ _ (omega (arith, length-drop start text, c.write_hexadecimal-start.array_long)) in
+    let all : take (16 - start) (drop start text) ≡ drop start text = take_all _ _ (omega (arith, length-drop start text, c.write_hexadecimal-start.array_long)) in
     c.in_default.ensures.cases.0 (subst IsUtf8 (sym (all ∙ c.write_hexadecimal-start.ensures.value)) (IsUtf8-from_ascii _ (hex_ascii c.args.number)))

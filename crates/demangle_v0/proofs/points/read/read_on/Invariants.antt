@@ -1,0 +1,15 @@
+use Rattle.std.proofs.Common.{◌≡◌, ◌++◌, ◌-◌, ◌≤◌, List, length, false}
+use Rattle.demangle_v0.specs.Points.{AllInner, measure}
+use Rattle.demangle_v0.specs.PointRuns.{Valid, Reads}
+use Rattle.demangle_v0.specs.declared.points.frames.Frame.{Frame}
+use Rattle.demangle_v0.proofs.points.read.read_on.Given as goal
+
+abbrev pub invariant-steps : goal.invariant-steps
+invariant-steps g l = record {
+  valid : Valid l.point l.state l.row;
+  reads : (below above : List Frame) → l.initial.row ≡ below ++ above → length below ≡ l.base → AllInner above → Reads l.symbol l.plain below l.initial.reading.point l.initial.reading.state above l.point l.state l.row (l.looks - l.initial.looks);
+  grows : l.initial.looks ≤ l.looks;
+}
+
+abbrev pub decreases-steps : goal.decreases-steps
+decreases-steps g l = measure l.symbol l.plain false l.point l.state l.row

@@ -1,0 +1,148 @@
+//! The bindings of a dyn trait path.
+ghost use Rattle.std.specs.Prelude.{◌≡◌, ◌+◌, ◌-◌, ◌*◌, ◌<◌, ◌≤◌, List, Bool, Some, None, Ok, Err, IsOk, IsAscii, length, true, false, if◌then◌else◌};
+ghost use Rattle.demangle_v0.specs.Events.{of};
+ghost use Rattle.demangle_v0.specs.Points.{Did, DidOn, Fits, around, closing, bindings_left};
+ghost use Rattle.demangle_v0.specs.Reading.{run};
+
+use crate::grammar::{Mark, Word};
+use crate::points::frames::{Frame, FrameStack};
+use crate::points::voice::Voice;
+use crate::points::{Point, State, Stop, word_at};
+use crate::words::WordRead;
+use demangle_symbol::cursor::{Looks, Symbol};
+
+/// What bindings print at their end.
+#[inline(always)]
+fn end_mark(is_open: bool) -> Option<Mark>
+    ensures { result ≡ (if is_open then Some Mark.Greater else None) }
+{
+    if is_open { Some(Mark::Greater) } else { None }
+}
+
+/// What a binding prints first.
+#[inline(always)]
+fn first_mark(is_open: bool) -> Mark
+    ensures { result ≡ (if is_open then Mark.Comma else Mark.Less) }
+{
+    if is_open { Mark::Comma } else { Mark::Less }
+}
+
+/// A binding, where the bracket is open or not, or their end.
+#[inline(always)]
+fn binding<V: Voice>(
+    symbol: &Symbol<'_>,
+    is_open: bool,
+    state: &mut State,
+    looks: &mut Looks,
+) -> Point
+    requires fits { Fits Point.Bindings state.old.depth_left state.old.lifetimes }
+    ensures did { (plain : Bool) (v : V) (row : List Frame) → DidOn V.Voice symbol.now plain
+        (closing (of plain V.loud (run (bindings_left is_open) (around symbol.now V.loud
+        state.old.depth_left state.old.lifetimes) state.old.place))) 2 (8 * state.old.depth_left +
+        4) row v (Ok result) state.new row v (looks.new - looks.old) }
+    ensures grows { looks.old ≤ looks.new }
+{
+    let Some(at) = state.place else {
+        state.mark = end_mark(is_open);
+        state.is_open = false;
+        return Point::End;
+    };
+    if !symbol.is_at(b'p', at, looks) {
+        state.mark = end_mark(is_open);
+        return Point::NextDynTrait;
+    }
+    state.place = Some(at + 1);
+    state.mark = Some(first_mark(is_open));
+    Point::BindingName
+}
+
+/// The bindings of a dyn trait path that was read.
+#[inline(always)]
+pub(super) fn bindings<V: Voice>(symbol: &Symbol<'_>, state: &mut State, looks: &mut Looks) -> Point
+    requires fits { Fits Point.Bindings state.old.depth_left state.old.lifetimes }
+    ensures did { (plain : Bool) (v : V) (row : List Frame) → Did V.Voice symbol.now plain
+        Point.Bindings state.old row v (Ok result) state.new row v (looks.new - looks.old) }
+    ensures grows { looks.old ≤ looks.new }
+{
+    binding::<V>(symbol, state.is_open, state, looks)
+}
+
+/// Further bindings, or their end.
+#[inline(always)]
+pub(super) fn open_bindings<V: Voice>(
+    symbol: &Symbol<'_>,
+    state: &mut State,
+    looks: &mut Looks,
+) -> Point
+    requires fits { Fits Point.OpenBindings state.old.depth_left state.old.lifetimes }
+    ensures did { (plain : Bool) (v : V) (row : List Frame) → Did V.Voice symbol.now plain
+        Point.OpenBindings state.old row v (Ok result) state.new row v (looks.new - looks.old) }
+    ensures grows { looks.old ≤ looks.new }
+{
+    binding::<V>(symbol, true, state, looks)
+}
+
+/// The name of a binding.
+#[inline(always)]
+pub(super) fn binding_name<V: Voice>(
+    symbol: &Symbol<'_>,
+    plain: bool,
+    state: &mut State,
+    voice: &mut V,
+    looks: &mut Looks,
+) -> Result<Point, Stop>
+    requires ascii { V.loud ≡ true → IsAscii symbol.now }
+    requires ready { V.ready voice.old }
+    requires unmarked { state.old.mark ≡ None }
+    requires fits { Fits Point.BindingName state.old.depth_left state.old.lifetimes }
+    ensures did { (row : List Frame) → Did V.Voice symbol.now plain Point.BindingName state.old row
+        voice.old result state.new row voice.new (looks.new - looks.old) }
+    ensures ready { IsOk result → V.ready voice.new }
+    ensures sound { (m : Mark) → result ≡ Err (Stop.Fault m) → V.ready voice.new }
+    ensures grows { looks.old ≤ looks.new }
+{
+    match word_at(symbol, Word::BindingName, state, voice, looks) {
+        WordRead::Goes(name, next) => {
+            state.place = next;
+            let Ok(()) = voice.say(symbol, &name, plain, looks) else {
+                return Err(Stop::Refused);
+            };
+            Ok(Point::Bound)
+        }
+        WordRead::Stops(stretch) => {
+            state.place = None;
+            state.is_open = false;
+            let Ok(()) = voice.stop(symbol, &stretch, plain, looks) else {
+                return Err(Stop::Refused);
+            };
+            Ok(Point::End)
+        }
+    }
+}
+
+/// What a binding binds: a constant or a type.
+#[inline(always)]
+pub(super) fn bound<V: Voice, const N: usize>(
+    symbol: &Symbol<'_>,
+    state: &mut State,
+    row: &mut FrameStack<N>,
+    looks: &mut Looks,
+) -> Point
+    requires unmarked { state.old.mark ≡ None }
+    requires room { length row.old < N }
+    requires fits { Fits Point.Bound state.old.depth_left state.old.lifetimes }
+    ensures did { (plain : Bool) (v : V) → Did V.Voice symbol.now plain Point.Bound state.old
+        row.old v (Ok result) state.new row.new v (looks.new - looks.old) }
+    ensures grows { looks.old ≤ looks.new }
+{
+    row.push(state.frame(Point::OpenBindings));
+    state.in_value = false;
+    let Some(at) = state.place else {
+        return Point::Type;
+    };
+    if symbol.is_at(b'K', at, looks) {
+        state.place = Some(at + 1);
+        return Point::Constant;
+    }
+    Point::Type
+}

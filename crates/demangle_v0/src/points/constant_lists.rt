@@ -1,0 +1,168 @@
+//! The lists of constants.
+ghost use Rattle.std.specs.Prelude.{true, ◌≡◌, ◌*◌, ◌+◌, ◌-◌, ◌<◌, ◌≤◌, Some, None, Ok, length, Bool};
+ghost use Rattle.demangle_v0.specs.ConstantLists.{first_point, second_point, next_point, element_point, close_of};
+ghost use Rattle.demangle_v0.specs.Points.{Did, DidOn, share_of, Fits};
+ghost use Rattle.demangle_v0.specs.Table.{constant};
+
+use crate::grammar::Mark;
+use crate::points::frames::FrameStack;
+use crate::points::voice::Voice;
+use crate::points::{Point, State};
+use demangle_symbol::cursor::{Looks, Symbol};
+
+/// What constants stand in, one behind the other.
+#[derive(Clone, Copy)]
+pub enum ConstantList {
+    Array,
+    Tuple,
+    TupleVariant,
+    Fields,
+}
+
+impl ConstantList {
+    /// What stands behind the last.
+    #[inline(always)]
+    fn close(self) -> Mark
+        ensures { result ≡ close_of self }
+    {
+        match self {
+            ConstantList::Array => Mark::CloseBracket,
+            ConstantList::Tuple | ConstantList::TupleVariant => Mark::CloseParen,
+            ConstantList::Fields => Mark::CloseFields,
+        }
+    }
+
+    /// What is read of each.
+    #[inline(always)]
+    fn element(self) -> Point
+        ensures { result ≡ element_point self }
+    {
+        match self {
+            ConstantList::Fields => Point::Field,
+            _ => Point::Constant,
+        }
+    }
+
+    /// Where it goes on behind the first.
+    #[inline(always)]
+    fn behind_first(self) -> Point
+        ensures { result ≡ second_point self }
+    {
+        match self {
+            ConstantList::Array => Point::NextArrayConstant,
+            ConstantList::Tuple => Point::SecondTupleConstant,
+            ConstantList::TupleVariant => Point::NextVariantConstant,
+            ConstantList::Fields => Point::NextField,
+        }
+    }
+
+    /// Where it goes on behind another.
+    #[inline(always)]
+    fn behind_next(self) -> Point
+        ensures { result ≡ next_point self }
+    {
+        match self {
+            ConstantList::Array => Point::NextArrayConstant,
+            ConstantList::Tuple => Point::NextTupleConstant,
+            ConstantList::TupleVariant => Point::NextVariantConstant,
+            ConstantList::Fields => Point::NextField,
+        }
+    }
+}
+
+/// The first constant of a list, or its end.
+#[inline(always)]
+pub(super) fn first_constant<V: Voice, const N: usize>(
+    symbol: &Symbol<'_>,
+    list: ConstantList,
+    state: &mut State,
+    row: &mut FrameStack<N>,
+    looks: &mut Looks,
+) -> Point
+    requires room { length row.old < N }
+    requires unmarked { state.old.mark ≡ None }
+    requires fits { Fits Point.Constant state.old.depth_left state.old.lifetimes }
+    ensures did { (plain : Bool) (v : V) → DidOn V.Voice symbol.now plain (share_of symbol.now plain
+        V.loud (first_point list) state.old) 1 (8 * state.old.depth_left + 2) row.old v (Ok result)
+        state.new row.new v (looks.new - looks.old) }
+    ensures grows { looks.old ≤ looks.new }
+{
+    let Some(at) = state.place else {
+        state.mark = Some(list.close());
+        state.is_open = false;
+        return Point::End;
+    };
+    if symbol.is_at(b'E', at, looks) {
+        state.place = Some(at + 1);
+        state.mark = Some(list.close());
+        state.is_open = false;
+        return Point::End;
+    }
+    row.push(state.frame(list.behind_first()));
+    state.in_value = true;
+    list.element()
+}
+
+/// The next constant of a list, or its end.
+#[inline(always)]
+pub(super) fn next_constant<V: Voice, const N: usize>(
+    symbol: &Symbol<'_>,
+    list: ConstantList,
+    state: &mut State,
+    row: &mut FrameStack<N>,
+    looks: &mut Looks,
+) -> Point
+    requires room { length row.old < N }
+    requires unmarked { state.old.mark ≡ None }
+    requires fits { Fits Point.Constant state.old.depth_left state.old.lifetimes }
+    ensures did { (plain : Bool) (v : V) → DidOn V.Voice symbol.now plain (share_of symbol.now plain
+        V.loud (next_point list) state.old) 1 (8 * state.old.depth_left + 2) row.old v (Ok result)
+        state.new row.new v (looks.new - looks.old) }
+    ensures grows { looks.old ≤ looks.new }
+{
+    let Some(at) = state.place else {
+        state.mark = Some(list.close());
+        state.is_open = false;
+        return Point::End;
+    };
+    if symbol.is_at(b'E', at, looks) {
+        state.place = Some(at + 1);
+        state.mark = Some(list.close());
+        state.is_open = false;
+        return Point::End;
+    }
+    row.push(state.frame(list.behind_next()));
+    state.mark = Some(Mark::Comma);
+    state.in_value = true;
+    list.element()
+}
+
+/// The second constant of a tuple, or its end behind the one comma.
+#[inline(always)]
+pub(super) fn second_tuple_constant<V: Voice, const N: usize>(
+    symbol: &Symbol<'_>,
+    state: &mut State,
+    row: &mut FrameStack<N>,
+    looks: &mut Looks,
+) -> Point
+    requires room { length row.old < N }
+    requires unmarked { state.old.mark ≡ None }
+    requires fits { Fits Point.SecondTupleConstant state.old.depth_left state.old.lifetimes }
+    ensures did { (plain : Bool) (v : V) → Did V.Voice symbol.now plain Point.SecondTupleConstant
+        state.old row.old v (Ok result) state.new row.new v (looks.new - looks.old) }
+    ensures grows { looks.old ≤ looks.new }
+{
+    let Some(at) = state.place else {
+        state.mark = Some(Mark::OneComma);
+        return Point::CloseParen;
+    };
+    if symbol.is_at(b'E', at, looks) {
+        state.place = Some(at + 1);
+        state.mark = Some(Mark::OneComma);
+        return Point::CloseParen;
+    }
+    row.push(state.frame(Point::NextTupleConstant));
+    state.mark = Some(Mark::Comma);
+    state.in_value = true;
+    Point::Constant
+}

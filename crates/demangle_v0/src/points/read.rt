@@ -1,0 +1,94 @@
+//! Readings without a voice, above the frames that stand.
+ghost use Rattle.std.specs.Prelude.{◌≡◌, ◌+◌, ◌-◌, ◌<◌, ◌≤◌, ◌++◌, true, false, length, List};
+ghost use Rattle.demangle_v0.specs.Points.{AllInner};
+ghost use Rattle.demangle_v0.specs.PointRuns.{Valid, ReadOn, first_state};
+ghost use Rattle.demangle_v0.specs.declared.points.frames.Frame.{Frame};
+
+use crate::points::frames::FrameStack;
+use crate::points::step::{resume, step};
+use crate::points::voice::Silent;
+use crate::points::{Point, State};
+use demangle_symbol::cursor::{Looks, MAX_DEPTH, Symbol};
+
+/// Where a reading stands.
+#[derive(Clone, Copy)]
+pub struct Reading {
+    pub point: Point,
+    pub state: State,
+}
+
+impl Reading {
+    /// A path that is to be read at a place.
+    #[inline(always)]
+    pub fn of_path(place: usize) -> Self
+        ensures { result ≡ record { point = Point.Path; state = first_state place } }
+    {
+        Reading {
+            point: Point::Path,
+            state: State {
+                in_value: true,
+                letter: 0,
+                depth_left: MAX_DEPTH as u16,
+                lifetimes: 0,
+                place: Some(place),
+                is_open: false,
+                mark: None,
+            },
+        }
+    }
+
+    /// Its place, if it has not failed.
+    #[inline(always)]
+    pub fn place(&self) -> Option<usize>
+        ensures { result ≡ self.now.state.place }
+    {
+        self.state.place
+    }
+}
+
+/// Why a reading without a voice went no further.
+#[derive(Clone, Copy)]
+pub enum Halt {
+    /// Nothing is left.
+    Over,
+    /// The row is full.
+    Full,
+    /// No unit of the kind is spelled there.
+    Failed,
+}
+
+/// Reads without printing, above so many frames.
+pub fn read_on<const N: usize>(
+    symbol: &Symbol<'_>,
+    base: usize,
+    plain: bool,
+    reading: &mut Reading,
+    row: &mut FrameStack<N>,
+    looks: &mut Looks,
+) -> Halt
+    requires valid { Valid reading.old.point reading.old.state row.old }
+    ensures reads { (below above : List Frame) → row.old ≡ below ++ above → length below ≡ base →
+        AllInner above → ReadOn symbol.now plain below reading.old.point reading.old.state above
+        result reading.new.point reading.new.state row.new (looks.new - looks.old) }
+    ensures valid { result ≡ Halt.Full → Valid reading.new.point reading.new.state row.new }
+    ensures full { result ≡ Halt.Full → N ≤ length row.new }
+    ensures grows { looks.old ≤ looks.new }
+{
+    let mut point = reading.point;
+    let mut state = reading.state;
+    'steps: while row.len() < N {
+        let Some(at) = resume(base, point, &mut state, row) else {
+            *reading = Reading {
+                point: Point::End,
+                state,
+            };
+            return Halt::Over;
+        };
+        match step(symbol, at, plain, &mut state, row, &mut Silent, looks) {
+            Ok(next) => point = next,
+            Err(_) => return Halt::Failed,
+        }
+    }
+    *reading = Reading { point, state };
+    Halt::Full
+}

@@ -1,0 +1,125 @@
+//! Steps: what a point does and the mark that it leaves, and where a unit that is over goes on.
+ghost use Rattle.std.specs.Prelude.{◌≡◌, ◌+◌, ◌-◌, ◌<◌, ◌≤◌, true, false, IfSome, IfNone, IsOk, OnOk, length, IsAscii};
+ghost use Rattle.demangle_v0.specs.Impls.{is_skip};
+ghost use Rattle.demangle_v0.specs.Points.{Fits, resumed_of};
+ghost use Rattle.demangle_v0.specs.PointRuns.{Puts, Stepped, Resumes, first_looks};
+
+use crate::grammar::Mark;
+use crate::points::frames::{Frame, FrameStack};
+use crate::points::perform::perform;
+use crate::points::voice::Voice;
+use crate::points::{Point, State, Stop};
+use crate::stretch::Stretch;
+use demangle_sink::SinkRefused;
+use demangle_symbol::cursor::{Looks, Symbol};
+
+/// Hands a mark over, if there is one.
+#[inline(always)]
+fn put_mark<V: Voice>(
+    symbol: &Symbol<'_>,
+    mark: Option<Mark>,
+    plain: bool,
+    voice: &mut V,
+    looks: &mut Looks,
+) -> Result<(), SinkRefused>
+    requires ascii { V.loud ≡ true → IsAscii symbol.now }
+    requires ready { V.ready voice.old }
+    ensures put { Puts V.Voice mark voice.old result voice.new }
+    ensures ready { OnOk result (V.ready voice.new) }
+    ensures grows { looks.old ≤ looks.new }
+    ensures most { looks.new ≤ looks.old }
+{
+    match mark {
+        None => Ok(()),
+        Some(mark) => voice.say(symbol, &Stretch::Fixed(mark), plain, looks),
+    }
+}
+
+/// Does what a point does, and hands over the mark that it left.
+///
+/// A voice that prints is never asked for the own path of an impl, which is not printed.
+#[inline(always)]
+pub(crate) fn step<V: Voice, const N: usize>(
+    symbol: &Symbol<'_>,
+    point: Point,
+    plain: bool,
+    state: &mut State,
+    row: &mut FrameStack<N>,
+    voice: &mut V,
+    looks: &mut Looks,
+) -> Result<Point, SinkRefused>
+    requires ascii { V.loud ≡ true → IsAscii symbol.now }
+    requires ready { V.ready voice.old }
+    requires unmarked { state.old.mark ≡ None }
+    requires room { length row.old < N }
+    requires fits { Fits point state.old.depth_left state.old.lifetimes }
+    requires unskipped { V.loud ≡ true → is_skip point ≡ false }
+    ensures stepped { Stepped V.Voice symbol.now plain point state.old row.old voice.old result
+        state.new row.new voice.new (looks.new - looks.old) }
+    ensures ready { IsOk result → V.ready voice.new }
+    ensures grows { looks.old ≤ looks.new }
+    ensures least { looks.old + first_looks point state.old ≤ looks.new }
+{
+    match perform(symbol, point, plain, state, row, voice, looks) {
+        Ok(next) => {
+            let mark = state.mark;
+            state.mark = None;
+            put_mark(symbol, mark, plain, voice, looks)?;
+            Ok(next)
+        }
+        Err(Stop::Fault(fault)) => {
+            state.place = None;
+            state.is_open = false;
+            voice.stop(symbol, &Stretch::Fixed(fault), plain, looks)?;
+            Ok(Point::End)
+        }
+        Err(Stop::Refused) => Err(SinkRefused),
+    }
+}
+
+impl State {
+    /// Where a frame goes on.
+    #[inline(always)]
+    fn resumed(&self, frame: Frame) -> State
+        ensures { result ≡ resumed_of self.now frame }
+    {
+        State {
+            in_value: frame.in_value,
+            letter: frame.letter,
+            depth_left: frame.depth_left,
+            lifetimes: frame.number,
+            place: self.place,
+            is_open: self.is_open,
+            mark: self.mark,
+        }
+    }
+}
+
+/// The point to go on at: where a unit is over, that of the frame on top, if there is one above so
+/// many.
+#[inline(always)]
+pub(crate) fn resume<const N: usize>(
+    base: usize,
+    point: Point,
+    state: &mut State,
+    row: &mut FrameStack<N>,
+) -> Option<Point>
+    ensures some { IfSome result (λ next. Resumes base point state.old row.old next state.new
+        row.new) }
+    ensures none { IfNone result ((point ≡ Point.End) × (length row.old ≤ base) × (row.new ≡
+        row.old) × (state.new ≡ state.old)) }
+{
+    match point {
+        Point::End => {
+            if row.len() <= base {
+                return None;
+            }
+            let Some(frame) = row.pop() else {
+                return None;
+            };
+            *state = state.resumed(frame);
+            Some(frame.point)
+        }
+        other => Some(other),
+    }
+}

@@ -1,0 +1,127 @@
+//! The points of types behind a mark: references and pointers.
+ghost use Rattle.std.specs.Prelude.{◌≡◌, ℕ, ◌*◌, ◌+◌, ◌-◌, ◌<◌, ◌≤◌, List, Bool, Ok, Err, IsOk, IsAscii, true};
+ghost use Rattle.demangle_v0.specs.Events.{of};
+ghost use Rattle.demangle_v0.specs.declared.points.frames.Frame.{Frame};
+ghost use Rattle.demangle_v0.specs.Points.{Did, DidOn, around, closing, Fits, behind_reference, lifetime_point, spaced_lifetime};
+ghost use Rattle.demangle_v0.specs.Groups.{looks_later};
+ghost use Rattle.demangle_v0.specs.Reading.{run};
+ghost use Rattle.demangle_v0.specs.Tags.{reference_to};
+
+use crate::grammar::Mark;
+use crate::points::voice::Voice;
+use crate::points::{Point, State, Stop};
+use crate::stretch::Stretch;
+use demangle_symbol::cursor::{Looks, Symbol};
+
+/// A reference, behind its tag.
+#[inline(always)]
+pub(super) fn reference<V: Voice>(
+    symbol: &Symbol<'_>,
+    is_mut: bool,
+    state: &mut State,
+    looks: &mut Looks,
+) -> Point
+    requires fits { Fits Point.«Type» state.old.depth_left state.old.lifetimes }
+    ensures did { (plain : Bool) (v : V) (row : List Frame) → DidOn V.Voice symbol.now plain
+        (closing (of plain V.loud (run (reference_to is_mut) (around symbol.now V.loud
+        state.old.depth_left state.old.lifetimes) state.old.place))) 50 (8 * state.old.depth_left +
+        9) row v (Ok result) state.new row v (looks.new - looks.old) }
+    ensures grows { looks.old ≤ looks.new }
+{
+    state.mark = Some(Mark::Ampersand);
+    let Some(at) = state.place else {
+        return referred(is_mut);
+    };
+    if !symbol.is_at(b'L', at, looks) {
+        return referred(is_mut);
+    }
+    state.place = Some(at + 1);
+    if is_mut {
+        Point::MutReferenceLifetime
+    } else {
+        Point::ReferenceLifetime
+    }
+}
+
+/// What stands behind a reference and its lifetime.
+#[inline(always)]
+fn referred(is_mut: bool) -> Point
+    ensures { result ≡ behind_reference is_mut }
+{
+    if is_mut { Point::Mutable } else { Point::Type }
+}
+
+/// The lifetime of a reference, behind its `L`.
+#[inline(always)]
+pub(super) fn reference_lifetime<V: Voice>(
+    symbol: &Symbol<'_>,
+    is_mut: bool,
+    plain: bool,
+    state: &mut State,
+    voice: &mut V,
+    looks: &mut Looks,
+) -> Result<Point, Stop>
+    requires ascii { V.loud ≡ true → IsAscii symbol.now }
+    requires ready { V.ready voice.old }
+    requires unmarked { state.old.mark ≡ None }
+    requires fits { Fits Point.«Type» state.old.depth_left state.old.lifetimes }
+    ensures did { (row : List Frame) → Did V.Voice symbol.now plain (lifetime_point is_mut)
+        state.old row voice.old result state.new row voice.new (looks.new - looks.old) }
+    ensures ready { IsOk result → V.ready voice.new }
+    ensures sound { (m : Mark) → result ≡ Err (Stop.Fault m) → V.ready voice.new }
+    ensures grows { looks.old ≤ looks.new }
+{
+    let Some(at) = state.place else {
+        return Err(Stop::Fault(Mark::Unread));
+    };
+    let Ok((index, next)) = symbol.integer_62(at, looks) else {
+        return Err(Stop::Fault(Mark::Invalid));
+    };
+    state.place = Some(next);
+    if index == 0 || !voice.speaks() {
+        return Ok(referred(is_mut));
+    }
+    let (stretch, place) = spaced_lifetime(state.lifetimes, index, next);
+    state.place = place;
+    let Ok(()) = voice.say(symbol, &stretch, plain, looks) else {
+        return Err(Stop::Refused);
+    };
+    Ok(referred(is_mut))
+}
+
+/// A lifetime of an index above 0, and the place behind it.
+#[inline(always)]
+fn spaced_lifetime(lifetimes: u128, index: u64, next: usize) -> (Stretch, Option<usize>)
+    ensures value { result ≡ spaced_lifetime lifetimes index next }
+    ensures later { looks_later result.0 ≡ 0 }
+{
+    if u128::from(index) > lifetimes {
+        return (Stretch::SpacedFault, None);
+    }
+    (
+        Stretch::SpacedLifetime(lifetimes - u128::from(index)),
+        Some(next),
+    )
+}
+
+/// The type behind `mut `.
+#[inline(always)]
+pub(super) fn mutable<V: Voice>(state: &mut State) -> Point
+    requires fits { Fits Point.Mutable state.old.depth_left state.old.lifetimes }
+    ensures did { (b : List ℕ) (plain : Bool) (v : V) (row : List Frame) → Did V.Voice b plain
+        Point.Mutable state.old row v (Ok result) state.new row v 0 }
+{
+    state.mark = Some(Mark::Mutable);
+    Point::Type
+}
+
+/// The type behind `const `.
+#[inline(always)]
+pub(super) fn unchanging<V: Voice>(state: &mut State) -> Point
+    requires fits { Fits Point.Unchanging state.old.depth_left state.old.lifetimes }
+    ensures did { (b : List ℕ) (plain : Bool) (v : V) (row : List Frame) → Did V.Voice b plain
+        Point.Unchanging state.old row v (Ok result) state.new row v 0 }
+{
+    state.mark = Some(Mark::Unchanging);
+    Point::Type
+}
