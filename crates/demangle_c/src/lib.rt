@@ -6,7 +6,7 @@ ghost use Rattle.std.specs.Prelude.{◌≡◌, ◌+◌, ◌≤◌, ◌↔◌, le
 ghost use Prim.Native.Nat.{min};
 ghost use Rattle.std.specs.List.{concat};
 ghost use Rattle.rustc_demangle.specs.Cut.{size};
-ghost use Rattle.rustc_demangle.specs.Slice.{covered};
+ghost use Rattle.rustc_demangle.specs.Slice.{overlay};
 ghost use Rattle.rustc_demangle.specs.Stripped.{stripped};
 ghost use Rattle.rustc_demangle.specs.Symbols.{handed};
 ghost use Rattle.demangle_c.specs.Naming.{NamesRust, path_of, path_within, c_string};
@@ -17,10 +17,10 @@ mod tests;
 use rustc_demangle::sink::SliceSink;
 use rustc_demangle::{Demangle, try_demangle};
 
-// The most bytes that are printed of a symbol, before the marker and the suffix.
+/// The most bytes that are printed of a symbol, before the marker and the suffix.
 const MAX_SIZE: usize = 1_000_000;
 
-// The symbol that the bytes are.
+/// The symbol that the bytes are.
 #[tactic(auto, using(rustc_demangle::proofs::SymbolLaws::symbols_utf8))]
 fn symbol_of(bytes: &[u8]) -> Option<Demangle<'_>>
     ensures symbol { OnSome result (NamesRust bytes.now) }
@@ -33,11 +33,11 @@ fn symbol_of(bytes: &[u8]) -> Option<Demangle<'_>>
     try_demangle(text).ok()
 }
 
-// Writes the path into memory, as much as there is room for, and counts its bytes.
+/// Writes the path into memory, as much as there is room for, and counts its bytes.
 fn write_path(symbol: &Demangle<'_>, out: &mut [u8], include_hash: bool, limit: usize) -> usize
     requires { size (handed symbol.now include_hash limit) ≤ usize.MAX }
     ensures len { result ≡ length (concat (handed symbol.now include_hash limit)) }
-    ensures bytes { out.new ≡ covered out.old (concat (handed symbol.now include_hash limit)) }
+    ensures bytes { out.new ≡ overlay out.old (concat (handed symbol.now include_hash limit)) }
 {
     let mut sink = SliceSink::new(out);
     match symbol.write_limited(&mut sink, include_hash, limit) {
@@ -78,7 +78,7 @@ pub extern "C" fn kodliwe_demangle_limited(
         result ≡ length (path_within symbol.now include_hash (min limit MAX_SIZE)) + 1 }
     ensures text { NamesRust symbol.now →
         let path = path_within symbol.now include_hash (min limit MAX_SIZE) in
-        out.new ≡ covered out.old (c_string (length out.old) path) }
+        out.new ≡ overlay out.old (c_string (length out.old) path) }
 {
     let Some(demangled) = symbol_of(symbol) else {
         return 0;
@@ -98,7 +98,7 @@ pub extern "C" fn kodliwe_demangle(symbol: &[u8], out: &mut [u8], include_hash: 
     ensures none { (NamesRust symbol.now → ⊥) → (result ≡ 0) × (out.new ≡ out.old) }
     ensures size { NamesRust symbol.now → result ≡ length (path_of symbol.now include_hash) + 1 }
     ensures text { NamesRust symbol.now →
-        out.new ≡ covered out.old (c_string (length out.old) (path_of symbol.now include_hash)) }
+        out.new ≡ overlay out.old (c_string (length out.old) (path_of symbol.now include_hash)) }
 {
     kodliwe_demangle_limited(symbol, out, include_hash, MAX_SIZE)
 }

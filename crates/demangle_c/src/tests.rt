@@ -1,7 +1,7 @@
 //! The calls, once for each kind of answer and of size. The texts are the Rust crate's.
 use crate::{kodliwe_demangle, kodliwe_demangle_limited, kodliwe_is_symbol};
 
-// Its text doubles with each of 18 tuples, past every limit.
+/// Its text doubles with each of 18 tuples, past every limit.
 const TREE: &[u8; 96] =
     b"_RMC0TTTTTTTTTTTTTTTTTTpBk_EBj_EBi_EBh_EBg_EBf_EBe_EBd_EBc_EBb_EBa_EB9_EB8_EB7_EB6_EB5_EB4_EB3_E";
 

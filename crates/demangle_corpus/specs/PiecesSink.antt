@@ -3,5 +3,5 @@ use Rattle.std.specs.String.{string_bytes}
 use Rattle.demangle_corpus.specs.declared.pieces_sink.PiecesSink.{PiecesSink}
 
 -- the pieces that a sink took
-abbrev pub pieces_of : PiecesSink → List (List ℕ)
-pieces_of s = map string_bytes s.pieces.items
+abbrev pub taken_pieces : PiecesSink → List (List ℕ)
+taken_pieces s = map string_bytes s.pieces.items

@@ -1,13 +1,13 @@
 //! The library's answers, as they stand in columns.
 use crate::case::{Answers, Forms};
-use crate::column::{escaped, joined, shortened};
+use crate::column::{escape, join_pieces, shorten};
 use crate::pieces_sink::PiecesSink;
 use rustc_demangle::sink::WriteSink;
 use rustc_demangle::{Demangle, demangle, try_demangle};
 use std::alloc::{AllocError, Global};
 
 /// What a symbol prints, under a limit where there is one.
-fn printed(
+fn printed_text(
     alloc: Global,
     symbol: &Demangle<'_>,
     include_hash: bool,
@@ -22,7 +22,7 @@ fn printed(
     // A writer into memory fails for want of memory alone.
     match sink.into_fault() {
         Some(_) => Err(AllocError),
-        None => shortened(alloc, text.as_slice()),
+        None => shorten(alloc, text.as_slice()),
     }
 }
 
@@ -33,8 +33,8 @@ fn printed_forms(
     limit: Option<usize>,
 ) -> Result<Forms<Vec<u8>>, AllocError> {
     Ok(Forms {
-        plain: printed(alloc, symbol, true, limit)?,
-        alt: printed(alloc, symbol, false, limit)?,
+        plain: printed_text(alloc, symbol, true, limit)?,
+        alt: printed_text(alloc, symbol, false, limit)?,
     })
 }
 
@@ -53,7 +53,7 @@ pub fn answers_of(alloc: Global, text: &str) -> Result<Answers<Vec<u8>>, AllocEr
     };
     Ok(Answers {
         status: Vec::from_slice(alloc, status)?,
-        as_str: escaped(alloc, as_str.as_bytes())?,
+        as_str: escape(alloc, as_str.as_bytes())?,
         printed: printed_forms(alloc, &symbol, None)?,
     })
 }
@@ -71,7 +71,7 @@ pub fn limited_forms(
 fn pieces(alloc: Global, symbol: &Demangle<'_>, include_hash: bool) -> Result<Vec<u8>, AllocError> {
     let mut sink = PiecesSink::new(alloc);
     match symbol.write_to(&mut sink, include_hash) {
-        Ok(()) => joined(alloc, sink.pieces()),
+        Ok(()) => join_pieces(alloc, sink.pieces()),
         // The sink refuses for want of memory alone.
         Err(_) => Err(AllocError),
     }

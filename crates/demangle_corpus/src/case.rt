@@ -1,5 +1,5 @@
 //! The lines of the corpus.
-use crate::column::unescaped;
+use crate::column::unescape;
 use std::alloc::{AllocError, Global};
 
 /// What is printed, in both forms.
@@ -63,7 +63,7 @@ impl<'l> Case<'l> {
             }
             _ => return Ok(None),
         };
-        let Some(text) = unescaped(alloc, text)? else {
+        let Some(text) = unescape(alloc, text)? else {
             return Ok(None);
         };
         Ok(Some(Case { text, wanted }))

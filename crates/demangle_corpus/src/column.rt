@@ -31,7 +31,7 @@ fn escaped_char(letter: char) -> Option<char> {
 }
 
 /// The text in which line feeds, tabs, carriage returns, zeros and backslashes are escaped.
-pub fn escaped(alloc: Global, text: &[u8]) -> Result<Vec<u8>, AllocError> {
+pub fn escape(alloc: Global, text: &[u8]) -> Result<Vec<u8>, AllocError> {
     let mut column = Vec::new(alloc);
     for byte in text {
         match escape_letter(*byte) {
@@ -43,7 +43,7 @@ pub fn escaped(alloc: Global, text: &[u8]) -> Result<Vec<u8>, AllocError> {
 }
 
 /// The text whose escaped form this is, or `None` where a backslash stands before anything else.
-pub fn unescaped(alloc: Global, column: &str) -> Result<Option<String>, AllocError> {
+pub fn unescape(alloc: Global, column: &str) -> Result<Option<String>, AllocError> {
     let mut text = String::new(alloc);
     let mut is_escape = false;
     for c in column.chars() {
@@ -63,9 +63,9 @@ pub fn unescaped(alloc: Global, column: &str) -> Result<Option<String>, AllocErr
 }
 
 /// The escaped text, or the length and the SHA-256 of one of more than 2,000 bytes.
-pub fn shortened(alloc: Global, text: &[u8]) -> Result<Vec<u8>, AllocError> {
+pub fn shorten(alloc: Global, text: &[u8]) -> Result<Vec<u8>, AllocError> {
     if text.len() <= LONGEST {
-        return escaped(alloc, text);
+        return escape(alloc, text);
     }
     let len = text.len();
     let digest = hex::encode(alloc, Sha256::digest(text))?;
@@ -73,13 +73,13 @@ pub fn shortened(alloc: Global, text: &[u8]) -> Result<Vec<u8>, AllocError> {
 }
 
 /// The escaped pieces, with `\|` between.
-pub fn joined(alloc: Global, pieces: &[String]) -> Result<Vec<u8>, AllocError> {
+pub fn join_pieces(alloc: Global, pieces: &[String]) -> Result<Vec<u8>, AllocError> {
     let mut column = Vec::new(alloc);
     for (number, piece) in pieces.iter().enumerate() {
         if number > 0 {
             column.extend_from_slice(b"\\|")?;
         }
-        let piece = escaped(alloc, piece.as_str().as_bytes())?;
+        let piece = escape(alloc, piece.as_str().as_bytes())?;
         column.extend_from_slice(piece.as_slice())?;
     }
     Ok(column)

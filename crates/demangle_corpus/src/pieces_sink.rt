@@ -4,7 +4,7 @@ ghost use Rattle.std.specs.List.{concat};
 ghost use Rattle.std.specs.String.{string_bytes};
 ghost use Rattle.std.proofs.Common.{sym, ap, ◌∙◌};
 ghost use Rattle.std.proofs.lemmas.List.{append-nil, append_assoc};
-ghost use Rattle.demangle_corpus.specs.PiecesSink.{pieces_of};
+ghost use Rattle.demangle_corpus.specs.PiecesSink.{taken_pieces};
 
 use rustc_demangle::sink::{SinkRefused, TextSink};
 use std::alloc::{AllocError, Global};
@@ -21,7 +21,7 @@ impl PiecesSink {
     /// A sink of no pieces, which has not failed.
     pub fn new(alloc: Global) -> PiecesSink
         ensures alive { ⟦<PiecesSink as TextSink>⟧.failed result ≡ false }
-        ensures empty { pieces_of result ≡ [] }
+        ensures empty { taken_pieces result ≡ [] }
     {
         PiecesSink {
             alloc,
@@ -32,15 +32,15 @@ impl PiecesSink {
 
     /// The pieces that it took.
     pub fn pieces(&self) -> &[String]
-        ensures { map string_bytes result.now ≡ pieces_of self.now }
+        ensures { map string_bytes result.now ≡ taken_pieces self.now }
     {
         self.pieces.as_slice()
     }
 
-    // Keeps one piece more.
+    /// Keeps one piece more.
     fn keep(&mut self, piece: &str) -> Result<(), AllocError>
-        ensures ok { OnOk result (pieces_of self.new ≡ pieces_of self.old ++ piece.now ∷ []) }
-        ensures err { OnErr result (pieces_of self.new ≡ pieces_of self.old) }
+        ensures ok { OnOk result (taken_pieces self.new ≡ taken_pieces self.old ++ piece.now ∷ []) }
+        ensures err { OnErr result (taken_pieces self.new ≡ taken_pieces self.old) }
         ensures same { self.new.failed ≡ self.old.failed }
     {
         let text = String::from_str(self.alloc, piece)?;
@@ -50,7 +50,7 @@ impl PiecesSink {
 }
 
 impl TextSink for PiecesSink {
-    ghost took = { λ s bytes t. concat (pieces_of t) ≡ concat (pieces_of s) ++ bytes };
+    ghost took = { λ s bytes t. concat (taken_pieces t) ≡ concat (taken_pieces s) ++ bytes };
 
     ghost failed = { λ s. s.failed };
 
@@ -75,7 +75,7 @@ impl TextSink for PiecesSink {
         self.failed
     }
 
-    ghost took_nothing = { λ s. sym (append-nil (concat (pieces_of s))) };
+    ghost took_nothing = { λ s. sym (append-nil (concat (taken_pieces s))) };
 
-    ghost took_joined = { λ s t u xs ys h k. k ∙ (ap (λ z. z ++ ys) h ∙ append_assoc (concat (pieces_of s)) xs ys) };
+    ghost took_joined = { λ s t u xs ys h k. k ∙ (ap (λ z. z ++ ys) h ∙ append_assoc (concat (taken_pieces s)) xs ys) };
 }

@@ -42,7 +42,7 @@ impl<W: Write + Drop> PausingOutput<W> {
         }
     }
 
-    // Flushes what was written, and keeps the error where that fails.
+    /// Flushes what was written, and keeps the error where that fails.
     fn pause(&self) -> io::Result<()> {
         let Ok(mut pending) = self.pending.try_borrow_mut() else {
             return Err(is_in_use());

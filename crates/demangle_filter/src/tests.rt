@@ -2,12 +2,13 @@
 //! writes is tested with the library.
 use crate::filter::filter_run;
 use crate::pausing::PausingOutput;
+use demangle_vectors::streams::{PartsReader, RefusingWriter};
 use std::alloc::{AllocError, Global};
 use std::cell::Cell;
 use std::io::{BufRead, BufReader, ErrorKind, Read, Write};
 use std::process::Abort;
 use std::test::Fail;
-use streams::{PartsReader, RefusingWriter, WatchedWriter, WatchingReader};
+use streams::{WatchedWriter, WatchingReader};
 
 mod streams;
 
@@ -212,5 +213,21 @@ fn a_fault_of_the_errors_is_ignored(rt: HostRuntime) -> Result<(), Fail> {
         assert!(rt; errors.held().is_empty());
         words.push(String::from_str(alloc, "--hash")?)?;
     }
+    Ok(())
+}
+
+/// Writes one part by `write`, and answers how much of it was taken.
+fn write_part<W: Write>(output: &mut W, part: &[u8]) -> Result<usize, ErrorKind> {
+    let output = PausingOutput::new(output);
+    output.writer().write(part).map_err(|error| error.kind())
+}
+
+#[test]
+fn a_part_goes_to_the_output_at_once(rt: HostRuntime) -> Result<(), Fail> {
+    let mut output = RefusingWriter::new(rt.alloc(), b"old", 1, true)?;
+    assert_eq!(rt; write_part(&mut output, b"foo"), Ok(3));
+    assert_eq!(rt; output.held(), b"oldfoo".as_slice());
+    assert_eq!(rt; write_part(&mut output, b"bar"), Err(ErrorKind::BrokenPipe));
+    assert_eq!(rt; output.held(), b"oldfoo".as_slice());
     Ok(())
 }

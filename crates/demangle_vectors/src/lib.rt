@@ -1,4 +1,5 @@
-//! What symbols print, by vectors from the Rust crate, as tests of the library.
+//! What symbols print, by vectors from the Rust crate, as tests of the library; and a sink, readers
+//! and writers for tests.
 #![tactic(auto)]
 
 ghost use Rattle.std.specs.Prelude.{◌≡◌, ◌≢◌, ◌≤◌, IsTrue, false};
@@ -7,6 +8,7 @@ ghost use Rattle.rustc_demangle.specs.Stripped.{stripped};
 ghost use Rattle.rustc_demangle.specs.Symbols.{handed, most_bytes, printed};
 
 mod refusing_sink;
+pub mod streams;
 #[cfg(test)]
 mod tests;
 

@@ -11,7 +11,7 @@ use rustc_demangle::sink::{ArraySink, SinkRefused, TextSink};
 #[derive(Drop)]
 pub struct RefusingSink {
     text: ArraySink<4096>,
-    // How many nonempty pieces are taken before the refused one.
+    /// How many nonempty pieces are taken before the refused one.
     left: usize,
     failed: bool,
 }

@@ -15,7 +15,6 @@ mod limits;
 mod refused;
 mod sinks;
 mod stream;
-mod streams;
 mod v0_constants;
 mod v0_hostile;
 mod v0_limits;

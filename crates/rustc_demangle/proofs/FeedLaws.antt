@@ -23,7 +23,7 @@ use Rattle.demangle_v0.specs.Reading.{rendered}
 use Rattle.demangle_sink.specs.Cut.{size, fitting, cut, marker}
 use Rattle.rustc_demangle.specs.Lines.{lines, feeds}
 use Rattle.demangle_legacy.specs.Legacy.{IsElements, IsLegacy}
-use Rattle.demangle_legacy.specs.Unescaped.{escape_of_code, escape_of_digits, escape_of, lower_hex, unit_of, pieces_from, unescaped, is_hash, shown, continued, joined, legacy_pieces, is_lower_hex, is_dollar, is_special}
+use Rattle.demangle_legacy.specs.Unescaped.{escape_of_code, escape_of_digits, escape_of, lower_hex, leading_unit, pieces_from, unescaped, is_hash, shown_elements, following_pieces, joined_pieces, legacy_pieces, is_lower_hex, is_dollar, is_special}
 use Rattle.rustc_demangle.proofs.Feeds.{feeds-append, feeds-concat, feeds-cons, feeds-drop, feeds-other, feeds-character}
 
 cases : (b : Bool) → (b ≡ true) ⊎ (b ≡ false)
@@ -108,8 +108,8 @@ unit_len None = 0
 unit_len (Some u) = u.1
 
 -- a unit prints no more line feeds than it takes
-feeds-unit : (c : ℕ) (s : List ℕ) (u : List ℕ × ℕ) → unit_of c s ≡ Some u → feeds u.0 ≤ feeds (c ∷ take u.1 s)
-unfolding unit_of unit_text unit_len
+feeds-unit : (c : ℕ) (s : List ℕ) (u : List ℕ × ℕ) → leading_unit c s ≡ Some u → feeds u.0 ≤ feeds (c ∷ take u.1 s)
+unfolding leading_unit unit_text unit_len
 feeds-unit c s u e = first (eqb c 46) (starts_with nat_eq s (codes ".")) e
   where
     none : feeds u.0 ≡ 0 → feeds u.0 ≤ feeds (c ∷ take u.1 s)
@@ -148,9 +148,9 @@ unfolding pieces_from
 feeds-pieces zero [] = omega arith
 feeds-pieces (suc skip) [] = omega arith
 feeds-pieces (suc skip) (c ∷ s) = feeds-pieces skip s
-feeds-pieces zero (c ∷ s) = at (λ n. feeds-pieces n s) (unit_of c s) refl
+feeds-pieces zero (c ∷ s) = at (λ n. feeds-pieces n s) (leading_unit c s) refl
   where
-    at : ((n : ℕ) → feeds (concat (pieces_from n s)) ≤ feeds (drop n s)) → (read : Option (List ℕ × ℕ)) → unit_of c s ≡ read
+    at : ((n : ℕ) → feeds (concat (pieces_from n s)) ≤ feeds (drop n s)) → (read : Option (List ℕ × ℕ)) → leading_unit c s ≡ read
         → feeds (concat (elim read [ None ↦ (c ∷ s) ∷ [] | Some u ↦ u.0 ∷ pieces_from (u.1) s ])) ≤ feeds (c ∷ s)
     at behind None is = omega (arith, feeds-cons (c ∷ s) [], ap feeds (append-nil (c ∷ s)))
     at behind (Some u) is =
@@ -167,24 +167,24 @@ feeds-unescaped element = at (starts_with nat_eq element (codes "_$"))
     at true = omega (arith, feeds-pieces 1 element, feeds-drop 1 element)
     at false = feeds-pieces 0 element
 
-feeds-continued : (elements : List (List ℕ)) → feeds (concat (continued elements)) ≤ feeds (concat elements)
+feeds-continued : (elements : List (List ℕ)) → feeds (concat (following_pieces elements)) ≤ feeds (concat elements)
 feeds-continued [] = omega arith
 feeds-continued (e ∷ es) =
-    omega (arith, feeds-unescaped e, feeds-continued es, feeds-cons e es, feeds-concat (unescaped e) (continued es), feeds-cons (codes "::") (unescaped e ++ continued es))
+    omega (arith, feeds-unescaped e, feeds-continued es, feeds-cons e es, feeds-concat (unescaped e) (following_pieces es), feeds-cons (codes "::") (unescaped e ++ following_pieces es))
 
-feeds-joined : (elements : List (List ℕ)) → feeds (concat (joined elements)) ≤ feeds (concat elements)
+feeds-joined : (elements : List (List ℕ)) → feeds (concat (joined_pieces elements)) ≤ feeds (concat elements)
 feeds-joined [] = omega arith
-feeds-joined (e ∷ es) = omega (arith, feeds-unescaped e, feeds-continued es, feeds-cons e es, feeds-concat (unescaped e) (continued es))
+feeds-joined (e ∷ es) = omega (arith, feeds-unescaped e, feeds-continued es, feeds-cons e es, feeds-concat (unescaped e) (following_pieces es))
 
-feeds-shown : (hash : Bool) (elements : List (List ℕ)) → feeds (concat (shown hash elements)) ≤ feeds (concat elements)
-unfolding shown
+feeds-shown : (hash : Bool) (elements : List (List ℕ)) → feeds (concat (shown_elements hash elements)) ≤ feeds (concat elements)
+unfolding shown_elements
 feeds-shown hash [] = omega arith
 feeds-shown hash (e ∷ []) = at (not hash && is_hash e)
   where
     at : (b : Bool) → feeds (concat (cond b [] (e ∷ []))) ≤ feeds (concat (e ∷ []))
     at true = omega arith
     at false = omega arith
-feeds-shown hash (e ∷ f ∷ es) = omega (arith, feeds-shown hash (f ∷ es), feeds-cons e (f ∷ es), feeds-cons e (shown hash (f ∷ es)))
+feeds-shown hash (e ∷ f ∷ es) = omega (arith, feeds-shown hash (f ∷ es), feeds-cons e (f ∷ es), feeds-cons e (shown_elements hash (f ∷ es)))
 
 feeds-elements : (elements : List (List ℕ)) (text suffix : List ℕ) → IsElements elements text suffix → feeds (concat elements) + feeds suffix ≤ feeds text
 feeds-elements [] text suffix is = omega (arith, ap feeds is)
@@ -195,7 +195,7 @@ feeds-elements (element ∷ elements) text suffix is =
 feeds-legacy : (hash : Bool) (text : List ℕ) (elements : List (List ℕ)) (suffix : List ℕ) → IsLegacy text elements suffix
     → feeds (concat (legacy_pieces hash elements)) + feeds suffix ≤ feeds text
 feeds-legacy hash text elements suffix is =
-    omega (arith, feeds-joined (shown hash elements), feeds-shown hash elements, feeds-elements elements is.1 suffix is.5, ap feeds is.2, feeds-append is.0 is.1)
+    omega (arith, feeds-joined (shown_elements hash elements), feeds-shown hash elements, feeds-elements elements is.1 suffix is.5, ap feeds is.2, feeds-append is.0 is.1)
 
 read_of : Option (List (List ℕ) × List ℕ) → List (List ℕ) × List ℕ
 read_of None = ([], [])

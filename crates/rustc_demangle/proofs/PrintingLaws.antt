@@ -9,7 +9,7 @@ use Rattle.rustc_demangle.specs.Hashes.{LeavesHashOut, pieces_behind}
 use Rattle.demangle_legacy.specs.Legacy.{IsLegacy, legacy_of}
 use Rattle.rustc_demangle.specs.Stripped.{is_allowed}
 use Rattle.rustc_demangle.specs.Symbols.{IsSymbol, pieces_of, handed, kept_of}
-use Rattle.demangle_legacy.specs.Unescaped.{unescaped, is_hash, shown, joined, continued, legacy_pieces}
+use Rattle.demangle_legacy.specs.Unescaped.{unescaped, is_hash, shown_elements, joined_pieces, following_pieces, legacy_pieces}
 use Rattle.demangle_sink.proofs.CutLemmas.{size-append, fitting-within}
 use Rattle.demangle_sink.proofs.PrintsLemmas.{cut-within, cut-past}
 use Rattle.demangle_legacy.proofs.LegacyLaws.{legacy_spelled}
@@ -43,16 +43,16 @@ size-handed text hash limit pieces suffix e =
     omega (arith, ap size (handed-some_of text hash limit (pieces, suffix) e), size-append (cut pieces limit) (suffix ∷ []), size-cut pieces limit)
 
 -- with the hash all elements are shown
-shown-all : (elements : List (List ℕ)) → shown true elements ≡ elements
-unfolding shown
+shown-all : (elements : List (List ℕ)) → shown_elements true elements ≡ elements
+unfolding shown_elements
 shown-all [] = refl
 shown-all (e ∷ []) = refl
 shown-all (e ∷ f ∷ es) = ap (λ xs. e ∷ xs) (shown-all (f ∷ es))
 
 -- without it, all or all but a last one that is a hash
-shown-cases : (elements : List (List ℕ)) → (shown false elements ≡ elements)
-    ⊎ ((front : List (List ℕ)) × (last : List ℕ) × (elements ≡ front ++ last ∷ []) × (shown false elements ≡ front) × (is_hash last ≡ true))
-unfolding shown
+shown-cases : (elements : List (List ℕ)) → (shown_elements false elements ≡ elements)
+    ⊎ ((front : List (List ℕ)) × (last : List ℕ) × (elements ≡ front ++ last ∷ []) × (shown_elements false elements ≡ front) × (is_hash last ≡ true))
+unfolding shown_elements
 shown-cases [] = inl refl
 shown-cases (e ∷ []) = go (is_hash e) refl where
   go : (b : Bool) → is_hash e ≡ b → (cond b [] (e ∷ []) ≡ e ∷ [])
@@ -65,34 +65,34 @@ shown-cases (e ∷ f ∷ es) = elim (shown-cases (f ∷ es)) [
 ]
 
 -- the pieces of a list with one element more
-joined-last : (front : List (List ℕ)) (last : List ℕ) → joined (front ++ last ∷ []) ≡ joined front ++ pieces_behind front last
+joined-last : (front : List (List ℕ)) (last : List ℕ) → joined_pieces (front ++ last ∷ []) ≡ joined_pieces front ++ pieces_behind front last
 joined-last [] last = append-nil (unescaped last)
 joined-last (e ∷ es) last =
-    ap (λ xs. unescaped e ++ xs) (flat_map-append (λ f. codes "::" ∷ unescaped f) es (last ∷ []) ∙ ap (λ xs. continued es ++ xs) (append-nil (codes "::" ∷ unescaped last)))
-    ∙ sym (append_assoc (unescaped e) (continued es) (codes "::" ∷ unescaped last))
+    ap (λ xs. unescaped e ++ xs) (flat_map-append (λ f. codes "::" ∷ unescaped f) es (last ∷ []) ∙ ap (λ xs. following_pieces es ++ xs) (append-nil (codes "::" ∷ unescaped last)))
+    ∙ sym (append_assoc (unescaped e) (following_pieces es) (codes "::" ∷ unescaped last))
 
 pub hash-last : (text : List ℕ) (elements : List (List ℕ)) (suffix : List ℕ) (limit : ℕ) → IsLegacy text elements suffix → is_allowed suffix ≡ true
     → size (legacy_pieces true elements) ≤ limit → (handed text false limit ≡ handed text true limit) ⊎ LeavesHashOut text elements suffix limit
 hash-last text elements suffix limit legacy allowed within =
     let read : legacy_of text ≡ Some (elements, suffix) = legacy_spelled text elements suffix legacy in
-    let all : legacy_pieces true elements ≡ joined elements = ap joined (shown-all elements) in
-    let full : handed text true limit ≡ joined elements ++ suffix ∷ [] =
+    let all : legacy_pieces true elements ≡ joined_pieces elements = ap joined_pieces (shown-all elements) in
+    let full : handed text true limit ≡ joined_pieces elements ++ suffix ∷ [] =
     handed-some_of text true limit (legacy_pieces true elements, suffix) (pieces-legacy true text elements suffix read allowed)
     ∙ ap (λ xs. xs ++ suffix ∷ []) (cut-within (legacy_pieces true elements) limit within ∙ all) in
-    let short : handed text false limit ≡ cut (joined (shown false elements)) limit ++ suffix ∷ [] =
+    let short : handed text false limit ≡ cut (joined_pieces (shown_elements false elements)) limit ++ suffix ∷ [] =
     handed-some_of text false limit (legacy_pieces false elements, suffix) (pieces-legacy false text elements suffix read allowed) in
     elim (shown-cases elements) [
-      | inl same ↦ inl (short ∙ ap (λ es. cut (joined es) limit ++ suffix ∷ []) same
-          ∙ ap (λ xs. xs ++ suffix ∷ []) (cut-within (joined elements) limit (subst (λ xs. size xs ≤ limit) all within)) ∙ sym full)
+      | inl same ↦ inl (short ∙ ap (λ es. cut (joined_pieces es) limit ++ suffix ∷ []) same
+          ∙ ap (λ xs. xs ++ suffix ∷ []) (cut-within (joined_pieces elements) limit (subst (λ xs. size xs ≤ limit) all within)) ∙ sym full)
       | inr h ↦
-          let parts : joined elements ≡ joined h.0 ++ pieces_behind h.0 h.1 = ap joined h.2 ∙ joined-last h.0 h.1 in
-          let room : size (joined h.0) ≤ limit = omega (arith, ap size all, ap size parts, size-append (joined h.0) (pieces_behind h.0 h.1)) in
+          let parts : joined_pieces elements ≡ joined_pieces h.0 ++ pieces_behind h.0 h.1 = ap joined_pieces h.2 ∙ joined-last h.0 h.1 in
+          let room : size (joined_pieces h.0) ≤ limit = omega (arith, ap size all, ap size parts, size-append (joined_pieces h.0) (pieces_behind h.0 h.1)) in
           inr (record {
             front = h.0;
             last = h.1;
             whole = h.2;
             hash = h.4;
             with_hash = full ∙ ap (λ xs. xs ++ suffix ∷ []) parts;
-            without_hash = short ∙ ap (λ es. cut (joined es) limit ++ suffix ∷ []) h.3 ∙ ap (λ xs. xs ++ suffix ∷ []) (cut-within (joined h.0) limit room);
+            without_hash = short ∙ ap (λ es. cut (joined_pieces es) limit ++ suffix ∷ []) h.3 ∙ ap (λ xs. xs ++ suffix ∷ []) (cut-within (joined_pieces h.0) limit room);
           })
     ]

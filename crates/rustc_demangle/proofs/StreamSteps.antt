@@ -175,8 +175,3 @@ line_ended None next n before after read rest none is count = tt
 line_ended (Some xs) next n before after read rest none is count =
     let e : xs ≡ [] = none_taken xs (sym (taken xs before after after read none refl) ∙ no_items n after is count) in
     (e, rest ∙ ap (λ l. Some (drop_through 10 l)) e)
-
--- a line was read that is no text
-pub text_refused : (fault : StreamFault) (h : Bool) (left next old : Option (List ℕ)) → fault ≡ NotUtf8
-    → IfSome left (λ text. (0 < length text) × (IsUtf8 (take_through 10 text) → ⊥)) → LineCopied (Err fault) h left next old old
-text_refused fault h left next old is bad = subst (λ f. LineCopied (Err f) h left next old old) (sym is) (bad, refl)

@@ -1,6 +1,6 @@
 -- What a text hands over, by what was read of it.
 use Rattle.std.proofs.Common.{◌≡◌, ℕ, zero, suc, ◌+◌, ◌*◌, ◌≤◌, Bool, true, false, List, [], ◌∷◌, ◌++◌, length, Option, None, Some, sym, refl, ap, ◌∙◌, subst, arith, option_map, cond, drop, inl, inr}
-use Rattle.std.specs.Option.{option_map_or, is_some}
+use Rattle.std.specs.Option.{option_map_or, is_some, option_or}
 use Rattle.std.proofs.lemmas.List.{length-append}
 use Rattle.std.proofs.lemmas.Nat.{mul-le}
 use Rattle.std.proofs.lemmas.Bool.{true≢false}
@@ -10,7 +10,7 @@ use Rattle.rustc_demangle.specs.Stripped.{is_allowed}
 use Rattle.demangle_legacy.specs.Unescaped.{legacy_pieces}
 use Rattle.demangle_v0.specs.Reading.{rendered}
 use Rattle.demangle_v0.specs.V0.{IsV0, IsV0Prefix, v0_of}
-use Rattle.rustc_demangle.specs.Symbols.{IsLegacySymbol, IsV0Symbol, IsSymbol, kept_of, if_allowed, first_of_both, read_of, pieces_of, handed}
+use Rattle.rustc_demangle.specs.Symbols.{IsLegacySymbol, IsV0Symbol, IsSymbol, kept_of, if_allowed, read_of, pieces_of, handed}
 use Rattle.rustc_demangle.specs.Style.{style_pieces, style_looks, style_least, IsReadAs, HasNoStyle, HasStyle, IsStyled}
 use Rattle.rustc_demangle.specs.declared.value.DemangleStyle.{DemangleStyle}
 use Rattle.rustc_demangle.specs.declared.value.DemangleStyle.TheVariants.{Legacy, V0}
@@ -54,31 +54,31 @@ v0_parts hash read = (rendered read.0 hash, read.1)
 pub pieces-legacy : (hash : Bool) (text : List ℕ) (elements : List (List ℕ)) (suffix : List ℕ) → legacy_of text ≡ Some (elements, suffix) → is_allowed suffix ≡ true
     → pieces_of hash text ≡ Some (legacy_pieces hash elements, suffix)
 pieces-legacy hash text elements suffix e allowed =
-    ap (λ read. if_allowed (first_of_both (option_map (legacy_parts hash) read) (option_map (v0_parts hash) (v0_of text)))) e
+    ap (λ read. if_allowed (option_or (option_map (legacy_parts hash) read) (option_map (v0_parts hash) (v0_of text)))) e
     ∙ ap (λ b. cond b (Some (legacy_pieces hash elements, suffix)) None) allowed
 
 -- what a v0 symbol hands over
 pub pieces-v0 : (hash : Bool) (text inner suffix : List ℕ) → v0_of text ≡ Some (inner, suffix) → is_allowed suffix ≡ true
     → pieces_of hash text ≡ Some (rendered inner hash, suffix)
 pieces-v0 hash text inner suffix e allowed =
-    ap (λ read. if_allowed (first_of_both (option_map (legacy_parts hash) read) (option_map (v0_parts hash) (v0_of text)))) (no_legacy text inner suffix (read_is_v0 text inner suffix e))
+    ap (λ read. if_allowed (option_or (option_map (legacy_parts hash) read) (option_map (v0_parts hash) (v0_of text)))) (no_legacy text inner suffix (read_is_v0 text inner suffix e))
     ∙ ap (λ read. if_allowed (option_map (v0_parts hash) read)) e
     ∙ ap (λ b. cond b (Some (rendered inner hash, suffix)) None) allowed
 
 -- a text that no scheme reads, or with another suffix, hands over itself
 pub no_pieces : (hash : Bool) (text : List ℕ) → legacy_of text ≡ None → v0_of text ≡ None → pieces_of hash text ≡ None
 no_pieces hash text legacy v0 =
-    ap (λ read. if_allowed (first_of_both (option_map (legacy_parts hash) read) (option_map (v0_parts hash) (v0_of text)))) legacy
+    ap (λ read. if_allowed (option_or (option_map (legacy_parts hash) read) (option_map (v0_parts hash) (v0_of text)))) legacy
     ∙ ap (λ read. if_allowed (option_map (v0_parts hash) read)) v0
 
 pub no_pieces-legacy : (hash : Bool) (text : List ℕ) (elements : List (List ℕ)) (suffix : List ℕ) → legacy_of text ≡ Some (elements, suffix) → is_allowed suffix ≡ false → pieces_of hash text ≡ None
 no_pieces-legacy hash text elements suffix e other =
-    ap (λ read. if_allowed (first_of_both (option_map (legacy_parts hash) read) (option_map (v0_parts hash) (v0_of text)))) e
+    ap (λ read. if_allowed (option_or (option_map (legacy_parts hash) read) (option_map (v0_parts hash) (v0_of text)))) e
     ∙ ap (λ b. cond b (Some (legacy_pieces hash elements, suffix)) None) other
 
 pub no_pieces-v0 : (hash : Bool) (text inner suffix : List ℕ) → v0_of text ≡ Some (inner, suffix) → is_allowed suffix ≡ false → pieces_of hash text ≡ None
 no_pieces-v0 hash text inner suffix e other =
-    ap (λ read. if_allowed (first_of_both (option_map (legacy_parts hash) read) (option_map (v0_parts hash) (v0_of text)))) (no_legacy text inner suffix (read_is_v0 text inner suffix e))
+    ap (λ read. if_allowed (option_or (option_map (legacy_parts hash) read) (option_map (v0_parts hash) (v0_of text)))) (no_legacy text inner suffix (read_is_v0 text inner suffix e))
     ∙ ap (λ read. if_allowed (option_map (v0_parts hash) read)) e
     ∙ ap (λ b. cond b (Some (rendered inner hash, suffix)) None) other
 
@@ -92,7 +92,7 @@ symbol-pieces hash text r e = let h = allowed-some (read_of hash text) r e in go
   suffix_is x y e = ap (λ (o : Option (List (List ℕ) × List ℕ)). option_map_or (λ p. p.1) o []) e
 
   go : (a : Option (List (List ℕ) × List ℕ)) (b : Option (List ℕ × List ℕ)) → legacy_of text ≡ a → v0_of text ≡ b
-      → first_of_both (option_map (legacy_parts hash) a) (option_map (v0_parts hash) b) ≡ Some r → is_allowed r.1 ≡ true → IsSymbol text
+      → option_or (option_map (legacy_parts hash) a) (option_map (v0_parts hash) b) ≡ Some r → is_allowed r.1 ≡ true → IsSymbol text
   go (Some p) b legacy v0 e allowed = inl (p.0, p.1, legacy_read text p.0 p.1 legacy, ap is_allowed (suffix_is (legacy_parts hash p) r e) ∙ allowed)
   go None (Some p) legacy v0 e allowed = inr (p.0, p.1, read_is_v0 text p.0 p.1 v0, ap is_allowed (suffix_is (v0_parts hash p) r e) ∙ allowed)
   go None None legacy v0 e allowed = cc

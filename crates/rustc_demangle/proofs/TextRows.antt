@@ -7,7 +7,7 @@ use Rattle.rustc_demangle.specs.Filtered.{filtered_from, filtered}
 use Rattle.demangle_legacy.specs.Legacy.{inner_of, element_of, parts_within, parts_of, legacy_of}
 use Rattle.rustc_demangle.specs.Lines.{lines}
 use Rattle.rustc_demangle.specs.Stripped.{stripped, is_allowed}
-use Rattle.demangle_legacy.specs.Unescaped.{escape_of_digits, escape_of, unit_of, pieces_from, unescaped, shown}
+use Rattle.demangle_legacy.specs.Unescaped.{escape_of_digits, escape_of, leading_unit, pieces_from, unescaped, shown_elements}
 use Rattle.demangle_v0.specs.V0.{v0_in, v0_of}
 
 endings : map stripped (codes "foo.llvm.AB" ∷ codes "foo.llvm." ∷ codes "foo.llvm.F0@9" ∷ codes "foo.llvm.AG" ∷ codes "foo.llvm.ab" ∷ codes "a.llvm.A.llvm.G" ∷ codes "a.llvm.A.llvm.B" ∷ codes "foo.llv.AB" ∷ []) ≡
@@ -50,5 +50,5 @@ with_hash : map (filtered true) texts ≡
     codes "_Z _ZN_ _R" ∷
     codes "<foo::h05af221e174051e9>" ∷
     []
-unfolding filtered_from stripped number inner_of element_of parts_within parts_of legacy_of escape_of_digits escape_of unit_of pieces_from unescaped shown encode_utf8 v0_in v0_of
+unfolding filtered_from stripped number inner_of element_of parts_within parts_of legacy_of escape_of_digits escape_of leading_unit pieces_from unescaped shown_elements encode_utf8 v0_in v0_of
 with_hash = refl

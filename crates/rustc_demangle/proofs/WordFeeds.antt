@@ -12,8 +12,8 @@ use Rattle.rustc_demangle.specs.Lines.{feeds}
 use Rattle.demangle_symbol.specs.Digits.{is_byte, run_end}
 use Rattle.demangle_symbol.specs.Words.{Name, only_if, then_if_some, some_or, is_upper, is_lower, namespace_at, identifier_at, nibbles_at, is_nibble, name_of, name_from, name_len, digits_from, length_end, tail_len, punycode_len, ascii_to}
 use Rattle.demangle_symbol.specs.Punycode.{inserted, deltas, next_delta, puny}
-use Rattle.demangle_symbol.specs.Names.{is_empty, undecoded, name_pieces}
-use Rattle.demangle_symbol.specs.Literals.{escaped, literal, is_shown}
+use Rattle.demangle_symbol.specs.Names.{is_empty, fallback_pieces, name_pieces}
+use Rattle.demangle_symbol.specs.Literals.{literal_escape, literal, is_shown}
 use Rattle.demangle_v0.specs.Table.{hyphenated, extern}
 use Rattle.rustc_demangle.proofs.Feeds.{feeds-append, feeds-take, feeds-drop, feeds-other, feeds-character}
 
@@ -147,11 +147,11 @@ name_clear a h k = go (is_empty a.punycode)
     front true = tt
     front false = (h, (refl, tt))
 
-    decoded : (o : Option (List ℕ)) → puny a.ascii a.punycode ≡ o → AreClear (some_or (undecoded a) o (λ cs. map encode_utf8 cs))
+    decoded : (o : Option (List ℕ)) → puny a.ascii a.punycode ≡ o → AreClear (some_or (fallback_pieces a) o (λ cs. map encode_utf8 cs))
     decoded None e = (refl, clear_join (cond (is_empty a.ascii) [] (a.ascii ∷ codes "-" ∷ [])) (a.punycode ∷ codes "}" ∷ []) (front (is_empty a.ascii)) (k, (refl, tt)))
     decoded (Some cs) e = encoded_clear cs (puny_clear a.ascii a.punycode cs h e)
 
-    go : (b : Bool) → AreClear (cond b (a.ascii ∷ []) (some_or (undecoded a) (puny a.ascii a.punycode) (λ cs. map encode_utf8 cs)))
+    go : (b : Bool) → AreClear (cond b (a.ascii ∷ []) (some_or (fallback_pieces a) (puny a.ascii a.punycode) (λ cs. map encode_utf8 cs)))
     go true = (h, tt)
     go false = decoded (puny a.ascii a.punycode) refl
 
@@ -171,10 +171,10 @@ extern_clear abi h = (refl, clear_join (hyphenated [] abi) (codes "\" " ∷ []) 
 
 -- Literals.
 
-escaped_feed : (quote : ℕ) → quote ≢ 10 → feeds (escaped quote 10) ≡ 0
+escaped_feed : (quote : ℕ) → quote ≢ 10 → feeds (literal_escape quote 10) ≡ 0
 escaped_feed quote ne = ap (λ b. feeds (cond (b || 10 == 92) (92 ∷ 10 ∷ []) (codes "\\n"))) (ne_eqb 10 quote (λ same. ne (sym same)))
 
-escaped_other : (quote c : ℕ) → c ≢ 10 → feeds (escaped quote c) ≡ 0
+escaped_other : (quote c : ℕ) → c ≢ 10 → feeds (literal_escape quote c) ≡ 0
 escaped_other quote c ne = go (c == quote || c == code "\\") (c == 0) (c == 9) (c == 10) (c == 13) ((nat_le 32 c && nat_lt c 127) || is_shown c)
   where
     go : (x y z v w t : Bool) → feeds (cond x (92 ∷ c ∷ []) (cond y (codes "\\0") (cond z (codes "\\t") (cond v (codes "\\n") (cond w (codes "\\r") (cond t (c ∷ []) (codes "\\u{" ++ digits 16 false c ++ codes "}"))))))) ≡ 0
@@ -186,18 +186,18 @@ escaped_other quote c ne = go (c == quote || c == code "\\") (c == 0) (c == 9) (
     go false false false false false true = feeds-other c [] ne
     go false false false false false false = omega (arith, feeds-append (digits 16 false c) (codes "}"), number_clear 16 c)
 
-escaped_clear : (quote c : ℕ) → quote ≢ 10 → feeds (escaped quote c) ≡ 0
+escaped_clear : (quote c : ℕ) → quote ≢ 10 → feeds (literal_escape quote c) ≡ 0
 escaped_clear quote c ne = elim (eqb_tells c 10) [
-  | inl e ↦ subst (λ x. feeds (escaped quote x) ≡ 0) (sym e.1) (escaped_feed quote ne)
+  | inl e ↦ subst (λ x. feeds (literal_escape quote x) ≡ 0) (sym e.1) (escaped_feed quote ne)
   | inr e ↦ escaped_other quote c e.1
 ]
 
-all_escaped : (quote : ℕ) (cs : List ℕ) → quote ≢ 10 → feeds (flat_map (escaped quote) cs) ≡ 0
+all_escaped : (quote : ℕ) (cs : List ℕ) → quote ≢ 10 → feeds (flat_map (literal_escape quote) cs) ≡ 0
 all_escaped quote [] ne = refl
-all_escaped quote (c ∷ cs) ne = omega (arith, feeds-append (escaped quote c) (flat_map (escaped quote) cs), escaped_clear quote c ne, all_escaped quote cs ne)
+all_escaped quote (c ∷ cs) ne = omega (arith, feeds-append (literal_escape quote c) (flat_map (literal_escape quote) cs), escaped_clear quote c ne, all_escaped quote cs ne)
 
 pub literal_clear : (quote : ℕ) (cs : List ℕ) → quote ≢ 10 → AreClear (literal quote cs)
 unfolding literal
 literal_clear quote cs ne =
-    let all = flat_map (escaped quote) cs in
+    let all = flat_map (literal_escape quote) cs in
     encoded_clear (quote ∷ all ++ quote ∷ []) (omega (arith, feeds-other quote (all ++ quote ∷ []) ne, feeds-append all (quote ∷ []), feeds-other quote [] ne, all_escaped quote cs ne))

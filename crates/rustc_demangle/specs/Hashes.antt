@@ -1,7 +1,7 @@
 -- A legacy symbol whose last element is its hash.
 use Rattle.std.specs.Prelude.{◌≡◌, ℕ, true, false, List, [], ◌∷◌, ◌++◌, codes}
 use Rattle.rustc_demangle.specs.Symbols.{handed}
-use Rattle.demangle_legacy.specs.Unescaped.{unescaped, is_hash, joined}
+use Rattle.demangle_legacy.specs.Unescaped.{unescaped, is_hash, joined_pieces}
 
 -- the pieces of an element that stands behind others: `::` in front of it where there are any
 abbrev pub pieces_behind : List (List ℕ) → List ℕ → List (List ℕ)
@@ -14,5 +14,5 @@ pub record LeavesHashOut (text : List ℕ) (elements : List (List ℕ)) (suffix 
   pub last : List ℕ
   pub whole : elements ≡ front ++ last ∷ []
   pub hash : is_hash last ≡ true
-  pub with_hash : handed text true limit ≡ joined front ++ pieces_behind front last ++ suffix ∷ []
-  pub without_hash : handed text false limit ≡ joined front ++ suffix ∷ []
+  pub with_hash : handed text true limit ≡ joined_pieces front ++ pieces_behind front last ++ suffix ∷ []
+  pub without_hash : handed text false limit ≡ joined_pieces front ++ suffix ∷ []

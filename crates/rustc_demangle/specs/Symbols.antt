@@ -1,7 +1,7 @@
 -- Which texts are Rust symbols, and what printing one hands over.
 use Rattle.std.specs.Prelude.{◌≡◌, ◌⊎◌, ℕ, Bool, true, List, [], ◌∷◌, ◌++◌, Option, None, Some, option_map, if◌then◌else◌}
 use Rattle.std.specs.List.{concat}
-use Rattle.std.specs.Option.{option_map_or}
+use Rattle.std.specs.Option.{option_map_or, option_or}
 use Rattle.demangle_sink.specs.Cut.{cut, kept}
 use Rattle.demangle_legacy.specs.Legacy.{IsLegacy, legacy_of}
 use Rattle.demangle_v0.specs.Reading.{rendered}
@@ -26,14 +26,9 @@ abbrev pub if_allowed : {A : Type 0} → Option (A × List ℕ) → Option (A ×
 if_allowed None = None
 if_allowed (Some (x, suffix)) = if is_allowed suffix then Some (x, suffix) else None
 
--- the first that is there
-abbrev pub first_of_both : {A : Type 0} → Option A → Option A → Option A
-first_of_both None b = b
-first_of_both (Some x) b = Some x
-
 -- the pieces and the suffix of what a scheme reads, with the hash or without it; no text has a prefix of both schemes
 abbrev pub read_of : Bool → List ℕ → Option (List (List ℕ) × List ℕ)
-read_of hash text = first_of_both (option_map (λ read. (legacy_pieces hash read.0, read.1)) (legacy_of text))
+read_of hash text = option_or (option_map (λ read. (legacy_pieces hash read.0, read.1)) (legacy_of text))
     (option_map (λ read. (rendered read.0 hash, read.1)) (v0_of text))
 
 -- the pieces and the suffix of a symbol

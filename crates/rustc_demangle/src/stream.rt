@@ -16,18 +16,7 @@ pub use fault::StreamFault;
 use line::demangle_line;
 use reading::read_line;
 
-// A line as text.
-fn text_of(line: &[u8]) -> Result<&str, StreamFault>
-    ensures text { IfOk result (λ text. (text.now ≡ line.now) × IsUtf8 line.now) }
-    ensures fault { IfErr result (λ fault. (fault ≡ StreamFault.NotUtf8) × (IsUtf8 line.now → ⊥)) }
-{
-    match str::from_utf8(line) {
-        Ok(text) => Ok(text),
-        Err(_) => Err(StreamFault::NotUtf8),
-    }
-}
-
-// Reads a line whole and then writes it demangled, or answers `false` at the end of the input.
+/// Reads a line whole and then writes it demangled, or answers `false` at the end of the input.
 fn copy_line<R: BufRead, W: Write, A: Allocator>(
     input: &mut R,
     output: &mut W,
@@ -42,14 +31,16 @@ fn copy_line<R: BufRead, W: Write, A: Allocator>(
     if line.is_empty() {
         return Ok(false);
     }
-    let text = text_of(line.as_slice())?;
+    let Ok(text) = str::from_utf8(line.as_slice()) else {
+        return Err(StreamFault::NotUtf8);
+    };
     match demangle_line(text, output, include_hash) {
         Ok(()) => Ok(true),
         Err(error) => Err(StreamFault::Write(error)),
     }
 }
 
-// Copies lines up to the end of the input, with a buffer for the line.
+/// Copies lines up to the end of the input, with a buffer for the line.
 fn copy_lines<R: BufRead, W: Write, A: Allocator>(
     input: &mut R,
     output: &mut W,

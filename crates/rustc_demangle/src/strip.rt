@@ -3,7 +3,7 @@ ghost use Rattle.std.specs.Prelude.{◌≡◌};
 ghost use Rattle.std.specs.List.{list_all};
 ghost use Rattle.rustc_demangle.specs.Stripped.{stripped, is_thin_lto};
 
-// Whether all of it may stand behind `.llvm.`.
+/// Whether all of it may stand behind `.llvm.`.
 fn is_thin_lto(ending: &str) -> bool
     ensures { result ≡ list_all is_thin_lto ending.now }
 {

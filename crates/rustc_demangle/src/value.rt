@@ -100,7 +100,7 @@ impl<'a> Demangle<'a> {
         self.original
     }
 
-    // Prints into a sink, by what it was handed.
+    /// Prints into a sink, by what it was handed.
     fn hand_over<S: TextSink>(
         &self,
         out: &mut S,
@@ -207,15 +207,15 @@ impl<'a> Demangle<'a> {
     }
 }
 
-// Whether a byte is a printable ASCII character that is no space.
+/// Whether a byte is a printable ASCII character that is no space.
 fn is_graphic(byte: u8) -> bool
     ensures { result ≡ is_graphic byte }
 {
     matches!(byte, 0x21..=0x7E)
 }
 
-// Whether a suffix is allowed: nothing, or `.` and graphic characters alone. It is one look for
-// each byte.
+/// Whether a suffix is allowed: nothing, or `.` and graphic characters alone. It is one look for
+/// each byte.
 #[tactic(auto, using(crate::proofs::SuffixSteps::suffix_steps))]
 fn is_allowed(suffix: &str, looks: &mut Looks) -> bool
     ensures allowed { result ≡ is_allowed suffix.now }
@@ -240,7 +240,7 @@ fn is_allowed(suffix: &str, looks: &mut Looks) -> bool
     true
 }
 
-// What a scheme reads of a text, and what it leaves.
+/// What a scheme reads of a text, and what it leaves.
 fn read_style<'a>(text: &'a str, looks: &mut Looks) -> Option<(DemangleStyle<'a>, &'a str)>
     ensures some { IfSome result (λ r. IsReadAs text.now r.0 r.1.now) }
     ensures inner { IfSome result (λ r. style_len r.0 ≤ length text.now) }
@@ -258,7 +258,7 @@ fn read_style<'a>(text: &'a str, looks: &mut Looks) -> Option<(DemangleStyle<'a>
     }
 }
 
-// The style of a text and its suffix, if it is a symbol.
+/// The style of a text and its suffix, if it is a symbol.
 fn style_of<'a>(text: &'a str, looks: &mut Looks) -> Option<(DemangleStyle<'a>, &'a str)>
     ensures some { IfSome result (λ r. HasStyle text.now r.0 r.1.now) }
     ensures none { IfNone result (HasNoStyle text.now) }
@@ -275,7 +275,7 @@ fn style_of<'a>(text: &'a str, looks: &mut Looks) -> Option<(DemangleStyle<'a>, 
 }
 
 impl<'a> Demangle<'a> {
-    // The text, read as a symbol where it is one.
+    /// The text, read as a symbol where it is one.
     pub(crate) fn read(text: &'a str, looks: &mut Looks) -> Demangle<'a>
         ensures text { result ≡ text.now }
         ensures grows { looks.old ≤ looks.new }
@@ -296,7 +296,7 @@ impl<'a> Demangle<'a> {
         }
     }
 
-    // Whether it is a symbol.
+    /// Whether it is a symbol.
     pub(crate) fn has_style(&self) -> bool
         ensures yes { IsTrue result → IsSymbol self.now }
         ensures no { result ≡ false → IsSymbol self.now → ⊥ }

@@ -1,5 +1,5 @@
 //! What the stream writes of lines, and where a reader or a writer refuses.
-use super::streams::{NotingWriter, PartsReader, RefusingWriter};
+use crate::streams::{NotingWriter, PartsReader, RefusingWriter};
 use rustc_demangle::{StreamFault, demangle_stream, demangle_stream_named};
 use std::alloc::Global;
 use std::io::ErrorKind;

@@ -13,13 +13,13 @@ pub fn printing_looks_stay_linear()
         let all = stretches plain (read_at symbol true a_path 0 0 0 true).tree in
         looks_of (take (k + 1) all) ≤ 100000 * (bytes_of (take k all) + 1) * (length symbol + 1) }
     ensures paid { (symbol : List ℕ) (plain : Bool) →
-        Pays (17000 * (length symbol + 1)) (17034 * (length symbol + 1))
+        Pays (34 * max_depth * (length symbol + 1)) (34 * (max_depth + 1) * (length symbol + 1))
         (stretches plain (read_at symbol true a_path 0 0 0 true).tree) 0 }
     ensures unit { (symbol : List ℕ) (plain : Bool) (kind : Kind)
         (i depth lifetimes : ℕ) (value : Bool) (k : ℕ) → i ≤ length symbol → depth ≤ max_depth →
         let all = stretches plain (read_at symbol true kind i depth lifetimes value).tree in
         looks_of (take (k + 1) all)
-        ≤ 34 * (length symbol + 1) * (501 - depth) * (bytes_of (take k all) + 1) }
+        ≤ 34 * (length symbol + 1) * (max_depth + 1 - depth) * (bytes_of (take k all) + 1) }
     ensures bytes { (symbol : List ℕ) (plain : Bool) →
         bytes_of (stretches plain (read_at symbol true a_path 0 0 0 true).tree)
         ≡ size (rendered symbol plain) }

@@ -11,14 +11,14 @@ use memchr::memchr;
 use std::io;
 use std::io::Write;
 
-// Whether a run begins here.
+/// Whether a run begins here.
 fn begins_run(text: &[u8]) -> bool
     ensures { result ≡ begins_run text.now }
 {
     text.starts_with(b"_ZN") || text.starts_with(b"_R")
 }
 
-// The place of the next run.
+/// The place of the next run.
 fn run_start(text: &[u8]) -> Option<usize>
     ensures some { IfSome result (λ n. (n < length text.now) × (begins_run (drop n text.now) ≡ true)
         × ((k : ℕ) → k < n → begins_run (drop k text.now) ≡ false)) }
@@ -36,7 +36,7 @@ fn run_start(text: &[u8]) -> Option<usize>
     None
 }
 
-// Whether a run may have this byte.
+/// Whether a run may have this byte.
 #[inline(always)]
 fn is_run(byte: u8) -> bool
     ensures { result ≡ is_run byte }
@@ -44,10 +44,10 @@ fn is_run(byte: u8) -> bool
     (byte == b'$') | (byte == b'.') | (byte == b'_') | byte.is_ascii_alphanumeric()
 }
 
-// How many bytes are tested at once: so many that the compiler does it by vectors.
+/// How many bytes are tested at once: so many that the compiler does it by vectors.
 const GROUP: usize = 32;
 
-// Whether a run may have each byte of the group that begins here.
+/// Whether a run may have each byte of the group that begins here.
 #[inline(always)]
 fn is_run_group(text: &[u8], from: usize) -> bool
     requires { from + 32 ≤ length text.now }
@@ -61,7 +61,7 @@ fn is_run_group(text: &[u8], from: usize) -> bool
     all
 }
 
-// How long a run is that begins here.
+/// How long a run is that begins here.
 fn run_len(text: &[u8]) -> usize
     ensures { result ≡ prefix_len is_run text.now }
 {
@@ -75,7 +75,7 @@ fn run_len(text: &[u8]) -> usize
     at
 }
 
-// Writes a text by one call of the writer, and an empty one by none.
+/// Writes a text by one call of the writer, and an empty one by none.
 fn write_kept<W: Write>(text: &str, output: &mut W) -> io::Result<()>
     ensures { OnOk result (Appends (W.contents output.old) (W.contents output.new) text.now) }
 {
@@ -85,7 +85,7 @@ fn write_kept<W: Write>(text: &str, output: &mut W) -> io::Result<()>
     output.write_all(text.as_bytes())
 }
 
-// Writes what a symbol prints, each piece by a call of its own.
+/// Writes what a symbol prints, each piece by a call of its own.
 fn write_symbol<W: Write>(
     symbol: &Demangle<'_>,
     output: &mut W,
@@ -103,7 +103,7 @@ fn write_symbol<W: Write>(
     }
 }
 
-// Writes what stands for a run: what it prints where it is a symbol, else the run.
+/// Writes what stands for a run: what it prints where it is a symbol, else the run.
 fn write_run<W: Write>(run: &str, output: &mut W, include_hash: bool) -> io::Result<()>
     ensures { OnOk result (Appends
         (W.contents output.old) (W.contents output.new) (replacement include_hash run.now)) }

@@ -11,7 +11,7 @@ use std::alloc::Allocator;
 use std::io;
 use std::io::BufRead;
 
-// The length up to and including the first line feed, or the whole length.
+/// The length up to and including the first line feed, or the whole length.
 fn len_through_feed(bytes: &[u8]) -> usize
     ensures bound { result ≤ length bytes.now }
     ensures some { 0 < length bytes.now → 0 < result }
@@ -24,7 +24,7 @@ fn len_through_feed(bytes: &[u8]) -> usize
     }
 }
 
-// Takes one filling, up to and including its first line feed. `true` where the line is whole.
+/// Takes one filling, up to and including its first line feed. `true` where the line is whole.
 fn take_filling<R: BufRead, A: Allocator>(
     input: &mut R,
     line: &mut Vec<u8, A>,

@@ -25,7 +25,7 @@ const TWICE_COPIED: &[u8] =
     b"foo.llvm moocow <mio::sys::unix::selector::epoll::Selector>::select foo.llvm\n\
     foo.llvm moocow <mio::sys::unix::selector::epoll::Selector>::select foo.llvm\n";
 
-// Which ways copies ended.
+/// Which ways copies ended.
 #[derive(Clone, Copy, Default)]
 struct Copies {
     refused_first: bool,
@@ -34,7 +34,7 @@ struct Copies {
     other: bool,
 }
 
-// Each size of a heap lets the buffer grow so far; each refusal leaves whole lines.
+/// Each size of a heap lets the buffer grow so far; each refusal leaves whole lines.
 fn copied_in_heaps(alloc: Global, text: &[u8], first: &[u8], whole: &[u8]) -> Result<Copies, Fail> {
     let mut copies = Copies::default();
     for units in 1..64usize {

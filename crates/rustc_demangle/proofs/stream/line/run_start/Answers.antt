@@ -9,28 +9,30 @@ use Rattle.rustc_demangle.proofs.stream.line.run_start.Goals as goal
 rest_is : (text : List ℕ) (from : ℕ) → take (length text - from) (drop from text) ≡ drop from text
 rest_is text from = take_all _ _ (omega (arith, length-drop from text))
 
+-- where the next `_` behind a place stands, and none in front of it
+found_at : (text : List ℕ) (from ahead : ℕ) → ahead < length (take (length text - from) (drop from text))
+    → Nowhere (Passes (is_byte 95) (take (length text - from) (drop from text))) 0 ahead
+    → (from + ahead < length text) × Nowhere (Passes (is_byte 95) (drop from text)) 0 ahead
+found_at text from ahead high before =
+    let rest = rest_is text from in
+    (omega (arith, subst (λ s. ahead < length s) rest high, length-drop from text), subst (λ s. Nowhere (Passes (is_byte 95) s) 0 ahead) rest before)
+
 pub returns-then-begins_run-clause-some : goal.returns-then-begins_run-clause-some
 returns-then-begins_run-clause-some c =
     let l = c.loop-ahead in
     let text = c.args.text.now in
     let ahead = c.in-Some.ahead in
-    let found = c.in-Some.ensures.0 in
-    let rest = rest_is text l.from in
-    let inside : l.from + ahead < length text = omega (arith, subst (λ s. ahead < length s) rest found.high, length-drop l.from text) in
-    let none : Nowhere (Passes (is_byte 95) (drop l.from text)) 0 ahead = subst (λ s. Nowhere (Passes (is_byte 95) s) 0 ahead) rest found.before in
-    (inside, sym (ap begins_run (rest_is text (l.from + ahead))) ∙ sym c.begins_run.ensures ∙ c.if-begins_run.true, no_run_up_to text l.from ahead (omega (arith, inside)) l.invariant.1 none)
+    let found = found_at text l.from ahead c.in-Some.ensures.0.high c.in-Some.ensures.0.before in
+    (found.0, sym (ap begins_run (rest_is text (l.from + ahead))) ∙ sym c.begins_run.ensures ∙ c.if-begins_run.true, no_run_up_to text l.from ahead (omega (arith, found.0)) l.invariant.1 found.1)
 
 pub loop-ahead-preserved : goal.loop-ahead-preserved
 loop-ahead-preserved c =
     let l = c.loop-ahead in
     let text = c.args.text.now in
     let ahead = c.in-Some.ahead in
-    let found = c.in-Some.ensures.0 in
-    let rest = rest_is text l.from in
-    let inside : l.from + ahead < length text = omega (arith, subst (λ s. ahead < length s) rest found.high, length-drop l.from text) in
-    let none : Nowhere (Passes (is_byte 95) (drop l.from text)) 0 ahead = subst (λ s. Nowhere (Passes (is_byte 95) s) 0 ahead) rest found.before in
+    let found = found_at text l.from ahead c.in-Some.ensures.0.high c.in-Some.ensures.0.before in
     let here : begins_run (drop (l.from + ahead) text) ≡ false = sym (ap begins_run (rest_is text (l.from + ahead))) ∙ sym c.begins_run.ensures ∙ c.if-begins_run.false in
-    (omega (arith, inside), λ k lt. no_run_behind text (l.from + ahead) k (no_run_up_to text l.from ahead (omega (arith, inside)) l.invariant.1 none) here lt)
+    (omega (arith, found.0), λ k lt. no_run_behind text (l.from + ahead) k (no_run_up_to text l.from ahead (omega (arith, found.0)) l.invariant.1 found.1) here lt)
 
 pub returns-clause-none : goal.returns-clause-none
 returns-clause-none c = λ k lt.

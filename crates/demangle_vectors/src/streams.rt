@@ -1,4 +1,5 @@
-//! Streams in memory that refuse.
+//! Readers and writers in memory, for tests: they fail where they are told to, or tell what was
+//! done to them.
 use std::alloc::{AllocError, Global};
 use std::io;
 use std::io::{BufRead, ErrorKind, Read, Write};
