@@ -8,12 +8,12 @@ use Rattle.demangle_symbol.specs.Digits.{is_byte, run_end}
 use Rattle.demangle_symbol.specs.Words.{Read, Name, only_if, some_or, name_of, name_from, name_len, is_upper, is_nibble, integer_at, optional_at, identifier_at, nibbles_at, number_of}
 use Rattle.demangle_symbol.specs.Names.{name_pieces, is_nameless, is_empty}
 use Rattle.demangle_symbol.specs.Literals.{literal, string_of}
-use Rattle.demangle_v0.specs.Items.{Text, Items, invalid, say, say_plain, integer, identifier, lifetime}
-use Rattle.demangle_v0.specs.Table.{says, say_all, says_name, extern, text_of, basic_types, number_pieces}
+use Rattle.demangle_v0.specs.Items.{Text, Items, done, invalid, say, say_plain, integer, identifier, lifetime}
+use Rattle.demangle_v0.specs.Table.{says, say_all, says_name, in_special, in_namespace, path, extern, text_of, basic_types, number_pieces}
 use Rattle.demangle_v0.specs.Reading.{Tree, nothing, piece, looked, invalid_syntax, Place, Outcome, Surroundings, fault, behind, stands, followed_by, run, resumed, forked, letter_of, all_pieces, lifetime_at, lifetime_named}
-use Rattle.demangle_v0.specs.Grammar.{word_items, special_name, says_head, function_head, says_true, says_char}
+use Rattle.demangle_v0.specs.Grammar.{text, word_items, says_head, function_head, says_true, says_char}
 use Rattle.demangle_v0.specs.Events.{Event, shows, allows, said, said_all, events, Heard, of, ended, allowing, handing}
-use Rattle.demangle_v0.specs.Groups.{bytes_in, parts_of, ident_at, hex_at, nested_texts, number_texts, if_plain, texts_of, Group, goes, faulty, reading, asking, checked, abi_named, abi_group, truth_stretch, character_stretch, literal_stretch, word_group}
+use Rattle.demangle_v0.specs.Groups.{bytes_in, parts_of, ident_at, hex_at, nested_texts, number_texts, if_plain, texts_of, Group, goes, faulty, reading, asking, checked, abi_named, abi_group, truth_stretch, character_stretch, literal_stretch, crate_group, nested_group, word_group}
 use Rattle.demangle_v0.specs.Points.{around}
 use Rattle.demangle_symbol.specs.declared.cursor.Part.{Part}
 use Rattle.demangle_symbol.specs.declared.cursor.ident.Ident.{Ident}
@@ -29,7 +29,7 @@ use Rattle.demangle_v0.proofs.Hearing.{said_all_append}
 -- a word, and what follows it unless it ends the unit
 abbrev pub word_then : List ℕ → Bool → Bool → WordRead → (Place → Heard) → Heard
 word_then b plain out (Goes x j) k = handing out (texts_of b plain x) (k j)
-word_then b plain out (Stops x) k = handing out (texts_of b plain x) (ended None false)
+word_then b plain out (Stops m) k = handing out (text m ∷ []) (ended None false)
 
 abbrev pub grouped : List ℕ → Bool → Bool → Group → (Place → Heard) → Heard
 grouped b plain out g k = allowing g.costs (word_then b plain out g.reads k)
@@ -95,32 +95,32 @@ ask_reads b plain out false f g x y k i p q = ap (paying 1) q
 
 -- Names.
 
-crate_read : (b : List ℕ) (plain out : Bool) (s : Surroundings) (p : Items) (a : Ident) (name : Name) (d : ℕ) (j : Place) → name ≡ Rattle.demangle_symbol.specs.Idents.name_in b a
-    → of plain out (run (says_name name (if d == 0 then p else say_plain (codes "[") (say_plain (digits 16 false d) (say_plain (codes "]") p)))) s j) ≡ handing out (texts_of b plain (CrateName a d)) (of plain out (run p s j))
+crate_read : (b : List ℕ) (plain out : Bool) (s : Surroundings) (a : Ident) (name : Name) (d : ℕ) (j : Place) → name ≡ Rattle.demangle_symbol.specs.Idents.name_in b a
+    → of plain out (run (says_name name (if d == 0 then done else say_plain (codes "[") (say_plain (digits 16 false d) (say_plain (codes "]") done)))) s j) ≡ handing out (texts_of b plain (CrateName a d)) (of plain out (run done s j))
 unfolding run
-crate_read b plain out s p a name d j e =
-    rw e (says_all plain out (name_pieces (Rattle.demangle_symbol.specs.Idents.name_in b a)) (cond (d == 0) p more) s j
+crate_read b plain out s a name d j e =
+    rw e (says_all plain out (name_pieces (Rattle.demangle_symbol.specs.Idents.name_in b a)) (cond (d == 0) done more) s j
     ∙ (ap (handing out (name_pieces (Rattle.demangle_symbol.specs.Idents.name_in b a))) (go plain (d == 0))
-    ∙ sym (handing_both out (name_pieces (Rattle.demangle_symbol.specs.Idents.name_in b a)) (cond (d == 0) [] (if_plain plain ts)) (of plain out (run p s j)))))
+    ∙ sym (handing_both out (name_pieces (Rattle.demangle_symbol.specs.Idents.name_in b a)) (cond (d == 0) [] (if_plain plain ts)) (of plain out (run done s j)))))
   where
     more : Items
-    more = say_plain (codes "[") (say_plain (digits 16 false d) (say_plain (codes "]") p))
+    more = say_plain (codes "[") (say_plain (digits 16 false d) (say_plain (codes "]") done))
 
     ts : List Text
     ts = codes "[" ∷ digits 16 false d ∷ codes "]" ∷ []
 
-    go : (plain c : Bool) → of plain out (run (cond c p more) s j) ≡ handing out (cond c [] (if_plain plain ts)) (of plain out (run p s j))
+    go : (plain c : Bool) → of plain out (run (cond c done more) s j) ≡ handing out (cond c [] (if_plain plain ts)) (of plain out (run done s j))
     go plain true = refl
     go true false = refl
     go false false = refl
 
-nested_read : (b : List ℕ) (plain out : Bool) (s : Surroundings) (p : Items) (a : Name) (n d : ℕ) (j : Place)
-    → of plain out (run (if is_upper n then special_name n d a p else if is_nameless a then p else says "::" (says_name a p)) s j) ≡ handing out (nested_texts n d a) (of plain out (run p s j))
+nested_read : (b : List ℕ) (plain out : Bool) (s : Surroundings) (a : Name) (n d : ℕ) (j : Place)
+    → of plain out (run (if is_upper n then in_special n d a else if is_nameless a then done else says "::" (says_name a done)) s j) ≡ handing out (nested_texts n d a) (of plain out (run done s j))
 unfolding run
-nested_read b plain out s p a n d j = go (is_upper n) (is_nameless a)
+nested_read b plain out s a n d j = go (is_upper n) (is_nameless a)
   where
     ending : Items
-    ending = says "#" (say (decimal d) (says "}" p))
+    ending = says "#" (say (decimal d) (says "}" done))
 
     ends : List Text
     ends = codes "#" ∷ decimal d ∷ codes "}" ∷ []
@@ -128,14 +128,14 @@ nested_read b plain out s p a n d j = go (is_upper n) (is_nameless a)
     which : Text
     which = if n == code "C" then codes "closure" else if n == code "S" then codes "shim" else n ∷ []
 
-    go : (u e : Bool) → of plain out (run (cond u (says "::{" (say which (cond e ending (says ":" (says_name a ending))))) (cond e p (says "::" (says_name a p)))) s j)
-        ≡ handing out (cond u (codes "::{" ∷ which ∷ (cond e [] (codes ":" ∷ name_pieces a) ++ ends)) (cond e [] (codes "::" ∷ name_pieces a))) (of plain out (run p s j))
+    go : (u e : Bool) → of plain out (run (cond u (says "::{" (say which (cond e ending (says ":" (says_name a ending))))) (cond e done (says "::" (says_name a done)))) s j)
+        ≡ handing out (cond u (codes "::{" ∷ which ∷ (cond e [] (codes ":" ∷ name_pieces a) ++ ends)) (cond e [] (codes "::" ∷ name_pieces a))) (of plain out (run done s j))
     go true true = refl
     go true false =
         ap (λ (h : Heard). saying out (codes "::{") (saying out which (saying out (codes ":") h)))
-        (says_all plain out (name_pieces a) ending s j ∙ sym (handing_both out (name_pieces a) ends (of plain out (run p s j))))
+        (says_all plain out (name_pieces a) ending s j ∙ sym (handing_both out (name_pieces a) ends (of plain out (run done s j))))
     go false true = refl
-    go false false = ap (saying out (codes "::")) (says_all plain out (name_pieces a) p s j)
+    go false false = ap (saying out (codes "::")) (says_all plain out (name_pieces a) done s j)
 
 -- Lifetimes.
 
@@ -280,8 +280,6 @@ binding_read b plain left out n p a j =
 pub word_read : (b : List ℕ) (plain : Bool) (left : ℕ) (out : Bool) (n : ℕ) (w : Word) (note : ℕ) (p : Items) (i : Place)
     → of plain out (run (word_items w note p) (around b out left n) i) ≡ grouped b plain out (word_group b w note out n i) (λ j. of plain out (run p (around b out left n) j))
 unfolding run
-word_read b plain left out n word.CrateName note p None = refl
-word_read b plain left out n word.NestedName note p None = refl
 word_read b plain left out n word.FieldName note p None = refl
 word_read b plain left out n word.BindingName note p None = refl
 word_read b plain left out n word.LifetimeIndex note p None = refl
@@ -291,18 +289,6 @@ word_read b plain left out n word.Number note p None = refl
 word_read b plain left out n word.Truth note p None = refl
 word_read b plain left out n word.Character note p None = refl
 word_read b plain left out n word.Literal note p None = refl
-word_read b plain left out n word.CrateName note p (Some i) =
-    let s = around b out left n in let k : Place → Heard = λ j. of plain out (run p s j) in
-    word_reads b plain out (length b) i (λ d. run (identifier (λ a. says_name a (if d == 0 then p else say_plain (codes "[") (say_plain (digits 16 false d) (say_plain (codes "]") p))))) s) (λ d j. reading (length b) j (ident_at b j) (λ a m. goes (CrateName a d) (Some m))) k
-    (λ d j. name_reads b plain out (length b) j (λ a. run (says_name a (if d == 0 then p else say_plain (codes "[") (say_plain (digits 16 false d) (say_plain (codes "]") p)))) s) (λ a m. goes (CrateName a d) (Some m)) k
-    (λ m. crate_read b plain out s p (parts_of b j m) (name_of b j m) d (Some m) refl))
-    (optional_at 115 b i)
-word_read b plain left out n word.NestedName note p (Some i) =
-    let s = around b out left n in let k : Place → Heard = λ j. of plain out (run p s j) in
-    word_reads b plain out (length b) i (λ d. run (identifier (λ a. if is_upper note then special_name note d a p else if is_nameless a then p else says "::" (says_name a p))) s) (λ d j. reading (length b) j (ident_at b j) (λ a m. goes (NestedName note d a) (Some m))) k
-    (λ d j. name_reads b plain out (length b) j (λ a. run (if is_upper note then special_name note d a p else if is_nameless a then p else says "::" (says_name a p)) s) (λ a m. goes (NestedName note d a) (Some m)) k
-    (λ m. nested_read b plain out s p (name_of b j m) note d (Some m)))
-    (optional_at 115 b i)
 word_read b plain left out n word.FieldName note p (Some i) =
     let s = around b out left n in let k : Place → Heard = λ j. of plain out (run p s j) in
     word_reads b plain out (length b) i (λ d. run (identifier (λ a. says_name a p)) s) (λ d j. reading (length b) j (ident_at b j) (λ a m. goes (FieldName a) (Some m))) k
@@ -342,3 +328,25 @@ word_read b plain left out n word.Literal note p (Some i) =
     let s = around b out left n in let k : Place → Heard = λ j. of plain out (run p s j) in
     hex_reads b plain out (length b) i (λ h. run (some_or invalid (string_of h) (λ cs. say_all (literal (code "\"") cs) p)) s) (λ h j. literal_stretch (string_of (bytes_in b h)) h j) k
     (λ end j. literal_read b plain out p s j (record { from = i; to = end }))
+
+-- the names of paths, behind their tag
+
+pub crate_reads : (b : List ℕ) (plain : Bool) (left : ℕ) (out : Bool) (n : ℕ) (v : Bool) (i : ℕ)
+    → of plain out (run (path v 67) (around b out left n) (Some i)) ≡ grouped b plain out (crate_group b i) (λ j. of plain out (run done (around b out left n) j))
+unfolding run
+crate_reads b plain left out n v i =
+    let s = around b out left n in let k : Place → Heard = λ j. of plain out (run done s j) in
+    word_reads b plain out (length b) i (λ d. run (identifier (λ a. says_name a (if d == 0 then done else say_plain (codes "[") (say_plain (digits 16 false d) (say_plain (codes "]") done))))) s) (λ d j. reading (length b) j (ident_at b j) (λ a m. goes (CrateName a d) (Some m))) k
+    (λ d j. name_reads b plain out (length b) j (λ a. run (says_name a (if d == 0 then done else say_plain (codes "[") (say_plain (digits 16 false d) (say_plain (codes "]") done)))) s) (λ a m. goes (CrateName a d) (Some m)) k
+    (λ m. crate_read b plain out s (parts_of b j m) (name_of b j m) d (Some m) refl))
+    (optional_at 115 b i)
+
+pub nested_reads : (b : List ℕ) (plain : Bool) (left : ℕ) (out : Bool) (n c i : ℕ)
+    → of plain out (run (in_namespace c) (around b out left n) (Some i)) ≡ grouped b plain out (nested_group b c i) (λ j. of plain out (run done (around b out left n) j))
+unfolding run
+nested_reads b plain left out n c i =
+    let s = around b out left n in let k : Place → Heard = λ j. of plain out (run done s j) in
+    word_reads b plain out (length b) i (λ d. run (identifier (λ a. if is_upper c then in_special c d a else if is_nameless a then done else says "::" (says_name a done))) s) (λ d j. reading (length b) j (ident_at b j) (λ a m. goes (NestedName c d a) (Some m))) k
+    (λ d j. name_reads b plain out (length b) j (λ a. run (if is_upper c then in_special c d a else if is_nameless a then done else says "::" (says_name a done)) s) (λ a m. goes (NestedName c d a) (Some m)) k
+    (λ m. nested_read b plain out s (name_of b j m) c d (Some m)))
+    (optional_at 115 b i)

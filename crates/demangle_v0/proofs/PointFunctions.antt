@@ -190,19 +190,11 @@ module _ {V : Type 0} (voice : Ghosts V) (b : List ℕ) (plain : Bool) where
       put_refused (word_group b x c voice.loud n i).costs (texts_of b plain s) _ (heard p left n j) weight high row v w new e made (word_so x c p left n i (reads.Goes s j) r) q l (λ h. absurd (false≢true (k h)))
 
   -- one that ends the unit
-  pub word_stops : (x : Word) (c : ℕ) (p : Items) (left n : ℕ) (i : Place) (s : Stretch) (weight high : ℕ) (row : List Frame) (v w : V) (new : State) (made : ℕ)
-      → reads.Stops s ≡ (word_group b x c voice.loud n i).reads → made ≤ total (word_group b x c voice.loud n i).costs
-      → voice.prints v (texts_of b plain s) (Ok tt) w → new.mark ≡ None → new.place ≡ None → new.is_open ≡ false → 1 ≤ weight
-      → DidOn voice b plain (heard (word_items x c p) left n i) weight high row v (Ok point.End) new row w made
-  unfolding share_at
-  word_stops x c p left n i s weight high row v w new made r l q m k o y =
-      put_goes point.End (word_group b x c voice.loud n i).costs (texts_of b plain s) _ weight high row v w new made (rw (k, o) (word_so x c p left n i (reads.Stops s) r)) q m l (omega arith) (omega arith) tt
-
-  pub word_stop_refused : (x : Word) (c : ℕ) (p : Items) (left n : ℕ) (i : Place) (s : Stretch) (weight high : ℕ) (row : List Frame) (v w : V) (new : State) (e : SinkRefused) (made : ℕ)
-      → reads.Stops s ≡ (word_group b x c voice.loud n i).reads → made ≤ total (word_group b x c voice.loud n i).costs
-      → voice.prints v (texts_of b plain s) (Err e) w → DidOn voice b plain (heard (word_items x c p) left n i) weight high row v (Err Refused) new row w made
-  word_stop_refused x c p left n i s weight high row v w new e made r l q =
-      put_refused (word_group b x c voice.loud n i).costs (texts_of b plain s) _ (ended None false) weight high row v w new e made (word_so x c p left n i (reads.Stops s) r) q l (λ h. refl)
+  pub word_fails : (x : Word) (c : ℕ) (p : Items) (left n : ℕ) (i : Place) (m : Mark) (weight high : ℕ) (row : List Frame) (v : V) (new : State) (made : ℕ)
+      → reads.Stops m ≡ (word_group b x c voice.loud n i).reads → made ≤ total (word_group b x c voice.loud n i).costs → new.mark ≡ None → 1 ≤ weight
+      → DidOn voice b plain (heard (word_items x c p) left n i) weight high row v (Err (Fault m)) new row v made
+  word_fails x c p left n i m weight high row v new made r l k y =
+      faulty_after voice b plain (word_group b x c voice.loud n i).costs m _ weight high row v new made k (word_so x c p left n i (reads.Stops m) r) l y
 
   -- Binders.
 

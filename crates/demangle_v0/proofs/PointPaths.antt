@@ -1,15 +1,18 @@
 -- The points of paths.
 use Rattle.std.specs.Prelude.{◌*◌}
-use Rattle.std.proofs.Common.{◌≡◌, ℕ, zero, suc, sub-one, ◌+◌, ◌-◌, ◌<◌, ◌≤◌, length, Bool, Option, Some, None, List, [], ◌∷◌, ◌++◌, Result, Ok, Err, refl, arith, sym, ap, ◌∙◌}
-use Rattle.demangle_v0.specs.Items.{Items, invalid, byte, done}
-use Rattle.demangle_v0.specs.Events.{Heard, of}
-use Rattle.demangle_v0.specs.Grammar.{found, word_items}
-use Rattle.demangle_v0.specs.declared.grammar.Word.TheVariants as word
+use Rattle.std.proofs.Common.{◌≡◌, ℕ, zero, suc, sub-one, ◌+◌, ◌-◌, ◌<◌, ◌≤◌, length, Bool, false, Option, Some, None, List, [], ◌∷◌, ◌++◌, Result, Ok, Err, refl, arith, sym, ap, ◌∙◌}
+use Rattle.demangle_v0.specs.Items.{Items, invalid, byte}
+use Rattle.demangle_v0.specs.Events.{Heard, of, ended}
+use Rattle.demangle_v0.specs.Groups.{texts_of, crate_group, nested_group}
+use Rattle.demangle_sink.specs.declared.SinkRefused.{SinkRefused}
+use Rattle.demangle_v0.specs.declared.stretch.Stretch.TheVariants.{NestedUnread}
+use Rattle.demangle_v0.proofs.GroupReads.{crate_reads, nested_reads}
+use Rattle.demangle_v0.specs.Grammar.{found}
 use Rattle.demangle_symbol.specs.Words.{some_or, namespace_at, byte_at}
 use Rattle.demangle_v0.specs.Table.{path, path_rows}
 use Rattle.demangle_v0.specs.Tags.{path_kinds, path_of}
 use Rattle.demangle_v0.specs.Reading.{Place, run, level_of, levels}
-use Rattle.demangle_v0.specs.Points.{followed, share_at, closing, around, goes, Fits, DidOn}
+use Rattle.demangle_v0.specs.Points.{puts, followed, share_at, closing, around, goes, Fits, DidOn}
 use Rattle.demangle_v0.specs.declared.grammar.Mark.TheVariants as mark
 use Rattle.demangle_v0.specs.declared.points.tags.PathKind.{PathKind}
 use Rattle.demangle_v0.specs.declared.points.tags.PathKind.TheVariants as kind
@@ -18,10 +21,10 @@ use Rattle.demangle_v0.specs.declared.points.Point.TheVariants as point
 use Rattle.demangle_v0.specs.declared.points.frames.Frame.{Frame}
 use Rattle.demangle_v0.specs.declared.points.State.{State}
 use Rattle.demangle_v0.specs.declared.points.Stop.{Stop}
-use Rattle.demangle_v0.specs.declared.points.Stop.TheVariants.{Fault}
+use Rattle.demangle_v0.specs.declared.points.Stop.TheVariants.{Refused, Fault}
 use Rattle.demangle_v0.specs.declared.points.voice.Voice.{Ghosts}
 use Rattle.demangle_v0.proofs.GrammarRows.{rows_of, row_found}
-use Rattle.demangle_v0.proofs.PointSteps.{steps, after, same, faulty, faulty_after}
+use Rattle.demangle_v0.proofs.PointSteps.{kept_none, steps, after, same, faulty, faulty_after, group_heard, group_shut}
 
 module _ {V : Type 0} (voice : Ghosts V) (b : List ℕ) (plain : Bool) where
   -- Paths of names.
@@ -117,11 +120,66 @@ module _ {V : Type 0} (voice : Ghosts V) (b : List ℕ) (plain : Bool) where
   path_tagged v c left n i t j o row now u w result new second made l e m d =
       after voice b plain (4 * (j - i + 1) ∷ []) (path_at v c left n (Some i) o) (path_heard v (left - 1) n (Some j) t) 1 (8 * left + 1) 7 (8 * (left - 1) + 9) row u w result new now 1 second made (path_opens v c left n i o l ∙ rw (sym e) refl) (omega arith) m (omega arith) (omega arith) d
 
-  -- A name behind its namespace.
+  -- Names.
 
-  pub nested_name : (s : State) (row : List Frame) (u w : V) (result : Result Point Stop) (new : State) (made : ℕ)
-      → DidOn voice b plain (closing (of plain voice.loud (run (word_items word.NestedName s.letter done) (around b voice.loud s.depth_left s.lifetimes) s.place))) 1 0 row u result new row w made
-      → DidOn voice b plain (share_at b plain voice.loud point.Nested s.in_value s.letter s.depth_left s.lifetimes s.place s.is_open) 1 (8 * s.depth_left + 2) row u result new row w made
-  unfolding share_at
-  nested_name s row u w result new made d =
-      same voice b plain _ (closing (of plain voice.loud (run (word_items word.NestedName s.letter done) (around b voice.loud s.depth_left s.lifetimes) s.place))) 1 (8 * s.depth_left + 2) 1 0 row u w result new row made refl (omega arith) (omega arith) d
+  pub crate_so : (v : Bool) (left n i : ℕ) → path_heard v left n (Some i) 67 ≡ group_heard voice b plain (crate_group b i)
+  unfolding run
+  crate_so v left n i = group_shut voice b plain _ (crate_group b i) (crate_reads b plain left voice.loud n v i)
+
+  pub crate_unread : (v : Bool) (left n : ℕ) (row : List Frame) (u : V) (new : State) (made : ℕ) → new.mark ≡ None → made ≤ 0
+      → DidOn voice b plain (path_heard v left n None 67) 1 0 row u (Err (Fault mark.Unread)) new row u made
+  unfolding run
+  crate_unread v left n row u new made k l = faulty voice b plain mark.Unread _ 1 0 row u new made k refl l (omega arith)
+
+  abbrev nested_at : Bool → ℕ → ℕ → ℕ → Place → Bool → Heard
+  nested_at v c left n i o = share_at b plain voice.loud point.Nested v c left n i o
+
+  pub nested_so : (v : Bool) (c left n i : ℕ) (o : Bool) → nested_at v c left n (Some i) o ≡ group_heard voice b plain (nested_group b c i)
+  unfolding run share_at
+  nested_so v c left n i o = group_shut voice b plain _ (nested_group b c i) (nested_reads b plain left voice.loud n c i)
+
+  -- the path that the name lies in has failed
+  pub name_unread : (v : Bool) (c left n : ℕ) (o : Bool) (row : List Frame) (u w : V) (new : State) (made : ℕ) → made ≤ 0
+      → voice.prints u (texts_of b plain NestedUnread) (Ok tt) w → new.mark ≡ None → new.place ≡ None → new.is_open ≡ false
+      → DidOn voice b plain (nested_at v c left n None o) 1 (8 * left + 2) row u (Ok point.End) new row w made
+  unfolding run followed share_at
+  name_unread v c left n o row u w new made l p m k q = record {
+    comes = record {
+      bits = puts (texts_of b plain NestedUnread) ∷ [];
+      back = [];
+      pushed = None;
+      told = (w, p, refl);
+      reads = rw (m, k, q) refl;
+      is_row = refl;
+      enough = omega arith;
+      late = omega arith;
+      lighter = omega arith;
+      outer_height = omega arith;
+      inner_height = omega arith;
+      outer_fits = tt;
+      inner_fits = tt;
+      quiet = λ _. tt;
+    };
+  }
+
+  pub name_unread_refused : (v : Bool) (c left n : ℕ) (o : Bool) (row : List Frame) (u w : V) (new : State) (e : SinkRefused) (made : ℕ) → made ≤ 0
+      → voice.prints u (texts_of b plain NestedUnread) (Err e) w → DidOn voice b plain (nested_at v c left n None o) 1 (8 * left + 2) row u (Err Refused) new row w made
+  unfolding run share_at
+  name_unread_refused v c left n o row u w new e made l p = record {
+    comes = (
+      record {
+        front = [];
+        texts = texts_of b plain NestedUnread;
+        rest = ended None false;
+        mid = u;
+        told = refl;
+        refusal = e;
+        prints = p;
+        reads = refl;
+        enough = omega (arith, l);
+        exact = λ h. omega (arith, l);
+        fails = λ h. refl;
+      },
+      kept_none row,
+    );
+  }

@@ -6,7 +6,7 @@ use Rattle.std.proofs.Common.{◌≡◌, ℕ, ◌+◌, ◌-◌, ◌≤◌, Bool,
 use Rattle.demangle_v0.specs.Items.{done}
 use Rattle.demangle_v0.specs.Begins.{total}
 use Rattle.demangle_v0.specs.Events.{Heard, of, ended, allowing, handing}
-use Rattle.demangle_v0.specs.Groups.{texts_of, word_group}
+use Rattle.demangle_v0.specs.Groups.{Group, texts_of, word_group}
 use Rattle.demangle_v0.specs.Grammar.{word_items, text}
 use Rattle.demangle_v0.specs.Reading.{Place, run}
 use Rattle.demangle_v0.specs.Points.{Bit, pays, puts, heard_bits, bits_looks, Told, marked, followed, Way, goes, fails, way_heard, way_weight, way_height, weight_of, height_of, count_of, FitsFrame, FitsWay, IsInner, pushed_on, share_at, closing, around, Went, Stopped, Kept, DidOn}
@@ -23,7 +23,7 @@ use Rattle.demangle_v0.specs.declared.points.State.{State}
 use Rattle.demangle_v0.specs.declared.points.Stop.{Stop}
 use Rattle.demangle_v0.specs.declared.points.Stop.TheVariants.{Refused, Fault}
 use Rattle.demangle_v0.specs.declared.points.voice.Voice.{Ghosts}
-use Rattle.demangle_v0.proofs.GroupReads.{word_then, word_read}
+use Rattle.demangle_v0.proofs.GroupReads.{word_then, grouped, word_read}
 
 pub bits_append : (out : Bool) (xs ys : List Bit) (h : Heard) → heard_bits out (xs ++ ys) h ≡ heard_bits out xs (heard_bits out ys h)
 bits_append out [] ys h = refl
@@ -117,103 +117,10 @@ module _ {V : Type 0} (voice : Ghosts V) (b : List ℕ) (plain : Bool) where
     );
   }
 
-  -- Words with which a unit ends.
-
   -- the same heard in another way
   pub same : (h k : Heard) (weight high weight' high' : ℕ) (row : List Frame) (v w : V) (result : Result Point Stop) (new : State) (now : List Frame) (made : ℕ) → h ≡ k → weight' ≤ weight → high' ≤ high
       → DidOn voice b plain k weight' high' row v result new now w made → DidOn voice b plain h weight high row v result new now w made
   same h k weight high weight' high' row v w result new now made e x y d = after [] h k weight high weight' high' row v w result new now 0 made made e (omega arith) (omega arith) (omega arith) y d
-
-  abbrev word_heard : Word → ℕ → ℕ → ℕ → Place → Heard
-  word_heard x note left n i = closing (of plain voice.loud (run (word_items x note done) (around b voice.loud left n) i))
-
-  word_shut : (ks : List ℕ) (r : WordRead) → closing (allowing ks (word_then b plain voice.loud r (λ j. ended j false))) ≡ allowing ks (word_then b plain voice.loud r (λ j. ended j false))
-  word_shut ks (reads.Goes x j) = refl
-  word_shut ks (reads.Stops x) = refl
-
-  word_so : (x : Word) (note left n : ℕ) (i : Place) (r : WordRead) → r ≡ (word_group b x note voice.loud n i).reads
-      → word_heard x note left n i ≡ allowing (word_group b x note voice.loud n i).costs (word_then b plain voice.loud r (λ j. ended j false))
-  unfolding run
-  word_so x note left n i r e =
-      let g = word_group b x note voice.loud n i in
-      ap closing (word_read b plain left voice.loud n x note done i)
-      ∙ (word_shut g.costs g.reads ∙ ap (λ (z : WordRead). allowing g.costs (word_then b plain voice.loud z (λ j. ended j false))) (sym e))
-
-  pub word_goes : (x : Word) (note left n : ℕ) (i j : Place) (s : Stretch) (row : List Frame) (v w : V) (new : State) (made : ℕ) → reads.Goes s j ≡ (word_group b x note voice.loud n i).reads → made ≤ total (word_group b x note voice.loud n i).costs
-      → voice.prints v (texts_of b plain s) (Ok tt) w → new.mark ≡ None → new.place ≡ j → new.is_open ≡ false → DidOn voice b plain (word_heard x note left n i) 1 0 row v (Ok point.End) new row w made
-  unfolding followed share_at
-  word_goes x note left n i j s row v w new made e l p m k o = record {
-    comes = record {
-      bits = pays (word_group b x note voice.loud n i).costs ∷ puts (texts_of b plain s) ∷ [];
-      back = [];
-      pushed = None;
-      told = (w, p, refl);
-      reads = rw (m, k, o) (word_so x note left n i (reads.Goes s j) e);
-      is_row = refl;
-      enough = omega arith;
-      late = omega arith;
-      lighter = omega arith;
-      outer_height = omega arith;
-      inner_height = omega arith;
-      outer_fits = tt;
-      inner_fits = tt;
-      quiet = λ _. tt;
-    };
-  }
-
-  pub word_stops : (x : Word) (note left n : ℕ) (i : Place) (s : Stretch) (row : List Frame) (v w : V) (new : State) (made : ℕ) → reads.Stops s ≡ (word_group b x note voice.loud n i).reads → made ≤ total (word_group b x note voice.loud n i).costs
-      → voice.prints v (texts_of b plain s) (Ok tt) w → new.mark ≡ None → new.place ≡ None → new.is_open ≡ false → DidOn voice b plain (word_heard x note left n i) 1 0 row v (Ok point.End) new row w made
-  unfolding followed share_at
-  word_stops x note left n i s row v w new made e l p m k o = record {
-    comes = record {
-      bits = pays (word_group b x note voice.loud n i).costs ∷ puts (texts_of b plain s) ∷ [];
-      back = [];
-      pushed = None;
-      told = (w, p, refl);
-      reads = rw (m, k, o) (word_so x note left n i (reads.Stops s) e);
-      is_row = refl;
-      enough = omega arith;
-      late = omega arith;
-      lighter = omega arith;
-      outer_height = omega arith;
-      inner_height = omega arith;
-      outer_fits = tt;
-      inner_fits = tt;
-      quiet = λ _. tt;
-    };
-  }
-
-  pub word_refused : (x : Word) (note left n : ℕ) (i j : Place) (s : Stretch) (v w : V) (e : SinkRefused) (made : ℕ) → reads.Goes s j ≡ (word_group b x note voice.loud n i).reads → made ≤ total (word_group b x note voice.loud n i).costs
-      → voice.prints v (texts_of b plain s) (Err e) w → (voice.loud ≡ false → IsOk (refused e)) → Stopped voice (word_heard x note left n i) v w made
-  word_refused x note left n i j s v w e made r l p q = record {
-    front = pays (word_group b x note voice.loud n i).costs ∷ [];
-    texts = texts_of b plain s;
-    rest = ended j false;
-    mid = v;
-    told = refl;
-    refusal = e;
-    prints = p;
-    reads = word_so x note left n i (reads.Goes s j) r;
-    enough = omega arith;
-    exact = λ h. omega (arith, l);
-    fails = λ h. absurd (false≢true (q h));
-  }
-
-  pub word_ended : (x : Word) (note left n : ℕ) (i : Place) (s : Stretch) (v w : V) (e : SinkRefused) (made : ℕ) → reads.Stops s ≡ (word_group b x note voice.loud n i).reads → made ≤ total (word_group b x note voice.loud n i).costs
-      → voice.prints v (texts_of b plain s) (Err e) w → Stopped voice (word_heard x note left n i) v w made
-  word_ended x note left n i s v w e made r l p = record {
-    front = pays (word_group b x note voice.loud n i).costs ∷ [];
-    texts = texts_of b plain s;
-    rest = ended None false;
-    mid = v;
-    told = refl;
-    refusal = e;
-    prints = p;
-    reads = word_so x note left n i (reads.Stops s) r;
-    enough = omega arith;
-    exact = λ h. omega (arith, l);
-    fails = λ h. refl;
-  }
 
   -- Faults.
 
@@ -248,6 +155,77 @@ module _ {V : Type 0} (voice : Ghosts V) (b : List ℕ) (plain : Bool) where
   faulty_after ks m h weight high row v new made k e l x =
       after ks h (handing voice.loud (text m ∷ []) (ended None false)) weight high 1 0 row v v (Err (Fault m)) new row made 0 made e l (omega arith) (omega arith) (omega arith)
       (faulty m (handing voice.loud (text m ∷ []) (ended None false)) 1 0 row v new 0 k refl (omega arith) (omega arith))
+
+  -- Words with which a unit ends.
+
+  abbrev word_heard : Word → ℕ → ℕ → ℕ → Place → Heard
+  word_heard x note left n i = closing (of plain voice.loud (run (word_items x note done) (around b voice.loud left n) i))
+
+  abbrev pub group_heard : Group → Heard
+  group_heard g = allowing g.costs (word_then b plain voice.loud g.reads (λ j. ended j false))
+
+  word_shut : (ks : List ℕ) (r : WordRead) → closing (allowing ks (word_then b plain voice.loud r (λ j. ended j false))) ≡ allowing ks (word_then b plain voice.loud r (λ j. ended j false))
+  word_shut ks (reads.Goes x j) = refl
+  word_shut ks (reads.Stops m) = refl
+
+  -- what is read as a group reads it
+  pub group_shut : (h : Heard) (g : Group) → h ≡ grouped b plain voice.loud g (λ j. ended j false) → closing h ≡ group_heard g
+  group_shut h g e = ap closing e ∙ word_shut g.costs g.reads
+
+  pub word_so : (x : Word) (note left n : ℕ) (i : Place) → word_heard x note left n i ≡ group_heard (word_group b x note voice.loud n i)
+  unfolding run
+  word_so x note left n i = group_shut _ (word_group b x note voice.loud n i) (word_read b plain left voice.loud n x note done i)
+
+  group_so : (h : Heard) (g : Group) (r : WordRead) → h ≡ group_heard g → r ≡ g.reads → h ≡ allowing g.costs (word_then b plain voice.loud r (λ j. ended j false))
+  group_so h g r so e = so ∙ ap (λ (z : WordRead). allowing g.costs (word_then b plain voice.loud z (λ j. ended j false))) (sym e)
+
+  pub group_goes : (h : Heard) (g : Group) (j : Place) (s : Stretch) (weight high : ℕ) (row : List Frame) (v w : V) (new : State) (made : ℕ) → h ≡ group_heard g → reads.Goes s j ≡ g.reads → made ≤ total g.costs
+      → voice.prints v (texts_of b plain s) (Ok tt) w → new.mark ≡ None → new.place ≡ j → new.is_open ≡ false → 1 ≤ weight → DidOn voice b plain h weight high row v (Ok point.End) new row w made
+  unfolding followed share_at
+  group_goes h g j s weight high row v w new made so e l p m k o x = record {
+    comes = record {
+      bits = pays g.costs ∷ puts (texts_of b plain s) ∷ [];
+      back = [];
+      pushed = None;
+      told = (w, p, refl);
+      reads = rw (m, k, o) (group_so h g (reads.Goes s j) so e);
+      is_row = refl;
+      enough = omega arith;
+      late = omega arith;
+      lighter = omega arith;
+      outer_height = omega arith;
+      inner_height = omega arith;
+      outer_fits = tt;
+      inner_fits = tt;
+      quiet = λ _. tt;
+    };
+  }
+
+  -- a fault
+  pub group_fails : (h : Heard) (g : Group) (m : Mark) (weight high : ℕ) (row : List Frame) (v : V) (new : State) (made : ℕ) → h ≡ group_heard g → reads.Stops m ≡ g.reads → made ≤ total g.costs → new.mark ≡ None → 1 ≤ weight
+      → DidOn voice b plain h weight high row v (Err (Fault m)) new row v made
+  group_fails h g m weight high row v new made so e l k x = faulty_after g.costs m h weight high row v new made k (group_so h g (reads.Stops m) so e) l x
+
+  pub group_refused : (h : Heard) (g : Group) (j : Place) (s : Stretch) (weight high : ℕ) (row : List Frame) (v w : V) (new : State) (e : SinkRefused) (made : ℕ) → h ≡ group_heard g → reads.Goes s j ≡ g.reads → made ≤ total g.costs
+      → voice.prints v (texts_of b plain s) (Err e) w → (voice.loud ≡ false → IsOk (refused e)) → DidOn voice b plain h weight high row v (Err Refused) new row w made
+  group_refused h g j s weight high row v w new e made so r l p q = record {
+    comes = (
+      record {
+        front = pays g.costs ∷ [];
+        texts = texts_of b plain s;
+        rest = ended j false;
+        mid = v;
+        told = refl;
+        refusal = e;
+        prints = p;
+        reads = group_so h g (reads.Goes s j) so r;
+        enough = omega arith;
+        exact = λ h. omega (arith, l);
+        fails = λ h. absurd (false≢true (q h));
+      },
+      kept_none row,
+    );
+  }
 
   -- no looks were made
   pub zero_looks : (h : Heard) (weight high : ℕ) (row : List Frame) (v w : V) (result : Result Point Stop) (new : State) (now : List Frame) (l : ℕ) → DidOn voice b plain h weight high row v result new now w 0 → DidOn voice b plain h weight high row v result new now w (l - l)

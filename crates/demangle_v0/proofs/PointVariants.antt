@@ -180,27 +180,10 @@ module _ {V : Type 0} (voice : Ghosts V) (b : List ℕ) (plain : Bool) where
   field_goes v c left n i j o s row u w new made e l f p kv kc kl kn kp ko km =
       told_goes (group_of c n i).costs (texts_of b plain s) point.FieldColon _ v c left n j o 3 (8 * left + 1) row u w new made (field_so v c left n i o (reads.Goes s j) e) l (omega arith) (omega arith) f p kv kc kl kn kp ko km
 
-  pub field_stops : (v : Bool) (c left n : ℕ) (i : Place) (o : Bool) (s : Stretch) (row : List Frame) (u w : V) (new : State) (made : ℕ) → reads.Stops s ≡ (group_of c n i).reads → made ≤ total (group_of c n i).costs
-      → voice.prints u (texts_of b plain s) (Ok tt) w → new.mark ≡ None → new.place ≡ None → new.is_open ≡ false → DidOn voice b plain (field_at v c left n i o) 3 (8 * left + 1) row u (Ok point.End) new row w made
-  unfolding followed share_at
-  field_stops v c left n i o s row u w new made e l p m k q = record {
-    comes = record {
-      bits = pays (group_of c n i).costs ∷ puts (texts_of b plain s) ∷ [];
-      back = [];
-      pushed = None;
-      told = (w, p, refl);
-      reads = rw (m, k, q) (field_so v c left n i o (reads.Stops s) e);
-      is_row = refl;
-      enough = omega arith;
-      late = omega arith;
-      lighter = omega arith;
-      outer_height = omega arith;
-      inner_height = omega arith;
-      outer_fits = tt;
-      inner_fits = tt;
-      quiet = λ _. tt;
-    };
-  }
+  pub field_fails : (v : Bool) (c left n : ℕ) (i : Place) (o : Bool) (m : Mark) (row : List Frame) (u : V) (new : State) (made : ℕ) → reads.Stops m ≡ (group_of c n i).reads → made ≤ total (group_of c n i).costs
+      → new.mark ≡ None → DidOn voice b plain (field_at v c left n i o) 3 (8 * left + 1) row u (Err (Fault m)) new row u made
+  field_fails v c left n i o m row u new made e l k =
+      faulty_after voice b plain (group_of c n i).costs m (field_at v c left n i o) 3 (8 * left + 1) row u new made k (field_so v c left n i o (reads.Stops m) e) l (omega arith)
 
   pub field_refused : (v : Bool) (c left n : ℕ) (i j : Place) (o : Bool) (s : Stretch) (u w : V) (e : SinkRefused) (made : ℕ) → reads.Goes s j ≡ (group_of c n i).reads → made ≤ total (group_of c n i).costs
       → voice.prints u (texts_of b plain s) (Err e) w → (voice.loud ≡ false → IsOk (refused e)) → Stopped voice (field_at v c left n i o) u w made
@@ -216,22 +199,6 @@ module _ {V : Type 0} (voice : Ghosts V) (b : List ℕ) (plain : Bool) where
     enough = omega arith;
     exact = λ _. omega (arith, l);
     fails = λ h. absurd (false≢true (q h));
-  }
-
-  pub field_ended : (v : Bool) (c left n : ℕ) (i : Place) (o : Bool) (s : Stretch) (u w : V) (e : SinkRefused) (made : ℕ) → reads.Stops s ≡ (group_of c n i).reads → made ≤ total (group_of c n i).costs
-      → voice.prints u (texts_of b plain s) (Err e) w → Stopped voice (field_at v c left n i o) u w made
-  field_ended v c left n i o s u w e made r l p = record {
-    front = pays (group_of c n i).costs ∷ [];
-    texts = texts_of b plain s;
-    rest = ended None false;
-    mid = u;
-    told = refl;
-    refusal = e;
-    prints = p;
-    reads = field_so v c left n i o (reads.Stops s) r;
-    enough = omega arith;
-    exact = λ _. omega (arith, l);
-    fails = λ h. refl;
   }
 
   pub colon_goes : (v : Bool) (c left n : ℕ) (i : Place) (o : Bool) (row : List Frame) (u : V) (new : State) (made : ℕ) → made ≤ 0

@@ -81,18 +81,6 @@ abbrev pub basic_marks : List (String × Mark)
 basic_marks = ("b", mark.Bool) ∷ ("c", mark.Char) ∷ ("e", mark.Str) ∷ ("u", mark.Unit) ∷ ("a", mark.I8) ∷ ("s", mark.I16) ∷ ("l", mark.I32) ∷ ("x", mark.I64) ∷ ("n", mark.I128) ∷ ("i", mark.Isize) ∷ ("h", mark.U8) ∷ ("t", mark.U16) ∷ ("m", mark.U32) ∷ ("y", mark.U64) ∷ ("o", mark.U128) ∷ ("j", mark.Usize) ∷ ("f", mark.F32) ∷ ("d", mark.F64) ∷ ("z", mark.Never) ∷ ("p", mark.Placeholder) ∷ ("v", mark.Ellipsis) ∷ []
 
 -- in a special namespace
-abbrev pub special_name : ℕ → ℕ → Name → Items → Items
-special_name n d a p =
-    let ending = says "#" (say (decimal d) (says "}" p)) in
-    says "::{" (say (if n == code "C" then codes "closure" else if n == code "S" then codes "shim" else n ∷ [])
-    (if is_nameless a then ending else says ":" (says_name a ending)))
-
--- the name behind the path, in the namespace n
-abbrev pub nested_name : ℕ → Items → Items
-nested_name n p = disambiguator (λ d. identifier (λ a.
-    if is_upper n then special_name n d a p
-    else if is_nameless a then p else says "::" (says_name a p)))
-
 -- what a function prints before its parameters
 abbrev pub says_head : Bool → List Text → Items → Items
 says_head unsafe abi p = says_if unsafe "unsafe " (say_all abi p)
@@ -113,9 +101,6 @@ says_char p (Some c) = if lib.Utf8.scalar c then say_all (literal (code "'") (c 
 
 -- a word, and the items behind it; the note is the tag of a number, or the namespace
 abbrev pub word_items : Word → ℕ → Items → Items
-word_items word.CrateName note p = disambiguator (λ d. identifier (λ a. says_name a
-    (if d == 0 then p else say_plain (codes "[") (say_plain (digits 16 false d) (say_plain (codes "]") p)))))
-word_items word.NestedName note p = sound (nested_name note p) (says "::" (nested_name note p))
 word_items word.FieldName note p = disambiguator (λ _. identifier (λ a. says_name a p))
 word_items word.BindingName note p = identifier (λ a. says_name a (says " = " p))
 word_items word.LifetimeIndex note p = integer (λ k. lifetime k p)

@@ -104,7 +104,7 @@ looks_later _ = 0
 
 abbrev pub read_stretch : WordRead → Stretch
 read_stretch (Goes x j) = x
-read_stretch (Stops x) = x
+read_stretch (Stops m) = Fixed m
 
 -- what was read, and what may be looked at for it
 pub record Group : Type 0 where
@@ -114,11 +114,8 @@ pub record Group : Type 0 where
 abbrev pub goes : Stretch → Place → Group
 goes x j = record { reads = Goes x j; costs = [] }
 
-abbrev pub stops : Stretch → Group
-stops x = record { reads = Stops x; costs = [] }
-
 abbrev pub faulty : Group
-faulty = stops (Fixed mark.Invalid)
+faulty = record { reads = Stops mark.Invalid; costs = [] }
 
 abbrev pub costing : ℕ → Group → Group
 costing k g = record { reads = g.reads; costs = k ∷ g.costs }
@@ -131,20 +128,21 @@ reading n i (Some r) f = costing (4 * (r.1 - i + 1)) (f r.0 r.1)
 abbrev pub asking : Bool → Group → Group → Group
 asking c g h = costing 1 (if c then g else h)
 
+-- a name behind a disambiguator
+abbrev pub named_group : List ℕ → ℕ → (Ident → ℕ → Stretch) → Group
+named_group b i f = reading (length b) i (optional_at 115 b i) (λ d j. reading (length b) j (ident_at b j) (λ a k. goes (f a d) (Some k)))
+
 abbrev pub crate_group : List ℕ → ℕ → Group
-crate_group b i = reading (length b) i (optional_at 115 b i) (λ d j. reading (length b) j (ident_at b j) (λ a k. goes (CrateName a d) (Some k)))
+crate_group b i = named_group b i CrateName
 
 abbrev pub nested_group : List ℕ → ℕ → ℕ → Group
-nested_group b note i = reading (length b) i (optional_at 115 b i) (λ d j. reading (length b) j (ident_at b j) (λ a k. goes (NestedName note d a) (Some k)))
+nested_group b c i = named_group b i (λ a d. NestedName c d a)
 
 abbrev pub field_group : List ℕ → ℕ → Group
-field_group b i = reading (length b) i (optional_at 115 b i) (λ d j. reading (length b) j (ident_at b j) (λ a k. goes (FieldName a) (Some k)))
+field_group b i = named_group b i (λ a d. FieldName a)
 
 abbrev pub binding_group : List ℕ → ℕ → Group
 binding_group b i = reading (length b) i (ident_at b i) (λ a j. goes (BindingName a) (Some j))
-
-abbrev pub disambiguator_group : List ℕ → ℕ → Group
-disambiguator_group b i = reading (length b) i (optional_at 115 b i) (λ d j. goes Nothing (Some j))
 
 -- a lifetime is checked where it is handed over
 abbrev pub checked : Bool → ℕ → ℕ → ℕ → Stretch → Stretch → Group
@@ -208,8 +206,6 @@ abbrev pub literal_group : List ℕ → ℕ → Group
 literal_group b i = reading (length b) i (hex_at b i) (λ h j. literal_stretch (string_of (bytes_in b h)) h j)
 
 abbrev pub word_at : List ℕ → Word → ℕ → Bool → ℕ → ℕ → Group
-word_at b word.CrateName note out lifetimes i = crate_group b i
-word_at b word.NestedName note out lifetimes i = nested_group b note i
 word_at b word.FieldName note out lifetimes i = field_group b i
 word_at b word.BindingName note out lifetimes i = binding_group b i
 word_at b word.LifetimeIndex note out lifetimes i = lifetime_group b out lifetimes i
@@ -222,10 +218,9 @@ word_at b word.Literal note out lifetimes i = literal_group b i
 
 -- where the reading has failed
 abbrev pub word_failed : Word → WordRead
-word_failed word.NestedName = Stops NestedUnread
-word_failed word.DynLifetime = Stops (Fixed mark.Invalid)
+word_failed word.DynLifetime = Stops mark.Invalid
 word_failed word.FunctionHead = Goes (FunctionHead false abi.Rust) None
-word_failed _ = Stops (Fixed mark.Unread)
+word_failed _ = Stops mark.Unread
 
 abbrev pub word_group : List ℕ → Word → ℕ → Bool → ℕ → Place → Group
 word_group b w note out lifetimes None = record { reads = word_failed w; costs = [] }

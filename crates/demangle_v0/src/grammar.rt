@@ -66,8 +66,6 @@ pub enum Mark {
 /// The words.
 #[derive(Clone, Copy)]
 pub enum Word {
-    CrateName,
-    NestedName,
     FieldName,
     BindingName,
     LifetimeIndex,

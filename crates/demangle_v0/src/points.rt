@@ -26,6 +26,7 @@ mod dyn_traits;
 pub mod frames;
 mod functions;
 mod impls;
+mod names;
 mod paths;
 mod patterns;
 mod perform;
@@ -234,13 +235,6 @@ fn last_word<V: Voice>(
             };
             Ok(Point::End)
         }
-        WordRead::Stops(stretch) => {
-            state.place = None;
-            state.is_open = false;
-            let Ok(()) = voice.stop(symbol, &stretch, plain, looks) else {
-                return Err(Stop::Refused);
-            };
-            Ok(Point::End)
-        }
+        WordRead::Stops(mark) => Err(Stop::Fault(mark)),
     }
 }

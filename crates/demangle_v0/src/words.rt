@@ -12,24 +12,24 @@ use crate::stretch::{Abi, Stretch};
 use crate::words::constants::{read_character, read_literal, read_number, read_truth};
 use crate::words::functions::read_head;
 use crate::words::lifetimes::{read_dyn, read_lifetime};
-use crate::words::names::{read_binding, read_crate, read_field, read_nested};
+use crate::words::names::{read_binding, read_field};
 use demangle_symbol::cursor::{Ident, Looks, Part, Symbol};
 
 mod constants;
 mod functions;
 mod lifetimes;
-mod names;
+pub mod names;
 
 /// What became of a word.
 #[derive(Clone, Copy)]
 pub enum WordRead {
     /// The unit goes on at the place.
     Goes(Stretch, Option<usize>),
-    /// The unit ends there.
-    Stops(Stretch),
+    /// The unit ends with this text.
+    Stops(Mark),
 }
 
-/// Reads a word. The note is the tag of a number, or the letter of a namespace.
+/// Reads a word. The note is the tag of a number.
 #[inline(always)]
 pub fn read_word(
     symbol: &Symbol<'_>,
@@ -50,8 +50,6 @@ pub fn read_word(
         return word_failed(word);
     };
     match word {
-        Word::CrateName => read_crate(symbol, at, looks),
-        Word::NestedName => read_nested(symbol, note, at, looks),
         Word::FieldName => read_field(symbol, at, looks),
         Word::BindingName => read_binding(symbol, at, looks),
         Word::LifetimeIndex => read_lifetime(symbol, output, lifetimes, at, looks),
@@ -72,18 +70,17 @@ fn word_failed(word: Word) -> WordRead
     ensures lies { (b : List ℕ) → LiesIn b (read_stretch result) }
 {
     match word {
-        Word::NestedName => WordRead::Stops(Stretch::NestedUnread),
         Word::DynLifetime => faulty(),
         Word::FunctionHead => WordRead::Goes(Stretch::FunctionHead(false, Abi::Rust), None),
-        _ => WordRead::Stops(Stretch::Fixed(Mark::Unread)),
+        _ => WordRead::Stops(Mark::Unread),
     }
 }
 
 #[inline(always)]
 fn faulty() -> WordRead
-    ensures { result ≡ WordRead.Stops (Stretch.Fixed Mark.Invalid) }
+    ensures { result ≡ WordRead.Stops Mark.Invalid }
 {
-    WordRead::Stops(Stretch::Fixed(Mark::Invalid))
+    WordRead::Stops(Mark::Invalid)
 }
 
 #[inline(always)]

@@ -109,14 +109,7 @@ pub(super) fn binding_name<V: Voice>(
             };
             Ok(Point::Bound)
         }
-        WordRead::Stops(stretch) => {
-            state.place = None;
-            state.is_open = false;
-            let Ok(()) = voice.stop(symbol, &stretch, plain, looks) else {
-                return Err(Stop::Refused);
-            };
-            Ok(Point::End)
-        }
+        WordRead::Stops(mark) => Err(Stop::Fault(mark)),
     }
 }
 

@@ -113,14 +113,7 @@ pub(super) fn function_head<V: Voice>(
             };
             Ok(Point::OpenParameters)
         }
-        WordRead::Stops(stretch) => {
-            state.place = None;
-            state.is_open = false;
-            let Ok(()) = voice.stop(symbol, &stretch, plain, looks) else {
-                return Err(Stop::Refused);
-            };
-            Ok(Point::End)
-        }
+        WordRead::Stops(mark) => Err(Stop::Fault(mark)),
     }
 }
 

@@ -6,13 +6,14 @@ ghost use Rattle.demangle_v0.specs.Events.{of};
 ghost use Rattle.demangle_v0.specs.Table.{path};
 ghost use Rattle.demangle_v0.specs.Reading.{run};
 
-use crate::grammar::{Mark, Word};
+use crate::grammar::Mark;
 use crate::points::frames::{Frame, FrameStack};
 use crate::points::impls::{impl_path, self_type};
+use crate::points::names::crate_name;
 use crate::points::references::follow;
 use crate::points::tags::{PathKind, path_kind};
 use crate::points::voice::Voice;
-use crate::points::{Point, State, Stop, last_word};
+use crate::points::{Point, State, Stop};
 use demangle_symbol::cursor::{Looks, Symbol};
 
 /// A path of names, behind its `N`.
@@ -92,7 +93,7 @@ fn tagged_path<V: Voice, const N: usize>(
         return Err(Stop::Fault(Mark::Invalid));
     };
     match kind {
-        PathKind::CrateRoot => last_word(symbol, Word::CrateName, plain, state, voice, looks),
+        PathKind::CrateRoot => crate_name(symbol, plain, state, voice, looks),
         PathKind::Nested => nested::<V, N>(symbol, state, row, looks),
         PathKind::Generic => Ok(generic_path(state, row)),
         PathKind::Reference => follow(symbol, Point::Path, state, row, voice, looks),

@@ -22,6 +22,7 @@ use crate::points::functions::{
     function_binder, function_head, open_parameters, parameter, returns,
 };
 use crate::points::impls::{as_trait, close_angle, self_type, skipped_path};
+use crate::points::names::nested_name;
 use crate::points::paths::path;
 use crate::points::patterns::{next_pattern, pattern, range_end};
 use crate::points::references::behind;
@@ -59,7 +60,7 @@ pub(super) fn perform<V: Voice, const N: usize>(
 {
     match point {
         Point::Path => path(symbol, plain, state, row, voice, looks),
-        Point::Nested => last_word(symbol, Word::NestedName, plain, state, voice, looks),
+        Point::Nested => nested_name(symbol, plain, state, voice, looks),
         Point::InherentPath => Ok(skipped_path::<V, N>(false, state, row)),
         Point::ImplPath => Ok(skipped_path::<V, N>(true, state, row)),
         Point::InherentType => Ok(self_type::<V, N>(false, state, row)),

@@ -1,52 +1,42 @@
 //! Names, and disambiguators.
-ghost use Rattle.std.specs.Prelude.{◌≡◌, ◌+◌, ◌-◌, ◌≤◌, Some};
+ghost use Rattle.std.specs.Prelude.{◌≡◌, ℕ, ◌+◌, ◌-◌, ◌≤◌, Some, IfSome, IfNone, MatchOption};
 ghost use Rattle.demangle_v0.specs.Begins.{total};
 ghost use Rattle.demangle_v0.specs.Serving.{LiesIn};
-ghost use Rattle.demangle_v0.specs.Groups.{read_stretch, looks_later, crate_group, nested_group, field_group, binding_group, disambiguator_group};
+ghost use Rattle.demangle_v0.specs.Groups.{read_stretch, looks_later, named_group, field_group, binding_group};
+ghost use Rattle.demangle_symbol.specs.Idents.{LiesWithin, name_size};
+ghost use Rattle.demangle_v0.specs.declared.words.WordRead.TheVariants.{Goes, Stops};
+ghost use Rattle.demangle_v0.specs.declared.stretch.Stretch.{Stretch};
+ghost use Rattle.demangle_v0.specs.declared.grammar.Mark.{Mark};
+ghost use Rattle.demangle_symbol.specs.declared.cursor.ident.Ident.{Ident};
 
 use crate::stretch::Stretch;
 use crate::words::{WordRead, faulty, goes, name};
-use demangle_symbol::cursor::{Looks, Symbol};
+use demangle_symbol::cursor::{Ident, Looks, Symbol};
 
+/// A name behind a disambiguator, its number, and the place behind it.
 #[inline(always)]
-#[inline(always)]
-pub(super) fn read_crate(symbol: &Symbol<'_>, place: usize, looks: &mut Looks) -> WordRead
-    ensures value { result ≡ (crate_group symbol.now place).reads }
-    ensures grows { looks.old ≤ looks.new }
-    ensures looks { looks.new + looks_later (read_stretch result) ≤ looks.old + total (crate_group
-        symbol.now place).costs }
-    ensures lies { LiesIn symbol.now (read_stretch result) }
-{
-    let Ok((number, at)) = symbol.disambiguator(place, looks) else {
-        return faulty();
-    };
-    let Some((ident, next)) = name(symbol, at, looks) else {
-        return faulty();
-    };
-    goes(Stretch::CrateName(ident, number), next)
-}
-
-#[inline(always)]
-#[inline(always)]
-pub(super) fn read_nested(
+pub fn numbered_name(
     symbol: &Symbol<'_>,
-    note: u8,
     place: usize,
     looks: &mut Looks,
-) -> WordRead
-    ensures value { result ≡ (nested_group symbol.now note place).reads }
+) -> Option<(Ident, u64, usize)>
+    ensures some { (f : Ident → ℕ → Stretch) → IfSome result (λ r. Goes (f r.0 r.1) (Some r.2) ≡
+        (named_group symbol.now place f).reads) }
+    ensures none { (f : Ident → ℕ → Stretch) → IfNone result (Stops Mark.Invalid ≡ (named_group
+        symbol.now place f).reads) }
     ensures grows { looks.old ≤ looks.new }
-    ensures looks { looks.new + looks_later (read_stretch result) ≤ looks.old + total (nested_group
-        symbol.now note place).costs }
-    ensures lies { LiesIn symbol.now (read_stretch result) }
+    ensures looks { (f : Ident → ℕ → Stretch) → MatchOption result (looks.new ≤ looks.old + total
+        (named_group symbol.now place f).costs) (λ r. looks.new + name_size r.0 ≤ looks.old + total
+        (named_group symbol.now place f).costs) }
+    ensures lies { IfSome result (λ r. LiesWithin symbol.now r.0) }
 {
     let Ok((number, at)) = symbol.disambiguator(place, looks) else {
-        return faulty();
+        return None;
     };
     let Some((ident, next)) = name(symbol, at, looks) else {
-        return faulty();
+        return None;
     };
-    goes(Stretch::NestedName(note, number, ident), next)
+    Some((ident, number, next))
 }
 
 #[inline(always)]
@@ -57,13 +47,10 @@ pub(super) fn read_field(symbol: &Symbol<'_>, place: usize, looks: &mut Looks) -
         symbol.now place).costs }
     ensures lies { LiesIn symbol.now (read_stretch result) }
 {
-    let Ok((_, at)) = symbol.disambiguator(place, looks) else {
-        return faulty();
-    };
-    let Some((ident, next)) = name(symbol, at, looks) else {
-        return faulty();
-    };
-    goes(Stretch::FieldName(ident), next)
+    match numbered_name(symbol, place, looks) {
+        Some((ident, _, next)) => goes(Stretch::FieldName(ident), next),
+        None => faulty(),
+    }
 }
 
 #[inline(always)]

@@ -13,7 +13,7 @@ returns-in_default-clause-did g c =
 
 pub returns-in-CrateRoot-clause-did : goal.returns-in-CrateRoot-clause-did
 returns-in-CrateRoot-clause-did g c =
-    path_as g.V.Voice c.args.symbol.now c.args.plain c.args.state.now.in_value c.args.state.now.depth_left c.args.state.now.lifetimes c.args.state.now.place c.args.tag kind.CrateRoot 1 0 _ _ _ _ _ _ _ (rw c.in-CrateRoot.is at c.in-Some.ensures) (omega arith) (omega arith) (c.last_word.ensures.did c.args.row.now)
+    path_as g.V.Voice c.args.symbol.now c.args.plain c.args.state.now.in_value c.args.state.now.depth_left c.args.state.now.lifetimes c.args.state.now.place c.args.tag kind.CrateRoot 1 0 _ _ _ _ _ _ _ (rw c.in-CrateRoot.is at c.in-Some.ensures) (omega arith) (omega arith) (c.crate_name.ensures.did c.args.row.now)
 
 pub returns-in-Nested-clause-did : goal.returns-in-Nested-clause-did
 returns-in-Nested-clause-did g c =

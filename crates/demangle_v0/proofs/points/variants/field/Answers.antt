@@ -1,6 +1,6 @@
 use Rattle.std.proofs.Common.{arith, refl}
 use Rattle.demangle_v0.proofs.PointSteps.{kept_none}
-use Rattle.demangle_v0.proofs.PointVariants.{field_goes, field_stops, field_refused, field_ended}
+use Rattle.demangle_v0.proofs.PointVariants.{field_goes, field_fails, field_refused}
 use Rattle.demangle_v0.proofs.points.variants.field.Goals as goal
 
 pub returns-in_default-clause-did : goal.returns-in_default-clause-did
@@ -11,18 +11,10 @@ returns-in_default-clause-did g c = λ row. record {
   );
 }
 
-pub returns-in_default-stop-clause-did : goal.returns-in_default-stop-clause-did
-returns-in_default-stop-clause-did g c = λ row. record {
-  comes = (
-    field_ended g.V.Voice c.args.symbol.now c.args.plain c.args.state.now.in_value c.args.state.now.letter c.args.state.now.depth_left c.args.state.now.lifetimes c.args.state.now.place c.args.state.now.is_open _ _ _ _ _ c.in-Stops.ensures.value (omega (arith, c.in-Stops.ensures.looks, c.in_default-stop.ensures.most)) c.in_default-stop.ensures.prints,
-    kept_none row,
-  );
-}
-
 pub returns-in-Ok-clause-did : goal.returns-in-Ok-clause-did
 returns-in-Ok-clause-did g c = λ row.
     field_goes g.V.Voice c.args.symbol.now c.args.plain c.args.state.now.in_value c.args.state.now.letter c.args.state.now.depth_left c.args.state.now.lifetimes c.args.state.now.place _ c.args.state.now.is_open _ row _ _ _ _ c.in-Goes.ensures.value (omega (arith, c.in-Goes.ensures.looks, c.in-Ok.ensures.most)) c.requires.fits c.in-Ok.ensures.prints refl refl refl refl refl refl c.requires.unmarked
 
-pub returns-in-Ok-stop-clause-did : goal.returns-in-Ok-stop-clause-did
-returns-in-Ok-stop-clause-did g c = λ row.
-    field_stops g.V.Voice c.args.symbol.now c.args.plain c.args.state.now.in_value c.args.state.now.letter c.args.state.now.depth_left c.args.state.now.lifetimes c.args.state.now.place c.args.state.now.is_open _ row _ _ _ _ c.in-Stops.ensures.value (omega (arith, c.in-Stops.ensures.looks, c.in-Ok-stop.ensures.most)) c.in-Ok-stop.ensures.prints c.requires.unmarked refl refl
+pub returns-in-Stops-clause-did : goal.returns-in-Stops-clause-did
+returns-in-Stops-clause-did g c = λ row.
+    field_fails g.V.Voice c.args.symbol.now c.args.plain c.args.state.now.in_value c.args.state.now.letter c.args.state.now.depth_left c.args.state.now.lifetimes c.args.state.now.place c.args.state.now.is_open _ row _ _ _ c.in-Stops.ensures.value (omega (arith, c.in-Stops.ensures.looks)) c.requires.unmarked

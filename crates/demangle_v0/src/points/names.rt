@@ -1,0 +1,86 @@
+//! The names of paths.
+ghost use Rattle.std.specs.Prelude.{true, ◌≡◌, ◌-◌, ◌≤◌, None, Err, IsOk, List, IsAscii};
+ghost use Rattle.demangle_v0.specs.Points.{Did, DidOn, around, closing};
+ghost use Rattle.demangle_v0.specs.Events.{of};
+ghost use Rattle.demangle_v0.specs.Table.{path};
+ghost use Rattle.demangle_v0.specs.Reading.{run};
+ghost use Rattle.demangle_v0.specs.declared.points.frames.Frame.{Frame};
+
+use crate::grammar::Mark;
+use crate::points::voice::Voice;
+use crate::points::{Point, State, Stop};
+use crate::stretch::Stretch;
+use crate::words::names::numbered_name;
+use demangle_symbol::cursor::{Looks, Symbol};
+
+/// The name of a crate, with which its path ends.
+#[inline(always)]
+pub(super) fn crate_name<V: Voice>(
+    symbol: &Symbol<'_>,
+    plain: bool,
+    state: &mut State,
+    voice: &mut V,
+    looks: &mut Looks,
+) -> Result<Point, Stop>
+    requires ascii { V.loud ≡ true → IsAscii symbol.now }
+    requires ready { V.ready voice.old }
+    requires unmarked { state.old.mark ≡ None }
+    ensures did { (row : List Frame) → DidOn V.Voice symbol.now plain (closing (of plain V.loud (run
+        (path state.old.in_value 67) (around symbol.now V.loud state.old.depth_left
+        state.old.lifetimes) state.old.place))) 1 0 row voice.old result state.new row voice.new
+        (looks.new - looks.old) }
+    ensures ready { IsOk result → V.ready voice.new }
+    ensures sound { (m : Mark) → result ≡ Err (Stop.Fault m) → V.ready voice.new }
+    ensures grows { looks.old ≤ looks.new }
+{
+    let Some(at) = state.place else {
+        return Err(Stop::Fault(Mark::Unread));
+    };
+    let Some((name, number, next)) = numbered_name(symbol, at, looks) else {
+        return Err(Stop::Fault(Mark::Invalid));
+    };
+    state.place = Some(next);
+    state.is_open = false;
+    let Ok(()) = voice.say(symbol, &Stretch::CrateName(name, number), plain, looks) else {
+        return Err(Stop::Refused);
+    };
+    Ok(Point::End)
+}
+
+/// The name behind the path that it lies in, with which its path ends. Where that path failed, its
+/// colons are printed and that it was not read.
+#[inline(always)]
+pub(super) fn nested_name<V: Voice>(
+    symbol: &Symbol<'_>,
+    plain: bool,
+    state: &mut State,
+    voice: &mut V,
+    looks: &mut Looks,
+) -> Result<Point, Stop>
+    requires ascii { V.loud ≡ true → IsAscii symbol.now }
+    requires ready { V.ready voice.old }
+    requires unmarked { state.old.mark ≡ None }
+    ensures did { (row : List Frame) → Did V.Voice symbol.now plain Point.Nested state.old row
+        voice.old result state.new row voice.new (looks.new - looks.old) }
+    ensures ready { IsOk result → V.ready voice.new }
+    ensures sound { (m : Mark) → result ≡ Err (Stop.Fault m) → V.ready voice.new }
+    ensures grows { looks.old ≤ looks.new }
+{
+    let Some(at) = state.place else {
+        state.is_open = false;
+        let Ok(()) = voice.stop(symbol, &Stretch::NestedUnread, plain, looks) else {
+            return Err(Stop::Refused);
+        };
+        return Ok(Point::End);
+    };
+    let Some((ident, number, next)) = numbered_name(symbol, at, looks) else {
+        return Err(Stop::Fault(Mark::Invalid));
+    };
+    state.place = Some(next);
+    state.is_open = false;
+    let name = Stretch::NestedName(state.letter, number, ident);
+    let Ok(()) = voice.say(symbol, &name, plain, looks) else {
+        return Err(Stop::Refused);
+    };
+    Ok(Point::End)
+}
