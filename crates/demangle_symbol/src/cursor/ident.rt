@@ -87,7 +87,15 @@ impl<'s> Symbol<'s> {
         ensures within { IfOk result (λ r. (place < r.1) × (r.1 ≤ length self.now)) }
     {
         if self.is_at(b'u', place, looks) {
-            return self.punycode_ident(place, looks);
+            let Ok((name, to)) = self.punycode_ident(place, looks) else {
+                return Err(ParseError::Invalid);
+            };
+            // A copy, so that other names need not lie where that call wrote its own.
+            let copy = Ident {
+                ascii: name.ascii,
+                punycode: name.punycode,
+            };
+            return Ok((copy, to));
         }
         let Ok((len, digits_end)) = self.length(place, looks) else {
             return Err(ParseError::Invalid);

@@ -4,7 +4,7 @@ ghost use Rattle.demangle_symbol.specs.Idents.{LiesWithin, ascii_front, name_in,
 ghost use Rattle.demangle_sink.specs.Limit.{Prints, Ready};
 ghost use Rattle.demangle_symbol.specs.Names.{name_pieces, fallback_pieces};
 
-use crate::cursor::{Ident, Looks, Symbol};
+use crate::cursor::{Ident, Looks, Part, Symbol};
 use crate::punycode::decode;
 use demangle_sink::{SinkRefused, SizeLimitedFmtAdapter, TextSink, put_chars};
 
@@ -48,27 +48,31 @@ impl Ident {
         out.put("}")
     }
 
-    // Puts the decoded characters of a name with a Punycode part. Most names have none, and their
-    // printing stays short where this stands alone.
+    // Puts the decoded characters of a name with these parts. Most names have no Punycode part, and
+    // their printing stays short where this stands alone; it takes no reference, so that they can
+    // lie in registers.
     #[inline(never)]
     fn write_decoded<S: TextSink>(
-        &self,
+        ascii: Part,
+        punycode: Part,
         symbol: &Symbol<'_>,
         out: &mut SizeLimitedFmtAdapter<'_, S>,
         looks: &mut Looks,
     ) -> Result<(), SinkRefused>
-        requires parts { LiesWithin symbol.now self.now }
-        requires some { self.now.punycode.from < self.now.punycode.to }
+        requires parts { LiesWithin symbol.now (record { ascii = ascii; punycode = punycode }) }
+        requires some { punycode.from < punycode.to }
         requires ascii { IsAscii symbol.now }
         requires ready { Ready S.TextSink out.old }
         ensures prints { Prints S.TextSink out.old
-            (name_pieces (name_in symbol.now self.now)) result out.new }
+            (name_pieces (name_in symbol.now (record { ascii = ascii; punycode = punycode })))
+            result out.new }
         ensures grows { looks.old ≤ looks.new }
-        ensures looks { looks.new ≤ looks.old + name_size self.now }
+        ensures looks { looks.new ≤ looks.old + name_size (record { ascii = ascii; punycode = punycode }) }
     {
-        match decode(symbol, *self, looks) {
+        let name = Ident { ascii, punycode };
+        match decode(symbol, name, looks) {
             Some(characters) => put_chars(&characters, out),
-            None => self.write_undecoded(symbol, out),
+            None => name.write_undecoded(symbol, out),
         }
     }
 
@@ -92,6 +96,6 @@ impl Ident {
         if self.punycode.to <= self.punycode.from {
             return symbol.span(self.ascii).write_to(out);
         }
-        self.write_decoded(symbol, out, looks)
+        Ident::write_decoded(self.ascii, self.punycode, symbol, out, looks)
     }
 }

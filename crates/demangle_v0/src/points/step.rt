@@ -78,20 +78,15 @@ pub(crate) fn step<V: Voice, const N: usize>(
 }
 
 impl State {
-    /// Where a frame goes on.
+    /// Goes on with a frame.
     #[inline(always)]
-    fn resumed(&self, frame: Frame) -> State
-        ensures { result ≡ resumed_of self.now frame }
+    fn resume(&mut self, frame: Frame)
+        ensures { self.new ≡ resumed_of self.old frame }
     {
-        State {
-            in_value: frame.in_value,
-            letter: frame.letter,
-            depth_left: frame.depth_left,
-            lifetimes: frame.number,
-            place: self.place,
-            is_open: self.is_open,
-            mark: self.mark,
-        }
+        self.in_value = frame.in_value;
+        self.letter = frame.letter;
+        self.depth_left = frame.depth_left;
+        self.lifetimes = frame.number;
     }
 }
 
@@ -117,7 +112,7 @@ pub(crate) fn resume<const N: usize>(
             let Some(frame) = row.pop() else {
                 return None;
             };
-            *state = state.resumed(frame);
+            state.resume(frame);
             Some(frame.point)
         }
         other => Some(other),

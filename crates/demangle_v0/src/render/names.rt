@@ -8,7 +8,7 @@ ghost use Rattle.demangle_v0.specs.Stretches.{crate_texts, kind_text, name_behin
 
 use crate::render::numbers;
 use demangle_sink::{SinkRefused, SizeLimitedFmtAdapter, TextSink, put_char};
-use demangle_symbol::cursor::{Ident, Looks, Symbol};
+use demangle_symbol::cursor::{Ident, Looks, Part, Symbol};
 
 #[tactic(auto, using(demangle_sink::proofs::PrintsLemmas::prints_ready, demangle_sink::proofs::PrintsLemmas::prints_nothing))]
 /// Puts a disambiguator in brackets, in the plain form alone and where it is not 0.
@@ -34,8 +34,7 @@ fn put_disambiguator<S: TextSink>(
 
 #[tactic(auto, using(demangle_sink::proofs::PrintsLemmas::prints_ready))]
 /// Puts the name of a crate, and its disambiguator.
-#[inline(never)]
-#[inline(never)]
+#[inline(always)]
 pub(super) fn put_crate_name<S: TextSink>(
     symbol: &Symbol<'_>,
     name: &Ident,
@@ -58,6 +57,7 @@ pub(super) fn put_crate_name<S: TextSink>(
 
 #[tactic(auto, using(crate::proofs::StretchTexts::name_steps))]
 /// Whether both parts of a name are empty.
+#[inline(always)]
 fn is_nameless(symbol: &Symbol<'_>, name: &Ident) -> bool
     requires parts { LiesWithin symbol.now name.now }
     requires ascii { IsAscii symbol.now }
@@ -71,6 +71,7 @@ fn is_nameless(symbol: &Symbol<'_>, name: &Ident) -> bool
 
 #[tactic(auto, using(demangle_sink::proofs::PrintsLemmas::prints_ready, demangle_sink::proofs::PrintsLemmas::prints_nothing))]
 /// Puts a name behind a text, and nothing where the name is empty.
+#[inline(always)]
 fn put_name_behind<S: TextSink>(
     before: &str,
     symbol: &Symbol<'_>,
@@ -135,34 +136,39 @@ fn put_ending<S: TextSink>(
 }
 
 #[tactic(auto, using(demangle_sink::proofs::PrintsLemmas::prints_ready))]
-/// Puts a name in a special namespace, and its disambiguator.
+// Puts a name in a special namespace, by its parts, and its disambiguator. It takes no reference, so
+// that the names of its caller can lie in registers.
 #[inline(never)]
 fn put_special_name<S: TextSink>(
     symbol: &Symbol<'_>,
     namespace: u8,
     number: u64,
-    name: &Ident,
+    ascii: Part,
+    punycode: Part,
     out: &mut SizeLimitedFmtAdapter<'_, S>,
     looks: &mut Looks,
 ) -> Result<(), SinkRefused>
     requires small { namespace < 128 }
-    requires parts { LiesWithin symbol.now name.now }
+    requires parts { LiesWithin symbol.now (record { ascii = ascii; punycode = punycode }) }
     requires ascii { IsAscii symbol.now }
     requires ready { Ready S.TextSink out.old }
-    ensures prints { Prints S.TextSink out.old (special_texts namespace number (name_in symbol.now
-        name.now)) result out.new }
+    ensures prints { Prints S.TextSink out.old (special_texts namespace number (name_in
+        symbol.now (record { ascii = ascii; punycode = punycode }))) result out.new }
     ensures grows { looks.old ≤ looks.new }
-    ensures most { looks.new ≤ looks.old + name_size name.now }
+    ensures most { looks.new ≤ looks.old + name_size (record {
+      ascii = ascii;
+      punycode = punycode;
+    }) }
 {
     out.put("::{")?;
     put_kind(namespace, out)?;
-    put_name_behind(":", symbol, name, out, looks)?;
+    let name = Ident { ascii, punycode };
+    put_name_behind(":", symbol, &name, out, looks)?;
     put_ending(number, out)
 }
 
 /// Puts a name in a namespace: special where its letter is `A` to `Z`.
-#[inline(never)]
-#[inline(never)]
+#[inline(always)]
 pub(super) fn put_nested_name<S: TextSink>(
     symbol: &Symbol<'_>,
     namespace: u8,
@@ -180,7 +186,15 @@ pub(super) fn put_nested_name<S: TextSink>(
     ensures most { looks.new ≤ looks.old + name_size name.now }
 {
     match namespace {
-        b'A'..=b'Z' => put_special_name(symbol, namespace, number, name, out, looks),
+        b'A'..=b'Z' => put_special_name(
+            symbol,
+            namespace,
+            number,
+            name.ascii,
+            name.punycode,
+            out,
+            looks,
+        ),
         _ => put_name_behind("::", symbol, name, out, looks),
     }
 }

@@ -41,10 +41,8 @@ pub(super) fn put_hexadecimal<S: TextSink>(
 {
     let mut text = [0; 16];
     let start = write_hexadecimal(number, &mut text);
-    let Ok(digits) = str::from_utf8(&text[start..]) else {
-        unreachable!()
-    };
-    out.put(digits)
+    // SAFETY: digits are ASCII.
+    out.put(unsafe { str::from_utf8_unchecked(&text[start..]) })
 }
 
 #[tactic(auto, using(demangle_sink::proofs::PrintsLemmas::prints_ready))]

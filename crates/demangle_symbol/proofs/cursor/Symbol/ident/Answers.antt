@@ -7,7 +7,7 @@ use Rattle.demangle_symbol.proofs.cursor.Symbol.ident.Goals as goal
 pub returns-clause-read : goal.returns-clause-read
 returns-clause-read c =
     let from : ℕ = c.skip-from.result in
-    let end : ℕ = from + c.in-Ok.len in
+    let end : ℕ = from + c.in-Ok-length.len in
     let name : Ident = record { ascii = record { from = from; to = end }; punycode = record { from = end; to = end } } in
     let h : IsIdent c.args.self.now c.args.place end name = search rules in
     sym (ident_read c.args.self.now c.args.place end name h)
