@@ -1,10 +1,11 @@
 -- The first `.llvm.` of a text.
-use Rattle.std.proofs.Common.{◌≡◌, ℕ, zero, suc, ◌<◌, ◌≤◌, inl, inr, Bool, true, false, cond, List, [], ◌∷◌, ◌++◌, length, take, drop, refl, sym, ap, ◌∙◌, arith, subst, nat_eq}
+use Rattle.std.proofs.Common.{◌≡◌, ℕ, zero, suc, ◌<◌, ◌≤◌, inl, inr, Bool, true, false, cond, List, [], ◌∷◌, ◌++◌, length, take, drop, refl, sym, ap, ◌∙◌, arith, subst, nat_eq, eqb, get_or, ◌+◌, ◌-◌}
 use Rattle.std.specs.Prelude.{codes}
 use Rattle.std.specs.List.{starts_with, list_all}
 use Rattle.std.specs.Cmp.Lexicographic.{bytes_decides}
 use Rattle.std.specs.Str.Pattern.{FindsText, SplitsAroundMatch}
-use Rattle.std.proofs.lemmas.List.{take-append-drop, append-nil, length-append}
+use Rattle.std.proofs.lemmas.List.{take-append-drop, append-nil, length-append, length-drop, get_or-drop}
+use Rattle.memchr.specs.Find.{Nowhere, Passes, is_byte}
 use Rattle.rustc_demangle.specs.Stripped.{stripped, is_thin_lto}
 use Rattle.std.proofs.lemmas.Bool.{cases_Bool, true≢false}
 
@@ -25,6 +26,13 @@ pub stripped_none : (s : List ℕ) → ((i : ℕ) → i ≤ length s → (rest :
 unfolding stripped
 stripped_none [] h = refl
 stripped_none (c ∷ s) h = ap (λ t. c ∷ t) (stripped_none s (λ i l. h (suc i) (omega arith))) ∙ sym (stripped_later c s (h 0 (omega arith)))
+
+-- no `.` at all
+pub stripped_undotted : (s : List ℕ) → Nowhere (Passes (is_byte 46) s) 0 (length s) → s ≡ stripped s
+stripped_undotted s h = stripped_none s (λ i l rest e.
+    let inside : i < length s = omega (arith, length-drop i s, ap length e) in
+    let dot : get_or s i 0 ≡ 46 = ap (λ k. get_or s k 0) (omega arith) ∙ (sym (get_or-drop i s 0 0) ∙ ap (λ t. get_or t 0 0) e) in
+    h i (omega arith) inside (ap (λ x. eqb x 46) dot))
 
 stripped_here : (rest : List ℕ) → stripped (ending rest) ≡ cond (list_all is_thin_lto rest) [] (ending rest)
 unfolding stripped

@@ -3,6 +3,8 @@ ghost use Rattle.std.specs.Prelude.{◌≡◌};
 ghost use Rattle.std.specs.List.{list_all};
 ghost use Rattle.rustc_demangle.specs.Stripped.{stripped, is_thin_lto};
 
+use memchr::memchr;
+
 /// Whether all of it may stand behind `.llvm.`.
 fn is_thin_lto(ending: &str) -> bool
     ensures { result ≡ list_all is_thin_lto ending.now }
@@ -17,6 +19,10 @@ fn is_thin_lto(ending: &str) -> bool
 pub(crate) fn without_thin_lto(text: &str) -> &str
     ensures { result.now ≡ stripped text.now }
 {
+    // Most symbols have no `.`, and one byte is found sooner.
+    let Some(_) = memchr(b'.', text.as_bytes()) else {
+        return text;
+    };
     match text.split_once(".llvm.") {
         Some((name, ending)) if is_thin_lto(ending) => name,
         _ => text,
