@@ -1,5 +1,8 @@
 //! The library's answers beside those of a corpus.
-ghost use Rattle.std.specs.Prelude.{◌*◌, ◌≤◌, IfOk};
+ghost use Rattle.std.specs.Prelude.{◌≡◌, ◌+◌, ◌*◌, ◌≤◌, IfOk, IfSome, length};
+ghost use Rattle.std.specs.Io.Iter.{u64_saturate};
+ghost use Rattle.rustc_demangle.specs.Lines.{lines};
+ghost use Rattle.demangle_corpus.specs.Differences.{difference};
 
 use crate::answers::{answers_of, limited_forms, pieces_forms};
 use crate::case::{Answers, Case, Forms, Wanted};
@@ -54,7 +57,8 @@ fn compare<W: Write>(
     got: &[u8],
     output: &mut W,
 ) -> io::Result<u64>
-    ensures { IfOk result (λ n. n ≤ 1) }
+    ensures count { IfOk result (λ n. n ≡ difference wanted.now got.now) }
+    ensures most { IfOk result (λ n. n ≤ 1) }
 {
     if wanted == got {
         return Ok(0);
@@ -74,7 +78,9 @@ fn compare_forms<W: Write>(
     got: &Forms<Vec<u8>>,
     output: &mut W,
 ) -> io::Result<u64>
-    ensures { IfOk result (λ n. n ≤ 2) }
+    ensures count { IfOk result (λ n. n ≡ difference wanted.now.plain.now got.now.plain.items
+        + difference wanted.now.alt.now got.now.alt.items) }
+    ensures most { IfOk result (λ n. n ≤ 2) }
 {
     let plain = compare("plain", line, wanted.plain, got.plain.as_slice(), output)?;
     let alt = compare("alt", line, wanted.alt, got.alt.as_slice(), output)?;
@@ -88,7 +94,11 @@ fn compare_answers<W: Write>(
     got: &Answers<Vec<u8>>,
     output: &mut W,
 ) -> io::Result<u64>
-    ensures { IfOk result (λ n. n ≤ 4) }
+    ensures count { IfOk result (λ n. n ≡ difference wanted.now.status.now got.now.status.items
+        + difference wanted.now.as_str.now got.now.as_str.items
+        + (difference wanted.now.printed.plain.now got.now.printed.plain.items
+        + difference wanted.now.printed.alt.now got.now.printed.alt.items)) }
+    ensures most { IfOk result (λ n. n ≤ 4) }
 {
     let status = compare("status", line, wanted.status, got.status.as_slice(), output)?;
     let as_str = compare("as_str", line, wanted.as_str, got.as_str.as_slice(), output)?;
@@ -142,7 +152,9 @@ pub fn corpus_run<R: BufRead, W: Write>(
     input: &mut R,
     output: &mut W,
 ) -> Result<Counts, CorpusFault>
-    ensures { IfOk result (λ counts. counts.differences ≤ 4 * counts.lines) }
+    ensures most { IfOk result (λ counts. counts.differences ≤ 4 * counts.lines) }
+    ensures lines { IfOk result (λ counts. IfSome (R.remaining input.old)
+        (λ text. counts.lines ≡ u64_saturate (length (lines text)))) }
 {
     let mut counts = Counts {
         lines: 0,

@@ -2,13 +2,13 @@
 //! writes is tested with the library.
 use crate::filter::filter_run;
 use crate::pausing::PausingOutput;
-use demangle_vectors::streams::{PartsReader, RefusingWriter};
 use std::alloc::{AllocError, Global};
 use std::cell::Cell;
 use std::io::{BufRead, BufReader, ErrorKind, Read, Write};
 use std::process::Abort;
 use std::test::Fail;
 use streams::{WatchedWriter, WatchingReader};
+use test_doubles::streams::{PartsReader, RefusingWriter};
 
 mod streams;
 

@@ -5,7 +5,6 @@ ghost use Rattle.std.specs.Prelude.{◌≡◌, ◌+◌, ◌-◌, ◌*◌, ◌≤
 ghost use Rattle.demangle_legacy.specs.Legacy.{legacy_of, elements_of, inner_of};
 
 use demangle_symbol::cursor::{Looks, Symbol};
-use demangle_symbol::prefix::behind_prefix;
 
 mod elements;
 mod printing;
@@ -17,21 +16,21 @@ mod value;
 pub use value::Demangle;
 
 /// What stands behind the prefix of a legacy symbol.
-#[tactic(auto, unfolding(crate::specs::Legacy::inner_of))]
+#[tactic(auto, using(demangle_symbol::proofs::Prefixes::behind_answer), unfolding(crate::specs::Legacy::inner_of))]
 fn inner_of(s: &str) -> Option<&str>
     ensures inner { option_map (λ x. x.now) result ≡ inner_of s.now }
     ensures shorter { IfSome result
         (λ x. (length x.now ≤ length s.now) × (length s.now ≤ length x.now + 4)) }
 {
-    if let Some(inner) = behind_prefix(s, "_ZN") {
+    if let Some(inner) = s.strip_prefix("_ZN") {
         return Some(inner);
     }
     // On Windows, dbghelp strips the leading underscore.
-    if let Some(inner) = behind_prefix(s, "ZN") {
+    if let Some(inner) = s.strip_prefix("ZN") {
         return Some(inner);
     }
     // On macOS, symbols have one underscore more.
-    behind_prefix(s, "__ZN")
+    s.strip_prefix("__ZN")
 }
 
 /// Reads a legacy symbol: the symbol, and what follows its `E`.

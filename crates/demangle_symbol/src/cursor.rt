@@ -191,7 +191,7 @@ impl<'s> Symbol<'s> {
                 }
                 return Ok((number as usize, at));
             };
-            let Some(sum) = with_digit(number, 10, digit) else {
+            let Some(sum) = append_digit(number, 10, digit) else {
                 return Err(ParseError::Invalid);
             };
             number = sum;
@@ -221,7 +221,8 @@ impl<'s> Symbol<'s> {
     }
 }
 
-pub(crate) fn with_digit(number: u64, base: u64, digit: u8) -> Option<u64>
+/// The number with this digit behind its own, in a base, if it fits 64 bits.
+pub(crate) fn append_digit(number: u64, base: u64, digit: u8) -> Option<u64>
     ensures { SomeIff result (number * base + digit < 2 ^ 64) (number * base + digit) }
 {
     number.checked_mul(base)?.checked_add(u64::from(digit))

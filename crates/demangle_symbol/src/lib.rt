@@ -4,5 +4,4 @@
 
 pub mod cursor;
 pub mod literal;
-pub mod prefix;
 pub mod punycode;

@@ -49,7 +49,8 @@ fn is_shown(c: char) -> bool
     c >= '\u{80}' && !is_hidden_category(GeneralCategory::for_char(c)) && !is_grapheme_extend(c)
 }
 
-fn escape_of(quote: char, c: char) -> Escape
+/// How a character is written in a literal with this quote.
+fn literal_escape(quote: char, c: char) -> Escape
     ensures { escape_text result c ≡ literal_escape quote c }
 {
     if c == quote || c == '\\' {
@@ -72,7 +73,7 @@ fn escape_of(quote: char, c: char) -> Escape
 }
 
 /// A hexadecimal digit.
-pub fn digit_byte(digit: u64) -> u8
+fn digit_byte(digit: u64) -> u8
     requires { digit < 16 }
     ensures { result ≡ digit_glyph false digit }
 {
@@ -141,7 +142,7 @@ fn put_escaped<S: TextSink>(
     requires { Ready S.TextSink out.old }
     ensures { Prints S.TextSink out.old (map encode_utf8 (literal_escape quote c)) result out.new }
 {
-    match escape_of(quote, c) {
+    match literal_escape(quote, c) {
         Escape::Itself => put_char(c, out),
         Escape::Backslash(letter) => put_backslashed(letter, out),
         Escape::Code => put_code(c, out),

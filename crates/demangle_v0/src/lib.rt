@@ -6,7 +6,6 @@ ghost use Rattle.demangle_v0.specs.V0.{inner_of, v0_of};
 
 use crate::accept::{begins_path, suffix_at};
 use demangle_symbol::cursor::{Looks, ParseError, Symbol};
-use demangle_symbol::prefix::behind_prefix;
 
 mod accept;
 mod grammar;
@@ -23,20 +22,21 @@ mod words;
 pub use value::Demangle;
 
 /// What stands behind the prefix of a v0 symbol.
+#[tactic(auto, using(demangle_symbol::proofs::Prefixes::behind_answer))]
 fn inner_of(s: &str) -> Option<&str>
     ensures inner { option_map (λ x. x.now) result ≡ inner_of s.now }
     ensures shorter { IfSome result (λ x. (length x.now ≤ length s.now) × (length s.now ≤ length
         x.now + 3)) }
 {
-    if let Some(inner) = behind_prefix(s, "_R") {
+    if let Some(inner) = s.strip_prefix("_R") {
         return Some(inner);
     }
     // On Windows, dbghelp strips the leading underscore.
-    if let Some(inner) = behind_prefix(s, "R") {
+    if let Some(inner) = s.strip_prefix("R") {
         return Some(inner);
     }
     // On macOS, symbols have one underscore more.
-    behind_prefix(s, "__R")
+    s.strip_prefix("__R")
 }
 
 /// Reads a v0 symbol: the symbol, and the suffix behind its paths.

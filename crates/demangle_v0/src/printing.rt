@@ -1,9 +1,7 @@
 //! How a v0 symbol prints: steps, of which each hands over what it reads as soon as it is known.
-ghost use Rattle.std.specs.Prelude.{ℕ, ◌+◌, ◌-◌, ◌*◌, ◌≤◌, List, IsAscii, IsOk, Ok, Some, length};
-ghost use Rattle.demangle_sink.specs.Cut.{kept};
-ghost use Rattle.demangle_sink.specs.Limit.{Prints, Ready};
+ghost use Rattle.std.specs.Prelude.{ℕ, ◌+◌, ◌-◌, ◌≤◌, List, IsAscii, IsOk, Ok, Some};
+ghost use Rattle.demangle_sink.specs.Limit.{Ready};
 ghost use Rattle.demangle_v0.specs.PointRuns.{Valid, RanOn, Ended, Passed, ValidLeft, looks_left, first_looks};
-ghost use Rattle.demangle_v0.specs.Reading.{rendered};
 ghost use Rattle.demangle_v0.specs.declared.points.frames.Frame.{Frame};
 
 use crate::points::frames::{FEW, FrameStack, MOST};
@@ -27,7 +25,7 @@ pub enum Left {
 ///
 /// It ends at the piece that the limit or the sink refuses.
 #[inline(never)]
-fn print_on<const N: usize, S: TextSink>(
+pub(crate) fn print_on<const N: usize, S: TextSink>(
     symbol: &Symbol<'_>,
     include_hash: bool,
     reading: &mut Reading,
@@ -98,7 +96,7 @@ fn finish_skip(
 
 /// Prints the rest, with room for every frame.
 #[inline(never)]
-fn print_rest<S: TextSink>(
+pub(crate) fn print_rest<S: TextSink>(
     symbol: &Symbol<'_>,
     include_hash: bool,
     few: &FrameStack<FEW>,
@@ -123,29 +121,4 @@ fn print_rest<S: TextSink>(
     finish_skip(symbol, include_hash, left, &mut reading, &mut row, looks);
     print_on(symbol, include_hash, &mut reading, &mut row, out, looks)?;
     Ok(())
-}
-
-/// Prints a symbol's first path, with its hash or without it.
-///
-/// It ends at the piece that the limit or the sink refuses.
-pub(crate) fn print<S: TextSink>(
-    symbol: &Symbol<'_>,
-    include_hash: bool,
-    out: &mut SizeLimitedFmtAdapter<'_, S>,
-    looks: &mut Looks,
-) -> Result<(), SinkRefused>
-    requires ascii { IsAscii symbol.now }
-    requires ready { Ready S.TextSink out.old }
-    ensures prints { Prints S.TextSink out.old (rendered symbol.now include_hash) result out.new }
-    ensures grows { looks.old ≤ looks.new }
-    ensures least { looks.old + 1 ≤ looks.new }
-    ensures most { looks.new ≤ looks.old + 100000 * (kept (rendered symbol.now include_hash)
-        out.old.remaining + 1) * (length symbol.now + 1) }
-{
-    let mut row: FrameStack<FEW> = FrameStack::new();
-    let mut reading = Reading::of_path(0);
-    match print_on(symbol, include_hash, &mut reading, &mut row, out, looks)? {
-        None => Ok(()),
-        Some(left) => print_rest(symbol, include_hash, &row, &reading, left, out, looks),
-    }
 }

@@ -1,10 +1,12 @@
-//! A v0 symbol that was read.
+//! A v0 symbol that was read, and how its first path is printed.
 ghost use Rattle.std.specs.Prelude.{◌≡◌, ◌+◌, ◌*◌, ◌≤◌, IsAscii, length};
 ghost use Rattle.demangle_sink.specs.Cut.{kept};
 ghost use Rattle.demangle_sink.specs.Limit.{Prints, Ready};
 ghost use Rattle.demangle_v0.specs.Reading.{rendered};
 
-use crate::printing::print;
+use crate::points::frames::{FEW, FrameStack};
+use crate::points::read::Reading;
+use crate::printing::{print_on, print_rest};
 use demangle_sink::{SinkRefused, SizeLimitedFmtAdapter, TextSink};
 use demangle_symbol::cursor::{Looks, Symbol};
 use std::marker::Model;
@@ -34,6 +36,8 @@ impl<'s> Demangle<'s> {
     }
 
     /// Prints the first path, with the hash or without it.
+    ///
+    /// It ends at the piece that the limit or the sink refuses.
     pub fn write_to<S: TextSink>(
         &self,
         out: &mut SizeLimitedFmtAdapter<'_, S>,
@@ -47,6 +51,18 @@ impl<'s> Demangle<'s> {
             out.old.remaining + 1) * (length self.now + 1) }
         ensures least { looks.old + 1 ≤ looks.new }
     {
-        print(&self.inner, include_hash, out, looks)
+        let mut row: FrameStack<FEW> = FrameStack::new();
+        let mut reading = Reading::of_path(0);
+        match print_on(
+            &self.inner,
+            include_hash,
+            &mut reading,
+            &mut row,
+            out,
+            looks,
+        )? {
+            None => Ok(()),
+            Some(left) => print_rest(&self.inner, include_hash, &row, &reading, left, out, looks),
+        }
     }
 }

@@ -1,5 +1,4 @@
-//! What symbols print, by vectors from the Rust crate, as tests of the library; and a sink, readers
-//! and writers for tests.
+//! What symbols print, by vectors from the Rust crate, as tests of the library.
 #![tactic(auto)]
 
 ghost use Rattle.std.specs.Prelude.{◌≡◌, ◌≢◌, ◌≤◌, IsTrue, false};
@@ -7,12 +6,9 @@ ghost use Rattle.rustc_demangle.specs.Cut.{size};
 ghost use Rattle.rustc_demangle.specs.Stripped.{stripped};
 ghost use Rattle.rustc_demangle.specs.Symbols.{handed, most_bytes, printed};
 
-mod refusing_sink;
-pub mod streams;
 #[cfg(test)]
 mod tests;
 
-pub use refusing_sink::RefusingSink;
 use rustc_demangle::demangle;
 use rustc_demangle::sink::ArraySink;
 

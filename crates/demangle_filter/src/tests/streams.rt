@@ -1,8 +1,8 @@
 //! A reader and a writer that watch when the output is flushed.
-use demangle_vectors::streams::PartsReader;
 use std::cell::Cell;
 use std::io;
 use std::io::{ErrorKind, Read, Write};
+use test_doubles::streams::PartsReader;
 
 /// Holds what is written, and tells its reader whether that was flushed.
 #[derive(Drop)]

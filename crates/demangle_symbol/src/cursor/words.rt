@@ -4,7 +4,7 @@ ghost use Rattle.std.specs.Result.{result_ok};
 ghost use Rattle.demangle_symbol.specs.Words.{byte_at, integer_at, optional_at, namespace_at, backref_at, Integer, OptInteger, Namespace, Backref, behind, is_digit_62, digit_62};
 ghost use Rattle.demangle_symbol.specs.Idents.{backref_answer};
 
-use crate::cursor::{Looks, ParseError, Symbol, with_digit};
+use crate::cursor::{Looks, ParseError, Symbol, append_digit};
 
 /// How deep the units of a symbol may lie in one another.
 pub const MAX_DEPTH: u32 = 500;
@@ -42,7 +42,7 @@ impl<'s> Symbol<'s> {
                 };
                 return Ok((value, at + 1));
             };
-            let Some(sum) = with_digit(number, 62, digit) else {
+            let Some(sum) = append_digit(number, 62, digit) else {
                 return Err(ParseError::Invalid);
             };
             number = sum;

@@ -38,7 +38,7 @@ fn nibble_at(symbol: &Symbol<'_>, place: usize, looks: &mut Looks) -> u8
 
 /// The byte of the two nibbles from a place on.
 #[tactic(auto, using(crate::proofs::Nibbles::nibble_steps))]
-fn byte_at(symbol: &Symbol<'_>, rest: Part, place: usize, looks: &mut Looks) -> u8
+fn nibble_byte(symbol: &Symbol<'_>, rest: Part, place: usize, looks: &mut Looks) -> u8
     requires hex { HexPart symbol.now rest }
     requires begun { rest.from ≤ place }
     requires two { place + 2 ≤ rest.to }
@@ -84,7 +84,7 @@ fn char_at(symbol: &Symbol<'_>, rest: Part, looks: &mut Looks) -> Option<(char, 
         if rest.to - at < 2 {
             return None;
         }
-        bytes[len] = byte_at(symbol, rest, at, looks);
+        bytes[len] = nibble_byte(symbol, rest, at, looks);
         if let Some(c) = first_char(&bytes[..len + 1]) {
             return Some((c, at + 2));
         }

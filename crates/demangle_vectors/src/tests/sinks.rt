@@ -1,8 +1,8 @@
 //! Sinks that take a part, and what they hold then.
-use crate::RefusingSink;
 use rustc_demangle::demangle;
 use rustc_demangle::sink::{ArraySink, TextSink, WriteSink};
 use std::io::ErrorKind;
+use test_doubles::RefusingSink;
 
 #[test]
 fn a_full_sink_holds_the_pieces_before_the_refused_one(rt: HostRuntime) {

@@ -1,10 +1,10 @@
 //! What the stream writes of lines, and where a reader or a writer refuses.
-use crate::streams::{NotingWriter, PartsReader, RefusingWriter};
 use rustc_demangle::{StreamFault, demangle_stream, demangle_stream_named};
 use std::alloc::Global;
 use std::io::ErrorKind;
 use std::process::Abort;
 use std::test::Fail;
+use test_doubles::streams::{NotingWriter, PartsReader, RefusingWriter};
 
 /// Asserts what the stream writes of a text, with the hash or without it.
 fn assert_writes(

@@ -4,14 +4,14 @@ use Rattle.demangle_symbol.proofs.cursor.Symbol.decimal_from.Goals as goal
 
 pub loop-at-preserved : goal.loop-at-preserved
 loop-at-preserved c = record {
-  digits = rw c.in-Some-with_digit.ensures.1 (digits_more _ _ _ _ _ c.loop-at.invariant.digits c.in-Some.ensures.digit c.in-Some.ensures.small);
+  digits = rw c.in-Some-append_digit.ensures.1 (digits_more _ _ _ _ _ c.loop-at.invariant.digits c.in-Some.ensures.digit c.in-Some.ensures.small);
   looked = omega arith;
 }
 
-pub returns-in_default-with_digit-clause-err : goal.returns-in_default-with_digit-clause-err
-returns-in_default-with_digit-clause-err c =
+pub returns-in_default-append_digit-clause-err : goal.returns-in_default-append_digit-clause-err
+returns-in_default-append_digit-clause-err c =
     no_decimal_large _ _ _ _ _ c.loop-at.invariant.digits c.in-Some.ensures.digit c.in-Some.ensures.small
-    (omega (arith, c.in_default-with_digit.ensures))
+    (omega (arith, c.in_default-append_digit.ensures))
 
 pub returns-clause-ok : goal.returns-clause-ok
 returns-clause-ok c =

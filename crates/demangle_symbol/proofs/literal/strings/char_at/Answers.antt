@@ -27,8 +27,8 @@ returns-in-Some-clause-some c =
     let within = hex_within s r.from c.requires.hex.0 r.to c.requires.hex.1 in
     let n = length-between s r.from r.to (omega (arith, within)) in
     let p = length-pairs (nibbles_in s r) in
-    let more = pair_more s r.from r.to l.len c.byte_at.result (omega (arith, within)) (omega arith) c.byte_at.ensures.value in
-    let same : take (l.len + 1) (set l.bytes l.len c.byte_at.result) ≡ take (l.len + 1) bs = bytes_step l.bytes bs l.len c.byte_at.result (omega arith) l.invariant.bytes more in
+    let more = pair_more s r.from r.to l.len c.nibble_byte.result (omega (arith, within)) (omega arith) c.nibble_byte.ensures.value in
+    let same : take (l.len + 1) (set l.bytes l.len c.nibble_byte.result) ≡ take (l.len + 1) bs = bytes_step l.bytes bs l.len c.nibble_byte.result (omega arith) l.invariant.bytes more in
     let rest = c.in-Some.ensures.some in
     let whole : take (l.len + 1) bs ≡ encode_utf8 c.in-Some.c =
     one_char (take (l.len + 1) bs) rest.0 c.in-Some.c (l.len + 1) (sym same ∙ rest.1) (omega (arith, length-take (l.len + 1) bs)) c.in-Some.ensures.scalar
@@ -44,11 +44,11 @@ loop-len-preserved c =
     let l = c.loop-len in
     let bs : List ℕ = pairs (nibbles_in s r) in
     let within = hex_within s r.from c.requires.hex.0 r.to c.requires.hex.1 in
-    let more = pair_more s r.from r.to l.len c.byte_at.result (omega (arith, within)) (omega arith) c.byte_at.ensures.value in
-    let same : take (l.len + 1) (set l.bytes l.len c.byte_at.result) ≡ take (l.len + 1) bs = bytes_step l.bytes bs l.len c.byte_at.result (omega arith) l.invariant.bytes more in
+    let more = pair_more s r.from r.to l.len c.nibble_byte.result (omega (arith, within)) (omega arith) c.nibble_byte.ensures.value in
+    let same : take (l.len + 1) (set l.bytes l.len c.nibble_byte.result) ≡ take (l.len + 1) bs = bytes_step l.bytes bs l.len c.nibble_byte.result (omega arith) l.invariant.bytes more in
     record {
       left = omega arith;
-      size = c.byte_at.array_long;
+      size = c.nibble_byte.array_long;
       bytes = same;
       none = none_more bs l.len l.invariant.none (λ u. c.in_default.ensures.none (subst IsUtf8 (sym same) u));
       looked = omega arith;

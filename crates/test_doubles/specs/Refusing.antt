@@ -1,6 +1,6 @@
 use Rattle.std.specs.Prelude.{ℕ, List}
-use Rattle.rustc_demangle.specs.Array.{text_of}
-use Rattle.demangle_vectors.specs.declared.refusing_sink.RefusingSink.{RefusingSink}
+use Rattle.demangle_sink.specs.Array.{text_of}
+use Rattle.test_doubles.specs.declared.refusing_sink.RefusingSink.{RefusingSink}
 
 -- the text that a sink took
 abbrev pub taken_text : RefusingSink → List ℕ

@@ -2,9 +2,9 @@
 ghost use Rattle.std.specs.Prelude.{◌≡◌, ◌-◌, ◌<◌, [], ◌++◌, Some, true, false};
 ghost use Rattle.std.proofs.Common.{sym, ap, ◌∙◌};
 ghost use Rattle.std.proofs.lemmas.List.{append-nil, append_assoc};
-ghost use Rattle.demangle_vectors.specs.Refusing.{taken_text, pieces_left};
+ghost use Rattle.test_doubles.specs.Refusing.{taken_text, pieces_left};
 
-use rustc_demangle::sink::{ArraySink, SinkRefused, TextSink};
+use demangle_sink::{ArraySink, SinkRefused, TextSink};
 
 /// Takes every empty piece, and refuses one of the nonempty ones; it keeps the text that it took,
 /// of at most 4,096 bytes.
