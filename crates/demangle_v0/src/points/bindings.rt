@@ -83,7 +83,7 @@ pub(super) fn open_bindings<V: Voice>(
 }
 
 /// The name of a binding.
-#[inline(always)]
+#[inline(never)]
 pub(super) fn binding_name<V: Voice>(
     symbol: &Symbol<'_>,
     plain: bool,

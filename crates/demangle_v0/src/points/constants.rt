@@ -87,7 +87,7 @@ pub(super) fn close_brace<V: Voice>(state: &mut State) -> Point
 }
 
 /// The string of a constant.
-#[inline(always)]
+#[inline(never)]
 pub(super) fn literal<V: Voice>(
     symbol: &Symbol<'_>,
     plain: bool,
@@ -108,7 +108,7 @@ pub(super) fn literal<V: Voice>(
 }
 
 /// The number of a constant, whose tag is the state's letter.
-#[inline(always)]
+#[inline(never)]
 pub(super) fn number<V: Voice>(
     symbol: &Symbol<'_>,
     plain: bool,
@@ -283,7 +283,7 @@ fn tagged_constant<V: Voice, const N: usize>(
 }
 
 /// A constant.
-#[inline(always)]
+#[inline(never)]
 pub(super) fn constant<V: Voice, const N: usize>(
     symbol: &Symbol<'_>,
     plain: bool,

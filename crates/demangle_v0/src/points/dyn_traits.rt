@@ -35,7 +35,7 @@ pub(super) fn dyn_type<V: Voice, const N: usize>(
 }
 
 /// The lifetimes of dyn traits, and the first of them.
-#[inline(always)]
+#[inline(never)]
 pub(super) fn dyn_binder<V: Voice, const N: usize>(
     symbol: &Symbol<'_>,
     plain: bool,
@@ -173,7 +173,7 @@ pub(super) fn open_argument<V: Voice, const N: usize>(
 }
 
 /// The lifetime of a dyn type.
-#[inline(always)]
+#[inline(never)]
 pub(super) fn dyn_lifetime<V: Voice>(
     symbol: &Symbol<'_>,
     plain: bool,

@@ -41,7 +41,7 @@ pub(super) fn name_lifetimes<V: Voice>(
 }
 
 /// A function type, behind its tag.
-#[inline(always)]
+#[inline(never)]
 pub(super) fn function_binder<V: Voice>(
     symbol: &Symbol<'_>,
     plain: bool,
@@ -84,7 +84,7 @@ fn is_bare(head: &Stretch) -> bool
 }
 
 /// Whether a function is unsafe, and its ABI.
-#[inline(always)]
+#[inline(never)]
 pub(super) fn function_head<V: Voice>(
     symbol: &Symbol<'_>,
     plain: bool,

@@ -51,7 +51,7 @@ fn held<const N: usize>(
 }
 
 /// What follows the path of a variant.
-#[inline(always)]
+#[inline(never)]
 pub(super) fn variant<V: Voice, const N: usize>(
     symbol: &Symbol<'_>,
     state: &mut State,
@@ -83,7 +83,7 @@ pub(super) fn variant<V: Voice, const N: usize>(
 }
 
 /// The name of a field.
-#[inline(always)]
+#[inline(never)]
 pub(super) fn field<V: Voice>(
     symbol: &Symbol<'_>,
     plain: bool,
