@@ -2,6 +2,7 @@
 #![tactic(auto)]
 
 mod filter;
+mod held;
 mod pausing;
 #[cfg(test)]
 mod tests;

@@ -1,18 +1,51 @@
 //! An output that is flushed before its program waits for more input.
+use crate::held::Held;
 use std::cell::RefCell;
 use std::io;
 use std::io::{Read, Write};
 
-/// A writer, whether something was written since it was last flushed, and the error of a flush that
-/// failed while the input was waited for.
+/// A writer, and the bytes that are held for it.
 #[derive(Drop)]
 struct Pending<W: Write + Drop> {
+    held: Held,
     writer: W,
+    /// Whether the writer took something since it was last flushed.
     is_unflushed: bool,
+    /// The writer's error that the next flush answers.
     fault: Option<io::Error>,
 }
 
-/// An output that a `PausingWriter` writes, and that a `PausingReader` flushes.
+impl<W: Write + Drop> Pending<W> {
+    /// Hands on what is held. Where the writer refuses it, it stays held.
+    fn hand_on(&mut self) -> io::Result<()> {
+        if !self.held.is_empty() {
+            self.is_unflushed = true;
+            self.writer.write_all(self.held.as_slice())?;
+            self.held.clear();
+        }
+        Ok(())
+    }
+
+    /// Hands on what is held, and then holds the piece, or hands it on where it is too long.
+    fn write_all(&mut self, piece: &[u8]) -> io::Result<()> {
+        self.hand_on()?;
+        if self.held.push(piece) {
+            return Ok(());
+        }
+        self.is_unflushed = true;
+        self.writer.write_all(piece)
+    }
+
+    /// Hands on what is held, and flushes the writer.
+    fn flush(&mut self) -> io::Result<()> {
+        self.hand_on()?;
+        self.is_unflushed = false;
+        self.writer.flush()
+    }
+}
+
+/// An output that a `PausingWriter` writes, and that a `PausingReader` flushes. What is written is
+/// held until there is no room for more.
 #[derive(Drop)]
 pub struct PausingOutput<W: Write + Drop> {
     pending: RefCell<Pending<W>>,
@@ -22,6 +55,7 @@ impl<W: Write + Drop> PausingOutput<W> {
     pub fn new(writer: W) -> Self {
         PausingOutput {
             pending: RefCell::new(Pending {
+                held: Held::new(),
                 writer,
                 is_unflushed: false,
                 fault: None,
@@ -42,21 +76,49 @@ impl<W: Write + Drop> PausingOutput<W> {
         }
     }
 
+    /// Holds the piece, unless there is no room for it.
+    #[inline(always)]
+    fn hold(&self, piece: &[u8]) -> bool {
+        match self.pending.try_borrow_mut() {
+            Ok(mut pending) => pending.held.push(piece),
+            Err(_) => false,
+        }
+    }
+
+    /// Writes a piece for which there is no room, and keeps the error where that fails.
+    #[cold]
+    #[inline(never)]
+    fn write_on(&self, piece: &[u8]) -> bool {
+        let Ok(mut pending) = self.pending.try_borrow_mut() else {
+            return false;
+        };
+        match pending.write_all(piece) {
+            Ok(()) => true,
+            Err(error) => {
+                pending.fault = Some(error);
+                false
+            }
+        }
+    }
+
     /// Flushes what was written, and keeps the error where that fails.
     fn pause(&self) -> io::Result<()> {
         let Ok(mut pending) = self.pending.try_borrow_mut() else {
             return Err(is_in_use());
         };
-        if !pending.is_unflushed {
+        if pending.held.is_empty() && !pending.is_unflushed {
             return Ok(());
         }
-        pending.is_unflushed = false;
-        if let Err(error) = pending.writer.flush() {
+        if let Err(error) = pending.flush() {
             pending.fault = Some(error);
-            return Err(io::Error::other("the output is broken"));
+            return Err(is_broken());
         }
         Ok(())
     }
+}
+
+fn is_broken() -> io::Error {
+    io::Error::other("the output is broken")
 }
 
 fn is_in_use() -> io::Error {
@@ -73,28 +135,31 @@ impl<W: Write + Drop> Write for PausingWriter<'_, W> {
         let Ok(mut pending) = self.output.pending.try_borrow_mut() else {
             return Err(is_in_use());
         };
+        pending.hand_on()?;
         pending.is_unflushed = true;
         pending.writer.write(buf)
     }
 
+    /// Where the writer refuses it, the writer's own error is answered by the next flush.
+    #[inline(always)]
     fn write_all(&mut self, buf: &[u8]) -> io::Result<()> {
-        let Ok(mut pending) = self.output.pending.try_borrow_mut() else {
-            return Err(is_in_use());
-        };
-        pending.is_unflushed = true;
-        pending.writer.write_all(buf)
+        if self.output.hold(buf) || self.output.write_on(buf) {
+            return Ok(());
+        }
+        Err(is_broken())
     }
 
-    /// Flushes the output. The error of a flush while the input was waited for is answered here.
+    /// Flushes the output. An error that came while a piece was written, or while the input was
+    /// waited for, is answered here.
     fn flush(&mut self) -> io::Result<()> {
         let Ok(mut pending) = self.output.pending.try_borrow_mut() else {
             return Err(is_in_use());
         };
-        if let Some(fault) = pending.fault.take() {
-            return Err(fault);
+        let flushed = pending.flush();
+        match pending.fault.take() {
+            Some(fault) => Err(fault),
+            None => flushed,
         }
-        pending.is_unflushed = false;
-        pending.writer.flush()
     }
 }
 

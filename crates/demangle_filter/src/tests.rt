@@ -8,7 +8,7 @@ use std::io::{BufRead, BufReader, ErrorKind, Read, Write};
 use std::process::Abort;
 use std::test::Fail;
 use streams::{WatchedWriter, WatchingReader};
-use test_doubles::streams::{PartsReader, RefusingWriter};
+use test_doubles::streams::{NotingWriter, PartsReader, RefusingWriter};
 
 mod streams;
 
@@ -229,5 +229,58 @@ fn a_part_goes_to_the_output_at_once(rt: HostRuntime) -> Result<(), Fail> {
     assert_eq!(rt; output.held(), b"oldfoo".as_slice());
     assert_eq!(rt; write_part(&mut output, b"bar"), Err(ErrorKind::BrokenPipe));
     assert_eq!(rt; output.held(), b"oldfoo".as_slice());
+    Ok(())
+}
+
+/// Asserts which parts the writer is handed, of what is written into an output of its own.
+fn assert_handed_on(
+    rt: &impl Abort,
+    alloc: Global,
+    parts: &[&[u8]],
+    wanted: &[&[u8]],
+) -> Result<(), Fail> {
+    let mut noting = NotingWriter::new(alloc);
+    let output = PausingOutput::new(&mut noting);
+    let mut writer = output.writer();
+    for part in parts {
+        writer.write_all(part)?;
+    }
+    writer.flush()?;
+    drop(output);
+    assert_eq!(rt; noting.writes().len(), wanted.len());
+    for (written, wanted) in noting.writes().iter().zip(wanted) {
+        assert_eq!(rt; written.as_slice(), *wanted);
+    }
+    Ok(())
+}
+
+#[test]
+fn pieces_are_handed_on_where_no_more_has_room(rt: HostRuntime) -> Result<(), Fail> {
+    let alloc = rt.alloc();
+    let full = vec![in alloc; b'f'; 4096]?;
+    let full = full.as_slice();
+    let (front, back) = full.split_at(4000);
+    let long = vec![in alloc; b'l'; 4097]?;
+    let long = long.as_slice();
+    assert_handed_on(&rt, alloc, &[], &[])?;
+    assert_handed_on(&rt, alloc, &[front, back], &[full])?;
+    assert_handed_on(&rt, alloc, &[front, back, b"x", b"y"], &[full, b"xy"])?;
+    assert_handed_on(&rt, alloc, &[front, full, b"x"], &[front, full, b"x"])?;
+    assert_handed_on(&rt, alloc, &[b"a", long, b"b"], &[b"a", long, b"b"])
+}
+
+#[test]
+fn what_was_refused_is_told_by_the_flush(rt: HostRuntime) -> Result<(), Fail> {
+    let alloc = rt.alloc();
+    let full = vec![in alloc; b'f'; 4096]?;
+    let mut refusing = RefusingWriter::new(alloc, b"old", 0, true)?;
+    let output = PausingOutput::new(&mut refusing);
+    let mut writer = output.writer();
+    assert!(rt; writer.write_all(b"x").is_ok());
+    assert!(rt; writer.write_all(full.as_slice()).is_err());
+    let told = writer.flush().map_err(|error| error.kind());
+    assert_eq!(rt; told, Err(ErrorKind::BrokenPipe));
+    drop(output);
+    assert_eq!(rt; refusing.held(), b"old".as_slice());
     Ok(())
 }

@@ -35,6 +35,7 @@ impl<'s, S: TextSink> SizeLimitedFmtAdapter<'s, S> {
         self.is_over
     }
 
+    #[inline(always)]
     pub fn put(&mut self, s: &str) -> Result<(), SinkRefused>
         requires { Ready S.TextSink self.old }
         ensures { Prints S.TextSink self.old (s.now ∷ []) result self.new }

@@ -46,6 +46,7 @@ impl<'w, W: Write> TextSink for WriteSink<'w, W> {
 
     ghost keeps = { false };
 
+    #[inline(always)]
     fn put(&mut self, s: &str) -> Result<(), SinkRefused> {
         if s.is_empty() {
             return Ok(());

@@ -70,6 +70,7 @@ impl<'s> Span<'s> {
     }
 
     /// Puts it into a sink. It is no look.
+    #[inline(always)]
     pub fn write_to<S: TextSink>(
         &self,
         out: &mut SizeLimitedFmtAdapter<'_, S>,

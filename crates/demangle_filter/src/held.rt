@@ -1,0 +1,70 @@
+//! Bytes that are held for a writer.
+ghost use Rattle.std.specs.Prelude.{◌≡◌, ◌+◌, ◌==◌, ◌≤◌, [], ◌++◌, length, IsTrue, IsFalse};
+
+use std::marker::Model;
+
+/// How many bytes can be held.
+const CAPACITY: usize = 4096;
+
+/// At most `CAPACITY` bytes, in the order in which they came.
+#[derive(Drop)]
+pub struct Held {
+    bytes: [u8; CAPACITY],
+    len: usize,
+}
+
+impl Model for Held {
+    ghost use Rattle.std.specs.Prelude.{◌≡◌, ◌≤◌, ℕ, List, length, take};
+
+    ghost Value = { List ℕ };
+
+    ghost view = { λ held. take held.len held.bytes };
+
+    ghost invariant = { λ held. (held.len ≤ 4096) × (length held.bytes ≡ 4096) };
+}
+
+impl Held {
+    pub fn new() -> Self
+        ensures { result ≡ [] }
+    {
+        Held {
+            bytes: [0; CAPACITY],
+            len: 0,
+        }
+    }
+
+    pub fn as_slice(&self) -> &[u8]
+        ensures { result.now ≡ self.now }
+    {
+        &self.bytes[..self.len]
+    }
+
+    pub fn is_empty(&self) -> bool
+        ensures { result ≡ (length self.now == 0) }
+    {
+        self.len == 0
+    }
+
+    /// Holds all of the piece, or answers `false` where there is no room for it.
+    #[inline(always)]
+    pub fn push(&mut self, piece: &[u8]) -> bool
+        ensures room { length self.old + length piece.now ≤ 4096 → IsTrue result }
+        ensures held { IsTrue result → self.new ≡ self.old ++ piece.now }
+        ensures kept { IsFalse result → self.new ≡ self.old }
+    {
+        let start = self.len;
+        let end = start + piece.len();
+        if end > CAPACITY {
+            return false;
+        }
+        self.len = end;
+        self.bytes[start..end].copy_from_slice(piece);
+        true
+    }
+
+    pub fn clear(&mut self)
+        ensures { self.new ≡ [] }
+    {
+        self.len = 0;
+    }
+}
