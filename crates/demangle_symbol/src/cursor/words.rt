@@ -126,7 +126,7 @@ impl<'s> Symbol<'s> {
         ensures within { IfOk result (λ r. (place < r.1) × (r.1 ≤ length self.now)) }
     {
         match self.byte(place, looks) {
-            Some(b @ (b'A'..=b'Z' | b'a'..=b'z')) => Ok((b, place + 1)),
+            Some(b) if b.is_ascii_alphabetic() => Ok((b, place + 1)),
             _ => Err(ParseError::Invalid),
         }
     }

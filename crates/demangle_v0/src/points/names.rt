@@ -47,8 +47,33 @@ pub(super) fn crate_name<V: Voice>(
     Ok(Point::End)
 }
 
-/// The name behind the path that it lies in, with which its path ends. Where that path failed, its
-/// colons are printed and that it was not read.
+/// A name behind a path that failed: its colons are printed, and that it was not read.
+#[inline(never)]
+fn unread_name<V: Voice>(
+    symbol: &Symbol<'_>,
+    plain: bool,
+    state: &mut State,
+    voice: &mut V,
+    looks: &mut Looks,
+) -> Result<Point, Stop>
+    requires ascii { V.loud ≡ true → IsAscii symbol.now }
+    requires ready { V.ready voice.old }
+    requires unmarked { state.old.mark ≡ None }
+    requires failed { state.old.place ≡ None }
+    ensures did { (row : List Frame) → Did V.Voice symbol.now plain Point.Nested state.old row
+        voice.old result state.new row voice.new (looks.new - looks.old) }
+    ensures ready { IsOk result → V.ready voice.new }
+    ensures sound { (m : Mark) → result ≡ Err (Stop.Fault m) → V.ready voice.new }
+    ensures grows { looks.old ≤ looks.new }
+{
+    state.is_open = false;
+    let Ok(()) = voice.stop(symbol, &Stretch::NestedUnread, plain, looks) else {
+        return Err(Stop::Refused);
+    };
+    Ok(Point::End)
+}
+
+/// The name behind the path that it lies in, with which its path ends.
 #[inline(always)]
 pub(super) fn nested_name<V: Voice>(
     symbol: &Symbol<'_>,
@@ -67,11 +92,7 @@ pub(super) fn nested_name<V: Voice>(
     ensures grows { looks.old ≤ looks.new }
 {
     let Some(at) = state.place else {
-        state.is_open = false;
-        let Ok(()) = voice.stop(symbol, &Stretch::NestedUnread, plain, looks) else {
-            return Err(Stop::Refused);
-        };
-        return Ok(Point::End);
+        return unread_name(symbol, plain, state, voice, looks);
     };
     let Some((ident, number, next)) = numbered_name(symbol, at, looks) else {
         return Err(Stop::Fault(Mark::Invalid));

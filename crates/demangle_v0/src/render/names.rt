@@ -12,7 +12,7 @@ use demangle_symbol::cursor::{Ident, Looks, Part, Symbol};
 
 #[tactic(auto, using(demangle_sink::proofs::PrintsLemmas::prints_ready, demangle_sink::proofs::PrintsLemmas::prints_nothing))]
 /// Puts a disambiguator in brackets, in the plain form alone and where it is not 0.
-#[inline(always)]
+#[inline(never)]
 fn put_disambiguator<S: TextSink>(
     number: u64,
     plain: bool,
