@@ -1,33 +1,101 @@
 -- How integers are read, a byte at a time.
-use Rattle.std.proofs.Common.{◌≡◌, ℕ, ◌+◌, ◌*◌, ◌^◌, ◌<◌, ◌≤◌, Bool, true, false, ltb, nat_lt, List, length, Some, None, sym, refl, ap, ◌∙◌, arith, rules}
+use Rattle.std.proofs.Common.{◌≡◌, ℕ, ◌+◌, ◌*◌, ◌^◌, ◌<◌, ◌≤◌, Bool, true, false, ltb, nat_lt, List, length, Some, None, sym, refl, ap, ◌∙◌, arith, rules, lit<}
 use Rattle.std.specs.Prelude.{◌&&◌}
 use Rattle.std.specs.List.{slice_get, slice_range}
 use Rattle.std.proofs.lemmas.Bool.{lt-ltb, ltb-true}
 use Rattle.std.proofs.lemmas.Bool.Decides.{nat_tests}
-use Rattle.std.proofs.lemmas.Option.{slice_get_past}
-use Rattle.std.proofs.lemmas.Grind.{common_steps}
+use Rattle.std.proofs.Math.Nat.{pow-le-pow_right}
+use Rattle.std.proofs.lemmas.Option.{slice_get_within}
+use Rattle.std.proofs.lemmas.Grind.{pow_more}
 use Rattle.demangle_symbol.specs.Digits.{run_end, number, is_byte}
+use Rattle.demangle_symbol.specs.Integers.{Digit62, Digits62UpTo}
 use Rattle.demangle_symbol.specs.Words.{only_if, is_digit_62, digit_62, integer_value, Integer, integer_at, optional_at}
-use Rattle.demangle_symbol.proofs.Digits.{run_more, run_stops, run_past, number_none, number_more, number_part, is_byte_there}
+use Rattle.demangle_symbol.proofs.Digits.{run_more, run_stops, run_none, run_past, number_none, number_more, number_part, is_byte_there}
 
--- no integer begins at i, whose digits go on at least up to k
-pub no_integer_past : (s : List ℕ) (i k : ℕ) → run_end is_digit_62 s i ≡ run_end is_digit_62 s k → length s ≤ k → (j v : ℕ) → Integer s i j v → ⊥
-no_integer_past s i k run past j v h =
-    let e : run_end is_digit_62 s i ≡ k = run ∙ run_past is_digit_62 s k past in
-    let none : slice_get s k ≡ None = slice_get_past s k past in
-    let some : slice_get s k ≡ Some 95 = ap (slice_get s) (sym e) ∙ h.ends in
-    cc
+pub digit_there : (s : List ℕ) (i b d : ℕ) → slice_get s i ≡ Some b → is_digit_62 b ≡ true → d ≡ digit_62 b → Digit62 s i d
+digit_there s i b d here passes value = record { byte = b; there = here; passes = passes; value = value }
 
-pub no_integer_large : (s : List ℕ) (i k b : ℕ) → run_end is_digit_62 s i ≡ run_end is_digit_62 s k → i ≤ k → slice_get s k ≡ Some b → is_digit_62 b ≡ true → 2 ^ 64 ≤ number 62 digit_62 (slice_range s i k) * 62 + digit_62 b → (j v : ℕ) → Integer s i j v → ⊥
-no_integer_large s i k b run le here passes large j v h =
+pub digit_small : (b d : ℕ) → is_digit_62 b ≡ true → d ≡ digit_62 b → d < 62
+digit_small b d passes value = grind (arith, nat_tests, passes, value)
+
+pub ruleset digit_reads = (digit_there, digit_small, run_stops, run_none)
+
+pub digits_none : (s : List ℕ) (i : ℕ) → Digits62UpTo s i i 0
+digits_none s i = record { order = omega arith; run = refl; value = sym (number_none 62 digit_62 s i) }
+
+-- one digit more
+pub digits_more : (s : List ℕ) (i k n d : ℕ) → Digits62UpTo s i k n → Digit62 s k d → Digits62UpTo s i (k + 1) (n * 62 + d)
+digits_more s i k n d h digit = record {
+  order = omega (arith, h.order);
+  run = h.run ∙ run_more is_digit_62 s k digit.byte digit.there digit.passes;
+  value = omega (arith, number_more 62 digit_62 s i k digit.byte h.order digit.there, h.value, digit.value);
+}
+
+pub digits_first : (s : List ℕ) (i d : ℕ) → Digit62 s i d → Digits62UpTo s i (i + 1) d
+digits_first s i d digit =
+    let e : 0 * 62 + d ≡ d = omega arith in
+    rw e at (digits_more s i i 0 d (digits_none s i) digit)
+
+-- fewer than ten digits and one more
+pub digits_fit : (n d k : ℕ) → n < 62 ^ k → d < 62 → n * 62 + d < 62 ^ (k + 1)
+digits_fit n d k small digit = omega (arith, pow_more 62 k)
+
+pub digits_below : (n k : ℕ) → n < 62 ^ k → k ≤ 10 → n < 62 ^ 10
+digits_below n k small few =
+    let bound : 62 ^ k ≤ 62 ^ 10 = pow-le-pow_right (lit< tt) few in
+    omega arith
+
+-- where the digits end
+ends_at : (s : List ℕ) (k : ℕ) → slice_get s k ≡ Some 95 → run_end is_digit_62 s k ≡ k
+ends_at s k here = run_stops is_digit_62 s k 95 here refl
+
+value_none : (s : List ℕ) (i k : ℕ) → k ≡ i → integer_value s i k ≡ 0
+value_none s i k same = grind (arith, nat_tests)
+
+value_some : (s : List ℕ) (i k : ℕ) → i < k → integer_value s i k ≡ number 62 digit_62 (slice_range s i k) + 1
+value_some s i k some = grind (arith, nat_tests)
+
+pub integer_empty : (s : List ℕ) (i : ℕ) → slice_get s i ≡ Some 95 → Integer s i (i + 1) 0
+integer_empty s i here =
+    let e : run_end is_digit_62 s i ≡ i = ends_at s i here in
+    record {
+      ends = ap (slice_get s) e ∙ here;
+      next = ap (λ k. k + 1) (sym e);
+      value = sym (value_none s i (run_end is_digit_62 s i) e);
+      fits = omega arith;
+    }
+
+pub digits_integer : (s : List ℕ) (i k n : ℕ) → Digits62UpTo s i k n → i < k → slice_get s k ≡ Some 95 → n + 1 < 2 ^ 64 → Integer s i (k + 1) (n + 1)
+digits_integer s i k n h some here fits =
+    let e : run_end is_digit_62 s i ≡ k = h.run ∙ ends_at s k here in
+    record {
+      ends = ap (slice_get s) e ∙ here;
+      next = ap (λ j. j + 1) (sym e);
+      value = omega (arith, value_some s i k some, ap (integer_value s i) e, h.value);
+      fits = fits;
+    }
+
+-- and where there is no integer
+pub no_integer_other : (s : List ℕ) (i k n : ℕ) → Digits62UpTo s i k n → run_end is_digit_62 s k ≡ k → (slice_get s k ≡ Some 95 → ⊥) → (j v : ℕ) → Integer s i j v → ⊥
+no_integer_other s i k n h stops other j v int =
+    other (ap (slice_get s) (sym (h.run ∙ stops)) ∙ int.ends)
+
+pub no_integer_large : (s : List ℕ) (i k n d : ℕ) → Digits62UpTo s i k n → Digit62 s k d → 2 ^ 64 ≤ n * 62 + d → (j v : ℕ) → Integer s i j v → ⊥
+no_integer_large s i k n d h digit large j v int =
+    let more : Digits62UpTo s i (k + 1) (n * 62 + d) = digits_more s i k n d h digit in
     let end : ℕ = run_end is_digit_62 s i in
-    let e : end ≡ run_end is_digit_62 s (k + 1) = run ∙ run_more is_digit_62 s k b here passes in
-    let most : number 62 digit_62 (slice_range s i (k + 1)) ≤ number 62 digit_62 (slice_range s i end) = number_part 62 digit_62 s i (k + 1) end (omega arith) (omega arith) in
-    let is = number_more 62 digit_62 s i k b le here in
-    let v_is = h.value in
-    grind (arith, common_steps)
+    let within : k < length s = slice_get_within s k digit.byte digit.there in
+    let most : number 62 digit_62 (slice_range s i (k + 1)) ≤ number 62 digit_62 (slice_range s i end) = number_part 62 digit_62 s i (k + 1) end (omega arith) (omega (arith, more.run)) in
+    omega (arith, int.value, int.fits, more.value, value_some s i end (omega (arith, h.order, more.run)))
 
-pub ruleset integer_steps = (run_more, run_stops, run_past, number_none, number_more, no_integer_past, no_integer_large)
+pub no_integer_last : (s : List ℕ) (i k n : ℕ) → Digits62UpTo s i k n → i < k → slice_get s k ≡ Some 95 → 2 ^ 64 ≤ n + 1 → (j v : ℕ) → Integer s i j v → ⊥
+no_integer_last s i k n h some here large j v int =
+    let e : run_end is_digit_62 s i ≡ k = h.run ∙ ends_at s k here in
+    omega (arith, int.value, int.fits, h.value, value_some s i k some, ap (integer_value s i) e)
+
+pub no_integer_past : (s : List ℕ) (i k n : ℕ) → Digits62UpTo s i k n → length s ≤ k → (j v : ℕ) → Integer s i j v → ⊥
+no_integer_past s i k n h past j v int =
+    no_integer_other s i k n h (run_past is_digit_62 s k past) (λ here. let within : k < length s = slice_get_within s k 95 here in absurd (omega arith)) j v int
 
 pub byte_is : (s : List ℕ) (k b : ℕ) → slice_get s k ≡ Some b → is_byte s k b ≡ true
 unfolding is_byte
@@ -63,7 +131,7 @@ integer_unread s i none =
     only_not_both (is_byte s end 95) (nat_lt (integer_value s i end) (2 ^ 64)) (integer_value s i end, end + 1)
     (λ there small. none (end + 1) (integer_value s i end) (record { ends = is_byte_there s end 95 there; next = refl; value = refl; fits = ltb-true _ _ small }))
 
-pub ruleset integer_reads = (integer_read, integer_unread)
+pub ruleset integer_steps = (digits_none, digits_more, digits_first, digits_fit, digits_below, integer_empty, digits_integer, no_integer_other, no_integer_large, no_integer_last, no_integer_past, integer_read, integer_unread)
 
 pub optional_there : (tag : ℕ) (s : List ℕ) (i n j : ℕ) → is_byte s i tag ≡ true → Some (n, j) ≡ integer_at s (i + 1) → n + 1 < 2 ^ 64 → optional_at tag s i ≡ Some (n + 1, j)
 unfolding optional_at

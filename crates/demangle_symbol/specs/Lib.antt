@@ -9,4 +9,5 @@ pub mod Literals
 -- Internal.
 pub mod Escapes
 pub mod Idents
+pub mod Integers
 pub mod Nibbles

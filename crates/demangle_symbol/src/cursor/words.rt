@@ -1,18 +1,24 @@
 //! The words of a v0 symbol that are numbers, letters and references.
-ghost use Rattle.std.specs.Prelude.{◌≡◌, ℕ, ◌+◌, ◌-◌, ◌*◌, ◌<◌, ◌≤◌, ◌^◌, length, true, false, IfOk, OnErr, IfErr, IfSome, MatchOption, option_map};
+ghost use Rattle.std.specs.Prelude.{◌≡◌, ℕ, ◌+◌, ◌-◌, ◌*◌, ◌<◌, ◌≤◌, ◌^◌, length, true, false, Some, slice_get, IfOk, OnErr, IfErr, IfSome, IfNone, MatchOption};
 ghost use Rattle.std.specs.Result.{result_ok};
 ghost use Rattle.demangle_symbol.specs.Words.{byte_at, integer_at, optional_at, namespace_at, backref_at, Integer, OptInteger, Namespace, Backref, behind, is_digit_62, digit_62};
+ghost use Rattle.demangle_symbol.specs.Digits.{run_end};
 ghost use Rattle.demangle_symbol.specs.Idents.{backref_answer};
+ghost use Rattle.demangle_symbol.specs.Integers.{Digit62};
 
 use crate::cursor::{Looks, ParseError, Symbol, append_digit};
+use std::cmp;
 
 /// How deep the units of a symbol may lie in one another.
 pub const MAX_DEPTH: u32 = 500;
 
+// How many digits are taken with no check: 62^10 is below 2^60.
+const UNCHECKED_DIGITS: usize = 10;
+
 impl<'s> Symbol<'s> {
     /// The integer at a place, and the place behind it. It is Invalid where none is spelled there,
     /// and where it is not below 2^64.
-    #[tactic(auto, using(crate::proofs::Integers::integer_steps, crate::proofs::Integers::integer_reads))]
+    #[tactic(auto, using(crate::proofs::Integers::integer_steps))]
     #[inline(never)]
     pub fn integer_62(&self, place: usize, looks: &mut Looks) -> Result<(u64, usize), ParseError>
         ensures ok { IfOk result (λ r. Integer self.now place r.1 r.0) }
@@ -25,18 +31,19 @@ impl<'s> Symbol<'s> {
             (looks.new ≤ looks.old + 4 * (length self.now - place + 1)) }
         ensures within { IfOk result (λ r. (place < r.1) × (r.1 ≤ length self.now)) }
     {
-        let mut number: u64 = 0;
-        for at in place..self.len() {
-            let Some(byte) = self.byte(at, looks) else {
-                return Err(ParseError::Invalid);
+        let Some(first) = self.integer_digit(place, looks)? else {
+            return Ok((0, place + 1));
+        };
+        let end = cmp::min(self.len(), place + UNCHECKED_DIGITS);
+        let mut number = first;
+        for at in place + 1..end {
+            let Some(digit) = self.integer_digit(at, looks)? else {
+                return Ok((number + 1, at + 1));
             };
-            let Some(digit) = digit_62_of(byte) else {
-                if byte != b'_' {
-                    return Err(ParseError::Invalid);
-                }
-                if at == place {
-                    return Ok((0, at + 1));
-                }
+            number = number * 62 + digit;
+        }
+        for at in end..self.len() {
+            let Some(digit) = self.integer_digit(at, looks)? else {
                 let Some(value) = number.checked_add(1) else {
                     return Err(ParseError::Invalid);
                 };
@@ -48,6 +55,33 @@ impl<'s> Symbol<'s> {
             number = sum;
         }
         Err(ParseError::Invalid)
+    }
+
+    // The digit of an integer at a place, or none where the `_` stands there that ends it. Any other
+    // byte is Invalid.
+    #[tactic(auto, using(crate::proofs::Integers::digit_reads))]
+    #[inline(always)]
+    fn integer_digit(&self, place: usize, looks: &mut Looks) -> Result<Option<u64>, ParseError>
+        ensures digit { IfOk result (λ o. IfSome o (λ d. Digit62 self.now place d)) }
+        ensures small { IfOk result (λ o. IfSome o (λ d. d < 62)) }
+        ensures end { IfOk result (λ o. IfNone o (slice_get self.now place ≡ Some 95)) }
+        ensures other { OnErr result (run_end is_digit_62 self.now place ≡ place
+            × (slice_get self.now place ≡ Some 95 → ⊥)) }
+        ensures fault { IfErr result (λ e. e ≡ ParseError.Invalid) }
+        ensures look { looks.new ≡ looks.old + 1 }
+        ensures within { IfOk result (λ _. place < length self.now) }
+        ensures fits { length self.now < 2 ^ 63 }
+    {
+        // It says that a symbol is shorter than 2^63 bytes.
+        let _count = self.inner.as_bytes().len();
+        let Some(byte) = self.byte(place, looks) else {
+            return Err(ParseError::Invalid);
+        };
+        match digit_62_of(byte) {
+            Some(digit) => Ok(Some(digit)),
+            None if byte == b'_' => Ok(None),
+            None => Err(ParseError::Invalid),
+        }
     }
 
     /// The integer behind a tag and one more, or 0 where the tag is not there. It is Invalid where
@@ -207,10 +241,14 @@ static DIGITS_62: [u8; 256] = [
 ];
 
 #[inline(always)]
-fn digit_62_of(byte: u8) -> Option<u8>
+fn digit_62_of(byte: u8) -> Option<u64>
     ensures { MatchOption result
         (is_digit_62 byte ≡ false) (λ d. (is_digit_62 byte ≡ true) × (d ≡ digit_62 byte)) }
 {
     let digit = DIGITS_62[usize::from(byte)];
-    if digit < 62 { Some(digit) } else { None }
+    if digit < 62 {
+        Some(u64::from(digit))
+    } else {
+        None
+    }
 }

@@ -1,18 +1,79 @@
-use Rattle.std.proofs.Common.{◌∙◌, sym, arith}
-use Rattle.demangle_symbol.specs.Words.{is_digit_62}
-use Rattle.demangle_symbol.proofs.Digits.{run_more, number_more}
-use Rattle.demangle_symbol.proofs.Integers.{no_integer_large, integer_unread}
+use Rattle.std.proofs.Common.{◌≡◌, ℕ, ◌+◌, ◌-◌, ◌*◌, ◌^◌, ◌<◌, ◌≤◌, nat_cmp, sym, arith}
+use Rattle.std.specs.Ordering.{ord_min}
+use Rattle.std.proofs.lemmas.Bool.Decides.{nat_tests}
+use Rattle.std.proofs.lemmas.Grind.{common_steps}
+use Rattle.demangle_symbol.proofs.Integers.{digits_more, digits_fit, digits_below, digits_integer, no_integer_large, no_integer_past, integer_read, integer_unread}
 use Rattle.demangle_symbol.proofs.cursor.Symbol.integer_62.Goals as goal
 
+min_below : (a b : ℕ) → ord_min nat_cmp a b ≤ b
+min_below a b = grind (arith, nat_tests, common_steps)
+
+min_above : (a b c : ℕ) → c ≤ a → c ≤ b → c ≤ ord_min nat_cmp a b
+min_above a b c p q = grind (arith, nat_tests, common_steps)
+
+-- a digit behind fewer than ten
+digit_fits : (n d k : ℕ) → n < 62 ^ k → d < 62 → k ≤ 9 → n * 62 + d < 2 ^ 64
+digit_fits n d k small digit few = omega (arith, digits_below (n * 62 + d) (k + 1) (digits_fit n d k small digit) (omega arith))
+
+pub overflow_add-result-in_default-2 : goal.overflow_add-result-in_default-2
+overflow_add-result-in_default-2 c =
+    let few = min_below c.len.result (c.args.place + 10) in
+    let count : c.loop-at.at - c.args.place ≤ 10 = omega (arith, few) in
+    omega (arith, digits_below c.loop-at.number (c.loop-at.at - c.args.place) c.loop-at.invariant.small count)
+
+pub returns-in_default-2-clause-ok : goal.returns-in_default-2-clause-ok
+returns-in_default-2-clause-ok c =
+    let few = min_below c.len.result (c.args.place + 10) in
+    let count : c.loop-at.at - c.args.place ≤ 10 = omega (arith, few) in
+    let small = digits_below c.loop-at.number (c.loop-at.at - c.args.place) c.loop-at.invariant.small count in
+    let here = rw c.in_default-2.is at c.in_ok-digit.ensures.end in
+    digits_integer _ _ _ _ c.loop-at.invariant.digits (omega arith) here (omega (arith, small))
+
+pub returns-in_default-2-clause-read : goal.returns-in_default-2-clause-read
+returns-in_default-2-clause-read c = sym (integer_read _ _ _ _ (returns-in_default-2-clause-ok c))
+
+pub overflow_mul-number : goal.overflow_mul-number
+overflow_mul-number c =
+    let few = min_below c.len.result (c.args.place + 10) in
+    let below = rw c.in-Some-2.is at c.in_ok-digit.ensures.small in
+    omega (arith, digit_fits c.loop-at.number c.in-Some-2.digit (c.loop-at.at - c.args.place) c.loop-at.invariant.small below (omega (arith, few)))
+
+pub overflow_add-number : goal.overflow_add-number
+overflow_add-number c =
+    let few = min_below c.len.result (c.args.place + 10) in
+    let below = rw c.in-Some-2.is at c.in_ok-digit.ensures.small in
+    omega (arith, digit_fits c.loop-at.number c.in-Some-2.digit (c.loop-at.at - c.args.place) c.loop-at.invariant.small below (omega (arith, few)))
+
 pub loop-at-preserved : goal.loop-at-preserved
-loop-at-preserved c = record {
-  digits = c.loop-at.invariant.digits ∙ run_more is_digit_62 c.args.self.now c.loop-at.at _ (sym c.in-Some.ensures.byte) c.in-Some-digit_62_of.ensures.0;
-  number = grind (arith, number_more, sym c.in-Some.ensures.byte, c.in-Some-digit_62_of.ensures.1, c.in-Some-append_digit.ensures.1);
-  looked = omega arith;
-}
+loop-at-preserved c =
+    let digit = rw c.in-Some-2.is at c.in_ok-digit.ensures.digit in
+    let below = rw c.in-Some-2.is at c.in_ok-digit.ensures.small in
+    let next : c.loop-at.at + 1 - c.args.place ≡ c.loop-at.at - c.args.place + 1 = omega arith in
+    record {
+      digits = digits_more _ _ _ _ _ c.loop-at.invariant.digits digit;
+      small = rw next (digits_fit c.loop-at.number c.in-Some-2.digit (c.loop-at.at - c.args.place) c.loop-at.invariant.small below);
+      looked = omega arith;
+    }
+
+pub returns-in_default-3-clause-ok : goal.returns-in_default-3-clause-ok
+returns-in_default-3-clause-ok c =
+    let here = rw c.in_default-3.is at c.in_ok-digit-2.ensures.end in
+    let some = min_above c.len.result (c.args.place + 10) (c.args.place + 1) (omega (arith, c.in_ok-first.ensures.within)) (omega arith) in
+    rw c.in-Some-checked_add.ensures.1 (digits_integer _ _ _ _ c.loop-at-2.invariant.digits (omega (arith, some)) here c.in-Some-checked_add.ensures.0)
+
+pub returns-in_default-3-clause-read : goal.returns-in_default-3-clause-read
+returns-in_default-3-clause-read c = sym (integer_read _ _ _ _ (returns-in_default-3-clause-ok c))
+
+pub returns-in_default-append_digit-clause-err : goal.returns-in_default-append_digit-clause-err
+returns-in_default-append_digit-clause-err c =
+    let digit = rw c.in-Some-3.is at c.in_ok-digit-2.ensures.digit in
+    no_integer_large _ _ _ _ _ c.loop-at-2.invariant.digits digit (omega (arith, c.in_default-append_digit.ensures))
 
 pub returns-in_default-append_digit-clause-read : goal.returns-in_default-append_digit-clause-read
-returns-in_default-append_digit-clause-read c =
-    sym (integer_unread c.args.self.now c.args.place
-    (no_integer_large c.args.self.now c.args.place c.loop-at.at c.in-Some.byte c.loop-at.invariant.digits (omega arith) (sym c.in-Some.ensures.byte) c.in-Some-digit_62_of.ensures.0
-    (omega (arith, c.loop-at.invariant.number, c.in-Some-digit_62_of.ensures.1, c.in_default-append_digit.ensures))))
+returns-in_default-append_digit-clause-read c = sym (integer_unread _ _ (returns-in_default-append_digit-clause-err c))
+
+pub returns-clause-err : goal.returns-clause-err
+returns-clause-err c = no_integer_past _ _ _ _ c.loop-at-2.invariant.digits (omega arith)
+
+pub returns-clause-read : goal.returns-clause-read
+returns-clause-read c = sym (integer_unread _ _ (returns-clause-err c))

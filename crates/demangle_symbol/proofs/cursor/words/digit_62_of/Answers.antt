@@ -30,7 +30,8 @@ digit_small b h = grind (arith, nat_tests)
 pub returns-then-digit-lt62 : goal.returns-then-digit-lt62
 returns-then-digit-lt62 c =
     let value : get_or DIGITS_62 c.from.result 0 ≡ mark c.args.byte = rw c.from.ensures (read c.args.byte (omega arith)) in
-    marked (is_digit_62 c.args.byte) (digit_62 c.args.byte) (get_or DIGITS_62 c.from.result 0) value (omega (arith, c.if-digit-lt62.true))
+    let digit = marked (is_digit_62 c.args.byte) (digit_62 c.args.byte) (get_or DIGITS_62 c.from.result 0) value (omega (arith, c.if-digit-lt62.true)) in
+    (digit.0, c.from-then-digit-lt62.ensures ∙ digit.1)
 
 pub returns-else-digit-lt62 : goal.returns-else-digit-lt62
 returns-else-digit-lt62 c =
