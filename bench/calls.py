@@ -8,23 +8,28 @@ given one of two equal texts in turn, so that no turn can be left out. It needs 
 Nanoseconds: the program runs with k turns and with 10 k, and the difference of the seconds (each the best of five runs) is
 divided by 9 k; what turns without a call take is taken off. Printing has the making of its empty sink in it. The symbols are the
 legacy one and the v0 one of middle length of those that crates/demangle_corpus/stdin has from libraries and programs, and a
-v0 one that is deep: 490 references in one another, and a back reference.
+v0 one that is deep: 490 references in one another, and a back reference. With --rust-crate the same loop runs over the Rust crate
+rustc-demangle: its `try_demangle`, and its `Display` into an array of 1,024 bytes, built by cargo outside the repository.
 
 Instructions: `valgrind --tool=callgrind` over 100 turns and over 600, less those of turns without a call.
 
 Bytes of stack: `valgrind --tool=drd --show-stack-usage=yes` over one turn, less those of a turn without a call. What a call is
 handed (the text, the value, the sink) is not counted. The calls are made below an array of 512 KB, so that what was called
-before, to make the value that is printed, does not count.
+before, to make the value that is printed, does not count. 60 tuples in one another are the symbol that fills the short row of
+frames, so that the long one is made.
 """
 import argparse, os, re, subprocess, sys, tempfile, time
 
 import hostile
-from common import CORPUS, build, copy_library, need_kit, need_valgrind
+from common import CORPUS, build, copy_library, need_kit, need_tool, need_valgrind
 
 TIMED = ['try_demangle', 'write_to, ArraySink<1024>']
 CALLS = ['nothing', 'try_demangle', 'demangle', 'demangle_counted', 'write_to, ArraySink<1024>', 'write_counted, ArraySink<1024>',
          'write_limited, ArraySink<1024>', 'write_limited_counted, ArraySink<1024>', 'write_to, WriteSink', 'Display', 'Debug',
          'demangle_stream', 'demangle_stream_named']
+RUST_TIMED = ['try_demangle', 'Display into an array']
+# Each tuple leaves a frame while the one in it is read.
+TUPLES = '_RMC0' + 60 * 'T' + 'u' + 60 * 'E'
 # At least so many seconds for the longer run.
 LONG = 0.5
 
@@ -200,6 +205,71 @@ fn main(rt: HostRuntime) -> ExitCode {
 }
 '''
 
+RUST_PROGRAM = '''//! Makes a call of rustc-demangle, as often as it is told.
+use rustc_demangle::{try_demangle, Demangle};
+use std::fmt::{Result, Write};
+use std::hint::black_box;
+
+struct Sink {
+    bytes: [u8; 1024],
+    len: usize,
+}
+
+impl Write for Sink {
+    fn write_str(&mut self, s: &str) -> Result {
+        let place = self.bytes.get_mut(self.len..self.len + s.len()).ok_or(std::fmt::Error)?;
+        place.copy_from_slice(s.as_bytes());
+        self.len += s.len();
+        Ok(())
+    }
+}
+
+#[inline(never)]
+fn call_try_demangle(text: &str) -> usize {
+    try_demangle(text).is_ok() as usize
+}
+
+#[inline(never)]
+fn call_display(symbol: &Demangle<'_>, sink: &mut Sink) -> usize {
+    write!(sink, "{symbol}").is_ok() as usize
+}
+
+fn main() {
+    let words: Vec<String> = std::env::args().collect();
+    let (call, turns): (usize, usize) = (words[1].parse().unwrap(), words[2].parse().unwrap());
+    let texts = std::io::read_to_string(std::io::stdin()).unwrap();
+    let texts: Vec<&str> = texts.lines().collect();
+    let symbols = [rustc_demangle::demangle(texts[0]), rustc_demangle::demangle(texts[1])];
+    let mut done = 0usize;
+    for at in 0..turns {
+        let text = black_box(texts[at % 2]);
+        done = done.wrapping_add(match call {
+            0 => text.len(),
+            1 => call_try_demangle(text),
+            _ => {
+                let mut sink = Sink { bytes: [0; 1024], len: 0 };
+                call_display(black_box(&symbols[at % 2]), &mut sink) + black_box(sink.len)
+            }
+        });
+    }
+    println!("{done}");
+}
+'''
+
+
+def built_rust(folder, crate):
+    """Makes the same program over the Rust crate, and answers its path."""
+    need_tool('cargo', 'Rust\'s')
+    project = os.path.join(folder, 'rust_calls')
+    os.makedirs(os.path.join(project, 'src'))
+    with open(os.path.join(project, 'src', 'main.rs'), 'w') as file:
+        file.write(RUST_PROGRAM)
+    with open(os.path.join(project, 'Cargo.toml'), 'w') as file:
+        file.write('[package]\nname = "rust_calls"\nversion = "0.0.0"\nedition = "2021"\n\n[dependencies]\n'
+                   'rustc-demangle = { path = "%s" }\n\n[workspace]\n' % os.path.abspath(crate))
+    subprocess.run(['cargo', 'build', '--release', '--offline', '--quiet', '--manifest-path', os.path.join(project, 'Cargo.toml')], check=True)
+    return os.path.join(project, 'target', 'release', 'rust_calls')
+
 
 def built(folder, jobs):
     """Makes the program, and answers its path."""
@@ -238,9 +308,9 @@ def nanoseconds(program, call, symbol):
     """What a turn takes, with its loop."""
     text = (symbol + '\n').encode() * 2
     turns = 100
-    while seconds([program, str(CALLS.index(call)), str(10 * turns)], text) < LONG:
+    while seconds([program, str(call), str(10 * turns)], text) < LONG:
         turns *= 3
-    few, many = (seconds([program, str(CALLS.index(call)), str(count)], text) for count in (turns, 10 * turns))
+    few, many = (seconds([program, str(call), str(count)], text) for count in (turns, 10 * turns))
     return (many - few) / (9 * turns) * 1e9
 
 
@@ -249,7 +319,7 @@ def instructions(program, call, symbol):
     text = (symbol + '\n').encode() * 2
     counts = []
     for turns in ('100', '600'):
-        words = ['valgrind', '--tool=callgrind', '--callgrind-out-file=/dev/null', program, str(CALLS.index(call)), turns]
+        words = ['valgrind', '--tool=callgrind', '--callgrind-out-file=/dev/null', program, str(call), turns]
         run = subprocess.run(words, input=text, stdout=subprocess.DEVNULL, stderr=subprocess.PIPE, check=True)
         counts.append(int(re.search(rb'Collected : (\d+)', run.stderr).group(1)))
     return (counts[1] - counts[0]) // 500
@@ -266,26 +336,28 @@ def main():
     words = argparse.ArgumentParser(description=__doc__, formatter_class=argparse.RawDescriptionHelpFormatter)
     words.add_argument('--keep', metavar='FOLDER', help='make the copy in this folder, which is not there before and stays (default: a temporary one)')
     words.add_argument('--jobs', type=int, metavar='N', help='how many jobs `rt run` takes')
+    words.add_argument('--rust-crate', metavar='FOLDER', help='the folder of the Rust crate rustc-demangle: measured beside this library')
     given = words.parse_args()
     need_kit()
     need_valgrind()
     legacy, v0 = typical()
     with tempfile.TemporaryDirectory() as temporary:
         program = built(given.keep or temporary, given.jobs)
-        empty = nanoseconds(program, 'nothing', legacy)
+        rows = [(call, program, CALLS.index(call)) for call in TIMED]
+        if given.rust_crate:
+            rust = built_rust(temporary, given.rust_crate)
+            rows += [('%s of rustc-demangle' % call, rust, at) for at, call in enumerate(RUST_TIMED, 1)]
         print('legacy: `%s`\n\nv0: `%s`\n' % (legacy, v0))
-        deep = hostile.chained(1)
-        print('| nanoseconds | legacy | v0 | deep v0 |\n| --- | ---: | ---: | ---: |')
-        for call in TIMED:
-            print('| %s | ' % call + ' | '.join('{:,.0f}'.format(nanoseconds(program, call, symbol) - empty) for symbol in (legacy, v0, deep)) + ' |', flush=True)
-        print('\n| instructions | legacy | v0 | deep v0 |\n| --- | ---: | ---: | ---: |')
-        empty = instructions(program, 'nothing', legacy)
-        for call in TIMED:
-            print('| %s | ' % call + ' | '.join('{:,}'.format(instructions(program, call, symbol) - empty) for symbol in (legacy, v0, deep)) + ' |', flush=True)
-        print(flush=True)
-        symbols = (legacy, v0, hostile.doubling(17), deep)
+        for name, measured in (('nanoseconds', nanoseconds), ('instructions', instructions)):
+            print('| %s | legacy | v0 | deep v0 |\n| --- | ---: | ---: | ---: |' % name)
+            empty = {made: measured(made, 0, legacy) for made in {row[1] for row in rows}}
+            for call, made, number in rows:
+                used = (measured(made, number, symbol) - empty[made] for symbol in (legacy, v0, hostile.chained(1)))
+                print('| %s | ' % call + ' | '.join('{:,.0f}'.format(count) for count in used) + ' |', flush=True)
+            print()
+        symbols = (legacy, v0, hostile.doubling(17), hostile.chained(1), TUPLES)
         without = [stack(program, 'nothing', symbol) for symbol in symbols]
-        print('| bytes of stack | legacy | v0 | doubling, 17 tuples | deep v0 |\n| --- | ---: | ---: | ---: | ---: |')
+        print('| bytes of stack | legacy | v0 | doubling, 17 tuples | deep v0 | 60 tuples |\n| --- | ---: | ---: | ---: | ---: | ---: |')
         for call in CALLS[1:]:
             used = [stack(program, call, symbol) - base for symbol, base in zip(symbols, without)]
             print('| %s | ' % call + ' | '.join('{:,}'.format(count) for count in used) + ' |', flush=True)
