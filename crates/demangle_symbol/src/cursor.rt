@@ -192,7 +192,7 @@ impl<'s> Symbol<'s> {
                 }
                 return Ok((number as usize, at));
             };
-            let Some(sum) = append_digit(number, 10, u64::from(digit)) else {
+            let Some(sum) = append_digit(number, 10, digit) else {
                 return Err(ParseError::Invalid);
             };
             number = sum;
@@ -223,8 +223,8 @@ impl<'s> Symbol<'s> {
 }
 
 /// The number with this digit behind its own, in a base, if it fits 64 bits.
-pub(crate) fn append_digit(number: u64, base: u64, digit: u64) -> Option<u64>
+pub(crate) fn append_digit(number: u64, base: u64, digit: u8) -> Option<u64>
     ensures { SomeIff result (number * base + digit < 2 ^ 64) (number * base + digit) }
 {
-    number.checked_mul(base)?.checked_add(digit)
+    number.checked_mul(base)?.checked_add(u64::from(digit))
 }

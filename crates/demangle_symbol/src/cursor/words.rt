@@ -49,7 +49,7 @@ impl<'s> Symbol<'s> {
                 };
                 return Ok((value, at + 1));
             };
-            let Some(sum) = append_digit(number, 62, digit) else {
+            let Some(sum) = append_digit(number, 62, digit as u8) else {
                 return Err(ParseError::Invalid);
             };
             number = sum;
@@ -77,9 +77,12 @@ impl<'s> Symbol<'s> {
         let Some(byte) = self.byte(place, looks) else {
             return Err(ParseError::Invalid);
         };
+        // The end goes first, since the compiler else tests for it at each digit as well.
+        if byte == b'_' {
+            return Ok(None);
+        }
         match digit_62_of(byte) {
             Some(digit) => Ok(Some(digit)),
-            None if byte == b'_' => Ok(None),
             None => Err(ParseError::Invalid),
         }
     }

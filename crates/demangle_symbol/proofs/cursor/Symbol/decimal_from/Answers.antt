@@ -4,7 +4,7 @@ use Rattle.demangle_symbol.proofs.cursor.Symbol.decimal_from.Goals as goal
 
 pub loop-at-preserved : goal.loop-at-preserved
 loop-at-preserved c = record {
-  digits = rw (c.in-Some-append_digit.ensures.1, c.from.ensures) (digits_more _ _ _ _ _ c.loop-at.invariant.digits c.in-Some.ensures.digit c.in-Some.ensures.small);
+  digits = rw c.in-Some-append_digit.ensures.1 (digits_more _ _ _ _ _ c.loop-at.invariant.digits c.in-Some.ensures.digit c.in-Some.ensures.small);
   looked = omega arith;
 }
 
