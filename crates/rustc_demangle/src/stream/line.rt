@@ -44,31 +44,44 @@ fn is_run(byte: u8) -> bool
     (byte == b'$') | (byte == b'.') | (byte == b'_') | byte.is_ascii_alphanumeric()
 }
 
-/// How many bytes are tested at once: so many that the compiler does it by vectors.
-const GROUP: usize = 32;
-
 /// Whether a run may have each byte of the group that begins here.
 #[inline(always)]
-fn is_run_group(text: &[u8], from: usize) -> bool
-    requires { from + 32 ≤ length text.now }
-    ensures { IsTrue result → (k : ℕ) → from ≤ k → k < from + 32 →
+fn is_run_group<const N: usize>(text: &[u8], from: usize) -> bool
+    requires { from + N ≤ length text.now }
+    ensures { IsTrue result → (k : ℕ) → from ≤ k → k < from + N →
         is_run (slice_index text.now k) ≡ true }
 {
     let mut all = true;
-    for k in 0..GROUP {
+    for k in 0..N {
         all &= is_run(text[from + k]);
     }
     all
+}
+
+/// Where the whole groups of a run end, from a place on.
+#[inline(always)]
+fn groups_end<const N: usize>(text: &[u8], from: usize) -> usize
+    requires size { 0 < N }
+    requires within { from ≤ length text.now }
+    ensures forward { from ≤ result }
+    ensures within { result ≤ length text.now }
+    ensures all { (k : ℕ) → from ≤ k → k < result → is_run (slice_index text.now k) ≡ true }
+{
+    let mut at = from;
+    while text.len() - at >= N && is_run_group::<N>(text, at) {
+        at += N;
+    }
+    at
 }
 
 /// How long a run is that begins here.
 fn run_len(text: &[u8]) -> usize
     ensures { result ≡ prefix_len is_run text.now }
 {
-    let mut at = 0;
-    while text.len() - at >= GROUP && is_run_group(text, at) {
-        at += GROUP;
-    }
+    // Groups of these sizes the compiler tests by vectors: at most seven bytes of a run are left.
+    let mut at = groups_end::<32>(text, 0);
+    at = groups_end::<16>(text, at);
+    at = groups_end::<8>(text, at);
     while at < text.len() && is_run(text[at]) {
         at += 1;
     }
