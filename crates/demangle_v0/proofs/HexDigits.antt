@@ -1,8 +1,8 @@
 -- A number's hexadecimal digits, as many as there are places for, its leading zeros too.
-use Rattle.std.proofs.Common.{◌≡◌, ℕ, zero, suc, ◌+◌, ◌-◌, ◌*◌, ◌/◌, ◌%◌, ◌^◌, ◌<◌, ◌≤◌, Bool, true, false, ◌&&◌, T, eqb, eqb→eq, List, [], ◌∷◌, ◌++◌, drop, get_or, refl, ap, sym, ◌∙◌, inl, inr, arith, eq-zero-or-pos, append_assoc}
+use Rattle.std.proofs.Common.{◌≡◌, ℕ, zero, suc, ◌+◌, ◌-◌, ◌*◌, ◌/◌, ◌%◌, ◌^◌, ◌<◌, ◌≤◌, Bool, true, false, ◌&&◌, T, eqb, eqb→eq, List, [], ◌∷◌, ◌++◌, drop, length, set, get_or, refl, ap, sym, ◌∙◌, inl, inr, arith, eq-zero-or-pos, append_assoc}
 use Rattle.std.specs.Fmt.{digits, digits_onto, digit_glyph}
 use Rattle.std.proofs.Math.Nat.{div-one, div-div-eq-div-mul, pow-le-pow_right, one-le-pow}
-use Rattle.std.proofs.lemmas.List.{append-nil}
+use Rattle.std.proofs.lemmas.List.{append-nil, drop-set}
 use Rattle.std.proofs.lemmas.Grind.{pow_more}
 use Rattle.std.proofs.lemmas.Nat.{leading_top, and_mask}
 use Rattle.std.specs.Int.Count.{count_leading_zeros}
@@ -10,7 +10,7 @@ use Rattle.std.specs.Int.Bits.{bit_or, or_add_and}
 use lib.Pow.{pow-add}
 use lib.Ieee.Fits.{and_l, and_r}
 use Rattle.demangle_symbol.proofs.Escaping.{onto_last, onto_more}
-use Rattle.demangle_v0.specs.declared.render.numbers.TheConstants.{DIGITS_16}
+use Rattle.demangle_v0.specs.declared.render.numbers.TheConstants.{DIGIT_PAIRS_16}
 
 -- The digits in the lowest places.
 abbrev pub low_digits : ℕ → ℕ → List ℕ
@@ -50,21 +50,31 @@ drop_low zero k i n e = let same : k ≡ i = omega arith in ap (λ m. low_digits
 drop_low (suc z) zero i n e = absurd (omega arith)
 drop_low (suc z) (suc k) i n e = drop_low z k i n (omega arith)
 
--- The digit of a remainder.
-abbrev are_glyphs : ℕ → Bool
-are_glyphs zero = true
-are_glyphs (suc d) = eqb (get_or DIGITS_16 d 0) (digit_glyph false d) && are_glyphs d
+-- The two digits of a byte.
+abbrev are_pairs : ℕ → Bool
+are_pairs zero = true
+are_pairs (suc d) = eqb (get_or DIGIT_PAIRS_16 (d * 2) 0) (digit_glyph false (d / 16)) && (eqb (get_or DIGIT_PAIRS_16 (d * 2 + 1) 0) (digit_glyph false (d % 16)) && are_pairs d)
 
-glyph_below : (n d : ℕ) → T (are_glyphs n) → d < n → get_or DIGITS_16 d 0 ≡ digit_glyph false d
-glyph_below zero d t h = absurd (omega arith)
-glyph_below (suc n) d t h =
+pair_below : (n d : ℕ) → T (are_pairs n) → d < n → (get_or DIGIT_PAIRS_16 (d * 2) 0 ≡ digit_glyph false (d / 16)) × (get_or DIGIT_PAIRS_16 (d * 2 + 1) 0 ≡ digit_glyph false (d % 16))
+pair_below zero d t h = absurd (omega arith)
+pair_below (suc n) d t h =
+    let high = eqb (get_or DIGIT_PAIRS_16 (n * 2) 0) (digit_glyph false (n / 16)) in
+    let low = eqb (get_or DIGIT_PAIRS_16 (n * 2 + 1) 0) (digit_glyph false (n % 16)) in
+    let others : T (low && are_pairs n) = and_r high (low && are_pairs n) t in
     elim (eq-zero-or-pos (n - d)) [
-      | inl z ↦ let e : d ≡ n = omega arith in rw e (eqb→eq _ _ (and_l _ (are_glyphs n) t))
-      | inr g ↦ glyph_below n d (and_r _ (are_glyphs n) t) (omega arith)
+      | inl z ↦ let e : d ≡ n = omega arith in rw e (eqb→eq _ _ (and_l high (low && are_pairs n) t), eqb→eq _ _ (and_l low (are_pairs n) others))
+      | inr g ↦ pair_below n d (and_r low (are_pairs n) others) (omega arith)
     ]
 
-pub glyph_at : (d : ℕ) → d < 16 → get_or DIGITS_16 d 0 ≡ digit_glyph false d
-glyph_at d h = glyph_below 16 d tt h
+pub high_digit : (r : ℕ) → get_or DIGIT_PAIRS_16 (r % 256 * 2) 0 ≡ digit_glyph false (r / 16 % 16)
+high_digit r = (pair_below 256 (r % 256) tt (omega arith)).0 ∙ ap (digit_glyph false) (omega arith)
+
+pub low_digit : (r : ℕ) → get_or DIGIT_PAIRS_16 (r % 256 * 2 + 1) 0 ≡ digit_glyph false (r % 16)
+low_digit r = (pair_below 256 (r % 256) tt (omega arith)).1 ∙ ap (digit_glyph false) (omega arith)
+
+-- A digit that is written stands in front of what stood behind its place.
+pub digit_put : (text : List ℕ) (at x g : ℕ) → at < length text → x ≡ g → drop at (set text at x) ≡ g ∷ drop (at + 1) text
+digit_put text at x g le e = drop-set text at x le ∙ (λ t. e t ∷ drop (at + 1) text)
 
 -- A hexadecimal digit has the room of four binary ones.
 four_each : (i : ℕ) → 16 ^ i ≡ 2 ^ (4 * i)

@@ -12,7 +12,26 @@ use demangle_symbol::cursor::{Part, Symbol};
 use itoa::Buffer;
 use std::str;
 
-static DIGITS_16: [u8; 16] = *b"0123456789abcdef";
+// The two digits of each byte.
+#[rattlefmt::skip]
+static DIGIT_PAIRS_16: [u8; 512] = *b"\
+    000102030405060708090a0b0c0d0e0f\
+    101112131415161718191a1b1c1d1e1f\
+    202122232425262728292a2b2c2d2e2f\
+    303132333435363738393a3b3c3d3e3f\
+    404142434445464748494a4b4c4d4e4f\
+    505152535455565758595a5b5c5d5e5f\
+    606162636465666768696a6b6c6d6e6f\
+    707172737475767778797a7b7c7d7e7f\
+    808182838485868788898a8b8c8d8e8f\
+    909192939495969798999a9b9c9d9e9f\
+    a0a1a2a3a4a5a6a7a8a9aaabacadaeaf\
+    b0b1b2b3b4b5b6b7b8b9babbbcbdbebf\
+    c0c1c2c3c4c5c6c7c8c9cacbcccdcecf\
+    d0d1d2d3d4d5d6d7d8d9dadbdcdddedf\
+    e0e1e2e3e4e5e6e7e8e9eaebecedeeef\
+    f0f1f2f3f4f5f6f7f8f9fafbfcfdfeff\
+";
 
 // Writes the hexadecimal digits of a number, its leading zeros too: where the others begin.
 #[inline(always)]
@@ -20,12 +39,14 @@ fn write_hexadecimal(number: u64, text: &mut [u8; 16]) -> usize
     ensures bound { result ≤ 16 }
     ensures value { drop result text.new ≡ digits 16 false number }
 {
-    let mut at = 16;
+    let mut pairs = 8;
     let mut rest = number;
-    while at > 0 {
-        at -= 1;
-        text[at] = DIGITS_16[(rest % 16) as usize];
-        rest /= 16;
+    while pairs > 0 {
+        pairs -= 1;
+        let pair = (rest % 256) as usize * 2;
+        text[pairs * 2 + 1] = DIGIT_PAIRS_16[pair + 1];
+        text[pairs * 2] = DIGIT_PAIRS_16[pair];
+        rest /= 256;
     }
     ((number | 1).leading_zeros() / 4) as usize
 }

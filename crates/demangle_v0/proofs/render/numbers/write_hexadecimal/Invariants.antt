@@ -1,14 +1,14 @@
-use Rattle.std.proofs.Common.{◌≡◌, ◌≤◌, ◌-◌, ◌/◌, ◌^◌, length, drop}
+use Rattle.std.proofs.Common.{◌≡◌, ◌≤◌, ◌-◌, ◌*◌, ◌/◌, ◌^◌, length, drop}
 use Rattle.demangle_v0.proofs.HexDigits.{low_digits}
 use Rattle.demangle_v0.proofs.render.numbers.write_hexadecimal.Given as goal
 
-abbrev pub invariant-loop-at : goal.invariant-loop-at
-invariant-loop-at l = record {
-  within : l.at ≤ 16;
+abbrev pub invariant-loop-pairs : goal.invariant-loop-pairs
+invariant-loop-pairs l = record {
+  within : l.pairs ≤ 8;
   long : length l.text ≡ 16;
-  left : l.rest ≡ l.number / 16 ^ (16 - l.at);
-  written : drop l.at l.text ≡ low_digits (16 - l.at) l.number;
+  left : l.rest ≡ l.number / 16 ^ (16 - l.pairs * 2);
+  written : drop (l.pairs * 2) l.text ≡ low_digits (16 - l.pairs * 2) l.number;
 }
 
-abbrev pub decreases-loop-at : goal.decreases-loop-at
-decreases-loop-at l = l.at
+abbrev pub decreases-loop-pairs : goal.decreases-loop-pairs
+decreases-loop-pairs l = l.pairs
