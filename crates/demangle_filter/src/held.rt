@@ -3,8 +3,8 @@ ghost use Rattle.std.specs.Prelude.{◌≡◌, ◌+◌, ◌==◌, ◌≤◌, [],
 
 use std::marker::Model;
 
-/// How many bytes can be held.
-const CAPACITY: usize = 4096;
+/// How many bytes can be held. They lie on the stack, of which the whole program takes 24 KB.
+const CAPACITY: usize = 2048;
 
 /// At most `CAPACITY` bytes, in the order in which they came.
 #[derive(Drop)]
@@ -20,7 +20,7 @@ impl Model for Held {
 
     ghost view = { λ held. take held.len held.bytes };
 
-    ghost invariant = { λ held. (held.len ≤ 4096) × (length held.bytes ≡ 4096) };
+    ghost invariant = { λ held. (held.len ≤ 2048) × (length held.bytes ≡ 2048) };
 }
 
 impl Held {
@@ -48,7 +48,7 @@ impl Held {
     /// Holds all of the piece, or answers `false` where there is no room for it.
     #[inline(always)]
     pub fn push(&mut self, piece: &[u8]) -> bool
-        ensures room { length self.old + length piece.now ≤ 4096 → IsTrue result }
+        ensures room { length self.old + length piece.now ≤ 2048 → IsTrue result }
         ensures held { IsTrue result → self.new ≡ self.old ++ piece.now }
         ensures kept { IsFalse result → self.new ≡ self.old }
     {
