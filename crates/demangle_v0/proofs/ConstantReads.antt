@@ -12,8 +12,8 @@ use Rattle.demangle_v0.specs.Events.{Heard, of, ended, allowing, handing}
 use Rattle.demangle_v0.proofs.Silence.{around}
 use Rattle.demangle_v0.proofs.UnitReads.{begins, raise_deep, raise_on}
 
-abbrev pub referred : Bool → Items
-referred value = braces value (λ p. says "&" (child a_constant true p))
+abbrev pub reference_items : Bool → Items
+reference_items value = braces value (λ p. says "&" (child a_constant true p))
 
 module _ (plain out : Bool) (b : List ℕ) (left n : ℕ) where
   abbrev s : Surroundings
@@ -45,11 +45,11 @@ module _ (plain out : Bool) (b : List ℕ) (left n : ℕ) where
   unfolding run
   plus_reads tag i e = rw e refl
 
-  pub text_reads : (value : Bool) (i : ℕ) → is_byte b i (code "e") ≡ true → of plain out (run (next (code "e") string (referred value)) s (Some i)) ≡ allowing (1 ∷ []) (of plain out (run string s (Some (i + 1))))
+  pub text_reads : (value : Bool) (i : ℕ) → is_byte b i (code "e") ≡ true → of plain out (run (next (code "e") string (reference_items value)) s (Some i)) ≡ allowing (1 ∷ []) (of plain out (run string s (Some (i + 1))))
   unfolding run
   text_reads value i e = rw e refl
 
-  pub reference_reads : (value : Bool) (i : ℕ) → is_byte b i (code "e") ≡ false → of plain out (run (next (code "e") string (referred value)) s (Some i)) ≡ allowing (1 ∷ []) (of plain out (run (referred value) s (Some i)))
+  pub reference_reads : (value : Bool) (i : ℕ) → is_byte b i (code "e") ≡ false → of plain out (run (next (code "e") string (reference_items value)) s (Some i)) ≡ allowing (1 ∷ []) (of plain out (run (reference_items value) s (Some i)))
   unfolding run
   reference_reads value i e = rw e refl
 

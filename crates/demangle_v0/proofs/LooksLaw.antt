@@ -11,10 +11,10 @@ use Rattle.demangle_v0.proofs.Account.{Ends, Idle, start, idle}
 use Rattle.demangle_v0.proofs.Paid.{money, read_paid, spelling_paid, small}
 use Rattle.demangle_v0.proofs.TableCost.{cheap}
 
-abbrev pub printed : List ℕ → Bool → List Stretch
-printed symbol plain = stretches plain (read_at symbol true a_path 0 0 0 true).tree
+abbrev pub path_stretches : List ℕ → Bool → List Stretch
+path_stretches symbol plain = stretches plain (read_at symbol true a_path 0 0 0 true).tree
 
-pub printing_pays : (symbol : List ℕ) (plain : Bool) → Pays (17000 * (length symbol + 1)) (17034 * (length symbol + 1)) (printed symbol plain) 0
+pub printing_pays : (symbol : List ℕ) (plain : Bool) → Pays (17000 * (length symbol + 1)) (17034 * (length symbol + 1)) (path_stretches symbol plain) 0
 printing_pays symbol plain = go (read_at symbol true a_path 0 0 0 true).tree (read_at symbol true a_path 0 0 0 true).place
     (read_paid plain (17000 * (length symbol + 1)) symbol a_path 0 0 0 true (omega arith) cheap (omega arith))
   where
@@ -26,9 +26,9 @@ in_all : (n w looks : ℕ) → looks ≤ 17034 * (n + 1) + 17000 * (n + 1) * w �
 in_all n w looks h = omega (arith, h)
 
 pub printing_looks : (symbol : List ℕ) (plain : Bool) (k : ℕ) →
-    looks_of (take (suc k) (printed symbol plain)) ≤ 100000 * (bytes_of (take k (printed symbol plain)) + 1) * (length symbol + 1)
-printing_looks symbol plain k = in_all (length symbol) (bytes_of (take k (printed symbol plain))) (looks_of (take (suc k) (printed symbol plain)))
-    (Pays-bound (17000 * (length symbol + 1)) (17034 * (length symbol + 1)) 0 (printed symbol plain) k (printing_pays symbol plain))
+    looks_of (take (suc k) (path_stretches symbol plain)) ≤ 100000 * (bytes_of (take k (path_stretches symbol plain)) + 1) * (length symbol + 1)
+printing_looks symbol plain k = in_all (length symbol) (bytes_of (take k (path_stretches symbol plain))) (looks_of (take (suc k) (path_stretches symbol plain)))
+    (Pays-bound (17000 * (length symbol + 1)) (17034 * (length symbol + 1)) 0 (path_stretches symbol plain) k (printing_pays symbol plain))
 
 -- the looks of a reading without references, by where it ends
 abbrev pub Costs : ℕ → ℕ → ℕ → Place → Type 0

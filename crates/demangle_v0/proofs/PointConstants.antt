@@ -3,7 +3,7 @@ use Rattle.std.specs.Prelude.{◌*◌}
 use Rattle.std.proofs.lemmas.List.{append-nil}
 use Rattle.std.proofs.Common.{◌≡◌, ℕ, ◌+◌, ◌≤◌, Bool, true, false, Option, Some, None, List, [], ◌∷◌, Result, Ok, refl, arith, ap}
 use Rattle.demangle_v0.specs.Items.{a_constant, Items, child, done, unit}
-use Rattle.demangle_v0.specs.Begins.{total}
+use Rattle.demangle_v0.specs.Totals.{total}
 use Rattle.demangle_v0.specs.Events.{Heard, of, events, allowing, handing}
 use Rattle.demangle_v0.specs.Grammar.{text, word_items}
 use Rattle.demangle_v0.specs.Table.{string}

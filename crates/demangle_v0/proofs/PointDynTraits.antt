@@ -8,7 +8,7 @@ use Rattle.demangle_symbol.specs.Words.{Name, Read, identifier_at}
 use Rattle.demangle_symbol.specs.Names.{name_pieces}
 use Rattle.demangle_v0.specs.Items.{Text, Items, a_path, a_type, a_constant, a_trait_path, done, unit, dyn_trait, bindings, opens, target}
 use Rattle.demangle_v0.specs.Table.{says, typed, says_name, list, more, argument, in_binder, bound}
-use Rattle.demangle_v0.specs.Begins.{total}
+use Rattle.demangle_v0.specs.Totals.{total}
 use Rattle.demangle_v0.specs.Arguments.{argument_point, argument_place, argument_costs}
 use Rattle.demangle_v0.specs.DynTraits.{dyn_type}
 use Rattle.demangle_v0.specs.Events.{Event, said, said_all, Heard, of, ended, and_then, allowing, handing}

@@ -7,7 +7,7 @@ use Rattle.demangle_symbol.specs.Digits.{is_byte}
 use Rattle.demangle_symbol.specs.Words.{optional_at}
 use Rattle.demangle_v0.specs.Items.{Text, Items, a_type, unit}
 use Rattle.demangle_v0.specs.Table.{says, list, more, typed, in_binder}
-use Rattle.demangle_v0.specs.Begins.{total}
+use Rattle.demangle_v0.specs.Totals.{total}
 use Rattle.demangle_v0.specs.Binders.{binder_texts}
 use Rattle.demangle_v0.specs.Events.{Heard, of, ended, and_then, allowing, handing}
 use Rattle.demangle_v0.specs.Grammar.{word_items, text}

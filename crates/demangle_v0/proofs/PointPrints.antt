@@ -6,7 +6,6 @@ use Rattle.std.proofs.lemmas.List.{append-nil}
 use Rattle.std.proofs.Math.Nat.{mul-le-mul_left}
 use Rattle.demangle_v0.specs.Items.{Text, a_path}
 use Rattle.demangle_v0.specs.Cost.{Pays}
-use Rattle.demangle_v0.specs.Steps as steps
 use Rattle.demangle_v0.specs.Reading.{max_depth, rendered, read_at, level_of, levels}
 use Rattle.demangle_sink.specs.Cut.{size, kept}
 use Rattle.demangle_sink.proofs.CutLemmas.{size-append}
@@ -16,7 +15,7 @@ use Rattle.demangle_v0.proofs.PrintingLooks.{pays_tree, kept_bytes}
 use Rattle.demangle_v0.proofs.PrintingSteps.{shown_events, weighed, weighed_said, weighed_allowed}
 use Rattle.demangle_v0.proofs.StepsPaid.{pays_looks, pays_texts}
 use Rattle.demangle_v0.proofs.PointWholes.{owed_alone}
-use Rattle.demangle_v0.specs.Begins.{total}
+use Rattle.demangle_v0.specs.Totals.{total}
 use Rattle.demangle_v0.specs.Events.{Event, Heard, and_then, handing, allowed_all, said_all, shown_in}
 use Rattle.demangle_sink.specs.Limit.{Prints, Ready}
 use Rattle.demangle_sink.specs.declared.TextSink.{Ghosts as Sinks}
@@ -34,8 +33,8 @@ use Rattle.demangle_v0.specs.declared.printing.Left.TheVariants as left
 use Rattle.demangle_v0.specs.declared.points.voice.Voice.{Ghosts}
 use Rattle.demangle_v0.proofs.Hearing.{handing_then}
 use Rattle.demangle_v0.proofs.PointSteps.{bits_append, looks_append}
-use Rattle.demangle_v0.proofs.PointRuns.{step_heard, resume_heard, bits_then}
-use Rattle.demangle_v0.proofs.PointSkips.{resumes_heard, skip_is, skipped_owed, skipped_valid}
+use Rattle.demangle_v0.proofs.PointRuns.{step_heard, bits_then, resumes_heard}
+use Rattle.demangle_v0.proofs.PointSkips.{skip_is, skipped_owed, skipped_valid}
 use Rattle.demangle_v0.proofs.SkippedPaths.{allowances, total_allowances}
 use Rattle.demangle_v0.specs.Impls.{skip_point, is_skip}
 use Rattle.demangle_v0.proofs.PointWholes.{valid_length}
@@ -58,7 +57,7 @@ module _ {S : Type 0} (sink : Sinks S) (voice : Ghosts (SizeLimitedFmtAdapter S)
   ran_turn base p0 p q u s0 s t r row0 row mid now v0 v w first second made x k z l =
       let d = z.steps.0 in
       let bits = d.bits ++ pays d.back ∷ [] in
-      let resumed : owed b plain true p s row ≡ owed b plain true q t mid = subst (λ (out : Bool). owed b plain out p s row ≡ owed b plain out q t mid) loud (resume_heard voice b plain base p q s t row mid k) in
+      let resumed = resumes_heard b plain true base p q s t row mid k in
       let heard : owed b plain true q t mid ≡ heard_bits true bits (owed b plain true u r now) =
       subst (λ (ys : List Frame). owed b plain true q t mid ≡ heard_bits true bits (owed b plain true u r ys)) (sym d.is_row)
       (subst (λ (out : Bool). owed b plain out q t mid ≡ heard_bits out bits (owed b plain out u r (pushed_on mid d.pushed))) loud (step_heard voice b plain q u t r mid v w second now z mid)) in
@@ -74,7 +73,7 @@ module _ {S : Type 0} (sink : Sinks S) (voice : Ghosts (SizeLimitedFmtAdapter S)
       → Resumes base p s row q t mid → Stepped voice b plain q t mid v (Err e) r now w second → made ≤ first + second → Broke sink b plain p0 s0 row0 v0 w made
   ran_broke base p0 p q s0 s t r row0 row mid now v0 v w first second made e x k z l =
       let d = z.steps.0 in
-      let resumed : owed b plain true p s row ≡ owed b plain true q t mid = subst (λ (out : Bool). owed b plain out p s row ≡ owed b plain out q t mid) loud (resume_heard voice b plain base p q s t row mid k) in
+      let resumed = resumes_heard b plain true base p q s t row mid k in
       let rest = and_then d.rest (row_owed b plain true mid) in
       let heard : owed b plain true q t mid ≡ heard_bits true d.front (handing true d.texts rest) =
       ap (λ (h : Heard). and_then h (row_owed b plain true mid)) (subst (λ (out : Bool). share_of b plain out q t ≡ heard_bits out d.front (handing out d.texts d.rest)) loud d.reads)
@@ -273,10 +272,6 @@ prints_refused sink b plain v w made e f ready z =
 
 -- The looks of a run are paid for by what it handed over.
 
-same_total : (ks : List ℕ) → total ks ≡ steps.total ks
-same_total [] = refl
-same_total (k ∷ ks) = ap (λ (n : ℕ). k + n) (same_total ks)
-
 more : (r a x y z l : ℕ) → z ≡ x + y → l ≤ a + r * x + r * y → l ≤ a + r * z
 more r a x y z l e h = rw e (omega (arith, h))
 
@@ -284,7 +279,7 @@ bits_paid : (r a : ℕ) (bits : List Bit) (h : Heard) → Pays r a (weighed (hea
 bits_paid r a [] h p = omega arith
 bits_paid r a (pays ks ∷ bits) h p =
     let q = pays_looks r a 0 ks _ (subst (λ xs. Pays r a xs 0) (weighed_allowed ks (heard_bits true bits h).events) p) in
-    omega (arith, q.0, same_total ks, bits_paid r (a - steps.total ks) bits h q.1)
+    omega (arith, q.0, bits_paid r (a - total ks) bits h q.1)
 bits_paid r a (puts ts ∷ bits) h p =
     let q = pays_texts r a 0 ts _ (subst (λ xs. Pays r a xs 0) (weighed_said ts (heard_bits true bits h).events) p) in
     more r a (size ts) (size (bits_texts bits)) _ _ (size-append ts (bits_texts bits)) (bits_paid r (a + r * size ts) bits h q)

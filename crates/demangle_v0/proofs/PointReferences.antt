@@ -3,14 +3,14 @@ use Rattle.std.specs.Prelude.{◌*◌, ◌^◌, if◌then◌else◌}
 use Rattle.std.proofs.lemmas.Bool.{false≢true}
 use Rattle.std.proofs.Common.{◌≡◌, ℕ, zero, suc, sub-one, ◌+◌, ◌-◌, ◌<◌, ◌≤◌, length, Bool, true, false, Some, None, List, [], ◌∷◌, ◌++◌, Ok, Err, refl, arith, sym, ap, ◌∙◌}
 use Rattle.demangle_symbol.specs.Words.{Read, backref_at}
-use Rattle.demangle_v0.specs.Begins.{total}
+use Rattle.demangle_v0.specs.Totals.{total}
 use Rattle.demangle_v0.specs.Events.{Heard, of, ended, and_then, allowing, handing}
 use Rattle.demangle_v0.specs.Grammar.{text}
 use Rattle.demangle_v0.specs.Items.{Kind, a_path, a_type, a_constant, a_trait_path, target}
 use Rattle.demangle_v0.specs.Points.{followed, goes, share_at, around, way_weight, weight_at, Fits, DidOn}
 use Rattle.demangle_v0.specs.Reading.{Place, run, resumed, level_of, levels, target_of, target_read}
 use Rattle.demangle_v0.specs.References.{IsUnit, shutting}
-use Rattle.demangle_v0.specs.Serving.{refer, referred, leads}
+use Rattle.demangle_v0.specs.Serving.{refer, reference_read, leads}
 use Rattle.demangle_v0.specs.declared.grammar.Mark.{Mark}
 use Rattle.demangle_v0.specs.declared.reference.Reference.{Reference}
 use Rattle.demangle_v0.specs.declared.reference.Reference.TheVariants.{Faulty, Target}
@@ -77,7 +77,7 @@ module _ {V : Type 0} (voice : Ghosts V) (b : List ℕ) (plain : Bool) where
       last true (suc left) a j = rw sub-one refl
 
       go : (r : Read ℕ) → of plain voice.loud (resumed (length b) i (λ a j. target_of (levels b left) (λ level. target_read voice.loud (level true k v n) a j)) r)
-          ≡ allowing (referred (length b) left i r).costs (led voice.loud left k v n (referred (length b) left i r).refers)
+          ≡ allowing (reference_read (length b) left i r).costs (led voice.loud left k v n (reference_read (length b) left i r).refers)
       go None = refl
       go (Some r) = ap (allowing (4 * (r.1 - i + 1) ∷ [])) (last voice.loud left r.0 r.1)
 
@@ -99,7 +99,7 @@ module _ {V : Type 0} (voice : Ghosts V) (b : List ℕ) (plain : Bool) where
       no_target z = cc
   ref_paid left t j (Some i) e = go (backref_at b i)
     where
-      go : (r : Read ℕ) → 1 ≤ total (referred (length b) left i r).costs
+      go : (r : Read ℕ) → 1 ≤ total (reference_read (length b) left i r).costs
       go None = omega arith
       go (Some r) = omega arith
 

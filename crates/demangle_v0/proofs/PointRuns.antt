@@ -2,7 +2,7 @@
 use Rattle.std.proofs.Common.{◌≡◌, ℕ, ◌+◌, ◌≤◌, ◌<◌, Bool, true, false, Option, Some, None, List, [], ◌∷◌, ◌++◌, length, Result, Ok, Err, IsErr, refl, arith, sym, ap, ◌∙◌, subst, append_assoc, length-append}
 use Rattle.std.proofs.lemmas.Bool.{false≢true}
 use Rattle.demangle_v0.specs.Items.{Text}
-use Rattle.demangle_v0.specs.Begins.{total}
+use Rattle.demangle_v0.specs.Totals.{total}
 use Rattle.demangle_v0.specs.Running.{allowed_in}
 use Rattle.demangle_v0.specs.Events.{Event, Heard, ended, and_then, allowing, handing, allowed_all, said_all}
 use Rattle.demangle_v0.specs.Grammar.{text}
@@ -378,6 +378,21 @@ pub first_resumes : (base : ℕ) (p q : Point) (s t : State) (row now : List Fra
 first_resumes base p q s t row now (stays other e k r) = rw (e, k) (omega arith)
 first_resumes base p q s t row now (pops f e l r d k) = rw e (omega arith)
 
+-- Where a unit is over and another goes on.
+
+pub resumes_heard : (b : List ℕ) (plain out : Bool) (base : ℕ) (p q : Point) (s t : State) (row now : List Frame) → Resumes base p s row q t now → owed b plain out p s row ≡ owed b plain out q t now
+unfolding share_at
+resumes_heard b plain out base p q s t row now (stays other e k r) = rw (e, k, r) refl
+resumes_heard b plain out base p q s t row now (pops f e l r d k) = rw (e, r, d, k) (row_push b plain out now f s.place s.is_open)
+
+light : (p : Point) → (p ≡ point.End → ⊥) → way_weight (goes p) ≡ weight_at p
+light point.End h = absurd (h refl)
+light p h = refl
+
+pub resume_light : (base : ℕ) (p q : Point) (s t : State) (row now : List Frame) → Resumes base p s row q t now → weight_at q + weights now ≤ way_weight (goes p) + weights row
+resume_light base p q s t row now (stays other e k r) = rw (e, r) (omega (arith, light p other))
+resume_light base p q s t row now (pops f e l r d k) = rw (r, d) (omega (arith, weights_push now f))
+
 module _ {V : Type 0} (voice : Ghosts V) (b : List ℕ) (plain : Bool) where
   pub valid_steps : (p q : Point) (s t : State) (row now : List Frame) (v w : V) (made : ℕ) → Valid p s row → Stepped voice b plain p s row v (Ok q) t now w made → Valid q t now
   valid_steps p q s t row now v w made l z =
@@ -395,19 +410,6 @@ module _ {V : Type 0} (voice : Ghosts V) (b : List ℕ) (plain : Bool) where
       ∙ (bits_then voice.loud (d.bits ++ pays d.back ∷ []) x (row_owed b plain voice.loud above)
       ∙ ap (heard_bits voice.loud (d.bits ++ pays d.back ∷ [])) (followed_row b plain voice.loud above d.pushed (share_of b plain voice.loud q t)))
 
-  pub resume_heard : (base : ℕ) (p q : Point) (s t : State) (row now : List Frame) → Resumes base p s row q t now → owed b plain voice.loud p s row ≡ owed b plain voice.loud q t now
-  unfolding share_at
-  resume_heard base p q s t row now (stays other e k r) = rw (e, k, r) refl
-  resume_heard base p q s t row now (pops f e l r d k) = rw (e, r, d, k) (row_push b plain voice.loud now f s.place s.is_open)
-
-  light : (p : Point) → (p ≡ point.End → ⊥) → way_weight (goes p) ≡ weight_at p
-  light point.End h = absurd (h refl)
-  light p h = refl
-
-  resume_light : (base : ℕ) (p q : Point) (s t : State) (row now : List Frame) → Resumes base p s row q t now → weight_at q + weights now ≤ way_weight (goes p) + weights row
-  resume_light base p q s t row now (stays other e k r) = rw (e, r) (omega (arith, light p other))
-  resume_light base p q s t row now (pops f e l r d k) = rw (r, d) (omega (arith, weights_push now f))
-
   -- one turn of a reading
   pub turn_less : (base : ℕ) (p q u : Point) (s t r : State) (row mid now : List Frame) (v w : V) (made : ℕ) → Resumes base p s row q t mid → Stepped voice b plain q t mid v (Ok u) r now w made
       → measure b plain voice.loud u r now < measure b plain voice.loud p s row
@@ -417,7 +419,7 @@ module _ {V : Type 0} (voice : Ghosts V) (b : List ℕ) (plain : Bool) where
       omega (
         arith,
         resume_light base p q s t row mid x,
-        ap (λ (h : Heard). allowed_in h.events) (resume_heard base p q s t row mid x),
+        ap (λ (h : Heard). allowed_in h.events) (resumes_heard b plain voice.loud base p q s t row mid x),
         k,
         allowed_bits voice.loud (d.bits ++ pays d.back ∷ []) (owed b plain voice.loud u r (pushed_on mid d.pushed)),
         ap (λ (ys : List Frame). allowed_in (owed b plain voice.loud u r ys).events) d.is_row,

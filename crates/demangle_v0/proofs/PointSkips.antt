@@ -11,7 +11,7 @@ use Rattle.demangle_v0.specs.Table.{says}
 use Rattle.demangle_v0.specs.Reading.{Place, begun, run}
 use Rattle.demangle_v0.specs.Running.{allowed_in}
 use Rattle.demangle_v0.specs.Points.{most_frames, pays, heard_bits, goes, way_weight, weight_at, weights, measure, share_at, share_of, row_owed, owed, closing, around}
-use Rattle.demangle_v0.specs.PointRuns.{Resumes, stays, pops, Valid, frame_height, Quiet, Reads, ReadOn, Skipped, Skipping, silent_of, own_path, own_heard, placed, first_looks}
+use Rattle.demangle_v0.specs.PointRuns.{Resumes, Valid, frame_height, Quiet, Reads, ReadOn, Skipped, Skipping, silent_of, own_path, own_heard, placed, first_looks}
 use Rattle.demangle_v0.specs.declared.points.Point.{Point}
 use Rattle.demangle_v0.specs.declared.points.Point.TheVariants as point
 use Rattle.demangle_v0.specs.declared.points.frames.Frame.{Frame}
@@ -20,8 +20,8 @@ use Rattle.demangle_v0.specs.declared.points.read.Halt.TheVariants as halt
 use Rattle.demangle_v0.specs.declared.points.read.Reading.{Reading}
 use Rattle.demangle_v0.proofs.Hearing.{allowing_then}
 use Rattle.demangle_v0.proofs.Heights.{stands_on}
-use Rattle.demangle_v0.proofs.PointRuns.{allowed_bits, reads_none, row_push, weights_push}
-use Rattle.demangle_v0.proofs.PointWholes.{owed_alone}
+use Rattle.demangle_v0.proofs.PointRuns.{allowed_bits, reads_none, resumes_heard, resume_light}
+use Rattle.demangle_v0.proofs.PointWholes.{owed_alone, over_place}
 use Rattle.demangle_v0.proofs.SkippedPaths.{allowances, skip_reads, skip_failed}
 
 -- Where it is read and printing goes on.
@@ -39,18 +39,12 @@ skip_unread p s e = absurd (false≢true e)
 
 -- Where a unit is over and another goes on.
 
-pub resumes_heard : (b : List ℕ) (plain out : Bool) (base : ℕ) (p q : Point) (s t : State) (row now : List Frame) → Resumes base p s row q t now → owed b plain out p s row ≡ owed b plain out q t now
-unfolding share_at
-resumes_heard b plain out base p q s t row now (stays other e k r) = rw (e, k, r) refl
-resumes_heard b plain out base p q s t row now (pops f e l r d k) = rw (e, r, d, k) (row_push b plain out now f s.place s.is_open)
-
 light : (p : Point) → way_weight (goes p) ≤ weight_at p
 light point.End = omega arith
 light p = omega arith
 
 resumes_weight : (base : ℕ) (p q : Point) (s t : State) (row now : List Frame) → Resumes base p s row q t now → way_weight (goes q) + weights now ≤ way_weight (goes p) + weights row
-resumes_weight base p q s t row now (stays other e k r) = rw (e, r) (omega arith)
-resumes_weight base p q s t row now (pops f e l r d k) = rw (r, d) (omega (arith, weights_push now f, light f.point))
+resumes_weight base p q s t row now x = omega (arith, resume_light base p q s t row now x, light q)
 
 resumes_less : (b : List ℕ) (plain out : Bool) (base : ℕ) (p q : Point) (s t : State) (row now : List Frame) → Resumes base p s row q t now → measure b plain out q t now ≤ measure b plain out p s row
 resumes_less b plain out base p q s t row now x = omega (arith, resumes_weight base p q s t row now x, ap (λ (h : Heard). allowed_in h.events) (resumes_heard b plain out base p q s t row now x))
@@ -142,10 +136,6 @@ skipping b plain p s below now base inner r made e k h v x = let q = skip_is p e
 
 quiet_then : (b : List ℕ) (plain : Bool) (p q r : Point) (s t u : State) (xs ys zs : List Frame) (first second made : ℕ) → made ≤ first + second → Quiet b plain p s xs q t ys first → Quiet b plain q t ys r u zs second → Quiet b plain p s xs r u zs made
 quiet_then b plain p q r s t u xs ys zs first second made l x y = record { place = y.place ∙ x.place; looks = omega (arith, l, x.looks, y.looks) }
-
-over_place : (b : List ℕ) (plain : Bool) (t : State) → (owed b plain false point.End t []).place ≡ t.place
-unfolding share_at row_owed
-over_place b plain t = refl
 
 module _ (b : List ℕ) (plain : Bool) (of_trait : Bool) (s : State) (below : List Frame) (p : Point) (t : State) (row : List Frame) (first : ℕ) (r : Reads b plain below point.Path (silent_of s) [] p t row first) where
   -- it came to its end

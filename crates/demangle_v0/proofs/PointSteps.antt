@@ -4,12 +4,12 @@ use Rattle.std.proofs.lemmas.Bool.{false≢true}
 use Rattle.std.proofs.lemmas.List.{append-nil}
 use Rattle.std.proofs.Common.{◌≡◌, ℕ, ◌+◌, ◌-◌, ◌≤◌, Bool, false, Option, None, List, [], ◌∷◌, ◌++◌, Result, Ok, Err, IsOk, refl, arith, sym, ap, ◌∙◌, subst}
 use Rattle.demangle_v0.specs.Items.{done}
-use Rattle.demangle_v0.specs.Begins.{total}
+use Rattle.demangle_v0.specs.Totals.{total}
 use Rattle.demangle_v0.specs.Events.{Heard, of, ended, allowing, handing}
 use Rattle.demangle_v0.specs.Groups.{Group, texts_of, word_group}
 use Rattle.demangle_v0.specs.Grammar.{word_items, text}
 use Rattle.demangle_v0.specs.Reading.{Place, run}
-use Rattle.demangle_v0.specs.Points.{Bit, pays, puts, heard_bits, bits_looks, Told, marked, followed, Way, goes, fails, way_heard, way_weight, way_height, weight_of, height_of, count_of, FitsFrame, FitsWay, IsInner, pushed_on, share_at, closing, around, Went, Stopped, Kept, DidOn}
+use Rattle.demangle_v0.specs.Points.{Bit, pays, puts, heard_bits, bits_looks, Told, marked, followed, Way, goes, fails, way_heard, way_weight, way_height, weight_of, height_of, count_of, FitsFrame, FitsWay, IsInner, pushed_on, share_at, closing, around, Went, Kept, DidOn}
 use Rattle.demangle_sink.specs.declared.SinkRefused.{SinkRefused}
 use Rattle.demangle_v0.specs.declared.grammar.Mark.{Mark}
 use Rattle.demangle_v0.specs.declared.grammar.Word.{Word}

@@ -8,7 +8,7 @@ use Prim.Native.String.{String}
 use Rattle.demangle_symbol.specs.Digits.{is_byte}
 use Rattle.demangle_symbol.specs.Words.{then_if_some}
 use Rattle.demangle_v0.specs.Items.{Text, Kind, a_type, a_constant, a_pattern, Items, say, child, done}
-use Rattle.demangle_v0.specs.Begins.{total}
+use Rattle.demangle_v0.specs.Totals.{total}
 use Rattle.demangle_v0.specs.Events.{Heard, of, events, allowing, handing}
 use Rattle.demangle_v0.specs.Grammar.{text, found, basic_marks}
 use Rattle.demangle_v0.specs.Table.{says_if, typed, type_rows, is_among, text_of, basic_types}

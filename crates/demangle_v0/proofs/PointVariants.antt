@@ -4,8 +4,8 @@ use Rattle.std.proofs.lemmas.Bool.{false≢true}
 use Rattle.std.proofs.Common.{◌≡◌, ℕ, ◌+◌, ◌-◌, ◌≤◌, length, Bool, true, false, Option, Some, None, List, [], ◌∷◌, Result, Ok, Err, IsOk, refl, arith, sym, ap, ◌∙◌}
 use Rattle.demangle_symbol.specs.Words.{some_or, byte_at}
 use Rattle.demangle_v0.specs.Items.{Items, Text, invalid, done, say}
-use Rattle.demangle_v0.specs.Begins.{total}
-use Rattle.demangle_v0.specs.Events.{Heard, of, ended, and_then, allowing, handing}
+use Rattle.demangle_v0.specs.Totals.{total}
+use Rattle.demangle_v0.specs.Events.{Heard, of, and_then, allowing, handing}
 use Rattle.demangle_v0.specs.Grammar.{text, found}
 use Rattle.demangle_v0.specs.Groups.{texts_of, word_group}
 use Rattle.demangle_v0.specs.Table.{says, list, row_of, variant_rows, constant_inside, field}

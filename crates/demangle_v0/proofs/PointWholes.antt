@@ -28,7 +28,7 @@ pub owed_alone : (b : List ℕ) (plain out : Bool) (p : Point) (s : State) → o
 unfolding row_owed
 owed_alone b plain out p s = and_then_ended (share_of b plain out p s)
 
-over_place : (b : List ℕ) (plain : Bool) (s : State) → (owed b plain false point.End s []).place ≡ s.place
+pub over_place : (b : List ℕ) (plain : Bool) (s : State) → (owed b plain false point.End s []).place ≡ s.place
 unfolding share_at row_owed
 over_place b plain s = refl
 

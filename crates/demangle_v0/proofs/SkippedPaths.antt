@@ -1,7 +1,7 @@
 -- A path that is read and not printed: its looks within the account of what is printed.
 use Rattle.std.specs.Prelude.{ℕ, ◌+◌}
 use Rattle.std.proofs.Common.{◌≡◌, Bool, false, List, [], ◌∷◌, ◌++◌, Some, None, refl, ap, ◌∙◌}
-use Rattle.demangle_v0.specs.Begins.{total}
+use Rattle.demangle_v0.specs.Totals.{total}
 use Rattle.demangle_v0.specs.Events.{Event, shows, allows, events, shown_in, allowed_all, Heard, of, and_then, allowing}
 use Rattle.demangle_v0.specs.Items.{a_path, Items, skip}
 use Rattle.demangle_v0.specs.Reading.{Place, Outcome, Surroundings, run, level_of, levels}

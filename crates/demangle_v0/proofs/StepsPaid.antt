@@ -5,7 +5,7 @@ use Rattle.demangle_v0.specs.Cost.{Stretch, Pays}
 use Rattle.demangle_sink.specs.Cut.{size}
 use Rattle.demangle_v0.specs.Items.{Text}
 use Rattle.demangle_v0.specs.Reading.{looks, hands}
-use Rattle.demangle_v0.specs.Steps.{total}
+use Rattle.demangle_v0.specs.Totals.{total}
 use Rattle.demangle_v0.proofs.PaysRules.{Pays-more}
 
 abbrev pub all_hands : List Text → List Stretch

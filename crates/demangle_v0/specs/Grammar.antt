@@ -1,14 +1,13 @@
 -- Internal: no public contract cites this.
 -- The fixed texts, what is found by a tag, and what each word reads, as items of the table.
-use Rattle.std.specs.Prelude.{ℕ, Bool, true, false, if◌then◌else◌, ◌==◌, Option, Some, None, List, [], ◌∷◌, codes, decimal}
-use Rattle.std.specs.Fmt.{digits}
+use Rattle.std.specs.Prelude.{ℕ, Bool, true, false, if◌then◌else◌, ◌==◌, Option, Some, None, List, [], ◌∷◌, codes}
 use Prim.Native.Char.{code}
 use Prim.Native.String.{String}
-use Rattle.demangle_symbol.specs.Words.{Name, some_or}
-use Rattle.demangle_symbol.specs.Names.{is_empty, is_nameless}
-use Rattle.demangle_symbol.specs.Words.{is_upper, number_of}
+use Rattle.demangle_symbol.specs.Words.{some_or}
+use Rattle.demangle_symbol.specs.Names.{is_empty}
+use Rattle.demangle_symbol.specs.Words.{number_of}
 use Rattle.demangle_symbol.specs.Literals.{literal, string_of}
-use Rattle.demangle_v0.specs.Items.{Text, Items, invalid, say, say_plain, integer, identifier, nibbles, next, sound, lifetime}
+use Rattle.demangle_v0.specs.Items.{Text, Items, invalid, say_plain, integer, identifier, nibbles, next, lifetime}
 use Rattle.demangle_v0.specs.Table.{is_among, says, says_if, say_all, says_name, disambiguator, extern, text_of, basic_types, number_pieces}
 use Rattle.demangle_v0.specs.declared.grammar.Mark.{Mark}
 use Rattle.demangle_v0.specs.declared.grammar.Mark.TheVariants as mark

@@ -8,7 +8,6 @@ pub mod V0
 pub mod Accepting
 -- Internal.
 pub mod Arguments
-pub mod Begins
 pub mod Binders
 pub mod ConstantLists
 pub mod DynTraits
@@ -24,6 +23,6 @@ pub mod Points
 pub mod References
 pub mod Running
 pub mod Serving
-pub mod Steps
 pub mod Stretches
 pub mod Tags
+pub mod Totals

@@ -6,7 +6,7 @@ use Rattle.demangle_symbol.specs.Digits.{is_byte}
 use Rattle.demangle_v0.specs.Items.{Text, Items, a_path, a_type, a_constant, a_pattern, a_trait_path, done, invalid, byte, integer, next, sound, until_end, unit, child, skip, lifetime, opens, dyn_trait, bindings, identifier}
 use Rattle.demangle_v0.specs.Table.{says, says_if, at_end, list, more, tuple, typed, constant_inside, argument, in_namespace, in_binder, function, bound, type_tagged, number, string, field, variant, says_name}
 use Rattle.demangle_v0.specs.Reading.{Place, Surroundings, run, begun, level_of, levels, max_depth}
-use Rattle.demangle_v0.specs.Begins.{total}
+use Rattle.demangle_v0.specs.Totals.{total}
 use Rattle.demangle_v0.specs.Running.{allowed_in}
 use Rattle.demangle_v0.specs.Events.{Heard, of, ended, and_then, allowing, handing}
 use Rattle.demangle_v0.specs.Grammar.{text}

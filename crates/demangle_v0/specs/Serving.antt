@@ -27,13 +27,13 @@ abbrev pub leads : ℕ → ℕ → ℕ → Reference
 leads zero target j = Faulty mark.Recursion
 leads (suc left) target j = Target target j
 
-abbrev pub referred : ℕ → ℕ → ℕ → Read ℕ → Referred
-referred n left i None = record { refers = Faulty mark.Invalid; costs = 4 * (n - i + 1) ∷ [] }
-referred n left i (Some r) = record { refers = leads left r.0 r.1; costs = 4 * (r.1 - i + 1) ∷ [] }
+abbrev pub reference_read : ℕ → ℕ → ℕ → Read ℕ → Referred
+reference_read n left i None = record { refers = Faulty mark.Invalid; costs = 4 * (n - i + 1) ∷ [] }
+reference_read n left i (Some r) = record { refers = leads left r.0 r.1; costs = 4 * (r.1 - i + 1) ∷ [] }
 
 abbrev pub refer : List ℕ → ℕ → Place → Referred
 refer b left None = record { refers = Faulty mark.Unread; costs = [] }
-refer b left (Some i) = referred (length b) left i (backref_at b i)
+refer b left (Some i) = reference_read (length b) left i (backref_at b i)
 
 abbrev pub IsDeep : Reference → ℕ → Type 0
 IsDeep (Faulty _) left = Unit {0}

@@ -3,7 +3,7 @@
 //! where it goes on.
 ghost use Rattle.std.specs.Prelude.{true, ◌≡◌, ◌+◌, ◌-◌, ◌<◌, ◌≤◌, None, Ok, Err, IsOk, IsAscii, List};
 ghost use Rattle.demangle_v0.specs.Points.{DidOn, around, closing};
-ghost use Rattle.demangle_v0.specs.Begins.{total};
+ghost use Rattle.demangle_v0.specs.Totals.{total};
 ghost use Rattle.demangle_v0.specs.Groups.{word_group, read_stretch, looks_later};
 ghost use Rattle.demangle_v0.specs.Serving.{LiesIn};
 ghost use Rattle.demangle_v0.specs.Events.{of};

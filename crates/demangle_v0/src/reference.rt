@@ -1,6 +1,6 @@
 //! Back references.
 ghost use Rattle.std.specs.Prelude.{◌≡◌, ◌+◌, ◌≤◌};
-ghost use Rattle.demangle_v0.specs.Begins.{total};
+ghost use Rattle.demangle_v0.specs.Totals.{total};
 ghost use Rattle.demangle_v0.specs.Serving.{refer, IsDeep};
 
 use crate::grammar::Mark;

@@ -2,7 +2,7 @@
 ghost use Rattle.std.specs.Prelude.{◌≡◌, ℕ, ◌+◌, ◌-◌, ◌*◌, ◌≤◌, length, MatchOption, IfSome, Some, List};
 ghost use Rattle.demangle_symbol.specs.Words.{Hex};
 ghost use Rattle.demangle_symbol.specs.Idents.{LiesWithin, name_size};
-ghost use Rattle.demangle_v0.specs.Begins.{total};
+ghost use Rattle.demangle_v0.specs.Totals.{total};
 ghost use Rattle.demangle_symbol.specs.Nibbles.{HexPart};
 ghost use Rattle.demangle_v0.specs.Serving.{LiesIn, PartIn};
 ghost use Rattle.demangle_v0.specs.Groups.{ident_at, hex_at, read_stretch, looks_later, word_group, word_failed};

@@ -57,8 +57,8 @@ impl<'s> Symbol<'s> {
         Err(ParseError::Invalid)
     }
 
-    // The digit of an integer at a place, or none where the `_` stands there that ends it. Any other
-    // byte is Invalid.
+    // The digit of an integer at a place, or none where the `_` stands there that ends it. Any
+    // other byte is Invalid.
     #[tactic(auto, using(crate::proofs::Integers::digit_reads))]
     #[inline(always)]
     fn integer_digit(&self, place: usize, looks: &mut Looks) -> Result<Option<u64>, ParseError>

@@ -67,7 +67,8 @@ impl Ident {
             (name_pieces (name_in symbol.now (record { ascii = ascii; punycode = punycode })))
             result out.new }
         ensures grows { looks.old ≤ looks.new }
-        ensures looks { looks.new ≤ looks.old + name_size (record { ascii = ascii; punycode = punycode }) }
+        ensures looks { looks.new ≤ looks.old
+            + name_size (record { ascii = ascii; punycode = punycode }) }
     {
         let name = Ident { ascii, punycode };
         match decode(symbol, name, looks) {

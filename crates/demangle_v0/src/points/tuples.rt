@@ -1,6 +1,6 @@
 //! The points of tuple types.
 ghost use Rattle.std.specs.Prelude.{◌≡◌, ℕ, ◌-◌, ◌+◌, ◌<◌, ◌≤◌, List, Bool, Ok, length};
-ghost use Rattle.demangle_v0.specs.Begins.{total};
+ghost use Rattle.demangle_v0.specs.Totals.{total};
 ghost use Rattle.demangle_v0.specs.declared.points.frames.Frame.{Frame};
 ghost use Rattle.demangle_v0.specs.Points.{Did, Fits, is_list_over, behind_list, list_costs};
 

@@ -30,10 +30,10 @@ pub(super) fn reference<V: Voice>(
 {
     state.mark = Some(Mark::Ampersand);
     let Some(at) = state.place else {
-        return referred(is_mut);
+        return behind_reference(is_mut);
     };
     if !symbol.is_at(b'L', at, looks) {
-        return referred(is_mut);
+        return behind_reference(is_mut);
     }
     state.place = Some(at + 1);
     if is_mut {
@@ -45,7 +45,7 @@ pub(super) fn reference<V: Voice>(
 
 /// What stands behind a reference and its lifetime.
 #[inline(always)]
-fn referred(is_mut: bool) -> Point
+fn behind_reference(is_mut: bool) -> Point
     ensures { result ≡ behind_reference is_mut }
 {
     if is_mut { Point::Mutable } else { Point::Type }
@@ -79,14 +79,14 @@ pub(super) fn reference_lifetime<V: Voice>(
     };
     state.place = Some(next);
     if index == 0 || !voice.speaks() {
-        return Ok(referred(is_mut));
+        return Ok(behind_reference(is_mut));
     }
     let (stretch, place) = spaced_lifetime(state.lifetimes, index, next);
     state.place = place;
     let Ok(()) = voice.say(symbol, &stretch, plain, looks) else {
         return Err(Stop::Refused);
     };
-    Ok(referred(is_mut))
+    Ok(behind_reference(is_mut))
 }
 
 /// A lifetime of an index above 0, and the place behind it.

@@ -20,7 +20,8 @@ fn put_hyphened<S: TextSink>(
     requires ascii { IsAscii symbol.now }
     requires part { PartIn symbol.now part }
     requires ready { Ready S.TextSink out.old }
-    ensures { Prints S.TextSink out.old (slice_range symbol.now part.from part.to ∷ codes "-" ∷ []) result out.new }
+    ensures { Prints S.TextSink out.old
+        (slice_range symbol.now part.from part.to ∷ codes "-" ∷ []) result out.new }
 {
     symbol.span(part).write_to(out)?;
     out.put("-")
@@ -108,7 +109,8 @@ pub(super) fn put_function_head<S: TextSink>(
     requires ascii { IsAscii symbol.now }
     requires abi { AbiIn symbol.now abi }
     requires ready { Ready S.TextSink out.old }
-    ensures prints { Prints S.TextSink out.old (head_texts symbol.now is_unsafe abi) result out.new }
+    ensures prints { Prints S.TextSink out.old
+        (head_texts symbol.now is_unsafe abi) result out.new }
     ensures grows { looks.old ≤ looks.new }
     ensures most { looks.new ≤ looks.old + abi_looks abi }
 {

@@ -44,7 +44,8 @@ pub(super) fn put_spaced_lifetime<S: TextSink>(
     out: &mut SizeLimitedFmtAdapter<'_, S>,
 ) -> Result<(), SinkRefused>
     requires { Ready S.TextSink out.old }
-    ensures { Prints S.TextSink out.old (codes "'" ∷ (letter_of number ++ codes " " ∷ [])) result out.new }
+    ensures { Prints S.TextSink out.old
+        (codes "'" ∷ (letter_of number ++ codes " " ∷ [])) result out.new }
 {
     put_lifetime(number, out)?;
     out.put(" ")

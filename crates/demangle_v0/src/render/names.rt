@@ -128,7 +128,8 @@ fn put_ending<S: TextSink>(
     out: &mut SizeLimitedFmtAdapter<'_, S>,
 ) -> Result<(), SinkRefused>
     requires { Ready S.TextSink out.old }
-    ensures { Prints S.TextSink out.old (codes "#" ∷ decimal number ∷ codes "}" ∷ []) result out.new }
+    ensures { Prints S.TextSink out.old
+        (codes "#" ∷ decimal number ∷ codes "}" ∷ []) result out.new }
 {
     out.put("#")?;
     put_index(number, out)?;
@@ -136,8 +137,8 @@ fn put_ending<S: TextSink>(
 }
 
 #[tactic(auto, using(demangle_sink::proofs::PrintsLemmas::prints_ready))]
-// Puts a name in a special namespace, by its parts, and its disambiguator. It takes no reference, so
-// that the names of its caller can lie in registers.
+// Puts a name in a special namespace, by its parts, and its disambiguator. It takes no reference,
+// so that the names of its caller can lie in registers.
 #[inline(never)]
 fn put_special_name<S: TextSink>(
     symbol: &Symbol<'_>,
@@ -211,7 +212,8 @@ pub(super) fn put_binding<S: TextSink>(
     requires parts { LiesWithin symbol.now name.now }
     requires ascii { IsAscii symbol.now }
     requires ready { Ready S.TextSink out.old }
-    ensures prints { Prints S.TextSink out.old (name_pieces (name_in symbol.now name.now) ++ codes " = " ∷ []) result out.new }
+    ensures prints { Prints S.TextSink out.old
+        (name_pieces (name_in symbol.now name.now) ++ codes " = " ∷ []) result out.new }
     ensures grows { looks.old ≤ looks.new }
     ensures most { looks.new ≤ looks.old + name_size name.now }
 {

@@ -76,7 +76,8 @@ fn put_nibbles<S: TextSink>(
     requires ascii { IsAscii symbol.now }
     requires part { PartIn symbol.now nibbles }
     requires ready { Ready S.TextSink out.old }
-    ensures { Prints S.TextSink out.old (codes "0x" ∷ slice_range symbol.now nibbles.from nibbles.to ∷ []) result out.new }
+    ensures { Prints S.TextSink out.old
+        (codes "0x" ∷ slice_range symbol.now nibbles.from nibbles.to ∷ []) result out.new }
 {
     out.put("0x")?;
     symbol.span(nibbles).write_to(out)

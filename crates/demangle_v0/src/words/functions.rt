@@ -1,7 +1,7 @@
 //! What a function type begins with.
 ghost use Rattle.std.specs.Prelude.{◌≡◌, ◌+◌, ◌-◌, ◌≤◌, Some};
 ghost use Rattle.demangle_symbol.specs.Idents.{LiesWithin, name_size};
-ghost use Rattle.demangle_v0.specs.Begins.{total};
+ghost use Rattle.demangle_v0.specs.Totals.{total};
 ghost use Rattle.demangle_v0.specs.Serving.{LiesIn};
 ghost use Rattle.demangle_v0.specs.Groups.{read_stretch, looks_later, abi_named, abi_group, head_group};
 

@@ -1,6 +1,6 @@
 //! Lifetimes, by their index.
 ghost use Rattle.std.specs.Prelude.{◌≡◌, ℕ, ◌+◌, ◌-◌, ◌≤◌, Some, List};
-ghost use Rattle.demangle_v0.specs.Begins.{total};
+ghost use Rattle.demangle_v0.specs.Totals.{total};
 ghost use Rattle.demangle_v0.specs.Serving.{LiesIn};
 ghost use Rattle.demangle_v0.specs.Groups.{read_stretch, looks_later, checked, lifetime_group, optional_group, dyn_group};
 

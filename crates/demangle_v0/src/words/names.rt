@@ -1,6 +1,6 @@
 //! Names, and disambiguators.
 ghost use Rattle.std.specs.Prelude.{◌≡◌, ℕ, ◌+◌, ◌-◌, ◌≤◌, Some, IfSome, IfNone, MatchOption};
-ghost use Rattle.demangle_v0.specs.Begins.{total};
+ghost use Rattle.demangle_v0.specs.Totals.{total};
 ghost use Rattle.demangle_v0.specs.Serving.{LiesIn};
 ghost use Rattle.demangle_v0.specs.Groups.{read_stretch, looks_later, named_group, field_group, binding_group};
 ghost use Rattle.demangle_symbol.specs.Idents.{LiesWithin, name_size};

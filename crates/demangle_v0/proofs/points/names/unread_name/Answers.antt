@@ -1,4 +1,4 @@
-use Rattle.std.proofs.Common.{arith, refl, ◌+◌, ◌*◌}
+use Rattle.std.proofs.Common.{arith, refl}
 use Rattle.demangle_v0.proofs.PointPaths.{name_unread, name_unread_refused}
 use Rattle.demangle_v0.proofs.points.names.unread_name.Goals as goal
 

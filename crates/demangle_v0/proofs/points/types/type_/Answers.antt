@@ -1,4 +1,4 @@
-use Rattle.std.proofs.Common.{arith, refl, sym, ◌∙◌, ◌-◌, true, false}
+use Rattle.std.proofs.Common.{arith, refl, sym, ◌∙◌, ◌-◌}
 use Rattle.std.proofs.lemmas.Bool.{false≢true}
 use Rattle.demangle_v0.proofs.PointTypes.{type_unread, tag_unread, type_splats, type_goes, type_either, type_stays}
 use Rattle.demangle_v0.proofs.points.types.type_.Goals as goal

@@ -1,5 +1,5 @@
 -- Internal: no public contract cites this.
--- What one step of a printer takes from the stretches that are still to come.
+-- How many looks several allowances are together.
 use Rattle.std.specs.Prelude.{ℕ, ◌+◌, List, [], ◌∷◌}
 
 abbrev pub total : List ℕ → ℕ
