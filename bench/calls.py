@@ -267,7 +267,8 @@ def built_rust(folder, crate):
     with open(os.path.join(project, 'Cargo.toml'), 'w') as file:
         file.write('[package]\nname = "rust_calls"\nversion = "0.0.0"\nedition = "2021"\n\n[dependencies]\n'
                    'rustc-demangle = { path = "%s" }\n\n[workspace]\n' % os.path.abspath(crate))
-    subprocess.run(['cargo', 'build', '--release', '--offline', '--quiet', '--manifest-path', os.path.join(project, 'Cargo.toml')], check=True)
+    words = ['cargo', 'build', '--release', '--offline', '--quiet', '--manifest-path', os.path.join(project, 'Cargo.toml')]
+    subprocess.run(words, env=dict(os.environ, RUSTFLAGS='--cap-lints=allow'), check=True)
     return os.path.join(project, 'target', 'release', 'rust_calls')
 
 
