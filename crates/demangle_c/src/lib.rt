@@ -9,7 +9,7 @@ ghost use Rattle.rustc_demangle.specs.Cut.{size};
 ghost use Rattle.rustc_demangle.specs.Slice.{overlay};
 ghost use Rattle.rustc_demangle.specs.Stripped.{stripped};
 ghost use Rattle.rustc_demangle.specs.Symbols.{handed};
-ghost use Rattle.demangle_c.specs.Naming.{NamesRust, path_of, path_within, c_string};
+ghost use Rattle.demangle_c.specs.Naming.{NamesRust, path_named, path_within, c_string};
 
 #[cfg(test)]
 mod tests;
@@ -96,9 +96,9 @@ pub extern "C" fn kodliwe_demangle_limited(
 #[unsafe(no_mangle)]
 pub extern "C" fn kodliwe_demangle(symbol: &[u8], out: &mut [u8], include_hash: bool) -> usize
     ensures none { (NamesRust symbol.now → ⊥) → (result ≡ 0) × (out.new ≡ out.old) }
-    ensures size { NamesRust symbol.now → result ≡ length (path_of symbol.now include_hash) + 1 }
+    ensures size { NamesRust symbol.now → result ≡ length (path_named symbol.now include_hash) + 1 }
     ensures text { NamesRust symbol.now →
-        out.new ≡ overlay out.old (c_string (length out.old) (path_of symbol.now include_hash)) }
+        out.new ≡ overlay out.old (c_string (length out.old) (path_named symbol.now include_hash)) }
 {
     kodliwe_demangle_limited(symbol, out, include_hash, MAX_SIZE)
 }

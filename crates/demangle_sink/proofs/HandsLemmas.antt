@@ -5,16 +5,16 @@ use Rattle.std.proofs.lemmas.List.{append_assoc, append-nil}
 use Rattle.std.proofs.lemmas.Bool.{false≢true, true≢false}
 use Rattle.demangle_sink.specs.declared.TextSink.{Ghosts}
 use Rattle.demangle_sink.specs.declared.SinkRefused.{SinkRefused}
-use Rattle.demangle_sink.specs.Sink.{Fits, room_after}
+use Rattle.demangle_sink.specs.Sink.{IsWithin, room_after}
 use Rattle.demangle_sink.specs.Cut.{size}
 use Rattle.demangle_sink.specs.Hands.{Refused, FitsRoom, Hands, HoldsFront}
 use Rattle.demangle_sink.proofs.CutLemmas.{size-append}
 
-fits-first : (a b : ℕ) (r : Option ℕ) → Fits (a + b) r → Fits a r
+fits-first : (a b : ℕ) (r : Option ℕ) → IsWithin (a + b) r → IsWithin a r
 fits-first a b None f = tt
 fits-first a b (Some r) f = omega (arith, f)
 
-fits-second : (a b : ℕ) (r : Option ℕ) → Fits (a + b) r → Fits b (room_after a r)
+fits-second : (a b : ℕ) (r : Option ℕ) → IsWithin (a + b) r → IsWithin b (room_after a r)
 fits-second a b None f = tt
 fits-second a b (Some r) f = omega (arith, f)
 
@@ -55,13 +55,13 @@ pub hands_put : {S : Type 0} (sink : Ghosts S) (old : S) (s : List ℕ) (result 
     → OnOk result (sink.failed new ≡ false)
     → OnErr result (sink.failed new ≡ true)
     → OnErr result (sink.keeps ≡ true → sink.took old [] new × (sink.room new ≡ sink.room old))
-    → (Fits (length s) (sink.room old) → IsOk result × (sink.room new ≡ room_after (length s) (sink.room old)))
+    → (IsWithin (length s) (sink.room old) → IsOk result × (sink.room new ≡ room_after (length s) (sink.room old)))
     → Hands sink old (s ∷ []) result new
 hands_put sink old s (Ok u) new taken alive failed kept fits = record {
   all = λ _. record { took = (new, taken, refl); alive = alive };
   refused = λ e. absurd (false≢true e);
   fits = λ f.
-      let g : Fits (length s) (sink.room old) = subst (λ n. Fits n (sink.room old)) (size-one s) f in
+      let g : IsWithin (length s) (sink.room old) = subst (λ n. IsWithin n (sink.room old)) (size-one s) f in
       record { alive = alive; room = rw (size-one s) (fits g).1 };
 }
 hands_put sink old s (Err u) new taken alive failed kept fits = record {
@@ -76,11 +76,11 @@ hands_put sink old s (Err u) new taken alive failed kept fits = record {
       whole = refl;
       took = refl;
       kept = (kept k).0;
-      longer = λ f. absurd (false≢true (fits (subst (λ r. Fits (length s) r) (kept k).1 f)).0);
+      longer = λ f. absurd (false≢true (fits (subst (λ r. IsWithin (length s) r) (kept k).1 f)).0);
     };
   };
   fits = λ f.
-      let g : Fits (length s) (sink.room old) = subst (λ n. Fits n (sink.room old)) (size-one s) f in
+      let g : IsWithin (length s) (sink.room old) = subst (λ n. IsWithin n (sink.room old)) (size-one s) f in
       absurd (false≢true (fits g).0);
 }
 
@@ -106,9 +106,9 @@ hands_then sink old mid new xs ys r result first ok second = record {
   };
   fits = λ f.
       let room : Option ℕ = sink.room old in
-      let g : Fits (size xs + size ys) room = subst (λ n. Fits n room) (size-append xs ys) f in
+      let g : IsWithin (size xs + size ys) room = subst (λ n. IsWithin n room) (size-append xs ys) f in
       let one : FitsRoom sink old xs mid = first.fits (fits-first _ _ _ g) in
-      let f2 : Fits (size ys) (sink.room mid) = subst (Fits (size ys)) (sym one.room) (fits-second _ _ _ g) in
+      let f2 : IsWithin (size ys) (sink.room mid) = subst (IsWithin (size ys)) (sym one.room) (fits-second _ _ _ g) in
       let two : FitsRoom sink mid ys new = second.fits f2 in
       record { alive = two.alive; room = two.room ∙ (ap (room_after (size ys)) one.room ∙ (room-both (size xs) (size ys) room ∙ ap (λ n. room_after n room) (sym (size-append xs ys)))) };
 }
@@ -135,7 +135,7 @@ hands_stop sink old new xs ys r (Err u) p err err' = record {
   };
   fits = λ f.
       let room : Option ℕ = sink.room old in
-      let one : FitsRoom sink old xs new = p.fits (fits-first _ _ _ (subst (λ n. Fits n room) (size-append xs ys) f)) in
+      let one : FitsRoom sink old xs new = p.fits (fits-first _ _ _ (subst (λ n. IsWithin n room) (size-append xs ys) f)) in
       absurd (true≢false (sym (p.refused err).failed ∙ one.alive));
 }
 
@@ -154,7 +154,7 @@ hands_refused sink old new list (Err e) h = h.refused refl
 
 -- what is within the room is taken
 pub hands_fits : {S : Type 0} (sink : Ghosts S) (old new : S) (list : List (List ℕ)) (result : Result (Unit {0}) SinkRefused)
-    → Hands sink old list result new → Fits (size list) (sink.room old) → IsOk result
+    → Hands sink old list result new → IsWithin (size list) (sink.room old) → IsOk result
 hands_fits sink old new list (Ok u) h f = refl
 hands_fits sink old new list (Err e) h f = absurd (true≢false (sym (h.refused refl).failed ∙ (h.fits f).alive))
 

@@ -5,7 +5,7 @@ use Rattle.std.proofs.lemmas.Bool.Decides.{leb_tells}
 use Rattle.demangle_sink.specs.declared.TextSink.{Ghosts}
 use Rattle.demangle_sink.specs.declared.SinkRefused.{SinkRefused}
 use Rattle.demangle_sink.specs.declared.limit.SizeLimitedFmtAdapter.{SizeLimitedFmtAdapter}
-use Rattle.demangle_sink.specs.Cut.{size, fitting, cut, marker}
+use Rattle.demangle_sink.specs.Cut.{size, front_within, cut, marker}
 use Rattle.demangle_sink.specs.Hands.{Hands}
 use Rattle.demangle_sink.specs.Limit.{Ready, Prints, sink_result}
 use Rattle.demangle_sink.proofs.CutLemmas.{size-append, fitting-all, fitting-append, fitting-stop, fitting-more, fitting-none}
@@ -20,7 +20,7 @@ pub prints_put : {S : Type 0} (sink : Ghosts S) (old : SizeLimitedFmtAdapter S) 
     → Hands sink old.out.now (s ∷ []) result new.out.now
     → Prints sink old (s ∷ []) result new
 prints_put sink old s result new same h left here hands =
-    let fit : fitting (s ∷ []) old.remaining ≡ s ∷ [] = fitting-all (s ∷ []) old.remaining (omega arith) in
+    let fit : front_within (s ∷ []) old.remaining ≡ s ∷ [] = fitting-all (s ∷ []) old.remaining (omega arith) in
     record {
       same_sink = same;
       open_ = λ _. here;
@@ -40,7 +40,7 @@ pub prints_over : {S : Type 0} (sink : Ghosts S) (old : SizeLimitedFmtAdapter S)
     → Prints sink old (s ∷ []) result new
 prints_over sink old s (Ok u) new same h over err alive = absurd (false≢true err)
 prints_over sink old s (Err u) new same h over err alive =
-    let fit : fitting (s ∷ []) old.remaining ≡ [] = fitting-none s old.remaining h in
+    let fit : front_within (s ∷ []) old.remaining ≡ [] = fitting-none s old.remaining h in
     record {
       same_sink = ap (λ r. r.ghost_name) same;
       open_ = λ e. absurd (false≢true e);
@@ -55,7 +55,7 @@ pub prints_ready : {S : Type 0} (sink : Ghosts S) (old : SizeLimitedFmtAdapter S
     → Prints sink old xs r new → IsOk r → Ready sink new
 prints_ready sink old xs r new p ok =
     let here : new.is_over ≡ false = p.open_ ok in
-    let h : Hands sink old.out.now (fitting xs old.remaining) r new.out.now = rw here at p.hands in
+    let h : Hands sink old.out.now (front_within xs old.remaining) r new.out.now = rw here at p.hands in
     record { alive = (h.all ok).alive; fresh = here }
 
 pub prints_nothing : {S : Type 0} (sink : Ghosts S) (out : SizeLimitedFmtAdapter S) → Ready sink out → Prints sink out [] (Ok tt) out
@@ -76,8 +76,8 @@ pub prints_then : {S : Type 0} (sink : Ghosts S) (old mid new : SizeLimitedFmtAd
 prints_then sink old mid new xs ys r result first ok second =
     let here : size xs ≤ old.remaining = first.within ok in
     let left : mid.remaining ≡ old.remaining - size xs = first.left ok in
-    let fit : fitting (xs ++ ys) old.remaining ≡ xs ++ fitting ys mid.remaining = fitting-append xs ys old.remaining here ∙ ap (λ n. xs ++ fitting ys n) (sym left) in
-    let h : Hands sink old.out.now (fitting xs old.remaining) r mid.out.now = rw (first.open_ ok) at first.hands in
+    let fit : front_within (xs ++ ys) old.remaining ≡ xs ++ front_within ys mid.remaining = fitting-append xs ys old.remaining here ∙ ap (λ n. xs ++ front_within ys n) (sym left) in
+    let h : Hands sink old.out.now (front_within xs old.remaining) r mid.out.now = rw (first.open_ ok) at first.hands in
     let h' : Hands sink old.out.now xs r mid.out.now = rw (fitting-all xs old.remaining here) at h in
     record {
       same_sink = second.same_sink ∙ first.same_sink;
@@ -101,16 +101,16 @@ prints_stop sink old new xs ys r (Err u) p err err' = record {
   past = λ e. let w : old.remaining < size xs = p.past e in omega (arith, size-append xs ys);
   hands = split new.is_over refl;
 } where
-  split : (b : Bool) → new.is_over ≡ b → Hands sink old.out.now (fitting (xs ++ ys) old.remaining) (sink_result new.is_over (Err u)) new.out.now
+  split : (b : Bool) → new.is_over ≡ b → Hands sink old.out.now (front_within (xs ++ ys) old.remaining) (sink_result new.is_over (Err u)) new.out.now
   split true e =
-      let h : Hands sink old.out.now (fitting xs old.remaining) (Ok tt) new.out.now = rw e at p.hands in
+      let h : Hands sink old.out.now (front_within xs old.remaining) (Ok tt) new.out.now = rw e at p.hands in
       rw (fitting-stop xs ys old.remaining (p.past e), e) h
   split false e =
-      let h : Hands sink old.out.now (fitting xs old.remaining) r new.out.now = rw e at p.hands in
+      let h : Hands sink old.out.now (front_within xs old.remaining) r new.out.now = rw e at p.hands in
       let more = fitting-more xs ys old.remaining in
       rw (more.1, e) (hands_stop sink _ _ _ more.0 r (Err u) h err refl)
 
-pub cut-past : (xs : List (List ℕ)) (l : ℕ) → l < size xs → cut xs l ≡ fitting xs l ++ marker ∷ []
+pub cut-past : (xs : List (List ℕ)) (l : ℕ) → l < size xs → cut xs l ≡ front_within xs l ++ marker ∷ []
 cut-past xs l h = elim (leb_tells (size xs) l) [ inl e ↦ let le : size xs ≤ l = e.1 in absurd (omega arith) | inr e ↦ rw e.0 refl ]
 
 pub cut-within : (xs : List (List ℕ)) (l : ℕ) → size xs ≤ l → cut xs l ≡ xs
@@ -124,8 +124,8 @@ pub prints_cut_over : {S : Type 0} (sink : Ghosts S) (old new : SizeLimitedFmtAd
     → Hands sink start (cut xs limit) result after
 prints_cut_over sink old new start mid after limit xs r result at lim p over same hands =
     let past : limit < size xs = let q : old.remaining < size xs = p.past over in omega arith in
-    let h : Hands sink old.out.now (fitting xs old.remaining) (Ok tt) new.out.now = rw over at p.hands in
-    let h' : Hands sink start (fitting xs limit) (Ok tt) mid = rw (same, ← at, ← lim) h in
+    let h : Hands sink old.out.now (front_within xs old.remaining) (Ok tt) new.out.now = rw over at p.hands in
+    let h' : Hands sink start (front_within xs limit) (Ok tt) mid = rw (same, ← at, ← lim) h in
     rw (cut-past xs limit past) (hands_then sink _ _ _ _ _ (Ok tt) _ h' refl hands)
 
 -- where it was not reached, nothing does
@@ -134,11 +134,11 @@ pub prints_cut_all : {S : Type 0} (sink : Ghosts S) (old new : SizeLimitedFmtAda
     → Prints sink old xs r new → new.is_over ≡ false → after ≡ new.out.now
     → Hands sink start (cut xs limit) r after
 prints_cut_all sink old new start after limit xs r at lim p over same =
-    let h : Hands sink old.out.now (fitting xs old.remaining) r new.out.now = rw over at p.hands in
-    let h' : Hands sink start (fitting xs limit) r after = rw (same, ← at, ← lim) h in
+    let h : Hands sink old.out.now (front_within xs old.remaining) r new.out.now = rw over at p.hands in
+    let h' : Hands sink start (front_within xs limit) r after = rw (same, ← at, ← lim) h in
     go r p h'
   where
-    go : (r : Result (Unit {0}) SinkRefused) → Prints sink old xs r new → Hands sink start (fitting xs limit) r after → Hands sink start (cut xs limit) r after
+    go : (r : Result (Unit {0}) SinkRefused) → Prints sink old xs r new → Hands sink start (front_within xs limit) r after → Hands sink start (cut xs limit) r after
     go (Ok u) p h = let q : size xs ≤ old.remaining = p.within refl in let within : size xs ≤ limit = omega arith in rw (cut-within xs limit within) (rw (fitting-all xs limit within) at h)
     go (Err u) p h = elim (leb_tells (size xs) limit) [
       | inl e ↦ rw (cut-within xs limit e.1) (rw (fitting-all xs limit e.1) at h)

@@ -3,7 +3,7 @@ use Rattle.std.specs.Prelude.{◌≡◌, ℕ, List, [], ◌∷◌, ◌++◌, len
 use Rattle.std.specs.List.{FoldsTo, concat}
 use Rattle.demangle_sink.specs.declared.TextSink.{Ghosts}
 use Rattle.demangle_sink.specs.declared.SinkRefused.{SinkRefused}
-use Rattle.demangle_sink.specs.Sink.{Fits, room_after}
+use Rattle.demangle_sink.specs.Sink.{IsWithin, room_after}
 use Rattle.demangle_sink.specs.Cut.{size}
 
 -- the sink took the pieces one by one, and has not failed
@@ -20,7 +20,7 @@ pub record StoppedWithin {S : Type 0} (sink : Ghosts S) (old : S) (list : List (
   pub at : S
   pub took : FoldsTo sink.took old front at
   pub kept : sink.took at [] new
-  pub longer : Fits (length next) (sink.room new) → ⊥
+  pub longer : IsWithin (length next) (sink.room new) → ⊥
 
 -- the sink failed over the list; one that keeps took the pieces before the refused one
 pub record Refused {S : Type 0} (sink : Ghosts S) (old : S) (list : List (List ℕ)) (new : S) : Type 0 where
@@ -36,7 +36,7 @@ pub record FitsRoom {S : Type 0} (sink : Ghosts S) (old : S) (list : List (List 
 pub record Hands {S : Type 0} (sink : Ghosts S) (old : S) (list : List (List ℕ)) (result : Result (Unit {0}) SinkRefused) (new : S) : Type 0 where
   pub all : IsOk result → Taken sink old list new
   pub refused : IsErr result → Refused sink old list new
-  pub fits : Fits (size list) (sink.room old) → FitsRoom sink old list new
+  pub fits : IsWithin (size list) (sink.room old) → FitsRoom sink old list new
 
 -- the sink's text grew by a beginning of the list, and the piece behind that is longer than the room then left
 pub record HoldsFront {S : Type 0} (sink : Ghosts S) (old : S) (list : List (List ℕ)) (new : S) : Type 0 where
@@ -45,4 +45,4 @@ pub record HoldsFront {S : Type 0} (sink : Ghosts S) (old : S) (list : List (Lis
   pub rest : List (List ℕ)
   pub whole : list ≡ front ++ next ∷ rest
   pub took : sink.took old (concat front) new
-  pub longer : Fits (length next) (sink.room new) → ⊥
+  pub longer : IsWithin (length next) (sink.room new) → ⊥

@@ -4,7 +4,7 @@ use Rattle.std.specs.Prelude.{◌≡◌, ℕ, ◌-◌, ◌≤◌, ◌<◌, List,
 use Rattle.demangle_sink.specs.declared.TextSink.{Ghosts}
 use Rattle.demangle_sink.specs.declared.SinkRefused.{SinkRefused}
 use Rattle.demangle_sink.specs.declared.limit.SizeLimitedFmtAdapter.{SizeLimitedFmtAdapter}
-use Rattle.demangle_sink.specs.Cut.{size, fitting}
+use Rattle.demangle_sink.specs.Cut.{size, front_within}
 use Rattle.demangle_sink.specs.Hands.{Hands}
 
 -- neither has the sink failed nor was the limit reached
@@ -24,4 +24,4 @@ pub record Prints {S : Type 0} (sink : Ghosts S) (old : SizeLimitedFmtAdapter S)
   pub within : IsOk result → size pieces ≤ old.remaining
   pub left : IsOk result → new.remaining ≡ old.remaining - size pieces
   pub past : new.is_over ≡ true → old.remaining < size pieces
-  pub hands : Hands sink old.out.now (fitting pieces old.remaining) (sink_result new.is_over result) new.out.now
+  pub hands : Hands sink old.out.now (front_within pieces old.remaining) (sink_result new.is_over result) new.out.now

@@ -5,7 +5,7 @@ use Rattle.demangle_sink.specs.declared.TextSink.{Ghosts}
 use Rattle.demangle_sink.specs.declared.SinkRefused.{SinkRefused}
 use Rattle.demangle_sink.specs.Cut.{size}
 use Rattle.demangle_sink.specs.Hands.{HoldsFront}
-use Rattle.demangle_sink.specs.Sink.{Fits, room_after}
+use Rattle.demangle_sink.specs.Sink.{IsWithin, room_after}
 
 -- The sink was handed these pieces. Ok: it took their text, and has not failed. Err: it has failed,
 -- and one that keeps took those in front of the refused one. Where all of them are within its room
@@ -16,5 +16,5 @@ pub record Writes {S : Type 0} (sink : Ghosts S) (old : S) (list : List (List �
   pub alive : OnOk result (sink.failed new ≡ false)
   pub failed : OnErr result (sink.failed new ≡ true)
   pub kept : OnErr result (sink.keeps ≡ true → HoldsFront sink old list new)
-  pub fits : Fits (size list) (sink.room old) → IsOk result
-  pub room : Fits (size list) (sink.room old) → sink.room new ≡ room_after (size list) (sink.room old)
+  pub fits : IsWithin (size list) (sink.room old) → IsOk result
+  pub room : IsWithin (size list) (sink.room old) → sink.room new ≡ room_after (size list) (sink.room old)

@@ -2,7 +2,7 @@
 #![tactic(auto)]
 
 ghost use Rattle.std.specs.Prelude.{◌≡◌, ℕ, List, [], ◌++◌, length, Option, Bool, true, false, IsOk, OnOk, OnErr};
-ghost use Rattle.demangle_sink.specs.Sink.{Fits, room_after};
+ghost use Rattle.demangle_sink.specs.Sink.{IsWithin, room_after};
 
 mod array_sink;
 mod chars;
@@ -50,7 +50,7 @@ pub trait TextSink {
         ensures refused { OnErr result (failed self.new ≡ true) }
         ensures kept { OnErr result
             (keeps ≡ true → took self.old [] self.new × (room self.new ≡ room self.old)) }
-        ensures fits { Fits (length s.now) (room self.old) →
+        ensures fits { IsWithin (length s.now) (room self.old) →
             IsOk result × (room self.new ≡ room_after (length s.now) (room self.old)) };
 
     /// Whether it has refused a piece.

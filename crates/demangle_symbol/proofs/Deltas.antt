@@ -2,7 +2,7 @@
 use Rattle.std.proofs.Common.{◌≡◌, ℕ, zero, suc, ◌+◌, ◌-◌, ◌*◌, ◌/◌, ◌<◌, ◌≤◌, inl, inr, true, false, List, [], ◌∷◌, Option, Some, None, IfSome, refl, sym, arith, subst, ltb, option_map}
 use Rattle.std.specs.Prelude.{slice_index}
 use Rattle.std.proofs.lemmas.Bool.Decides.{nat_tests}
-use Rattle.demangle_symbol.specs.Punycode.{Reading, digit_of, threshold, with_digit, next_delta, deltas, adapted, bias_after}
+use Rattle.demangle_symbol.specs.Punycode.{Reading, digit_of, threshold, with_digit, next_delta, deltas, adapted_bias, bias_after}
 use Rattle.std.proofs.lemmas.Bool.{cases_lt}
 use Rattle.demangle_symbol.proofs.Options.{option_cases}
 
@@ -20,7 +20,7 @@ abbrev pub further : Reading → ℕ → Reading
 further r d = record r { sum = with_digit r d; weight = r.weight * (36 - threshold r.place r.bias); place = r.place + 36 }
 
 abbrev pub after_delta : Reading → ℕ → Reading
-after_delta r d = next_delta (r.count + 1) false (adapted (with_digit r d) (r.count + 1) r.first)
+after_delta r d = next_delta (r.count + 1) false (adapted_bias (with_digit r d) (r.count + 1) r.first)
 
 pub deltas_bad : (r : Reading) (c : ℕ) (s : List ℕ) → digit_of c ≡ None → deltas r (c ∷ s) ≡ None
 unfolding deltas

@@ -12,7 +12,7 @@ use Rattle.std.proofs.lemmas.Bool.Decides.{nat_tests}
 use Rattle.demangle_symbol.proofs.Integers.{only_both, only_not_both}
 use Rattle.std.proofs.lemmas.List.Sums.{suffix_len-le-length}
 use Rattle.std.proofs.lemmas.List.Edits.{length-between}
-use Rattle.demangle_symbol.specs.Words.{Name, length_end, length_value, Length, behind, tail_len, digits_from, name_from, name_len, name_of, punycode_len, ascii_to, identifier_at, Identifier}
+use Rattle.demangle_symbol.specs.Words.{Name, length_end, length_value, Length, behind_byte, tail_len, digits_from, name_from, name_len, name_of, punycode_len, ascii_to, identifier_at, Identifier}
 use Rattle.demangle_symbol.specs.Idents.{DigitsUpTo, IsIdent, name_in}
 use Rattle.demangle_symbol.proofs.Digits.{range_more, number_none, number_more, is_byte_there, digits_none, digits_more}
 
@@ -85,23 +85,23 @@ behind_there false i h = absurd (h refl)
 
 -- No identifier begins at i, whose length would begin at d: there is no length at d, or it says too many bytes,
 -- or there is a `u` and no Punycode part.
-pub no_ident_length : (s : List ℕ) (i d : ℕ) → d ≡ behind 117 s i → length s < 2 ^ 64 → ((j v : ℕ) → v < 2 ^ 64 → Length s d j v → ⊥) → (j : ℕ) (ident : Ident) → IsIdent s i j ident → ⊥
+pub no_ident_length : (s : List ℕ) (i d : ℕ) → d ≡ behind_byte 117 s i → length s < 2 ^ 64 → ((j v : ℕ) → v < 2 ^ 64 → Length s d j v → ⊥) → (j : ℕ) (ident : Ident) → IsIdent s i j ident → ⊥
 no_ident_length s i d d_is fits none j ident h =
-    let there : Length s (behind 117 s i) (length_end s (behind 117 s i)) (length_value s (behind 117 s i)) = record { some = h.some; next = refl; value = refl } in
-    none (length_end s (behind 117 s i)) (length_value s (behind 117 s i)) (omega (arith, h.next, h.inside)) (rw d_is there)
+    let there : Length s (behind_byte 117 s i) (length_end s (behind_byte 117 s i)) (length_value s (behind_byte 117 s i)) = record { some = h.some; next = refl; value = refl } in
+    none (length_end s (behind_byte 117 s i)) (length_value s (behind_byte 117 s i)) (omega (arith, h.next, h.inside)) (rw d_is there)
 
-pub no_ident_past : (s : List ℕ) (i d e f len : ℕ) → d ≡ behind 117 s i → Length s d e len → f ≡ behind 95 s e → length s - f < len → (j : ℕ) (ident : Ident) → IsIdent s i j ident → ⊥
+pub no_ident_past : (s : List ℕ) (i d e f len : ℕ) → d ≡ behind_byte 117 s i → Length s d e len → f ≡ behind_byte 95 s e → length s - f < len → (j : ℕ) (ident : Ident) → IsIdent s i j ident → ⊥
 no_ident_past s i d e f len d_is there f_is past j ident h =
-    let e_is : e ≡ length_end s (behind 117 s i) = there.next ∙ ap (length_end s) d_is in
-    let len_is : len ≡ length_value s (behind 117 s i) = there.value ∙ ap (length_value s) d_is in
-    let from : f ≡ name_from s i = f_is ∙ ap (behind 95 s) e_is in
+    let e_is : e ≡ length_end s (behind_byte 117 s i) = there.next ∙ ap (length_end s) d_is in
+    let len_is : len ≡ length_value s (behind_byte 117 s i) = there.value ∙ ap (length_value s) d_is in
+    let from : f ≡ name_from s i = f_is ∙ ap (behind_byte 95 s) e_is in
     omega (arith, h.next, h.inside)
 
-pub no_ident_empty : (s : List ℕ) (i d e f len : ℕ) → d ≡ behind 117 s i → Length s d e len → f ≡ behind 95 s e → d ≢ i → tail_len s f (f + len) ≡ 0 → (j : ℕ) (ident : Ident) → IsIdent s i j ident → ⊥
+pub no_ident_empty : (s : List ℕ) (i d e f len : ℕ) → d ≡ behind_byte 117 s i → Length s d e len → f ≡ behind_byte 95 s e → d ≢ i → tail_len s f (f + len) ≡ 0 → (j : ℕ) (ident : Ident) → IsIdent s i j ident → ⊥
 no_ident_empty s i d e f len d_is there f_is other empty j ident h =
-    let e_is : e ≡ length_end s (behind 117 s i) = there.next ∙ ap (length_end s) d_is in
-    let len_is : len ≡ length_value s (behind 117 s i) = there.value ∙ ap (length_value s) d_is in
-    let from : f ≡ name_from s i = f_is ∙ ap (behind 95 s) e_is in
+    let e_is : e ≡ length_end s (behind_byte 117 s i) = there.next ∙ ap (length_end s) d_is in
+    let len_is : len ≡ length_value s (behind_byte 117 s i) = there.value ∙ ap (length_value s) d_is in
+    let from : f ≡ name_from s i = f_is ∙ ap (behind_byte 95 s) e_is in
     let j_is : j ≡ f + len = h.next ∙ omega arith in
     let u : is_byte s i 117 ≡ true = behind_there (is_byte s i 117) i (λ e. other (d_is ∙ e)) in
     let some : 0 < tail_len s (name_from s i) j = h.not_empty u in
@@ -109,10 +109,10 @@ no_ident_empty s i d e f len d_is there f_is other empty j ident h =
     omega arith
 
 -- where its length begins
-pub behind_u : (s : List ℕ) (i : ℕ) → is_byte s i 117 ≡ true → i + 1 ≡ behind 117 s i
+pub behind_u : (s : List ℕ) (i : ℕ) → is_byte s i 117 ≡ true → i + 1 ≡ behind_byte 117 s i
 behind_u s i h = rw h refl
 
-pub behind_no_u : (s : List ℕ) (i : ℕ) → is_byte s i 117 ≡ false → i ≡ behind 117 s i
+pub behind_no_u : (s : List ℕ) (i : ℕ) → is_byte s i 117 ≡ false → i ≡ behind_byte 117 s i
 behind_no_u s i h = rw h refl
 
 pub ruleset ident_steps = (behind_u, behind_no_u, no_ident_length, no_ident_past, no_ident_empty)

@@ -5,7 +5,7 @@ use lib.Utf8.{scalar}
 use Rattle.std.proofs.lemmas.Bool.{cases_lt}
 use Rattle.std.proofs.lemmas.List.Elements.{All-nil, All-cons}
 use Rattle.std.proofs.lemmas.Nat.{le-div}
-use Rattle.demangle_symbol.specs.Punycode.{next_delta, deltas, inserted, puny}
+use Rattle.demangle_symbol.specs.Punycode.{next_delta, deltas, insertions, puny}
 use Rattle.demangle_symbol.proofs.Inserting.{inserted_none, inserted_step, inserted_end, inserted_long, scalar_below}
 
 bool_cases : (b : Bool) → (b ≡ true) ⊎ (b ≡ false)
@@ -13,7 +13,7 @@ bool_cases true = inl refl
 bool_cases false = inr refl
 
 -- what a step asks
-step_asks : (n i : ℕ) (cs : List ℕ) (d : ℕ) (ds out : List ℕ) → inserted n i cs (d ∷ ds) ≡ Some out → (scalar (n + (i + d) / (length cs + 1)) ≡ true) × (length cs < 128)
+step_asks : (n i : ℕ) (cs : List ℕ) (d : ℕ) (ds out : List ℕ) → insertions n i cs (d ∷ ds) ≡ Some out → (scalar (n + (i + d) / (length cs + 1)) ≡ true) × (length cs < 128)
 step_asks n i cs d ds out h = go (bool_cases (scalar (n + (i + d) / (length cs + 1)))) (cases_lt (length cs) 128) where
   go : (scalar (n + (i + d) / (length cs + 1)) ≡ true) ⊎ (scalar (n + (i + d) / (length cs + 1)) ≡ false) → (length cs < 128) ⊎ (128 ≤ length cs) → (scalar (n + (i + d) / (length cs + 1)) ≡ true) × (length cs < 128)
   go (inl sc) (inl lt) = (sc, lt)
@@ -28,7 +28,7 @@ delta_small n i len d below few = go (cases_lt d (2 ^ 28)) where
       let much : 0x11_0000 ≤ (i + d) / (len + 1) = le-div 0x11_0000 (i + d) (len + 1) (omega arith) (omega arith) in
       absurd (omega arith)
 
-small_deltas : (ds : List ℕ) (n i : ℕ) (cs out : List ℕ) → inserted n i cs ds ≡ Some out → All (λ d. d < 2 ^ 28) ds
+small_deltas : (ds : List ℕ) (n i : ℕ) (cs out : List ℕ) → insertions n i cs ds ≡ Some out → All (λ d. d < 2 ^ 28) ds
 small_deltas [] n i cs out h = All-nil (λ d. d < 2 ^ 28)
 small_deltas (d ∷ ds) n i cs out h =
     let asks = step_asks n i cs d ds out h in
@@ -44,9 +44,9 @@ some_same (Some ys) p f xs out h e = let same : ys ≡ xs = cc in ap f (sym same
 pub decoded_deltas : (ascii digits characters ds : List ℕ) → puny ascii digits ≡ Some characters → deltas (next_delta (length ascii) true 72) digits ≡ Some ds → All (λ d. d < 2 ^ 28) ds
 unfolding puny
 decoded_deltas ascii digits characters ds h e =
-    small_deltas ds 128 0 ascii characters (some_same (deltas (next_delta (length ascii) true 72) digits) None (inserted 128 0 ascii) ds characters h e)
+    small_deltas ds 128 0 ascii characters (some_same (deltas (next_delta (length ascii) true 72) digits) None (insertions 128 0 ascii) ds characters h e)
 
-few_characters : (ds : List ℕ) (n i : ℕ) (cs out : List ℕ) → inserted n i cs ds ≡ Some out → length out ≤ 128
+few_characters : (ds : List ℕ) (n i : ℕ) (cs out : List ℕ) → insertions n i cs ds ≡ Some out → length out ≤ 128
 few_characters [] n i cs out h = go (cases_lt 128 (length cs)) where
   go : (128 < length cs) ⊎ (length cs ≤ 128) → length out ≤ 128
   go (inl lt) = let none = inserted_long n i cs [] lt in absurd (cc)
@@ -57,7 +57,7 @@ few_characters (d ∷ ds) n i cs out h =
     let at : ℕ = (i + d) % (length cs + 1) in
     few_characters ds c (at + 1) (insert cs at c) out (sym (inserted_step n i cs d ds asks.0 asks.1) ∙ h)
 
-few : (o : Option (List ℕ)) (ascii characters : List ℕ) → option_and_then (inserted 128 0 ascii) o ≡ Some characters → length characters ≤ 128
+few : (o : Option (List ℕ)) (ascii characters : List ℕ) → option_and_then (insertions 128 0 ascii) o ≡ Some characters → length characters ≤ 128
 few None ascii characters h = absurd (cc)
 few (Some ds) ascii characters h = few_characters ds 128 0 ascii characters h
 

@@ -17,8 +17,8 @@ bias_after zero delta = (36 * delta) / (delta + 38)
 bias_after (suc n) delta = elim (nat_lt 455 delta) [ true ↦ 36 + bias_after n (delta / 35) | false ↦ (36 * delta) / (delta + 38) ]
 
 -- the bias behind a delta, where there are now `count` characters; the first delta is damped
-unfoldable pub adapted : ℕ → ℕ → Bool → ℕ
-adapted delta count first =
+unfoldable pub adapted_bias : ℕ → ℕ → Bool → ℕ
+adapted_bias delta count first =
     let damped = delta / (if first then 700 else 2) in bias_after damped (damped + damped / count)
 
 -- Where the reading of deltas stands: how many characters there are, whether no delta was read yet, and the bias;
@@ -43,20 +43,20 @@ deltas r [] = if nat_lt 36 r.place then None else Some []
 deltas r (c ∷ s) = elim (digit_of c) [
   | None ↦ None
   | Some d ↦ elim (nat_lt d (threshold r.place r.bias)) [
-    | true ↦ option_map (λ ds. with_digit r d ∷ ds) (deltas (next_delta (r.count + 1) false (adapted (with_digit r d) (r.count + 1) r.first)) s)
+    | true ↦ option_map (λ ds. with_digit r d ∷ ds) (deltas (next_delta (r.count + 1) false (adapted_bias (with_digit r d) (r.count + 1) r.first)) s)
     | false ↦ deltas (record r { sum = with_digit r d; weight = r.weight * (36 - threshold r.place r.bias); place = r.place + 36 }) s
   ]
 ]
 
 -- Each delta gives a place and a character, from the place i and the character n before it.
-unfoldable pub inserted : ℕ → ℕ → List ℕ → List ℕ → Option (List ℕ)
-inserted n i characters [] = if nat_lt 128 (length characters) then None else Some characters
-inserted n i characters (delta ∷ ds) =
+unfoldable pub insertions : ℕ → ℕ → List ℕ → List ℕ → Option (List ℕ)
+insertions n i characters [] = if nat_lt 128 (length characters) then None else Some characters
+insertions n i characters (delta ∷ ds) =
     let size = length characters + 1 in
     let c = n + (i + delta) / size in
     let at = (i + delta) % size in
-    elim (is_scalar c && nat_le size 128) [ true ↦ inserted c (at + 1) (insert characters at c) ds | false ↦ None ]
+    elim (is_scalar c && nat_le size 128) [ true ↦ insertions c (at + 1) (insert characters at c) ds | false ↦ None ]
 
 -- the characters of a name with these digits
 unfoldable pub puny : List ℕ → List ℕ → Option (List ℕ)
-puny ascii digits = option_and_then (inserted 128 0 ascii) (deltas (next_delta (length ascii) true 72) digits)
+puny ascii digits = option_and_then (insertions 128 0 ascii) (deltas (next_delta (length ascii) true 72) digits)

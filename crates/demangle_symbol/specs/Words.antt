@@ -111,8 +111,8 @@ pub record Length (s : List ℕ) (i j v : ℕ) : Type 0 where
   pub value : v ≡ length_value s i
 
 -- the place behind an optional byte
-abbrev pub behind : ℕ → List ℕ → ℕ → ℕ
-behind b s i = if is_byte s i b then i + 1 else i
+abbrev pub behind_byte : ℕ → List ℕ → ℕ → ℕ
+behind_byte b s i = if is_byte s i b then i + 1 else i
 
 -- how many bytes stand behind the last `_` of a part, or all its bytes where it has none
 unfoldable pub tail_len : List ℕ → ℕ → ℕ → ℕ
@@ -120,10 +120,10 @@ tail_len s from to = suffix_len (λ b. not (b == 95)) (slice_range s from to)
 
 -- where the length of an identifier begins, behind an optional `u`; where its bytes begin, behind an optional `_`; and how many there are
 abbrev pub digits_from : List ℕ → ℕ → ℕ
-digits_from s i = behind 117 s i
+digits_from s i = behind_byte 117 s i
 
 abbrev pub name_from : List ℕ → ℕ → ℕ
-name_from s i = behind 95 s (length_end s (digits_from s i))
+name_from s i = behind_byte 95 s (length_end s (digits_from s i))
 
 abbrev pub name_len : List ℕ → ℕ → ℕ
 name_len s i = length_value s (digits_from s i)

@@ -1,7 +1,7 @@
 //! Punycode (RFC 3492), with `_` for `-` and lower case digits alone.
 ghost use Rattle.std.specs.Prelude.{◌≡◌, ℕ, ◌+◌, ◌-◌, ◌*◌, ◌^◌, ◌<◌, ◌≤◌, List, ◌∷◌, length, slice_index, slice_range, IfSome, IfNone, option_map, Bool, true, false};
 ghost use Rattle.demangle_symbol.specs.Idents.{LiesWithin, name_size};
-ghost use Rattle.demangle_symbol.specs.Punycode.{digit_of, threshold, adapted, next_delta, deltas, puny};
+ghost use Rattle.demangle_symbol.specs.Punycode.{digit_of, threshold, adapted_bias, next_delta, deltas, puny};
 
 use crate::cursor::{Ident, Looks, Part, Symbol};
 use arrayvec::ArrayVec;
@@ -48,10 +48,10 @@ fn threshold(place: u64, bias: u64) -> u64
 }
 
 /// The bias behind a delta.
-fn adapted(delta: u64, count: u64, first: bool) -> u64
+fn adapt(delta: u64, count: u64, first: bool) -> u64
     requires small { delta ≤ MOST }
     requires some { 0 < count }
-    ensures { result ≡ adapted delta count first }
+    ensures { result ≡ adapted_bias delta count first }
 {
     let damped = if first { delta / 700 } else { delta / 2 };
     let mut delta = damped + damped / count;
@@ -71,7 +71,7 @@ fn delta_at(symbol: &Symbol<'_>, digits: Part, bias: u64, looks: &mut Looks) -> 
     ensures some { IfSome result (λ r. (count : ℕ) (first : Bool) →
         deltas (next_delta count first bias) (slice_range symbol.now digits.from digits.to)
         ≡ option_map (λ ds. r.0 ∷ ds) (deltas (next_delta (count + 1) false
-        (adapted r.0 (count + 1) first)) (slice_range symbol.now r.1 digits.to))) }
+        (adapted_bias r.0 (count + 1) first)) (slice_range symbol.now r.1 digits.to))) }
     ensures none { IfNone result ((count : ℕ) (first : Bool) →
         IfSome (deltas (next_delta count first bias)
         (slice_range symbol.now digits.from digits.to)) (λ ds. MOST < slice_index ds 0)) }
@@ -167,7 +167,7 @@ fn decode(
         };
         characters.insert(i as usize, c);
         i += 1;
-        bias = adapted(delta, count, first);
+        bias = adapt(delta, count, first);
         first = false;
         at = next;
     }

@@ -3,8 +3,8 @@ use Rattle.std.specs.Prelude.{ℕ, zero, suc, ◌≤◌, ◌*◌, ◌||◌, ◌=
 use Rattle.std.proofs.Common.{◌≡◌, Bool, true, false, cond, List, [], ◌∷◌, length, Some, None, refl, sym, ◌+◌, ◌-◌, subst, arith}
 use Rattle.demangle_symbol.specs.Words.{Name}
 use Rattle.demangle_v0.specs.Items.{Text, Kind, a_path, a_type, a_constant, a_pattern, a_trait_path, Items, done, invalid, say, say_plain, byte, namespace, integer, optional, identifier, nibbles, peek, next, sound, until_end, raise, unit, child, skip, target, lifetime, binder, opens, dyn_trait, bindings}
-use Rattle.demangle_v0.specs.Cost.{Stretch, Pays}
-use Rattle.demangle_v0.specs.Reading.{Tree, nothing, piece, plain_piece, node, invalid_syntax, too_deep, unread, Place, Outcome, Level, Surroundings, followed_by, stretches, hands, run, raised, turns, closed, bound_by, begun, lifetime_at, lifetime_named, letter_of, all_pieces, new_lifetimes, binder_of, binder_at}
+use Rattle.demangle_v0.specs.Cost.{StretchCost, Pays}
+use Rattle.demangle_v0.specs.Reading.{Tree, nothing, piece, plain_piece, node, invalid_syntax, too_deep, unread, Place, Outcome, Level, Surroundings, followed_by, stretches, hands, run, one_depth_on, turns, angle_if_open, bound_by, unit_outcome, lifetime_at, lifetime_named, letter_of, all_pieces, new_lifetimes, binder_of, binder_at}
 use Rattle.demangle_v0.proofs.PaysRules.{Pays-more, Pays-append}
 
 -- the credit that a unit is begun with, and the credit that it leaves
@@ -48,7 +48,7 @@ Cheap e k g (dyn_trait p) = (start a_trait_path ≤ k) × IsTrue g × ((c : ℕ)
 Cheap e k g (bindings o p) = (c : ℕ) × (c ≤ k) × (1 ≤ c) × Cheap c (c + 55) true p × (e ≤ c - 1)
 
 -- From place i on, of n bytes, the stretches are paid for by the bytes that were read and `from`, and `to` is left.
-abbrev pub Ends : (n r i from to : ℕ) → List Stretch → Place → Type 0
+abbrev pub Ends : (n r i from to : ℕ) → List StretchCost → Place → Type 0
 Ends n r i from to xs None = Pays r (32 * (n + 1 - i) + from) xs 0
 Ends n r i from to xs (Some j) = (i ≤ j) × (j ≤ n) × Pays r (32 * (j - i) + from) xs to
 
@@ -88,7 +88,7 @@ free_unread : (plain : Bool) (r : ℕ) → Free plain r unread
 free_unread plain r = (omega arith, omega arith)
 
 -- a text before the stretches
-pub paid_hands : (r a b : ℕ) (t : Text) (xs : List Stretch) → Pays r a xs b → Pays r a (hands t ∷ xs) b
+pub paid_hands : (r a b : ℕ) (t : Text) (xs : List StretchCost) → Pays r a xs b → Pays r a (hands t ∷ xs) b
 paid_hands r a b t xs h = (omega arith, Pays-more r a (a - 0 + r * length t) b b 0 xs (omega arith) (omega arith) h)
 
 pub paid_pieces : (plain : Bool) (r a b : ℕ) (ts : List Text) (rest : Tree) → Pays r a (stretches plain rest) b → Pays r a (stretches plain (all_pieces ts rest)) b
@@ -129,7 +129,7 @@ idle_lifetime plain r true m k =
     idle_choice plain r (k == 0) _ _ (refl, free_piece plain r (codes "_") nothing (omega arith)) (idle_choice plain r (nat_le k m) _ _ (refl, free_pieces plain r (letter_of (m - k)) nothing (omega arith)) (refl, free_stop plain r)) in
     (inner.0, free_piece plain r (codes "'") (lifetime_named m k None).tree inner.1)
 
-idle_raised : (plain : Bool) (r : ℕ) (ls : List Level) (f : Level → List Level → Place → Outcome) → ((l : Level) (ls : List Level) → Idle plain r (f l ls None)) → Idle plain r (raised ls f None)
+idle_raised : (plain : Bool) (r : ℕ) (ls : List Level) (f : Level → List Level → Place → Outcome) → ((l : Level) (ls : List Level) → Idle plain r (f l ls None)) → Idle plain r (one_depth_on ls f None)
 idle_raised plain r [] f h = (refl, free_deep plain r)
 idle_raised plain r (l ∷ ls) f h = h l ls
 
@@ -137,7 +137,7 @@ free_binder : (plain : Bool) (r : ℕ) (c : Bool) (m n : ℕ) (t : Tree) → Fre
 free_binder plain r true m n t h = paid_binder plain r 0 0 m n t h
 free_binder plain r false m n t h = h
 
-pub idle_closed : (plain : Bool) (r : ℕ) (o : Bool) → Idle plain r (closed o None)
+pub idle_closed : (plain : Bool) (r : ℕ) (o : Bool) → Idle plain r (angle_if_open o None)
 idle_closed plain r true = (refl, free_piece plain r (codes ">") nothing (omega arith))
 idle_closed plain r false = (refl, omega arith)
 
@@ -159,11 +159,11 @@ idle plain r (sound p q) s = idle plain r q s
 idle plain r (until_end p q) s = idle_followed plain r (turns (suc (length s.symbol)) s.symbol (run p s) None) (run q s) (refl, omega arith) (idle plain r q s)
 idle plain r (raise p) s = idle_raised plain r s.deeper (λ l ls. run p (record s { here = l; deeper = ls })) (λ l ls. idle plain r p (record s { here = l; deeper = ls }))
 idle plain r (unit p q) s = idle_followed plain r (run p s None) (run q s) (idle plain r p s) (idle plain r q s)
-idle plain r (child kind value p) s = idle_followed plain r (begun s kind value None) (run p s) (refl, free_unread plain r) (idle plain r p s)
+idle plain r (child kind value p) s = idle_followed plain r (unit_outcome s kind value None) (run p s) (refl, free_unread plain r) (idle plain r p s)
 idle plain r (skip p) s = idle plain r p s
 idle plain r (target kind value) s = (refl, free_unread plain r)
 idle plain r (lifetime k p) s = idle_followed plain r (lifetime_at s.printed s.lifetimes k None) (run p s) (idle_lifetime plain r s.printed s.lifetimes k) (idle plain r p s)
 idle plain r (binder m p) s = let q : Idle plain r (run p (record s { lifetimes = s.lifetimes + m }) None) = idle plain r p (record s { lifetimes = s.lifetimes + m }) in (q.0, free_binder plain r s.printed m s.lifetimes (run p (record s { lifetimes = s.lifetimes + m }) None).tree q.1)
 idle plain r (opens p) s = let q : Idle plain r (run p s None) = idle plain r p s in (q.0, q.1)
-idle plain r (dyn_trait p) s = idle_followed plain r (begun s a_trait_path false None) (bound_by (suc (length s.symbol)) s (run p s) false) (refl, free_unread plain r) (idle_closed plain r false)
+idle plain r (dyn_trait p) s = idle_followed plain r (unit_outcome s a_trait_path false None) (bound_by (suc (length s.symbol)) s (run p s) false) (refl, free_unread plain r) (idle_closed plain r false)
 idle plain r (bindings o p) s = idle_closed plain r o

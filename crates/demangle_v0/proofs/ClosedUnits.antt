@@ -10,10 +10,10 @@ use Rattle.demangle_symbol.specs.Words.{Name, Read, some_or, is_upper, number_of
 use Rattle.demangle_symbol.specs.Names.{is_nameless, is_empty, name_pieces}
 use Rattle.demangle_symbol.specs.Literals.{literal, string_of}
 use Rattle.demangle_v0.specs.Items.{Text, Kind, a_path, a_type, a_constant, a_pattern, a_trait_path, Items, done, invalid, say, say_plain, byte, namespace, integer, optional, identifier, nibbles, peek, next, sound, until_end, raise, unit, child, skip, target, lifetime, binder, opens, dyn_trait, bindings}
-use Rattle.demangle_v0.specs.Table.{items, is_among, row_of, says, says_if, say_all, in_namespace, in_special, path_rows, text_of, basic_types, extern, signature, function, after_tag, type_rows, constructed, pattern_rows, braces, number, character, truth, string, variant, variant_rows, constant_rows, type_tagged, typed, list, tuple, constant_inside}
-use Rattle.demangle_v0.specs.Reading.{Place, Outcome, Level, Surroundings, behind, followed_by, opened, named, word, run, turns, resumed, peeked, forked, raised, bound_by, begun, target_of, target_read, lifetime_at, closed, level_of, levels, nowhere}
+use Rattle.demangle_v0.specs.Table.{items, is_among, row_of, says, says_if, say_all, in_namespace, in_special, path_rows, row_text, basic_types, extern, signature, function, after_tag, type_rows, type_behind_tag, pattern_rows, braces, integer_constant, character, truth, string, variant, variant_rows, constant_rows, type_tagged, type_inside, list, tuple, constant_inside}
+use Rattle.demangle_v0.specs.Reading.{Place, Outcome, Level, Surroundings, behind, followed_by, binding_separator, name_equals, word, run, turns, word_outcome, peek_outcome, byte_choice, one_depth_on, bound_by, unit_outcome, target_of, target_read, lifetime_at, angle_if_open, level_of, levels, nowhere}
 use Rattle.demangle_v0.specs.Events.{of, events}
-use Rattle.demangle_v0.proofs.Silence.{around}
+use Rattle.demangle_v0.specs.Points.{around}
 
 -- any unit but a dyn trait path
 abbrev pub IsClosed : Kind → Type 0
@@ -51,24 +51,24 @@ abbrev pub AllClosed : List Level → Type 0
 AllClosed [] = Unit {0}
 AllClosed (l ∷ ls) = ((pr : Bool) (kind : Kind) (value : Bool) (m i : ℕ) → IsClosed kind → (l pr kind value m i).is_open ≡ false) × AllClosed ls
 
-word_closed : {A : Type 0} (n i : ℕ) (f : A → Place → Outcome) (r : Read A) → ((v : A) (j : ℕ) → (f v (Some j)).is_open ≡ false) → (resumed n i f r).is_open ≡ false
+word_closed : {A : Type 0} (n i : ℕ) (f : A → Place → Outcome) (r : Read A) → ((v : A) (j : ℕ) → (f v (Some j)).is_open ≡ false) → (word_outcome n i f r).is_open ≡ false
 word_closed n i f None h = refl
 word_closed n i f (Some r) h = h r.0 r.1
 
-peek_closed : (f : ℕ → Outcome) (r : Option ℕ) → ((v : ℕ) → (f v).is_open ≡ false) → (peeked f r).is_open ≡ false
+peek_closed : (f : ℕ → Outcome) (r : Option ℕ) → ((v : ℕ) → (f v).is_open ≡ false) → (peek_outcome f r).is_open ≡ false
 peek_closed f None h = refl
 peek_closed f (Some v) h = h v
 
-fork_closed : (c : Bool) (f g : Place → Outcome) (i : Place) → ((x : Place) → (f x).is_open ≡ false) → ((x : Place) → (g x).is_open ≡ false) → (forked c f g i).is_open ≡ false
+fork_closed : (c : Bool) (f g : Place → Outcome) (i : Place) → ((x : Place) → (f x).is_open ≡ false) → ((x : Place) → (g x).is_open ≡ false) → (byte_choice c f g i).is_open ≡ false
 fork_closed c f g None h k = k None
 fork_closed true f g (Some i) h k = h (Some (i + 1))
 fork_closed false f g (Some i) h k = k (Some i)
 
-end_closed : (o : Bool) (i : Place) → (closed o i).is_open ≡ false
+end_closed : (o : Bool) (i : Place) → (angle_if_open o i).is_open ≡ false
 end_closed true i = refl
 end_closed false i = refl
 
-binding_closed : (s : Surroundings) (o : Bool) (f : Name → Place → Outcome) → ((a : Name) (x : Place) → (f a x).is_open ≡ false) → (j : Place) → (behind (opened o) (word s j identifier_at f)).is_open ≡ false
+binding_closed : (s : Surroundings) (o : Bool) (f : Name → Place → Outcome) → ((a : Name) (x : Place) → (f a x).is_open ≡ false) → (j : Place) → (behind (binding_separator o) (word s j identifier_at f)).is_open ≡ false
 binding_closed s o f h None = refl
 binding_closed s o f h (Some j) = word_closed (length s.symbol) j f (identifier_at s.symbol j) (λ a x. h a (Some x))
 
@@ -77,11 +77,11 @@ unfolding bound_by
 bound_closed n s f o None = end_closed o None
 bound_closed zero s f o (Some i) = refl
 bound_closed (suc n) s f o (Some i) =
-    let one : Name → Place → Outcome = λ a x. behind (named a) (followed_by (f x) (bound_by n s f true)) in
-    fork_closed (is_byte s.symbol i (code "p")) (λ j. behind (opened o) (word s j identifier_at one)) (closed o) (Some i)
+    let one : Name → Place → Outcome = λ a x. behind (name_equals a) (followed_by (f x) (bound_by n s f true)) in
+    fork_closed (is_byte s.symbol i (code "p")) (λ j. behind (binding_separator o) (word s j identifier_at one)) (angle_if_open o) (Some i)
     (binding_closed s o one (λ a x. bound_closed n s f true (f x).place)) (end_closed o)
 
-raised_closed : (ls : List Level) (f : Level → List Level → Place → Outcome) (i : Place) → AllClosed ls → ((l : Level) (ls : List Level) → AllClosed ls → (f l ls i).is_open ≡ false) → (raised ls f i).is_open ≡ false
+raised_closed : (ls : List Level) (f : Level → List Level → Place → Outcome) (i : Place) → AllClosed ls → ((l : Level) (ls : List Level) → AllClosed ls → (f l ls i).is_open ≡ false) → (one_depth_on ls f i).is_open ≡ false
 raised_closed [] f i a h = refl
 raised_closed (l ∷ ls) f i a h = h l ls a.1
 
@@ -117,7 +117,7 @@ closes (sound p q) s c a (Some i) = closes p s c.0 a (Some i)
 closes (until_end p q) s c a i = closes q s c a (turns (suc (length s.symbol)) s.symbol (run p s) i).place
 closes (raise p) s c a i = raised_closed s.deeper (λ l ls. run p (record s { here = l; deeper = ls })) i a (λ l ls b. closes p (record s { here = l; deeper = ls }) c b i)
 closes (unit p q) s c a i = closes q s c a (run p s i).place
-closes (child kind value p) s c a i = closes p s c a (begun s kind value i).place
+closes (child kind value p) s c a i = closes p s c a (unit_outcome s kind value i).place
 closes (skip p) s c a None = closes p s c a None
 closes (skip p) s c a (Some i) = closes p s c a (s.here false a_path false s.lifetimes i).place
 closes (target kind value) s c a None = refl
@@ -125,7 +125,7 @@ closes (target kind value) s c a (Some i) = word_closed (length s.symbol) i (λ 
 closes (lifetime k p) s c a i = closes p s c a (lifetime_at s.printed s.lifetimes k i).place
 closes (binder k p) s c a i = closes p (record s { lifetimes = s.lifetimes + k }) c a i
 closes (opens p) s c a i = absurd c
-closes (dyn_trait p) s c a i = bound_closed (suc (length s.symbol)) s (run p s) (begun s a_trait_path false i).is_open (begun s a_trait_path false i).place
+closes (dyn_trait p) s c a i = bound_closed (suc (length s.symbol)) s (run p s) (unit_outcome s a_trait_path false i).is_open (unit_outcome s a_trait_path false i).place
 closes (bindings o p) s c a i = bound_closed (suc (length s.symbol)) s (run p s) o i
 
 -- The table.
@@ -204,21 +204,21 @@ types_close tag =
     ▸ tt
     ▸ tt
   where
-    rest : Closes (says_if (tag == code "Q") "mut " typed)
-    rest = if_closes (tag == code "Q") "mut " typed tt
+    rest : Closes (says_if (tag == code "Q") "mut " type_inside)
+    rest = if_closes (tag == code "Q") "mut " type_inside tt
 
-constructed_closes : (tag : ℕ) → Closes (constructed tag)
+constructed_closes : (tag : ℕ) → Closes (type_behind_tag tag)
 constructed_closes tag = row_closes tag (child a_path false done) (after_tag (type_rows tag)) tt (after_closes (type_rows tag) (types_close tag))
 
 tagged_closes : Closes type_tagged
-tagged_closes = λ tag. some_closes (raise (constructed tag)) (text_of tag basic_types) (λ text. byte (λ _. say text done)) (constructed_closes tag) (λ text _. tt)
+tagged_closes = λ tag. some_closes (raise (type_behind_tag tag)) (row_text tag basic_types) (λ text. byte (λ _. say text done)) (constructed_closes tag) (λ text _. tt)
 
 patterns_close : AllClose pattern_rows
 patterns_close = tt ▸ (tt, tt) ▸ tt ▸ tt
 
-number_closes : (tag : ℕ) → Closes (number tag)
+number_closes : (tag : ℕ) → Closes (integer_constant tag)
 number_closes tag h =
-    let last : Closes (some_or done (text_of tag basic_types) (λ text. say_plain text done)) = some_closes done (text_of tag basic_types) (λ text. say_plain text done) tt (λ _. tt) in
+    let last : Closes (some_or done (row_text tag basic_types) (λ text. say_plain text done)) = some_closes done (row_text tag basic_types) (λ text. say_plain text done) tt (λ _. tt) in
     some_closes _ (number_of h) _ last (λ n. last)
 
 string_closes : Closes string
@@ -274,20 +274,20 @@ unfolding levels
 levels_closed b zero = tt
 levels_closed b (suc left) = (level_closed b (levels b left) (levels_closed b left), levels_closed b left)
 
-pub unit_closed : (b : List ℕ) (out : Bool) (left m : ℕ) (kind : Kind) (value : Bool) (i : Place) → IsClosed kind → (begun (around b out left m) kind value i).is_open ≡ false
+pub unit_closed : (b : List ℕ) (out : Bool) (left m : ℕ) (kind : Kind) (value : Bool) (i : Place) → IsClosed kind → (unit_outcome (around b out left m) kind value i).is_open ≡ false
 unit_closed b out left m kind value None c = refl
 unit_closed b out left m kind value (Some i) c = level_closed b (levels b left) (levels_closed b left) out kind value m i c
 
 -- what is heard of a child that is the last of its unit
-pub last_child : (plain out : Bool) (b : List ℕ) (left m : ℕ) (kind : Kind) (value : Bool) (i : Place) → IsClosed kind → of plain out (run (child kind value done) (around b out left m) i) ≡ of plain out (begun (around b out left m) kind value i)
+pub last_child : (plain out : Bool) (b : List ℕ) (left m : ℕ) (kind : Kind) (value : Bool) (i : Place) → IsClosed kind → of plain out (run (child kind value done) (around b out left m) i) ≡ of plain out (unit_outcome (around b out left m) kind value i)
 unfolding run
 last_child plain out b left m kind value i c =
-    let o = begun (around b out left m) kind value i in
+    let o = unit_outcome (around b out left m) kind value i in
     ap (λ xs. record { events = xs; place = o.place; is_open = false }) (append-nil (events plain out o.tree))
     ∙ ap (λ x. record { events = events plain out o.tree; place = o.place; is_open = x }) (sym (unit_closed b out left m kind value i c))
 
 -- where what follows hands over texts alone and is not printed
 pub last_silent : (plain : Bool) (b : List ℕ) (left m : ℕ) (kind : Kind) (value : Bool) (text : Text) (i : Place) → IsClosed kind
-    → of plain false (run (child kind value (say text done)) (around b false left m) i) ≡ of plain false (begun (around b false left m) kind value i)
+    → of plain false (run (child kind value (say text done)) (around b false left m) i) ≡ of plain false (unit_outcome (around b false left m) kind value i)
 unfolding run
 last_silent plain b left m kind value text i c = last_child plain false b left m kind value i c

@@ -10,8 +10,8 @@ use Rattle.demangle_symbol.specs.Words.{Name, Read, number_of, is_upper, some_or
 use Rattle.demangle_symbol.specs.Names.{name_pieces, is_empty, is_nameless}
 use Rattle.demangle_symbol.specs.Literals.{literal, string_of}
 use Rattle.demangle_v0.specs.Items.{Text, Kind, a_path, a_type, a_constant, a_pattern, a_trait_path, Items, done, invalid, say, say_plain, byte, namespace, integer, optional, identifier, nibbles, peek, next, sound, until_end, raise, unit, child, skip, target, lifetime, binder, opens, dyn_trait, bindings}
-use Rattle.demangle_v0.specs.Table.{variant, typed, constant_inside, says_if, extern, bound, type_tagged, braces, number, string, truth, character, argument, list, tuple, more, says, in_special, in_namespace, path_rows, pattern_rows, variant_rows, constant_rows, field, function, signature, items, type_rows, row_of, after_tag, text_of, basic_types, constructed, say_all, is_among}
-use Rattle.demangle_v0.specs.Reading.{invalid_syntax, piece, Place, fault, all_pieces, letter_of, lifetime_at, Outcome, Level, Surroundings, run, turns, stands, behind, word, followed_by, begun, closed, opened, named, bound_by, target_of, target_read, resumed, peeked, forked, raised, max_depth, level_of, levels, nowhere, read_at}
+use Rattle.demangle_v0.specs.Table.{variant, type_inside, constant_inside, says_if, extern, binding_value, type_tagged, braces, integer_constant, string, truth, character, argument, list, tuple, more, says, in_special, in_namespace, path_rows, pattern_rows, variant_rows, constant_rows, field, function, signature, items, type_rows, row_of, after_tag, row_text, basic_types, type_behind_tag, say_all, is_among}
+use Rattle.demangle_v0.specs.Reading.{invalid_syntax, piece, Place, fault, all_pieces, letter_of, lifetime_at, Outcome, Level, Surroundings, run, turns, stands, behind, word, followed_by, unit_outcome, angle_if_open, binding_separator, name_equals, bound_by, target_of, target_read, word_outcome, peek_outcome, byte_choice, one_depth_on, max_depth, level_of, levels, nowhere, read_at}
 use Rattle.demangle_v0.specs.Spelling.{Rule, MayName, Spells, end_, say_, plain_, byte_, namespace_, integer_, optional_, identifier_, nibbles_, peek_, there, other, sound_, over_, turn_, raise_, unit_, child_, skip_, target_, lifetime_, binder_, opens_, dyn_, past_, bound_}
 use Rattle.demangle_v0.proofs.Failed.{closed_place}
 use Rattle.demangle_v0.proofs.Spelled.{rule}
@@ -71,13 +71,13 @@ rows_move {symbol} {r} {d} {m} {i} {j} tag (x ∷ rs) b a = go (is_among tag _) 
     go true h y = byte_moves b y
     go false h y = h y
 
-constructed_moves : {symbol : List ℕ} {r : Rule} {d m i j : ℕ} (v : ℕ) → i ≤ length symbol → Spells symbol r d m (raise (constructed v)) i j → i + 1 ≤ j
+constructed_moves : {symbol : List ℕ} {r : Rule} {d m i j : ℕ} (v : ℕ) → i ≤ length symbol → Spells symbol r d m (raise (type_behind_tag v)) i j → i + 1 ≤ j
 constructed_moves v b (raise_ l x) = rows_move v (type_rows v) b x
 
 tagged_moves : {symbol : List ℕ} {r : Rule} {d m i j : ℕ} → i ≤ length symbol → Spells symbol r d m type_tagged i j → i + 1 ≤ j
-tagged_moves {symbol} {r} {d} {m} {i} {j} b (peek_ v e a) = go (text_of v basic_types) a
+tagged_moves {symbol} {r} {d} {m} {i} {j} b (peek_ v e a) = go (row_text v basic_types) a
   where
-    go : (o : Option Text) → Spells symbol r d m (some_or (raise (constructed v)) o (λ text. byte (λ _. say text done))) i j → i + 1 ≤ j
+    go : (o : Option Text) → Spells symbol r d m (some_or (raise (type_behind_tag v)) o (λ text. byte (λ _. say text done))) i j → i + 1 ≤ j
     go (Some t) x = byte_moves b x
     go None x = constructed_moves v b x
 
@@ -255,24 +255,24 @@ abbrev pub ReadBelow : List ℕ → ℕ → List Level → Type 0
 ReadBelow symbol d [] = max_depth ≤ d
 ReadBelow symbol d (l ∷ ls) = ReadAt 2 symbol (d + 1) l × ReadBelow symbol (d + 1) ls
 
-resumed_reads : {A : Type 0} (m i j : ℕ) (f : A → Place → Outcome) (r : Read A) (v : A) (k : ℕ) → r ≡ Some (v, k) → (f v (Some k)).place ≡ Some j → (resumed m i f r).place ≡ Some j
-resumed_reads m i j f r v k e h = subst (λ x. (resumed m i f x).place ≡ Some j) (sym e) h
+resumed_reads : {A : Type 0} (m i j : ℕ) (f : A → Place → Outcome) (r : Read A) (v : A) (k : ℕ) → r ≡ Some (v, k) → (f v (Some k)).place ≡ Some j → (word_outcome m i f r).place ≡ Some j
+resumed_reads m i j f r v k e h = subst (λ x. (word_outcome m i f x).place ≡ Some j) (sym e) h
 
-peeked_reads : (j : ℕ) (f : ℕ → Outcome) (r : Option ℕ) (v : ℕ) → r ≡ Some v → (f v).place ≡ Some j → (peeked f r).place ≡ Some j
-peeked_reads j f r v e h = subst (λ x. (peeked f x).place ≡ Some j) (sym e) h
+peeked_reads : (j : ℕ) (f : ℕ → Outcome) (r : Option ℕ) (v : ℕ) → r ≡ Some v → (f v).place ≡ Some j → (peek_outcome f r).place ≡ Some j
+peeked_reads j f r v e h = subst (λ x. (peek_outcome f x).place ≡ Some j) (sym e) h
 
-pub forked_there : (c : Bool) (f g : Place → Outcome) (i j : ℕ) → c ≡ true → (f (Some (i + 1))).place ≡ Some j → (forked c f g (Some i)).place ≡ Some j
+pub forked_there : (c : Bool) (f g : Place → Outcome) (i j : ℕ) → c ≡ true → (f (Some (i + 1))).place ≡ Some j → (byte_choice c f g (Some i)).place ≡ Some j
 forked_there true f g i j e h = h
 forked_there false f g i j e h = cc e
 
-pub forked_other : (c : Bool) (f g : Place → Outcome) (i j : ℕ) → c ≡ false → (g (Some i)).place ≡ Some j → (forked c f g (Some i)).place ≡ Some j
+pub forked_other : (c : Bool) (f g : Place → Outcome) (i j : ℕ) → c ≡ false → (g (Some i)).place ≡ Some j → (byte_choice c f g (Some i)).place ≡ Some j
 forked_other false f g i j e h = h
 forked_other true f g i j e h = cc e
 
 pub goes_on : (f : Place → Outcome) (x : Place) (k j : ℕ) → x ≡ Some k → (f (Some k)).place ≡ Some j → (f x).place ≡ Some j
 goes_on f x k j e h = subst (λ z. (f z).place ≡ Some j) (sym e) h
 
-raised_reads : (symbol : List ℕ) (d : ℕ) (ls : List Level) (f : Level → List Level → Place → Outcome) (i j : ℕ) → ReadBelow symbol d ls → d < max_depth → ((l : Level) (ls : List Level) → ReadAt 2 symbol (d + 1) l → ReadBelow symbol (d + 1) ls → (f l ls (Some i)).place ≡ Some j) → (raised ls f (Some i)).place ≡ Some j
+raised_reads : (symbol : List ℕ) (d : ℕ) (ls : List Level) (f : Level → List Level → Place → Outcome) (i j : ℕ) → ReadBelow symbol d ls → d < max_depth → ((l : Level) (ls : List Level) → ReadAt 2 symbol (d + 1) l → ReadBelow symbol (d + 1) ls → (f l ls (Some i)).place ≡ Some j) → (one_depth_on ls f (Some i)).place ≡ Some j
 raised_reads symbol d [] f i j m l h = absurd (omega (arith, m, l))
 raised_reads symbol d (x ∷ ls) f i j m l h = h x ls m.0 m.1
 
@@ -306,12 +306,12 @@ bound_read : (n : ℕ) (s : Surroundings) (c : Bool) (d m : ℕ) (p : Items) (f 
 unfolding bound_by
 bound_read zero s c d m p f h o x i j l b a = absurd (omega (arith, l, b))
 bound_read (suc n) s c d m p f h o x i j l b (past_ e) =
-    forked_other (is_byte s.symbol i (code "p")) (λ k. behind (opened o) (word s k identifier_at (λ a x. behind (named a) (followed_by (f x) (bound_by n s f true))))) (closed o) i j e (closed_place o (Some i))
+    forked_other (is_byte s.symbol i (code "p")) (λ k. behind (binding_separator o) (word s k identifier_at (λ a x. behind (name_equals a) (followed_by (f x) (bound_by n s f true))))) (angle_if_open o) i j e (closed_place o (Some i))
 bound_read (suc n) s c d m p f h o x i j l b (bound_ {k = k} {l = z} y e w a u) =
     let q : (i + 1 + 1 ≤ k) × (k ≤ length s.symbol) = placed (i + 1 + 1) s.symbol (identifier_at s.symbol (i + 1)) (identifier_placed s.symbol (i + 1)) y k w in
     let r : (k ≤ z) × (z ≤ length s.symbol) = grows a q.1 in
-    forked_there (is_byte s.symbol i (code "p")) (λ k. behind (opened o) (word s k identifier_at (λ a x. behind (named a) (followed_by (f x) (bound_by n s f true))))) (closed o) i j e
-    (resumed_reads (length s.symbol) (i + 1) j (λ a x. behind (named a) (followed_by (f x) (bound_by n s f true))) (identifier_at s.symbol (i + 1)) y k w
+    forked_there (is_byte s.symbol i (code "p")) (λ k. behind (binding_separator o) (word s k identifier_at (λ a x. behind (name_equals a) (followed_by (f x) (bound_by n s f true))))) (angle_if_open o) i j e
+    (resumed_reads (length s.symbol) (i + 1) j (λ a x. behind (name_equals a) (followed_by (f x) (bound_by n s f true))) (identifier_at s.symbol (i + 1)) y k w
     (goes_on (bound_by n s f true) (f (Some k)).place z j (h k z q.1 a) (bound_read n s c d m p f h true true z j (omega (arith, l, q.0, r.0)) r.1 u)))
 
 pub reads : (p : Items) (s : Surroundings) (d : ℕ) → Ahead p → (r : ℕ) → Begins r p → ReadAt r s.symbol d s.here → ReadBelow s.symbol d s.deeper → (i j : ℕ) → i ≤ length s.symbol → Spells s.symbol (rule s.printed) d s.lifetimes p i j → (run p s (Some i)).place ≡ Some j
@@ -354,7 +354,7 @@ reads (lifetime n p) s d a u c l m i j z (lifetime_ w e) = goes_on (run p s) _ i
 reads (binder n p) s d a u c l m i j z (binder_ e) = reads p (record s { lifetimes = s.lifetimes + n }) d a u c l m i j z e
 reads (opens p) s d a u c l m i j z (opens_ e) = reads p s d a u c l m i j z e
 reads (dyn_trait p) s d a u c l m i j z (dyn_ {k = k} c' e) =
-    let path : Outcome = begun s a_trait_path false (Some i) in
+    let path : Outcome = unit_outcome s a_trait_path false (Some i) in
     goes_on (bound_by (suc (length s.symbol)) s (run p s) path.is_open) path.place k j (l s.printed a_trait_path false s.lifetimes c.0 i k z c')
     (bound_read (suc (length s.symbol)) s s.printed d s.lifetimes p (run p s) (reads p s d a u c.1 l m) path.is_open false k j (omega arith) (grows c' z).1 e)
 reads (bindings o p) s d a u c l m i j z e = bound_read (suc (length s.symbol)) s s.printed d s.lifetimes p (run p s) (reads p s d a u c l m) o o i j (omega arith) z e
@@ -434,7 +434,7 @@ path_ahead value =
     ▸ tt
     ▸ tt
 
-typed_ahead : Ahead typed
+typed_ahead : Ahead type_inside
 typed_ahead = tt
 
 -- the items after some texts
@@ -442,30 +442,30 @@ if_ahead : (c : Bool) (text : String) (p : Items) → Ahead p → Ahead (says_if
 if_ahead c text p h = cond_ahead c _ _ h h
 
 signature_ahead : (unsafe : Bool) (abi : List Text) → Ahead (signature unsafe abi)
-signature_ahead unsafe abi = if_ahead unsafe "unsafe " _ (all_ahead abi _ (list_ahead ", " typed (says ")" (next (code "u") done (says " -> " typed))) typed_ahead tt (tt, tt)))
+signature_ahead unsafe abi = if_ahead unsafe "unsafe " _ (all_ahead abi _ (list_ahead ", " type_inside (says ")" (next (code "u") done (says " -> " type_inside))) typed_ahead tt (tt, tt)))
 
 function_ahead : (unsafe : Bool) → Ahead (function unsafe)
 function_ahead unsafe =
     (signature_ahead unsafe (extern (codes "C")) ▸ (λ a. cond_ahead (is_empty a.ascii) _ _ tt (cond_ahead (is_empty a.punycode) _ _ (signature_ahead unsafe (extern a.ascii)) tt)))
     ▸ signature_ahead unsafe []
 
-trait_ahead : Ahead (dyn_trait bound)
+trait_ahead : Ahead (dyn_trait binding_value)
 trait_ahead = tt ▸ tt
 
 types_ahead : (tag : ℕ) → AllAhead (type_rows tag)
 types_ahead tag =
-    ((λ k. cond_ahead (k == 0) _ _ (if_ahead (tag == code "Q") "mut " typed tt) (if_ahead (tag == code "Q") "mut " typed tt)) ▸ if_ahead (tag == code "Q") "mut " typed tt)
+    ((λ k. cond_ahead (k == 0) _ _ (if_ahead (tag == code "Q") "mut " type_inside tt) (if_ahead (tag == code "Q") "mut " type_inside tt)) ▸ if_ahead (tag == code "Q") "mut " type_inside tt)
     ▸ tt ▸ tt ▸ tt ▸ tt
-    ▸ tuple_ahead typed (says ")" done) typed_ahead tt tt
+    ▸ tuple_ahead type_inside (says ")" done) typed_ahead tt tt
     ▸ (λ m. function_ahead true ▸ function_ahead false)
-    ▸ ((λ m. list_ahead " + " (dyn_trait bound) done trait_ahead tt tt), ((λ k. cond_ahead (k == 0) _ _ tt tt) ▸ tt))
+    ▸ ((λ m. list_ahead " + " (dyn_trait binding_value) done trait_ahead tt tt), ((λ k. cond_ahead (k == 0) _ _ tt tt) ▸ tt))
     ▸ tt ▸ tt ▸ tt
 
-constructed_ahead : (tag : ℕ) → Ahead (constructed tag)
+constructed_ahead : (tag : ℕ) → Ahead (type_behind_tag tag)
 constructed_ahead tag = row_ahead tag (child a_path false done) (after_tag (type_rows tag)) tt (after_ahead (type_rows tag) (types_ahead tag))
 
 tagged_ahead : Ahead type_tagged
-tagged_ahead tag = some_ahead (raise (constructed tag)) (text_of tag basic_types) (λ text. byte (λ _. say text done)) (constructed_ahead tag) (λ text _. tt)
+tagged_ahead tag = some_ahead (raise (type_behind_tag tag)) (row_text tag basic_types) (λ text. byte (λ _. say text done)) (constructed_ahead tag) (λ text _. tt)
 
 patterns_ahead : AllAhead pattern_rows
 patterns_ahead = tt ▸ (tt, tt, tt) ▸ tt ▸ tt
@@ -485,9 +485,9 @@ variants_ahead p h = h
 braces_ahead : (value : Bool) (inside : Items → Items) → ((p : Items) → Ahead p → Ahead (inside p)) → Ahead (braces value inside)
 braces_ahead value inside h = cond_ahead value _ _ (h done tt) (h (says "}" done) tt)
 
-number_ahead : (tag : ℕ) → Ahead (number tag)
+number_ahead : (tag : ℕ) → Ahead (integer_constant tag)
 number_ahead tag h =
-    let ends : Ahead (some_or done (text_of tag basic_types) (λ text. say_plain text done)) = some_ahead done (text_of tag basic_types) (λ text. say_plain text done) tt (λ _. tt) in
+    let ends : Ahead (some_or done (row_text tag basic_types) (λ text. say_plain text done)) = some_ahead done (row_text tag basic_types) (λ text. say_plain text done) tt (λ _. tt) in
     some_ahead _ (number_of h) _ ends (λ n. ends)
 
 string_ahead : Ahead string
@@ -529,7 +529,7 @@ ahead a_trait_path value = tt ▸ list_ahead ", " argument (opens done) argument
 pub begin : (r : ℕ) (kind : Kind) (value : Bool) → rank kind ≤ r → Begins r (items kind value)
 begin r a_path value h = tt
 begin r a_type value h =
-    let tagged : Begins r type_tagged = λ tag. some_begins r (raise (constructed tag)) (text_of tag basic_types) (λ text. byte (λ _. say text done)) tt (λ _ _. tt) in
+    let tagged : Begins r type_tagged = λ tag. some_begins r (raise (type_behind_tag tag)) (row_text tag basic_types) (λ text. byte (λ _. say text done)) tt (λ _ _. tt) in
     tagged ▸ tagged
 begin r a_constant value h = λ tag. tt
 begin r a_pattern value h = λ tag. row_begins r tag invalid pattern_rows tt ((omega (arith, h) ▸ omega (arith, h) ▸ tt) ▸ tt ▸ tt ▸ tt)

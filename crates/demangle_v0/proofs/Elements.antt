@@ -7,12 +7,12 @@ use Prim.Native.Char.{code}
 use Rattle.demangle_symbol.specs.Digits.{is_byte}
 use Rattle.demangle_symbol.specs.Words.{Read, byte_at, optional_at, identifier_at}
 use Rattle.demangle_v0.specs.Items.{Text, Kind, a_path, a_type, a_constant, a_pattern, a_trait_path, Items, done, say, byte, raise, identifier, child, dyn_trait}
-use Rattle.demangle_v0.specs.Table.{items, path, constant, pattern_of, bound, typed, argument, field, constant_inside, says, says_name}
-use Rattle.demangle_v0.specs.Reading.{looked, node, Place, Outcome, Level, Surroundings, run, turns, stands, behind, followed_by, forked, peeked, resumed, raised, bound_by, level_of, levels, max_depth}
+use Rattle.demangle_v0.specs.Table.{items, path, constant, pattern_of, binding_value, type_inside, argument, field, constant_inside, says, says_name}
+use Rattle.demangle_v0.specs.Reading.{looked, node, Place, Outcome, Level, Surroundings, run, turns, stands, behind, followed_by, byte_choice, peek_outcome, word_outcome, one_depth_on, bound_by, level_of, levels, max_depth}
 use Rattle.demangle_symbol.proofs.Counts.{Placed, byte_placed, identifier_placed}
 use Rattle.demangle_v0.proofs.Complete.{there_placed, Moves}
 use Rattle.demangle_v0.proofs.Failed.{bound_failed}
-use Rattle.demangle_v0.proofs.Silence.{around}
+use Rattle.demangle_v0.specs.Points.{around}
 use Rattle.demangle_v0.proofs.Spelled.{level_spelt, levels_spelt}
 use Rattle.demangle_v0.proofs.Turns.{Advances, Keeps, within_later, all_turns, turns_on, advances}
 
@@ -27,16 +27,16 @@ no_byte s i b h = go (is_byte s i b) refl
     go false e = refl
     go true e = absurd (omega (arith, there_placed s b i e, h))
 
-no_word : {A : Type 0} (n i : ℕ) (f : A → Place → Outcome) (r : Read A) → r ≡ None → (resumed n i f r).place ≡ None
-no_word n i f r e = subst (λ r. (resumed n i f r).place ≡ None) (sym e) refl
+no_word : {A : Type 0} (n i : ℕ) (f : A → Place → Outcome) (r : Read A) → r ≡ None → (word_outcome n i f r).place ≡ None
+no_word n i f r e = subst (λ r. (word_outcome n i f r).place ≡ None) (sym e) refl
 
-no_peek : (f : ℕ → Outcome) (r : Option ℕ) → r ≡ None → (peeked f r).place ≡ None
-no_peek f r e = subst (λ r. (peeked f r).place ≡ None) (sym e) refl
+no_peek : (f : ℕ → Outcome) (r : Option ℕ) → r ≡ None → (peek_outcome f r).place ≡ None
+no_peek f r e = subst (λ r. (peek_outcome f r).place ≡ None) (sym e) refl
 
-no_fork : (c : Bool) (f g : Place → Outcome) (i : ℕ) → c ≡ false → (g (Some i)).place ≡ None → (forked c f g (Some i)).place ≡ None
-no_fork c f g i e h = subst (λ c. (forked c f g (Some i)).place ≡ None) (sym e) h
+no_fork : (c : Bool) (f g : Place → Outcome) (i : ℕ) → c ≡ false → (g (Some i)).place ≡ None → (byte_choice c f g (Some i)).place ≡ None
+no_fork c f g i e h = subst (λ c. (byte_choice c f g (Some i)).place ≡ None) (sym e) h
 
-no_raise : (ls : List Level) (f : Level → List Level → Place → Outcome) (i : ℕ) → ((l : Level) (ls : List Level) → (f l ls (Some i)).place ≡ None) → (raised ls f (Some i)).place ≡ None
+no_raise : (ls : List Level) (f : Level → List Level → Place → Outcome) (i : ℕ) → ((l : Level) (ls : List Level) → (f l ls (Some i)).place ≡ None) → (one_depth_on ls f (Some i)).place ≡ None
 no_raise [] f i h = refl
 no_raise (l ∷ ls) f i h = h l ls
 
@@ -93,9 +93,9 @@ moving b out left n p m l =
     (levels_spelt b left (max_depth - left) (omega arith))
 
 module _ (b : List ℕ) (out : Bool) (left n : ℕ) (l : left ≤ max_depth) where
-  pub type_element : Element b out left n typed
+  pub type_element : Element b out left n type_inside
   unfolding run
-  type_element = record { advances = moving b out left n typed tt l; beyond = λ i h. no_unit b (levels b left) a_type out false n i h }
+  type_element = record { advances = moving b out left n type_inside tt l; beyond = λ i h. no_unit b (levels b left) a_type out false n i h }
 
   pub constant_element : Element b out left n constant_inside
   unfolding run
@@ -121,22 +121,22 @@ module _ (b : List ℕ) (out : Bool) (left n : ℕ) (l : left ≤ max_depth) whe
       past i h =
           let at = around b out left n in
           let reads : ℕ → Place → Outcome = λ _. run (identifier (λ a. says_name a (says ": " constant_inside))) at in
-          subst (λ r. (resumed (length b) i reads r).place ≡ None) (sym (no_tagged 115 b i h))
+          subst (λ r. (word_outcome (length b) i reads r).place ≡ None) (sym (no_tagged 115 b i h))
           (no_word (length b) i (λ a. run (says_name a (says ": " constant_inside)) at) (identifier_at b i) (placed_none i b (identifier_at b i) (identifier_placed b i) h))
 
-  pub dyn_trait_element : Element b out left n (dyn_trait bound)
+  pub dyn_trait_element : Element b out left n (dyn_trait binding_value)
   unfolding run
-  dyn_trait_element = record { advances = moving b out left n (dyn_trait bound) tt l; beyond = past }
+  dyn_trait_element = record { advances = moving b out left n (dyn_trait binding_value) tt l; beyond = past }
     where
-      past : (i : ℕ) → length b ≤ i → (run (dyn_trait bound) (around b out left n) (Some i)).place ≡ None
+      past : (i : ℕ) → length b ≤ i → (run (dyn_trait binding_value) (around b out left n) (Some i)).place ≡ None
       past i h =
           let at = around b out left n in
           let o = level_of b (levels b left) out a_trait_path false n i in
-          subst (λ x. (bound_by (suc (length b)) at (run bound at) o.is_open x).place ≡ None) (sym (no_unit b (levels b left) a_trait_path out false n i h)) (bound_failed (suc (length b)) at (run bound at) o.is_open)
+          subst (λ x. (bound_by (suc (length b)) at (run binding_value at) o.is_open x).place ≡ None) (sym (no_unit b (levels b left) a_trait_path out false n i h)) (bound_failed (suc (length b)) at (run binding_value at) o.is_open)
 
   -- what a binding is bound to
-  pub bound_keeps : Keeps b (run bound (around b out left n))
-  bound_keeps i h = within_later b i (i + 1) (run bound (around b out left n) (Some i)).place (omega arith) (moving b out left n bound tt l i h)
+  pub bound_keeps : Keeps b (run binding_value (around b out left n))
+  bound_keeps i h = within_later b i (i + 1) (run binding_value (around b out left n) (Some i)).place (omega arith) (moving b out left n binding_value tt l i h)
 
 all_end : (b : List ℕ) (f : Place → Outcome) (x : Place) → x ≡ None → turns (length b) b f x ≡ all_turns b f x
 unfolding turns
@@ -154,5 +154,5 @@ element_on b out left n p text i el e = go (nat_le i (length b)) refl
 
     go : (c : Bool) → nat_le i (length b) ≡ c → all_turns b f (Some i) ≡ behind (looked 1) (followed_by (f (Some i)) (all_turns b f))
     go true c = turns_on b f i el.advances (leb-true _ _ c) e
-    go false c = subst (λ c. forked c stands (λ j. followed_by (f j) (turns (length b) b f)) (Some i) ≡ behind (looked 1) (followed_by (f (Some i)) (all_turns b f))) (sym e)
+    go false c = subst (λ c. byte_choice c stands (λ j. followed_by (f j) (turns (length b) b f)) (Some i) ≡ behind (looked 1) (followed_by (f (Some i)) (all_turns b f))) (sym e)
         (ap (λ o. behind (looked 1) (behind (node (f (Some i)).tree) o)) (all_end b f (f (Some i)).place (el.beyond i (omega (arith, leb-false _ _ c)))))

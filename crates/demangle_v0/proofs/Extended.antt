@@ -2,8 +2,8 @@
 use Rattle.std.specs.Prelude.{suc}
 use Rattle.std.proofs.Common.{◌≡◌, Bool, true, false, [], ◌∷◌, length, Some, None, refl, sym, ap, ◌∙◌, ◌+◌, append_assoc}
 use Rattle.demangle_v0.specs.Items.{Text, Items, done, say, next, sound, until_end, unit, child}
-use Rattle.demangle_v0.specs.Reading.{Place, Outcome, Surroundings, followed_by, begun, run, turns, forked, stands_at}
-use Rattle.demangle_v0.specs.Events.{events, Heard, of, and_then, allowing, handing}
+use Rattle.demangle_v0.specs.Reading.{Place, Outcome, Surroundings, followed_by, unit_outcome, run, turns, byte_choice, stands_at}
+use Rattle.demangle_v0.specs.Events.{events, Heard, of, and_then, with_looks, with_texts}
 
 abbrev pub extended : Items → Items → Items
 extended r done = r
@@ -30,7 +30,7 @@ module _ (plain out : Bool) (r : Items) (s : Surroundings) where
   abbrev then_r : Heard → Heard
   then_r h = and_then h (λ j _. of plain out (run r s j))
 
-  saying_then : (out : Bool) (t : Text) (h : Heard) (k : Place → Bool → Heard) → handing out (t ∷ []) (and_then h k) ≡ and_then (handing out (t ∷ []) h) k
+  saying_then : (out : Bool) (t : Text) (h : Heard) (k : Place → Bool → Heard) → with_texts out (t ∷ []) (and_then h k) ≡ and_then (with_texts out (t ∷ []) h) k
   saying_then true t h k = refl
   saying_then false t h k = refl
 
@@ -41,19 +41,19 @@ module _ (plain out : Bool) (r : Items) (s : Surroundings) where
       (sym (append_assoc (events plain out o.tree) (events plain out (g o.place).tree) (events plain out (run r s (g o.place).place).tree)))
 
   forked_then : (c : Bool) (f g f' g' : Place → Outcome) (i : Place) → ((j : Place) → of plain out (f j) ≡ then_r (of plain out (f' j))) → ((j : Place) → of plain out (g j) ≡ then_r (of plain out (g' j)))
-      → of plain out (forked c f g i) ≡ then_r (of plain out (forked c f' g' i))
+      → of plain out (byte_choice c f g i) ≡ then_r (of plain out (byte_choice c f' g' i))
   forked_then c f g f' g' None x y = y None
-  forked_then true f g f' g' (Some i) x y = ap (allowing (1 ∷ [])) (x (Some (i + 1)))
-  forked_then false f g f' g' (Some i) x y = ap (allowing (1 ∷ [])) (y (Some i))
+  forked_then true f g f' g' (Some i) x y = ap (with_looks (1 ∷ [])) (x (Some (i + 1)))
+  forked_then false f g f' g' (Some i) x y = ap (with_looks (1 ∷ [])) (y (Some i))
 
   pub extended_reads : (p : Items) → IsExtended p → (i : Place) → of plain out (run (extended r p) s i) ≡ then_r (of plain out (run p s i))
   unfolding run
   extended_reads done e i = refl
-  extended_reads (say t p) e i = ap (handing out (t ∷ [])) (extended_reads p e i) ∙ saying_then out t (of plain out (run p s i)) (λ j x. of plain out (run r s j))
+  extended_reads (say t p) e i = ap (with_texts out (t ∷ [])) (extended_reads p e i) ∙ saying_then out t (of plain out (run p s i)) (λ j x. of plain out (run r s j))
   extended_reads (next c p q) e i = forked_then (stands_at s c i) (run (extended r p) s) (run (extended r q) s) (run p s) (run q s) i (extended_reads p e.0) (extended_reads q e.1)
   extended_reads (sound p q) e None = extended_reads q e.1 None
   extended_reads (sound p q) e (Some i) = extended_reads p e.0 (Some i)
   extended_reads (until_end p q) e i = let o = turns (suc (length s.symbol)) s.symbol (run p s) i in joined_then o (run (extended r q) s) (run q s) (extended_reads q e o.place)
   extended_reads (unit p q) e i = let o = run p s i in joined_then o (run (extended r q) s) (run q s) (extended_reads q e o.place)
-  extended_reads (child k v p) e i = let o = begun s k v i in joined_then o (run (extended r p) s) (run p s) (extended_reads p e o.place)
+  extended_reads (child k v p) e i = let o = unit_outcome s k v i in joined_then o (run (extended r p) s) (run p s) (extended_reads p e o.place)
   extended_reads p e i = absurd e

@@ -2,7 +2,7 @@
 use Rattle.std.specs.Prelude.{ℕ, ◌==◌, nat_le}
 use Rattle.std.proofs.Common.{◌≡◌, Bool, true, false, cond, List, [], ◌∷◌, None, refl, sym, ◌+◌, subst}
 use Rattle.demangle_v0.specs.Items.{Items, done, invalid, say, say_plain, byte, namespace, integer, optional, identifier, nibbles, peek, next, sound, until_end, raise, unit, child, skip, target, lifetime, binder, opens, dyn_trait, bindings}
-use Rattle.demangle_v0.specs.Reading.{Place, Outcome, Level, Surroundings, run, turns, closed, bound_by, raised, lifetime_at}
+use Rattle.demangle_v0.specs.Reading.{Place, Outcome, Level, Surroundings, run, turns, angle_if_open, bound_by, one_depth_on, lifetime_at}
 
 choice_place : (b : Bool) (x y : Outcome) → x.place ≡ None → y.place ≡ None → (cond b x y).place ≡ None
 choice_place true x y p q = p
@@ -12,11 +12,11 @@ lifetime_failed : (b : Bool) (m k : ℕ) → (lifetime_at b m k None).place ≡ 
 lifetime_failed false m k = refl
 lifetime_failed true m k = choice_place (k == 0) _ _ refl (choice_place (nat_le k m) _ _ refl refl)
 
-raised_failed : (ls : List Level) (f : Level → List Level → Place → Outcome) → ((l : Level) (ls : List Level) → (f l ls None).place ≡ None) → (raised ls f None).place ≡ None
+raised_failed : (ls : List Level) (f : Level → List Level → Place → Outcome) → ((l : Level) (ls : List Level) → (f l ls None).place ≡ None) → (one_depth_on ls f None).place ≡ None
 raised_failed [] f h = refl
 raised_failed (l ∷ ls) f h = h l ls
 
-pub closed_place : (o : Bool) (i : Place) → (closed o i).place ≡ i
+pub closed_place : (o : Bool) (i : Place) → (angle_if_open o i).place ≡ i
 closed_place true i = refl
 closed_place false i = refl
 

@@ -4,7 +4,7 @@ use Prim.Native.String.{String}
 use Rattle.std.proofs.Common.{◌≡◌, Bool, true, false, cond, List, [], ◌∷◌, Some, refl, ap, ◌∙◌}
 use Rattle.demangle_symbol.specs.Words.{some_or, then_if_some}
 use Rattle.demangle_v0.specs.Items.{Items}
-use Rattle.demangle_v0.specs.Table.{is_among, row_of, text_of, basic_types}
+use Rattle.demangle_v0.specs.Table.{is_among, row_of, row_text, basic_types}
 use Rattle.demangle_v0.specs.Grammar.{text, found, basic_marks}
 use Rattle.demangle_v0.specs.declared.grammar.Mark.{Mark}
 
@@ -21,7 +21,7 @@ row_found tag other f (r ∷ rs) = go (is_among tag (codes r.0)) (row_found tag 
     go false h = h
 
 -- the same of the texts of basic types
-text_found : (tag : ℕ) (rs : List (String × String)) → text_of tag rs ≡ found tag (map (λ (r : String × String). (r.0, codes r.1)) rs)
+text_found : (tag : ℕ) (rs : List (String × String)) → row_text tag rs ≡ found tag (map (λ (r : String × String). (r.0, codes r.1)) rs)
 text_found tag [] = refl
 text_found tag (r ∷ rs) = ap (cond (is_among tag (codes r.0)) (Some (codes r.1))) (text_found tag rs)
 
@@ -33,5 +33,5 @@ mark_found tag (r ∷ rs) = go (is_among tag (codes r.0)) (mark_found tag rs)
     go true h = refl
     go false h = h
 
-pub basic_found : (tag : ℕ) → text_of tag basic_types ≡ then_if_some (found tag basic_marks) (λ m. Some (text m))
+pub basic_found : (tag : ℕ) → row_text tag basic_types ≡ then_if_some (found tag basic_marks) (λ m. Some (text m))
 basic_found tag = text_found tag basic_types ∙ mark_found tag basic_marks

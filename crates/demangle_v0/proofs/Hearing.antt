@@ -1,19 +1,19 @@
 -- What is heard of one thing behind another.
 use Rattle.std.proofs.Common.{◌≡◌, ℕ, Bool, true, false, Option, List, [], ◌∷◌, ◌++◌, refl, ap, ◌∙◌, append_assoc}
 use Rattle.demangle_v0.specs.Items.{Text}
-use Rattle.demangle_v0.specs.Events.{Event, allows, said, said_all, allowed_all, Heard, ended, and_then, allowing, handing}
+use Rattle.demangle_v0.specs.Events.{Event, allows, shown_if, said_all, allowed_all, Heard, nothing_heard, and_then, with_looks, with_texts}
 
 append_none : (xs : List Event) → xs ++ [] ≡ xs
 append_none [] = refl
 append_none (x ∷ xs) = ap (λ (ys : List Event). x ∷ ys) (append_none xs)
 
-said_append : (out : Bool) (t : Text) (xs ys : List Event) → said out t xs ++ ys ≡ said out t (xs ++ ys)
+said_append : (out : Bool) (t : Text) (xs ys : List Event) → shown_if out t xs ++ ys ≡ shown_if out t (xs ++ ys)
 said_append true t xs ys = refl
 said_append false t xs ys = refl
 
 pub said_all_append : (out : Bool) (ts : List Text) (xs ys : List Event) → said_all out ts xs ++ ys ≡ said_all out ts (xs ++ ys)
 said_all_append out [] xs ys = refl
-said_all_append out (t ∷ ts) xs ys = said_append out t (said_all out ts xs) ys ∙ ap (said out t) (said_all_append out ts xs ys)
+said_all_append out (t ∷ ts) xs ys = said_append out t (said_all out ts xs) ys ∙ ap (shown_if out t) (said_all_append out ts xs ys)
 
 pub allowed_append : (ks : List ℕ) (xs ys : List Event) → allowed_all ks xs ++ ys ≡ allowed_all ks (xs ++ ys)
 allowed_append [] xs ys = refl
@@ -22,11 +22,11 @@ allowed_append (k ∷ ks) xs ys = ap (λ (zs : List Event). allows k ∷ zs) (al
 pub and_then_assoc : (h : Heard) (f g : Option ℕ → Bool → Heard) → and_then (and_then h f) g ≡ and_then h (λ i o. and_then (f i o) g)
 and_then_assoc h f g = let m = f h.place h.is_open in let n = g m.place m.is_open in ap (λ (xs : List Event). record { events = xs; place = n.place; is_open = n.is_open }) (append_assoc h.events m.events n.events)
 
-pub and_then_ended : (h : Heard) → and_then h ended ≡ h
+pub and_then_ended : (h : Heard) → and_then h nothing_heard ≡ h
 and_then_ended h = ap (λ (xs : List Event). record { events = xs; place = h.place; is_open = h.is_open }) (append_none h.events)
 
-pub handing_then : (out : Bool) (ts : List Text) (h : Heard) (k : Option ℕ → Bool → Heard) → and_then (handing out ts h) k ≡ handing out ts (and_then h k)
+pub handing_then : (out : Bool) (ts : List Text) (h : Heard) (k : Option ℕ → Bool → Heard) → and_then (with_texts out ts h) k ≡ with_texts out ts (and_then h k)
 handing_then out ts h k = let g = k h.place h.is_open in ap (λ (xs : List Event). record { events = xs; place = g.place; is_open = g.is_open }) (said_all_append out ts h.events g.events)
 
-pub allowing_then : (ks : List ℕ) (h : Heard) (k : Option ℕ → Bool → Heard) → and_then (allowing ks h) k ≡ allowing ks (and_then h k)
+pub allowing_then : (ks : List ℕ) (h : Heard) (k : Option ℕ → Bool → Heard) → and_then (with_looks ks h) k ≡ with_looks ks (and_then h k)
 allowing_then ks h k = let g = k h.place h.is_open in ap (λ (xs : List Event). record { events = xs; place = g.place; is_open = g.is_open }) (allowed_append ks h.events g.events)

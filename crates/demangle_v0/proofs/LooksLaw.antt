@@ -2,16 +2,16 @@
 use Rattle.std.specs.Prelude.{ℕ, suc, ◌≤◌, ◌*◌}
 use Rattle.std.proofs.Common.{◌≡◌, Bool, true, false, cond, List, [], ◌∷◌, length, take, Some, None, ◌+◌, ◌++◌, ◌-◌, refl, arith}
 use Rattle.demangle_v0.specs.Items.{Text, Items, Kind, a_path}
-use Rattle.demangle_v0.specs.Cost.{Stretch, bytes_of, looks_of, Pays}
+use Rattle.demangle_v0.specs.Cost.{StretchCost, bytes_of, looks_of, Pays}
 use Rattle.demangle_sink.specs.Cut.{size}
-use Rattle.demangle_v0.specs.Reading.{Tree, nothing, piece, plain_piece, node, looked, hidden, invalid_syntax, too_deep, unread, Place, Surroundings, max_depth, run, stretches, looks, pieces, unheard, goes_on_at, read_at, rendered}
+use Rattle.demangle_v0.specs.Reading.{Tree, nothing, piece, plain_piece, node, looked, hidden, invalid_syntax, too_deep, unread, Place, Surroundings, max_depth, run, stretches, looks, pieces, looks_alone, goes_on_at, read_at, path_texts}
 use Rattle.demangle_v0.specs.Accepting.{looks_in, suffix_looks, second_looks, accepting_looks}
 use Rattle.demangle_v0.proofs.PaysRules.{Pays-more, Pays-bound, Pays-whole}
 use Rattle.demangle_v0.proofs.Account.{Ends, Idle, start, idle}
 use Rattle.demangle_v0.proofs.Paid.{money, read_paid, spelling_paid, small}
 use Rattle.demangle_v0.proofs.TableCost.{cheap}
 
-abbrev pub path_stretches : List ℕ → Bool → List Stretch
+abbrev pub path_stretches : List ℕ → Bool → List StretchCost
 path_stretches symbol plain = stretches plain (read_at symbol true a_path 0 0 0 true).tree
 
 pub printing_pays : (symbol : List ℕ) (plain : Bool) → Pays (17000 * (length symbol + 1)) (17034 * (length symbol + 1)) (path_stretches symbol plain) 0
@@ -98,7 +98,7 @@ failed_looks p s plain =
     let w : looks_of (stretches plain (run p s None).tree) + 0 ≤ 0 + 0 * bytes_of (stretches plain (run p s None).tree) = Pays-whole 0 0 0 (stretches plain (run p s None).tree) q.1 in
     omega (arith, w)
 
-bytes_append : (xs ys : List Stretch) → bytes_of (xs ++ ys) ≡ bytes_of xs + bytes_of ys
+bytes_append : (xs ys : List StretchCost) → bytes_of (xs ++ ys) ≡ bytes_of xs + bytes_of ys
 bytes_append [] ys = omega arith
 bytes_append (x ∷ xs) ys = omega (arith, bytes_append xs ys)
 
@@ -106,7 +106,7 @@ size_append : (xs ys : List Text) → size (xs ++ ys) ≡ size xs + size ys
 size_append [] ys = omega arith
 size_append (x ∷ xs) ys = omega (arith, size_append xs ys)
 
-bytes_unheard : (xs : List Stretch) → bytes_of (unheard xs) ≡ 0
+bytes_unheard : (xs : List StretchCost) → bytes_of (looks_alone xs) ≡ 0
 bytes_unheard [] = refl
 bytes_unheard (x ∷ xs) = omega (arith, bytes_unheard xs)
 
@@ -118,11 +118,11 @@ tree_bytes true (plain_piece t rest) = omega (arith, tree_bytes true rest)
 tree_bytes false (plain_piece t rest) = tree_bytes false rest
 tree_bytes plain (node x y) = omega (arith, tree_bytes plain x, tree_bytes plain y, bytes_append (stretches plain x) (stretches plain y), size_append (pieces plain x) (pieces plain y))
 tree_bytes plain (looked k rest) = omega (arith, tree_bytes plain rest)
-tree_bytes plain (hidden x rest) = omega (arith, tree_bytes plain rest, bytes_unheard (stretches plain x), bytes_append (unheard (stretches plain x)) (stretches plain rest))
+tree_bytes plain (hidden x rest) = omega (arith, tree_bytes plain rest, bytes_unheard (stretches plain x), bytes_append (looks_alone (stretches plain x)) (stretches plain rest))
 tree_bytes plain invalid_syntax = omega arith
 tree_bytes plain too_deep = omega arith
 tree_bytes plain unread = omega arith
 
-pub rendered_bytes : (symbol : List ℕ) (plain : Bool) → bytes_of (stretches plain (read_at symbol true a_path 0 0 0 true).tree) ≡ size (rendered symbol plain)
-unfolding rendered
+pub rendered_bytes : (symbol : List ℕ) (plain : Bool) → bytes_of (stretches plain (read_at symbol true a_path 0 0 0 true).tree) ≡ size (path_texts symbol plain)
+unfolding path_texts
 rendered_bytes symbol plain = tree_bytes plain (read_at symbol true a_path 0 0 0 true).tree

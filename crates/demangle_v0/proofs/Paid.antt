@@ -9,8 +9,8 @@ use Rattle.demangle_symbol.specs.Words.{Name, Read, only_if, then_if_some, byte_
 use Rattle.demangle_symbol.specs.Names.{name_pieces}
 use Rattle.demangle_v0.specs.Items.{Text, Kind, a_path, a_type, a_constant, a_pattern, a_trait_path, Items, done, invalid, say, say_plain, byte, namespace, integer, optional, identifier, nibbles, peek, next, sound, until_end, raise, unit, child, skip, target, lifetime, binder, opens, dyn_trait, bindings}
 use Rattle.demangle_v0.specs.Table.{items}
-use Rattle.demangle_v0.specs.Cost.{Stretch, Pays}
-use Rattle.demangle_v0.specs.Reading.{Tree, nothing, piece, plain_piece, node, looked, invalid_syntax, unheard, Place, Outcome, Level, Surroundings, stands, behind, word, followed_by, stretches, run, resumed, peeked, forked, raised, max_depth, turns, closed, opened, named, bound_by, begun, hushed, target_of, target_read, lifetime_at, lifetime_named, letter_of, all_pieces, binder_at, level_of, levels, nowhere, read_at}
+use Rattle.demangle_v0.specs.Cost.{StretchCost, Pays}
+use Rattle.demangle_v0.specs.Reading.{Tree, nothing, piece, plain_piece, node, looked, invalid_syntax, looks_alone, Place, Outcome, Level, Surroundings, stands, behind, word, followed_by, stretches, run, word_outcome, peek_outcome, byte_choice, one_depth_on, max_depth, turns, angle_if_open, binding_separator, name_equals, bound_by, unit_outcome, behind_hidden, target_of, target_read, lifetime_at, lifetime_named, letter_of, all_pieces, binder_at, level_of, levels, nowhere, read_at}
 use Rattle.demangle_v0.proofs.PaysRules.{Pays-more, Pays-append}
 use Rattle.demangle_symbol.proofs.Counts.{Placed, byte_placed, namespace_placed, integer_placed, optional_placed, backref_placed, identifier_placed, nibbles_placed}
 use Rattle.demangle_v0.proofs.Complete.{there_placed}
@@ -56,7 +56,7 @@ says_plain true n r i from to text t x h = says true n r i from from to text t x
 says_plain false n r i from to text t x h = h
 
 -- a larger account, and less of it left
-more : (n r i from mid to low : ℕ) (xs : List Stretch) (x : Place) → mid ≤ from → low ≤ to → Ends n r i mid to xs x → Ends n r i from low xs x
+more : (n r i from mid to low : ℕ) (xs : List StretchCost) (x : Place) → mid ≤ from → low ≤ to → Ends n r i mid to xs x → Ends n r i from low xs x
 more n r i from mid to low xs None e l h = Pays-more r (32 * (n + 1 - i) + mid) (32 * (n + 1 - i) + from) 0 0 0 xs (omega (arith, e)) (omega arith) h
 more n r i from mid to low xs (Some j) e l h = (h.0, h.1, Pays-more r (32 * (j - i) + mid) (32 * (j - i) + from) to low 0 xs (omega (arith, e)) (omega (arith, l)) h.2)
 
@@ -64,7 +64,7 @@ fault_ends : (plain : Bool) (n r i from to : ℕ) → Ends n r i from to (stretc
 fault_ends plain n r i from to = (omega arith, omega arith)
 
 -- one after another
-joined : (n r i j from mid to : ℕ) (xs ys : List Stretch) (x : Place) → i ≤ j → j ≤ n →
+joined : (n r i j from mid to : ℕ) (xs ys : List StretchCost) (x : Place) → i ≤ j → j ≤ n →
     Pays r (32 * (j - i) + from) xs mid → Ends n r j mid to ys x → Ends n r i from to (xs ++ ys) x
 joined n r i j from mid to xs ys None l m h e =
     Pays-append r (32 * (n + 1 - i) + from) (32 * (n + 1 - j) + mid) 0 xs ys
@@ -76,7 +76,7 @@ joined n r i j from mid to xs ys (Some k) l m h e = (
       (Pays-more r (32 * (j - i) + from) (32 * (k - i) + from) mid (32 * (k - j) + mid) (32 * (k - j)) xs (omega (arith, l, e.0)) (omega arith) h) e.2,
 )
 
-joined_idle : (n r i from to : ℕ) (xs ys : List Stretch) (x : Place) → x ≡ None →
+joined_idle : (n r i from to : ℕ) (xs ys : List StretchCost) (x : Place) → x ≡ None →
     Pays r (32 * (n + 1 - i) + from) xs 0 → Pays r 0 ys 0 → Ends n r i from to (xs ++ ys) x
 joined_idle n r i from to xs ys (Some j) e h f = cc e
 joined_idle n r i from to xs ys None e h f = Pays-append r (32 * (n + 1 - i) + from) 0 0 xs ys h f
@@ -107,7 +107,7 @@ Deeper plain n r fl R (l ∷ ls) =
 
 word_paid : {A : Type 0} (plain : Bool) (n r i from mid to low : ℕ) (bs : List ℕ) (q : Read A) (f : A → Place → Outcome) → length bs ≡ n → i ≤ n → Placed (i + low) bs q →
     4 * low + 4 + mid ≤ 32 * low + from →
-    ((v : A) (j : ℕ) → q ≡ Some (v, j) → i ≤ j → j ≤ n → Paid plain n r j mid to (f v (Some j))) → Paid plain n r i from to (resumed n i f q)
+    ((v : A) (j : ℕ) → q ≡ Some (v, j) → i ≤ j → j ≤ n → Paid plain n r j mid to (f v (Some j))) → Paid plain n r i from to (word_outcome n i f q)
 word_paid plain n r i from mid to low bs None f b l c e h = (omega (arith, l), (omega arith, omega arith))
 word_paid plain n r i from mid to low bs (Some (v, j)) f b l c e h =
     let w : (i + low ≤ j) × (j ≤ length bs) = c in
@@ -115,13 +115,13 @@ word_paid plain n r i from mid to low bs (Some (v, j)) f b l c e h =
     step plain n r i j from mid to (4 * (j - i + 1)) (f v (Some j)).tree (f v (Some j)).place (omega (arith, w.0)) u (omega (arith, e, w.0)) (h v j refl (omega (arith, w.0)) u)
 
 peek_paid : (plain : Bool) (n r i from mid to : ℕ) (q : Option ℕ) (f : ℕ → Outcome) → i ≤ n → 1 + mid ≤ from →
-    ((v : ℕ) → Paid plain n r i mid to (f v)) → Paid plain n r i from to (peeked f q)
+    ((v : ℕ) → Paid plain n r i mid to (f v)) → Paid plain n r i from to (peek_outcome f q)
 peek_paid plain n r i from mid to None f l e h = (omega (arith, l), (omega arith, omega arith))
 peek_paid plain n r i from mid to (Some q) f l e h = step plain n r i i from mid to 1 (f q).tree (f q).place (omega arith) l (omega (arith, e)) (h q)
 
 fork_paid : (plain : Bool) (n r i from there other to : ℕ) (c : Bool) (f g : Place → Outcome) → i ≤ n → (c ≡ true → i + 1 ≤ n) →
     1 + there ≤ 32 + from → 1 + other ≤ from →
-    (i + 1 ≤ n → Paid plain n r (i + 1) there to (f (Some (i + 1)))) → Paid plain n r i other to (g (Some i)) → Paid plain n r i from to (forked c f g (Some i))
+    (i + 1 ≤ n → Paid plain n r (i + 1) there to (f (Some (i + 1)))) → Paid plain n r i other to (g (Some i)) → Paid plain n r i from to (byte_choice c f g (Some i))
 fork_paid plain n r i from there other to true f g l m a b h k = step plain n r i (i + 1) from there to 1 (f (Some (i + 1))).tree (f (Some (i + 1))).place (omega arith) (m refl) (omega (arith, a)) (h (m refl))
 fork_paid plain n r i from there other to false f g l m a b h k = step plain n r i i from other to 1 (g (Some i)).tree (g (Some i)).place (omega arith) l (omega (arith, b)) k
 
@@ -137,7 +137,7 @@ refilled r R k false (b ∷ bs) l = let h : r ≤ r * length (b ∷ bs) = le-mul
 
 -- the text before a binding brings the money
 opened_paid : (plain : Bool) (n r R i from to : ℕ) (o : Bool) (t : Tree) (x : Place) → R ≤ r →
-    Ends n r i (from + R) to (stretches plain t) x → Ends n r i from to (stretches plain (opened o t)) x
+    Ends n r i (from + R) to (stretches plain t) x → Ends n r i from to (stretches plain (binding_separator o t)) x
 opened_paid plain n r R i from to true t x l h = says plain n r i from (from + R) to (codes ", ") t x (omega (arith, l)) h
 opened_paid plain n r R i from to false t x l h = says plain n r i from (from + R) to (codes "<") t x (omega (arith, l)) h
 
@@ -147,10 +147,10 @@ pieces_paid plain n r i from to ts t None h = paid_pieces plain r (32 * (n + 1 -
 pieces_paid plain n r i from to ts t (Some j) h = (h.0, h.1, paid_pieces plain r (32 * (j - i) + from) to ts t h.2)
 
 named_paid : (plain : Bool) (n r i from to : ℕ) (a : Name) (t : Tree) (x : Place) →
-    Ends n r i from to (stretches plain t) x → Ends n r i from to (stretches plain (named a t)) x
+    Ends n r i from to (stretches plain t) x → Ends n r i from to (stretches plain (name_equals a t)) x
 named_paid plain n r i from to a t x h = pieces_paid plain n r i from to (name_pieces a) (piece (codes " = ") t) x (says plain n r i from from to (codes " = ") t x (omega arith) h)
 
-closed_paid : (plain : Bool) (n r i from to : ℕ) (o : Bool) → i ≤ n → to ≤ from → Paid plain n r i from to (closed o (Some i))
+closed_paid : (plain : Bool) (n r i from to : ℕ) (o : Bool) → i ≤ n → to ≤ from → Paid plain n r i from to (angle_if_open o (Some i))
 closed_paid plain n r i from to true l e = says plain n r i from from to (codes ">") nothing (Some i) (omega arith) (omega arith, l, omega (arith, e))
 closed_paid plain n r i from to false l e = (omega arith, l, omega (arith, e))
 
@@ -174,19 +174,19 @@ lifetime_paid plain n r i from true m k l =
     says plain n r i from from from (codes "'") o.tree o.place (omega arith) inner
 
 -- a path that is skipped
-unheard_pays : (r a b : ℕ) (xs : List Stretch) → Pays 0 a xs b → Pays r a (unheard xs) b
+unheard_pays : (r a b : ℕ) (xs : List StretchCost) → Pays 0 a xs b → Pays r a (looks_alone xs) b
 unheard_pays r a b [] h = h
-unheard_pays r a b (x ∷ xs) h = (h.0, Pays-more r (a - x.looks + 0 * x.bytes) (a - x.looks + r * 0) b b 0 (unheard xs) (omega arith) (omega arith) (unheard_pays r (a - x.looks + 0 * x.bytes) b xs h.1))
+unheard_pays r a b (x ∷ xs) h = (h.0, Pays-more r (a - x.looks + 0 * x.bytes) (a - x.looks + r * 0) b b 0 (looks_alone xs) (omega arith) (omega arith) (unheard_pays r (a - x.looks + 0 * x.bytes) b xs h.1))
 
 hushed_paid : (plain : Bool) (n r i from mid to : ℕ) (o : Outcome) (f : Place → Outcome) → Paid plain n 0 i 0 8 o →
-    ((j : ℕ) → i ≤ j → j ≤ n → Paid plain n r j (8 + mid) to (f (Some j))) → Idle plain r (f None) → mid ≤ from → Paid plain n r i from to (hushed o f)
+    ((j : ℕ) → i ≤ j → j ≤ n → Paid plain n r j (8 + mid) to (f (Some j))) → Idle plain r (f None) → mid ≤ from → Paid plain n r i from to (behind_hidden o f)
 hushed_paid plain n r i from mid to o f h k d l = go o.tree o.place h
   where
-    go : (t : Tree) (x : Place) → Ends n 0 i 0 8 (stretches plain t) x → Paid plain n r i from to (hushed (record { tree = t; place = x; is_open = false }) f)
-    go t None h = joined_idle n r i from to (unheard (stretches plain t)) (stretches plain (f None).tree) (f None).place d.0
-        (Pays-more r (32 * (n + 1 - i) + 0) (32 * (n + 1 - i) + from) 0 0 0 (unheard (stretches plain t)) (omega arith) (omega arith) (unheard_pays r (32 * (n + 1 - i) + 0) 0 (stretches plain t) h)) d.1
-    go t (Some j) h = joined n r i j from (8 + mid) to (unheard (stretches plain t)) (stretches plain (f (Some j)).tree) (f (Some j)).place h.0 h.1
-        (Pays-more r (32 * (j - i) + 0) (32 * (j - i) + from) 8 (8 + mid) mid (unheard (stretches plain t)) (omega (arith, l)) (omega arith) (unheard_pays r (32 * (j - i) + 0) 8 (stretches plain t) h.2)) (k j h.0 h.1)
+    go : (t : Tree) (x : Place) → Ends n 0 i 0 8 (stretches plain t) x → Paid plain n r i from to (behind_hidden (record { tree = t; place = x; is_open = false }) f)
+    go t None h = joined_idle n r i from to (looks_alone (stretches plain t)) (stretches plain (f None).tree) (f None).place d.0
+        (Pays-more r (32 * (n + 1 - i) + 0) (32 * (n + 1 - i) + from) 0 0 0 (looks_alone (stretches plain t)) (omega arith) (omega arith) (unheard_pays r (32 * (n + 1 - i) + 0) 0 (stretches plain t) h)) d.1
+    go t (Some j) h = joined n r i j from (8 + mid) to (looks_alone (stretches plain t)) (stretches plain (f (Some j)).tree) (f (Some j)).place h.0 h.1
+        (Pays-more r (32 * (j - i) + 0) (32 * (j - i) + from) 8 (8 + mid) mid (looks_alone (stretches plain t)) (omega (arith, l)) (omega arith) (unheard_pays r (32 * (j - i) + 0) 8 (stretches plain t) h.2)) (k j h.0 h.1)
 
 pub small : (kind : Kind) → start kind ≤ 2
 small a_path = omega arith
@@ -245,11 +245,11 @@ unfolding bound_by
 bound_paid plain n r R c e zero s f q w b a h o i l = fault_ends plain n r i c e
 bound_paid plain n r R c e (suc m) s f q w b low h o i l =
     fork_paid plain n r i c (c + 31) (c - 1) e (is_byte s.symbol i (code "p"))
-    (λ j. behind (opened o) (word s j identifier_at (λ a k. behind (named a) (followed_by (f k) (bound_by m s f true))))) (closed o) l (there_within n s.symbol (code "p") i q) (omega arith) (omega (arith, b))
-    (λ y. let inner : Outcome = word s (Some (i + 1)) identifier_at (λ a k. behind (named a) (followed_by (f k) (bound_by m s f true))) in
+    (λ j. behind (binding_separator o) (word s j identifier_at (λ a k. behind (name_equals a) (followed_by (f k) (bound_by m s f true))))) (angle_if_open o) l (there_within n s.symbol (code "p") i q) (omega arith) (omega (arith, b))
+    (λ y. let inner : Outcome = word s (Some (i + 1)) identifier_at (λ a k. behind (name_equals a) (followed_by (f k) (bound_by m s f true))) in
     opened_paid plain n r R (i + 1) (c + 31) e o inner.tree inner.place w
-    (subst (λ z. Paid plain n r (i + 1) (c + 31 + R) e (resumed z (i + 1) (λ a k. behind (named a) (followed_by (f k) (bound_by m s f true))) (identifier_at s.symbol (i + 1)))) (sym q)
-    (word_paid plain n r (i + 1) (c + 31 + R) (c + 55 + R) e 1 s.symbol (identifier_at s.symbol (i + 1)) (λ a k. behind (named a) (followed_by (f k) (bound_by m s f true))) q y (identifier_placed s.symbol (i + 1)) (omega arith)
+    (subst (λ z. Paid plain n r (i + 1) (c + 31 + R) e (word_outcome z (i + 1) (λ a k. behind (name_equals a) (followed_by (f k) (bound_by m s f true))) (identifier_at s.symbol (i + 1)))) (sym q)
+    (word_paid plain n r (i + 1) (c + 31 + R) (c + 55 + R) e 1 s.symbol (identifier_at s.symbol (i + 1)) (λ a k. behind (name_equals a) (followed_by (f k) (bound_by m s f true))) q y (identifier_placed s.symbol (i + 1)) (omega arith)
     (λ a j _ _ z. let all : Outcome = followed_by (f (Some j)) (bound_by m s f true) in
     named_paid plain n r j (c + 55 + R) e a all.tree all.place
     (then_paid plain n r j (c + 55 + R) c e (f (Some j)) (bound_by m s f true) (h j z) (λ k _ x. bound_paid plain n r R c e m s f q w b low h true k x) (idle_closed plain r true))))))
@@ -257,7 +257,7 @@ bound_paid plain n r R c e (suc m) s f q w b low h o i l =
 
 raised_paid : (plain : Bool) (n r R k e i : ℕ) (fl g : Bool) (ls : List Level) (f : Level → List Level → Place → Outcome) → Deeper plain n r fl R ls →
     ((S : ℕ) (l : Level) (ls : List Level) → S ≤ R → LevelPays plain n r S fl l → LevelPays plain n 0 0 false l → Deeper plain n r fl S ls → Paid plain n r i (k + purse g S) e (f l ls (Some i))) →
-    Paid plain n r i (k + purse g R) e (raised ls f (Some i))
+    Paid plain n r i (k + purse g R) e (one_depth_on ls f (Some i))
 raised_paid plain n r R k e i fl g [] f d h = (omega arith, omega arith)
 raised_paid plain n r R k e i fl g (x ∷ xs) f d h = more n r i (k + purse g R) (k + purse g d.0) e e (stretches plain (f x xs (Some i)).tree) (f x xs (Some i)).place (less g) (omega arith) (h d.0 x xs d.1 d.3 d.4 d.5)
   where
@@ -315,8 +315,8 @@ paid plain r R (raise p) s e k g a m i l = raised_paid plain (length s.symbol) r
 paid plain r R (unit p q) s e k g a m i l = then_paid plain (length s.symbol) r i (k + purse g R) a.0 e (run p s (Some i)) (run q s)
     (paid plain r R p s a.0 k g a.1 m i l)
     (λ j _ b. more (length s.symbol) r j a.0 (a.0 + 0) e e (stretches plain (run q s (Some j)).tree) (run q s (Some j)).place (omega arith) (omega arith) (paid plain r R q s e a.0 false a.2 m j b)) (idle plain r q s)
-paid plain r R (child kind value p) s e k g a m i l = then_paid plain (length s.symbol) r i (k + purse g R) 8 e (begun s kind value (Some i)) (run p s)
-    (more (length s.symbol) r i (k + purse g R) (start kind + R) 8 8 (stretches plain (begun s kind value (Some i)).tree) (begun s kind value (Some i)).place (let y : R ≤ purse g R = purse_true g R a.1 in omega (arith, a.0, y)) (omega arith) (m.here kind value s.lifetimes i l))
+paid plain r R (child kind value p) s e k g a m i l = then_paid plain (length s.symbol) r i (k + purse g R) 8 e (unit_outcome s kind value (Some i)) (run p s)
+    (more (length s.symbol) r i (k + purse g R) (start kind + R) 8 8 (stretches plain (unit_outcome s kind value (Some i)).tree) (unit_outcome s kind value (Some i)).place (let y : R ≤ purse g R = purse_true g R a.1 in omega (arith, a.0, y)) (omega arith) (m.here kind value s.lifetimes i l))
     (λ j _ b. paid plain r R p s e 8 false a.2 m j b) (idle plain r p s)
 paid plain r R (skip p) s e k g a m i l = hushed_paid plain (length s.symbol) r i (k + purse g R) (purse g R) e (s.here false a_path false s.lifetimes i) (run p s) (m.hidden a_path false s.lifetimes i l)
     (λ j _ b. paid plain r R p s e 8 g a m j b) (idle plain r p s) (omega arith)
@@ -331,7 +331,7 @@ paid plain r R (binder x p) s e k g a m i l = let y = record s { lifetimes = s.l
     binder_paid plain (length s.symbol) r i (k + purse g R) e s.printed x s.lifetimes (run p y (Some i)).tree (run p y (Some i)).place (paid plain r R p y e k g a (record { enough = m.enough; here = m.here; hidden = m.hidden; deeper = m.deeper }) i l)
 paid plain r R (opens p) s e k g a m i l = paid plain r R p s e k g a m i l
 paid plain r R (dyn_trait p) s e k g a m i l =
-    let path : Outcome = begun s a_trait_path false (Some i) in
+    let path : Outcome = unit_outcome s a_trait_path false (Some i) in
     then_paid plain (length s.symbol) r i (k + purse g R) 8 e path (bound_by (suc (length s.symbol)) s (run p s) path.is_open)
     (more (length s.symbol) r i (k + purse g R) (start a_trait_path + R) 8 8 (stretches plain path.tree) path.place (let y : R ≤ purse g R = purse_true g R a.1 in omega (arith, a.0, y)) (omega arith) (m.here a_trait_path false s.lifetimes i l))
     (λ j _ b. let all : Outcome = bound_by (suc (length s.symbol)) s (run p s) path.is_open (Some j) in

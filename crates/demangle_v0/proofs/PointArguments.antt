@@ -5,13 +5,13 @@ use Prim.Native.Char.{code}
 use Rattle.demangle_symbol.specs.Digits.{is_byte}
 use Rattle.demangle_v0.specs.Items.{done, unit}
 use Rattle.demangle_v0.specs.Totals.{total}
-use Rattle.demangle_v0.specs.Events.{Heard, of, allowing, handing}
+use Rattle.demangle_v0.specs.Events.{Heard, of, with_looks, with_texts}
 use Rattle.demangle_v0.specs.Grammar.{word_items}
 use Rattle.demangle_v0.specs.declared.grammar.Word.TheVariants as word
 use Rattle.demangle_v0.specs.Table.{more, argument, says}
 use Rattle.demangle_v0.specs.Reading.{Place, run}
 use Rattle.demangle_v0.specs.Arguments.{separator, arguments_point, argument_point, argument_place, argument_costs}
-use Rattle.demangle_v0.specs.Points.{frame_of, followed, share_at, closing, around, marked, goes, way_weight, weight_at, height_at, Fits, DidOn, Did}
+use Rattle.demangle_v0.specs.Points.{frame_of, then_frame, share_at, none_open, around, mark_texts, goes, way_weight, weight_at, height_at, Fits, DidOn, Did}
 use Rattle.demangle_v0.specs.declared.grammar.Mark.TheVariants as mark
 use Rattle.demangle_v0.specs.declared.points.Point.{Point}
 use Rattle.demangle_v0.specs.declared.points.Point.TheVariants as point
@@ -31,21 +31,21 @@ module _ {V : Type 0} (voice : Ghosts V) (b : List ℕ) (plain : Bool) where
   pub value_opens : (v : Bool) (c left n : ℕ) (i : Place) (o : Bool) (row : List Frame) (u : V) (new : State) (made : ℕ) → v ≡ true → made ≤ 0 → Fits point.OpenArguments left n
       → new.depth_left ≡ left → new.lifetimes ≡ n → new.place ≡ i → new.mark ≡ Some mark.Colons
       → DidOn voice b plain (heard_at voice b plain point.Generic v c left n i o) 3 (8 * left + 2) row u (Ok point.OpenArguments) new row u made
-  unfolding run followed share_at
+  unfolding run then_frame share_at
   value_opens v c left n i o row u new made e l f kl kn kp km =
       enters voice b plain _ point.OpenArguments left n i (Some mark.Colons) [] [] None 3 (8 * left + 2) row row u new made (rw e refl) kl kn kp km refl (omega (arith, l)) (omega (arith, l)) (omega arith) (omega arith) (omega arith) tt f (λ _. tt)
 
   pub type_opens : (v : Bool) (c left n : ℕ) (i : Place) (o : Bool) (row : List Frame) (u : V) (new : State) (made : ℕ) → v ≡ false → made ≤ 0 → Fits point.FirstArgument left n
       → new.depth_left ≡ left → new.lifetimes ≡ n → new.place ≡ i → new.mark ≡ Some mark.Less
       → DidOn voice b plain (heard_at voice b plain point.Generic v c left n i o) 3 (8 * left + 2) row u (Ok point.FirstArgument) new row u made
-  unfolding run followed share_at
+  unfolding run then_frame share_at
   type_opens v c left n i o row u new made e l f kl kn kp km =
       enters voice b plain _ point.FirstArgument left n i (Some mark.Less) [] [] None 3 (8 * left + 2) row row u new made (rw e refl) kl kn kp km refl (omega (arith, l)) (omega (arith, l)) (omega arith) (omega arith) (omega arith) tt f (λ _. tt)
 
   pub arguments_open : (v : Bool) (c left n : ℕ) (i : Place) (o : Bool) (row : List Frame) (u : V) (new : State) (made : ℕ) → made ≤ 0 → Fits point.FirstArgument left n
       → new.depth_left ≡ left → new.lifetimes ≡ n → new.place ≡ i → new.mark ≡ Some mark.Less
       → DidOn voice b plain (heard_at voice b plain point.OpenArguments v c left n i o) 2 (8 * left + 2) row u (Ok point.FirstArgument) new row u made
-  unfolding run followed share_at
+  unfolding run then_frame share_at
   arguments_open v c left n i o row u new made l f kl kn kp km =
       enters voice b plain _ point.FirstArgument left n i (Some mark.Less) [] [] None 2 (8 * left + 2) row row u new made refl kl kn kp km refl (omega (arith, l)) (omega (arith, l)) (omega arith) (omega arith) (omega arith) tt f (λ _. tt)
 
@@ -53,13 +53,13 @@ module _ {V : Type 0} (voice : Ghosts V) (b : List ℕ) (plain : Bool) where
 
   failed_so : (first : Bool) (v : Bool) (c left n : ℕ) (o : Bool) → heard_at voice b plain (arguments_point first) v c left n None o ≡ heard voice b plain (says ">" done) left n None
   unfolding share_at
-  failed_so true v c left n o = ap closing (end_failed plain voice.loud (around b voice.loud left n) (says ">" done) (unit argument (more ", " argument (says ">" done))))
-  failed_so false v c left n o = ap closing (more_failed plain voice.loud (around b voice.loud left n) ", " argument (says ">" done))
+  failed_so true v c left n o = ap none_open (end_failed plain voice.loud (around b voice.loud left n) (says ">" done) (unit argument (more ", " argument (says ">" done))))
+  failed_so false v c left n o = ap none_open (more_failed plain voice.loud (around b voice.loud left n) ", " argument (says ">" done))
 
-  over_so : (first : Bool) (v : Bool) (c left n i : ℕ) (o : Bool) → is_byte b i (code "E") ≡ true → heard_at voice b plain (arguments_point first) v c left n (Some i) o ≡ allowing (1 ∷ []) (heard voice b plain (says ">" done) left n (Some (i + 1)))
+  over_so : (first : Bool) (v : Bool) (c left n i : ℕ) (o : Bool) → is_byte b i (code "E") ≡ true → heard_at voice b plain (arguments_point first) v c left n (Some i) o ≡ with_looks (1 ∷ []) (heard voice b plain (says ">" done) left n (Some (i + 1)))
   unfolding share_at
-  over_so true v c left n i o e = ap closing (end_over plain voice.loud (around b voice.loud left n) (says ">" done) (unit argument (more ", " argument (says ">" done))) i e)
-  over_so false v c left n i o e = ap closing (more_over plain voice.loud (around b voice.loud left n) ", " argument (says ">" done) i e)
+  over_so true v c left n i o e = ap none_open (end_over plain voice.loud (around b voice.loud left n) (says ">" done) (unit argument (more ", " argument (says ">" done))) i e)
+  over_so false v c left n i o e = ap none_open (more_over plain voice.loud (around b voice.loud left n) ", " argument (says ">" done) i e)
 
   weight_so : (first : Bool) → weight_at (arguments_point first) ≡ 1
   weight_so true = refl
@@ -72,7 +72,7 @@ module _ {V : Type 0} (voice : Ghosts V) (b : List ℕ) (plain : Bool) where
   pub failed_closes : (first : Bool) (v : Bool) (c left n : ℕ) (o : Bool) (row : List Frame) (u : V) (new : State) (made : ℕ) → made ≤ 0
       → new.place ≡ None → new.mark ≡ Some mark.Greater → new.is_open ≡ false
       → DidOn voice b plain (heard_at voice b plain (arguments_point first) v c left n None o) (weight_at (arguments_point first)) (height_at (arguments_point first) left) row u (Ok point.End) new row u made
-  unfolding run followed share_at
+  unfolding run then_frame share_at
   failed_closes first v c left n o row u new made l kp km ko = rw (weight_so first, height_so first left)
       (enters voice b plain _ point.End new.depth_left new.lifetimes None (Some mark.Greater) [] [] None 1 (8 * left + 2) row row u new made
       (rw ko (failed_so first v c left n o)) refl refl kp km refl (omega (arith, l)) (omega (arith, l)) (omega arith) (omega arith) (omega arith) tt tt (λ _. tt))
@@ -80,7 +80,7 @@ module _ {V : Type 0} (voice : Ghosts V) (b : List ℕ) (plain : Bool) where
   pub arguments_close : (first : Bool) (v : Bool) (c left n i : ℕ) (o : Bool) (row : List Frame) (u : V) (new : State) (made : ℕ) → is_byte b i (code "E") ≡ true → made ≤ 1
       → new.place ≡ Some (i + 1) → new.mark ≡ Some mark.Greater → new.is_open ≡ false
       → DidOn voice b plain (heard_at voice b plain (arguments_point first) v c left n (Some i) o) (weight_at (arguments_point first)) (height_at (arguments_point first) left) row u (Ok point.End) new row u made
-  unfolding run followed share_at
+  unfolding run then_frame share_at
   arguments_close first v c left n i o row u new made e l kp km ko = rw (weight_so first, height_so first left)
       (enters voice b plain _ point.End new.depth_left new.lifetimes (Some (i + 1)) (Some mark.Greater) (1 ∷ []) [] None 1 (8 * left + 2) row row u new made
       (rw ko (over_so first v c left n i o e)) refl refl kp km refl (omega (arith, l)) (omega (arith, l)) (omega arith) (omega arith) (omega arith) tt tt (λ _. tt))
@@ -90,22 +90,22 @@ module _ {V : Type 0} (voice : Ghosts V) (b : List ℕ) (plain : Bool) where
   abbrev rest : ℕ → ℕ → Place → Heard
   rest left n j = of plain voice.loud (run (more ", " argument (says ">" done)) (around b voice.loud left n) j)
 
-  argument_so : (left n i c : ℕ) (v o : Bool) → closing (behind (of plain voice.loud (run argument (around b voice.loud left n) (Some i))) (rest left n))
-      ≡ allowing (argument_costs b i) (followed b plain voice.loud (Some (frame_of point.NextArgument v c left n)) (heard_at voice b plain (argument_point b i) false c left n (Some (argument_place b i)) o))
-  unfolding followed share_at
+  argument_so : (left n i c : ℕ) (v o : Bool) → none_open (behind (of plain voice.loud (run argument (around b voice.loud left n) (Some i))) (rest left n))
+      ≡ with_looks (argument_costs b i) (then_frame b plain voice.loud (Some (frame_of point.NextArgument v c left n)) (heard_at voice b plain (argument_point b i) false c left n (Some (argument_place b i)) o))
+  unfolding then_frame share_at
   argument_so left n i c v o = go (is_byte b i (code "L")) (is_byte b i (code "K")) refl refl
     where
-      go : (x y : Bool) → is_byte b i (code "L") ≡ x → is_byte b i (code "K") ≡ y → closing (behind (of plain voice.loud (run argument (around b voice.loud left n) (Some i))) (rest left n))
-          ≡ allowing (argument_costs b i) (followed b plain voice.loud (Some (frame_of point.NextArgument v c left n)) (heard_at voice b plain (argument_point b i) false c left n (Some (argument_place b i)) o))
-      go true y e f = rw e (ap (λ (h : Heard). closing (behind h (rest left n))) (argument_lifetime plain voice.loud (around b voice.loud left n) i e))
-      go false true e f = rw (e, f) (ap closing (argument_constant plain voice.loud (around b voice.loud left n) i (rest left n) e f))
-      go false false e f = rw (e, f) (ap closing (argument_type plain voice.loud (around b voice.loud left n) i (rest left n) e f))
+      go : (x y : Bool) → is_byte b i (code "L") ≡ x → is_byte b i (code "K") ≡ y → none_open (behind (of plain voice.loud (run argument (around b voice.loud left n) (Some i))) (rest left n))
+          ≡ with_looks (argument_costs b i) (then_frame b plain voice.loud (Some (frame_of point.NextArgument v c left n)) (heard_at voice b plain (argument_point b i) false c left n (Some (argument_place b i)) o))
+      go true y e f = rw e (ap (λ (h : Heard). none_open (behind h (rest left n))) (argument_lifetime plain voice.loud (around b voice.loud left n) i e))
+      go false true e f = rw (e, f) (ap none_open (argument_constant plain voice.loud (around b voice.loud left n) i (rest left n) e f))
+      go false false e f = rw (e, f) (ap none_open (argument_type plain voice.loud (around b voice.loud left n) i (rest left n) e f))
 
   on_so : (first : Bool) (v : Bool) (c left n i : ℕ) (o : Bool) → Fits point.NextArgument left n → is_byte b i (code "E") ≡ false
-      → heard_at voice b plain (arguments_point first) v c left n (Some i) o ≡ allowing (1 ∷ []) (handing voice.loud (marked (separator first)) (closing (behind (of plain voice.loud (run argument (around b voice.loud left n) (Some i))) (rest left n))))
+      → heard_at voice b plain (arguments_point first) v c left n (Some i) o ≡ with_looks (1 ∷ []) (with_texts voice.loud (mark_texts (separator first)) (none_open (behind (of plain voice.loud (run argument (around b voice.loud left n) (Some i))) (rest left n))))
   unfolding share_at
-  on_so true v c left n i o f e = ap closing (first_on plain voice.loud (around b voice.loud left n) ", " argument (says ">" done) i e)
-  on_so false v c left n i o f e = ap closing (more_on plain voice.loud b left n ", " argument (says ">" done) i (argument_element b voice.loud left n (omega (arith, f))) e)
+  on_so true v c left n i o f e = ap none_open (first_on plain voice.loud (around b voice.loud left n) ", " argument (says ">" done) i e)
+  on_so false v c left n i o f e = ap none_open (more_on plain voice.loud b left n ", " argument (says ">" done) i (argument_element b voice.loud left n (omega (arith, f))) e)
 
   argument_light : (i : ℕ) → way_weight (goes (argument_point b i)) ≤ 1
   argument_light i = go (is_byte b i (code "L")) (is_byte b i (code "K"))
@@ -137,7 +137,7 @@ module _ {V : Type 0} (voice : Ghosts V) (b : List ℕ) (plain : Bool) where
       → DidOn voice b plain (heard_at voice b plain (arguments_point first) v c left n (Some i) o) (weight_at (arguments_point first)) (height_at (arguments_point first) left) row u (Ok (argument_point b i)) new now u made
   argument_goes first v c left n i o row now u new made e l m f kv kc kl kn kp km r = rw (weight_so first, height_so first left)
       (enters voice b plain _ (argument_point b i) left n (Some (argument_place b i)) (separator first) (1 ∷ []) (argument_costs b i) (Some (frame_of point.NextArgument v c left n)) 1 (8 * left + 2) row now u new made
-      (rw (kv, kc) (on_so first v c left n i o f e ∙ ap (λ (h : Heard). allowing (1 ∷ []) (handing voice.loud (marked (separator first)) h)) (argument_so left n i c v new.is_open)))
+      (rw (kv, kc) (on_so first v c left n i o f e ∙ ap (λ (h : Heard). with_looks (1 ∷ []) (with_texts voice.loud (mark_texts (separator first)) h)) (argument_so left n i c v new.is_open)))
       kl kn kp km r (omega (arith, l)) (omega (arith, m)) (omega (arith, argument_light i)) (omega arith) (omega (arith, argument_low i left)) f (argument_fits i left n f) (λ _. refl))
 
   -- a lifetime

@@ -5,12 +5,12 @@ use Prim.Native.Char.{code}
 use Rattle.demangle_symbol.specs.Digits.{is_byte}
 use Rattle.demangle_v0.specs.Items.{Items, say, done, unit}
 use Rattle.demangle_v0.specs.Totals.{total}
-use Rattle.demangle_v0.specs.Events.{Heard, of, and_then, allowing, handing}
+use Rattle.demangle_v0.specs.Events.{Heard, of, and_then, with_looks, with_texts}
 use Rattle.demangle_v0.specs.Grammar.{text}
 use Rattle.demangle_v0.specs.Table.{says, more, at_end, constant_inside}
 use Rattle.demangle_v0.specs.Reading.{Place, run, max_depth}
-use Rattle.demangle_v0.specs.ConstantLists.{first_point, second_point, next_point, element_point, element_of, close_of}
-use Rattle.demangle_v0.specs.Points.{followed, share_at, closing, around, marked, goes, way_weight, weight_at, height_at, Fits, is_inner, DidOn}
+use Rattle.demangle_v0.specs.ConstantLists.{first_point, second_point, next_point, element_point, list_element, close_of}
+use Rattle.demangle_v0.specs.Points.{then_frame, share_at, none_open, around, mark_texts, goes, way_weight, weight_at, height_at, Fits, is_inner, DidOn}
 use Rattle.demangle_v0.specs.declared.grammar.Mark.{Mark}
 use Rattle.demangle_v0.specs.declared.grammar.Mark.TheVariants as mark
 use Rattle.demangle_v0.specs.declared.points.Point.{Point}
@@ -32,7 +32,7 @@ ending l = say (text (close_of l)) done
 -- what stands behind its first, and behind another
 abbrev pub behind_second : ConstantList → Items
 behind_second list.Tuple = at_end (says "," (ending list.Tuple)) (more ", " constant_inside (ending list.Tuple))
-behind_second l = more ", " (element_of l) (ending l)
+behind_second l = more ", " (list_element l) (ending l)
 
 -- a point of a list is light, low and within a unit
 pub record Listed (p : Point) : Type 0 where
@@ -70,9 +70,9 @@ few left n f = omega (arith, f)
 
 module _ {V : Type 0} (voice : Ghosts V) (b : List ℕ) (plain : Bool) where
   abbrev heard : Items → ℕ → ℕ → Place → Heard
-  heard p left n i = closing (of plain voice.loud (run p (around b voice.loud left n) i))
+  heard p left n i = none_open (of plain voice.loud (run p (around b voice.loud left n) i))
 
-  first_share : (l : ConstantList) (v : Bool) (c left n : ℕ) (i : Place) (o : Bool) → share_at b plain voice.loud (first_point l) v c left n i o ≡ heard (at_end (ending l) (unit (element_of l) (behind_second l))) left n i
+  first_share : (l : ConstantList) (v : Bool) (c left n : ℕ) (i : Place) (o : Bool) → share_at b plain voice.loud (first_point l) v c left n i o ≡ heard (at_end (ending l) (unit (list_element l) (behind_second l))) left n i
   unfolding share_at
   first_share list.Array v c left n i o = refl
   first_share list.Tuple v c left n i o = refl
@@ -86,30 +86,30 @@ module _ {V : Type 0} (voice : Ghosts V) (b : List ℕ) (plain : Bool) where
   second_share list.TupleVariant v c left n i o = refl
   second_share list.Fields v c left n i o = refl
 
-  next_share : (l : ConstantList) (v : Bool) (c left n : ℕ) (i : Place) (o : Bool) → share_at b plain voice.loud (next_point l) v c left n i o ≡ heard (more ", " (element_of l) (ending l)) left n i
+  next_share : (l : ConstantList) (v : Bool) (c left n : ℕ) (i : Place) (o : Bool) → share_at b plain voice.loud (next_point l) v c left n i o ≡ heard (more ", " (list_element l) (ending l)) left n i
   unfolding share_at
   next_share list.Array v c left n i o = refl
   next_share list.Tuple v c left n i o = refl
   next_share list.TupleVariant v c left n i o = refl
   next_share list.Fields v c left n i o = refl
 
-  element_share : (l : ConstantList) (c left n : ℕ) (i : Place) (o : Bool) → share_at b plain voice.loud (element_point l) true c left n i o ≡ heard (element_of l) left n i
+  element_share : (l : ConstantList) (c left n : ℕ) (i : Place) (o : Bool) → share_at b plain voice.loud (element_point l) true c left n i o ≡ heard (list_element l) left n i
   unfolding share_at
   element_share list.Array c left n i o = sym (last_constant voice b plain true left n i)
   element_share list.Tuple c left n i o = sym (last_constant voice b plain true left n i)
   element_share list.TupleVariant c left n i o = sym (last_constant voice b plain true left n i)
   element_share list.Fields c left n i o = refl
 
-  element_is : (l : ConstantList) (left n : ℕ) → left ≤ max_depth → Element b voice.loud left n (element_of l)
+  element_is : (l : ConstantList) (left n : ℕ) → left ≤ max_depth → Element b voice.loud left n (list_element l)
   element_is list.Array left n h = constant_element b voice.loud left n h
   element_is list.Tuple left n h = constant_element b voice.loud left n h
   element_is list.TupleVariant left n h = constant_element b voice.loud left n h
   element_is list.Fields left n h = field_element b voice.loud left n h
 
   -- the end of a list
-  pub list_ends : (l : ConstantList) (ks : List ℕ) (h : Heard) (v : Bool) (c left n : ℕ) (i : Place) (row : List Frame) (u : V) (new : State) (made : ℕ) → h ≡ allowing ks (heard (ending l) left n i) → made ≤ total ks
+  pub list_ends : (l : ConstantList) (ks : List ℕ) (h : Heard) (v : Bool) (c left n : ℕ) (i : Place) (row : List Frame) (u : V) (new : State) (made : ℕ) → h ≡ with_looks ks (heard (ending l) left n i) → made ≤ total ks
       → new.in_value ≡ v → new.letter ≡ c → new.depth_left ≡ left → new.lifetimes ≡ n → new.place ≡ i → new.is_open ≡ false → new.mark ≡ Some (close_of l) → DidOn voice b plain h 1 (8 * left + 2) row u (Ok point.End) new row u made
-  unfolding run followed share_at
+  unfolding run then_frame share_at
   list_ends l ks h v c left n i row u new made e x kv kc kl kn kp ko km =
       moves voice b plain ks point.End (Some (close_of l)) None h v c left n i false 1 (8 * left + 2) row row u new made kv kc kl kn kp ko km e refl x (omega arith) (omega arith) (omega arith) tt tt (λ _. tt)
 
@@ -118,24 +118,24 @@ module _ {V : Type 0} (voice : Ghosts V) (b : List ℕ) (plain : Bool) where
   frame_at p v c left n = record { point = p; in_value = v; letter = c; depth_left = left; number = n }
 
   element_then : (l : ConstantList) (p : Point) (rest : Items) (m : Option Mark) (v : Bool) (c left n i : ℕ) (o : Bool) → ((v : Bool) (c left n : ℕ) (i : Place) (o : Bool) → share_at b plain voice.loud p v c left n i o ≡ heard rest left n i)
-      → closing (and_then (of plain voice.loud (run (element_of l) (around b voice.loud left n) (Some i))) (λ j _. of plain voice.loud (run rest (around b voice.loud left n) j)))
-      ≡ followed b plain voice.loud (Some (frame_at p v c left n)) (share_at b plain voice.loud (element_point l) true c left n (Some i) o)
-  unfolding followed
+      → none_open (and_then (of plain voice.loud (run (list_element l) (around b voice.loud left n) (Some i))) (λ j _. of plain voice.loud (run rest (around b voice.loud left n) j)))
+      ≡ then_frame b plain voice.loud (Some (frame_at p v c left n)) (share_at b plain voice.loud (element_point l) true c left n (Some i) o)
+  unfolding then_frame
   element_then l p rest m v c left n i o e =
-      let x = run (element_of l) (around b voice.loud left n) (Some i) in
-      ap (λ (h : Heard). and_then (closing (of plain voice.loud x)) (λ _ _. h)) (sym (e v c left n x.place false))
+      let x = run (list_element l) (around b voice.loud left n) (Some i) in
+      ap (λ (h : Heard). and_then (none_open (of plain voice.loud x)) (λ _ _. h)) (sym (e v c left n x.place false))
       ∙ ap (λ (h : Heard). and_then h (λ j o. share_at b plain voice.loud p v c left n j o)) (sym (element_share l c left n (Some i) o))
 
   pub element_goes : (l : ConstantList) (p : Point) (rest : Items) (m : Option Mark) (h : Heard) (v : Bool) (c left n i : ℕ) (o : Bool) (row now : List Frame) (u : V) (new : State) (made : ℕ)
       → Listed p → ((v : Bool) (c left n : ℕ) (i : Place) (o : Bool) → share_at b plain voice.loud p v c left n i o ≡ heard rest left n i)
-      → h ≡ allowing (1 ∷ []) (handing voice.loud (marked m) (closing (and_then (of plain voice.loud (run (element_of l) (around b voice.loud left n) (Some i))) (λ j _. of plain voice.loud (run rest (around b voice.loud left n) j)))))
+      → h ≡ with_looks (1 ∷ []) (with_texts voice.loud (mark_texts m) (none_open (and_then (of plain voice.loud (run (list_element l) (around b voice.loud left n) (Some i))) (λ j _. of plain voice.loud (run rest (around b voice.loud left n) j)))))
       → Fits point.Constant left n → made ≤ 1
       → new.in_value ≡ true → new.letter ≡ c → new.depth_left ≡ left → new.lifetimes ≡ n → new.place ≡ Some i → new.is_open ≡ o → new.mark ≡ m → now ≡ row ++ frame_at p v c left n ∷ []
       → DidOn voice b plain h 1 (8 * left + 2) row u (Ok (element_point l)) new now u made
   element_goes l p rest m h v c left n i o row now u new made w s e f x kv kc kl kn kp ko km r =
       let z = element_lowest l in
       moves voice b plain (1 ∷ []) (element_point l) m (Some (frame_at p v c left n)) h true c left n (Some i) o 1 (8 * left + 2) row now u new made kv kc kl kn kp ko km
-      (e ∙ ap (λ (k : Heard). allowing (1 ∷ []) (handing voice.loud (marked m) k)) (element_then l p rest m v c left n i o s)) r (omega (arith, x)) (omega (arith, w.light, z.light)) (w.low left) (omega (arith, z.low left)) (w.fits left n f) (z.fits left n f) (λ _. w.inner)
+      (e ∙ ap (λ (k : Heard). with_looks (1 ∷ []) (with_texts voice.loud (mark_texts m) k)) (element_then l p rest m v c left n i o s)) r (omega (arith, x)) (omega (arith, w.light, z.light)) (w.low left) (omega (arith, z.low left)) (w.fits left n f) (z.fits left n f) (λ _. w.inner)
 
   -- The first.
 
@@ -145,12 +145,12 @@ module _ {V : Type 0} (voice : Ghosts V) (b : List ℕ) (plain : Bool) where
   pub first_failed : (l : ConstantList) (v : Bool) (c left n : ℕ) (o : Bool) (row : List Frame) (u : V) (new : State) (made : ℕ) → made ≤ 0
       → new.in_value ≡ v → new.letter ≡ c → new.depth_left ≡ left → new.lifetimes ≡ n → new.place ≡ None → new.is_open ≡ false → new.mark ≡ Some (close_of l) → DidOn voice b plain (first_at l v c left n None o) 1 (8 * left + 2) row u (Ok point.End) new row u made
   first_failed l v c left n o row u new made x kv kc kl kn kp ko km =
-      list_ends l [] _ v c left n None row u new made (first_share l v c left n None o ∙ ap closing (end_failed plain voice.loud (around b voice.loud left n) (ending l) (unit (element_of l) (behind_second l)))) x kv kc kl kn kp ko km
+      list_ends l [] _ v c left n None row u new made (first_share l v c left n None o ∙ ap none_open (end_failed plain voice.loud (around b voice.loud left n) (ending l) (unit (list_element l) (behind_second l)))) x kv kc kl kn kp ko km
 
   pub first_over : (l : ConstantList) (v : Bool) (c left n i : ℕ) (o : Bool) (row : List Frame) (u : V) (new : State) (made : ℕ) → true ≡ is_byte b i (code "E") → made ≤ 1
       → new.in_value ≡ v → new.letter ≡ c → new.depth_left ≡ left → new.lifetimes ≡ n → new.place ≡ Some (i + 1) → new.is_open ≡ false → new.mark ≡ Some (close_of l) → DidOn voice b plain (first_at l v c left n (Some i) o) 1 (8 * left + 2) row u (Ok point.End) new row u made
   first_over l v c left n i o row u new made e x kv kc kl kn kp ko km =
-      list_ends l (1 ∷ []) _ v c left n (Some (i + 1)) row u new made (first_share l v c left n (Some i) o ∙ ap closing (end_over plain voice.loud (around b voice.loud left n) (ending l) (unit (element_of l) (behind_second l)) i (sym e))) x kv kc kl kn kp ko km
+      list_ends l (1 ∷ []) _ v c left n (Some (i + 1)) row u new made (first_share l v c left n (Some i) o ∙ ap none_open (end_over plain voice.loud (around b voice.loud left n) (ending l) (unit (list_element l) (behind_second l)) i (sym e))) x kv kc kl kn kp ko km
 
   pub first_goes : (l : ConstantList) (v : Bool) (c left n i : ℕ) (o : Bool) (row now : List Frame) (u : V) (new : State) (made : ℕ) → false ≡ is_byte b i (code "E") → Fits point.Constant left n → made ≤ 1
       → new.in_value ≡ true → new.letter ≡ c → new.depth_left ≡ left → new.lifetimes ≡ n → new.place ≡ Some i → new.is_open ≡ o → new.mark ≡ None → now ≡ row ++ frame_at (second_point l) v c left n ∷ []
@@ -158,7 +158,7 @@ module _ {V : Type 0} (voice : Ghosts V) (b : List ℕ) (plain : Bool) where
   unfolding run
   first_goes l v c left n i o row now u new made e f x kv kc kl kn kp ko km r =
       element_goes l (second_point l) (behind_second l) None _ v c left n i o row now u new made (second_listed l) (second_share l)
-      (first_share l v c left n (Some i) o ∙ ap closing (end_on plain voice.loud (around b voice.loud left n) (ending l) (unit (element_of l) (behind_second l)) i (sym e))) f x kv kc kl kn kp ko km r
+      (first_share l v c left n (Some i) o ∙ ap none_open (end_on plain voice.loud (around b voice.loud left n) (ending l) (unit (list_element l) (behind_second l)) i (sym e))) f x kv kc kl kn kp ko km r
 
   -- Another.
 
@@ -168,19 +168,19 @@ module _ {V : Type 0} (voice : Ghosts V) (b : List ℕ) (plain : Bool) where
   pub next_failed : (l : ConstantList) (v : Bool) (c left n : ℕ) (o : Bool) (row : List Frame) (u : V) (new : State) (made : ℕ) → made ≤ 0
       → new.in_value ≡ v → new.letter ≡ c → new.depth_left ≡ left → new.lifetimes ≡ n → new.place ≡ None → new.is_open ≡ false → new.mark ≡ Some (close_of l) → DidOn voice b plain (next_at l v c left n None o) 1 (8 * left + 2) row u (Ok point.End) new row u made
   next_failed l v c left n o row u new made x kv kc kl kn kp ko km =
-      list_ends l [] _ v c left n None row u new made (next_share l v c left n None o ∙ ap closing (more_failed plain voice.loud (around b voice.loud left n) ", " (element_of l) (ending l))) x kv kc kl kn kp ko km
+      list_ends l [] _ v c left n None row u new made (next_share l v c left n None o ∙ ap none_open (more_failed plain voice.loud (around b voice.loud left n) ", " (list_element l) (ending l))) x kv kc kl kn kp ko km
 
   pub next_over : (l : ConstantList) (v : Bool) (c left n i : ℕ) (o : Bool) (row : List Frame) (u : V) (new : State) (made : ℕ) → true ≡ is_byte b i (code "E") → made ≤ 1
       → new.in_value ≡ v → new.letter ≡ c → new.depth_left ≡ left → new.lifetimes ≡ n → new.place ≡ Some (i + 1) → new.is_open ≡ false → new.mark ≡ Some (close_of l) → DidOn voice b plain (next_at l v c left n (Some i) o) 1 (8 * left + 2) row u (Ok point.End) new row u made
   next_over l v c left n i o row u new made e x kv kc kl kn kp ko km =
-      list_ends l (1 ∷ []) _ v c left n (Some (i + 1)) row u new made (next_share l v c left n (Some i) o ∙ ap closing (more_over plain voice.loud (around b voice.loud left n) ", " (element_of l) (ending l) i (sym e))) x kv kc kl kn kp ko km
+      list_ends l (1 ∷ []) _ v c left n (Some (i + 1)) row u new made (next_share l v c left n (Some i) o ∙ ap none_open (more_over plain voice.loud (around b voice.loud left n) ", " (list_element l) (ending l) i (sym e))) x kv kc kl kn kp ko km
 
   pub next_goes : (l : ConstantList) (v : Bool) (c left n i : ℕ) (o : Bool) (row now : List Frame) (u : V) (new : State) (made : ℕ) → false ≡ is_byte b i (code "E") → Fits point.Constant left n → made ≤ 1
       → new.in_value ≡ true → new.letter ≡ c → new.depth_left ≡ left → new.lifetimes ≡ n → new.place ≡ Some i → new.is_open ≡ o → new.mark ≡ Some mark.Comma → now ≡ row ++ frame_at (next_point l) v c left n ∷ []
       → DidOn voice b plain (next_at l v c left n (Some i) o) 1 (8 * left + 2) row u (Ok (element_point l)) new now u made
   next_goes l v c left n i o row now u new made e f x kv kc kl kn kp ko km r =
-      element_goes l (next_point l) (more ", " (element_of l) (ending l)) (Some mark.Comma) _ v c left n i o row now u new made (next_listed l) (next_share l)
-      (next_share l v c left n (Some i) o ∙ ap closing (more_on plain voice.loud b left n ", " (element_of l) (ending l) i (element_is l left n (few left n f)) (sym e))) f x kv kc kl kn kp ko km r
+      element_goes l (next_point l) (more ", " (list_element l) (ending l)) (Some mark.Comma) _ v c left n i o row now u new made (next_listed l) (next_share l)
+      (next_share l v c left n (Some i) o ∙ ap none_open (more_on plain voice.loud b left n ", " (list_element l) (ending l) i (element_is l left n (few left n f)) (sym e))) f x kv kc kl kn kp ko km r
 
   -- The second of a tuple, or the one comma.
 
@@ -190,23 +190,23 @@ module _ {V : Type 0} (voice : Ghosts V) (b : List ℕ) (plain : Bool) where
   pub comma_failed : (v : Bool) (c left n : ℕ) (o : Bool) (row : List Frame) (u : V) (new : State) (made : ℕ) → Fits point.SecondTupleConstant left n → made ≤ 0
       → new.in_value ≡ v → new.letter ≡ c → new.depth_left ≡ left → new.lifetimes ≡ n → new.place ≡ None → new.is_open ≡ o → new.mark ≡ Some mark.OneComma
       → DidOn voice b plain (second_at v c left n None o) 2 (8 * left + 2) row u (Ok point.CloseParen) new row u made
-  unfolding run followed share_at
+  unfolding run then_frame share_at
   comma_failed v c left n o row u new made f x kv kc kl kn kp ko km =
       moves voice b plain [] point.CloseParen (Some mark.OneComma) None _ v c left n None o 2 (8 * left + 2) row row u new made kv kc kl kn kp ko km refl refl x (omega arith) (omega arith) (omega arith) tt f (λ _. tt)
 
   pub comma_over : (v : Bool) (c left n i : ℕ) (o : Bool) (row : List Frame) (u : V) (new : State) (made : ℕ) → true ≡ is_byte b i (code "E") → Fits point.SecondTupleConstant left n → made ≤ 1
       → new.in_value ≡ v → new.letter ≡ c → new.depth_left ≡ left → new.lifetimes ≡ n → new.place ≡ Some (i + 1) → new.is_open ≡ o → new.mark ≡ Some mark.OneComma
       → DidOn voice b plain (second_at v c left n (Some i) o) 2 (8 * left + 2) row u (Ok point.CloseParen) new row u made
-  unfolding followed share_at
+  unfolding then_frame share_at
   comma_over v c left n i o row u new made e f x kv kc kl kn kp ko km =
       moves voice b plain (1 ∷ []) point.CloseParen (Some mark.OneComma) None _ v c left n (Some (i + 1)) o 2 (8 * left + 2) row row u new made kv kc kl kn kp ko km
-      (ap closing (second_over plain voice.loud (around b voice.loud left n) constant_inside (ending list.Tuple) i (sym e))) refl x (omega arith) (omega arith) (omega arith) tt f (λ _. tt)
+      (ap none_open (second_over plain voice.loud (around b voice.loud left n) constant_inside (ending list.Tuple) i (sym e))) refl x (omega arith) (omega arith) (omega arith) tt f (λ _. tt)
 
   pub comma_goes : (v : Bool) (c left n i : ℕ) (o : Bool) (row now : List Frame) (u : V) (new : State) (made : ℕ) → false ≡ is_byte b i (code "E") → Fits point.Constant left n → made ≤ 1
       → new.in_value ≡ true → new.letter ≡ c → new.depth_left ≡ left → new.lifetimes ≡ n → new.place ≡ Some i → new.is_open ≡ o → new.mark ≡ Some mark.Comma → now ≡ row ++ frame_at point.NextTupleConstant v c left n ∷ []
       → DidOn voice b plain (second_at v c left n (Some i) o) 2 (8 * left + 2) row u (Ok point.Constant) new now u made
   comma_goes v c left n i o row now u new made e f x kv kc kl kn kp ko km r =
-      same voice b plain (second_at v c left n (Some i) o) (allowing (1 ∷ []) (next_at list.Tuple v c left n (Some i) o)) 2 (8 * left + 2) 1 (8 * left + 2) row u u (Ok point.Constant) new now made
-      (second_share list.Tuple v c left n (Some i) o ∙ (ap closing (end_on plain voice.loud (around b voice.loud left n) (says "," (ending list.Tuple)) (more ", " constant_inside (ending list.Tuple)) i (sym e)) ∙ ap (allowing (1 ∷ [])) (sym (next_share list.Tuple v c left n (Some i) o)))) (omega arith) (omega arith)
+      same voice b plain (second_at v c left n (Some i) o) (with_looks (1 ∷ []) (next_at list.Tuple v c left n (Some i) o)) 2 (8 * left + 2) 1 (8 * left + 2) row u u (Ok point.Constant) new now made
+      (second_share list.Tuple v c left n (Some i) o ∙ (ap none_open (end_on plain voice.loud (around b voice.loud left n) (says "," (ending list.Tuple)) (more ", " constant_inside (ending list.Tuple)) i (sym e)) ∙ ap (with_looks (1 ∷ [])) (sym (next_share list.Tuple v c left n (Some i) o)))) (omega arith) (omega arith)
       (after voice b plain (1 ∷ []) _ (next_at list.Tuple v c left n (Some i) o) 1 (8 * left + 2) 1 (8 * left + 2) row u u (Ok point.Constant) new now 0 made made refl (omega arith) (omega arith) (omega arith) (omega arith)
       (next_goes list.Tuple v c left n i o row now u new made e f x kv kc kl kn kp ko km r))

@@ -4,11 +4,11 @@ use Rattle.std.proofs.lemmas.List.{append-nil}
 use Rattle.std.proofs.Common.{◌≡◌, ℕ, ◌+◌, ◌≤◌, Bool, true, false, Option, Some, None, List, [], ◌∷◌, Result, Ok, refl, arith, ap}
 use Rattle.demangle_v0.specs.Items.{a_constant, Items, child, done, unit}
 use Rattle.demangle_v0.specs.Totals.{total}
-use Rattle.demangle_v0.specs.Events.{Heard, of, events, allowing, handing}
+use Rattle.demangle_v0.specs.Events.{Heard, of, events, with_looks, with_texts}
 use Rattle.demangle_v0.specs.Grammar.{text, word_items}
 use Rattle.demangle_v0.specs.Table.{string}
-use Rattle.demangle_v0.specs.Reading.{Place, begun, run}
-use Rattle.demangle_v0.specs.Points.{followed, share_at, closing, around, marked, pushed_on, goes, way_weight, weight_of, height_at, height_of, count_of, Fits, FitsFrame, IsInner, DidOn}
+use Rattle.demangle_v0.specs.Reading.{Place, unit_outcome, run}
+use Rattle.demangle_v0.specs.Points.{then_frame, share_at, none_open, around, mark_texts, pushed_on, goes, way_weight, weight_of, height_at, height_of, count_of, Fits, FitsFrame, IsInner, DidOn}
 use Rattle.demangle_v0.specs.declared.grammar.Mark.{Mark}
 use Rattle.demangle_v0.specs.declared.grammar.Word.TheVariants as word
 use Rattle.demangle_v0.specs.declared.grammar.Mark.TheVariants as mark
@@ -27,7 +27,7 @@ module _ {V : Type 0} (voice : Ghosts V) (b : List ℕ) (plain : Bool) where
   -- behind these looks, with this mark and frame
   pub moves : (ks : List ℕ) (p : Point) (m : Option Mark) (pushed : Option Frame) (h : Heard) (v : Bool) (c left n : ℕ) (i : Place) (o : Bool) (weight high : ℕ) (row now : List Frame) (u : V) (new : State) (made : ℕ)
       → new.in_value ≡ v → new.letter ≡ c → new.depth_left ≡ left → new.lifetimes ≡ n → new.place ≡ i → new.is_open ≡ o → new.mark ≡ m
-      → h ≡ allowing ks (handing voice.loud (marked m) (followed b plain voice.loud pushed (share_at b plain voice.loud p v c left n i o))) → now ≡ pushed_on row pushed → made ≤ total ks
+      → h ≡ with_looks ks (with_texts voice.loud (mark_texts m) (then_frame b plain voice.loud pushed (share_at b plain voice.loud p v c left n i o))) → now ≡ pushed_on row pushed → made ≤ total ks
       → way_weight (goes p) + weight_of pushed + 1 ≤ weight + 100 * total ks → height_of pushed ≤ high → height_at p left + count_of pushed ≤ high → FitsFrame pushed → Fits p left n → (voice.loud ≡ false → IsInner pushed)
       → DidOn voice b plain h weight high row u (Ok p) new now u made
   moves ks p m pushed h v c left n i o weight high row now u new made kv kc kl kn kp ko km e r l w x y f g q = record {
@@ -37,17 +37,17 @@ module _ {V : Type 0} (voice : Ghosts V) (b : List ℕ) (plain : Bool) where
 
   pub marks : (p : Point) (m : Mark) (h : Heard) (v : Bool) (c left n : ℕ) (i : Place) (o : Bool) (weight high : ℕ) (row : List Frame) (u : V) (new : State) (made : ℕ) → made ≤ 0
       → new.in_value ≡ v → new.letter ≡ c → new.depth_left ≡ left → new.lifetimes ≡ n → new.place ≡ i → new.is_open ≡ o → new.mark ≡ Some m
-      → h ≡ handing voice.loud (text m ∷ []) (share_at b plain voice.loud p v c left n i o) → way_weight (goes p) + 1 ≤ weight → height_at p left ≤ high → Fits p left n → DidOn voice b plain h weight high row u (Ok p) new row u made
-  unfolding followed
+      → h ≡ with_texts voice.loud (text m ∷ []) (share_at b plain voice.loud p v c left n i o) → way_weight (goes p) + 1 ≤ weight → height_at p left ≤ high → Fits p left n → DidOn voice b plain h weight high row u (Ok p) new row u made
+  unfolding then_frame
   marks p m h v c left n i o weight high row u new made l kv kc kl kn kp ko km e w x f =
       moves [] p (Some m) None h v c left n i o weight high row row u new made kv kc kl kn kp ko km e refl l (omega (arith, w)) (omega arith) (omega (arith, x)) tt f (λ _. tt)
 
   -- a constant alone
-  pub last_constant : (v : Bool) (left n : ℕ) (i : Place) → closing (of plain voice.loud (run (child a_constant v done) (around b voice.loud left n) i)) ≡ closing (of plain voice.loud (begun (around b voice.loud left n) a_constant v i))
-  last_constant v left n i = ap closing (last_child plain voice.loud b left n a_constant v i tt)
+  pub last_constant : (v : Bool) (left n : ℕ) (i : Place) → none_open (of plain voice.loud (run (child a_constant v done) (around b voice.loud left n) i)) ≡ none_open (of plain voice.loud (unit_outcome (around b voice.loud left n) a_constant v i))
+  last_constant v left n i = ap none_open (last_child plain voice.loud b left n a_constant v i tt)
 
   -- a unit alone
-  pub last_unit : (p : Items) (left n : ℕ) (i : Place) → closing (of plain voice.loud (run (unit p done) (around b voice.loud left n) i)) ≡ closing (of plain voice.loud (run p (around b voice.loud left n) i))
+  pub last_unit : (p : Items) (left n : ℕ) (i : Place) → none_open (of plain voice.loud (run (unit p done) (around b voice.loud left n) i)) ≡ none_open (of plain voice.loud (run p (around b voice.loud left n) i))
   unfolding run
   last_unit p left n i = let o = run p (around b voice.loud left n) i in ap (λ xs. record { events = xs; place = o.place; is_open = false }) (append-nil (events plain voice.loud o.tree))
 
@@ -56,14 +56,14 @@ module _ {V : Type 0} (voice : Ghosts V) (b : List ℕ) (plain : Bool) where
       → DidOn voice b plain (share_at b plain voice.loud point.TextConstant v c left n i o) 2 (8 * left + 2) row u (Ok point.Literal) new row u made
   unfolding run share_at
   text_goes v c left n i o row u new made l f kv kc kl kn kp ko km =
-      marks point.Literal mark.Star _ v c left n i o 2 (8 * left + 2) row u new made l kv kc kl kn kp ko km (ap (handing voice.loud (text mark.Star ∷ [])) (last_unit string left n i)) (omega arith) (omega arith) f
+      marks point.Literal mark.Star _ v c left n i o 2 (8 * left + 2) row u new made l kv kc kl kn kp ko km (ap (with_texts voice.loud (text mark.Star ∷ [])) (last_unit string left n i)) (omega arith) (omega arith) f
 
   pub reference_goes : (v : Bool) (c left n : ℕ) (i : Place) (o : Bool) (row : List Frame) (u : V) (new : State) (made : ℕ) → made ≤ 0
       → Fits point.ReferenceConstant left n → new.in_value ≡ true → new.letter ≡ c → new.depth_left ≡ left → new.lifetimes ≡ n → new.place ≡ i → new.is_open ≡ o → new.mark ≡ Some mark.Ampersand
       → DidOn voice b plain (share_at b plain voice.loud point.ReferenceConstant v c left n i o) 2 (8 * left + 2) row u (Ok point.Constant) new row u made
   unfolding run share_at
   reference_goes v c left n i o row u new made l f kv kc kl kn kp ko km =
-      marks point.Constant mark.Ampersand _ true c left n i o 2 (8 * left + 2) row u new made l kv kc kl kn kp ko km (ap (handing voice.loud (text mark.Ampersand ∷ [])) (last_constant true left n i)) (omega arith) (omega arith) f
+      marks point.Constant mark.Ampersand _ true c left n i o 2 (8 * left + 2) row u new made l kv kc kl kn kp ko km (ap (with_texts voice.loud (text mark.Ampersand ∷ [])) (last_constant true left n i)) (omega arith) (omega arith) f
 
   pub mut_reference_goes : (v : Bool) (c left n : ℕ) (i : Place) (o : Bool) (row : List Frame) (u : V) (new : State) (made : ℕ) → made ≤ 0
       → Fits point.MutReferenceConstant left n → new.in_value ≡ v → new.letter ≡ c → new.depth_left ≡ left → new.lifetimes ≡ n → new.place ≡ i → new.is_open ≡ o → new.mark ≡ Some mark.Ampersand
@@ -77,7 +77,7 @@ module _ {V : Type 0} (voice : Ghosts V) (b : List ℕ) (plain : Bool) where
       → DidOn voice b plain (share_at b plain voice.loud point.MutableConstant v c left n i o) 2 (8 * left + 2) row u (Ok point.Constant) new row u made
   unfolding run share_at
   mutable_goes v c left n i o row u new made l f kv kc kl kn kp ko km =
-      marks point.Constant mark.Mutable _ true c left n i o 2 (8 * left + 2) row u new made l kv kc kl kn kp ko km (ap (handing voice.loud (text mark.Mutable ∷ [])) (last_constant true left n i)) (omega arith) (omega arith) f
+      marks point.Constant mark.Mutable _ true c left n i o 2 (8 * left + 2) row u new made l kv kc kl kn kp ko km (ap (with_texts voice.loud (text mark.Mutable ∷ [])) (last_constant true left n i)) (omega arith) (omega arith) f
 
   pub array_goes : (v : Bool) (c left n : ℕ) (i : Place) (o : Bool) (row : List Frame) (u : V) (new : State) (made : ℕ) → made ≤ 0
       → Fits point.ArrayConstant left n → new.in_value ≡ v → new.letter ≡ c → new.depth_left ≡ left → new.lifetimes ≡ n → new.place ≡ i → new.is_open ≡ o → new.mark ≡ Some mark.OpenBracket
@@ -101,13 +101,13 @@ module _ {V : Type 0} (voice : Ghosts V) (b : List ℕ) (plain : Bool) where
       marks point.End mark.CloseBrace _ v c left n i false 1 (8 * left + 2) row u new made l kv kc kl kn kp ko km refl (omega arith) (omega arith) tt
 
   pub literal_reads : (v : Bool) (c left n : ℕ) (i : Place) (o : Bool) (row : List Frame) (u w : V) (result : Result Point Stop) (new : State) (made : ℕ)
-      → DidOn voice b plain (closing (of plain voice.loud (run (word_items word.Literal c done) (around b voice.loud left n) i))) 1 0 row u result new row w made
+      → DidOn voice b plain (none_open (of plain voice.loud (run (word_items word.Literal c done) (around b voice.loud left n) i))) 1 0 row u result new row w made
       → DidOn voice b plain (share_at b plain voice.loud point.Literal v c left n i o) 1 (8 * left + 2) row u result new row w made
   unfolding share_at
   literal_reads v c left n i o row u w result new made d = same voice b plain _ _ 1 (8 * left + 2) 1 0 row u w result new row made refl (omega arith) (omega arith) d
 
   pub number_reads : (v : Bool) (c left n : ℕ) (i : Place) (o : Bool) (row : List Frame) (u w : V) (result : Result Point Stop) (new : State) (made : ℕ)
-      → DidOn voice b plain (closing (of plain voice.loud (run (word_items word.Number c done) (around b voice.loud left n) i))) 1 0 row u result new row w made
+      → DidOn voice b plain (none_open (of plain voice.loud (run (word_items word.Number c done) (around b voice.loud left n) i))) 1 0 row u result new row w made
       → DidOn voice b plain (share_at b plain voice.loud point.Number v c left n i o) 1 (8 * left + 2) row u result new row w made
   unfolding share_at
   number_reads v c left n i o row u w result new made d = same voice b plain _ _ 1 (8 * left + 2) 1 0 row u w result new row made refl (omega arith) (omega arith) d

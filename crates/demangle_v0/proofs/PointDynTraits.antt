@@ -7,14 +7,14 @@ use Rattle.demangle_symbol.specs.Digits.{is_byte}
 use Rattle.demangle_symbol.specs.Words.{Name, Read, identifier_at}
 use Rattle.demangle_symbol.specs.Names.{name_pieces}
 use Rattle.demangle_v0.specs.Items.{Text, Items, a_path, a_type, a_constant, a_trait_path, done, unit, dyn_trait, bindings, opens, target}
-use Rattle.demangle_v0.specs.Table.{says, typed, says_name, list, more, argument, in_binder, bound}
+use Rattle.demangle_v0.specs.Table.{says, type_inside, says_name, list, more, argument, in_binder, binding_value}
 use Rattle.demangle_v0.specs.Totals.{total}
 use Rattle.demangle_v0.specs.Arguments.{argument_point, argument_place, argument_costs}
 use Rattle.demangle_v0.specs.DynTraits.{dyn_type}
-use Rattle.demangle_v0.specs.Events.{Event, said, said_all, Heard, of, ended, and_then, allowing, handing}
+use Rattle.demangle_v0.specs.Events.{Event, shown_if, said_all, Heard, of, nothing_heard, and_then, with_looks, with_texts}
 use Rattle.demangle_v0.specs.Grammar.{word_items, text}
-use Rattle.demangle_v0.specs.Reading.{Place, run, begun, max_depth}
-use Rattle.demangle_v0.specs.Points.{marked, share_at, share, share_of, bindings_left, closing, around, goes, way_weight, weight_at, height_at, Fits, is_list_over, behind_list, list_costs, DidOn}
+use Rattle.demangle_v0.specs.Reading.{Place, run, unit_outcome, max_depth}
+use Rattle.demangle_v0.specs.Points.{mark_texts, share_at, share, share_of, bindings_left, none_open, around, goes, way_weight, weight_at, height_at, Fits, is_list_over, behind_list, list_costs, DidOn}
 use Rattle.demangle_v0.specs.declared.grammar.Mark.{Mark}
 use Rattle.demangle_v0.specs.declared.grammar.Mark.TheVariants as mark
 use Rattle.demangle_v0.specs.declared.grammar.Word.TheVariants as word
@@ -39,10 +39,10 @@ abbrev pub frame_at : Point → State → Frame
 frame_at p s = record { point = p; in_value = s.in_value; letter = s.letter; depth_left = s.depth_left; number = s.lifetimes }
 
 abbrev pub first_traits : Items
-first_traits = list " + " (dyn_trait bound) done
+first_traits = list " + " (dyn_trait binding_value) done
 
 abbrev pub next_traits : Items
-next_traits = more " + " (dyn_trait bound) done
+next_traits = more " + " (dyn_trait binding_value) done
 
 abbrev pub left_traits : Bool → Items
 left_traits first = if first then first_traits else next_traits
@@ -58,7 +58,7 @@ left_open first = if first then first_open else next_open
 
 -- behind the name of a binding
 abbrev pub behind_name : Items
-behind_name = unit bound (bindings_left true)
+behind_name = unit binding_value (bindings_left true)
 
 -- what bindings print at their end, and each of them first
 abbrev pub end_mark : Bool → Option Mark
@@ -67,7 +67,7 @@ end_mark o = if o then Some mark.Greater else None
 abbrev pub first_mark : Bool → Mark
 first_mark o = if o then mark.Comma else mark.Less
 
-end_text : (o : Bool) → if_so o ">" ≡ marked (end_mark o)
+end_text : (o : Bool) → if_so o ">" ≡ mark_texts (end_mark o)
 end_text true = refl
 end_text false = refl
 
@@ -77,9 +77,9 @@ first_text false = refl
 
 said_both : (out : Bool) (ts us : List Text) (xs : List Event) → said_all out (ts ++ us) xs ≡ said_all out ts (said_all out us xs)
 said_both out [] us xs = refl
-said_both out (t ∷ ts) us xs = ap (said out t) (said_both out ts us xs)
+said_both out (t ∷ ts) us xs = ap (shown_if out t) (said_both out ts us xs)
 
-handing_both : (out : Bool) (ts us : List Text) (h : Heard) → handing out (ts ++ us) h ≡ handing out ts (handing out us h)
+handing_both : (out : Bool) (ts us : List Text) (h : Heard) → with_texts out (ts ++ us) h ≡ with_texts out ts (with_texts out us h)
 handing_both out ts us h = ap (λ xs. record { events = xs; place = h.place; is_open = h.is_open }) (said_both out ts us h.events)
 
 -- where an argument goes on, told by its tag
@@ -112,7 +112,7 @@ module _ {V : Type 0} (voice : Ghosts V) (b : List ℕ) (plain : Bool) where
   -- A dyn type.
 
   dyn_reads : (s : State) → heard voice b plain dyn_type s.depth_left s.lifetimes s.place
-      ≡ handing voice.loud (text mark.Dyn ∷ []) (and_then (heard voice b plain (in_binder first_traits) s.depth_left s.lifetimes s.place) (share b plain voice.loud (frame_at point.DynLifetime s)))
+      ≡ with_texts voice.loud (text mark.Dyn ∷ []) (and_then (heard voice b plain (in_binder first_traits) s.depth_left s.lifetimes s.place) (share b plain voice.loud (frame_at point.DynLifetime s)))
   unfolding run share_at
   dyn_reads s = refl
 
@@ -136,40 +136,40 @@ module _ {V : Type 0} (voice : Ghosts V) (b : List ℕ) (plain : Bool) where
   trait_as true s row u to new now made d = d
   trait_as false s row u to new now made d = d
 
-  done_reads : (left n : ℕ) (i : Place) → heard voice b plain done left n i ≡ ended i false
+  done_reads : (left n : ℕ) (i : Place) → heard voice b plain done left n i ≡ nothing_heard i false
   unfolding run
   done_reads left n i = refl
 
-  traits_end : (first : Bool) (left n : ℕ) (i : Place) → is_list_over b i ≡ true → heard voice b plain (left_traits first) left n i ≡ allowing (list_costs i) (heard voice b plain done left n (behind_list b i))
-  traits_end true left n None e = ap closing (end_failed plain voice.loud (around b voice.loud left n) done (unit (dyn_trait bound) next_traits))
-  traits_end false left n None e = ap closing (more_failed plain voice.loud (around b voice.loud left n) " + " (dyn_trait bound) done)
-  traits_end true left n (Some i) e = rw e (ap closing (end_over plain voice.loud (around b voice.loud left n) done (unit (dyn_trait bound) next_traits) i e))
-  traits_end false left n (Some i) e = rw e (ap closing (more_over plain voice.loud (around b voice.loud left n) " + " (dyn_trait bound) done i e))
+  traits_end : (first : Bool) (left n : ℕ) (i : Place) → is_list_over b i ≡ true → heard voice b plain (left_traits first) left n i ≡ with_looks (list_costs i) (heard voice b plain done left n (behind_list b i))
+  traits_end true left n None e = ap none_open (end_failed plain voice.loud (around b voice.loud left n) done (unit (dyn_trait binding_value) next_traits))
+  traits_end false left n None e = ap none_open (more_failed plain voice.loud (around b voice.loud left n) " + " (dyn_trait binding_value) done)
+  traits_end true left n (Some i) e = rw e (ap none_open (end_over plain voice.loud (around b voice.loud left n) done (unit (dyn_trait binding_value) next_traits) i e))
+  traits_end false left n (Some i) e = rw e (ap none_open (more_over plain voice.loud (around b voice.loud left n) " + " (dyn_trait binding_value) done i e))
 
   pub traits_over : (first : Bool) (s : State) (row : List Frame) (u : V) (new : State) (made : ℕ) → is_list_over b s.place ≡ true → made ≤ total (list_costs s.place)
       → new.place ≡ behind_list b s.place → new.is_open ≡ false → new.mark ≡ None → trait_did first s row u point.End new row made
   unfolding share_at
   traits_over first s row u new made e l kp ko km = trait_as first s row u point.End new row made
-      (plain_goes voice b plain point.End (list_costs s.place) _ (ended (behind_list b s.place) false) 1 (8 * s.depth_left + 4) row u new made
-      (traits_end first s.depth_left s.lifetimes s.place e ∙ ap (allowing (list_costs s.place)) (done_reads s.depth_left s.lifetimes (behind_list b s.place))) (rw (kp, ko) refl) km l (omega arith) (omega arith) tt)
+      (plain_goes voice b plain point.End (list_costs s.place) _ (nothing_heard (behind_list b s.place) false) 1 (8 * s.depth_left + 4) row u new made
+      (traits_end first s.depth_left s.lifetimes s.place e ∙ ap (with_looks (list_costs s.place)) (done_reads s.depth_left s.lifetimes (behind_list b s.place))) (rw (kp, ko) refl) km l (omega arith) (omega arith) tt)
 
   -- a dyn trait, and further ones
   trait_then : (s : State) (i : ℕ)
-      → and_then (of plain voice.loud (run (dyn_trait bound) (around b voice.loud s.depth_left s.lifetimes) (Some i))) (λ j _. heard voice b plain next_traits s.depth_left s.lifetimes j)
-      ≡ and_then (of plain voice.loud (begun (around b voice.loud s.depth_left s.lifetimes) a_trait_path false (Some i))) (share b plain voice.loud (frame_at point.Bindings s))
+      → and_then (of plain voice.loud (run (dyn_trait binding_value) (around b voice.loud s.depth_left s.lifetimes) (Some i))) (λ j _. heard voice b plain next_traits s.depth_left s.lifetimes j)
+      ≡ and_then (of plain voice.loud (unit_outcome (around b voice.loud s.depth_left s.lifetimes) a_trait_path false (Some i))) (share b plain voice.loud (frame_at point.Bindings s))
   unfolding run share_at
   trait_then s i =
       let r = around b voice.loud s.depth_left s.lifetimes in
-      and_then_assoc (of plain voice.loud (begun r a_trait_path false (Some i))) (λ j o. of plain voice.loud (run (bindings o bound) r j)) (λ j _. heard voice b plain next_traits s.depth_left s.lifetimes j)
+      and_then_assoc (of plain voice.loud (unit_outcome r a_trait_path false (Some i))) (λ j o. of plain voice.loud (run (bindings o binding_value) r j)) (λ j _. heard voice b plain next_traits s.depth_left s.lifetimes j)
 
   trait_reads : (first : Bool) (s : State) (i : ℕ) → s.depth_left ≤ max_depth → is_byte b i (code "E") ≡ false
       → heard voice b plain (left_traits first) s.depth_left s.lifetimes (Some i)
-      ≡ allowing (1 ∷ []) (handing voice.loud (marked (separator first mark.Plus)) (allowing [] (and_then (of plain voice.loud (begun (around b voice.loud s.depth_left s.lifetimes) a_trait_path false (Some i))) (share b plain voice.loud (frame_at point.Bindings s)))))
+      ≡ with_looks (1 ∷ []) (with_texts voice.loud (mark_texts (separator first mark.Plus)) (with_looks [] (and_then (of plain voice.loud (unit_outcome (around b voice.loud s.depth_left s.lifetimes) a_trait_path false (Some i))) (share b plain voice.loud (frame_at point.Bindings s)))))
   trait_reads true s i l e =
-      ap closing (first_on plain voice.loud (around b voice.loud s.depth_left s.lifetimes) " + " (dyn_trait bound) done i e) ∙ ap (allowing (1 ∷ [])) (trait_then s i)
+      ap none_open (first_on plain voice.loud (around b voice.loud s.depth_left s.lifetimes) " + " (dyn_trait binding_value) done i e) ∙ ap (with_looks (1 ∷ [])) (trait_then s i)
   trait_reads false s i l e =
-      ap closing (more_on plain voice.loud b s.depth_left s.lifetimes " + " (dyn_trait bound) done i (dyn_trait_element b voice.loud s.depth_left s.lifetimes l) e)
-      ∙ ap (λ (h : Heard). allowing (1 ∷ []) (handing voice.loud (codes " + " ∷ []) h)) (trait_then s i)
+      ap none_open (more_on plain voice.loud b s.depth_left s.lifetimes " + " (dyn_trait binding_value) done i (dyn_trait_element b voice.loud s.depth_left s.lifetimes l) e)
+      ∙ ap (λ (h : Heard). with_looks (1 ∷ []) (with_texts voice.loud (codes " + " ∷ []) h)) (trait_then s i)
 
   pub trait_on : (first : Bool) (s : State) (row now : List Frame) (u : V) (new : State) (made : ℕ)
       → is_list_over b s.place ≡ false → made ≤ total (list_costs s.place) → Fits point.NextDynTrait s.depth_left s.lifetimes
@@ -184,7 +184,7 @@ module _ {V : Type 0} (voice : Ghosts V) (b : List ℕ) (plain : Bool) where
           let d : is_byte b i (code "E") ≡ false = rw p at e in
           let q : new.place ≡ Some i = rw (p, d) at kp in
           trait_as first s row u point.TraitPath new now made
-          (enters voice b plain point.TraitPath (separator first mark.Plus) (1 ∷ []) [] (frame_at point.Bindings s) _ (of plain voice.loud (begun (around b voice.loud s.depth_left s.lifetimes) a_trait_path false (Some i))) 1 (8 * s.depth_left + 4) row now u new made
+          (enters voice b plain point.TraitPath (separator first mark.Plus) (1 ∷ []) [] (frame_at point.Bindings s) _ (of plain voice.loud (unit_outcome (around b voice.loud s.depth_left s.lifetimes) a_trait_path false (Some i))) 1 (8 * s.depth_left + 4) row now u new made
           (rw p (trait_reads first s i (omega (arith, f)) d)) (rw (kl, kn, q) refl) km w (omega (arith, rw p at l)) (omega (arith, rw p at l)) (omega arith) (omega arith) (omega (arith, kl)) f (rw (kl, kn) f) refl)
 
   -- Paths of dyn traits.
@@ -195,7 +195,7 @@ module _ {V : Type 0} (voice : Ghosts V) (b : List ℕ) (plain : Bool) where
   trait_unread s row u new made p k l = faulty voice b plain mark.Unread _ 1 (8 * s.depth_left + 2) row u new made k (rw p refl) l (omega arith)
 
   refers_reads : (s : State) (i : ℕ) → s.place ≡ Some i → is_byte b i (code "B") ≡ true
-      → share_of b plain voice.loud point.TraitPath s ≡ allowing (1 ∷ []) (of plain voice.loud (run (target a_trait_path false) (around b voice.loud s.depth_left s.lifetimes) (Some (i + 1))))
+      → share_of b plain voice.loud point.TraitPath s ≡ with_looks (1 ∷ []) (of plain voice.loud (run (target a_trait_path false) (around b voice.loud s.depth_left s.lifetimes) (Some (i + 1))))
   unfolding share_at
   refers_reads s i p e = rw p (trait_path_reads plain voice.loud b s.depth_left s.lifetimes false i ∙ trait_path_refers plain voice.loud b s.depth_left s.lifetimes i e)
 
@@ -208,7 +208,7 @@ module _ {V : Type 0} (voice : Ghosts V) (b : List ℕ) (plain : Bool) where
 
   generic_reads : (s : State) (i : ℕ) → s.place ≡ Some i → is_byte b i (code "B") ≡ false → is_byte b i (code "I") ≡ true
       → share_of b plain voice.loud point.TraitPath s
-      ≡ allowing (1 ∷ 1 ∷ []) (and_then (closing (of plain voice.loud (begun (around b voice.loud s.depth_left s.lifetimes) a_path false (Some (i + 1))))) (share b plain voice.loud (record (frame_at point.OpenTraitPath s) { in_value = false })))
+      ≡ with_looks (1 ∷ 1 ∷ []) (and_then (none_open (of plain voice.loud (unit_outcome (around b voice.loud s.depth_left s.lifetimes) a_path false (Some (i + 1))))) (share b plain voice.loud (record (frame_at point.OpenTraitPath s) { in_value = false })))
   unfolding share_at
   generic_reads s i p e f = rw p (trait_path_reads plain voice.loud b s.depth_left s.lifetimes false i ∙ trait_path_generic plain voice.loud b s.depth_left s.lifetimes i e f)
 
@@ -217,32 +217,32 @@ module _ {V : Type 0} (voice : Ghosts V) (b : List ℕ) (plain : Bool) where
       → DidOn voice b plain (share_of b plain voice.loud point.TraitPath s) 1 (8 * s.depth_left + 2) row u (Ok point.Path) new now u made
   unfolding share_at
   generic_trait s i row now u new made p e g l f kv kl kn kp km w =
-      enters voice b plain point.Path None [] (1 ∷ 1 ∷ []) (record (frame_at point.OpenTraitPath s) { in_value = false }) _ (closing (of plain voice.loud (begun (around b voice.loud s.depth_left s.lifetimes) a_path false (Some (i + 1))))) 1 (8 * s.depth_left + 2) row now u new made
+      enters voice b plain point.Path None [] (1 ∷ 1 ∷ []) (record (frame_at point.OpenTraitPath s) { in_value = false }) _ (none_open (of plain voice.loud (unit_outcome (around b voice.loud s.depth_left s.lifetimes) a_path false (Some (i + 1))))) 1 (8 * s.depth_left + 2) row now u new made
       (generic_reads s i p e g) (rw (kv, kl, kn, kp) refl) km w (omega (arith, l)) (omega (arith, l)) (omega arith) (omega arith) (omega (arith, kl)) f (rw (kl, kn) f) refl
 
-  shut_path : (left n i : ℕ) → of plain voice.loud (begun (around b voice.loud left n) a_path false (Some i)) ≡ closing (of plain voice.loud (begun (around b voice.loud left n) a_path false (Some i)))
+  shut_path : (left n i : ℕ) → of plain voice.loud (unit_outcome (around b voice.loud left n) a_path false (Some i)) ≡ none_open (of plain voice.loud (unit_outcome (around b voice.loud left n) a_path false (Some i)))
   shut_path left n i =
-      let h = of plain voice.loud (begun (around b voice.loud left n) a_path false (Some i)) in
+      let h = of plain voice.loud (unit_outcome (around b voice.loud left n) a_path false (Some i)) in
       ap (λ (x : Bool). record { events = h.events; place = h.place; is_open = x }) (unit_closed b voice.loud left n a_path false (Some i) tt)
 
   plain_reads : (s : State) (i : ℕ) → s.place ≡ Some i → is_byte b i (code "B") ≡ false → is_byte b i (code "I") ≡ false
-      → share_of b plain voice.loud point.TraitPath s ≡ allowing (1 ∷ 1 ∷ []) (closing (of plain voice.loud (begun (around b voice.loud s.depth_left s.lifetimes) a_path false (Some i))))
+      → share_of b plain voice.loud point.TraitPath s ≡ with_looks (1 ∷ 1 ∷ []) (none_open (of plain voice.loud (unit_outcome (around b voice.loud s.depth_left s.lifetimes) a_path false (Some i))))
   unfolding share_at
   plain_reads s i p e f = rw p (trait_path_reads plain voice.loud b s.depth_left s.lifetimes false i
-      ∙ (trait_path_plain plain voice.loud b s.depth_left s.lifetimes i e f ∙ ap (allowing (1 ∷ 1 ∷ [])) (shut_path s.depth_left s.lifetimes i)))
+      ∙ (trait_path_plain plain voice.loud b s.depth_left s.lifetimes i e f ∙ ap (with_looks (1 ∷ 1 ∷ [])) (shut_path s.depth_left s.lifetimes i)))
 
   pub plain_trait : (s : State) (i : ℕ) (row : List Frame) (u : V) (new : State) (made : ℕ) → s.place ≡ Some i → is_byte b i (code "B") ≡ false → is_byte b i (code "I") ≡ false → made ≤ 2 → Fits point.TraitPath s.depth_left s.lifetimes
       → new.in_value ≡ false → new.depth_left ≡ s.depth_left → new.lifetimes ≡ s.lifetimes → new.place ≡ Some i → new.mark ≡ None
       → DidOn voice b plain (share_of b plain voice.loud point.TraitPath s) 1 (8 * s.depth_left + 2) row u (Ok point.Path) new row u made
   unfolding share_at
   plain_trait s i row u new made p e g l f kv kl kn kp km =
-      plain_goes voice b plain point.Path (1 ∷ 1 ∷ []) _ (closing (of plain voice.loud (begun (around b voice.loud s.depth_left s.lifetimes) a_path false (Some i)))) 1 (8 * s.depth_left + 2) row u new made
+      plain_goes voice b plain point.Path (1 ∷ 1 ∷ []) _ (none_open (of plain voice.loud (unit_outcome (around b voice.loud s.depth_left s.lifetimes) a_path false (Some i)))) 1 (8 * s.depth_left + 2) row u new made
       (plain_reads s i p e g) (rw (kv, kl, kn, kp) refl) km (omega (arith, l)) (omega arith) (omega (arith, kl)) (rw (kl, kn) f)
 
   abbrev open_heard : Items → ℕ → ℕ → Place → Heard
   open_heard p left n i = of plain voice.loud (run p (around b voice.loud left n) i)
 
-  opening_reads : (left n : ℕ) (i : Place) → open_heard (says "<" first_open) left n i ≡ handing voice.loud (text mark.Less ∷ []) (open_heard first_open left n i)
+  opening_reads : (left n : ℕ) (i : Place) → open_heard (says "<" first_open) left n i ≡ with_texts voice.loud (text mark.Less ∷ []) (open_heard first_open left n i)
   unfolding run
   opening_reads left n i = refl
 
@@ -253,17 +253,17 @@ module _ {V : Type 0} (voice : Ghosts V) (b : List ℕ) (plain : Bool) where
       mark_goes voice b plain point.FirstOpenArgument mark.Less [] _ (open_heard first_open s.depth_left s.lifetimes s.place) 2 (8 * s.depth_left + 2) row u new 0
       (opening_reads s.depth_left s.lifetimes s.place) (rw (kl, kn, kp) refl) km (omega arith) (omega arith) (omega (arith, kl)) (rw (kl, kn) f)
 
-  opens_reads : (left n : ℕ) (i : Place) → open_heard (opens done) left n i ≡ ended i true
+  opens_reads : (left n : ℕ) (i : Place) → open_heard (opens done) left n i ≡ nothing_heard i true
   unfolding run
   opens_reads left n i = refl
 
-  open_failed : (first : Bool) (left n : ℕ) → open_heard (left_open first) left n None ≡ ended None true
+  open_failed : (first : Bool) (left n : ℕ) → open_heard (left_open first) left n None ≡ nothing_heard None true
   open_failed true left n = end_failed plain voice.loud (around b voice.loud left n) (opens done) (unit argument next_open) ∙ opens_reads left n None
   open_failed false left n = more_failed plain voice.loud (around b voice.loud left n) ", " argument (opens done) ∙ opens_reads left n None
 
-  open_end : (first : Bool) (left n i : ℕ) → is_byte b i (code "E") ≡ true → open_heard (left_open first) left n (Some i) ≡ allowing (1 ∷ []) (ended (Some (i + 1)) true)
-  open_end true left n i e = end_over plain voice.loud (around b voice.loud left n) (opens done) (unit argument next_open) i e ∙ ap (allowing (1 ∷ [])) (opens_reads left n (Some (i + 1)))
-  open_end false left n i e = more_over plain voice.loud (around b voice.loud left n) ", " argument (opens done) i e ∙ ap (allowing (1 ∷ [])) (opens_reads left n (Some (i + 1)))
+  open_end : (first : Bool) (left n i : ℕ) → is_byte b i (code "E") ≡ true → open_heard (left_open first) left n (Some i) ≡ with_looks (1 ∷ []) (nothing_heard (Some (i + 1)) true)
+  open_end true left n i e = end_over plain voice.loud (around b voice.loud left n) (opens done) (unit argument next_open) i e ∙ ap (with_looks (1 ∷ [])) (opens_reads left n (Some (i + 1)))
+  open_end false left n i e = more_over plain voice.loud (around b voice.loud left n) ", " argument (opens done) i e ∙ ap (with_looks (1 ∷ [])) (opens_reads left n (Some (i + 1)))
 
   abbrev open_did : Bool → State → List Frame → V → Point → State → List Frame → ℕ → Type 0
   open_did first s row u to new now made = let p = if first then point.FirstOpenArgument else point.NextOpenArgument in
@@ -278,39 +278,39 @@ module _ {V : Type 0} (voice : Ghosts V) (b : List ℕ) (plain : Bool) where
   pub open_unread : (first : Bool) (s : State) (row : List Frame) (u : V) (new : State) (made : ℕ) → s.place ≡ None → made ≤ 0 → new.place ≡ None → new.is_open ≡ true → new.mark ≡ None → open_did first s row u point.End new row made
   unfolding share_at
   open_unread first s row u new made p l kp ko km = open_as first s row u point.End new row made
-      (plain_goes voice b plain point.End [] _ (ended None true) 1 (8 * s.depth_left + 2) row u new made (rw p (open_failed first s.depth_left s.lifetimes)) (rw (kp, ko) refl) km (omega (arith, l)) (omega arith) (omega arith) tt)
+      (plain_goes voice b plain point.End [] _ (nothing_heard None true) 1 (8 * s.depth_left + 2) row u new made (rw p (open_failed first s.depth_left s.lifetimes)) (rw (kp, ko) refl) km (omega (arith, l)) (omega arith) (omega arith) tt)
 
   pub open_over : (first : Bool) (s : State) (i : ℕ) (row : List Frame) (u : V) (new : State) (made : ℕ) → s.place ≡ Some i → is_byte b i (code "E") ≡ true → made ≤ 1
       → new.place ≡ Some (i + 1) → new.is_open ≡ true → new.mark ≡ None → open_did first s row u point.End new row made
   unfolding share_at
   open_over first s i row u new made p e l kp ko km = open_as first s row u point.End new row made
-      (plain_goes voice b plain point.End (1 ∷ []) _ (ended (Some (i + 1)) true) 1 (8 * s.depth_left + 2) row u new made (rw p (open_end first s.depth_left s.lifetimes i e)) (rw (kp, ko) refl) km (omega (arith, l)) (omega arith) (omega arith) tt)
+      (plain_goes voice b plain point.End (1 ∷ []) _ (nothing_heard (Some (i + 1)) true) 1 (8 * s.depth_left + 2) row u new made (rw p (open_end first s.depth_left s.lifetimes i e)) (rw (kp, ko) refl) km (omega (arith, l)) (omega arith) (omega arith) tt)
 
   -- an argument, and what follows
   abbrev argument_share : State → ℕ → Heard
   argument_share s i = share_at b plain voice.loud (argument_point b i) false s.letter s.depth_left s.lifetimes (Some (argument_place b i)) s.is_open
 
   argument_reads : (s : State) (i : ℕ) (k : Place → Heard)
-      → and_then (open_heard argument s.depth_left s.lifetimes (Some i)) (λ j _. k j) ≡ allowing (argument_costs b i) (and_then (argument_share s i) (λ j _. k j))
+      → and_then (open_heard argument s.depth_left s.lifetimes (Some i)) (λ j _. k j) ≡ with_looks (argument_costs b i) (and_then (argument_share s i) (λ j _. k j))
   unfolding share_at
   argument_reads s i k = go (is_byte b i (code "L")) (is_byte b i (code "K")) refl refl
     where
       go : (x y : Bool) → is_byte b i (code "L") ≡ x → is_byte b i (code "K") ≡ y
-          → and_then (open_heard argument s.depth_left s.lifetimes (Some i)) (λ j _. k j) ≡ allowing (argument_costs b i) (and_then (argument_share s i) (λ j _. k j))
+          → and_then (open_heard argument s.depth_left s.lifetimes (Some i)) (λ j _. k j) ≡ with_looks (argument_costs b i) (and_then (argument_share s i) (λ j _. k j))
       go true y e f = rw e (ap (λ (h : Heard). and_then h (λ j _. k j)) (argument_lifetime plain voice.loud (around b voice.loud s.depth_left s.lifetimes) i e))
       go false true e f = rw (e, f) (argument_constant plain voice.loud (around b voice.loud s.depth_left s.lifetimes) i k e f)
       go false false e f = rw (e, f) (argument_type plain voice.loud (around b voice.loud s.depth_left s.lifetimes) i k e f)
 
   open_reads : (first : Bool) (s : State) (i : ℕ) → s.depth_left ≤ max_depth → is_byte b i (code "E") ≡ false
       → open_heard (left_open first) s.depth_left s.lifetimes (Some i)
-      ≡ allowing (1 ∷ []) (handing voice.loud (marked (separator first mark.Comma)) (allowing (argument_costs b i) (and_then (argument_share s i) (share b plain voice.loud (frame_at point.NextOpenArgument s)))))
+      ≡ with_looks (1 ∷ []) (with_texts voice.loud (mark_texts (separator first mark.Comma)) (with_looks (argument_costs b i) (and_then (argument_share s i) (share b plain voice.loud (frame_at point.NextOpenArgument s)))))
   unfolding share_at
   open_reads true s i l e =
       first_on plain voice.loud (around b voice.loud s.depth_left s.lifetimes) ", " argument (opens done) i e
-      ∙ ap (allowing (1 ∷ [])) (argument_reads s i (λ j. open_heard next_open s.depth_left s.lifetimes j))
+      ∙ ap (with_looks (1 ∷ [])) (argument_reads s i (λ j. open_heard next_open s.depth_left s.lifetimes j))
   open_reads false s i l e =
       more_on plain voice.loud b s.depth_left s.lifetimes ", " argument (opens done) i (argument_element b voice.loud s.depth_left s.lifetimes l) e
-      ∙ ap (λ (h : Heard). allowing (1 ∷ []) (handing voice.loud (codes ", " ∷ []) h)) (argument_reads s i (λ j. open_heard next_open s.depth_left s.lifetimes j))
+      ∙ ap (λ (h : Heard). with_looks (1 ∷ []) (with_texts voice.loud (codes ", " ∷ []) h)) (argument_reads s i (λ j. open_heard next_open s.depth_left s.lifetimes j))
 
   pub open_on : (first : Bool) (s : State) (i : ℕ) (row now : List Frame) (u : V) (new : State) (made : ℕ)
       → s.place ≡ Some i → is_byte b i (code "E") ≡ false → made ≤ 1 + total (argument_costs b i) → Fits point.NextOpenArgument s.depth_left s.lifetimes
@@ -331,28 +331,28 @@ module _ {V : Type 0} (voice : Ghosts V) (b : List ℕ) (plain : Bool) where
   bound_heard p left n i = of plain voice.loud (run p (around b voice.loud left n) i)
 
   -- bindings, and the dyn traits behind them
-  left_reads : (o : Bool) (left n : ℕ) (i : Place) → heard voice b plain (bindings_left o) left n i ≡ and_then (bound_heard (bindings o bound) left n i) (λ j _. heard voice b plain next_traits left n j)
+  left_reads : (o : Bool) (left n : ℕ) (i : Place) → heard voice b plain (bindings_left o) left n i ≡ and_then (bound_heard (bindings o binding_value) left n i) (λ j _. heard voice b plain next_traits left n j)
   unfolding run
   left_reads o left n i = refl
 
-  traits_failed : (left n : ℕ) → heard voice b plain next_traits left n None ≡ ended None false
+  traits_failed : (left n : ℕ) → heard voice b plain next_traits left n None ≡ nothing_heard None false
   traits_failed left n = traits_end false left n None refl ∙ done_reads left n None
 
-  failed_reads : (o : Bool) (left n : ℕ) → heard voice b plain (bindings_left o) left n None ≡ handing voice.loud (marked (end_mark o)) (ended None false)
+  failed_reads : (o : Bool) (left n : ℕ) → heard voice b plain (bindings_left o) left n None ≡ with_texts voice.loud (mark_texts (end_mark o)) (nothing_heard None false)
   failed_reads o left n =
       left_reads o left n None
       ∙ (ap (λ (h : Heard). and_then h (λ j _. heard voice b plain next_traits left n j)) (bindings_failed plain voice.loud b left n o)
-      ∙ (handing_then voice.loud (if_so o ">") (ended None false) (λ j _. heard voice b plain next_traits left n j)
-      ∙ (ap (handing voice.loud (if_so o ">")) (traits_failed left n) ∙ ap (λ ts. handing voice.loud ts (ended None false)) (end_text o))))
+      ∙ (handing_then voice.loud (if_so o ">") (nothing_heard None false) (λ j _. heard voice b plain next_traits left n j)
+      ∙ (ap (with_texts voice.loud (if_so o ">")) (traits_failed left n) ∙ ap (λ ts. with_texts voice.loud ts (nothing_heard None false)) (end_text o))))
 
-  over_reads : (o : Bool) (left n i : ℕ) → is_byte b i (code "p") ≡ false → heard voice b plain (bindings_left o) left n (Some i) ≡ allowing (1 ∷ []) (handing voice.loud (marked (end_mark o)) (heard voice b plain next_traits left n (Some i)))
+  over_reads : (o : Bool) (left n i : ℕ) → is_byte b i (code "p") ≡ false → heard voice b plain (bindings_left o) left n (Some i) ≡ with_looks (1 ∷ []) (with_texts voice.loud (mark_texts (end_mark o)) (heard voice b plain next_traits left n (Some i)))
   over_reads o left n i e =
       let k : Place → Bool → Heard = λ j _. heard voice b plain next_traits left n j in
       left_reads o left n (Some i)
       ∙ (ap (λ (h : Heard). and_then h k) (bindings_over plain voice.loud b left n o i e)
-      ∙ (allowing_then (1 ∷ []) (handing voice.loud (if_so o ">") (ended (Some i) false)) k
-      ∙ (ap (allowing (1 ∷ [])) (handing_then voice.loud (if_so o ">") (ended (Some i) false) k)
-      ∙ ap (λ ts. allowing (1 ∷ []) (handing voice.loud ts (k (Some i) false))) (end_text o))))
+      ∙ (allowing_then (1 ∷ []) (with_texts voice.loud (if_so o ">") (nothing_heard (Some i) false)) k
+      ∙ (ap (with_looks (1 ∷ [])) (handing_then voice.loud (if_so o ">") (nothing_heard (Some i) false) k)
+      ∙ ap (λ ts. with_looks (1 ∷ []) (with_texts voice.loud ts (k (Some i) false))) (end_text o))))
 
   abbrev binding_did : Bool → State → List Frame → V → Point → State → ℕ → Type 0
   binding_did o s row u to new made = DidOn voice b plain (heard voice b plain (bindings_left o) s.depth_left s.lifetimes s.place) 2 (8 * s.depth_left + 4) row u (Ok to) new row u made
@@ -360,7 +360,7 @@ module _ {V : Type 0} (voice : Ghosts V) (b : List ℕ) (plain : Bool) where
   pub binding_unread : (o : Bool) (s : State) (row : List Frame) (u : V) (new : State) (made : ℕ) → s.place ≡ None → made ≤ 0 → new.place ≡ None → new.is_open ≡ false → new.mark ≡ end_mark o → binding_did o s row u point.End new made
   unfolding share_at
   binding_unread o s row u new made p l kp ko km =
-      moves voice b plain point.End (end_mark o) [] _ (ended None false) 2 (8 * s.depth_left + 4) row u new made (rw p (failed_reads o s.depth_left s.lifetimes)) (rw (kp, ko) refl) km (omega (arith, l)) (omega arith) (omega arith) tt
+      moves voice b plain point.End (end_mark o) [] _ (nothing_heard None false) 2 (8 * s.depth_left + 4) row u new made (rw p (failed_reads o s.depth_left s.lifetimes)) (rw (kp, ko) refl) km (omega (arith, l)) (omega arith) (omega arith) tt
 
   pub binding_over : (o : Bool) (s : State) (i : ℕ) (row : List Frame) (u : V) (new : State) (made : ℕ) → s.place ≡ Some i → is_byte b i (code "p") ≡ false → made ≤ 1 → Fits point.Bindings s.depth_left s.lifetimes
       → new.depth_left ≡ s.depth_left → new.lifetimes ≡ s.lifetimes → new.place ≡ Some i → new.mark ≡ end_mark o → binding_did o s row u point.NextDynTrait new made
@@ -372,64 +372,64 @@ module _ {V : Type 0} (voice : Ghosts V) (b : List ℕ) (plain : Bool) where
   name_heard left n i = heard voice b plain (word_items word.BindingName 0 behind_name) left n (Some i)
 
   -- what is bound, and what stands behind it
-  behind_reads : (left n : ℕ) (i : Place) → heard voice b plain behind_name left n i ≡ and_then (bound_heard bound left n i) (λ x _. heard voice b plain (bindings_left true) left n x)
+  behind_reads : (left n : ℕ) (i : Place) → heard voice b plain behind_name left n i ≡ and_then (bound_heard binding_value left n i) (λ x _. heard voice b plain (bindings_left true) left n x)
   unfolding run
   behind_reads left n i = refl
 
-  no_name : (left n i : ℕ) → identifier_at b i ≡ None → name_heard left n i ≡ allowing (4 * (length b - i + 1) ∷ []) (handing voice.loud (codes "{invalid syntax}" ∷ []) (ended None false))
+  no_name : (left n i : ℕ) → identifier_at b i ≡ None → name_heard left n i ≡ with_looks (4 * (length b - i + 1) ∷ []) (with_texts voice.loud (codes "{invalid syntax}" ∷ []) (nothing_heard None false))
   unfolding run
   no_name left n i f = rw f refl
 
-  name_said : (left n : ℕ) (a : Name) (j : Place) → bound_heard (says_name a (says " = " behind_name)) left n j ≡ handing voice.loud (name_pieces a ++ codes " = " ∷ []) (bound_heard behind_name left n j)
+  name_said : (left n : ℕ) (a : Name) (j : Place) → bound_heard (says_name a (says " = " behind_name)) left n j ≡ with_texts voice.loud (name_pieces a ++ codes " = " ∷ []) (bound_heard behind_name left n j)
   unfolding run
   name_said left n a j =
       says_all plain voice.loud (name_pieces a) (says " = " behind_name) (around b voice.loud left n) j
       ∙ sym (handing_both voice.loud (name_pieces a) (codes " = " ∷ []) (bound_heard behind_name left n j))
 
   a_name : (left n i j : ℕ) (a : Name) → identifier_at b i ≡ Some (a, j)
-      → name_heard left n i ≡ allowing (4 * (j - i + 1) ∷ []) (handing voice.loud (name_pieces a ++ codes " = " ∷ []) (heard voice b plain behind_name left n (Some j)))
+      → name_heard left n i ≡ with_looks (4 * (j - i + 1) ∷ []) (with_texts voice.loud (name_pieces a ++ codes " = " ∷ []) (heard voice b plain behind_name left n (Some j)))
   unfolding run
-  a_name left n i j a f = rw f (ap (λ (h : Heard). allowing (4 * (j - i + 1) ∷ []) (closing h)) (name_said left n a (Some j)))
+  a_name left n i j a f = rw f (ap (λ (h : Heard). with_looks (4 * (j - i + 1) ∷ []) (none_open h)) (name_said left n a (Some j)))
 
-  further : (left n : ℕ) (i : Place) → and_then (bound_heard bound left n i) (λ x _. and_then (bound_heard (bindings true bound) left n x) (λ j _. heard voice b plain next_traits left n j)) ≡ heard voice b plain behind_name left n i
+  further : (left n : ℕ) (i : Place) → and_then (bound_heard binding_value left n i) (λ x _. and_then (bound_heard (bindings true binding_value) left n x) (λ j _. heard voice b plain next_traits left n j)) ≡ heard voice b plain behind_name left n i
   unfolding run
   further left n i = refl
 
-  on_reads : (o : Bool) (left n i : ℕ) → left ≤ max_depth → is_byte b i (code "p") ≡ true → heard voice b plain (bindings_left o) left n (Some i) ≡ allowing (1 ∷ []) (handing voice.loud (mark_of o ∷ []) (name_heard left n (i + 1)))
+  on_reads : (o : Bool) (left n i : ℕ) → left ≤ max_depth → is_byte b i (code "p") ≡ true → heard voice b plain (bindings_left o) left n (Some i) ≡ with_looks (1 ∷ []) (with_texts voice.loud (mark_of o ∷ []) (name_heard left n (i + 1)))
   on_reads o left n i l e = left_reads o left n (Some i) ∙ go (identifier_at b (i + 1)) refl
     where
       k : Place → Bool → Heard
       k = λ j _. heard voice b plain next_traits left n j
 
       -- looks, and texts behind them
-      out_of : (x : ℕ) (ts : List Text) (h : Heard) → and_then (allowing (x ∷ []) (handing voice.loud ts h)) k ≡ allowing (x ∷ []) (handing voice.loud ts (and_then h k))
-      out_of x ts h = allowing_then (x ∷ []) (handing voice.loud ts h) k ∙ ap (allowing (x ∷ [])) (handing_then voice.loud ts h k)
+      out_of : (x : ℕ) (ts : List Text) (h : Heard) → and_then (with_looks (x ∷ []) (with_texts voice.loud ts h)) k ≡ with_looks (x ∷ []) (with_texts voice.loud ts (and_then h k))
+      out_of x ts h = allowing_then (x ∷ []) (with_texts voice.loud ts h) k ∙ ap (with_looks (x ∷ [])) (handing_then voice.loud ts h k)
 
-      go : (r : Read Name) → identifier_at b (i + 1) ≡ r → and_then (bound_heard (bindings o bound) left n (Some i)) k ≡ allowing (1 ∷ []) (handing voice.loud (mark_of o ∷ []) (name_heard left n (i + 1)))
+      go : (r : Read Name) → identifier_at b (i + 1) ≡ r → and_then (bound_heard (bindings o binding_value) left n (Some i)) k ≡ with_looks (1 ∷ []) (with_texts voice.loud (mark_of o ∷ []) (name_heard left n (i + 1)))
       go None f =
           let c = 4 * (length b - (i + 1) + 1) in
           ap (λ (h : Heard). and_then h k) (binding_stops plain voice.loud b left n o i e f)
-          ∙ (out_of 1 (mark_of o ∷ []) (allowing (c ∷ []) (handing voice.loud (codes "{invalid syntax}" ∷ []) (ended None false)))
-          ∙ ap (λ (h : Heard). allowing (1 ∷ []) (handing voice.loud (mark_of o ∷ []) h))
-          (out_of c (codes "{invalid syntax}" ∷ []) (ended None false)
-          ∙ (ap (λ (h : Heard). allowing (c ∷ []) (handing voice.loud (codes "{invalid syntax}" ∷ []) h)) (traits_failed left n) ∙ sym (no_name left n (i + 1) f))))
+          ∙ (out_of 1 (mark_of o ∷ []) (with_looks (c ∷ []) (with_texts voice.loud (codes "{invalid syntax}" ∷ []) (nothing_heard None false)))
+          ∙ ap (λ (h : Heard). with_looks (1 ∷ []) (with_texts voice.loud (mark_of o ∷ []) h))
+          (out_of c (codes "{invalid syntax}" ∷ []) (nothing_heard None false)
+          ∙ (ap (λ (h : Heard). with_looks (c ∷ []) (with_texts voice.loud (codes "{invalid syntax}" ∷ []) h)) (traits_failed left n) ∙ sym (no_name left n (i + 1) f))))
       go (Some r) f =
           let c = 4 * (r.1 - (i + 1) + 1) in
           let ts = name_pieces r.0 ++ codes " = " ∷ [] in
-          let m : Place → Bool → Heard = λ x _. bound_heard (bindings true bound) left n x in
-          let h : Heard = and_then (bound_heard bound left n (Some r.1)) m in
+          let m : Place → Bool → Heard = λ x _. bound_heard (bindings true binding_value) left n x in
+          let h : Heard = and_then (bound_heard binding_value left n (Some r.1)) m in
           ap (λ (h : Heard). and_then h k) (binding_reads plain voice.loud b left n o i r.1 r.0 l e f)
-          ∙ (out_of 1 (mark_of o ∷ []) (allowing (c ∷ []) (handing voice.loud ts h))
-          ∙ ap (λ (h : Heard). allowing (1 ∷ []) (handing voice.loud (mark_of o ∷ []) h))
+          ∙ (out_of 1 (mark_of o ∷ []) (with_looks (c ∷ []) (with_texts voice.loud ts h))
+          ∙ ap (λ (h : Heard). with_looks (1 ∷ []) (with_texts voice.loud (mark_of o ∷ []) h))
           (out_of c ts h
-          ∙ (ap (λ (h : Heard). allowing (c ∷ []) (handing voice.loud ts h)) (and_then_assoc (bound_heard bound left n (Some r.1)) m k ∙ further left n (Some r.1)) ∙ sym (a_name left n (i + 1) r.1 r.0 f))))
+          ∙ (ap (λ (h : Heard). with_looks (c ∷ []) (with_texts voice.loud ts h)) (and_then_assoc (bound_heard binding_value left n (Some r.1)) m k ∙ further left n (Some r.1)) ∙ sym (a_name left n (i + 1) r.1 r.0 f))))
 
   pub binding_on : (o : Bool) (s : State) (i : ℕ) (row : List Frame) (u : V) (new : State) (made : ℕ) → s.place ≡ Some i → is_byte b i (code "p") ≡ true → made ≤ 1 → Fits point.Bindings s.depth_left s.lifetimes
       → new.depth_left ≡ s.depth_left → new.lifetimes ≡ s.lifetimes → new.place ≡ Some (i + 1) → new.mark ≡ Some (first_mark o) → binding_did o s row u point.BindingName new made
   unfolding share_at
   binding_on o s i row u new made p e l f kl kn kp km =
       mark_goes voice b plain point.BindingName (first_mark o) (1 ∷ []) _ (name_heard s.depth_left s.lifetimes (i + 1)) 2 (8 * s.depth_left + 4) row u new made
-      (rw p (on_reads o s.depth_left s.lifetimes i (omega (arith, f)) e ∙ ap (λ (t : Text). allowing (1 ∷ []) (handing voice.loud (t ∷ []) (name_heard s.depth_left s.lifetimes (i + 1)))) (first_text o)))
+      (rw p (on_reads o s.depth_left s.lifetimes i (omega (arith, f)) e ∙ ap (λ (t : Text). with_looks (1 ∷ []) (with_texts voice.loud (t ∷ []) (name_heard s.depth_left s.lifetimes (i + 1)))) (first_text o)))
       (rw (kl, kn, kp) refl) km (omega (arith, l)) (omega arith) (omega (arith, kl)) (rw (kl, kn) f)
 
   -- What is bound.
@@ -437,17 +437,17 @@ module _ {V : Type 0} (voice : Ghosts V) (b : List ℕ) (plain : Bool) where
   abbrev bound_did : State → List Frame → V → Point → State → List Frame → ℕ → Type 0
   bound_did s row u to new now made = DidOn voice b plain (share_of b plain voice.loud point.Bound s) 5 (8 * s.depth_left + 4) row u (Ok to) new now u made
 
-  bound_reads : (s : State) (i : Place) (front : List ℕ) (g : Heard) → s.place ≡ i → bound_heard bound s.depth_left s.lifetimes i ≡ allowing front g
-      → share_of b plain voice.loud point.Bound s ≡ allowing front (handing voice.loud (marked None) (allowing [] (and_then (closing g) (share b plain voice.loud (frame_at point.OpenBindings s)))))
+  bound_reads : (s : State) (i : Place) (front : List ℕ) (g : Heard) → s.place ≡ i → bound_heard binding_value s.depth_left s.lifetimes i ≡ with_looks front g
+      → share_of b plain voice.loud point.Bound s ≡ with_looks front (with_texts voice.loud (mark_texts None) (with_looks [] (and_then (none_open g) (share b plain voice.loud (frame_at point.OpenBindings s)))))
   unfolding share_at
   bound_reads s i front g p e = rw p
       (behind_reads s.depth_left s.lifetimes i
       ∙ (ap (λ (h : Heard). and_then h (λ x _. heard voice b plain (bindings_left true) s.depth_left s.lifetimes x)) e ∙ allowing_then front g (λ x _. heard voice b plain (bindings_left true) s.depth_left s.lifetimes x)))
 
-  type_heard : (left n : ℕ) (i : Place) → bound_heard typed left n i ≡ of plain voice.loud (begun (around b voice.loud left n) a_type false i)
+  type_heard : (left n : ℕ) (i : Place) → bound_heard type_inside left n i ≡ of plain voice.loud (unit_outcome (around b voice.loud left n) a_type false i)
   type_heard left n i = last_child plain voice.loud b left n a_type false i tt
 
-  no_bound : (left n : ℕ) → bound_heard bound left n None ≡ bound_heard typed left n None
+  no_bound : (left n : ℕ) → bound_heard binding_value left n None ≡ bound_heard type_inside left n None
   unfolding run
   no_bound left n = refl
 
@@ -455,22 +455,22 @@ module _ {V : Type 0} (voice : Ghosts V) (b : List ℕ) (plain : Bool) where
       → new.depth_left ≡ s.depth_left → new.lifetimes ≡ s.lifetimes → new.place ≡ None → new.mark ≡ None → now ≡ row ++ frame_at point.OpenBindings s ∷ [] → bound_did s row u point.«Type» new now made
   unfolding share_at
   bound_unread s row now u new made p l f kl kn kp km w =
-      let g : Heard = of plain voice.loud (begun (around b voice.loud s.depth_left s.lifetimes) a_type false None) in
-      enters voice b plain point.«Type» None [] [] (frame_at point.OpenBindings s) _ (closing g) 5 (8 * s.depth_left + 4) row now u new made
+      let g : Heard = of plain voice.loud (unit_outcome (around b voice.loud s.depth_left s.lifetimes) a_type false None) in
+      enters voice b plain point.«Type» None [] [] (frame_at point.OpenBindings s) _ (none_open g) 5 (8 * s.depth_left + 4) row now u new made
       (bound_reads s None [] g p (no_bound s.depth_left s.lifetimes ∙ type_heard s.depth_left s.lifetimes None)) (rw (kl, kn, kp) refl) km w (omega (arith, l)) (omega (arith, l)) (omega arith) (omega arith) (omega (arith, kl)) f (rw (kl, kn) f) refl
 
   pub bound_constant_on : (s : State) (i : ℕ) (row now : List Frame) (u : V) (new : State) (made : ℕ) → s.place ≡ Some i → is_byte b i (code "K") ≡ true → made ≤ 1 → Fits point.Bound s.depth_left s.lifetimes
       → new.in_value ≡ false → new.depth_left ≡ s.depth_left → new.lifetimes ≡ s.lifetimes → new.place ≡ Some (i + 1) → new.mark ≡ None → now ≡ row ++ frame_at point.OpenBindings s ∷ [] → bound_did s row u point.Constant new now made
   unfolding share_at
   bound_constant_on s i row now u new made p e l f kv kl kn kp km w =
-      let g : Heard = of plain voice.loud (begun (around b voice.loud s.depth_left s.lifetimes) a_constant false (Some (i + 1))) in
-      enters voice b plain point.Constant None (1 ∷ []) [] (frame_at point.OpenBindings s) _ (closing g) 5 (8 * s.depth_left + 4) row now u new made
+      let g : Heard = of plain voice.loud (unit_outcome (around b voice.loud s.depth_left s.lifetimes) a_constant false (Some (i + 1))) in
+      enters voice b plain point.Constant None (1 ∷ []) [] (frame_at point.OpenBindings s) _ (none_open g) 5 (8 * s.depth_left + 4) row now u new made
       (bound_reads s (Some i) (1 ∷ []) g p (bound_constant plain voice.loud b s.depth_left s.lifetimes i e)) (rw (kv, kl, kn, kp) refl) km w (omega (arith, l)) (omega (arith, l)) (omega arith) (omega arith) (omega (arith, kl)) f (rw (kl, kn) f) refl
 
   pub bound_type_on : (s : State) (i : ℕ) (row now : List Frame) (u : V) (new : State) (made : ℕ) → s.place ≡ Some i → is_byte b i (code "K") ≡ false → made ≤ 1 → Fits point.Bound s.depth_left s.lifetimes
       → new.depth_left ≡ s.depth_left → new.lifetimes ≡ s.lifetimes → new.place ≡ Some i → new.mark ≡ None → now ≡ row ++ frame_at point.OpenBindings s ∷ [] → bound_did s row u point.«Type» new now made
   unfolding share_at
   bound_type_on s i row now u new made p e l f kl kn kp km w =
-      let g : Heard = of plain voice.loud (begun (around b voice.loud s.depth_left s.lifetimes) a_type false (Some i)) in
-      enters voice b plain point.«Type» None (1 ∷ []) [] (frame_at point.OpenBindings s) _ (closing g) 5 (8 * s.depth_left + 4) row now u new made
+      let g : Heard = of plain voice.loud (unit_outcome (around b voice.loud s.depth_left s.lifetimes) a_type false (Some i)) in
+      enters voice b plain point.«Type» None (1 ∷ []) [] (frame_at point.OpenBindings s) _ (none_open g) 5 (8 * s.depth_left + 4) row now u new made
       (bound_reads s (Some i) (1 ∷ []) g p (bound_type plain voice.loud b s.depth_left s.lifetimes i e)) (rw (kl, kn, kp) refl) km w (omega (arith, l)) (omega (arith, l)) (omega arith) (omega arith) (omega (arith, kl)) f (rw (kl, kn) f) refl

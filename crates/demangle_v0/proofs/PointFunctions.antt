@@ -6,14 +6,14 @@ use Prim.Native.Char.{code}
 use Rattle.demangle_symbol.specs.Digits.{is_byte}
 use Rattle.demangle_symbol.specs.Words.{optional_at}
 use Rattle.demangle_v0.specs.Items.{Text, Items, a_type, unit}
-use Rattle.demangle_v0.specs.Table.{says, list, more, typed, in_binder}
+use Rattle.demangle_v0.specs.Table.{says, list, more, type_inside, in_binder}
 use Rattle.demangle_v0.specs.Totals.{total}
 use Rattle.demangle_v0.specs.Binders.{binder_texts}
-use Rattle.demangle_v0.specs.Events.{Heard, of, ended, and_then, allowing, handing}
+use Rattle.demangle_v0.specs.Events.{Heard, of, nothing_heard, and_then, with_looks, with_texts}
 use Rattle.demangle_v0.specs.Grammar.{word_items, text}
 use Rattle.demangle_v0.specs.Groups.{texts_of, word_group}
-use Rattle.demangle_v0.specs.Reading.{Place, run, begun, max_depth}
-use Rattle.demangle_v0.specs.Points.{marked, pays, puts, followed, share_at, share, is_inner, weight_at, share_of, returns, closing, around, goes, way_weight, height_at, Fits, is_list_over, behind_list, list_costs, DidOn}
+use Rattle.demangle_v0.specs.Reading.{Place, run, unit_outcome, max_depth}
+use Rattle.demangle_v0.specs.Points.{mark_texts, pays, puts, then_frame, share_at, share, is_inner, weight_at, share_of, returns, none_open, around, goes, way_weight, height_at, Fits, is_list_over, behind_list, list_costs, DidOn}
 use Rattle.demangle_sink.specs.declared.SinkRefused.{SinkRefused}
 use Rattle.demangle_v0.specs.declared.grammar.Mark.{Mark}
 use Rattle.demangle_v0.specs.declared.grammar.Mark.TheVariants as mark
@@ -37,16 +37,16 @@ use Rattle.demangle_v0.proofs.PointSteps.{refused, kept_none, steps, after, faul
 use Rattle.demangle_v0.proofs.TypeReads.{binder_reads}
 
 abbrev pub parameters : Items
-parameters = says "fn(" (list ", " typed (says ")" returns))
+parameters = says "fn(" (list ", " type_inside (says ")" returns))
 
 abbrev pub head : Items
 head = word_items word.FunctionHead 0 parameters
 
 abbrev pub first_parameters : Items
-first_parameters = list ", " typed (says ")" returns)
+first_parameters = list ", " type_inside (says ")" returns)
 
 abbrev pub next_parameters : Items
-next_parameters = more ", " typed (says ")" returns)
+next_parameters = more ", " type_inside (says ")" returns)
 
 abbrev pub left_parameters : Bool → Items
 left_parameters first = if first then first_parameters else next_parameters
@@ -60,15 +60,15 @@ next_frame s = record { point = point.NextParameter; in_value = s.in_value; lett
 module _ {V : Type 0} (voice : Ghosts V) (b : List ℕ) (plain : Bool) where
   -- what is heard of a unit's rest
   abbrev pub heard : Items → ℕ → ℕ → Place → Heard
-  heard p left n i = closing (of plain voice.loud (run p (around b voice.loud left n) i))
+  heard p left n i = none_open (of plain voice.loud (run p (around b voice.loud left n) i))
 
   -- Texts that are handed over behind some looks.
 
   pub put_goes : (to : Point) (front : List ℕ) (ts : List Text) (h : Heard) (weight high : ℕ) (row : List Frame) (v w : V) (new : State) (made : ℕ)
-      → h ≡ allowing front (handing voice.loud ts (share_of b plain voice.loud to new)) → voice.prints v ts (Ok tt) w → new.mark ≡ None → made ≤ total front
+      → h ≡ with_looks front (with_texts voice.loud ts (share_of b plain voice.loud to new)) → voice.prints v ts (Ok tt) w → new.mark ≡ None → made ≤ total front
       → way_weight (goes to) + 1 ≤ weight + 100 * total front → height_at to new.depth_left ≤ high → Fits to new.depth_left new.lifetimes
       → DidOn voice b plain h weight high row v (Ok to) new row w made
-  unfolding followed
+  unfolding then_frame
   put_goes to front ts h weight high row v w new made e p m l x y f = record {
     comes = record {
       bits = pays front ∷ puts ts ∷ [];
@@ -89,7 +89,7 @@ module _ {V : Type 0} (voice : Ghosts V) (b : List ℕ) (plain : Bool) where
   }
 
   pub put_refused : (front : List ℕ) (ts : List Text) (h rest : Heard) (weight high : ℕ) (row : List Frame) (v w : V) (new : State) (e : SinkRefused) (made : ℕ)
-      → h ≡ allowing front (handing voice.loud ts rest) → voice.prints v ts (Err e) w → made ≤ total front → (voice.loud ≡ false → rest.place ≡ None)
+      → h ≡ with_looks front (with_texts voice.loud ts rest) → voice.prints v ts (Err e) w → made ≤ total front → (voice.loud ≡ false → rest.place ≡ None)
       → DidOn voice b plain h weight high row v (Err Refused) new row w made
   put_refused front ts h rest weight high row v w new e made r p l q = record {
     comes = (
@@ -112,57 +112,57 @@ module _ {V : Type 0} (voice : Ghosts V) (b : List ℕ) (plain : Bool) where
 
   -- a mark that is left, and the point behind it
   pub mark_goes : (to : Point) (m : Mark) (front : List ℕ) (h rest : Heard) (weight high : ℕ) (row : List Frame) (u : V) (new : State) (made : ℕ)
-      → h ≡ allowing front (handing voice.loud (text m ∷ []) rest) → rest ≡ share_of b plain voice.loud to new → new.mark ≡ Some m → made ≤ total front
+      → h ≡ with_looks front (with_texts voice.loud (text m ∷ []) rest) → rest ≡ share_of b plain voice.loud to new → new.mark ≡ Some m → made ≤ total front
       → way_weight (goes to) + 1 ≤ weight + 100 * total front → height_at to new.depth_left ≤ high → Fits to new.depth_left new.lifetimes
       → DidOn voice b plain h weight high row u (Ok to) new row u made
-  unfolding followed
+  unfolding then_frame
   mark_goes to m front h rest weight high row u new made e r k l x y f = record {
     comes =
-        steps voice b plain (goes to) front [] None h weight high row row u new made (rw k (e ∙ ap (λ (g : Heard). allowing front (handing voice.loud (text m ∷ []) g)) r)) refl (omega (arith, l)) (omega (arith, l)) (omega (arith, x)) (omega arith) (omega (arith, y)) tt f (λ _. tt);
+        steps voice b plain (goes to) front [] None h weight high row row u new made (rw k (e ∙ ap (λ (g : Heard). with_looks front (with_texts voice.loud (text m ∷ []) g)) r)) refl (omega (arith, l)) (omega (arith, l)) (omega (arith, x)) (omega arith) (omega (arith, y)) tt f (λ _. tt);
   }
 
   -- nothing is handed over
   pub plain_goes : (to : Point) (front : List ℕ) (h rest : Heard) (weight high : ℕ) (row : List Frame) (u : V) (new : State) (made : ℕ)
-      → h ≡ allowing front rest → rest ≡ share_of b plain voice.loud to new → new.mark ≡ None → made ≤ total front
+      → h ≡ with_looks front rest → rest ≡ share_of b plain voice.loud to new → new.mark ≡ None → made ≤ total front
       → way_weight (goes to) + 1 ≤ weight + 100 * total front → height_at to new.depth_left ≤ high → Fits to new.depth_left new.lifetimes
       → DidOn voice b plain h weight high row u (Ok to) new row u made
-  unfolding followed
+  unfolding then_frame
   plain_goes to front h rest weight high row u new made e r k l x y f = record {
     comes =
-        steps voice b plain (goes to) front [] None h weight high row row u new made (rw k (e ∙ ap (allowing front) r)) refl (omega (arith, l)) (omega (arith, l)) (omega (arith, x)) (omega arith) (omega (arith, y)) tt f (λ _. tt);
+        steps voice b plain (goes to) front [] None h weight high row row u new made (rw k (e ∙ ap (with_looks front) r)) refl (omega (arith, l)) (omega (arith, l)) (omega (arith, x)) (omega arith) (omega (arith, y)) tt f (λ _. tt);
   }
 
   -- a mark may be left
   pub moves : (to : Point) (ms : Option Mark) (front : List ℕ) (h rest : Heard) (weight high : ℕ) (row : List Frame) (u : V) (new : State) (made : ℕ)
-      → h ≡ allowing front (handing voice.loud (marked ms) rest) → rest ≡ share_of b plain voice.loud to new → new.mark ≡ ms → made ≤ total front
+      → h ≡ with_looks front (with_texts voice.loud (mark_texts ms) rest) → rest ≡ share_of b plain voice.loud to new → new.mark ≡ ms → made ≤ total front
       → way_weight (goes to) + 1 ≤ weight + 100 * total front → height_at to new.depth_left ≤ high → Fits to new.depth_left new.lifetimes
       → DidOn voice b plain h weight high row u (Ok to) new row u made
-  unfolding followed
+  unfolding then_frame
   moves to ms front h rest weight high row u new made e r k l x y f = record {
     comes =
-        steps voice b plain (goes to) front [] None h weight high row row u new made (rw k (e ∙ ap (λ (g : Heard). allowing front (handing voice.loud (marked ms) g)) r)) refl (omega (arith, l)) (omega (arith, l)) (omega (arith, x)) (omega arith) (omega (arith, y)) tt f (λ _. tt);
+        steps voice b plain (goes to) front [] None h weight high row row u new made (rw k (e ∙ ap (λ (g : Heard). with_looks front (with_texts voice.loud (mark_texts ms) g)) r)) refl (omega (arith, l)) (omega (arith, l)) (omega (arith, x)) (omega arith) (omega (arith, y)) tt f (λ _. tt);
   }
 
   -- a unit is entered, behind which a frame stands
   pub enters : (to : Point) (ms : Option Mark) (front back : List ℕ) (f : Frame) (h g : Heard) (weight high : ℕ) (row now : List Frame) (u : V) (new : State) (made : ℕ)
-      → h ≡ allowing front (handing voice.loud (marked ms) (allowing back (and_then g (share b plain voice.loud f)))) → g ≡ share_of b plain voice.loud to new → new.mark ≡ ms → now ≡ row ++ f ∷ []
+      → h ≡ with_looks front (with_texts voice.loud (mark_texts ms) (with_looks back (and_then g (share b plain voice.loud f)))) → g ≡ share_of b plain voice.loud to new → new.mark ≡ ms → now ≡ row ++ f ∷ []
       → made ≤ total front + total back → made ≤ total front + 2 → way_weight (goes to) + weight_at f.point + 2 ≤ weight + 100 * (total front + total back)
       → height_at f.point f.depth_left ≤ high → height_at to new.depth_left + 1 ≤ high → Fits f.point f.depth_left f.number → Fits to new.depth_left new.lifetimes → is_inner f.point ≡ true
       → DidOn voice b plain h weight high row u (Ok to) new now u made
-  unfolding followed
+  unfolding then_frame
   enters to ms front back f h g weight high row now u new made e r k w l m d y z p q i = record {
     comes =
-        steps voice b plain (goes to) front back (Some f) h weight high row now u new made (rw k (e ∙ ap (λ (x : Heard). allowing front (handing voice.loud (marked ms) (allowing back (and_then x (share b plain voice.loud f))))) r)) w l m (omega (arith, d)) y z p q (λ _. i);
+        steps voice b plain (goes to) front back (Some f) h weight high row now u new made (rw k (e ∙ ap (λ (x : Heard). with_looks front (with_texts voice.loud (mark_texts ms) (with_looks back (and_then x (share b plain voice.loud f))))) r)) w l m (omega (arith, d)) y z p q (λ _. i);
   }
 
   -- Words behind which the unit goes on.
 
   word_so : (x : Word) (c : ℕ) (p : Items) (left n : ℕ) (i : Place) (r : WordRead) → r ≡ (word_group b x c voice.loud n i).reads
-      → heard (word_items x c p) left n i ≡ allowing (word_group b x c voice.loud n i).costs (closing (word_then b plain voice.loud r (λ j. of plain voice.loud (run p (around b voice.loud left n) j))))
+      → heard (word_items x c p) left n i ≡ with_looks (word_group b x c voice.loud n i).costs (none_open (word_then b plain voice.loud r (λ j. of plain voice.loud (run p (around b voice.loud left n) j))))
   word_so x c p left n i r e =
       let g = word_group b x c voice.loud n i in
-      ap closing (word_read b plain left voice.loud n x c p i)
-      ∙ ap (λ (z : WordRead). allowing g.costs (closing (word_then b plain voice.loud z (λ j. of plain voice.loud (run p (around b voice.loud left n) j))))) (sym e)
+      ap none_open (word_read b plain left voice.loud n x c p i)
+      ∙ ap (λ (z : WordRead). with_looks g.costs (none_open (word_then b plain voice.loud z (λ j. of plain voice.loud (run p (around b voice.loud left n) j))))) (sym e)
 
   pub word_on : (to : Point) (x : Word) (c : ℕ) (p : Items) (left n : ℕ) (i j : Place) (s : Stretch) (weight high : ℕ) (row : List Frame) (v w : V) (new : State) (made : ℕ)
       → reads.Goes s j ≡ (word_group b x c voice.loud n i).reads → made ≤ total (word_group b x c voice.loud n i).costs
@@ -171,7 +171,7 @@ module _ {V : Type 0} (voice : Ghosts V) (b : List ℕ) (plain : Bool) where
       → DidOn voice b plain (heard (word_items x c p) left n i) weight high row v (Ok to) new row w made
   word_on to x c p left n i j s weight high row v w new made r l q m e y z f =
       let ks = (word_group b x c voice.loud n i).costs in
-      put_goes to ks (texts_of b plain s) _ weight high row v w new made (word_so x c p left n i (reads.Goes s j) r ∙ ap (λ (h : Heard). allowing ks (handing voice.loud (texts_of b plain s) h)) e) q m l (omega arith) z f
+      put_goes to ks (texts_of b plain s) _ weight high row v w new made (word_so x c p left n i (reads.Goes s j) r ∙ ap (λ (h : Heard). with_looks ks (with_texts voice.loud (texts_of b plain s) h)) e) q m l (omega arith) z f
 
   -- one that hands nothing over
   pub word_bare : (x : Word) (c : ℕ) (p : Items) (left n : ℕ) (i j : Place) (s : Stretch) (weight high weight' high' : ℕ) (row : List Frame) (v w : V) (result : Result Point Stop) (new : State) (now : List Frame) (second made : ℕ)
@@ -181,7 +181,7 @@ module _ {V : Type 0} (voice : Ghosts V) (b : List ℕ) (plain : Bool) where
   word_bare x c p left n i j s weight high weight' high' row v w result new now second made r l q y z d =
       let ks = (word_group b x c voice.loud n i).costs in
       after voice b plain ks _ (heard p left n j) weight high weight' high' row v w result new now (total ks) second made
-      (word_so x c p left n i (reads.Goes s j) r ∙ ap (λ ts. allowing ks (handing voice.loud ts (heard p left n j))) q) (omega arith) l (omega arith) z d
+      (word_so x c p left n i (reads.Goes s j) r ∙ ap (λ ts. with_looks ks (with_texts voice.loud ts (heard p left n j))) q) (omega arith) l (omega arith) z d
 
   pub word_on_refused : (x : Word) (c : ℕ) (p : Items) (left n : ℕ) (i j : Place) (s : Stretch) (weight high : ℕ) (row : List Frame) (v w : V) (new : State) (e : SinkRefused) (made : ℕ)
       → reads.Goes s j ≡ (word_group b x c voice.loud n i).reads → made ≤ total (word_group b x c voice.loud n i).costs
@@ -209,8 +209,8 @@ module _ {V : Type 0} (voice : Ghosts V) (b : List ℕ) (plain : Bool) where
   binder_stops p left n i weight high row u new made k e l x = faulty_after voice b plain (4 * (length b - i + 1) ∷ []) mark.Invalid _ weight high row u new made k (rw (sym e) refl) (omega (arith, l)) x
 
   binder_so : (p : Items) (left n i j m : ℕ) → Some (m, j) ≡ optional_at (code "G") b i
-      → heard (in_binder p) left n (Some i) ≡ allowing (4 * (j - i + 1) ∷ []) (handing voice.loud (binder_texts m n) (heard p left (n + m) (Some j)))
-  binder_so p left n i j m e = ap closing (binder_reads plain voice.loud b left n p i j m (sym e))
+      → heard (in_binder p) left n (Some i) ≡ with_looks (4 * (j - i + 1) ∷ []) (with_texts voice.loud (binder_texts m n) (heard p left (n + m) (Some j)))
+  binder_so p left n i j m e = ap none_open (binder_reads plain voice.loud b left n p i j m (sym e))
 
   -- no lifetime
   pub binder_none : (p : Items) (left n i j m weight high weight' high' : ℕ) (row : List Frame) (v w : V) (result : Result Point Stop) (new : State) (now : List Frame) (first second made : ℕ)
@@ -228,7 +228,7 @@ module _ {V : Type 0} (voice : Ghosts V) (b : List ℕ) (plain : Bool) where
       → DidOn voice b plain (heard (in_binder p) left n (Some i)) weight high row v (Ok to) new row w made
   binder_goes to p left n i j m weight high row v w new made e l q k h x y f =
       put_goes to (4 * (j - i + 1) ∷ []) (binder_texts m n) _ weight high row v w new made
-      (binder_so p left n i j m e ∙ ap (λ (h : Heard). allowing (4 * (j - i + 1) ∷ []) (handing voice.loud (binder_texts m n) h)) h) q k (omega (arith, l)) (omega (arith, x)) y f
+      (binder_so p left n i j m e ∙ ap (λ (h : Heard). with_looks (4 * (j - i + 1) ∷ []) (with_texts voice.loud (binder_texts m n) h)) h) q k (omega (arith, l)) (omega (arith, x)) y f
 
   pub binder_refused : (p : Items) (left n i j m weight high : ℕ) (row : List Frame) (v w : V) (new : State) (r : SinkRefused) (made : ℕ)
       → Some (m, j) ≡ optional_at (code "G") b i → made ≤ 4 * (j - i + 1) → voice.prints v (binder_texts m n) (Err r) w → (voice.loud ≡ false → IsOk (refused r))
@@ -240,7 +240,7 @@ module _ {V : Type 0} (voice : Ghosts V) (b : List ℕ) (plain : Bool) where
   unfolding share_at
   open_share s = refl
 
-  open_reads : (left n : ℕ) (i : Place) → heard parameters left n i ≡ handing voice.loud (text mark.Function ∷ []) (heard first_parameters left n i)
+  open_reads : (left n : ℕ) (i : Place) → heard parameters left n i ≡ with_texts voice.loud (text mark.Function ∷ []) (heard first_parameters left n i)
   unfolding run
   open_reads left n i = refl
 
@@ -262,17 +262,17 @@ module _ {V : Type 0} (voice : Ghosts V) (b : List ℕ) (plain : Bool) where
   parameter_as true s row u to new now made d = d
   parameter_as false s row u to new now made d = d
 
-  closing_reads : (left n : ℕ) (i : Place) → heard (says ")" returns) left n i ≡ handing voice.loud (text mark.CloseParen ∷ []) (heard returns left n i)
+  closing_reads : (left n : ℕ) (i : Place) → heard (says ")" returns) left n i ≡ with_texts voice.loud (text mark.CloseParen ∷ []) (heard returns left n i)
   unfolding run
   closing_reads left n i = refl
 
   -- their end
   parameters_end : (first : Bool) (left n : ℕ) (i : Place) → is_list_over b i ≡ true
-      → heard (left_parameters first) left n i ≡ allowing (list_costs i) (heard (says ")" returns) left n (behind_list b i))
-  parameters_end true left n None e = ap closing (end_failed plain voice.loud (around b voice.loud left n) (says ")" returns) (unit typed next_parameters))
-  parameters_end false left n None e = ap closing (more_failed plain voice.loud (around b voice.loud left n) ", " typed (says ")" returns))
-  parameters_end true left n (Some i) e = rw e (ap closing (end_over plain voice.loud (around b voice.loud left n) (says ")" returns) (unit typed next_parameters) i e))
-  parameters_end false left n (Some i) e = rw e (ap closing (more_over plain voice.loud (around b voice.loud left n) ", " typed (says ")" returns) i e))
+      → heard (left_parameters first) left n i ≡ with_looks (list_costs i) (heard (says ")" returns) left n (behind_list b i))
+  parameters_end true left n None e = ap none_open (end_failed plain voice.loud (around b voice.loud left n) (says ")" returns) (unit type_inside next_parameters))
+  parameters_end false left n None e = ap none_open (more_failed plain voice.loud (around b voice.loud left n) ", " type_inside (says ")" returns))
+  parameters_end true left n (Some i) e = rw e (ap none_open (end_over plain voice.loud (around b voice.loud left n) (says ")" returns) (unit type_inside next_parameters) i e))
+  parameters_end false left n (Some i) e = rw e (ap none_open (more_over plain voice.loud (around b voice.loud left n) ", " type_inside (says ")" returns) i e))
 
   pub parameters_over : (first : Bool) (s : State) (row : List Frame) (u : V) (new : State) (made : ℕ)
       → is_list_over b s.place ≡ true → made ≤ total (list_costs s.place) → Fits point.NextParameter s.depth_left s.lifetimes
@@ -281,20 +281,20 @@ module _ {V : Type 0} (voice : Ghosts V) (b : List ℕ) (plain : Bool) where
   unfolding share_at
   parameters_over first s row u new made e l f kl kn kp km = parameter_as first s row u point.Returns new row made
       (mark_goes point.Returns mark.CloseParen (list_costs s.place) _ (heard returns s.depth_left s.lifetimes (behind_list b s.place)) 3 (8 * s.depth_left + 2) row u new made
-      (parameters_end first s.depth_left s.lifetimes s.place e ∙ ap (allowing (list_costs s.place)) (closing_reads s.depth_left s.lifetimes (behind_list b s.place))) (rw (kl, kn, kp) refl) km l (omega arith) (omega (arith, kl)) (rw (kl, kn) f))
+      (parameters_end first s.depth_left s.lifetimes s.place e ∙ ap (with_looks (list_costs s.place)) (closing_reads s.depth_left s.lifetimes (behind_list b s.place))) (rw (kl, kn, kp) refl) km l (omega arith) (omega (arith, kl)) (rw (kl, kn) f))
 
   -- one of them
   parameter_reads : (first : Bool) (s : State) (i : ℕ) → s.depth_left ≤ max_depth → is_byte b i (code "E") ≡ false
       → heard (left_parameters first) s.depth_left s.lifetimes (Some i)
-      ≡ allowing (1 ∷ []) (handing voice.loud (marked (separator first mark.Comma)) (allowing [] (and_then (closing (of plain voice.loud (begun (around b voice.loud s.depth_left s.lifetimes) a_type false (Some i)))) (share b plain voice.loud (next_frame s)))))
+      ≡ with_looks (1 ∷ []) (with_texts voice.loud (mark_texts (separator first mark.Comma)) (with_looks [] (and_then (none_open (of plain voice.loud (unit_outcome (around b voice.loud s.depth_left s.lifetimes) a_type false (Some i)))) (share b plain voice.loud (next_frame s)))))
   unfolding share_at
   parameter_reads true s i l e =
       let r = around b voice.loud s.depth_left s.lifetimes in
-      ap closing (first_on plain voice.loud r ", " typed (says ")" returns) i e ∙ ap (allowing (1 ∷ [])) (child_followed plain voice.loud a_type false r (Some i) (λ j. of plain voice.loud (run next_parameters r j))))
+      ap none_open (first_on plain voice.loud r ", " type_inside (says ")" returns) i e ∙ ap (with_looks (1 ∷ [])) (child_followed plain voice.loud a_type false r (Some i) (λ j. of plain voice.loud (run next_parameters r j))))
   parameter_reads false s i l e =
       let r = around b voice.loud s.depth_left s.lifetimes in
-      ap closing (more_on plain voice.loud b s.depth_left s.lifetimes ", " typed (says ")" returns) i (type_element b voice.loud s.depth_left s.lifetimes l) e
-      ∙ ap (λ (h : Heard). allowing (1 ∷ []) (handing voice.loud (codes ", " ∷ []) h)) (child_followed plain voice.loud a_type false r (Some i) (λ j. of plain voice.loud (run next_parameters r j))))
+      ap none_open (more_on plain voice.loud b s.depth_left s.lifetimes ", " type_inside (says ")" returns) i (type_element b voice.loud s.depth_left s.lifetimes l) e
+      ∙ ap (λ (h : Heard). with_looks (1 ∷ []) (with_texts voice.loud (codes ", " ∷ []) h)) (child_followed plain voice.loud a_type false r (Some i) (λ j. of plain voice.loud (run next_parameters r j))))
 
   pub parameter_on : (first : Bool) (s : State) (row now : List Frame) (u : V) (new : State) (made : ℕ)
       → is_list_over b s.place ≡ false → made ≤ total (list_costs s.place) → Fits point.NextParameter s.depth_left s.lifetimes
@@ -309,14 +309,14 @@ module _ {V : Type 0} (voice : Ghosts V) (b : List ℕ) (plain : Bool) where
           let d : is_byte b i (code "E") ≡ false = rw p at e in
           let q : new.place ≡ Some i = rw (p, d) at kp in
           parameter_as first s row u point.«Type» new now made
-          (enters point.«Type» (separator first mark.Comma) (1 ∷ []) [] (next_frame s) _ (closing (of plain voice.loud (begun (around b voice.loud s.depth_left s.lifetimes) a_type false (Some i)))) 3 (8 * s.depth_left + 2) row now u new made
+          (enters point.«Type» (separator first mark.Comma) (1 ∷ []) [] (next_frame s) _ (none_open (of plain voice.loud (unit_outcome (around b voice.loud s.depth_left s.lifetimes) a_type false (Some i)))) 3 (8 * s.depth_left + 2) row now u new made
           (rw p (parameter_reads first s i (omega (arith, f)) d)) (rw (kl, kn, q) refl) km w (omega (arith, rw p at l)) (omega (arith, rw p at l)) (omega arith) (omega arith) (omega (arith, kl)) f (rw (kl, kn) f) refl)
 
   -- What is returned.
 
-  type_share : (new : State) (left n : ℕ) (i : Place) → new.depth_left ≡ left → new.lifetimes ≡ n → new.place ≡ i → heard typed left n i ≡ share_of b plain voice.loud point.«Type» new
+  type_share : (new : State) (left n : ℕ) (i : Place) → new.depth_left ≡ left → new.lifetimes ≡ n → new.place ≡ i → heard type_inside left n i ≡ share_of b plain voice.loud point.«Type» new
   unfolding share_at
-  type_share new left n i kl kn kp = rw (kl, kn, kp) (ap closing (last_child plain voice.loud b left n a_type false i tt))
+  type_share new left n i kl kn kp = rw (kl, kn, kp) (ap none_open (last_child plain voice.loud b left n a_type false i tt))
 
   abbrev returns_did : State → List Frame → V → Point → State → ℕ → Type 0
   returns_did s row u to new made = DidOn voice b plain (share_of b plain voice.loud point.Returns s) 2 (8 * s.depth_left + 2) row u (Ok to) new row u made
@@ -325,16 +325,16 @@ module _ {V : Type 0} (voice : Ghosts V) (b : List ℕ) (plain : Bool) where
       → new.place ≡ Some (i + 1) → new.is_open ≡ false → new.mark ≡ None → returns_did s row u point.End new made
   unfolding run share_at
   returns_unit s i row u new made p e l kp ko km =
-      plain_goes point.End (1 ∷ []) _ (ended (Some (i + 1)) false) 2 (8 * s.depth_left + 2) row u new made (rw (p, e) refl) (rw (kp, ko) refl) km (omega (arith, l)) (omega arith) (omega arith) tt
+      plain_goes point.End (1 ∷ []) _ (nothing_heard (Some (i + 1)) false) 2 (8 * s.depth_left + 2) row u new made (rw (p, e) refl) (rw (kp, ko) refl) km (omega (arith, l)) (omega arith) (omega arith) tt
 
   pub returns_failed : (s : State) (row : List Frame) (u : V) (new : State) (made : ℕ) → s.place ≡ None → made ≤ 0 → Fits point.Returns s.depth_left s.lifetimes
       → new.depth_left ≡ s.depth_left → new.lifetimes ≡ s.lifetimes → new.place ≡ None → new.mark ≡ Some mark.Arrow → returns_did s row u point.«Type» new made
   unfolding run share_at
   returns_failed s row u new made p l f kl kn kp km =
-      mark_goes point.«Type» mark.Arrow [] _ (heard typed s.depth_left s.lifetimes None) 2 (8 * s.depth_left + 2) row u new made (rw p refl) (type_share new s.depth_left s.lifetimes None kl kn kp) km (omega (arith, l)) (omega arith) (omega (arith, kl)) (rw (kl, kn) f)
+      mark_goes point.«Type» mark.Arrow [] _ (heard type_inside s.depth_left s.lifetimes None) 2 (8 * s.depth_left + 2) row u new made (rw p refl) (type_share new s.depth_left s.lifetimes None kl kn kp) km (omega (arith, l)) (omega arith) (omega (arith, kl)) (rw (kl, kn) f)
 
   pub returns_type : (s : State) (i : ℕ) (row : List Frame) (u : V) (new : State) (made : ℕ) → s.place ≡ Some i → is_byte b i (code "u") ≡ false → made ≤ 1 → Fits point.Returns s.depth_left s.lifetimes
       → new.depth_left ≡ s.depth_left → new.lifetimes ≡ s.lifetimes → new.place ≡ Some i → new.mark ≡ Some mark.Arrow → returns_did s row u point.«Type» new made
   unfolding run share_at
   returns_type s i row u new made p e l f kl kn kp km =
-      mark_goes point.«Type» mark.Arrow (1 ∷ []) _ (heard typed s.depth_left s.lifetimes (Some i)) 2 (8 * s.depth_left + 2) row u new made (rw (p, e) refl) (type_share new s.depth_left s.lifetimes (Some i) kl kn kp) km (omega (arith, l)) (omega arith) (omega (arith, kl)) (rw (kl, kn) f)
+      mark_goes point.«Type» mark.Arrow (1 ∷ []) _ (heard type_inside s.depth_left s.lifetimes (Some i)) 2 (8 * s.depth_left + 2) row u new made (rw (p, e) refl) (type_share new s.depth_left s.lifetimes (Some i) kl kn kp) km (omega (arith, l)) (omega arith) (omega (arith, kl)) (rw (kl, kn) f)

@@ -3,12 +3,12 @@ use Rattle.std.specs.Prelude.{◌*◌}
 use Rattle.std.proofs.Common.{◌≡◌, ℕ, ◌+◌, ◌-◌, ◌≤◌, length, Bool, true, false, Some, None, List, [], ◌∷◌, ◌++◌, Ok, Err, refl, arith, sym, ap, ◌∙◌}
 use Prim.Native.Char.{code}
 use Rattle.demangle_symbol.specs.Words.{optional_at}
-use Rattle.demangle_v0.specs.Events.{of, and_then, handing}
+use Rattle.demangle_v0.specs.Events.{of, and_then, with_texts}
 use Rattle.demangle_v0.specs.Grammar.{text}
 use Rattle.demangle_v0.specs.Impls.{impl_items, skip_point, self_point}
 use Rattle.demangle_v0.specs.Items.{Kind, Items, a_type, say, child}
-use Rattle.demangle_v0.specs.Points.{frame_of, followed, goes, share, share_at, rest_at, closing, around, weight_at, Fits, DidOn}
-use Rattle.demangle_v0.specs.Reading.{Place, begun, run}
+use Rattle.demangle_v0.specs.Points.{frame_of, then_frame, goes, share, share_at, rest_at, none_open, around, weight_at, Fits, DidOn}
+use Rattle.demangle_v0.specs.Reading.{Place, unit_outcome, run}
 use Rattle.demangle_v0.specs.declared.grammar.Mark.TheVariants as mark
 use Rattle.demangle_v0.specs.declared.points.Point.TheVariants as point
 use Rattle.demangle_v0.specs.declared.points.frames.Frame.{Frame}
@@ -34,7 +34,7 @@ module _ {V : Type 0} (voice : Ghosts V) (b : List ℕ) (plain : Bool) where
   pub trait_impl_goes : (left n i m j : ℕ) (row : List Frame) (u : V) (new : State) (made : ℕ) → Some (m, j) ≡ optional_at (code "s") b i → made ≤ 4 * (j - i + 1) → Fits point.Path left n
       → new.depth_left ≡ left → new.lifetimes ≡ n → new.place ≡ Some j → new.mark ≡ None
       → DidOn voice b plain (heard voice b plain (impl_items true) left n (Some i)) 1 (8 * left + 2) row u (Ok point.ImplPath) new row u made
-  unfolding run followed share_at
+  unfolding run then_frame share_at
   trait_impl_goes left n i m j row u new made e l f kl kn kp km = record {
     comes = steps voice b plain (goes point.ImplPath) (4 * (j - i + 1) ∷ []) [] None _ 1 (8 * left + 2) row row u new made (rw (kl, kn, kp, km, sym e) refl) refl (omega (arith, l)) (omega (arith, l)) (omega arith) (omega arith) (omega (arith, kl)) tt (rw (kl, kn) f) (λ _. tt);
   }
@@ -42,7 +42,7 @@ module _ {V : Type 0} (voice : Ghosts V) (b : List ℕ) (plain : Bool) where
   pub impl_goes : (left n i m j : ℕ) (row : List Frame) (u : V) (new : State) (made : ℕ) → Some (m, j) ≡ optional_at (code "s") b i → made ≤ 4 * (j - i + 1) → Fits point.Path left n
       → new.depth_left ≡ left → new.lifetimes ≡ n → new.place ≡ Some j → new.mark ≡ None
       → DidOn voice b plain (heard voice b plain (impl_items false) left n (Some i)) 1 (8 * left + 2) row u (Ok point.InherentPath) new row u made
-  unfolding run followed share_at
+  unfolding run then_frame share_at
   impl_goes left n i m j row u new made e l f kl kn kp km = record {
     comes = steps voice b plain (goes point.InherentPath) (4 * (j - i + 1) ∷ []) [] None _ 1 (8 * left + 2) row row u new made (rw (kl, kn, kp, km, sym e) refl) refl (omega (arith, l)) (omega (arith, l)) (omega arith) (omega arith) (omega (arith, kl)) tt (rw (kl, kn) f) (λ _. tt);
   }
@@ -61,7 +61,7 @@ module _ {V : Type 0} (voice : Ghosts V) (b : List ℕ) (plain : Bool) where
       → new.in_value ≡ false → new.letter ≡ c → new.depth_left ≡ left → new.lifetimes ≡ n → new.place ≡ i → new.mark ≡ None → new.is_open ≡ o
       → now ≡ row ++ frame_of (self_point q) v c left n ∷ []
       → DidOn voice b plain (heard_at voice b plain (skip_point q) v c left n i o) (weight_at (skip_point q)) (8 * left + 2) row u (Ok point.Path) new now u made
-  unfolding followed
+  unfolding then_frame
   skip_goes true v c left n i o row now u new made silent l f kv kc kl kn kp km ko r = record {
     comes =
         steps voice b plain (goes point.Path) [] [] (Some (frame_of point.SelfType v c left n)) _ 10 (8 * left + 2) row now u new made
@@ -82,19 +82,19 @@ module _ {V : Type 0} (voice : Ghosts V) (b : List ℕ) (plain : Bool) where
   -- Behind it.
 
   child_said : (t : List ℕ) (k : Kind) (p : Items) (left n : ℕ) (i : Place)
-      → heard voice b plain (say t (child k false p)) left n i ≡ handing voice.loud (t ∷ []) (and_then (closing (of plain voice.loud (begun (around b voice.loud left n) k false i))) (λ j o. heard voice b plain p left n j))
+      → heard voice b plain (say t (child k false p)) left n i ≡ with_texts voice.loud (t ∷ []) (and_then (none_open (of plain voice.loud (unit_outcome (around b voice.loud left n) k false i))) (λ j o. heard voice b plain p left n j))
   unfolding run
   child_said t k p left n i = refl
 
   self_heard : (v : Bool) (c left n : ℕ) (i : Place) (o : Bool) → heard_at voice b plain point.SelfType v c left n i o
-      ≡ handing voice.loud (text mark.Less ∷ []) (and_then (closing (of plain voice.loud (begun (around b voice.loud left n) a_type false i))) (λ j o. heard voice b plain (rest_at point.As v c) left n j))
+      ≡ with_texts voice.loud (text mark.Less ∷ []) (and_then (none_open (of plain voice.loud (unit_outcome (around b voice.loud left n) a_type false i))) (λ j o. heard voice b plain (rest_at point.As v c) left n j))
   unfolding share_at
   self_heard v c left n i o = child_said (text mark.Less) a_type (rest_at point.As v c) left n i
 
   pub self_goes : (v : Bool) (c left n : ℕ) (i : Place) (o : Bool) (row now : List Frame) (u : V) (new : State) (made : ℕ) → made ≤ 0 → Fits point.Path left n
       → new.depth_left ≡ left → new.lifetimes ≡ n → new.place ≡ i → new.mark ≡ Some mark.Less → now ≡ row ++ frame_of point.As v c left n ∷ []
       → DidOn voice b plain (heard_at voice b plain point.SelfType v c left n i o) 7 (8 * left + 2) row u (Ok point.«Type») new now u made
-  unfolding followed share_at
+  unfolding then_frame share_at
   self_goes v c left n i o row now u new made l f kl kn kp km r = record {
     comes =
         steps voice b plain (goes point.«Type») [] [] (Some (frame_of point.As v c left n)) _ 7 (8 * left + 2) row now u new made (self_heard v c left n i o ∙ rw (kl, kn, kp, km) refl)
@@ -104,7 +104,7 @@ module _ {V : Type 0} (voice : Ghosts V) (b : List ℕ) (plain : Bool) where
   pub inherent_goes : (v : Bool) (c left n : ℕ) (i : Place) (o : Bool) (row now : List Frame) (u : V) (new : State) (made : ℕ) → made ≤ 0 → Fits point.Path left n
       → new.depth_left ≡ left → new.lifetimes ≡ n → new.place ≡ i → new.mark ≡ Some mark.Less → now ≡ row ++ frame_of point.CloseAngle v c left n ∷ []
       → DidOn voice b plain (heard_at voice b plain point.InherentType v c left n i o) 4 (8 * left + 2) row u (Ok point.«Type») new now u made
-  unfolding run followed share_at
+  unfolding run then_frame share_at
   inherent_goes v c left n i o row now u new made l f kl kn kp km r = record {
     comes =
         steps voice b plain (goes point.«Type») [] [] (Some (frame_of point.CloseAngle v c left n)) _ 4 (8 * left + 2) row now u new made (rw (kl, kn, kp, km) refl)
@@ -114,7 +114,7 @@ module _ {V : Type 0} (voice : Ghosts V) (b : List ℕ) (plain : Bool) where
   pub as_goes : (v : Bool) (c left n : ℕ) (i : Place) (o : Bool) (row now : List Frame) (u : V) (new : State) (made : ℕ) → made ≤ 0 → Fits point.Path left n
       → new.in_value ≡ false → new.depth_left ≡ left → new.lifetimes ≡ n → new.place ≡ i → new.mark ≡ Some mark.As → now ≡ row ++ frame_of point.CloseAngle v c left n ∷ []
       → DidOn voice b plain (heard_at voice b plain point.As v c left n i o) 4 (8 * left + 2) row u (Ok point.Path) new now u made
-  unfolding run followed share_at
+  unfolding run then_frame share_at
   as_goes v c left n i o row now u new made l f kv kl kn kp km r = record {
     comes =
         steps voice b plain (goes point.Path) [] [] (Some (frame_of point.CloseAngle v c left n)) _ 4 (8 * left + 2) row now u new made (rw (kv, kl, kn, kp, km) refl)

@@ -2,7 +2,7 @@
 use Rattle.std.specs.Prelude.{◌*◌}
 use Rattle.std.proofs.Common.{◌≡◌, ℕ, zero, suc, sub-one, ◌+◌, ◌-◌, ◌<◌, ◌≤◌, length, Bool, false, Option, Some, None, List, [], ◌∷◌, ◌++◌, Result, Ok, Err, refl, arith, sym, ap, ◌∙◌}
 use Rattle.demangle_v0.specs.Items.{Items, invalid, byte}
-use Rattle.demangle_v0.specs.Events.{Heard, of, ended}
+use Rattle.demangle_v0.specs.Events.{Heard, of, nothing_heard}
 use Rattle.demangle_v0.specs.Groups.{texts_of, crate_group, nested_group}
 use Rattle.demangle_sink.specs.declared.SinkRefused.{SinkRefused}
 use Rattle.demangle_v0.specs.declared.stretch.Stretch.TheVariants.{NestedUnread}
@@ -12,7 +12,7 @@ use Rattle.demangle_symbol.specs.Words.{some_or, namespace_at, byte_at}
 use Rattle.demangle_v0.specs.Table.{path, path_rows}
 use Rattle.demangle_v0.specs.Tags.{path_kinds, path_of}
 use Rattle.demangle_v0.specs.Reading.{Place, run, level_of, levels}
-use Rattle.demangle_v0.specs.Points.{puts, followed, share_at, closing, around, goes, Fits, DidOn}
+use Rattle.demangle_v0.specs.Points.{puts, then_frame, share_at, none_open, around, goes, Fits, DidOn}
 use Rattle.demangle_v0.specs.declared.grammar.Mark.TheVariants as mark
 use Rattle.demangle_v0.specs.declared.points.tags.PathKind.{PathKind}
 use Rattle.demangle_v0.specs.declared.points.tags.PathKind.TheVariants as kind
@@ -30,7 +30,7 @@ module _ {V : Type 0} (voice : Ghosts V) (b : List ℕ) (plain : Bool) where
   -- Paths of names.
 
   abbrev path_heard : Bool → ℕ → ℕ → Place → ℕ → Heard
-  path_heard v left n i c = closing (of plain voice.loud (run (path v c) (around b voice.loud left n) i))
+  path_heard v left n i c = none_open (of plain voice.loud (run (path v c) (around b voice.loud left n) i))
 
   pub nested_unread : (v : Bool) (left n : ℕ) (row : List Frame) (u : V) (new : State) (made : ℕ) → new.mark ≡ None → made ≤ 0
       → DidOn voice b plain (path_heard v left n None 78) 1 (8 * left + 9) row u (Err (Fault mark.Unread)) new row u made
@@ -47,7 +47,7 @@ module _ {V : Type 0} (voice : Ghosts V) (b : List ℕ) (plain : Bool) where
       → new.in_value ≡ v → new.depth_left ≡ left → new.lifetimes ≡ n → new.place ≡ Some j → new.mark ≡ None
       → now ≡ row ++ record { point = point.Nested; in_value = v; letter = letter; depth_left = left; number = n } ∷ []
       → DidOn voice b plain (path_heard v left n (Some i) 78) 1 (8 * left + 9) row u (Ok point.Path) new now u made
-  unfolding run followed share_at
+  unfolding run then_frame share_at
   nested_goes v left n i letter j row now u new made e l f kv kl kn kp km r = record {
     comes =
         steps voice b plain (goes point.Path) (4 * (j - i + 1) ∷ []) [] (Some (record { point = point.Nested; in_value = v; letter = letter; depth_left = left; number = n })) _ 1 (8 * left + 9) row now u new made
@@ -59,10 +59,10 @@ module _ {V : Type 0} (voice : Ghosts V) (b : List ℕ) (plain : Bool) where
   path_kinds_so : (v : Bool) → path_rows v ≡ rows_of (path_of v) path_kinds
   path_kinds_so v = refl
 
-  path_so : (v : Bool) (left n : ℕ) (i : Place) (c : ℕ) (o : Option PathKind) → o ≡ found c path_kinds → path_heard v left n i c ≡ closing (of plain voice.loud (run (some_or invalid o (path_of v)) (around b voice.loud left n) i))
+  path_so : (v : Bool) (left n : ℕ) (i : Place) (c : ℕ) (o : Option PathKind) → o ≡ found c path_kinds → path_heard v left n i c ≡ none_open (of plain voice.loud (run (some_or invalid o (path_of v)) (around b voice.loud left n) i))
   path_so v left n i c o e =
-      ap (λ (p : Items). closing (of plain voice.loud (run p (around b voice.loud left n) i))) (ap (λ rs. Rattle.demangle_v0.specs.Table.row_of c invalid rs) (path_kinds_so v) ∙ row_found c invalid (path_of v) path_kinds)
-      ∙ ap (λ (o : Option PathKind). closing (of plain voice.loud (run (some_or invalid o (path_of v)) (around b voice.loud left n) i))) (sym e)
+      ap (λ (p : Items). none_open (of plain voice.loud (run p (around b voice.loud left n) i))) (ap (λ rs. Rattle.demangle_v0.specs.Table.row_of c invalid rs) (path_kinds_so v) ∙ row_found c invalid (path_of v) path_kinds)
+      ∙ ap (λ (o : Option PathKind). none_open (of plain voice.loud (run (some_or invalid o (path_of v)) (around b voice.loud left n) i))) (sym e)
 
   pub path_wrong : (v : Bool) (left n : ℕ) (i : Place) (c : ℕ) (row : List Frame) (u : V) (new : State) (made : ℕ) → None ≡ found c path_kinds → new.mark ≡ None → made ≤ 0
       → DidOn voice b plain (path_heard v left n i c) 7 (8 * left + 9) row u (Err (Fault mark.Invalid)) new row u made
@@ -70,18 +70,18 @@ module _ {V : Type 0} (voice : Ghosts V) (b : List ℕ) (plain : Bool) where
   path_wrong v left n i c row u new made e k l = faulty voice b plain mark.Invalid _ 7 (8 * left + 9) row u new made k (path_so v left n i c None e) l (omega arith)
 
   pub path_as : (v : Bool) (left n : ℕ) (i : Place) (c : ℕ) (p : PathKind) (weight' high' : ℕ) (row : List Frame) (u w : V) (result : Result Point Stop) (new : State) (now : List Frame) (made : ℕ) → Some p ≡ found c path_kinds → weight' ≤ 7 → high' ≤ 8 * left + 9
-      → DidOn voice b plain (closing (of plain voice.loud (run (path_of v p) (around b voice.loud left n) i))) weight' high' row u result new now w made
+      → DidOn voice b plain (none_open (of plain voice.loud (run (path_of v p) (around b voice.loud left n) i))) weight' high' row u result new now w made
       → DidOn voice b plain (path_heard v left n i c) 7 (8 * left + 9) row u result new now w made
   path_as v left n i c p weight' high' row u w result new now made e x y d =
-      same voice b plain (path_heard v left n i c) (closing (of plain voice.loud (run (path_of v p) (around b voice.loud left n) i))) 7 (8 * left + 9) weight' high' row u w result new now made (path_so v left n i c (Some p) e) x y d
+      same voice b plain (path_heard v left n i c) (none_open (of plain voice.loud (run (path_of v p) (around b voice.loud left n) i))) 7 (8 * left + 9) weight' high' row u w result new now made (path_so v left n i c (Some p) e) x y d
 
   -- a path with arguments
   pub generic_goes : (v : Bool) (left n c : ℕ) (i : Place) (row now : List Frame) (u : V) (new : State) (made : ℕ) → made ≤ 0
       → Fits point.Generic left n
       → new.in_value ≡ v → new.depth_left ≡ left → new.lifetimes ≡ n → new.place ≡ i → new.mark ≡ None
       → now ≡ row ++ record { point = point.Generic; in_value = v; letter = c; depth_left = left; number = n } ∷ []
-      → DidOn voice b plain (closing (of plain voice.loud (run (path_of v kind.Generic) (around b voice.loud left n) i))) 7 (8 * left + 9) row u (Ok point.Path) new now u made
-  unfolding run followed share_at
+      → DidOn voice b plain (none_open (of plain voice.loud (run (path_of v kind.Generic) (around b voice.loud left n) i))) 7 (8 * left + 9) row u (Ok point.Path) new now u made
+  unfolding run then_frame share_at
   generic_goes v left n c i row now u new made l f kv kl kn kp km r = record {
     comes =
         steps voice b plain (goes point.Path) [] [] (Some (record { point = point.Generic; in_value = v; letter = c; depth_left = left; number = n })) _ 7 (8 * left + 9) row now u new made
@@ -103,7 +103,7 @@ module _ {V : Type 0} (voice : Ghosts V) (b : List ℕ) (plain : Bool) where
   unfolding share_at run level_of levels
   path_deep v c left n i o row u new made e k l = faulty voice b plain mark.Recursion _ 1 (8 * left + 1) row u new made k (rw e refl) l (omega arith)
 
-  path_opens : (v : Bool) (c left n i : ℕ) (o : Bool) → 0 < left → path_at v c left n (Some i) o ≡ closing (of plain voice.loud (run (byte (path v)) (around b voice.loud (left - 1) n) (Some i)))
+  path_opens : (v : Bool) (c left n i : ℕ) (o : Bool) → 0 < left → path_at v c left n (Some i) o ≡ none_open (of plain voice.loud (run (byte (path v)) (around b voice.loud (left - 1) n) (Some i)))
   unfolding share_at run level_of levels
   path_opens v c zero n i o l = absurd (omega (arith, l))
   path_opens v c (suc left) n i o l = rw sub-one refl
@@ -142,7 +142,7 @@ module _ {V : Type 0} (voice : Ghosts V) (b : List ℕ) (plain : Bool) where
   pub name_unread : (v : Bool) (c left n : ℕ) (o : Bool) (row : List Frame) (u w : V) (new : State) (made : ℕ) → made ≤ 0
       → voice.prints u (texts_of b plain NestedUnread) (Ok tt) w → new.mark ≡ None → new.place ≡ None → new.is_open ≡ false
       → DidOn voice b plain (nested_at v c left n None o) 1 (8 * left + 2) row u (Ok point.End) new row w made
-  unfolding run followed share_at
+  unfolding run then_frame share_at
   name_unread v c left n o row u w new made l p m k q = record {
     comes = record {
       bits = puts (texts_of b plain NestedUnread) ∷ [];
@@ -170,7 +170,7 @@ module _ {V : Type 0} (voice : Ghosts V) (b : List ℕ) (plain : Bool) where
       record {
         front = [];
         texts = texts_of b plain NestedUnread;
-        rest = ended None false;
+        rest = nothing_heard None false;
         mid = u;
         told = refl;
         refusal = e;

@@ -6,7 +6,7 @@ use Rattle.std.proofs.lemmas.List.{append-nil}
 use Rattle.std.proofs.Math.Nat.{mul-le-mul_left}
 use Rattle.demangle_v0.specs.Items.{Text, a_path}
 use Rattle.demangle_v0.specs.Cost.{Pays}
-use Rattle.demangle_v0.specs.Reading.{max_depth, rendered, read_at, level_of, levels}
+use Rattle.demangle_v0.specs.Reading.{max_depth, path_texts, read_at, level_of, levels}
 use Rattle.demangle_sink.specs.Cut.{size, kept}
 use Rattle.demangle_sink.proofs.CutLemmas.{size-append}
 use Rattle.demangle_sink.proofs.PrintsLemmas.{prints_ready, prints_nothing, prints_then, prints_stop}
@@ -16,12 +16,12 @@ use Rattle.demangle_v0.proofs.PrintingSteps.{shown_events, weighed, weighed_said
 use Rattle.demangle_v0.proofs.StepsPaid.{pays_looks, pays_texts}
 use Rattle.demangle_v0.proofs.PointWholes.{owed_alone}
 use Rattle.demangle_v0.specs.Totals.{total}
-use Rattle.demangle_v0.specs.Events.{Event, Heard, and_then, handing, allowed_all, said_all, shown_in}
+use Rattle.demangle_v0.specs.Events.{Event, Heard, and_then, with_texts, allowed_all, said_all, shown_in}
 use Rattle.demangle_sink.specs.Limit.{Prints, Ready}
 use Rattle.demangle_sink.specs.declared.TextSink.{Ghosts as Sinks}
 use Rattle.demangle_sink.specs.declared.SinkRefused.{SinkRefused}
 use Rattle.demangle_sink.specs.declared.limit.SizeLimitedFmtAdapter.{SizeLimitedFmtAdapter}
-use Rattle.demangle_v0.specs.Points.{Bit, pays, puts, heard_bits, bits_looks, bits_texts, Told, pushed_on, share_at, share_of, row_owed, owed}
+use Rattle.demangle_v0.specs.Points.{Bit, pays, puts, heard_bits, bits_looks, bits_texts, Told, pushed_on, share_at, share_of, row_owed, reading_owed}
 use Rattle.demangle_v0.specs.PointRuns.{Valid, Reads, Stepped, Resumes, Said, Ran, Broke, Skipped, RanOn, Passed, ValidLeft, first_looks, Ended, first_state, silent_of, own_heard}
 use Rattle.demangle_v0.specs.declared.points.Point.{Point}
 use Rattle.demangle_v0.specs.declared.points.Point.TheVariants as point
@@ -58,13 +58,13 @@ module _ {S : Type 0} (sink : Sinks S) (voice : Ghosts (SizeLimitedFmtAdapter S)
       let d = z.steps.0 in
       let bits = d.bits ++ pays d.back ∷ [] in
       let resumed = resumes_heard b plain true base p q s t row mid k in
-      let heard : owed b plain true q t mid ≡ heard_bits true bits (owed b plain true u r now) =
-      subst (λ (ys : List Frame). owed b plain true q t mid ≡ heard_bits true bits (owed b plain true u r ys)) (sym d.is_row)
-      (subst (λ (out : Bool). owed b plain out q t mid ≡ heard_bits out bits (owed b plain out u r (pushed_on mid d.pushed))) loud (step_heard voice b plain q u t r mid v w second now z mid)) in
+      let heard : reading_owed b plain true q t mid ≡ heard_bits true bits (reading_owed b plain true u r now) =
+      subst (λ (ys : List Frame). reading_owed b plain true q t mid ≡ heard_bits true bits (reading_owed b plain true u r ys)) (sym d.is_row)
+      (subst (λ (out : Bool). reading_owed b plain out q t mid ≡ heard_bits out bits (reading_owed b plain out u r (pushed_on mid d.pushed))) loud (step_heard voice b plain q u t r mid v w second now z mid)) in
       record {
         bits = x.bits ++ bits;
         told = said_append sink v0 v w x.bits bits x.told (said_append sink v w w d.bits (pays d.back ∷ []) (said_told v w d.bits d.told) refl);
-        reads = x.reads ∙ (ap (heard_bits true x.bits) (resumed ∙ heard) ∙ sym (bits_append true x.bits bits (owed b plain true u r now)));
+        reads = x.reads ∙ (ap (heard_bits true x.bits) (resumed ∙ heard) ∙ sym (bits_append true x.bits bits (reading_owed b plain true u r now)));
         enough = omega (arith, l, x.enough, d.enough, looks_append x.bits bits, looks_append d.bits (pays d.back ∷ []));
       }
 
@@ -75,9 +75,9 @@ module _ {S : Type 0} (sink : Sinks S) (voice : Ghosts (SizeLimitedFmtAdapter S)
       let d = z.steps.0 in
       let resumed = resumes_heard b plain true base p q s t row mid k in
       let rest = and_then d.rest (row_owed b plain true mid) in
-      let heard : owed b plain true q t mid ≡ heard_bits true d.front (handing true d.texts rest) =
-      ap (λ (h : Heard). and_then h (row_owed b plain true mid)) (subst (λ (out : Bool). share_of b plain out q t ≡ heard_bits out d.front (handing out d.texts d.rest)) loud d.reads)
-      ∙ (bits_then true d.front (handing true d.texts d.rest) (row_owed b plain true mid) ∙ ap (heard_bits true d.front) (handing_then true d.texts d.rest (row_owed b plain true mid))) in
+      let heard : reading_owed b plain true q t mid ≡ heard_bits true d.front (with_texts true d.texts rest) =
+      ap (λ (h : Heard). and_then h (row_owed b plain true mid)) (subst (λ (out : Bool). share_of b plain out q t ≡ heard_bits out d.front (with_texts out d.texts d.rest)) loud d.reads)
+      ∙ (bits_then true d.front (with_texts true d.texts d.rest) (row_owed b plain true mid) ∙ ap (heard_bits true d.front) (handing_then true d.texts d.rest (row_owed b plain true mid))) in
       record {
         front = x.bits ++ d.front;
         texts = d.texts;
@@ -86,7 +86,7 @@ module _ {S : Type 0} (sink : Sinks S) (voice : Ghosts (SizeLimitedFmtAdapter S)
         told = said_append sink v0 v d.mid x.bits d.front x.told (said_told v d.mid d.front d.told);
         refusal = d.refusal;
         prints = same d.mid w d.texts (Err d.refusal) d.prints;
-        reads = x.reads ∙ (ap (heard_bits true x.bits) (resumed ∙ heard) ∙ sym (bits_append true x.bits d.front (handing true d.texts rest)));
+        reads = x.reads ∙ (ap (heard_bits true x.bits) (resumed ∙ heard) ∙ sym (bits_append true x.bits d.front (with_texts true d.texts rest)));
         enough = omega (arith, l, x.enough, d.enough, looks_append x.bits d.front);
       }
 
@@ -108,7 +108,7 @@ ran_skips sink b plain q p0 p s0 s t row0 below now v0 v first second made x k l
     record {
       bits = x.bits ++ pays ks ∷ [];
       told = said_append sink v0 v v x.bits (pays ks ∷ []) x.told refl;
-      reads = x.reads ∙ (ap (heard_bits true x.bits) (skipped_owed q b plain p s t below now second k) ∙ sym (bits_append true x.bits (pays ks ∷ []) (owed b plain true p t now)));
+      reads = x.reads ∙ (ap (heard_bits true x.bits) (skipped_owed q b plain p s t below now second k) ∙ sym (bits_append true x.bits (pays ks ∷ []) (reading_owed b plain true p t now)));
       enough = omega (arith, l, x.enough, k.looks, total_allowances (own_heard b plain s).events, looks_append x.bits (pays ks ∷ []));
     }
 
@@ -151,7 +151,7 @@ broke_then sink b plain p q s t row now v w x first second made l a c = record {
   told = said_append sink v w c.mid a.bits c.front a.told c.told;
   refusal = c.refusal;
   prints = c.prints;
-  reads = a.reads ∙ (ap (heard_bits true a.bits) c.reads ∙ sym (bits_append true a.bits c.front (handing true c.texts c.rest)));
+  reads = a.reads ∙ (ap (heard_bits true a.bits) c.reads ∙ sym (bits_append true a.bits c.front (with_texts true c.texts c.rest)));
   enough = omega (arith, l, a.enough, c.enough, looks_append a.bits c.front);
 }
 
@@ -160,7 +160,7 @@ ran_then : {S : Type 0} (sink : Sinks S) (b : List ℕ) (plain : Bool) (p q r : 
 ran_then sink b plain p q r s t u row mid now v w x first second made l a c = record {
   bits = a.bits ++ c.bits;
   told = said_append sink v w x a.bits c.bits a.told c.told;
-  reads = a.reads ∙ (ap (heard_bits true a.bits) c.reads ∙ sym (bits_append true a.bits c.bits (owed b plain true r u now)));
+  reads = a.reads ∙ (ap (heard_bits true a.bits) c.reads ∙ sym (bits_append true a.bits c.bits (reading_owed b plain true r u now)));
   enough = omega (arith, l, a.enough, c.enough, looks_append a.bits c.bits);
 }
 
@@ -238,36 +238,36 @@ said_prints sink v w (pays ks ∷ bits) r t = said_prints sink v w bits r t
 said_prints sink v w (puts ts ∷ bits) r t =
     prints_then sink v t.0 w ts (bits_texts bits) (Ok tt) (Ok tt) t.1 refl (said_prints sink t.0 w bits (prints_ready sink v ts (Ok tt) t.0 t.1 refl) t.2)
 
-whole_shown : (b : List ℕ) (plain : Bool) → shown_in (owed b plain true point.Path (first_state 0) []).events ≡ rendered b plain
-unfolding share_at rendered read_at
+whole_shown : (b : List ℕ) (plain : Bool) → shown_in (reading_owed b plain true point.Path (first_state 0) []).events ≡ path_texts b plain
+unfolding share_at path_texts read_at
 whole_shown b plain = ap (λ (h : Heard). shown_in h.events) (owed_alone b plain true point.Path (first_state 0)) ∙ shown_events plain (level_of b (levels b max_depth) true a_path true 0 0).tree
 
-end_shown : (b : List ℕ) (plain : Bool) (t : State) → shown_in (owed b plain true point.End t []).events ≡ []
+end_shown : (b : List ℕ) (plain : Bool) (t : State) → shown_in (reading_owed b plain true point.End t []).events ≡ []
 unfolding share_at row_owed
 end_shown b plain t = refl
 
-all_shown : {S : Type 0} (sink : Sinks S) (b : List ℕ) (plain : Bool) (t : State) (v w : SizeLimitedFmtAdapter S) (made : ℕ) → (r : Ran sink b plain point.Path (first_state 0) [] v point.End t [] w made) → bits_texts r.bits ≡ rendered b plain
+all_shown : {S : Type 0} (sink : Sinks S) (b : List ℕ) (plain : Bool) (t : State) (v w : SizeLimitedFmtAdapter S) (made : ℕ) → (r : Ran sink b plain point.Path (first_state 0) [] v point.End t [] w made) → bits_texts r.bits ≡ path_texts b plain
 all_shown sink b plain t v w made r =
     sym (append-nil (bits_texts r.bits))
     ∙ (ap (λ (ys : List Text). bits_texts r.bits ++ ys) (sym (end_shown b plain t))
-    ∙ (sym (shown_bits r.bits (owed b plain true point.End t [])) ∙ (ap (λ (h : Heard). shown_in h.events) (sym r.reads) ∙ whole_shown b plain)))
+    ∙ (sym (shown_bits r.bits (reading_owed b plain true point.End t [])) ∙ (ap (λ (h : Heard). shown_in h.events) (sym r.reads) ∙ whole_shown b plain)))
 
 front_shown : {S : Type 0} (sink : Sinks S) (b : List ℕ) (plain : Bool) (v w : SizeLimitedFmtAdapter S) (made : ℕ) → (d : Broke sink b plain point.Path (first_state 0) [] v w made)
-    → bits_texts d.front ++ (d.texts ++ shown_in d.rest.events) ≡ rendered b plain
+    → bits_texts d.front ++ (d.texts ++ shown_in d.rest.events) ≡ path_texts b plain
 front_shown sink b plain v w made d =
     ap (λ zs. bits_texts d.front ++ zs) (sym (shown_said d.texts d.rest.events))
-    ∙ (sym (shown_bits d.front (handing true d.texts d.rest)) ∙ (ap (λ (h : Heard). shown_in h.events) (sym d.reads) ∙ whole_shown b plain))
+    ∙ (sym (shown_bits d.front (with_texts true d.texts d.rest)) ∙ (ap (λ (h : Heard). shown_in h.events) (sym d.reads) ∙ whole_shown b plain))
 
-pub prints_all : {S : Type 0} (sink : Sinks S) (b : List ℕ) (plain : Bool) (v w : SizeLimitedFmtAdapter S) (made : ℕ) → Ready sink v → Ended sink b plain point.Path (first_state 0) [] v (Ok tt) w made → Prints sink v (rendered b plain) (Ok tt) w
+pub prints_all : {S : Type 0} (sink : Sinks S) (b : List ℕ) (plain : Bool) (v w : SizeLimitedFmtAdapter S) (made : ℕ) → Ready sink v → Ended sink b plain point.Path (first_state 0) [] v (Ok tt) w made → Prints sink v (path_texts b plain) (Ok tt) w
 prints_all sink b plain v w made ready z =
     let r = z.ended.1 in subst (λ (ts : List Text). Prints sink v ts (Ok tt) w) (all_shown sink b plain z.ended.0 v w made r) (said_prints sink v w r.bits ready r.told)
 
-pub prints_refused : {S : Type 0} (sink : Sinks S) (b : List ℕ) (plain : Bool) (v w : SizeLimitedFmtAdapter S) (made : ℕ) (e f : SinkRefused) → Ready sink v → Ended sink b plain point.Path (first_state 0) [] v (Err e) w made → Prints sink v (rendered b plain) (Err f) w
+pub prints_refused : {S : Type 0} (sink : Sinks S) (b : List ℕ) (plain : Bool) (v w : SizeLimitedFmtAdapter S) (made : ℕ) (e f : SinkRefused) → Ready sink v → Ended sink b plain point.Path (first_state 0) [] v (Err e) w made → Prints sink v (path_texts b plain) (Err f) w
 prints_refused sink b plain v w made e f ready z =
     let d = z.ended in
     let front = said_prints sink v d.mid d.front ready d.told in
     let both = prints_then sink v d.mid w (bits_texts d.front) d.texts (Ok tt) (Err d.refusal) front refl d.prints in
-    let all : (bits_texts d.front ++ d.texts) ++ shown_in d.rest.events ≡ rendered b plain = append_assoc (bits_texts d.front) d.texts (shown_in d.rest.events) ∙ front_shown sink b plain v w made d in
+    let all : (bits_texts d.front ++ d.texts) ++ shown_in d.rest.events ≡ path_texts b plain = append_assoc (bits_texts d.front) d.texts (shown_in d.rest.events) ∙ front_shown sink b plain v w made d in
     subst (λ (ts : List Text). Prints sink v ts (Err f) w) all (prints_stop sink v w (bits_texts d.front ++ d.texts) (shown_in d.rest.events) (Err d.refusal) (Err f) both refl refl)
 
 -- The looks of a run are paid for by what it handed over.
@@ -284,7 +284,7 @@ bits_paid r a (puts ts ∷ bits) h p =
     let q = pays_texts r a 0 ts _ (subst (λ xs. Pays r a xs 0) (weighed_said ts (heard_bits true bits h).events) p) in
     more r a (size ts) (size (bits_texts bits)) _ _ (size-append ts (bits_texts bits)) (bits_paid r (a + r * size ts) bits h q)
 
-whole_paid : (b : List ℕ) (plain : Bool) → Pays (17000 * (length b + 1)) (17034 * (length b + 1)) (weighed (owed b plain true point.Path (first_state 0) []).events) 0
+whole_paid : (b : List ℕ) (plain : Bool) → Pays (17000 * (length b + 1)) (17034 * (length b + 1)) (weighed (reading_owed b plain true point.Path (first_state 0) []).events) 0
 unfolding share_at read_at
 whole_paid b plain =
     subst (λ (h : Heard). Pays (17000 * (length b + 1)) (17034 * (length b + 1)) (weighed h.events) 0) (sym (owed_alone b plain true point.Path (first_state 0)))
@@ -295,23 +295,23 @@ within : (n w room made : ℕ) → w ≤ room → made ≤ 17034 * (n + 1) + 170
 within n w room made l h = let e : 17000 * (n + 1) * w ≤ 17000 * (n + 1) * room = mul-le-mul_left (17000 * (n + 1)) l in omega (arith, h, e)
 
 bits_most : {S : Type 0} (sink : Sinks S) (b : List ℕ) (plain : Bool) (v w : SizeLimitedFmtAdapter S) (bits : List Bit) (h : Heard) (rest : List Text) (made : ℕ) → Ready sink v → Said sink v bits w
-    → owed b plain true point.Path (first_state 0) [] ≡ heard_bits true bits h → bits_texts bits ++ rest ≡ rendered b plain → made ≤ bits_looks bits + 2 → made ≤ 100000 * (kept (rendered b plain) v.remaining + 1) * (length b + 1)
+    → reading_owed b plain true point.Path (first_state 0) [] ≡ heard_bits true bits h → bits_texts bits ++ rest ≡ path_texts b plain → made ≤ bits_looks bits + 2 → made ≤ 100000 * (kept (path_texts b plain) v.remaining + 1) * (length b + 1)
 bits_most sink b plain v w bits h rest made ready t e s l =
     let done = said_prints sink v w bits ready t in
-    let bytes : size (bits_texts bits) ≤ kept (rendered b plain) v.remaining = kept_bytes sink v w (rendered b plain) rest (size (bits_texts bits)) (record { front = bits_texts bits; done = done; is = s }) (omega (arith, done.within refl, done.left refl)) in
+    let bytes : size (bits_texts bits) ≤ kept (path_texts b plain) v.remaining = kept_bytes sink v w (path_texts b plain) rest (size (bits_texts bits)) (record { front = bits_texts bits; done = done; is = s }) (omega (arith, done.within refl, done.left refl)) in
     let paid = bits_paid (17000 * (length b + 1)) (17034 * (length b + 1)) bits h (subst (λ (g : Heard). Pays (17000 * (length b + 1)) (17034 * (length b + 1)) (weighed g.events) 0) e (whole_paid b plain)) in
-    within (length b) (size (bits_texts bits)) (kept (rendered b plain) v.remaining) made bytes (omega (arith, l, paid))
+    within (length b) (size (bits_texts bits)) (kept (path_texts b plain) v.remaining) made bytes (omega (arith, l, paid))
 
 pub prints_most : {S : Type 0} (sink : Sinks S) (b : List ℕ) (plain : Bool) (v w : SizeLimitedFmtAdapter S) (made : ℕ) (result : Result (Unit {0}) SinkRefused) → Ready sink v → Ended sink b plain point.Path (first_state 0) [] v result w made
-    → made ≤ 100000 * (kept (rendered b plain) v.remaining + 1) * (length b + 1)
+    → made ≤ 100000 * (kept (path_texts b plain) v.remaining + 1) * (length b + 1)
 prints_most sink b plain v w made (Ok u) ready z =
     let r = z.ended.1 in
-    bits_most sink b plain v w r.bits (owed b plain true point.End z.ended.0 []) [] made ready r.told r.reads (append-nil (bits_texts r.bits) ∙ all_shown sink b plain z.ended.0 v w made r) (omega (arith, r.enough))
+    bits_most sink b plain v w r.bits (reading_owed b plain true point.End z.ended.0 []) [] made ready r.told r.reads (append-nil (bits_texts r.bits) ∙ all_shown sink b plain z.ended.0 v w made r) (omega (arith, r.enough))
 prints_most sink b plain v w made (Err e) ready z =
     let d = z.ended in
-    bits_most sink b plain v d.mid d.front (handing true d.texts d.rest) (d.texts ++ shown_in d.rest.events) made ready d.told d.reads (front_shown sink b plain v w made d) d.enough
+    bits_most sink b plain v d.mid d.front (with_texts true d.texts d.rest) (d.texts ++ shown_in d.rest.events) made ready d.told d.reads (front_shown sink b plain v w made d) d.enough
 
 pub prints_so : {S : Type 0} (sink : Sinks S) (b : List ℕ) (plain : Bool) (v w : SizeLimitedFmtAdapter S) (made : ℕ) (result : Result (Unit {0}) SinkRefused) → Ready sink v → Ended sink b plain point.Path (first_state 0) [] v result w made
-    → Prints sink v (rendered b plain) result w
+    → Prints sink v (path_texts b plain) result w
 prints_so sink b plain v w made (Ok u) ready z = prints_all sink b plain v w made ready z
 prints_so sink b plain v w made (Err e) ready z = prints_refused sink b plain v w made e e ready z

@@ -4,12 +4,12 @@ use Rattle.std.proofs.lemmas.Bool.{false≢true}
 use Rattle.demangle_v0.specs.Items.{Text}
 use Rattle.demangle_v0.specs.Totals.{total}
 use Rattle.demangle_v0.specs.Running.{allowed_in}
-use Rattle.demangle_v0.specs.Events.{Event, Heard, ended, and_then, allowing, handing, allowed_all, said_all}
+use Rattle.demangle_v0.specs.Events.{Event, Heard, nothing_heard, and_then, with_looks, with_texts, allowed_all, said_all}
 use Rattle.demangle_v0.specs.Grammar.{text}
 use Rattle.demangle_v0.specs.Heights as heights
 use Rattle.demangle_v0.specs.Reading.{Place}
 use Rattle.demangle_v0.proofs.Failed.{failed}
-use Rattle.demangle_v0.specs.Points.{most_frames, Bit, pays, puts, heard_bits, bits_looks, Told, marked, pushed_on, followed, Way, goes, fails, way_heard, way_weight, way_height, weight_at, weight_of, weights, height_at, height_of, count_of, FitsFrame, FitsWay, Fits, rest_at, around, share, share_at, share_of, row_owed, owed, measure, is_inner, IsInner, AllInner, Went, Stopped, Kept, DidOn, resumed_of, bindings_left}
+use Rattle.demangle_v0.specs.Points.{most_frames, Bit, pays, puts, heard_bits, bits_looks, Told, mark_texts, pushed_on, then_frame, Way, goes, fails, way_heard, way_weight, way_height, weight_at, weight_of, weights, height_at, height_of, count_of, FitsFrame, FitsWay, Fits, rest_at, around, share, share_at, share_of, row_owed, reading_owed, measure, is_inner, IsInner, AllInner, Went, Halted, Kept, DidOn, resumed_of, bindings_left}
 use Rattle.demangle_v0.specs.PointRuns.{Puts, unmarked_of, Stepped, Resumes, stays, pops, frame_height, AllFit, Valid, Quiet, Reads, ReadOn, first_looks}
 use Rattle.demangle_sink.specs.declared.SinkRefused.{SinkRefused}
 use Rattle.demangle_v0.specs.declared.grammar.Mark.{Mark}
@@ -109,7 +109,7 @@ module _ {V : Type 0} (voice : Ghosts V) (b : List ℕ) (plain : Bool) where
   tail_of None back = pays back ∷ []
   tail_of (Some m) back = puts (text m ∷ []) ∷ pays back ∷ []
 
-  tail_heard : (k : Option Mark) (back : List ℕ) (h : Heard) → heard_bits voice.loud (tail_of k back) h ≡ handing voice.loud (marked k) (allowing back h)
+  tail_heard : (k : Option Mark) (back : List ℕ) (h : Heard) → heard_bits voice.loud (tail_of k back) h ≡ with_texts voice.loud (mark_texts k) (with_looks back h)
   tail_heard None back h = refl
   tail_heard (Some m) back h = refl
 
@@ -130,9 +130,9 @@ module _ {V : Type 0} (voice : Ghosts V) (b : List ℕ) (plain : Bool) where
     pushed = d.pushed;
     told = told_append voice v w x d.bits (tail_of new.mark d.back) d.told (tail_told new.mark d.back w x p);
     reads = d.reads
-        ∙ (ap (heard_bits voice.loud d.bits) (sym (tail_heard new.mark d.back (followed b plain voice.loud d.pushed (way_heard b plain voice.loud way new))))
-        ∙ (sym (bits_append voice.loud d.bits (tail_of new.mark d.back) (followed b plain voice.loud d.pushed (way_heard b plain voice.loud way new)))
-        ∙ ap (λ (g : Heard). heard_bits voice.loud (d.bits ++ tail_of new.mark d.back) (followed b plain voice.loud d.pushed g)) (sym e)));
+        ∙ (ap (heard_bits voice.loud d.bits) (sym (tail_heard new.mark d.back (then_frame b plain voice.loud d.pushed (way_heard b plain voice.loud way new))))
+        ∙ (sym (bits_append voice.loud d.bits (tail_of new.mark d.back) (then_frame b plain voice.loud d.pushed (way_heard b plain voice.loud way new)))
+        ∙ ap (λ (g : Heard). heard_bits voice.loud (d.bits ++ tail_of new.mark d.back) (then_frame b plain voice.loud d.pushed g)) (sym e)));
     is_row = d.is_row;
     enough = omega (arith, l, d.enough, looks_append d.bits (tail_of new.mark d.back), tail_looks new.mark d.back);
     late = omega (arith, l, d.enough, looks_append d.bits (tail_of new.mark d.back), tail_looks new.mark d.back);
@@ -154,17 +154,17 @@ module _ {V : Type 0} (voice : Ghosts V) (b : List ℕ) (plain : Bool) where
 
   -- the mark was refused
   mark_refused : (way : Way) (new : State) (h : Heard) (weight high : ℕ) (row now : List Frame) (v w x : V) (e : SinkRefused) (first made : ℕ) (k : Option Mark) → k ≡ new.mark
-      → Went voice b plain h weight high row v way new now w first → Puts voice k w (Err e) x → made ≤ first → Stopped voice h v x made
+      → Went voice b plain h weight high row v way new now w first → Puts voice k w (Err e) x → made ≤ first → Halted voice h v x made
   mark_refused way new h weight high row now v w x e first made None c d p l = absurd (err_ok e p.0)
   mark_refused way new h weight high row now v w x e first made (Some m) c d p l = record {
     front = d.bits;
     texts = text m ∷ [];
-    rest = allowing d.back (followed b plain voice.loud d.pushed (way_heard b plain voice.loud way new));
+    rest = with_looks d.back (then_frame b plain voice.loud d.pushed (way_heard b plain voice.loud way new));
     mid = w;
     told = d.told;
     refusal = e;
     prints = p.0;
-    reads = subst (λ (z : Option Mark). h ≡ heard_bits voice.loud d.bits (handing voice.loud (marked z) (allowing d.back (followed b plain voice.loud d.pushed (way_heard b plain voice.loud way new))))) (sym c) d.reads;
+    reads = subst (λ (z : Option Mark). h ≡ heard_bits voice.loud d.bits (with_texts voice.loud (mark_texts z) (with_looks d.back (then_frame b plain voice.loud d.pushed (way_heard b plain voice.loud way new))))) (sym c) d.reads;
     enough = omega (arith, l, d.late);
     exact = λ q. absurd (false≢true (p.1 q));
     fails = λ q. absurd (false≢true (p.1 q));
@@ -186,13 +186,13 @@ module _ {V : Type 0} (voice : Ghosts V) (b : List ℕ) (plain : Bool) where
   stepped_err p s t row now v w made e (Ok q) h d = absurd (false≢true h)
   stepped_err p s t row now v w made e (Err f) h d = record { steps = d.steps }
 
-  followed_said : (p : Option Frame) (ts : List Text) → followed b plain voice.loud p (handing voice.loud ts (ended None false)) ≡ handing voice.loud ts (followed b plain voice.loud p (ended None false))
-  unfolding followed
+  followed_said : (p : Option Frame) (ts : List Text) → then_frame b plain voice.loud p (with_texts voice.loud ts (nothing_heard None false)) ≡ with_texts voice.loud ts (then_frame b plain voice.loud p (nothing_heard None false))
+  unfolding then_frame
   followed_said None ts = refl
-  followed_said (Some f) ts = Rattle.demangle_v0.proofs.Hearing.handing_then voice.loud ts (ended None false) (share b plain voice.loud f)
+  followed_said (Some f) ts = Rattle.demangle_v0.proofs.Hearing.handing_then voice.loud ts (nothing_heard None false) (share b plain voice.loud f)
 
-  pub followed_failed : (p : Option Frame) → IsInner p → (followed b plain voice.loud p (ended None false)).place ≡ None
-  unfolding followed
+  pub followed_failed : (p : Option Frame) → IsInner p → (then_frame b plain voice.loud p (nothing_heard None false)).place ≡ None
+  unfolding then_frame
   followed_failed None q = refl
   followed_failed (Some f) q = share_failed b plain voice.loud f.point f.in_value f.letter f.depth_left f.number false q
 
@@ -223,8 +223,8 @@ module _ {V : Type 0} (voice : Ghosts V) (b : List ℕ) (plain : Bool) where
             pushed = d.pushed;
             told = told_append voice v x y d.bits (pays d.back ∷ puts (text f ∷ []) ∷ []) d.told (y, u, refl);
             reads = d.reads
-                ∙ (ap (λ (h : Heard). heard_bits voice.loud d.bits (allowing d.back h)) (followed_said d.pushed (text f ∷ []))
-                ∙ (sym (bits_append voice.loud d.bits (pays d.back ∷ puts (text f ∷ []) ∷ []) (followed b plain voice.loud d.pushed (ended None false)))
+                ∙ (ap (λ (h : Heard). heard_bits voice.loud d.bits (with_looks d.back h)) (followed_said d.pushed (text f ∷ []))
+                ∙ (sym (bits_append voice.loud d.bits (pays d.back ∷ puts (text f ∷ []) ∷ []) (then_frame b plain voice.loud d.pushed (nothing_heard None false)))
                 ∙ rw (c, i, o) refl));
             is_row = d.is_row;
             enough = omega (arith, d.enough, looks_append d.bits (pays d.back ∷ puts (text f ∷ []) ∷ []));
@@ -252,14 +252,14 @@ module _ {V : Type 0} (voice : Ghosts V) (b : List ℕ) (plain : Bool) where
           record {
             front = d.bits ++ (pays d.back ∷ []);
             texts = text f ∷ [];
-            rest = followed b plain voice.loud d.pushed (ended None false);
+            rest = then_frame b plain voice.loud d.pushed (nothing_heard None false);
             mid = x;
             told = told_append voice v x x d.bits (pays d.back ∷ []) d.told refl;
             refusal = e;
             prints = u;
             reads = d.reads
-                ∙ (ap (λ (h : Heard). heard_bits voice.loud d.bits (allowing d.back h)) (followed_said d.pushed (text f ∷ []))
-                ∙ sym (bits_append voice.loud d.bits (pays d.back ∷ []) (handing voice.loud (text f ∷ []) (followed b plain voice.loud d.pushed (ended None false)))));
+                ∙ (ap (λ (h : Heard). heard_bits voice.loud d.bits (with_looks d.back h)) (followed_said d.pushed (text f ∷ []))
+                ∙ sym (bits_append voice.loud d.bits (pays d.back ∷ []) (with_texts voice.loud (text f ∷ []) (then_frame b plain voice.loud d.pushed (nothing_heard None false)))));
             enough = omega (arith, d.enough, looks_append d.bits (pays d.back ∷ []));
             exact = λ q. omega (arith, d.enough, looks_append d.bits (pays d.back ∷ []));
             fails = λ q. followed_failed d.pushed (d.quiet q);
@@ -275,15 +275,15 @@ unfolding row_owed
 row_push b plain out [] f i o = sym (and_then_ended (share b plain out f i o))
 row_push b plain out (g ∷ row) f i o = ap (λ (h : Heard). and_then h (share b plain out g)) (row_push b plain out row f i o) ∙ and_then_assoc (share b plain out f i o) (row_owed b plain out row) (share b plain out g)
 
-followed_row : (b : List ℕ) (plain out : Bool) (row : List Frame) (p : Option Frame) (h : Heard) → and_then (followed b plain out p h) (row_owed b plain out row) ≡ and_then h (row_owed b plain out (pushed_on row p))
-unfolding followed
+followed_row : (b : List ℕ) (plain out : Bool) (row : List Frame) (p : Option Frame) (h : Heard) → and_then (then_frame b plain out p h) (row_owed b plain out row) ≡ and_then h (row_owed b plain out (pushed_on row p))
+unfolding then_frame
 followed_row b plain out row None h = refl
 followed_row b plain out row (Some f) h = and_then_assoc h (share b plain out f) (row_owed b plain out row) ∙ ap (λ (z : Heard). and_then h (λ _ _. z)) (sym (row_push b plain out row f h.place h.is_open))
 
 pub bits_then : (out : Bool) (bits : List Bit) (h : Heard) (k : Place → Bool → Heard) → and_then (heard_bits out bits h) k ≡ heard_bits out bits (and_then h k)
 bits_then out [] h k = refl
-bits_then out (pays ks ∷ bits) h k = allowing_then ks (heard_bits out bits h) k ∙ ap (allowing ks) (bits_then out bits h k)
-bits_then out (puts ts ∷ bits) h k = handing_then out ts (heard_bits out bits h) k ∙ ap (handing out ts) (bits_then out bits h k)
+bits_then out (pays ks ∷ bits) h k = allowing_then ks (heard_bits out bits h) k ∙ ap (with_looks ks) (bits_then out bits h k)
+bits_then out (puts ts ∷ bits) h k = handing_then out ts (heard_bits out bits h) k ∙ ap (with_texts out ts) (bits_then out bits h k)
 
 allowed_said : (out : Bool) (ts : List Text) (xs : List Event) → allowed_in (said_all out ts xs) ≡ allowed_in xs
 allowed_said out [] xs = refl
@@ -380,7 +380,7 @@ first_resumes base p q s t row now (pops f e l r d k) = rw e (omega arith)
 
 -- Where a unit is over and another goes on.
 
-pub resumes_heard : (b : List ℕ) (plain out : Bool) (base : ℕ) (p q : Point) (s t : State) (row now : List Frame) → Resumes base p s row q t now → owed b plain out p s row ≡ owed b plain out q t now
+pub resumes_heard : (b : List ℕ) (plain out : Bool) (base : ℕ) (p q : Point) (s t : State) (row now : List Frame) → Resumes base p s row q t now → reading_owed b plain out p s row ≡ reading_owed b plain out q t now
 unfolding share_at
 resumes_heard b plain out base p q s t row now (stays other e k r) = rw (e, k, r) refl
 resumes_heard b plain out base p q s t row now (pops f e l r d k) = rw (e, r, d, k) (row_push b plain out now f s.place s.is_open)
@@ -400,12 +400,12 @@ module _ {V : Type 0} (voice : Ghosts V) (b : List ℕ) (plain : Bool) where
 
   -- what a step does over more frames
   pub step_heard : (p q : Point) (s t : State) (row : List Frame) (v w : V) (made : ℕ) (now : List Frame) (z : Stepped voice b plain p s row v (Ok q) t now w made) → (above : List Frame)
-      → owed b plain voice.loud p s above ≡ heard_bits voice.loud (z.steps.0.bits ++ pays z.steps.0.back ∷ []) (owed b plain voice.loud q t (pushed_on above z.steps.0.pushed))
+      → reading_owed b plain voice.loud p s above ≡ heard_bits voice.loud (z.steps.0.bits ++ pays z.steps.0.back ∷ []) (reading_owed b plain voice.loud q t (pushed_on above z.steps.0.pushed))
   step_heard p q s t row v w made now z above =
       let d = z.steps.0 in
-      let x = followed b plain voice.loud d.pushed (share_of b plain voice.loud q t) in
+      let x = then_frame b plain voice.loud d.pushed (share_of b plain voice.loud q t) in
       let one : share_of b plain voice.loud p s ≡ heard_bits voice.loud (d.bits ++ pays d.back ∷ []) x =
-      subst (λ (m : Option Mark). share_of b plain voice.loud p s ≡ heard_bits voice.loud d.bits (handing voice.loud (marked m) (allowing d.back x))) z.steps.1 d.reads ∙ sym (bits_append voice.loud d.bits (pays d.back ∷ []) x) in
+      subst (λ (m : Option Mark). share_of b plain voice.loud p s ≡ heard_bits voice.loud d.bits (with_texts voice.loud (mark_texts m) (with_looks d.back x))) z.steps.1 d.reads ∙ sym (bits_append voice.loud d.bits (pays d.back ∷ []) x) in
       ap (λ (h : Heard). and_then h (row_owed b plain voice.loud above)) one
       ∙ (bits_then voice.loud (d.bits ++ pays d.back ∷ []) x (row_owed b plain voice.loud above)
       ∙ ap (heard_bits voice.loud (d.bits ++ pays d.back ∷ [])) (followed_row b plain voice.loud above d.pushed (share_of b plain voice.loud q t)))
@@ -421,8 +421,8 @@ module _ {V : Type 0} (voice : Ghosts V) (b : List ℕ) (plain : Bool) where
         resume_light base p q s t row mid x,
         ap (λ (h : Heard). allowed_in h.events) (resumes_heard b plain voice.loud base p q s t row mid x),
         k,
-        allowed_bits voice.loud (d.bits ++ pays d.back ∷ []) (owed b plain voice.loud u r (pushed_on mid d.pushed)),
-        ap (λ (ys : List Frame). allowed_in (owed b plain voice.loud u r ys).events) d.is_row,
+        allowed_bits voice.loud (d.bits ++ pays d.back ∷ []) (reading_owed b plain voice.loud u r (pushed_on mid d.pushed)),
+        ap (λ (ys : List Frame). allowed_in (reading_owed b plain voice.loud u r ys).events) d.is_row,
         ap weights d.is_row,
         weights_pushed mid d.pushed,
         d.lighter,
@@ -439,7 +439,7 @@ pub reads_none : (b : List ℕ) (plain : Bool) (below : List Frame) (p : Point) 
 reads_none b plain below p s above row e i made l = record { frames = above; is_row = e; inner = i; quiet = record { place = refl; looks = omega (arith, l) } }
 
 module _ {V : Type 0} (voice : Ghosts V) (b : List ℕ) (plain : Bool) (silent : voice.loud ≡ false) where
-  pop_quiet : (p q : Point) (s t : State) (frames rest : List Frame) (f : Frame) → p ≡ point.End → frames ≡ rest ++ f ∷ [] → q ≡ f.point → t ≡ resumed_of s f → owed b plain false q t rest ≡ owed b plain false p s frames
+  pop_quiet : (p q : Point) (s t : State) (frames rest : List Frame) (f : Frame) → p ≡ point.End → frames ≡ rest ++ f ∷ [] → q ≡ f.point → t ≡ resumed_of s f → reading_owed b plain false q t rest ≡ reading_owed b plain false p s frames
   unfolding share_at
   pop_quiet p q s t frames rest f e r d k = rw (e, r, d, k) (sym (row_push b plain false rest f s.place s.is_open))
 
@@ -461,14 +461,14 @@ module _ {V : Type 0} (voice : Ghosts V) (b : List ℕ) (plain : Bool) (silent :
   reads_step below above p0 q u s0 t r mid now v w first second made x z l =
       let d = z.steps.0 in
       let bits = d.bits ++ pays d.back ∷ [] in
-      let heard : owed b plain false q t x.frames ≡ heard_bits false bits (owed b plain false u r (pushed_on x.frames d.pushed)) =
-      subst (λ (out : Bool). owed b plain out q t x.frames ≡ heard_bits out bits (owed b plain out u r (pushed_on x.frames d.pushed))) silent (step_heard voice b plain q u t r mid v w second now z x.frames) in
+      let heard : reading_owed b plain false q t x.frames ≡ heard_bits false bits (reading_owed b plain false u r (pushed_on x.frames d.pushed)) =
+      subst (λ (out : Bool). reading_owed b plain out q t x.frames ≡ heard_bits out bits (reading_owed b plain out u r (pushed_on x.frames d.pushed))) silent (step_heard voice b plain q u t r mid v w second now z x.frames) in
       record {
         frames = pushed_on x.frames d.pushed;
         is_row = d.is_row ∙ (ap (λ (ys : List Frame). pushed_on ys d.pushed) x.is_row ∙ pushed_above below x.frames d.pushed);
         inner = inner_pushed x.frames d.pushed x.inner (d.quiet silent);
         quiet = record {
-          place = sym (place_bits false bits (owed b plain false u r (pushed_on x.frames d.pushed))) ∙ (ap (λ (h : Heard). h.place) (sym heard) ∙ x.quiet.place);
+          place = sym (place_bits false bits (reading_owed b plain false u r (pushed_on x.frames d.pushed))) ∙ (ap (λ (h : Heard). h.place) (sym heard) ∙ x.quiet.place);
           looks = omega (
             arith,
             l,
@@ -476,7 +476,7 @@ module _ {V : Type 0} (voice : Ghosts V) (b : List ℕ) (plain : Bool) (silent :
             x.quiet.looks,
             looks_append d.bits (pays d.back ∷ []),
             ap (λ (h : Heard). allowed_in h.events) heard,
-            allowed_bits false bits (owed b plain false u r (pushed_on x.frames d.pushed)),
+            allowed_bits false bits (reading_owed b plain false u r (pushed_on x.frames d.pushed)),
           );
         };
       }
@@ -487,13 +487,13 @@ module _ {V : Type 0} (voice : Ghosts V) (b : List ℕ) (plain : Bool) (silent :
   reads_turn base below above p0 p q u s0 s t r row mid now v w first second made x l k z m =
       reads_step below above p0 q u s0 t r mid now v w first second made (reads_resume base below above p0 p q s0 s t row mid first x l k) z m
 
-  stop_quiet : (q : Point) (t : State) (frames : List Frame) (v w : V) (made : ℕ) → AllInner frames → Stopped voice (share_of b plain voice.loud q t) v w made
-      → ((owed b plain false q t frames).place ≡ None) × (made ≤ allowed_in (owed b plain false q t frames).events)
+  stop_quiet : (q : Point) (t : State) (frames : List Frame) (v w : V) (made : ℕ) → AllInner frames → Halted voice (share_of b plain voice.loud q t) v w made
+      → ((reading_owed b plain false q t frames).place ≡ None) × (made ≤ allowed_in (reading_owed b plain false q t frames).events)
   stop_quiet q t frames v w made i d =
-      let rest = and_then (handing false d.texts d.rest) (row_owed b plain false frames) in
-      let heard : owed b plain false q t frames ≡ heard_bits false d.front rest =
-      ap (λ (h : Heard). and_then h (row_owed b plain false frames)) (subst (λ (out : Bool). share_of b plain out q t ≡ heard_bits out d.front (handing out d.texts d.rest)) silent d.reads)
-      ∙ bits_then false d.front (handing false d.texts d.rest) (row_owed b plain false frames) in (
+      let rest = and_then (with_texts false d.texts d.rest) (row_owed b plain false frames) in
+      let heard : reading_owed b plain false q t frames ≡ heard_bits false d.front rest =
+      ap (λ (h : Heard). and_then h (row_owed b plain false frames)) (subst (λ (out : Bool). share_of b plain out q t ≡ heard_bits out d.front (with_texts out d.texts d.rest)) silent d.reads)
+      ∙ bits_then false d.front (with_texts false d.texts d.rest) (row_owed b plain false frames) in (
         ap (λ (h : Heard). h.place) heard ∙ (place_bits false d.front rest ∙ row_failed b plain false frames d.rest.place d.rest.is_open i (d.fails silent)),
         omega (arith, d.exact silent, ap (λ (h : Heard). allowed_in h.events) heard, allowed_bits false d.front rest),
       )

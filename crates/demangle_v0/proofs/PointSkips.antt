@@ -4,14 +4,14 @@ use Rattle.std.proofs.Common.{◌≡◌, ℕ, ◌+◌, ◌≤◌, ◌<◌, Bool,
 use Rattle.std.proofs.lemmas.Bool.{false≢true}
 use Rattle.std.proofs.lemmas.List.{append-nil}
 use Rattle.std.proofs.Math.Seq.{take-append_seam}
-use Rattle.demangle_v0.specs.Events.{Heard, of, and_then, allowing}
+use Rattle.demangle_v0.specs.Events.{Heard, of, and_then, with_looks}
 use Rattle.demangle_v0.specs.Impls.{skip_point, self_point, is_skip}
 use Rattle.demangle_v0.specs.Items.{Items, a_path, a_type, done, child}
 use Rattle.demangle_v0.specs.Table.{says}
-use Rattle.demangle_v0.specs.Reading.{Place, begun, run}
+use Rattle.demangle_v0.specs.Reading.{Place, unit_outcome, run}
 use Rattle.demangle_v0.specs.Running.{allowed_in}
-use Rattle.demangle_v0.specs.Points.{most_frames, pays, heard_bits, goes, way_weight, weight_at, weights, measure, share_at, share_of, row_owed, owed, closing, around}
-use Rattle.demangle_v0.specs.PointRuns.{Resumes, Valid, frame_height, Quiet, Reads, ReadOn, Skipped, Skipping, silent_of, own_path, own_heard, placed, first_looks}
+use Rattle.demangle_v0.specs.Points.{most_frames, pays, heard_bits, goes, way_weight, weight_at, weights, measure, share_at, share_of, row_owed, reading_owed, none_open, around}
+use Rattle.demangle_v0.specs.PointRuns.{Resumes, Valid, frame_height, Quiet, Reads, ReadOn, Skipped, Skipping, silent_of, own_path, own_heard, state_at, first_looks}
 use Rattle.demangle_v0.specs.declared.points.Point.{Point}
 use Rattle.demangle_v0.specs.declared.points.Point.TheVariants as point
 use Rattle.demangle_v0.specs.declared.points.frames.Frame.{Frame}
@@ -52,35 +52,35 @@ resumes_less b plain out base p q s t row now x = omega (arith, resumes_weight b
 -- What is heard of it.
 
 abbrev pub read_own : List ℕ → Bool → ℕ → ℕ → Place → Heard
-read_own b plain left n i = closing (of plain false (begun (around b false left n) a_path false i))
+read_own b plain left n i = none_open (of plain false (unit_outcome (around b false left n) a_path false i))
 
 own_is : (b : List ℕ) (plain : Bool) (s : State) → own_heard b plain s ≡ read_own b plain s.depth_left s.lifetimes s.place
 unfolding share_at
 own_is b plain s = owed_alone b plain false point.Path (silent_of s)
 
 skip_items : (b : List ℕ) (plain : Bool) (p : Items) (left n : ℕ) (i : Place)
-    → closing (of plain true (run (Rattle.demangle_v0.specs.Items.skip p) (around b true left n) i)) ≡ allowing (allowances (read_own b plain left n i).events) (closing (of plain true (run p (around b true left n) (read_own b plain left n i).place)))
+    → none_open (of plain true (run (Rattle.demangle_v0.specs.Items.skip p) (around b true left n) i)) ≡ with_looks (allowances (read_own b plain left n i).events) (none_open (of plain true (run p (around b true left n) (read_own b plain left n i).place)))
 unfolding run
-skip_items b plain p left n None = ap closing (skip_failed plain true p (around b true left n))
-skip_items b plain p left n (Some i) = ap closing (skip_reads plain true b left n false n p i)
+skip_items b plain p left n None = ap none_open (skip_failed plain true p (around b true left n))
+skip_items b plain p left n (Some i) = ap none_open (skip_reads plain true b left n false n p i)
 
 skip_at : (q : Bool) (b : List ℕ) (plain v : Bool) (c left n : ℕ) (i : Place) (o : Bool)
-    → share_at b plain true (skip_point q) v c left n i o ≡ allowing (allowances (read_own b plain left n i).events) (share_at b plain true (self_point q) v c left n (read_own b plain left n i).place o)
+    → share_at b plain true (skip_point q) v c left n i o ≡ with_looks (allowances (read_own b plain left n i).events) (share_at b plain true (self_point q) v c left n (read_own b plain left n i).place o)
 unfolding share_at
 skip_at false b plain v c left n i o = skip_items b plain (says "<" (child a_type false (says ">" done))) left n i
 skip_at true b plain v c left n i o = skip_items b plain (says "<" (child a_type false (says " as " (child a_path false (says ">" done))))) left n i
 
 pub skip_owed : (q : Bool) (b : List ℕ) (plain : Bool) (s : State) (row : List Frame)
-    → owed b plain true (skip_point q) s row ≡ heard_bits true (pays (allowances (own_heard b plain s).events) ∷ []) (owed b plain true (self_point q) (placed s (own_heard b plain s).place) row)
+    → reading_owed b plain true (skip_point q) s row ≡ heard_bits true (pays (allowances (own_heard b plain s).events) ∷ []) (reading_owed b plain true (self_point q) (state_at s (own_heard b plain s).place) row)
 skip_owed q b plain s row =
-    subst (λ (h : Heard). owed b plain true (skip_point q) s row ≡ allowing (allowances h.events) (owed b plain true (self_point q) (placed s h.place) row)) (sym (own_is b plain s))
+    subst (λ (h : Heard). reading_owed b plain true (skip_point q) s row ≡ with_looks (allowances h.events) (reading_owed b plain true (self_point q) (state_at s h.place) row)) (sym (own_is b plain s))
     (ap (λ (h : Heard). and_then h (row_owed b plain true row)) (skip_at q b plain s.in_value s.letter s.depth_left s.lifetimes s.place s.is_open)
     ∙ allowing_then (allowances (read_own b plain s.depth_left s.lifetimes s.place).events)
-    (share_of b plain true (self_point q) (placed s (read_own b plain s.depth_left s.lifetimes s.place).place)) (row_owed b plain true row))
+    (share_of b plain true (self_point q) (state_at s (read_own b plain s.depth_left s.lifetimes s.place).place)) (row_owed b plain true row))
 
 -- the same, by what was read
 pub skipped_owed : (q : Bool) (b : List ℕ) (plain : Bool) (p : Point) (s t : State) (below now : List Frame) (made : ℕ) → Skipped b plain q s below p t now made
-    → owed b plain true (skip_point q) s below ≡ heard_bits true (pays (allowances (own_heard b plain s).events) ∷ []) (owed b plain true p t now)
+    → reading_owed b plain true (skip_point q) s below ≡ heard_bits true (pays (allowances (own_heard b plain s).events) ∷ []) (reading_owed b plain true p t now)
 skipped_owed q b plain p s t below now made k = rw (k.at, k.state, k.is_row, sym k.ends) (skip_owed q b plain s below)
 
 -- Where a reading stands.
@@ -89,7 +89,7 @@ pub own_valid : (q : Bool) (s : State) (row : List Frame) → Valid (skip_point 
 own_valid true s row v = record { stands = stands_on frame_height most_frames (8 * s.depth_left + 2) (8 * s.depth_left + 1) row v.stands (omega arith); fits = v.fits; all_fit = v.all_fit; unmarked = v.unmarked }
 own_valid false s row v = record { stands = stands_on frame_height most_frames (8 * s.depth_left + 2) (8 * s.depth_left + 1) row v.stands (omega arith); fits = v.fits; all_fit = v.all_fit; unmarked = v.unmarked }
 
-behind_valid : (q : Bool) (s : State) (i : Place) (row : List Frame) → Valid (skip_point q) s row → Valid (self_point q) (placed s i) row
+behind_valid : (q : Bool) (s : State) (i : Place) (row : List Frame) → Valid (skip_point q) s row → Valid (self_point q) (state_at s i) row
 behind_valid true s i row v = record { stands = v.stands; fits = v.fits; all_fit = v.all_fit; unmarked = v.unmarked }
 behind_valid false s i row v = record { stands = v.stands; fits = v.fits; all_fit = v.all_fit; unmarked = v.unmarked }
 
@@ -109,7 +109,7 @@ skipped_less q b plain p s t below now made k =
       ap (λ (z : Point). way_weight (goes z)) k.at,
       ap weights k.is_row,
       ap (λ (h : Heard). allowed_in h.events) (skipped_owed q b plain p s t below now made k),
-      allowed_bits true (pays ks ∷ []) (owed b plain true p t now),
+      allowed_bits true (pays ks ∷ []) (reading_owed b plain true p t now),
     )
 
 pub turn_skipped : (b : List ℕ) (plain : Bool) (base : ℕ) (p q u : Point) (s t r : State) (row mid now : List Frame) (made : ℕ) (k : (x : Bool) × (q ≡ skip_point x)) → Resumes base p s row q t mid → Skipped b plain k.0 t mid u r now made
@@ -139,7 +139,7 @@ quiet_then b plain p q r s t u xs ys zs first second made l x y = record { place
 
 module _ (b : List ℕ) (plain : Bool) (of_trait : Bool) (s : State) (below : List Frame) (p : Point) (t : State) (row : List Frame) (first : ℕ) (r : Reads b plain below point.Path (silent_of s) [] p t row first) where
   -- it came to its end
-  pub own_over : (q to : Point) (u new : State) (now : List Frame) (second made : ℕ) → ReadOn b plain below p t r.frames halt.Over q u now second → made ≤ first + second → to ≡ self_point of_trait → new ≡ placed s u.place
+  pub own_over : (q to : Point) (u new : State) (now : List Frame) (second made : ℕ) → ReadOn b plain below p t r.frames halt.Over q u now second → made ≤ first + second → to ≡ self_point of_trait → new ≡ state_at s u.place
       → Skipped b plain of_trait s below to new now made
   own_over q to u new now second made d l e k =
       let whole = quiet_then b plain point.Path p point.End (silent_of s) t u [] r.frames [] first second made l r.quiet d.reads.1 in
@@ -147,7 +147,7 @@ module _ (b : List ℕ) (plain : Bool) (of_trait : Bool) (s : State) (below : Li
 
   -- it failed
   pub own_failed : (base : ℕ) (q to : Point) (u new : State) (mid now : List Frame) (second made : ℕ) → ReadOn b plain below p t r.frames halt.Failed q u mid second → made ≤ first + second → length below ≡ base → now ≡ take base mid
-      → to ≡ self_point of_trait → new ≡ placed s None → Skipped b plain of_trait s below to new now made
+      → to ≡ self_point of_trait → new ≡ state_at s None → Skipped b plain of_trait s below to new now made
   own_failed base q to u new mid now second made d l h w e k = record {
     at = e;
     place = None;

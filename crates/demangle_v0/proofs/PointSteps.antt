@@ -5,11 +5,11 @@ use Rattle.std.proofs.lemmas.List.{append-nil}
 use Rattle.std.proofs.Common.{◌≡◌, ℕ, ◌+◌, ◌-◌, ◌≤◌, Bool, false, Option, None, List, [], ◌∷◌, ◌++◌, Result, Ok, Err, IsOk, refl, arith, sym, ap, ◌∙◌, subst}
 use Rattle.demangle_v0.specs.Items.{done}
 use Rattle.demangle_v0.specs.Totals.{total}
-use Rattle.demangle_v0.specs.Events.{Heard, of, ended, allowing, handing}
+use Rattle.demangle_v0.specs.Events.{Heard, of, nothing_heard, with_looks, with_texts}
 use Rattle.demangle_v0.specs.Groups.{Group, texts_of, word_group}
 use Rattle.demangle_v0.specs.Grammar.{word_items, text}
 use Rattle.demangle_v0.specs.Reading.{Place, run}
-use Rattle.demangle_v0.specs.Points.{Bit, pays, puts, heard_bits, bits_looks, Told, marked, followed, Way, goes, fails, way_heard, way_weight, way_height, weight_of, height_of, count_of, FitsFrame, FitsWay, IsInner, pushed_on, share_at, closing, around, Went, Kept, DidOn}
+use Rattle.demangle_v0.specs.Points.{Bit, pays, puts, heard_bits, bits_looks, Told, mark_texts, then_frame, Way, goes, fails, way_heard, way_weight, way_height, weight_of, height_of, count_of, FitsFrame, FitsWay, IsInner, pushed_on, share_at, none_open, around, Went, Kept, DidOn}
 use Rattle.demangle_sink.specs.declared.SinkRefused.{SinkRefused}
 use Rattle.demangle_v0.specs.declared.grammar.Mark.{Mark}
 use Rattle.demangle_v0.specs.declared.grammar.Word.{Word}
@@ -27,8 +27,8 @@ use Rattle.demangle_v0.proofs.GroupReads.{word_then, grouped, word_read}
 
 pub bits_append : (out : Bool) (xs ys : List Bit) (h : Heard) → heard_bits out (xs ++ ys) h ≡ heard_bits out xs (heard_bits out ys h)
 bits_append out [] ys h = refl
-bits_append out (pays k ∷ xs) ys h = ap (allowing k) (bits_append out xs ys h)
-bits_append out (puts ts ∷ xs) ys h = ap (handing out ts) (bits_append out xs ys h)
+bits_append out (pays k ∷ xs) ys h = ap (with_looks k) (bits_append out xs ys h)
+bits_append out (puts ts ∷ xs) ys h = ap (with_texts out ts) (bits_append out xs ys h)
 
 pub looks_append : (xs ys : List Bit) → bits_looks (xs ++ ys) ≡ bits_looks xs + bits_looks ys
 looks_append [] ys = omega arith
@@ -50,7 +50,7 @@ refused e = Err e
 module _ {V : Type 0} (voice : Ghosts V) (b : List ℕ) (plain : Bool) where
   -- what a step does by these looks, before its mark and behind it, and by this frame
   pub steps : (way : Way) (front back : List ℕ) (pushed : Option Frame) (h : Heard) (weight high : ℕ) (row now : List Frame) (v : V) (new : State) (made : ℕ)
-      → h ≡ allowing front (handing voice.loud (marked new.mark) (allowing back (followed b plain voice.loud pushed (way_heard b plain voice.loud way new))))
+      → h ≡ with_looks front (with_texts voice.loud (mark_texts new.mark) (with_looks back (then_frame b plain voice.loud pushed (way_heard b plain voice.loud way new))))
       → now ≡ pushed_on row pushed → made ≤ total front + total back → made ≤ total front + 2
       → way_weight way + weight_of pushed + 1 ≤ weight + 100 * (total front + total back)
       → height_of pushed ≤ high → way_height way new + count_of pushed ≤ high → FitsFrame pushed → FitsWay way new → (voice.loud ≡ false → IsInner pushed)
@@ -73,14 +73,14 @@ module _ {V : Type 0} (voice : Ghosts V) (b : List ℕ) (plain : Bool) where
   }
 
   went_after : (ks : List ℕ) (h k : Heard) (weight high weight' high' : ℕ) (row : List Frame) (v w : V) (way : Way) (new : State) (now : List Frame) (first second made : ℕ)
-      → h ≡ allowing ks k → first ≤ total ks → made ≤ first + second → weight' ≤ weight + 100 * total ks → high' ≤ high
+      → h ≡ with_looks ks k → first ≤ total ks → made ≤ first + second → weight' ≤ weight + 100 * total ks → high' ≤ high
       → Went voice b plain k weight' high' row v way new now w second → Went voice b plain h weight high row v way new now w made
   went_after ks h k weight high weight' high' row v w way new now first second made e l m x y d = record {
     bits = pays ks ∷ d.bits;
     back = d.back;
     pushed = d.pushed;
     told = d.told;
-    reads = e ∙ ap (allowing ks) d.reads;
+    reads = e ∙ ap (with_looks ks) d.reads;
     is_row = d.is_row;
     enough = omega (arith, d.enough);
     late = omega (arith, d.late);
@@ -94,7 +94,7 @@ module _ {V : Type 0} (voice : Ghosts V) (b : List ℕ) (plain : Bool) where
 
   -- a step behind some looks
   pub after : (ks : List ℕ) (h k : Heard) (weight high weight' high' : ℕ) (row : List Frame) (v w : V) (result : Result Point Stop) (new : State) (now : List Frame) (first second made : ℕ)
-      → h ≡ allowing ks k → first ≤ total ks → made ≤ first + second → weight' ≤ weight + 100 * total ks → high' ≤ high
+      → h ≡ with_looks ks k → first ≤ total ks → made ≤ first + second → weight' ≤ weight + 100 * total ks → high' ≤ high
       → DidOn voice b plain k weight' high' row v result new now w second → DidOn voice b plain h weight high row v result new now w made
   after ks h k weight high weight' high' row v w (Ok p) new now first second made e l m x y d = record { comes = went_after ks h k weight high weight' high' row v w (goes p) new now first second made e l m x y d.comes }
   after ks h k weight high weight' high' row v w (Err (Fault f)) new now first second made e l m x y d = record { comes = (went_after ks h k weight high weight' high' row v w (fails f) new now first second made e l m x y d.comes.0, d.comes.1) }
@@ -108,7 +108,7 @@ module _ {V : Type 0} (voice : Ghosts V) (b : List ℕ) (plain : Bool) where
         told = d.told;
         refusal = d.refusal;
         prints = d.prints;
-        reads = e ∙ ap (allowing ks) d.reads;
+        reads = e ∙ ap (with_looks ks) d.reads;
         enough = omega (arith, d.enough);
         exact = λ q. omega (arith, l, m, d.exact q);
         fails = d.fails;
@@ -124,9 +124,9 @@ module _ {V : Type 0} (voice : Ghosts V) (b : List ℕ) (plain : Bool) where
 
   -- Faults.
 
-  pub faulty : (m : Mark) (h : Heard) (weight high : ℕ) (row : List Frame) (v : V) (new : State) (made : ℕ) → new.mark ≡ None → h ≡ handing voice.loud (text m ∷ []) (ended None false) → made ≤ 0 → 1 ≤ weight
+  pub faulty : (m : Mark) (h : Heard) (weight high : ℕ) (row : List Frame) (v : V) (new : State) (made : ℕ) → new.mark ≡ None → h ≡ with_texts voice.loud (text m ∷ []) (nothing_heard None false) → made ≤ 0 → 1 ≤ weight
       → DidOn voice b plain h weight high row v (Err (Fault m)) new row v made
-  unfolding followed
+  unfolding then_frame
   faulty m h weight high row v new made k e l x = record {
     comes = (
       record {
@@ -150,38 +150,38 @@ module _ {V : Type 0} (voice : Ghosts V) (b : List ℕ) (plain : Bool) where
   }
 
   -- a fault behind some looks
-  pub faulty_after : (ks : List ℕ) (m : Mark) (h : Heard) (weight high : ℕ) (row : List Frame) (v : V) (new : State) (made : ℕ) → new.mark ≡ None → h ≡ allowing ks (handing voice.loud (text m ∷ []) (ended None false)) → made ≤ total ks → 1 ≤ weight
+  pub faulty_after : (ks : List ℕ) (m : Mark) (h : Heard) (weight high : ℕ) (row : List Frame) (v : V) (new : State) (made : ℕ) → new.mark ≡ None → h ≡ with_looks ks (with_texts voice.loud (text m ∷ []) (nothing_heard None false)) → made ≤ total ks → 1 ≤ weight
       → DidOn voice b plain h weight high row v (Err (Fault m)) new row v made
   faulty_after ks m h weight high row v new made k e l x =
-      after ks h (handing voice.loud (text m ∷ []) (ended None false)) weight high 1 0 row v v (Err (Fault m)) new row made 0 made e l (omega arith) (omega arith) (omega arith)
-      (faulty m (handing voice.loud (text m ∷ []) (ended None false)) 1 0 row v new 0 k refl (omega arith) (omega arith))
+      after ks h (with_texts voice.loud (text m ∷ []) (nothing_heard None false)) weight high 1 0 row v v (Err (Fault m)) new row made 0 made e l (omega arith) (omega arith) (omega arith)
+      (faulty m (with_texts voice.loud (text m ∷ []) (nothing_heard None false)) 1 0 row v new 0 k refl (omega arith) (omega arith))
 
   -- Words with which a unit ends.
 
   abbrev word_heard : Word → ℕ → ℕ → ℕ → Place → Heard
-  word_heard x note left n i = closing (of plain voice.loud (run (word_items x note done) (around b voice.loud left n) i))
+  word_heard x note left n i = none_open (of plain voice.loud (run (word_items x note done) (around b voice.loud left n) i))
 
   abbrev pub group_heard : Group → Heard
-  group_heard g = allowing g.costs (word_then b plain voice.loud g.reads (λ j. ended j false))
+  group_heard g = with_looks g.costs (word_then b plain voice.loud g.reads (λ j. nothing_heard j false))
 
-  word_shut : (ks : List ℕ) (r : WordRead) → closing (allowing ks (word_then b plain voice.loud r (λ j. ended j false))) ≡ allowing ks (word_then b plain voice.loud r (λ j. ended j false))
+  word_shut : (ks : List ℕ) (r : WordRead) → none_open (with_looks ks (word_then b plain voice.loud r (λ j. nothing_heard j false))) ≡ with_looks ks (word_then b plain voice.loud r (λ j. nothing_heard j false))
   word_shut ks (reads.Goes x j) = refl
   word_shut ks (reads.Stops m) = refl
 
   -- what is read as a group reads it
-  pub group_shut : (h : Heard) (g : Group) → h ≡ grouped b plain voice.loud g (λ j. ended j false) → closing h ≡ group_heard g
-  group_shut h g e = ap closing e ∙ word_shut g.costs g.reads
+  pub group_shut : (h : Heard) (g : Group) → h ≡ grouped b plain voice.loud g (λ j. nothing_heard j false) → none_open h ≡ group_heard g
+  group_shut h g e = ap none_open e ∙ word_shut g.costs g.reads
 
   pub word_so : (x : Word) (note left n : ℕ) (i : Place) → word_heard x note left n i ≡ group_heard (word_group b x note voice.loud n i)
   unfolding run
   word_so x note left n i = group_shut _ (word_group b x note voice.loud n i) (word_read b plain left voice.loud n x note done i)
 
-  group_so : (h : Heard) (g : Group) (r : WordRead) → h ≡ group_heard g → r ≡ g.reads → h ≡ allowing g.costs (word_then b plain voice.loud r (λ j. ended j false))
-  group_so h g r so e = so ∙ ap (λ (z : WordRead). allowing g.costs (word_then b plain voice.loud z (λ j. ended j false))) (sym e)
+  group_so : (h : Heard) (g : Group) (r : WordRead) → h ≡ group_heard g → r ≡ g.reads → h ≡ with_looks g.costs (word_then b plain voice.loud r (λ j. nothing_heard j false))
+  group_so h g r so e = so ∙ ap (λ (z : WordRead). with_looks g.costs (word_then b plain voice.loud z (λ j. nothing_heard j false))) (sym e)
 
   pub group_goes : (h : Heard) (g : Group) (j : Place) (s : Stretch) (weight high : ℕ) (row : List Frame) (v w : V) (new : State) (made : ℕ) → h ≡ group_heard g → reads.Goes s j ≡ g.reads → made ≤ total g.costs
       → voice.prints v (texts_of b plain s) (Ok tt) w → new.mark ≡ None → new.place ≡ j → new.is_open ≡ false → 1 ≤ weight → DidOn voice b plain h weight high row v (Ok point.End) new row w made
-  unfolding followed share_at
+  unfolding then_frame share_at
   group_goes h g j s weight high row v w new made so e l p m k o x = record {
     comes = record {
       bits = pays g.costs ∷ puts (texts_of b plain s) ∷ [];
@@ -213,7 +213,7 @@ module _ {V : Type 0} (voice : Ghosts V) (b : List ℕ) (plain : Bool) where
       record {
         front = pays g.costs ∷ [];
         texts = texts_of b plain s;
-        rest = ended j false;
+        rest = nothing_heard j false;
         mid = v;
         told = refl;
         refusal = e;

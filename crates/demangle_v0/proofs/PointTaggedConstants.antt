@@ -5,12 +5,12 @@ use Prim.Native.Char.{code}
 use Rattle.demangle_symbol.specs.Digits.{is_byte}
 use Rattle.demangle_symbol.specs.Words.{some_or, byte_at}
 use Rattle.demangle_v0.specs.Items.{Items, invalid, done, unit}
-use Rattle.demangle_v0.specs.Events.{Heard, of, and_then, allowing, handing}
+use Rattle.demangle_v0.specs.Events.{Heard, of, and_then, with_looks, with_texts}
 use Rattle.demangle_v0.specs.Grammar.{text, found}
-use Rattle.demangle_v0.specs.Table.{says, list, tuple, row_of, number, string, constant, constant_inside, constant_rows}
+use Rattle.demangle_v0.specs.Table.{says, list, tuple, row_of, integer_constant, string, constant, constant_inside, constant_rows}
 use Rattle.demangle_v0.specs.Tags.{constant_kinds, constant_of}
 use Rattle.demangle_v0.specs.Reading.{Place, run}
-use Rattle.demangle_v0.specs.Points.{followed, share_at, closing, around, pushed_on, goes, way_weight, height_at, Fits, DidOn}
+use Rattle.demangle_v0.specs.Points.{then_frame, share_at, none_open, around, pushed_on, goes, way_weight, height_at, Fits, DidOn}
 use Rattle.demangle_v0.specs.declared.grammar.Mark.TheVariants as mark
 use Rattle.demangle_v0.specs.declared.points.Point.{Point}
 use Rattle.demangle_v0.specs.declared.points.Point.TheVariants as point
@@ -32,7 +32,7 @@ constants_so v tag = refl
 
 module _ {V : Type 0} (voice : Ghosts V) (b : List ℕ) (plain : Bool) where
   abbrev heard : Items → ℕ → ℕ → Place → Heard
-  heard p left n i = closing (of plain voice.loud (run p (around b voice.loud left n) i))
+  heard p left n i = none_open (of plain voice.loud (run p (around b voice.loud left n) i))
 
   -- By its tag.
 
@@ -55,7 +55,7 @@ module _ {V : Type 0} (voice : Ghosts V) (b : List ℕ) (plain : Bool) where
   pub placeholder : (v : Bool) (c left n : ℕ) (i : Place) (row : List Frame) (u : V) (new : State) (made : ℕ) → made ≤ 0
       → new.in_value ≡ v → new.letter ≡ c → new.depth_left ≡ left → new.lifetimes ≡ n → new.place ≡ i → new.is_open ≡ false → new.mark ≡ Some mark.Placeholder
       → DidOn voice b plain (heard (constant_of v 0 kind.Placeholder) left n i) 6 (8 * left + 9) row u (Ok point.End) new row u made
-  unfolding run followed share_at
+  unfolding run then_frame share_at
   placeholder v c left n i row u new made x kv kc kl kn kp ko km =
       moves voice b plain [] point.End (Some mark.Placeholder) None _ v c left n i false 6 (8 * left + 9) row row u new made kv kc kl kn kp ko km refl refl x (omega arith) (omega arith) (omega arith) tt tt (λ _. tt)
 
@@ -68,13 +68,13 @@ module _ {V : Type 0} (voice : Ghosts V) (b : List ℕ) (plain : Bool) where
       → IsExtended q → share_at b plain voice.loud p v c left n i o ≡ heard q left n i → way_weight (goes p) ≤ 3 → height_at p left ≤ 8 * left + 2 → Fits p left n → Fits point.Constant left n → made ≤ 0
       → new.in_value ≡ v → new.letter ≡ c → new.depth_left ≡ left → new.lifetimes ≡ n → new.place ≡ i → new.is_open ≡ o → new.mark ≡ (if v then None else Some mark.OpenBrace) → now ≡ pushed_on row (if v then None else Some (brace v c left n))
       → DidOn voice b plain (heard (if v then q else says "{" (extended (says "}" done) q)) left n i) 6 (8 * left + 9) row u (Ok p) new now u made
-  unfolding run followed share_at
+  unfolding run then_frame share_at
   braced_goes p q true c left n i o row now u new made x e w y f g l kv kc kl kn kp ko km r =
       moves voice b plain [] p None None _ true c left n i o 6 (8 * left + 9) row now u new made kv kc kl kn kp ko km (sym e) r l (omega (arith, w)) (omega arith) (omega (arith, y)) tt f (λ _. tt)
   braced_goes p q false c left n i o row now u new made x e w y f g l kv kc kl kn kp ko km r =
       moves voice b plain [] p (Some mark.OpenBrace) (Some (brace false c left n)) _ false c left n i o 6 (8 * left + 9) row now u new made kv kc kl kn kp ko km
-      (ap (λ (h : Heard). handing voice.loud (text mark.OpenBrace ∷ []) (closing h)) (extended_reads plain voice.loud (says "}" done) (around b voice.loud left n) q x i)
-      ∙ ap (λ (h : Heard). handing voice.loud (text mark.OpenBrace ∷ []) (and_then h (λ j o. share_at b plain voice.loud point.CloseBrace false c left n j o))) (sym e))
+      (ap (λ (h : Heard). with_texts voice.loud (text mark.OpenBrace ∷ []) (none_open h)) (extended_reads plain voice.loud (says "}" done) (around b voice.loud left n) q x i)
+      ∙ ap (λ (h : Heard). with_texts voice.loud (text mark.OpenBrace ∷ []) (and_then h (λ j o. share_at b plain voice.loud point.CloseBrace false c left n j o))) (sym e))
       r l (omega (arith, w)) (omega arith) (omega (arith, y)) g f (λ _. refl)
 
   abbrev Braced : State → State → List Frame → List Frame → Type 0
@@ -132,7 +132,7 @@ module _ {V : Type 0} (voice : Ghosts V) (b : List ℕ) (plain : Bool) where
       → DidOn voice b plain (heard (constant old.in_value 82) old.depth_left old.lifetimes (Some i)) 6 (8 * old.depth_left + 9) row u (Ok point.ReferenceConstant) new now u made
   shared_goes i old row now u new made f l e c r =
       after voice b plain (1 ∷ []) _ (heard (in_braces old.in_value (says "&" constant_inside)) old.depth_left old.lifetimes old.place) 6 (8 * old.depth_left + 9) 6 (8 * old.depth_left + 9) row u u (Ok point.ReferenceConstant) new now 1 0 made
-      (ap closing (reference_reads plain voice.loud b old.depth_left old.lifetimes old.in_value i (sym c)) ∙ ap (λ j. allowing (1 ∷ []) (heard (in_braces old.in_value (says "&" constant_inside)) old.depth_left old.lifetimes j)) (sym e))
+      (ap none_open (reference_reads plain voice.loud b old.depth_left old.lifetimes old.in_value i (sym c)) ∙ ap (λ j. with_looks (1 ∷ []) (heard (in_braces old.in_value (says "&" constant_inside)) old.depth_left old.lifetimes j)) (sym e))
       (omega arith) (omega (arith, l)) (omega arith) (omega arith) (referred_braced old row now u new 0 f (omega arith) r)
 
   pub shared_text : (v : Bool) (c left n i : ℕ) (o : Bool) (row : List Frame) (u w : V) (result : Result Point Stop) (new : State) (second made : ℕ) → true ≡ is_byte b i (code "e") → made ≤ 1 + second
@@ -140,7 +140,7 @@ module _ {V : Type 0} (voice : Ghosts V) (b : List ℕ) (plain : Bool) where
       → DidOn voice b plain (heard (constant v 82) left n (Some i)) 6 (8 * left + 9) row u result new row w made
   unfolding share_at
   shared_text v c left n i o row u w result new second made e l d =
-      after voice b plain (1 ∷ []) _ (heard string left n (Some (i + 1))) 6 (8 * left + 9) 1 (8 * left + 2) row u w result new row 1 second made (ap closing (text_reads plain voice.loud b left n v i (sym e))) (omega arith) l (omega arith) (omega arith) d
+      after voice b plain (1 ∷ []) _ (heard string left n (Some (i + 1))) 6 (8 * left + 9) 1 (8 * left + 2) row u w result new row 1 second made (ap none_open (text_reads plain voice.loud b left n v i (sym e))) (omega arith) l (omega arith) (omega arith) d
 
   -- Numbers.
 
@@ -158,16 +158,16 @@ module _ {V : Type 0} (voice : Ghosts V) (b : List ℕ) (plain : Bool) where
   pub signed_minus : (v : Bool) (c left n i : ℕ) (o : Bool) (row : List Frame) (u : V) (new : State) (made : ℕ) → true ≡ is_byte b i (code "n") → made ≤ 1 → Fits point.Constant left n
       → new.in_value ≡ v → new.letter ≡ c → new.depth_left ≡ left → new.lifetimes ≡ n → new.place ≡ Some (i + 1) → new.is_open ≡ o → new.mark ≡ Some mark.Minus
       → DidOn voice b plain (heard (constant_of v c kind.Signed) left n (Some i)) 6 (8 * left + 9) row u (Ok point.Number) new row u made
-  unfolding followed share_at
+  unfolding then_frame share_at
   signed_minus v c left n i o row u new made e l f kv kc kl kn kp ko km =
-      moves voice b plain (1 ∷ []) point.Number (Some mark.Minus) None _ v c left n (Some (i + 1)) o 6 (8 * left + 9) row row u new made kv kc kl kn kp ko km (ap closing (minus_reads plain voice.loud b left n c i (sym e))) refl l (omega arith) (omega arith) (omega arith) tt f (λ _. tt)
+      moves voice b plain (1 ∷ []) point.Number (Some mark.Minus) None _ v c left n (Some (i + 1)) o 6 (8 * left + 9) row row u new made kv kc kl kn kp ko km (ap none_open (minus_reads plain voice.loud b left n c i (sym e))) refl l (omega arith) (omega arith) (omega arith) tt f (λ _. tt)
 
   pub signed_plus : (v : Bool) (c left n i : ℕ) (o : Bool) (row : List Frame) (u w : V) (result : Result Point Stop) (new : State) (second made : ℕ) → false ≡ is_byte b i (code "n") → made ≤ 1 + second
       → DidOn voice b plain (share_at b plain voice.loud point.Number v c left n (Some i) o) 1 (8 * left + 2) row u result new row w second
       → DidOn voice b plain (heard (constant_of v c kind.Signed) left n (Some i)) 6 (8 * left + 9) row u result new row w made
   unfolding share_at
   signed_plus v c left n i o row u w result new second made e l d =
-      after voice b plain (1 ∷ []) _ (heard (number c) left n (Some i)) 6 (8 * left + 9) 1 (8 * left + 2) row u w result new row 1 second made (ap closing (plus_reads plain voice.loud b left n c i (sym e))) (omega arith) l (omega arith) (omega arith) d
+      after voice b plain (1 ∷ []) _ (heard (integer_constant c) left n (Some i)) 6 (8 * left + 9) 1 (8 * left + 2) row u w result new row 1 second made (ap none_open (plus_reads plain voice.loud b left n c i (sym e))) (omega arith) l (omega arith) (omega arith) d
 
   -- Variants.
 
@@ -177,7 +177,7 @@ module _ {V : Type 0} (voice : Ghosts V) (b : List ℕ) (plain : Bool) where
   pub variant_goes : (v : Bool) (c left n : ℕ) (i : Place) (o : Bool) (row now : List Frame) (u : V) (new : State) (made : ℕ) → Fits point.Constant left n → made ≤ 0
       → new.in_value ≡ true → new.letter ≡ c → new.depth_left ≡ left → new.lifetimes ≡ n → new.place ≡ i → new.is_open ≡ o → new.mark ≡ (if v then None else Some mark.OpenBrace) → now ≡ row ++ variant_frame v c left n ∷ []
       → DidOn voice b plain (heard (constant v 86) left n i) 6 (8 * left + 9) row u (Ok point.Path) new now u made
-  unfolding run followed share_at
+  unfolding run then_frame share_at
   variant_goes true c left n i o row now u new made f l kv kc kl kn kp ko km r =
       moves voice b plain [] point.Path None (Some (variant_frame true c left n)) _ true c left n i o 6 (8 * left + 9) row now u new made kv kc kl kn kp ko km refl r l (omega arith) (omega arith) (omega arith) f f (λ _. refl)
   variant_goes false c left n i o row now u new made f l kv kc kl kn kp ko km r =
@@ -197,17 +197,17 @@ module _ {V : Type 0} (voice : Ghosts V) (b : List ℕ) (plain : Bool) where
       → DidOn voice b plain (constant_at v c left n (Some i) o) 1 (8 * left + 1) row u (Err (Fault mark.Invalid)) new row u made
   unfolding share_at
   constant_untagged v c left n i o row u new made e k m =
-      faulty_after voice b plain (4 * (length b - i + 1) ∷ []) mark.Invalid (constant_at v c left n (Some i) o) 1 (8 * left + 1) row u new made k (ap closing (constant_missing plain voice.loud b left n v i (sym e))) (omega (arith, m)) (omega arith)
+      faulty_after voice b plain (4 * (length b - i + 1) ∷ []) mark.Invalid (constant_at v c left n (Some i) o) 1 (8 * left + 1) row u new made k (ap none_open (constant_missing plain voice.loud b left n v i (sym e))) (omega (arith, m)) (omega arith)
 
   pub constant_too_deep : (v : Bool) (c left n i t j : ℕ) (o : Bool) (row : List Frame) (u : V) (new : State) (made : ℕ) → left ≡ 0 → Some (t, j) ≡ byte_at b i → new.mark ≡ None → made ≤ 1
       → DidOn voice b plain (constant_at v c left n (Some i) o) 1 (8 * left + 1) row u (Err (Fault mark.Recursion)) new row u made
   unfolding share_at
   constant_too_deep v c left n i t j o row u new made l e k m =
-      faulty_after voice b plain (4 * (j - i + 1) ∷ []) mark.Recursion (constant_at v c left n (Some i) o) 1 (8 * left + 1) row u new made k (ap closing (constant_deep plain voice.loud b left n v i t j (sym e) l)) (omega (arith, m)) (omega arith)
+      faulty_after voice b plain (4 * (j - i + 1) ∷ []) mark.Recursion (constant_at v c left n (Some i) o) 1 (8 * left + 1) row u new made k (ap none_open (constant_deep plain voice.loud b left n v i t j (sym e) l)) (omega (arith, m)) (omega arith)
 
   pub constant_tagged : (v : Bool) (c left n i t j : ℕ) (o : Bool) (row now : List Frame) (u w : V) (result : Result Point Stop) (new : State) (second made : ℕ) → 0 < left → Some (t, j) ≡ byte_at b i → made ≤ 1 + second
       → DidOn voice b plain (heard (constant v t) (left - 1) n (Some j)) 6 (8 * (left - 1) + 9) row u result new now w second → DidOn voice b plain (constant_at v c left n (Some i) o) 1 (8 * left + 1) row u result new now w made
   unfolding share_at
   constant_tagged v c left n i t j o row now u w result new second made l e m d =
       after voice b plain (4 * (j - i + 1) ∷ []) (constant_at v c left n (Some i) o) (heard (constant v t) (left - 1) n (Some j)) 1 (8 * left + 1) 6 (8 * (left - 1) + 9) row u w result new now 1 second made
-      (ap closing (constant_reads plain voice.loud b left n v i t j (sym e) l)) (omega arith) m (omega arith) (omega (arith, l)) d
+      (ap none_open (constant_reads plain voice.loud b left n v i t j (sym e) l)) (omega arith) m (omega arith) (omega (arith, l)) d

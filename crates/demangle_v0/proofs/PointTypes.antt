@@ -9,12 +9,12 @@ use Rattle.demangle_symbol.specs.Digits.{is_byte}
 use Rattle.demangle_symbol.specs.Words.{then_if_some}
 use Rattle.demangle_v0.specs.Items.{Text, Kind, a_type, a_constant, a_pattern, Items, say, child, done}
 use Rattle.demangle_v0.specs.Totals.{total}
-use Rattle.demangle_v0.specs.Events.{Heard, of, events, allowing, handing}
+use Rattle.demangle_v0.specs.Events.{Heard, of, events, with_looks, with_texts}
 use Rattle.demangle_v0.specs.Grammar.{text, found, basic_marks}
-use Rattle.demangle_v0.specs.Table.{says_if, typed, type_rows, is_among, text_of, basic_types}
-use Rattle.demangle_v0.specs.Tags.{type_kinds, type_of, reference_to, referring}
-use Rattle.demangle_v0.specs.Reading.{Place, begun, run}
-use Rattle.demangle_v0.specs.Points.{weight_at, frame_of, followed, share_at, closing, around, goes, marked, pushed_on, way_weight, weight_of, height_at, height_of, count_of, Fits, FitsFrame, IsInner, DidOn, behind_reference, lifetime_point}
+use Rattle.demangle_v0.specs.Table.{says_if, type_inside, type_rows, is_among, row_text, basic_types}
+use Rattle.demangle_v0.specs.Tags.{type_kinds, type_of, reference_to, lifetime_before}
+use Rattle.demangle_v0.specs.Reading.{Place, unit_outcome, run}
+use Rattle.demangle_v0.specs.Points.{weight_at, frame_of, then_frame, share_at, none_open, around, goes, mark_texts, pushed_on, way_weight, weight_of, height_at, height_of, count_of, Fits, FitsFrame, IsInner, DidOn, behind_reference, lifetime_point}
 use Rattle.demangle_v0.specs.declared.grammar.Mark.{Mark}
 use Rattle.demangle_v0.specs.declared.grammar.Mark.TheVariants as mark
 use Rattle.demangle_v0.specs.declared.points.tags.TypeKind.{TypeKind}
@@ -32,25 +32,25 @@ use Rattle.demangle_v0.proofs.TypeReads.{row_at, splat_reads, type_reads, tag_mi
 
 module _ {V : Type 0} (voice : Ghosts V) (b : List ℕ) (plain : Bool) where
   abbrev pub heard : Items → ℕ → ℕ → Place → Heard
-  heard p left n i = closing (of plain voice.loud (run p (around b voice.loud left n) i))
+  heard p left n i = none_open (of plain voice.loud (run p (around b voice.loud left n) i))
 
   abbrev pub heard_at : Point → Bool → ℕ → ℕ → ℕ → Place → Bool → Heard
   heard_at p v c left n i o = share_at b plain voice.loud p v c left n i o
 
   -- a child with which a unit ends
-  pub child_last : (k : Kind) (v : Bool) (left n : ℕ) (i : Place) → heard (child k v done) left n i ≡ closing (of plain voice.loud (begun (around b voice.loud left n) k v i))
+  pub child_last : (k : Kind) (v : Bool) (left n : ℕ) (i : Place) → heard (child k v done) left n i ≡ none_open (of plain voice.loud (unit_outcome (around b voice.loud left n) k v i))
   unfolding run
-  child_last k v left n i = let o = begun (around b voice.loud left n) k v i in ap (λ xs. record { events = xs; place = o.place; is_open = false }) (append-nil (events plain voice.loud o.tree))
+  child_last k v left n i = let o = unit_outcome (around b voice.loud left n) k v i in ap (λ xs. record { events = xs; place = o.place; is_open = false }) (append-nil (events plain voice.loud o.tree))
 
   -- one whose text behind it is not printed
-  pub child_silent : (k : Kind) (v : Bool) (left n : ℕ) (i : Place) (t : Text) (out : Bool) → out ≡ false → closing (of plain out (run (child k v (say t done)) (around b out left n) i)) ≡ closing (of plain out (begun (around b out left n) k v i))
+  pub child_silent : (k : Kind) (v : Bool) (left n : ℕ) (i : Place) (t : Text) (out : Bool) → out ≡ false → none_open (of plain out (run (child k v (say t done)) (around b out left n) i)) ≡ none_open (of plain out (unit_outcome (around b out left n) k v i))
   unfolding run
   child_silent k v left n i t true q = absurd (false≢true (sym q))
-  child_silent k v left n i t false q = let o = begun (around b false left n) k v i in ap (λ xs. record { events = xs; place = o.place; is_open = false }) (append-nil (events plain false o.tree))
+  child_silent k v left n i t false q = let o = unit_outcome (around b false left n) k v i in ap (λ xs. record { events = xs; place = o.place; is_open = false }) (append-nil (events plain false o.tree))
 
   -- a step that goes on at a point of this state
   pub enters : (h : Heard) (p : Point) (left n : ℕ) (i : Place) (m : Option Mark) (front back : List ℕ) (pushed : Option Frame) (weight high : ℕ) (row now : List Frame) (u : V) (new : State) (made : ℕ)
-      → h ≡ allowing front (handing voice.loud (marked m) (allowing back (followed b plain voice.loud pushed (heard_at p new.in_value new.letter left n i new.is_open))))
+      → h ≡ with_looks front (with_texts voice.loud (mark_texts m) (with_looks back (then_frame b plain voice.loud pushed (heard_at p new.in_value new.letter left n i new.is_open))))
       → new.depth_left ≡ left → new.lifetimes ≡ n → new.place ≡ i → new.mark ≡ m
       → now ≡ pushed_on row pushed → made ≤ total front + total back → made ≤ total front + 2
       → way_weight (goes p) + weight_of pushed + 1 ≤ weight + 100 * (total front + total back)
@@ -67,7 +67,7 @@ module _ {V : Type 0} (voice : Ghosts V) (b : List ℕ) (plain : Bool) where
   pub ends_says : (m : Mark) (weight high left n : ℕ) (i : Place) (row : List Frame) (u : V) (new : State) (made : ℕ) → made ≤ 0 → 1 ≤ weight
       → new.place ≡ i → new.mark ≡ Some m → new.is_open ≡ false
       → DidOn voice b plain (heard (say (text m) done) left n i) weight high row u (Ok point.End) new row u made
-  unfolding run followed share_at
+  unfolding run then_frame share_at
   ends_says m weight high left n i row u new made l x kp km ko = record {
     comes =
         steps voice b plain (goes point.End) [] [] None _ weight high row row u new made
@@ -87,12 +87,12 @@ module _ {V : Type 0} (voice : Ghosts V) (b : List ℕ) (plain : Bool) where
   -- a type behind a text, and the last of its unit
   typed_says : (m : Mark) (left n : ℕ) (i : Place) (row : List Frame) (u : V) (new : State) (made : ℕ) → made ≤ 0 → Fits point.«Type» left n
       → new.depth_left ≡ left → new.lifetimes ≡ n → new.place ≡ i → new.mark ≡ Some m
-      → DidOn voice b plain (heard (say (text m) typed) left n i) 2 (8 * left + 2) row u (Ok point.«Type») new row u made
-  unfolding run followed share_at
+      → DidOn voice b plain (heard (say (text m) type_inside) left n i) 2 (8 * left + 2) row u (Ok point.«Type») new row u made
+  unfolding run then_frame share_at
   typed_says m left n i row u new made l f kl kn kp km = record {
     comes =
         steps voice b plain (goes point.«Type») [] [] None _ 2 (8 * left + 2) row row u new made
-        (ap (handing voice.loud (text m ∷ [])) (child_last a_type false left n i) ∙ rw (kl, kn, kp, km) refl) refl (omega (arith, l)) (omega (arith, l)) (omega arith) (omega arith) (omega (arith, kl)) tt (rw (kl, kn) f) (λ _. tt);
+        (ap (with_texts voice.loud (text m ∷ [])) (child_last a_type false left n i) ∙ rw (kl, kn, kp, km) refl) refl (omega (arith, l)) (omega (arith, l)) (omega arith) (omega arith) (omega (arith, kl)) tt (rw (kl, kn) f) (λ _. tt);
   }
 
   pub mutable_goes : (v : Bool) (c left n : ℕ) (i : Place) (o : Bool) (row : List Frame) (u : V) (new : State) (made : ℕ) → made ≤ 0 → Fits point.«Type» left n
@@ -110,18 +110,18 @@ module _ {V : Type 0} (voice : Ghosts V) (b : List ℕ) (plain : Bool) where
   pub pattern_goes : (v : Bool) (c left n : ℕ) (i : Place) (o : Bool) (row : List Frame) (u : V) (new : State) (made : ℕ) → made ≤ 0 → Fits point.Pattern left n
       → new.depth_left ≡ left → new.lifetimes ≡ n → new.place ≡ i → new.mark ≡ Some mark.Is
       → DidOn voice b plain (heard_at point.PatternIs v c left n i o) 2 (8 * left + 2) row u (Ok point.Pattern) new row u made
-  unfolding run followed share_at
+  unfolding run then_frame share_at
   pattern_goes v c left n i o row u new made l f kl kn kp km = record {
     comes =
         steps voice b plain (goes point.Pattern) [] [] None _ 2 (8 * left + 2) row row u new made
-        (ap (handing voice.loud (text mark.Is ∷ [])) (child_last a_pattern false left n i) ∙ rw (kl, kn, kp, km) refl) refl (omega (arith, l)) (omega (arith, l)) (omega arith) (omega arith) (omega (arith, kl)) tt (rw (kl, kn) f) (λ _. tt);
+        (ap (with_texts voice.loud (text mark.Is ∷ [])) (child_last a_pattern false left n i) ∙ rw (kl, kn, kp, km) refl) refl (omega (arith, l)) (omega (arith, l)) (omega arith) (omega arith) (omega (arith, kl)) tt (rw (kl, kn) f) (λ _. tt);
   }
 
   pub length_goes : (v : Bool) (c left n : ℕ) (i : Place) (o : Bool) (row now : List Frame) (u : V) (new : State) (made : ℕ) → made ≤ 0 → Fits point.CloseBracket left n
       → new.in_value ≡ true → new.depth_left ≡ left → new.lifetimes ≡ n → new.place ≡ i → new.mark ≡ Some mark.Semicolon
       → (voice.loud ≡ true → now ≡ row ++ frame_of point.CloseBracket v c left n ∷ []) → (voice.loud ≡ false → now ≡ row)
       → DidOn voice b plain (heard_at point.ArrayLength v c left n i o) 4 (8 * left + 2) row u (Ok point.Constant) new now u made
-  unfolding run followed share_at
+  unfolding run then_frame share_at
   length_goes v c left n i o row now u new made l f kv kl kn kp km r s = go voice.loud refl
     where
       go : (x : Bool) → voice.loud ≡ x → DidOn voice b plain (heard_at point.ArrayLength v c left n i o) 4 (8 * left + 2) row u (Ok point.Constant) new now u made
@@ -129,7 +129,7 @@ module _ {V : Type 0} (voice : Ghosts V) (b : List ℕ) (plain : Bool) where
           enters _ point.Constant left n i (Some mark.Semicolon) [] [] (Some (frame_of point.CloseBracket v c left n)) 4 (8 * left + 2) row now u new made (rw kv refl) kl kn kp km (r q)
           (omega (arith, l)) (omega (arith, l)) (omega arith) (omega arith) (omega arith) f f (λ _. refl)
       go false q =
-          enters _ point.Constant left n i (Some mark.Semicolon) [] [] None 4 (8 * left + 2) row now u new made (rw kv (ap (handing voice.loud (text mark.Semicolon ∷ [])) (child_silent a_constant true left n i (text mark.CloseBracket) voice.loud q))) kl kn kp km (s q)
+          enters _ point.Constant left n i (Some mark.Semicolon) [] [] None 4 (8 * left + 2) row now u new made (rw kv (ap (with_texts voice.loud (text mark.Semicolon ∷ [])) (child_silent a_constant true left n i (text mark.CloseBracket) voice.loud q))) kl kn kp km (s q)
           (omega (arith, l)) (omega (arith, l)) (omega arith) (omega arith) (omega arith) tt f (λ _. tt)
 
   -- Types that are made of others, behind their tag.
@@ -144,21 +144,21 @@ module _ {V : Type 0} (voice : Ghosts V) (b : List ℕ) (plain : Bool) where
   pub const_pointer_goes : (left n : ℕ) (i : Place) (row : List Frame) (u : V) (new : State) (made : ℕ) → made ≤ 0 → Fits point.Unchanging left n
       → new.depth_left ≡ left → new.lifetimes ≡ n → new.place ≡ i → new.mark ≡ Some mark.Star
       → DidOn voice b plain (heard (type_of kind.ConstPointer) left n i) 50 (8 * left + 9) row u (Ok point.Unchanging) new row u made
-  unfolding run followed share_at
+  unfolding run then_frame share_at
   const_pointer_goes left n i row u new made l f kl kn kp km =
       enters _ point.Unchanging left n i (Some mark.Star) [] [] None 50 (8 * left + 9) row row u new made refl kl kn kp km refl (omega (arith, l)) (omega (arith, l)) (omega arith) (omega arith) (omega arith) tt f (λ _. tt)
 
   pub mut_pointer_goes : (left n : ℕ) (i : Place) (row : List Frame) (u : V) (new : State) (made : ℕ) → made ≤ 0 → Fits point.Mutable left n
       → new.depth_left ≡ left → new.lifetimes ≡ n → new.place ≡ i → new.mark ≡ Some mark.Star
       → DidOn voice b plain (heard (type_of kind.MutPointer) left n i) 50 (8 * left + 9) row u (Ok point.Mutable) new row u made
-  unfolding run followed share_at
+  unfolding run then_frame share_at
   mut_pointer_goes left n i row u new made l f kl kn kp km =
       enters _ point.Mutable left n i (Some mark.Star) [] [] None 50 (8 * left + 9) row row u new made refl kl kn kp km refl (omega (arith, l)) (omega (arith, l)) (omega arith) (omega arith) (omega arith) tt f (λ _. tt)
 
   pub tuple_goes : (left n : ℕ) (i : Place) (row : List Frame) (u : V) (new : State) (made : ℕ) → made ≤ 0 → Fits point.FirstTupleType left n
       → new.depth_left ≡ left → new.lifetimes ≡ n → new.place ≡ i → new.mark ≡ Some mark.OpenParen
       → DidOn voice b plain (heard (type_of kind.Tuple) left n i) 50 (8 * left + 9) row u (Ok point.FirstTupleType) new row u made
-  unfolding run followed share_at
+  unfolding run then_frame share_at
   tuple_goes left n i row u new made l f kl kn kp km =
       enters _ point.FirstTupleType left n i (Some mark.OpenParen) [] [] None 50 (8 * left + 9) row row u new made refl kl kn kp km refl (omega (arith, l)) (omega (arith, l)) (omega arith) (omega arith) (omega arith) tt f (λ _. tt)
 
@@ -166,7 +166,7 @@ module _ {V : Type 0} (voice : Ghosts V) (b : List ℕ) (plain : Bool) where
       → new.depth_left ≡ left → new.lifetimes ≡ n → new.place ≡ i → new.mark ≡ Some mark.OpenBracket
       → now ≡ row ++ frame_of point.ArrayLength v c left n ∷ []
       → DidOn voice b plain (heard (type_of kind.Array) left n i) 50 (8 * left + 9) row u (Ok point.«Type») new now u made
-  unfolding run followed share_at
+  unfolding run then_frame share_at
   array_goes v c left n i row now u new made l f kl kn kp km r =
       enters _ point.«Type» left n i (Some mark.OpenBracket) [] [] (Some (frame_of point.ArrayLength v c left n)) 50 (8 * left + 9) row now u new made refl kl kn kp km r (omega (arith, l)) (omega (arith, l)) (omega arith) (omega arith) (omega arith) f f (λ _. refl)
 
@@ -174,7 +174,7 @@ module _ {V : Type 0} (voice : Ghosts V) (b : List ℕ) (plain : Bool) where
       → new.depth_left ≡ left → new.lifetimes ≡ n → new.place ≡ i → new.mark ≡ Some mark.OpenBracket
       → (voice.loud ≡ true → now ≡ row ++ frame_of point.CloseBracket v c left n ∷ []) → (voice.loud ≡ false → now ≡ row)
       → DidOn voice b plain (heard (type_of kind.Slice) left n i) 50 (8 * left + 9) row u (Ok point.«Type») new now u made
-  unfolding run followed share_at
+  unfolding run then_frame share_at
   slice_goes v c left n i row now u new made l f kl kn kp km r s = go voice.loud refl
     where
       go : (x : Bool) → voice.loud ≡ x → DidOn voice b plain (heard (type_of kind.Slice) left n i) 50 (8 * left + 9) row u (Ok point.«Type») new now u made
@@ -182,21 +182,21 @@ module _ {V : Type 0} (voice : Ghosts V) (b : List ℕ) (plain : Bool) where
           enters _ point.«Type» left n i (Some mark.OpenBracket) [] [] (Some (frame_of point.CloseBracket v c left n)) 50 (8 * left + 9) row now u new made refl kl kn kp km (r q)
           (omega (arith, l)) (omega (arith, l)) (omega arith) (omega arith) (omega arith) f f (λ _. refl)
       go false q =
-          enters _ point.«Type» left n i (Some mark.OpenBracket) [] [] None 50 (8 * left + 9) row now u new made (ap (handing voice.loud (text mark.OpenBracket ∷ [])) (child_silent a_type false left n i (text mark.CloseBracket) voice.loud q)) kl kn kp km (s q)
+          enters _ point.«Type» left n i (Some mark.OpenBracket) [] [] None 50 (8 * left + 9) row now u new made (ap (with_texts voice.loud (text mark.OpenBracket ∷ [])) (child_silent a_type false left n i (text mark.CloseBracket) voice.loud q)) kl kn kp km (s q)
           (omega (arith, l)) (omega (arith, l)) (omega arith) (omega arith) (omega arith) tt f (λ _. tt)
 
   pub pattern_type_goes : (v : Bool) (c left n : ℕ) (i : Place) (row now : List Frame) (u : V) (new : State) (made : ℕ) → made ≤ 0 → Fits point.PatternIs left n
       → new.depth_left ≡ left → new.lifetimes ≡ n → new.place ≡ i → new.mark ≡ None
       → now ≡ row ++ frame_of point.PatternIs v c left n ∷ []
       → DidOn voice b plain (heard (type_of kind.Pattern) left n i) 50 (8 * left + 9) row u (Ok point.«Type») new now u made
-  unfolding run followed share_at
+  unfolding run then_frame share_at
   pattern_type_goes v c left n i row now u new made l f kl kn kp km r =
       enters _ point.«Type» left n i (None) [] [] (Some (frame_of point.PatternIs v c left n)) 50 (8 * left + 9) row now u new made refl kl kn kp km r (omega (arith, l)) (omega (arith, l)) (omega arith) (omega arith) (omega arith) f f (λ _. refl)
 
   -- references
 
   -- what stands behind a reference, where it has no lifetime
-  pub behind_so : (q : Bool) (v : Bool) (c left n : ℕ) (i : Place) (o : Bool) → heard (says_if q "mut " typed) left n i ≡ heard_at (behind_reference q) v c left n i o
+  pub behind_so : (q : Bool) (v : Bool) (c left n : ℕ) (i : Place) (o : Bool) → heard (says_if q "mut " type_inside) left n i ≡ heard_at (behind_reference q) v c left n i o
   unfolding share_at
   behind_so true v c left n i o = refl
   behind_so false v c left n i o = child_last a_type false left n i
@@ -216,26 +216,26 @@ module _ {V : Type 0} (voice : Ghosts V) (b : List ℕ) (plain : Bool) where
   pub reference_failed : (q : Bool) (left n : ℕ) (row : List Frame) (u : V) (new : State) (made : ℕ) → made ≤ 0 → Fits point.«Type» left n
       → new.depth_left ≡ left → new.lifetimes ≡ n → new.place ≡ None → new.mark ≡ Some mark.Ampersand
       → DidOn voice b plain (heard (reference_to q) left n None) 50 (8 * left + 9) row u (Ok (behind_reference q)) new row u made
-  unfolding run followed
+  unfolding run then_frame
   reference_failed q left n row u new made l f kl kn kp km = record {
     comes =
         steps voice b plain (goes (behind_reference q)) [] [] None _ 50 (8 * left + 9) row row u new made
-        (rw (kl, kn, kp, km) (ap (handing voice.loud (text mark.Ampersand ∷ [])) (behind_so q new.in_value new.letter left n None new.is_open))) refl (omega (arith, l)) (omega (arith, l)) (omega (arith, behind_light q)) (omega arith)
+        (rw (kl, kn, kp, km) (ap (with_texts voice.loud (text mark.Ampersand ∷ [])) (behind_so q new.in_value new.letter left n None new.is_open))) refl (omega (arith, l)) (omega (arith, l)) (omega (arith, behind_light q)) (omega arith)
         (rw kl (omega (arith, behind_low q left))) tt (rw (kl, kn) (behind_fits q left n f)) (λ _. tt);
   }
 
   pub reference_goes : (q : Bool) (left n i : ℕ) (row : List Frame) (u : V) (new : State) (made : ℕ) → is_byte b i (code "L") ≡ false → made ≤ 1 → Fits point.«Type» left n
       → new.depth_left ≡ left → new.lifetimes ≡ n → new.place ≡ Some i → new.mark ≡ Some mark.Ampersand
       → DidOn voice b plain (heard (reference_to q) left n (Some i)) 50 (8 * left + 9) row u (Ok (behind_reference q)) new row u made
-  unfolding run followed
+  unfolding run then_frame
   reference_goes q left n i row u new made e l f kl kn kp km = record {
     comes =
         steps voice b plain (goes (behind_reference q)) [] (1 ∷ []) None _ 50 (8 * left + 9) row row u new made
-        (rw (kl, kn, kp, km, e) (ap (λ (h : Heard). handing voice.loud (text mark.Ampersand ∷ []) (allowing (1 ∷ []) h)) (behind_so q new.in_value new.letter left n (Some i) new.is_open))) refl (omega (arith, l)) (omega (arith, l)) (omega (arith, behind_light q)) (omega arith)
+        (rw (kl, kn, kp, km, e) (ap (λ (h : Heard). with_texts voice.loud (text mark.Ampersand ∷ []) (with_looks (1 ∷ []) h)) (behind_so q new.in_value new.letter left n (Some i) new.is_open))) refl (omega (arith, l)) (omega (arith, l)) (omega (arith, behind_light q)) (omega arith)
         (rw kl (omega (arith, behind_low q left))) tt (rw (kl, kn) (behind_fits q left n f)) (λ _. tt);
   }
 
-  pub lifetime_so : (q : Bool) (v : Bool) (c left n : ℕ) (i : Place) (o : Bool) → heard (referring (says_if q "mut " typed)) left n i ≡ heard_at (lifetime_point q) v c left n i o
+  pub lifetime_so : (q : Bool) (v : Bool) (c left n : ℕ) (i : Place) (o : Bool) → heard (lifetime_before (says_if q "mut " type_inside)) left n i ≡ heard_at (lifetime_point q) v c left n i o
   unfolding share_at
   lifetime_so true v c left n i o = refl
   lifetime_so false v c left n i o = refl
@@ -255,11 +255,11 @@ module _ {V : Type 0} (voice : Ghosts V) (b : List ℕ) (plain : Bool) where
   pub reference_named : (q : Bool) (left n i : ℕ) (row : List Frame) (u : V) (new : State) (made : ℕ) → is_byte b i (code "L") ≡ true → made ≤ 1 → Fits point.«Type» left n
       → new.depth_left ≡ left → new.lifetimes ≡ n → new.place ≡ Some (i + 1) → new.mark ≡ Some mark.Ampersand
       → DidOn voice b plain (heard (reference_to q) left n (Some i)) 50 (8 * left + 9) row u (Ok (lifetime_point q)) new row u made
-  unfolding run followed
+  unfolding run then_frame
   reference_named q left n i row u new made e l f kl kn kp km = record {
     comes =
         steps voice b plain (goes (lifetime_point q)) [] (1 ∷ []) None _ 50 (8 * left + 9) row row u new made
-        (rw (kl, kn, kp, km, e) (ap (λ (h : Heard). handing voice.loud (text mark.Ampersand ∷ []) (allowing (1 ∷ []) h)) (lifetime_so q new.in_value new.letter left n (Some (i + 1)) new.is_open))) refl (omega (arith, l)) (omega (arith, l)) (omega (arith, lifetime_light q)) (omega arith)
+        (rw (kl, kn, kp, km, e) (ap (λ (h : Heard). with_texts voice.loud (text mark.Ampersand ∷ []) (with_looks (1 ∷ []) h)) (lifetime_so q new.in_value new.letter left n (Some (i + 1)) new.is_open))) refl (omega (arith, l)) (omega (arith, l)) (omega (arith, lifetime_light q)) (omega arith)
         (rw kl (omega (arith, lifetime_low q left))) tt (rw (kl, kn) (lifetime_fits q left n f)) (λ _. tt);
   }
 
@@ -274,24 +274,24 @@ module _ {V : Type 0} (voice : Ghosts V) (b : List ℕ) (plain : Bool) where
       → DidOn voice b plain (heard_at point.TaggedType v c left n (Some i) o) 1 (8 * left + 1) row u (Err (Fault mark.Invalid)) new row u made
   unfolding share_at
   no_tag v c left n i o row u new made e k l =
-      faulty_after voice b plain (1 ∷ []) mark.Invalid _ 1 (8 * left + 1) row u new made k (ap closing (tag_missing plain voice.loud b left n i (sym e))) l (omega arith)
+      faulty_after voice b plain (1 ∷ []) mark.Invalid _ 1 (8 * left + 1) row u new made k (ap none_open (tag_missing plain voice.loud b left n i (sym e))) l (omega arith)
 
-  basic_so : (t : ℕ) (m : Option Mark) → m ≡ found t basic_marks → text_of t basic_types ≡ then_if_some m (λ m. Some (text m))
+  basic_so : (t : ℕ) (m : Option Mark) → m ≡ found t basic_marks → row_text t basic_types ≡ then_if_some m (λ m. Some (text m))
   basic_so t m e = basic_found t ∙ ap (λ (o : Option Mark). then_if_some o (λ m. Some (text m))) (sym e)
 
   pub basic_ends : (v : Bool) (c left n i t : ℕ) (m : Mark) (o : Bool) (row : List Frame) (u : V) (new : State) (made : ℕ) → Some t ≡ slice_get b i → Some m ≡ found t basic_marks → made ≤ 1
       → new.place ≡ Some (i + 1) → new.mark ≡ Some m → new.is_open ≡ false
       → DidOn voice b plain (heard_at point.TaggedType v c left n (Some i) o) 1 (8 * left + 1) row u (Ok point.End) new row u made
-  unfolding share_at followed
+  unfolding share_at then_frame
   basic_ends v c left n i t m o row u new made e f l kp km ko =
       enters _ point.End new.depth_left new.lifetimes (Some (i + 1)) (Some m) (1 ∷ 4 * (i + 1 - i + 1) ∷ []) [] None 1 (8 * left + 1) row row u new made
-      (rw ko (ap closing (basic_reads plain voice.loud b left n i t (text m) (sym e) (basic_so t (Some m) f)))) refl refl kp km refl (omega (arith, l)) (omega (arith, l)) (omega arith) (omega arith) (omega arith) tt tt (λ _. tt)
+      (rw ko (ap none_open (basic_reads plain voice.loud b left n i t (text m) (sym e) (basic_so t (Some m) f)))) refl refl kp km refl (omega (arith, l)) (omega (arith, l)) (omega arith) (omega arith) (omega arith) tt tt (λ _. tt)
 
   pub tag_deep : (v : Bool) (c left n i t : ℕ) (o : Bool) (row : List Frame) (u : V) (new : State) (made : ℕ) → Some t ≡ slice_get b i → None ≡ found t basic_marks → left ≡ 0 → new.mark ≡ None → made ≤ 1
       → DidOn voice b plain (heard_at point.TaggedType v c left n (Some i) o) 1 (8 * left + 1) row u (Err (Fault mark.Recursion)) new row u made
   unfolding share_at
   tag_deep v c left n i t o row u new made e f z k l =
-      faulty_after voice b plain (1 ∷ []) mark.Recursion _ 1 (8 * left + 1) row u new made k (ap closing (type_deep plain voice.loud b left n i t (sym e) (basic_so t None f) z)) l (omega arith)
+      faulty_after voice b plain (1 ∷ []) mark.Recursion _ 1 (8 * left + 1) row u new made k (ap none_open (type_deep plain voice.loud b left n i t (sym e) (basic_so t None f) z)) l (omega arith)
 
   -- the row of a tag
   row_so : (t : ℕ) (k : Option TypeKind) → k ≡ found t (type_kinds t) → row_at t (type_rows t) ≡ then_if_some k (λ k. Some (type_of k))
@@ -309,10 +309,10 @@ module _ {V : Type 0} (voice : Ghosts V) (b : List ℕ) (plain : Bool) where
   pub path_follows : (v : Bool) (c left n i t : ℕ) (o : Bool) (row : List Frame) (u : V) (new : State) (made : ℕ) → Some t ≡ slice_get b i → None ≡ found t basic_marks → 0 < left → None ≡ found t (type_kinds t) → made ≤ 1
       → Fits point.TaggedType left n → new.in_value ≡ false → new.depth_left ≡ left - 1 → new.lifetimes ≡ n → new.place ≡ Some i → new.mark ≡ None
       → DidOn voice b plain (heard_at point.TaggedType v c left n (Some i) o) 1 (8 * left + 1) row u (Ok point.Path) new row u made
-  unfolding share_at followed
+  unfolding share_at then_frame
   path_follows v c left n i t o row u new made e f z g l w kv kl kn kp km =
       enters _ point.Path (left - 1) n (Some i) None (1 ∷ []) [] None 1 (8 * left + 1) row row u new made
-      (rw kv (ap closing (constructed_reads plain voice.loud b left n i t (sym e) (basic_so t None f) z ∙ ap (allowing (1 ∷ [])) (path_type_reads plain voice.loud b (left - 1) n (Some i) t (row_so t None g))))) kl kn kp km refl (omega (arith, l)) (omega (arith, l)) (omega arith) (omega arith) (omega (arith, z)) tt (omega (arith, w)) (λ _. tt)
+      (rw kv (ap none_open (constructed_reads plain voice.loud b left n i t (sym e) (basic_so t None f) z ∙ ap (with_looks (1 ∷ [])) (path_type_reads plain voice.loud b (left - 1) n (Some i) t (row_so t None g))))) kl kn kp km refl (omega (arith, l)) (omega (arith, l)) (omega arith) (omega arith) (omega (arith, z)) tt (omega (arith, w)) (λ _. tt)
 
   pub tag_goes : (v : Bool) (c left n i t : ℕ) (o : Bool) (k : TypeKind) (row now : List Frame) (u w : V) (result : Result Point Stop) (new : State) (second made : ℕ) → Some t ≡ slice_get b i → None ≡ found t basic_marks → 0 < left → Some k ≡ found t (type_kinds t) → made ≤ 1 + second
       → DidOn voice b plain (heard (type_of k) (left - 1) n (Some (i + 1))) 50 (8 * (left - 1) + 9) row u result new now w second
@@ -320,7 +320,7 @@ module _ {V : Type 0} (voice : Ghosts V) (b : List ℕ) (plain : Bool) where
   unfolding share_at
   tag_goes v c left n i t o k row now u w result new second made e f z g l d =
       after voice b plain (1 ∷ 4 * (i + 1 - i + 1) ∷ []) _ (heard (type_of k) (left - 1) n (Some (i + 1))) 1 (8 * left + 1) 50 (8 * (left - 1) + 9) row u w result new now 1 second made
-      (ap closing (constructed_reads plain voice.loud b left n i t (sym e) (basic_so t None f) z ∙ ap (allowing (1 ∷ [])) (row_reads plain voice.loud b (left - 1) n i t (type_of k) (sym e) (row_so t (Some k) g))))
+      (ap none_open (constructed_reads plain voice.loud b left n i t (sym e) (basic_so t None f) z ∙ ap (with_looks (1 ∷ [])) (row_reads plain voice.loud b (left - 1) n i t (type_of k) (sym e) (row_so t (Some k) g))))
       (omega arith) l (omega arith) (omega (arith, z)) d
 
   -- A type.
@@ -333,10 +333,10 @@ module _ {V : Type 0} (voice : Ghosts V) (b : List ℕ) (plain : Bool) where
   pub type_splats : (v : Bool) (c left n i : ℕ) (o : Bool) (row : List Frame) (u : V) (new : State) (made : ℕ) → is_byte b i (code "w") ≡ true → made ≤ 1 → Fits point.TaggedType left n
       → new.depth_left ≡ left → new.lifetimes ≡ n → new.place ≡ Some (i + 1) → new.mark ≡ Some mark.Splat
       → DidOn voice b plain (heard_at point.«Type» v c left n (Some i) o) 1 (8 * left + 1) row u (Ok point.TaggedType) new row u made
-  unfolding share_at followed
+  unfolding share_at then_frame
   type_splats v c left n i o row u new made e l f kl kn kp km =
       enters _ point.TaggedType left n (Some (i + 1)) (Some mark.Splat) (1 ∷ []) [] None 1 (8 * left + 1) row row u new made
-      (ap closing (splat_reads plain voice.loud b left n false i e)) kl kn kp km refl (omega (arith, l)) (omega (arith, l)) (omega arith) (omega arith) (omega arith) tt f (λ _. tt)
+      (ap none_open (splat_reads plain voice.loud b left n false i e)) kl kn kp km refl (omega (arith, l)) (omega (arith, l)) (omega arith) (omega arith) (omega arith) tt f (λ _. tt)
 
   pub type_goes : (v : Bool) (c left n i : ℕ) (o : Bool) (row now : List Frame) (u w : V) (result : Result Point Stop) (new : State) (second made : ℕ) → is_byte b i (code "w") ≡ false → made ≤ 1 + second
       → DidOn voice b plain (heard_at point.TaggedType v c left n (Some i) o) 1 (8 * left + 1) row u result new now w second
@@ -344,7 +344,7 @@ module _ {V : Type 0} (voice : Ghosts V) (b : List ℕ) (plain : Bool) where
   unfolding share_at
   type_goes v c left n i o row now u w result new second made e l d =
       after voice b plain (1 ∷ []) _ _ 1 (8 * left + 1) 1 (8 * left + 1) row u w result new now 1 second made
-      (ap closing (type_reads plain voice.loud b left n false i e)) (omega arith) l (omega arith) (omega arith) d
+      (ap none_open (type_reads plain voice.loud b left n false i e)) (omega arith) l (omega arith) (omega arith) d
 
   -- a type that is begun, or gone on with behind its `w`
   pub type_either : (q : Bool) (v : Bool) (c left n : ℕ) (i : Place) (o : Bool) (row now : List Frame) (u w : V) (result : Result Point Stop) (new : State) (made : ℕ)

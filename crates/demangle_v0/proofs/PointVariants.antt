@@ -5,13 +5,13 @@ use Rattle.std.proofs.Common.{◌≡◌, ℕ, ◌+◌, ◌-◌, ◌≤◌, lengt
 use Rattle.demangle_symbol.specs.Words.{some_or, byte_at}
 use Rattle.demangle_v0.specs.Items.{Items, Text, invalid, done, say}
 use Rattle.demangle_v0.specs.Totals.{total}
-use Rattle.demangle_v0.specs.Events.{Heard, of, and_then, allowing, handing}
+use Rattle.demangle_v0.specs.Events.{Heard, of, and_then, with_looks, with_texts}
 use Rattle.demangle_v0.specs.Grammar.{text, found}
 use Rattle.demangle_v0.specs.Groups.{texts_of, word_group}
 use Rattle.demangle_v0.specs.Table.{says, list, row_of, variant_rows, constant_inside, field}
 use Rattle.demangle_v0.specs.Tags.{variant_kinds, variant_of, closes}
 use Rattle.demangle_v0.specs.Reading.{Place, run}
-use Rattle.demangle_v0.specs.Points.{pays, puts, followed, share_at, closing, around, pushed_on, goes, way_weight, height_at, Fits, Stopped, DidOn}
+use Rattle.demangle_v0.specs.Points.{pays, puts, then_frame, share_at, none_open, around, pushed_on, goes, way_weight, height_at, Fits, Halted, DidOn}
 use Rattle.demangle_sink.specs.declared.SinkRefused.{SinkRefused}
 use Rattle.demangle_v0.specs.declared.grammar.Mark.{Mark}
 use Rattle.demangle_v0.specs.declared.grammar.Mark.TheVariants as mark
@@ -40,7 +40,7 @@ variants_so v = refl
 
 module _ {V : Type 0} (voice : Ghosts V) (b : List ℕ) (plain : Bool) where
   abbrev heard : Items → ℕ → ℕ → Place → Heard
-  heard p left n i = closing (of plain voice.loud (run p (around b voice.loud left n) i))
+  heard p left n i = none_open (of plain voice.loud (run p (around b voice.loud left n) i))
 
   abbrev variant_at : Bool → ℕ → ℕ → ℕ → Place → Bool → Heard
   variant_at v c left n i o = share_at b plain voice.loud point.Variant v c left n i o
@@ -48,21 +48,21 @@ module _ {V : Type 0} (voice : Ghosts V) (b : List ℕ) (plain : Bool) where
   pub variant_unread : (v : Bool) (c left n : ℕ) (o : Bool) (row : List Frame) (u : V) (new : State) (made : ℕ) → new.mark ≡ None → made ≤ 0
       → DidOn voice b plain (variant_at v c left n None o) 1 (8 * left + 3) row u (Err (Fault mark.Unread)) new row u made
   unfolding share_at
-  variant_unread v c left n o row u new made k l = faulty voice b plain mark.Unread _ 1 (8 * left + 3) row u new made k (ap closing (variant_failed plain voice.loud b left n (closes v))) l (omega arith)
+  variant_unread v c left n o row u new made k l = faulty voice b plain mark.Unread _ 1 (8 * left + 3) row u new made k (ap none_open (variant_failed plain voice.loud b left n (closes v))) l (omega arith)
 
   pub variant_untagged : (v : Bool) (c left n i : ℕ) (o : Bool) (row : List Frame) (u : V) (new : State) (made : ℕ) → None ≡ byte_at b i → new.mark ≡ None → made ≤ 1
       → DidOn voice b plain (variant_at v c left n (Some i) o) 1 (8 * left + 3) row u (Err (Fault mark.Invalid)) new row u made
   unfolding share_at
   variant_untagged v c left n i o row u new made e k m =
-      faulty_after voice b plain (4 * (length b - i + 1) ∷ []) mark.Invalid (variant_at v c left n (Some i) o) 1 (8 * left + 3) row u new made k (ap closing (variant_missing plain voice.loud b left n (closes v) i (sym e))) (omega (arith, m)) (omega arith)
+      faulty_after voice b plain (4 * (length b - i + 1) ∷ []) mark.Invalid (variant_at v c left n (Some i) o) 1 (8 * left + 3) row u new made k (ap none_open (variant_missing plain voice.loud b left n (closes v) i (sym e))) (omega (arith, m)) (omega arith)
 
   -- behind its tag
   variant_so : (v : Bool) (c left n i t j : ℕ) (o : Bool) (p : Option VariantKind) → Some (t, j) ≡ byte_at b i → p ≡ found t variant_kinds
-      → variant_at v c left n (Some i) o ≡ allowing (4 * (j - i + 1) ∷ []) (heard (some_or invalid p (variant_of v)) left n (Some j))
+      → variant_at v c left n (Some i) o ≡ with_looks (4 * (j - i + 1) ∷ []) (heard (some_or invalid p (variant_of v)) left n (Some j))
   unfolding share_at
   variant_so v c left n i t j o p e f =
-      ap closing (variant_reads plain voice.loud b left n (closes v) i t j (sym e))
-      ∙ ap (λ (x : Items). allowing (4 * (j - i + 1) ∷ []) (heard x left n (Some j))) ((ap (λ rs. row_of t invalid rs) (variants_so v) ∙ row_found t invalid (variant_of v) variant_kinds) ∙ ap (λ (p : Option VariantKind). some_or invalid p (variant_of v)) (sym f))
+      ap none_open (variant_reads plain voice.loud b left n (closes v) i t j (sym e))
+      ∙ ap (λ (x : Items). with_looks (4 * (j - i + 1) ∷ []) (heard x left n (Some j))) ((ap (λ rs. row_of t invalid rs) (variants_so v) ∙ row_found t invalid (variant_of v) variant_kinds) ∙ ap (λ (p : Option VariantKind). some_or invalid p (variant_of v)) (sym f))
 
   pub variant_wrong : (v : Bool) (c left n i t j : ℕ) (o : Bool) (row : List Frame) (u : V) (new : State) (made : ℕ) → Some (t, j) ≡ byte_at b i → None ≡ found t variant_kinds → new.mark ≡ None → made ≤ 1
       → DidOn voice b plain (variant_at v c left n (Some i) o) 1 (8 * left + 3) row u (Err (Fault mark.Invalid)) new row u made
@@ -79,7 +79,7 @@ module _ {V : Type 0} (voice : Ghosts V) (b : List ℕ) (plain : Bool) where
   pub unit_ends : (v : Bool) (c left n : ℕ) (i : Place) (row : List Frame) (u : V) (new : State) (made : ℕ) → made ≤ 0
       → new.in_value ≡ v → new.letter ≡ c → new.depth_left ≡ left → new.lifetimes ≡ n → new.place ≡ i → new.is_open ≡ false → new.mark ≡ (if v then None else Some mark.CloseBrace)
       → DidOn voice b plain (heard (variant_of v kind.Unit) left n i) 5 (8 * left + 3) row u (Ok point.End) new row u made
-  unfolding run followed share_at
+  unfolding run then_frame share_at
   unit_ends true c left n i row u new made l kv kc kl kn kp ko km =
       moves voice b plain [] point.End None None _ true c left n i false 5 (8 * left + 3) row row u new made kv kc kl kn kp ko km refl refl l (omega arith) (omega arith) (omega arith) tt tt (λ _. tt)
   unit_ends false c left n i row u new made l kv kc kl kn kp ko km =
@@ -95,15 +95,15 @@ module _ {V : Type 0} (voice : Ghosts V) (b : List ℕ) (plain : Bool) where
       → share_at b plain voice.loud p v c left n i o ≡ heard q left n i → way_weight (goes p) ≤ 1 → height_at p left ≤ 8 * left + 2 → Fits p left n → Fits point.Variant left n → made ≤ 0
       → new.in_value ≡ v → new.letter ≡ c → new.depth_left ≡ left → new.lifetimes ≡ n → new.place ≡ i → new.is_open ≡ o → new.mark ≡ Some m → now ≡ pushed_on row (if v then None else Some (brace v c left n))
       → DidOn voice b plain (heard (f v) left n i) 5 (8 * left + 3) row u (Ok p) new now u made
-  unfolding run followed share_at
+  unfolding run then_frame share_at
   held_goes p m q f true c left n i o row now u new made x z y e w h g k l kv kc kl kn kp ko km r =
       moves voice b plain [] p (Some m) None _ true c left n i o 5 (8 * left + 3) row now u new made kv kc kl kn kp ko km
-      (ap (λ (x : Items). heard x left n i) x ∙ ap (λ (h : Heard). handing voice.loud (text m ∷ []) h) (sym e)) r l (omega (arith, w)) (omega arith) (omega (arith, h)) tt g (λ _. tt)
+      (ap (λ (x : Items). heard x left n i) x ∙ ap (λ (h : Heard). with_texts voice.loud (text m ∷ []) h) (sym e)) r l (omega (arith, w)) (omega arith) (omega (arith, h)) tt g (λ _. tt)
   held_goes p m q f false c left n i o row now u new made x z y e w h g k l kv kc kl kn kp ko km r =
       moves voice b plain [] p (Some m) (Some (brace false c left n)) _ false c left n i o 5 (8 * left + 3) row now u new made kv kc kl kn kp ko km
       (ap (λ (x : Items). heard x left n i) z
-      ∙ (ap (λ (h : Heard). handing voice.loud (text m ∷ []) (closing h)) (extended_reads plain voice.loud (says "}" done) (around b voice.loud left n) q y i)
-      ∙ ap (λ (h : Heard). handing voice.loud (text m ∷ []) (and_then h (λ j o. share_at b plain voice.loud point.CloseBrace false c left n j o))) (sym e)))
+      ∙ (ap (λ (h : Heard). with_texts voice.loud (text m ∷ []) (none_open h)) (extended_reads plain voice.loud (says "}" done) (around b voice.loud left n) q y i)
+      ∙ ap (λ (h : Heard). with_texts voice.loud (text m ∷ []) (and_then h (λ j o. share_at b plain voice.loud point.CloseBrace false c left n j o))) (sym e)))
       r l (omega (arith, w)) (omega arith) (omega (arith, h)) k g (λ _. refl)
 
   abbrev Held : Mark → State → State → List Frame → List Frame → Type 0
@@ -135,25 +135,25 @@ module _ {V : Type 0} (voice : Ghosts V) (b : List ℕ) (plain : Bool) where
   abbrev inside : ℕ → ℕ → Place → Heard
   inside left n j = heard (says ": " constant_inside) left n j
 
-  field_shut : (left n : ℕ) (ks : List ℕ) (r : WordRead) → closing (allowing ks (word_then b plain voice.loud r (λ j. of plain voice.loud (run (says ": " constant_inside) (around b voice.loud left n) j)))) ≡ allowing ks (word_then b plain voice.loud r (inside left n))
+  field_shut : (left n : ℕ) (ks : List ℕ) (r : WordRead) → none_open (with_looks ks (word_then b plain voice.loud r (λ j. of plain voice.loud (run (says ": " constant_inside) (around b voice.loud left n) j)))) ≡ with_looks ks (word_then b plain voice.loud r (inside left n))
   field_shut left n ks (reads.Goes x j) = refl
   field_shut left n ks (reads.Stops x) = refl
 
   abbrev field_at : Bool → ℕ → ℕ → ℕ → Place → Bool → Heard
   field_at v c left n i o = share_at b plain voice.loud point.Field v c left n i o
 
-  field_so : (v : Bool) (c left n : ℕ) (i : Place) (o : Bool) (r : WordRead) → r ≡ (group_of c n i).reads → field_at v c left n i o ≡ allowing (group_of c n i).costs (word_then b plain voice.loud r (inside left n))
+  field_so : (v : Bool) (c left n : ℕ) (i : Place) (o : Bool) (r : WordRead) → r ≡ (group_of c n i).reads → field_at v c left n i o ≡ with_looks (group_of c n i).costs (word_then b plain voice.loud r (inside left n))
   unfolding share_at
   field_so v c left n i o r e =
       let g = group_of c n i in
-      ap closing (word_read b plain left voice.loud n word.FieldName c (says ": " constant_inside) i)
-      ∙ (field_shut left n g.costs g.reads ∙ ap (λ (z : WordRead). allowing g.costs (word_then b plain voice.loud z (inside left n))) (sym e))
+      ap none_open (word_read b plain left voice.loud n word.FieldName c (says ": " constant_inside) i)
+      ∙ (field_shut left n g.costs g.reads ∙ ap (λ (z : WordRead). with_looks g.costs (word_then b plain voice.loud z (inside left n))) (sym e))
 
   -- a word was handed over, and the unit goes on
   told_goes : (ks : List ℕ) (ts : List Text) (p : Point) (h : Heard) (v : Bool) (c left n : ℕ) (i : Place) (o : Bool) (weight high : ℕ) (row : List Frame) (u w : V) (new : State) (made : ℕ)
-      → h ≡ allowing ks (handing voice.loud ts (share_at b plain voice.loud p v c left n i o)) → made ≤ total ks → way_weight (goes p) + 1 ≤ weight → height_at p left ≤ high → Fits p left n → voice.prints u ts (Ok tt) w
+      → h ≡ with_looks ks (with_texts voice.loud ts (share_at b plain voice.loud p v c left n i o)) → made ≤ total ks → way_weight (goes p) + 1 ≤ weight → height_at p left ≤ high → Fits p left n → voice.prints u ts (Ok tt) w
       → new.in_value ≡ v → new.letter ≡ c → new.depth_left ≡ left → new.lifetimes ≡ n → new.place ≡ i → new.is_open ≡ o → new.mark ≡ None → DidOn voice b plain h weight high row u (Ok p) new row w made
-  unfolding followed
+  unfolding then_frame
   told_goes ks ts p h v c left n i o weight high row u w new made e l x y f q kv kc kl kn kp ko km = record {
     comes = record {
       bits = pays ks ∷ puts ts ∷ [];
@@ -186,7 +186,7 @@ module _ {V : Type 0} (voice : Ghosts V) (b : List ℕ) (plain : Bool) where
       faulty_after voice b plain (group_of c n i).costs m (field_at v c left n i o) 3 (8 * left + 1) row u new made k (field_so v c left n i o (reads.Stops m) e) l (omega arith)
 
   pub field_refused : (v : Bool) (c left n : ℕ) (i j : Place) (o : Bool) (s : Stretch) (u w : V) (e : SinkRefused) (made : ℕ) → reads.Goes s j ≡ (group_of c n i).reads → made ≤ total (group_of c n i).costs
-      → voice.prints u (texts_of b plain s) (Err e) w → (voice.loud ≡ false → IsOk (refused e)) → Stopped voice (field_at v c left n i o) u w made
+      → voice.prints u (texts_of b plain s) (Err e) w → (voice.loud ≡ false → IsOk (refused e)) → Halted voice (field_at v c left n i o) u w made
   field_refused v c left n i j o s u w e made r l p q = record {
     front = pays (group_of c n i).costs ∷ [];
     texts = texts_of b plain s;
@@ -206,4 +206,4 @@ module _ {V : Type 0} (voice : Ghosts V) (b : List ℕ) (plain : Bool) where
       → DidOn voice b plain (share_at b plain voice.loud point.FieldColon v c left n i o) 2 (8 * left + 1) row u (Ok point.Constant) new row u made
   unfolding run share_at
   colon_goes v c left n i o row u new made l f kv kc kl kn kp ko km =
-      marks voice b plain point.Constant mark.Colon _ true c left n i o 2 (8 * left + 1) row u new made l kv kc kl kn kp ko km (ap (handing voice.loud (text mark.Colon ∷ [])) (last_constant voice b plain true left n i)) (omega arith) (omega arith) f
+      marks voice b plain point.Constant mark.Colon _ true c left n i o 2 (8 * left + 1) row u new made l kv kc kl kn kp ko km (ap (with_texts voice.loud (text mark.Colon ∷ [])) (last_constant voice b plain true left n i)) (omega arith) (omega arith) f

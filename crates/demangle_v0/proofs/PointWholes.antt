@@ -4,9 +4,9 @@ use Rattle.std.proofs.Common.{◌≡◌, ℕ, ◌+◌, ◌≤◌, Bool, true, fa
 use Rattle.demangle_v0.specs.Accepting.{looks_in}
 use Rattle.demangle_v0.specs.Events.{Heard}
 use Rattle.demangle_v0.specs.Items.{a_path}
-use Rattle.demangle_v0.specs.Reading.{max_depth, spelled, read_at, level_of, levels}
+use Rattle.demangle_v0.specs.Reading.{max_depth, unit_end, read_at, level_of, levels}
 use Rattle.demangle_v0.specs.Running.{allowed_in}
-use Rattle.demangle_v0.specs.Points.{most_frames, AllInner, share_at, share_of, row_owed, owed}
+use Rattle.demangle_v0.specs.Points.{most_frames, AllInner, share_at, share_of, row_owed, reading_owed}
 use Rattle.demangle_v0.specs.PointRuns.{Valid, frame_height, ReadOn, first_state}
 use Rattle.demangle_v0.specs.declared.points.Point.{Point}
 use Rattle.demangle_v0.specs.declared.points.Point.TheVariants as point
@@ -24,35 +24,35 @@ valid_first i = record { stands = stands_first frame_height most_frames (8 * max
 pub valid_length : (p : Point) (s : State) (row : List Frame) → Valid p s row → length row ≤ most_frames
 valid_length p s row v = omega (arith, v.stands.above)
 
-pub owed_alone : (b : List ℕ) (plain out : Bool) (p : Point) (s : State) → owed b plain out p s [] ≡ share_of b plain out p s
+pub owed_alone : (b : List ℕ) (plain out : Bool) (p : Point) (s : State) → reading_owed b plain out p s [] ≡ share_of b plain out p s
 unfolding row_owed
 owed_alone b plain out p s = and_then_ended (share_of b plain out p s)
 
-pub over_place : (b : List ℕ) (plain : Bool) (s : State) → (owed b plain false point.End s []).place ≡ s.place
+pub over_place : (b : List ℕ) (plain : Bool) (s : State) → (reading_owed b plain false point.End s []).place ≡ s.place
 unfolding share_at row_owed
 over_place b plain s = refl
 
 -- it came to an end
-pub read_end : (b : List ℕ) (plain : Bool) (p q : Point) (s t : State) (row now : List Frame) (made : ℕ) → ReadOn b plain [] p s row halt.Over q t now made → t.place ≡ (owed b plain false p s row).place
+pub read_end : (b : List ℕ) (plain : Bool) (p q : Point) (s t : State) (row now : List Frame) (made : ℕ) → ReadOn b plain [] p s row halt.Over q t now made → t.place ≡ (reading_owed b plain false p s row).place
 read_end b plain p q s t row now made r = sym (over_place b plain t) ∙ r.reads.1.place
 
-first_place : (b : List ℕ) (i : ℕ) → (owed b true false point.Path (first_state i) []).place ≡ spelled b a_path i 0
-unfolding share_at spelled read_at
+first_place : (b : List ℕ) (i : ℕ) → (reading_owed b true false point.Path (first_state i) []).place ≡ unit_end b a_path i 0
+unfolding share_at unit_end read_at
 first_place b i = ap (λ (h : Heard). h.place) (owed_alone b true false point.Path (first_state i))
 
-first_allowed : (b : List ℕ) (i : ℕ) → allowed_in (owed b true false point.Path (first_state i) []).events ≡ looks_in (read_at b false a_path i 0 0 true)
+first_allowed : (b : List ℕ) (i : ℕ) → allowed_in (reading_owed b true false point.Path (first_state i) []).events ≡ looks_in (read_at b false a_path i 0 0 true)
 unfolding share_at read_at
 first_allowed b i = ap (λ (h : Heard). allowed_in h.events) (owed_alone b true false point.Path (first_state i)) ∙ allowed_looks true false (level_of b (levels b max_depth) false a_path true 0 i).tree
 
 -- of a path that is accepted, in one row
 
-pub path_ends : (b : List ℕ) (i made : ℕ) (q : Point) (t : State) (now : List Frame) → ReadOn b true [] point.Path (first_state i) [] halt.Over q t now made → t.place ≡ spelled b a_path i 0
+pub path_ends : (b : List ℕ) (i made : ℕ) (q : Point) (t : State) (now : List Frame) → ReadOn b true [] point.Path (first_state i) [] halt.Over q t now made → t.place ≡ unit_end b a_path i 0
 path_ends b i made q t now r = read_end b true point.Path q (first_state i) t [] now made r ∙ first_place b i
 
 pub path_looks : (b : List ℕ) (i made : ℕ) (q : Point) (t : State) (now : List Frame) → ReadOn b true [] point.Path (first_state i) [] halt.Over q t now made → made ≤ looks_in (read_at b false a_path i 0 0 true)
 path_looks b i made q t now r = omega (arith, r.reads.1.looks, first_allowed b i)
 
-pub path_fails : (b : List ℕ) (i made : ℕ) (q : Point) (t : State) (now : List Frame) → ReadOn b true [] point.Path (first_state i) [] halt.Failed q t now made → None ≡ spelled b a_path i 0
+pub path_fails : (b : List ℕ) (i made : ℕ) (q : Point) (t : State) (now : List Frame) → ReadOn b true [] point.Path (first_state i) [] halt.Failed q t now made → None ≡ unit_end b a_path i 0
 path_fails b i made q t now r = sym r.reads.0.place ∙ first_place b i
 
 pub path_fails_looks : (b : List ℕ) (i made : ℕ) (q : Point) (t : State) (now : List Frame) → ReadOn b true [] point.Path (first_state i) [] halt.Failed q t now made → made ≤ looks_in (read_at b false a_path i 0 0 true)
@@ -63,9 +63,9 @@ path_fails_looks b i made q t now r = omega (arith, r.reads.0.looks, first_allow
 pub rest_inner : (b : List ℕ) (plain : Bool) (p q : Point) (s t : State) (row now : List Frame) (made : ℕ) → ReadOn b plain [] p s row halt.Full q t now made → AllInner now
 rest_inner b plain p q s t row now made r = subst AllInner (sym r.reads.is_row) r.reads.inner
 
-pub rest_ends : (b : List ℕ) (i made : ℕ) (q : Point) (t : State) (now : List Frame) → ReadOn b true [] point.Path (first_state i) [] halt.Full q t now made → (owed b true false q t now).place ≡ spelled b a_path i 0
-rest_ends b i made q t now r = ap (λ (ys : List Frame). (owed b true false q t ys).place) r.reads.is_row ∙ (r.reads.quiet.place ∙ first_place b i)
+pub rest_ends : (b : List ℕ) (i made : ℕ) (q : Point) (t : State) (now : List Frame) → ReadOn b true [] point.Path (first_state i) [] halt.Full q t now made → (reading_owed b true false q t now).place ≡ unit_end b a_path i 0
+rest_ends b i made q t now r = ap (λ (ys : List Frame). (reading_owed b true false q t ys).place) r.reads.is_row ∙ (r.reads.quiet.place ∙ first_place b i)
 
 pub rest_looks : (b : List ℕ) (i made : ℕ) (q : Point) (t : State) (now : List Frame) → ReadOn b true [] point.Path (first_state i) [] halt.Full q t now made
-    → made + allowed_in (owed b true false q t now).events ≤ looks_in (read_at b false a_path i 0 0 true)
-rest_looks b i made q t now r = omega (arith, r.reads.quiet.looks, ap (λ (ys : List Frame). allowed_in (owed b true false q t ys).events) r.reads.is_row, first_allowed b i)
+    → made + allowed_in (reading_owed b true false q t now).events ≤ looks_in (read_at b false a_path i 0 0 true)
+rest_looks b i made q t now r = omega (arith, r.reads.quiet.looks, ap (λ (ys : List Frame). allowed_in (reading_owed b true false q t ys).events) r.reads.is_row, first_allowed b i)

@@ -1,10 +1,10 @@
 -- What is heard, as pieces and as stretches that an account pays.
 use Rattle.std.specs.Prelude.{map}
 use Rattle.std.proofs.Common.{◌≡◌, ℕ, Bool, true, false, List, [], ◌∷◌, ◌++◌, refl, ap, ◌∙◌}
-use Rattle.demangle_v0.specs.Cost.{Stretch}
+use Rattle.demangle_v0.specs.Cost.{StretchCost}
 use Rattle.demangle_v0.specs.Items.{Text}
 use Rattle.demangle_v0.specs.Reading.{Tree, nothing, piece, plain_piece, node, looked, hidden, invalid_syntax, too_deep, unread, pieces, looks, hands}
-use Rattle.demangle_v0.specs.Events.{Event, shows, allows, said, said_all, allowed_all, events, shown_in, stretch_of}
+use Rattle.demangle_v0.specs.Events.{Event, shows, allows, shown_if, said_all, allowed_all, events, shown_in, stretch_of}
 
 shown_append : (xs ys : List Event) → shown_in (xs ++ ys) ≡ shown_in xs ++ shown_in ys
 shown_append [] ys = refl
@@ -14,7 +14,7 @@ shown_append (allows k ∷ xs) ys = shown_append xs ys
 both_empty : (xs ys : List Text) → xs ≡ [] → ys ≡ [] → xs ++ ys ≡ []
 both_empty xs ys e f = rw (e, f) refl
 
-quiet_plain : (plain : Bool) (t : Text) (xs : List Event) → shown_in (said (Rattle.std.specs.Prelude.◌&&◌ plain false) t xs) ≡ shown_in xs
+quiet_plain : (plain : Bool) (t : Text) (xs : List Event) → shown_in (shown_if (Rattle.std.specs.Prelude.◌&&◌ plain false) t xs) ≡ shown_in xs
 quiet_plain true t xs = refl
 quiet_plain false t xs = refl
 
@@ -30,7 +30,7 @@ quiet_events plain invalid_syntax = refl
 quiet_events plain too_deep = refl
 quiet_events plain unread = refl
 
-shown_plain : (plain : Bool) (t : Text) (rest : Tree) (xs : List Event) → shown_in xs ≡ pieces plain rest → shown_in (said (Rattle.std.specs.Prelude.◌&&◌ plain true) t xs) ≡ pieces plain (plain_piece t rest)
+shown_plain : (plain : Bool) (t : Text) (rest : Tree) (xs : List Event) → shown_in xs ≡ pieces plain rest → shown_in (shown_if (Rattle.std.specs.Prelude.◌&&◌ plain true) t xs) ≡ pieces plain (plain_piece t rest)
 shown_plain true t rest xs e = ap (λ (zs : List Text). t ∷ zs) e
 shown_plain false t rest xs e = e
 
@@ -47,13 +47,13 @@ shown_events plain too_deep = refl
 shown_events plain unread = refl
 
 -- the same as stretches
-abbrev pub weighed : List Event → List Stretch
+abbrev pub weighed : List Event → List StretchCost
 weighed xs = map stretch_of xs
 
 pub weighed_said : (ts : List Text) (xs : List Event) → weighed (said_all true ts xs) ≡ map hands ts ++ weighed xs
 weighed_said [] xs = refl
-weighed_said (t ∷ ts) xs = ap (λ (zs : List Stretch). hands t ∷ zs) (weighed_said ts xs)
+weighed_said (t ∷ ts) xs = ap (λ (zs : List StretchCost). hands t ∷ zs) (weighed_said ts xs)
 
 pub weighed_allowed : (ks : List ℕ) (xs : List Event) → weighed (allowed_all ks xs) ≡ map looks ks ++ weighed xs
 weighed_allowed [] xs = refl
-weighed_allowed (k ∷ ks) xs = ap (λ (zs : List Stretch). looks k ∷ zs) (weighed_allowed ks xs)
+weighed_allowed (k ∷ ks) xs = ap (λ (zs : List StretchCost). looks k ∷ zs) (weighed_allowed ks xs)

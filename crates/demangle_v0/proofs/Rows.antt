@@ -11,10 +11,10 @@ use Rattle.ucd_derived.proofs.Computing.{ucd_derived}
 use Prim.Native.String.{String}
 use Rattle.demangle_symbol.specs.Digits.{is_byte, number}
 use Rattle.demangle_symbol.specs.Words.{then_if_some, byte_at, namespace_at, integer_at, optional_at, backref_at, identifier_at, nibbles_at, hex_number, number_of, length_end, length_value, tail_len}
-use Rattle.demangle_symbol.specs.Punycode.{bias_after, adapted, deltas, inserted, puny}
+use Rattle.demangle_symbol.specs.Punycode.{bias_after, adapted_bias, deltas, insertions, puny}
 use Rattle.demangle_symbol.specs.Names.{is_empty, name_pieces}
 use Rattle.demangle_symbol.specs.Literals.{literal, string_of}
-use Rattle.demangle_v0.specs.Reading.{turns, bound_by, run, level_of, levels, read_at, rendered, spelled, suffix_of}
+use Rattle.demangle_v0.specs.Reading.{turns, bound_by, run, level_of, levels, read_at, path_texts, unit_end, suffix_place}
 use Rattle.demangle_v0.specs.V0.{v0_in, v0_of}
 
 -- each text that is not empty, with `¦` behind it
@@ -34,8 +34,8 @@ is_allowed (b ∷ bs) = nat_eq b 46 && list_all (λ c. nat_le 33 c && nat_le c 1
 
 -- what a symbol hands over, and its suffix
 unfoldable pub shows : Bool → String → Option (List ℕ)
-unfolding digits encode_utf8 chars is_utf8 ucd_category ucd_derived is_byte number byte_at namespace_at integer_at optional_at backref_at identifier_at nibbles_at hex_number number_of length_end length_value tail_len bias_after adapted deltas inserted puny name_pieces literal string_of turns bound_by run level_of levels read_at rendered spelled suffix_of v0_in v0_of
-shows plain symbol = then_if_some (v0_of (codes symbol)) (λ v. if is_allowed v.1 then Some (marked (rendered v.0 plain ++ v.1 ∷ [])) else None)
+unfolding digits encode_utf8 chars is_utf8 ucd_category ucd_derived is_byte number byte_at namespace_at integer_at optional_at backref_at identifier_at nibbles_at hex_number number_of length_end length_value tail_len bias_after adapted_bias deltas insertions puny name_pieces literal string_of turns bound_by run level_of levels read_at path_texts unit_end suffix_place v0_in v0_of
+shows plain symbol = then_if_some (v0_of (codes symbol)) (λ v. if is_allowed v.1 then Some (marked (path_texts v.0 plain ++ v.1 ∷ [])) else None)
 
 -- Paths, names, types and dyn traits.
 

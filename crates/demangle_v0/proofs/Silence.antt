@@ -8,8 +8,8 @@ use Rattle.demangle_symbol.specs.Words.{Name, Read, byte_at, namespace_at, integ
 use Rattle.demangle_symbol.specs.Names.{name_pieces}
 use Rattle.demangle_v0.specs.Items.{Text, Kind, a_path, a_type, a_constant, a_pattern, a_trait_path, Items, done, invalid, say, say_plain, byte, namespace, integer, optional, identifier, nibbles, peek, next, sound, until_end, raise, unit, child, skip, target, lifetime, binder, opens, dyn_trait, bindings}
 use Rattle.demangle_v0.specs.Table.{items, is_among, row_of, path, path_rows, constant, constant_rows, variant, variant_rows, says}
-use Rattle.demangle_v0.specs.Reading.{Tree, piece, Place, Outcome, Level, Surroundings, stands, fault, unread, run, turns, resumed, bound_by, followed_by, followed_open, behind, opened, named, closed, all_pieces, word, forked, peeked, level_of, levels, nowhere}
-use Rattle.demangle_v0.specs.Events.{Event, said, Heard, of, events, and_then, allowing}
+use Rattle.demangle_v0.specs.Reading.{Tree, piece, Place, Outcome, Level, Surroundings, stands, fault, unread, run, turns, word_outcome, bound_by, followed_by, followed_open, behind, binding_separator, name_equals, angle_if_open, all_pieces, word, byte_choice, peek_outcome, level_of, levels, nowhere}
+use Rattle.demangle_v0.specs.Events.{Event, shown_if, Heard, of, events, and_then, with_looks}
 
 -- surroundings in which nothing is printed
 abbrev pub silent : List ℕ → Level → List Level → ℕ → Surroundings
@@ -54,7 +54,7 @@ abbrev pub AllUniform : Bool → List Level → Type 0
 AllUniform plain [] = Unit {0}
 AllUniform plain (l ∷ ls) = Uniform plain l × AllUniform plain ls
 
-said_plain : (plain : Bool) (t : Text) (xs : List Event) → said (plain && false) t xs ≡ xs
+said_plain : (plain : Bool) (t : Text) (xs : List Event) → shown_if (plain && false) t xs ≡ xs
 said_plain true t xs = refl
 said_plain false t xs = refl
 
@@ -64,18 +64,18 @@ module _ (plain : Bool) where
       ap (λ (z : Heard). and_then z (λ x _. of plain false (f x))) e
       ∙ ap (λ (z : Heard). and_then (of plain false o') (λ _ _. z)) (h o'.place)
 
-  alike_resumed : {A : Type 0} (k i : ℕ) (f g : A → Place → Outcome) (r : Read A) → ((v : A) (j : ℕ) → Alike plain (f v (Some j)) (g v (Some j))) → Alike plain (resumed k i f r) (resumed k i g r)
+  alike_resumed : {A : Type 0} (k i : ℕ) (f g : A → Place → Outcome) (r : Read A) → ((v : A) (j : ℕ) → Alike plain (f v (Some j)) (g v (Some j))) → Alike plain (word_outcome k i f r) (word_outcome k i g r)
   alike_resumed k i f g None h = refl
-  alike_resumed k i f g (Some r) h = ap (allowing (4 * (r.1 - i + 1) ∷ [])) (h r.0 r.1)
+  alike_resumed k i f g (Some r) h = ap (with_looks (4 * (r.1 - i + 1) ∷ [])) (h r.0 r.1)
 
-  alike_peeked : (f g : ℕ → Outcome) (r : Option ℕ) → ((v : ℕ) → Alike plain (f v) (g v)) → Alike plain (peeked f r) (peeked g r)
+  alike_peeked : (f g : ℕ → Outcome) (r : Option ℕ) → ((v : ℕ) → Alike plain (f v) (g v)) → Alike plain (peek_outcome f r) (peek_outcome g r)
   alike_peeked f g None h = refl
-  alike_peeked f g (Some v) h = ap (allowing (1 ∷ [])) (h v)
+  alike_peeked f g (Some v) h = ap (with_looks (1 ∷ [])) (h v)
 
-  alike_forked : (c : Bool) (f g f' g' : Place → Outcome) (i : Place) → ((x : Place) → Alike plain (f x) (g x)) → ((x : Place) → Alike plain (f' x) (g' x)) → Alike plain (forked c f f' i) (forked c g g' i)
+  alike_forked : (c : Bool) (f g f' g' : Place → Outcome) (i : Place) → ((x : Place) → Alike plain (f x) (g x)) → ((x : Place) → Alike plain (f' x) (g' x)) → Alike plain (byte_choice c f f' i) (byte_choice c g g' i)
   alike_forked c f g f' g' None h k = k None
-  alike_forked true f g f' g' (Some i) h k = ap (allowing (1 ∷ [])) (h (Some (i + 1)))
-  alike_forked false f g f' g' (Some i) h k = ap (allowing (1 ∷ [])) (k (Some i))
+  alike_forked true f g f' g' (Some i) h k = ap (with_looks (1 ∷ [])) (h (Some (i + 1)))
+  alike_forked false f g f' g' (Some i) h k = ap (with_looks (1 ∷ [])) (k (Some i))
 
   alike_turns : (k : ℕ) (b : List ℕ) (f g : Place → Outcome) → ((x : Place) → Alike plain (f x) (g x)) → (i : Place) → Alike plain (turns k b f i) (turns k b g i)
   unfolding turns
@@ -89,10 +89,10 @@ module _ (plain : Bool) where
   pieces_quiet [] t = refl
   pieces_quiet (x ∷ ts) t = pieces_quiet ts t
 
-  alike_named : (a : Name) (o : Outcome) → Alike plain (behind (named a) o) o
+  alike_named : (a : Name) (o : Outcome) → Alike plain (behind (name_equals a) o) o
   alike_named a o = ap (λ xs. record { events = xs; place = o.place; is_open = o.is_open }) (pieces_quiet (name_pieces a) (piece (codes " = ") o.tree))
 
-  alike_opened : (o : Bool) (x : Outcome) → Alike plain (behind (opened o) x) x
+  alike_opened : (o : Bool) (x : Outcome) → Alike plain (behind (binding_separator o) x) x
   alike_opened true x = refl
   alike_opened false x = refl
 
@@ -108,10 +108,10 @@ module _ (plain : Bool) where
   alike_bound (suc k) b here deeper m n f g h o (Some i) =
       let s = silent b here deeper m in
       let t = silent b here deeper n in
-      let one : Name → Place → Outcome = λ a x. behind (named a) (followed_by (f x) (bound_by k s f true)) in
-      let other : Name → Place → Outcome = λ a x. behind (named a) (followed_by (g x) (bound_by k t g true)) in
+      let one : Name → Place → Outcome = λ a x. behind (name_equals a) (followed_by (f x) (bound_by k s f true)) in
+      let other : Name → Place → Outcome = λ a x. behind (name_equals a) (followed_by (g x) (bound_by k t g true)) in
       alike_forked (is_byte b i (code "p"))
-      (λ j. behind (opened o) (word s j identifier_at one)) (λ j. behind (opened o) (word t j identifier_at other)) (closed o) (closed o) (Some i)
+      (λ j. behind (binding_separator o) (word s j identifier_at one)) (λ j. behind (binding_separator o) (word t j identifier_at other)) (angle_if_open o) (angle_if_open o) (Some i)
       (λ j. alike_opened o (word s j identifier_at one)
       ∙ (alike_name b here deeper m n one other
       (λ a x. alike_named a (followed_by (f x) (bound_by k s f true))
@@ -234,12 +234,6 @@ pub levels_uniform : (plain : Bool) (b : List ℕ) (left : ℕ) → AllUniform p
 unfolding levels
 levels_uniform plain b zero = tt
 levels_uniform plain b (suc left) = (level_uniform plain b (levels b left) (levels_uniform plain b left), levels_uniform plain b left)
-
--- What the readings cite.
-
--- the surroundings of a depth, printed or not
-abbrev pub around : List ℕ → Bool → ℕ → ℕ → Surroundings
-around b out left m = record { symbol = b; printed = out; here = level_of b (levels b left); deeper = levels b left; lifetimes = m }
 
 -- a unit that is not printed: no lifetimes in force and no value position are heard
 pub silent_unit : (plain : Bool) (b : List ℕ) (left : ℕ) (kind : Kind) (v w : Bool) (m n i : ℕ) → of plain false (level_of b (levels b left) false kind v m i) ≡ of plain false (level_of b (levels b left) false kind w n i)

@@ -2,12 +2,13 @@
 use Rattle.std.specs.Prelude.{ℕ, ◌+◌}
 use Rattle.std.proofs.Common.{◌≡◌, Bool, false, List, [], ◌∷◌, ◌++◌, Some, None, refl, ap, ◌∙◌}
 use Rattle.demangle_v0.specs.Totals.{total}
-use Rattle.demangle_v0.specs.Events.{Event, shows, allows, events, shown_in, allowed_all, Heard, of, and_then, allowing}
+use Rattle.demangle_v0.specs.Events.{Event, shows, allows, events, shown_in, allowed_all, Heard, of, and_then, with_looks}
 use Rattle.demangle_v0.specs.Items.{a_path, Items, skip}
 use Rattle.demangle_v0.specs.Reading.{Place, Outcome, Surroundings, run, level_of, levels}
 use Rattle.demangle_v0.specs.Running.{allowed_in}
 use Rattle.demangle_v0.proofs.PrintingSteps.{quiet_events}
-use Rattle.demangle_v0.proofs.Silence.{around, silent_unit}
+use Rattle.demangle_v0.proofs.Silence.{silent_unit}
+use Rattle.demangle_v0.specs.Points.{around}
 
 -- the looks that are allowed, one after another
 abbrev pub allowances : List Event → List ℕ
@@ -29,7 +30,7 @@ only_allowed (shows t ∷ xs) ys e = absurd (some_none t (shown_in xs) e)
 only_allowed (allows k ∷ xs) ys e = ap (λ zs. allows k ∷ zs) (only_allowed xs ys e)
 
 -- what is not printed allows looks, and nothing else
-pub silent_allowed : (plain : Bool) (o : Outcome) (k : Place → Bool → Heard) → and_then (of plain false o) k ≡ allowing (allowances (of plain false o).events) (k o.place o.is_open)
+pub silent_allowed : (plain : Bool) (o : Outcome) (k : Place → Bool → Heard) → and_then (of plain false o) k ≡ with_looks (allowances (of plain false o).events) (k o.place o.is_open)
 silent_allowed plain o k = let g = k o.place o.is_open in ap (λ xs. record { events = xs; place = g.place; is_open = g.is_open }) (only_allowed (events plain false o.tree) g.events (quiet_events plain o.tree))
 
 -- a path that is not printed, with so many depths left
@@ -39,7 +40,7 @@ path_heard plain b left value m i = of plain false (level_of b (levels b left) f
 -- Where it is skipped, the looks that its reading allows are allowed there, and it goes on where its reading ends: with
 -- any lifetimes in force in that reading, and in value position or not.
 pub skip_reads : (plain out : Bool) (b : List ℕ) (left n : ℕ) (value : Bool) (m : ℕ) (p : Items) (i : ℕ)
-    → of plain out (run (skip p) (around b out left n) (Some i)) ≡ allowing (allowances (path_heard plain b left value m i).events) (of plain out (run p (around b out left n) (path_heard plain b left value m i).place))
+    → of plain out (run (skip p) (around b out left n) (Some i)) ≡ with_looks (allowances (path_heard plain b left value m i).events) (of plain out (run p (around b out left n) (path_heard plain b left value m i).place))
 unfolding run
 skip_reads plain out b left n value m p i =
     ap (λ (h : Heard). and_then h (λ j _. of plain out (run p (around b out left n) j))) (silent_unit plain b left a_path false value n m i)

@@ -7,7 +7,7 @@ use Rattle.demangle_symbol.specs.Digits.{is_byte}
 use Rattle.demangle_symbol.specs.Words.{Read, byte_at, namespace_at, integer_at, optional_at, backref_at, identifier_at, nibbles_at}
 use Rattle.demangle_v0.specs.Items.{Kind, a_path, a_trait_path, Items, done, invalid, say, say_plain, byte, namespace, integer, optional, identifier, nibbles, peek, next, sound, until_end, raise, unit, child, skip, target, lifetime, binder, opens, dyn_trait, bindings}
 use Rattle.demangle_v0.specs.Table.{items}
-use Rattle.demangle_v0.specs.Reading.{invalid_syntax, piece, Place, fault, all_pieces, letter_of, lifetime_at, Outcome, Level, Surroundings, run, turns, stands, behind, word, followed_by, followed_open, begun, closed, opened, named, bound_by, target_of, target_read, resumed, peeked, forked, raised, max_depth, level_of, levels, nowhere, read_at}
+use Rattle.demangle_v0.specs.Reading.{invalid_syntax, piece, Place, fault, all_pieces, letter_of, lifetime_at, Outcome, Level, Surroundings, run, turns, stands, behind, word, followed_by, followed_open, unit_outcome, angle_if_open, binding_separator, name_equals, bound_by, target_of, target_read, word_outcome, peek_outcome, byte_choice, one_depth_on, max_depth, level_of, levels, nowhere, read_at}
 use Rattle.demangle_v0.specs.Spelling.{Rule, freely, named as by_name, MayName, MayRefer, Spells, end_, say_, plain_, byte_, namespace_, integer_, optional_, identifier_, nibbles_, peek_, there, other, sound_, over_, turn_, raise_, unit_, child_, skip_, target_, lifetime_, binder_, opens_, dyn_, past_, bound_}
 use Rattle.demangle_v0.proofs.Failed.{failed, closed_place, bound_failed}
 
@@ -37,15 +37,15 @@ onward : {X : Type 0} (f : Place → Outcome) (x : Place) (j : ℕ) → (f None)
 onward f None j h e g = none_some (sym h ∙ e)
 onward f (Some k) j h e g = g k refl e
 
-resumed_spelt : {A X : Type 0} (m i j : ℕ) (f : A → Place → Outcome) (r : Read A) → (resumed m i f r).place ≡ Some j → ((v : A) (k : ℕ) → r ≡ Some (v, k) → (f v (Some k)).place ≡ Some j → X) → X
+resumed_spelt : {A X : Type 0} (m i j : ℕ) (f : A → Place → Outcome) (r : Read A) → (word_outcome m i f r).place ≡ Some j → ((v : A) (k : ℕ) → r ≡ Some (v, k) → (f v (Some k)).place ≡ Some j → X) → X
 resumed_spelt m i j f None e g = none_some e
 resumed_spelt m i j f (Some r) e g = g r.0 r.1 refl e
 
-peeked_spelt : {X : Type 0} (j : ℕ) (f : ℕ → Outcome) (r : Option ℕ) → (peeked f r).place ≡ Some j → ((v : ℕ) → r ≡ Some v → (f v).place ≡ Some j → X) → X
+peeked_spelt : {X : Type 0} (j : ℕ) (f : ℕ → Outcome) (r : Option ℕ) → (peek_outcome f r).place ≡ Some j → ((v : ℕ) → r ≡ Some v → (f v).place ≡ Some j → X) → X
 peeked_spelt j f None e g = none_some e
 peeked_spelt j f (Some r) e g = g r refl e
 
-forked_spelt : {X : Type 0} (c : Bool) (f g : Place → Outcome) (i j : ℕ) → (forked c f g (Some i)).place ≡ Some j → (c ≡ true → (f (Some (i + 1))).place ≡ Some j → X) → (c ≡ false → (g (Some i)).place ≡ Some j → X) → X
+forked_spelt : {X : Type 0} (c : Bool) (f g : Place → Outcome) (i j : ℕ) → (byte_choice c f g (Some i)).place ≡ Some j → (c ≡ true → (f (Some (i + 1))).place ≡ Some j → X) → (c ≡ false → (g (Some i)).place ≡ Some j → X) → X
 forked_spelt true f g i j e h k = h refl e
 forked_spelt false f g i j e h k = k refl e
 
@@ -63,12 +63,12 @@ bound_spelt : (n : ℕ) (s : Surroundings) (c : Bool) (d m : ℕ) (p : Items) (f
 unfolding bound_by
 bound_spelt zero s c d m p f h o x i j e = none_some e
 bound_spelt (suc n) s c d m p f h o x i j e =
-    forked_spelt (is_byte s.symbol i (code "p")) (λ k. behind (opened o) (word s k identifier_at (λ a k. behind (named a) (followed_by (f k) (bound_by n s f true))))) (closed o) i j e
-    (λ u r. resumed_spelt (length s.symbol) (i + 1) j (λ a k. behind (named a) (followed_by (f k) (bound_by n s f true))) (identifier_at s.symbol (i + 1)) r
+    forked_spelt (is_byte s.symbol i (code "p")) (λ k. behind (binding_separator o) (word s k identifier_at (λ a k. behind (name_equals a) (followed_by (f k) (bound_by n s f true))))) (angle_if_open o) i j e
+    (λ u r. resumed_spelt (length s.symbol) (i + 1) j (λ a k. behind (name_equals a) (followed_by (f k) (bound_by n s f true))) (identifier_at s.symbol (i + 1)) r
     (λ a k w y. onward (bound_by n s f true) (f (Some k)).place j (bound_failed n s f true) y (λ l z v. bound_ a u w (h k l z) (bound_spelt n s c d m p f h true true l j v))))
     (λ u r. subst (λ k. Spells s.symbol (rule c) d m (bindings x p) i k) (some_same (sym (closed_place o (Some i)) ∙ r)) (past_ u))
 
-raised_spelt : {X : Type 0} (symbol : List ℕ) (d : ℕ) (ls : List Level) (f : Level → List Level → Place → Outcome) (i j : ℕ) → SpeltBelow symbol d ls → (raised ls f (Some i)).place ≡ Some j → ((l : Level) (ls : List Level) → d < max_depth → SpeltAt symbol (d + 1) l → SpeltBelow symbol (d + 1) ls → (f l ls (Some i)).place ≡ Some j → X) → X
+raised_spelt : {X : Type 0} (symbol : List ℕ) (d : ℕ) (ls : List Level) (f : Level → List Level → Place → Outcome) (i j : ℕ) → SpeltBelow symbol d ls → (one_depth_on ls f (Some i)).place ≡ Some j → ((l : Level) (ls : List Level) → d < max_depth → SpeltAt symbol (d + 1) l → SpeltBelow symbol (d + 1) ls → (f l ls (Some i)).place ≡ Some j → X) → X
 raised_spelt symbol d [] f i j m e g = none_some e
 raised_spelt symbol d (l ∷ ls) f i j m e g = g l ls m.0 m.1 m.2 e
 
@@ -129,7 +129,7 @@ spelt (lifetime k p) s d l m i j e = lifetime_spelt s.printed s.lifetimes k i (l
     (λ z. none_some (sym (subst (λ w. (run p s w).place ≡ None) (sym z) (failed p s)) ∙ e))
 spelt (binder n p) s d l m i j e = binder_ (spelt p (record s { lifetimes = s.lifetimes + n }) d l m i j e)
 spelt (opens p) s d l m i j e = opens_ (spelt p s d l m i j e)
-spelt (dyn_trait p) s d l m i j e = dyn_spelt (suc (length s.symbol)) s (run p s) (begun s a_trait_path false (Some i)) j e
+spelt (dyn_trait p) s d l m i j e = dyn_spelt (suc (length s.symbol)) s (run p s) (unit_outcome s a_trait_path false (Some i)) j e
     (λ k x y. dyn_ (l s.printed a_trait_path false s.lifetimes i k x) (bound_spelt (suc (length s.symbol)) s s.printed d s.lifetimes p (run p s) (spelt p s d l m) _ false k j y))
 spelt (bindings o p) s d l m i j e = bound_spelt (suc (length s.symbol)) s s.printed d s.lifetimes p (run p s) (spelt p s d l m) o o i j e
 

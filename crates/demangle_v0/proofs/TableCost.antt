@@ -8,7 +8,7 @@ use Rattle.demangle_symbol.specs.Words.{Name, number_of, is_upper, some_or}
 use Rattle.demangle_symbol.specs.Names.{name_pieces, is_empty, is_nameless}
 use Rattle.demangle_symbol.specs.Literals.{literal, string_of}
 use Rattle.demangle_v0.specs.Items.{Text, Kind, a_path, a_type, a_constant, a_pattern, a_trait_path, Items, done, invalid, say, say_plain, byte, namespace, integer, optional, identifier, nibbles, peek, next, sound, until_end, raise, unit, child, skip, target, lifetime, binder, opens, dyn_trait, bindings}
-use Rattle.demangle_v0.specs.Table.{variant, typed, constant_inside, says_if, extern, bound, type_tagged, braces, number, string, truth, character, argument, list, tuple, says, in_special, in_namespace, path_rows, pattern_rows, variant_rows, constant_rows, field, function, signature, items, type_rows, row_of, after_tag, text_of, basic_types, constructed, say_all, is_among}
+use Rattle.demangle_v0.specs.Table.{variant, type_inside, constant_inside, says_if, extern, binding_value, type_tagged, braces, integer_constant, string, truth, character, argument, list, tuple, says, in_special, in_namespace, path_rows, pattern_rows, variant_rows, constant_rows, field, function, signature, items, type_rows, row_of, after_tag, row_text, basic_types, type_behind_tag, say_all, is_among}
 use Rattle.demangle_v0.proofs.Account.{start, is_some_text, Cheap}
 
 -- More credit and money to begin with, less at the end.
@@ -123,7 +123,7 @@ tuple_cheap e k el p l x y = (
 argument_cheap : Cheap 7 6 true argument
 argument_cheap = (omega arith, (λ k. omega arith), (omega arith, (omega arith, refl, omega arith), (omega arith, refl, omega arith)))
 
-typed_cheap : (e k : ℕ) → e ≤ 8 → 2 ≤ k → Cheap e k true typed
+typed_cheap : (e k : ℕ) → e ≤ 8 → 2 ≤ k → Cheap e k true type_inside
 typed_cheap e k l m = (m, refl, l)
 
 inside_cheap : (e k : ℕ) → e ≤ 8 → Cheap e k true constant_inside
@@ -132,7 +132,7 @@ inside_cheap e k l = (omega arith, refl, l)
 field_cheap : Cheap 7 6 true field
 field_cheap = (omega arith, λ d a. all_cheap 7 26 true (name_pieces a) _ (omega arith, refl, omega arith))
 
-trait_cheap : Cheap 7 6 true (dyn_trait bound)
+trait_cheap : Cheap 7 6 true (dyn_trait binding_value)
 trait_cheap = (omega arith, refl, (8, omega arith, omega arith, (omega arith, (omega arith, refl, omega arith), (omega arith, refl, omega arith)), omega arith))
 
 -- Paths.
@@ -171,10 +171,10 @@ path_cheap value =
 
 signature_cheap : (unsafe : Bool) (abi : List Text) (k : ℕ) → 7 ≤ k → Cheap 8 k true (signature unsafe abi)
 signature_cheap unsafe abi k l =
-    let last = says ")" (next (code "u") done (says " -> " typed)) in
-    let inner : Cheap 8 k true (say_all abi (says "fn(" (list ", " typed last))) =
-    all_cheap 8 k true abi (says "fn(" (list ", " typed last)) (list_cheap 8 k ", " typed last refl l (typed_cheap 7 6 (omega arith) (omega arith)) (omega arith, omega arith, (omega arith, refl, omega arith))) in
-    if_cheap 8 k true unsafe "unsafe " (say_all abi (says "fn(" (list ", " typed last))) inner inner
+    let last = says ")" (next (code "u") done (says " -> " type_inside)) in
+    let inner : Cheap 8 k true (say_all abi (says "fn(" (list ", " type_inside last))) =
+    all_cheap 8 k true abi (says "fn(" (list ", " type_inside last)) (list_cheap 8 k ", " type_inside last refl l (typed_cheap 7 6 (omega arith) (omega arith)) (omega arith, omega arith, (omega arith, refl, omega arith))) in
+    if_cheap 8 k true unsafe "unsafe " (say_all abi (says "fn(" (list ", " type_inside last))) inner inner
 
 function_cheap : (unsafe : Bool) (k : ℕ) → 8 ≤ k → Cheap 8 k true (function unsafe)
 function_cheap unsafe k l = (
@@ -194,25 +194,25 @@ types_cheap tag =
     ▸ (omega arith, refl, omega arith)
     ▸ (omega arith, refl, (omega arith, refl, omega arith))
     ▸ (omega arith, refl, omega arith)
-    ▸ tuple_cheap 8 24 typed (says ")" done) (omega arith) (typed_cheap 8 6 (omega arith) (omega arith)) (omega arith)
+    ▸ tuple_cheap 8 24 type_inside (says ")" done) (omega arith) (typed_cheap 8 6 (omega arith) (omega arith)) (omega arith)
     ▸ (omega arith, λ m. (omega arith, function_cheap true 51 (omega arith), function_cheap false 19 (omega arith)))
     ▸ (
       8,
-      (omega arith, λ m. list_cheap 8 20 " + " (dyn_trait bound) done refl (omega arith) trait_cheap (omega arith)),
+      (omega arith, λ m. list_cheap 8 20 " + " (dyn_trait binding_value) done refl (omega arith) trait_cheap (omega arith)),
       (omega arith, (λ k. cond_cheap 8 63 false (k == 0) _ _ (omega arith) (omega arith)), tt),
     )
     ▸ (refl, omega arith)
     ▸ (omega arith, refl, (omega arith, refl, omega arith))
     ▸ tt
   where
-    rest : (k : ℕ) → 2 ≤ k → Cheap 8 k true (says_if (tag == code "Q") "mut " typed)
-    rest k l = if_cheap 8 k true (tag == code "Q") "mut " typed (typed_cheap 8 k (omega arith) l) (typed_cheap 8 k (omega arith) l)
+    rest : (k : ℕ) → 2 ≤ k → Cheap 8 k true (says_if (tag == code "Q") "mut " type_inside)
+    rest k l = if_cheap 8 k true (tag == code "Q") "mut " type_inside (typed_cheap 8 k (omega arith) l) (typed_cheap 8 k (omega arith) l)
 
-constructed_cheap : (tag : ℕ) → Cheap 8 0 true (constructed tag)
+constructed_cheap : (tag : ℕ) → Cheap 8 0 true (type_behind_tag tag)
 constructed_cheap tag = row_cheap 0 true tag (child a_path false done) (after_tag (type_rows tag)) (omega arith, refl, omega arith) (after_cheap (type_rows tag) (types_cheap tag))
 
 tagged_cheap : Cheap 8 1 true type_tagged
-tagged_cheap = (omega arith, λ tag. some_cheap 8 0 true (raise (constructed tag)) (text_of tag basic_types) (λ text. byte (λ _. say text done)) (constructed_cheap tag) (λ text _. omega arith))
+tagged_cheap = (omega arith, λ tag. some_cheap 8 0 true (raise (type_behind_tag tag)) (row_text tag basic_types) (λ text. byte (λ _. say text done)) (constructed_cheap tag) (λ text _. omega arith))
 
 patterns_cheap : AllCheap 24 true pattern_rows
 patterns_cheap =
@@ -235,10 +235,10 @@ variants_cheap p x = freely 32 false p (omega arith) x
 braces_cheap : (k : ℕ) (value : Bool) (inside : Items → Items) → ((p : Items) → Cheap 8 8 false p → Cheap 8 k true (inside p)) → Cheap 8 k true (braces value inside)
 braces_cheap k value inside h = cond_cheap 8 k true value (inside done) (says "{" (inside (says "}" done))) (h done (omega arith)) (h (says "}" done) (omega arith))
 
-number_cheap : (tag k : ℕ) → Cheap 8 k true (number tag)
+number_cheap : (tag k : ℕ) → Cheap 8 k true (integer_constant tag)
 number_cheap tag k h =
-    let last = some_or done (text_of tag basic_types) (λ text. say_plain text done) in
-    let ends : Cheap 8 (k + 24) true last = some_cheap 8 (k + 24) true done (text_of tag basic_types) (λ text. say_plain text done) (omega arith) (λ _. omega arith) in
+    let last = some_or done (row_text tag basic_types) (λ text. say_plain text done) in
+    let ends : Cheap 8 (k + 24) true last = some_cheap 8 (k + 24) true done (row_text tag basic_types) (λ text. say_plain text done) (omega arith) (λ _. omega arith) in
     some_cheap 8 (k + 24) true _ (number_of h) _ ends (λ n. ends)
 
 string_cheap : (k : ℕ) → Cheap 8 k true string

@@ -5,7 +5,7 @@ use Prim.Native.Char.{code}
 use Rattle.demangle_symbol.specs.Digits.{is_byte}
 use Rattle.demangle_symbol.specs.Words.{Name, Read, identifier_at}
 use Rattle.demangle_v0.specs.Items.{Items}
-use Rattle.demangle_v0.specs.Reading.{looked, node, Place, Outcome, Surroundings, run, turns, stands, behind, word, resumed, forked, followed_by, closed, opened, named, bound_by}
+use Rattle.demangle_v0.specs.Reading.{looked, node, Place, Outcome, Surroundings, run, turns, stands, behind, word, word_outcome, byte_choice, followed_by, angle_if_open, binding_separator, name_equals, bound_by}
 use Rattle.demangle_v0.specs.Spelling.{Rule, Spells}
 use Rattle.demangle_v0.proofs.Spelled.{rule, SpeltAt, SpeltBelow, spelt}
 use Rattle.demangle_symbol.proofs.Counts.{Placed, placed, identifier_placed}
@@ -18,7 +18,7 @@ Within symbol low (Some j) = (low ≤ j) × (j ≤ length symbol)
 abbrev pub Advances : List ℕ → (Place → Outcome) → Type 0
 Advances symbol f = (i : ℕ) → i ≤ length symbol → Within symbol (i + 1) (f (Some i)).place
 
-fork_same : (c : Bool) (f g f' g' : Place → Outcome) (i : ℕ) → (c ≡ true → f (Some (i + 1)) ≡ g (Some (i + 1))) → (c ≡ false → f' (Some i) ≡ g' (Some i)) → forked c f f' (Some i) ≡ forked c g g' (Some i)
+fork_same : (c : Bool) (f g f' g' : Place → Outcome) (i : ℕ) → (c ≡ true → f (Some (i + 1)) ≡ g (Some (i + 1))) → (c ≡ false → f' (Some i) ≡ g' (Some i)) → byte_choice c f f' (Some i) ≡ byte_choice c g g' (Some i)
 fork_same true f g f' g' i h k = ap (λ o. behind (looked 1) o) (h refl)
 fork_same false f g f' g' i h k = ap (λ o. behind (looked 1) o) (k refl)
 
@@ -51,7 +51,7 @@ pub turns_on : (symbol : List ℕ) (f : Place → Outcome) (i : ℕ) → Advance
 unfolding turns
 turns_on symbol f i a l e =
     let w : Within symbol (i + 1) (f (Some i)).place = a i l in
-    subst (λ c. forked c stands (λ m. followed_by (f m) (turns (length symbol) symbol f)) (Some i) ≡ behind (looked 1) (followed_by (f (Some i)) (all_turns symbol f))) (sym e)
+    subst (λ c. byte_choice c stands (λ m. followed_by (f m) (turns (length symbol) symbol f)) (Some i) ≡ behind (looked 1) (followed_by (f (Some i)) (all_turns symbol f))) (sym e)
     (ap (λ o. behind (looked 1) (behind (node (f (Some i)).tree) o)) (more_turns (length symbol) (suc (length symbol)) symbol f a (f (Some i)).place
     (covers_next symbol (length symbol) i (f (Some i)).place w (omega arith)) (covers_next symbol (suc (length symbol)) i (f (Some i)).place w (omega arith))))
 
@@ -71,7 +71,7 @@ pub within_later : (symbol : List ℕ) (low high : ℕ) (x : Place) → low ≤ 
 within_later symbol low high None l h = tt
 within_later symbol low high (Some j) l h = (omega (arith, l, h.0), h.1)
 
-named_same : (s : Surroundings) (i : ℕ) (f g : Name → Place → Outcome) (r : Read Name) → Placed (i + 1) s.symbol r → ((a : Name) (j : ℕ) → i + 1 ≤ j → j ≤ length s.symbol → f a (Some j) ≡ g a (Some j)) → resumed (length s.symbol) i f r ≡ resumed (length s.symbol) i g r
+named_same : (s : Surroundings) (i : ℕ) (f g : Name → Place → Outcome) (r : Read Name) → Placed (i + 1) s.symbol r → ((a : Name) (j : ℕ) → i + 1 ≤ j → j ≤ length s.symbol → f a (Some j) ≡ g a (Some j)) → word_outcome (length s.symbol) i f r ≡ word_outcome (length s.symbol) i g r
 named_same s i f g None p h = refl
 named_same s i f g (Some r) p h = ap (λ o. behind (looked (4 * (r.1 - i + 1))) o) (h r.0 r.1 p.0 p.1)
 
@@ -82,10 +82,10 @@ more_bindings zero k s f a o (Some i) h l = absurd (omega (arith, h.0, h.1))
 more_bindings (suc j) zero s f a o (Some i) h l = absurd (omega (arith, l.0, l.1))
 more_bindings (suc j) (suc k) s f a o (Some i) h l =
     fork_same (is_byte s.symbol i (code "p"))
-    (λ z. behind (opened o) (word s z identifier_at (λ b m. behind (named b) (followed_by (f m) (bound_by j s f true)))))
-    (λ z. behind (opened o) (word s z identifier_at (λ b m. behind (named b) (followed_by (f m) (bound_by k s f true))))) (closed o) (closed o) i
-    (λ _. ap (λ z. behind (opened o) z) (named_same s (i + 1) (λ b m. behind (named b) (followed_by (f m) (bound_by j s f true))) (λ b m. behind (named b) (followed_by (f m) (bound_by k s f true))) (identifier_at s.symbol (i + 1)) (identifier_placed s.symbol (i + 1))
-    (λ b m p q. ap (λ z. behind (named b) (behind (node (f (Some m)).tree) z))
+    (λ z. behind (binding_separator o) (word s z identifier_at (λ b m. behind (name_equals b) (followed_by (f m) (bound_by j s f true)))))
+    (λ z. behind (binding_separator o) (word s z identifier_at (λ b m. behind (name_equals b) (followed_by (f m) (bound_by k s f true))))) (angle_if_open o) (angle_if_open o) i
+    (λ _. ap (λ z. behind (binding_separator o) z) (named_same s (i + 1) (λ b m. behind (name_equals b) (followed_by (f m) (bound_by j s f true))) (λ b m. behind (name_equals b) (followed_by (f m) (bound_by k s f true))) (identifier_at s.symbol (i + 1)) (identifier_placed s.symbol (i + 1))
+    (λ b m p q. ap (λ z. behind (name_equals b) (behind (node (f (Some m)).tree) z))
     (more_bindings j k s f a true (f (Some m)).place (covers_next s.symbol j i (f (Some m)).place (within_later s.symbol (i + 1) m (f (Some m)).place (omega (arith, p)) (a m q)) h.1) (covers_next s.symbol k i (f (Some m)).place (within_later s.symbol (i + 1) m (f (Some m)).place (omega (arith, p)) (a m q)) l.1)))))
     (λ _. refl)
 
@@ -95,7 +95,7 @@ all_bindings s f = bound_by (suc (length s.symbol)) s f
 
 -- one of them, and all again
 pub bindings_on : (s : Surroundings) (f : Place → Outcome) (o : Bool) (i k : ℕ) (a : Name) → Keeps s.symbol f → is_byte s.symbol i (code "p") ≡ true → identifier_at s.symbol (i + 1) ≡ Some (a, k) →
-    all_bindings s f o (Some i) ≡ behind (looked 1) (behind (opened o) (behind (looked (4 * (k - (i + 1) + 1))) (behind (named a) (followed_by (f (Some k)) (all_bindings s f true)))))
+    all_bindings s f o (Some i) ≡ behind (looked 1) (behind (binding_separator o) (behind (looked (4 * (k - (i + 1) + 1))) (behind (name_equals a) (followed_by (f (Some k)) (all_bindings s f true)))))
 unfolding bound_by
 bindings_on s f o i k a keeps e w =
     let p : (i + 1 + 1 ≤ k) × (k ≤ length s.symbol) = placed (i + 1 + 1) s.symbol (identifier_at s.symbol (i + 1)) (identifier_placed s.symbol (i + 1)) a k w in
@@ -104,11 +104,11 @@ bindings_on s f o i k a keeps e w =
     more_bindings (length s.symbol) (suc (length s.symbol)) s f keeps true (f (Some k)).place
     (covers_next s.symbol (length s.symbol) i (f (Some k)).place (within_later s.symbol (i + 1) k (f (Some k)).place (omega (arith, p.0)) h) (omega arith))
     (covers_next s.symbol (suc (length s.symbol)) i (f (Some k)).place (within_later s.symbol (i + 1) k (f (Some k)).place (omega (arith, p.0)) h) (omega arith)) in
-    subst (λ c. forked c (λ z. behind (opened o) (word s z identifier_at (λ b m. behind (named b) (followed_by (f m) (bound_by (length s.symbol) s f true))))) (closed o) (Some i)
-    ≡ behind (looked 1) (behind (opened o) (behind (looked (4 * (k - (i + 1) + 1))) (behind (named a) (followed_by (f (Some k)) (all_bindings s f true)))))) (sym e)
-    (subst (λ r. behind (looked 1) (behind (opened o) (resumed (length s.symbol) (i + 1) (λ b m. behind (named b) (followed_by (f m) (bound_by (length s.symbol) s f true))) r))
-    ≡ behind (looked 1) (behind (opened o) (behind (looked (4 * (k - (i + 1) + 1))) (behind (named a) (followed_by (f (Some k)) (all_bindings s f true)))))) (sym w)
-    (ap (λ z. behind (looked 1) (behind (opened o) (behind (looked (4 * (k - (i + 1) + 1))) (behind (named a) (behind (node (f (Some k)).tree) z))))) same))
+    subst (λ c. byte_choice c (λ z. behind (binding_separator o) (word s z identifier_at (λ b m. behind (name_equals b) (followed_by (f m) (bound_by (length s.symbol) s f true))))) (angle_if_open o) (Some i)
+    ≡ behind (looked 1) (behind (binding_separator o) (behind (looked (4 * (k - (i + 1) + 1))) (behind (name_equals a) (followed_by (f (Some k)) (all_bindings s f true)))))) (sym e)
+    (subst (λ r. behind (looked 1) (behind (binding_separator o) (word_outcome (length s.symbol) (i + 1) (λ b m. behind (name_equals b) (followed_by (f m) (bound_by (length s.symbol) s f true))) r))
+    ≡ behind (looked 1) (behind (binding_separator o) (behind (looked (4 * (k - (i + 1) + 1))) (behind (name_equals a) (followed_by (f (Some k)) (all_bindings s f true)))))) (sym w)
+    (ap (λ z. behind (looked 1) (behind (binding_separator o) (behind (looked (4 * (k - (i + 1) + 1))) (behind (name_equals a) (behind (node (f (Some k)).tree) z))))) same))
 
 -- items end no earlier than they begin
 pub keeps : (p : Items) (s : Surroundings) (d : ℕ) → SpeltAt s.symbol d s.here → SpeltBelow s.symbol d s.deeper → Keeps s.symbol (run p s)

@@ -5,9 +5,9 @@ use Prim.Native.Char.{code}
 use Rattle.demangle_symbol.specs.Digits.{is_byte}
 use Rattle.demangle_symbol.specs.Words.{Read, some_or, byte_at, integer_at}
 use Rattle.demangle_v0.specs.Items.{Text, Kind, a_path, a_type, a_constant, a_pattern, a_trait_path, Items, done, invalid, say, say_plain, byte, integer, peek, next, sound, until_end, raise, unit, child, target, lifetime, opens}
-use Rattle.demangle_v0.specs.Table.{items, is_among, row_of, basic_types, text_of, constructed, type_tagged, pattern_rows, says}
-use Rattle.demangle_v0.specs.Reading.{node, piece, plain_piece, looked, too_deep, unread, Place, Outcome, Level, Surroundings, fault, stands, behind, followed_by, begun, run, turns, resumed, peeked, forked, lifetime_at, level_of, levels, nowhere}
-use Rattle.demangle_v0.proofs.Silence.{around}
+use Rattle.demangle_v0.specs.Table.{items, is_among, row_of, basic_types, row_text, type_behind_tag, type_tagged, pattern_rows, says}
+use Rattle.demangle_v0.specs.Reading.{node, piece, plain_piece, looked, too_deep, unread, Place, Outcome, Level, Surroundings, fault, stands, behind, followed_by, unit_outcome, run, turns, word_outcome, peek_outcome, byte_choice, lifetime_at, level_of, levels, nowhere}
+use Rattle.demangle_v0.specs.Points.{around}
 
 -- items whose own children are paths, types and constants, until the depth is raised
 abbrev Shallow : Items → Type 0
@@ -43,15 +43,15 @@ at b pr here deeper m = record { symbol = b; printed = pr; here = here; deeper =
 followed_same : (o o' : Outcome) (f g : Place → Outcome) → o ≡ o' → ((x : Place) → f x ≡ g x) → followed_by o f ≡ followed_by o' g
 followed_same o o' f g e h = ap (λ (z : Outcome). followed_by z f) e ∙ ap (λ (z : Outcome). behind (node o'.tree) z) (h o'.place)
 
-resumed_same : {A : Type 0} (k i : ℕ) (f g : A → Place → Outcome) (r : Read A) → ((v : A) (j : Place) → f v j ≡ g v j) → resumed k i f r ≡ resumed k i g r
+resumed_same : {A : Type 0} (k i : ℕ) (f g : A → Place → Outcome) (r : Read A) → ((v : A) (j : Place) → f v j ≡ g v j) → word_outcome k i f r ≡ word_outcome k i g r
 resumed_same k i f g None h = refl
 resumed_same k i f g (Some r) h = ap (λ (z : Outcome). behind (looked (4 * (r.1 - i + 1))) z) (h r.0 (Some r.1))
 
-peeked_same : (f g : ℕ → Outcome) (r : Option ℕ) → ((v : ℕ) → f v ≡ g v) → peeked f r ≡ peeked g r
+peeked_same : (f g : ℕ → Outcome) (r : Option ℕ) → ((v : ℕ) → f v ≡ g v) → peek_outcome f r ≡ peek_outcome g r
 peeked_same f g None h = refl
 peeked_same f g (Some v) h = ap (λ (z : Outcome). behind (looked 1) z) (h v)
 
-forked_same : (c : Bool) (f g f' g' : Place → Outcome) (i : Place) → ((x : Place) → f x ≡ g x) → ((x : Place) → f' x ≡ g' x) → forked c f f' i ≡ forked c g g' i
+forked_same : (c : Bool) (f g f' g' : Place → Outcome) (i : Place) → ((x : Place) → f x ≡ g x) → ((x : Place) → f' x ≡ g' x) → byte_choice c f f' i ≡ byte_choice c g g' i
 forked_same c f g f' g' None h k = k None
 forked_same true f g f' g' (Some i) h k = ap (λ (z : Outcome). behind (looked 1) z) (h (Some (i + 1)))
 forked_same false f g f' g' (Some i) h k = ap (λ (z : Outcome). behind (looked 1) z) (k (Some i))
@@ -108,7 +108,7 @@ choice_shallow true p q x y = x
 choice_shallow false p q x y = y
 
 tagged_shallow : Shallow type_tagged
-tagged_shallow = λ tag. some_shallow (raise (constructed tag)) (text_of tag basic_types) (λ text. byte (λ _. say text done)) tt (λ text _. tt)
+tagged_shallow = λ tag. some_shallow (raise (type_behind_tag tag)) (row_text tag basic_types) (λ text. byte (λ _. say text done)) tt (λ text _. tt)
 
 pattern_shallow : (tag : ℕ) → Shallow (row_of tag invalid pattern_rows)
 pattern_shallow tag = choice_shallow (is_among tag (codes "R")) _ _ tt (choice_shallow (is_among tag (codes "O")) _ _ tt (choice_shallow (is_among tag (codes "N")) _ _ tt tt))
@@ -127,9 +127,9 @@ inner b ls pr k v n j = run (items k v) (at b pr nowhere ls n) (Some j)
 
 tagged_same : (b : List ℕ) (pr : Bool) (l l' : Level) (ls : List Level) (m i : ℕ) → run type_tagged (at b pr l ls m) (Some i) ≡ run type_tagged (at b pr l' ls m) (Some i)
 unfolding run
-tagged_same b pr l l' ls m i = peeked_same _ _ (slice_get b i) (λ c. basic c (text_of c basic_types))
+tagged_same b pr l l' ls m i = peeked_same _ _ (slice_get b i) (λ c. basic c (row_text c basic_types))
   where
-    basic : (c : ℕ) (o : Option Text) → run (some_or (raise (constructed c)) o (λ x. byte (λ _. say x done))) (at b pr l ls m) (Some i) ≡ run (some_or (raise (constructed c)) o (λ x. byte (λ _. say x done))) (at b pr l' ls m) (Some i)
+    basic : (c : ℕ) (o : Option Text) → run (some_or (raise (type_behind_tag c)) o (λ x. byte (λ _. say x done))) (at b pr l ls m) (Some i) ≡ run (some_or (raise (type_behind_tag c)) o (λ x. byte (λ _. say x done))) (at b pr l' ls m) (Some i)
     basic c None = refl
     basic c (Some x) = refl
 
@@ -137,7 +137,7 @@ type_same : (b : List ℕ) (pr : Bool) (l l' : Level) (ls : List Level) (m i : �
 unfolding run
 type_same b pr l l' ls m i v = go (is_byte b i (code "w"))
   where
-    go : (c : Bool) → forked c (run (says "#[splat] " type_tagged) (at b pr l ls m)) (run type_tagged (at b pr l ls m)) (Some i) ≡ forked c (run (says "#[splat] " type_tagged) (at b pr l' ls m)) (run type_tagged (at b pr l' ls m)) (Some i)
+    go : (c : Bool) → byte_choice c (run (says "#[splat] " type_tagged) (at b pr l ls m)) (run type_tagged (at b pr l ls m)) (Some i) ≡ byte_choice c (run (says "#[splat] " type_tagged) (at b pr l' ls m)) (run type_tagged (at b pr l' ls m)) (Some i)
     go true = ap (λ (z : Outcome). behind (looked 1) (behind (piece (codes "#[splat] ")) z)) (tagged_same b pr l l' ls m (i + 1))
     go false = ap (λ (z : Outcome). behind (looked 1) z) (tagged_same b pr l l' ls m i)
 
@@ -150,7 +150,7 @@ level_same b ls = record {
 }
 
 -- a unit that is begun reads its items
-pub begins : (b : List ℕ) (out : Bool) (left n : ℕ) (kind : Kind) (value : Bool) (i : ℕ) → begun (around b out left n) kind value (Some i) ≡ run (items kind value) (around b out left n) (Some i)
+pub begins : (b : List ℕ) (out : Bool) (left n : ℕ) (kind : Kind) (value : Bool) (i : ℕ) → unit_outcome (around b out left n) kind value (Some i) ≡ run (items kind value) (around b out left n) (Some i)
 unfolding level_of
 begins b out left n kind value i = same_here (items kind value) (items_shallow kind value) b out (inner b (levels b left)) (level_of b (levels b left)) (levels b left) n (level_same b (levels b left)) (Some i)
 

@@ -7,7 +7,7 @@ use Rattle.demangle_symbol.specs.Words.{Read, byte_at, namespace_at, integer_at,
 use Rattle.demangle_symbol.specs.Names.{name_pieces}
 use Rattle.demangle_v0.specs.Items.{Text, Kind, a_path, a_trait_path, Items, done, invalid, say, say_plain, byte, namespace, integer, optional, identifier, nibbles, peek, next, sound, until_end, raise, unit, child, skip, target, lifetime, binder, opens, dyn_trait, bindings}
 use Rattle.demangle_v0.specs.Table.{items}
-use Rattle.demangle_v0.specs.Reading.{Tree, piece, IsWhole, Place, Outcome, Level, Surroundings, run, turns, stands, behind, word, followed_by, begun, closed, opened, named as binding_name, bound_by, resumed, peeked, forked, raised, max_depth, all_pieces, letter_of, new_lifetimes, binder_of, lifetime_named, level_of, levels, nowhere, read_at}
+use Rattle.demangle_v0.specs.Reading.{Tree, piece, IsWhole, Place, Outcome, Level, Surroundings, run, turns, stands, behind, word, followed_by, unit_outcome, angle_if_open, binding_separator, name_equals as binding_name, bound_by, word_outcome, peek_outcome, byte_choice, one_depth_on, max_depth, all_pieces, letter_of, new_lifetimes, binder_of, lifetime_named, level_of, levels, nowhere, read_at}
 use Rattle.demangle_v0.specs.Spelling.{Spells, simple, end_, say_, plain_, byte_, namespace_, integer_, optional_, identifier_, nibbles_, peek_, there, other, sound_, over_, turn_, raise_, unit_, child_, skip_, target_, lifetime_, binder_, opens_, dyn_, past_, bound_}
 use Rattle.demangle_symbol.proofs.Counts.{placed, byte_placed, namespace_placed, integer_placed, optional_placed, identifier_placed, nibbles_placed}
 use Rattle.demangle_v0.proofs.Rules.{simply_named}
@@ -32,17 +32,17 @@ record Knows (r : ℕ) (s : Surroundings) (d : ℕ) : Type 0 where
 abbrev with : Surroundings → Surroundings
 with s = record s { printed = true }
 
-resumed_whole : {A : Type 0} (m i : ℕ) (f : A → Place → Outcome) (r : Read A) (v : A) (k : ℕ) → r ≡ Some (v, k) → IsWhole (f v (Some k)).tree → IsWhole (resumed m i f r).tree
-resumed_whole m i f r v k e h = subst (λ x. IsWhole (resumed m i f x).tree) (sym e) h
+resumed_whole : {A : Type 0} (m i : ℕ) (f : A → Place → Outcome) (r : Read A) (v : A) (k : ℕ) → r ≡ Some (v, k) → IsWhole (f v (Some k)).tree → IsWhole (word_outcome m i f r).tree
+resumed_whole m i f r v k e h = subst (λ x. IsWhole (word_outcome m i f x).tree) (sym e) h
 
-peeked_whole : (f : ℕ → Outcome) (r : Option ℕ) (v : ℕ) → r ≡ Some v → IsWhole (f v).tree → IsWhole (peeked f r).tree
-peeked_whole f r v e h = subst (λ x. IsWhole (peeked f x).tree) (sym e) h
+peeked_whole : (f : ℕ → Outcome) (r : Option ℕ) (v : ℕ) → r ≡ Some v → IsWhole (f v).tree → IsWhole (peek_outcome f r).tree
+peeked_whole f r v e h = subst (λ x. IsWhole (peek_outcome f x).tree) (sym e) h
 
-there_whole : (c : Bool) (f g : Place → Outcome) (i : ℕ) → c ≡ true → IsWhole (f (Some (i + 1))).tree → IsWhole (forked c f g (Some i)).tree
+there_whole : (c : Bool) (f g : Place → Outcome) (i : ℕ) → c ≡ true → IsWhole (f (Some (i + 1))).tree → IsWhole (byte_choice c f g (Some i)).tree
 there_whole true f g i e h = h
 there_whole false f g i e h = cc e
 
-other_whole : (c : Bool) (f g : Place → Outcome) (i : ℕ) → c ≡ false → IsWhole (g (Some i)).tree → IsWhole (forked c f g (Some i)).tree
+other_whole : (c : Bool) (f g : Place → Outcome) (i : ℕ) → c ≡ false → IsWhole (g (Some i)).tree → IsWhole (byte_choice c f g (Some i)).tree
 other_whole false f g i e h = h
 other_whole true f g i e h = cc e
 
@@ -62,16 +62,16 @@ binder_whole : (m n : ℕ) (t : Tree) → IsWhole t → IsWhole (binder_of m n t
 binder_whole zero n t h = h
 binder_whole (suc m) n t h = pieces_whole (letter_of n) (new_lifetimes m (n + 1) (piece (codes "> ") t)) (new_whole m (n + 1) (piece (codes "> ") t) h)
 
-closed_whole : (o : Bool) (i : Place) → IsWhole (closed o i).tree
+closed_whole : (o : Bool) (i : Place) → IsWhole (angle_if_open o i).tree
 closed_whole true i = tt
 closed_whole false i = tt
 
-opened_whole : (o : Bool) (t : Tree) → IsWhole t → IsWhole (opened o t)
+opened_whole : (o : Bool) (t : Tree) → IsWhole t → IsWhole (binding_separator o t)
 opened_whole true t h = h
 opened_whole false t h = h
 
 raised_whole : (symbol : List ℕ) (d : ℕ) (ls : List Level) (f : Level → List Level → Place → Outcome) (i : ℕ) → ReadBelow symbol d ls → WholeBelow symbol d ls → d < max_depth →
-    ((l : Level) (ls : List Level) → ReadAt 2 symbol (d + 1) l → ReadBelow symbol (d + 1) ls → WholeAt 2 symbol (d + 1) l → WholeBelow symbol (d + 1) ls → IsWhole (f l ls (Some i)).tree) → IsWhole (raised ls f (Some i)).tree
+    ((l : Level) (ls : List Level) → ReadAt 2 symbol (d + 1) l → ReadBelow symbol (d + 1) ls → WholeAt 2 symbol (d + 1) l → WholeBelow symbol (d + 1) ls → IsWhole (f l ls (Some i)).tree) → IsWhole (one_depth_on ls f (Some i)).tree
 raised_whole symbol d [] f i m w l h = absurd (omega (arith, m, l))
 raised_whole symbol d (x ∷ ls) f i m w l h = h x ls m.0 m.1 w.0 w.1
 
@@ -105,13 +105,13 @@ bound_whole : (n : ℕ) (s : Surroundings) (d m : ℕ) (p : Items) (f : Place �
 unfolding bound_by
 bound_whole zero s d m p f h o x i j l b a = absurd (omega (arith, l, b))
 bound_whole (suc n) s d m p f h o x i j l b (past_ e) =
-    other_whole (is_byte s.symbol i (code "p")) (λ k. behind (opened o) (word s k identifier_at (λ a x. behind (binding_name a) (followed_by (f x) (bound_by n s f true))))) (closed o) i e (closed_whole o (Some i))
+    other_whole (is_byte s.symbol i (code "p")) (λ k. behind (binding_separator o) (word s k identifier_at (λ a x. behind (binding_name a) (followed_by (f x) (bound_by n s f true))))) (angle_if_open o) i e (closed_whole o (Some i))
 bound_whole (suc n) s d m p f h o x i j l b (bound_ {k = k} {l = z} y e w a u) =
     let q : (i + 1 + 1 ≤ k) × (k ≤ length s.symbol) = placed (i + 1 + 1) s.symbol (identifier_at s.symbol (i + 1)) (identifier_placed s.symbol (i + 1)) y k w in
     let r : (k ≤ z) × (z ≤ length s.symbol) = grows a q.1 in
     let one : ((f (Some k)).place ≡ Some z) × IsWhole (f (Some k)).tree = h k z q.1 a in
     let all : Outcome = followed_by (f (Some k)) (bound_by n s f true) in
-    there_whole (is_byte s.symbol i (code "p")) (λ k. behind (opened o) (word s k identifier_at (λ a x. behind (binding_name a) (followed_by (f x) (bound_by n s f true))))) (closed o) i e
+    there_whole (is_byte s.symbol i (code "p")) (λ k. behind (binding_separator o) (word s k identifier_at (λ a x. behind (binding_name a) (followed_by (f x) (bound_by n s f true))))) (angle_if_open o) i e
     (opened_whole o _ (resumed_whole (length s.symbol) (i + 1) (λ a x. behind (binding_name a) (followed_by (f x) (bound_by n s f true))) (identifier_at s.symbol (i + 1)) y k w
     (pieces_whole (name_pieces y) (piece (codes " = ") all.tree)
     (then_whole (f (Some k)) (bound_by n s f true) z one.0 one.1 (bound_whole n s d m p f h true true z j (omega (arith, l, q.0, r.0)) r.1 u)))))
@@ -150,7 +150,7 @@ whole (raise p) s d a u c n i j z (raise_ r e) = raised_whole s.symbol d s.deepe
 whole (unit p q) s d a u c n i j z (unit_ {k = k} x e) =
     then_whole (run p (with s) (Some i)) (run q (with s)) k (ends p s d a.0 u c.0 n i k z x) (whole p s d a.0 u c.0 n i k z x) (whole q s d a.1 u c.1 n k j (grows x z).1 e)
 whole (child kind value p) s d a u c n i j z (child_ {k = k} x e) =
-    then_whole (begun (with s) kind value (Some i)) (run p (with s)) k (n.reads_here true kind value s.lifetimes c.0 i k z (simply_named x)) (n.whole_here kind value s.lifetimes c.0 i k z x) (whole p s d a u c.1 n k j (grows x z).1 e)
+    then_whole (unit_outcome (with s) kind value (Some i)) (run p (with s)) k (n.reads_here true kind value s.lifetimes c.0 i k z (simply_named x)) (n.whole_here kind value s.lifetimes c.0 i k z x) (whole p s d a u c.1 n k j (grows x z).1 e)
 whole (skip p) s d a u c n i j z (skip_ {k = k} x e) =
     subst (λ y. IsWhole (run p (with s) y).tree) (sym (n.reads_here false a_path false s.lifetimes c.0 i k z x)) (whole p s d a u c.1 n k j (grows x z).1 e)
 whole (target kind value) s d a u c n i j z (target_ v w r e) = absurd w
@@ -159,7 +159,7 @@ whole (binder m p) s d a u c n i j z (binder_ e) = binder_whole m s.lifetimes (r
     (whole p (record s { lifetimes = s.lifetimes + m }) d a u c (record { reads_here = n.reads_here; reads_below = n.reads_below; whole_here = n.whole_here; whole_below = n.whole_below }) i j z e)
 whole (opens p) s d a u c n i j z (opens_ e) = whole p s d a u c n i j z e
 whole (dyn_trait p) s d a u c n i j z (dyn_ {k = k} x e) =
-    let path : Outcome = begun (with s) a_trait_path false (Some i) in
+    let path : Outcome = unit_outcome (with s) a_trait_path false (Some i) in
     then_whole path (bound_by (suc (length s.symbol)) (with s) (run p (with s)) path.is_open) k (n.reads_here true a_trait_path false s.lifetimes c.0 i k z (simply_named x)) (n.whole_here a_trait_path false s.lifetimes c.0 i k z x)
     (bound_whole (suc (length s.symbol)) (with s) d s.lifetimes p (run p (with s)) (λ v y b h. (ends p s d a u c.1 n v y b h, whole p s d a u c.1 n v y b h)) path.is_open false k j (omega arith) (grows x z).1 e)
 whole (bindings o p) s d a u c n i j z e = bound_whole (suc (length s.symbol)) (with s) d s.lifetimes p (run p (with s)) (λ v y b h. (ends p s d a u c n v y b h, whole p s d a u c n v y b h)) o o i j (omega arith) z e

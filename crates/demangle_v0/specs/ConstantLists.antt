@@ -34,9 +34,9 @@ abbrev pub element_point : ConstantList → Point
 element_point list.Fields = point.Field
 element_point _ = point.Constant
 
-abbrev pub element_of : ConstantList → Items
-element_of list.Fields = field
-element_of _ = constant_inside
+abbrev pub list_element : ConstantList → Items
+list_element list.Fields = field
+list_element _ = constant_inside
 
 abbrev pub close_of : ConstantList → Mark
 close_of list.Array = mark.CloseBracket

@@ -2,9 +2,9 @@
 -- Dyn types, behind their tag.
 use Rattle.std.specs.Prelude.{false}
 use Rattle.demangle_v0.specs.Items.{Items, done, unit, dyn_trait}
-use Rattle.demangle_v0.specs.Table.{says, list, in_binder, bound}
+use Rattle.demangle_v0.specs.Table.{says, list, in_binder, binding_value}
 use Rattle.demangle_v0.specs.Points.{rest_at}
 use Rattle.demangle_v0.specs.declared.points.Point.TheVariants as point
 
 abbrev pub dyn_type : Items
-dyn_type = says "dyn " (unit (in_binder (list " + " (dyn_trait bound) done)) (rest_at point.DynLifetime false 0))
+dyn_type = says "dyn " (unit (in_binder (list " + " (dyn_trait binding_value) done)) (rest_at point.DynLifetime false 0))

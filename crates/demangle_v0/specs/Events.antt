@@ -2,7 +2,7 @@
 -- What a tree hands over and the looks that it allows, in order.
 use Rattle.std.specs.Prelude.{ℕ, Bool, true, false, ◌&&◌, List, [], ◌∷◌, ◌++◌, codes}
 use Rattle.demangle_v0.specs.Items.{Text}
-use Rattle.demangle_v0.specs.Cost.{Stretch}
+use Rattle.demangle_v0.specs.Cost.{StretchCost}
 use Rattle.demangle_v0.specs.Reading.{Tree, nothing, piece, plain_piece, node, looked, hidden, invalid_syntax, too_deep, unread, Place, Outcome, hands, looks}
 
 -- a text that is handed over, or so many looks that may be made
@@ -11,13 +11,13 @@ pub data Event : Type 0 where
   allows : ℕ → Event
 
 -- a text, if it is handed over
-abbrev pub said : Bool → Text → List Event → List Event
-said true t xs = shows t ∷ xs
-said false t xs = xs
+abbrev pub shown_if : Bool → Text → List Event → List Event
+shown_if true t xs = shows t ∷ xs
+shown_if false t xs = xs
 
 abbrev pub said_all : Bool → List Text → List Event → List Event
 said_all out [] xs = xs
-said_all out (t ∷ ts) xs = said out t (said_all out ts xs)
+said_all out (t ∷ ts) xs = shown_if out t (said_all out ts xs)
 
 abbrev pub allowed_all : List ℕ → List Event → List Event
 allowed_all [] xs = xs
@@ -26,14 +26,14 @@ allowed_all (k ∷ ks) xs = allows k ∷ allowed_all ks xs
 -- in the plain form or the other; handed over or only read
 abbrev pub events : Bool → Bool → Tree → List Event
 events plain out nothing = []
-events plain out (piece t rest) = said out t (events plain out rest)
-events plain out (plain_piece t rest) = said (plain && out) t (events plain out rest)
+events plain out (piece t rest) = shown_if out t (events plain out rest)
+events plain out (plain_piece t rest) = shown_if (plain && out) t (events plain out rest)
 events plain out (node inside rest) = events plain out inside ++ events plain out rest
 events plain out (looked k rest) = allows k ∷ events plain out rest
 events plain out (hidden inside rest) = events plain false inside ++ events plain out rest
-events plain out invalid_syntax = said out (codes "{invalid syntax}") []
-events plain out too_deep = said out (codes "{recursion limit reached}") []
-events plain out unread = said out (codes "?") []
+events plain out invalid_syntax = shown_if out (codes "{invalid syntax}") []
+events plain out too_deep = shown_if out (codes "{recursion limit reached}") []
+events plain out unread = shown_if out (codes "?") []
 
 -- the texts alone
 abbrev pub shown_in : List Event → List Text
@@ -42,7 +42,7 @@ shown_in (shows t ∷ xs) = t ∷ shown_in xs
 shown_in (allows k ∷ xs) = shown_in xs
 
 -- the same as stretches, which an account pays
-abbrev pub stretch_of : Event → Stretch
+abbrev pub stretch_of : Event → StretchCost
 stretch_of (shows t) = hands t
 stretch_of (allows k) = looks k
 
@@ -55,17 +55,17 @@ pub record Heard : Type 0 where
 abbrev pub of : Bool → Bool → Outcome → Heard
 of plain out o = record { events = events plain out o.tree; place = o.place; is_open = o.is_open }
 
-abbrev pub ended : Place → Bool → Heard
-ended i o = record { events = []; place = i; is_open = o }
+abbrev pub nothing_heard : Place → Bool → Heard
+nothing_heard i o = record { events = []; place = i; is_open = o }
 
 -- h, and then what k hears behind it
 abbrev pub and_then : Heard → (Place → Bool → Heard) → Heard
-and_then h k = let g = k h.place h.is_open in record { events = h.events ++ g.events; place = g.place; is_open = g.is_open }
+and_then h k = let g = k h.place h.is_open in record g { events = h.events ++ g.events }
 
 -- so many looks are allowed before it
-abbrev pub allowing : List ℕ → Heard → Heard
-allowing ks h = record { events = allowed_all ks h.events; place = h.place; is_open = h.is_open }
+abbrev pub with_looks : List ℕ → Heard → Heard
+with_looks ks h = record h { events = allowed_all ks h.events }
 
 -- these texts stand before it, if they are handed over
-abbrev pub handing : Bool → List Text → Heard → Heard
-handing out ts h = record { events = said_all out ts h.events; place = h.place; is_open = h.is_open }
+abbrev pub with_texts : Bool → List Text → Heard → Heard
+with_texts out ts h = record h { events = said_all out ts h.events }

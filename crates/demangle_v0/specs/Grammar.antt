@@ -8,7 +8,7 @@ use Rattle.demangle_symbol.specs.Names.{is_empty}
 use Rattle.demangle_symbol.specs.Words.{number_of}
 use Rattle.demangle_symbol.specs.Literals.{literal, string_of}
 use Rattle.demangle_v0.specs.Items.{Text, Items, invalid, say_plain, integer, identifier, nibbles, next, lifetime}
-use Rattle.demangle_v0.specs.Table.{is_among, says, says_if, say_all, says_name, disambiguator, extern, text_of, basic_types, number_pieces}
+use Rattle.demangle_v0.specs.Table.{is_among, says, says_if, say_all, says_name, disambiguator, extern, row_text, basic_types, number_pieces}
 use Rattle.demangle_v0.specs.declared.grammar.Mark.{Mark}
 use Rattle.demangle_v0.specs.declared.grammar.Mark.TheVariants as mark
 use Rattle.demangle_v0.specs.declared.grammar.Word.{Word}
@@ -105,7 +105,7 @@ word_items word.BindingName note p = identifier (λ a. says_name a (says " = " p
 word_items word.LifetimeIndex note p = integer (λ k. lifetime k p)
 word_items word.DynLifetime note p = next (code "L") (integer (λ k. if k == 0 then p else says " + " (lifetime k p))) invalid
 word_items word.FunctionHead note p = next (code "U") (function_head true p) (function_head false p)
-word_items word.Number note p = nibbles (λ h. number_pieces h (some_or p (text_of note basic_types) (λ text. say_plain text p)))
+word_items word.Number note p = nibbles (λ h. number_pieces h (some_or p (row_text note basic_types) (λ text. say_plain text p)))
 word_items word.Truth note p = nibbles (λ h. says_true p (number_of h))
 word_items word.Character note p = nibbles (λ h. says_char p (number_of h))
 word_items word.Literal note p = nibbles (λ h. some_or invalid (string_of h) (λ cs. say_all (literal (code "\"") cs) p))

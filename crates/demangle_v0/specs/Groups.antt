@@ -10,7 +10,7 @@ use Rattle.demangle_symbol.specs.Names.{name_pieces, is_nameless, is_empty}
 use Rattle.demangle_symbol.specs.Literals.{literal, string_of}
 use Rattle.demangle_symbol.specs.Idents.{name_in, name_size}
 use Rattle.demangle_v0.specs.Items.{Text}
-use Rattle.demangle_v0.specs.Table.{extern, text_of, basic_types}
+use Rattle.demangle_v0.specs.Table.{extern, row_text, basic_types}
 use Rattle.demangle_v0.specs.Reading.{Place, letter_of}
 use Rattle.demangle_v0.specs.Grammar.{text}
 use Rattle.demangle_v0.specs.Binders.{binder_texts}
@@ -30,11 +30,11 @@ abbrev pub bytes_in : List ℕ → Part → List ℕ
 bytes_in b part = slice_range b part.from part.to
 
 -- where the parts of the identifier from i up to j stand
-abbrev pub parts_of : List ℕ → ℕ → ℕ → Ident
-parts_of b i j = record { ascii = record { from = name_from b i; to = ascii_to b i j }; punycode = record { from = j - punycode_len b i j; to = j } }
+abbrev pub ident_parts : List ℕ → ℕ → ℕ → Ident
+ident_parts b i j = record { ascii = record { from = name_from b i; to = ascii_to b i j }; punycode = record { from = j - punycode_len b i j; to = j } }
 
 abbrev pub ident_at : List ℕ → ℕ → Read Ident
-ident_at b i = option_map (λ r. (parts_of b i r.1, r.1)) (identifier_at b i)
+ident_at b i = option_map (λ r. (ident_parts b i r.1, r.1)) (identifier_at b i)
 
 -- where the nibbles of the hex word at i stand
 abbrev pub hex_at : List ℕ → ℕ → Read Part
@@ -84,7 +84,7 @@ texts_of b plain SpacedFault = codes "'" ∷ codes "{invalid syntax}" ∷ codes 
 texts_of b plain (DynLifetime n) = codes " + " ∷ codes "'" ∷ letter_of n
 texts_of b plain DynLifetimeFault = codes " + " ∷ codes "'" ∷ codes "{invalid syntax}" ∷ []
 texts_of b plain (FunctionHead unsafe a) = if unsafe then codes "unsafe " ∷ abi_texts b a else abi_texts b a
-texts_of b plain (Number n part tag) = number_texts (bytes_in b part) n ++ some_or [] (text_of tag basic_types) (λ t. if_plain plain (t ∷ []))
+texts_of b plain (Number n part tag) = number_texts (bytes_in b part) n ++ some_or [] (row_text tag basic_types) (λ t. if_plain plain (t ∷ []))
 texts_of b plain (Character c) = literal (code "'") (c ∷ [])
 texts_of b plain (Literal part) = some_or [] (string_of (bytes_in b part)) (literal (code "\""))
 texts_of b plain (Binder n m) = binder_texts m n
@@ -117,20 +117,20 @@ goes x j = record { reads = Goes x j; costs = [] }
 abbrev pub faulty : Group
 faulty = record { reads = Stops mark.Invalid; costs = [] }
 
-abbrev pub costing : ℕ → Group → Group
-costing k g = record { reads = g.reads; costs = k ∷ g.costs }
+abbrev pub with_cost : ℕ → Group → Group
+with_cost k g = record { reads = g.reads; costs = k ∷ g.costs }
 
 -- a word at i, and how it goes on
-abbrev pub reading : {A : Type 0} → ℕ → ℕ → Read A → (A → ℕ → Group) → Group
-reading n i None f = costing (4 * (n - i + 1)) faulty
-reading n i (Some r) f = costing (4 * (r.1 - i + 1)) (f r.0 r.1)
+abbrev pub behind_word : {A : Type 0} → ℕ → ℕ → Read A → (A → ℕ → Group) → Group
+behind_word n i None f = with_cost (4 * (n - i + 1)) faulty
+behind_word n i (Some r) f = with_cost (4 * (r.1 - i + 1)) (f r.0 r.1)
 
-abbrev pub asking : Bool → Group → Group → Group
-asking c g h = costing 1 (if c then g else h)
+abbrev pub byte_group : Bool → Group → Group → Group
+byte_group c g h = with_cost 1 (if c then g else h)
 
 -- a name behind a disambiguator
 abbrev pub named_group : List ℕ → ℕ → (Ident → ℕ → Stretch) → Group
-named_group b i f = reading (length b) i (optional_at 115 b i) (λ d j. reading (length b) j (ident_at b j) (λ a k. goes (f a d) (Some k)))
+named_group b i f = behind_word (length b) i (optional_at 115 b i) (λ d j. behind_word (length b) j (ident_at b j) (λ a k. goes (f a d) (Some k)))
 
 abbrev pub crate_group : List ℕ → ℕ → Group
 crate_group b i = named_group b i CrateName
@@ -142,25 +142,25 @@ abbrev pub field_group : List ℕ → ℕ → Group
 field_group b i = named_group b i (λ a d. FieldName a)
 
 abbrev pub binding_group : List ℕ → ℕ → Group
-binding_group b i = reading (length b) i (ident_at b i) (λ a j. goes (BindingName a) (Some j))
+binding_group b i = behind_word (length b) i (ident_at b i) (λ a j. goes (BindingName a) (Some j))
 
 -- a lifetime is checked where it is handed over
-abbrev pub checked : Bool → ℕ → ℕ → ℕ → Stretch → Stretch → Group
-checked false lifetimes k j named fault = goes Nothing (Some j)
-checked true lifetimes k j named fault = if nat_le k lifetimes then goes named (Some j) else goes fault None
+abbrev pub if_in_force : Bool → ℕ → ℕ → ℕ → Stretch → Stretch → Group
+if_in_force false lifetimes k j named fault = goes Nothing (Some j)
+if_in_force true lifetimes k j named fault = if nat_le k lifetimes then goes named (Some j) else goes fault None
 
 abbrev pub lifetime_group : List ℕ → Bool → ℕ → ℕ → Group
-lifetime_group b out lifetimes i = reading (length b) i (integer_at b i) (λ k j.
-    if k == 0 then goes (Lifetime None) (Some j) else checked out lifetimes k j (Lifetime (Some (lifetimes - k))) LifetimeFault)
+lifetime_group b out lifetimes i = behind_word (length b) i (integer_at b i) (λ k j.
+    if k == 0 then goes (Lifetime None) (Some j) else if_in_force out lifetimes k j (Lifetime (Some (lifetimes - k))) LifetimeFault)
 
 abbrev pub optional_group : List ℕ → Bool → ℕ → ℕ → Group
-optional_group b out lifetimes i = asking (is_byte b i (code "L")) (reading (length b) (i + 1) (integer_at b (i + 1)) (λ k j.
-    if k == 0 then goes Nothing (Some j) else checked out lifetimes k j (SpacedLifetime (lifetimes - k)) SpacedFault))
+optional_group b out lifetimes i = byte_group (is_byte b i (code "L")) (behind_word (length b) (i + 1) (integer_at b (i + 1)) (λ k j.
+    if k == 0 then goes Nothing (Some j) else if_in_force out lifetimes k j (SpacedLifetime (lifetimes - k)) SpacedFault))
     (goes Nothing (Some i))
 
 abbrev pub dyn_group : List ℕ → Bool → ℕ → ℕ → Group
-dyn_group b out lifetimes i = asking (is_byte b i (code "L")) (reading (length b) (i + 1) (integer_at b (i + 1)) (λ k j.
-    if k == 0 then goes Nothing (Some j) else checked out lifetimes k j (DynLifetime (lifetimes - k)) DynLifetimeFault))
+dyn_group b out lifetimes i = byte_group (is_byte b i (code "L")) (behind_word (length b) (i + 1) (integer_at b (i + 1)) (λ k j.
+    if k == 0 then goes Nothing (Some j) else if_in_force out lifetimes k j (DynLifetime (lifetimes - k)) DynLifetimeFault))
     faulty
 
 -- an identifier that names an ABI
@@ -170,40 +170,40 @@ abi_named unsafe a b j =
     else if is_empty (bytes_in b a.punycode) then goes (FunctionHead unsafe (abi.Named a.ascii)) (Some j) else faulty
 
 abbrev pub abi_group : List ℕ → Bool → ℕ → Group
-abi_group b unsafe i = asking (is_byte b i (code "K"))
-    (asking (is_byte b (i + 1) (code "C")) (goes (FunctionHead unsafe abi.C) (Some (i + 1 + 1)))
-    (reading (length b) (i + 1) (ident_at b (i + 1)) (λ a j. abi_named unsafe a b j)))
+abi_group b unsafe i = byte_group (is_byte b i (code "K"))
+    (byte_group (is_byte b (i + 1) (code "C")) (goes (FunctionHead unsafe abi.C) (Some (i + 1 + 1)))
+    (behind_word (length b) (i + 1) (ident_at b (i + 1)) (λ a j. abi_named unsafe a b j)))
     (goes (FunctionHead unsafe abi.Rust) (Some i))
 
 abbrev pub head_group : List ℕ → ℕ → Group
-head_group b i = asking (is_byte b i (code "U")) (abi_group b true (i + 1)) (abi_group b false i)
+head_group b i = byte_group (is_byte b i (code "U")) (abi_group b true (i + 1)) (abi_group b false i)
 
 abbrev pub sign_group : List ℕ → ℕ → Group
-sign_group b i = asking (is_byte b i (code "n")) (goes (Fixed mark.Minus) (Some (i + 1))) (goes Nothing (Some i))
+sign_group b i = byte_group (is_byte b i (code "n")) (goes (Fixed mark.Minus) (Some (i + 1))) (goes Nothing (Some i))
 
 abbrev pub number_group : List ℕ → ℕ → ℕ → Group
-number_group b note i = reading (length b) i (hex_at b i) (λ h j. goes (Number (number_of (bytes_in b h)) h note) (Some j))
+number_group b note i = behind_word (length b) i (hex_at b i) (λ h j. goes (Number (number_of (bytes_in b h)) h note) (Some j))
 
 abbrev pub truth_stretch : Option ℕ → ℕ → Group
 truth_stretch None j = faulty
 truth_stretch (Some n) j = if n == 0 then goes (Fixed mark.False) (Some j) else if n == 1 then goes (Fixed mark.True) (Some j) else faulty
 
 abbrev pub truth_group : List ℕ → ℕ → Group
-truth_group b i = reading (length b) i (hex_at b i) (λ h j. truth_stretch (number_of (bytes_in b h)) j)
+truth_group b i = behind_word (length b) i (hex_at b i) (λ h j. truth_stretch (number_of (bytes_in b h)) j)
 
 abbrev pub character_stretch : Option ℕ → ℕ → Group
 character_stretch None j = faulty
 character_stretch (Some c) j = if scalar c then goes (Character c) (Some j) else faulty
 
 abbrev pub character_group : List ℕ → ℕ → Group
-character_group b i = reading (length b) i (hex_at b i) (λ h j. character_stretch (number_of (bytes_in b h)) j)
+character_group b i = behind_word (length b) i (hex_at b i) (λ h j. character_stretch (number_of (bytes_in b h)) j)
 
 abbrev pub literal_stretch : Option (List ℕ) → Part → ℕ → Group
 literal_stretch None h j = faulty
 literal_stretch (Some cs) h j = goes (Literal h) (Some j)
 
 abbrev pub literal_group : List ℕ → ℕ → Group
-literal_group b i = reading (length b) i (hex_at b i) (λ h j. literal_stretch (string_of (bytes_in b h)) h j)
+literal_group b i = behind_word (length b) i (hex_at b i) (λ h j. literal_stretch (string_of (bytes_in b h)) h j)
 
 abbrev pub word_at : List ℕ → Word → ℕ → Bool → ℕ → ℕ → Group
 word_at b word.FieldName note out lifetimes i = field_group b i

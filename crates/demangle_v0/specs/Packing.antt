@@ -4,5 +4,5 @@ use Rattle.std.specs.Prelude.{◌+◌, ◌*◌, ◌^◌}
 use Rattle.demangle_v0.specs.declared.points.frames.Frame.{Frame}
 use Rattle.demangle_v0.specs.declared.points.frames.Packed.{Packed}
 
-abbrev pub unpacked : Packed → Frame
-unpacked p = record { point = p.point; in_value = p.in_value; letter = p.letter; depth_left = p.depth_left; number = p.high * 2 ^ 64 + p.low }
+abbrev pub packed_frame : Packed → Frame
+packed_frame p = record { point = p.point; in_value = p.in_value; letter = p.letter; depth_left = p.depth_left; number = p.high * 2 ^ 64 + p.low }

@@ -4,7 +4,7 @@ use Rattle.std.specs.Prelude.{◌≤◌, ℕ, Bool, if◌then◌else◌, Option,
 use Rattle.demangle_v0.specs.Items.{Items}
 use Rattle.demangle_v0.specs.Reading.{run}
 use Rattle.demangle_v0.specs.Events.{Heard, of}
-use Rattle.demangle_v0.specs.Points.{Did, around, closing}
+use Rattle.demangle_v0.specs.Points.{Did, around, none_open, frame_of}
 use Rattle.demangle_v0.specs.declared.points.Point.{Point}
 use Rattle.demangle_v0.specs.declared.points.Point.TheVariants as point
 use Rattle.demangle_v0.specs.declared.points.frames.Frame.{Frame}
@@ -13,7 +13,7 @@ use Rattle.demangle_v0.specs.declared.points.voice.Voice.{Ghosts}
 
 -- what is heard of items where the state stands
 abbrev pub heard_of : List ℕ → Bool → Bool → Items → State → Heard
-heard_of b plain out p s = closing (of plain out (run p (around b out s.depth_left s.lifetimes) s.place))
+heard_of b plain out p s = none_open (of plain out (run p (around b out s.depth_left s.lifetimes) s.place))
 
 -- what a point does that looks at nothing
 abbrev pub DidFree : {V : Type 0} → Ghosts V → Point → State → Point → State → Type 0
@@ -21,4 +21,4 @@ DidFree {V = V} voice p old q new = (b : List ℕ) (plain : Bool) (row : List Fr
 
 -- the brace that follows a constant outside value position
 abbrev pub brace_behind : State → Option Frame
-brace_behind s = if s.in_value then None else Some (record { point = point.CloseBrace; in_value = s.in_value; letter = s.letter; depth_left = s.depth_left; number = s.lifetimes })
+brace_behind s = if s.in_value then None else Some (frame_of point.CloseBrace s.in_value s.letter s.depth_left s.lifetimes)

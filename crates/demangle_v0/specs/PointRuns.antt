@@ -1,13 +1,13 @@
 -- Internal: no public contract cites this.
 -- Steps on a whole row of frames.
 use Rattle.std.specs.Prelude.{◌≡◌, ℕ, ◌+◌, ◌≤◌, ◌<◌, min, Bool, true, false, Option, Some, None, List, [], ◌∷◌, ◌++◌, length, Result, Ok, Err, IsOk}
-use Rattle.demangle_v0.specs.Events.{Heard, handing}
+use Rattle.demangle_v0.specs.Events.{Heard, with_texts}
 use Rattle.demangle_v0.specs.Grammar.{text}
 use Rattle.demangle_v0.specs.Heights as heights
 use Rattle.demangle_v0.specs.Impls.{skip_point, self_point}
 use Rattle.demangle_v0.specs.declared.grammar.Mark.{Mark}
 use Rattle.demangle_sink.specs.declared.SinkRefused.{SinkRefused}
-use Rattle.demangle_v0.specs.Points.{Bit, pays, puts, heard_bits, bits_looks, goes, Went, Stopped, Kept, AllInner, Fits, share_of, owed, weight_at, height_at, most_frames, resumed_of}
+use Rattle.demangle_v0.specs.Points.{Bit, pays, puts, heard_bits, bits_looks, goes, Went, Halted, Kept, AllInner, Fits, share_of, reading_owed, weight_at, height_at, most_frames, resumed_of}
 use Rattle.demangle_v0.specs.Running.{allowed_in}
 use Rattle.demangle_v0.specs.Reading.{Place, max_depth}
 use Rattle.demangle_v0.specs.Items.{Text}
@@ -32,11 +32,11 @@ Puts voice None v result w = (result ≡ Ok tt) × (w ≡ v)
 Puts voice (Some m) v result w = voice.prints v (text m ∷ []) result w × (voice.loud ≡ false → IsOk result)
 
 abbrev pub unmarked_of : State → State
-unmarked_of s = record { in_value = s.in_value; letter = s.letter; depth_left = s.depth_left; lifetimes = s.lifetimes; place = s.place; is_open = s.is_open; mark = None }
+unmarked_of s = record s { mark = None }
 
 abbrev pub Steps : {V : Type 0} → Ghosts V → List ℕ → Bool → Point → State → List Frame → V → Result Point SinkRefused → State → List Frame → V → ℕ → Type 0
 Steps voice b plain p s row v (Ok q) t now w made = Went voice b plain (share_of b plain voice.loud p s) (weight_at p) (height_at p s.depth_left) row v (goes q) t now w made × (t.mark ≡ None)
-Steps voice b plain p s row v (Err e) t now w made = Stopped voice (share_of b plain voice.loud p s) v w made × Kept row now
+Steps voice b plain p s row v (Err e) t now w made = Halted voice (share_of b plain voice.loud p s) v w made × Kept row now
 
 -- a record, so that a lemma finds its arguments
 pub record Stepped {V : Type 0} (voice : Ghosts V) (b : List ℕ) (plain : Bool) (p : Point) (s : State) (row : List Frame) (v : V) (result : Result Point SinkRefused) (t : State) (now : List Frame) (w : V) (made : ℕ) : Type 0 where
@@ -79,13 +79,13 @@ pub record Valid (p : Point) (s : State) (row : List Frame) : Type 0 where
 
 -- without a voice: it goes on to the same place, and makes no more looks than are allowed
 pub record Quiet (b : List ℕ) (plain : Bool) (p : Point) (s : State) (row : List Frame) (q : Point) (t : State) (now : List Frame) (made : ℕ) : Type 0 where
-  pub place : (owed b plain false q t now).place ≡ (owed b plain false p s row).place
-  pub looks : made + allowed_in (owed b plain false q t now).events ≤ allowed_in (owed b plain false p s row).events
+  pub place : (reading_owed b plain false q t now).place ≡ (reading_owed b plain false p s row).place
+  pub looks : made + allowed_in (reading_owed b plain false q t now).events ≤ allowed_in (reading_owed b plain false p s row).events
 
 -- it failed
 pub record Fails (b : List ℕ) (plain : Bool) (p : Point) (s : State) (row : List Frame) (made : ℕ) : Type 0 where
-  pub place : (owed b plain false p s row).place ≡ None
-  pub looks : made ≤ allowed_in (owed b plain false p s row).events
+  pub place : (reading_owed b plain false p s row).place ≡ None
+  pub looks : made ≤ allowed_in (reading_owed b plain false p s row).events
 
 -- a reading over these frames, above those below
 pub record Reads (b : List ℕ) (plain : Bool) (below : List Frame) (p : Point) (s : State) (above : List Frame) (q : Point) (t : State) (now : List Frame) (made : ℕ) : Type 0 where
@@ -106,24 +106,24 @@ pub record ReadOn (b : List ℕ) (plain : Bool) (below : List Frame) (p : Point)
 
 -- where it is begun
 abbrev pub silent_of : State → State
-silent_of s = record { in_value = false; letter = s.letter; depth_left = s.depth_left; lifetimes = s.lifetimes; place = s.place; is_open = s.is_open; mark = s.mark }
+silent_of s = record s { in_value = false }
 
 abbrev pub own_path : State → Reading
 own_path s = record { point = point.Path; state = silent_of s }
 
 abbrev pub own_heard : List ℕ → Bool → State → Heard
-own_heard b plain s = owed b plain false point.Path (silent_of s) []
+own_heard b plain s = reading_owed b plain false point.Path (silent_of s) []
 
 -- the same behind it
-abbrev pub placed : State → Place → State
-placed s i = record { in_value = s.in_value; letter = s.letter; depth_left = s.depth_left; lifetimes = s.lifetimes; place = i; is_open = s.is_open; mark = s.mark }
+abbrev pub state_at : State → Place → State
+state_at s i = record s { place = i }
 
 -- it was read, and printing goes on behind it
 pub record Skipped (b : List ℕ) (plain of_trait : Bool) (s : State) (below : List Frame) (p : Point) (t : State) (now : List Frame) (made : ℕ) : Type 0 where
   pub at : p ≡ self_point of_trait
   pub place : Place
   pub ends : (own_heard b plain s).place ≡ place
-  pub state : t ≡ placed s place
+  pub state : t ≡ state_at s place
   pub is_row : now ≡ below
   pub looks : made ≤ allowed_in (own_heard b plain s).events
 
@@ -137,7 +137,7 @@ Said {S = S} sink v (puts ts ∷ bits) w = (mid : SizeLimitedFmtAdapter S) × Pr
 pub record Ran {S : Type 0} (sink : Sinks S) (b : List ℕ) (plain : Bool) (p : Point) (s : State) (row : List Frame) (v : SizeLimitedFmtAdapter S) (q : Point) (t : State) (now : List Frame) (w : SizeLimitedFmtAdapter S) (made : ℕ) : Type 0 where
   pub bits : List Bit
   pub told : Said sink v bits w
-  pub reads : owed b plain true p s row ≡ heard_bits true bits (owed b plain true q t now)
+  pub reads : reading_owed b plain true p s row ≡ heard_bits true bits (reading_owed b plain true q t now)
   pub enough : made ≤ bits_looks bits
 
 -- the sink or the limit refused
@@ -149,7 +149,7 @@ pub record Broke {S : Type 0} (sink : Sinks S) (b : List ℕ) (plain : Bool) (p 
   pub told : Said sink v front mid
   pub refusal : SinkRefused
   pub prints : Prints sink mid texts (Err refusal) w
-  pub reads : owed b plain true p s row ≡ heard_bits true front (handing true texts rest)
+  pub reads : reading_owed b plain true p s row ≡ heard_bits true front (with_texts true texts rest)
   pub enough : made ≤ bits_looks front + 2
 
 -- an impl's own path was read so far, above so many frames

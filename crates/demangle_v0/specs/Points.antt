@@ -4,13 +4,13 @@ use Rattle.std.specs.Prelude.{◌≡◌, ℕ, ◌+◌, ◌-◌, ◌*◌, ◌^◌
 use Prim.Native.Char.{code}
 use Rattle.demangle_symbol.specs.Digits.{is_byte}
 use Rattle.demangle_v0.specs.Items.{Text, Items, a_path, a_type, a_constant, a_pattern, a_trait_path, done, invalid, byte, integer, next, sound, until_end, unit, child, skip, lifetime, opens, dyn_trait, bindings, identifier}
-use Rattle.demangle_v0.specs.Table.{says, says_if, at_end, list, more, tuple, typed, constant_inside, argument, in_namespace, in_binder, function, bound, type_tagged, number, string, field, variant, says_name}
-use Rattle.demangle_v0.specs.Reading.{Place, Surroundings, run, begun, level_of, levels, max_depth}
+use Rattle.demangle_v0.specs.Table.{says, says_if, at_end, list, more, tuple, type_inside, constant_inside, argument, in_namespace, in_binder, function, binding_value, type_tagged, integer_constant, string, field, variant, says_name}
+use Rattle.demangle_v0.specs.Reading.{Place, Surroundings, run, unit_outcome, level_of, levels, max_depth}
 use Rattle.demangle_v0.specs.Totals.{total}
 use Rattle.demangle_v0.specs.Running.{allowed_in}
-use Rattle.demangle_v0.specs.Events.{Heard, of, ended, and_then, allowing, handing}
+use Rattle.demangle_v0.specs.Events.{Heard, of, nothing_heard, and_then, with_looks, with_texts}
 use Rattle.demangle_v0.specs.Grammar.{text}
-use Rattle.demangle_v0.specs.Tags.{referring}
+use Rattle.demangle_v0.specs.Tags.{lifetime_before}
 use Rattle.demangle_v0.specs.declared.grammar.Mark.{Mark}
 use Rattle.demangle_v0.specs.declared.stretch.Stretch.{Stretch}
 use Rattle.demangle_v0.specs.declared.stretch.Stretch.TheVariants.{SpacedLifetime, SpacedFault}
@@ -27,11 +27,11 @@ use Rattle.demangle_sink.specs.declared.SinkRefused.{SinkRefused}
 
 -- what stands behind the parameters of a function
 abbrev pub returns : Items
-returns = next (code "u") done (says " -> " typed)
+returns = next (code "u") done (says " -> " type_inside)
 
 -- the bindings of a dyn trait, whose bracket is open or not, and the dyn traits behind it
 abbrev pub bindings_left : Bool → Items
-bindings_left o = unit (bindings o bound) (more " + " (dyn_trait bound) done)
+bindings_left o = unit (bindings o binding_value) (more " + " (dyn_trait binding_value) done)
 
 -- the items that a point goes on with, in value position or not, by its letter
 abbrev pub rest_at : Point → Bool → ℕ → Items
@@ -52,37 +52,37 @@ rest_at point.Lifetime v n = integer (λ k. lifetime k done)
 rest_at point.TaggedType v n = type_tagged
 rest_at point.ArrayLength v n = says "; " (child a_constant true (says "]" done))
 rest_at point.CloseBracket v n = says "]" done
-rest_at point.FirstTupleType v n = tuple typed (says ")" done)
-rest_at point.SecondTupleType v n = at_end (says "," (says ")" done)) (more ", " typed (says ")" done))
-rest_at point.NextTupleType v n = more ", " typed (says ")" done)
+rest_at point.FirstTupleType v n = tuple type_inside (says ")" done)
+rest_at point.SecondTupleType v n = at_end (says "," (says ")" done)) (more ", " type_inside (says ")" done))
+rest_at point.NextTupleType v n = more ", " type_inside (says ")" done)
 rest_at point.CloseParen v n = says ")" done
-rest_at point.ReferenceLifetime v n = referring typed
-rest_at point.MutReferenceLifetime v n = referring (says "mut " typed)
-rest_at point.Mutable v n = says "mut " typed
-rest_at point.Unchanging v n = says "const " typed
+rest_at point.ReferenceLifetime v n = lifetime_before type_inside
+rest_at point.MutReferenceLifetime v n = lifetime_before (says "mut " type_inside)
+rest_at point.Mutable v n = says "mut " type_inside
+rest_at point.Unchanging v n = says "const " type_inside
 rest_at point.PatternIs v n = says " is " (child a_pattern false done)
 rest_at point.FunctionBinder v n = in_binder (next (code "U") (function true) (function false))
 rest_at point.FunctionHead v n = next (code "U") (function true) (function false)
-rest_at point.OpenParameters v n = says "fn(" (list ", " typed (says ")" returns))
-rest_at point.FirstParameter v n = list ", " typed (says ")" returns)
-rest_at point.NextParameter v n = more ", " typed (says ")" returns)
+rest_at point.OpenParameters v n = says "fn(" (list ", " type_inside (says ")" returns))
+rest_at point.FirstParameter v n = list ", " type_inside (says ")" returns)
+rest_at point.NextParameter v n = more ", " type_inside (says ")" returns)
 rest_at point.Returns v n = returns
 -- dyn traits
-rest_at point.DynBinder v n = in_binder (list " + " (dyn_trait bound) done)
-rest_at point.FirstDynTrait v n = list " + " (dyn_trait bound) done
-rest_at point.NextDynTrait v n = more " + " (dyn_trait bound) done
+rest_at point.DynBinder v n = in_binder (list " + " (dyn_trait binding_value) done)
+rest_at point.FirstDynTrait v n = list " + " (dyn_trait binding_value) done
+rest_at point.NextDynTrait v n = more " + " (dyn_trait binding_value) done
 rest_at point.OpenTraitPath v n = says "<" (list ", " argument (opens done))
 rest_at point.FirstOpenArgument v n = list ", " argument (opens done)
 rest_at point.NextOpenArgument v n = more ", " argument (opens done)
 rest_at point.OpenBindings v n = bindings_left true
-rest_at point.BindingName v n = identifier (λ a. says_name a (says " = " (unit bound (bindings_left true))))
-rest_at point.Bound v n = unit bound (bindings_left true)
+rest_at point.BindingName v n = identifier (λ a. says_name a (says " = " (unit binding_value (bindings_left true))))
+rest_at point.Bound v n = unit binding_value (bindings_left true)
 rest_at point.DynLifetime v n = next (code "L") (integer (λ k. if k == 0 then done else says " + " (lifetime k done))) invalid
 -- patterns
 rest_at point.RangeEnd v n = says "..=" (child a_constant false done)
 rest_at point.NextPattern v n = until_end (says " | " (child a_pattern false done)) (sound done invalid)
 -- constants
-rest_at point.Number v n = number n
+rest_at point.Number v n = integer_constant n
 rest_at point.TextConstant v n = says "*" (unit string done)
 rest_at point.Literal v n = string
 rest_at point.ReferenceConstant v n = says "&" (child a_constant true done)
@@ -130,27 +130,28 @@ behind_reference is_mut = if is_mut then point.Mutable else point.«Type»
 abbrev pub spaced_lifetime : ℕ → ℕ → ℕ → Stretch × Place
 spaced_lifetime lifetimes k j = if nat_le k lifetimes then (SpacedLifetime (lifetimes - k), Some j) else (SpacedFault, None)
 
+-- what a unit at this depth is read in, printed or not
 abbrev pub around : List ℕ → Bool → ℕ → ℕ → Surroundings
 around b out left lifetimes = record { symbol = b; printed = out; here = level_of b (levels b left); deeper = levels b left; lifetimes = lifetimes }
 
 -- no bracket of a dyn trait path is open behind it
-abbrev pub closing : Heard → Heard
-closing h = record { events = h.events; place = h.place; is_open = false }
+abbrev pub none_open : Heard → Heard
+none_open h = record h { is_open = false }
 
 -- what a point still reads of its unit
 unfoldable pub share_at : List ℕ → Bool → Bool → Point → Bool → ℕ → ℕ → ℕ → Place → Bool → Heard
-share_at b plain out point.End v c left n i o = ended i o
-share_at b plain out point.Behind v c left n i o = ended (Some n) o
-share_at b plain out point.Path v c left n i o = closing (of plain out (begun (around b out left n) a_path v i))
-share_at b plain out point.«Type» v c left n i o = closing (of plain out (begun (around b out left n) a_type false i))
-share_at b plain out point.Constant v c left n i o = closing (of plain out (begun (around b out left n) a_constant v i))
-share_at b plain out point.Pattern v c left n i o = closing (of plain out (begun (around b out left n) a_pattern false i))
-share_at b plain out point.TraitPath v c left n i o = of plain out (begun (around b out left n) a_trait_path false i)
+share_at b plain out point.End v c left n i o = nothing_heard i o
+share_at b plain out point.Behind v c left n i o = nothing_heard (Some n) o
+share_at b plain out point.Path v c left n i o = none_open (of plain out (unit_outcome (around b out left n) a_path v i))
+share_at b plain out point.«Type» v c left n i o = none_open (of plain out (unit_outcome (around b out left n) a_type false i))
+share_at b plain out point.Constant v c left n i o = none_open (of plain out (unit_outcome (around b out left n) a_constant v i))
+share_at b plain out point.Pattern v c left n i o = none_open (of plain out (unit_outcome (around b out left n) a_pattern false i))
+share_at b plain out point.TraitPath v c left n i o = of plain out (unit_outcome (around b out left n) a_trait_path false i)
 share_at b plain out point.OpenTraitPath v c left n i o = of plain out (run (rest_at point.OpenTraitPath v c) (around b out left n) i)
 share_at b plain out point.FirstOpenArgument v c left n i o = of plain out (run (rest_at point.FirstOpenArgument v c) (around b out left n) i)
 share_at b plain out point.NextOpenArgument v c left n i o = of plain out (run (rest_at point.NextOpenArgument v c) (around b out left n) i)
-share_at b plain out point.Bindings v c left n i o = closing (of plain out (run (bindings_left o) (around b out left n) i))
-share_at b plain out p v c left n i o = closing (of plain out (run (rest_at p v c) (around b out left n) i))
+share_at b plain out point.Bindings v c left n i o = none_open (of plain out (run (bindings_left o) (around b out left n) i))
+share_at b plain out p v c left n i o = none_open (of plain out (run (rest_at p v c) (around b out left n) i))
 
 -- what a reading that stands so still reads of its unit
 abbrev pub share_of : List ℕ → Bool → Bool → Point → State → Heard
@@ -161,11 +162,11 @@ share b plain out f i o = share_at b plain out f.point f.in_value f.letter f.dep
 
 -- what a row still reads; the last frame goes first
 unfoldable pub row_owed : List ℕ → Bool → Bool → List Frame → Place → Bool → Heard
-row_owed b plain out [] i o = ended i o
+row_owed b plain out [] i o = nothing_heard i o
 row_owed b plain out (f ∷ above) i o = and_then (row_owed b plain out above i o) (share b plain out f)
 
-abbrev pub owed : List ℕ → Bool → Bool → Point → State → List Frame → Heard
-owed b plain out p s row = and_then (share_of b plain out p s) (row_owed b plain out row)
+abbrev pub reading_owed : List ℕ → Bool → Bool → Point → State → List Frame → Heard
+reading_owed b plain out p s row = and_then (share_of b plain out p s) (row_owed b plain out row)
 
 abbrev pub frame_of : Point → Bool → ℕ → ℕ → ℕ → Frame
 frame_of p v c left n = record { point = p; in_value = v; letter = c; depth_left = left; number = n }
@@ -179,8 +180,8 @@ pub data Bit : Type 0 where
 
 abbrev pub heard_bits : Bool → List Bit → Heard → Heard
 heard_bits out [] h = h
-heard_bits out (pays ks ∷ bits) h = allowing ks (heard_bits out bits h)
-heard_bits out (puts ts ∷ bits) h = handing out ts (heard_bits out bits h)
+heard_bits out (pays ks ∷ bits) h = with_looks ks (heard_bits out bits h)
+heard_bits out (puts ts ∷ bits) h = with_texts out ts (heard_bits out bits h)
 
 abbrev pub bits_looks : List Bit → ℕ
 bits_looks [] = 0
@@ -199,9 +200,9 @@ Told voice v (pays k ∷ bits) w = Told voice v bits w
 Told {V = V} voice v (puts ts ∷ bits) w = (mid : V) × voice.prints v ts (Ok tt) mid × Told voice mid bits w
 
 -- the text that a step leaves to be handed over
-abbrev pub marked : Option Mark → List Text
-marked None = []
-marked (Some m) = text m ∷ []
+abbrev pub mark_texts : Option Mark → List Text
+mark_texts None = []
+mark_texts (Some m) = text m ∷ []
 
 abbrev pub pushed_on : List Frame → Option Frame → List Frame
 pushed_on row None = row
@@ -220,9 +221,9 @@ abbrev pub AllInner : List Frame → Type 0
 AllInner [] = Unit {0}
 AllInner (f ∷ above) = (is_inner f.point ≡ true) × AllInner above
 
-unfoldable pub followed : List ℕ → Bool → Bool → Option Frame → Heard → Heard
-followed b plain out None h = h
-followed b plain out (Some f) h = and_then h (share b plain out f)
+unfoldable pub then_frame : List ℕ → Bool → Bool → Option Frame → Heard → Heard
+then_frame b plain out None h = h
+then_frame b plain out (Some f) h = and_then h (share b plain out f)
 
 -- where a step goes on: at a point, or with the text of a fault, which ends the unit
 pub data Way : Type 0 where
@@ -231,7 +232,7 @@ pub data Way : Type 0 where
 
 abbrev pub way_heard : List ℕ → Bool → Bool → Way → State → Heard
 way_heard b plain out (goes p) s = share_of b plain out p s
-way_heard b plain out (fails m) s = handing out (text m ∷ []) (ended None false)
+way_heard b plain out (fails m) s = with_texts out (text m ∷ []) (nothing_heard None false)
 
 -- How much there is still to do, how high frames may stand, and how many lifetimes may be in force.
 
@@ -288,7 +289,7 @@ weights [] = 0
 weights (f ∷ above) = weight_at f.point + 1 + weights above
 
 abbrev pub measure : List ℕ → Bool → Bool → Point → State → List Frame → ℕ
-measure b plain out p s row = way_weight (goes p) + weights row + 100 * allowed_in (owed b plain out p s row).events
+measure b plain out p s row = way_weight (goes p) + weights row + 100 * allowed_in (reading_owed b plain out p s row).events
 
 abbrev pub height_at : Point → ℕ → ℕ
 height_at point.End left = 0
@@ -358,7 +359,7 @@ pub record Went {V : Type 0} (voice : Ghosts V) (b : List ℕ) (plain : Bool) (h
   pub back : List ℕ
   pub pushed : Option Frame
   pub told : Told voice v bits w
-  pub reads : h ≡ heard_bits voice.loud bits (handing voice.loud (marked new.mark) (allowing back (followed b plain voice.loud pushed (way_heard b plain voice.loud way new))))
+  pub reads : h ≡ heard_bits voice.loud bits (with_texts voice.loud (mark_texts new.mark) (with_looks back (then_frame b plain voice.loud pushed (way_heard b plain voice.loud way new))))
   pub is_row : now ≡ pushed_on row pushed
   pub enough : made ≤ bits_looks bits + total back
   pub late : made ≤ bits_looks bits + 2
@@ -371,7 +372,7 @@ pub record Went {V : Type 0} (voice : Ghosts V) (b : List ℕ) (plain : Bool) (h
 
 -- The voice refused, or, where it does not speak, the reading failed. At most two looks were made too early, and none
 -- where it does not speak.
-pub record Stopped {V : Type 0} (voice : Ghosts V) (h : Heard) (v w : V) (made : ℕ) : Type 0 where
+pub record Halted {V : Type 0} (voice : Ghosts V) (h : Heard) (v w : V) (made : ℕ) : Type 0 where
   pub front : List Bit
   pub texts : List Text
   pub rest : Heard
@@ -379,7 +380,7 @@ pub record Stopped {V : Type 0} (voice : Ghosts V) (h : Heard) (v w : V) (made :
   pub told : Told voice v front mid
   pub refusal : SinkRefused
   pub prints : voice.prints mid texts (Err refusal) w
-  pub reads : h ≡ heard_bits voice.loud front (handing voice.loud texts rest)
+  pub reads : h ≡ heard_bits voice.loud front (with_texts voice.loud texts rest)
   pub enough : made ≤ bits_looks front + 2
   pub exact : voice.loud ≡ false → made ≤ bits_looks front
   pub fails : voice.loud ≡ false → rest.place ≡ None
@@ -391,7 +392,7 @@ Kept row now = (more : List Frame) × (now ≡ row ++ more)
 abbrev pub Comes : {V : Type 0} → Ghosts V → List ℕ → Bool → Heard → ℕ → ℕ → List Frame → V → Result Point Stop → State → List Frame → V → ℕ → Type 0
 Comes voice b plain h weight high row v (Ok p) new now w made = Went voice b plain h weight high row v (goes p) new now w made
 Comes voice b plain h weight high row v (Err (Fault m)) new now w made = Went voice b plain h weight high row v (fails m) new now w made × (new.mark ≡ None)
-Comes voice b plain h weight high row v (Err Refused) new now w made = Stopped voice h v w made × Kept row now
+Comes voice b plain h weight high row v (Err Refused) new now w made = Halted voice h v w made × Kept row now
 
 -- a record, so that a lemma finds its arguments
 pub record DidOn {V : Type 0} (voice : Ghosts V) (b : List ℕ) (plain : Bool) (h : Heard) (weight high : ℕ) (row : List Frame) (v : V) (result : Result Point Stop) (new : State) (now : List Frame) (w : V) (made : ℕ) : Type 0 where
@@ -403,4 +404,4 @@ Did voice b plain p old row v result new now w made = DidOn voice b plain (share
 
 -- where a frame goes on
 abbrev pub resumed_of : State → Frame → State
-resumed_of s f = record { in_value = f.in_value; letter = f.letter; depth_left = f.depth_left; lifetimes = f.number; place = s.place; is_open = s.is_open; mark = s.mark }
+resumed_of s f = record s { in_value = f.in_value; letter = f.letter; depth_left = f.depth_left; lifetimes = f.number }

@@ -7,7 +7,7 @@ use Rattle.demangle_symbol.specs.Names.{name_pieces}
 pub use Rattle.demangle_symbol.specs.Words.{max_depth}
 use Rattle.demangle_v0.specs.Items.{Text, Kind, a_path, a_trait_path, Items, done, invalid, say, say_plain, byte, namespace, integer, optional, identifier, nibbles, peek, next, sound, until_end, raise, unit, child, skip, target, lifetime, binder, opens, dyn_trait, bindings}
 use Rattle.demangle_v0.specs.Table.{items}
-use Rattle.demangle_v0.specs.Cost.{Stretch}
+use Rattle.demangle_v0.specs.Cost.{StretchCost}
 
 -- what a unit hands over: pieces and units in order, perhaps with a stop at the end
 pub data Tree : Type 0 where
@@ -45,24 +45,24 @@ IsWhole invalid_syntax = ⊥
 IsWhole too_deep = ⊥
 IsWhole unread = ⊥
 
-abbrev pub hands : Text → Stretch
+abbrev pub hands : Text → StretchCost
 hands t = record { bytes = length t; looks = 0 }
 
-abbrev pub looks : ℕ → Stretch
+abbrev pub looks : ℕ → StretchCost
 looks k = record { bytes = 0; looks = k }
 
 -- what is not handed over
-abbrev pub unheard : List Stretch → List Stretch
-unheard xs = map (λ x. looks x.looks) xs
+abbrev pub looks_alone : List StretchCost → List StretchCost
+looks_alone xs = map (λ x. looks x.looks) xs
 
 -- the pieces and the looks in order
-abbrev pub stretches : Bool → Tree → List Stretch
+abbrev pub stretches : Bool → Tree → List StretchCost
 stretches plain nothing = []
 stretches plain (piece t rest) = hands t ∷ stretches plain rest
 stretches plain (plain_piece t rest) = if plain then hands t ∷ stretches plain rest else stretches plain rest
 stretches plain (node inside rest) = stretches plain inside ++ stretches plain rest
 stretches plain (looked k rest) = looks k ∷ stretches plain rest
-stretches plain (hidden inside rest) = unheard (stretches plain inside) ++ stretches plain rest
+stretches plain (hidden inside rest) = looks_alone (stretches plain inside) ++ stretches plain rest
 stretches plain invalid_syntax = hands (codes "{invalid syntax}") ∷ []
 stretches plain too_deep = hands (codes "{recursion limit reached}") ∷ []
 stretches plain unread = hands (codes "?") ∷ []
@@ -84,7 +84,7 @@ abbrev pub stands : Place → Outcome
 stands i = record { tree = nothing; place = i; is_open = false }
 
 abbrev pub behind : (Tree → Tree) → Outcome → Outcome
-behind f o = record { tree = f o.tree; place = o.place; is_open = o.is_open }
+behind f o = record o { tree = f o.tree }
 
 -- a unit, and what goes on from where it ended
 abbrev pub followed_by : Outcome → (Place → Outcome) → Outcome
@@ -107,78 +107,78 @@ pub record Surroundings : Type 0 where
 -- Words.
 
 -- a word was read from place i on, of a symbol of n bytes: how it goes on, or the fault, which may lie at the symbol's end
-abbrev pub resumed : {A : Type 0} → ℕ → ℕ → (A → Place → Outcome) → Read A → Outcome
-resumed n i rest None = fault (looked (4 * (n - i + 1)) invalid_syntax)
-resumed n i rest (Some r) = behind (looked (4 * (r.1 - i + 1))) (rest r.0 (Some r.1))
+abbrev pub word_outcome : {A : Type 0} → ℕ → ℕ → (A → Place → Outcome) → Read A → Outcome
+word_outcome n i rest None = fault (looked (4 * (n - i + 1)) invalid_syntax)
+word_outcome n i rest (Some r) = behind (looked (4 * (r.1 - i + 1))) (rest r.0 (Some r.1))
 
 abbrev pub word : {A : Type 0} → Surroundings → Place → (List ℕ → ℕ → Read A) → (A → Place → Outcome) → Outcome
 word s None reads rest = fault unread
-word s (Some i) reads rest = resumed (length s.symbol) i rest (reads s.symbol i)
+word s (Some i) reads rest = word_outcome (length s.symbol) i rest (reads s.symbol i)
 
 -- the next byte, which is not read
-abbrev pub peeked : (ℕ → Outcome) → Option ℕ → Outcome
-peeked rest None = fault (looked 1 invalid_syntax)
-peeked rest (Some b) = behind (looked 1) (rest b)
+abbrev pub peek_outcome : (ℕ → Outcome) → Option ℕ → Outcome
+peek_outcome rest None = fault (looked 1 invalid_syntax)
+peek_outcome rest (Some b) = behind (looked 1) (rest b)
 
 abbrev pub stands_at : Surroundings → ℕ → Place → Bool
 stands_at s b None = false
 stands_at s b (Some i) = is_byte s.symbol i b
 
 -- the byte stands there, and is read; or not
-abbrev pub forked : Bool → (Place → Outcome) → (Place → Outcome) → Place → Outcome
-forked c there other None = other None
-forked true there other (Some i) = behind (looked 1) (there (Some (i + 1)))
-forked false there other (Some i) = behind (looked 1) (other (Some i))
+abbrev pub byte_choice : Bool → (Place → Outcome) → (Place → Outcome) → Place → Outcome
+byte_choice c there other None = other None
+byte_choice true there other (Some i) = behind (looked 1) (there (Some (i + 1)))
+byte_choice false there other (Some i) = behind (looked 1) (other (Some i))
 
 -- Units.
 
 -- one depth on, if there is one
-abbrev pub raised : List Level → (Level → List Level → Place → Outcome) → Place → Outcome
-raised [] rest i = fault too_deep
-raised (level ∷ levels) rest i = rest level levels i
+abbrev pub one_depth_on : List Level → (Level → List Level → Place → Outcome) → Place → Outcome
+one_depth_on [] rest i = fault too_deep
+one_depth_on (level ∷ levels) rest i = rest level levels i
 
 -- turns up to an `E`, which is read, or until the reading failed; at most n
 unfoldable pub turns : ℕ → List ℕ → (Place → Outcome) → Place → Outcome
 turns n symbol turn None = stands None
 turns zero symbol turn (Some i) = fault invalid_syntax
-turns (suc n) symbol turn (Some i) = forked (is_byte symbol i (code "E")) stands (λ j. followed_by (turn j) (turns n symbol turn)) (Some i)
+turns (suc n) symbol turn (Some i) = byte_choice (is_byte symbol i (code "E")) stands (λ j. followed_by (turn j) (turns n symbol turn)) (Some i)
 
-abbrev pub begun : Surroundings → Kind → Bool → Place → Outcome
-begun s kind value None = fault unread
-begun s kind value (Some i) = s.here s.printed kind value s.lifetimes i
+abbrev pub unit_outcome : Surroundings → Kind → Bool → Place → Outcome
+unit_outcome s kind value None = fault unread
+unit_outcome s kind value (Some i) = s.here s.printed kind value s.lifetimes i
 
 -- a path that is read and not printed
-abbrev pub hushed : Outcome → (Place → Outcome) → Outcome
-hushed o rest = behind (hidden o.tree) (rest o.place)
+abbrev pub behind_hidden : Outcome → (Place → Outcome) → Outcome
+behind_hidden o rest = behind (hidden o.tree) (rest o.place)
 
-abbrev pub skipped : Surroundings → (Place → Outcome) → Place → Outcome
-skipped s rest None = rest None
-skipped s rest (Some i) = hushed (s.here false a_path false s.lifetimes i) rest
+abbrev pub hidden_path : Surroundings → (Place → Outcome) → Place → Outcome
+hidden_path s rest None = rest None
+hidden_path s rest (Some i) = behind_hidden (s.here false a_path false s.lifetimes i) rest
 
 abbrev pub all_pieces : List Text → Tree → Tree
 all_pieces [] rest = rest
 all_pieces (t ∷ ts) rest = piece t (all_pieces ts rest)
 
 -- `>` where it is open
-abbrev pub closed : Bool → Place → Outcome
-closed true i = behind (piece (codes ">")) (stands i)
-closed false i = stands i
+abbrev pub angle_if_open : Bool → Place → Outcome
+angle_if_open true i = behind (piece (codes ">")) (stands i)
+angle_if_open false i = stands i
 
 -- what a binding hands over before what it is bound to
-abbrev pub opened : Bool → Tree → Tree
-opened true rest = piece (codes ", ") rest
-opened false rest = piece (codes "<") rest
+abbrev pub binding_separator : Bool → Tree → Tree
+binding_separator true rest = piece (codes ", ") rest
+binding_separator false rest = piece (codes "<") rest
 
-abbrev pub named : Name → Tree → Tree
-named a rest = all_pieces (name_pieces a) (piece (codes " = ") rest)
+abbrev pub name_equals : Name → Tree → Tree
+name_equals a rest = all_pieces (name_pieces a) (piece (codes " = ") rest)
 
 -- bindings, as long as a `p` stands next, and `>` where it is open; at most n
 unfoldable pub bound_by : ℕ → Surroundings → (Place → Outcome) → Bool → Place → Outcome
-bound_by n s turn open_ None = closed open_ None
+bound_by n s turn open_ None = angle_if_open open_ None
 bound_by zero s turn open_ (Some i) = fault invalid_syntax
-bound_by (suc n) s turn open_ (Some i) = forked (is_byte s.symbol i (code "p"))
-    (λ j. behind (opened open_) (word s j identifier_at (λ a k. behind (named a) (followed_by (turn k) (bound_by n s turn true)))))
-    (closed open_) (Some i)
+bound_by (suc n) s turn open_ (Some i) = byte_choice (is_byte s.symbol i (code "p"))
+    (λ j. behind (binding_separator open_) (word s j identifier_at (λ a k. behind (name_equals a) (followed_by (turn k) (bound_by n s turn true)))))
+    (angle_if_open open_) (Some i)
 
 -- a unit, and what goes on from where it ended, told whether it is open
 abbrev pub followed_open : Outcome → (Bool → Place → Outcome) → Outcome
@@ -243,20 +243,20 @@ run (optional tag f) s i = word s i (optional_at tag) (λ n. run (f n) s)
 run (identifier f) s i = word s i identifier_at (λ a. run (f a) s)
 run (nibbles f) s i = word s i nibbles_at (λ h. run (f h) s)
 run (peek f) s None = fault unread
-run (peek f) s (Some i) = peeked (λ b. run (f b) s (Some i)) (slice_get s.symbol i)
-run (next b p q) s i = forked (stands_at s b i) (run p s) (run q s) i
+run (peek f) s (Some i) = peek_outcome (λ b. run (f b) s (Some i)) (slice_get s.symbol i)
+run (next b p q) s i = byte_choice (stands_at s b i) (run p s) (run q s) i
 run (sound p q) s None = run q s None
 run (sound p q) s (Some i) = run p s (Some i)
 run (until_end p q) s i = followed_by (turns (suc (length s.symbol)) s.symbol (run p s) i) (run q s)
-run (raise p) s i = raised s.deeper (λ level levels. run p (record s { here = level; deeper = levels })) i
+run (raise p) s i = one_depth_on s.deeper (λ level levels. run p (record s { here = level; deeper = levels })) i
 run (unit p q) s i = followed_by (run p s i) (run q s)
-run (child kind value p) s i = followed_by (begun s kind value i) (run p s)
-run (skip p) s i = skipped s (run p s) i
+run (child kind value p) s i = followed_by (unit_outcome s kind value i) (run p s)
+run (skip p) s i = hidden_path s (run p s) i
 run (target kind value) s i = word s i backref_at (λ t j. target_of s.deeper (λ level. target_read s.printed (level true kind value s.lifetimes) t j))
 run (lifetime k p) s i = followed_by (lifetime_at s.printed s.lifetimes k i) (run p s)
 run (binder m p) s i = behind (binder_at s.printed m s.lifetimes) (run p (record s { lifetimes = s.lifetimes + m }) i)
 run (opens p) s i = record (run p s i) { is_open = true }
-run (dyn_trait p) s i = followed_open (begun s a_trait_path false i) (bound_by (suc (length s.symbol)) s (run p s))
+run (dyn_trait p) s i = followed_open (unit_outcome s a_trait_path false i) (bound_by (suc (length s.symbol)) s (run p s))
 run (bindings open_ p) s i = bound_by (suc (length s.symbol)) s (run p s) open_ i
 
 -- no unit is begun
@@ -281,17 +281,17 @@ unfoldable pub read_at : List ℕ → Bool → Kind → ℕ → ℕ → ℕ → 
 read_at symbol printed kind i depth lifetimes value = level_of symbol (levels symbol (max_depth - depth)) printed kind value lifetimes i
 
 -- what a symbol hands over: its first path, to be printed, in value position and with no lifetime in force
-unfoldable pub rendered : List ℕ → Bool → List Text
-rendered symbol plain = pieces plain (read_at symbol true a_path 0 0 0 true).tree
+unfoldable pub path_texts : List ℕ → Bool → List Text
+path_texts symbol plain = pieces plain (read_at symbol true a_path 0 0 0 true).tree
 
 -- the place behind the unit, if it is spelled
-unfoldable pub spelled : List ℕ → Kind → ℕ → ℕ → Place
-spelled symbol kind i depth = (read_at symbol false kind i depth 0 true).place
+unfoldable pub unit_end : List ℕ → Kind → ℕ → ℕ → Place
+unit_end symbol kind i depth = (read_at symbol false kind i depth 0 true).place
 
 -- a second path begins there
 abbrev pub goes_on_at : List ℕ → ℕ → Bool
 goes_on_at symbol j = some_or false (slice_get symbol j) is_upper
 
 -- the place where the suffix begins: behind one path, or behind a second one that begins with `A` to `Z`
-unfoldable pub suffix_of : List ℕ → Place
-suffix_of symbol = then_if_some (spelled symbol a_path 0 0) (λ j. if goes_on_at symbol j then spelled symbol a_path j 0 else Some j)
+unfoldable pub suffix_place : List ℕ → Place
+suffix_place symbol = then_if_some (unit_end symbol a_path 0 0) (λ j. if goes_on_at symbol j then unit_end symbol a_path j 0 else Some j)

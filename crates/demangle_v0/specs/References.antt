@@ -4,18 +4,18 @@ use Rattle.std.specs.Prelude.{◌≡◌, ℕ, ◌+◌, ◌*◌, ◌≤◌, Bool,
 use Rattle.demangle_v0.specs.Events.{Heard, of}
 use Rattle.demangle_v0.specs.Items.{Kind}
 use Rattle.demangle_v0.specs.Reading.{level_of, levels}
-use Rattle.demangle_v0.specs.Points.{closing, share_at, weight_at, height_at, Fits}
+use Rattle.demangle_v0.specs.Points.{none_open, share_at, weight_at, height_at, Fits}
 use Rattle.demangle_v0.specs.declared.points.Point.{Point}
 use Rattle.demangle_v0.specs.declared.points.Point.TheVariants as point
 
 -- a dyn trait path may leave its bracket open, other units do not
-abbrev pub shutting : Bool → Heard → Heard
-shutting true h = closing h
-shutting false h = h
+abbrev pub none_open_if : Bool → Heard → Heard
+none_open_if true h = none_open h
+none_open_if false h = h
 
 -- a point at which a unit of this kind is begun
 pub record IsUnit (b : List ℕ) (plain : Bool) (p : Point) (in_value : Bool) (letter lifetimes : ℕ) (shut : Bool) (k : Kind) (value : Bool) : Type 0 where
-  pub same : (left t : ℕ) → share_at b plain true p in_value letter left lifetimes (Some t) false ≡ shutting shut (of plain true (level_of b (levels b left) true k value lifetimes t))
+  pub same : (left t : ℕ) → share_at b plain true p in_value letter left lifetimes (Some t) false ≡ none_open_if shut (of plain true (level_of b (levels b left) true k value lifetimes t))
   pub light : weight_at p ≤ 2
   pub low : (left : ℕ) → height_at p left ≤ 8 * left + 2
   pub fits : (left : ℕ) → Fits point.Path left lifetimes → Fits p left lifetimes

@@ -6,7 +6,7 @@ use Prim.Native.Char.{code}
 use Rattle.demangle_symbol.specs.Words.{Name, some_or}
 use Rattle.demangle_symbol.specs.Names.{is_nameless, name_pieces}
 use Rattle.demangle_v0.specs.Items.{Text}
-use Rattle.demangle_v0.specs.Table.{text_of, basic_types}
+use Rattle.demangle_v0.specs.Table.{row_text, basic_types}
 use Rattle.demangle_v0.specs.Groups.{bytes_in, abi_texts, number_texts, if_plain}
 use Rattle.demangle_symbol.specs.declared.cursor.Part.{Part}
 use Rattle.demangle_v0.specs.declared.stretch.Abi.{Abi}
@@ -37,7 +37,7 @@ head_texts b unsafe a = if unsafe then codes "unsafe " ∷ abi_texts b a else ab
 
 -- the name of the basic type of a tag
 abbrev pub type_texts : Bool → ℕ → List Text
-type_texts plain tag = some_or [] (text_of tag basic_types) (λ t. if_plain plain (t ∷ []))
+type_texts plain tag = some_or [] (row_text tag basic_types) (λ t. if_plain plain (t ∷ []))
 
 abbrev pub constant_texts : List ℕ → Bool → Option ℕ → Part → ℕ → List Text
 constant_texts b plain n part tag = number_texts (bytes_in b part) n ++ type_texts plain tag

@@ -44,8 +44,8 @@ list text element p = at_end p (unit element (more text element p))
 abbrev pub tuple : Items → Items → Items
 tuple element p = at_end p (unit element (at_end (says "," p) (more ", " element p)))
 
-abbrev pub typed : Items
-typed = child a_type false done
+abbrev pub type_inside : Items
+type_inside = child a_type false done
 
 abbrev pub constant_inside : Items
 constant_inside = child a_constant true done
@@ -59,7 +59,7 @@ says_name a = say_all (name_pieces a)
 abbrev pub argument : Items
 argument =
     next (code "L") (integer (λ k. lifetime k done))
-    (next (code "K") (child a_constant false done) typed)
+    (next (code "K") (child a_constant false done) type_inside)
 
 -- Paths.
 
@@ -102,24 +102,24 @@ basic_types =
     ∷ ("n", "i128") ∷ ("i", "isize") ∷ ("h", "u8") ∷ ("t", "u16") ∷ ("m", "u32") ∷ ("y", "u64") ∷ ("o", "u128")
     ∷ ("j", "usize") ∷ ("f", "f32") ∷ ("d", "f64") ∷ ("z", "!") ∷ ("p", "_") ∷ ("v", "...") ∷ []
 
-abbrev pub text_of : ℕ → List (String × String) → Option Text
-text_of tag [] = None
-text_of tag (r ∷ rs) = if is_among tag (codes r.0) then Some (codes r.1) else text_of tag rs
+abbrev pub row_text : ℕ → List (String × String) → Option Text
+row_text tag [] = None
+row_text tag (r ∷ rs) = if is_among tag (codes r.0) then Some (codes r.1) else row_text tag rs
 
 abbrev pub in_binder : Items → Items
 in_binder p = optional (code "G") (λ m. binder m p)
 
 -- the parts between `_`, with `-` between them, behind what was read of the first
-abbrev pub hyphenated : List ℕ → List ℕ → List Text
-hyphenated part [] = part ∷ []
-hyphenated part (b ∷ bs) = if b == code "_" then part ∷ codes "-" ∷ hyphenated [] bs else hyphenated (part ++ b ∷ []) bs
+abbrev pub hyphenated_abi : List ℕ → List ℕ → List Text
+hyphenated_abi part [] = part ∷ []
+hyphenated_abi part (b ∷ bs) = if b == code "_" then part ∷ codes "-" ∷ hyphenated_abi [] bs else hyphenated_abi (part ++ b ∷ []) bs
 
 abbrev pub signature : Bool → List Text → Items
-signature unsafe abi = says_if unsafe "unsafe " (say_all abi (says "fn(" (list ", " typed (says ")"
-    (next (code "u") done (says " -> " typed))))))
+signature unsafe abi = says_if unsafe "unsafe " (say_all abi (says "fn(" (list ", " type_inside (says ")"
+    (next (code "u") done (says " -> " type_inside))))))
 
 abbrev pub extern : List ℕ → List Text
-extern abi = codes "extern \"" ∷ hyphenated [] abi ++ codes "\" " ∷ []
+extern abi = codes "extern \"" ∷ hyphenated_abi [] abi ++ codes "\" " ∷ []
 
 abbrev pub function : Bool → Items
 function unsafe =
@@ -128,8 +128,8 @@ function unsafe =
     (signature unsafe [])
 
 -- what a binding names: a constant or a type
-abbrev pub bound : Items
-bound = next (code "K") (child a_constant false done) typed
+abbrev pub binding_value : Items
+binding_value = next (code "K") (child a_constant false done) type_inside
 
 -- the rows, where the tag is still to be read
 abbrev pub after_tag : List (String × Items) → List (String × Items)
@@ -139,18 +139,18 @@ after_tag (r ∷ rs) = (r.0, byte (λ _. r.1)) ∷ after_tag rs
 abbrev pub type_rows : ℕ → List (String × Items)
 type_rows tag = (
   "RQ",
-  let rest = says_if (tag == code "Q") "mut " typed in
+  let rest = says_if (tag == code "Q") "mut " type_inside in
       says "&" (next (code "L") (integer (λ k. if k == 0 then rest else lifetime k (says " " rest))) rest),
 )
-    ∷ ("P", says "*" (says "const " typed))
-    ∷ ("O", says "*" (says "mut " typed))
+    ∷ ("P", says "*" (says "const " type_inside))
+    ∷ ("O", says "*" (says "mut " type_inside))
     ∷ ("A", says "[" (child a_type false (says "; " (child a_constant true (says "]" done)))))
     ∷ ("S", says "[" (child a_type false (says "]" done)))
-    ∷ ("T", says "(" (tuple typed (says ")" done)))
+    ∷ ("T", says "(" (tuple type_inside (says ")" done)))
     ∷ ("F", in_binder (next (code "U") (function true) (function false)))
     ∷ (
       "D",
-      says "dyn " (unit (in_binder (list " + " (dyn_trait bound) done))
+      says "dyn " (unit (in_binder (list " + " (dyn_trait binding_value) done))
           (next (code "L") (integer (λ k. if k == 0 then done else says " + " (lifetime k done))) invalid)),
     )
     ∷ ("B", target a_type false)
@@ -158,11 +158,11 @@ type_rows tag = (
     ∷ []
 
 -- any other tag is that of a path
-abbrev pub constructed : ℕ → Items
-constructed tag = row_of tag (child a_path false done) (after_tag (type_rows tag))
+abbrev pub type_behind_tag : ℕ → Items
+type_behind_tag tag = row_of tag (child a_path false done) (after_tag (type_rows tag))
 
 abbrev pub type_tagged : Items
-type_tagged = peek (λ tag. some_or (raise (constructed tag)) (text_of tag basic_types) (λ text. byte (λ _. say text done)))
+type_tagged = peek (λ tag. some_or (raise (type_behind_tag tag)) (row_text tag basic_types) (λ text. byte (λ _. say text done)))
 
 abbrev pub trait_path : Items
 trait_path =
@@ -189,8 +189,8 @@ braces value inside = if value then inside done else says "{" (inside (says "}" 
 abbrev pub number_pieces : List ℕ → Items → Items
 number_pieces h p = some_or (says "0x" (say h p)) (number_of h) (λ n. say (decimal n) p)
 
-abbrev pub number : ℕ → Items
-number tag = nibbles (λ h. number_pieces h (some_or done (text_of tag basic_types) (λ text. say_plain text done)))
+abbrev pub integer_constant : ℕ → Items
+integer_constant tag = nibbles (λ h. number_pieces h (some_or done (row_text tag basic_types) (λ text. say_plain text done)))
 
 abbrev pub character : Option ℕ → Items
 character None = invalid
@@ -219,8 +219,8 @@ variant p tag = row_of tag invalid (variant_rows p)
 abbrev pub constant_rows : Bool → ℕ → List (String × Items)
 constant_rows value tag =
     ("p", says "_" done)
-    ∷ ("htmyoj", number tag)
-    ∷ ("aslxni", next (code "n") (says "-" (number tag)) (number tag))
+    ∷ ("htmyoj", integer_constant tag)
+    ∷ ("aslxni", next (code "n") (says "-" (integer_constant tag)) (integer_constant tag))
     ∷ ("b", nibbles (λ h. truth (number_of h)))
     ∷ ("c", nibbles (λ h. character (number_of h)))
     ∷ ("e", braces value (λ p. says "*" (unit string p)))

@@ -4,7 +4,7 @@ use Rattle.std.specs.Prelude.{ℕ, Bool, true, false, if◌then◌else◌, ◌==
 use Prim.Native.Char.{code}
 use Prim.Native.String.{String}
 use Rattle.demangle_v0.specs.Items.{Items, a_type, a_constant, a_pattern, done, invalid, integer, next, unit, child, target, lifetime, dyn_trait}
-use Rattle.demangle_v0.specs.Table.{path, says, says_if, list, tuple, typed, in_binder, function, bound, constant, number, variant, pattern_of}
+use Rattle.demangle_v0.specs.Table.{path, says, says_if, list, tuple, type_inside, in_binder, function, binding_value, constant, integer_constant, variant, pattern_of}
 use Rattle.demangle_v0.specs.declared.points.tags.PathKind.{PathKind}
 use Rattle.demangle_v0.specs.declared.points.tags.PathKind.TheVariants as kind
 use Rattle.demangle_v0.specs.declared.points.tags.TypeKind.{TypeKind}
@@ -36,23 +36,23 @@ type_kinds tag =
     ∷ ("B", type_kind.Reference) ∷ ("W", type_kind.Pattern) ∷ []
 
 -- the lifetime of a reference, whose `L` was read, and what stands behind it
-abbrev pub referring : Items → Items
-referring rest = integer (λ k. if k == 0 then rest else lifetime k (says " " rest))
+abbrev pub lifetime_before : Items → Items
+lifetime_before rest = integer (λ k. if k == 0 then rest else lifetime k (says " " rest))
 
 -- a reference, mutable or not
 abbrev pub reference_to : Bool → Items
-reference_to is_mut = let rest = says_if is_mut "mut " typed in says "&" (next (code "L") (referring rest) rest)
+reference_to is_mut = let rest = says_if is_mut "mut " type_inside in says "&" (next (code "L") (lifetime_before rest) rest)
 
 abbrev pub type_of : TypeKind → Items
 type_of type_kind.SharedReference = reference_to false
 type_of type_kind.MutReference = reference_to true
-type_of type_kind.ConstPointer = says "*" (says "const " typed)
-type_of type_kind.MutPointer = says "*" (says "mut " typed)
+type_of type_kind.ConstPointer = says "*" (says "const " type_inside)
+type_of type_kind.MutPointer = says "*" (says "mut " type_inside)
 type_of type_kind.Array = says "[" (child a_type false (says "; " (child a_constant true (says "]" done))))
 type_of type_kind.Slice = says "[" (child a_type false (says "]" done))
-type_of type_kind.Tuple = says "(" (tuple typed (says ")" done))
+type_of type_kind.Tuple = says "(" (tuple type_inside (says ")" done))
 type_of type_kind.Function = in_binder (next (code "U") (function true) (function false))
-type_of type_kind.Dyn = says "dyn " (unit (in_binder (list " + " (dyn_trait bound) done))
+type_of type_kind.Dyn = says "dyn " (unit (in_binder (list " + " (dyn_trait binding_value) done))
     (next (code "L") (integer (λ k. if k == 0 then done else says " + " (lifetime k done))) invalid))
 type_of type_kind.Reference = target a_type false
 type_of type_kind.Pattern = child a_type false (says " is " (child a_pattern false done))
@@ -65,8 +65,8 @@ constant_kinds =
 -- the items behind the tag
 abbrev pub constant_of : Bool → ℕ → ConstantKind → Items
 constant_of v tag constant_kind.Placeholder = constant v (code "p")
-constant_of v tag constant_kind.Unsigned = number tag
-constant_of v tag constant_kind.Signed = next (code "n") (says "-" (number tag)) (number tag)
+constant_of v tag constant_kind.Unsigned = integer_constant tag
+constant_of v tag constant_kind.Signed = next (code "n") (says "-" (integer_constant tag)) (integer_constant tag)
 constant_of v tag constant_kind.Bool = constant v (code "b")
 constant_of v tag constant_kind.Char = constant v (code "c")
 constant_of v tag constant_kind.Text = constant v (code "e")

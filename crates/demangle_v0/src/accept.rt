@@ -1,9 +1,9 @@
 //! Acceptance of v0 symbols: readings without a voice.
 ghost use Rattle.std.specs.Prelude.{◌≡◌, ◌+◌, ◌-◌, ◌≤◌, true, false};
 ghost use Rattle.demangle_v0.specs.Items.{a_path};
-ghost use Rattle.demangle_v0.specs.Points.{AllInner, owed};
+ghost use Rattle.demangle_v0.specs.Points.{AllInner, reading_owed};
 ghost use Rattle.demangle_v0.specs.PointRuns.{Valid};
-ghost use Rattle.demangle_v0.specs.Reading.{goes_on_at, spelled, suffix_of, read_at};
+ghost use Rattle.demangle_v0.specs.Reading.{goes_on_at, unit_end, suffix_place, read_at};
 ghost use Rattle.demangle_v0.specs.Running.{allowed_in};
 ghost use Rattle.demangle_v0.specs.Accepting.{looks_in, suffix_looks, accepting_looks};
 
@@ -21,9 +21,9 @@ fn read_rest(
 ) -> Option<usize>
     requires valid { Valid from.now.point from.now.state few.now }
     requires inner { AllInner few.now }
-    ensures value { result ≡ (owed symbol.now true false from.now.point from.now.state
+    ensures value { result ≡ (reading_owed symbol.now true false from.now.point from.now.state
         few.now).place }
-    ensures looks { looks.new ≤ looks.old + allowed_in (owed symbol.now true false from.now.point
+    ensures looks { looks.new ≤ looks.old + allowed_in (reading_owed symbol.now true false from.now.point
         from.now.state few.now).events }
     ensures grows { looks.old ≤ looks.new }
 {
@@ -39,7 +39,7 @@ fn read_rest(
 
 /// Where the path at a place ends, if one is spelled there.
 pub fn path_end(symbol: &Symbol<'_>, place: usize, looks: &mut Looks) -> Option<usize>
-    ensures value { result ≡ spelled symbol.now a_path place 0 }
+    ensures value { result ≡ unit_end symbol.now a_path place 0 }
     ensures grows { looks.old ≤ looks.new }
     ensures looks { looks.new ≤ looks.old + looks_in (read_at symbol.now false a_path place 0 0
         true) }
@@ -55,7 +55,7 @@ pub fn path_end(symbol: &Symbol<'_>, place: usize, looks: &mut Looks) -> Option<
 
 /// Where the suffix begins, behind one path or two, if they are spelled.
 pub fn suffix_at(symbol: &Symbol<'_>, looks: &mut Looks) -> Option<usize>
-    ensures value { result ≡ suffix_of symbol.now }
+    ensures value { result ≡ suffix_place symbol.now }
     ensures grows { looks.old ≤ looks.new }
     ensures looks { looks.new + suffix_looks symbol.now result ≤ looks.old + accepting_looks
         symbol.now }

@@ -2,7 +2,7 @@
 #![tactic(auto)]
 
 ghost use Rattle.std.specs.Prelude.{◌≡◌, ◌+◌, ◌-◌, ◌*◌, ◌≤◌, IfOk, IfSome, OnErr, Some, None, length, option_map};
-ghost use Rattle.demangle_v0.specs.V0.{inner_of, v0_of};
+ghost use Rattle.demangle_v0.specs.V0.{v0_inner, v0_of};
 
 use crate::accept::{begins_path, suffix_at};
 use demangle_symbol::cursor::{Looks, ParseError, Symbol};
@@ -24,7 +24,7 @@ pub use value::Demangle;
 /// What stands behind the prefix of a v0 symbol.
 #[tactic(auto, using(demangle_symbol::proofs::Prefixes::behind_answer))]
 fn inner_of(s: &str) -> Option<&str>
-    ensures inner { option_map (λ x. x.now) result ≡ inner_of s.now }
+    ensures inner { option_map (λ x. x.now) result ≡ v0_inner s.now }
     ensures shorter { IfSome result (λ x. (length x.now ≤ length s.now) × (length s.now ≤ length
         x.now + 3)) }
 {

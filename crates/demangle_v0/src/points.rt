@@ -2,7 +2,7 @@
 //! frame stack, and answers
 //! where it goes on.
 ghost use Rattle.std.specs.Prelude.{true, ◌≡◌, ◌+◌, ◌-◌, ◌<◌, ◌≤◌, None, Ok, Err, IsOk, IsAscii, List};
-ghost use Rattle.demangle_v0.specs.Points.{DidOn, around, closing};
+ghost use Rattle.demangle_v0.specs.Points.{DidOn, around, none_open};
 ghost use Rattle.demangle_v0.specs.Totals.{total};
 ghost use Rattle.demangle_v0.specs.Groups.{word_group, read_stretch, looks_later};
 ghost use Rattle.demangle_v0.specs.Serving.{LiesIn};
@@ -218,7 +218,7 @@ fn last_word<V: Voice>(
     requires ascii { V.loud ≡ true → IsAscii symbol.now }
     requires ready { V.ready voice.old }
     requires unmarked { state.old.mark ≡ None }
-    ensures did { (row : List Frame) → DidOn V.Voice symbol.now plain (closing (of plain V.loud (run
+    ensures did { (row : List Frame) → DidOn V.Voice symbol.now plain (none_open (of plain V.loud (run
         (word_items word state.old.letter done) (around symbol.now V.loud state.old.depth_left
         state.old.lifetimes) state.old.place))) 1 0 row voice.old result state.new row voice.new
         (looks.new - looks.old) }

@@ -2,7 +2,7 @@
 ghost use Rattle.std.specs.Prelude.{◌≡◌, ◌+◌, ◌*◌, ◌≤◌, IsAscii, length};
 ghost use Rattle.demangle_sink.specs.Cut.{kept};
 ghost use Rattle.demangle_sink.specs.Limit.{Prints, Ready};
-ghost use Rattle.demangle_v0.specs.Reading.{rendered};
+ghost use Rattle.demangle_v0.specs.Reading.{path_texts};
 
 use crate::points::frames::{FEW, FrameStack};
 use crate::points::read::Reading;
@@ -45,9 +45,9 @@ impl<'s> Demangle<'s> {
         looks: &mut Looks,
     ) -> Result<(), SinkRefused>
         requires { Ready S.TextSink out.old }
-        ensures prints { Prints S.TextSink out.old (rendered self.now include_hash) result out.new }
+        ensures prints { Prints S.TextSink out.old (path_texts self.now include_hash) result out.new }
         ensures grows { looks.old ≤ looks.new }
-        ensures most { looks.new ≤ looks.old + 100000 * (kept (rendered self.now include_hash)
+        ensures most { looks.new ≤ looks.old + 100000 * (kept (path_texts self.now include_hash)
             out.old.remaining + 1) * (length self.now + 1) }
         ensures least { looks.old + 1 ≤ looks.new }
     {

@@ -55,7 +55,7 @@ fn printed_by(
 }
 
 /// What a text prints, of any length.
-fn printed(alloc: Global, symbol: &str, include_hash: bool) -> Result<Vec<u8>, AllocError> {
+fn print_symbol(alloc: Global, symbol: &str, include_hash: bool) -> Result<Vec<u8>, AllocError> {
     printed_by(alloc, &demangle(symbol), include_hash)
 }
 
@@ -68,29 +68,20 @@ fn assert_prints_long(
 ) -> Result<(), AllocError> {
     assert!(rt; try_demangle(symbol).is_ok(), "it is a symbol");
     for include_hash in [true, false] {
-        let printed = printed(alloc, symbol, include_hash)?;
+        let printed = print_symbol(alloc, symbol, include_hash)?;
         assert!(rt; printed.as_slice() == text.as_bytes(), "it prints the text");
     }
     Ok(())
 }
 
-/// A text so many times over.
-fn repeated(alloc: Global, text: &str, count: usize) -> Result<String, AllocError> {
-    let mut whole = String::new(alloc);
-    for _ in 0..count {
-        whole.push_str(text)?;
-    }
-    Ok(whole)
-}
-
 /// A text so many times over, between two others.
-fn filled(
+fn repeat_between(
     alloc: Global,
     head: &str,
     text: &str,
     count: usize,
     tail: &str,
 ) -> Result<String, AllocError> {
-    let middle = repeated(alloc, text, count)?;
+    let middle = text.repeat(alloc, count)?;
     format!(in alloc; "{head}{middle}{tail}")
 }

@@ -19,8 +19,8 @@ use Rattle.demangle_legacy.proofs.LegacyLaws.{legacy_spelled}
 use Rattle.rustc_demangle.proofs.SymbolSteps.{symbol-pieces, pieces-legacy, pieces-v0}
 use Rattle.demangle_v0.proofs.V0Reading.{v0_is_read}
 use Rattle.rustc_demangle.proofs.V0Feeds.{feeds-rendered}
-use Rattle.demangle_v0.specs.Reading.{rendered}
-use Rattle.demangle_sink.specs.Cut.{size, fitting, cut, marker}
+use Rattle.demangle_v0.specs.Reading.{path_texts}
+use Rattle.demangle_sink.specs.Cut.{size, front_within, cut, marker}
 use Rattle.rustc_demangle.specs.Lines.{lines, feeds}
 use Rattle.demangle_legacy.specs.Legacy.{IsElements, IsLegacy}
 use Rattle.demangle_legacy.specs.Unescaped.{escape_of_code, escape_of_digits, escape_of, lower_hex, leading_unit, pieces_from, unescaped, is_hash, shown_elements, following_pieces, joined_pieces, legacy_pieces, is_lower_hex, is_dollar, is_special}
@@ -31,17 +31,17 @@ cases true = inl refl
 cases false = inr refl
 
 -- what fits of pieces, and what is cut of them
-feeds-fitting : (pieces : List (List ℕ)) (limit : ℕ) → feeds (concat (fitting pieces limit)) ≤ feeds (concat pieces)
+feeds-fitting : (pieces : List (List ℕ)) (limit : ℕ) → feeds (concat (front_within pieces limit)) ≤ feeds (concat pieces)
 feeds-fitting [] limit = omega arith
 feeds-fitting (piece ∷ pieces) limit = elim (leb_tells (length piece) limit) [
-  | inl e ↦ rw (e.0) (omega (arith, feeds-fitting pieces (limit - length piece), feeds-cons piece pieces, feeds-cons piece (fitting pieces (limit - length piece))))
+  | inl e ↦ rw (e.0) (omega (arith, feeds-fitting pieces (limit - length piece), feeds-cons piece pieces, feeds-cons piece (front_within pieces (limit - length piece))))
   | inr e ↦ rw (e.0) (omega arith)
 ]
 
 feeds-cut : (pieces : List (List ℕ)) (limit : ℕ) → feeds (concat (cut pieces limit)) ≤ feeds (concat pieces)
 feeds-cut pieces limit = elim (leb_tells (size pieces) limit) [
   | inl e ↦ rw (e.0) (omega arith)
-  | inr e ↦ rw (e.0) (omega (arith, feeds-fitting pieces limit, feeds-concat (fitting pieces limit) (marker ∷ [])))
+  | inr e ↦ rw (e.0) (omega (arith, feeds-fitting pieces limit, feeds-concat (front_within pieces limit) (marker ∷ [])))
 ]
 
 -- and so is one that is no control
@@ -212,7 +212,7 @@ feeds-symbol hash text read e none = go (symbol-pieces hash text read e) where
       let bound = feeds-legacy hash text elements suffix legacy in
       (omega (arith, none, bound, ap (λ r. feeds (concat r.0)) same), omega (arith, none, bound, ap (λ r. feeds r.1) same))
   go (inr (inner, suffix, v0, allowed)) =
-      let same : read ≡ (rendered inner hash, suffix) = ap read_of (sym e ∙ pieces-v0 hash text inner suffix (v0_is_read text inner suffix v0) allowed) in
+      let same : read ≡ (path_texts inner hash, suffix) = ap read_of (sym e ∙ pieces-v0 hash text inner suffix (v0_is_read text inner suffix v0) allowed) in
       let part = v0.5 in
       let within : feeds inner ≡ 0 = omega (arith, none, ap feeds v0.1, feeds-append v0.0 inner) in (
         ap (λ r. feeds (concat r.0)) same ∙ feeds-rendered inner hash within,

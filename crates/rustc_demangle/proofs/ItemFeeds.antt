@@ -8,7 +8,7 @@ use Rattle.demangle_symbol.specs.Digits.{is_byte}
 use Rattle.demangle_symbol.specs.Words.{Name, Read, byte_at, namespace_at, integer_at, optional_at, backref_at, identifier_at, nibbles_at}
 use Rattle.demangle_symbol.specs.Names.{name_pieces}
 use Rattle.demangle_v0.specs.Items.{Text, Kind, a_path, a_trait_path, Items, done, invalid, say, say_plain, byte, namespace, integer, optional, identifier, nibbles, peek, next, sound, until_end, raise, unit, child, skip, target, lifetime, binder, opens, dyn_trait, bindings}
-use Rattle.demangle_v0.specs.Reading.{Tree, nothing, piece, plain_piece, node, looked, hidden, invalid_syntax, too_deep, unread, pieces, Place, Outcome, Level, Surroundings, stands, behind, followed_by, resumed, word, peeked, forked, raised, turns, begun, skipped, all_pieces, closed, opened, named, bound_by, target_read, target_of, letter_of, lifetime_at, new_lifetimes, binder_at, run}
+use Rattle.demangle_v0.specs.Reading.{Tree, nothing, piece, plain_piece, node, looked, hidden, invalid_syntax, too_deep, unread, pieces, Place, Outcome, Level, Surroundings, stands, behind, followed_by, word_outcome, word, peek_outcome, byte_choice, one_depth_on, turns, unit_outcome, hidden_path, all_pieces, angle_if_open, binding_separator, name_equals, bound_by, target_read, target_of, letter_of, lifetime_at, new_lifetimes, binder_at, run}
 use Rattle.rustc_demangle.proofs.Feeds.{feeds-append, feeds-concat, feeds-other}
 use Rattle.rustc_demangle.proofs.WordFeeds.{AreClear, number_clear, namespace_clear, nibbles_clear, identifier_clear, name_clear}
 
@@ -96,11 +96,11 @@ lifetime_clear false m k i = tt
 lifetime_clear true m k i =
     (refl, choice_clear (k == 0) _ _ (refl, tt) (choice_clear (nat_le k m) _ _ (pieces_clear (letter_of (m - k)) nothing (letter_clear (m - k)) tt) tt))
 
-closed_clear : (o : Bool) (i : Place) → IsClear (closed o i).tree
+closed_clear : (o : Bool) (i : Place) → IsClear (angle_if_open o i).tree
 closed_clear true i = (refl, tt)
 closed_clear false i = tt
 
-opened_clear : (o : Bool) (t : Tree) → IsClear t → IsClear (opened o t)
+opened_clear : (o : Bool) (t : Tree) → IsClear t → IsClear (binding_separator o t)
 opened_clear true t h = (refl, h)
 opened_clear false t h = (refl, h)
 
@@ -111,15 +111,15 @@ word_clear : {A : Type 0} (s : Surroundings) (reads : List ℕ → ℕ → Read 
 word_clear s reads rest h None = tt
 word_clear {A} s reads rest h (Some i) = go (reads s.symbol i) refl
   where
-    go : (q : Read A) → reads s.symbol i ≡ q → IsClear (resumed (length s.symbol) i rest q).tree
+    go : (q : Read A) → reads s.symbol i ≡ q → IsClear (word_outcome (length s.symbol) i rest q).tree
     go None e = tt
     go (Some r) e = h i r.0 r.1 e
 
-peek_clear : (q : Option ℕ) (f : ℕ → Outcome) → ((b : ℕ) → IsClear (f b).tree) → IsClear (peeked f q).tree
+peek_clear : (q : Option ℕ) (f : ℕ → Outcome) → ((b : ℕ) → IsClear (f b).tree) → IsClear (peek_outcome f q).tree
 peek_clear None f h = tt
 peek_clear (Some b) f h = h b
 
-fork_clear : (b : Bool) (f g : Place → Outcome) → ((i : Place) → IsClear (f i).tree) → ((i : Place) → IsClear (g i).tree) → (i : Place) → IsClear (forked b f g i).tree
+fork_clear : (b : Bool) (f g : Place → Outcome) → ((i : Place) → IsClear (f i).tree) → ((i : Place) → IsClear (g i).tree) → (i : Place) → IsClear (byte_choice b f g i).tree
 fork_clear b f g h k None = k None
 fork_clear true f g h k (Some i) = h (Some (i + 1))
 fork_clear false f g h k (Some i) = k (Some i)
@@ -140,7 +140,7 @@ pub record Holds (s : Surroundings) : Type 0 where
   pub deeper : LevelsClear s.deeper
 
 raised_clear : (ls : List Level) (f : Level → List Level → Place → Outcome) → LevelsClear ls
-    → ((l : Level) (ls : List Level) → LevelClear l → LevelsClear ls → (i : Place) → IsClear (f l ls i).tree) → (i : Place) → IsClear (raised ls f i).tree
+    → ((l : Level) (ls : List Level) → LevelClear l → LevelsClear ls → (i : Place) → IsClear (f l ls i).tree) → (i : Place) → IsClear (one_depth_on ls f i).tree
 raised_clear [] f d h i = tt
 raised_clear (l ∷ ls) f d h i = h l ls d.0 d.1 i
 
@@ -152,11 +152,11 @@ turns_clear (suc m) symbol f h None = tt
 turns_clear (suc m) symbol f h (Some i) =
     fork_clear (is_byte symbol i (code "E")) stands (λ j. followed_by (f j) (turns m symbol f)) (λ _. tt) (λ j. (h j, turns_clear m symbol f h (f j).place)) (Some i)
 
-begun_clear : (s : Surroundings) (kind : Kind) (value : Bool) → LevelClear s.here → (i : Place) → IsClear (begun s kind value i).tree
+begun_clear : (s : Surroundings) (kind : Kind) (value : Bool) → LevelClear s.here → (i : Place) → IsClear (unit_outcome s kind value i).tree
 begun_clear s kind value h None = tt
 begun_clear s kind value h (Some i) = h s.printed kind value s.lifetimes i
 
-skipped_clear : (s : Surroundings) (f : Place → Outcome) → ((i : Place) → IsClear (f i).tree) → (i : Place) → IsClear (skipped s f i).tree
+skipped_clear : (s : Surroundings) (f : Place → Outcome) → ((i : Place) → IsClear (f i).tree) → (i : Place) → IsClear (hidden_path s f i).tree
 skipped_clear s f h None = h None
 skipped_clear s f h (Some i) = h (s.here false a_path false s.lifetimes i).place
 
@@ -166,8 +166,8 @@ bound_clear zero s f none h o None = closed_clear o None
 bound_clear (suc m) s f none h o None = closed_clear o None
 bound_clear zero s f none h o (Some i) = tt
 bound_clear (suc m) s f none h o (Some i) =
-    let then : Name → Place → Outcome = λ a k. behind (named a) (followed_by (f k) (bound_by m s f true)) in
-    fork_clear (is_byte s.symbol i (code "p")) (λ j. behind (opened o) (word s j identifier_at then)) (closed o)
+    let then : Name → Place → Outcome = λ a k. behind (name_equals a) (followed_by (f k) (bound_by m s f true)) in
+    fork_clear (is_byte s.symbol i (code "p")) (λ j. behind (binding_separator o) (word s j identifier_at then)) (angle_if_open o)
     (λ j. opened_clear o (word s j identifier_at then).tree (word_clear s identifier_at then
     (λ i a k e. let c = identifier_clear s.symbol i a k none e in
     pieces_clear (name_pieces a) _ (name_clear a c.0 c.1) (refl, (h (Some k), bound_clear m s f none h true (f (Some k)).place))) j))
@@ -204,7 +204,7 @@ clear (until_end p q) s a m i =
 clear (raise p) s a m i = raised_clear s.deeper (λ l ls. run p (record s { here = l; deeper = ls })) m.deeper
     (λ l ls h d j. clear p (record s { here = l; deeper = ls }) a (record { symbol = m.symbol; here = h; deeper = d }) j) i
 clear (unit p q) s a m i = let o : Outcome = run p s i in (clear p s a.0 m i, clear q s a.1 m o.place)
-clear (child kind value p) s a m i = let o : Outcome = begun s kind value i in (begun_clear s kind value m.here i, clear p s a m o.place)
+clear (child kind value p) s a m i = let o : Outcome = unit_outcome s kind value i in (begun_clear s kind value m.here i, clear p s a m o.place)
 clear (skip p) s a m i = skipped_clear s (run p s) (clear p s a m) i
 clear (target kind value) s a m i = word_clear s backref_at (λ t j. target_of s.deeper (λ level. target_read s.printed (level true kind value s.lifetimes) t j))
     (λ _ t j _. target_clear s.deeper s.printed kind value s.lifetimes t (Some j) m.deeper) i
@@ -214,6 +214,6 @@ clear (binder k p) s a m i =
     binder_clear s.printed k s.lifetimes (run p y i).tree (clear p y a (record { symbol = m.symbol; here = m.here; deeper = m.deeper }) i)
 clear (opens p) s a m i = clear p s a m i
 clear (dyn_trait p) s a m i =
-    let o : Outcome = begun s a_trait_path false i in
+    let o : Outcome = unit_outcome s a_trait_path false i in
     (begun_clear s a_trait_path false m.here i, bound_clear (suc (length s.symbol)) s (run p s) m.symbol (clear p s a m) o.is_open o.place)
 clear (bindings o p) s a m i = bound_clear (suc (length s.symbol)) s (run p s) m.symbol (clear p s a m) o i

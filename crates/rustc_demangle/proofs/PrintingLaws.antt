@@ -4,7 +4,7 @@ use Rattle.std.specs.Option.{option_map_or}
 use Rattle.std.proofs.lemmas.List.{append-nil, append_assoc}
 use Rattle.std.proofs.lemmas.Grind.{flat_map-append}
 use Rattle.std.proofs.lemmas.Bool.Decides.{leb_tells}
-use Rattle.demangle_sink.specs.Cut.{size, fitting, cut, kept, marker}
+use Rattle.demangle_sink.specs.Cut.{size, front_within, cut, kept, marker}
 use Rattle.rustc_demangle.specs.Hashes.{LeavesHashOut, pieces_behind}
 use Rattle.demangle_legacy.specs.Legacy.{IsLegacy, legacy_of}
 use Rattle.rustc_demangle.specs.Stripped.{is_allowed}
@@ -34,7 +34,7 @@ kept-no_symbol text none hash limit = go (pieces_of hash text) refl where
 size-cut : (pieces : List (List ℕ)) (limit : ℕ) → size (cut pieces limit) ≤ limit + 20
 size-cut pieces limit = elim (leb_tells (size pieces) limit) [
   | inl e ↦ let within : size pieces ≤ limit = e.1 in omega (arith, ap size (cut-within pieces limit within))
-  | inr e ↦ omega (arith, ap size (cut-past pieces limit e.1), size-append (fitting pieces limit) (marker ∷ []), fitting-within pieces limit)
+  | inr e ↦ omega (arith, ap size (cut-past pieces limit e.1), size-append (front_within pieces limit) (marker ∷ []), fitting-within pieces limit)
 ]
 
 pub size-handed : (text : List ℕ) (hash : Bool) (limit : ℕ) (pieces : List (List ℕ)) (suffix : List ℕ) → pieces_of hash text ≡ Some (pieces, suffix)

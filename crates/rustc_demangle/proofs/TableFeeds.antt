@@ -9,7 +9,7 @@ use Rattle.demangle_symbol.specs.Words.{Name, is_upper, some_or, number_of}
 use Rattle.demangle_symbol.specs.Names.{is_empty, is_nameless, name_pieces}
 use Rattle.demangle_symbol.specs.Literals.{literal, string_of}
 use Rattle.demangle_v0.specs.Items.{Text, Kind, a_path, a_type, a_constant, a_pattern, a_trait_path, Items, done, invalid, say, say_plain, byte, next, raise, unit, child, opens, dyn_trait}
-use Rattle.demangle_v0.specs.Table.{is_among, row_of, says, says_if, say_all, list, tuple, typed, constant_inside, argument, in_special, in_namespace, path_rows, basic_types, text_of, extern, signature, function, bound, after_tag, type_rows, constructed, type_tagged, pattern_rows, braces, number, character, truth, string, field, variant, variant_rows, constant_rows, items}
+use Rattle.demangle_v0.specs.Table.{is_among, row_of, says, says_if, say_all, list, tuple, type_inside, constant_inside, argument, in_special, in_namespace, path_rows, basic_types, row_text, extern, signature, function, binding_value, after_tag, type_rows, type_behind_tag, type_tagged, pattern_rows, braces, integer_constant, character, truth, string, field, variant, variant_rows, constant_rows, items}
 use Rattle.rustc_demangle.proofs.Feeds.{feeds-other}
 use Rattle.rustc_demangle.proofs.WordFeeds.{AreClear, number_clear, name_clear, extern_clear, literal_clear}
 use Rattle.rustc_demangle.proofs.ItemFeeds.{SaysClear}
@@ -91,11 +91,11 @@ abbrev TextsClear : List (String × String) → Type 0
 TextsClear [] = Unit {0}
 TextsClear (r ∷ rs) = (feeds (codes r.1) ≡ 0) × TextsClear rs
 
-found_clear : (tag : ℕ) (rs : List (String × String)) (p : Items) (f : Text → Items) → TextsClear rs → SaysClear p → ((t : Text) → feeds t ≡ 0 → SaysClear (f t)) → SaysClear (some_or p (text_of tag rs) f)
+found_clear : (tag : ℕ) (rs : List (String × String)) (p : Items) (f : Text → Items) → TextsClear rs → SaysClear p → ((t : Text) → feeds t ≡ 0 → SaysClear (f t)) → SaysClear (some_or p (row_text tag rs) f)
 found_clear tag [] p f h x y = x
 found_clear tag (r ∷ rs) p f h x y = at (is_among tag (codes r.0)) (y (codes r.1) h.0) (found_clear tag rs p f h.1 x y)
   where
-    at : (b : Bool) → SaysClear (f (codes r.1)) → SaysClear (some_or p (text_of tag rs) f) → SaysClear (some_or p (cond b (Some (codes r.1)) (text_of tag rs)) f)
+    at : (b : Bool) → SaysClear (f (codes r.1)) → SaysClear (some_or p (row_text tag rs) f) → SaysClear (some_or p (cond b (Some (codes r.1)) (row_text tag rs)) f)
     at true x y = x
     at false x y = y
 
@@ -106,8 +106,8 @@ basic_clear =
 
 signature_clear : (unsafe : Bool) (abi : List Text) → AreClear abi → SaysClear (signature unsafe abi)
 signature_clear unsafe abi h =
-    let inner = list ", " typed (says ")" (next (code "u") done (says " -> " typed))) in
-    let after : SaysClear (say_all abi (says "fn(" inner)) = all_clear abi (says "fn(" inner) h (refl, list_clear ", " typed (says ")" (next (code "u") done (says " -> " typed))) refl tt (refl, (tt, (refl, tt)))) in
+    let inner = list ", " type_inside (says ")" (next (code "u") done (says " -> " type_inside))) in
+    let after : SaysClear (say_all abi (says "fn(" inner)) = all_clear abi (says "fn(" inner) h (refl, list_clear ", " type_inside (says ")" (next (code "u") done (says " -> " type_inside))) refl tt (refl, (tt, (refl, tt)))) in
     cond_clear unsafe (says "unsafe " (say_all abi (says "fn(" inner))) (say_all abi (says "fn(" inner)) (refl, after) after
 
 function_clear : (unsafe : Bool) → SaysClear (function unsafe)
@@ -126,18 +126,18 @@ types_clear tag =
     ▸ (refl, (refl, tt))
     ▸ (refl, (refl, (refl, tt)))
     ▸ (refl, (refl, tt))
-    ▸ (refl, tuple_clear typed (says ")" done) tt (refl, tt))
+    ▸ (refl, tuple_clear type_inside (says ")" done) tt (refl, tt))
     ▸ (λ _. (function_clear true, function_clear false))
-    ▸ (refl, ((λ _. list_clear " + " (dyn_trait bound) done refl (tt, tt) tt), ((λ k. cond_clear (k == 0) _ _ tt (refl, tt)), tt)))
+    ▸ (refl, ((λ _. list_clear " + " (dyn_trait binding_value) done refl (tt, tt) tt), ((λ k. cond_clear (k == 0) _ _ tt (refl, tt)), tt)))
     ▸ tt
     ▸ (refl, tt)
     ▸ tt
   where
-    rest : SaysClear (says_if (tag == code "Q") "mut " typed)
-    rest = cond_clear (tag == code "Q") (says "mut " typed) typed (refl, tt) tt
+    rest : SaysClear (says_if (tag == code "Q") "mut " type_inside)
+    rest = cond_clear (tag == code "Q") (says "mut " type_inside) type_inside (refl, tt) tt
 
 tagged_clear : SaysClear type_tagged
-tagged_clear = λ tag. found_clear tag basic_types (raise (constructed tag)) (λ text. byte (λ _. say text done)) basic_clear
+tagged_clear = λ tag. found_clear tag basic_types (raise (type_behind_tag tag)) (λ text. byte (λ _. say text done)) basic_clear
     (row_clear tag (child a_path false done) (after_tag (type_rows tag)) tt (after_clear (type_rows tag) (types_clear tag))) (λ _ h _. (h, tt))
 
 patterns_clear : RowsClear pattern_rows
@@ -148,9 +148,9 @@ patterns_clear = (refl, tt) ▸ ((refl, tt), (tt, tt)) ▸ (refl, tt) ▸ tt
 braces_clear : (value : Bool) (inside : Items → Items) → ((p : Items) → SaysClear p → SaysClear (inside p)) → SaysClear (braces value inside)
 braces_clear value inside h = cond_clear value (inside done) (says "{" (inside (says "}" done))) (h done tt) (refl, h (says "}" done) (refl, tt))
 
-digits_clear : (tag : ℕ) → SaysClear (number tag)
+digits_clear : (tag : ℕ) → SaysClear (integer_constant tag)
 digits_clear tag = λ h none.
-    let last = some_or done (text_of tag basic_types) (λ text. say_plain text done) in
+    let last = some_or done (row_text tag basic_types) (λ text. say_plain text done) in
     let ends : SaysClear last = found_clear tag basic_types done (λ text. say_plain text done) basic_clear tt (λ _ k. (k, tt)) in
     some_clear (says "0x" (say h last)) (number_of h) (λ n. say (decimal n) last) (refl, (none, ends)) (λ n. (number_clear 10 n, ends))
 

@@ -4,7 +4,7 @@ use Rattle.std.specs.List.{concat}
 use Rattle.rustc_demangle.specs.Lines.{feeds}
 use Rattle.demangle_v0.specs.Items.{Kind, a_path}
 use Rattle.demangle_v0.specs.Table.{items}
-use Rattle.demangle_v0.specs.Reading.{Level, Surroundings, run, nowhere, level_of, levels, max_depth, read_at, rendered}
+use Rattle.demangle_v0.specs.Reading.{Level, Surroundings, run, nowhere, level_of, levels, max_depth, read_at, path_texts}
 use Rattle.rustc_demangle.proofs.ItemFeeds.{IsClear, clear_pieces, LevelClear, LevelsClear, clear}
 use Rattle.rustc_demangle.proofs.TableFeeds.{items_clear}
 
@@ -31,6 +31,6 @@ unfolding read_at
 read_clear symbol printed kind i depth lifetimes value none =
     level_clear symbol (levels symbol (max_depth - depth)) none (levels_clear symbol (max_depth - depth) none) printed kind value lifetimes i
 
-pub feeds-rendered : (inner : List ℕ) (hash : Bool) → feeds inner ≡ 0 → feeds (concat (rendered inner hash)) ≡ 0
-unfolding rendered
+pub feeds-rendered : (inner : List ℕ) (hash : Bool) → feeds inner ≡ 0 → feeds (concat (path_texts inner hash)) ≡ 0
+unfolding path_texts
 feeds-rendered inner hash none = clear_pieces hash (read_at inner true a_path 0 0 0 true).tree (read_clear inner true a_path 0 0 0 true none)

@@ -11,10 +11,10 @@ use lib.Utf8.{scalar as is_scalar}
 use Rattle.rustc_demangle.specs.Lines.{feeds}
 use Rattle.demangle_symbol.specs.Digits.{is_byte, run_end}
 use Rattle.demangle_symbol.specs.Words.{Name, only_if, then_if_some, some_or, is_upper, is_lower, namespace_at, identifier_at, nibbles_at, is_nibble, name_of, name_from, name_len, digits_from, length_end, tail_len, punycode_len, ascii_to}
-use Rattle.demangle_symbol.specs.Punycode.{inserted, deltas, next_delta, puny}
+use Rattle.demangle_symbol.specs.Punycode.{insertions, deltas, next_delta, puny}
 use Rattle.demangle_symbol.specs.Names.{is_empty, fallback_pieces, name_pieces}
 use Rattle.demangle_symbol.specs.Literals.{literal_escape, literal, is_shown}
-use Rattle.demangle_v0.specs.Table.{hyphenated, extern}
+use Rattle.demangle_v0.specs.Table.{hyphenated_abi, extern}
 use Rattle.rustc_demangle.proofs.Feeds.{feeds-append, feeds-take, feeds-drop, feeds-other, feeds-character}
 
 -- texts without line feeds
@@ -111,14 +111,14 @@ insert_clear : (cs : List ℕ) (at c : ℕ) → 10 < c → feeds cs ≡ 0 → fe
 insert_clear cs at c l h =
     omega (arith, h, feeds-append (take at cs) (c ∷ drop at cs), feeds-take at cs, feeds-drop at cs, feeds-other c (drop at cs) (λ same. omega (arith, l, same)))
 
-inserted_if : (n i : ℕ) (cs ds out : List ℕ) (b : Bool) → (inserted n i cs ds ≡ Some out → feeds out ≡ 0)
-    → ◌≡◌ {A = Option (List ℕ)} (elim b [ true ↦ inserted n i cs ds | false ↦ None ]) (Some out) → feeds out ≡ 0
+inserted_if : (n i : ℕ) (cs ds out : List ℕ) (b : Bool) → (insertions n i cs ds ≡ Some out → feeds out ≡ 0)
+    → ◌≡◌ {A = Option (List ℕ)} (elim b [ true ↦ insertions n i cs ds | false ↦ None ]) (Some out) → feeds out ≡ 0
 inserted_if n i cs ds out true h e = h e
 inserted_if n i cs ds out false h e = absurd (none≢some e)
 
 -- a decoded character is past ASCII
-inserted_clear : (n i : ℕ) (cs ds out : List ℕ) → 10 < n → feeds cs ≡ 0 → inserted n i cs ds ≡ Some out → feeds out ≡ 0
-unfolding inserted
+inserted_clear : (n i : ℕ) (cs ds out : List ℕ) → 10 < n → feeds cs ≡ 0 → insertions n i cs ds ≡ Some out → feeds out ≡ 0
+unfolding insertions
 inserted_clear n i cs [] out l h e = go (nat_lt 128 (length cs)) e
   where
     go : (b : Bool) → cond b None (Some cs) ≡ Some out → feeds out ≡ 0
@@ -135,7 +135,7 @@ puny_clear : (ascii ds cs : List ℕ) → feeds ascii ≡ 0 → puny ascii ds �
 unfolding puny
 puny_clear ascii ds cs h e = go (deltas (next_delta (length ascii) true 72) ds) e
   where
-    go : (o : Option (List ℕ)) → option_and_then (inserted 128 0 ascii) o ≡ Some cs → feeds cs ≡ 0
+    go : (o : Option (List ℕ)) → option_and_then (insertions 128 0 ascii) o ≡ Some cs → feeds cs ≡ 0
     go None e = absurd (none≢some e)
     go (Some ds) e = inserted_clear 128 0 ascii ds cs (omega arith) h e
 
@@ -156,18 +156,18 @@ name_clear a h k = go (is_empty a.punycode)
     go false = decoded (puny a.ascii a.punycode) refl
 
 -- the parts of an ABI
-hyphenated_clear : (part bs : List ℕ) → feeds part ≡ 0 → feeds bs ≡ 0 → AreClear (hyphenated part bs)
+hyphenated_clear : (part bs : List ℕ) → feeds part ≡ 0 → feeds bs ≡ 0 → AreClear (hyphenated_abi part bs)
 hyphenated_clear part [] h k = (h, tt)
 hyphenated_clear part (b ∷ bs) h k =
     let one : feeds (part ++ b ∷ []) ≡ 0 = omega (arith, h, feeds-append part (b ∷ []), feeds-other b [] (first_clear b bs k)) in
     go (b == code "_") (hyphenated_clear [] bs refl (rest_clear b bs k)) (hyphenated_clear (part ++ b ∷ []) bs one (rest_clear b bs k))
   where
-    go : (t : Bool) → AreClear (hyphenated [] bs) → AreClear (hyphenated (part ++ b ∷ []) bs) → AreClear (cond t (part ∷ codes "-" ∷ hyphenated [] bs) (hyphenated (part ++ b ∷ []) bs))
+    go : (t : Bool) → AreClear (hyphenated_abi [] bs) → AreClear (hyphenated_abi (part ++ b ∷ []) bs) → AreClear (cond t (part ∷ codes "-" ∷ hyphenated_abi [] bs) (hyphenated_abi (part ++ b ∷ []) bs))
     go true x y = (h, (refl, x))
     go false x y = y
 
 pub extern_clear : (abi : List ℕ) → feeds abi ≡ 0 → AreClear (extern abi)
-extern_clear abi h = (refl, clear_join (hyphenated [] abi) (codes "\" " ∷ []) (hyphenated_clear [] abi refl h) (refl, tt))
+extern_clear abi h = (refl, clear_join (hyphenated_abi [] abi) (codes "\" " ∷ []) (hyphenated_clear [] abi refl h) (refl, tt))
 
 -- Literals.
 

@@ -1,7 +1,7 @@
 //! The words of a v0 symbol that are numbers, letters and references.
 ghost use Rattle.std.specs.Prelude.{◌≡◌, ℕ, ◌+◌, ◌-◌, ◌*◌, ◌<◌, ◌≤◌, ◌^◌, length, true, false, Some, slice_get, IfOk, OnErr, IfErr, IfSome, IfNone, MatchOption};
 ghost use Rattle.std.specs.Result.{result_ok};
-ghost use Rattle.demangle_symbol.specs.Words.{byte_at, integer_at, optional_at, namespace_at, backref_at, Integer, OptInteger, Namespace, Backref, behind, is_digit_62, digit_62};
+ghost use Rattle.demangle_symbol.specs.Words.{byte_at, integer_at, optional_at, namespace_at, backref_at, Integer, OptInteger, Namespace, Backref, behind_byte, is_digit_62, digit_62};
 ghost use Rattle.demangle_symbol.specs.Digits.{run_end};
 ghost use Rattle.demangle_symbol.specs.Idents.{backref_answer};
 ghost use Rattle.demangle_symbol.specs.Integers.{Digit62};
@@ -209,7 +209,7 @@ impl<'s> Symbol<'s> {
 
     /// The place behind an optional byte. It is one look.
     pub fn skip(&self, byte: u8, place: usize, looks: &mut Looks) -> usize
-        ensures place { result ≡ behind byte self.now place }
+        ensures place { result ≡ behind_byte byte self.now place }
         ensures within { place ≤ length self.now → result ≤ length self.now }
         ensures look { looks.new ≡ looks.old + 1 }
         ensures fits { length self.now < 2 ^ 64 }

@@ -1,7 +1,7 @@
 use Rattle.std.proofs.Common.{◌≡◌, true, false, length, ap, sym, refl, arith, Some, None, Option, ℕ}
 use Rattle.std.specs.Prelude.{IsAscii}
 use Rattle.std.proofs.lemmas.Bool.{false≢true}
-use Rattle.demangle_v0.specs.Reading.{goes_on_at, suffix_of}
+use Rattle.demangle_v0.specs.Reading.{goes_on_at, suffix_place}
 use Rattle.demangle_v0.proofs.LooksLaw.{accepting_costs}
 use Rattle.demangle_v0.proofs.V0Reading.{v0_no_prefix, v0_not_ascii, v0_not_begun, v0_no_paths, v0_there, suffix_within}
 use Rattle.demangle_v0.proofs.demangle.Goals as goal
@@ -23,7 +23,7 @@ pub returns-in_default-suffix_at-clause-err : goal.returns-in_default-suffix_at-
 returns-in_default-suffix_at-clause-err c =
     let ascii : IsAscii c.in-Some.inner.now = rw (← c.new-symbol.ensures) (c.if-not-is_ascii.ensures.ascii.0 refl) in
     let begun : true ≡ goes_on_at c.in-Some.inner.now 0 = rw (← c.new-symbol.ensures) c.if-not-begins_path.ensures.value in
-    let none : ◌≡◌ {A = Option ℕ} None (suffix_of c.in-Some.inner.now) = rw (← c.new-symbol.ensures) c.in_default-suffix_at.ensures.value in
+    let none : ◌≡◌ {A = Option ℕ} None (suffix_place c.in-Some.inner.now) = rw (← c.new-symbol.ensures) c.in_default-suffix_at.ensures.value in
     v0_no_paths c.args.s.now c.in-Some.inner.now c.in-Some.ensures.inner ascii (sym begun) none
 
 pub returns-in_default-suffix_at-clause-most : goal.returns-in_default-suffix_at-clause-most
@@ -33,14 +33,14 @@ returns-in_default-suffix_at-clause-most c =
 pub range_from-requires : goal.range_from-requires
 range_from-requires c =
     let ascii : IsAscii c.in-Some.inner.now = rw (← c.new-symbol.ensures) (c.if-not-is_ascii.ensures.ascii.0 refl) in
-    let place : Some c.in-Some-suffix_at.end ≡ suffix_of c.in-Some.inner.now = rw (← c.new-symbol.ensures) c.in-Some-suffix_at.ensures.value in
+    let place : Some c.in-Some-suffix_at.end ≡ suffix_place c.in-Some.inner.now = rw (← c.new-symbol.ensures) c.in-Some-suffix_at.ensures.value in
     λ _. (suffix_within c.in-Some.inner.now c.in-Some-suffix_at.end place, λ _ high. absurd (omega (arith, high, ascii c.in-Some-suffix_at.end)))
 
 pub returns-clause-ok : goal.returns-clause-ok
 returns-clause-ok c =
     let ascii : IsAscii c.in-Some.inner.now = rw (← c.new-symbol.ensures) (c.if-not-is_ascii.ensures.ascii.0 refl) in
     let begun : true ≡ goes_on_at c.in-Some.inner.now 0 = rw (← c.new-symbol.ensures) c.if-not-begins_path.ensures.value in
-    let place : Some c.in-Some-suffix_at.end ≡ suffix_of c.in-Some.inner.now = rw (← c.new-symbol.ensures) c.in-Some-suffix_at.ensures.value in
+    let place : Some c.in-Some-suffix_at.end ≡ suffix_place c.in-Some.inner.now = rw (← c.new-symbol.ensures) c.in-Some-suffix_at.ensures.value in
     rw (c.new.ensures, c.new-symbol.ensures, c.range_from.ensures.value)
     (v0_there c.args.s.now c.in-Some.inner.now c.in-Some-suffix_at.end c.in-Some.ensures.inner ascii (sym begun) place)
 

@@ -130,7 +130,7 @@ pub(super) fn number<V: Voice>(
 
 /// A constant that is more than a literal stands in braces, but in value position.
 #[inline(always)]
-fn braced<const N: usize>(constant: Point, state: &mut State, row: &mut FrameStack<N>) -> Point
+fn in_braces<const N: usize>(constant: Point, state: &mut State, row: &mut FrameStack<N>) -> Point
     requires room { length row.old < N }
     requires unmarked { state.old.mark ≡ None }
     requires fits { Fits Point.Constant state.old.depth_left state.old.lifetimes }
@@ -205,13 +205,13 @@ fn shared_reference<V: Voice, const N: usize>(
     ensures grows { looks.old ≤ looks.new }
 {
     let Some(at) = state.place else {
-        return Ok(braced(Point::ReferenceConstant, state, row));
+        return Ok(in_braces(Point::ReferenceConstant, state, row));
     };
     if symbol.is_at(b'e', at, looks) {
         state.place = Some(at + 1);
         return literal(symbol, plain, state, voice, looks);
     }
-    Ok(braced(Point::ReferenceConstant, state, row))
+    Ok(in_braces(Point::ReferenceConstant, state, row))
 }
 
 /// The path of a variant, behind its `V`.
@@ -272,11 +272,11 @@ fn tagged_constant<V: Voice, const N: usize>(
         ConstantKind::Signed => signed_number(symbol, tag, plain, state, voice, looks),
         ConstantKind::Bool => last_word(symbol, Word::Truth, plain, state, voice, looks),
         ConstantKind::Char => last_word(symbol, Word::Character, plain, state, voice, looks),
-        ConstantKind::Text => Ok(braced(Point::TextConstant, state, row)),
+        ConstantKind::Text => Ok(in_braces(Point::TextConstant, state, row)),
         ConstantKind::Shared => shared_reference(symbol, plain, state, row, voice, looks),
-        ConstantKind::Mutable => Ok(braced(Point::MutReferenceConstant, state, row)),
-        ConstantKind::Array => Ok(braced(Point::ArrayConstant, state, row)),
-        ConstantKind::Tuple => Ok(braced(Point::TupleConstant, state, row)),
+        ConstantKind::Mutable => Ok(in_braces(Point::MutReferenceConstant, state, row)),
+        ConstantKind::Array => Ok(in_braces(Point::ArrayConstant, state, row)),
+        ConstantKind::Tuple => Ok(in_braces(Point::TupleConstant, state, row)),
         ConstantKind::Variant => Ok(variant_path::<V, N>(state, row)),
         ConstantKind::Reference => follow(symbol, Point::Constant, state, row, voice, looks),
     }

@@ -1,7 +1,7 @@
 //! The points of dyn types.
 ghost use Rattle.std.specs.Prelude.{◌≡◌, ℕ, ◌+◌, ◌-◌, ◌*◌, ◌<◌, ◌≤◌, List, Bool, Some, None, Ok, Err, IsOk, IsAscii, length, true, false, if◌then◌else◌};
 ghost use Rattle.demangle_v0.specs.Events.{of};
-ghost use Rattle.demangle_v0.specs.Points.{Did, DidOn, Fits, around, closing};
+ghost use Rattle.demangle_v0.specs.Points.{Did, DidOn, Fits, around, none_open};
 ghost use Rattle.demangle_v0.specs.Reading.{run};
 ghost use Rattle.demangle_v0.specs.DynTraits.{dyn_type};
 
@@ -24,7 +24,7 @@ pub(super) fn dyn_type<V: Voice, const N: usize>(
 ) -> Point
     requires room { length row.old < N }
     requires fits { Fits Point.DynBinder state.old.depth_left state.old.lifetimes }
-    ensures did { (plain : Bool) (v : V) → DidOn V.Voice symbol.now plain (closing (of plain V.loud
+    ensures did { (plain : Bool) (v : V) → DidOn V.Voice symbol.now plain (none_open (of plain V.loud
         (run dyn_type (around symbol.now V.loud state.old.depth_left state.old.lifetimes)
         state.old.place))) 4 (8 * state.old.depth_left + 5) row.old v (Ok result) state.new row.new
         v 0 }

@@ -1,6 +1,6 @@
 //! The frames that stand behind a child, and their row.
 ghost use Rattle.std.specs.Prelude.{◌≡◌, ◌^◌, ◌+◌, ◌<◌, ◌≤◌, [], ◌∷◌, ◌++◌, length, take, IfSome, IfNone};
-ghost use Rattle.demangle_v0.specs.Packing.{unpacked};
+ghost use Rattle.demangle_v0.specs.Packing.{packed_frame};
 
 use crate::points::Point;
 use std::marker::Model;
@@ -48,7 +48,7 @@ const EMPTY: Packed = Packed {
 
 #[inline(always)]
 fn pack(frame: Frame) -> Packed
-    ensures { frame.number < 2 ^ 80 → unpacked result ≡ frame }
+    ensures { frame.number < 2 ^ 80 → packed_frame result ≡ frame }
 {
     Packed {
         low: (frame.number % TWO_64) as u64,
@@ -62,7 +62,7 @@ fn pack(frame: Frame) -> Packed
 
 #[inline(always)]
 fn unpack(packed: Packed) -> Frame
-    ensures { result ≡ unpacked packed }
+    ensures { result ≡ packed_frame packed }
 {
     Frame {
         point: packed.point,
@@ -95,11 +95,11 @@ pub struct FrameStack<const N: usize> {
 impl<const N: usize> Model for FrameStack<N> {
     ghost use Rattle.std.specs.Prelude.{◌≡◌, ◌≤◌, List, length, map, take};
     ghost use Rattle.demangle_v0.specs.declared.points.frames.Frame.{Frame};
-    ghost use Rattle.demangle_v0.specs.Packing.{unpacked};
+    ghost use Rattle.demangle_v0.specs.Packing.{packed_frame};
 
     ghost Value = { List Frame };
 
-    ghost view = { λ row. map unpacked (take row.len row.places.frames) };
+    ghost view = { λ row. map packed_frame (take row.len row.places.frames) };
 
     ghost invariant = { λ row. (row.len ≤ N) × (length row.places.frames ≡ N) };
 }

@@ -2,7 +2,7 @@
 ghost use Rattle.std.specs.Prelude.{◌≡◌, ℕ, ◌+◌, ◌-◌, ◌*◌, ◌<◌, ◌≤◌, false, None, Ok, Err, length, Bool, List};
 ghost use Rattle.demangle_v0.specs.Events.{of};
 ghost use Rattle.demangle_v0.specs.Impls.{impl_items, skip_point, self_point};
-ghost use Rattle.demangle_v0.specs.Points.{Did, DidOn, Fits, around, closing};
+ghost use Rattle.demangle_v0.specs.Points.{Did, DidOn, Fits, around, none_open};
 ghost use Rattle.demangle_v0.specs.Reading.{run};
 
 use crate::grammar::Mark;
@@ -22,7 +22,7 @@ pub(super) fn impl_path<V: Voice>(
     requires unmarked { state.old.mark ≡ None }
     requires fits { Fits Point.Path state.old.depth_left state.old.lifetimes }
     ensures did { (plain : Bool) (v : V) (row : List Frame) → DidOn V.Voice symbol.now plain
-        (closing (of plain V.loud (run (impl_items of_trait) (around symbol.now V.loud
+        (none_open (of plain V.loud (run (impl_items of_trait) (around symbol.now V.loud
         state.old.depth_left state.old.lifetimes) state.old.place))) 1 (8 * state.old.depth_left +
         2) row v result state.new row v (looks.new - looks.old) }
     ensures grows { looks.old ≤ looks.new }

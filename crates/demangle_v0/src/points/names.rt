@@ -1,6 +1,6 @@
 //! The names of paths.
 ghost use Rattle.std.specs.Prelude.{true, ◌≡◌, ◌-◌, ◌≤◌, None, Err, IsOk, List, IsAscii};
-ghost use Rattle.demangle_v0.specs.Points.{Did, DidOn, around, closing};
+ghost use Rattle.demangle_v0.specs.Points.{Did, DidOn, around, none_open};
 ghost use Rattle.demangle_v0.specs.Events.{of};
 ghost use Rattle.demangle_v0.specs.Table.{path};
 ghost use Rattle.demangle_v0.specs.Reading.{run};
@@ -25,7 +25,7 @@ pub(super) fn crate_name<V: Voice>(
     requires ascii { V.loud ≡ true → IsAscii symbol.now }
     requires ready { V.ready voice.old }
     requires unmarked { state.old.mark ≡ None }
-    ensures did { (row : List Frame) → DidOn V.Voice symbol.now plain (closing (of plain V.loud (run
+    ensures did { (row : List Frame) → DidOn V.Voice symbol.now plain (none_open (of plain V.loud (run
         (path state.old.in_value 67) (around symbol.now V.loud state.old.depth_left
         state.old.lifetimes) state.old.place))) 1 0 row voice.old result state.new row voice.new
         (looks.new - looks.old) }

@@ -1,6 +1,6 @@
 //! The points of paths.
 ghost use Rattle.std.specs.Prelude.{true, ◌≡◌, ◌==◌, ◌*◌, ◌+◌, ◌-◌, ◌<◌, ◌≤◌, ◌++◌, [], ◌∷◌, Some, None, Ok, Err, IsOk, length, IsAscii, Bool};
-ghost use Rattle.demangle_v0.specs.Points.{Did, DidOn, around, closing, Fits};
+ghost use Rattle.demangle_v0.specs.Points.{Did, DidOn, around, none_open, Fits};
 ghost use Rattle.demangle_v0.specs.PointRuns.{first_looks};
 ghost use Rattle.demangle_v0.specs.Events.{of};
 ghost use Rattle.demangle_v0.specs.Table.{path};
@@ -18,7 +18,7 @@ use demangle_symbol::cursor::{Looks, Symbol};
 
 /// A path of names, behind its `N`.
 #[inline(always)]
-fn nested<V: Voice, const N: usize>(
+fn nested_path<V: Voice, const N: usize>(
     symbol: &Symbol<'_>,
     state: &mut State,
     row: &mut FrameStack<N>,
@@ -27,7 +27,7 @@ fn nested<V: Voice, const N: usize>(
     requires room { length row.old < N }
     requires unmarked { state.old.mark ≡ None }
     requires fits { Fits Point.Nested state.old.depth_left state.old.lifetimes }
-    ensures did { (plain : Bool) (v : V) → DidOn V.Voice symbol.now plain (closing (of plain V.loud
+    ensures did { (plain : Bool) (v : V) → DidOn V.Voice symbol.now plain (none_open (of plain V.loud
         (run (path state.old.in_value 78) (around symbol.now V.loud state.old.depth_left
         state.old.lifetimes) state.old.place))) 1 (8 * state.old.depth_left + 9) row.old v result
         state.new row.new v (looks.new - looks.old) }
@@ -81,7 +81,7 @@ fn tagged_path<V: Voice, const N: usize>(
     requires unmarked { state.old.mark ≡ None }
     requires room { length row.old < N }
     requires fits { Fits Point.Path state.old.depth_left state.old.lifetimes }
-    ensures did { DidOn V.Voice symbol.now plain (closing (of plain V.loud (run (path
+    ensures did { DidOn V.Voice symbol.now plain (none_open (of plain V.loud (run (path
         state.old.in_value tag) (around symbol.now V.loud state.old.depth_left state.old.lifetimes)
         state.old.place))) 7 (8 * state.old.depth_left + 9) row.old voice.old result state.new
         row.new voice.new (looks.new - looks.old) }
@@ -94,7 +94,7 @@ fn tagged_path<V: Voice, const N: usize>(
     };
     match kind {
         PathKind::CrateRoot => crate_name(symbol, plain, state, voice, looks),
-        PathKind::Nested => nested::<V, N>(symbol, state, row, looks),
+        PathKind::Nested => nested_path::<V, N>(symbol, state, row, looks),
         PathKind::Generic => Ok(generic_path(state, row)),
         PathKind::Reference => follow(symbol, Point::Path, state, row, voice, looks),
         PathKind::InherentImpl => impl_path::<V>(symbol, false, state, looks),

@@ -4,7 +4,7 @@ ghost use Rattle.demangle_v0.specs.Events.{of};
 ghost use Rattle.demangle_v0.specs.Items.{Kind, target};
 ghost use Rattle.demangle_v0.specs.Points.{Did, DidOn, Fits, around};
 ghost use Rattle.demangle_v0.specs.Reading.{run};
-ghost use Rattle.demangle_v0.specs.References.{IsUnit, shutting};
+ghost use Rattle.demangle_v0.specs.References.{IsUnit, none_open_if};
 
 use crate::points::frames::{Frame, FrameStack};
 use crate::points::voice::Voice;
@@ -27,7 +27,7 @@ pub(super) fn follow<V: Voice, const N: usize>(
     requires fits { Fits Point.Path state.old.depth_left state.old.lifetimes }
     ensures did { (plain : Bool) (v : V) (shut : Bool) (k : Kind) (value : Bool) → IsUnit symbol.now
         plain unit state.old.in_value state.old.letter state.old.lifetimes shut k value → DidOn
-        V.Voice symbol.now plain (shutting shut (of plain V.loud (run (target k value) (around
+        V.Voice symbol.now plain (none_open_if shut (of plain V.loud (run (target k value) (around
         symbol.now V.loud state.old.depth_left state.old.lifetimes) state.old.place))) 1 (8 *
         state.old.depth_left + 2) row.old v result state.new row.new v (looks.new - looks.old) }
     ensures grows { looks.old ≤ looks.new }

@@ -1,7 +1,7 @@
 //! The own path of an impl, which is read and not printed.
 ghost use Rattle.std.specs.Prelude.{◌≡◌, ℕ, ◌+◌, ◌-◌, ◌<◌, ◌≤◌, Bool, List, [], length, IfSome, IfNone};
 ghost use Rattle.demangle_v0.specs.Impls.{skip_point, self_point, is_skip};
-ghost use Rattle.demangle_v0.specs.PointRuns.{Valid, Reads, Skipped, own_path, placed, silent_of};
+ghost use Rattle.demangle_v0.specs.PointRuns.{Valid, Reads, Skipped, own_path, state_at, silent_of};
 ghost use Rattle.demangle_v0.specs.declared.points.frames.Frame.{Frame};
 
 use crate::points::frames::FrameStack;
@@ -60,7 +60,7 @@ impl Reading {
     #[inline(always)]
     fn go_behind(&mut self, place: Option<usize>)
         ensures point { (q : Bool) → self.old.point ≡ skip_point q → self.new.point ≡ self_point q }
-        ensures state { self.new.state ≡ placed self.old.state place }
+        ensures state { self.new.state ≡ state_at self.old.state place }
     {
         self.point = behind_skip(self.point);
         self.state.place = place;

@@ -3,7 +3,7 @@ ghost use Rattle.std.specs.Prelude.{if◌then◌else◌, IsTrue, ◌≡◌, ℕ,
 ghost use Rattle.demangle_symbol.specs.Digits.{is_byte};
 ghost use Rattle.demangle_v0.specs.Events.{of};
 ghost use Rattle.demangle_v0.specs.declared.points.frames.Frame.{Frame};
-ghost use Rattle.demangle_v0.specs.Points.{Did, DidOn, around, closing, Fits, frame_of};
+ghost use Rattle.demangle_v0.specs.Points.{Did, DidOn, around, none_open, Fits, frame_of};
 ghost use Rattle.demangle_v0.specs.Reading.{run};
 ghost use Rattle.demangle_v0.specs.Tags.{type_of};
 
@@ -137,7 +137,7 @@ fn constructed_type<V: Voice, const N: usize>(
     requires unmarked { state.old.mark ≡ None }
     requires room { length row.old < N }
     requires fits { Fits Point.FunctionBinder state.old.depth_left state.old.lifetimes }
-    ensures did { DidOn V.Voice symbol.now plain (closing (of plain V.loud (run (type_of kind)
+    ensures did { DidOn V.Voice symbol.now plain (none_open (of plain V.loud (run (type_of kind)
         (around symbol.now V.loud state.old.depth_left state.old.lifetimes) state.old.place))) 50 (8
         * state.old.depth_left + 9) row.old voice.old result state.new row.new voice.new (looks.new
         - looks.old) }

@@ -4,7 +4,7 @@ ghost use Rattle.demangle_v0.specs.Groups.{abi_texts};
 ghost use Rattle.demangle_sink.specs.Limit.{Prints, Ready};
 ghost use Rattle.demangle_v0.specs.Serving.{AbiIn, PartIn};
 ghost use Rattle.demangle_v0.specs.Stretches.{abi_looks, head_texts};
-ghost use Rattle.demangle_v0.specs.Table.{extern, hyphenated};
+ghost use Rattle.demangle_v0.specs.Table.{extern, hyphenated_abi};
 
 use crate::stretch::Abi;
 use demangle_sink::{SinkRefused, SizeLimitedFmtAdapter, TextSink, put_each};
@@ -38,7 +38,7 @@ fn put_abi_name<S: TextSink>(
     requires ascii { IsAscii symbol.now }
     requires part { PartIn symbol.now name }
     requires ready { Ready S.TextSink out.old }
-    ensures prints { Prints S.TextSink out.old (hyphenated [] (slice_range symbol.now name.from
+    ensures prints { Prints S.TextSink out.old (hyphenated_abi [] (slice_range symbol.now name.from
         name.to)) result out.new }
     ensures grows { looks.old ≤ looks.new }
     ensures most { looks.new ≤ looks.old + (name.to - name.from) }

@@ -2,7 +2,7 @@
 ghost use Rattle.std.specs.Prelude.{◌≡◌, ℕ, ◌+◌, ◌-◌, ◌≤◌, Some, List};
 ghost use Rattle.demangle_v0.specs.Totals.{total};
 ghost use Rattle.demangle_v0.specs.Serving.{LiesIn};
-ghost use Rattle.demangle_v0.specs.Groups.{read_stretch, looks_later, checked, lifetime_group, optional_group, dyn_group};
+ghost use Rattle.demangle_v0.specs.Groups.{read_stretch, looks_later, if_in_force, lifetime_group, optional_group, dyn_group};
 
 use crate::stretch::Stretch;
 use crate::words::{WordRead, faulty, goes};
@@ -10,7 +10,7 @@ use demangle_symbol::cursor::{Looks, Symbol};
 
 /// A lifetime of an index above 0, which is checked where it is printed.
 #[inline(always)]
-fn checked(
+fn if_in_force(
     output: bool,
     lifetimes: u128,
     index: u64,
@@ -18,7 +18,7 @@ fn checked(
     named: Stretch,
     fault: Stretch,
 ) -> WordRead
-    ensures value { result ≡ (checked output lifetimes index next named fault).reads }
+    ensures value { result ≡ (if_in_force output lifetimes index next named fault).reads }
     ensures lies { (b : List ℕ) → LiesIn b named → LiesIn b fault → LiesIn b (read_stretch result) }
 {
     if !output {
@@ -52,7 +52,7 @@ pub(super) fn read_lifetime(
     }
     let number = lifetimes.saturating_sub(u128::from(index));
     let named = Stretch::Lifetime(Some(number));
-    checked(
+    if_in_force(
         output,
         lifetimes,
         index,
@@ -87,7 +87,7 @@ pub(super) fn read_dyn(
     }
     let number = lifetimes.saturating_sub(u128::from(index));
     let named = Stretch::DynLifetime(number);
-    checked(
+    if_in_force(
         output,
         lifetimes,
         index,

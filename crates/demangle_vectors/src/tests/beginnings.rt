@@ -49,7 +49,7 @@ const WRITTEN: [(bool, u64); 2] = [
 ];
 
 /// What the stream writes for a text.
-fn copied(alloc: Global, text: &str, include_hash: bool) -> Result<Vec<u8>, Fail> {
+fn filter_text(alloc: Global, text: &str, include_hash: bool) -> Result<Vec<u8>, Fail> {
     let mut input = text.as_bytes();
     let mut output = Vec::new(alloc);
     demangle_stream(alloc, &mut input, &mut output, include_hash)?;
@@ -83,7 +83,7 @@ fn the_stream_writes_for_each_beginning_what_the_crate_writes(rt: HostRuntime) -
             let text = text.as_str();
             for len in 0..=text.len() {
                 if let Some(beginning) = text.get(..len) {
-                    let output = copied(alloc, beginning, include_hash)?;
+                    let output = filter_text(alloc, beginning, include_hash)?;
                     digest = digest_of(digest_of(digest, output.as_slice()), b"\n");
                 }
             }

@@ -1,6 +1,5 @@
 //! Faults of readers and writers: the caller meets their kind and text, and nothing is written
 //! behind one.
-use super::repeated;
 use rustc_demangle::sink::{TextSink, WriteSink};
 use rustc_demangle::{StreamFault, demangle, demangle_stream, demangle_stream_named};
 use std::alloc::{AllocError, Global};
@@ -240,8 +239,8 @@ fn nothing_is_written_behind_the_first_fault(rt: HostRuntime) -> Result<(), Fail
 #[test]
 fn a_hundred_thousand_lines_are_copied(rt: HostRuntime) -> Result<(), Fail> {
     let alloc = rt.alloc();
-    let text = repeated(alloc, "x _ZN3fooE\n", 100_000)?;
-    let wanted = repeated(alloc, "x foo\n", 100_000)?;
+    let text = "x _ZN3fooE\n".repeat(alloc, 100_000)?;
+    let wanted = "x foo\n".repeat(alloc, 100_000)?;
     let mut input = text.as_str().as_bytes();
     let mut output = Vec::new(alloc);
     demangle_stream(alloc, &mut input, &mut output, true)?;
@@ -252,8 +251,8 @@ fn a_hundred_thousand_lines_are_copied(rt: HostRuntime) -> Result<(), Fail> {
 #[test]
 fn a_line_comes_in_ten_thousand_parts(rt: HostRuntime) -> Result<(), Fail> {
     let alloc = rt.alloc();
-    let text = repeated(alloc, "x _ZN3fooE, ", 1_000)?;
-    let wanted = repeated(alloc, "x foo, ", 1_000)?;
+    let text = "x _ZN3fooE, ".repeat(alloc, 1_000)?;
+    let wanted = "x foo, ".repeat(alloc, 1_000)?;
     let mut input = PartedReader {
         text: text.as_str().as_bytes(),
         part: 1,

@@ -1,5 +1,5 @@
 //! Symbols that are meant to do harm.
-use super::{assert_prints, assert_refused, printed, repeated};
+use super::{assert_prints, assert_refused, print_symbol};
 use std::test::Fail;
 
 #[test]
@@ -26,12 +26,12 @@ fn control_characters_are_kept(rt: HostRuntime) {
 #[test]
 fn a_million_elements_print_up_to_the_limit(rt: HostRuntime) -> Result<(), Fail> {
     let alloc = rt.alloc();
-    let elements = repeated(alloc, "1a", 1_000_000)?;
+    let elements = "1a".repeat(alloc, 1_000_000)?;
     let symbol = format!(in alloc; "_ZN{}E", elements.as_str())?;
-    let path = repeated(alloc, "::a", 333_333)?;
+    let path = "::a".repeat(alloc, 333_333)?;
     let wanted = format!(in alloc; "a{}{{size limit reached}}", path.as_str())?;
     for include_hash in [true, false] {
-        let text = printed(alloc, symbol.as_str(), include_hash)?;
+        let text = print_symbol(alloc, symbol.as_str(), include_hash)?;
         assert!(rt; text.as_slice() == wanted.as_bytes());
     }
     Ok(())
@@ -46,10 +46,10 @@ fn a_million_special_characters_print_as_they_should(rt: HostRuntime) -> Result<
         (1_000_000, "..", 500_000, "::"),
         (999_999, "$C$", 333_333, ","),
     ] {
-        let element = repeated(alloc, unit, count)?;
+        let element = unit.repeat(alloc, count)?;
         let symbol = format!(in alloc; "_ZN{len}{}E", element.as_str())?;
-        let wanted = repeated(alloc, printed_unit, count)?;
-        let text = printed(alloc, symbol.as_str(), true)?;
+        let wanted = printed_unit.repeat(alloc, count)?;
+        let text = print_symbol(alloc, symbol.as_str(), true)?;
         assert!(rt; text.as_slice() == wanted.as_bytes(), "of {unit}");
     }
     Ok(())
@@ -58,14 +58,14 @@ fn a_million_special_characters_print_as_they_should(rt: HostRuntime) -> Result<
 #[test]
 fn a_million_zeros_are_one_length(rt: HostRuntime) -> Result<(), Fail> {
     let alloc = rt.alloc();
-    let zeros = repeated(alloc, "0", 1_000_000)?;
+    let zeros = "0".repeat(alloc, 1_000_000)?;
     let zeros = zeros.as_str();
     let named = format!(in alloc; "_ZN{zeros}1aE")?;
     assert_eq!(rt;
-        printed(alloc, named.as_str(), true)?.as_slice(),
+        print_symbol(alloc, named.as_str(), true)?.as_slice(),
         b"a".as_slice()
     );
     let empty = format!(in alloc; "_ZN{zeros}E")?;
-    assert!(rt; printed(alloc, empty.as_str(), true)?.is_empty());
+    assert!(rt; print_symbol(alloc, empty.as_str(), true)?.is_empty());
     Ok(())
 }

@@ -1,5 +1,5 @@
 //! Symbols under a limit.
-use super::{assert_prints_long, repeated};
+use super::assert_prints_long;
 use rustc_demangle::sink::{ArraySink, TextSink};
 use rustc_demangle::{Looks, demangle};
 use std::test::Fail;
@@ -74,7 +74,7 @@ fn a_hash_that_is_left_out_counts_nothing(rt: HostRuntime) {
 #[test]
 fn a_million_bytes_are_printed_and_no_more(rt: HostRuntime) -> Result<(), Fail> {
     let alloc = rt.alloc();
-    let million = repeated(alloc, "a", 1_000_000)?;
+    let million = "a".repeat(alloc, 1_000_000)?;
     let million = million.as_str();
     let full = format!(in alloc; "_ZN1000000{million}E")?;
     let longer = format!(in alloc; "_ZN1000001a{million}E")?;
@@ -89,7 +89,7 @@ fn a_million_bytes_are_printed_and_no_more(rt: HostRuntime) -> Result<(), Fail> 
 #[test]
 fn the_marker_is_one_piece(rt: HostRuntime) -> Result<(), Fail> {
     let alloc = rt.alloc();
-    let million = repeated(alloc, "a", 1_000_000)?;
+    let million = "a".repeat(alloc, 1_000_000)?;
     let million = million.as_str();
     let longer = format!(in alloc; "_ZN1000001a{million}E")?;
     let symbol = demangle(longer.as_str());

@@ -1,5 +1,5 @@
 //! Symbols of the v0 scheme at their limits: depth, the length of a name, and how much is printed.
-use super::{assert_prints, assert_prints_long, assert_refused, filled, printed, repeated};
+use super::{assert_prints, assert_prints_long, assert_refused, print_symbol, repeat_between};
 use rustc_demangle::sink::WriteSink;
 use rustc_demangle::{demangle, try_demangle};
 use std::alloc::{AllocError, Global};
@@ -12,10 +12,10 @@ const TOO_DEEP: &str = "{recursion limit reached}";
 #[test]
 fn types_stand_up_to_500_deep(rt: HostRuntime) -> Result<(), Fail> {
     let alloc = rt.alloc();
-    let deep = filled(alloc, "_RMC0", "R", 499, "u")?;
-    let text = filled(alloc, "<", "&", 499, "()>")?;
+    let deep = repeat_between(alloc, "_RMC0", "R", 499, "u")?;
+    let text = repeat_between(alloc, "<", "&", 499, "()>")?;
     assert_prints(&rt, deep.as_str(), text.as_str(), text.as_str());
-    let deeper = filled(alloc, "_RMC0", "R", 500, "u")?;
+    let deeper = repeat_between(alloc, "_RMC0", "R", 500, "u")?;
     assert_refused(&rt, deeper.as_str(), deeper.as_str());
     Ok(())
 }
@@ -23,12 +23,12 @@ fn types_stand_up_to_500_deep(rt: HostRuntime) -> Result<(), Fail> {
 #[test]
 fn paths_stand_up_to_500_deep(rt: HostRuntime) -> Result<(), Fail> {
     let alloc = rt.alloc();
-    let names = repeated(alloc, "1b", 499)?;
-    let deep = filled(alloc, "_R", "Nv", 499, "C1a")?;
+    let names = "1b".repeat(alloc, 499)?;
+    let deep = repeat_between(alloc, "_R", "Nv", 499, "C1a")?;
     let deep = format!(in alloc; "{deep}{names}")?;
-    let text = filled(alloc, "a", "::b", 499, "")?;
+    let text = repeat_between(alloc, "a", "::b", 499, "")?;
     assert_prints(&rt, deep.as_str(), text.as_str(), text.as_str());
-    let deeper = filled(alloc, "_R", "Nv", 500, "C1a1b")?;
+    let deeper = repeat_between(alloc, "_R", "Nv", 500, "C1a1b")?;
     let deeper = format!(in alloc; "{deeper}{names}")?;
     assert_refused(&rt, deeper.as_str(), deeper.as_str());
     Ok(())
@@ -37,11 +37,11 @@ fn paths_stand_up_to_500_deep(rt: HostRuntime) -> Result<(), Fail> {
 #[test]
 fn constants_stand_up_to_500_deep(rt: HostRuntime) -> Result<(), Fail> {
     let alloc = rt.alloc();
-    let deep = filled(alloc, "_RIC0K", "R", 498, "h0_E")?;
-    let plain = filled(alloc, "::<{", "&", 498, "0u8}>")?;
-    let alt = filled(alloc, "::<{", "&", 498, "0}>")?;
+    let deep = repeat_between(alloc, "_RIC0K", "R", 498, "h0_E")?;
+    let plain = repeat_between(alloc, "::<{", "&", 498, "0u8}>")?;
+    let alt = repeat_between(alloc, "::<{", "&", 498, "0}>")?;
     assert_prints(&rt, deep.as_str(), plain.as_str(), alt.as_str());
-    let deeper = filled(alloc, "_RIC0K", "R", 499, "h0_E")?;
+    let deeper = repeat_between(alloc, "_RIC0K", "R", 499, "h0_E")?;
     assert_refused(&rt, deeper.as_str(), deeper.as_str());
     Ok(())
 }
@@ -49,11 +49,11 @@ fn constants_stand_up_to_500_deep(rt: HostRuntime) -> Result<(), Fail> {
 #[test]
 fn patterns_stand_up_to_500_deep(rt: HostRuntime) -> Result<(), Fail> {
     let alloc = rt.alloc();
-    let ends = repeated(alloc, "E", 498)?;
-    let deep = filled(alloc, "_RMC0Wm", "O", 498, "N")?;
+    let ends = "E".repeat(alloc, 498)?;
+    let deep = repeat_between(alloc, "_RMC0Wm", "O", 498, "N")?;
     let deep = format!(in alloc; "{deep}{ends}")?;
     assert_prints(&rt, deep.as_str(), "<u32 is !null>", "<u32 is !null>");
-    let deeper = filled(alloc, "_RMC0Wm", "O", 499, "NE")?;
+    let deeper = repeat_between(alloc, "_RMC0Wm", "O", 499, "NE")?;
     let deeper = format!(in alloc; "{deeper}{ends}")?;
     assert_refused(&rt, deeper.as_str(), deeper.as_str());
     Ok(())
@@ -63,8 +63,8 @@ fn patterns_stand_up_to_500_deep(rt: HostRuntime) -> Result<(), Fail> {
 fn depth_is_given_back(rt: HostRuntime) -> Result<(), Fail> {
     let alloc = rt.alloc();
     for (leaf, printed_leaf) in [("p", ", _"), ("Rp", ", &_"), ("C1x", ", x")] {
-        let symbol = filled(alloc, "_RIC0p", leaf, 1_000, "E")?;
-        let text = filled(alloc, "::<_", printed_leaf, 1_000, ">")?;
+        let symbol = repeat_between(alloc, "_RIC0p", leaf, 1_000, "E")?;
+        let text = repeat_between(alloc, "::<_", printed_leaf, 1_000, ">")?;
         assert_prints_long(&rt, alloc, symbol.as_str(), text.as_str())?;
     }
     Ok(())
@@ -74,10 +74,10 @@ fn depth_is_given_back(rt: HostRuntime) -> Result<(), Fail> {
 fn a_target_stands_one_deeper_than_its_reference(rt: HostRuntime) -> Result<(), Fail> {
     let alloc = rt.alloc();
     let head = format!(in alloc; "{TOO_DEEP}::?")?;
-    let text = filled(alloc, head.as_str(), "::a", 166, "")?;
+    let text = repeat_between(alloc, head.as_str(), "::a", 166, "")?;
     assert_prints_long(&rt, alloc, "_RNvB_1a", text.as_str())?;
     let end = format!(in alloc; "{TOO_DEEP}>")?;
-    let text = filled(alloc, "<", "&", 167, end.as_str())?;
+    let text = repeat_between(alloc, "<", "&", 167, end.as_str())?;
     assert_prints_long(&rt, alloc, "_RMC0RB2_", text.as_str())?;
     Ok(())
 }
@@ -85,15 +85,15 @@ fn a_target_stands_one_deeper_than_its_reference(rt: HostRuntime) -> Result<(), 
 #[test]
 fn a_target_inside_a_long_name_meets_the_limit_of_depth(rt: HostRuntime) -> Result<(), Fail> {
     let alloc = rt.alloc();
-    let symbol = filled(alloc, "_RIC100000", "R", 100_000, "B7_E")?;
+    let symbol = repeat_between(alloc, "_RIC100000", "R", 100_000, "B7_E")?;
     let end = format!(in alloc; "{TOO_DEEP}>")?;
-    let arguments = filled(alloc, "::<", "&", 497, end.as_str())?;
-    let text = filled(alloc, "", "R", 100_000, arguments.as_str())?;
+    let arguments = repeat_between(alloc, "::<", "&", 497, end.as_str())?;
+    let text = repeat_between(alloc, "", "R", 100_000, arguments.as_str())?;
     assert_prints_long(&rt, alloc, symbol.as_str(), text.as_str())?;
-    let symbol = filled(alloc, "RIC20tRYIMYNRYFG05_EB5_B_B6_", "R", 100, "B_E")?;
+    let symbol = repeat_between(alloc, "RIC20tRYIMYNRYFG05_EB5_B_B6_", "R", 100, "B_E")?;
     assert!(rt; try_demangle(symbol.as_str()).is_ok());
     for include_hash in [true, false] {
-        let text = printed(alloc, symbol.as_str(), include_hash)?;
+        let text = print_symbol(alloc, symbol.as_str(), include_hash)?;
         let text = String::from_utf8_lossy(alloc, text.as_slice())?;
         assert!(rt; text.as_str().contains(TOO_DEEP));
     }
@@ -103,11 +103,11 @@ fn a_target_inside_a_long_name_meets_the_limit_of_depth(rt: HostRuntime) -> Resu
 #[test]
 fn a_decoded_name_has_up_to_128_characters(rt: HostRuntime) -> Result<(), Fail> {
     let alloc = rt.alloc();
-    let longest = filled(alloc, "_RCu131", "a", 127, "_ecn")?;
-    let text = filled(alloc, "", "a", 127, "ü")?;
+    let longest = repeat_between(alloc, "_RCu131", "a", 127, "_ecn")?;
+    let text = repeat_between(alloc, "", "a", 127, "ü")?;
     assert_prints(&rt, longest.as_str(), text.as_str(), text.as_str());
-    let longer = filled(alloc, "_RCu132", "a", 128, "_yfn")?;
-    let text = filled(alloc, "punycode{", "a", 128, "-yfn}")?;
+    let longer = repeat_between(alloc, "_RCu132", "a", 128, "_yfn")?;
+    let text = repeat_between(alloc, "punycode{", "a", 128, "-yfn}")?;
     assert_prints(&rt, longer.as_str(), text.as_str(), text.as_str());
     Ok(())
 }
@@ -155,7 +155,7 @@ fn lifetimes_are_printed_up_to_the_limit(rt: HostRuntime) -> Result<(), Fail> {
 /// second, too.
 fn pairs_symbol(alloc: Global, pairs: usize) -> Result<String, AllocError> {
     const DIGITS: &[u8] = b"0123456789abcdefghijklmnopqrstuvwxyz";
-    let mut symbol = filled(alloc, "_RMC0", "T", pairs, "p")?;
+    let mut symbol = repeat_between(alloc, "_RMC0", "T", pairs, "p")?;
     for pair in 0..pairs {
         let digit = pairs.saturating_add(2).saturating_sub(pair);
         let digit = char::from(DIGITS.get(digit).copied().unwrap_or(b'_'));
@@ -205,7 +205,7 @@ fn references_to_references_end_at_the_limit(rt: HostRuntime) -> Result<(), Fail
     let symbol = "RYFG_FGyyEvRYFF_EvRYFFEvERLB_B_B_ERLRjB_B_B_";
     assert!(rt; try_demangle(symbol).is_ok());
     for include_hash in [true, false] {
-        let text = printed(rt.alloc(), symbol, include_hash)?;
+        let text = print_symbol(rt.alloc(), symbol, include_hash)?;
         assert!(rt; text.ends_with(MARKER.as_bytes()));
     }
     Ok(())

@@ -1,6 +1,6 @@
 //! The vectors of the Rust crate's tests.
 use super::v0_constants::assert_constant;
-use super::{assert_prints, assert_refused, filled};
+use super::{assert_prints, assert_refused, repeat_between};
 use std::alloc::{AllocError, Global};
 use std::test::Fail;
 
@@ -248,9 +248,9 @@ pub fn texts(alloc: Global) -> Result<Vec<String>, AllocError> {
         texts.push(String::from_str(alloc, text)?)?;
     }
     for leaf in ["p", "Rp", "C1x"] {
-        texts.push(filled(alloc, "_RIC0p", leaf, 1_000, "E")?)?;
+        texts.push(repeat_between(alloc, "_RIC0p", leaf, 1_000, "E")?)?;
     }
-    texts.push(filled(alloc, "RIC20tRYIMYNRYFG05_EB5_B_B6_", "R", 100, "B_E")?)?;
+    texts.push(repeat_between(alloc, "RIC20tRYIMYNRYFG05_EB5_B_B6_", "R", 100, "B_E")?)?;
     Ok(texts)
 }
 

@@ -4,7 +4,7 @@ ghost use Rattle.demangle_v0.specs.Accepting.{accepting_looks};
 ghost use Rattle.demangle_v0.specs.Cost.{bytes_of, looks_of, Pays};
 ghost use Rattle.demangle_sink.specs.Cut.{size};
 ghost use Rattle.demangle_v0.specs.Items.{Items, Kind, a_path};
-ghost use Rattle.demangle_v0.specs.Reading.{Surroundings, max_depth, stretches, pieces, read_at, rendered, run};
+ghost use Rattle.demangle_v0.specs.Reading.{Surroundings, max_depth, stretches, pieces, read_at, path_texts, run};
 
 /// However large the tree of a symbol is, the looks up to a stretch, and for it, are bounded by the
 /// bytes that were handed over before it; and so for each unit, by the depths that are left to it.
@@ -22,7 +22,7 @@ pub fn printing_looks_stay_linear()
         ≤ 34 * (length symbol + 1) * (max_depth + 1 - depth) * (bytes_of (take k all) + 1) }
     ensures bytes { (symbol : List ℕ) (plain : Bool) →
         bytes_of (stretches plain (read_at symbol true a_path 0 0 0 true).tree)
-        ≡ size (rendered symbol plain) }
+        ≡ size (path_texts symbol plain) }
 {}
 
 /// Accepting a symbol takes at most 32 looks for each of its bytes, and 32 more.

@@ -2,7 +2,7 @@
 ghost use Rattle.std.specs.Prelude.{◌≡◌, ◌↔◌, ◌⊎◌, ℕ, ◌≤◌, Bool, true, false, List, length, Some, None};
 ghost use Rattle.demangle_v0.specs.Items.{Items, Kind};
 ghost use Rattle.demangle_v0.specs.Table.{items};
-ghost use Rattle.demangle_v0.specs.Reading.{IsWhole, max_depth, read_at, suffix_of};
+ghost use Rattle.demangle_v0.specs.Reading.{IsWhole, max_depth, read_at, suffix_place};
 ghost use Rattle.demangle_v0.specs.V0.{IsV0, v0_of};
 ghost use Rattle.demangle_v0.specs.Spelling.{Rule, freely, named, simple, Spells, IsPaths};
 
@@ -22,7 +22,7 @@ pub fn reading_accepts_what_is_spelled()
         depth ≤ max_depth → i ≤ length symbol →
         ((read_at symbol false kind i depth lifetimes value).place ≡ Some j)
         ↔ Spells symbol freely depth lifetimes (items kind value) i j }
-    ensures symbol { (inner : List ℕ) (k : ℕ) → (suffix_of inner ≡ Some k) ↔ IsPaths inner k }
+    ensures symbol { (inner : List ℕ) (k : ℕ) → (suffix_place inner ≡ Some k) ↔ IsPaths inner k }
     ensures whole { (symbol inner suffix : List ℕ) →
         (v0_of symbol ≡ Some (inner, suffix)) ↔ IsV0 symbol inner suffix }
 {}

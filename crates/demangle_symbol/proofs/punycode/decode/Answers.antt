@@ -4,7 +4,7 @@ use Rattle.std.specs.Prelude.{option_and_then}
 use lib.Utf8.{scalar}
 use Rattle.std.proofs.lemmas.Bool.{eqb-true, eqb-false}
 use Rattle.std.proofs.lemmas.List.Edits.{length-between}
-use Rattle.demangle_symbol.specs.Punycode.{deltas, next_delta, inserted}
+use Rattle.demangle_symbol.specs.Punycode.{deltas, next_delta, insertions}
 use Rattle.demangle_sink.proofs.Parts.{part_none}
 use Rattle.demangle_symbol.proofs.Inserting.{deltas_done, inserted_end, puny_long, puny_whole, then_none, then_too_large, then_turn, scalar_below}
 use Rattle.demangle_symbol.proofs.punycode.decode.Goals as goal
@@ -29,7 +29,7 @@ loop-at-init c =
       short = omega (arith, c.in-Some.ensures.few);
       here = omega arith;
       scalar = omega arith;
-      rest = ap (λ cs. option_and_then (inserted 128 0 cs) (deltas (next_delta (length cs) true 72) ds)) e ∙ puny_whole (slice_range s a.from a.to) ds;
+      rest = ap (λ cs. option_and_then (insertions 128 0 cs) (deltas (next_delta (length cs) true 72) ds)) e ∙ puny_whole (slice_range s a.from a.to) ds;
       grows = c.in-Some.ensures.grows;
       looked = omega (arith, c.in-Some.ensures.looks);
     }
@@ -44,7 +44,7 @@ returns-then-is_full-clause-characters c =
     let l = c.loop-at in
     let cs = l.characters.items in
     let full : length cs ≡ 128 = eqb-true _ _ (sym c.if-is_full.ensures.value) in
-    sym (sym l.invariant.rest ∙ ap (option_and_then (inserted l.n l.i cs)) (c.in-Some-delta_at.ensures.some (length cs) l.first) ∙ then_none l.n l.i cs c.in-Some-delta_at.delta _ (inr (omega arith)))
+    sym (sym l.invariant.rest ∙ ap (option_and_then (insertions l.n l.i cs)) (c.in-Some-delta_at.ensures.some (length cs) l.first) ∙ then_none l.n l.i cs c.in-Some-delta_at.delta _ (inr (omega arith)))
 
 not_true : (b : Bool) → (b ≡ true → ⊥) → b ≡ false
 not_true true h = absurd (h refl)
@@ -56,7 +56,7 @@ returns-in_default-from_u32-clause-characters c =
     let cs = l.characters.items in
     let no : scalar (l.n + (l.i + c.in-Some-delta_at.delta) / (length cs + 1)) ≡ false =
     not_true _ (λ h. c.in_default-from_u32.ensures.value (ap (λ k. scalar (l.n + (l.i + c.in-Some-delta_at.delta) / (k + 1))) c.len.ensures.value ∙ h)) in
-    sym (sym l.invariant.rest ∙ ap (option_and_then (inserted l.n l.i cs)) (c.in-Some-delta_at.ensures.some (length cs) l.first) ∙ then_none l.n l.i cs c.in-Some-delta_at.delta _ (inl no))
+    sym (sym l.invariant.rest ∙ ap (option_and_then (insertions l.n l.i cs)) (c.in-Some-delta_at.ensures.some (length cs) l.first) ∙ then_none l.n l.i cs c.in-Some-delta_at.delta _ (inl no))
 
 pub loop-at-preserved : goal.loop-at-preserved
 loop-at-preserved c =
@@ -73,8 +73,8 @@ loop-at-preserved c =
       short = omega (arith, c.insert.ensures.len);
       here = omega (arith, c.insert.ensures.len, c.len.ensures.value);
       scalar = scalar_below _ u.0;
-      rest = then_turn l.n l.i cs c.insert.new.self.items (slice_range s l.at to) (slice_range s d.next to) d.delta c.len.result l.bias c.adapted-bias.result c.in-Some-from_u32.c l.first
-          c.len.ensures.value (d.ensures.some (length cs) l.first) u.0 free u.1 c.insert.ensures.items c.insert.ensures.len c.adapted-bias.ensures ∙ l.invariant.rest;
+      rest = then_turn l.n l.i cs c.insert.new.self.items (slice_range s l.at to) (slice_range s d.next to) d.delta c.len.result l.bias c.adapt-bias.result c.in-Some-from_u32.c l.first
+          c.len.ensures.value (d.ensures.some (length cs) l.first) u.0 free u.1 c.insert.ensures.items c.insert.ensures.len c.adapt-bias.ensures ∙ l.invariant.rest;
       grows = omega (arith, d.ensures.grows);
       looked = omega (arith, d.ensures.some_looks, d.ensures.within);
     }
@@ -86,5 +86,5 @@ returns-clause-characters c =
     let l = c.loop-at in
     let cs = l.characters.items in
     let end : l.at ≡ to = omega arith in
-    let rest : List ℕ → Option (List ℕ) = λ t. option_and_then (inserted l.n l.i cs) (deltas (next_delta (length cs) l.first l.bias) t) in
-    sym (sym l.invariant.rest ∙ ap (λ k. rest (slice_range s k to)) end ∙ ap rest (part_none s to) ∙ ap (option_and_then (inserted l.n l.i cs)) (deltas_done (length cs) l.first l.bias) ∙ inserted_end l.n l.i cs l.invariant.short)
+    let rest : List ℕ → Option (List ℕ) = λ t. option_and_then (insertions l.n l.i cs) (deltas (next_delta (length cs) l.first l.bias) t) in
+    sym (sym l.invariant.rest ∙ ap (λ k. rest (slice_range s k to)) end ∙ ap rest (part_none s to) ∙ ap (option_and_then (insertions l.n l.i cs)) (deltas_done (length cs) l.first l.bias) ∙ inserted_end l.n l.i cs l.invariant.short)

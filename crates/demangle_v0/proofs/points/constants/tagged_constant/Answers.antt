@@ -35,24 +35,24 @@ returns-in-Char-clause-did g c =
     (c.last_word-in-Char.ensures.did c.args.row.now)
 
 pub returns-in-Text-clause-did : goal.returns-in-Text-clause-did
-returns-in-Text-clause-did g c = rw c.braced.ensures.point
+returns-in-Text-clause-did g c = rw c.in_braces.ensures.point
     (constant_as g.V.Voice c.args.symbol.now c.args.plain c.args.state.now.in_value c.args.state.now.depth_left c.args.state.now.lifetimes c.args.state.now.place c.args.tag kind.Text 6 (8 * c.args.state.now.depth_left + 9) _ _ _ _ _ _ _ (rw c.in-Text.is at c.in-Some.ensures) (omega arith) (omega arith)
-    (text_braced g.V.Voice c.args.symbol.now c.args.plain c.args.state.now _ _ _ _ _ c.requires.fits (omega arith) (c.braced.ensures.state, c.braced.ensures.row)))
+    (text_braced g.V.Voice c.args.symbol.now c.args.plain c.args.state.now _ _ _ _ _ c.requires.fits (omega arith) (c.in_braces.ensures.state, c.in_braces.ensures.row)))
 
 pub returns-in-Mutable-clause-did : goal.returns-in-Mutable-clause-did
-returns-in-Mutable-clause-did g c = rw c.braced-in-Mutable.ensures.point
+returns-in-Mutable-clause-did g c = rw c.in_braces-in-Mutable.ensures.point
     (constant_as g.V.Voice c.args.symbol.now c.args.plain c.args.state.now.in_value c.args.state.now.depth_left c.args.state.now.lifetimes c.args.state.now.place c.args.tag kind.Mutable 6 (8 * c.args.state.now.depth_left + 9) _ _ _ _ _ _ _ (rw c.in-Mutable.is at c.in-Some.ensures) (omega arith) (omega arith)
-    (mutable_braced g.V.Voice c.args.symbol.now c.args.plain c.args.state.now _ _ _ _ _ c.requires.fits (omega arith) (c.braced-in-Mutable.ensures.state, c.braced-in-Mutable.ensures.row)))
+    (mutable_braced g.V.Voice c.args.symbol.now c.args.plain c.args.state.now _ _ _ _ _ c.requires.fits (omega arith) (c.in_braces-in-Mutable.ensures.state, c.in_braces-in-Mutable.ensures.row)))
 
 pub returns-in-Array-clause-did : goal.returns-in-Array-clause-did
-returns-in-Array-clause-did g c = rw c.braced-in-Array.ensures.point
+returns-in-Array-clause-did g c = rw c.in_braces-in-Array.ensures.point
     (constant_as g.V.Voice c.args.symbol.now c.args.plain c.args.state.now.in_value c.args.state.now.depth_left c.args.state.now.lifetimes c.args.state.now.place c.args.tag kind.Array 6 (8 * c.args.state.now.depth_left + 9) _ _ _ _ _ _ _ (rw c.in-Array.is at c.in-Some.ensures) (omega arith) (omega arith)
-    (array_braced g.V.Voice c.args.symbol.now c.args.plain c.args.state.now _ _ _ _ _ c.requires.fits (omega arith) (c.braced-in-Array.ensures.state, c.braced-in-Array.ensures.row)))
+    (array_braced g.V.Voice c.args.symbol.now c.args.plain c.args.state.now _ _ _ _ _ c.requires.fits (omega arith) (c.in_braces-in-Array.ensures.state, c.in_braces-in-Array.ensures.row)))
 
 pub returns-in-Tuple-clause-did : goal.returns-in-Tuple-clause-did
-returns-in-Tuple-clause-did g c = rw c.braced-in-Tuple.ensures.point
+returns-in-Tuple-clause-did g c = rw c.in_braces-in-Tuple.ensures.point
     (constant_as g.V.Voice c.args.symbol.now c.args.plain c.args.state.now.in_value c.args.state.now.depth_left c.args.state.now.lifetimes c.args.state.now.place c.args.tag kind.Tuple 6 (8 * c.args.state.now.depth_left + 9) _ _ _ _ _ _ _ (rw c.in-Tuple.is at c.in-Some.ensures) (omega arith) (omega arith)
-    (tuple_braced g.V.Voice c.args.symbol.now c.args.plain c.args.state.now _ _ _ _ _ c.requires.fits (omega arith) (c.braced-in-Tuple.ensures.state, c.braced-in-Tuple.ensures.row)))
+    (tuple_braced g.V.Voice c.args.symbol.now c.args.plain c.args.state.now _ _ _ _ _ c.requires.fits (omega arith) (c.in_braces-in-Tuple.ensures.state, c.in_braces-in-Tuple.ensures.row)))
 
 pub returns-in-Shared-clause-did : goal.returns-in-Shared-clause-did
 returns-in-Shared-clause-did g c =

@@ -17,7 +17,7 @@ returns-in-CrateRoot-clause-did g c =
 
 pub returns-in-Nested-clause-did : goal.returns-in-Nested-clause-did
 returns-in-Nested-clause-did g c =
-    path_as g.V.Voice c.args.symbol.now c.args.plain c.args.state.now.in_value c.args.state.now.depth_left c.args.state.now.lifetimes c.args.state.now.place c.args.tag kind.Nested 1 (8 * c.args.state.now.depth_left + 9) _ _ _ _ _ _ _ (rw c.in-Nested.is at c.in-Some.ensures) (omega arith) (omega arith) (c.nested.ensures.did c.args.plain c.args.voice.now)
+    path_as g.V.Voice c.args.symbol.now c.args.plain c.args.state.now.in_value c.args.state.now.depth_left c.args.state.now.lifetimes c.args.state.now.place c.args.tag kind.Nested 1 (8 * c.args.state.now.depth_left + 9) _ _ _ _ _ _ _ (rw c.in-Nested.is at c.in-Some.ensures) (omega arith) (omega arith) (c.nested_path.ensures.did c.args.plain c.args.voice.now)
 
 pub returns-in-Generic-clause-did : goal.returns-in-Generic-clause-did
 returns-in-Generic-clause-did g c = rw c.generic_path.ensures.point

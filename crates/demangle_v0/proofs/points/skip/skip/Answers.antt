@@ -1,12 +1,12 @@
 use Rattle.std.proofs.Common.{arith, true, ap, ◌∙◌, ◌-◌}
-use Rattle.demangle_v0.specs.PointRuns.{placed}
+use Rattle.demangle_v0.specs.PointRuns.{state_at}
 use Rattle.demangle_v0.proofs.PointSkips.{own_over, own_failed, own_full}
 use Rattle.demangle_v0.proofs.points.skip.skip.Goals as goal
 
 pub returns-in-Over-clause-behind : goal.returns-in-Over-clause-behind
 returns-in-Over-clause-behind g c = λ below q first r h e.
     own_over c.args.symbol.now c.args.plain q c.args.printing.now.state below _ _ _ first r _ _ _ _ _ (c.read_on.new.looks - c.args.looks.now) _ (c.in-Over.ensures.reads below r.frames r.is_row h r.inner) (omega (arith, c.in-Over.ensures.grows))
-    (c.go_behind.ensures.point q e) (c.go_behind.ensures.state ∙ ap (placed c.args.printing.now.state) c.place.ensures)
+    (c.go_behind.ensures.point q e) (c.go_behind.ensures.state ∙ ap (state_at c.args.printing.now.state) c.place.ensures)
 
 pub returns-in-Failed-clause-behind : goal.returns-in-Failed-clause-behind
 returns-in-Failed-clause-behind g c = λ below q first r h e.

@@ -1,6 +1,6 @@
 use Rattle.std.proofs.Common.{◌≡◌, ℕ, ◌+◌, ◌*◌, ◌≤◌}
 use Rattle.demangle_symbol.specs.Punycode.{bias_after}
-use Rattle.demangle_symbol.proofs.punycode.adapted.Given as goal
+use Rattle.demangle_symbol.proofs.punycode.adapt.Given as goal
 
 abbrev pub invariant-loop-delta : goal.invariant-loop-delta
 invariant-loop-delta l = record {

@@ -1,8 +1,8 @@
 use Rattle.std.proofs.Common.{◌≡◌, suc, ◌+◌, ◌-◌, ◌/◌, arith, sym, ap, ◌∙◌, cond}
-use Rattle.demangle_symbol.specs.Punycode.{bias_after, adapted}
+use Rattle.demangle_symbol.specs.Punycode.{bias_after, adapted_bias}
 use Rattle.demangle_symbol.proofs.Deltas.{bias_turn, bias_end}
-use Rattle.demangle_symbol.proofs.punycode.adapted.Goals as goal
-use Rattle.demangle_symbol.proofs.punycode.adapted.Goals.{then-first, else-first}
+use Rattle.demangle_symbol.proofs.punycode.adapt.Goals as goal
+use Rattle.demangle_symbol.proofs.punycode.adapt.Goals.{then-first, else-first}
 
 pub loop-delta-preserved : goal.loop-delta-preserved
 loop-delta-preserved c =
@@ -14,7 +14,7 @@ loop-delta-preserved c =
     record { small = omega arith; rest = (r.0 - 1, omega (arith, r.1), omega (arith, e, f, r.2)) }
 
 pub returns : goal.returns
-unfolding adapted
+unfolding adapted_bias
 returns c =
     let r = c.loop-delta.invariant.rest in
     let e = bias_end r.0 c.loop-delta.delta (omega arith) in

@@ -1,6 +1,6 @@
 use Rattle.std.proofs.Common.{arith, refl}
 use Rattle.demangle_v0.proofs.PointPaths.{nested_unread, nested_stops, nested_goes}
-use Rattle.demangle_v0.proofs.points.paths.nested.Goals as goal
+use Rattle.demangle_v0.proofs.points.paths.nested_path.Goals as goal
 
 pub returns-in_default-clause-did : goal.returns-in_default-clause-did
 returns-in_default-clause-did g c = λ plain v. rw c.in_default.is (nested_unread g.V.Voice c.args.symbol.now plain c.args.state.now.in_value c.args.state.now.depth_left c.args.state.now.lifetimes _ _ _ _ c.requires.unmarked (omega arith))
