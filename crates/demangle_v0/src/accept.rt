@@ -23,8 +23,8 @@ fn read_rest(
     requires inner { AllInner few.now }
     ensures value { result ≡ (reading_owed symbol.now true false from.now.point from.now.state
         few.now).place }
-    ensures looks { looks.new ≤ looks.old + allowed_in (reading_owed symbol.now true false from.now.point
-        from.now.state few.now).events }
+    ensures looks { looks.new ≤ looks.old + allowed_in (reading_owed symbol.now true false
+        from.now.point from.now.state few.now).events }
     ensures grows { looks.old ≤ looks.new }
 {
     let mut row: FrameStack<MOST> = FrameStack::new();

@@ -1,16 +1,14 @@
 //! Reading by resume points: each reads up to its next child, puts what stands behind that on the
-//! frame stack, and answers
-//! where it goes on.
+//! frame stack, and answers where it goes on.
 ghost use Rattle.std.specs.Prelude.{true, ◌≡◌, ◌+◌, ◌-◌, ◌<◌, ◌≤◌, None, Ok, Err, IsOk, IsAscii, List};
-ghost use Rattle.demangle_v0.specs.Points.{DidOn, around, none_open};
+ghost use Rattle.demangle_v0.specs.PointContracts.{heard_of};
+ghost use Rattle.demangle_v0.specs.Points.{DidOn};
 ghost use Rattle.demangle_v0.specs.Totals.{total};
 ghost use Rattle.demangle_v0.specs.Groups.{word_group, read_stretch, looks_later};
 ghost use Rattle.demangle_v0.specs.Serving.{LiesIn};
-ghost use Rattle.demangle_v0.specs.Events.{of};
 ghost use Rattle.demangle_v0.specs.Table.{path};
 ghost use Rattle.demangle_v0.specs.Items.{done};
 ghost use Rattle.demangle_v0.specs.Grammar.{word_items};
-ghost use Rattle.demangle_v0.specs.Reading.{run};
 
 use crate::grammar::{Mark, Word};
 use crate::points::frames::Frame;
@@ -218,10 +216,9 @@ fn last_word<V: Voice>(
     requires ascii { V.loud ≡ true → IsAscii symbol.now }
     requires ready { V.ready voice.old }
     requires unmarked { state.old.mark ≡ None }
-    ensures did { (row : List Frame) → DidOn V.Voice symbol.now plain (none_open (of plain V.loud (run
-        (word_items word state.old.letter done) (around symbol.now V.loud state.old.depth_left
-        state.old.lifetimes) state.old.place))) 1 0 row voice.old result state.new row voice.new
-        (looks.new - looks.old) }
+    ensures did { (row : List Frame) → DidOn V.Voice symbol.now plain (heard_of symbol.now plain
+        V.loud (word_items word state.old.letter done) state.old) 1 0 row voice.old result state.new
+        row voice.new (looks.new - looks.old) }
     ensures ready { IsOk result → V.ready voice.new }
     ensures sound { (m : Mark) → result ≡ Err (Stop.Fault m) → V.ready voice.new }
     ensures grows { looks.old ≤ looks.new }

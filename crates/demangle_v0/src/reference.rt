@@ -14,8 +14,8 @@ pub enum Reference {
     Target(usize, usize),
 }
 
-#[tactic(auto, unfolding(demangle_symbol::specs::Words::backref_at))]
 /// Reads where a reference leads, behind its `B`.
+#[tactic(auto, unfolding(demangle_symbol::specs::Words::backref_at))]
 pub fn refer(symbol: &Symbol<'_>, left: u16, place: Option<usize>, looks: &mut Looks) -> Reference
     ensures value { result ≡ (refer symbol.now left place).refers }
     ensures grows { looks.old ≤ looks.new }

@@ -28,6 +28,7 @@ impl<'s> Model for Demangle<'s> {
 }
 
 impl<'s> Demangle<'s> {
+    /// A symbol that is spelled, of ASCII alone.
     pub(super) fn new(inner: Symbol<'s>) -> Demangle<'s>
         requires { IsAscii inner }
         ensures { result ≡ inner.entry }
@@ -45,7 +46,8 @@ impl<'s> Demangle<'s> {
         looks: &mut Looks,
     ) -> Result<(), SinkRefused>
         requires { Ready S.TextSink out.old }
-        ensures prints { Prints S.TextSink out.old (path_texts self.now include_hash) result out.new }
+        ensures prints { Prints S.TextSink out.old (path_texts self.now include_hash) result
+            out.new }
         ensures grows { looks.old ≤ looks.new }
         ensures most { looks.new ≤ looks.old + 100000 * (kept (path_texts self.now include_hash)
             out.old.remaining + 1) * (length self.now + 1) }

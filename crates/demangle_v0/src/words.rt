@@ -76,6 +76,7 @@ fn word_failed(word: Word) -> WordRead
     }
 }
 
+/// A word that is not spelled.
 #[inline(always)]
 fn faulty() -> WordRead
     ensures { result ≡ WordRead.Stops Mark.Invalid }
@@ -83,6 +84,7 @@ fn faulty() -> WordRead
     WordRead::Stops(Mark::Invalid)
 }
 
+/// A word that was read, and the place behind it.
 #[inline(always)]
 fn goes(stretch: Stretch, next: usize) -> WordRead
     ensures { result ≡ WordRead.Goes stretch (Some next) }

@@ -65,6 +65,7 @@ pub(super) fn arguments<V: Voice, const N: usize>(
     argument(symbol, at, state, looks)
 }
 
+/// The `>` behind generic arguments.
 #[inline(always)]
 fn close_arguments(state: &mut State) -> Point
     ensures point { result ≡ Point.End }

@@ -1,8 +1,7 @@
 //! The bindings of a dyn trait path.
 ghost use Rattle.std.specs.Prelude.{◌≡◌, ◌+◌, ◌-◌, ◌*◌, ◌<◌, ◌≤◌, List, Bool, Some, None, Ok, Err, IsOk, IsAscii, length, true, false, if◌then◌else◌};
-ghost use Rattle.demangle_v0.specs.Events.{of};
-ghost use Rattle.demangle_v0.specs.Points.{Did, DidOn, Fits, around, none_open, bindings_left};
-ghost use Rattle.demangle_v0.specs.Reading.{run};
+ghost use Rattle.demangle_v0.specs.PointContracts.{heard_of};
+ghost use Rattle.demangle_v0.specs.Points.{Did, DidOn, Fits, bindings_left};
 
 use crate::grammar::{Mark, Word};
 use crate::points::frames::{Frame, FrameStack};
@@ -37,9 +36,8 @@ fn binding<V: Voice>(
 ) -> Point
     requires fits { Fits Point.Bindings state.old.depth_left state.old.lifetimes }
     ensures did { (plain : Bool) (v : V) (row : List Frame) → DidOn V.Voice symbol.now plain
-        (none_open (of plain V.loud (run (bindings_left is_open) (around symbol.now V.loud
-        state.old.depth_left state.old.lifetimes) state.old.place))) 2 (8 * state.old.depth_left +
-        4) row v (Ok result) state.new row v (looks.new - looks.old) }
+        (heard_of symbol.now plain V.loud (bindings_left is_open) state.old) 2 (8 *
+        state.old.depth_left + 4) row v (Ok result) state.new row v (looks.new - looks.old) }
     ensures grows { looks.old ≤ looks.new }
 {
     let Some(at) = state.place else {

@@ -1,8 +1,7 @@
 //! The points of dyn types.
 ghost use Rattle.std.specs.Prelude.{◌≡◌, ℕ, ◌+◌, ◌-◌, ◌*◌, ◌<◌, ◌≤◌, List, Bool, Some, None, Ok, Err, IsOk, IsAscii, length, true, false, if◌then◌else◌};
-ghost use Rattle.demangle_v0.specs.Events.{of};
-ghost use Rattle.demangle_v0.specs.Points.{Did, DidOn, Fits, around, none_open};
-ghost use Rattle.demangle_v0.specs.Reading.{run};
+ghost use Rattle.demangle_v0.specs.PointContracts.{heard_of};
+ghost use Rattle.demangle_v0.specs.Points.{Did, DidOn, Fits};
 ghost use Rattle.demangle_v0.specs.DynTraits.{dyn_type};
 
 use crate::grammar::{Mark, Word};
@@ -24,10 +23,9 @@ pub(super) fn dyn_type<V: Voice, const N: usize>(
 ) -> Point
     requires room { length row.old < N }
     requires fits { Fits Point.DynBinder state.old.depth_left state.old.lifetimes }
-    ensures did { (plain : Bool) (v : V) → DidOn V.Voice symbol.now plain (none_open (of plain V.loud
-        (run dyn_type (around symbol.now V.loud state.old.depth_left state.old.lifetimes)
-        state.old.place))) 4 (8 * state.old.depth_left + 5) row.old v (Ok result) state.new row.new
-        v 0 }
+    ensures did { (plain : Bool) (v : V) → DidOn V.Voice symbol.now plain (heard_of symbol.now plain
+        V.loud dyn_type state.old) 4 (8 * state.old.depth_left + 5) row.old v (Ok result) state.new
+        row.new v 0 }
 {
     row.push(state.frame(Point::DynLifetime));
     state.mark = Some(Mark::Dyn);

@@ -46,6 +46,7 @@ const EMPTY: Packed = Packed {
     letter: 0,
 };
 
+/// The frame as it lies in the row.
 #[inline(always)]
 fn pack(frame: Frame) -> Packed
     ensures { frame.number < 2 ^ 80 → packed_frame result ≡ frame }
@@ -60,6 +61,7 @@ fn pack(frame: Frame) -> Packed
     }
 }
 
+/// The frame that lies so in the row.
 #[inline(always)]
 fn unpack(packed: Packed) -> Frame
     ensures { result ≡ packed_frame packed }
@@ -105,6 +107,7 @@ impl<const N: usize> Model for FrameStack<N> {
 }
 
 impl<const N: usize> FrameStack<N> {
+    /// A row without frames.
     #[inline(always)]
     pub fn new() -> Self
         ensures { result ≡ [] }
@@ -115,6 +118,7 @@ impl<const N: usize> FrameStack<N> {
         }
     }
 
+    /// How many frames stand.
     #[inline(always)]
     pub fn len(&self) -> usize
         ensures { result ≡ length self.now }
@@ -122,6 +126,7 @@ impl<const N: usize> FrameStack<N> {
         self.len
     }
 
+    /// Puts a frame on top.
     #[inline(always)]
     pub fn push(&mut self, frame: Frame)
         requires room { length self.old < N }
@@ -152,6 +157,7 @@ impl<const N: usize> FrameStack<N> {
         }
     }
 
+    /// Takes the topmost frame off, if one stands.
     #[inline(always)]
     pub fn pop(&mut self) -> Option<Frame>
         ensures some { IfSome result (λ frame. self.old ≡ self.new ++ frame ∷ []) }

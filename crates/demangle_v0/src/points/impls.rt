@@ -1,9 +1,8 @@
 //! Paths of impls, and of what implements a trait.
 ghost use Rattle.std.specs.Prelude.{◌≡◌, ℕ, ◌+◌, ◌-◌, ◌*◌, ◌<◌, ◌≤◌, false, None, Ok, Err, length, Bool, List};
-ghost use Rattle.demangle_v0.specs.Events.{of};
 ghost use Rattle.demangle_v0.specs.Impls.{impl_items, skip_point, self_point};
-ghost use Rattle.demangle_v0.specs.Points.{Did, DidOn, Fits, around, none_open};
-ghost use Rattle.demangle_v0.specs.Reading.{run};
+ghost use Rattle.demangle_v0.specs.PointContracts.{heard_of};
+ghost use Rattle.demangle_v0.specs.Points.{Did, DidOn, Fits};
 
 use crate::grammar::Mark;
 use crate::points::frames::{Frame, FrameStack};
@@ -22,9 +21,8 @@ pub(super) fn impl_path<V: Voice>(
     requires unmarked { state.old.mark ≡ None }
     requires fits { Fits Point.Path state.old.depth_left state.old.lifetimes }
     ensures did { (plain : Bool) (v : V) (row : List Frame) → DidOn V.Voice symbol.now plain
-        (none_open (of plain V.loud (run (impl_items of_trait) (around symbol.now V.loud
-        state.old.depth_left state.old.lifetimes) state.old.place))) 1 (8 * state.old.depth_left +
-        2) row v result state.new row v (looks.new - looks.old) }
+        (heard_of symbol.now plain V.loud (impl_items of_trait) state.old) 1 (8 *
+        state.old.depth_left + 2) row v result state.new row v (looks.new - looks.old) }
     ensures grows { looks.old ≤ looks.new }
 {
     let Some(at) = state.place else {
@@ -105,6 +103,7 @@ pub(super) fn as_trait<V: Voice, const N: usize>(
     Point::Path
 }
 
+/// The `>` behind an impl.
 #[inline(always)]
 pub(super) fn close_angle<V: Voice>(state: &mut State) -> Point
     ensures did { (b : List ℕ) (plain : Bool) (v : V) (row : List Frame) → Did V.Voice b plain

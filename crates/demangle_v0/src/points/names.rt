@@ -1,9 +1,8 @@
 //! The names of paths.
 ghost use Rattle.std.specs.Prelude.{true, ◌≡◌, ◌-◌, ◌≤◌, None, Err, IsOk, List, IsAscii};
-ghost use Rattle.demangle_v0.specs.Points.{Did, DidOn, around, none_open};
-ghost use Rattle.demangle_v0.specs.Events.{of};
+ghost use Rattle.demangle_v0.specs.PointContracts.{heard_of};
+ghost use Rattle.demangle_v0.specs.Points.{Did, DidOn};
 ghost use Rattle.demangle_v0.specs.Table.{path};
-ghost use Rattle.demangle_v0.specs.Reading.{run};
 ghost use Rattle.demangle_v0.specs.declared.points.frames.Frame.{Frame};
 
 use crate::grammar::Mark;
@@ -25,10 +24,9 @@ pub(super) fn crate_name<V: Voice>(
     requires ascii { V.loud ≡ true → IsAscii symbol.now }
     requires ready { V.ready voice.old }
     requires unmarked { state.old.mark ≡ None }
-    ensures did { (row : List Frame) → DidOn V.Voice symbol.now plain (none_open (of plain V.loud (run
-        (path state.old.in_value 67) (around symbol.now V.loud state.old.depth_left
-        state.old.lifetimes) state.old.place))) 1 0 row voice.old result state.new row voice.new
-        (looks.new - looks.old) }
+    ensures did { (row : List Frame) → DidOn V.Voice symbol.now plain (heard_of symbol.now plain
+        V.loud (path state.old.in_value 67) state.old) 1 0 row voice.old result state.new row
+        voice.new (looks.new - looks.old) }
     ensures ready { IsOk result → V.ready voice.new }
     ensures sound { (m : Mark) → result ≡ Err (Stop.Fault m) → V.ready voice.new }
     ensures grows { looks.old ≤ looks.new }

@@ -1,10 +1,9 @@
 //! The points of paths.
 ghost use Rattle.std.specs.Prelude.{true, ◌≡◌, ◌==◌, ◌*◌, ◌+◌, ◌-◌, ◌<◌, ◌≤◌, ◌++◌, [], ◌∷◌, Some, None, Ok, Err, IsOk, length, IsAscii, Bool};
-ghost use Rattle.demangle_v0.specs.Points.{Did, DidOn, around, none_open, Fits};
+ghost use Rattle.demangle_v0.specs.PointContracts.{heard_of};
+ghost use Rattle.demangle_v0.specs.Points.{Did, DidOn, Fits};
 ghost use Rattle.demangle_v0.specs.PointRuns.{first_looks};
-ghost use Rattle.demangle_v0.specs.Events.{of};
 ghost use Rattle.demangle_v0.specs.Table.{path};
-ghost use Rattle.demangle_v0.specs.Reading.{run};
 
 use crate::grammar::Mark;
 use crate::points::frames::{Frame, FrameStack};
@@ -27,10 +26,9 @@ fn nested_path<V: Voice, const N: usize>(
     requires room { length row.old < N }
     requires unmarked { state.old.mark ≡ None }
     requires fits { Fits Point.Nested state.old.depth_left state.old.lifetimes }
-    ensures did { (plain : Bool) (v : V) → DidOn V.Voice symbol.now plain (none_open (of plain V.loud
-        (run (path state.old.in_value 78) (around symbol.now V.loud state.old.depth_left
-        state.old.lifetimes) state.old.place))) 1 (8 * state.old.depth_left + 9) row.old v result
-        state.new row.new v (looks.new - looks.old) }
+    ensures did { (plain : Bool) (v : V) → DidOn V.Voice symbol.now plain (heard_of symbol.now plain
+        V.loud (path state.old.in_value 78) state.old) 1 (8 * state.old.depth_left + 9) row.old v
+        result state.new row.new v (looks.new - looks.old) }
     ensures grows { looks.old ≤ looks.new }
 {
     let Some(at) = state.place else {
@@ -81,10 +79,9 @@ fn tagged_path<V: Voice, const N: usize>(
     requires unmarked { state.old.mark ≡ None }
     requires room { length row.old < N }
     requires fits { Fits Point.Path state.old.depth_left state.old.lifetimes }
-    ensures did { DidOn V.Voice symbol.now plain (none_open (of plain V.loud (run (path
-        state.old.in_value tag) (around symbol.now V.loud state.old.depth_left state.old.lifetimes)
-        state.old.place))) 7 (8 * state.old.depth_left + 9) row.old voice.old result state.new
-        row.new voice.new (looks.new - looks.old) }
+    ensures did { DidOn V.Voice symbol.now plain (heard_of symbol.now plain V.loud (path
+        state.old.in_value tag) state.old) 7 (8 * state.old.depth_left + 9) row.old voice.old result
+        state.new row.new voice.new (looks.new - looks.old) }
     ensures ready { IsOk result → V.ready voice.new }
     ensures sound { (m : Mark) → result ≡ Err (Stop.Fault m) → V.ready voice.new }
     ensures grows { looks.old ≤ looks.new }

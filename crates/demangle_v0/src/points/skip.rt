@@ -68,8 +68,7 @@ impl Reading {
 }
 
 /// Reads on in the own path of the impl at which printing stands, above so many frames, and lets
-/// printing go on behind
-/// it: or answers how far it was read, where the row is full.
+/// printing go on behind it: or answers how far it was read, where the row is full.
 #[inline(never)]
 pub fn skip<const N: usize>(
     symbol: &Symbol<'_>,

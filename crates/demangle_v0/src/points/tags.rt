@@ -15,6 +15,7 @@ pub enum PathKind {
     Reference,
 }
 
+/// Which path begins with a tag.
 #[inline(always)]
 pub fn path_kind(tag: u8) -> Option<PathKind>
     ensures { result ≡ found tag path_kinds }
@@ -47,6 +48,7 @@ pub enum TypeKind {
     Pattern,
 }
 
+/// Which type begins with a tag, that is no basic type.
 #[inline(always)]
 pub fn type_kind(tag: u8) -> Option<TypeKind>
     ensures { result ≡ found tag (type_kinds tag) }
@@ -84,6 +86,7 @@ pub enum ConstantKind {
     Reference,
 }
 
+/// Which constant begins with a tag.
 #[inline(always)]
 pub fn constant_kind(tag: u8) -> Option<ConstantKind>
     ensures { result ≡ found tag constant_kinds }
@@ -113,6 +116,7 @@ pub enum VariantKind {
     Fields,
 }
 
+/// Which fields of a variant begin with a tag.
 #[inline(always)]
 pub fn variant_kind(tag: u8) -> Option<VariantKind>
     ensures { result ≡ found tag variant_kinds }
@@ -133,6 +137,7 @@ pub enum PatternKind {
     NotNull,
 }
 
+/// Which pattern begins with a tag.
 #[inline(always)]
 pub fn pattern_kind(tag: u8) -> Option<PatternKind>
     ensures { result ≡ found tag pattern_kinds }

@@ -1,10 +1,9 @@
 //! The points of types behind a mark: references and pointers.
 ghost use Rattle.std.specs.Prelude.{◌≡◌, ℕ, ◌*◌, ◌+◌, ◌-◌, ◌<◌, ◌≤◌, List, Bool, Ok, Err, IsOk, IsAscii, true};
-ghost use Rattle.demangle_v0.specs.Events.{of};
 ghost use Rattle.demangle_v0.specs.declared.points.frames.Frame.{Frame};
-ghost use Rattle.demangle_v0.specs.Points.{Did, DidOn, around, none_open, Fits, behind_reference, lifetime_point, spaced_lifetime};
+ghost use Rattle.demangle_v0.specs.PointContracts.{heard_of};
+ghost use Rattle.demangle_v0.specs.Points.{Did, DidOn, Fits, behind_reference, lifetime_point, spaced_lifetime};
 ghost use Rattle.demangle_v0.specs.Groups.{looks_later};
-ghost use Rattle.demangle_v0.specs.Reading.{run};
 ghost use Rattle.demangle_v0.specs.Tags.{reference_to};
 
 use crate::grammar::Mark;
@@ -23,9 +22,8 @@ pub(super) fn reference<V: Voice>(
 ) -> Point
     requires fits { Fits Point.«Type» state.old.depth_left state.old.lifetimes }
     ensures did { (plain : Bool) (v : V) (row : List Frame) → DidOn V.Voice symbol.now plain
-        (none_open (of plain V.loud (run (reference_to is_mut) (around symbol.now V.loud
-        state.old.depth_left state.old.lifetimes) state.old.place))) 50 (8 * state.old.depth_left +
-        9) row v (Ok result) state.new row v (looks.new - looks.old) }
+        (heard_of symbol.now plain V.loud (reference_to is_mut) state.old) 50 (8 *
+        state.old.depth_left + 9) row v (Ok result) state.new row v (looks.new - looks.old) }
     ensures grows { looks.old ≤ looks.new }
 {
     state.mark = Some(Mark::Ampersand);

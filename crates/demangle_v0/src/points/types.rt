@@ -1,10 +1,9 @@
 //! The points of types.
 ghost use Rattle.std.specs.Prelude.{if◌then◌else◌, IsTrue, ◌≡◌, ℕ, ◌*◌, ◌+◌, ◌-◌, ◌<◌, ◌≤◌, List, Bool, Ok, Err, IsOk, length, IsAscii, true, false, ◌^◌, ◌++◌, [], ◌∷◌};
 ghost use Rattle.demangle_symbol.specs.Digits.{is_byte};
-ghost use Rattle.demangle_v0.specs.Events.{of};
 ghost use Rattle.demangle_v0.specs.declared.points.frames.Frame.{Frame};
-ghost use Rattle.demangle_v0.specs.Points.{Did, DidOn, around, none_open, Fits, frame_of};
-ghost use Rattle.demangle_v0.specs.Reading.{run};
+ghost use Rattle.demangle_v0.specs.PointContracts.{heard_of};
+ghost use Rattle.demangle_v0.specs.Points.{Did, DidOn, Fits, frame_of};
 ghost use Rattle.demangle_v0.specs.Tags.{type_of};
 
 use crate::grammar::{Mark, basic_mark};
@@ -137,10 +136,9 @@ fn constructed_type<V: Voice, const N: usize>(
     requires unmarked { state.old.mark ≡ None }
     requires room { length row.old < N }
     requires fits { Fits Point.FunctionBinder state.old.depth_left state.old.lifetimes }
-    ensures did { DidOn V.Voice symbol.now plain (none_open (of plain V.loud (run (type_of kind)
-        (around symbol.now V.loud state.old.depth_left state.old.lifetimes) state.old.place))) 50 (8
-        * state.old.depth_left + 9) row.old voice.old result state.new row.new voice.new (looks.new
-        - looks.old) }
+    ensures did { DidOn V.Voice symbol.now plain (heard_of symbol.now plain V.loud (type_of kind)
+        state.old) 50 (8 * state.old.depth_left + 9) row.old voice.old result state.new row.new
+        voice.new (looks.new - looks.old) }
     ensures ready { IsOk result → V.ready voice.new }
     ensures sound { (m : Mark) → result ≡ Err (Stop.Fault m) → V.ready voice.new }
     ensures grows { looks.old ≤ looks.new }
@@ -228,6 +226,7 @@ pub(super) fn array_length<V: Voice, const N: usize>(
     Point::Constant
 }
 
+/// The `]` behind an array or a slice.
 #[inline(always)]
 pub(super) fn close_bracket<V: Voice>(state: &mut State) -> Point
     ensures did { (b : List ℕ) (plain : Bool) (v : V) (row : List Frame) → Did V.Voice b plain

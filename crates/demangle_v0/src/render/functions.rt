@@ -10,8 +10,8 @@ use crate::stretch::Abi;
 use demangle_sink::{SinkRefused, SizeLimitedFmtAdapter, TextSink, put_each};
 use demangle_symbol::cursor::{Looks, Part, Symbol};
 
-#[tactic(auto, using(demangle_sink::proofs::PrintsLemmas::prints_ready))]
 /// Puts a part, and `-`.
+#[tactic(auto, using(demangle_sink::proofs::PrintsLemmas::prints_ready))]
 fn put_hyphened<S: TextSink>(
     symbol: &Symbol<'_>,
     part: Part,
@@ -27,8 +27,8 @@ fn put_hyphened<S: TextSink>(
     out.put("-")
 }
 
-#[tactic(auto, using(demangle_sink::proofs::PrintsLemmas::prints_ready, demangle_sink::proofs::PrintsLemmas::prints_nothing, demangle_sink::proofs::Printed::printed_ready))]
 /// Puts the name of an ABI: its parts between `_`, with `-` between.
+#[tactic(auto, using(demangle_sink::proofs::PrintsLemmas::prints_ready, demangle_sink::proofs::PrintsLemmas::prints_nothing, demangle_sink::proofs::Printed::printed_ready))]
 fn put_abi_name<S: TextSink>(
     symbol: &Symbol<'_>,
     name: Part,
@@ -54,8 +54,8 @@ fn put_abi_name<S: TextSink>(
     symbol.span(last).write_to(out)
 }
 
-#[tactic(auto, using(demangle_sink::proofs::PrintsLemmas::prints_ready))]
 /// Puts `extern` and the name of an ABI.
+#[tactic(auto, using(demangle_sink::proofs::PrintsLemmas::prints_ready))]
 fn put_extern<S: TextSink>(
     symbol: &Symbol<'_>,
     name: Part,
@@ -96,8 +96,8 @@ fn put_abi<S: TextSink>(
     }
 }
 
-#[tactic(auto, using(demangle_sink::proofs::PrintsLemmas::prints_ready))]
 /// Puts what stands before a function's parameters.
+#[tactic(auto, using(demangle_sink::proofs::PrintsLemmas::prints_ready))]
 #[inline(never)]
 pub(super) fn put_function_head<S: TextSink>(
     symbol: &Symbol<'_>,

@@ -22,8 +22,8 @@ fn put_letter<S: TextSink>(
     put_each(&["_", buffer.format(number)], out)
 }
 
-#[tactic(auto, using(demangle_sink::proofs::PrintsLemmas::prints_ready))]
 /// Puts the lifetime of a number.
+#[tactic(auto, using(demangle_sink::proofs::PrintsLemmas::prints_ready))]
 #[inline(never)]
 pub(super) fn put_lifetime<S: TextSink>(
     number: u128,
@@ -36,8 +36,8 @@ pub(super) fn put_lifetime<S: TextSink>(
     put_letter(number, out)
 }
 
-#[tactic(auto, using(demangle_sink::proofs::PrintsLemmas::prints_ready))]
 /// Puts the lifetime of a number, and a space.
+#[tactic(auto, using(demangle_sink::proofs::PrintsLemmas::prints_ready))]
 #[inline(never)]
 pub(super) fn put_spaced_lifetime<S: TextSink>(
     number: u128,
@@ -51,8 +51,8 @@ pub(super) fn put_spaced_lifetime<S: TextSink>(
     out.put(" ")
 }
 
-#[tactic(auto, using(demangle_sink::proofs::PrintsLemmas::prints_ready))]
 /// Puts the lifetime of a number behind a text.
+#[tactic(auto, using(demangle_sink::proofs::PrintsLemmas::prints_ready))]
 #[inline(never)]
 pub(super) fn put_lifetime_behind<S: TextSink>(
     before: &str,
@@ -66,8 +66,8 @@ pub(super) fn put_lifetime_behind<S: TextSink>(
     put_lifetime(number, out)
 }
 
-#[tactic(auto, using(demangle_sink::proofs::PrintsLemmas::prints_ready, demangle_sink::proofs::PrintsLemmas::prints_nothing, demangle_sink::proofs::Printed::printed_ready))]
 /// Puts the binder of so many new lifetimes, from a number on. It has none where there are none.
+#[tactic(auto, using(demangle_sink::proofs::PrintsLemmas::prints_ready, demangle_sink::proofs::PrintsLemmas::prints_nothing, demangle_sink::proofs::Printed::printed_ready))]
 #[inline(never)]
 pub(super) fn put_binder<S: TextSink>(
     first: u128,

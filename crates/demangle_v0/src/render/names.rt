@@ -10,8 +10,8 @@ use crate::render::numbers;
 use demangle_sink::{SinkRefused, SizeLimitedFmtAdapter, TextSink, put_char};
 use demangle_symbol::cursor::{Ident, Looks, Part, Symbol};
 
-#[tactic(auto, using(demangle_sink::proofs::PrintsLemmas::prints_ready, demangle_sink::proofs::PrintsLemmas::prints_nothing))]
 /// Puts a disambiguator in brackets, in the plain form alone and where it is not 0.
+#[tactic(auto, using(demangle_sink::proofs::PrintsLemmas::prints_ready, demangle_sink::proofs::PrintsLemmas::prints_nothing))]
 #[inline(never)]
 fn put_disambiguator<S: TextSink>(
     number: u64,
@@ -32,8 +32,8 @@ fn put_disambiguator<S: TextSink>(
     out.put("]")
 }
 
-#[tactic(auto, using(demangle_sink::proofs::PrintsLemmas::prints_ready))]
 /// Puts the name of a crate, and its disambiguator.
+#[tactic(auto, using(demangle_sink::proofs::PrintsLemmas::prints_ready))]
 #[inline(always)]
 pub(super) fn put_crate_name<S: TextSink>(
     symbol: &Symbol<'_>,
@@ -55,8 +55,8 @@ pub(super) fn put_crate_name<S: TextSink>(
     put_disambiguator(number, plain, out)
 }
 
-#[tactic(auto, using(crate::proofs::StretchTexts::name_steps))]
 /// Whether both parts of a name are empty.
+#[tactic(auto, using(crate::proofs::StretchTexts::name_steps))]
 #[inline(always)]
 fn is_nameless(symbol: &Symbol<'_>, name: &Ident) -> bool
     requires parts { LiesWithin symbol.now name.now }
@@ -69,8 +69,8 @@ fn is_nameless(symbol: &Symbol<'_>, name: &Ident) -> bool
     symbol.span(name.punycode).len() == 0
 }
 
-#[tactic(auto, using(demangle_sink::proofs::PrintsLemmas::prints_ready, demangle_sink::proofs::PrintsLemmas::prints_nothing))]
 /// Puts a name behind a text, and nothing where the name is empty.
+#[tactic(auto, using(demangle_sink::proofs::PrintsLemmas::prints_ready, demangle_sink::proofs::PrintsLemmas::prints_nothing))]
 #[inline(always)]
 fn put_name_behind<S: TextSink>(
     before: &str,
@@ -121,8 +121,8 @@ fn put_index<S: TextSink>(
     numbers::put_decimal(number as u128, out)
 }
 
-#[tactic(auto, using(demangle_sink::proofs::PrintsLemmas::prints_ready))]
 /// Puts what a special name ends in.
+#[tactic(auto, using(demangle_sink::proofs::PrintsLemmas::prints_ready))]
 fn put_ending<S: TextSink>(
     number: u64,
     out: &mut SizeLimitedFmtAdapter<'_, S>,
@@ -136,9 +136,9 @@ fn put_ending<S: TextSink>(
     out.put("}")
 }
 
+/// Puts a name in a special namespace, by its parts, and its disambiguator.
+// It takes no reference, so that the names of its caller can lie in registers.
 #[tactic(auto, using(demangle_sink::proofs::PrintsLemmas::prints_ready))]
-// Puts a name in a special namespace, by its parts, and its disambiguator. It takes no reference,
-// so that the names of its caller can lie in registers.
 #[inline(never)]
 fn put_special_name<S: TextSink>(
     symbol: &Symbol<'_>,
@@ -200,8 +200,8 @@ pub(super) fn put_nested_name<S: TextSink>(
     }
 }
 
-#[tactic(auto, using(demangle_sink::proofs::PrintsLemmas::prints_ready))]
 /// Puts the name that a binding binds.
+#[tactic(auto, using(demangle_sink::proofs::PrintsLemmas::prints_ready))]
 #[inline(never)]
 pub(super) fn put_binding<S: TextSink>(
     symbol: &Symbol<'_>,

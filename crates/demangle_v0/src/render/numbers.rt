@@ -33,7 +33,7 @@ static DIGIT_PAIRS_16: [u8; 512] = *b"\
     f0f1f2f3f4f5f6f7f8f9fafbfcfdfeff\
 ";
 
-// Writes the hexadecimal digits of a number, its leading zeros too: where the others begin.
+/// Writes the hexadecimal digits of a number, its leading zeros too: where the others begin.
 #[inline(always)]
 fn write_hexadecimal(number: u64, text: &mut [u8; 16]) -> usize
     ensures bound { result ≤ 16 }
@@ -66,8 +66,8 @@ pub(super) fn put_hexadecimal<S: TextSink>(
     out.put(unsafe { str::from_utf8_unchecked(&text[start..]) })
 }
 
-#[tactic(auto, using(demangle_sink::proofs::PrintsLemmas::prints_ready))]
 /// Puts the nibbles of a hex word that has no number.
+#[tactic(auto, using(demangle_sink::proofs::PrintsLemmas::prints_ready))]
 fn put_nibbles<S: TextSink>(
     symbol: &Symbol<'_>,
     nibbles: Part,
@@ -114,8 +114,8 @@ fn put_number<S: TextSink>(
     }
 }
 
-#[tactic(auto, using(demangle_sink::proofs::PrintsLemmas::prints_nothing, crate::proofs::GrammarRows::basic_found))]
 /// Puts the name of a basic type, in the plain form alone.
+#[tactic(auto, using(demangle_sink::proofs::PrintsLemmas::prints_nothing, crate::proofs::GrammarRows::basic_found))]
 fn put_type_name<S: TextSink>(
     tag: u8,
     plain: bool,
@@ -133,8 +133,8 @@ fn put_type_name<S: TextSink>(
     }
 }
 
-#[tactic(auto, using(demangle_sink::proofs::PrintsLemmas::prints_ready))]
 /// Puts a number, and the name of its type.
+#[tactic(auto, using(demangle_sink::proofs::PrintsLemmas::prints_ready))]
 #[inline(never)]
 pub(super) fn put_number_constant<S: TextSink>(
     symbol: &Symbol<'_>,

@@ -10,6 +10,7 @@ use crate::words::{WordRead, faulty, goes, nibbles};
 use demangle_symbol::cursor::{Looks, Symbol};
 use demangle_symbol::literal::{character_of, is_string, truth_of};
 
+/// The nibbles of a number with this tag.
 #[inline(always)]
 pub(super) fn read_number(
     symbol: &Symbol<'_>,
@@ -32,6 +33,7 @@ pub(super) fn read_number(
     goes(Stretch::Number(number, part, note), next)
 }
 
+/// `false` or `true`, by its nibbles.
 #[inline(always)]
 pub(super) fn read_truth(symbol: &Symbol<'_>, place: usize, looks: &mut Looks) -> WordRead
     ensures value { result ≡ (truth_group symbol.now place).reads }
@@ -52,6 +54,7 @@ pub(super) fn read_truth(symbol: &Symbol<'_>, place: usize, looks: &mut Looks) -
     }
 }
 
+/// A character, by the nibbles of its code.
 #[inline(always)]
 pub(super) fn read_character(symbol: &Symbol<'_>, place: usize, looks: &mut Looks) -> WordRead
     ensures value { result ≡ (character_group symbol.now place).reads }
@@ -71,6 +74,7 @@ pub(super) fn read_character(symbol: &Symbol<'_>, place: usize, looks: &mut Look
     }
 }
 
+/// A string, by the nibbles of its UTF-8 bytes.
 #[inline(always)]
 pub(super) fn read_literal(symbol: &Symbol<'_>, place: usize, looks: &mut Looks) -> WordRead
     ensures value { result ≡ (literal_group symbol.now place).reads }

@@ -23,6 +23,7 @@ fn abi_named(is_unsafe: bool, ident: Ident, symbol: &Symbol<'_>, next: usize) ->
     goes(Stretch::FunctionHead(is_unsafe, abi), next)
 }
 
+/// The ABI of a function, if one is named, behind the mark of an unsafe one.
 fn read_abi(symbol: &Symbol<'_>, is_unsafe: bool, place: usize, looks: &mut Looks) -> WordRead
     ensures value { result ≡ (abi_group symbol.now is_unsafe place).reads }
     ensures grows { looks.old ≤ looks.new }
@@ -42,6 +43,7 @@ fn read_abi(symbol: &Symbol<'_>, is_unsafe: bool, place: usize, looks: &mut Look
     }
 }
 
+/// What stands before the parameters of a function: whether it is unsafe, and its ABI.
 #[inline(always)]
 pub(super) fn read_head(symbol: &Symbol<'_>, place: usize, looks: &mut Looks) -> WordRead
     ensures value { result ≡ (head_group symbol.now place).reads }

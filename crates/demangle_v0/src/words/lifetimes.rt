@@ -30,6 +30,7 @@ fn if_in_force(
     }
 }
 
+/// A lifetime, by its index: `_` for 0.
 #[inline(always)]
 pub(super) fn read_lifetime(
     symbol: &Symbol<'_>,
@@ -62,6 +63,7 @@ pub(super) fn read_lifetime(
     )
 }
 
+/// The lifetime behind a dyn type, which has to be there; that of index 0 is not printed.
 #[inline(always)]
 pub(super) fn read_dyn(
     symbol: &Symbol<'_>,

@@ -39,6 +39,7 @@ pub fn numbered_name(
     Some((ident, number, next))
 }
 
+/// The name of a field, whose disambiguator is not printed.
 #[inline(always)]
 pub(super) fn read_field(symbol: &Symbol<'_>, place: usize, looks: &mut Looks) -> WordRead
     ensures value { result ≡ (field_group symbol.now place).reads }
@@ -53,6 +54,7 @@ pub(super) fn read_field(symbol: &Symbol<'_>, place: usize, looks: &mut Looks) -
     }
 }
 
+/// The name of a binding.
 #[inline(always)]
 pub(super) fn read_binding(symbol: &Symbol<'_>, place: usize, looks: &mut Looks) -> WordRead
     ensures value { result ≡ (binding_group symbol.now place).reads }
