@@ -98,14 +98,14 @@ abbrev pub says_char : Items → Option ℕ → Items
 says_char p None = invalid
 says_char p (Some c) = if lib.Utf8.scalar c then say_all (literal (code "'") (c ∷ [])) p else invalid
 
--- a word, and the items behind it; the note is the tag of a number, or the namespace
+-- a word, and the items behind it; a number has a tag
 abbrev pub word_items : Word → ℕ → Items → Items
-word_items word.FieldName note p = disambiguator (λ _. identifier (λ a. says_name a p))
-word_items word.BindingName note p = identifier (λ a. says_name a (says " = " p))
-word_items word.LifetimeIndex note p = integer (λ k. lifetime k p)
-word_items word.DynLifetime note p = next (code "L") (integer (λ k. if k == 0 then p else says " + " (lifetime k p))) invalid
-word_items word.FunctionHead note p = next (code "U") (function_head true p) (function_head false p)
-word_items word.Number note p = nibbles (λ h. number_pieces h (some_or p (row_text note basic_types) (λ text. say_plain text p)))
-word_items word.Truth note p = nibbles (λ h. says_true p (number_of h))
-word_items word.Character note p = nibbles (λ h. says_char p (number_of h))
-word_items word.Literal note p = nibbles (λ h. some_or invalid (string_of h) (λ cs. say_all (literal (code "\"") cs) p))
+word_items word.FieldName tag p = disambiguator (λ _. identifier (λ a. says_name a p))
+word_items word.BindingName tag p = identifier (λ a. says_name a (says " = " p))
+word_items word.LifetimeIndex tag p = integer (λ k. lifetime k p)
+word_items word.DynLifetime tag p = next (code "L") (integer (λ k. if k == 0 then p else says " + " (lifetime k p))) invalid
+word_items word.FunctionHead tag p = next (code "U") (function_head true p) (function_head false p)
+word_items word.Number tag p = nibbles (λ h. number_pieces h (some_or p (row_text tag basic_types) (λ text. say_plain text p)))
+word_items word.Truth tag p = nibbles (λ h. says_true p (number_of h))
+word_items word.Character tag p = nibbles (λ h. says_char p (number_of h))
+word_items word.Literal tag p = nibbles (λ h. some_or invalid (string_of h) (λ cs. say_all (literal (code "\"") cs) p))

@@ -182,7 +182,7 @@ abbrev pub sign_group : List ℕ → ℕ → Group
 sign_group b i = byte_group (is_byte b i (code "n")) (goes (Fixed mark.Minus) (Some (i + 1))) (goes Nothing (Some i))
 
 abbrev pub number_group : List ℕ → ℕ → ℕ → Group
-number_group b note i = behind_word (length b) i (hex_at b i) (λ h j. goes (Number (number_of (bytes_in b h)) h note) (Some j))
+number_group b tag i = behind_word (length b) i (hex_at b i) (λ h j. goes (Number (number_of (bytes_in b h)) h tag) (Some j))
 
 abbrev pub truth_stretch : Option ℕ → ℕ → Group
 truth_stretch None j = faulty
@@ -206,15 +206,15 @@ abbrev pub literal_group : List ℕ → ℕ → Group
 literal_group b i = behind_word (length b) i (hex_at b i) (λ h j. literal_stretch (string_of (bytes_in b h)) h j)
 
 abbrev pub word_at : List ℕ → Word → ℕ → Bool → ℕ → ℕ → Group
-word_at b word.FieldName note out lifetimes i = field_group b i
-word_at b word.BindingName note out lifetimes i = binding_group b i
-word_at b word.LifetimeIndex note out lifetimes i = lifetime_group b out lifetimes i
-word_at b word.DynLifetime note out lifetimes i = dyn_group b out lifetimes i
-word_at b word.FunctionHead note out lifetimes i = head_group b i
-word_at b word.Number note out lifetimes i = number_group b note i
-word_at b word.Truth note out lifetimes i = truth_group b i
-word_at b word.Character note out lifetimes i = character_group b i
-word_at b word.Literal note out lifetimes i = literal_group b i
+word_at b word.FieldName tag out lifetimes i = field_group b i
+word_at b word.BindingName tag out lifetimes i = binding_group b i
+word_at b word.LifetimeIndex tag out lifetimes i = lifetime_group b out lifetimes i
+word_at b word.DynLifetime tag out lifetimes i = dyn_group b out lifetimes i
+word_at b word.FunctionHead tag out lifetimes i = head_group b i
+word_at b word.Number tag out lifetimes i = number_group b tag i
+word_at b word.Truth tag out lifetimes i = truth_group b i
+word_at b word.Character tag out lifetimes i = character_group b i
+word_at b word.Literal tag out lifetimes i = literal_group b i
 
 -- where the reading has failed
 abbrev pub word_failed : Word → WordRead
@@ -223,5 +223,5 @@ word_failed word.FunctionHead = Goes (FunctionHead false abi.Rust) None
 word_failed _ = Stops mark.Unread
 
 abbrev pub word_group : List ℕ → Word → ℕ → Bool → ℕ → Place → Group
-word_group b w note out lifetimes None = record { reads = word_failed w; costs = [] }
-word_group b w note out lifetimes (Some i) = word_at b w note out lifetimes i
+word_group b w tag out lifetimes None = record { reads = word_failed w; costs = [] }
+word_group b w tag out lifetimes (Some i) = word_at b w tag out lifetimes i

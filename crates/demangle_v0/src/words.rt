@@ -29,21 +29,21 @@ pub enum WordRead {
     Stops(Mark),
 }
 
-/// Reads a word. The note is the tag of a number.
+/// Reads a word; a number has a tag.
 #[inline(always)]
 pub fn read_word(
     symbol: &Symbol<'_>,
     word: Word,
-    note: u8,
+    tag: u8,
     output: bool,
     lifetimes: u128,
     place: Option<usize>,
     looks: &mut Looks,
 ) -> WordRead
-    ensures value { result ≡ (word_group symbol.now word note output lifetimes place).reads }
+    ensures value { result ≡ (word_group symbol.now word tag output lifetimes place).reads }
     ensures grows { looks.old ≤ looks.new }
     ensures looks { looks.new + looks_later (read_stretch result) ≤ looks.old + total (word_group
-        symbol.now word note output lifetimes place).costs }
+        symbol.now word tag output lifetimes place).costs }
     ensures lies { LiesIn symbol.now (read_stretch result) }
 {
     let Some(at) = place else {
@@ -55,7 +55,7 @@ pub fn read_word(
         Word::LifetimeIndex => read_lifetime(symbol, output, lifetimes, at, looks),
         Word::DynLifetime => read_dyn(symbol, output, lifetimes, at, looks),
         Word::FunctionHead => read_head(symbol, at, looks),
-        Word::Number => read_number(symbol, note, at, looks),
+        Word::Number => read_number(symbol, tag, at, looks),
         Word::Truth => read_truth(symbol, at, looks),
         Word::Character => read_character(symbol, at, looks),
         Word::Literal => read_literal(symbol, at, looks),

@@ -14,14 +14,14 @@ use demangle_symbol::literal::{character_of, is_string, truth_of};
 #[inline(always)]
 pub(super) fn read_number(
     symbol: &Symbol<'_>,
-    note: u8,
+    tag: u8,
     place: usize,
     looks: &mut Looks,
 ) -> WordRead
-    ensures value { result ≡ (number_group symbol.now note place).reads }
+    ensures value { result ≡ (number_group symbol.now tag place).reads }
     ensures grows { looks.old ≤ looks.new }
     ensures looks { looks.new + looks_later (read_stretch result) ≤ looks.old + total (number_group
-        symbol.now note place).costs }
+        symbol.now tag place).costs }
     ensures twice { IfSome (hex_at symbol.now place) (λ r. looks.new ≤ looks.old + 2 * (r.1 -
         place)) }
     ensures lies { LiesIn symbol.now (read_stretch result) }
@@ -30,7 +30,7 @@ pub(super) fn read_number(
         return faulty();
     };
     let number = symbol.hex_number(part, looks);
-    goes(Stretch::Number(number, part, note), next)
+    goes(Stretch::Number(number, part, tag), next)
 }
 
 /// `false` or `true`, by its nibbles.
