@@ -4,7 +4,7 @@ ghost use Rattle.std.specs.Prelude.{◌≡◌, ◌+◌, ◌==◌, ◌≤◌, [],
 use std::marker::Model;
 
 /// How many bytes can be held. They lie on the stack, of which the whole program takes 24 KB.
-const CAPACITY: usize = 2048;
+pub const CAPACITY: usize = 2048;
 
 /// At most `CAPACITY` bytes, in the order in which they came.
 #[derive(Drop)]
@@ -15,12 +15,13 @@ pub struct Held {
 
 impl Model for Held {
     ghost use Rattle.std.specs.Prelude.{◌≡◌, ◌≤◌, ℕ, List, length, take};
+    ghost use Rattle.demangle_filter.specs.declared.held.TheConstants.{CAPACITY};
 
     ghost Value = { List ℕ };
 
     ghost view = { λ held. take held.len held.bytes };
 
-    ghost invariant = { λ held. (held.len ≤ 2048) × (length held.bytes ≡ 2048) };
+    ghost invariant = { λ held. (held.len ≤ CAPACITY) × (length held.bytes ≡ CAPACITY) };
 }
 
 impl Held {
@@ -48,7 +49,7 @@ impl Held {
     /// Holds all of the piece, or answers `false` where there is no room for it.
     #[inline(always)]
     pub fn push(&mut self, piece: &[u8]) -> bool
-        ensures room { length self.old + length piece.now ≤ 2048 → IsTrue result }
+        ensures room { length self.old + length piece.now ≤ CAPACITY → IsTrue result }
         ensures held { IsTrue result → self.new ≡ self.old ++ piece.now }
         ensures kept { IsFalse result → self.new ≡ self.old }
     {

@@ -1,6 +1,7 @@
 //! What is the program's own: its words, statuses and texts, and when it flushes. What the stream
 //! writes is tested with the library.
 use crate::filter::filter_run;
+use crate::held::CAPACITY;
 use crate::pausing::PausingOutput;
 use std::alloc::{AllocError, Global};
 use std::cell::Cell;
@@ -257,10 +258,10 @@ fn assert_handed_on(
 #[test]
 fn pieces_are_handed_on_where_no_more_has_room(rt: HostRuntime) -> Result<(), Fail> {
     let alloc = rt.alloc();
-    let full = vec![in alloc; b'f'; 2048]?;
+    let full = vec![in alloc; b'f'; CAPACITY]?;
     let full = full.as_slice();
     let (front, back) = full.split_at(2000);
-    let long = vec![in alloc; b'l'; 2049]?;
+    let long = vec![in alloc; b'l'; CAPACITY + 1]?;
     let long = long.as_slice();
     assert_handed_on(&rt, alloc, &[], &[])?;
     assert_handed_on(&rt, alloc, &[front, back], &[full])?;
@@ -272,7 +273,7 @@ fn pieces_are_handed_on_where_no_more_has_room(rt: HostRuntime) -> Result<(), Fa
 #[test]
 fn what_was_refused_is_told_by_the_flush(rt: HostRuntime) -> Result<(), Fail> {
     let alloc = rt.alloc();
-    let full = vec![in alloc; b'f'; 2048]?;
+    let full = vec![in alloc; b'f'; CAPACITY]?;
     let mut refusing = RefusingWriter::new(alloc, b"old", 0, true)?;
     let output = PausingOutput::new(&mut refusing);
     let mut writer = output.writer();
