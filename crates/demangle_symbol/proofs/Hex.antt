@@ -9,6 +9,8 @@ use Rattle.std.proofs.lemmas.List.Sums.{prefix_len-drop_yes, prefix_len-drop_no,
 use Rattle.std.proofs.lemmas.List.Edits.{length-between, get_or-between}
 use Rattle.demangle_symbol.specs.Digits.{run_end, number, is_byte}
 use Rattle.demangle_symbol.specs.Words.{nibbles_at, is_nibble, nibble, Hex, zeros, hex_number}
+use Rattle.demangle_symbol.specs.Nibbles.{hex_at}
+use Rattle.std.specs.Prelude.{option_map}
 use Rattle.demangle_symbol.proofs.Digits.{run_more, run_stops, run_past, number_none, number_more, is_byte_there}
 use Rattle.demangle_symbol.proofs.Idents.{is_byte_not}
 use Rattle.demangle_symbol.proofs.Integers.{byte_is, only_not}
@@ -31,7 +33,17 @@ pub hex_unread : (s : List ℕ) (i : ℕ) → ((j end : ℕ) → Hex s i j end �
 unfolding nibbles_at
 hex_unread s i none = only_not (is_byte s (run_end is_nibble s i) 95) _ (λ there. none (run_end is_nibble s i + 1) (run_end is_nibble s i) (record { nibbles = refl; ends = is_byte_there s _ 95 there; next = refl }))
 
-pub ruleset hex_reads = (hex_read, hex_unread)
+-- by the places of its nibbles
+pub hex_there : (s : List ℕ) (i j end : ℕ) → Hex s i j end → hex_at s i ≡ Some (record { from = i; to = end }, j)
+hex_there s i j end h =
+    let e : j - 1 ≡ end = omega (arith, h.next) in
+    ap (option_map (λ (r : List ℕ × ℕ). (record { from = i; to = r.1 - 1 }, r.1))) (hex_read s i j end h)
+    ∙ ap (λ (k : ℕ). Some (record { from = i; to = k }, j)) e
+
+pub hex_not_there : (s : List ℕ) (i : ℕ) → ((j end : ℕ) → Hex s i j end → ⊥) → hex_at s i ≡ None
+hex_not_there s i none = ap (option_map (λ (r : List ℕ × ℕ). (record { from = i; to = r.1 - 1 }, r.1))) (hex_unread s i none)
+
+pub ruleset hex_reads = (hex_read, hex_unread, hex_there, hex_not_there)
 
 pub ruleset hex_steps = (run_more, run_stops, run_past, no_hex_past)
 

@@ -6,14 +6,14 @@ use Rattle.std.proofs.lemmas.List.Edits.{between_none}
 use Rattle.std.proofs.lemmas.Option.{slice_get-get_or}
 use Rattle.demangle_symbol.specs.declared.cursor.ident.Ident.{Ident}
 use Rattle.demangle_symbol.specs.Digits.{run_end, number, is_digit_10, digit_10, Decimal, is_byte}
-use Rattle.std.specs.Prelude.{◌&&◌}
+use Rattle.std.specs.Prelude.{◌&&◌, option_map}
 use Rattle.std.proofs.lemmas.Bool.{lt-ltb, ltb-true, le-leb, leb-true}
 use Rattle.std.proofs.lemmas.Bool.Decides.{nat_tests}
 use Rattle.demangle_symbol.proofs.Integers.{only_both, only_not_both}
 use Rattle.std.proofs.lemmas.List.Sums.{suffix_len-le-length}
 use Rattle.std.proofs.lemmas.List.Edits.{length-between}
 use Rattle.demangle_symbol.specs.Words.{Name, length_end, length_value, Length, behind_byte, tail_len, digits_from, name_from, name_len, name_of, punycode_len, ascii_to, identifier_at, Identifier}
-use Rattle.demangle_symbol.specs.Idents.{DigitsUpTo, IsIdent, name_in}
+use Rattle.demangle_symbol.specs.Idents.{DigitsUpTo, IsIdent, ident_parts, ident_at, name_in}
 use Rattle.demangle_symbol.proofs.Digits.{range_more, number_none, number_more, is_byte_there, digits_none, digits_more}
 
 pub length_none : (s : List ℕ) (i : ℕ) → is_byte s i 48 ≡ true → Length s i (i + 1) 0
@@ -117,10 +117,6 @@ behind_no_u s i h = rw h refl
 
 pub ruleset ident_steps = (behind_u, behind_no_u, no_ident_length, no_ident_past, no_ident_empty)
 
--- its parts, where a `u` stands in front and where none does
-abbrev parts_of : List ℕ → ℕ → ℕ → Ident
-parts_of s i j = record { ascii = record { from = name_from s i; to = ascii_to s i j }; punycode = record { from = j - punycode_len s i j; to = j } }
-
 tail_most : (s : List ℕ) (from to : ℕ) → to ≤ length s → from ≤ to → from + tail_len s from to ≤ to
 unfolding tail_len
 tail_most s from to inside order =
@@ -132,14 +128,16 @@ punycode_most s i j inside order = go (is_byte s i 117) where
   go true = omega (arith, tail_most s (name_from s i) j inside order)
   go false = omega arith
 
--- the places of its parts are those of the name
+-- the places of its parts
+parts_are : (a b c d : ℕ) (x : Ident) → x.ascii.from ≡ a → x.ascii.to ≡ b → x.punycode.from ≡ c → x.punycode.to ≡ d → record { ascii = record { from = a; to = b }; punycode = record { from = c; to = d } } ≡ x
+parts_are a b c d x e f g h = rw (sym e, sym f, sym g, sym h) refl
+
+ident_parts_are : (s : List ℕ) (i j : ℕ) (ident : Ident) → IsIdent s i j ident → ident_parts s i j ≡ ident
+ident_parts_are s i j ident h =
+    parts_are (name_from s i) (ascii_to s i j) (j - punycode_len s i j) j ident h.ascii_from h.ascii_to (omega (arith, h.punycode_from)) h.punycode_to
+
 ident_name : (s : List ℕ) (i j : ℕ) (ident : Ident) → IsIdent s i j ident → name_in s ident ≡ name_of s i j
-ident_name s i j ident h =
-    let from : ident.punycode.from ≡ j - punycode_len s i j = omega (arith, h.punycode_from) in
-    ap (λ x. let n : Name = record { ascii = slice_range s x ident.ascii.to; punycode = slice_range s ident.punycode.from ident.punycode.to } in n) h.ascii_from
-    ∙ ap (λ x. let n : Name = record { ascii = slice_range s (name_from s i) x; punycode = slice_range s ident.punycode.from ident.punycode.to } in n) h.ascii_to
-    ∙ ap (λ x. let n : Name = record { ascii = slice_range s (name_from s i) (ascii_to s i j); punycode = slice_range s x ident.punycode.to } in n) from
-    ∙ ap (λ x. let n : Name = record { ascii = slice_range s (name_from s i) (ascii_to s i j); punycode = slice_range s (j - punycode_len s i j) x } in n) h.punycode_to
+ident_name s i j ident h = ap (name_in s) (sym (ident_parts_are s i j ident h))
 
 pub ident_spelled : (s : List ℕ) (i j : ℕ) (ident : Ident) → IsIdent s i j ident → Identifier s i j (name_in s ident)
 ident_spelled s i j ident h = record { some = h.some; next = h.next; inside = h.inside; not_empty = h.not_empty; value = ident_name s i j ident h }
@@ -147,7 +145,7 @@ ident_spelled s i j ident h = record { some = h.some; next = h.next; inside = h.
 pub ident_unspelled : (s : List ℕ) (i : ℕ) → ((j : ℕ) (ident : Ident) → IsIdent s i j ident → ⊥) → (j : ℕ) (name : Name) → Identifier s i j name → ⊥
 ident_unspelled s i none j name h =
     let order : name_from s i ≤ j = omega (arith, h.next) in
-    none j (parts_of s i j) (record {
+    none j (ident_parts s i j) (record {
       some = h.some;
       next = h.next;
       inside = h.inside;
@@ -225,4 +223,12 @@ ident_read s i j ident h = identifier_read s i j (name_in s ident) (ident_spelle
 pub ident_unread : (s : List ℕ) (i : ℕ) → ((j : ℕ) (ident : Ident) → IsIdent s i j ident → ⊥) → identifier_at s i ≡ None
 ident_unread s i none = identifier_unread s i (ident_unspelled s i none)
 
-pub ruleset ident_reads = (ident_spelled, ident_unspelled, ident_read, ident_unread)
+pub ident_there : (s : List ℕ) (i j : ℕ) (ident : Ident) → IsIdent s i j ident → ident_at s i ≡ Some (ident, j)
+ident_there s i j ident h =
+    ap (option_map (λ (r : Name × ℕ). (ident_parts s i r.1, r.1))) (ident_read s i j ident h)
+    ∙ ap (λ (x : Ident). Some (x, j)) (ident_parts_are s i j ident h)
+
+pub ident_not_there : (s : List ℕ) (i : ℕ) → ((j : ℕ) (ident : Ident) → IsIdent s i j ident → ⊥) → ident_at s i ≡ None
+ident_not_there s i none = ap (option_map (λ (r : Name × ℕ). (ident_parts s i r.1, r.1))) (ident_unread s i none)
+
+pub ruleset ident_reads = (ident_spelled, ident_unspelled, ident_read, ident_unread, ident_there, ident_not_there)

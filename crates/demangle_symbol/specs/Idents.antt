@@ -1,8 +1,8 @@
 -- Internal: no public contract cites this.
 -- Decimal digits read so far, identifiers by the places of their parts, and back references by their faults.
-use Rattle.std.specs.Prelude.{◌≡◌, ℕ, ◌+◌, ◌-◌, ◌<◌, ◌≤◌, true, List, [], ◌∷◌, codes, length, slice_range, nat_lt, None, Some, Result, Ok, Err, if◌then◌else◌}
+use Rattle.std.specs.Prelude.{◌≡◌, ℕ, ◌+◌, ◌-◌, ◌<◌, ◌≤◌, true, List, [], ◌∷◌, codes, length, slice_range, option_map, nat_lt, None, Some, Result, Ok, Err, if◌then◌else◌}
 use Rattle.demangle_symbol.specs.Digits.{is_byte, run_end, number, is_digit_10, digit_10}
-use Rattle.demangle_symbol.specs.Words.{Read, Name, max_depth, length_end, tail_len, digits_from, name_from, name_len, punycode_len, ascii_to}
+use Rattle.demangle_symbol.specs.Words.{Read, Name, identifier_at, max_depth, length_end, tail_len, digits_from, name_from, name_len, punycode_len, ascii_to}
 use Rattle.demangle_symbol.specs.Names.{is_empty}
 use Rattle.demangle_symbol.specs.declared.cursor.ParseError.{ParseError}
 use Rattle.demangle_symbol.specs.declared.cursor.ParseError.TheVariants.{Invalid, RecursedTooDeep}
@@ -43,6 +43,13 @@ pub record IsIdent (s : List ℕ) (i j : ℕ) (ident : Ident) : Type 0 where
   pub punycode_from : ident.punycode.from + punycode_len s i j ≡ j
   pub punycode_to : ident.punycode.to ≡ j
   pub not_empty : is_byte s i 117 ≡ true → 0 < tail_len s (name_from s i) j
+
+-- where the parts of the identifier from i up to j stand
+abbrev pub ident_parts : List ℕ → ℕ → ℕ → Ident
+ident_parts s i j = record { ascii = record { from = name_from s i; to = ascii_to s i j }; punycode = record { from = j - punycode_len s i j; to = j } }
+
+abbrev pub ident_at : List ℕ → ℕ → Read Ident
+ident_at s i = option_map (λ r. (ident_parts s i r.1, r.1)) (identifier_at s i)
 
 -- how a back reference is answered at a depth: a word that is none is Invalid, and one at the greatest depth is too deep
 abbrev pub backref_answer : ℕ → Read ℕ → Result (ℕ × ℕ) ParseError

@@ -1,13 +1,17 @@
 -- Internal: no public contract cites this.
 -- The nibbles of a hex word by their places.
-use Rattle.std.specs.Prelude.{ℕ, List, [], slice_range, map, flat_map, encode_utf8}
-use Rattle.demangle_symbol.specs.Words.{some_or, Hex}
+use Rattle.std.specs.Prelude.{ℕ, ◌-◌, List, [], slice_range, option_map, map, flat_map, encode_utf8}
+use Rattle.demangle_symbol.specs.Words.{Read, some_or, nibbles_at, Hex}
 use Rattle.demangle_symbol.specs.Literals.{literal_escape, string_of}
 use Rattle.demangle_symbol.specs.declared.cursor.Part.{Part}
 
 -- the part is all the nibbles of a hex word from a place on
 abbrev pub HexPart : List ℕ → Part → Type 0
 HexPart s part = (j : ℕ) × Hex s part.from j part.to
+
+-- where the nibbles of the hex word at i stand
+abbrev pub hex_at : List ℕ → ℕ → Read Part
+hex_at s i = option_map (λ r. (record { from = i; to = r.1 - 1 }, r.1)) (nibbles_at s i)
 
 abbrev pub nibbles_in : List ℕ → Part → List ℕ
 nibbles_in s part = slice_range s part.from part.to

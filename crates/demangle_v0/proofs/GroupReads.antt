@@ -13,7 +13,9 @@ use Rattle.demangle_v0.specs.Table.{says, say_all, says_name, in_special, in_nam
 use Rattle.demangle_v0.specs.Reading.{Tree, nothing, piece, looked, invalid_syntax, Place, Outcome, Surroundings, fault, behind, stands, followed_by, run, word_outcome, byte_choice, letter_of, all_pieces, lifetime_at, lifetime_named}
 use Rattle.demangle_v0.specs.Grammar.{text, word_items, says_head, function_head, says_true, says_char}
 use Rattle.demangle_v0.specs.Events.{Event, shows, allows, shown_if, said_all, events, Heard, of, nothing_heard, with_looks, with_texts}
-use Rattle.demangle_v0.specs.Groups.{bytes_in, ident_parts, ident_at, hex_at, nested_texts, number_texts, if_plain, texts_of, Group, goes, faulty, behind_word, byte_group, if_in_force, abi_named, abi_group, truth_stretch, character_stretch, literal_stretch, crate_group, nested_group, word_group}
+use Rattle.demangle_symbol.specs.Idents.{ident_parts, ident_at}
+use Rattle.demangle_symbol.specs.Nibbles.{hex_at}
+use Rattle.demangle_v0.specs.Groups.{bytes_in, nested_texts, number_texts, if_plain, texts_of, Group, goes, faulty, behind_word, byte_group, if_in_force, abi_named, abi_group, truth_stretch, character_stretch, literal_stretch, crate_group, nested_group, word_group}
 use Rattle.demangle_v0.specs.Points.{around}
 use Rattle.demangle_symbol.specs.declared.cursor.Part.{Part}
 use Rattle.demangle_symbol.specs.declared.cursor.ident.Ident.{Ident}

@@ -5,10 +5,11 @@ use Rattle.std.specs.Fmt.{digits}
 use Prim.Native.Char.{code}
 use lib.Utf8.{scalar}
 use Rattle.demangle_symbol.specs.Digits.{is_byte}
-use Rattle.demangle_symbol.specs.Words.{Read, Name, name_from, ascii_to, punycode_len, is_upper, integer_at, optional_at, identifier_at, nibbles_at, number_of, some_or}
+use Rattle.demangle_symbol.specs.Words.{Read, Name, is_upper, integer_at, optional_at, number_of, some_or}
 use Rattle.demangle_symbol.specs.Names.{name_pieces, is_nameless, is_empty}
 use Rattle.demangle_symbol.specs.Literals.{literal, string_of}
-use Rattle.demangle_symbol.specs.Idents.{name_in, name_size}
+use Rattle.demangle_symbol.specs.Idents.{ident_at, name_in, name_size}
+use Rattle.demangle_symbol.specs.Nibbles.{hex_at}
 use Rattle.demangle_v0.specs.Items.{Text}
 use Rattle.demangle_v0.specs.Table.{extern, row_text, basic_types}
 use Rattle.demangle_v0.specs.Reading.{Place, letter_of}
@@ -28,17 +29,6 @@ use Rattle.demangle_v0.specs.declared.words.WordRead.TheVariants.{Goes, Stops}
 
 abbrev pub bytes_in : List ℕ → Part → List ℕ
 bytes_in b part = slice_range b part.from part.to
-
--- where the parts of the identifier from i up to j stand
-abbrev pub ident_parts : List ℕ → ℕ → ℕ → Ident
-ident_parts b i j = record { ascii = record { from = name_from b i; to = ascii_to b i j }; punycode = record { from = j - punycode_len b i j; to = j } }
-
-abbrev pub ident_at : List ℕ → ℕ → Read Ident
-ident_at b i = option_map (λ r. (ident_parts b i r.1, r.1)) (identifier_at b i)
-
--- where the nibbles of the hex word at i stand
-abbrev pub hex_at : List ℕ → ℕ → Read Part
-hex_at b i = option_map (λ r. (record { from = i; to = r.1 - 1 }, r.1)) (nibbles_at b i)
 
 -- The pieces of a stretch.
 

@@ -1,11 +1,8 @@
 //! The words of a v0 symbol that are read in one step, and what they hand over.
-ghost use Rattle.std.specs.Prelude.{◌≡◌, ℕ, ◌+◌, ◌-◌, ◌*◌, ◌≤◌, length, MatchOption, IfSome, Some, List};
-ghost use Rattle.demangle_symbol.specs.Words.{Hex};
-ghost use Rattle.demangle_symbol.specs.Idents.{LiesWithin, name_size};
+ghost use Rattle.std.specs.Prelude.{◌≡◌, ℕ, ◌+◌, ◌≤◌, Some, List};
 ghost use Rattle.demangle_v0.specs.Totals.{total};
-ghost use Rattle.demangle_symbol.specs.Nibbles.{HexPart};
-ghost use Rattle.demangle_v0.specs.Serving.{LiesIn, PartIn};
-ghost use Rattle.demangle_v0.specs.Groups.{ident_at, hex_at, read_stretch, looks_later, word_group, word_failed};
+ghost use Rattle.demangle_v0.specs.Serving.{LiesIn};
+ghost use Rattle.demangle_v0.specs.Groups.{read_stretch, looks_later, word_group, word_failed};
 
 use crate::grammar::{Mark, Word};
 use crate::stretch::{Abi, Stretch};
@@ -13,7 +10,7 @@ use crate::words::constants::{read_character, read_literal, read_number, read_tr
 use crate::words::functions::read_head;
 use crate::words::lifetimes::{read_dyn, read_lifetime};
 use crate::words::names::{read_binding, read_field};
-use demangle_symbol::cursor::{Ident, Looks, Part, Symbol};
+use demangle_symbol::cursor::{Looks, Symbol};
 
 mod constants;
 mod functions;
@@ -90,29 +87,4 @@ fn goes(stretch: Stretch, next: usize) -> WordRead
     ensures { result ≡ WordRead.Goes stretch (Some next) }
 {
     WordRead::Goes(stretch, Some(next))
-}
-
-/// The identifier at a place, and the place behind it.
-#[inline(always)]
-fn name(symbol: &Symbol<'_>, place: usize, looks: &mut Looks) -> Option<(Ident, usize)>
-    ensures value { result ≡ ident_at symbol.now place }
-    ensures parts { IfSome result (λ r. LiesWithin symbol.now r.0) }
-    ensures grows { looks.old ≤ looks.new }
-    ensures looks { MatchOption result (looks.new ≤ looks.old + 4 * (length symbol.now - place + 1))
-        (λ r. looks.new + name_size r.0 ≤ looks.old + 4 * (r.1 - place + 1)) }
-{
-    symbol.ident(place, looks).ok()
-}
-
-/// The nibbles of the hex word at a place, and the place behind it.
-fn nibbles(symbol: &Symbol<'_>, place: usize, looks: &mut Looks) -> Option<(Part, usize)>
-    ensures value { result ≡ hex_at symbol.now place }
-    ensures hex { IfSome result (λ r. Hex symbol.now r.0.from r.1 r.0.to) }
-    ensures part { IfSome result (λ r. PartIn symbol.now r.0) }
-    ensures nibbles { IfSome result (λ r. HexPart symbol.now r.0) }
-    ensures grows { looks.old ≤ looks.new }
-    ensures looks { MatchOption result (looks.new ≤ looks.old + (length symbol.now - place)) (λ r.
-        looks.new ≤ looks.old + (r.1 - place)) }
-{
-    symbol.hex_nibbles(place, looks).ok()
 }

@@ -2,6 +2,7 @@
 ghost use Rattle.std.specs.Prelude.{◌≡◌, ℕ, ◌+◌, ◌-◌, ◌*◌, ◌<◌, ◌≤◌, length, true, false, slice_range, IfOk, OnErr, IfErr, MatchOption, option_map};
 ghost use Rattle.std.specs.Result.{result_ok};
 ghost use Rattle.demangle_symbol.specs.Digits.{number};
+ghost use Rattle.demangle_symbol.specs.Nibbles.{hex_at};
 ghost use Rattle.demangle_symbol.specs.Words.{nibbles_at, number_of, hex_number, Hex, is_nibble, nibble, zeros};
 
 use crate::cursor::{Looks, ParseError, Part, Symbol};
@@ -19,6 +20,7 @@ impl<'s> Symbol<'s> {
         ensures err { OnErr result ((j end : ℕ) → Hex self.now place j end → ⊥) }
         ensures read { option_map (λ r. (slice_range self.now r.0.from r.0.to, r.1))
             (result_ok result) ≡ nibbles_at self.now place }
+        ensures value { result_ok result ≡ hex_at self.now place }
         ensures fault { IfErr result (λ e. e ≡ ParseError.Invalid) }
         ensures grows { looks.old ≤ looks.new }
         ensures ok_looks { IfOk result (λ r. looks.new ≤ looks.old + (r.1 - place)) }

@@ -3,7 +3,7 @@ ghost use Rattle.std.specs.Prelude.{◌≡◌, ℕ, ◌+◌, ◌-◌, ◌*◌, �
 ghost use Rattle.std.specs.Result.{result_ok};
 ghost use Rattle.demangle_symbol.specs.Digits.{is_byte};
 ghost use Rattle.demangle_symbol.specs.Words.{Name, Length, Identifier, identifier_at, tail_len};
-ghost use Rattle.demangle_symbol.specs.Idents.{IsIdent, LiesWithin, name_in, name_size};
+ghost use Rattle.demangle_symbol.specs.Idents.{IsIdent, LiesWithin, ident_at, name_in, name_size};
 
 use crate::cursor::{Looks, ParseError, Part, Symbol};
 
@@ -76,6 +76,7 @@ impl<'s> Symbol<'s> {
             ((j : ℕ) (name : Name) → Identifier self.now place j name → ⊥) }
         ensures read { option_map (λ r. (name_in self.now r.0, r.1)) (result_ok result)
             ≡ identifier_at self.now place }
+        ensures value { result_ok result ≡ ident_at self.now place }
         ensures fault { IfErr result (λ e. e ≡ ParseError.Invalid) }
         ensures grows { looks.old ≤ looks.new }
         // With its bytes once more, to print it, it is within the same bound.

@@ -2,11 +2,12 @@
 ghost use Rattle.std.specs.Prelude.{◌≡◌, ◌+◌, ◌-◌, ◌*◌, ◌≤◌, IfSome, Some};
 ghost use Rattle.demangle_v0.specs.Totals.{total};
 ghost use Rattle.demangle_v0.specs.Serving.{LiesIn};
-ghost use Rattle.demangle_v0.specs.Groups.{hex_at, read_stretch, looks_later, sign_group, number_group, truth_group, character_group, literal_group};
+ghost use Rattle.demangle_symbol.specs.Nibbles.{hex_at};
+ghost use Rattle.demangle_v0.specs.Groups.{read_stretch, looks_later, sign_group, number_group, truth_group, character_group, literal_group};
 
 use crate::grammar::Mark;
 use crate::stretch::Stretch;
-use crate::words::{WordRead, faulty, goes, nibbles};
+use crate::words::{WordRead, faulty, goes};
 use demangle_symbol::cursor::{Looks, Symbol};
 use demangle_symbol::literal::{character_of, is_string, truth_of};
 
@@ -26,7 +27,7 @@ pub(super) fn read_number(
         place)) }
     ensures lies { LiesIn symbol.now (read_stretch result) }
 {
-    let Some((part, next)) = nibbles(symbol, place, looks) else {
+    let Ok((part, next)) = symbol.hex_nibbles(place, looks) else {
         return faulty();
     };
     let number = symbol.hex_number(part, looks);
@@ -44,7 +45,7 @@ pub(super) fn read_truth(symbol: &Symbol<'_>, place: usize, looks: &mut Looks) -
         place)) }
     ensures lies { LiesIn symbol.now (read_stretch result) }
 {
-    let Some((part, next)) = nibbles(symbol, place, looks) else {
+    let Ok((part, next)) = symbol.hex_nibbles(place, looks) else {
         return faulty();
     };
     match truth_of(symbol.hex_number(part, looks)) {
@@ -65,7 +66,7 @@ pub(super) fn read_character(symbol: &Symbol<'_>, place: usize, looks: &mut Look
         place)) }
     ensures lies { LiesIn symbol.now (read_stretch result) }
 {
-    let Some((part, next)) = nibbles(symbol, place, looks) else {
+    let Ok((part, next)) = symbol.hex_nibbles(place, looks) else {
         return faulty();
     };
     match character_of(symbol.hex_number(part, looks)) {
@@ -85,7 +86,7 @@ pub(super) fn read_literal(symbol: &Symbol<'_>, place: usize, looks: &mut Looks)
         place)) }
     ensures lies { LiesIn symbol.now (read_stretch result) }
 {
-    let Some((part, next)) = nibbles(symbol, place, looks) else {
+    let Ok((part, next)) = symbol.hex_nibbles(place, looks) else {
         return faulty();
     };
     if !is_string(symbol, part, looks) {

@@ -6,7 +6,7 @@ ghost use Rattle.demangle_v0.specs.Serving.{LiesIn};
 ghost use Rattle.demangle_v0.specs.Groups.{read_stretch, looks_later, abi_named, abi_group, head_group};
 
 use crate::stretch::{Abi, Stretch};
-use crate::words::{WordRead, faulty, goes, name};
+use crate::words::{WordRead, faulty, goes};
 use demangle_symbol::cursor::{Ident, Looks, Symbol};
 
 /// An ABI has no Punycode part, and an ASCII part.
@@ -37,9 +37,9 @@ fn read_abi(symbol: &Symbol<'_>, is_unsafe: bool, place: usize, looks: &mut Look
     if symbol.is_at(b'C', place + 1, looks) {
         return goes(Stretch::FunctionHead(is_unsafe, Abi::C), place + 2);
     }
-    match name(symbol, place + 1, looks) {
-        Some((ident, next)) => abi_named(is_unsafe, ident, symbol, next),
-        None => faulty(),
+    match symbol.ident(place + 1, looks) {
+        Ok((ident, next)) => abi_named(is_unsafe, ident, symbol, next),
+        Err(_) => faulty(),
     }
 }
 

@@ -10,7 +10,7 @@ ghost use Rattle.demangle_v0.specs.declared.grammar.Mark.{Mark};
 ghost use Rattle.demangle_symbol.specs.declared.cursor.ident.Ident.{Ident};
 
 use crate::stretch::Stretch;
-use crate::words::{WordRead, faulty, goes, name};
+use crate::words::{WordRead, faulty, goes};
 use demangle_symbol::cursor::{Ident, Looks, Symbol};
 
 /// A name behind a disambiguator, its number, and the place behind it.
@@ -33,7 +33,7 @@ pub fn numbered_name(
     let Ok((number, at)) = symbol.disambiguator(place, looks) else {
         return None;
     };
-    let Some((ident, next)) = name(symbol, at, looks) else {
+    let Ok((ident, next)) = symbol.ident(at, looks) else {
         return None;
     };
     Some((ident, number, next))
@@ -63,8 +63,8 @@ pub(super) fn read_binding(symbol: &Symbol<'_>, place: usize, looks: &mut Looks)
         symbol.now place).costs }
     ensures lies { LiesIn symbol.now (read_stretch result) }
 {
-    match name(symbol, place, looks) {
-        Some((ident, next)) => goes(Stretch::BindingName(ident), next),
-        None => faulty(),
+    match symbol.ident(place, looks) {
+        Ok((ident, next)) => goes(Stretch::BindingName(ident), next),
+        Err(_) => faulty(),
     }
 }
