@@ -7,9 +7,9 @@ For each program it prints lines a second (the best of five runs) and instructio
 `-` for these. With --save it writes the text that it makes, and runs nothing.
 Build the program first, by `rt run </dev/null` in crates/demangle_filter.
 """
-import argparse, itertools, re, shlex, shutil, subprocess, sys, tempfile, time
+import argparse, itertools, re, shutil, sys
 
-from common import CORPUS, OURS, need_filter, others
+from common import CORPUS, OURS, further, instructions, need_filter, others, seconds
 
 FORMS = [
     '  {n:>4}: 0x{a:012x} - {s}\n             at /src/lib.rs:{n}:17\n',
@@ -43,29 +43,12 @@ def text_of(given):
     return ''.join(made_lines(given.repeat)).encode()
 
 
-def seconds(command, text):
-    best = None
-    for _ in range(5):
-        began = time.perf_counter()
-        subprocess.run(command, input=text, stdout=subprocess.DEVNULL, check=True)
-        took = time.perf_counter() - began
-        best = took if best is None else min(best, took)
-    return best
-
-
-def instructions(command, text):
-    with tempfile.NamedTemporaryFile() as out:
-        run = subprocess.run(['valgrind', '--tool=callgrind', '--callgrind-out-file=' + out.name] + command,
-                             input=text, stdout=subprocess.DEVNULL, stderr=subprocess.PIPE, check=True)
-    return int(re.search(rb'Collected : (\d+)', run.stderr).group(1))
-
-
 def main():
     words = argparse.ArgumentParser(description=__doc__, formatter_class=argparse.RawDescriptionHelpFormatter)
     words.add_argument('--text', metavar='FILE', help='run over this text')
     words.add_argument('--repeat', type=int, default=20, metavar='N', help='how often each symbol stands in the text that is made (default 20)')
     words.add_argument('--save', metavar='FILE', help='write the text that is made into this file, and run nothing')
-    words.add_argument('--also', action='append', default=[], metavar='NAME=COMMAND', help='a further program to run (may stand more than once)')
+    words.add_argument('--also', type=further, action='append', default=[], metavar='NAME=COMMAND', help='a further program to run (may stand more than once)')
     given = words.parse_args()
     if given.save:
         with open(given.save, 'w', encoding='utf-8') as file:
@@ -79,8 +62,7 @@ def main():
     counts = shutil.which('valgrind')
     if not counts:
         print('no valgrind on this machine (Debian package valgrind): instructions are left out', file=sys.stderr)
-    programs = [('demangle_filter', [OURS])] + list(others())
-    programs += [(name, shlex.split(command)) for name, command in (also.split('=', 1) for also in given.also)]
+    programs = [('demangle_filter', [OURS])] + list(others()) + given.also
     print('%d lines, %d bytes' % (lines, len(text)))
     print('| program | lines a second | instructions a line |')
     print('| --- | ---: | ---: |')

@@ -1,10 +1,7 @@
 #!/usr/bin/env python3
 """Builds the static library and tries it from C, C++, Python and Rust.
 
-usage: c_library.py [--rust-crate FOLDER] [--only WORD] [--keep FOLDER] [--jobs N] [--no-build]
-
-It builds crates/demangle_c by `rt lib` (with N jobs if said; --no-build takes the archive that is there), and then, in a folder
-of its own (FOLDER with --keep, which stays), prints a line for each of these, or with --only for those whose name has the word:
+It builds crates/demangle_c by `rt lib`, and then, in a folder of its own, prints a line for each of these:
 
   archive     defines the calls of include/kodliwe.h and nothing else that C sees, wants memcpy, memmove and memset
               alone, has no data that can be written and none of a thread's, and no instruction that locks or calls the system
@@ -26,11 +23,10 @@ Status: 0 where all of it held, 1 where something did not, 2 where a tool was la
 import argparse, hashlib, os, re, shutil, struct, subprocess, sys, tempfile
 
 import hostile
+from common import CORPUS, ROOT, instructions
 
-ROOT = hostile.ROOT
 HERE = os.path.join(ROOT, 'bench', 'c_library')
 ARCHIVE = os.path.join(ROOT, 'crates', 'demangle_c', 'out', 'libdemangle_c.a')
-CORPUS = os.path.join(ROOT, 'crates', 'demangle_corpus', 'stdin')
 CALLS = ['kodliwe_demangle', 'kodliwe_demangle_limited', 'kodliwe_is_symbol']
 WANTED = ['memcpy', 'memmove', 'memset']
 NO_LIMIT = 2**64 - 1
@@ -231,13 +227,11 @@ def check_binding(folder):
     return '%d tests passed' % sum(map(int, counts))
 
 
-def instructions(program, which, symbols, folder):
-    counted = []
-    for turns in (1, 3):
-        ran = subprocess.run([tool('valgrind'), '--tool=callgrind', '--callgrind-out-file=' + os.path.join(folder, 'callgrind.out'), program, which, str(turns)],
-                             input=b''.join(map(record, symbols)), stdout=subprocess.DEVNULL, stderr=subprocess.PIPE, check=True)
-        counted.append(int(re.search(rb'Collected : (\d+)', ran.stderr)[1]))
-    return (counted[1] - counted[0]) // (2 * len(symbols))
+def call_instructions(program, which, symbols):
+    tool('valgrind')
+    text = b''.join(map(record, symbols))
+    few, many = (instructions([program, which, turns], text) for turns in ('1', '3'))
+    return (many - few) // (2 * len(symbols))
 
 
 def check_rust(folder, crate, expected):
@@ -257,21 +251,19 @@ def check_rust(folder, crate, expected):
     assert not differ & real, 'real symbols differ: %r' % sorted(differ & real)[:3]
     for name, start, end in REAL:
         some = stored[start:end]
-        ours, theirs = instructions(program, 'kodliwe', some, folder), instructions(program, 'crate', some, folder)
+        ours, theirs = (call_instructions(program, which, some) for which in ('kodliwe', 'crate'))
         print('    %d real %s symbols: %d instructions a call, the Rust crate %d' % (len(some), name, ours, theirs))
     return '%d texts in both forms, %d answered otherwise by that crate (docs/DIFFERENCES.md), no real symbol among them' % (len(stored), len(differ))
 
 
 def main():
-    parser = argparse.ArgumentParser(usage=argparse.SUPPRESS, description=__doc__, formatter_class=argparse.RawDescriptionHelpFormatter)
-    parser.add_argument('--rust-crate', metavar='FOLDER')
-    parser.add_argument('--only', metavar='WORD')
-    parser.add_argument('--keep', metavar='FOLDER')
-    parser.add_argument('--jobs', default='2')
-    parser.add_argument('--no-build', action='store_true')
+    parser = argparse.ArgumentParser(description=__doc__, formatter_class=argparse.RawDescriptionHelpFormatter)
+    parser.add_argument('--rust-crate', metavar='FOLDER', help='the folder of the Rust crate rustc-demangle: asked and measured beside this library')
+    parser.add_argument('--only', metavar='WORD', help='only those whose name has this word')
+    parser.add_argument('--keep', metavar='FOLDER', help='work in this folder, which stays (default: a temporary one)')
+    parser.add_argument('--jobs', default='2', metavar='N', help='how many jobs `rt lib` takes (default 2)')
+    parser.add_argument('--no-build', action='store_true', help='take the archive that is there')
     options = parser.parse_args()
-    folder = os.path.abspath(options.keep) if options.keep else tempfile.mkdtemp()
-    os.makedirs(folder, exist_ok=True)
     tally = {'held': 0, 'failed': 0, 'lacking': 0}
 
     def step(name, work, *arguments):
@@ -293,6 +285,8 @@ def main():
         subprocess.run(['rt', 'lib', '--jobs', options.jobs], cwd=os.path.join(ROOT, 'crates', 'demangle_c'), check=True, stdout=subprocess.DEVNULL)
     if not os.path.exists(ARCHIVE):
         sys.exit('c_library.py: there is no %s' % ARCHIVE)
+    folder = os.path.abspath(options.keep) if options.keep else tempfile.mkdtemp()
+    os.makedirs(folder, exist_ok=True)
     expected = list(cases())
     step('archive', check_archive)
     for compiler, plus in (('gcc', 'g++'), ('clang', 'clang++')):

@@ -18,10 +18,10 @@ handed (the text, the value, the sink) is not counted. The calls are made below 
 before, to make the value that is printed, does not count. 60 tuples in one another are the symbol that fills the short row of
 frames, so that the long one is made.
 """
-import argparse, os, re, subprocess, sys, tempfile, time
+import argparse, os, re, subprocess, sys, tempfile
 
 import hostile
-from common import CORPUS, build, copy_library, need_kit, need_tool, need_valgrind
+from common import CORPUS, build, copy_library, instructions, need_kit, need_rust_crate, need_valgrind, seconds
 
 TIMED = ['try_demangle', 'write_to, ArraySink<1024>']
 CALLS = ['nothing', 'try_demangle', 'demangle', 'demangle_counted', 'write_to, ArraySink<1024>', 'write_counted, ArraySink<1024>',
@@ -259,7 +259,6 @@ fn main() {
 
 def built_rust(folder, crate):
     """Makes the same program over the Rust crate, and answers its path."""
-    need_tool('cargo', 'Rust\'s')
     project = os.path.join(folder, 'rust_calls')
     os.makedirs(os.path.join(project, 'src'))
     with open(os.path.join(project, 'src', 'main.rs'), 'w') as file:
@@ -295,16 +294,6 @@ def typical():
     return middle('_ZN', lines[:500]), middle('_R', lines[800:1700])
 
 
-def seconds(words, text):
-    best = None
-    for _ in range(5):
-        began = time.perf_counter()
-        subprocess.run(words, input=text, stdout=subprocess.DEVNULL, check=True)
-        took = time.perf_counter() - began
-        best = took if best is None else min(best, took)
-    return best
-
-
 def nanoseconds(program, call, symbol):
     """What a turn takes, with its loop."""
     text = (symbol + '\n').encode() * 2
@@ -315,15 +304,11 @@ def nanoseconds(program, call, symbol):
     return (many - few) / (9 * turns) * 1e9
 
 
-def instructions(program, call, symbol):
+def turn_instructions(program, call, symbol):
     """What a turn takes, with its loop."""
     text = (symbol + '\n').encode() * 2
-    counts = []
-    for turns in ('100', '600'):
-        words = ['valgrind', '--tool=callgrind', '--callgrind-out-file=/dev/null', program, str(call), turns]
-        run = subprocess.run(words, input=text, stdout=subprocess.DEVNULL, stderr=subprocess.PIPE, check=True)
-        counts.append(int(re.search(rb'Collected : (\d+)', run.stderr).group(1)))
-    return (counts[1] - counts[0]) // 500
+    few, many = (instructions([program, str(call), turns], text) for turns in ('100', '600'))
+    return (many - few) // 500
 
 
 def stack(program, call, symbol):
@@ -341,6 +326,8 @@ def main():
     given = words.parse_args()
     need_kit()
     need_valgrind()
+    if given.rust_crate:
+        need_rust_crate(given.rust_crate)
     legacy, v0 = typical()
     with tempfile.TemporaryDirectory() as temporary:
         program = built(given.keep or temporary, given.jobs)
@@ -349,7 +336,7 @@ def main():
             rust = built_rust(temporary, given.rust_crate)
             rows += [('%s of rustc-demangle' % call, rust, at) for at, call in enumerate(RUST_TIMED, 1)]
         print('legacy: `%s`\n\nv0: `%s`\n' % (legacy, v0))
-        for name, measured in (('nanoseconds', nanoseconds), ('instructions', instructions)):
+        for name, measured in (('nanoseconds', nanoseconds), ('instructions', turn_instructions)):
             print('| %s | legacy | v0 | deep v0 |\n| --- | ---: | ---: | ---: |' % name)
             empty = {made: measured(made, 0, legacy) for made in {row[1] for row in rows}}
             for call, made, number in rows:

@@ -1,5 +1,5 @@
 """What the scripts of this folder share: paths, other programs, and a copy of the library's crates."""
-import os, shutil, subprocess, sys
+import argparse, os, re, shlex, shutil, subprocess, sys, time
 
 ROOT = os.path.dirname(os.path.dirname(os.path.abspath(__file__)))
 OURS = os.path.join(ROOT, 'crates', 'demangle_filter', 'out', 'demangle_filter')
@@ -28,6 +28,24 @@ def need_valgrind():
     need_tool('valgrind', 'the Debian package valgrind')
 
 
+def need_rust_crate(folder):
+    """Ends where what is measured beside the Rust crate is missing."""
+    need_tool('cargo', 'of the Rust tool chain')
+    if not os.path.exists(os.path.join(folder, 'Cargo.toml')):
+        sys.exit('no Cargo.toml in %s, which is to be the folder of the Rust crate rustc-demangle' % folder)
+
+
+def further(text):
+    """A further program to run, of the form NAME=COMMAND."""
+    name, equals, command = text.partition('=')
+    words = shlex.split(command)
+    if not equals or not words:
+        raise argparse.ArgumentTypeError('%r is not of the form NAME=COMMAND' % text)
+    if not shutil.which(words[0]):
+        raise argparse.ArgumentTypeError('no program %s on this machine' % words[0])
+    return name, words
+
+
 def others():
     """The other demanglers of this machine, by name. Those that are missing are told on standard error."""
     for name in OTHERS:
@@ -35,6 +53,24 @@ def others():
             yield name, [name]
         else:
             print('no %s on this machine: left out' % name, file=sys.stderr)
+
+
+def seconds(command, text):
+    """How long a program runs over a text: the best of five runs."""
+    best = None
+    for _ in range(5):
+        began = time.perf_counter()
+        subprocess.run(command, input=text, stdout=subprocess.DEVNULL, check=True)
+        took = time.perf_counter() - began
+        best = took if best is None else min(best, took)
+    return best
+
+
+def instructions(command, text):
+    """How many instructions a program takes over a text, from its start to its end."""
+    run = subprocess.run(['valgrind', '--tool=callgrind', '--callgrind-out-file=/dev/null'] + command,
+                         input=text, stdout=subprocess.DEVNULL, stderr=subprocess.PIPE, check=True)
+    return int(re.search(rb'Collected : (\d+)', run.stderr).group(1))
 
 
 def listed():

@@ -6,9 +6,9 @@ the seconds from start to end, the peak memory of the process (its greatest resi
 or how it ended where it did not end well. A program is killed after the timeout. demangle_filter runs again with its
 stack limited. Build it first, by `rt run </dev/null` in crates/demangle_filter.
 """
-import argparse, ctypes, os, shlex, signal, subprocess, sys, tempfile, threading, time
+import argparse, ctypes, os, signal, subprocess, sys, tempfile, threading, time
 
-from common import OURS, need_filter, others
+from common import OURS, further, need_filter, others
 
 DIGITS = '0123456789abcdefghijklmnopqrstuvwxyzABCDEFGHIJKLMNOPQRSTUVWXYZ'
 MANY = 1_000_000
@@ -93,15 +93,14 @@ def main():
     words = argparse.ArgumentParser(description=__doc__, formatter_class=argparse.RawDescriptionHelpFormatter)
     words.add_argument('--timeout', type=float, default=10, metavar='SECONDS', help='kill a program after so many seconds (default 10)')
     words.add_argument('--stack', type=int, default=100, metavar='KILOBYTES', help="demangle_filter's stack in its second run (default 100)")
-    words.add_argument('--also', action='append', default=[], metavar='NAME=COMMAND', help='a further program to run (may stand more than once)')
+    words.add_argument('--also', type=further, action='append', default=[], metavar='NAME=COMMAND', help='a further program to run (may stand more than once)')
     given = words.parse_args()
     need_filter()
     # A program whose parent ends becomes a child of this process.
     ctypes.CDLL(None, use_errno=True).prctl(PR_SET_CHILD_SUBREAPER, 1, 0, 0, 0)
     programs = [('demangle_filter', [OURS], USUAL_STACK)]
     programs.append(('demangle_filter, %d KB of stack' % given.stack, [OURS], given.stack))
-    programs += [(name, program, USUAL_STACK) for name, program in others()]
-    programs += [(name, shlex.split(command), USUAL_STACK) for name, command in (also.split('=', 1) for also in given.also)]
+    programs += [(name, program, USUAL_STACK) for name, program in list(others()) + given.also]
     print('| symbol | ' + ' | '.join(name for name, _, _ in programs) + ' |')
     print('| --- |' + ' ---: |' * len(programs))
     for case, symbol in cases():
