@@ -35,7 +35,7 @@ int main(void) {
     struct sigaction action = {.sa_handler = handler, .sa_flags = SA_ONSTACK};
     if (stack == NULL || sigaltstack(&alternate, NULL) != 0 || sigaction(SIGUSR1, &action, NULL) != 0) return 2;
     size_t alone = touched(0), most = 0, calls = 0, above[LIMITS] = {0};
-    const size_t limits[LIMITS] = {2048, 4096, 8192, 16384, 65536, 98304};
+    const size_t limits[LIMITS] = {2048, 4096, 5632, 8192, 65536, 98304};
     char deepest[60] = "";
     uint64_t limit;
     while (fread(&len, sizeof len, 1, stdin) == 1) {
