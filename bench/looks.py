@@ -4,7 +4,7 @@
 Looks take no bytes when a program runs, so no program can tell them. This makes a copy of the library's crates outside the
 repository in which `Looks` also has a number of 64 bits that each `tick` raises, and a program over it that sums the looks
 of each symbol of a line. `rt run` proves the copy, with all its contracts but one fact, that `Looks` takes no bytes, and
-builds it (it took 12 minutes with one job, on a loaded machine). That the number is the count of which the contracts speak
+builds it (it took 12 to 18 minutes with one job, on a loaded machine). That the number is the count of which the contracts speak
 stands in the text below, and is not proved. `rt try` needs no proof, but its checks make a costly symbol take over a minute.
 It needs the Rattle kit.
 
