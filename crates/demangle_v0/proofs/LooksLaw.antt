@@ -14,21 +14,28 @@ use Rattle.demangle_v0.proofs.TableCost.{cheap}
 abbrev pub path_stretches : List ℕ → Bool → List StretchCost
 path_stretches symbol plain = stretches plain (read_at symbol true a_path 0 0 0 true).tree
 
-pub printing_pays : (symbol : List ℕ) (plain : Bool) → Pays (17000 * (length symbol + 1)) (17034 * (length symbol + 1)) (path_stretches symbol plain) 0
-printing_pays symbol plain = go (read_at symbol true a_path 0 0 0 true).tree (read_at symbol true a_path 0 0 0 true).place
-    (read_paid plain (17000 * (length symbol + 1)) symbol a_path 0 0 0 true (omega arith) cheap (omega arith))
-  where
-    go : (t : Tree) (x : Place) → Ends (length symbol) (17000 * (length symbol + 1)) 0 (0 + money (length symbol) (max_depth - 0)) 8 (stretches plain t) x → Pays (17000 * (length symbol + 1)) (17034 * (length symbol + 1)) (stretches plain t) 0
-    go t None h = Pays-more (17000 * (length symbol + 1)) (32 * (length symbol + 1 - 0) + (0 + money (length symbol) (max_depth - 0))) (17034 * (length symbol + 1)) 0 0 0 (stretches plain t) (omega arith) (omega arith) h
-    go t (Some j) h = Pays-more (17000 * (length symbol + 1)) (32 * (j - 0) + (0 + money (length symbol) (max_depth - 0))) (17034 * (length symbol + 1)) 8 0 0 (stretches plain t) (omega (arith, h.1)) (omega arith) h.2
+-- in a symbol of so many bytes: the looks that each byte printed pays for, and those allowed before the first
+abbrev pub looks_a_byte : ℕ → ℕ
+looks_a_byte n = 34 * max_depth * (n + 1)
 
-in_all : (n w looks : ℕ) → looks ≤ 17034 * (n + 1) + 17000 * (n + 1) * w → looks ≤ 100000 * (w + 1) * (n + 1)
+abbrev pub looks_before : ℕ → ℕ
+looks_before n = 34 * (max_depth + 1) * (n + 1)
+
+pub printing_pays : (symbol : List ℕ) (plain : Bool) → Pays (looks_a_byte (length symbol)) (looks_before (length symbol)) (path_stretches symbol plain) 0
+printing_pays symbol plain = go (read_at symbol true a_path 0 0 0 true).tree (read_at symbol true a_path 0 0 0 true).place
+    (read_paid plain (looks_a_byte (length symbol)) symbol a_path 0 0 0 true (omega arith) cheap (omega arith))
+  where
+    go : (t : Tree) (x : Place) → Ends (length symbol) (looks_a_byte (length symbol)) 0 (0 + money (length symbol) (max_depth - 0)) 8 (stretches plain t) x → Pays (looks_a_byte (length symbol)) (looks_before (length symbol)) (stretches plain t) 0
+    go t None h = Pays-more (looks_a_byte (length symbol)) (32 * (length symbol + 1 - 0) + (0 + money (length symbol) (max_depth - 0))) (looks_before (length symbol)) 0 0 0 (stretches plain t) (omega arith) (omega arith) h
+    go t (Some j) h = Pays-more (looks_a_byte (length symbol)) (32 * (j - 0) + (0 + money (length symbol) (max_depth - 0))) (looks_before (length symbol)) 8 0 0 (stretches plain t) (omega (arith, h.1)) (omega arith) h.2
+
+in_all : (n w looks : ℕ) → looks ≤ looks_before n + looks_a_byte n * w → looks ≤ 100000 * (w + 1) * (n + 1)
 in_all n w looks h = omega (arith, h)
 
 pub printing_looks : (symbol : List ℕ) (plain : Bool) (k : ℕ) →
     looks_of (take (suc k) (path_stretches symbol plain)) ≤ 100000 * (bytes_of (take k (path_stretches symbol plain)) + 1) * (length symbol + 1)
 printing_looks symbol plain k = in_all (length symbol) (bytes_of (take k (path_stretches symbol plain))) (looks_of (take (suc k) (path_stretches symbol plain)))
-    (Pays-bound (17000 * (length symbol + 1)) (17034 * (length symbol + 1)) 0 (path_stretches symbol plain) k (printing_pays symbol plain))
+    (Pays-bound (looks_a_byte (length symbol)) (looks_before (length symbol)) 0 (path_stretches symbol plain) k (printing_pays symbol plain))
 
 -- the looks of a reading without references, by where it ends
 abbrev pub Costs : ℕ → ℕ → ℕ → Place → Type 0

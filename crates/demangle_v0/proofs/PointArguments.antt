@@ -22,8 +22,8 @@ use Rattle.demangle_v0.specs.declared.points.voice.Voice.{Ghosts}
 use Rattle.demangle_v0.proofs.Elements.{argument_element}
 use Rattle.demangle_v0.proofs.ListReads.{end_failed, end_over, more_failed, more_over, first_on, more_on, argument_lifetime, argument_constant, argument_type}
 use Rattle.demangle_v0.proofs.ListReads.{followed as behind}
-use Rattle.demangle_v0.proofs.PointSteps.{same}
-use Rattle.demangle_v0.proofs.PointTypes.{heard, heard_at, enters}
+use Rattle.demangle_v0.proofs.PointSteps.{heard, same}
+use Rattle.demangle_v0.proofs.PointTypes.{heard_at, enters}
 
 module _ {V : Type 0} (voice : Ghosts V) (b : List ℕ) (plain : Bool) where
   -- Up to their first.

@@ -10,7 +10,7 @@ use Rattle.demangle_v0.specs.Grammar.{text}
 use Rattle.demangle_v0.specs.Table.{says, more, at_end, constant_inside}
 use Rattle.demangle_v0.specs.Reading.{Place, run, max_depth}
 use Rattle.demangle_v0.specs.ConstantLists.{first_point, second_point, next_point, element_point, list_element, close_of}
-use Rattle.demangle_v0.specs.Points.{then_frame, share_at, none_open, around, mark_texts, goes, way_weight, weight_at, height_at, Fits, is_inner, DidOn}
+use Rattle.demangle_v0.specs.Points.{frame_of, then_frame, share_at, none_open, around, mark_texts, goes, way_weight, weight_at, height_at, Fits, is_inner, DidOn}
 use Rattle.demangle_v0.specs.declared.grammar.Mark.{Mark}
 use Rattle.demangle_v0.specs.declared.grammar.Mark.TheVariants as mark
 use Rattle.demangle_v0.specs.declared.points.Point.{Point}
@@ -23,7 +23,7 @@ use Rattle.demangle_v0.specs.declared.points.voice.Voice.{Ghosts}
 use Rattle.demangle_v0.proofs.Elements.{Element, constant_element, field_element}
 use Rattle.demangle_v0.proofs.ListReads.{end_failed, end_over, end_on, more_failed, more_over, more_on, second_over}
 use Rattle.demangle_v0.proofs.PointConstants.{last_constant, moves}
-use Rattle.demangle_v0.proofs.PointSteps.{after, same}
+use Rattle.demangle_v0.proofs.PointSteps.{heard, after, same}
 
 -- what a list ends with
 abbrev pub ending : ConstantList → Items
@@ -69,31 +69,28 @@ few : (left n : ℕ) → Fits point.Constant left n → left ≤ max_depth
 few left n f = omega (arith, f)
 
 module _ {V : Type 0} (voice : Ghosts V) (b : List ℕ) (plain : Bool) where
-  abbrev heard : Items → ℕ → ℕ → Place → Heard
-  heard p left n i = none_open (of plain voice.loud (run p (around b voice.loud left n) i))
-
-  first_share : (l : ConstantList) (v : Bool) (c left n : ℕ) (i : Place) (o : Bool) → share_at b plain voice.loud (first_point l) v c left n i o ≡ heard (at_end (ending l) (unit (list_element l) (behind_second l))) left n i
+  first_share : (l : ConstantList) (v : Bool) (c left n : ℕ) (i : Place) (o : Bool) → share_at b plain voice.loud (first_point l) v c left n i o ≡ heard voice b plain (at_end (ending l) (unit (list_element l) (behind_second l))) left n i
   unfolding share_at
   first_share list.Array v c left n i o = refl
   first_share list.Tuple v c left n i o = refl
   first_share list.TupleVariant v c left n i o = refl
   first_share list.Fields v c left n i o = refl
 
-  second_share : (l : ConstantList) (v : Bool) (c left n : ℕ) (i : Place) (o : Bool) → share_at b plain voice.loud (second_point l) v c left n i o ≡ heard (behind_second l) left n i
+  second_share : (l : ConstantList) (v : Bool) (c left n : ℕ) (i : Place) (o : Bool) → share_at b plain voice.loud (second_point l) v c left n i o ≡ heard voice b plain (behind_second l) left n i
   unfolding share_at
   second_share list.Array v c left n i o = refl
   second_share list.Tuple v c left n i o = refl
   second_share list.TupleVariant v c left n i o = refl
   second_share list.Fields v c left n i o = refl
 
-  next_share : (l : ConstantList) (v : Bool) (c left n : ℕ) (i : Place) (o : Bool) → share_at b plain voice.loud (next_point l) v c left n i o ≡ heard (more ", " (list_element l) (ending l)) left n i
+  next_share : (l : ConstantList) (v : Bool) (c left n : ℕ) (i : Place) (o : Bool) → share_at b plain voice.loud (next_point l) v c left n i o ≡ heard voice b plain (more ", " (list_element l) (ending l)) left n i
   unfolding share_at
   next_share list.Array v c left n i o = refl
   next_share list.Tuple v c left n i o = refl
   next_share list.TupleVariant v c left n i o = refl
   next_share list.Fields v c left n i o = refl
 
-  element_share : (l : ConstantList) (c left n : ℕ) (i : Place) (o : Bool) → share_at b plain voice.loud (element_point l) true c left n i o ≡ heard (list_element l) left n i
+  element_share : (l : ConstantList) (c left n : ℕ) (i : Place) (o : Bool) → share_at b plain voice.loud (element_point l) true c left n i o ≡ heard voice b plain (list_element l) left n i
   unfolding share_at
   element_share list.Array c left n i o = sym (last_constant voice b plain true left n i)
   element_share list.Tuple c left n i o = sym (last_constant voice b plain true left n i)
@@ -107,19 +104,16 @@ module _ {V : Type 0} (voice : Ghosts V) (b : List ℕ) (plain : Bool) where
   element_is list.Fields left n h = field_element b voice.loud left n h
 
   -- the end of a list
-  pub list_ends : (l : ConstantList) (ks : List ℕ) (h : Heard) (v : Bool) (c left n : ℕ) (i : Place) (row : List Frame) (u : V) (new : State) (made : ℕ) → h ≡ with_looks ks (heard (ending l) left n i) → made ≤ total ks
+  pub list_ends : (l : ConstantList) (ks : List ℕ) (h : Heard) (v : Bool) (c left n : ℕ) (i : Place) (row : List Frame) (u : V) (new : State) (made : ℕ) → h ≡ with_looks ks (heard voice b plain (ending l) left n i) → made ≤ total ks
       → new.in_value ≡ v → new.letter ≡ c → new.depth_left ≡ left → new.lifetimes ≡ n → new.place ≡ i → new.is_open ≡ false → new.mark ≡ Some (close_of l) → DidOn voice b plain h 1 (8 * left + 2) row u (Ok point.End) new row u made
   unfolding run then_frame share_at
   list_ends l ks h v c left n i row u new made e x kv kc kl kn kp ko km =
       moves voice b plain ks point.End (Some (close_of l)) None h v c left n i false 1 (8 * left + 2) row row u new made kv kc kl kn kp ko km e refl x (omega arith) (omega arith) (omega arith) tt tt (λ _. tt)
 
   -- an element, and then the list goes on at p with these items
-  abbrev frame_at : Point → Bool → ℕ → ℕ → ℕ → Frame
-  frame_at p v c left n = record { point = p; in_value = v; letter = c; depth_left = left; number = n }
-
-  element_then : (l : ConstantList) (p : Point) (rest : Items) (m : Option Mark) (v : Bool) (c left n i : ℕ) (o : Bool) → ((v : Bool) (c left n : ℕ) (i : Place) (o : Bool) → share_at b plain voice.loud p v c left n i o ≡ heard rest left n i)
+  element_then : (l : ConstantList) (p : Point) (rest : Items) (m : Option Mark) (v : Bool) (c left n i : ℕ) (o : Bool) → ((v : Bool) (c left n : ℕ) (i : Place) (o : Bool) → share_at b plain voice.loud p v c left n i o ≡ heard voice b plain rest left n i)
       → none_open (and_then (of plain voice.loud (run (list_element l) (around b voice.loud left n) (Some i))) (λ j _. of plain voice.loud (run rest (around b voice.loud left n) j)))
-      ≡ then_frame b plain voice.loud (Some (frame_at p v c left n)) (share_at b plain voice.loud (element_point l) true c left n (Some i) o)
+      ≡ then_frame b plain voice.loud (Some (frame_of p v c left n)) (share_at b plain voice.loud (element_point l) true c left n (Some i) o)
   unfolding then_frame
   element_then l p rest m v c left n i o e =
       let x = run (list_element l) (around b voice.loud left n) (Some i) in
@@ -127,14 +121,14 @@ module _ {V : Type 0} (voice : Ghosts V) (b : List ℕ) (plain : Bool) where
       ∙ ap (λ (h : Heard). and_then h (λ j o. share_at b plain voice.loud p v c left n j o)) (sym (element_share l c left n (Some i) o))
 
   pub element_goes : (l : ConstantList) (p : Point) (rest : Items) (m : Option Mark) (h : Heard) (v : Bool) (c left n i : ℕ) (o : Bool) (row now : List Frame) (u : V) (new : State) (made : ℕ)
-      → Listed p → ((v : Bool) (c left n : ℕ) (i : Place) (o : Bool) → share_at b plain voice.loud p v c left n i o ≡ heard rest left n i)
+      → Listed p → ((v : Bool) (c left n : ℕ) (i : Place) (o : Bool) → share_at b plain voice.loud p v c left n i o ≡ heard voice b plain rest left n i)
       → h ≡ with_looks (1 ∷ []) (with_texts voice.loud (mark_texts m) (none_open (and_then (of plain voice.loud (run (list_element l) (around b voice.loud left n) (Some i))) (λ j _. of plain voice.loud (run rest (around b voice.loud left n) j)))))
       → Fits point.Constant left n → made ≤ 1
-      → new.in_value ≡ true → new.letter ≡ c → new.depth_left ≡ left → new.lifetimes ≡ n → new.place ≡ Some i → new.is_open ≡ o → new.mark ≡ m → now ≡ row ++ frame_at p v c left n ∷ []
+      → new.in_value ≡ true → new.letter ≡ c → new.depth_left ≡ left → new.lifetimes ≡ n → new.place ≡ Some i → new.is_open ≡ o → new.mark ≡ m → now ≡ row ++ frame_of p v c left n ∷ []
       → DidOn voice b plain h 1 (8 * left + 2) row u (Ok (element_point l)) new now u made
   element_goes l p rest m h v c left n i o row now u new made w s e f x kv kc kl kn kp ko km r =
       let z = element_lowest l in
-      moves voice b plain (1 ∷ []) (element_point l) m (Some (frame_at p v c left n)) h true c left n (Some i) o 1 (8 * left + 2) row now u new made kv kc kl kn kp ko km
+      moves voice b plain (1 ∷ []) (element_point l) m (Some (frame_of p v c left n)) h true c left n (Some i) o 1 (8 * left + 2) row now u new made kv kc kl kn kp ko km
       (e ∙ ap (λ (k : Heard). with_looks (1 ∷ []) (with_texts voice.loud (mark_texts m) k)) (element_then l p rest m v c left n i o s)) r (omega (arith, x)) (omega (arith, w.light, z.light)) (w.low left) (omega (arith, z.low left)) (w.fits left n f) (z.fits left n f) (λ _. w.inner)
 
   -- The first.
@@ -153,7 +147,7 @@ module _ {V : Type 0} (voice : Ghosts V) (b : List ℕ) (plain : Bool) where
       list_ends l (1 ∷ []) _ v c left n (Some (i + 1)) row u new made (first_share l v c left n (Some i) o ∙ ap none_open (end_over plain voice.loud (around b voice.loud left n) (ending l) (unit (list_element l) (behind_second l)) i (sym e))) x kv kc kl kn kp ko km
 
   pub first_goes : (l : ConstantList) (v : Bool) (c left n i : ℕ) (o : Bool) (row now : List Frame) (u : V) (new : State) (made : ℕ) → false ≡ is_byte b i (code "E") → Fits point.Constant left n → made ≤ 1
-      → new.in_value ≡ true → new.letter ≡ c → new.depth_left ≡ left → new.lifetimes ≡ n → new.place ≡ Some i → new.is_open ≡ o → new.mark ≡ None → now ≡ row ++ frame_at (second_point l) v c left n ∷ []
+      → new.in_value ≡ true → new.letter ≡ c → new.depth_left ≡ left → new.lifetimes ≡ n → new.place ≡ Some i → new.is_open ≡ o → new.mark ≡ None → now ≡ row ++ frame_of (second_point l) v c left n ∷ []
       → DidOn voice b plain (first_at l v c left n (Some i) o) 1 (8 * left + 2) row u (Ok (element_point l)) new now u made
   unfolding run
   first_goes l v c left n i o row now u new made e f x kv kc kl kn kp ko km r =
@@ -176,7 +170,7 @@ module _ {V : Type 0} (voice : Ghosts V) (b : List ℕ) (plain : Bool) where
       list_ends l (1 ∷ []) _ v c left n (Some (i + 1)) row u new made (next_share l v c left n (Some i) o ∙ ap none_open (more_over plain voice.loud (around b voice.loud left n) ", " (list_element l) (ending l) i (sym e))) x kv kc kl kn kp ko km
 
   pub next_goes : (l : ConstantList) (v : Bool) (c left n i : ℕ) (o : Bool) (row now : List Frame) (u : V) (new : State) (made : ℕ) → false ≡ is_byte b i (code "E") → Fits point.Constant left n → made ≤ 1
-      → new.in_value ≡ true → new.letter ≡ c → new.depth_left ≡ left → new.lifetimes ≡ n → new.place ≡ Some i → new.is_open ≡ o → new.mark ≡ Some mark.Comma → now ≡ row ++ frame_at (next_point l) v c left n ∷ []
+      → new.in_value ≡ true → new.letter ≡ c → new.depth_left ≡ left → new.lifetimes ≡ n → new.place ≡ Some i → new.is_open ≡ o → new.mark ≡ Some mark.Comma → now ≡ row ++ frame_of (next_point l) v c left n ∷ []
       → DidOn voice b plain (next_at l v c left n (Some i) o) 1 (8 * left + 2) row u (Ok (element_point l)) new now u made
   next_goes l v c left n i o row now u new made e f x kv kc kl kn kp ko km r =
       element_goes l (next_point l) (more ", " (list_element l) (ending l)) (Some mark.Comma) _ v c left n i o row now u new made (next_listed l) (next_share l)
@@ -203,7 +197,7 @@ module _ {V : Type 0} (voice : Ghosts V) (b : List ℕ) (plain : Bool) where
       (ap none_open (second_over plain voice.loud (around b voice.loud left n) constant_inside (ending list.Tuple) i (sym e))) refl x (omega arith) (omega arith) (omega arith) tt f (λ _. tt)
 
   pub comma_goes : (v : Bool) (c left n i : ℕ) (o : Bool) (row now : List Frame) (u : V) (new : State) (made : ℕ) → false ≡ is_byte b i (code "E") → Fits point.Constant left n → made ≤ 1
-      → new.in_value ≡ true → new.letter ≡ c → new.depth_left ≡ left → new.lifetimes ≡ n → new.place ≡ Some i → new.is_open ≡ o → new.mark ≡ Some mark.Comma → now ≡ row ++ frame_at point.NextTupleConstant v c left n ∷ []
+      → new.in_value ≡ true → new.letter ≡ c → new.depth_left ≡ left → new.lifetimes ≡ n → new.place ≡ Some i → new.is_open ≡ o → new.mark ≡ Some mark.Comma → now ≡ row ++ frame_of point.NextTupleConstant v c left n ∷ []
       → DidOn voice b plain (second_at v c left n (Some i) o) 2 (8 * left + 2) row u (Ok point.Constant) new now u made
   comma_goes v c left n i o row now u new made e f x kv kc kl kn kp ko km r =
       same voice b plain (second_at v c left n (Some i) o) (with_looks (1 ∷ []) (next_at list.Tuple v c left n (Some i) o)) 2 (8 * left + 2) 1 (8 * left + 2) row u u (Ok point.Constant) new now made

@@ -30,14 +30,11 @@ use Rattle.demangle_v0.proofs.Elements.{argument_element, dyn_trait_element}
 use Rattle.demangle_v0.proofs.Hearing.{and_then_assoc, handing_then, allowing_then}
 use Rattle.demangle_v0.proofs.ListReads.{end_failed, end_over, more_failed, more_over, first_on, more_on, argument_lifetime, argument_constant, argument_type}
 use Rattle.demangle_v0.proofs.PathReads.{trait_path_reads, trait_path_refers, trait_path_generic, trait_path_plain}
-use Rattle.demangle_v0.proofs.PointFunctions.{heard, mark_goes, plain_goes, moves, enters, separator}
-use Rattle.demangle_v0.proofs.PointSteps.{after, faulty}
+use Rattle.demangle_v0.proofs.PointFunctions.{frame_at, moves, enters, separator}
+use Rattle.demangle_v0.proofs.PointSteps.{heard, after, faulty}
 use Rattle.demangle_v0.proofs.TypeReads.{if_so, says_all, bound_constant, bound_type, mark_of, bindings_failed, bindings_over, binding_stops, binding_reads}
 
 -- the state's frame
-abbrev pub frame_at : Point → State → Frame
-frame_at p s = record { point = p; in_value = s.in_value; letter = s.letter; depth_left = s.depth_left; number = s.lifetimes }
-
 abbrev pub first_traits : Items
 first_traits = list " + " (dyn_trait binding_value) done
 
@@ -150,7 +147,7 @@ module _ {V : Type 0} (voice : Ghosts V) (b : List ℕ) (plain : Bool) where
       → new.place ≡ behind_list b s.place → new.is_open ≡ false → new.mark ≡ None → trait_did first s row u point.End new row made
   unfolding share_at
   traits_over first s row u new made e l kp ko km = trait_as first s row u point.End new row made
-      (plain_goes voice b plain point.End (list_costs s.place) _ (nothing_heard (behind_list b s.place) false) 1 (8 * s.depth_left + 4) row u new made
+      (moves voice b plain point.End None (list_costs s.place) _ (nothing_heard (behind_list b s.place) false) 1 (8 * s.depth_left + 4) row u new made
       (traits_end first s.depth_left s.lifetimes s.place e ∙ ap (with_looks (list_costs s.place)) (done_reads s.depth_left s.lifetimes (behind_list b s.place))) (rw (kp, ko) refl) km l (omega arith) (omega arith) tt)
 
   -- a dyn trait, and further ones
@@ -236,7 +233,7 @@ module _ {V : Type 0} (voice : Ghosts V) (b : List ℕ) (plain : Bool) where
       → DidOn voice b plain (share_of b plain voice.loud point.TraitPath s) 1 (8 * s.depth_left + 2) row u (Ok point.Path) new row u made
   unfolding share_at
   plain_trait s i row u new made p e g l f kv kl kn kp km =
-      plain_goes voice b plain point.Path (1 ∷ 1 ∷ []) _ (none_open (of plain voice.loud (unit_outcome (around b voice.loud s.depth_left s.lifetimes) a_path false (Some i)))) 1 (8 * s.depth_left + 2) row u new made
+      moves voice b plain point.Path None (1 ∷ 1 ∷ []) _ (none_open (of plain voice.loud (unit_outcome (around b voice.loud s.depth_left s.lifetimes) a_path false (Some i)))) 1 (8 * s.depth_left + 2) row u new made
       (plain_reads s i p e g) (rw (kv, kl, kn, kp) refl) km (omega (arith, l)) (omega arith) (omega (arith, kl)) (rw (kl, kn) f)
 
   abbrev open_heard : Items → ℕ → ℕ → Place → Heard
@@ -250,7 +247,7 @@ module _ {V : Type 0} (voice : Ghosts V) (b : List ℕ) (plain : Bool) where
       → DidOn voice b plain (share_of b plain voice.loud point.OpenTraitPath s) 2 (8 * s.depth_left + 2) row u (Ok point.FirstOpenArgument) new row u 0
   unfolding share_at
   open_trait_did s row u new f kl kn kp km =
-      mark_goes voice b plain point.FirstOpenArgument mark.Less [] _ (open_heard first_open s.depth_left s.lifetimes s.place) 2 (8 * s.depth_left + 2) row u new 0
+      moves voice b plain point.FirstOpenArgument (Some mark.Less) [] _ (open_heard first_open s.depth_left s.lifetimes s.place) 2 (8 * s.depth_left + 2) row u new 0
       (opening_reads s.depth_left s.lifetimes s.place) (rw (kl, kn, kp) refl) km (omega arith) (omega arith) (omega (arith, kl)) (rw (kl, kn) f)
 
   opens_reads : (left n : ℕ) (i : Place) → open_heard (opens done) left n i ≡ nothing_heard i true
@@ -278,13 +275,13 @@ module _ {V : Type 0} (voice : Ghosts V) (b : List ℕ) (plain : Bool) where
   pub open_unread : (first : Bool) (s : State) (row : List Frame) (u : V) (new : State) (made : ℕ) → s.place ≡ None → made ≤ 0 → new.place ≡ None → new.is_open ≡ true → new.mark ≡ None → open_did first s row u point.End new row made
   unfolding share_at
   open_unread first s row u new made p l kp ko km = open_as first s row u point.End new row made
-      (plain_goes voice b plain point.End [] _ (nothing_heard None true) 1 (8 * s.depth_left + 2) row u new made (rw p (open_failed first s.depth_left s.lifetimes)) (rw (kp, ko) refl) km (omega (arith, l)) (omega arith) (omega arith) tt)
+      (moves voice b plain point.End None [] _ (nothing_heard None true) 1 (8 * s.depth_left + 2) row u new made (rw p (open_failed first s.depth_left s.lifetimes)) (rw (kp, ko) refl) km (omega (arith, l)) (omega arith) (omega arith) tt)
 
   pub open_over : (first : Bool) (s : State) (i : ℕ) (row : List Frame) (u : V) (new : State) (made : ℕ) → s.place ≡ Some i → is_byte b i (code "E") ≡ true → made ≤ 1
       → new.place ≡ Some (i + 1) → new.is_open ≡ true → new.mark ≡ None → open_did first s row u point.End new row made
   unfolding share_at
   open_over first s i row u new made p e l kp ko km = open_as first s row u point.End new row made
-      (plain_goes voice b plain point.End (1 ∷ []) _ (nothing_heard (Some (i + 1)) true) 1 (8 * s.depth_left + 2) row u new made (rw p (open_end first s.depth_left s.lifetimes i e)) (rw (kp, ko) refl) km (omega (arith, l)) (omega arith) (omega arith) tt)
+      (moves voice b plain point.End None (1 ∷ []) _ (nothing_heard (Some (i + 1)) true) 1 (8 * s.depth_left + 2) row u new made (rw p (open_end first s.depth_left s.lifetimes i e)) (rw (kp, ko) refl) km (omega (arith, l)) (omega arith) (omega arith) tt)
 
   -- an argument, and what follows
   abbrev argument_share : State → ℕ → Heard
@@ -327,11 +324,8 @@ module _ {V : Type 0} (voice : Ghosts V) (b : List ℕ) (plain : Bool) where
 
   -- Bindings.
 
-  abbrev bound_heard : Items → ℕ → ℕ → Place → Heard
-  bound_heard p left n i = of plain voice.loud (run p (around b voice.loud left n) i)
-
   -- bindings, and the dyn traits behind them
-  left_reads : (o : Bool) (left n : ℕ) (i : Place) → heard voice b plain (bindings_left o) left n i ≡ and_then (bound_heard (bindings o binding_value) left n i) (λ j _. heard voice b plain next_traits left n j)
+  left_reads : (o : Bool) (left n : ℕ) (i : Place) → heard voice b plain (bindings_left o) left n i ≡ and_then (open_heard (bindings o binding_value) left n i) (λ j _. heard voice b plain next_traits left n j)
   unfolding run
   left_reads o left n i = refl
 
@@ -372,7 +366,7 @@ module _ {V : Type 0} (voice : Ghosts V) (b : List ℕ) (plain : Bool) where
   name_heard left n i = heard voice b plain (word_items word.BindingName 0 behind_name) left n (Some i)
 
   -- what is bound, and what stands behind it
-  behind_reads : (left n : ℕ) (i : Place) → heard voice b plain behind_name left n i ≡ and_then (bound_heard binding_value left n i) (λ x _. heard voice b plain (bindings_left true) left n x)
+  behind_reads : (left n : ℕ) (i : Place) → heard voice b plain behind_name left n i ≡ and_then (open_heard binding_value left n i) (λ x _. heard voice b plain (bindings_left true) left n x)
   unfolding run
   behind_reads left n i = refl
 
@@ -380,18 +374,18 @@ module _ {V : Type 0} (voice : Ghosts V) (b : List ℕ) (plain : Bool) where
   unfolding run
   no_name left n i f = rw f refl
 
-  name_said : (left n : ℕ) (a : Name) (j : Place) → bound_heard (says_name a (says " = " behind_name)) left n j ≡ with_texts voice.loud (name_pieces a ++ codes " = " ∷ []) (bound_heard behind_name left n j)
+  name_said : (left n : ℕ) (a : Name) (j : Place) → open_heard (says_name a (says " = " behind_name)) left n j ≡ with_texts voice.loud (name_pieces a ++ codes " = " ∷ []) (open_heard behind_name left n j)
   unfolding run
   name_said left n a j =
       says_all plain voice.loud (name_pieces a) (says " = " behind_name) (around b voice.loud left n) j
-      ∙ sym (handing_both voice.loud (name_pieces a) (codes " = " ∷ []) (bound_heard behind_name left n j))
+      ∙ sym (handing_both voice.loud (name_pieces a) (codes " = " ∷ []) (open_heard behind_name left n j))
 
   a_name : (left n i j : ℕ) (a : Name) → identifier_at b i ≡ Some (a, j)
       → name_heard left n i ≡ with_looks (4 * (j - i + 1) ∷ []) (with_texts voice.loud (name_pieces a ++ codes " = " ∷ []) (heard voice b plain behind_name left n (Some j)))
   unfolding run
   a_name left n i j a f = rw f (ap (λ (h : Heard). with_looks (4 * (j - i + 1) ∷ []) (none_open h)) (name_said left n a (Some j)))
 
-  further : (left n : ℕ) (i : Place) → and_then (bound_heard binding_value left n i) (λ x _. and_then (bound_heard (bindings true binding_value) left n x) (λ j _. heard voice b plain next_traits left n j)) ≡ heard voice b plain behind_name left n i
+  further : (left n : ℕ) (i : Place) → and_then (open_heard binding_value left n i) (λ x _. and_then (open_heard (bindings true binding_value) left n x) (λ j _. heard voice b plain next_traits left n j)) ≡ heard voice b plain behind_name left n i
   unfolding run
   further left n i = refl
 
@@ -405,7 +399,7 @@ module _ {V : Type 0} (voice : Ghosts V) (b : List ℕ) (plain : Bool) where
       out_of : (x : ℕ) (ts : List Text) (h : Heard) → and_then (with_looks (x ∷ []) (with_texts voice.loud ts h)) k ≡ with_looks (x ∷ []) (with_texts voice.loud ts (and_then h k))
       out_of x ts h = allowing_then (x ∷ []) (with_texts voice.loud ts h) k ∙ ap (with_looks (x ∷ [])) (handing_then voice.loud ts h k)
 
-      go : (r : Read Name) → identifier_at b (i + 1) ≡ r → and_then (bound_heard (bindings o binding_value) left n (Some i)) k ≡ with_looks (1 ∷ []) (with_texts voice.loud (mark_of o ∷ []) (name_heard left n (i + 1)))
+      go : (r : Read Name) → identifier_at b (i + 1) ≡ r → and_then (open_heard (bindings o binding_value) left n (Some i)) k ≡ with_looks (1 ∷ []) (with_texts voice.loud (mark_of o ∷ []) (name_heard left n (i + 1)))
       go None f =
           let c = 4 * (length b - (i + 1) + 1) in
           ap (λ (h : Heard). and_then h k) (binding_stops plain voice.loud b left n o i e f)
@@ -416,19 +410,19 @@ module _ {V : Type 0} (voice : Ghosts V) (b : List ℕ) (plain : Bool) where
       go (Some r) f =
           let c = 4 * (r.1 - (i + 1) + 1) in
           let ts = name_pieces r.0 ++ codes " = " ∷ [] in
-          let m : Place → Bool → Heard = λ x _. bound_heard (bindings true binding_value) left n x in
-          let h : Heard = and_then (bound_heard binding_value left n (Some r.1)) m in
+          let m : Place → Bool → Heard = λ x _. open_heard (bindings true binding_value) left n x in
+          let h : Heard = and_then (open_heard binding_value left n (Some r.1)) m in
           ap (λ (h : Heard). and_then h k) (binding_reads plain voice.loud b left n o i r.1 r.0 l e f)
           ∙ (out_of 1 (mark_of o ∷ []) (with_looks (c ∷ []) (with_texts voice.loud ts h))
           ∙ ap (λ (h : Heard). with_looks (1 ∷ []) (with_texts voice.loud (mark_of o ∷ []) h))
           (out_of c ts h
-          ∙ (ap (λ (h : Heard). with_looks (c ∷ []) (with_texts voice.loud ts h)) (and_then_assoc (bound_heard binding_value left n (Some r.1)) m k ∙ further left n (Some r.1)) ∙ sym (a_name left n (i + 1) r.1 r.0 f))))
+          ∙ (ap (λ (h : Heard). with_looks (c ∷ []) (with_texts voice.loud ts h)) (and_then_assoc (open_heard binding_value left n (Some r.1)) m k ∙ further left n (Some r.1)) ∙ sym (a_name left n (i + 1) r.1 r.0 f))))
 
   pub binding_on : (o : Bool) (s : State) (i : ℕ) (row : List Frame) (u : V) (new : State) (made : ℕ) → s.place ≡ Some i → is_byte b i (code "p") ≡ true → made ≤ 1 → Fits point.Bindings s.depth_left s.lifetimes
       → new.depth_left ≡ s.depth_left → new.lifetimes ≡ s.lifetimes → new.place ≡ Some (i + 1) → new.mark ≡ Some (first_mark o) → binding_did o s row u point.BindingName new made
   unfolding share_at
   binding_on o s i row u new made p e l f kl kn kp km =
-      mark_goes voice b plain point.BindingName (first_mark o) (1 ∷ []) _ (name_heard s.depth_left s.lifetimes (i + 1)) 2 (8 * s.depth_left + 4) row u new made
+      moves voice b plain point.BindingName (Some (first_mark o)) (1 ∷ []) _ (name_heard s.depth_left s.lifetimes (i + 1)) 2 (8 * s.depth_left + 4) row u new made
       (rw p (on_reads o s.depth_left s.lifetimes i (omega (arith, f)) e ∙ ap (λ (t : Text). with_looks (1 ∷ []) (with_texts voice.loud (t ∷ []) (name_heard s.depth_left s.lifetimes (i + 1)))) (first_text o)))
       (rw (kl, kn, kp) refl) km (omega (arith, l)) (omega arith) (omega (arith, kl)) (rw (kl, kn) f)
 
@@ -437,17 +431,17 @@ module _ {V : Type 0} (voice : Ghosts V) (b : List ℕ) (plain : Bool) where
   abbrev bound_did : State → List Frame → V → Point → State → List Frame → ℕ → Type 0
   bound_did s row u to new now made = DidOn voice b plain (share_of b plain voice.loud point.Bound s) 5 (8 * s.depth_left + 4) row u (Ok to) new now u made
 
-  bound_reads : (s : State) (i : Place) (front : List ℕ) (g : Heard) → s.place ≡ i → bound_heard binding_value s.depth_left s.lifetimes i ≡ with_looks front g
+  bound_reads : (s : State) (i : Place) (front : List ℕ) (g : Heard) → s.place ≡ i → open_heard binding_value s.depth_left s.lifetimes i ≡ with_looks front g
       → share_of b plain voice.loud point.Bound s ≡ with_looks front (with_texts voice.loud (mark_texts None) (with_looks [] (and_then (none_open g) (share b plain voice.loud (frame_at point.OpenBindings s)))))
   unfolding share_at
   bound_reads s i front g p e = rw p
       (behind_reads s.depth_left s.lifetimes i
       ∙ (ap (λ (h : Heard). and_then h (λ x _. heard voice b plain (bindings_left true) s.depth_left s.lifetimes x)) e ∙ allowing_then front g (λ x _. heard voice b plain (bindings_left true) s.depth_left s.lifetimes x)))
 
-  type_heard : (left n : ℕ) (i : Place) → bound_heard type_inside left n i ≡ of plain voice.loud (unit_outcome (around b voice.loud left n) a_type false i)
+  type_heard : (left n : ℕ) (i : Place) → open_heard type_inside left n i ≡ of plain voice.loud (unit_outcome (around b voice.loud left n) a_type false i)
   type_heard left n i = last_child plain voice.loud b left n a_type false i tt
 
-  no_bound : (left n : ℕ) → bound_heard binding_value left n None ≡ bound_heard type_inside left n None
+  no_bound : (left n : ℕ) → open_heard binding_value left n None ≡ open_heard type_inside left n None
   unfolding run
   no_bound left n = refl
 

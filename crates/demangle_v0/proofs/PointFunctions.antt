@@ -13,7 +13,7 @@ use Rattle.demangle_v0.specs.Events.{Heard, of, nothing_heard, and_then, with_lo
 use Rattle.demangle_v0.specs.Grammar.{word_items, text}
 use Rattle.demangle_v0.specs.Groups.{texts_of, word_group}
 use Rattle.demangle_v0.specs.Reading.{Place, run, unit_outcome, max_depth}
-use Rattle.demangle_v0.specs.Points.{mark_texts, pays, puts, then_frame, share_at, share, is_inner, weight_at, share_of, returns, none_open, around, goes, way_weight, height_at, Fits, is_list_over, behind_list, list_costs, DidOn}
+use Rattle.demangle_v0.specs.Points.{frame_of, mark_texts, pays, puts, then_frame, share_at, share, is_inner, weight_at, share_of, returns, none_open, around, goes, way_weight, height_at, Fits, is_list_over, behind_list, list_costs, DidOn}
 use Rattle.demangle_sink.specs.declared.SinkRefused.{SinkRefused}
 use Rattle.demangle_v0.specs.declared.grammar.Mark.{Mark}
 use Rattle.demangle_v0.specs.declared.grammar.Mark.TheVariants as mark
@@ -33,7 +33,7 @@ use Rattle.demangle_v0.proofs.ClosedUnits.{last_child}
 use Rattle.demangle_v0.proofs.Elements.{type_element}
 use Rattle.demangle_v0.proofs.GroupReads.{word_then, word_read}
 use Rattle.demangle_v0.proofs.ListReads.{child_followed, end_failed, end_over, more_failed, more_over, first_on, more_on}
-use Rattle.demangle_v0.proofs.PointSteps.{refused, kept_none, steps, after, faulty, faulty_after}
+use Rattle.demangle_v0.proofs.PointSteps.{heard, refused, steps, after, faulty, faulty_after, put_goes, put_refused, group_so, group_goes, group_fails, group_refused, word_so}
 use Rattle.demangle_v0.proofs.TypeReads.{binder_reads}
 
 abbrev pub parameters : Items
@@ -54,85 +54,12 @@ left_parameters first = if first then first_parameters else next_parameters
 abbrev pub separator : Bool → Mark → Option Mark
 separator first m = if first then None else Some m
 
-abbrev pub next_frame : State → Frame
-next_frame s = record { point = point.NextParameter; in_value = s.in_value; letter = s.letter; depth_left = s.depth_left; number = s.lifetimes }
+-- a frame that goes on as this state stands
+abbrev pub frame_at : Point → State → Frame
+frame_at p s = frame_of p s.in_value s.letter s.depth_left s.lifetimes
 
 module _ {V : Type 0} (voice : Ghosts V) (b : List ℕ) (plain : Bool) where
-  -- what is heard of a unit's rest
-  abbrev pub heard : Items → ℕ → ℕ → Place → Heard
-  heard p left n i = none_open (of plain voice.loud (run p (around b voice.loud left n) i))
-
-  -- Texts that are handed over behind some looks.
-
-  pub put_goes : (to : Point) (front : List ℕ) (ts : List Text) (h : Heard) (weight high : ℕ) (row : List Frame) (v w : V) (new : State) (made : ℕ)
-      → h ≡ with_looks front (with_texts voice.loud ts (share_of b plain voice.loud to new)) → voice.prints v ts (Ok tt) w → new.mark ≡ None → made ≤ total front
-      → way_weight (goes to) + 1 ≤ weight + 100 * total front → height_at to new.depth_left ≤ high → Fits to new.depth_left new.lifetimes
-      → DidOn voice b plain h weight high row v (Ok to) new row w made
-  unfolding then_frame
-  put_goes to front ts h weight high row v w new made e p m l x y f = record {
-    comes = record {
-      bits = pays front ∷ puts ts ∷ [];
-      back = [];
-      pushed = None;
-      told = (w, p, refl);
-      reads = rw m e;
-      is_row = refl;
-      enough = omega arith;
-      late = omega arith;
-      lighter = omega arith;
-      outer_height = omega arith;
-      inner_height = omega arith;
-      outer_fits = tt;
-      inner_fits = f;
-      quiet = λ _. tt;
-    };
-  }
-
-  pub put_refused : (front : List ℕ) (ts : List Text) (h rest : Heard) (weight high : ℕ) (row : List Frame) (v w : V) (new : State) (e : SinkRefused) (made : ℕ)
-      → h ≡ with_looks front (with_texts voice.loud ts rest) → voice.prints v ts (Err e) w → made ≤ total front → (voice.loud ≡ false → rest.place ≡ None)
-      → DidOn voice b plain h weight high row v (Err Refused) new row w made
-  put_refused front ts h rest weight high row v w new e made r p l q = record {
-    comes = (
-      record {
-        front = pays front ∷ [];
-        texts = ts;
-        rest = rest;
-        mid = v;
-        told = refl;
-        refusal = e;
-        prints = p;
-        reads = r;
-        enough = omega arith;
-        exact = λ _. omega arith;
-        fails = q;
-      },
-      kept_none row,
-    );
-  }
-
-  -- a mark that is left, and the point behind it
-  pub mark_goes : (to : Point) (m : Mark) (front : List ℕ) (h rest : Heard) (weight high : ℕ) (row : List Frame) (u : V) (new : State) (made : ℕ)
-      → h ≡ with_looks front (with_texts voice.loud (text m ∷ []) rest) → rest ≡ share_of b plain voice.loud to new → new.mark ≡ Some m → made ≤ total front
-      → way_weight (goes to) + 1 ≤ weight + 100 * total front → height_at to new.depth_left ≤ high → Fits to new.depth_left new.lifetimes
-      → DidOn voice b plain h weight high row u (Ok to) new row u made
-  unfolding then_frame
-  mark_goes to m front h rest weight high row u new made e r k l x y f = record {
-    comes =
-        steps voice b plain (goes to) front [] None h weight high row row u new made (rw k (e ∙ ap (λ (g : Heard). with_looks front (with_texts voice.loud (text m ∷ []) g)) r)) refl (omega (arith, l)) (omega (arith, l)) (omega (arith, x)) (omega arith) (omega (arith, y)) tt f (λ _. tt);
-  }
-
-  -- nothing is handed over
-  pub plain_goes : (to : Point) (front : List ℕ) (h rest : Heard) (weight high : ℕ) (row : List Frame) (u : V) (new : State) (made : ℕ)
-      → h ≡ with_looks front rest → rest ≡ share_of b plain voice.loud to new → new.mark ≡ None → made ≤ total front
-      → way_weight (goes to) + 1 ≤ weight + 100 * total front → height_at to new.depth_left ≤ high → Fits to new.depth_left new.lifetimes
-      → DidOn voice b plain h weight high row u (Ok to) new row u made
-  unfolding then_frame
-  plain_goes to front h rest weight high row u new made e r k l x y f = record {
-    comes =
-        steps voice b plain (goes to) front [] None h weight high row row u new made (rw k (e ∙ ap (with_looks front) r)) refl (omega (arith, l)) (omega (arith, l)) (omega (arith, x)) (omega arith) (omega (arith, y)) tt f (λ _. tt);
-  }
-
-  -- a mark may be left
+  -- a mark may be left, and the point behind it
   pub moves : (to : Point) (ms : Option Mark) (front : List ℕ) (h rest : Heard) (weight high : ℕ) (row : List Frame) (u : V) (new : State) (made : ℕ)
       → h ≡ with_looks front (with_texts voice.loud (mark_texts ms) rest) → rest ≡ share_of b plain voice.loud to new → new.mark ≡ ms → made ≤ total front
       → way_weight (goes to) + 1 ≤ weight + 100 * total front → height_at to new.depth_left ≤ high → Fits to new.depth_left new.lifetimes
@@ -157,90 +84,82 @@ module _ {V : Type 0} (voice : Ghosts V) (b : List ℕ) (plain : Bool) where
 
   -- Words behind which the unit goes on.
 
-  word_so : (x : Word) (c : ℕ) (p : Items) (left n : ℕ) (i : Place) (r : WordRead) → r ≡ (word_group b x c voice.loud n i).reads
-      → heard (word_items x c p) left n i ≡ with_looks (word_group b x c voice.loud n i).costs (none_open (word_then b plain voice.loud r (λ j. of plain voice.loud (run p (around b voice.loud left n) j))))
-  word_so x c p left n i r e =
-      let g = word_group b x c voice.loud n i in
-      ap none_open (word_read b plain left voice.loud n x c p i)
-      ∙ ap (λ (z : WordRead). with_looks g.costs (none_open (word_then b plain voice.loud z (λ j. of plain voice.loud (run p (around b voice.loud left n) j))))) (sym e)
-
   pub word_on : (to : Point) (x : Word) (c : ℕ) (p : Items) (left n : ℕ) (i j : Place) (s : Stretch) (weight high : ℕ) (row : List Frame) (v w : V) (new : State) (made : ℕ)
       → reads.Goes s j ≡ (word_group b x c voice.loud n i).reads → made ≤ total (word_group b x c voice.loud n i).costs
-      → voice.prints v (texts_of b plain s) (Ok tt) w → new.mark ≡ None → heard p left n j ≡ share_of b plain voice.loud to new
+      → voice.prints v (texts_of b plain s) (Ok tt) w → new.mark ≡ None → heard voice b plain p left n j ≡ share_of b plain voice.loud to new
       → way_weight (goes to) + 1 ≤ weight → height_at to new.depth_left ≤ high → Fits to new.depth_left new.lifetimes
-      → DidOn voice b plain (heard (word_items x c p) left n i) weight high row v (Ok to) new row w made
+      → DidOn voice b plain (heard voice b plain (word_items x c p) left n i) weight high row v (Ok to) new row w made
   word_on to x c p left n i j s weight high row v w new made r l q m e y z f =
-      let ks = (word_group b x c voice.loud n i).costs in
-      put_goes to ks (texts_of b plain s) _ weight high row v w new made (word_so x c p left n i (reads.Goes s j) r ∙ ap (λ (h : Heard). with_looks ks (with_texts voice.loud (texts_of b plain s) h)) e) q m l (omega arith) z f
+      group_goes voice b plain to _ (word_group b x c voice.loud n i) (heard voice b plain p left n) j s weight high row v w new made (word_so voice b plain x c p left n i) r l q m e y z f
 
   -- one that hands nothing over
   pub word_bare : (x : Word) (c : ℕ) (p : Items) (left n : ℕ) (i j : Place) (s : Stretch) (weight high weight' high' : ℕ) (row : List Frame) (v w : V) (result : Result Point Stop) (new : State) (now : List Frame) (second made : ℕ)
       → reads.Goes s j ≡ (word_group b x c voice.loud n i).reads → made ≤ total (word_group b x c voice.loud n i).costs + second
       → texts_of b plain s ≡ [] → weight' ≤ weight → high' ≤ high
-      → DidOn voice b plain (heard p left n j) weight' high' row v result new now w second → DidOn voice b plain (heard (word_items x c p) left n i) weight high row v result new now w made
+      → DidOn voice b plain (heard voice b plain p left n j) weight' high' row v result new now w second → DidOn voice b plain (heard voice b plain (word_items x c p) left n i) weight high row v result new now w made
   word_bare x c p left n i j s weight high weight' high' row v w result new now second made r l q y z d =
-      let ks = (word_group b x c voice.loud n i).costs in
-      after voice b plain ks _ (heard p left n j) weight high weight' high' row v w result new now (total ks) second made
-      (word_so x c p left n i (reads.Goes s j) r ∙ ap (λ ts. with_looks ks (with_texts voice.loud ts (heard p left n j))) q) (omega arith) l (omega arith) z d
+      let g = word_group b x c voice.loud n i in
+      after voice b plain g.costs _ (heard voice b plain p left n j) weight high weight' high' row v w result new now (total g.costs) second made
+      (group_so voice b plain _ g (heard voice b plain p left n) (reads.Goes s j) (word_so voice b plain x c p left n i) r ∙ ap (λ ts. with_looks g.costs (with_texts voice.loud ts (heard voice b plain p left n j))) q) (omega arith) l (omega arith) z d
 
   pub word_on_refused : (x : Word) (c : ℕ) (p : Items) (left n : ℕ) (i j : Place) (s : Stretch) (weight high : ℕ) (row : List Frame) (v w : V) (new : State) (e : SinkRefused) (made : ℕ)
       → reads.Goes s j ≡ (word_group b x c voice.loud n i).reads → made ≤ total (word_group b x c voice.loud n i).costs
-      → voice.prints v (texts_of b plain s) (Err e) w → (voice.loud ≡ false → IsOk (refused e)) → DidOn voice b plain (heard (word_items x c p) left n i) weight high row v (Err Refused) new row w made
+      → voice.prints v (texts_of b plain s) (Err e) w → (voice.loud ≡ false → IsOk (refused e)) → DidOn voice b plain (heard voice b plain (word_items x c p) left n i) weight high row v (Err Refused) new row w made
   word_on_refused x c p left n i j s weight high row v w new e made r l q k =
-      put_refused (word_group b x c voice.loud n i).costs (texts_of b plain s) _ (heard p left n j) weight high row v w new e made (word_so x c p left n i (reads.Goes s j) r) q l (λ h. absurd (false≢true (k h)))
+      group_refused voice b plain _ (word_group b x c voice.loud n i) (heard voice b plain p left n) j s weight high row v w new e made (word_so voice b plain x c p left n i) r l q k
 
   -- one that ends the unit
   pub word_fails : (x : Word) (c : ℕ) (p : Items) (left n : ℕ) (i : Place) (m : Mark) (weight high : ℕ) (row : List Frame) (v : V) (new : State) (made : ℕ)
       → reads.Stops m ≡ (word_group b x c voice.loud n i).reads → made ≤ total (word_group b x c voice.loud n i).costs → new.mark ≡ None → 1 ≤ weight
-      → DidOn voice b plain (heard (word_items x c p) left n i) weight high row v (Err (Fault m)) new row v made
+      → DidOn voice b plain (heard voice b plain (word_items x c p) left n i) weight high row v (Err (Fault m)) new row v made
   word_fails x c p left n i m weight high row v new made r l k y =
-      faulty_after voice b plain (word_group b x c voice.loud n i).costs m _ weight high row v new made k (word_so x c p left n i (reads.Stops m) r) l y
+      group_fails voice b plain _ (word_group b x c voice.loud n i) (heard voice b plain p left n) m weight high row v new made (word_so voice b plain x c p left n i) r l k y
 
   -- Binders.
 
   pub binder_unread : (p : Items) (left n weight high : ℕ) (row : List Frame) (u : V) (new : State) (made : ℕ) → new.mark ≡ None → made ≤ 0 → 1 ≤ weight
-      → DidOn voice b plain (heard (in_binder p) left n None) weight high row u (Err (Fault mark.Unread)) new row u made
+      → DidOn voice b plain (heard voice b plain (in_binder p) left n None) weight high row u (Err (Fault mark.Unread)) new row u made
   unfolding run
   binder_unread p left n weight high row u new made k l x = faulty voice b plain mark.Unread _ weight high row u new made k refl l x
 
   pub binder_stops : (p : Items) (left n i weight high : ℕ) (row : List Frame) (u : V) (new : State) (made : ℕ) → new.mark ≡ None → None ≡ optional_at (code "G") b i → made ≤ 4 * (length b - i + 1) → 1 ≤ weight
-      → DidOn voice b plain (heard (in_binder p) left n (Some i)) weight high row u (Err (Fault mark.Invalid)) new row u made
+      → DidOn voice b plain (heard voice b plain (in_binder p) left n (Some i)) weight high row u (Err (Fault mark.Invalid)) new row u made
   unfolding run
   binder_stops p left n i weight high row u new made k e l x = faulty_after voice b plain (4 * (length b - i + 1) ∷ []) mark.Invalid _ weight high row u new made k (rw (sym e) refl) (omega (arith, l)) x
 
   binder_so : (p : Items) (left n i j m : ℕ) → Some (m, j) ≡ optional_at (code "G") b i
-      → heard (in_binder p) left n (Some i) ≡ with_looks (4 * (j - i + 1) ∷ []) (with_texts voice.loud (binder_texts m n) (heard p left (n + m) (Some j)))
+      → heard voice b plain (in_binder p) left n (Some i) ≡ with_looks (4 * (j - i + 1) ∷ []) (with_texts voice.loud (binder_texts m n) (heard voice b plain p left (n + m) (Some j)))
   binder_so p left n i j m e = ap none_open (binder_reads plain voice.loud b left n p i j m (sym e))
 
   -- no lifetime
   pub binder_none : (p : Items) (left n i j m weight high weight' high' : ℕ) (row : List Frame) (v w : V) (result : Result Point Stop) (new : State) (now : List Frame) (first second made : ℕ)
       → Some (m, j) ≡ optional_at (code "G") b i → m ≡ 0 → first ≤ 4 * (j - i + 1) → made ≤ first + second → weight' ≤ weight + 100 → high' ≤ high
-      → DidOn voice b plain (heard p left n (Some j)) weight' high' row v result new now w second → DidOn voice b plain (heard (in_binder p) left n (Some i)) weight high row v result new now w made
+      → DidOn voice b plain (heard voice b plain p left n (Some j)) weight' high' row v result new now w second → DidOn voice b plain (heard voice b plain (in_binder p) left n (Some i)) weight high row v result new now w made
   unfolding binder_texts
   binder_none p left n i j m weight high weight' high' row v w result new now first second made e z k l x y d =
       let add : n + 0 ≡ n = omega arith in
-      after voice b plain (4 * (j - i + 1) ∷ []) _ (heard p left n (Some j)) weight high weight' high' row v w result new now first second made
+      after voice b plain (4 * (j - i + 1) ∷ []) _ (heard voice b plain p left n (Some j)) weight high weight' high' row v w result new now first second made
       (binder_so p left n i j m e ∙ rw (z, add) refl) (omega (arith, k)) l (omega arith) y d
 
   pub binder_goes : (to : Point) (p : Items) (left n i j m weight high : ℕ) (row : List Frame) (v w : V) (new : State) (made : ℕ)
       → Some (m, j) ≡ optional_at (code "G") b i → made ≤ 4 * (j - i + 1) → voice.prints v (binder_texts m n) (Ok tt) w → new.mark ≡ None
-      → heard p left (n + m) (Some j) ≡ share_of b plain voice.loud to new → way_weight (goes to) ≤ weight + 99 → height_at to new.depth_left ≤ high → Fits to new.depth_left new.lifetimes
-      → DidOn voice b plain (heard (in_binder p) left n (Some i)) weight high row v (Ok to) new row w made
+      → heard voice b plain p left (n + m) (Some j) ≡ share_of b plain voice.loud to new → way_weight (goes to) ≤ weight + 99 → height_at to new.depth_left ≤ high → Fits to new.depth_left new.lifetimes
+      → DidOn voice b plain (heard voice b plain (in_binder p) left n (Some i)) weight high row v (Ok to) new row w made
   binder_goes to p left n i j m weight high row v w new made e l q k h x y f =
-      put_goes to (4 * (j - i + 1) ∷ []) (binder_texts m n) _ weight high row v w new made
+      put_goes voice b plain to (4 * (j - i + 1) ∷ []) (binder_texts m n) _ weight high row v w new made
       (binder_so p left n i j m e ∙ ap (λ (h : Heard). with_looks (4 * (j - i + 1) ∷ []) (with_texts voice.loud (binder_texts m n) h)) h) q k (omega (arith, l)) (omega (arith, x)) y f
 
   pub binder_refused : (p : Items) (left n i j m weight high : ℕ) (row : List Frame) (v w : V) (new : State) (r : SinkRefused) (made : ℕ)
       → Some (m, j) ≡ optional_at (code "G") b i → made ≤ 4 * (j - i + 1) → voice.prints v (binder_texts m n) (Err r) w → (voice.loud ≡ false → IsOk (refused r))
-      → DidOn voice b plain (heard (in_binder p) left n (Some i)) weight high row v (Err Refused) new row w made
+      → DidOn voice b plain (heard voice b plain (in_binder p) left n (Some i)) weight high row v (Err Refused) new row w made
   binder_refused p left n i j m weight high row v w new r made e l q k =
-      put_refused (4 * (j - i + 1) ∷ []) (binder_texts m n) _ (heard p left (n + m) (Some j)) weight high row v w new r made (binder_so p left n i j m e) q (omega (arith, l)) (λ h. absurd (false≢true (k h)))
+      put_refused voice b plain (4 * (j - i + 1) ∷ []) (binder_texts m n) _ (heard voice b plain p left (n + m) (Some j)) weight high row v w new r made (binder_so p left n i j m e) q (omega (arith, l)) (λ h. absurd (false≢true (k h)))
 
-  pub open_share : (s : State) → heard parameters s.depth_left s.lifetimes s.place ≡ share_of b plain voice.loud point.OpenParameters s
+  pub open_share : (s : State) → heard voice b plain parameters s.depth_left s.lifetimes s.place ≡ share_of b plain voice.loud point.OpenParameters s
   unfolding share_at
   open_share s = refl
 
-  open_reads : (left n : ℕ) (i : Place) → heard parameters left n i ≡ with_texts voice.loud (text mark.Function ∷ []) (heard first_parameters left n i)
+  open_reads : (left n : ℕ) (i : Place) → heard voice b plain parameters left n i ≡ with_texts voice.loud (text mark.Function ∷ []) (heard voice b plain first_parameters left n i)
   unfolding run
   open_reads left n i = refl
 
@@ -248,7 +167,7 @@ module _ {V : Type 0} (voice : Ghosts V) (b : List ℕ) (plain : Bool) where
       → DidOn voice b plain (share_of b plain voice.loud point.OpenParameters s) 4 (8 * s.depth_left + 2) row u (Ok point.FirstParameter) new row u 0
   unfolding share_at
   open_did s new row u f kl kn kp km =
-      mark_goes point.FirstParameter mark.Function [] _ (heard first_parameters s.depth_left s.lifetimes s.place) 4 (8 * s.depth_left + 2) row u new 0
+      moves point.FirstParameter (Some mark.Function) [] _ (heard voice b plain first_parameters s.depth_left s.lifetimes s.place) 4 (8 * s.depth_left + 2) row u new 0
       (open_reads s.depth_left s.lifetimes s.place) (rw (kl, kn, kp) refl) km (omega arith) (omega arith) (omega (arith, kl)) (rw (kl, kn) f)
 
   abbrev parameter_did : Bool → State → List Frame → V → Point → State → List Frame → ℕ → Type 0
@@ -257,18 +176,18 @@ module _ {V : Type 0} (voice : Ghosts V) (b : List ℕ) (plain : Bool) where
 
   -- their points weigh the same
   parameter_as : (first : Bool) (s : State) (row : List Frame) (u : V) (to : Point) (new : State) (now : List Frame) (made : ℕ)
-      → DidOn voice b plain (heard (left_parameters first) s.depth_left s.lifetimes s.place) 3 (8 * s.depth_left + 2) row u (Ok to) new now u made → parameter_did first s row u to new now made
+      → DidOn voice b plain (heard voice b plain (left_parameters first) s.depth_left s.lifetimes s.place) 3 (8 * s.depth_left + 2) row u (Ok to) new now u made → parameter_did first s row u to new now made
   unfolding share_at
   parameter_as true s row u to new now made d = d
   parameter_as false s row u to new now made d = d
 
-  closing_reads : (left n : ℕ) (i : Place) → heard (says ")" returns) left n i ≡ with_texts voice.loud (text mark.CloseParen ∷ []) (heard returns left n i)
+  closing_reads : (left n : ℕ) (i : Place) → heard voice b plain (says ")" returns) left n i ≡ with_texts voice.loud (text mark.CloseParen ∷ []) (heard voice b plain returns left n i)
   unfolding run
   closing_reads left n i = refl
 
   -- their end
   parameters_end : (first : Bool) (left n : ℕ) (i : Place) → is_list_over b i ≡ true
-      → heard (left_parameters first) left n i ≡ with_looks (list_costs i) (heard (says ")" returns) left n (behind_list b i))
+      → heard voice b plain (left_parameters first) left n i ≡ with_looks (list_costs i) (heard voice b plain (says ")" returns) left n (behind_list b i))
   parameters_end true left n None e = ap none_open (end_failed plain voice.loud (around b voice.loud left n) (says ")" returns) (unit type_inside next_parameters))
   parameters_end false left n None e = ap none_open (more_failed plain voice.loud (around b voice.loud left n) ", " type_inside (says ")" returns))
   parameters_end true left n (Some i) e = rw e (ap none_open (end_over plain voice.loud (around b voice.loud left n) (says ")" returns) (unit type_inside next_parameters) i e))
@@ -280,13 +199,13 @@ module _ {V : Type 0} (voice : Ghosts V) (b : List ℕ) (plain : Bool) where
       → parameter_did first s row u point.Returns new row made
   unfolding share_at
   parameters_over first s row u new made e l f kl kn kp km = parameter_as first s row u point.Returns new row made
-      (mark_goes point.Returns mark.CloseParen (list_costs s.place) _ (heard returns s.depth_left s.lifetimes (behind_list b s.place)) 3 (8 * s.depth_left + 2) row u new made
+      (moves point.Returns (Some mark.CloseParen) (list_costs s.place) _ (heard voice b plain returns s.depth_left s.lifetimes (behind_list b s.place)) 3 (8 * s.depth_left + 2) row u new made
       (parameters_end first s.depth_left s.lifetimes s.place e ∙ ap (with_looks (list_costs s.place)) (closing_reads s.depth_left s.lifetimes (behind_list b s.place))) (rw (kl, kn, kp) refl) km l (omega arith) (omega (arith, kl)) (rw (kl, kn) f))
 
   -- one of them
   parameter_reads : (first : Bool) (s : State) (i : ℕ) → s.depth_left ≤ max_depth → is_byte b i (code "E") ≡ false
-      → heard (left_parameters first) s.depth_left s.lifetimes (Some i)
-      ≡ with_looks (1 ∷ []) (with_texts voice.loud (mark_texts (separator first mark.Comma)) (with_looks [] (and_then (none_open (of plain voice.loud (unit_outcome (around b voice.loud s.depth_left s.lifetimes) a_type false (Some i)))) (share b plain voice.loud (next_frame s)))))
+      → heard voice b plain (left_parameters first) s.depth_left s.lifetimes (Some i)
+      ≡ with_looks (1 ∷ []) (with_texts voice.loud (mark_texts (separator first mark.Comma)) (with_looks [] (and_then (none_open (of plain voice.loud (unit_outcome (around b voice.loud s.depth_left s.lifetimes) a_type false (Some i)))) (share b plain voice.loud (frame_at point.NextParameter s)))))
   unfolding share_at
   parameter_reads true s i l e =
       let r = around b voice.loud s.depth_left s.lifetimes in
@@ -298,7 +217,7 @@ module _ {V : Type 0} (voice : Ghosts V) (b : List ℕ) (plain : Bool) where
 
   pub parameter_on : (first : Bool) (s : State) (row now : List Frame) (u : V) (new : State) (made : ℕ)
       → is_list_over b s.place ≡ false → made ≤ total (list_costs s.place) → Fits point.NextParameter s.depth_left s.lifetimes
-      → new.depth_left ≡ s.depth_left → new.lifetimes ≡ s.lifetimes → new.place ≡ behind_list b s.place → new.mark ≡ separator first mark.Comma → now ≡ row ++ next_frame s ∷ []
+      → new.depth_left ≡ s.depth_left → new.lifetimes ≡ s.lifetimes → new.place ≡ behind_list b s.place → new.mark ≡ separator first mark.Comma → now ≡ row ++ frame_at point.NextParameter s ∷ []
       → parameter_did first s row u point.«Type» new now made
   unfolding share_at
   parameter_on first s row now u new made e l f kl kn kp km w = go s.place refl
@@ -309,12 +228,12 @@ module _ {V : Type 0} (voice : Ghosts V) (b : List ℕ) (plain : Bool) where
           let d : is_byte b i (code "E") ≡ false = rw p at e in
           let q : new.place ≡ Some i = rw (p, d) at kp in
           parameter_as first s row u point.«Type» new now made
-          (enters point.«Type» (separator first mark.Comma) (1 ∷ []) [] (next_frame s) _ (none_open (of plain voice.loud (unit_outcome (around b voice.loud s.depth_left s.lifetimes) a_type false (Some i)))) 3 (8 * s.depth_left + 2) row now u new made
+          (enters point.«Type» (separator first mark.Comma) (1 ∷ []) [] (frame_at point.NextParameter s) _ (none_open (of plain voice.loud (unit_outcome (around b voice.loud s.depth_left s.lifetimes) a_type false (Some i)))) 3 (8 * s.depth_left + 2) row now u new made
           (rw p (parameter_reads first s i (omega (arith, f)) d)) (rw (kl, kn, q) refl) km w (omega (arith, rw p at l)) (omega (arith, rw p at l)) (omega arith) (omega arith) (omega (arith, kl)) f (rw (kl, kn) f) refl)
 
   -- What is returned.
 
-  type_share : (new : State) (left n : ℕ) (i : Place) → new.depth_left ≡ left → new.lifetimes ≡ n → new.place ≡ i → heard type_inside left n i ≡ share_of b plain voice.loud point.«Type» new
+  type_share : (new : State) (left n : ℕ) (i : Place) → new.depth_left ≡ left → new.lifetimes ≡ n → new.place ≡ i → heard voice b plain type_inside left n i ≡ share_of b plain voice.loud point.«Type» new
   unfolding share_at
   type_share new left n i kl kn kp = rw (kl, kn, kp) (ap none_open (last_child plain voice.loud b left n a_type false i tt))
 
@@ -325,16 +244,16 @@ module _ {V : Type 0} (voice : Ghosts V) (b : List ℕ) (plain : Bool) where
       → new.place ≡ Some (i + 1) → new.is_open ≡ false → new.mark ≡ None → returns_did s row u point.End new made
   unfolding run share_at
   returns_unit s i row u new made p e l kp ko km =
-      plain_goes point.End (1 ∷ []) _ (nothing_heard (Some (i + 1)) false) 2 (8 * s.depth_left + 2) row u new made (rw (p, e) refl) (rw (kp, ko) refl) km (omega (arith, l)) (omega arith) (omega arith) tt
+      moves point.End None (1 ∷ []) _ (nothing_heard (Some (i + 1)) false) 2 (8 * s.depth_left + 2) row u new made (rw (p, e) refl) (rw (kp, ko) refl) km (omega (arith, l)) (omega arith) (omega arith) tt
 
   pub returns_failed : (s : State) (row : List Frame) (u : V) (new : State) (made : ℕ) → s.place ≡ None → made ≤ 0 → Fits point.Returns s.depth_left s.lifetimes
       → new.depth_left ≡ s.depth_left → new.lifetimes ≡ s.lifetimes → new.place ≡ None → new.mark ≡ Some mark.Arrow → returns_did s row u point.«Type» new made
   unfolding run share_at
   returns_failed s row u new made p l f kl kn kp km =
-      mark_goes point.«Type» mark.Arrow [] _ (heard type_inside s.depth_left s.lifetimes None) 2 (8 * s.depth_left + 2) row u new made (rw p refl) (type_share new s.depth_left s.lifetimes None kl kn kp) km (omega (arith, l)) (omega arith) (omega (arith, kl)) (rw (kl, kn) f)
+      moves point.«Type» (Some mark.Arrow) [] _ (heard voice b plain type_inside s.depth_left s.lifetimes None) 2 (8 * s.depth_left + 2) row u new made (rw p refl) (type_share new s.depth_left s.lifetimes None kl kn kp) km (omega (arith, l)) (omega arith) (omega (arith, kl)) (rw (kl, kn) f)
 
   pub returns_type : (s : State) (i : ℕ) (row : List Frame) (u : V) (new : State) (made : ℕ) → s.place ≡ Some i → is_byte b i (code "u") ≡ false → made ≤ 1 → Fits point.Returns s.depth_left s.lifetimes
       → new.depth_left ≡ s.depth_left → new.lifetimes ≡ s.lifetimes → new.place ≡ Some i → new.mark ≡ Some mark.Arrow → returns_did s row u point.«Type» new made
   unfolding run share_at
   returns_type s i row u new made p e l f kl kn kp km =
-      mark_goes point.«Type» mark.Arrow (1 ∷ []) _ (heard type_inside s.depth_left s.lifetimes (Some i)) 2 (8 * s.depth_left + 2) row u new made (rw (p, e) refl) (type_share new s.depth_left s.lifetimes (Some i) kl kn kp) km (omega (arith, l)) (omega arith) (omega (arith, kl)) (rw (kl, kn) f)
+      moves point.«Type» (Some mark.Arrow) (1 ∷ []) _ (heard voice b plain type_inside s.depth_left s.lifetimes (Some i)) 2 (8 * s.depth_left + 2) row u new made (rw (p, e) refl) (type_share new s.depth_left s.lifetimes (Some i) kl kn kp) km (omega (arith, l)) (omega arith) (omega (arith, kl)) (rw (kl, kn) f)

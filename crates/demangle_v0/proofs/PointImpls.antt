@@ -15,8 +15,8 @@ use Rattle.demangle_v0.specs.declared.points.frames.Frame.{Frame}
 use Rattle.demangle_v0.specs.declared.points.State.{State}
 use Rattle.demangle_v0.specs.declared.points.Stop.TheVariants.{Fault}
 use Rattle.demangle_v0.specs.declared.points.voice.Voice.{Ghosts}
-use Rattle.demangle_v0.proofs.PointSteps.{steps, faulty, faulty_after}
-use Rattle.demangle_v0.proofs.PointTypes.{heard, heard_at, ends_says}
+use Rattle.demangle_v0.proofs.PointSteps.{heard, steps, faulty, faulty_after}
+use Rattle.demangle_v0.proofs.PointTypes.{heard_at, ends_says}
 
 module _ {V : Type 0} (voice : Ghosts V) (b : List ℕ) (plain : Bool) where
   pub impl_unread : (q : Bool) (left n : ℕ) (row : List Frame) (u : V) (new : State) (made : ℕ) → new.mark ≡ None → made ≤ 0

@@ -21,58 +21,11 @@ use Rattle.demangle_v0.specs.declared.points.State.{State}
 use Rattle.demangle_v0.specs.declared.points.Stop.{Stop}
 use Rattle.demangle_v0.specs.declared.points.Stop.TheVariants.{Refused, Fault}
 use Rattle.demangle_v0.specs.declared.points.voice.Voice.{Ghosts}
-use Rattle.demangle_v0.proofs.PointSteps.{refused, kept_none, same, faulty, faulty_after}
-use Rattle.demangle_v0.proofs.PointTypes.{heard, heard_at, enters, behind_so, behind_light, behind_low, behind_fits, lifetime_so}
+use Rattle.demangle_v0.proofs.PointSteps.{heard, refused, same, faulty, faulty_after, put_goes, put_refused}
+use Rattle.demangle_v0.proofs.PointTypes.{heard_at, enters, behind_so, behind_light, behind_low, behind_fits, lifetime_so}
 use Rattle.demangle_v0.proofs.TypeReads.{said_both, says_all, lifetime_named, lifetime_wrong}
 
 module _ {V : Type 0} (voice : Ghosts V) (b : List ℕ) (plain : Bool) where
-  -- a step that hands texts over behind some looks, and goes on at a point of this state
-  pub tells : (h : Heard) (p : Point) (left n : ℕ) (i : Place) (ks : List ℕ) (ts : List Text) (weight high : ℕ) (row : List Frame) (u w : V) (new : State) (made : ℕ)
-      → h ≡ with_looks ks (with_texts voice.loud ts (heard_at voice b plain p new.in_value new.letter left n i new.is_open))
-      → new.depth_left ≡ left → new.lifetimes ≡ n → new.place ≡ i → new.mark ≡ None → voice.prints u ts (Ok tt) w
-      → made ≤ total ks → way_weight (goes p) + 1 ≤ weight + 100 * total ks → height_at p left ≤ high → Fits p left n
-      → DidOn voice b plain h weight high row u (Ok p) new row w made
-  unfolding then_frame
-  tells h p left n i ks ts weight high row u w new made e kl kn kp km y l x z f = record {
-    comes = record {
-      bits = pays ks ∷ puts ts ∷ [];
-      back = [];
-      pushed = None;
-      told = (w, y, refl);
-      reads = rw (kl, kn, kp, km) e;
-      is_row = refl;
-      enough = omega (arith, l);
-      late = omega (arith, l);
-      lighter = omega (arith, x);
-      outer_height = omega arith;
-      inner_height = rw kl (omega (arith, z));
-      outer_fits = tt;
-      inner_fits = rw (kl, kn) f;
-      quiet = λ _. tt;
-    };
-  }
-
-  -- the voice, which speaks, refused them
-  pub refuses : (h rest : Heard) (ks : List ℕ) (ts : List Text) (weight high : ℕ) (row : List Frame) (u w : V) (e : SinkRefused) (new : State) (made : ℕ)
-      → h ≡ with_looks ks (with_texts voice.loud ts rest) → voice.prints u ts (refused e) w → voice.loud ≡ true → made ≤ total ks
-      → DidOn voice b plain h weight high row u (Err Refused) new row w made
-  refuses h rest ks ts weight high row u w x new made e y q l = record { comes = (stopped, kept_none row) }
-    where
-      stopped : Halted voice h u w made
-      stopped = record {
-        front = pays ks ∷ [];
-        texts = ts;
-        rest = rest;
-        mid = u;
-        told = refl;
-        refusal = x;
-        prints = y;
-        reads = e;
-        enough = omega (arith, l);
-        exact = λ _. omega (arith, l);
-        fails = λ s. absurd (false≢true (sym s ∙ q));
-      }
-
   -- The lifetime of a reference.
 
   abbrev named_heard : Bool → ℕ → ℕ → Place → Heard
@@ -154,12 +107,12 @@ module _ {V : Type 0} (voice : Ghosts V) (b : List ℕ) (plain : Bool) where
       → new.depth_left ≡ left → new.lifetimes ≡ n → new.place ≡ x → new.mark ≡ None → voice.prints u (texts_of b plain s) (Ok tt) w
       → DidOn voice b plain (heard_at voice b plain (lifetime_point q) v c left n (Some i) o) (weight_at (lifetime_point q)) (height_at (lifetime_point q) left) row u (Ok (behind_reference q)) new row w made
   lifetime_tells q v c left n i j k s x o row u w new made e z y g l f kl kn kp km r = as_lifetime q v c left n (Some i) o row row u w (Ok (behind_reference q)) new made
-      (tells _ (behind_reference q) left n x (4 * (j - i + 1) ∷ []) (texts_of b plain s) 2 (8 * left + 2) row u w new made
-      (spaced_heard q left n i j k s x e z y g ∙ ap (λ (h : Heard). with_looks (4 * (j - i + 1) ∷ []) (with_texts voice.loud (texts_of b plain s) h)) (behind_so voice b plain q new.in_value new.letter left n x new.is_open))
-      kl kn kp km r (omega (arith, l)) (omega (arith, behind_light voice b plain q)) (omega (arith, behind_low voice b plain q left)) (behind_fits voice b plain q left n f))
+      (put_goes voice b plain (behind_reference q) (4 * (j - i + 1) ∷ []) (texts_of b plain s) _ 2 (8 * left + 2) row u w new made
+      (rw (kl, kn, kp) (spaced_heard q left n i j k s x e z y g ∙ ap (λ (h : Heard). with_looks (4 * (j - i + 1) ∷ []) (with_texts voice.loud (texts_of b plain s) h)) (behind_so voice b plain q new.in_value new.letter left n x new.is_open)))
+      r km (omega (arith, l)) (omega (arith, behind_light voice b plain q)) (rw kl (behind_low voice b plain q left)) (rw (kl, kn) (behind_fits voice b plain q left n f)))
 
   pub lifetime_refused : (q : Bool) (v : Bool) (c left n i j k : ℕ) (s : Stretch) (x : Place) (o : Bool) (row : List Frame) (u w : V) (t : SinkRefused) (new : State) (made : ℕ) → Some (k, j) ≡ integer_at b i → (k ≡ 0 → ⊥) → voice.loud ≡ true → (s, x) ≡ spaced_lifetime n k j → made ≤ 4 * (j - i + 1)
       → voice.prints u (texts_of b plain s) (refused t) w
       → DidOn voice b plain (heard_at voice b plain (lifetime_point q) v c left n (Some i) o) (weight_at (lifetime_point q)) (height_at (lifetime_point q) left) row u (Err Refused) new row w made
   lifetime_refused q v c left n i j k s x o row u w t new made e z y g l r = as_lifetime q v c left n (Some i) o row row u w (Err Refused) new made
-      (refuses _ _ (4 * (j - i + 1) ∷ []) (texts_of b plain s) 2 (8 * left + 2) row u w t new made (spaced_heard q left n i j k s x e z y g) r y (omega (arith, l)))
+      (put_refused voice b plain (4 * (j - i + 1) ∷ []) (texts_of b plain s) _ _ 2 (8 * left + 2) row u w new t made (spaced_heard q left n i j k s x e z y g) r (omega (arith, l)) (λ h. absurd (false≢true (sym h ∙ y))))

@@ -12,7 +12,7 @@ use Rattle.demangle_symbol.specs.Words.{some_or, namespace_at, byte_at}
 use Rattle.demangle_v0.specs.Table.{path, path_rows}
 use Rattle.demangle_v0.specs.Tags.{path_kinds, path_of}
 use Rattle.demangle_v0.specs.Reading.{Place, run, level_of, levels}
-use Rattle.demangle_v0.specs.Points.{puts, then_frame, share_at, none_open, around, goes, Fits, DidOn}
+use Rattle.demangle_v0.specs.Points.{frame_of, puts, then_frame, share_at, none_open, around, goes, Fits, DidOn}
 use Rattle.demangle_v0.specs.declared.grammar.Mark.TheVariants as mark
 use Rattle.demangle_v0.specs.declared.points.tags.PathKind.{PathKind}
 use Rattle.demangle_v0.specs.declared.points.tags.PathKind.TheVariants as kind
@@ -24,7 +24,7 @@ use Rattle.demangle_v0.specs.declared.points.Stop.{Stop}
 use Rattle.demangle_v0.specs.declared.points.Stop.TheVariants.{Refused, Fault}
 use Rattle.demangle_v0.specs.declared.points.voice.Voice.{Ghosts}
 use Rattle.demangle_v0.proofs.GrammarRows.{rows_of, row_found}
-use Rattle.demangle_v0.proofs.PointSteps.{kept_none, steps, after, same, faulty, faulty_after, group_heard, group_shut}
+use Rattle.demangle_v0.proofs.PointSteps.{steps, after, same, faulty, faulty_after, put_goes, put_refused, group_heard, group_shut}
 
 module _ {V : Type 0} (voice : Ghosts V) (b : List ℕ) (plain : Bool) where
   -- Paths of names.
@@ -45,12 +45,12 @@ module _ {V : Type 0} (voice : Ghosts V) (b : List ℕ) (plain : Bool) where
   pub nested_goes : (v : Bool) (left n i letter j : ℕ) (row now : List Frame) (u : V) (new : State) (made : ℕ) → Some (letter, j) ≡ namespace_at b i → made ≤ 1
       → Fits point.Nested left n
       → new.in_value ≡ v → new.depth_left ≡ left → new.lifetimes ≡ n → new.place ≡ Some j → new.mark ≡ None
-      → now ≡ row ++ record { point = point.Nested; in_value = v; letter = letter; depth_left = left; number = n } ∷ []
+      → now ≡ row ++ frame_of point.Nested v letter left n ∷ []
       → DidOn voice b plain (path_heard v left n (Some i) 78) 1 (8 * left + 9) row u (Ok point.Path) new now u made
   unfolding run then_frame share_at
   nested_goes v left n i letter j row now u new made e l f kv kl kn kp km r = record {
     comes =
-        steps voice b plain (goes point.Path) (4 * (j - i + 1) ∷ []) [] (Some (record { point = point.Nested; in_value = v; letter = letter; depth_left = left; number = n })) _ 1 (8 * left + 9) row now u new made
+        steps voice b plain (goes point.Path) (4 * (j - i + 1) ∷ []) [] (Some (frame_of point.Nested v letter left n)) _ 1 (8 * left + 9) row now u new made
         (rw (kv, kl, kn, kp, km, sym e) refl) r (omega (arith, l)) (omega (arith, l)) (omega arith) (omega arith) (omega (arith, kl)) f (rw (kl, kn) f) (λ _. refl);
   }
 
@@ -79,12 +79,12 @@ module _ {V : Type 0} (voice : Ghosts V) (b : List ℕ) (plain : Bool) where
   pub generic_goes : (v : Bool) (left n c : ℕ) (i : Place) (row now : List Frame) (u : V) (new : State) (made : ℕ) → made ≤ 0
       → Fits point.Generic left n
       → new.in_value ≡ v → new.depth_left ≡ left → new.lifetimes ≡ n → new.place ≡ i → new.mark ≡ None
-      → now ≡ row ++ record { point = point.Generic; in_value = v; letter = c; depth_left = left; number = n } ∷ []
+      → now ≡ row ++ frame_of point.Generic v c left n ∷ []
       → DidOn voice b plain (none_open (of plain voice.loud (run (path_of v kind.Generic) (around b voice.loud left n) i))) 7 (8 * left + 9) row u (Ok point.Path) new now u made
   unfolding run then_frame share_at
   generic_goes v left n c i row now u new made l f kv kl kn kp km r = record {
     comes =
-        steps voice b plain (goes point.Path) [] [] (Some (record { point = point.Generic; in_value = v; letter = c; depth_left = left; number = n })) _ 7 (8 * left + 9) row now u new made
+        steps voice b plain (goes point.Path) [] [] (Some (frame_of point.Generic v c left n)) _ 7 (8 * left + 9) row now u new made
         (rw (kv, kl, kn, kp, km) refl) r (omega (arith, l)) (omega (arith, l)) (omega arith) (omega arith) (omega (arith, kl)) f (rw (kl, kn) f) (λ _. refl);
   }
 
@@ -124,7 +124,7 @@ module _ {V : Type 0} (voice : Ghosts V) (b : List ℕ) (plain : Bool) where
 
   pub crate_so : (v : Bool) (left n i : ℕ) → path_heard v left n (Some i) 67 ≡ group_heard voice b plain (crate_group b i)
   unfolding run
-  crate_so v left n i = group_shut voice b plain _ (crate_group b i) (crate_reads b plain left voice.loud n v i)
+  crate_so v left n i = group_shut voice b plain _ (crate_group b i) _ (crate_reads b plain left voice.loud n v i)
 
   pub crate_unread : (v : Bool) (left n : ℕ) (row : List Frame) (u : V) (new : State) (made : ℕ) → new.mark ≡ None → made ≤ 0
       → DidOn voice b plain (path_heard v left n None 67) 1 0 row u (Err (Fault mark.Unread)) new row u made
@@ -136,50 +136,16 @@ module _ {V : Type 0} (voice : Ghosts V) (b : List ℕ) (plain : Bool) where
 
   pub nested_so : (v : Bool) (c left n i : ℕ) (o : Bool) → nested_at v c left n (Some i) o ≡ group_heard voice b plain (nested_group b c i)
   unfolding run share_at
-  nested_so v c left n i o = group_shut voice b plain _ (nested_group b c i) (nested_reads b plain left voice.loud n c i)
+  nested_so v c left n i o = group_shut voice b plain _ (nested_group b c i) _ (nested_reads b plain left voice.loud n c i)
 
   -- the path that the name lies in has failed
   pub name_unread : (v : Bool) (c left n : ℕ) (o : Bool) (row : List Frame) (u w : V) (new : State) (made : ℕ) → made ≤ 0
       → voice.prints u (texts_of b plain NestedUnread) (Ok tt) w → new.mark ≡ None → new.place ≡ None → new.is_open ≡ false
       → DidOn voice b plain (nested_at v c left n None o) 1 (8 * left + 2) row u (Ok point.End) new row w made
-  unfolding run then_frame share_at
-  name_unread v c left n o row u w new made l p m k q = record {
-    comes = record {
-      bits = puts (texts_of b plain NestedUnread) ∷ [];
-      back = [];
-      pushed = None;
-      told = (w, p, refl);
-      reads = rw (m, k, q) refl;
-      is_row = refl;
-      enough = omega arith;
-      late = omega arith;
-      lighter = omega arith;
-      outer_height = omega arith;
-      inner_height = omega arith;
-      outer_fits = tt;
-      inner_fits = tt;
-      quiet = λ _. tt;
-    };
-  }
+  unfolding run share_at
+  name_unread v c left n o row u w new made l p m k q = put_goes voice b plain point.End [] (texts_of b plain NestedUnread) _ 1 (8 * left + 2) row u w new made (rw (k, q) refl) p m l (omega arith) (omega arith) tt
 
   pub name_unread_refused : (v : Bool) (c left n : ℕ) (o : Bool) (row : List Frame) (u w : V) (new : State) (e : SinkRefused) (made : ℕ) → made ≤ 0
       → voice.prints u (texts_of b plain NestedUnread) (Err e) w → DidOn voice b plain (nested_at v c left n None o) 1 (8 * left + 2) row u (Err Refused) new row w made
   unfolding run share_at
-  name_unread_refused v c left n o row u w new e made l p = record {
-    comes = (
-      record {
-        front = [];
-        texts = texts_of b plain NestedUnread;
-        rest = nothing_heard None false;
-        mid = u;
-        told = refl;
-        refusal = e;
-        prints = p;
-        reads = refl;
-        enough = omega (arith, l);
-        exact = λ h. omega (arith, l);
-        fails = λ h. refl;
-      },
-      kept_none row,
-    );
-  }
+  name_unread_refused v c left n o row u w new e made l p = put_refused voice b plain [] (texts_of b plain NestedUnread) _ (nothing_heard None false) 1 (8 * left + 2) row u w new e made refl p l (λ _. refl)

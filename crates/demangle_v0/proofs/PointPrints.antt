@@ -1,6 +1,6 @@
 -- Readings that print.
 use Rattle.std.specs.Prelude.{◌*◌}
-use Rattle.std.proofs.Common.{◌≡◌, ℕ, ◌+◌, ◌-◌, ◌≤◌, Bool, true, false, Option, Some, None, List, [], ◌∷◌, ◌++◌, length, Result, Ok, Err, IsErr, IfSome, IfNone, refl, arith, sym, ap, ◌∙◌, subst, append_assoc}
+use Rattle.std.proofs.Common.{◌≡◌, ℕ, ◌+◌, ◌-◌, ◌<◌, ◌≤◌, Bool, true, false, Option, Some, None, List, [], ◌∷◌, ◌++◌, length, Result, Ok, Err, IsErr, IfSome, IfNone, refl, arith, sym, ap, ◌∙◌, subst, append_assoc}
 use Rattle.std.proofs.lemmas.Bool.{false≢true}
 use Rattle.std.proofs.lemmas.List.{append-nil}
 use Rattle.std.proofs.Math.Nat.{mul-le-mul_left}
@@ -10,7 +10,7 @@ use Rattle.demangle_v0.specs.Reading.{max_depth, path_texts, read_at, level_of, 
 use Rattle.demangle_sink.specs.Cut.{size, kept}
 use Rattle.demangle_sink.proofs.CutLemmas.{size-append}
 use Rattle.demangle_sink.proofs.PrintsLemmas.{prints_ready, prints_nothing, prints_then, prints_stop}
-use Rattle.demangle_v0.proofs.LooksLaw.{printing_pays}
+use Rattle.demangle_v0.proofs.LooksLaw.{looks_a_byte, looks_before, printing_pays}
 use Rattle.demangle_v0.proofs.PrintingLooks.{pays_tree, kept_bytes}
 use Rattle.demangle_v0.proofs.PrintingSteps.{shown_events, weighed, weighed_said, weighed_allowed}
 use Rattle.demangle_v0.proofs.StepsPaid.{pays_looks, pays_texts}
@@ -21,7 +21,7 @@ use Rattle.demangle_sink.specs.Limit.{Prints, Ready}
 use Rattle.demangle_sink.specs.declared.TextSink.{Ghosts as Sinks}
 use Rattle.demangle_sink.specs.declared.SinkRefused.{SinkRefused}
 use Rattle.demangle_sink.specs.declared.limit.SizeLimitedFmtAdapter.{SizeLimitedFmtAdapter}
-use Rattle.demangle_v0.specs.Points.{Bit, pays, puts, heard_bits, bits_looks, bits_texts, Told, pushed_on, share_at, share_of, row_owed, reading_owed}
+use Rattle.demangle_v0.specs.Points.{most_frames, Bit, pays, puts, heard_bits, bits_looks, bits_texts, Told, pushed_on, share_at, share_of, row_owed, reading_owed}
 use Rattle.demangle_v0.specs.PointRuns.{Valid, Reads, Stepped, Resumes, Said, Ran, Broke, Skipped, RanOn, Passed, ValidLeft, first_looks, Ended, first_state, silent_of, own_heard}
 use Rattle.demangle_v0.specs.declared.points.Point.{Point}
 use Rattle.demangle_v0.specs.declared.points.Point.TheVariants as point
@@ -136,10 +136,10 @@ ran_midway sink b plain p0 p s0 s row0 below now v0 v base inner r first second 
 -- How whole readings end.
 
 -- a row for all that can ever stand there is never full
-pub none_left : (b : List ℕ) (plain : Bool) (r : Reading) (row : List Frame) (x : Option Left) → ValidLeft b plain 4096 (Ok x) r row → x ≡ None
-none_left b plain r row None v = refl
-none_left b plain r row (Some left.Row) v = absurd (omega (arith, v.1, valid_length r.point r.state row v.0))
-none_left b plain r row (Some (left.Behind base inner)) v = absurd (omega (arith, v.3, valid_length inner.point inner.state row v.2))
+pub none_left : (n : ℕ) (b : List ℕ) (plain : Bool) (r : Reading) (row : List Frame) (x : Option Left) → most_frames < n → ValidLeft b plain n (Ok x) r row → x ≡ None
+none_left n b plain r row None m v = refl
+none_left n b plain r row (Some left.Row) m v = absurd (omega (arith, m, v.1, valid_length r.point r.state row v.0))
+none_left n b plain r row (Some (left.Behind base inner)) m v = absurd (omega (arith, m, v.3, valid_length inner.point inner.state row v.2))
 
 broke_then : {S : Type 0} (sink : Sinks S) (b : List ℕ) (plain : Bool) (p q : Point) (s t : State) (row now : List Frame) (v w x : SizeLimitedFmtAdapter S) (first second made : ℕ) → made ≤ first + second
     → Ran sink b plain p s row v q t now w first → Broke sink b plain q t now w x second → Broke sink b plain p s row v x made
@@ -164,7 +164,7 @@ ran_then sink b plain p q r s t u row mid now v w x first second made l a c = re
   enough = omega (arith, l, a.enough, c.enough, looks_append a.bits c.bits);
 }
 
-pub none_read : (n : ℕ) (row : List Frame) (x : Option Reading) → 4096 ≤ n → IfSome x (λ r. Valid r.point r.state row) → IfSome x (λ r. n ≤ length row) → x ≡ None
+pub none_read : (n : ℕ) (row : List Frame) (x : Option Reading) → most_frames < n → IfSome x (λ r. Valid r.point r.state row) → IfSome x (λ r. n ≤ length row) → x ≡ None
 none_read n row None m v l = refl
 none_read n row (Some r) m v l = absurd (omega (arith, m, l, valid_length r.point r.state row v))
 
@@ -284,22 +284,22 @@ bits_paid r a (puts ts ∷ bits) h p =
     let q = pays_texts r a 0 ts _ (subst (λ xs. Pays r a xs 0) (weighed_said ts (heard_bits true bits h).events) p) in
     more r a (size ts) (size (bits_texts bits)) _ _ (size-append ts (bits_texts bits)) (bits_paid r (a + r * size ts) bits h q)
 
-whole_paid : (b : List ℕ) (plain : Bool) → Pays (17000 * (length b + 1)) (17034 * (length b + 1)) (weighed (reading_owed b plain true point.Path (first_state 0) []).events) 0
+whole_paid : (b : List ℕ) (plain : Bool) → Pays (looks_a_byte (length b)) (looks_before (length b)) (weighed (reading_owed b plain true point.Path (first_state 0) []).events) 0
 unfolding share_at read_at
 whole_paid b plain =
-    subst (λ (h : Heard). Pays (17000 * (length b + 1)) (17034 * (length b + 1)) (weighed h.events) 0) (sym (owed_alone b plain true point.Path (first_state 0)))
-    (pays_tree (17000 * (length b + 1)) (17034 * (length b + 1)) 0 plain (level_of b (levels b max_depth) true a_path true 0 0).tree (printing_pays b plain))
+    subst (λ (h : Heard). Pays (looks_a_byte (length b)) (looks_before (length b)) (weighed h.events) 0) (sym (owed_alone b plain true point.Path (first_state 0)))
+    (pays_tree (looks_a_byte (length b)) (looks_before (length b)) 0 plain (level_of b (levels b max_depth) true a_path true 0 0).tree (printing_pays b plain))
 
 -- with two looks that came too early
-within : (n w room made : ℕ) → w ≤ room → made ≤ 17034 * (n + 1) + 17000 * (n + 1) * w + 2 → made ≤ 100000 * (room + 1) * (n + 1)
-within n w room made l h = let e : 17000 * (n + 1) * w ≤ 17000 * (n + 1) * room = mul-le-mul_left (17000 * (n + 1)) l in omega (arith, h, e)
+within : (n w room made : ℕ) → w ≤ room → made ≤ looks_before n + looks_a_byte n * w + 2 → made ≤ 100000 * (room + 1) * (n + 1)
+within n w room made l h = let e : looks_a_byte n * w ≤ looks_a_byte n * room = mul-le-mul_left (looks_a_byte n) l in omega (arith, h, e)
 
 bits_most : {S : Type 0} (sink : Sinks S) (b : List ℕ) (plain : Bool) (v w : SizeLimitedFmtAdapter S) (bits : List Bit) (h : Heard) (rest : List Text) (made : ℕ) → Ready sink v → Said sink v bits w
     → reading_owed b plain true point.Path (first_state 0) [] ≡ heard_bits true bits h → bits_texts bits ++ rest ≡ path_texts b plain → made ≤ bits_looks bits + 2 → made ≤ 100000 * (kept (path_texts b plain) v.remaining + 1) * (length b + 1)
 bits_most sink b plain v w bits h rest made ready t e s l =
     let done = said_prints sink v w bits ready t in
     let bytes : size (bits_texts bits) ≤ kept (path_texts b plain) v.remaining = kept_bytes sink v w (path_texts b plain) rest (size (bits_texts bits)) (record { front = bits_texts bits; done = done; is = s }) (omega (arith, done.within refl, done.left refl)) in
-    let paid = bits_paid (17000 * (length b + 1)) (17034 * (length b + 1)) bits h (subst (λ (g : Heard). Pays (17000 * (length b + 1)) (17034 * (length b + 1)) (weighed g.events) 0) e (whole_paid b plain)) in
+    let paid = bits_paid (looks_a_byte (length b)) (looks_before (length b)) bits h (subst (λ (g : Heard). Pays (looks_a_byte (length b)) (looks_before (length b)) (weighed g.events) 0) e (whole_paid b plain)) in
     within (length b) (size (bits_texts bits)) (kept (path_texts b plain) v.remaining) made bytes (omega (arith, l, paid))
 
 pub prints_most : {S : Type 0} (sink : Sinks S) (b : List ℕ) (plain : Bool) (v w : SizeLimitedFmtAdapter S) (made : ℕ) (result : Result (Unit {0}) SinkRefused) → Ready sink v → Ended sink b plain point.Path (first_state 0) [] v result w made

@@ -7,7 +7,7 @@ use Rattle.demangle_v0.specs.Totals.{total}
 use Rattle.demangle_v0.specs.Events.{Heard, of, nothing_heard, and_then, with_looks, with_texts}
 use Rattle.demangle_v0.specs.Grammar.{text}
 use Rattle.demangle_v0.specs.Items.{Kind, a_path, a_type, a_constant, a_trait_path, target}
-use Rattle.demangle_v0.specs.Points.{then_frame, goes, share_at, around, way_weight, weight_at, Fits, DidOn}
+use Rattle.demangle_v0.specs.Points.{frame_of, then_frame, goes, share_at, around, way_weight, weight_at, Fits, DidOn}
 use Rattle.demangle_v0.specs.Reading.{Place, run, word_outcome, level_of, levels, target_of, target_read}
 use Rattle.demangle_v0.specs.References.{IsUnit, none_open_if}
 use Rattle.demangle_v0.specs.Serving.{refer, reference_read, leads}
@@ -121,12 +121,12 @@ module _ {V : Type 0} (voice : Ghosts V) (b : List ℕ) (plain : Bool) where
   pub ref_shown : (p : Point) (shut : Bool) (left : ℕ) (w : Bool) (c : ℕ) (k : Kind) (v : Bool) (n : ℕ) (i : Place) (t j : ℕ) (row now : List Frame) (u : V) (new : State) (made : ℕ) → IsUnit b plain p w c n shut k v
       → Target t j ≡ (refer b left i).refers → made ≤ total (refer b left i).costs → voice.loud ≡ true → 0 < left → j < 2 ^ 64 → Fits point.Path left n
       → new.in_value ≡ w → new.letter ≡ c → new.depth_left ≡ left - 1 → new.lifetimes ≡ n → new.mark ≡ None → new.place ≡ Some t → new.is_open ≡ false
-      → now ≡ row ++ record { point = point.Behind; in_value = w; letter = c; depth_left = left; number = j } ∷ []
+      → now ≡ row ++ frame_of point.Behind w c left j ∷ []
       → DidOn voice b plain (target_at shut left k v n i) 1 (8 * left + 2) row u (Ok p) new now u made
   unfolding then_frame share_at
   ref_shown p shut left w c k v n i t j row now u new made unit e l q d small fit kv kc kl kn km kp ko r = record {
     comes =
-        steps voice b plain (goes p) (refer b left i).costs [] (Some (record { point = point.Behind; in_value = w; letter = c; depth_left = left; number = j })) _ 1 (8 * left + 2) row now u new made
+        steps voice b plain (goes p) (refer b left i).costs [] (Some (frame_of point.Behind w c left j)) _ 1 (8 * left + 2) row now u new made
         (shut_heard shut left k v n i (Target t j) e
         ∙ (ap (λ (z : Bool). with_looks (refer b left i).costs (none_open_if shut (led z left k v n (Target t j)))) q
         ∙ (ap (with_looks (refer b left i).costs) (shut_behind shut (of plain true (level_of b (levels b (left - 1)) true k v n t)) j)

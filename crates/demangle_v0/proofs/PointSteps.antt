@@ -3,13 +3,13 @@ use Rattle.std.specs.Prelude.{◌*◌}
 use Rattle.std.proofs.lemmas.Bool.{false≢true}
 use Rattle.std.proofs.lemmas.List.{append-nil}
 use Rattle.std.proofs.Common.{◌≡◌, ℕ, ◌+◌, ◌-◌, ◌≤◌, Bool, false, Option, None, List, [], ◌∷◌, ◌++◌, Result, Ok, Err, IsOk, refl, arith, sym, ap, ◌∙◌, subst}
-use Rattle.demangle_v0.specs.Items.{done}
+use Rattle.demangle_v0.specs.Items.{Text, Items, done}
 use Rattle.demangle_v0.specs.Totals.{total}
 use Rattle.demangle_v0.specs.Events.{Heard, of, nothing_heard, with_looks, with_texts}
 use Rattle.demangle_v0.specs.Groups.{Group, texts_of, word_group}
 use Rattle.demangle_v0.specs.Grammar.{word_items, text}
 use Rattle.demangle_v0.specs.Reading.{Place, run}
-use Rattle.demangle_v0.specs.Points.{Bit, pays, puts, heard_bits, bits_looks, Told, mark_texts, then_frame, Way, goes, fails, way_heard, way_weight, way_height, weight_of, height_of, count_of, FitsFrame, FitsWay, IsInner, pushed_on, share_at, none_open, around, Went, Kept, DidOn}
+use Rattle.demangle_v0.specs.Points.{Bit, pays, puts, heard_bits, bits_looks, Told, mark_texts, then_frame, Way, goes, fails, way_heard, way_weight, way_height, weight_of, height_of, count_of, FitsFrame, FitsWay, IsInner, Fits, height_at, pushed_on, share_at, share_of, none_open, around, Went, Kept, DidOn}
 use Rattle.demangle_sink.specs.declared.SinkRefused.{SinkRefused}
 use Rattle.demangle_v0.specs.declared.grammar.Mark.{Mark}
 use Rattle.demangle_v0.specs.declared.grammar.Word.{Word}
@@ -128,25 +128,7 @@ module _ {V : Type 0} (voice : Ghosts V) (b : List ℕ) (plain : Bool) where
       → DidOn voice b plain h weight high row v (Err (Fault m)) new row v made
   unfolding then_frame
   faulty m h weight high row v new made k e l x = record {
-    comes = (
-      record {
-        bits = [];
-        back = [];
-        pushed = None;
-        told = refl;
-        reads = rw k e;
-        is_row = refl;
-        enough = omega arith;
-        late = omega arith;
-        lighter = omega arith;
-        outer_height = omega arith;
-        inner_height = omega arith;
-        outer_fits = tt;
-        inner_fits = tt;
-        quiet = λ _. tt;
-      },
-      k,
-    );
+    comes = (steps (fails m) [] [] None h weight high row row v new made (rw k e) refl (omega arith) (omega arith) (omega arith) (omega arith) (omega arith) tt tt (λ _. tt), k);
   }
 
   -- a fault behind some looks
@@ -156,39 +138,20 @@ module _ {V : Type 0} (voice : Ghosts V) (b : List ℕ) (plain : Bool) where
       after ks h (with_texts voice.loud (text m ∷ []) (nothing_heard None false)) weight high 1 0 row v v (Err (Fault m)) new row made 0 made e l (omega arith) (omega arith) (omega arith)
       (faulty m (with_texts voice.loud (text m ∷ []) (nothing_heard None false)) 1 0 row v new 0 k refl (omega arith) (omega arith))
 
-  -- Words with which a unit ends.
+  -- Texts that are handed over behind some looks, and the point behind them.
 
-  abbrev word_heard : Word → ℕ → ℕ → ℕ → Place → Heard
-  word_heard x note left n i = none_open (of plain voice.loud (run (word_items x note done) (around b voice.loud left n) i))
-
-  abbrev pub group_heard : Group → Heard
-  group_heard g = with_looks g.costs (word_then b plain voice.loud g.reads (λ j. nothing_heard j false))
-
-  word_shut : (ks : List ℕ) (r : WordRead) → none_open (with_looks ks (word_then b plain voice.loud r (λ j. nothing_heard j false))) ≡ with_looks ks (word_then b plain voice.loud r (λ j. nothing_heard j false))
-  word_shut ks (reads.Goes x j) = refl
-  word_shut ks (reads.Stops m) = refl
-
-  -- what is read as a group reads it
-  pub group_shut : (h : Heard) (g : Group) → h ≡ grouped b plain voice.loud g (λ j. nothing_heard j false) → none_open h ≡ group_heard g
-  group_shut h g e = ap none_open e ∙ word_shut g.costs g.reads
-
-  pub word_so : (x : Word) (note left n : ℕ) (i : Place) → word_heard x note left n i ≡ group_heard (word_group b x note voice.loud n i)
-  unfolding run
-  word_so x note left n i = group_shut _ (word_group b x note voice.loud n i) (word_read b plain left voice.loud n x note done i)
-
-  group_so : (h : Heard) (g : Group) (r : WordRead) → h ≡ group_heard g → r ≡ g.reads → h ≡ with_looks g.costs (word_then b plain voice.loud r (λ j. nothing_heard j false))
-  group_so h g r so e = so ∙ ap (λ (z : WordRead). with_looks g.costs (word_then b plain voice.loud z (λ j. nothing_heard j false))) (sym e)
-
-  pub group_goes : (h : Heard) (g : Group) (j : Place) (s : Stretch) (weight high : ℕ) (row : List Frame) (v w : V) (new : State) (made : ℕ) → h ≡ group_heard g → reads.Goes s j ≡ g.reads → made ≤ total g.costs
-      → voice.prints v (texts_of b plain s) (Ok tt) w → new.mark ≡ None → new.place ≡ j → new.is_open ≡ false → 1 ≤ weight → DidOn voice b plain h weight high row v (Ok point.End) new row w made
-  unfolding then_frame share_at
-  group_goes h g j s weight high row v w new made so e l p m k o x = record {
+  pub put_goes : (to : Point) (front : List ℕ) (ts : List Text) (h : Heard) (weight high : ℕ) (row : List Frame) (v w : V) (new : State) (made : ℕ)
+      → h ≡ with_looks front (with_texts voice.loud ts (share_of b plain voice.loud to new)) → voice.prints v ts (Ok tt) w → new.mark ≡ None → made ≤ total front
+      → way_weight (goes to) + 1 ≤ weight + 100 * total front → height_at to new.depth_left ≤ high → Fits to new.depth_left new.lifetimes
+      → DidOn voice b plain h weight high row v (Ok to) new row w made
+  unfolding then_frame
+  put_goes to front ts h weight high row v w new made e p m l x y f = record {
     comes = record {
-      bits = pays g.costs ∷ puts (texts_of b plain s) ∷ [];
+      bits = pays front ∷ puts ts ∷ [];
       back = [];
       pushed = None;
       told = (w, p, refl);
-      reads = rw (m, k, o) (group_so h g (reads.Goes s j) so e);
+      reads = rw m e;
       is_row = refl;
       enough = omega arith;
       late = omega arith;
@@ -196,36 +159,95 @@ module _ {V : Type 0} (voice : Ghosts V) (b : List ℕ) (plain : Bool) where
       outer_height = omega arith;
       inner_height = omega arith;
       outer_fits = tt;
-      inner_fits = tt;
+      inner_fits = f;
       quiet = λ _. tt;
     };
   }
 
-  -- a fault
-  pub group_fails : (h : Heard) (g : Group) (m : Mark) (weight high : ℕ) (row : List Frame) (v : V) (new : State) (made : ℕ) → h ≡ group_heard g → reads.Stops m ≡ g.reads → made ≤ total g.costs → new.mark ≡ None → 1 ≤ weight
-      → DidOn voice b plain h weight high row v (Err (Fault m)) new row v made
-  group_fails h g m weight high row v new made so e l k x = faulty_after g.costs m h weight high row v new made k (group_so h g (reads.Stops m) so e) l x
-
-  pub group_refused : (h : Heard) (g : Group) (j : Place) (s : Stretch) (weight high : ℕ) (row : List Frame) (v w : V) (new : State) (e : SinkRefused) (made : ℕ) → h ≡ group_heard g → reads.Goes s j ≡ g.reads → made ≤ total g.costs
-      → voice.prints v (texts_of b plain s) (Err e) w → (voice.loud ≡ false → IsOk (refused e)) → DidOn voice b plain h weight high row v (Err Refused) new row w made
-  group_refused h g j s weight high row v w new e made so r l p q = record {
+  -- the voice refused them
+  pub put_refused : (front : List ℕ) (ts : List Text) (h rest : Heard) (weight high : ℕ) (row : List Frame) (v w : V) (new : State) (e : SinkRefused) (made : ℕ)
+      → h ≡ with_looks front (with_texts voice.loud ts rest) → voice.prints v ts (Err e) w → made ≤ total front → (voice.loud ≡ false → rest.place ≡ None)
+      → DidOn voice b plain h weight high row v (Err Refused) new row w made
+  put_refused front ts h rest weight high row v w new e made r p l q = record {
     comes = (
       record {
-        front = pays g.costs ∷ [];
-        texts = texts_of b plain s;
-        rest = nothing_heard j false;
+        front = pays front ∷ [];
+        texts = ts;
+        rest = rest;
         mid = v;
         told = refl;
         refusal = e;
         prints = p;
-        reads = group_so h g (reads.Goes s j) so r;
+        reads = r;
         enough = omega arith;
-        exact = λ h. omega (arith, l);
-        fails = λ h. absurd (false≢true (q h));
+        exact = λ _. omega arith;
+        fails = q;
       },
       kept_none row,
     );
   }
+
+  -- What is read as a group, and what stands behind it.
+
+  -- what is heard of a unit's rest
+  abbrev pub heard : Items → ℕ → ℕ → Place → Heard
+  heard p left n i = none_open (of plain voice.loud (run p (around b voice.loud left n) i))
+
+  -- the unit ends there
+  abbrev ended : Place → Heard
+  ended j = nothing_heard j false
+
+  -- a group, and what is heard behind it
+  abbrev pub group_then : Group → (Place → Heard) → Heard
+  group_then g k = grouped b plain voice.loud g k
+
+  -- a group with which the unit ends
+  abbrev pub group_heard : Group → Heard
+  group_heard g = group_then g ended
+
+  -- no bracket is open behind a word, where none is behind the rest
+  word_shut : (ks : List ℕ) (r : WordRead) (k : Place → Heard) → none_open (with_looks ks (word_then b plain voice.loud r k)) ≡ with_looks ks (word_then b plain voice.loud r (λ j. none_open (k j)))
+  word_shut ks (reads.Goes x j) k = refl
+  word_shut ks (reads.Stops m) k = refl
+
+  -- the same of a group
+  pub group_shut : (h : Heard) (g : Group) (k : Place → Heard) → h ≡ group_then g k → none_open h ≡ group_then g (λ j. none_open (k j))
+  group_shut h g k e = ap none_open e ∙ word_shut g.costs g.reads k
+
+  -- a word is read as its group
+  pub word_so : (x : Word) (c : ℕ) (p : Items) (left n : ℕ) (i : Place) → heard (word_items x c p) left n i ≡ group_then (word_group b x c voice.loud n i) (heard p left n)
+  word_so x c p left n i = group_shut _ (word_group b x c voice.loud n i) (λ j. of plain voice.loud (run p (around b voice.loud left n) j)) (word_read b plain left voice.loud n x c p i)
+
+  -- a word with which the unit ends
+  pub last_word_so : (x : Word) (c left n : ℕ) (i : Place) → heard (word_items x c done) left n i ≡ group_heard (word_group b x c voice.loud n i)
+  unfolding run
+  last_word_so x c left n i = word_so x c done left n i
+
+  -- what is heard of a group that was read so
+  pub group_so : (h : Heard) (g : Group) (k : Place → Heard) (r : WordRead) → h ≡ group_then g k → r ≡ g.reads → h ≡ with_looks g.costs (word_then b plain voice.loud r k)
+  group_so h g k r so e = so ∙ ap (λ (z : WordRead). with_looks g.costs (word_then b plain voice.loud z k)) (sym e)
+
+  pub group_goes : (to : Point) (h : Heard) (g : Group) (k : Place → Heard) (j : Place) (s : Stretch) (weight high : ℕ) (row : List Frame) (v w : V) (new : State) (made : ℕ) → h ≡ group_then g k → reads.Goes s j ≡ g.reads → made ≤ total g.costs
+      → voice.prints v (texts_of b plain s) (Ok tt) w → new.mark ≡ None → k j ≡ share_of b plain voice.loud to new
+      → way_weight (goes to) + 1 ≤ weight → height_at to new.depth_left ≤ high → Fits to new.depth_left new.lifetimes → DidOn voice b plain h weight high row v (Ok to) new row w made
+  group_goes to h g k j s weight high row v w new made so r l q m e x y f =
+      put_goes to g.costs (texts_of b plain s) h weight high row v w new made (group_so h g k (reads.Goes s j) so r ∙ ap (λ (z : Heard). with_looks g.costs (with_texts voice.loud (texts_of b plain s) z)) e) q m l (omega arith) y f
+
+  -- the unit ends behind it
+  pub group_ends : (h : Heard) (g : Group) (j : Place) (s : Stretch) (weight high : ℕ) (row : List Frame) (v w : V) (new : State) (made : ℕ) → h ≡ group_heard g → reads.Goes s j ≡ g.reads → made ≤ total g.costs
+      → voice.prints v (texts_of b plain s) (Ok tt) w → new.mark ≡ None → new.place ≡ j → new.is_open ≡ false → 1 ≤ weight → DidOn voice b plain h weight high row v (Ok point.End) new row w made
+  unfolding share_at
+  group_ends h g j s weight high row v w new made so e l p m k o x = group_goes point.End h g ended j s weight high row v w new made so e l p m (rw (k, o) refl) (omega (arith, x)) (omega arith) tt
+
+  -- a fault
+  pub group_fails : (h : Heard) (g : Group) (k : Place → Heard) (m : Mark) (weight high : ℕ) (row : List Frame) (v : V) (new : State) (made : ℕ) → h ≡ group_then g k → reads.Stops m ≡ g.reads → made ≤ total g.costs → new.mark ≡ None → 1 ≤ weight
+      → DidOn voice b plain h weight high row v (Err (Fault m)) new row v made
+  group_fails h g k m weight high row v new made so e l n x = faulty_after g.costs m h weight high row v new made n (group_so h g k (reads.Stops m) so e) l x
+
+  pub group_refused : (h : Heard) (g : Group) (k : Place → Heard) (j : Place) (s : Stretch) (weight high : ℕ) (row : List Frame) (v w : V) (new : State) (e : SinkRefused) (made : ℕ) → h ≡ group_then g k → reads.Goes s j ≡ g.reads → made ≤ total g.costs
+      → voice.prints v (texts_of b plain s) (Err e) w → (voice.loud ≡ false → IsOk (refused e)) → DidOn voice b plain h weight high row v (Err Refused) new row w made
+  group_refused h g k j s weight high row v w new e made so r l p q =
+      put_refused g.costs (texts_of b plain s) h (k j) weight high row v w new e made (group_so h g k (reads.Goes s j) so r) p l (λ z. absurd (false≢true (q z)))
 
   -- no looks were made
   pub zero_looks : (h : Heard) (weight high : ℕ) (row : List Frame) (v w : V) (result : Result Point Stop) (new : State) (now : List Frame) (l : ℕ) → DidOn voice b plain h weight high row v result new now w 0 → DidOn voice b plain h weight high row v result new now w (l - l)

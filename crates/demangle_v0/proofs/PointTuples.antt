@@ -16,7 +16,8 @@ use Rattle.demangle_v0.specs.declared.points.State.{State}
 use Rattle.demangle_v0.specs.declared.points.voice.Voice.{Ghosts}
 use Rattle.demangle_v0.proofs.Elements.{type_element}
 use Rattle.demangle_v0.proofs.ListReads.{child_followed, end_failed, end_over, more_failed, more_over, tuple_on, second_on, more_on}
-use Rattle.demangle_v0.proofs.PointTypes.{heard, heard_at, enters}
+use Rattle.demangle_v0.proofs.PointSteps.{heard}
+use Rattle.demangle_v0.proofs.PointTypes.{heard_at, enters}
 
 module _ {V : Type 0} (voice : Ghosts V) (b : List ℕ) (plain : Bool) where
   -- A list that is over.

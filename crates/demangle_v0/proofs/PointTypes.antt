@@ -27,18 +27,15 @@ use Rattle.demangle_v0.specs.declared.points.Stop.{Stop}
 use Rattle.demangle_v0.specs.declared.points.Stop.TheVariants.{Fault}
 use Rattle.demangle_v0.specs.declared.points.voice.Voice.{Ghosts}
 use Rattle.demangle_v0.proofs.GrammarRows.{rows_of, basic_found}
-use Rattle.demangle_v0.proofs.PointSteps.{steps, after, faulty, faulty_after}
+use Rattle.demangle_v0.proofs.PointSteps.{heard, steps, after, faulty, faulty_after}
 use Rattle.demangle_v0.proofs.TypeReads.{row_at, splat_reads, type_reads, tag_missing, basic_reads, type_deep, constructed_reads, path_type_reads, row_reads}
 
 module _ {V : Type 0} (voice : Ghosts V) (b : List ℕ) (plain : Bool) where
-  abbrev pub heard : Items → ℕ → ℕ → Place → Heard
-  heard p left n i = none_open (of plain voice.loud (run p (around b voice.loud left n) i))
-
   abbrev pub heard_at : Point → Bool → ℕ → ℕ → ℕ → Place → Bool → Heard
   heard_at p v c left n i o = share_at b plain voice.loud p v c left n i o
 
   -- a child with which a unit ends
-  pub child_last : (k : Kind) (v : Bool) (left n : ℕ) (i : Place) → heard (child k v done) left n i ≡ none_open (of plain voice.loud (unit_outcome (around b voice.loud left n) k v i))
+  pub child_last : (k : Kind) (v : Bool) (left n : ℕ) (i : Place) → heard voice b plain (child k v done) left n i ≡ none_open (of plain voice.loud (unit_outcome (around b voice.loud left n) k v i))
   unfolding run
   child_last k v left n i = let o = unit_outcome (around b voice.loud left n) k v i in ap (λ xs. record { events = xs; place = o.place; is_open = false }) (append-nil (events plain voice.loud o.tree))
 
@@ -66,7 +63,7 @@ module _ {V : Type 0} (voice : Ghosts V) (b : List ℕ) (plain : Bool) where
   -- the unit ends with a text
   pub ends_says : (m : Mark) (weight high left n : ℕ) (i : Place) (row : List Frame) (u : V) (new : State) (made : ℕ) → made ≤ 0 → 1 ≤ weight
       → new.place ≡ i → new.mark ≡ Some m → new.is_open ≡ false
-      → DidOn voice b plain (heard (say (text m) done) left n i) weight high row u (Ok point.End) new row u made
+      → DidOn voice b plain (heard voice b plain (say (text m) done) left n i) weight high row u (Ok point.End) new row u made
   unfolding run then_frame share_at
   ends_says m weight high left n i row u new made l x kp km ko = record {
     comes =
@@ -87,7 +84,7 @@ module _ {V : Type 0} (voice : Ghosts V) (b : List ℕ) (plain : Bool) where
   -- a type behind a text, and the last of its unit
   typed_says : (m : Mark) (left n : ℕ) (i : Place) (row : List Frame) (u : V) (new : State) (made : ℕ) → made ≤ 0 → Fits point.«Type» left n
       → new.depth_left ≡ left → new.lifetimes ≡ n → new.place ≡ i → new.mark ≡ Some m
-      → DidOn voice b plain (heard (say (text m) type_inside) left n i) 2 (8 * left + 2) row u (Ok point.«Type») new row u made
+      → DidOn voice b plain (heard voice b plain (say (text m) type_inside) left n i) 2 (8 * left + 2) row u (Ok point.«Type») new row u made
   unfolding run then_frame share_at
   typed_says m left n i row u new made l f kl kn kp km = record {
     comes =
@@ -143,21 +140,21 @@ module _ {V : Type 0} (voice : Ghosts V) (b : List ℕ) (plain : Bool) where
 
   pub const_pointer_goes : (left n : ℕ) (i : Place) (row : List Frame) (u : V) (new : State) (made : ℕ) → made ≤ 0 → Fits point.Unchanging left n
       → new.depth_left ≡ left → new.lifetimes ≡ n → new.place ≡ i → new.mark ≡ Some mark.Star
-      → DidOn voice b plain (heard (type_of kind.ConstPointer) left n i) 50 (8 * left + 9) row u (Ok point.Unchanging) new row u made
+      → DidOn voice b plain (heard voice b plain (type_of kind.ConstPointer) left n i) 50 (8 * left + 9) row u (Ok point.Unchanging) new row u made
   unfolding run then_frame share_at
   const_pointer_goes left n i row u new made l f kl kn kp km =
       enters _ point.Unchanging left n i (Some mark.Star) [] [] None 50 (8 * left + 9) row row u new made refl kl kn kp km refl (omega (arith, l)) (omega (arith, l)) (omega arith) (omega arith) (omega arith) tt f (λ _. tt)
 
   pub mut_pointer_goes : (left n : ℕ) (i : Place) (row : List Frame) (u : V) (new : State) (made : ℕ) → made ≤ 0 → Fits point.Mutable left n
       → new.depth_left ≡ left → new.lifetimes ≡ n → new.place ≡ i → new.mark ≡ Some mark.Star
-      → DidOn voice b plain (heard (type_of kind.MutPointer) left n i) 50 (8 * left + 9) row u (Ok point.Mutable) new row u made
+      → DidOn voice b plain (heard voice b plain (type_of kind.MutPointer) left n i) 50 (8 * left + 9) row u (Ok point.Mutable) new row u made
   unfolding run then_frame share_at
   mut_pointer_goes left n i row u new made l f kl kn kp km =
       enters _ point.Mutable left n i (Some mark.Star) [] [] None 50 (8 * left + 9) row row u new made refl kl kn kp km refl (omega (arith, l)) (omega (arith, l)) (omega arith) (omega arith) (omega arith) tt f (λ _. tt)
 
   pub tuple_goes : (left n : ℕ) (i : Place) (row : List Frame) (u : V) (new : State) (made : ℕ) → made ≤ 0 → Fits point.FirstTupleType left n
       → new.depth_left ≡ left → new.lifetimes ≡ n → new.place ≡ i → new.mark ≡ Some mark.OpenParen
-      → DidOn voice b plain (heard (type_of kind.Tuple) left n i) 50 (8 * left + 9) row u (Ok point.FirstTupleType) new row u made
+      → DidOn voice b plain (heard voice b plain (type_of kind.Tuple) left n i) 50 (8 * left + 9) row u (Ok point.FirstTupleType) new row u made
   unfolding run then_frame share_at
   tuple_goes left n i row u new made l f kl kn kp km =
       enters _ point.FirstTupleType left n i (Some mark.OpenParen) [] [] None 50 (8 * left + 9) row row u new made refl kl kn kp km refl (omega (arith, l)) (omega (arith, l)) (omega arith) (omega arith) (omega arith) tt f (λ _. tt)
@@ -165,7 +162,7 @@ module _ {V : Type 0} (voice : Ghosts V) (b : List ℕ) (plain : Bool) where
   pub array_goes : (v : Bool) (c left n : ℕ) (i : Place) (row now : List Frame) (u : V) (new : State) (made : ℕ) → made ≤ 0 → Fits point.ArrayLength left n
       → new.depth_left ≡ left → new.lifetimes ≡ n → new.place ≡ i → new.mark ≡ Some mark.OpenBracket
       → now ≡ row ++ frame_of point.ArrayLength v c left n ∷ []
-      → DidOn voice b plain (heard (type_of kind.Array) left n i) 50 (8 * left + 9) row u (Ok point.«Type») new now u made
+      → DidOn voice b plain (heard voice b plain (type_of kind.Array) left n i) 50 (8 * left + 9) row u (Ok point.«Type») new now u made
   unfolding run then_frame share_at
   array_goes v c left n i row now u new made l f kl kn kp km r =
       enters _ point.«Type» left n i (Some mark.OpenBracket) [] [] (Some (frame_of point.ArrayLength v c left n)) 50 (8 * left + 9) row now u new made refl kl kn kp km r (omega (arith, l)) (omega (arith, l)) (omega arith) (omega arith) (omega arith) f f (λ _. refl)
@@ -173,11 +170,11 @@ module _ {V : Type 0} (voice : Ghosts V) (b : List ℕ) (plain : Bool) where
   pub slice_goes : (v : Bool) (c left n : ℕ) (i : Place) (row now : List Frame) (u : V) (new : State) (made : ℕ) → made ≤ 0 → Fits point.CloseBracket left n
       → new.depth_left ≡ left → new.lifetimes ≡ n → new.place ≡ i → new.mark ≡ Some mark.OpenBracket
       → (voice.loud ≡ true → now ≡ row ++ frame_of point.CloseBracket v c left n ∷ []) → (voice.loud ≡ false → now ≡ row)
-      → DidOn voice b plain (heard (type_of kind.Slice) left n i) 50 (8 * left + 9) row u (Ok point.«Type») new now u made
+      → DidOn voice b plain (heard voice b plain (type_of kind.Slice) left n i) 50 (8 * left + 9) row u (Ok point.«Type») new now u made
   unfolding run then_frame share_at
   slice_goes v c left n i row now u new made l f kl kn kp km r s = go voice.loud refl
     where
-      go : (x : Bool) → voice.loud ≡ x → DidOn voice b plain (heard (type_of kind.Slice) left n i) 50 (8 * left + 9) row u (Ok point.«Type») new now u made
+      go : (x : Bool) → voice.loud ≡ x → DidOn voice b plain (heard voice b plain (type_of kind.Slice) left n i) 50 (8 * left + 9) row u (Ok point.«Type») new now u made
       go true q =
           enters _ point.«Type» left n i (Some mark.OpenBracket) [] [] (Some (frame_of point.CloseBracket v c left n)) 50 (8 * left + 9) row now u new made refl kl kn kp km (r q)
           (omega (arith, l)) (omega (arith, l)) (omega arith) (omega arith) (omega arith) f f (λ _. refl)
@@ -188,7 +185,7 @@ module _ {V : Type 0} (voice : Ghosts V) (b : List ℕ) (plain : Bool) where
   pub pattern_type_goes : (v : Bool) (c left n : ℕ) (i : Place) (row now : List Frame) (u : V) (new : State) (made : ℕ) → made ≤ 0 → Fits point.PatternIs left n
       → new.depth_left ≡ left → new.lifetimes ≡ n → new.place ≡ i → new.mark ≡ None
       → now ≡ row ++ frame_of point.PatternIs v c left n ∷ []
-      → DidOn voice b plain (heard (type_of kind.Pattern) left n i) 50 (8 * left + 9) row u (Ok point.«Type») new now u made
+      → DidOn voice b plain (heard voice b plain (type_of kind.Pattern) left n i) 50 (8 * left + 9) row u (Ok point.«Type») new now u made
   unfolding run then_frame share_at
   pattern_type_goes v c left n i row now u new made l f kl kn kp km r =
       enters _ point.«Type» left n i (None) [] [] (Some (frame_of point.PatternIs v c left n)) 50 (8 * left + 9) row now u new made refl kl kn kp km r (omega (arith, l)) (omega (arith, l)) (omega arith) (omega arith) (omega arith) f f (λ _. refl)
@@ -196,7 +193,7 @@ module _ {V : Type 0} (voice : Ghosts V) (b : List ℕ) (plain : Bool) where
   -- references
 
   -- what stands behind a reference, where it has no lifetime
-  pub behind_so : (q : Bool) (v : Bool) (c left n : ℕ) (i : Place) (o : Bool) → heard (says_if q "mut " type_inside) left n i ≡ heard_at (behind_reference q) v c left n i o
+  pub behind_so : (q : Bool) (v : Bool) (c left n : ℕ) (i : Place) (o : Bool) → heard voice b plain (says_if q "mut " type_inside) left n i ≡ heard_at (behind_reference q) v c left n i o
   unfolding share_at
   behind_so true v c left n i o = refl
   behind_so false v c left n i o = child_last a_type false left n i
@@ -215,7 +212,7 @@ module _ {V : Type 0} (voice : Ghosts V) (b : List ℕ) (plain : Bool) where
 
   pub reference_failed : (q : Bool) (left n : ℕ) (row : List Frame) (u : V) (new : State) (made : ℕ) → made ≤ 0 → Fits point.«Type» left n
       → new.depth_left ≡ left → new.lifetimes ≡ n → new.place ≡ None → new.mark ≡ Some mark.Ampersand
-      → DidOn voice b plain (heard (reference_to q) left n None) 50 (8 * left + 9) row u (Ok (behind_reference q)) new row u made
+      → DidOn voice b plain (heard voice b plain (reference_to q) left n None) 50 (8 * left + 9) row u (Ok (behind_reference q)) new row u made
   unfolding run then_frame
   reference_failed q left n row u new made l f kl kn kp km = record {
     comes =
@@ -226,7 +223,7 @@ module _ {V : Type 0} (voice : Ghosts V) (b : List ℕ) (plain : Bool) where
 
   pub reference_goes : (q : Bool) (left n i : ℕ) (row : List Frame) (u : V) (new : State) (made : ℕ) → is_byte b i (code "L") ≡ false → made ≤ 1 → Fits point.«Type» left n
       → new.depth_left ≡ left → new.lifetimes ≡ n → new.place ≡ Some i → new.mark ≡ Some mark.Ampersand
-      → DidOn voice b plain (heard (reference_to q) left n (Some i)) 50 (8 * left + 9) row u (Ok (behind_reference q)) new row u made
+      → DidOn voice b plain (heard voice b plain (reference_to q) left n (Some i)) 50 (8 * left + 9) row u (Ok (behind_reference q)) new row u made
   unfolding run then_frame
   reference_goes q left n i row u new made e l f kl kn kp km = record {
     comes =
@@ -235,7 +232,7 @@ module _ {V : Type 0} (voice : Ghosts V) (b : List ℕ) (plain : Bool) where
         (rw kl (omega (arith, behind_low q left))) tt (rw (kl, kn) (behind_fits q left n f)) (λ _. tt);
   }
 
-  pub lifetime_so : (q : Bool) (v : Bool) (c left n : ℕ) (i : Place) (o : Bool) → heard (lifetime_before (says_if q "mut " type_inside)) left n i ≡ heard_at (lifetime_point q) v c left n i o
+  pub lifetime_so : (q : Bool) (v : Bool) (c left n : ℕ) (i : Place) (o : Bool) → heard voice b plain (lifetime_before (says_if q "mut " type_inside)) left n i ≡ heard_at (lifetime_point q) v c left n i o
   unfolding share_at
   lifetime_so true v c left n i o = refl
   lifetime_so false v c left n i o = refl
@@ -254,7 +251,7 @@ module _ {V : Type 0} (voice : Ghosts V) (b : List ℕ) (plain : Bool) where
 
   pub reference_named : (q : Bool) (left n i : ℕ) (row : List Frame) (u : V) (new : State) (made : ℕ) → is_byte b i (code "L") ≡ true → made ≤ 1 → Fits point.«Type» left n
       → new.depth_left ≡ left → new.lifetimes ≡ n → new.place ≡ Some (i + 1) → new.mark ≡ Some mark.Ampersand
-      → DidOn voice b plain (heard (reference_to q) left n (Some i)) 50 (8 * left + 9) row u (Ok (lifetime_point q)) new row u made
+      → DidOn voice b plain (heard voice b plain (reference_to q) left n (Some i)) 50 (8 * left + 9) row u (Ok (lifetime_point q)) new row u made
   unfolding run then_frame
   reference_named q left n i row u new made e l f kl kn kp km = record {
     comes =
@@ -315,11 +312,11 @@ module _ {V : Type 0} (voice : Ghosts V) (b : List ℕ) (plain : Bool) where
       (rw kv (ap none_open (constructed_reads plain voice.loud b left n i t (sym e) (basic_so t None f) z ∙ ap (with_looks (1 ∷ [])) (path_type_reads plain voice.loud b (left - 1) n (Some i) t (row_so t None g))))) kl kn kp km refl (omega (arith, l)) (omega (arith, l)) (omega arith) (omega arith) (omega (arith, z)) tt (omega (arith, w)) (λ _. tt)
 
   pub tag_goes : (v : Bool) (c left n i t : ℕ) (o : Bool) (k : TypeKind) (row now : List Frame) (u w : V) (result : Result Point Stop) (new : State) (second made : ℕ) → Some t ≡ slice_get b i → None ≡ found t basic_marks → 0 < left → Some k ≡ found t (type_kinds t) → made ≤ 1 + second
-      → DidOn voice b plain (heard (type_of k) (left - 1) n (Some (i + 1))) 50 (8 * (left - 1) + 9) row u result new now w second
+      → DidOn voice b plain (heard voice b plain (type_of k) (left - 1) n (Some (i + 1))) 50 (8 * (left - 1) + 9) row u result new now w second
       → DidOn voice b plain (heard_at point.TaggedType v c left n (Some i) o) 1 (8 * left + 1) row u result new now w made
   unfolding share_at
   tag_goes v c left n i t o k row now u w result new second made e f z g l d =
-      after voice b plain (1 ∷ 4 * (i + 1 - i + 1) ∷ []) _ (heard (type_of k) (left - 1) n (Some (i + 1))) 1 (8 * left + 1) 50 (8 * (left - 1) + 9) row u w result new now 1 second made
+      after voice b plain (1 ∷ 4 * (i + 1 - i + 1) ∷ []) _ (heard voice b plain (type_of k) (left - 1) n (Some (i + 1))) 1 (8 * left + 1) 50 (8 * (left - 1) + 9) row u w result new now 1 second made
       (ap none_open (constructed_reads plain voice.loud b left n i t (sym e) (basic_so t None f) z ∙ ap (with_looks (1 ∷ [])) (row_reads plain voice.loud b (left - 1) n i t (type_of k) (sym e) (row_so t (Some k) g))))
       (omega arith) l (omega arith) (omega (arith, z)) d
 

@@ -11,7 +11,7 @@ use Rattle.demangle_v0.specs.Groups.{texts_of, word_group}
 use Rattle.demangle_v0.specs.Table.{says, list, row_of, variant_rows, constant_inside, field}
 use Rattle.demangle_v0.specs.Tags.{variant_kinds, variant_of, closes}
 use Rattle.demangle_v0.specs.Reading.{Place, run}
-use Rattle.demangle_v0.specs.Points.{pays, puts, then_frame, share_at, none_open, around, pushed_on, goes, way_weight, height_at, Fits, Halted, DidOn}
+use Rattle.demangle_v0.specs.Points.{frame_of, pays, puts, then_frame, share_at, none_open, around, pushed_on, goes, way_weight, height_at, Fits, Halted, DidOn}
 use Rattle.demangle_sink.specs.declared.SinkRefused.{SinkRefused}
 use Rattle.demangle_v0.specs.declared.grammar.Mark.{Mark}
 use Rattle.demangle_v0.specs.declared.grammar.Mark.TheVariants as mark
@@ -24,7 +24,7 @@ use Rattle.demangle_v0.specs.declared.points.Point.TheVariants as point
 use Rattle.demangle_v0.specs.declared.points.frames.Frame.{Frame}
 use Rattle.demangle_v0.specs.declared.points.State.{State}
 use Rattle.demangle_v0.specs.declared.points.Stop.{Stop}
-use Rattle.demangle_v0.specs.declared.points.Stop.TheVariants.{Fault}
+use Rattle.demangle_v0.specs.declared.points.Stop.TheVariants.{Refused, Fault}
 use Rattle.demangle_v0.specs.declared.points.tags.VariantKind.{VariantKind}
 use Rattle.demangle_v0.specs.declared.points.tags.VariantKind.TheVariants as kind
 use Rattle.demangle_v0.specs.declared.points.voice.Voice.{Ghosts}
@@ -33,15 +33,13 @@ use Rattle.demangle_v0.proofs.Extended.{extended, IsExtended, extended_reads}
 use Rattle.demangle_v0.proofs.GrammarRows.{rows_of, row_found}
 use Rattle.demangle_v0.proofs.GroupReads.{word_then, word_read}
 use Rattle.demangle_v0.proofs.PointConstants.{last_constant, marks, moves}
-use Rattle.demangle_v0.proofs.PointSteps.{after, refused, faulty, faulty_after}
+use Rattle.demangle_v0.proofs.PointFunctions.{word_on, word_on_refused, word_fails}
+use Rattle.demangle_v0.proofs.PointSteps.{heard, after, refused, faulty, faulty_after}
 
 variants_so : (v : Bool) → variant_rows (closes v) ≡ rows_of (variant_of v) variant_kinds
 variants_so v = refl
 
 module _ {V : Type 0} (voice : Ghosts V) (b : List ℕ) (plain : Bool) where
-  abbrev heard : Items → ℕ → ℕ → Place → Heard
-  heard p left n i = none_open (of plain voice.loud (run p (around b voice.loud left n) i))
-
   abbrev variant_at : Bool → ℕ → ℕ → ℕ → Place → Bool → Heard
   variant_at v c left n i o = share_at b plain voice.loud point.Variant v c left n i o
 
@@ -58,11 +56,11 @@ module _ {V : Type 0} (voice : Ghosts V) (b : List ℕ) (plain : Bool) where
 
   -- behind its tag
   variant_so : (v : Bool) (c left n i t j : ℕ) (o : Bool) (p : Option VariantKind) → Some (t, j) ≡ byte_at b i → p ≡ found t variant_kinds
-      → variant_at v c left n (Some i) o ≡ with_looks (4 * (j - i + 1) ∷ []) (heard (some_or invalid p (variant_of v)) left n (Some j))
+      → variant_at v c left n (Some i) o ≡ with_looks (4 * (j - i + 1) ∷ []) (heard voice b plain (some_or invalid p (variant_of v)) left n (Some j))
   unfolding share_at
   variant_so v c left n i t j o p e f =
       ap none_open (variant_reads plain voice.loud b left n (closes v) i t j (sym e))
-      ∙ ap (λ (x : Items). with_looks (4 * (j - i + 1) ∷ []) (heard x left n (Some j))) ((ap (λ rs. row_of t invalid rs) (variants_so v) ∙ row_found t invalid (variant_of v) variant_kinds) ∙ ap (λ (p : Option VariantKind). some_or invalid p (variant_of v)) (sym f))
+      ∙ ap (λ (x : Items). with_looks (4 * (j - i + 1) ∷ []) (heard voice b plain x left n (Some j))) ((ap (λ rs. row_of t invalid rs) (variants_so v) ∙ row_found t invalid (variant_of v) variant_kinds) ∙ ap (λ (p : Option VariantKind). some_or invalid p (variant_of v)) (sym f))
 
   pub variant_wrong : (v : Bool) (c left n i t j : ℕ) (o : Bool) (row : List Frame) (u : V) (new : State) (made : ℕ) → Some (t, j) ≡ byte_at b i → None ≡ found t variant_kinds → new.mark ≡ None → made ≤ 1
       → DidOn voice b plain (variant_at v c left n (Some i) o) 1 (8 * left + 3) row u (Err (Fault mark.Invalid)) new row u made
@@ -71,14 +69,14 @@ module _ {V : Type 0} (voice : Ghosts V) (b : List ℕ) (plain : Bool) where
       faulty_after voice b plain (4 * (j - i + 1) ∷ []) mark.Invalid (variant_at v c left n (Some i) o) 1 (8 * left + 3) row u new made k (variant_so v c left n i t j o None e f) (omega (arith, m)) (omega arith)
 
   pub variant_as : (v : Bool) (c left n i t j : ℕ) (o : Bool) (p : VariantKind) (row now : List Frame) (u w : V) (result : Result Point Stop) (new : State) (made : ℕ) → Some (t, j) ≡ byte_at b i → Some p ≡ found t variant_kinds → made ≤ 1
-      → DidOn voice b plain (heard (variant_of v p) left n (Some j)) 5 (8 * left + 3) row u result new now w 0 → DidOn voice b plain (variant_at v c left n (Some i) o) 1 (8 * left + 3) row u result new now w made
+      → DidOn voice b plain (heard voice b plain (variant_of v p) left n (Some j)) 5 (8 * left + 3) row u result new now w 0 → DidOn voice b plain (variant_at v c left n (Some i) o) 1 (8 * left + 3) row u result new now w made
   variant_as v c left n i t j o p row now u w result new made e f l d =
-      after voice b plain (4 * (j - i + 1) ∷ []) (variant_at v c left n (Some i) o) (heard (variant_of v p) left n (Some j)) 1 (8 * left + 3) 5 (8 * left + 3) row u w result new now 1 0 made
+      after voice b plain (4 * (j - i + 1) ∷ []) (variant_at v c left n (Some i) o) (heard voice b plain (variant_of v p) left n (Some j)) 1 (8 * left + 3) 5 (8 * left + 3) row u w result new now 1 0 made
       (variant_so v c left n i t j o (Some p) e f) (omega arith) (omega (arith, l)) (omega arith) (omega arith) d
 
   pub unit_ends : (v : Bool) (c left n : ℕ) (i : Place) (row : List Frame) (u : V) (new : State) (made : ℕ) → made ≤ 0
       → new.in_value ≡ v → new.letter ≡ c → new.depth_left ≡ left → new.lifetimes ≡ n → new.place ≡ i → new.is_open ≡ false → new.mark ≡ (if v then None else Some mark.CloseBrace)
-      → DidOn voice b plain (heard (variant_of v kind.Unit) left n i) 5 (8 * left + 3) row u (Ok point.End) new row u made
+      → DidOn voice b plain (heard voice b plain (variant_of v kind.Unit) left n i) 5 (8 * left + 3) row u (Ok point.End) new row u made
   unfolding run then_frame share_at
   unit_ends true c left n i row u new made l kv kc kl kn kp ko km =
       moves voice b plain [] point.End None None _ true c left n i false 5 (8 * left + 3) row row u new made kv kc kl kn kp ko km refl refl l (omega arith) (omega arith) (omega arith) tt tt (λ _. tt)
@@ -87,31 +85,28 @@ module _ {V : Type 0} (voice : Ghosts V) (b : List ℕ) (plain : Bool) where
 
   -- What a variant holds.
 
-  abbrev brace : Bool → ℕ → ℕ → ℕ → Frame
-  brace v c left n = record { point = point.CloseBrace; in_value = v; letter = c; depth_left = left; number = n }
-
   held_goes : (p : Point) (m : Mark) (q : Items) (f : Bool → Items) (v : Bool) (c left n : ℕ) (i : Place) (o : Bool) (row now : List Frame) (u : V) (new : State) (made : ℕ)
       → f true ≡ say (text m) q → f false ≡ say (text m) (extended (says "}" done) q) → IsExtended q
-      → share_at b plain voice.loud p v c left n i o ≡ heard q left n i → way_weight (goes p) ≤ 1 → height_at p left ≤ 8 * left + 2 → Fits p left n → Fits point.Variant left n → made ≤ 0
-      → new.in_value ≡ v → new.letter ≡ c → new.depth_left ≡ left → new.lifetimes ≡ n → new.place ≡ i → new.is_open ≡ o → new.mark ≡ Some m → now ≡ pushed_on row (if v then None else Some (brace v c left n))
-      → DidOn voice b plain (heard (f v) left n i) 5 (8 * left + 3) row u (Ok p) new now u made
+      → share_at b plain voice.loud p v c left n i o ≡ heard voice b plain q left n i → way_weight (goes p) ≤ 1 → height_at p left ≤ 8 * left + 2 → Fits p left n → Fits point.Variant left n → made ≤ 0
+      → new.in_value ≡ v → new.letter ≡ c → new.depth_left ≡ left → new.lifetimes ≡ n → new.place ≡ i → new.is_open ≡ o → new.mark ≡ Some m → now ≡ pushed_on row (if v then None else Some (frame_of point.CloseBrace v c left n))
+      → DidOn voice b plain (heard voice b plain (f v) left n i) 5 (8 * left + 3) row u (Ok p) new now u made
   unfolding run then_frame share_at
   held_goes p m q f true c left n i o row now u new made x z y e w h g k l kv kc kl kn kp ko km r =
       moves voice b plain [] p (Some m) None _ true c left n i o 5 (8 * left + 3) row now u new made kv kc kl kn kp ko km
-      (ap (λ (x : Items). heard x left n i) x ∙ ap (λ (h : Heard). with_texts voice.loud (text m ∷ []) h) (sym e)) r l (omega (arith, w)) (omega arith) (omega (arith, h)) tt g (λ _. tt)
+      (ap (λ (x : Items). heard voice b plain x left n i) x ∙ ap (λ (h : Heard). with_texts voice.loud (text m ∷ []) h) (sym e)) r l (omega (arith, w)) (omega arith) (omega (arith, h)) tt g (λ _. tt)
   held_goes p m q f false c left n i o row now u new made x z y e w h g k l kv kc kl kn kp ko km r =
-      moves voice b plain [] p (Some m) (Some (brace false c left n)) _ false c left n i o 5 (8 * left + 3) row now u new made kv kc kl kn kp ko km
-      (ap (λ (x : Items). heard x left n i) z
+      moves voice b plain [] p (Some m) (Some (frame_of point.CloseBrace false c left n)) _ false c left n i o 5 (8 * left + 3) row now u new made kv kc kl kn kp ko km
+      (ap (λ (x : Items). heard voice b plain x left n i) z
       ∙ (ap (λ (h : Heard). with_texts voice.loud (text m ∷ []) (none_open h)) (extended_reads plain voice.loud (says "}" done) (around b voice.loud left n) q y i)
       ∙ ap (λ (h : Heard). with_texts voice.loud (text m ∷ []) (and_then h (λ j o. share_at b plain voice.loud point.CloseBrace false c left n j o))) (sym e)))
       r l (omega (arith, w)) (omega arith) (omega (arith, h)) k g (λ _. refl)
 
   abbrev Held : Mark → State → State → List Frame → List Frame → Type 0
-  Held m old new row now = (new ≡ record old { mark = Some m }) × (now ≡ pushed_on row (if old.in_value then None else Some (brace old.in_value old.letter old.depth_left old.lifetimes)))
+  Held m old new row now = (new ≡ record old { mark = Some m }) × (now ≡ pushed_on row (if old.in_value then None else Some (frame_of point.CloseBrace old.in_value old.letter old.depth_left old.lifetimes)))
 
   abbrev DidHold : VariantKind → Point → Mark → Type 0
   DidHold k p m = (old : State) (row now : List Frame) (u : V) (new : State) → Fits point.Variant old.depth_left old.lifetimes → Held m old new row now
-      → DidOn voice b plain (heard (variant_of old.in_value k) old.depth_left old.lifetimes old.place) 5 (8 * old.depth_left + 3) row u (Ok p) new now u 0
+      → DidOn voice b plain (heard voice b plain (variant_of old.in_value k) old.depth_left old.lifetimes old.place) 5 (8 * old.depth_left + 3) row u (Ok p) new now u 0
 
   pub tuple_opens : DidHold kind.Tuple point.FirstVariantConstant mark.OpenParen
   unfolding share_at
@@ -132,74 +127,25 @@ module _ {V : Type 0} (voice : Ghosts V) (b : List ℕ) (plain : Bool) where
   abbrev group_of : ℕ → ℕ → Place → Rattle.demangle_v0.specs.Groups.Group
   group_of c n i = word_group b word.FieldName c voice.loud n i
 
-  abbrev inside : ℕ → ℕ → Place → Heard
-  inside left n j = heard (says ": " constant_inside) left n j
-
-  field_shut : (left n : ℕ) (ks : List ℕ) (r : WordRead) → none_open (with_looks ks (word_then b plain voice.loud r (λ j. of plain voice.loud (run (says ": " constant_inside) (around b voice.loud left n) j)))) ≡ with_looks ks (word_then b plain voice.loud r (inside left n))
-  field_shut left n ks (reads.Goes x j) = refl
-  field_shut left n ks (reads.Stops x) = refl
-
   abbrev field_at : Bool → ℕ → ℕ → ℕ → Place → Bool → Heard
   field_at v c left n i o = share_at b plain voice.loud point.Field v c left n i o
 
-  field_so : (v : Bool) (c left n : ℕ) (i : Place) (o : Bool) (r : WordRead) → r ≡ (group_of c n i).reads → field_at v c left n i o ≡ with_looks (group_of c n i).costs (word_then b plain voice.loud r (inside left n))
-  unfolding share_at
-  field_so v c left n i o r e =
-      let g = group_of c n i in
-      ap none_open (word_read b plain left voice.loud n word.FieldName c (says ": " constant_inside) i)
-      ∙ (field_shut left n g.costs g.reads ∙ ap (λ (z : WordRead). with_looks g.costs (word_then b plain voice.loud z (inside left n))) (sym e))
-
-  -- a word was handed over, and the unit goes on
-  told_goes : (ks : List ℕ) (ts : List Text) (p : Point) (h : Heard) (v : Bool) (c left n : ℕ) (i : Place) (o : Bool) (weight high : ℕ) (row : List Frame) (u w : V) (new : State) (made : ℕ)
-      → h ≡ with_looks ks (with_texts voice.loud ts (share_at b plain voice.loud p v c left n i o)) → made ≤ total ks → way_weight (goes p) + 1 ≤ weight → height_at p left ≤ high → Fits p left n → voice.prints u ts (Ok tt) w
-      → new.in_value ≡ v → new.letter ≡ c → new.depth_left ≡ left → new.lifetimes ≡ n → new.place ≡ i → new.is_open ≡ o → new.mark ≡ None → DidOn voice b plain h weight high row u (Ok p) new row w made
-  unfolding then_frame
-  told_goes ks ts p h v c left n i o weight high row u w new made e l x y f q kv kc kl kn kp ko km = record {
-    comes = record {
-      bits = pays ks ∷ puts ts ∷ [];
-      back = [];
-      pushed = None;
-      told = (w, q, refl);
-      reads = rw (kv, kc, kl, kn, kp, ko, km) e;
-      is_row = refl;
-      enough = omega arith;
-      late = omega arith;
-      lighter = omega (arith, x);
-      outer_height = omega arith;
-      inner_height = rw kl (omega (arith, y));
-      outer_fits = tt;
-      inner_fits = rw (kl, kn) f;
-      quiet = λ _. tt;
-    };
-  }
-
   pub field_goes : (v : Bool) (c left n : ℕ) (i j : Place) (o : Bool) (s : Stretch) (row : List Frame) (u w : V) (new : State) (made : ℕ) → reads.Goes s j ≡ (group_of c n i).reads → made ≤ total (group_of c n i).costs → Fits point.Field left n
-      → voice.prints u (texts_of b plain s) (Ok tt) w → new.in_value ≡ v → new.letter ≡ c → new.depth_left ≡ left → new.lifetimes ≡ n → new.place ≡ j → new.is_open ≡ o → new.mark ≡ None
+      → voice.prints u (texts_of b plain s) (Ok tt) w → new.depth_left ≡ left → new.lifetimes ≡ n → new.place ≡ j → new.mark ≡ None
       → DidOn voice b plain (field_at v c left n i o) 3 (8 * left + 1) row u (Ok point.FieldColon) new row w made
   unfolding share_at
-  field_goes v c left n i j o s row u w new made e l f p kv kc kl kn kp ko km =
-      told_goes (group_of c n i).costs (texts_of b plain s) point.FieldColon _ v c left n j o 3 (8 * left + 1) row u w new made (field_so v c left n i o (reads.Goes s j) e) l (omega arith) (omega arith) f p kv kc kl kn kp ko km
+  field_goes v c left n i j o s row u w new made e l f p kl kn kp km =
+      word_on voice b plain point.FieldColon word.FieldName c (says ": " constant_inside) left n i j s 3 (8 * left + 1) row u w new made e l p km (rw (kl, kn, kp) refl) (omega arith) (omega (arith, kl)) (rw (kl, kn) f)
 
   pub field_fails : (v : Bool) (c left n : ℕ) (i : Place) (o : Bool) (m : Mark) (row : List Frame) (u : V) (new : State) (made : ℕ) → reads.Stops m ≡ (group_of c n i).reads → made ≤ total (group_of c n i).costs
       → new.mark ≡ None → DidOn voice b plain (field_at v c left n i o) 3 (8 * left + 1) row u (Err (Fault m)) new row u made
-  field_fails v c left n i o m row u new made e l k =
-      faulty_after voice b plain (group_of c n i).costs m (field_at v c left n i o) 3 (8 * left + 1) row u new made k (field_so v c left n i o (reads.Stops m) e) l (omega arith)
+  unfolding share_at
+  field_fails v c left n i o m row u new made e l k = word_fails voice b plain word.FieldName c (says ": " constant_inside) left n i m 3 (8 * left + 1) row u new made e l k (omega arith)
 
-  pub field_refused : (v : Bool) (c left n : ℕ) (i j : Place) (o : Bool) (s : Stretch) (u w : V) (e : SinkRefused) (made : ℕ) → reads.Goes s j ≡ (group_of c n i).reads → made ≤ total (group_of c n i).costs
-      → voice.prints u (texts_of b plain s) (Err e) w → (voice.loud ≡ false → IsOk (refused e)) → Halted voice (field_at v c left n i o) u w made
-  field_refused v c left n i j o s u w e made r l p q = record {
-    front = pays (group_of c n i).costs ∷ [];
-    texts = texts_of b plain s;
-    rest = inside left n j;
-    mid = u;
-    told = refl;
-    refusal = e;
-    prints = p;
-    reads = field_so v c left n i o (reads.Goes s j) r;
-    enough = omega arith;
-    exact = λ _. omega (arith, l);
-    fails = λ h. absurd (false≢true (q h));
-  }
+  pub field_refused : (v : Bool) (c left n : ℕ) (i j : Place) (o : Bool) (s : Stretch) (row : List Frame) (u w : V) (new : State) (e : SinkRefused) (made : ℕ) → reads.Goes s j ≡ (group_of c n i).reads → made ≤ total (group_of c n i).costs
+      → voice.prints u (texts_of b plain s) (Err e) w → (voice.loud ≡ false → IsOk (refused e)) → DidOn voice b plain (field_at v c left n i o) 3 (8 * left + 1) row u (Err Refused) new row w made
+  unfolding share_at
+  field_refused v c left n i j o s row u w new e made r l p q = word_on_refused voice b plain word.FieldName c (says ": " constant_inside) left n i j s 3 (8 * left + 1) row u w new e made r l p q
 
   pub colon_goes : (v : Bool) (c left n : ℕ) (i : Place) (o : Bool) (row : List Frame) (u : V) (new : State) (made : ℕ) → made ≤ 0
       → Fits point.FieldColon left n → new.in_value ≡ true → new.letter ≡ c → new.depth_left ≡ left → new.lifetimes ≡ n → new.place ≡ i → new.is_open ≡ o → new.mark ≡ Some mark.Colon

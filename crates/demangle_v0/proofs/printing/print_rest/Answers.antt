@@ -17,4 +17,4 @@ returns-clause-ended g c = λ p s row v first ran.
     ended_all g.S.TextSink c.args.symbol.now c.args.include_hash p _ s _ row _ _ v _ _ _ (first + (c.finish_skip.new.looks - c.args.looks.now)) (c.print_on.new.looks - c.finish_skip.new.looks) _ _
     (omega (arith, c.finish_skip.ensures.grows, c.in_ok-print_on.ensures.grows))
     (passed_ran g.S.TextSink c.args.symbol.now c.args.include_hash p s row _ _ v _ _ _ _ first (c.finish_skip.new.looks - c.args.looks.now) _ (omega arith) (rw (c.append.ensures, c.new-row.ensures) ran) c.finish_skip.ensures.passed) c.in_ok-print_on.ensures.ran
-    (none_left c.args.symbol.now c.args.include_hash _ _ _ c.in_ok-print_on.ensures.valid)
+    (none_left _ c.args.symbol.now c.args.include_hash _ _ _ (omega arith) c.in_ok-print_on.ensures.valid)
