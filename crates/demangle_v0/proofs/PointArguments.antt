@@ -26,29 +26,6 @@ use Rattle.demangle_v0.proofs.PointSteps.{heard, same}
 use Rattle.demangle_v0.proofs.PointTypes.{heard_at, enters}
 
 module _ {V : Type 0} (voice : Ghosts V) (b : List ℕ) (plain : Bool) where
-  -- Up to their first.
-
-  pub value_opens : (v : Bool) (c left n : ℕ) (i : Place) (o : Bool) (row : List Frame) (u : V) (new : State) (made : ℕ) → v ≡ true → made ≤ 0 → Fits point.OpenArguments left n
-      → new.depth_left ≡ left → new.lifetimes ≡ n → new.place ≡ i → new.mark ≡ Some mark.Colons
-      → DidOn voice b plain (heard_at voice b plain point.Generic v c left n i o) 3 (8 * left + 2) row u (Ok point.OpenArguments) new row u made
-  unfolding run then_frame share_at
-  value_opens v c left n i o row u new made e l f kl kn kp km =
-      enters voice b plain _ point.OpenArguments left n i (Some mark.Colons) [] [] None 3 (8 * left + 2) row row u new made (rw e refl) kl kn kp km refl (omega (arith, l)) (omega (arith, l)) (omega arith) (omega arith) (omega arith) tt f (λ _. tt)
-
-  pub type_opens : (v : Bool) (c left n : ℕ) (i : Place) (o : Bool) (row : List Frame) (u : V) (new : State) (made : ℕ) → v ≡ false → made ≤ 0 → Fits point.FirstArgument left n
-      → new.depth_left ≡ left → new.lifetimes ≡ n → new.place ≡ i → new.mark ≡ Some mark.Less
-      → DidOn voice b plain (heard_at voice b plain point.Generic v c left n i o) 3 (8 * left + 2) row u (Ok point.FirstArgument) new row u made
-  unfolding run then_frame share_at
-  type_opens v c left n i o row u new made e l f kl kn kp km =
-      enters voice b plain _ point.FirstArgument left n i (Some mark.Less) [] [] None 3 (8 * left + 2) row row u new made (rw e refl) kl kn kp km refl (omega (arith, l)) (omega (arith, l)) (omega arith) (omega arith) (omega arith) tt f (λ _. tt)
-
-  pub arguments_open : (v : Bool) (c left n : ℕ) (i : Place) (o : Bool) (row : List Frame) (u : V) (new : State) (made : ℕ) → made ≤ 0 → Fits point.FirstArgument left n
-      → new.depth_left ≡ left → new.lifetimes ≡ n → new.place ≡ i → new.mark ≡ Some mark.Less
-      → DidOn voice b plain (heard_at voice b plain point.OpenArguments v c left n i o) 2 (8 * left + 2) row u (Ok point.FirstArgument) new row u made
-  unfolding run then_frame share_at
-  arguments_open v c left n i o row u new made l f kl kn kp km =
-      enters voice b plain _ point.FirstArgument left n i (Some mark.Less) [] [] None 2 (8 * left + 2) row row u new made refl kl kn kp km refl (omega (arith, l)) (omega (arith, l)) (omega arith) (omega arith) (omega arith) tt f (λ _. tt)
-
   -- Their end.
 
   failed_so : (first : Bool) (v : Bool) (c left n : ℕ) (o : Bool) → heard_at voice b plain (arguments_point first) v c left n None o ≡ heard voice b plain (says ">" done) left n None

@@ -3,7 +3,7 @@ use Rattle.std.specs.Prelude.{◌*◌}
 use Rattle.std.proofs.Common.{◌≡◌, ℕ, ◌+◌, ◌≤◌, Bool, true, false, Option, Some, None, List, [], ◌∷◌, ◌++◌, Ok, refl, arith, sym, ap, ◌∙◌}
 use Prim.Native.Char.{code}
 use Rattle.demangle_symbol.specs.Digits.{is_byte}
-use Rattle.demangle_v0.specs.Items.{Items, say, done, unit}
+use Rattle.demangle_v0.specs.Items.{a_constant, Items, say, done, unit}
 use Rattle.demangle_v0.specs.Totals.{total}
 use Rattle.demangle_v0.specs.Events.{Heard, of, and_then, with_looks, with_texts}
 use Rattle.demangle_v0.specs.Grammar.{text}
@@ -22,8 +22,8 @@ use Rattle.demangle_v0.specs.declared.points.constant_lists.ConstantList.TheVari
 use Rattle.demangle_v0.specs.declared.points.voice.Voice.{Ghosts}
 use Rattle.demangle_v0.proofs.Elements.{Element, constant_element, field_element}
 use Rattle.demangle_v0.proofs.ListReads.{end_failed, end_over, end_on, more_failed, more_over, more_on, second_over}
-use Rattle.demangle_v0.proofs.PointConstants.{last_constant, moves}
-use Rattle.demangle_v0.proofs.PointSteps.{heard, after, same}
+use Rattle.demangle_v0.proofs.PointConstants.{moves}
+use Rattle.demangle_v0.proofs.PointSteps.{heard, child_last, after, same}
 
 -- what a list ends with
 abbrev pub ending : ConstantList → Items
@@ -92,9 +92,9 @@ module _ {V : Type 0} (voice : Ghosts V) (b : List ℕ) (plain : Bool) where
 
   element_share : (l : ConstantList) (c left n : ℕ) (i : Place) (o : Bool) → share_at b plain voice.loud (element_point l) true c left n i o ≡ heard voice b plain (list_element l) left n i
   unfolding share_at
-  element_share list.Array c left n i o = sym (last_constant voice b plain true left n i)
-  element_share list.Tuple c left n i o = sym (last_constant voice b plain true left n i)
-  element_share list.TupleVariant c left n i o = sym (last_constant voice b plain true left n i)
+  element_share list.Array c left n i o = sym (child_last voice b plain a_constant true left n i)
+  element_share list.Tuple c left n i o = sym (child_last voice b plain a_constant true left n i)
+  element_share list.TupleVariant c left n i o = sym (child_last voice b plain a_constant true left n i)
   element_share list.Fields c left n i o = refl
 
   element_is : (l : ConstantList) (left n : ℕ) → left ≤ max_depth → Element b voice.loud left n (list_element l)

@@ -35,70 +35,10 @@ module _ {V : Type 0} (voice : Ghosts V) (b : List ℕ) (plain : Bool) where
         steps voice b plain (goes p) ks [] pushed h weight high row now u new made (rw (kv, kc, kl, kn, kp, ko, km) e) r (omega (arith, l)) (omega (arith, l)) (omega (arith, w)) x (rw kl y) f (rw (kl, kn) g) q;
   }
 
-  pub marks : (p : Point) (m : Mark) (h : Heard) (v : Bool) (c left n : ℕ) (i : Place) (o : Bool) (weight high : ℕ) (row : List Frame) (u : V) (new : State) (made : ℕ) → made ≤ 0
-      → new.in_value ≡ v → new.letter ≡ c → new.depth_left ≡ left → new.lifetimes ≡ n → new.place ≡ i → new.is_open ≡ o → new.mark ≡ Some m
-      → h ≡ with_texts voice.loud (text m ∷ []) (share_at b plain voice.loud p v c left n i o) → way_weight (goes p) + 1 ≤ weight → height_at p left ≤ high → Fits p left n → DidOn voice b plain h weight high row u (Ok p) new row u made
-  unfolding then_frame
-  marks p m h v c left n i o weight high row u new made l kv kc kl kn kp ko km e w x f =
-      moves [] p (Some m) None h v c left n i o weight high row row u new made kv kc kl kn kp ko km e refl l (omega (arith, w)) (omega arith) (omega (arith, x)) tt f (λ _. tt)
-
-  -- a constant alone
-  pub last_constant : (v : Bool) (left n : ℕ) (i : Place) → none_open (of plain voice.loud (run (child a_constant v done) (around b voice.loud left n) i)) ≡ none_open (of plain voice.loud (unit_outcome (around b voice.loud left n) a_constant v i))
-  last_constant v left n i = ap none_open (last_child plain voice.loud b left n a_constant v i tt)
-
   -- a unit alone
   pub last_unit : (p : Items) (left n : ℕ) (i : Place) → none_open (of plain voice.loud (run (unit p done) (around b voice.loud left n) i)) ≡ none_open (of plain voice.loud (run p (around b voice.loud left n) i))
   unfolding run
   last_unit p left n i = let o = run p (around b voice.loud left n) i in ap (λ xs. record { events = xs; place = o.place; is_open = false }) (append-nil (events plain voice.loud o.tree))
-
-  pub text_goes : (v : Bool) (c left n : ℕ) (i : Place) (o : Bool) (row : List Frame) (u : V) (new : State) (made : ℕ) → made ≤ 0
-      → Fits point.TextConstant left n → new.in_value ≡ v → new.letter ≡ c → new.depth_left ≡ left → new.lifetimes ≡ n → new.place ≡ i → new.is_open ≡ o → new.mark ≡ Some mark.Star
-      → DidOn voice b plain (share_at b plain voice.loud point.TextConstant v c left n i o) 2 (8 * left + 2) row u (Ok point.Literal) new row u made
-  unfolding run share_at
-  text_goes v c left n i o row u new made l f kv kc kl kn kp ko km =
-      marks point.Literal mark.Star _ v c left n i o 2 (8 * left + 2) row u new made l kv kc kl kn kp ko km (ap (with_texts voice.loud (text mark.Star ∷ [])) (last_unit string left n i)) (omega arith) (omega arith) f
-
-  pub reference_goes : (v : Bool) (c left n : ℕ) (i : Place) (o : Bool) (row : List Frame) (u : V) (new : State) (made : ℕ) → made ≤ 0
-      → Fits point.ReferenceConstant left n → new.in_value ≡ true → new.letter ≡ c → new.depth_left ≡ left → new.lifetimes ≡ n → new.place ≡ i → new.is_open ≡ o → new.mark ≡ Some mark.Ampersand
-      → DidOn voice b plain (share_at b plain voice.loud point.ReferenceConstant v c left n i o) 2 (8 * left + 2) row u (Ok point.Constant) new row u made
-  unfolding run share_at
-  reference_goes v c left n i o row u new made l f kv kc kl kn kp ko km =
-      marks point.Constant mark.Ampersand _ true c left n i o 2 (8 * left + 2) row u new made l kv kc kl kn kp ko km (ap (with_texts voice.loud (text mark.Ampersand ∷ [])) (last_constant true left n i)) (omega arith) (omega arith) f
-
-  pub mut_reference_goes : (v : Bool) (c left n : ℕ) (i : Place) (o : Bool) (row : List Frame) (u : V) (new : State) (made : ℕ) → made ≤ 0
-      → Fits point.MutReferenceConstant left n → new.in_value ≡ v → new.letter ≡ c → new.depth_left ≡ left → new.lifetimes ≡ n → new.place ≡ i → new.is_open ≡ o → new.mark ≡ Some mark.Ampersand
-      → DidOn voice b plain (share_at b plain voice.loud point.MutReferenceConstant v c left n i o) 3 (8 * left + 2) row u (Ok point.MutableConstant) new row u made
-  unfolding run share_at
-  mut_reference_goes v c left n i o row u new made l f kv kc kl kn kp ko km =
-      marks point.MutableConstant mark.Ampersand _ v c left n i o 3 (8 * left + 2) row u new made l kv kc kl kn kp ko km refl (omega arith) (omega arith) f
-
-  pub mutable_goes : (v : Bool) (c left n : ℕ) (i : Place) (o : Bool) (row : List Frame) (u : V) (new : State) (made : ℕ) → made ≤ 0
-      → Fits point.MutableConstant left n → new.in_value ≡ true → new.letter ≡ c → new.depth_left ≡ left → new.lifetimes ≡ n → new.place ≡ i → new.is_open ≡ o → new.mark ≡ Some mark.Mutable
-      → DidOn voice b plain (share_at b plain voice.loud point.MutableConstant v c left n i o) 2 (8 * left + 2) row u (Ok point.Constant) new row u made
-  unfolding run share_at
-  mutable_goes v c left n i o row u new made l f kv kc kl kn kp ko km =
-      marks point.Constant mark.Mutable _ true c left n i o 2 (8 * left + 2) row u new made l kv kc kl kn kp ko km (ap (with_texts voice.loud (text mark.Mutable ∷ [])) (last_constant true left n i)) (omega arith) (omega arith) f
-
-  pub array_goes : (v : Bool) (c left n : ℕ) (i : Place) (o : Bool) (row : List Frame) (u : V) (new : State) (made : ℕ) → made ≤ 0
-      → Fits point.ArrayConstant left n → new.in_value ≡ v → new.letter ≡ c → new.depth_left ≡ left → new.lifetimes ≡ n → new.place ≡ i → new.is_open ≡ o → new.mark ≡ Some mark.OpenBracket
-      → DidOn voice b plain (share_at b plain voice.loud point.ArrayConstant v c left n i o) 2 (8 * left + 2) row u (Ok point.FirstArrayConstant) new row u made
-  unfolding run share_at
-  array_goes v c left n i o row u new made l f kv kc kl kn kp ko km =
-      marks point.FirstArrayConstant mark.OpenBracket _ v c left n i o 2 (8 * left + 2) row u new made l kv kc kl kn kp ko km refl (omega arith) (omega arith) f
-
-  pub tuple_goes : (v : Bool) (c left n : ℕ) (i : Place) (o : Bool) (row : List Frame) (u : V) (new : State) (made : ℕ) → made ≤ 0
-      → Fits point.TupleConstant left n → new.in_value ≡ v → new.letter ≡ c → new.depth_left ≡ left → new.lifetimes ≡ n → new.place ≡ i → new.is_open ≡ o → new.mark ≡ Some mark.OpenParen
-      → DidOn voice b plain (share_at b plain voice.loud point.TupleConstant v c left n i o) 2 (8 * left + 2) row u (Ok point.FirstTupleConstant) new row u made
-  unfolding run share_at
-  tuple_goes v c left n i o row u new made l f kv kc kl kn kp ko km =
-      marks point.FirstTupleConstant mark.OpenParen _ v c left n i o 2 (8 * left + 2) row u new made l kv kc kl kn kp ko km refl (omega arith) (omega arith) f
-
-  pub brace_closes : (v : Bool) (c left n : ℕ) (i : Place) (o : Bool) (row : List Frame) (u : V) (new : State) (made : ℕ) → made ≤ 0
-      → Fits point.CloseBrace left n → new.in_value ≡ v → new.letter ≡ c → new.depth_left ≡ left → new.lifetimes ≡ n → new.place ≡ i → new.is_open ≡ false → new.mark ≡ Some mark.CloseBrace
-      → DidOn voice b plain (share_at b plain voice.loud point.CloseBrace v c left n i o) 1 (8 * left + 2) row u (Ok point.End) new row u made
-  unfolding run share_at
-  brace_closes v c left n i o row u new made l f kv kc kl kn kp ko km =
-      marks point.End mark.CloseBrace _ v c left n i false 1 (8 * left + 2) row u new made l kv kc kl kn kp ko km refl (omega arith) (omega arith) tt
 
   pub literal_reads : (v : Bool) (c left n : ℕ) (i : Place) (o : Bool) (row : List Frame) (u w : V) (result : Result Point Stop) (new : State) (made : ℕ)
       → DidOn voice b plain (none_open (of plain voice.loud (run (word_items word.Literal c done) (around b voice.loud left n) i))) 1 0 row u result new row w made

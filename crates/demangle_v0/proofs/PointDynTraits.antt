@@ -239,17 +239,6 @@ module _ {V : Type 0} (voice : Ghosts V) (b : List ℕ) (plain : Bool) where
   abbrev open_heard : Items → ℕ → ℕ → Place → Heard
   open_heard p left n i = of plain voice.loud (run p (around b voice.loud left n) i)
 
-  opening_reads : (left n : ℕ) (i : Place) → open_heard (says "<" first_open) left n i ≡ with_texts voice.loud (text mark.Less ∷ []) (open_heard first_open left n i)
-  unfolding run
-  opening_reads left n i = refl
-
-  pub open_trait_did : (s : State) (row : List Frame) (u : V) (new : State) → Fits point.OpenTraitPath s.depth_left s.lifetimes → new.depth_left ≡ s.depth_left → new.lifetimes ≡ s.lifetimes → new.place ≡ s.place → new.mark ≡ Some mark.Less
-      → DidOn voice b plain (share_of b plain voice.loud point.OpenTraitPath s) 2 (8 * s.depth_left + 2) row u (Ok point.FirstOpenArgument) new row u 0
-  unfolding share_at
-  open_trait_did s row u new f kl kn kp km =
-      moves voice b plain point.FirstOpenArgument (Some mark.Less) [] _ (open_heard first_open s.depth_left s.lifetimes s.place) 2 (8 * s.depth_left + 2) row u new 0
-      (opening_reads s.depth_left s.lifetimes s.place) (rw (kl, kn, kp) refl) km (omega arith) (omega arith) (omega (arith, kl)) (rw (kl, kn) f)
-
   opens_reads : (left n : ℕ) (i : Place) → open_heard (opens done) left n i ≡ nothing_heard i true
   unfolding run
   opens_reads left n i = refl

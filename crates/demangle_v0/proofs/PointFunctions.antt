@@ -33,7 +33,7 @@ use Rattle.demangle_v0.proofs.ClosedUnits.{last_child}
 use Rattle.demangle_v0.proofs.Elements.{type_element}
 use Rattle.demangle_v0.proofs.GroupReads.{word_then, word_read}
 use Rattle.demangle_v0.proofs.ListReads.{child_followed, end_failed, end_over, more_failed, more_over, first_on, more_on}
-use Rattle.demangle_v0.proofs.PointSteps.{heard, refused, steps, after, faulty, faulty_after, put_goes, put_refused, group_so, group_goes, group_fails, group_refused, word_so}
+use Rattle.demangle_v0.proofs.PointSteps.{heard, child_last, refused, steps, after, faulty, faulty_after, put_goes, put_refused, group_so, group_goes, group_fails, group_refused, word_so}
 use Rattle.demangle_v0.proofs.TypeReads.{binder_reads}
 
 abbrev pub parameters : Items
@@ -155,21 +155,6 @@ module _ {V : Type 0} (voice : Ghosts V) (b : List ℕ) (plain : Bool) where
   binder_refused p left n i j m weight high row v w new r made e l q k =
       put_refused voice b plain (4 * (j - i + 1) ∷ []) (binder_texts m n) _ (heard voice b plain p left (n + m) (Some j)) weight high row v w new r made (binder_so p left n i j m e) q (omega (arith, l)) (λ h. absurd (false≢true (k h)))
 
-  pub open_share : (s : State) → heard voice b plain parameters s.depth_left s.lifetimes s.place ≡ share_of b plain voice.loud point.OpenParameters s
-  unfolding share_at
-  open_share s = refl
-
-  open_reads : (left n : ℕ) (i : Place) → heard voice b plain parameters left n i ≡ with_texts voice.loud (text mark.Function ∷ []) (heard voice b plain first_parameters left n i)
-  unfolding run
-  open_reads left n i = refl
-
-  pub open_did : (s new : State) (row : List Frame) (u : V) → Fits point.OpenParameters s.depth_left s.lifetimes → new.depth_left ≡ s.depth_left → new.lifetimes ≡ s.lifetimes → new.place ≡ s.place → new.mark ≡ Some mark.Function
-      → DidOn voice b plain (share_of b plain voice.loud point.OpenParameters s) 4 (8 * s.depth_left + 2) row u (Ok point.FirstParameter) new row u 0
-  unfolding share_at
-  open_did s new row u f kl kn kp km =
-      moves point.FirstParameter (Some mark.Function) [] _ (heard voice b plain first_parameters s.depth_left s.lifetimes s.place) 4 (8 * s.depth_left + 2) row u new 0
-      (open_reads s.depth_left s.lifetimes s.place) (rw (kl, kn, kp) refl) km (omega arith) (omega arith) (omega (arith, kl)) (rw (kl, kn) f)
-
   abbrev parameter_did : Bool → State → List Frame → V → Point → State → List Frame → ℕ → Type 0
   parameter_did first s row u to new now made = let p = if first then point.FirstParameter else point.NextParameter in
       DidOn voice b plain (share_of b plain voice.loud p s) (weight_at p) (height_at p s.depth_left) row u (Ok to) new now u made
@@ -235,7 +220,7 @@ module _ {V : Type 0} (voice : Ghosts V) (b : List ℕ) (plain : Bool) where
 
   type_share : (new : State) (left n : ℕ) (i : Place) → new.depth_left ≡ left → new.lifetimes ≡ n → new.place ≡ i → heard voice b plain type_inside left n i ≡ share_of b plain voice.loud point.«Type» new
   unfolding share_at
-  type_share new left n i kl kn kp = rw (kl, kn, kp) (ap none_open (last_child plain voice.loud b left n a_type false i tt))
+  type_share new left n i kl kn kp = rw (kl, kn, kp) (child_last voice b plain a_type false left n i)
 
   abbrev returns_did : State → List Frame → V → Point → State → ℕ → Type 0
   returns_did s row u to new made = DidOn voice b plain (share_of b plain voice.loud point.Returns s) 2 (8 * s.depth_left + 2) row u (Ok to) new row u made

@@ -16,7 +16,7 @@ use Rattle.demangle_v0.specs.declared.points.State.{State}
 use Rattle.demangle_v0.specs.declared.points.Stop.TheVariants.{Fault}
 use Rattle.demangle_v0.specs.declared.points.voice.Voice.{Ghosts}
 use Rattle.demangle_v0.proofs.PointSteps.{heard, steps, faulty, faulty_after}
-use Rattle.demangle_v0.proofs.PointTypes.{heard_at, ends_says}
+use Rattle.demangle_v0.proofs.PointTypes.{heard_at}
 
 module _ {V : Type 0} (voice : Ghosts V) (b : List ℕ) (plain : Bool) where
   pub impl_unread : (q : Bool) (left n : ℕ) (row : List Frame) (u : V) (new : State) (made : ℕ) → new.mark ≡ None → made ≤ 0
@@ -120,8 +120,3 @@ module _ {V : Type 0} (voice : Ghosts V) (b : List ℕ) (plain : Bool) where
         steps voice b plain (goes point.Path) [] [] (Some (frame_of point.CloseAngle v c left n)) _ 4 (8 * left + 2) row now u new made (rw (kv, kl, kn, kp, km) refl)
         r (omega (arith, l)) (omega (arith, l)) (omega arith) (omega arith) (omega (arith, kl)) f (rw (kl, kn) f) (λ _. refl);
   }
-
-  pub angle_closes : (v : Bool) (c left n : ℕ) (i : Place) (o : Bool) (row : List Frame) (u : V) (new : State) (made : ℕ) → made ≤ 0 → new.place ≡ i → new.mark ≡ Some mark.Greater → new.is_open ≡ false
-      → DidOn voice b plain (heard_at voice b plain point.CloseAngle v c left n i o) 1 (8 * left + 2) row u (Ok point.End) new row u made
-  unfolding share_at
-  angle_closes v c left n i o row u new made l = ends_says voice b plain mark.Greater 1 (8 * left + 2) left n i row u new made l (omega arith)

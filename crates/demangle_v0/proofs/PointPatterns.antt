@@ -23,7 +23,7 @@ use Rattle.demangle_v0.proofs.Elements.{pattern_element}
 use Rattle.demangle_v0.proofs.GrammarRows.{rows_of, row_found}
 use Rattle.demangle_v0.proofs.ListReads.{child_followed, more_failed, more_over, more_on}
 use Rattle.demangle_v0.proofs.PathReads.{pattern_missing, pattern_reads}
-use Rattle.demangle_v0.proofs.PointConstants.{last_constant, marks, moves}
+use Rattle.demangle_v0.proofs.PointConstants.{moves}
 use Rattle.demangle_v0.proofs.PointSteps.{heard, faulty, faulty_after}
 use Rattle.demangle_v0.proofs.UnitReads.{raise_deep, raise_on}
 
@@ -124,12 +124,3 @@ module _ {V : Type 0} (voice : Ghosts V) (b : List ℕ) (plain : Bool) where
       (ap none_open (more_on plain voice.loud b left n " | " (child a_pattern false done) (sound done invalid) i (pattern_element b voice.loud left n (few left n f)) (sym e))
       ∙ ap (λ (h : Heard). with_looks (1 ∷ []) (with_texts voice.loud (text mark.Or ∷ []) (none_open h))) (child_followed plain voice.loud a_pattern false s (Some i) (λ j. of plain voice.loud (run further s j))))
       r l (omega arith) (omega arith) (omega arith) f f (λ _. refl)
-
-  -- Ranges.
-
-  pub range_end_goes : (v : Bool) (c left n : ℕ) (i : Place) (o : Bool) (row : List Frame) (u : V) (new : State) (made : ℕ) → made ≤ 0
-      → Fits point.RangeEnd left n → new.in_value ≡ false → new.letter ≡ c → new.depth_left ≡ left → new.lifetimes ≡ n → new.place ≡ i → new.is_open ≡ o → new.mark ≡ Some mark.Range
-      → DidOn voice b plain (share_at b plain voice.loud point.RangeEnd v c left n i o) 2 (8 * left + 2) row u (Ok point.Constant) new row u made
-  unfolding run share_at
-  range_end_goes v c left n i o row u new made l f kv kc kl kn kp ko km =
-      marks voice b plain point.Constant mark.Range _ false c left n i o 2 (8 * left + 2) row u new made l kv kc kl kn kp ko km (ap (with_texts voice.loud (text mark.Range ∷ [])) (last_constant voice b plain false left n i)) (omega arith) (omega arith) f

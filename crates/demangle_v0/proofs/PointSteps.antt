@@ -2,13 +2,13 @@
 use Rattle.std.specs.Prelude.{◌*◌}
 use Rattle.std.proofs.lemmas.Bool.{false≢true}
 use Rattle.std.proofs.lemmas.List.{append-nil}
-use Rattle.std.proofs.Common.{◌≡◌, ℕ, ◌+◌, ◌-◌, ◌≤◌, Bool, false, Option, None, List, [], ◌∷◌, ◌++◌, Result, Ok, Err, IsOk, refl, arith, sym, ap, ◌∙◌, subst}
-use Rattle.demangle_v0.specs.Items.{Text, Items, done}
+use Rattle.std.proofs.Common.{◌≡◌, ℕ, ◌+◌, ◌-◌, ◌≤◌, Bool, false, Option, Some, None, List, [], ◌∷◌, ◌++◌, Result, Ok, Err, IsOk, refl, arith, sym, ap, ◌∙◌, subst}
+use Rattle.demangle_v0.specs.Items.{Text, Items, Kind, say, child, done}
 use Rattle.demangle_v0.specs.Totals.{total}
-use Rattle.demangle_v0.specs.Events.{Heard, of, nothing_heard, with_looks, with_texts}
+use Rattle.demangle_v0.specs.Events.{Heard, of, events, nothing_heard, with_looks, with_texts}
 use Rattle.demangle_v0.specs.Groups.{Group, texts_of, word_group}
 use Rattle.demangle_v0.specs.Grammar.{word_items, text}
-use Rattle.demangle_v0.specs.Reading.{Place, run}
+use Rattle.demangle_v0.specs.Reading.{Place, run, unit_outcome}
 use Rattle.demangle_v0.specs.Points.{Bit, pays, puts, heard_bits, bits_looks, Told, mark_texts, then_frame, Way, goes, fails, way_heard, way_weight, way_height, weight_of, height_of, count_of, FitsFrame, FitsWay, IsInner, Fits, height_at, pushed_on, share_at, share_of, none_open, around, Went, Kept, DidOn}
 use Rattle.demangle_sink.specs.declared.SinkRefused.{SinkRefused}
 use Rattle.demangle_v0.specs.declared.grammar.Mark.{Mark}
@@ -187,11 +187,37 @@ module _ {V : Type 0} (voice : Ghosts V) (b : List ℕ) (plain : Bool) where
     );
   }
 
-  -- What is read as a group, and what stands behind it.
+  -- A mark that is left, and what stands behind it.
 
   -- what is heard of a unit's rest
   abbrev pub heard : Items → ℕ → ℕ → Place → Heard
   heard p left n i = none_open (of plain voice.loud (run p (around b voice.loud left n) i))
+
+  pub mark_goes : (to : Point) (m : Mark) (h : Heard) (weight high : ℕ) (row : List Frame) (u : V) (new : State) (made : ℕ)
+      → h ≡ with_texts voice.loud (text m ∷ []) (share_of b plain voice.loud to new) → new.mark ≡ Some m → made ≤ 0
+      → way_weight (goes to) + 1 ≤ weight → height_at to new.depth_left ≤ high → Fits to new.depth_left new.lifetimes
+      → DidOn voice b plain h weight high row u (Ok to) new row u made
+  unfolding then_frame
+  mark_goes to m h weight high row u new made e k l x y f = record {
+    comes =
+        steps (goes to) [] [] None h weight high row row u new made (rw k e) refl (omega (arith, l)) (omega (arith, l)) (omega (arith, x)) (omega arith) (omega (arith, y)) tt f (λ _. tt);
+  }
+
+  -- a child with which a unit ends
+  pub child_last : (k : Kind) (v : Bool) (left n : ℕ) (i : Place) → heard (child k v done) left n i ≡ none_open (of plain voice.loud (unit_outcome (around b voice.loud left n) k v i))
+  unfolding run
+  child_last k v left n i = let o = unit_outcome (around b voice.loud left n) k v i in ap (λ xs. record { events = xs; place = o.place; is_open = false }) (append-nil (events plain voice.loud o.tree))
+
+  pub child_goes : (to : Point) (k : Kind) (v : Bool) (m : Mark) (h : Heard) (weight high : ℕ) (row : List Frame) (u : V) (new : State) (made : ℕ)
+      → h ≡ heard (say (text m) (child k v done)) new.depth_left new.lifetimes new.place
+      → none_open (of plain voice.loud (unit_outcome (around b voice.loud new.depth_left new.lifetimes) k v new.place)) ≡ share_of b plain voice.loud to new → new.mark ≡ Some m → made ≤ 0
+      → way_weight (goes to) + 1 ≤ weight → height_at to new.depth_left ≤ high → Fits to new.depth_left new.lifetimes
+      → DidOn voice b plain h weight high row u (Ok to) new row u made
+  unfolding run
+  child_goes to k v m h weight high row u new made e r =
+      mark_goes to m h weight high row u new made (e ∙ ap (with_texts voice.loud (text m ∷ [])) (child_last k v new.depth_left new.lifetimes new.place ∙ r))
+
+  -- What is read as a group, and what stands behind it.
 
   -- the unit ends there
   abbrev ended : Place → Heard

@@ -27,17 +27,12 @@ use Rattle.demangle_v0.specs.declared.points.Stop.{Stop}
 use Rattle.demangle_v0.specs.declared.points.Stop.TheVariants.{Fault}
 use Rattle.demangle_v0.specs.declared.points.voice.Voice.{Ghosts}
 use Rattle.demangle_v0.proofs.GrammarRows.{rows_of, basic_found}
-use Rattle.demangle_v0.proofs.PointSteps.{heard, steps, after, faulty, faulty_after}
+use Rattle.demangle_v0.proofs.PointSteps.{heard, child_last, steps, after, faulty, faulty_after}
 use Rattle.demangle_v0.proofs.TypeReads.{row_at, splat_reads, type_reads, tag_missing, basic_reads, type_deep, constructed_reads, path_type_reads, row_reads}
 
 module _ {V : Type 0} (voice : Ghosts V) (b : List ℕ) (plain : Bool) where
   abbrev pub heard_at : Point → Bool → ℕ → ℕ → ℕ → Place → Bool → Heard
   heard_at p v c left n i o = share_at b plain voice.loud p v c left n i o
-
-  -- a child with which a unit ends
-  pub child_last : (k : Kind) (v : Bool) (left n : ℕ) (i : Place) → heard voice b plain (child k v done) left n i ≡ none_open (of plain voice.loud (unit_outcome (around b voice.loud left n) k v i))
-  unfolding run
-  child_last k v left n i = let o = unit_outcome (around b voice.loud left n) k v i in ap (λ xs. record { events = xs; place = o.place; is_open = false }) (append-nil (events plain voice.loud o.tree))
 
   -- one whose text behind it is not printed
   pub child_silent : (k : Kind) (v : Bool) (left n : ℕ) (i : Place) (t : Text) (out : Bool) → out ≡ false → none_open (of plain out (run (child k v (say t done)) (around b out left n) i)) ≡ none_open (of plain out (unit_outcome (around b out left n) k v i))
@@ -59,60 +54,6 @@ module _ {V : Type 0} (voice : Ghosts V) (b : List ℕ) (plain : Bool) where
   }
 
   -- A text, and what stands behind it.
-
-  -- the unit ends with a text
-  pub ends_says : (m : Mark) (weight high left n : ℕ) (i : Place) (row : List Frame) (u : V) (new : State) (made : ℕ) → made ≤ 0 → 1 ≤ weight
-      → new.place ≡ i → new.mark ≡ Some m → new.is_open ≡ false
-      → DidOn voice b plain (heard voice b plain (say (text m) done) left n i) weight high row u (Ok point.End) new row u made
-  unfolding run then_frame share_at
-  ends_says m weight high left n i row u new made l x kp km ko = record {
-    comes =
-        steps voice b plain (goes point.End) [] [] None _ weight high row row u new made
-        (rw (kp, km, ko) refl) refl (omega (arith, l)) (omega (arith, l)) (omega (arith, x)) (omega arith) (omega arith) tt tt (λ _. tt);
-  }
-
-  pub bracket_closes : (v : Bool) (c left n : ℕ) (i : Place) (o : Bool) (row : List Frame) (u : V) (new : State) (made : ℕ) → made ≤ 0 → new.place ≡ i → new.mark ≡ Some mark.CloseBracket → new.is_open ≡ false
-      → DidOn voice b plain (heard_at point.CloseBracket v c left n i o) 1 (8 * left + 2) row u (Ok point.End) new row u made
-  unfolding share_at
-  bracket_closes v c left n i o row u new made l = ends_says mark.CloseBracket 1 (8 * left + 2) left n i row u new made l (omega arith)
-
-  pub paren_closes : (v : Bool) (c left n : ℕ) (i : Place) (o : Bool) (row : List Frame) (u : V) (new : State) (made : ℕ) → made ≤ 0 → new.place ≡ i → new.mark ≡ Some mark.CloseParen → new.is_open ≡ false
-      → DidOn voice b plain (heard_at point.CloseParen v c left n i o) 1 (8 * left + 2) row u (Ok point.End) new row u made
-  unfolding share_at
-  paren_closes v c left n i o row u new made l = ends_says mark.CloseParen 1 (8 * left + 2) left n i row u new made l (omega arith)
-
-  -- a type behind a text, and the last of its unit
-  typed_says : (m : Mark) (left n : ℕ) (i : Place) (row : List Frame) (u : V) (new : State) (made : ℕ) → made ≤ 0 → Fits point.«Type» left n
-      → new.depth_left ≡ left → new.lifetimes ≡ n → new.place ≡ i → new.mark ≡ Some m
-      → DidOn voice b plain (heard voice b plain (say (text m) type_inside) left n i) 2 (8 * left + 2) row u (Ok point.«Type») new row u made
-  unfolding run then_frame share_at
-  typed_says m left n i row u new made l f kl kn kp km = record {
-    comes =
-        steps voice b plain (goes point.«Type») [] [] None _ 2 (8 * left + 2) row row u new made
-        (ap (with_texts voice.loud (text m ∷ [])) (child_last a_type false left n i) ∙ rw (kl, kn, kp, km) refl) refl (omega (arith, l)) (omega (arith, l)) (omega arith) (omega arith) (omega (arith, kl)) tt (rw (kl, kn) f) (λ _. tt);
-  }
-
-  pub mutable_goes : (v : Bool) (c left n : ℕ) (i : Place) (o : Bool) (row : List Frame) (u : V) (new : State) (made : ℕ) → made ≤ 0 → Fits point.«Type» left n
-      → new.depth_left ≡ left → new.lifetimes ≡ n → new.place ≡ i → new.mark ≡ Some mark.Mutable
-      → DidOn voice b plain (heard_at point.Mutable v c left n i o) 2 (8 * left + 2) row u (Ok point.«Type») new row u made
-  unfolding share_at
-  mutable_goes v c left n i o row u new made = typed_says mark.Mutable left n i row u new made
-
-  pub unchanging_goes : (v : Bool) (c left n : ℕ) (i : Place) (o : Bool) (row : List Frame) (u : V) (new : State) (made : ℕ) → made ≤ 0 → Fits point.«Type» left n
-      → new.depth_left ≡ left → new.lifetimes ≡ n → new.place ≡ i → new.mark ≡ Some mark.Unchanging
-      → DidOn voice b plain (heard_at point.Unchanging v c left n i o) 2 (8 * left + 2) row u (Ok point.«Type») new row u made
-  unfolding share_at
-  unchanging_goes v c left n i o row u new made = typed_says mark.Unchanging left n i row u new made
-
-  pub pattern_goes : (v : Bool) (c left n : ℕ) (i : Place) (o : Bool) (row : List Frame) (u : V) (new : State) (made : ℕ) → made ≤ 0 → Fits point.Pattern left n
-      → new.depth_left ≡ left → new.lifetimes ≡ n → new.place ≡ i → new.mark ≡ Some mark.Is
-      → DidOn voice b plain (heard_at point.PatternIs v c left n i o) 2 (8 * left + 2) row u (Ok point.Pattern) new row u made
-  unfolding run then_frame share_at
-  pattern_goes v c left n i o row u new made l f kl kn kp km = record {
-    comes =
-        steps voice b plain (goes point.Pattern) [] [] None _ 2 (8 * left + 2) row row u new made
-        (ap (with_texts voice.loud (text mark.Is ∷ [])) (child_last a_pattern false left n i) ∙ rw (kl, kn, kp, km) refl) refl (omega (arith, l)) (omega (arith, l)) (omega arith) (omega arith) (omega (arith, kl)) tt (rw (kl, kn) f) (λ _. tt);
-  }
 
   pub length_goes : (v : Bool) (c left n : ℕ) (i : Place) (o : Bool) (row now : List Frame) (u : V) (new : State) (made : ℕ) → made ≤ 0 → Fits point.CloseBracket left n
       → new.in_value ≡ true → new.depth_left ≡ left → new.lifetimes ≡ n → new.place ≡ i → new.mark ≡ Some mark.Semicolon
@@ -137,27 +78,6 @@ module _ {V : Type 0} (voice : Ghosts V) (b : List ℕ) (plain : Bool) where
       go : (q : Bool) → (tag == code "Q") ≡ q → type_rows tag ≡ rows_of type_of (type_kinds tag)
       go true e = rw e refl
       go false e = rw e refl
-
-  pub const_pointer_goes : (left n : ℕ) (i : Place) (row : List Frame) (u : V) (new : State) (made : ℕ) → made ≤ 0 → Fits point.Unchanging left n
-      → new.depth_left ≡ left → new.lifetimes ≡ n → new.place ≡ i → new.mark ≡ Some mark.Star
-      → DidOn voice b plain (heard voice b plain (type_of kind.ConstPointer) left n i) 50 (8 * left + 9) row u (Ok point.Unchanging) new row u made
-  unfolding run then_frame share_at
-  const_pointer_goes left n i row u new made l f kl kn kp km =
-      enters _ point.Unchanging left n i (Some mark.Star) [] [] None 50 (8 * left + 9) row row u new made refl kl kn kp km refl (omega (arith, l)) (omega (arith, l)) (omega arith) (omega arith) (omega arith) tt f (λ _. tt)
-
-  pub mut_pointer_goes : (left n : ℕ) (i : Place) (row : List Frame) (u : V) (new : State) (made : ℕ) → made ≤ 0 → Fits point.Mutable left n
-      → new.depth_left ≡ left → new.lifetimes ≡ n → new.place ≡ i → new.mark ≡ Some mark.Star
-      → DidOn voice b plain (heard voice b plain (type_of kind.MutPointer) left n i) 50 (8 * left + 9) row u (Ok point.Mutable) new row u made
-  unfolding run then_frame share_at
-  mut_pointer_goes left n i row u new made l f kl kn kp km =
-      enters _ point.Mutable left n i (Some mark.Star) [] [] None 50 (8 * left + 9) row row u new made refl kl kn kp km refl (omega (arith, l)) (omega (arith, l)) (omega arith) (omega arith) (omega arith) tt f (λ _. tt)
-
-  pub tuple_goes : (left n : ℕ) (i : Place) (row : List Frame) (u : V) (new : State) (made : ℕ) → made ≤ 0 → Fits point.FirstTupleType left n
-      → new.depth_left ≡ left → new.lifetimes ≡ n → new.place ≡ i → new.mark ≡ Some mark.OpenParen
-      → DidOn voice b plain (heard voice b plain (type_of kind.Tuple) left n i) 50 (8 * left + 9) row u (Ok point.FirstTupleType) new row u made
-  unfolding run then_frame share_at
-  tuple_goes left n i row u new made l f kl kn kp km =
-      enters _ point.FirstTupleType left n i (Some mark.OpenParen) [] [] None 50 (8 * left + 9) row row u new made refl kl kn kp km refl (omega (arith, l)) (omega (arith, l)) (omega arith) (omega arith) (omega arith) tt f (λ _. tt)
 
   pub array_goes : (v : Bool) (c left n : ℕ) (i : Place) (row now : List Frame) (u : V) (new : State) (made : ℕ) → made ≤ 0 → Fits point.ArrayLength left n
       → new.depth_left ≡ left → new.lifetimes ≡ n → new.place ≡ i → new.mark ≡ Some mark.OpenBracket
@@ -196,7 +116,7 @@ module _ {V : Type 0} (voice : Ghosts V) (b : List ℕ) (plain : Bool) where
   pub behind_so : (q : Bool) (v : Bool) (c left n : ℕ) (i : Place) (o : Bool) → heard voice b plain (says_if q "mut " type_inside) left n i ≡ heard_at (behind_reference q) v c left n i o
   unfolding share_at
   behind_so true v c left n i o = refl
-  behind_so false v c left n i o = child_last a_type false left n i
+  behind_so false v c left n i o = child_last voice b plain a_type false left n i
 
   pub behind_light : (q : Bool) → way_weight (goes (behind_reference q)) ≤ 2
   behind_light true = omega arith

@@ -32,7 +32,7 @@ use Rattle.demangle_v0.proofs.ConstantReads.{variant_failed, variant_missing, va
 use Rattle.demangle_v0.proofs.Extended.{extended, IsExtended, extended_reads}
 use Rattle.demangle_v0.proofs.GrammarRows.{rows_of, row_found}
 use Rattle.demangle_v0.proofs.GroupReads.{word_then, word_read}
-use Rattle.demangle_v0.proofs.PointConstants.{last_constant, marks, moves}
+use Rattle.demangle_v0.proofs.PointConstants.{moves}
 use Rattle.demangle_v0.proofs.PointFunctions.{word_on, word_on_refused, word_fails}
 use Rattle.demangle_v0.proofs.PointSteps.{heard, after, refused, faulty, faulty_after}
 
@@ -146,10 +146,3 @@ module _ {V : Type 0} (voice : Ghosts V) (b : List ℕ) (plain : Bool) where
       → voice.prints u (texts_of b plain s) (Err e) w → (voice.loud ≡ false → IsOk (refused e)) → DidOn voice b plain (field_at v c left n i o) 3 (8 * left + 1) row u (Err Refused) new row w made
   unfolding share_at
   field_refused v c left n i j o s row u w new e made r l p q = word_on_refused voice b plain word.FieldName c (says ": " constant_inside) left n i j s 3 (8 * left + 1) row u w new e made r l p q
-
-  pub colon_goes : (v : Bool) (c left n : ℕ) (i : Place) (o : Bool) (row : List Frame) (u : V) (new : State) (made : ℕ) → made ≤ 0
-      → Fits point.FieldColon left n → new.in_value ≡ true → new.letter ≡ c → new.depth_left ≡ left → new.lifetimes ≡ n → new.place ≡ i → new.is_open ≡ o → new.mark ≡ Some mark.Colon
-      → DidOn voice b plain (share_at b plain voice.loud point.FieldColon v c left n i o) 2 (8 * left + 1) row u (Ok point.Constant) new row u made
-  unfolding run share_at
-  colon_goes v c left n i o row u new made l f kv kc kl kn kp ko km =
-      marks voice b plain point.Constant mark.Colon _ true c left n i o 2 (8 * left + 1) row u new made l kv kc kl kn kp ko km (ap (with_texts voice.loud (text mark.Colon ∷ [])) (last_constant voice b plain true left n i)) (omega arith) (omega arith) f

@@ -1,9 +1,11 @@
-use Rattle.std.proofs.Common.{refl}
-use Rattle.demangle_v0.proofs.PointConstants.{brace_closes}
+use Rattle.std.proofs.Common.{arith, refl}
+use Rattle.demangle_v0.specs.Reading.{run}
+use Rattle.demangle_v0.specs.Points.{share_at}
+use Rattle.demangle_v0.specs.declared.grammar.Mark.TheVariants as mark
+use Rattle.demangle_v0.specs.declared.points.Point.TheVariants as point
+use Rattle.demangle_v0.proofs.PointSteps.{mark_goes}
 use Rattle.demangle_v0.proofs.points.constants.close_brace.Goals as goal
 
 pub returns : goal.returns
-returns g c = record {
-  did = λ b plain row v made free.
-      brace_closes g.V.Voice b plain c.args.state.now.in_value c.args.state.now.letter c.args.state.now.depth_left c.args.state.now.lifetimes c.args.state.now.place c.args.state.now.is_open row v _ made free c.requires.fits refl refl refl refl refl refl refl;
-}
+unfolding run share_at
+returns g c = record { did = λ b plain row v made free. mark_goes g.V.Voice b plain point.End mark.CloseBrace _ _ _ row v _ made refl refl free (omega arith) (omega arith) tt }

@@ -1,6 +1,11 @@
-use Rattle.std.proofs.Common.{refl}
-use Rattle.demangle_v0.proofs.PointDynTraits.{open_trait_did}
+use Rattle.std.proofs.Common.{arith, refl}
+use Rattle.demangle_v0.specs.Reading.{run}
+use Rattle.demangle_v0.specs.Points.{share_at}
+use Rattle.demangle_v0.specs.declared.grammar.Mark.TheVariants as mark
+use Rattle.demangle_v0.specs.declared.points.Point.TheVariants as point
+use Rattle.demangle_v0.proofs.PointSteps.{mark_goes}
 use Rattle.demangle_v0.proofs.points.dyn_traits.open_trait_path.Goals as goal
 
 pub returns : goal.returns
-returns g c = record { did = λ b plain v row. open_trait_did g.V.Voice b plain c.args.state.now row v _ c.requires.fits refl refl refl refl }
+unfolding run share_at
+returns g c = record { did = λ b plain v row. mark_goes g.V.Voice b plain point.FirstOpenArgument mark.Less _ _ _ row v _ _ refl refl (omega arith) (omega arith) (omega arith) c.requires.fits }

@@ -1,6 +1,11 @@
 use Rattle.std.proofs.Common.{arith, refl}
-use Rattle.demangle_v0.proofs.PointImpls.{angle_closes}
+use Rattle.demangle_v0.specs.Reading.{run}
+use Rattle.demangle_v0.specs.Points.{share_at}
+use Rattle.demangle_v0.specs.declared.grammar.Mark.TheVariants as mark
+use Rattle.demangle_v0.specs.declared.points.Point.TheVariants as point
+use Rattle.demangle_v0.proofs.PointSteps.{mark_goes}
 use Rattle.demangle_v0.proofs.points.impls.close_angle.Goals as goal
 
 pub returns : goal.returns
-returns g c = record { did = λ b plain v row. angle_closes g.V.Voice b plain c.args.state.now.in_value c.args.state.now.letter c.args.state.now.depth_left c.args.state.now.lifetimes c.args.state.now.place c.args.state.now.is_open row v _ _ (omega arith) refl refl refl }
+unfolding run share_at
+returns g c = record { did = λ b plain v row. mark_goes g.V.Voice b plain point.End mark.Greater _ _ _ row v _ _ refl refl (omega arith) (omega arith) (omega arith) tt }

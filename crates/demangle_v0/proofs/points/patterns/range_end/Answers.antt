@@ -1,9 +1,12 @@
-use Rattle.std.proofs.Common.{refl}
-use Rattle.demangle_v0.proofs.PointPatterns.{range_end_goes}
+use Rattle.std.proofs.Common.{false, arith, refl}
+use Rattle.demangle_v0.specs.Items.{a_constant}
+use Rattle.demangle_v0.specs.Reading.{run}
+use Rattle.demangle_v0.specs.Points.{share_at}
+use Rattle.demangle_v0.specs.declared.grammar.Mark.TheVariants as mark
+use Rattle.demangle_v0.specs.declared.points.Point.TheVariants as point
+use Rattle.demangle_v0.proofs.PointSteps.{child_goes}
 use Rattle.demangle_v0.proofs.points.patterns.range_end.Goals as goal
 
 pub returns : goal.returns
-returns g c = record {
-  did = λ b plain row v made free.
-      range_end_goes g.V.Voice b plain c.args.state.now.in_value c.args.state.now.letter c.args.state.now.depth_left c.args.state.now.lifetimes c.args.state.now.place c.args.state.now.is_open row v _ made free c.requires.fits refl refl refl refl refl refl refl;
-}
+unfolding run share_at
+returns g c = record { did = λ b plain row v made free. child_goes g.V.Voice b plain point.Constant a_constant false mark.Range _ _ _ row v _ made refl refl refl free (omega arith) (omega arith) c.requires.fits }

@@ -1,19 +1,25 @@
 use Rattle.std.proofs.Common.{true, false, ◌*◌, ◌+◌, arith, refl}
-use Rattle.demangle_v0.proofs.PointTypes.{const_pointer_goes, mut_pointer_goes, tuple_goes, array_goes, slice_goes, pattern_type_goes}
+use Rattle.demangle_v0.proofs.PointTypes.{array_goes, slice_goes, pattern_type_goes}
 use Rattle.demangle_v0.specs.Items.{a_type}
 use Rattle.demangle_v0.proofs.PointReferences.{unit_type}
+use Rattle.demangle_v0.specs.Reading.{run}
 use Rattle.demangle_v0.specs.Points.{share_at}
-use Rattle.demangle_v0.proofs.PointSteps.{same, zero_looks}
+use Rattle.demangle_v0.specs.declared.grammar.Mark.TheVariants as mark
+use Rattle.demangle_v0.specs.declared.points.Point.TheVariants as point
+use Rattle.demangle_v0.proofs.PointSteps.{mark_goes, same, zero_looks}
 use Rattle.demangle_v0.proofs.points.types.constructed_type.Goals as goal
 
 pub returns-in-ConstPointer-clause-did : goal.returns-in-ConstPointer-clause-did
-returns-in-ConstPointer-clause-did g c = rw c.in-ConstPointer.is (const_pointer_goes g.V.Voice c.args.symbol.now c.args.plain c.args.state.now.depth_left c.args.state.now.lifetimes c.args.state.now.place _ _ _ _ (omega arith) (omega (arith, c.requires.fits)) refl refl refl refl)
+unfolding run share_at
+returns-in-ConstPointer-clause-did g c = rw c.in-ConstPointer.is (mark_goes g.V.Voice c.args.symbol.now c.args.plain point.Unchanging mark.Star _ 50 (8 * c.args.state.now.depth_left + 9) _ _ _ _ refl refl (omega arith) (omega arith) (omega arith) (omega (arith, c.requires.fits)))
 
 pub returns-in-MutPointer-clause-did : goal.returns-in-MutPointer-clause-did
-returns-in-MutPointer-clause-did g c = rw c.in-MutPointer.is (mut_pointer_goes g.V.Voice c.args.symbol.now c.args.plain c.args.state.now.depth_left c.args.state.now.lifetimes c.args.state.now.place _ _ _ _ (omega arith) (omega (arith, c.requires.fits)) refl refl refl refl)
+unfolding run share_at
+returns-in-MutPointer-clause-did g c = rw c.in-MutPointer.is (mark_goes g.V.Voice c.args.symbol.now c.args.plain point.Mutable mark.Star _ 50 (8 * c.args.state.now.depth_left + 9) _ _ _ _ refl refl (omega arith) (omega arith) (omega arith) (omega (arith, c.requires.fits)))
 
 pub returns-in-Tuple-clause-did : goal.returns-in-Tuple-clause-did
-returns-in-Tuple-clause-did g c = rw c.in-Tuple.is (tuple_goes g.V.Voice c.args.symbol.now c.args.plain c.args.state.now.depth_left c.args.state.now.lifetimes c.args.state.now.place _ _ _ _ (omega arith) (omega (arith, c.requires.fits)) refl refl refl refl)
+unfolding run share_at
+returns-in-Tuple-clause-did g c = rw c.in-Tuple.is (mark_goes g.V.Voice c.args.symbol.now c.args.plain point.FirstTupleType mark.OpenParen _ 50 (8 * c.args.state.now.depth_left + 9) _ _ _ _ refl refl (omega arith) (omega arith) (omega arith) (omega (arith, c.requires.fits)))
 
 pub returns-in-Array-clause-did : goal.returns-in-Array-clause-did
 returns-in-Array-clause-did g c = rw c.in-Array.is (array_goes g.V.Voice c.args.symbol.now c.args.plain c.args.state.now.in_value c.args.state.now.letter c.args.state.now.depth_left c.args.state.now.lifetimes c.args.state.now.place _ _ _ _ _ (omega arith) (omega (arith, c.requires.fits)) refl refl refl refl
