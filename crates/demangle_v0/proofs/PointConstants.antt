@@ -1,24 +1,21 @@
 -- The points of constants.
 use Rattle.std.specs.Prelude.{◌*◌}
 use Rattle.std.proofs.lemmas.List.{append-nil}
-use Rattle.std.proofs.Common.{◌≡◌, ℕ, ◌+◌, ◌≤◌, Bool, true, false, Option, Some, None, List, [], ◌∷◌, Result, Ok, refl, arith, ap}
-use Rattle.demangle_v0.specs.Items.{a_constant, Items, child, done, unit}
+use Rattle.std.proofs.Common.{◌≡◌, ℕ, ◌+◌, ◌≤◌, Bool, false, Option, List, [], Result, Ok, refl, arith, ap}
+use Rattle.demangle_v0.specs.Items.{Items, done, unit}
 use Rattle.demangle_v0.specs.Totals.{total}
 use Rattle.demangle_v0.specs.Events.{Heard, of, events, with_looks, with_texts}
-use Rattle.demangle_v0.specs.Grammar.{text, word_items}
-use Rattle.demangle_v0.specs.Table.{string}
-use Rattle.demangle_v0.specs.Reading.{Place, unit_outcome, run}
+use Rattle.demangle_v0.specs.Grammar.{word_items}
+use Rattle.demangle_v0.specs.Reading.{Place, run}
 use Rattle.demangle_v0.specs.Points.{then_frame, share_at, none_open, around, mark_texts, pushed_on, goes, way_weight, weight_of, height_at, height_of, count_of, Fits, FitsFrame, IsInner, DidOn}
 use Rattle.demangle_v0.specs.declared.grammar.Mark.{Mark}
 use Rattle.demangle_v0.specs.declared.grammar.Word.TheVariants as word
-use Rattle.demangle_v0.specs.declared.grammar.Mark.TheVariants as mark
 use Rattle.demangle_v0.specs.declared.points.Point.{Point}
 use Rattle.demangle_v0.specs.declared.points.Point.TheVariants as point
 use Rattle.demangle_v0.specs.declared.points.frames.Frame.{Frame}
 use Rattle.demangle_v0.specs.declared.points.State.{State}
 use Rattle.demangle_v0.specs.declared.points.Stop.{Stop}
 use Rattle.demangle_v0.specs.declared.points.voice.Voice.{Ghosts}
-use Rattle.demangle_v0.proofs.ClosedUnits.{last_child}
 use Rattle.demangle_v0.proofs.PointSteps.{steps, same}
 
 module _ {V : Type 0} (voice : Ghosts V) (b : List ℕ) (plain : Bool) where

@@ -3,14 +3,13 @@ use Rattle.std.specs.Prelude.{◌*◌, nat_le, codes}
 use Rattle.std.proofs.lemmas.Bool.{ne_eqb, false≢true}
 use Rattle.std.proofs.Common.{◌≡◌, ℕ, ◌+◌, ◌-◌, ◌≤◌, length, Bool, true, false, Some, None, List, [], ◌∷◌, Result, Ok, Err, refl, arith, sym, ap, ◌∙◌}
 use Rattle.demangle_symbol.specs.Words.{integer_at}
-use Rattle.demangle_v0.specs.Items.{Text, Items, lifetime}
-use Rattle.demangle_v0.specs.Totals.{total}
+use Rattle.demangle_v0.specs.Items.{Items, lifetime}
 use Rattle.demangle_v0.specs.Events.{Heard, of, with_looks, with_texts}
 use Rattle.demangle_v0.specs.Groups.{texts_of}
 use Rattle.demangle_v0.specs.Table.{type_inside, says, says_if}
 use Rattle.demangle_v0.specs.Tags.{lifetime_before}
 use Rattle.demangle_v0.specs.Reading.{Place, letter_of, run}
-use Rattle.demangle_v0.specs.Points.{then_frame, none_open, around, way_weight, weight_at, height_at, Fits, goes, pays, puts, Halted, DidOn, behind_reference, lifetime_point, spaced_lifetime}
+use Rattle.demangle_v0.specs.Points.{then_frame, none_open, around, weight_at, height_at, Fits, DidOn, behind_reference, lifetime_point, spaced_lifetime}
 use Rattle.demangle_sink.specs.declared.SinkRefused.{SinkRefused}
 use Rattle.demangle_v0.specs.declared.grammar.Mark.TheVariants as mark
 use Rattle.demangle_v0.specs.declared.stretch.Stretch.{Stretch}

@@ -12,7 +12,7 @@ use Rattle.demangle_symbol.specs.Words.{some_or, namespace_at, byte_at}
 use Rattle.demangle_v0.specs.Table.{path, path_rows}
 use Rattle.demangle_v0.specs.Tags.{path_kinds, path_of}
 use Rattle.demangle_v0.specs.Reading.{Place, run, level_of, levels}
-use Rattle.demangle_v0.specs.Points.{frame_of, puts, then_frame, share_at, none_open, around, goes, Fits, DidOn}
+use Rattle.demangle_v0.specs.Points.{frame_of, then_frame, share_at, none_open, around, goes, Fits, DidOn}
 use Rattle.demangle_v0.specs.declared.grammar.Mark.TheVariants as mark
 use Rattle.demangle_v0.specs.declared.points.tags.PathKind.{PathKind}
 use Rattle.demangle_v0.specs.declared.points.tags.PathKind.TheVariants as kind

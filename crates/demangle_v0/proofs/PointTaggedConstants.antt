@@ -5,7 +5,7 @@ use Prim.Native.Char.{code}
 use Rattle.demangle_symbol.specs.Digits.{is_byte}
 use Rattle.demangle_symbol.specs.Words.{some_or, byte_at}
 use Rattle.demangle_v0.specs.Items.{Items, invalid, done, unit}
-use Rattle.demangle_v0.specs.Events.{Heard, of, and_then, with_looks, with_texts}
+use Rattle.demangle_v0.specs.Events.{Heard, and_then, with_looks, with_texts}
 use Rattle.demangle_v0.specs.Grammar.{text, found}
 use Rattle.demangle_v0.specs.Table.{says, list, tuple, row_of, integer_constant, string, constant, constant_inside, constant_rows}
 use Rattle.demangle_v0.specs.Tags.{constant_kinds, constant_of}

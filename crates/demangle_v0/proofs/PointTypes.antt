@@ -7,7 +7,7 @@ use Prim.Native.Char.{code}
 use Prim.Native.String.{String}
 use Rattle.demangle_symbol.specs.Digits.{is_byte}
 use Rattle.demangle_symbol.specs.Words.{then_if_some}
-use Rattle.demangle_v0.specs.Items.{Text, Kind, a_type, a_constant, a_pattern, Items, say, child, done}
+use Rattle.demangle_v0.specs.Items.{Text, Kind, a_type, a_constant, say, child, done}
 use Rattle.demangle_v0.specs.Totals.{total}
 use Rattle.demangle_v0.specs.Events.{Heard, of, events, with_looks, with_texts}
 use Rattle.demangle_v0.specs.Grammar.{text, found, basic_marks}

@@ -1,23 +1,21 @@
 -- The points of variants, and of their fields.
 use Rattle.std.specs.Prelude.{◌*◌, if◌then◌else◌}
-use Rattle.std.proofs.lemmas.Bool.{false≢true}
 use Rattle.std.proofs.Common.{◌≡◌, ℕ, ◌+◌, ◌-◌, ◌≤◌, length, Bool, true, false, Option, Some, None, List, [], ◌∷◌, Result, Ok, Err, IsOk, refl, arith, sym, ap, ◌∙◌}
 use Rattle.demangle_symbol.specs.Words.{some_or, byte_at}
-use Rattle.demangle_v0.specs.Items.{Items, Text, invalid, done, say}
+use Rattle.demangle_v0.specs.Items.{Items, invalid, done, say}
 use Rattle.demangle_v0.specs.Totals.{total}
-use Rattle.demangle_v0.specs.Events.{Heard, of, and_then, with_looks, with_texts}
+use Rattle.demangle_v0.specs.Events.{Heard, and_then, with_looks, with_texts}
 use Rattle.demangle_v0.specs.Grammar.{text, found}
 use Rattle.demangle_v0.specs.Groups.{texts_of, word_group}
 use Rattle.demangle_v0.specs.Table.{says, list, row_of, variant_rows, constant_inside, field}
 use Rattle.demangle_v0.specs.Tags.{variant_kinds, variant_of, closes}
 use Rattle.demangle_v0.specs.Reading.{Place, run}
-use Rattle.demangle_v0.specs.Points.{frame_of, pays, puts, then_frame, share_at, none_open, around, pushed_on, goes, way_weight, height_at, Fits, Halted, DidOn}
+use Rattle.demangle_v0.specs.Points.{frame_of, then_frame, share_at, none_open, around, pushed_on, goes, way_weight, height_at, Fits, DidOn}
 use Rattle.demangle_sink.specs.declared.SinkRefused.{SinkRefused}
 use Rattle.demangle_v0.specs.declared.grammar.Mark.{Mark}
 use Rattle.demangle_v0.specs.declared.grammar.Mark.TheVariants as mark
 use Rattle.demangle_v0.specs.declared.grammar.Word.TheVariants as word
 use Rattle.demangle_v0.specs.declared.stretch.Stretch.{Stretch}
-use Rattle.demangle_v0.specs.declared.words.WordRead.{WordRead}
 use Rattle.demangle_v0.specs.declared.words.WordRead.TheVariants as reads
 use Rattle.demangle_v0.specs.declared.points.Point.{Point}
 use Rattle.demangle_v0.specs.declared.points.Point.TheVariants as point
@@ -31,7 +29,6 @@ use Rattle.demangle_v0.specs.declared.points.voice.Voice.{Ghosts}
 use Rattle.demangle_v0.proofs.ConstantReads.{variant_failed, variant_missing, variant_reads}
 use Rattle.demangle_v0.proofs.Extended.{extended, IsExtended, extended_reads}
 use Rattle.demangle_v0.proofs.GrammarRows.{rows_of, row_found}
-use Rattle.demangle_v0.proofs.GroupReads.{word_then, word_read}
 use Rattle.demangle_v0.proofs.PointConstants.{moves}
 use Rattle.demangle_v0.proofs.PointFunctions.{word_on, word_on_refused, word_fails}
 use Rattle.demangle_v0.proofs.PointSteps.{heard, after, refused, faulty, faulty_after}
