@@ -32,11 +32,6 @@ module _ {V : Type 0} (voice : Ghosts V) (b : List ℕ) (plain : Bool) where
   abbrev path_heard : Bool → ℕ → ℕ → Place → ℕ → Heard
   path_heard v left n i c = none_open (of plain voice.loud (run (path v c) (around b voice.loud left n) i))
 
-  pub nested_unread : (v : Bool) (left n : ℕ) (row : List Frame) (u : V) (new : State) (made : ℕ) → new.mark ≡ None → made ≤ 0
-      → DidOn voice b plain (path_heard v left n None 78) 1 (8 * left + 9) row u (Err (Fault mark.Unread)) new row u made
-  unfolding run
-  nested_unread v left n row u new made k l = faulty voice b plain mark.Unread _ 1 (8 * left + 9) row u new made k refl l (omega arith)
-
   pub nested_stops : (v : Bool) (left n i : ℕ) (row : List Frame) (u : V) (new : State) (made : ℕ) → new.mark ≡ None → None ≡ namespace_at b i → made ≤ 1
       → DidOn voice b plain (path_heard v left n (Some i) 78) 1 (8 * left + 9) row u (Err (Fault mark.Invalid)) new row u made
   unfolding run
@@ -93,11 +88,6 @@ module _ {V : Type 0} (voice : Ghosts V) (b : List ℕ) (plain : Bool) where
   abbrev path_at : Bool → ℕ → ℕ → ℕ → Place → Bool → Heard
   path_at v c left n i o = share_at b plain voice.loud point.Path v c left n i o
 
-  pub path_unread : (v : Bool) (c left n : ℕ) (o : Bool) (row : List Frame) (u : V) (new : State) (made : ℕ) → new.mark ≡ None → made ≤ 0
-      → DidOn voice b plain (path_at v c left n None o) 1 (8 * left + 1) row u (Err (Fault mark.Unread)) new row u made
-  unfolding share_at
-  path_unread v c left n o row u new made k l = faulty voice b plain mark.Unread _ 1 (8 * left + 1) row u new made k refl l (omega arith)
-
   pub path_deep : (v : Bool) (c left n i : ℕ) (o : Bool) (row : List Frame) (u : V) (new : State) (made : ℕ) → left ≡ 0 → new.mark ≡ None → made ≤ 0
       → DidOn voice b plain (path_at v c left n (Some i) o) 1 (8 * left + 1) row u (Err (Fault mark.Recursion)) new row u made
   unfolding share_at run level_of levels
@@ -125,11 +115,6 @@ module _ {V : Type 0} (voice : Ghosts V) (b : List ℕ) (plain : Bool) where
   pub crate_so : (v : Bool) (left n i : ℕ) → path_heard v left n (Some i) 67 ≡ group_heard voice b plain (crate_group b i)
   unfolding run
   crate_so v left n i = group_shut voice b plain _ (crate_group b i) _ (crate_reads b plain left voice.loud n v i)
-
-  pub crate_unread : (v : Bool) (left n : ℕ) (row : List Frame) (u : V) (new : State) (made : ℕ) → new.mark ≡ None → made ≤ 0
-      → DidOn voice b plain (path_heard v left n None 67) 1 0 row u (Err (Fault mark.Unread)) new row u made
-  unfolding run
-  crate_unread v left n row u new made k l = faulty voice b plain mark.Unread _ 1 0 row u new made k refl l (omega arith)
 
   abbrev nested_at : Bool → ℕ → ℕ → ℕ → Place → Bool → Heard
   nested_at v c left n i o = share_at b plain voice.loud point.Nested v c left n i o

@@ -34,11 +34,6 @@ module _ {V : Type 0} (voice : Ghosts V) (b : List ℕ) (plain : Bool) where
   abbrev pattern_at : Bool → ℕ → ℕ → ℕ → Place → Bool → Heard
   pattern_at v c left n i o = share_at b plain voice.loud point.Pattern v c left n i o
 
-  pub pattern_unread : (v : Bool) (c left n : ℕ) (o : Bool) (row : List Frame) (u : V) (new : State) (made : ℕ) → new.mark ≡ None → made ≤ 0
-      → DidOn voice b plain (pattern_at v c left n None o) 1 (8 * left + 2) row u (Err (Fault mark.Unread)) new row u made
-  unfolding share_at
-  pattern_unread v c left n o row u new made k l = faulty voice b plain mark.Unread _ 1 (8 * left + 2) row u new made k refl l (omega arith)
-
   pub pattern_untagged : (v : Bool) (c left n i : ℕ) (o : Bool) (row : List Frame) (u : V) (new : State) (made : ℕ) → None ≡ byte_at b i → new.mark ≡ None → made ≤ 1
       → DidOn voice b plain (pattern_at v c left n (Some i) o) 1 (8 * left + 2) row u (Err (Fault mark.Invalid)) new row u made
   unfolding share_at

@@ -144,11 +144,6 @@ module _ {V : Type 0} (voice : Ghosts V) (b : List ℕ) (plain : Bool) where
   unfolding share_at
   unsigned_reads v c left n i o row u w result new made d = d
 
-  pub signed_unread : (v : Bool) (c left n : ℕ) (row : List Frame) (u : V) (new : State) (made : ℕ) → new.mark ≡ None → made ≤ 0
-      → DidOn voice b plain (heard voice b plain (constant_of v c kind.Signed) left n None) 6 (8 * left + 9) row u (Err (Fault mark.Unread)) new row u made
-  unfolding run
-  signed_unread v c left n row u new made k l = faulty voice b plain mark.Unread _ 6 (8 * left + 9) row u new made k refl l (omega arith)
-
   pub signed_minus : (v : Bool) (c left n i : ℕ) (o : Bool) (row : List Frame) (u : V) (new : State) (made : ℕ) → true ≡ is_byte b i (code "n") → made ≤ 1 → Fits point.Constant left n
       → new.in_value ≡ v → new.letter ≡ c → new.depth_left ≡ left → new.lifetimes ≡ n → new.place ≡ Some (i + 1) → new.is_open ≡ o → new.mark ≡ Some mark.Minus
       → DidOn voice b plain (heard voice b plain (constant_of v c kind.Signed) left n (Some i)) 6 (8 * left + 9) row u (Ok point.Number) new row u made
@@ -178,11 +173,6 @@ module _ {V : Type 0} (voice : Ghosts V) (b : List ℕ) (plain : Bool) where
 
   abbrev constant_at : Bool → ℕ → ℕ → ℕ → Place → Bool → Heard
   constant_at v c left n i o = share_at b plain voice.loud point.Constant v c left n i o
-
-  pub constant_unread : (v : Bool) (c left n : ℕ) (o : Bool) (row : List Frame) (u : V) (new : State) (made : ℕ) → new.mark ≡ None → made ≤ 0
-      → DidOn voice b plain (constant_at v c left n None o) 1 (8 * left + 1) row u (Err (Fault mark.Unread)) new row u made
-  unfolding share_at
-  constant_unread v c left n o row u new made k l = faulty voice b plain mark.Unread _ 1 (8 * left + 1) row u new made k refl l (omega arith)
 
   pub constant_untagged : (v : Bool) (c left n i : ℕ) (o : Bool) (row : List Frame) (u : V) (new : State) (made : ℕ) → None ≡ byte_at b i → new.mark ≡ None → made ≤ 1
       → DidOn voice b plain (constant_at v c left n (Some i) o) 1 (8 * left + 1) row u (Err (Fault mark.Invalid)) new row u made

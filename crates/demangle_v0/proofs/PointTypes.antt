@@ -182,11 +182,6 @@ module _ {V : Type 0} (voice : Ghosts V) (b : List ℕ) (plain : Bool) where
 
   -- A type by its tag.
 
-  pub tag_unread : (v : Bool) (c left n : ℕ) (o : Bool) (row : List Frame) (u : V) (new : State) (made : ℕ) → new.mark ≡ None → made ≤ 0
-      → DidOn voice b plain (heard_at point.TaggedType v c left n None o) 1 (8 * left + 1) row u (Err (Fault mark.Unread)) new row u made
-  unfolding share_at run
-  tag_unread v c left n o row u new made k l = faulty voice b plain mark.Unread _ 1 (8 * left + 1) row u new made k refl l (omega arith)
-
   pub no_tag : (v : Bool) (c left n i : ℕ) (o : Bool) (row : List Frame) (u : V) (new : State) (made : ℕ) → None ≡ slice_get b i → new.mark ≡ None → made ≤ 1
       → DidOn voice b plain (heard_at point.TaggedType v c left n (Some i) o) 1 (8 * left + 1) row u (Err (Fault mark.Invalid)) new row u made
   unfolding share_at
@@ -241,11 +236,6 @@ module _ {V : Type 0} (voice : Ghosts V) (b : List ℕ) (plain : Bool) where
       (omega arith) l (omega arith) (omega (arith, z)) d
 
   -- A type.
-
-  pub type_unread : (v : Bool) (c left n : ℕ) (o : Bool) (row : List Frame) (u : V) (new : State) (made : ℕ) → new.mark ≡ None → made ≤ 0
-      → DidOn voice b plain (heard_at point.«Type» v c left n None o) 1 (8 * left + 1) row u (Err (Fault mark.Unread)) new row u made
-  unfolding share_at
-  type_unread v c left n o row u new made k l = faulty voice b plain mark.Unread _ 1 (8 * left + 1) row u new made k refl l (omega arith)
 
   pub type_splats : (v : Bool) (c left n i : ℕ) (o : Bool) (row : List Frame) (u : V) (new : State) (made : ℕ) → is_byte b i (code "w") ≡ true → made ≤ 1 → Fits point.TaggedType left n
       → new.depth_left ≡ left → new.lifetimes ≡ n → new.place ≡ Some (i + 1) → new.mark ≡ Some mark.Splat

@@ -1,10 +1,14 @@
-use Rattle.std.proofs.Common.{arith, ◌-◌}
-use Rattle.demangle_v0.proofs.PointTaggedConstants.{constant_unread, constant_untagged, constant_too_deep, constant_tagged}
+use Rattle.std.proofs.Common.{arith, refl, ◌-◌}
+use Rattle.demangle_v0.specs.Points.{share_at}
+use Rattle.demangle_v0.specs.declared.grammar.Mark.TheVariants as mark
+use Rattle.demangle_v0.proofs.PointSteps.{faulty}
+use Rattle.demangle_v0.proofs.PointTaggedConstants.{constant_untagged, constant_too_deep, constant_tagged}
 use Rattle.demangle_v0.proofs.points.constants.constant.Goals as goal
 
 pub returns-in_default-clause-did : goal.returns-in_default-clause-did
+unfolding share_at
 returns-in_default-clause-did g c = rw c.in_default.is
-    (constant_unread g.V.Voice c.args.symbol.now c.args.plain c.args.state.now.in_value c.args.state.now.letter c.args.state.now.depth_left c.args.state.now.lifetimes _ _ _ _ _ c.requires.unmarked (omega arith))
+    (faulty g.V.Voice c.args.symbol.now c.args.plain mark.Unread _ _ _ _ _ _ _ c.requires.unmarked refl (omega arith) (omega arith))
 
 pub returns-in_default-tag-clause-did : goal.returns-in_default-tag-clause-did
 returns-in_default-tag-clause-did g c = rw c.in-Some.is

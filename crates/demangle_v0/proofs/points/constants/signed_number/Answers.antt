@@ -1,10 +1,14 @@
 use Rattle.std.proofs.Common.{arith, refl, ◌-◌}
-use Rattle.demangle_v0.proofs.PointTaggedConstants.{signed_unread, signed_minus, signed_plus}
+use Rattle.demangle_v0.specs.Reading.{run}
+use Rattle.demangle_v0.specs.declared.grammar.Mark.TheVariants as mark
+use Rattle.demangle_v0.proofs.PointSteps.{faulty}
+use Rattle.demangle_v0.proofs.PointTaggedConstants.{signed_minus, signed_plus}
 use Rattle.demangle_v0.proofs.points.constants.signed_number.Goals as goal
 
 pub returns-in_default-clause-did : goal.returns-in_default-clause-did
+unfolding run
 returns-in_default-clause-did g c = λ row. rw c.in_default.is
-    (signed_unread g.V.Voice c.args.symbol.now c.args.plain c.args.state.now.in_value c.args.tag c.args.state.now.depth_left c.args.state.now.lifetimes row _ _ _ c.requires.unmarked (omega arith))
+    (faulty g.V.Voice c.args.symbol.now c.args.plain mark.Unread _ _ _ _ _ _ _ c.requires.unmarked refl (omega arith) (omega arith))
 
 pub returns-then-is_at-clause-did : goal.returns-then-is_at-clause-did
 returns-then-is_at-clause-did g c = λ row. rw c.in-Some.is

@@ -1,13 +1,16 @@
 use Rattle.std.proofs.Common.{arith, refl}
+use Rattle.demangle_v0.specs.Reading.{run}
+use Rattle.demangle_v0.specs.declared.grammar.Mark.TheVariants as mark
 use Rattle.demangle_v0.specs.Groups.{crate_group}
 use Rattle.demangle_v0.specs.declared.stretch.Stretch.TheVariants.{CrateName}
-use Rattle.demangle_v0.proofs.PointPaths.{crate_so, crate_unread}
-use Rattle.demangle_v0.proofs.PointSteps.{group_ends, group_fails, group_refused}
+use Rattle.demangle_v0.proofs.PointPaths.{crate_so}
+use Rattle.demangle_v0.proofs.PointSteps.{faulty, group_ends, group_fails, group_refused}
 use Rattle.demangle_v0.proofs.points.names.crate_name.Goals as goal
 
 pub returns-in_default-clause-did : goal.returns-in_default-clause-did
+unfolding run
 returns-in_default-clause-did g c = λ row. rw c.in_default.is
-    (crate_unread g.V.Voice c.args.symbol.now c.args.plain c.args.state.now.in_value c.args.state.now.depth_left c.args.state.now.lifetimes row _ _ _ c.requires.unmarked (omega arith))
+    (faulty g.V.Voice c.args.symbol.now c.args.plain mark.Unread _ _ _ _ _ _ _ c.requires.unmarked refl (omega arith) (omega arith))
 
 pub returns-in_default-numbered_name-clause-did : goal.returns-in_default-numbered_name-clause-did
 returns-in_default-numbered_name-clause-did g c = λ row. rw c.in-Some.is

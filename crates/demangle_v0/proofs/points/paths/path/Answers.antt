@@ -1,9 +1,13 @@
-use Rattle.std.proofs.Common.{arith, ◌-◌}
-use Rattle.demangle_v0.proofs.PointPaths.{path_unread, path_deep, path_untagged, path_tagged}
+use Rattle.std.proofs.Common.{arith, refl, ◌-◌}
+use Rattle.demangle_v0.specs.Points.{share_at}
+use Rattle.demangle_v0.specs.declared.grammar.Mark.TheVariants as mark
+use Rattle.demangle_v0.proofs.PointSteps.{faulty}
+use Rattle.demangle_v0.proofs.PointPaths.{path_deep, path_untagged, path_tagged}
 use Rattle.demangle_v0.proofs.points.paths.path.Goals as goal
 
 pub returns-in_default-clause-did : goal.returns-in_default-clause-did
-returns-in_default-clause-did g c = rw c.in_default.is (path_unread g.V.Voice c.args.symbol.now c.args.plain c.args.state.now.in_value c.args.state.now.letter c.args.state.now.depth_left c.args.state.now.lifetimes _ _ _ _ _ c.requires.unmarked (omega arith))
+unfolding share_at
+returns-in_default-clause-did g c = rw c.in_default.is (faulty g.V.Voice c.args.symbol.now c.args.plain mark.Unread _ _ _ _ _ _ _ c.requires.unmarked refl (omega arith) (omega arith))
 
 pub returns-then-state-eq0-clause-did : goal.returns-then-state-eq0-clause-did
 returns-then-state-eq0-clause-did g c = rw c.in-Some.is (path_deep g.V.Voice c.args.symbol.now c.args.plain c.args.state.now.in_value c.args.state.now.letter c.args.state.now.depth_left c.args.state.now.lifetimes c.in-Some.at _ _ _ _ _ c.if-state-eq0.true c.requires.unmarked (omega arith))

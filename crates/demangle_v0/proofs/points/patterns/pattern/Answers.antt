@@ -1,10 +1,14 @@
 use Rattle.std.proofs.Common.{arith, refl}
-use Rattle.demangle_v0.proofs.PointPatterns.{pattern_unread, pattern_untagged, pattern_wrong, range_goes, not_null, or_too_deep, or_goes}
+use Rattle.demangle_v0.specs.Points.{share_at}
+use Rattle.demangle_v0.specs.declared.grammar.Mark.TheVariants as mark
+use Rattle.demangle_v0.proofs.PointSteps.{faulty}
+use Rattle.demangle_v0.proofs.PointPatterns.{pattern_untagged, pattern_wrong, range_goes, not_null, or_too_deep, or_goes}
 use Rattle.demangle_v0.proofs.points.patterns.pattern.Goals as goal
 
 pub returns-in_default-clause-did : goal.returns-in_default-clause-did
+unfolding share_at
 returns-in_default-clause-did g c = λ plain v. rw c.in_default.is
-    (pattern_unread g.V.Voice c.args.symbol.now plain c.args.state.now.in_value c.args.state.now.letter c.args.state.now.depth_left c.args.state.now.lifetimes c.args.state.now.is_open _ v _ _ c.requires.unmarked (omega arith))
+    (faulty g.V.Voice c.args.symbol.now plain mark.Unread _ _ _ _ _ _ _ c.requires.unmarked refl (omega arith) (omega arith))
 
 pub returns-in_default-tag-clause-did : goal.returns-in_default-tag-clause-did
 returns-in_default-tag-clause-did g c = λ plain v. rw c.in-Some.is

@@ -1,9 +1,14 @@
 use Rattle.std.proofs.Common.{arith, refl, ◌-◌}
-use Rattle.demangle_v0.proofs.PointTypes.{tag_unread, no_tag, basic_ends, tag_deep, path_follows, tag_goes}
+use Rattle.demangle_v0.specs.Reading.{run}
+use Rattle.demangle_v0.specs.Points.{share_at}
+use Rattle.demangle_v0.specs.declared.grammar.Mark.TheVariants as mark
+use Rattle.demangle_v0.proofs.PointSteps.{faulty}
+use Rattle.demangle_v0.proofs.PointTypes.{no_tag, basic_ends, tag_deep, path_follows, tag_goes}
 use Rattle.demangle_v0.proofs.points.types.tagged_type.Goals as goal
 
 pub returns-in_default-clause-did : goal.returns-in_default-clause-did
-returns-in_default-clause-did g c = rw c.in_default.is (tag_unread g.V.Voice c.args.symbol.now c.args.plain c.args.state.now.in_value c.args.state.now.letter c.args.state.now.depth_left c.args.state.now.lifetimes c.args.state.now.is_open _ _ _ _ c.requires.unmarked (omega arith))
+unfolding run share_at
+returns-in_default-clause-did g c = rw c.in_default.is (faulty g.V.Voice c.args.symbol.now c.args.plain mark.Unread _ _ _ _ _ _ _ c.requires.unmarked refl (omega arith) (omega arith))
 
 pub returns-in_default-byte-clause-did : goal.returns-in_default-byte-clause-did
 returns-in_default-byte-clause-did g c = rw c.in-Some.is (no_tag g.V.Voice c.args.symbol.now c.args.plain c.args.state.now.in_value c.args.state.now.letter c.args.state.now.depth_left c.args.state.now.lifetimes c.in-Some.at c.args.state.now.is_open _ _ _ _ c.in_default-byte.ensures.byte c.requires.unmarked (omega (arith, c.byte.ensures.look)))

@@ -1,11 +1,16 @@
 use Rattle.std.proofs.Common.{arith, refl, sym, ◌∙◌, ◌-◌}
+use Rattle.demangle_v0.specs.Reading.{run}
+use Rattle.demangle_v0.specs.Points.{share_at}
+use Rattle.demangle_v0.specs.declared.grammar.Mark.TheVariants as mark
+use Rattle.demangle_v0.proofs.PointSteps.{faulty}
 use Rattle.std.proofs.lemmas.Bool.{false≢true}
-use Rattle.demangle_v0.proofs.PointTypes.{type_unread, tag_unread, type_splats, type_goes, type_either, type_stays}
+use Rattle.demangle_v0.proofs.PointTypes.{type_splats, type_goes, type_either, type_stays}
 use Rattle.demangle_v0.proofs.points.types.type_.Goals as goal
 
 pub returns-in_default-clause-did : goal.returns-in_default-clause-did
+unfolding run share_at
 returns-in_default-clause-did g c = rw c.in_default.is
-    (type_either g.V.Voice c.args.symbol.now c.args.plain c.args.is_begun c.args.state.now.in_value c.args.state.now.letter c.args.state.now.depth_left c.args.state.now.lifetimes _ c.args.state.now.is_open _ _ _ _ _ _ _ (λ _. type_unread g.V.Voice c.args.symbol.now c.args.plain c.args.state.now.in_value c.args.state.now.letter c.args.state.now.depth_left c.args.state.now.lifetimes c.args.state.now.is_open _ _ _ _ c.requires.unmarked (omega arith)) (λ _. tag_unread g.V.Voice c.args.symbol.now c.args.plain c.args.state.now.in_value c.args.state.now.letter c.args.state.now.depth_left c.args.state.now.lifetimes c.args.state.now.is_open _ _ _ _ c.requires.unmarked (omega arith)))
+    (type_either g.V.Voice c.args.symbol.now c.args.plain c.args.is_begun c.args.state.now.in_value c.args.state.now.letter c.args.state.now.depth_left c.args.state.now.lifetimes _ c.args.state.now.is_open _ _ _ _ _ _ _ (λ _. faulty g.V.Voice c.args.symbol.now c.args.plain mark.Unread _ _ _ _ _ _ _ c.requires.unmarked refl (omega arith) (omega arith)) (λ _. faulty g.V.Voice c.args.symbol.now c.args.plain mark.Unread _ _ _ _ _ _ _ c.requires.unmarked refl (omega arith) (omega arith)))
 
 pub returns-then-is_splat-clause-did : goal.returns-then-is_splat-clause-did
 returns-then-is_splat-clause-did g c =
