@@ -26,7 +26,7 @@ use Rattle.demangle_v0.specs.declared.stretch.Abi.TheVariants as abi
 use Rattle.demangle_v0.specs.declared.stretch.Stretch.TheVariants.{Nothing, Fixed, CrateName, FieldName, NestedName, Lifetime, LifetimeFault, DynLifetime, DynLifetimeFault, FunctionHead, Number, Character, BindingName}
 use Rattle.demangle_v0.specs.declared.words.WordRead.{WordRead}
 use Rattle.demangle_v0.specs.declared.words.WordRead.TheVariants.{Goes, Stops}
-use Rattle.demangle_v0.proofs.Hearing.{said_all_append}
+use Rattle.demangle_v0.proofs.Hearing.{handing_both, said_all_append}
 
 -- a word, and what follows it unless it ends the unit
 abbrev pub word_then : List ℕ → Bool → Bool → WordRead → (Place → Heard) → Heard
@@ -50,14 +50,6 @@ pub says_all : (plain out : Bool) (ts : List Text) (p : Items) (s : Surroundings
 unfolding run
 says_all plain out [] p s j = refl
 says_all plain out (t ∷ ts) p s j = ap (saying out t) (says_all plain out ts p s j)
-
-said_all_both : (out : Bool) (ts us : List Text) (xs : List Event) → said_all out (ts ++ us) xs ≡ said_all out ts (said_all out us xs)
-said_all_both out [] us xs = refl
-said_all_both out (t ∷ ts) us xs = ap (shown_if out t) (said_all_both out ts us xs)
-
-handing_both : (out : Bool) (ts us : List Text) (h : Heard) → with_texts out (ts ++ us) h ≡ with_texts out ts (with_texts out us h)
-unfolding heard
-handing_both out ts us h = ap (λ xs. heard xs h) (said_all_both out ts us h.events)
 
 pub pieces_heard : (plain out : Bool) (ts : List Text) (rest : Tree) → events plain out (all_pieces ts rest) ≡ said_all out ts (events plain out rest)
 pieces_heard plain out [] rest = refl

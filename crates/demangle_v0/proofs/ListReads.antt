@@ -12,13 +12,10 @@ use Rattle.demangle_v0.specs.Events.{Event, allows, shown_if, events, Heard, of,
 use Rattle.demangle_v0.proofs.Elements.{Element, element_on}
 use Rattle.demangle_v0.specs.Points.{around}
 use Rattle.demangle_v0.proofs.Turns.{all_turns}
+use Rattle.demangle_v0.proofs.Hearing.{said_append}
 
 abbrev pub heard_as : List Event → Heard → Heard
 heard_as xs h = record { events = xs; place = h.place; is_open = h.is_open }
-
-said_append : (out : Bool) (x : Text) (xs ys : List Event) → shown_if out x xs ++ ys ≡ shown_if out x (xs ++ ys)
-said_append true x xs ys = refl
-said_append false x xs ys = refl
 
 joined : (out : Bool) (x : Text) (xs ys zs : List Event) → (shown_if out x xs ++ ys) ++ zs ≡ shown_if out x (xs ++ (ys ++ zs))
 joined out x xs ys zs = ap (λ ws. ws ++ zs) (said_append out x xs ys) ∙ (said_append out x (xs ++ ys) zs ∙ ap (shown_if out x) (append_assoc xs ys zs))

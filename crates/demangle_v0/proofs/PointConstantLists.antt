@@ -65,9 +65,6 @@ element_lowest list.Tuple = record { light = omega arith; low = λ left. omega a
 element_lowest list.TupleVariant = record { light = omega arith; low = λ left. omega arith; fits = λ left n f. f }
 element_lowest list.Fields = record { light = omega arith; low = λ left. omega arith; fits = λ left n f. f }
 
-few : (left n : ℕ) → Fits point.Constant left n → left ≤ max_depth
-few left n f = omega (arith, f)
-
 module _ {V : Type 0} (voice : Ghosts V) (b : List ℕ) (plain : Bool) where
   first_share : (l : ConstantList) (v : Bool) (c left n : ℕ) (i : Place) (o : Bool) → share_at b plain voice.loud (first_point l) v c left n i o ≡ heard voice b plain (at_end (ending l) (unit (list_element l) (behind_second l))) left n i
   unfolding share_at
@@ -174,7 +171,7 @@ module _ {V : Type 0} (voice : Ghosts V) (b : List ℕ) (plain : Bool) where
       → DidOn voice b plain (next_at l v c left n (Some i) o) 1 (8 * left + 2) row u (Ok (element_point l)) new now u made
   next_goes l v c left n i o row now u new made e f x kv kc kl kn kp ko km r =
       element_goes l (next_point l) (more ", " (list_element l) (ending l)) (Some mark.Comma) _ v c left n i o row now u new made (next_listed l) (next_share l)
-      (next_share l v c left n (Some i) o ∙ ap none_open (more_on plain voice.loud b left n ", " (list_element l) (ending l) i (element_is l left n (few left n f)) (sym e))) f x kv kc kl kn kp ko km r
+      (next_share l v c left n (Some i) o ∙ ap none_open (more_on plain voice.loud b left n ", " (list_element l) (ending l) i (element_is l left n (omega (arith, f))) (sym e))) f x kv kc kl kn kp ko km r
 
   -- The second of a tuple, or the one comma.
 

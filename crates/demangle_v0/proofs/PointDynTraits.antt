@@ -27,7 +27,7 @@ use Rattle.demangle_v0.specs.declared.points.Stop.TheVariants.{Fault}
 use Rattle.demangle_v0.specs.declared.points.voice.Voice.{Ghosts}
 use Rattle.demangle_v0.proofs.ClosedUnits.{last_child, unit_closed}
 use Rattle.demangle_v0.proofs.Elements.{argument_element, dyn_trait_element}
-use Rattle.demangle_v0.proofs.Hearing.{and_then_assoc, handing_then, allowing_then}
+use Rattle.demangle_v0.proofs.Hearing.{handing_both, and_then_assoc, handing_then, allowing_then}
 use Rattle.demangle_v0.proofs.ListReads.{end_failed, end_over, more_failed, more_over, first_on, more_on, argument_lifetime, argument_constant, argument_type}
 use Rattle.demangle_v0.proofs.PathReads.{trait_path_reads, trait_path_refers, trait_path_generic, trait_path_plain}
 use Rattle.demangle_v0.proofs.PointFunctions.{frame_at, moves, enters, separator}
@@ -71,13 +71,6 @@ end_text false = refl
 first_text : (o : Bool) → mark_of o ≡ text (first_mark o)
 first_text true = refl
 first_text false = refl
-
-said_both : (out : Bool) (ts us : List Text) (xs : List Event) → said_all out (ts ++ us) xs ≡ said_all out ts (said_all out us xs)
-said_both out [] us xs = refl
-said_both out (t ∷ ts) us xs = ap (shown_if out t) (said_both out ts us xs)
-
-handing_both : (out : Bool) (ts us : List Text) (h : Heard) → with_texts out (ts ++ us) h ≡ with_texts out ts (with_texts out us h)
-handing_both out ts us h = ap (λ xs. record { events = xs; place = h.place; is_open = h.is_open }) (said_both out ts us h.events)
 
 -- where an argument goes on, told by its tag
 abbrev told : Bool → Bool → Point

@@ -22,7 +22,8 @@ use Rattle.demangle_v0.specs.declared.points.Stop.TheVariants.{Refused, Fault}
 use Rattle.demangle_v0.specs.declared.points.voice.Voice.{Ghosts}
 use Rattle.demangle_v0.proofs.PointSteps.{heard, refused, same, faulty, faulty_after, put_goes, put_refused}
 use Rattle.demangle_v0.proofs.PointTypes.{heard_at, enters, behind_so, behind_light, behind_low, behind_fits, lifetime_so}
-use Rattle.demangle_v0.proofs.TypeReads.{said_both, says_all, lifetime_named, lifetime_wrong}
+use Rattle.demangle_v0.proofs.TypeReads.{says_all, lifetime_named, lifetime_wrong}
+use Rattle.demangle_v0.proofs.Hearing.{said_both}
 
 module _ {V : Type 0} (voice : Ghosts V) (b : List ℕ) (plain : Bool) where
   -- The lifetime of a reference.

@@ -106,9 +106,6 @@ module _ {V : Type 0} (voice : Ghosts V) (b : List ℕ) (plain : Bool) where
       moves voice b plain (1 ∷ []) point.End None None _ v c left n (Some (i + 1)) false 1 (8 * left + 3) row row u new made kv kc kl kn kp ko km
       (ap none_open (more_over plain voice.loud (around b voice.loud left n) " | " (child a_pattern false done) (sound done invalid) i (sym e))) refl l (omega arith) (omega arith) (omega arith) tt tt (λ _. tt)
 
-  few : (left n : ℕ) → Fits point.NextPattern left n → left ≤ max_depth
-  few left n f = omega (arith, f)
-
   pub or_on : (v : Bool) (c left n i : ℕ) (o : Bool) (row now : List Frame) (u : V) (new : State) (made : ℕ) → false ≡ is_byte b i (code "E") → Fits point.NextPattern left n → made ≤ 1
       → new.in_value ≡ v → new.letter ≡ c → new.depth_left ≡ left → new.lifetimes ≡ n → new.place ≡ Some i → new.is_open ≡ o → new.mark ≡ Some mark.Or → now ≡ row ++ frame_of point.NextPattern v c left n ∷ []
       → DidOn voice b plain (next_at v c left n (Some i) o) 1 (8 * left + 3) row u (Ok point.Pattern) new now u made
@@ -116,6 +113,6 @@ module _ {V : Type 0} (voice : Ghosts V) (b : List ℕ) (plain : Bool) where
   or_on v c left n i o row now u new made e f l kv kc kl kn kp ko km r =
       let s = around b voice.loud left n in
       moves voice b plain (1 ∷ []) point.Pattern (Some mark.Or) (Some (frame_of point.NextPattern v c left n)) _ v c left n (Some i) o 1 (8 * left + 3) row now u new made kv kc kl kn kp ko km
-      (ap none_open (more_on plain voice.loud b left n " | " (child a_pattern false done) (sound done invalid) i (pattern_element b voice.loud left n (few left n f)) (sym e))
+      (ap none_open (more_on plain voice.loud b left n " | " (child a_pattern false done) (sound done invalid) i (pattern_element b voice.loud left n (omega (arith, f))) (sym e))
       ∙ ap (λ (h : Heard). with_looks (1 ∷ []) (with_texts voice.loud (text mark.Or ∷ []) (none_open h))) (child_followed plain voice.loud a_pattern false s (Some i) (λ j. of plain voice.loud (run further s j))))
       r l (omega arith) (omega arith) (omega arith) f f (λ _. refl)

@@ -20,7 +20,7 @@ use Rattle.demangle_v0.specs.declared.points.frames.Frame.{Frame}
 use Rattle.demangle_v0.specs.declared.points.State.{State}
 use Rattle.demangle_v0.specs.declared.points.Stop.TheVariants.{Fault}
 use Rattle.demangle_v0.specs.declared.points.voice.Voice.{Ghosts}
-use Rattle.demangle_v0.proofs.PointSteps.{steps, faulty_after}
+use Rattle.demangle_v0.proofs.PointSteps.{way_light, steps, faulty_after}
 
 shut_allowing : (shut : Bool) (ks : List ℕ) (h : Heard) → none_open_if shut (with_looks ks h) ≡ with_looks ks (none_open_if shut h)
 shut_allowing true ks h = refl
@@ -37,10 +37,6 @@ shut_fault false out m = refl
 shut_ended : (shut : Bool) (i : Place) → none_open_if shut (nothing_heard i false) ≡ nothing_heard i false
 shut_ended true i = refl
 shut_ended false i = refl
-
-way_light : (p : Point) → way_weight (goes p) ≤ weight_at p
-way_light point.End = omega arith
-way_light p = omega arith
 
 -- The units to which references lead.
 

@@ -23,6 +23,7 @@ use Rattle.demangle_v0.proofs.Heights.{stands_on}
 use Rattle.demangle_v0.proofs.PointRuns.{allowed_bits, reads_none, resumes_heard, resume_light}
 use Rattle.demangle_v0.proofs.PointWholes.{owed_alone, over_place}
 use Rattle.demangle_v0.proofs.SkippedPaths.{allowances, skip_reads, skip_failed}
+use Rattle.demangle_v0.proofs.PointSteps.{way_light}
 
 -- Where it is read and printing goes on.
 
@@ -39,12 +40,8 @@ skip_unread p s e = absurd (false≢true e)
 
 -- Where a unit is over and another goes on.
 
-light : (p : Point) → way_weight (goes p) ≤ weight_at p
-light point.End = omega arith
-light p = omega arith
-
 resumes_weight : (base : ℕ) (p q : Point) (s t : State) (row now : List Frame) → Resumes base p s row q t now → way_weight (goes q) + weights now ≤ way_weight (goes p) + weights row
-resumes_weight base p q s t row now x = omega (arith, resume_light base p q s t row now x, light q)
+resumes_weight base p q s t row now x = omega (arith, resume_light base p q s t row now x, way_light q)
 
 resumes_less : (b : List ℕ) (plain out : Bool) (base : ℕ) (p q : Point) (s t : State) (row now : List Frame) → Resumes base p s row q t now → measure b plain out q t now ≤ measure b plain out p s row
 resumes_less b plain out base p q s t row now x = omega (arith, resumes_weight base p q s t row now x, ap (λ (h : Heard). allowed_in h.events) (resumes_heard b plain out base p q s t row now x))

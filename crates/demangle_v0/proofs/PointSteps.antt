@@ -9,7 +9,7 @@ use Rattle.demangle_v0.specs.Events.{Heard, of, events, nothing_heard, with_look
 use Rattle.demangle_v0.specs.Groups.{Group, texts_of, word_group}
 use Rattle.demangle_v0.specs.Grammar.{word_items, text}
 use Rattle.demangle_v0.specs.Reading.{Place, run, unit_outcome}
-use Rattle.demangle_v0.specs.Points.{Bit, pays, puts, heard_bits, bits_looks, Told, mark_texts, then_frame, Way, goes, fails, way_heard, way_weight, way_height, weight_of, height_of, count_of, FitsFrame, FitsWay, IsInner, Fits, height_at, pushed_on, share_at, share_of, none_open, around, Went, Kept, DidOn}
+use Rattle.demangle_v0.specs.Points.{Bit, pays, puts, heard_bits, bits_looks, Told, mark_texts, then_frame, Way, goes, fails, way_heard, way_weight, weight_at, way_height, weight_of, height_of, count_of, FitsFrame, FitsWay, IsInner, Fits, height_at, pushed_on, share_at, share_of, none_open, around, Went, Kept, DidOn}
 use Rattle.demangle_sink.specs.declared.SinkRefused.{SinkRefused}
 use Rattle.demangle_v0.specs.declared.grammar.Mark.{Mark}
 use Rattle.demangle_v0.specs.declared.grammar.Word.{Word}
@@ -43,6 +43,11 @@ told_append voice u v w (puts ts ∷ xs) ys h k = (h.0, h.1, told_append voice h
 -- nothing was put on the row
 pub kept_none : (row : List Frame) → Kept row row
 kept_none row = ([], sym (append-nil row))
+
+-- where the unit is over, nothing weighs
+pub way_light : (p : Point) → way_weight (goes p) ≤ weight_at p
+way_light point.End = omega arith
+way_light p = omega arith
 
 abbrev pub refused : SinkRefused → Result (Unit {0}) SinkRefused
 refused e = Err e

@@ -27,7 +27,7 @@ use Rattle.demangle_v0.specs.declared.points.Stop.{Stop}
 use Rattle.demangle_v0.specs.declared.points.Stop.TheVariants.{Fault}
 use Rattle.demangle_v0.specs.declared.points.voice.Voice.{Ghosts}
 use Rattle.demangle_v0.proofs.GrammarRows.{rows_of, basic_found}
-use Rattle.demangle_v0.proofs.PointSteps.{heard, child_last, steps, after, faulty, faulty_after}
+use Rattle.demangle_v0.proofs.PointSteps.{heard, mark_goes, child_last, steps, after, faulty, faulty_after}
 use Rattle.demangle_v0.proofs.TypeReads.{row_at, splat_reads, type_reads, tag_missing, basic_reads, type_deep, constructed_reads, path_type_reads, row_reads}
 
 module _ {V : Type 0} (voice : Ghosts V) (b : List ℕ) (plain : Bool) where
@@ -133,13 +133,10 @@ module _ {V : Type 0} (voice : Ghosts V) (b : List ℕ) (plain : Bool) where
   pub reference_failed : (q : Bool) (left n : ℕ) (row : List Frame) (u : V) (new : State) (made : ℕ) → made ≤ 0 → Fits point.«Type» left n
       → new.depth_left ≡ left → new.lifetimes ≡ n → new.place ≡ None → new.mark ≡ Some mark.Ampersand
       → DidOn voice b plain (heard voice b plain (reference_to q) left n None) 50 (8 * left + 9) row u (Ok (behind_reference q)) new row u made
-  unfolding run then_frame
-  reference_failed q left n row u new made l f kl kn kp km = record {
-    comes =
-        steps voice b plain (goes (behind_reference q)) [] [] None _ 50 (8 * left + 9) row row u new made
-        (rw (kl, kn, kp, km) (ap (with_texts voice.loud (text mark.Ampersand ∷ [])) (behind_so q new.in_value new.letter left n None new.is_open))) refl (omega (arith, l)) (omega (arith, l)) (omega (arith, behind_light q)) (omega arith)
-        (rw kl (omega (arith, behind_low q left))) tt (rw (kl, kn) (behind_fits q left n f)) (λ _. tt);
-  }
+  unfolding run
+  reference_failed q left n row u new made l f kl kn kp km =
+      mark_goes voice b plain (behind_reference q) mark.Ampersand _ 50 (8 * left + 9) row u new made
+      (rw (kl, kn, kp) (ap (with_texts voice.loud (text mark.Ampersand ∷ [])) (behind_so q new.in_value new.letter left n None new.is_open))) km l (omega (arith, behind_light q)) (rw kl (omega (arith, behind_low q left))) (rw (kl, kn) (behind_fits q left n f))
 
   pub reference_goes : (q : Bool) (left n i : ℕ) (row : List Frame) (u : V) (new : State) (made : ℕ) → is_byte b i (code "L") ≡ false → made ≤ 1 → Fits point.«Type» left n
       → new.depth_left ≡ left → new.lifetimes ≡ n → new.place ≡ Some i → new.mark ≡ Some mark.Ampersand

@@ -17,6 +17,8 @@ use Rattle.demangle_v0.proofs.ListReads.{followed, heard_as}
 use Rattle.demangle_v0.specs.Points.{around}
 use Rattle.demangle_v0.proofs.Turns.{bindings_on}
 use Rattle.demangle_v0.proofs.UnitReads.{begins, raise_deep, raise_on}
+use Rattle.demangle_v0.proofs.Hearing.{said_append, said_both}
+use Rattle.demangle_v0.proofs.GroupReads.{pieces_heard}
 
 -- Rows by their tags.
 
@@ -35,21 +37,9 @@ row_after tag other (r ∷ rs) = go (is_among tag (codes r.0)) (row_after tag ot
 
 -- Texts.
 
-said_append : (out : Bool) (x : Text) (xs ys : List Event) → shown_if out x xs ++ ys ≡ shown_if out x (xs ++ ys)
-said_append true x xs ys = refl
-said_append false x xs ys = refl
-
-pub pieces_said : (plain out : Bool) (ts : List Text) (t : Tree) → events plain out (all_pieces ts t) ≡ said_all out ts (events plain out t)
-pieces_said plain out [] t = refl
-pieces_said plain out (x ∷ ts) t = ap (shown_if out x) (pieces_said plain out ts t)
-
 pieces_then : (plain out : Bool) (ts : List Text) (ys : List Event) → events plain out (all_pieces ts nothing) ++ ys ≡ said_all out ts ys
 pieces_then plain out [] ys = refl
 pieces_then plain out (x ∷ ts) ys = said_append out x (events plain out (all_pieces ts nothing)) ys ∙ ap (shown_if out x) (pieces_then plain out ts ys)
-
-pub said_both : (out : Bool) (ts us : List Text) (xs : List Event) → said_all out (ts ++ us) xs ≡ said_all out ts (said_all out us xs)
-said_both out [] us xs = refl
-said_both out (t ∷ ts) us xs = ap (shown_if out t) (said_both out ts us xs)
 
 said_quiet : (ts : List Text) (xs : List Event) → said_all false ts xs ≡ xs
 said_quiet [] xs = refl
@@ -59,7 +49,7 @@ more_said : (plain : Bool) (m n : ℕ) (rest : Tree) → events plain true (new_
 unfolding more_texts
 more_said plain zero n rest = refl
 more_said plain (suc m) n rest = ap (λ xs. shown_if true (codes ", ") (shown_if true (codes "'") xs))
-    (pieces_said plain true (letter_of n) (new_lifetimes m (n + 1) (piece (codes "> ") rest))
+    (pieces_heard plain true (letter_of n) (new_lifetimes m (n + 1) (piece (codes "> ") rest))
     ∙ (ap (said_all true (letter_of n)) (more_said plain m (n + 1) rest) ∙ sym (said_both true (letter_of n) (more_texts m (n + 1)) (events plain true rest))))
 
 -- a binder's texts, if they are printed
@@ -68,7 +58,7 @@ unfolding binder_texts
 binder_said plain false m n rest = sym (said_quiet (binder_texts m n) (events plain false rest))
 binder_said plain true zero n rest = refl
 binder_said plain true (suc m) n rest = ap (λ xs. shown_if true (codes "for<") (shown_if true (codes "'") xs))
-    (pieces_said plain true (letter_of n) (new_lifetimes m (n + 1) (piece (codes "> ") rest))
+    (pieces_heard plain true (letter_of n) (new_lifetimes m (n + 1) (piece (codes "> ") rest))
     ∙ (ap (said_all true (letter_of n)) (more_said plain m (n + 1) rest) ∙ sym (said_both true (letter_of n) (more_texts m (n + 1)) (events plain true rest))))
 
 pub says_all : (plain out : Bool) (ts : List Text) (p : Items) (s : Surroundings) (i : Place) → of plain out (run (say_all ts p) s i) ≡ with_texts out ts (of plain out (run p s i))
@@ -171,7 +161,7 @@ module _ (plain out : Bool) (b : List ℕ) (left n : ℕ) where
       h = followed (of plain out (run binding_value s (Some j))) (λ x. of plain out (run (bindings true binding_value) s x))
 
       name : events plain out (all_pieces (name_pieces a) (piece (codes " = ") (followed_by (run binding_value s (Some j)) (run (bindings true binding_value) s)).tree)) ≡ said_all out (name_pieces a ++ codes " = " ∷ []) h.events
-      name = pieces_said plain out (name_pieces a) (piece (codes " = ") (followed_by (run binding_value s (Some j)) (run (bindings true binding_value) s)).tree) ∙ sym (said_both out (name_pieces a) (codes " = " ∷ []) h.events)
+      name = pieces_heard plain out (name_pieces a) (piece (codes " = ") (followed_by (run binding_value s (Some j)) (run (bindings true binding_value) s)).tree) ∙ sym (said_both out (name_pieces a) (codes " = " ∷ []) h.events)
 
       mark : (o : Bool) → of plain out (behind (looked 1) (behind (binding_separator o) (behind (looked (4 * (j - (i + 1) + 1))) (behind (name_equals a) (followed_by (run binding_value s (Some j)) (run (bindings true binding_value) s))))))
           ≡ with_looks (1 ∷ []) (with_texts out (mark_of o ∷ []) (with_looks (4 * (j - (i + 1) + 1) ∷ []) (with_texts out (name_pieces a ++ codes " = " ∷ []) h)))
