@@ -11,7 +11,7 @@ use Rattle.demangle_v0.specs.Table.{says, type_inside, says_name, list, more, ar
 use Rattle.demangle_v0.specs.Totals.{total}
 use Rattle.demangle_v0.specs.Arguments.{argument_point, argument_place, argument_costs}
 use Rattle.demangle_v0.specs.DynTraits.{dyn_type}
-use Rattle.demangle_v0.specs.Events.{Event, shown_if, said_all, Heard, of, nothing_heard, and_then, with_looks, with_texts}
+use Rattle.demangle_v0.specs.Events.{Heard, of, nothing_heard, and_then, with_looks, with_texts}
 use Rattle.demangle_v0.specs.Grammar.{word_items, text}
 use Rattle.demangle_v0.specs.Reading.{Place, run, unit_outcome, max_depth}
 use Rattle.demangle_v0.specs.Points.{mark_texts, share_at, share, share_of, bindings_left, none_open, around, goes, way_weight, weight_at, height_at, Fits, is_list_over, behind_list, list_costs, DidOn}

@@ -9,7 +9,7 @@ use Rattle.demangle_v0.specs.Events.{Heard, of, with_looks, with_texts}
 use Rattle.demangle_v0.specs.Grammar.{text, found}
 use Rattle.demangle_v0.specs.Table.{row_of, pattern_rows, more}
 use Rattle.demangle_v0.specs.Tags.{pattern_kinds, pattern_kind_of}
-use Rattle.demangle_v0.specs.Reading.{Place, run, max_depth}
+use Rattle.demangle_v0.specs.Reading.{Place, run}
 use Rattle.demangle_v0.specs.Points.{frame_of, then_frame, share_at, none_open, around, Fits, DidOn}
 use Rattle.demangle_v0.specs.declared.grammar.Mark.TheVariants as mark
 use Rattle.demangle_v0.specs.declared.points.Point.TheVariants as point

@@ -7,7 +7,7 @@ use Rattle.demangle_v0.specs.Totals.{total}
 use Rattle.demangle_v0.specs.Events.{Heard, of, nothing_heard, and_then, with_looks, with_texts}
 use Rattle.demangle_v0.specs.Grammar.{text}
 use Rattle.demangle_v0.specs.Items.{Kind, a_path, a_type, a_constant, a_trait_path, target}
-use Rattle.demangle_v0.specs.Points.{frame_of, then_frame, goes, share_at, around, way_weight, weight_at, Fits, DidOn}
+use Rattle.demangle_v0.specs.Points.{frame_of, then_frame, goes, share_at, around, Fits, DidOn}
 use Rattle.demangle_v0.specs.Reading.{Place, run, word_outcome, level_of, levels, target_of, target_read}
 use Rattle.demangle_v0.specs.References.{IsUnit, none_open_if}
 use Rattle.demangle_v0.specs.Serving.{refer, reference_read, leads}

@@ -10,7 +10,7 @@ use Rattle.demangle_v0.specs.Items.{Items, a_path, a_type, done, child}
 use Rattle.demangle_v0.specs.Table.{says}
 use Rattle.demangle_v0.specs.Reading.{Place, unit_outcome, run}
 use Rattle.demangle_v0.specs.Running.{allowed_in}
-use Rattle.demangle_v0.specs.Points.{most_frames, pays, heard_bits, goes, way_weight, weight_at, weights, measure, share_at, share_of, row_owed, reading_owed, none_open, around}
+use Rattle.demangle_v0.specs.Points.{most_frames, pays, heard_bits, goes, way_weight, weights, measure, share_at, share_of, row_owed, reading_owed, none_open, around}
 use Rattle.demangle_v0.specs.PointRuns.{Resumes, Valid, frame_height, Quiet, Reads, ReadOn, Skipped, Skipping, silent_of, own_path, own_heard, state_at, first_looks}
 use Rattle.demangle_v0.specs.declared.points.Point.{Point}
 use Rattle.demangle_v0.specs.declared.points.Point.TheVariants as point

@@ -27,7 +27,7 @@ use Rattle.demangle_v0.specs.declared.points.Stop.{Stop}
 use Rattle.demangle_v0.specs.declared.points.Stop.TheVariants.{Fault}
 use Rattle.demangle_v0.specs.declared.points.voice.Voice.{Ghosts}
 use Rattle.demangle_v0.proofs.GrammarRows.{rows_of, basic_found}
-use Rattle.demangle_v0.proofs.PointSteps.{heard, mark_goes, child_last, steps, after, faulty, faulty_after}
+use Rattle.demangle_v0.proofs.PointSteps.{heard, mark_goes, child_last, steps, after, faulty_after}
 use Rattle.demangle_v0.proofs.TypeReads.{row_at, splat_reads, type_reads, tag_missing, basic_reads, type_deep, constructed_reads, path_type_reads, row_reads}
 
 module _ {V : Type 0} (voice : Ghosts V) (b : List ℕ) (plain : Bool) where
