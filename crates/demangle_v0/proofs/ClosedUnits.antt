@@ -285,9 +285,3 @@ last_child plain out b left m kind value i c =
     let o = unit_outcome (around b out left m) kind value i in
     ap (λ xs. record { events = xs; place = o.place; is_open = false }) (append-nil (events plain out o.tree))
     ∙ ap (λ x. record { events = events plain out o.tree; place = o.place; is_open = x }) (sym (unit_closed b out left m kind value i c))
-
--- where what follows hands over texts alone and is not printed
-pub last_silent : (plain : Bool) (b : List ℕ) (left m : ℕ) (kind : Kind) (value : Bool) (text : Text) (i : Place) → IsClosed kind
-    → of plain false (run (child kind value (say text done)) (around b false left m) i) ≡ of plain false (unit_outcome (around b false left m) kind value i)
-unfolding run
-last_silent plain b left m kind value text i c = last_child plain false b left m kind value i c
