@@ -10,7 +10,7 @@ use Rattle.demangle_v0.specs.Heights as heights
 use Rattle.demangle_v0.specs.Reading.{Place}
 use Rattle.demangle_v0.proofs.Failed.{failed}
 use Rattle.demangle_v0.specs.Points.{most_frames, Bit, pays, puts, heard_bits, bits_looks, Told, mark_texts, pushed_on, then_frame, Way, goes, fails, way_heard, way_weight, way_height, weight_at, weight_of, weights, height_at, height_of, count_of, FitsFrame, FitsWay, Fits, rest_at, around, share, share_at, share_of, row_owed, reading_owed, measure, is_inner, IsInner, AllInner, Went, Halted, Kept, DidOn, resumed_of, bindings_left}
-use Rattle.demangle_v0.specs.PointRuns.{Puts, unmarked_of, Stepped, Resumes, stays, pops, frame_height, AllFit, Valid, Quiet, Reads, ReadOn, first_looks}
+use Rattle.demangle_v0.specs.PointRuns.{Puts, unmarked_of, Stepped, Resumes, stays, pops, frame_height, AllFit, Valid, Reads, ReadOn, first_looks}
 use Rattle.demangle_sink.specs.declared.SinkRefused.{SinkRefused}
 use Rattle.demangle_v0.specs.declared.grammar.Mark.{Mark}
 use Rattle.demangle_v0.specs.declared.points.Point.{Point}
@@ -21,7 +21,7 @@ use Rattle.demangle_v0.specs.declared.points.Stop.TheVariants.{Fault}
 use Rattle.demangle_v0.specs.declared.points.voice.Voice.{Ghosts}
 use Rattle.demangle_v0.specs.declared.points.read.Halt.TheVariants as halt
 use Rattle.demangle_v0.proofs.Hearing.{and_then_assoc, and_then_ended, handing_then, allowing_then}
-use Rattle.demangle_v0.proofs.Standing.{above_pop, above_none}
+use Rattle.demangle_v0.proofs.Standing.{above_pop}
 use Rattle.demangle_v0.proofs.PointSteps.{bits_append, looks_append, told_append, refused}
 
 pub share_failed : (b : List ℕ) (plain out : Bool) (p : Point) (v : Bool) (c left n : ℕ) (o : Bool) → is_inner p ≡ true → (share_at b plain out p v c left n None o).place ≡ None
@@ -510,16 +510,3 @@ module _ {V : Type 0} (voice : Ghosts V) (b : List ℕ) (plain : Bool) (silent :
           (y.frames ++ z.steps.1.0, z.steps.1.1 ∙ (ap (λ (ys : List Frame). ys ++ z.steps.1.0) y.is_row ∙ append_assoc below y.frames z.steps.1.0)),
         );
       }
-
--- nothing is left above the others
-pub reads_over : (b : List ℕ) (plain : Bool) (base : ℕ) (below above : List Frame) (p0 p q : Point) (s0 s t : State) (row now : List Frame) (first made : ℕ) → Reads b plain below p0 s0 above p s row first → length below ≡ base
-    → p ≡ point.End → length row ≤ base → now ≡ row → t ≡ s → made ≤ first → ReadOn b plain below p0 s0 above halt.Over q t now made
-reads_over b plain base below above p0 p q s0 s t row now first made x l e h r k m =
-    let none = above_none below x.frames row x.is_row (omega (arith, l, h)) in
-    let over : Quiet b plain p0 s0 above point.End s [] first = subst (λ (ys : List Frame). Quiet b plain p0 s0 above point.End s ys first) none (subst (λ (z : Point). Quiet b plain p0 s0 above z s x.frames first) e x.quiet) in
-    record {
-      reads = (
-        r ∙ (x.is_row ∙ (ap (λ (ys : List Frame). below ++ ys) none ∙ Rattle.std.proofs.lemmas.List.append-nil below)),
-        rw k (record { place = over.place; looks = omega (arith, m, over.looks) }),
-      );
-    }

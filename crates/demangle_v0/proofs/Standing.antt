@@ -1,6 +1,6 @@
 -- A row of frames above others that stand there.
 use Rattle.std.specs.Prelude.{◌≤◌, length}
-use Rattle.std.proofs.Common.{◌≡◌, List, [], ◌∷◌, ◌++◌, refl, sym, ap, ◌∙◌, arith, length-append}
+use Rattle.std.proofs.Common.{◌≡◌, List, [], ◌∷◌, ◌++◌, refl, sym, ap, ◌∙◌, arith}
 
 module _ {F : Type 0} where
   one_more : (f g : F) (xs ys : List F) → f ∷ xs ≡ g ∷ ys → (f ≡ g) × (xs ≡ ys)
@@ -14,8 +14,3 @@ module _ {F : Type 0} where
       let heads = one_more h g (row ++ f ∷ []) (below ++ above) e in
       let inner = above_pop below above row f heads.1 (omega (arith, l)) in
       (inner.0, inner.1, ap (λ (x : F). x ∷ row) heads.0 ∙ ap (λ (r : List F). g ∷ r) inner.2)
-
-  -- as many as those: nothing stands above them
-  pub above_none : (below above row : List F) → row ≡ below ++ above → length row ≤ length below → above ≡ []
-  above_none below [] row e l = refl
-  above_none below (f ∷ above) row e l = absurd (omega (arith, ap length e, length-append {A = F} below (f ∷ above)))
