@@ -79,7 +79,7 @@ module _ {V : Type 0} (voice : Ghosts V) (b : List ℕ) (plain : Bool) where
       go false false e f = rw (e, f) (ap none_open (argument_type plain voice.loud (around b voice.loud left n) i (rest left n) e f))
 
   on_so : (first : Bool) (v : Bool) (c left n i : ℕ) (o : Bool) → Fits point.NextArgument left n → is_byte b i (code "E") ≡ false
-      → heard_at voice b plain (arguments_point first) v c left n (Some i) o ≡ with_looks (1 ∷ []) (with_texts voice.loud (mark_texts (separator first)) (none_open (behind (of plain voice.loud (run argument (around b voice.loud left n) (Some i))) (rest left n))))
+      → heard_at voice b plain (arguments_point first) v c left n (Some i) o ≡ with_looks (1 ∷ []) (with_texts voice.loud (mark_texts (separator first mark.Comma)) (none_open (behind (of plain voice.loud (run argument (around b voice.loud left n) (Some i))) (rest left n))))
   unfolding share_at
   on_so true v c left n i o f e = ap none_open (first_on plain voice.loud (around b voice.loud left n) ", " argument (says ">" done) i e)
   on_so false v c left n i o f e = ap none_open (more_on plain voice.loud b left n ", " argument (says ">" done) i (argument_element b voice.loud left n (omega (arith, f))) e)
@@ -109,12 +109,12 @@ module _ {V : Type 0} (voice : Ghosts V) (b : List ℕ) (plain : Bool) where
       go false false = f
 
   pub argument_goes : (first : Bool) (v : Bool) (c left n i : ℕ) (o : Bool) (row now : List Frame) (u : V) (new : State) (made : ℕ) → is_byte b i (code "E") ≡ false → made ≤ 1 + total (argument_costs b i) → made ≤ 3 → Fits point.NextArgument left n
-      → new.in_value ≡ false → new.letter ≡ c → new.depth_left ≡ left → new.lifetimes ≡ n → new.place ≡ Some (argument_place b i) → new.mark ≡ separator first
+      → new.in_value ≡ false → new.letter ≡ c → new.depth_left ≡ left → new.lifetimes ≡ n → new.place ≡ Some (argument_place b i) → new.mark ≡ separator first mark.Comma
       → now ≡ row ++ frame_of point.NextArgument v c left n ∷ []
       → DidOn voice b plain (heard_at voice b plain (arguments_point first) v c left n (Some i) o) (weight_at (arguments_point first)) (height_at (arguments_point first) left) row u (Ok (argument_point b i)) new now u made
   argument_goes first v c left n i o row now u new made e l m f kv kc kl kn kp km r = rw (weight_so first, height_so first left)
-      (enters voice b plain _ (argument_point b i) left n (Some (argument_place b i)) (separator first) (1 ∷ []) (argument_costs b i) (Some (frame_of point.NextArgument v c left n)) 1 (8 * left + 2) row now u new made
-      (rw (kv, kc) (on_so first v c left n i o f e ∙ ap (λ (h : Heard). with_looks (1 ∷ []) (with_texts voice.loud (mark_texts (separator first)) h)) (argument_so left n i c v new.is_open)))
+      (enters voice b plain _ (argument_point b i) left n (Some (argument_place b i)) (separator first mark.Comma) (1 ∷ []) (argument_costs b i) (Some (frame_of point.NextArgument v c left n)) 1 (8 * left + 2) row now u new made
+      (rw (kv, kc) (on_so first v c left n i o f e ∙ ap (λ (h : Heard). with_looks (1 ∷ []) (with_texts voice.loud (mark_texts (separator first mark.Comma)) h)) (argument_so left n i c v new.is_open)))
       kl kn kp km r (omega (arith, l)) (omega (arith, m)) (omega (arith, argument_light i)) (omega arith) (omega (arith, argument_low i left)) f (argument_fits i left n f) (λ _. refl))
 
   -- a lifetime

@@ -9,7 +9,7 @@ use Rattle.demangle_symbol.specs.Names.{name_pieces}
 use Rattle.demangle_v0.specs.Items.{Text, Items, a_path, a_type, a_constant, a_trait_path, done, unit, dyn_trait, bindings, opens, target}
 use Rattle.demangle_v0.specs.Table.{says, type_inside, says_name, list, more, argument, in_binder, binding_value}
 use Rattle.demangle_v0.specs.Totals.{total}
-use Rattle.demangle_v0.specs.Arguments.{argument_point, argument_place, argument_costs}
+use Rattle.demangle_v0.specs.Arguments.{separator, argument_point, argument_place, argument_costs}
 use Rattle.demangle_v0.specs.DynTraits.{dyn_type}
 use Rattle.demangle_v0.specs.Events.{Heard, of, nothing_heard, and_then, with_looks, with_texts}
 use Rattle.demangle_v0.specs.Grammar.{word_items, text}
@@ -30,7 +30,7 @@ use Rattle.demangle_v0.proofs.Elements.{argument_element, dyn_trait_element}
 use Rattle.demangle_v0.proofs.Hearing.{handing_both, and_then_assoc, handing_then, allowing_then}
 use Rattle.demangle_v0.proofs.ListReads.{end_failed, end_over, more_failed, more_over, first_on, more_on, argument_lifetime, argument_constant, argument_type}
 use Rattle.demangle_v0.proofs.PathReads.{trait_path_reads, trait_path_refers, trait_path_generic, trait_path_plain}
-use Rattle.demangle_v0.proofs.PointFunctions.{frame_at, moves, enters, separator}
+use Rattle.demangle_v0.proofs.PointFunctions.{frame_at, moves, enters}
 use Rattle.demangle_v0.proofs.PointSteps.{heard, after, faulty}
 use Rattle.demangle_v0.proofs.TypeReads.{if_so, says_all, bound_constant, bound_type, mark_of, bindings_failed, bindings_over, binding_stops, binding_reads}
 

@@ -8,6 +8,7 @@ use Rattle.demangle_symbol.specs.Words.{optional_at}
 use Rattle.demangle_v0.specs.Items.{Items, a_type, unit}
 use Rattle.demangle_v0.specs.Table.{says, list, more, type_inside, in_binder}
 use Rattle.demangle_v0.specs.Totals.{total}
+use Rattle.demangle_v0.specs.Arguments.{separator}
 use Rattle.demangle_v0.specs.Binders.{binder_texts}
 use Rattle.demangle_v0.specs.Events.{Heard, of, nothing_heard, and_then, with_looks, with_texts}
 use Rattle.demangle_v0.specs.Grammar.{word_items, text}
@@ -47,9 +48,6 @@ next_parameters = more ", " type_inside (says ")" returns)
 
 abbrev pub left_parameters : Bool → Items
 left_parameters first = if first then first_parameters else next_parameters
-
-abbrev pub separator : Bool → Mark → Option Mark
-separator first m = if first then None else Some m
 
 -- a frame that goes on as this state stands
 abbrev pub frame_at : Point → State → Frame

@@ -9,8 +9,8 @@ use Rattle.demangle_v0.specs.declared.points.Point.{Point}
 use Rattle.demangle_v0.specs.declared.points.Point.TheVariants as point
 
 -- what stands before an element of a list
-abbrev pub separator : Bool → Option Mark
-separator is_first = if is_first then None else Some mark.Comma
+abbrev pub separator : Bool → Mark → Option Mark
+separator is_first m = if is_first then None else Some m
 
 abbrev pub arguments_point : Bool → Point
 arguments_point is_first = if is_first then point.FirstArgument else point.NextArgument
