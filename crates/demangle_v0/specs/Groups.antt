@@ -1,6 +1,6 @@
 -- Internal: no public contract cites this.
 -- The words: what they hand over, and the looks that are allowed for them.
-use Rattle.std.specs.Prelude.{ℕ, ◌+◌, ◌-◌, ◌*◌, ◌==◌, nat_le, Bool, true, false, if◌then◌else◌, Option, Some, None, option_map, List, [], ◌∷◌, ◌++◌, length, slice_range, codes, decimal}
+use Rattle.std.specs.Prelude.{ℕ, ◌+◌, ◌-◌, ◌*◌, ◌==◌, nat_le, Bool, true, false, if◌then◌else◌, Option, Some, None, List, [], ◌∷◌, ◌++◌, length, slice_range, codes, decimal}
 use Rattle.std.specs.Fmt.{digits}
 use Prim.Native.Char.{code}
 use lib.Utf8.{scalar}

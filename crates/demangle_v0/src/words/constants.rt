@@ -13,12 +13,7 @@ use demangle_symbol::literal::{character_of, is_string, truth_of};
 
 /// The nibbles of a number with this tag.
 #[inline(always)]
-pub(super) fn read_number(
-    symbol: &Symbol<'_>,
-    tag: u8,
-    place: usize,
-    looks: &mut Looks,
-) -> WordRead
+pub(super) fn read_number(symbol: &Symbol<'_>, tag: u8, place: usize, looks: &mut Looks) -> WordRead
     ensures value { result ≡ (number_group symbol.now tag place).reads }
     ensures grows { looks.old ≤ looks.new }
     ensures looks { looks.new + looks_later (read_stretch result) ≤ looks.old + total (number_group
