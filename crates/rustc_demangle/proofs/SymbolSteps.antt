@@ -10,7 +10,7 @@ use Rattle.rustc_demangle.specs.Stripped.{is_allowed}
 use Rattle.demangle_legacy.specs.Unescaped.{legacy_pieces}
 use Rattle.demangle_v0.specs.Reading.{path_texts}
 use Rattle.demangle_v0.specs.V0.{IsV0, IsV0Prefix, v0_of}
-use Rattle.rustc_demangle.specs.Symbols.{IsLegacySymbol, IsV0Symbol, IsSymbol, kept_of, if_allowed, read_of, pieces_of, handed}
+use Rattle.rustc_demangle.specs.Symbols.{IsLegacySymbol, IsV0Symbol, IsSymbol, kept_of, if_allowed, read_of, pieces_of, handed, PrintingLooks}
 use Rattle.rustc_demangle.specs.Style.{style_pieces, style_looks, style_least, IsReadAs, HasNoStyle, HasStyle, IsStyled}
 use Rattle.rustc_demangle.specs.declared.value.DemangleStyle.{DemangleStyle}
 use Rattle.rustc_demangle.specs.declared.value.DemangleStyle.TheVariants.{Legacy, V0}
@@ -121,7 +121,7 @@ kept_of-some text hash limit style suffix has =
     ap (λ read. option_map_or (λ (r : List (List ℕ) × List ℕ). kept r.0 limit) read 0) (styled-pieces hash text style suffix has)
 
 -- what it costs to print a text with this style
-pub style_looks-most : (text : List ℕ) (hash : Bool) (limit : ℕ) (style : DemangleStyle) (suffix : List ℕ) → HasStyle text style suffix
+style_looks-most : (text : List ℕ) (hash : Bool) (limit : ℕ) (style : DemangleStyle) (suffix : List ℕ) → HasStyle text style suffix
     → style_looks hash limit style ≤ 100000 * (kept_of text hash limit + 1) * (length text + 1)
 style_looks-most text hash limit (Legacy symbol) suffix has =
     let inner : length symbol ≤ length text = has.inner in
@@ -131,12 +131,12 @@ style_looks-most text hash limit (V0 symbol) suffix has =
     let same = kept_of-some text hash limit (V0 symbol) suffix has in
     mul-le (100000 * (kept (path_texts symbol hash) limit + 1)) (length symbol + 1) (100000 * (kept_of text hash limit + 1)) (length text + 1) (omega (arith, same)) (omega arith)
 
-pub style_looks-legacy : (text : List ℕ) (hash : Bool) (limit : ℕ) (style : DemangleStyle) (suffix : List ℕ) → HasStyle text style suffix → IsLegacySymbol text
+style_looks-legacy : (text : List ℕ) (hash : Bool) (limit : ℕ) (style : DemangleStyle) (suffix : List ℕ) → HasStyle text style suffix → IsLegacySymbol text
     → style_looks hash limit style ≤ 16 * (length text + 1)
 style_looks-legacy text hash limit (Legacy symbol) suffix has is = let inner : length symbol ≤ length text = has.inner in omega arith
 style_looks-legacy text hash limit (V0 symbol) suffix has is = absurd (none≢some (sym (no_legacy text symbol suffix (read_is_v0 text symbol suffix has.read)) ∙ legacy_spelled text is.0 is.1 is.2))
 
-pub style_least-v0 : (text : List ℕ) (style : DemangleStyle) (suffix : List ℕ) → HasStyle text style suffix → IsV0Symbol text → style_least style ≡ 1
+style_least-v0 : (text : List ℕ) (style : DemangleStyle) (suffix : List ℕ) → HasStyle text style suffix → IsV0Symbol text → style_least style ≡ 1
 style_least-v0 text (Legacy symbol) suffix has is = absurd (none≢some (sym (no_legacy text is.0 is.1 is.2) ∙ has.read))
 style_least-v0 text (V0 symbol) suffix has is = refl
 
@@ -145,6 +145,26 @@ symbol_styled text style suffix has = symbol-pieces true text (style_pieces true
 
 pub no_symbol_unstyled : (text : List ℕ) → HasNoStyle text → IsSymbol text → ⊥
 no_symbol_unstyled text none symbol = let some = pieces-symbol true text symbol in none≢some (sym (none true) ∙ some.1)
+
+-- what printing a text with this style looks at, and one without a style
+pub styled_looks : (text : List ℕ) (hash : Bool) (limit : ℕ) (style : DemangleStyle) (suffix : List ℕ) (old new : ℕ) → HasStyle text style suffix
+    → old ≤ new → new ≤ old + style_looks hash limit style → old + style_least style ≤ new → PrintingLooks text hash limit old new
+styled_looks text hash limit style suffix old new has grows most least = record {
+  grows = grows;
+  most = omega (arith, most, style_looks-most text hash limit style suffix has);
+  legacy = λ legacy. omega (arith, most, style_looks-legacy text hash limit style suffix has legacy);
+  v0 = λ v0. omega (arith, least, style_least-v0 text style suffix has v0);
+  unread = λ none. absurd (none (symbol_styled text style suffix has));
+}
+
+pub unstyled_looks : (text : List ℕ) (hash : Bool) (limit looks : ℕ) → HasNoStyle text → PrintingLooks text hash limit looks looks
+unstyled_looks text hash limit looks none = record {
+  grows = omega arith;
+  most = omega arith;
+  legacy = λ legacy. omega arith;
+  v0 = λ v0. absurd (no_symbol_unstyled text none (inr v0));
+  unread = λ _. refl;
+}
 
 pub styled_symbol : (style : Option DemangleStyle) (text suffix : List ℕ) → IsStyled style text suffix → is_some style ≡ true → IsSymbol text
 styled_symbol None text suffix is e = cc

@@ -1,5 +1,5 @@
 -- Which texts are Rust symbols, and what printing one hands over.
-use Rattle.std.specs.Prelude.{◌≡◌, ◌⊎◌, ℕ, Bool, true, List, [], ◌∷◌, ◌++◌, Option, None, Some, option_map, if◌then◌else◌}
+use Rattle.std.specs.Prelude.{◌≡◌, ◌⊎◌, ℕ, ◌+◌, ◌*◌, ◌≤◌, Bool, true, List, [], ◌∷◌, ◌++◌, length, Option, None, Some, option_map, if◌then◌else◌}
 use Rattle.std.specs.List.{concat}
 use Rattle.std.specs.Option.{option_map_or, option_or}
 use Rattle.demangle_sink.specs.Cut.{cut, kept}
@@ -42,6 +42,16 @@ handed text hash limit = option_map_or (λ read. cut read.0 limit ++ read.1 ∷ 
 -- how many bytes of a symbol are handed over before the marker and the suffix
 abbrev pub kept_of : List ℕ → Bool → ℕ → ℕ
 kept_of text hash limit = option_map_or (λ read. kept read.0 limit) (pieces_of hash text) 0
+
+-- How printing moves the counter of looks, for Ok and for Err, of a text of n bytes of which w are
+-- kept: never down, and up by at most 100,000 x (w + 1) x (n + 1); for a legacy symbol by at most
+-- 16 x (n + 1); for a v0 symbol by at least 1; for a text that is no symbol by nothing.
+pub record PrintingLooks (text : List ℕ) (hash : Bool) (limit old new : ℕ) : Type 0 where
+  pub grows : old ≤ new
+  pub most : new ≤ old + 100000 * (kept_of text hash limit + 1) * (length text + 1)
+  pub legacy : IsLegacySymbol text → new ≤ old + 16 * (length text + 1)
+  pub v0 : IsV0Symbol text → old + 1 ≤ new
+  pub unread : (IsSymbol text → ⊥) → new ≡ old
 
 -- the limit of every call that takes none
 abbrev pub most_bytes : ℕ

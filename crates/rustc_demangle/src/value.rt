@@ -6,7 +6,7 @@ ghost use Rattle.demangle_legacy.specs.Legacy.{legacy_of};
 ghost use Rattle.demangle_sink.specs.Limit.{Prints, Ready};
 ghost use Rattle.rustc_demangle.specs.Stripped.{is_allowed, is_graphic};
 ghost use Rattle.rustc_demangle.specs.Style.{style_pieces, style_len, style_looks, style_least, IsReadAs, HasNoStyle, HasStyle};
-ghost use Rattle.rustc_demangle.specs.Symbols.{handed, kept_of, most_bytes, IsLegacySymbol, IsV0Symbol, IsSymbol};
+ghost use Rattle.rustc_demangle.specs.Symbols.{handed, most_bytes, IsSymbol, PrintingLooks};
 ghost use Rattle.demangle_v0.specs.V0.{v0_of};
 ghost use Rattle.demangle_sink.specs.Writes.{Writes};
 
@@ -111,14 +111,7 @@ impl<'a> Demangle<'a> {
         requires { S.failed out.old ≡ false }
         ensures hands { Hands S.TextSink out.old
             (handed self.now include_hash limit) result out.new }
-        ensures grows { looks.old ≤ looks.new }
-        ensures most { looks.new
-            ≤ looks.old + 100000 * (kept_of self.now include_hash limit + 1)
-            * (length self.now + 1) }
-        ensures legacy { IsLegacySymbol self.now →
-            looks.new ≤ looks.old + 16 * (length self.now + 1) }
-        ensures v0 { IsV0Symbol self.now → looks.old + 1 ≤ looks.new }
-        ensures unread { (IsSymbol self.now → ⊥) → looks.new ≡ looks.old }
+        ensures looks { PrintingLooks self.now include_hash limit looks.old looks.new }
     {
         let Some(style) = &self.style else {
             return put_piece(self.original, out);
@@ -144,14 +137,7 @@ impl<'a> Demangle<'a> {
         requires { S.failed out.old ≡ false }
         ensures writes { Writes S.TextSink out.old (handed self.now include_hash limit)
             result out.new }
-        ensures grows { looks.old ≤ looks.new }
-        ensures most { looks.new
-            ≤ looks.old + 100000 * (kept_of self.now include_hash limit + 1)
-            * (length self.now + 1) }
-        ensures legacy { IsLegacySymbol self.now →
-            looks.new ≤ looks.old + 16 * (length self.now + 1) }
-        ensures v0 { IsV0Symbol self.now → looks.old + 1 ≤ looks.new }
-        ensures unread { (IsSymbol self.now → ⊥) → looks.new ≡ looks.old }
+        ensures looks { PrintingLooks self.now include_hash limit looks.old looks.new }
     {
         self.hand_over(out, include_hash, limit, looks)
     }
@@ -181,14 +167,7 @@ impl<'a> Demangle<'a> {
         requires { S.failed out.old ≡ false }
         ensures writes { Writes S.TextSink out.old (handed self.now include_hash most_bytes)
             result out.new }
-        ensures grows { looks.old ≤ looks.new }
-        ensures most { looks.new
-            ≤ looks.old + 100000 * (kept_of self.now include_hash most_bytes + 1)
-            * (length self.now + 1) }
-        ensures legacy { IsLegacySymbol self.now →
-            looks.new ≤ looks.old + 16 * (length self.now + 1) }
-        ensures v0 { IsV0Symbol self.now → looks.old + 1 ≤ looks.new }
-        ensures unread { (IsSymbol self.now → ⊥) → looks.new ≡ looks.old }
+        ensures looks { PrintingLooks self.now include_hash most_bytes looks.old looks.new }
     {
         self.write_limited_counted(out, include_hash, MAX_SIZE, looks)
     }
