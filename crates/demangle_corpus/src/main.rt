@@ -13,6 +13,8 @@ use corpus::{CorpusFault, Counts, corpus_run};
 use std::io::{BufReader, BufWriter};
 use std::process::ExitCode;
 
+/// Compares what stands on standard input, and writes to standard output. Where there is no memory
+/// for a buffer, nothing is read.
 fn run(rt: &HostRuntime) -> Result<Counts, CorpusFault> {
     let alloc = rt.alloc();
     let Ok(mut input) = BufReader::new(alloc, rt.stdin().lock()) else {

@@ -77,5 +77,6 @@ impl TextSink for PiecesSink {
 
     ghost took_nothing = { λ s. sym (append-nil (concat (taken_pieces s))) };
 
-    ghost took_joined = { λ s t u xs ys h k. k ∙ (ap (λ z. z ++ ys) h ∙ append_assoc (concat (taken_pieces s)) xs ys) };
+    ghost took_joined = { λ s t u xs ys h k.
+        k ∙ (ap (λ z. z ++ ys) h ∙ append_assoc (concat (taken_pieces s)) xs ys) };
 }

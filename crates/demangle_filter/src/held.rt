@@ -25,6 +25,7 @@ impl Model for Held {
 }
 
 impl Held {
+    /// Holds no bytes.
     pub fn new() -> Self
         ensures { result ≡ [] }
     {
@@ -34,12 +35,14 @@ impl Held {
         }
     }
 
+    /// The bytes that are held.
     pub fn as_slice(&self) -> &[u8]
         ensures { result.now ≡ self.now }
     {
         &self.bytes[..self.len]
     }
 
+    /// Whether no bytes are held.
     pub fn is_empty(&self) -> bool
         ensures { result ≡ (length self.now == 0) }
     {
@@ -63,6 +66,7 @@ impl Held {
         true
     }
 
+    /// Lets go of the bytes that are held.
     pub fn clear(&mut self)
         ensures { self.new ≡ [] }
     {

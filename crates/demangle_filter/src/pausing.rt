@@ -52,6 +52,7 @@ pub struct PausingOutput<W: Write + Drop> {
 }
 
 impl<W: Write + Drop> PausingOutput<W> {
+    /// An output into this writer, with nothing held.
     pub fn new(writer: W) -> Self {
         PausingOutput {
             pending: RefCell::new(Pending {
@@ -117,14 +118,17 @@ impl<W: Write + Drop> PausingOutput<W> {
     }
 }
 
+/// The error of an output whose writer has failed before.
 fn is_broken() -> io::Error {
     io::Error::other("the output is broken")
 }
 
+/// The error of an output that is borrowed already.
 fn is_in_use() -> io::Error {
     io::Error::other("the output is in use")
 }
 
+/// Writes into a `PausingOutput`.
 #[derive(Drop)]
 pub struct PausingWriter<'a, W: Write + Drop> {
     output: &'a PausingOutput<W>,

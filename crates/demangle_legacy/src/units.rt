@@ -59,6 +59,7 @@ fn special_in(symbol: &Symbol<'_>, part: Part, looks: &mut Looks) -> Option<usiz
     None
 }
 
+/// The value of a lower case hexadecimal digit, or `None` at any other byte.
 fn lower_hex_of(byte: u8) -> Option<u8>
     ensures { MatchOption result (is_lower_hex byte ≡ false)
         (λ d. (is_lower_hex byte ≡ true) × (d ≡ lower_hex byte) × (d < 16)) }

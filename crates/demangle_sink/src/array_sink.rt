@@ -59,5 +59,6 @@ impl<const N: usize> TextSink for ArraySink<N> {
 
     ghost took_nothing = { λ s. sym (append-nil (text_of s)) };
 
-    ghost took_joined = { λ s t u xs ys h k. k ∙ (ap (λ z. z ++ ys) h ∙ append_assoc (text_of s) xs ys) };
+    ghost took_joined = { λ s t u xs ys h k.
+        k ∙ (ap (λ z. z ++ ys) h ∙ append_assoc (text_of s) xs ys) };
 }

@@ -15,6 +15,7 @@ pub struct FmtSink<'f, W: fmt::Write> {
 }
 
 impl<'f, W: fmt::Write> FmtSink<'f, W> {
+    /// A sink into this formatter, which has not failed.
     pub fn new(out: &'f mut fmt::Formatter<W>) -> Self
         ensures same { result.out.ghost_name ≡ out.entry.ghost_name }
         ensures text { result.out.now ≡ out.old }
@@ -25,7 +26,8 @@ impl<'f, W: fmt::Write> FmtSink<'f, W> {
 }
 
 impl<'f, W: fmt::Write> TextSink for FmtSink<'f, W> {
-    ghost took = { λ s bytes t. (t.out.ghost_name ≡ s.out.ghost_name) × FmtTook W.write_str_gives s.out.now bytes t.out.now };
+    ghost took = { λ s bytes t. (t.out.ghost_name ≡ s.out.ghost_name)
+        × FmtTook W.write_str_gives s.out.now bytes t.out.now };
 
     ghost failed = { λ s. s.failed };
 
@@ -52,5 +54,6 @@ impl<'f, W: fmt::Write> TextSink for FmtSink<'f, W> {
 
     ghost took_nothing = { λ s. (refl, FmtTook-nothing W.write_str_gives s.out.now) };
 
-    ghost took_joined = { λ s t u xs ys h k. (k.0 ∙ h.0, FmtTook-joined W.write_str_gives _ _ _ xs ys h.1 k.1) };
+    ghost took_joined = { λ s t u xs ys h k.
+        (k.0 ∙ h.0, FmtTook-joined W.write_str_gives _ _ _ xs ys h.1 k.1) };
 }

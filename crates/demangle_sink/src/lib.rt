@@ -59,5 +59,6 @@ pub trait TextSink {
 
     ghost took_nothing: { (s : Self) → took s [] s };
 
-    ghost took_joined: { (s t u : Self) (xs ys : List ℕ) → took s xs t → took t ys u → took s (xs ++ ys) u };
+    ghost took_joined: { (s t u : Self) (xs ys : List ℕ) →
+        took s xs t → took t ys u → took s (xs ++ ys) u };
 }

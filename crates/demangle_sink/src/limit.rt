@@ -15,6 +15,7 @@ pub struct SizeLimitedFmtAdapter<'s, S: TextSink> {
 }
 
 impl<'s, S: TextSink> SizeLimitedFmtAdapter<'s, S> {
+    /// A sink into `out` for so many bytes.
     pub fn new(out: &'s mut S, limit: usize) -> Self
         ensures same_sink { result.out.ghost_name ≡ out.entry.ghost_name }
         ensures text { result.out.now ≡ out.old }
@@ -35,6 +36,7 @@ impl<'s, S: TextSink> SizeLimitedFmtAdapter<'s, S> {
         self.is_over
     }
 
+    /// Hands a piece on, or refuses it where it goes past the limit, or where the sink does.
     #[inline(always)]
     pub fn put(&mut self, s: &str) -> Result<(), SinkRefused>
         requires { Ready S.TextSink self.old }

@@ -38,7 +38,8 @@ impl<'w, W: Write> WriteSink<'w, W> {
 }
 
 impl<'w, W: Write> TextSink for WriteSink<'w, W> {
-    ghost took = { λ s bytes t. (t.out.ghost_name ≡ s.out.ghost_name) × Wrote (W.contents s.out.now) bytes (W.contents t.out.now) };
+    ghost took = { λ s bytes t. (t.out.ghost_name ≡ s.out.ghost_name)
+        × Wrote (W.contents s.out.now) bytes (W.contents t.out.now) };
 
     ghost failed = { λ s. is_some s.fault };
 

@@ -21,6 +21,7 @@ pub use ident::Ident;
 pub use looks::Looks;
 pub use words::MAX_DEPTH;
 
+/// Why a symbol was not read, by the Rust crate's names.
 #[derive(Clone, Copy, Debug, PartialEq, Eq)]
 pub enum ParseError {
     Invalid,
@@ -63,6 +64,7 @@ impl<'s> Model for Span<'s> {
 }
 
 impl<'s> Span<'s> {
+    /// How many bytes it has.
     pub fn len(&self) -> usize
         ensures { result ≡ length self.now }
     {
@@ -83,12 +85,14 @@ impl<'s> Span<'s> {
 }
 
 impl<'s> Symbol<'s> {
+    /// The symbol whose bytes behind the prefix are these.
     pub fn new(inner: &'s str) -> Symbol<'s>
         ensures { result ≡ inner.now }
     {
         Symbol { inner }
     }
 
+    /// How many bytes it has. It is no look.
     pub fn len(&self) -> usize
         ensures { result ≡ length self.now }
     {
@@ -164,8 +168,8 @@ impl<'s> Symbol<'s> {
         self.decimal_from(0, place, place, looks)
     }
 
+    /// The same of digits that begin at `start`, of which `number` was read in front of `from`.
     #[tactic(auto, using(crate::proofs::Digits::decimal_steps))]
-    // The same of digits that begin at `start`, of which `number` was read in front of `from`.
     #[inline(never)]
     fn decimal_from(
         &self,
@@ -204,8 +208,8 @@ impl<'s> Symbol<'s> {
         Ok((number as usize, end))
     }
 
+    /// The decimal digit at a place, if one stands there.
     #[tactic(auto, using(crate::proofs::Digits::run_stops, crate::proofs::Digits::run_none))]
-    // The decimal digit at a place, if one stands there.
     #[inline(always)]
     fn digit(&self, place: usize, looks: &mut Looks) -> Option<u8>
         ensures digit { IfSome result (λ d. slice_get self.now place ≡ Some (d + 48)) }

@@ -26,6 +26,7 @@ enum Escape {
     Code,
 }
 
+/// Whether a character of this category, past ASCII, is written by its code.
 fn is_hidden_category(category: GeneralCategory) -> bool
     ensures { result ≡ is_hidden_category category }
 {

@@ -13,10 +13,11 @@ mod tests;
 /// How many characters a decoded name has at most.
 pub const SMALL_PUNYCODE_LEN: usize = 128;
 
-/// A delta above this gives no character, whatever stands before it: with at most 129 characters the
-/// number of the character rises by at least 0x110000.
+/// A delta above this gives no character, whatever stands before it: with at most 129 characters
+/// the number of the character rises by at least 0x110000.
 const MOST: u64 = 0x11_0000 * 129 - 1;
 
+/// The value of a digit of Punycode, or `None` at any other byte, an upper case letter too.
 fn digit_of(byte: u8) -> Option<u64>
     ensures { result ≡ digit_of byte }
 {
@@ -39,6 +40,7 @@ fn digit_at(symbol: &Symbol<'_>, place: usize, looks: &mut Looks) -> Option<u64>
     }
 }
 
+/// The threshold of a delta's digit, whose place is counted in steps of 36 from 36 on.
 fn threshold(place: u64, bias: u64) -> u64
     ensures value { result ≡ threshold place bias }
     ensures low { 1 ≤ result }

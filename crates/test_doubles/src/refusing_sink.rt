@@ -72,5 +72,6 @@ impl TextSink for RefusingSink {
 
     ghost took_nothing = { λ s. sym (append-nil (taken_text s)) };
 
-    ghost took_joined = { λ s t u xs ys h k. k ∙ (ap (λ z. z ++ ys) h ∙ append_assoc (taken_text s) xs ys) };
+    ghost took_joined = { λ s t u xs ys h k.
+        k ∙ (ap (λ z. z ++ ys) h ∙ append_assoc (taken_text s) xs ys) };
 }

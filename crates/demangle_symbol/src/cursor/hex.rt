@@ -91,6 +91,7 @@ impl<'s> Symbol<'s> {
     }
 }
 
+/// The value of a lower case hexadecimal digit, or `None` at any other byte.
 pub(crate) fn nibble_of(byte: u8) -> Option<u8>
     ensures { MatchOption result
         (is_nibble byte ≡ false) (λ d. (is_nibble byte ≡ true) × (d ≡ nibble byte) × (d < 16)) }

@@ -113,9 +113,10 @@ impl<'s> Symbol<'s> {
         Ok((name, to))
     }
 
+    /// The identifier at a place where a `u` stands, which was looked at before, and the place
+    /// behind it. It is Invalid where none is spelled there.
+    // Few have a `u`, and the code of those without stays short where this stands alone.
     #[tactic(auto, using(crate::proofs::Idents::ident_steps))]
-    // The identifier at a place where a `u` stands, which was looked at before. Few have one, and
-    // the code of those without stays short where this stands alone.
     #[inline(never)]
     fn punycode_ident(&self, place: usize, looks: &mut Looks) -> Result<(Ident, usize), ParseError>
         requires u { is_byte self.now place 117 ≡ true }

@@ -5,6 +5,7 @@ use std::marker::Model;
 use std::mem;
 use std::snapshot::Snapshot;
 
+/// A number, counted by its steps from zero. No run holds one.
 #[derive(Drop)]
 enum Tally {
     Zero,

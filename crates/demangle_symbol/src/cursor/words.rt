@@ -12,7 +12,7 @@ use std::cmp;
 /// How deep the units of a symbol may lie in one another.
 pub const MAX_DEPTH: u32 = 500;
 
-// How many digits are taken with no check: 62^10 is below 2^60.
+/// How many digits are taken with no check: 62^10 is below 2^60.
 const UNCHECKED_DIGITS: usize = 10;
 
 impl<'s> Symbol<'s> {
@@ -57,8 +57,8 @@ impl<'s> Symbol<'s> {
         Err(ParseError::Invalid)
     }
 
-    // The digit of an integer at a place, or none where the `_` stands there that ends it. Any
-    // other byte is Invalid.
+    /// The digit of an integer at a place, or none where the `_` stands there that ends it. Any
+    /// other byte is Invalid.
     #[tactic(auto, using(crate::proofs::Integers::digit_reads))]
     #[inline(always)]
     fn integer_digit(&self, place: usize, looks: &mut Looks) -> Result<Option<u64>, ParseError>
@@ -222,7 +222,7 @@ impl<'s> Symbol<'s> {
     }
 }
 
-// The value of each digit in base 62, and 255 at each other byte.
+/// The value of each digit in base 62, and 255 at each other byte.
 #[rattlefmt::skip]
 static DIGITS_62: [u8; 256] = [
     255, 255, 255, 255, 255, 255, 255, 255, 255, 255, 255, 255, 255, 255, 255, 255,
@@ -243,6 +243,7 @@ static DIGITS_62: [u8; 256] = [
     255, 255, 255, 255, 255, 255, 255, 255, 255, 255, 255, 255, 255, 255, 255, 255,
 ];
 
+/// The value of a digit in base 62, or `None` at any other byte.
 #[inline(always)]
 fn digit_62_of(byte: u8) -> Option<u64>
     ensures { MatchOption result

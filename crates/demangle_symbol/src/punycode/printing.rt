@@ -48,9 +48,10 @@ impl Ident {
         out.put("}")
     }
 
-    // Puts the decoded characters of a name with these parts. Most names have no Punycode part, and
-    // their printing stays short where this stands alone; it takes no reference, so that they can
-    // lie in registers.
+    /// Puts the decoded characters of a name with these parts, or the parts as they stand, behind
+    /// `punycode`, where they can't be decoded.
+    // Most names have no Punycode part, and their printing stays short where this stands alone; it
+    // takes no reference, so that they can lie in registers.
     #[inline(never)]
     fn write_decoded<S: TextSink>(
         ascii: Part,
