@@ -4,8 +4,11 @@ use std::alloc::{AllocError, Global};
 use std::io;
 use std::io::{BufRead, ErrorKind, Read, Write};
 
+/// What the errors of a `PartsReader` say.
+pub const RESET: &str = "reset by the other side";
+
 /// Hands out its parts, one at a filling, and fails at the filling after so many, with the kind
-/// that it is given.
+/// that it is given and the text `RESET`.
 #[derive(Drop)]
 pub struct PartsReader<'a> {
     parts: &'a [&'a [u8]],
@@ -16,6 +19,7 @@ pub struct PartsReader<'a> {
 }
 
 impl<'a> PartsReader<'a> {
+    /// Hands out these parts, and fails with this kind at the filling after so many.
     pub fn new(parts: &'a [&'a [u8]], fills: usize, fault: ErrorKind) -> PartsReader<'a> {
         PartsReader {
             parts,
@@ -41,7 +45,7 @@ impl BufRead for PartsReader<'_> {
     fn fill_buf(&mut self) -> io::Result<&[u8]> {
         if self.taken == 0 {
             if self.fills_left == 0 {
-                return Err(io::Error::from(self.fault));
+                return Err(io::Error::new(self.fault, RESET));
             }
             self.fills_left -= 1;
         }
@@ -72,6 +76,7 @@ pub struct RefusingWriter {
 }
 
 impl RefusingWriter {
+    /// Holds the old bytes, and takes so many writes.
     pub fn new(
         alloc: Global,
         old: &[u8],
@@ -85,6 +90,7 @@ impl RefusingWriter {
         })
     }
 
+    /// What was written, behind the old bytes.
     pub fn held(&self) -> &[u8] {
         self.held.as_slice()
     }
@@ -117,6 +123,7 @@ pub struct NotingWriter {
 }
 
 impl NotingWriter {
+    /// A writer with no writes noted.
     pub fn new(alloc: Global) -> NotingWriter {
         NotingWriter {
             writes: Vec::new(alloc),
@@ -124,6 +131,7 @@ impl NotingWriter {
         }
     }
 
+    /// The writes, from the first on.
     pub fn writes(&self) -> &[Vec<u8>] {
         self.writes.as_slice()
     }

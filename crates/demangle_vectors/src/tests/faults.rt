@@ -4,49 +4,11 @@ use rustc_demangle::sink::{TextSink, WriteSink};
 use rustc_demangle::{StreamFault, demangle, demangle_stream, demangle_stream_named};
 use std::alloc::{AllocError, Global};
 use std::io;
-use std::io::{BufRead, ErrorKind, Read, Write};
+use std::io::{ErrorKind, Write};
 use std::test::Fail;
-
-const RESET: &str = "reset by the other side";
+use test_doubles::streams::{PartsReader, RESET};
 
 const GONE: &str = "nobody reads any more";
-
-/// A text in parts of at most so many bytes, and behind it an error of this kind and text, or the
-/// end.
-#[derive(Drop)]
-struct PartedReader<'a> {
-    text: &'a [u8],
-    part: usize,
-    fault: Option<(ErrorKind, &'static str)>,
-}
-
-impl Read for PartedReader<'_> {
-    fn read(&mut self, buf: &mut [u8]) -> io::Result<usize> {
-        let part = self.fill_buf()?;
-        let count = part.len().min(buf.len());
-        buf[..count].copy_from_slice(&part[..count]);
-        self.consume(count);
-        Ok(count)
-    }
-}
-
-impl BufRead for PartedReader<'_> {
-    fn fill_buf(&mut self) -> io::Result<&[u8]> {
-        if self.text.is_empty() {
-            if let Some((kind, text)) = self.fault {
-                return Err(io::Error::new(kind, text));
-            }
-        }
-        match self.text.get(..self.part) {
-            None => Ok(self.text),
-            Some(part) => Ok(part),
-        }
-    }
-
-    fn consume(&mut self, amount: usize) {
-        self.text = self.text.get(amount..).unwrap_or(b"");
-    }
-}
 
 /// Takes so many writes, refuses one with an error of this kind and text, and counts those behind
 /// it.
@@ -98,13 +60,9 @@ fn told(alloc: Global, error: &io::Error) -> Result<(ErrorKind, String), AllocEr
 #[test]
 fn the_error_of_a_reader_reaches_the_caller(rt: HostRuntime) -> Result<(), Fail> {
     let alloc = rt.alloc();
-    let reader = |kind: ErrorKind| PartedReader {
-        text: b"x _ZN3fooE\n_ZN3ba",
-        part: 100,
-        fault: Some((kind, RESET)),
-    };
+    let parts = [b"x _ZN3fooE\n_ZN3ba".as_slice()];
     let mut output = Vec::new(alloc);
-    let mut input = reader(ErrorKind::ConnectionReset);
+    let mut input = PartsReader::new(&parts, 1, ErrorKind::ConnectionReset);
     let result = demangle_stream_named(alloc, &mut input, &mut output, true);
     let Err(StreamFault::Read(error)) = result else {
         return Err("no fault of the reader".into());
@@ -112,7 +70,7 @@ fn the_error_of_a_reader_reaches_the_caller(rt: HostRuntime) -> Result<(), Fail>
     let (kind, text) = told(alloc, &error)?;
     assert_eq!(rt; kind, ErrorKind::ConnectionReset);
     assert_eq!(rt; text.as_str(), RESET);
-    let mut input = reader(ErrorKind::ConnectionReset);
+    let mut input = PartsReader::new(&parts, 1, ErrorKind::ConnectionReset);
     let result = demangle_stream(alloc, &mut input, &mut output, true);
     let (kind, text) = told(alloc, &result.err().ok_or("no error")?)?;
     assert_eq!(rt; kind, ErrorKind::ConnectionReset);
@@ -124,11 +82,8 @@ fn the_error_of_a_reader_reaches_the_caller(rt: HostRuntime) -> Result<(), Fail>
 #[test]
 fn want_of_memory_in_a_reader_keeps_its_kind_alone(rt: HostRuntime) -> Result<(), Fail> {
     let alloc = rt.alloc();
-    let reader = || PartedReader {
-        text: b"x _ZN3fooE\n",
-        part: 100,
-        fault: Some((ErrorKind::OutOfMemory, RESET)),
-    };
+    let parts = [b"x _ZN3fooE\n".as_slice()];
+    let reader = || PartsReader::new(&parts, 1, ErrorKind::OutOfMemory);
     let mut output = Vec::new(alloc);
     let result = demangle_stream_named(alloc, &mut reader(), &mut output, true);
     assert!(rt; matches!(&result, Err(StreamFault::Memory)));
@@ -179,12 +134,9 @@ fn both_stream_calls_meet_the_same_fault(rt: HostRuntime) -> Result<(), Fail> {
         (b"x _ZN3fooE\n", ErrorKind::Other, 2),
     ];
     for (text, kind, writes) in cases {
+        let parts = [text];
         for include_hash in [true, false] {
-            let reader = || PartedReader {
-                text,
-                part: 100,
-                fault: Some((kind, RESET)),
-            };
+            let reader = || PartsReader::new(&parts, 1, kind);
             let mut named = OnceRefusingWriter::new(alloc, writes, ErrorKind::BrokenPipe);
             let fault = demangle_stream_named(alloc, &mut reader(), &mut named, include_hash);
             let fault = fault.err().ok_or("no fault")?.into_io();
@@ -253,11 +205,8 @@ fn a_line_comes_in_ten_thousand_parts(rt: HostRuntime) -> Result<(), Fail> {
     let alloc = rt.alloc();
     let text = "x _ZN3fooE, ".repeat(alloc, 1_000)?;
     let wanted = "x foo, ".repeat(alloc, 1_000)?;
-    let mut input = PartedReader {
-        text: text.as_str().as_bytes(),
-        part: 1,
-        fault: None,
-    };
+    let parts: Vec<&[u8]> = text.as_str().as_bytes().chunks(1).collect(alloc)?;
+    let mut input = PartsReader::new(parts.as_slice(), usize::MAX, ErrorKind::Other);
     assert!(rt; text.as_str().len() > 10_000);
     let mut output = Vec::new(alloc);
     demangle_stream(alloc, &mut input, &mut output, true)?;
