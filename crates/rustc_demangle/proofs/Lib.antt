@@ -1,3 +1,4 @@
+pub mod BytesSteps
 pub mod FeedLaws
 pub mod Feeds
 pub mod FilterLaws

@@ -5,6 +5,7 @@ pub mod Hashes
 pub mod Lines
 pub mod Filtered
 pub mod Stream
+pub mod Bytes
 -- and of demangle_sink
 pub use Rattle.demangle_sink.specs.Sink
 pub use Rattle.demangle_sink.specs.Cut

@@ -13,7 +13,9 @@ mod strip;
 mod value;
 
 pub use demangle_symbol::cursor::Looks;
-pub use stream::{StreamFault, demangle_stream, demangle_stream_named};
+pub use stream::{
+    BytesFilter, StreamFault, demangle_bytes, demangle_stream, demangle_stream_named,
+};
 use strip::without_thin_lto;
 pub use value::Demangle;
 

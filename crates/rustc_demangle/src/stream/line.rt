@@ -12,14 +12,14 @@ use std::io;
 use std::io::Write;
 
 /// Whether a run begins here.
-fn begins_run(text: &[u8]) -> bool
+pub(super) fn begins_run(text: &[u8]) -> bool
     ensures { result ≡ begins_run text.now }
 {
     text.starts_with(b"_ZN") || text.starts_with(b"_R")
 }
 
 /// The place of the next run.
-fn run_start(text: &[u8]) -> Option<usize>
+pub(super) fn run_start(text: &[u8]) -> Option<usize>
     ensures some { IfSome result (λ n. (n < length text.now) × (begins_run (drop n text.now) ≡ true)
         × ((k : ℕ) → k < n → begins_run (drop k text.now) ≡ false)) }
     ensures none { IfNone result
@@ -75,7 +75,7 @@ fn groups_end<const N: usize>(text: &[u8], from: usize) -> usize
 }
 
 /// How long a run is that begins here.
-fn run_len(text: &[u8]) -> usize
+pub(super) fn run_len(text: &[u8]) -> usize
     ensures { result ≡ prefix_len is_run text.now }
 {
     // Groups of these sizes the compiler tests by vectors: at most seven bytes of a run are left.
@@ -117,7 +117,7 @@ fn write_symbol<W: Write>(
 }
 
 /// Writes what stands for a run: what it prints where it is a symbol, else the run.
-fn write_run<W: Write>(run: &str, output: &mut W, include_hash: bool) -> io::Result<()>
+pub(super) fn write_run<W: Write>(run: &str, output: &mut W, include_hash: bool) -> io::Result<()>
     ensures { OnOk result (Appends
         (W.contents output.old) (W.contents output.new) (replacement include_hash run.now)) }
 {
