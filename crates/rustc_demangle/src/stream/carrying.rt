@@ -5,11 +5,11 @@ ghost use Rattle.std.specs.Io.KnownBytes.{Appends};
 ghost use Rattle.rustc_demangle.specs.Filtered.{is_run, begins_run, replacement, filtered};
 ghost use Rattle.rustc_demangle.specs.Bytes.{CutsNoRun, IsOpen, PassedIn, IsWriting, TakeRefused};
 
+use crate::runs::{begins_run, run_len, run_start, run_text};
 use crate::stream::fault::StreamFault;
-use crate::stream::line::{begins_run, run_len, run_start, write_run};
+use crate::stream::line::write_run;
 use std::alloc::Allocator;
 use std::io::Write;
-use std::str;
 
 /// Writes bytes by one call of the writer, and none by none.
 fn keep_bytes<W: Write>(bytes: &[u8], output: &mut W) -> Result<(), StreamFault>
@@ -32,11 +32,7 @@ fn pass_run<W: Write>(run: &[u8], output: &mut W, include_hash: bool) -> Result<
         (W.contents output.old) (W.contents output.new) (replacement include_hash run.now)) }
     ensures named { IfErr result IsWriting }
 {
-    let Ok(text) = str::from_utf8(run) else {
-        // A run is ASCII.
-        return keep_bytes(run, output);
-    };
-    match write_run(text, output, include_hash) {
+    match write_run(run_text(run), output, include_hash) {
         Ok(()) => Ok(()),
         Err(error) => Err(StreamFault::Write(error)),
     }
