@@ -10,11 +10,12 @@ It builds crates/demangle_c by `rt lib`, and then, in a folder of its own, print
               By gcc and by clang, each linked as usual, with -static, to a shared library, as C++, and with AddressSanitizer
   hostile     the same program's own checks of the symbols of bench/hostile.py, under limits of 0 and of 4,096 bytes
   headers     both headers compile as C89 but for `bool`, as later C and as C++, without a warning
-  texts       bench/c_library/answers.c filters the corpus's texts of many symbols as TEXTSRC
+  texts       the stored symbols with bytes between them as one text, which need be no UTF-8
   by name     rustc_demangle, put into the archive, is a function of the shared library, and answers as the crate's does
   sanitizers  bench/c_library/many.c makes each call for 200,000 texts, most of them damaged symbols, from two threads at once,
               built with AddressSanitizer, UndefinedBehaviorSanitizer and ThreadSanitizer
   python      the tests of bindings/python over the shared library, and the time of 100,000 texts
+              and `pip install` of it into a venv
   backtrace   examples/backtrace.c prints its own backtrace with paths in place of symbols, and ends at a symbol that is made
               to be deep
   stack       the bytes of stack that a call in a signal handler touches, over the stored symbols and hostile ones: at most 96 KiB,
@@ -224,6 +225,25 @@ def check_by_name(folder, expected):
     return '%d texts by ctypes: no answer differs' % tried
 
 
+def check_texts(folder, expected):
+    """The stored symbols with other bytes between them as one text, in both forms, at sizes that fit and that do not."""
+    call = ctypes.CDLL(shared_library(folder, 'gcc')).kodliwe_demangle_text
+    call.argtypes = [ctypes.c_char_p, ctypes.c_size_t, ctypes.c_void_p, ctypes.c_size_t, ctypes.c_bool, ctypes.c_size_t]
+    call.restype = ctypes.c_size_t
+    some = [(symbol, answer) for symbol, limit, answer in expected if limit == NO_LIMIT and re.fullmatch(rb'(_ZN|_R)[\w$.]*', symbol)
+            and not (answer and any(b'\\' in text or text.startswith(b'#len') for text in answer[:2]))]
+    text = b''.join(b'\xff <%s>\0\n' % symbol for symbol, _ in some)
+    for form in range(2):
+        want = b''.join(b'\xff <%s>\0\n' % (answer[form] if answer else symbol) for symbol, answer in some)
+        for room in (len(want) + 40, len(want) + 1, len(want), 1000, 1, 0):
+            out = ctypes.create_string_buffer(b'\x5a' * (len(want) + 64), len(want) + 64)
+            assert call(text, len(text), out, room, form == 0, NO_LIMIT) == len(want) + 1, 'another size is returned'
+            kept = min(max(room - 1, 0), len(want))
+            end = b'\0' if room else b''
+            assert out.raw == want[:kept] + end + b'\x5a' * (len(out) - kept - len(end)), 'another text at %d bytes' % room
+    return '%d runs in a text of %d bytes, in both forms at 6 sizes: no byte differs' % (len(some), len(text))
+
+
 def damaged(symbols, count):
     """So many texts, most of them stored symbols that were changed in a few places, the same ones each time."""
     dice = random.Random(20251123)
@@ -266,10 +286,10 @@ texts = [line.decode() for line in open(sys.argv[1], 'rb').read().split(b'\\n')[
 texts = (texts * (100_000 // len(texts) + 1))[:100_000]
 best = 1e9
 for _ in range(5):
-    began = time.perf_counter()
+    began = time.process_time()
     for text in texts:
         kodliwe.demangle(text)
-    best = min(best, time.perf_counter() - began)
+    best = min(best, time.process_time() - began)
 print('%.2f' % best)
 '''
 
@@ -285,7 +305,22 @@ def check_python(folder, stored):
     with open(real, 'wb') as file:
         file.write(b''.join(symbol + b'\n' for _, start, end in REAL for symbol in stored[start:end]))
     seconds = run([sys.executable, '-c', SPEED, real], env=env).decode().strip()
-    return '%s tests passed; 100,000 real symbols in %s s' % (counted[1], seconds)
+    return '%s tests passed; 100,000 texts, real symbols, in %s s of processor time' % (counted[1], seconds)
+
+
+def check_package(folder):
+    place = os.path.join(folder, 'venv')
+    try:
+        run([sys.executable, '-m', 'venv', place])
+    except AssertionError:
+        raise Lacking('venv of Python (Debian: python3-venv)')
+    python = os.path.join(place, 'bin', 'python')
+    run([python, '-m', 'pip', 'install', '--no-index', os.path.join(ROOT, 'bindings', 'python')])
+    env = dict(os.environ, KODLIWE_LIB=shared_library(folder, 'gcc'))
+    env.pop('PYTHONPATH', None)
+    said = run([python, '-m', 'kodliwe', '_ZN3foo17h05af221e174051e9E', 'main'], env=env, cwd=folder)
+    assert said == b'foo\nmain\n', said
+    return '`pip install ./bindings/python` into a new venv, with no network'
 
 
 def check_backtrace(folder, compiler):
@@ -408,10 +443,12 @@ def main():
     step('hostile', check_hostile, folder)
     stored = [symbol for symbol, limit, _ in expected if limit == NO_LIMIT]
     step('headers', check_headers, folder)
+    step('texts', check_texts, folder, expected)
     step('by name', check_by_name, folder, expected)
     for sanitizer in ('address', 'undefined', 'thread'):
         step('sanitizers, ' + sanitizer, check_sanitizer, folder, 'gcc', sanitizer, stored)
     step('python', check_python, folder, stored)
+    step('python package', check_package, folder)
     step('stack', check_stack, folder, stored)
     step('times', check_times, folder)
     step('binding', check_binding, folder)

@@ -176,6 +176,15 @@ class Library(unittest.TestCase):
         self.assertEqual(ran.returncode, 1)
         self.assertIn(b"OSError: kodliwe finds no libkodliwe.so: build it as docs/C.md says", ran.stderr.splitlines()[-1])
 
+    def test_the_package_says_the_same_everywhere(self):
+        import packing
+
+        with open(os.path.join(HERE, "..", "pyproject.toml")) as file:
+            project = dict(re.findall(r'^([\w-]+) = "(.*)"$', file.read(), re.M))
+        for field, key in (("Name", "name"), ("Version", "version"), ("Summary", "description"), ("Requires-Python", "requires-python")):
+            self.assertIn("\n%s: %s\n" % (field, project[key]), packing.METADATA)
+        self.assertEqual((packing.NAME, packing.VERSION), (project["name"], kodliwe.__version__))
+
     def test_the_module_is_a_program(self):
         library = self.file()
         program = "import runpy, sys; sys.argv[1:2] = []; runpy.run_path(%r, run_name='__main__')" % MODULE

@@ -2,10 +2,11 @@
 //! include/kodliwe.h.
 #![tactic(auto)]
 
-ghost use Rattle.std.specs.Prelude.{◌≡◌, ◌+◌, ◌≤◌, ◌↔◌, ℕ, List, length, take, drop, IsTrue, OnSome, IfSome, IfNone};
+ghost use Rattle.std.specs.Prelude.{◌≡◌, ◌+◌, ◌<◌, ◌≤◌, ◌↔◌, ℕ, List, length, take, drop, IsTrue, OnSome, IfSome, IfNone};
 ghost use Prim.Native.Nat.{min};
 ghost use Rattle.std.specs.List.{concat};
 ghost use Rattle.rustc_demangle.specs.Cut.{size};
+ghost use Rattle.rustc_demangle.specs.Pieces.{filtered_within};
 ghost use Rattle.rustc_demangle.specs.Slice.{overlay};
 ghost use Rattle.rustc_demangle.specs.Stripped.{stripped};
 ghost use Rattle.rustc_demangle.specs.Symbols.{handed};
@@ -15,7 +16,7 @@ ghost use Rattle.demangle_c.specs.Naming.{NamesRust, path_named, path_within, c_
 mod tests;
 
 use rustc_demangle::sink::SliceSink;
-use rustc_demangle::{Demangle, try_demangle};
+use rustc_demangle::{Demangle, demangle_slice, try_demangle};
 
 /// The most bytes that are printed of a symbol, before the marker and the suffix.
 const MAX_SIZE: usize = 1_000_000;
@@ -155,4 +156,34 @@ pub extern "C" fn kodliwe_demangle(symbol: &[u8], out: &mut [u8], include_hash: 
         out.new ≡ overlay out.old (c_string (length out.old) (path_named symbol.now include_hash)) }
 {
     kodliwe_demangle_limited(symbol, out, include_hash, MAX_SIZE)
+}
+
+/// Writes any bytes into memory with each Rust symbol in them replaced by its path, with a 0 behind
+/// it all, and answers how many bytes that is.
+///
+/// A symbol is looked for where `_ZN` or `_R` stands, up to the next byte that is no ASCII letter,
+/// no digit and none of `$`, `.` and `_`; its path is cut as by `kodliwe_demangle_limited`, and all
+/// other bytes stay as they are. The answer does not depend on the size of the memory, which holds
+/// as much of the text as fits before a 0; no byte behind the 0 is changed. It is `usize::MAX` where
+/// no smaller number says it; what the memory then holds is not said. It takes no memory of its own.
+#[unsafe(no_mangle)]
+pub extern "C" fn kodliwe_demangle_text(
+    text: &[u8],
+    out: &mut [u8],
+    include_hash: bool,
+    limit: usize,
+) -> usize
+    ensures size { let filtered = filtered_within include_hash (min limit MAX_SIZE) text.now in
+        length filtered < usize.MAX → result ≡ length filtered + 1 }
+    ensures text { let filtered = filtered_within include_hash (min limit MAX_SIZE) text.now in
+        length filtered < usize.MAX →
+        out.new ≡ overlay out.old (c_string (length out.old) filtered) }
+    ensures past { usize.MAX ≤ length (filtered_within include_hash (min limit MAX_SIZE) text.now) →
+        result ≡ usize.MAX }
+{
+    let Some(len) = demangle_slice(text, out, include_hash, limit.min(MAX_SIZE)) else {
+        return usize::MAX;
+    };
+    put_end(out, len);
+    len.saturating_add(1)
 }

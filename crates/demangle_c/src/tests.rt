@@ -1,7 +1,7 @@
 //! The calls, once for each kind of answer and of size. The texts are the Rust crate's.
 use crate::{
-    kodliwe_demangle, kodliwe_demangle_limited, kodliwe_demangle_part, kodliwe_is_symbol,
-    kodliwe_symbol_len,
+    kodliwe_demangle, kodliwe_demangle_limited, kodliwe_demangle_part, kodliwe_demangle_text,
+    kodliwe_is_symbol, kodliwe_symbol_len,
 };
 
 /// Its text doubles with each of 18 tuples, past every limit.
@@ -210,4 +210,44 @@ fn a_symbol_ends_before_thin_lto(rt: HostRuntime) {
     assert_eq!(rt; kodliwe_symbol_len(b"main"), 0);
     assert_eq!(rt; kodliwe_symbol_len(b"_ZN\xFF"), 0);
     assert_eq!(rt; kodliwe_symbol_len(b""), 0);
+}
+
+#[test]
+fn a_text_keeps_all_but_its_symbols(rt: HostRuntime) {
+    let mut out = [9; 40];
+    let text = b"\xFF at _ZN3foo17h05af221e174051e9E: _RNvC3foo3bar\n";
+    assert_eq!(rt; kodliwe_demangle_text(text, &mut out, false, 1000), 20);
+    assert!(rt; out.starts_with(b"\xFF at foo: foo::bar\n\0\x09"));
+}
+
+#[test]
+fn a_text_is_cut_where_the_memory_ends(rt: HostRuntime) {
+    let mut out = [9; 8];
+    assert_eq!(rt;
+        kodliwe_demangle_text(b"<_RNvC3foo3bar>", &mut out[..7], false, 1000),
+        11
+    );
+    assert!(rt; out == *b"<foo::\0\x09");
+    assert_eq!(rt;
+        kodliwe_demangle_text(b"<_RNvC3foo3bar>", &mut out[..0], false, 1000),
+        11
+    );
+    assert!(rt; out == *b"<foo::\0\x09");
+}
+
+#[test]
+fn the_limit_of_a_text_is_each_symbols(rt: HostRuntime) {
+    let mut out = [9; 40];
+    assert_eq!(rt;
+        kodliwe_demangle_text(b"_ZN3foo3barE _ZN1aE", &mut out, false, 4),
+        26
+    );
+    assert!(rt; out.starts_with(b"foo{size limit reached} a\0\x09"));
+}
+
+#[test]
+fn an_empty_text_is_its_end(rt: HostRuntime) {
+    let mut out = [9; 2];
+    assert_eq!(rt; kodliwe_demangle_text(b"", &mut out, true, 1000), 1);
+    assert!(rt; out == *b"\0\x09");
 }

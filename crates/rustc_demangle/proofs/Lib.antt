@@ -1,13 +1,16 @@
+pub mod BytesSteps
 pub mod FeedLaws
 pub mod Feeds
 pub mod FilterLaws
 pub mod ItemFeeds
 pub mod LineDivision
 pub mod LineLaws
+pub mod PieceSteps
 pub mod PrintingLaws
 pub mod SchemeLaws
 pub mod Searches
 pub mod RunSteps
+pub mod SliceSteps
 pub mod StreamSteps
 pub mod StripLaws
 pub mod Stripping

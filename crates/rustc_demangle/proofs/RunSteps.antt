@@ -83,7 +83,7 @@ cut_before s n lt some =
     let first : get_or s n 0 ≡ 95 = ap (λ k. get_or s k 0) (sym at) ∙ sym (get_or-drop n s 0 0) ∙ first_of_run (drop n s) some in
     IsCharBoundary-before_ascii s n lt (omega (arith, first))
 
-run_ascii : (c : ℕ) → is_run c ≡ true → c < 128
+pub run_ascii : (c : ℕ) → is_run c ≡ true → c < 128
 run_ascii c is = grind (arith, nat_tests)
 
 pub cut_behind : (s : List ℕ) → IsUtf8 s → begins_run s ≡ true → IsCharBoundary s (prefix_len is_run s)

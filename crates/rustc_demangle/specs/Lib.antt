@@ -4,7 +4,9 @@ pub mod Symbols
 pub mod Hashes
 pub mod Lines
 pub mod Filtered
+pub mod Pieces
 pub mod Stream
+pub mod Bytes
 -- and of demangle_sink
 pub use Rattle.demangle_sink.specs.Sink
 pub use Rattle.demangle_sink.specs.Cut

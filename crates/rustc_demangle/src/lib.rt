@@ -7,14 +7,22 @@ ghost use Rattle.rustc_demangle.specs.Symbols.{IsSymbol};
 
 mod display;
 pub mod laws;
+mod runs;
 pub mod sink;
+mod slice;
 mod stream;
 mod strip;
+mod text;
 mod value;
 
 pub use demangle_symbol::cursor::Looks;
-pub use stream::{StreamFault, demangle_stream, demangle_stream_named};
+pub use runs::{run_len, run_start};
+pub use slice::demangle_slice;
+pub use stream::{
+    BytesFilter, StreamFault, demangle_bytes, demangle_stream, demangle_stream_named,
+};
 use strip::without_thin_lto;
+pub use text::{demangle_text, demangle_text_limited};
 pub use value::Demangle;
 
 /// The refusal of a text that is no Rust symbol.

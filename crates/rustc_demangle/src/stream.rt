@@ -6,12 +6,15 @@ use std::alloc::{Allocator, Global};
 use std::io::{BufRead, Write};
 use std::{io, str};
 
+mod bytes;
+mod carrying;
 mod fault;
 mod line;
 mod reading;
 #[cfg(test)]
 mod tests;
 
+pub use bytes::{BytesFilter, demangle_bytes};
 pub use fault::StreamFault;
 use line::demangle_line;
 use reading::read_line;

@@ -1,0 +1,493 @@
+-- A text of any bytes, part by part.
+use Rattle.std.proofs.Common.{◌≡◌, ℕ, zero, suc, ◌+◌, ◌-◌, ◌<◌, ◌≤◌, ◌⊎◌, inl, inr, ◌&&◌, ◌||◌, Bool, true, false, eqb, eqb-true, cond, List, [], ◌∷◌, ◌++◌, length, take, drop, get_or, None, Some, IfSome, refl, sym, ap, subst, ◌∙◌, arith, append_assoc, append-nil, length-drop, length-append, take_all, codes, nat_eq}
+use Rattle.std.specs.List.{prefix_len, list_all, starts_with}
+use Rattle.std.specs.Cmp.Lexicographic.{pointwise}
+use Rattle.std.specs.Bool.{⊤}
+use Rattle.std.specs.declared.option.Option.{Option}
+use Rattle.std.specs.declared.io.Error.{Error}
+use Rattle.std.specs.declared.io.ErrorKind.TheVariants.{OutOfMemory}
+use Rattle.std.specs.IoError.{error_kind}
+use Rattle.std.specs.Io.{StartsWith}
+use Rattle.std.specs.Str.{IsUtf8}
+use Rattle.std.proofs.lemmas.Str.{IsUtf8-from_ascii}
+use Rattle.std.specs.Io.KnownBytes.{Appends, Consumes}
+use Rattle.std.proofs.KnownBytes.{Appends-trans, Appends-nil, starts_with_rest}
+use Rattle.std.proofs.Math.Seq.{drop-append_seam}
+use Rattle.std.proofs.lemmas.Option.{MatchOption-at_some}
+use Rattle.std.proofs.lemmas.List.{get_or_past, append_cancel_left, drop-append-le, take-append-le, take-append-drop, drop-drop, drop_all, length-take-le}
+use Rattle.std.proofs.lemmas.List.Folds.{list_all-append, prefix_len-append}
+use Rattle.std.proofs.lemmas.List.Sums.{prefix_len-le-length}
+use Rattle.std.proofs.lemmas.Bool.{true≢false}
+use Rattle.std.proofs.lemmas.Bool.Decides.{nat_tests}
+use Rattle.rustc_demangle.specs.Filtered.{is_run, begins_run, NoRunFirst, replacement, filtered_from, filtered}
+use Rattle.rustc_demangle.specs.Bytes.{CutsNoRun, IsOpen, Passed, StepTook, StepEnded, StepRefused, BytesStopped}
+use Rattle.rustc_demangle.specs.declared.stream.fault.StreamFault.{StreamFault}
+use Rattle.rustc_demangle.specs.declared.stream.fault.StreamFault.TheVariants.{Read, NotUtf8, Write, Memory}
+use Rattle.rustc_demangle.proofs.Searches.{no_mark}
+use Rattle.rustc_demangle.proofs.RunSteps.{run_ascii, turn, begins_with, first_of_run, filtered_run, filtered_all}
+
+-- what begins a run begins one whatever follows
+pub begins_more : (s t : List ℕ) → begins_run s ≡ true → begins_run (s ++ t) ≡ true
+begins_more s t some = elim ((begins_with s some).1) [
+  | inl e ↦ ap (λ l. begins_run (l ++ t)) e
+  | inr e ↦ ap (λ l. begins_run (l ++ t)) e
+]
+
+pub begins_less : (s t : List ℕ) → begins_run (s ++ t) ≡ false → begins_run s ≡ false
+begins_less s t none = at (begins_run s) refl
+  where
+    at : (b : Bool) → begins_run s ≡ b → begins_run s ≡ false
+    at true e = absurd (true≢false (sym (begins_more s t e) ∙ none))
+    at false e = e
+
+-- two characters that begin no run, and are no `_Z`
+two : (c d : ℕ) (more : List ℕ) → begins_run (c ∷ d ∷ []) ≡ false → ((c ∷ d ∷ []) ≡ codes "_Z" → ⊥) → begins_run (c ∷ d ∷ more) ≡ false
+two c d more none not = at (eqb 95 c) refl (eqb 90 d) refl (eqb 82 d) none
+  where
+    at : (x : Bool) → eqb 95 c ≡ x → (z : Bool) → eqb 90 d ≡ z → (r : Bool) → ((x && (z && false)) || (x && (r && true))) ≡ false
+        → ((x && (z && starts_with nat_eq more (codes "N"))) || (x && (r && true))) ≡ false
+    at false e z ez r h = refl
+    at true e true ez r h = absurd (not (ap (λ k. k ∷ d ∷ []) (sym (eqb-true 95 c e)) ∙ ap (λ k. 95 ∷ k ∷ []) (sym (eqb-true 90 d ez))))
+    at true e false ez true h = absurd (true≢false h)
+    at true e false ez false h = refl
+
+-- what begins no run, and is no beginning of one, begins none whatever follows
+pub begins_never : (s more : List ℕ) → begins_run s ≡ false → (s ≡ [] → ⊥) → (s ≡ codes "_" → ⊥) → (s ≡ codes "_Z" → ⊥) → begins_run (s ++ more) ≡ false
+begins_never [] more none a b d = absurd (a refl)
+begins_never (c ∷ []) more none a b d = no_mark c more (λ e. b (ap (λ k. k ∷ []) (eqb-true c 95 e)))
+begins_never (c ∷ x ∷ []) more none a b d = two c x more none d
+begins_never (c ∷ x ∷ y ∷ s) more none a b d = none
+
+-- where no run begins in a front, none is cut
+pub cuts_kept : (kept left : List ℕ) → ((k : ℕ) → k < length kept → begins_run (drop k (kept ++ left)) ≡ false) → CutsNoRun kept left
+cuts_kept kept left none = λ before run e some all begins.
+    let at : kept ++ left ≡ before ++ (run ++ left) = ap (λ l. l ++ left) e ∙ append_assoc before run left in
+    let here : drop (length before) (kept ++ left) ≡ run ++ left = ap (drop (length before)) at ∙ drop-append_seam before (run ++ left) in
+    absurd (true≢false (sym begins ∙ ap begins_run (sym here) ∙ none (length before) (omega (arith, ap length e, length-append before run))))
+
+-- all of a text are run characters where its longest prefix of such is all of it
+all_of_prefix : (s : List ℕ) → prefix_len is_run s ≡ length s → list_all is_run s ≡ true
+all_of_prefix [] e = refl
+all_of_prefix (c ∷ s) e = at (all_of_prefix s) (is_run c) e
+  where
+    at : (prefix_len is_run s ≡ length s → list_all is_run s ≡ true) → (b : Bool) → cond b (1 + prefix_len is_run s) 0 ≡ suc (length s) → (b && list_all is_run s) ≡ true
+    at ih true e = ih (omega (arith, e))
+    at ih false e = absurd (omega (arith, e))
+
+-- the longest prefix of run characters
+pub all_prefix : (s : List ℕ) → list_all is_run (take (prefix_len is_run s) s) ≡ true
+all_prefix [] = refl
+all_prefix (c ∷ s) = at (all_prefix s) (is_run c) refl
+  where
+    at : list_all is_run (take (prefix_len is_run s) s) ≡ true → (b : Bool) → is_run c ≡ b → list_all is_run (take (cond b (1 + prefix_len is_run s) 0) (c ∷ s)) ≡ true
+    at ih true e =
+        let one : 1 + prefix_len is_run s ≡ suc (prefix_len is_run s) = omega arith in
+        ap (λ n. list_all is_run (take n (c ∷ s))) one ∙ ap (λ b. b && list_all is_run (take (prefix_len is_run s) s)) e ∙ ih
+    at ih false e = refl
+
+-- and what it is of a text of run characters alone
+prefix_of_all : (s : List ℕ) → list_all is_run s ≡ true → prefix_len is_run s ≡ length s
+prefix_of_all [] all = refl
+prefix_of_all (c ∷ s) all = at (prefix_of_all s) (is_run c) all
+  where
+    at : (list_all is_run s ≡ true → prefix_len is_run s ≡ length s) → (b : Bool) → (b && list_all is_run s) ≡ true → cond b (1 + prefix_len is_run s) 0 ≡ suc (length s)
+    at ih true h = omega (arith, ih h)
+    at ih false h = absurd (true≢false (sym h))
+
+-- what follows it
+pub behind_prefix : (s more : List ℕ) → prefix_len is_run s < length s → NoRunFirst (drop (prefix_len is_run s) s ++ more)
+behind_prefix [] more lt = absurd (omega (arith, lt))
+behind_prefix (c ∷ s) more lt = at (behind_prefix s more) (is_run c) refl lt
+  where
+    at : (prefix_len is_run s < length s → NoRunFirst (drop (prefix_len is_run s) s ++ more)) → (b : Bool) → is_run c ≡ b → cond b (1 + prefix_len is_run s) 0 < suc (length s) → NoRunFirst (drop (cond b (1 + prefix_len is_run s) 0) (c ∷ s) ++ more)
+    at ih true e lt =
+        let one : suc (prefix_len is_run s) ≡ 1 + prefix_len is_run s = omega arith in
+        subst (λ n. NoRunFirst (drop n (c ∷ s) ++ more)) one (ih (omega (arith, lt)))
+    at ih false e lt = e
+
+no_prefix : (s : List ℕ) → NoRunFirst s → prefix_len is_run s ≡ 0
+no_prefix [] h = refl
+no_prefix (c ∷ s) h = ap (λ b. cond b (1 + prefix_len is_run s) 0) h
+
+run_first : (c : ℕ) (s : List ℕ) → begins_run (c ∷ s) ≡ true → is_run c ≡ true
+run_first c s some = ap is_run (first_of_run (c ∷ s) some)
+
+-- a run that is not cut is as long
+same_len : (c : ℕ) (a b : List ℕ) → CutsNoRun (c ∷ a) b → begins_run (c ∷ (a ++ b)) ≡ true → prefix_len is_run (a ++ b) ≡ prefix_len is_run a
+same_len c a b cut some = prefix_len-append is_run a b ∙ at (eqb (prefix_len is_run a) (length a)) refl
+  where
+    at : (t : Bool) → eqb (prefix_len is_run a) (length a) ≡ t → cond t (length a + prefix_len is_run b) (prefix_len is_run a) ≡ prefix_len is_run a
+    at true e =
+        let full : prefix_len is_run a ≡ length a = eqb-true _ _ e in
+        let all : list_all is_run (c ∷ a) ≡ true = ap (λ t. t && list_all is_run a) (run_first c (a ++ b) some) ∙ all_of_prefix a full in
+        let none : prefix_len is_run b ≡ 0 = no_prefix b (cut [] (c ∷ a) refl (omega arith) all some) in
+        omega (arith, full, none)
+    at false e = refl
+
+-- and it begins where it began
+same_begin : (c : ℕ) (a b : List ℕ) → CutsNoRun (c ∷ a) b → begins_run (c ∷ (a ++ b)) ≡ true → begins_run (c ∷ a) ≡ true
+same_begin c [] [] cut some = some
+same_begin c [] (x ∷ b) cut some =
+    let stop : is_run x ≡ false = cut [] (c ∷ []) refl (omega arith) (ap (λ t. t && true) (run_first c (x ∷ b) some)) some in
+    absurd (elim ((begins_with (c ∷ x ∷ b) some).1) [
+      | inl e ↦ true≢false (sym (ap (λ l. is_run (get_or l 1 0)) e) ∙ stop)
+      | inr e ↦ true≢false (sym (ap (λ l. is_run (get_or l 1 0)) e) ∙ stop)
+    ])
+same_begin c (x ∷ []) [] cut some = some
+same_begin c (x ∷ []) (y ∷ b) cut some = elim ((begins_with (c ∷ x ∷ y ∷ b) some).1) [
+  | inl e ↦
+      let first : is_run x ≡ true = ap (λ l. is_run (get_or l 1 0)) e in
+      let stop : is_run y ≡ false = cut [] (c ∷ x ∷ []) refl (omega arith) (ap (λ t. t && (is_run x && true)) (run_first c (x ∷ y ∷ b) some) ∙ ap (λ t. t && true) first) some in
+      absurd (true≢false (sym (ap (λ l. is_run (get_or l 2 0)) e) ∙ stop))
+  | inr e ↦ ap (λ l. begins_run (take 2 l)) e
+]
+same_begin c (x ∷ y ∷ a) b cut some = some
+
+tail : (c : ℕ) (a b : List ℕ) → CutsNoRun (c ∷ a) b → CutsNoRun a b
+tail c a b cut = λ before run e some all begins. cut (c ∷ before) run (ap (λ l. c ∷ l) e) some all begins
+
+-- a text that is filtered in two parts of which the first cuts no run
+split_from : (h : Bool) (a b : List ℕ) (k : ℕ) → k ≤ length a → CutsNoRun a b → filtered_from h k (a ++ b) ≡ filtered_from h k a ++ filtered h b
+unfolding filtered_from
+split_from h [] b zero le cut = refl
+split_from h [] b (suc k) le cut = absurd (omega (arith, le))
+split_from h (c ∷ a) b (suc k) le cut = split_from h a b k (omega (arith, le)) (tail c a b cut)
+split_from h (c ∷ a) b zero le cut = at (λ k le. split_from h a b k le (tail c a b cut)) (begins_run (c ∷ (a ++ b))) refl
+  where
+    at : ((k : ℕ) → k ≤ length a → filtered_from h k (a ++ b) ≡ filtered_from h k a ++ filtered h b) → (r : Bool) → begins_run (c ∷ (a ++ b)) ≡ r → turn h c (a ++ b) (begins_run (c ∷ (a ++ b))) ≡ turn h c a (begins_run (c ∷ a)) ++ filtered h b
+    at ih true e =
+        let m = prefix_len is_run a in
+        let len : prefix_len is_run (a ++ b) ≡ m = same_len c a b cut e in
+        let within : m ≤ length a = prefix_len-le-length is_run a in
+        let shown : take (prefix_len is_run (a ++ b)) (a ++ b) ≡ take m a = ap (λ n. take n (a ++ b)) len ∙ take-append-le m a b within in
+        ap (turn h c (a ++ b)) e
+        ∙ ap (λ l. replacement h (c ∷ l) ++ filtered_from h (prefix_len is_run (a ++ b)) (a ++ b)) shown
+        ∙ ap (λ n. replacement h (c ∷ take m a) ++ filtered_from h n (a ++ b)) len
+        ∙ ap (λ l. replacement h (c ∷ take m a) ++ l) (ih m within)
+        ∙ sym (append_assoc (replacement h (c ∷ take m a)) (filtered_from h m a) (filtered h b))
+        ∙ sym (ap (λ t. turn h c a t ++ filtered h b) (same_begin c a b cut e))
+    at ih false e =
+        ap (turn h c (a ++ b)) e
+        ∙ ap (λ l. c ∷ l) (ih zero (omega arith))
+        ∙ sym (ap (λ t. turn h c a t ++ filtered h b) (begins_less (c ∷ a) b e))
+
+pub filtered_split : (h : Bool) (a b : List ℕ) → CutsNoRun a b → filtered h (a ++ b) ≡ filtered h a ++ filtered h b
+filtered_split h a b cut = split_from h a b zero (omega arith) cut
+
+-- nothing was passed
+pub passed_none : (h : Bool) (held left : List ℕ) (old : Option (List ℕ)) → held ≡ left → Passed h held left old old
+unfolding filtered_from
+passed_none h held left old e = record {
+  front = [];
+  whole = e;
+  uncut = λ before run none some all begins. absurd (omega (arith, ap length none, length-append before run));
+  wrote = Appends-nil old;
+}
+
+-- where two parts meet, behind a place in the first or in the second
+seam : (a b before run : List ℕ) → a ++ b ≡ before ++ run
+    → ((x : List ℕ) × (a ≡ before ++ x) × (run ≡ x ++ b)) ⊎ ((y : List ℕ) × (b ≡ y ++ run))
+seam [] b before run e = inr (before, e)
+seam (c ∷ a) b [] run e = inl (c ∷ a, refl, sym e)
+seam (c ∷ a) b (d ∷ before) run e = elim (seam a b before run (cc)) [
+  | inl p ↦ inl (p.0, (let first : c ≡ d = cc in ap (λ k. k ∷ a) first ∙ ap (λ l. d ∷ l) p.1), p.2)
+  | inr p ↦ inr p
+]
+
+and_left : (a b : Bool) → (a && b) ≡ true → a ≡ true
+and_left true b h = refl
+and_left false b h = h
+
+and_right : (a b : Bool) → (a && b) ≡ true → b ≡ true
+and_right true b h = h
+and_right false b h = absurd (true≢false (sym h))
+
+no_first : (a b : List ℕ) → NoRunFirst (a ++ b) → NoRunFirst a
+no_first [] b h = tt
+no_first (c ∷ a) b h = h
+
+past_all : (a b : List ℕ) → list_all is_run a ≡ true → NoRunFirst (a ++ b) → NoRunFirst b
+past_all [] b all h = h
+past_all (c ∷ a) b all h = absurd (true≢false (sym (and_left (is_run c) (list_all is_run a) all) ∙ h))
+
+-- two fronts, one behind the other
+cuts_both : (a b left : List ℕ) → CutsNoRun a (b ++ left) → CutsNoRun b left → CutsNoRun (a ++ b) left
+cuts_both a b left first second = λ before run e some all begins. elim (seam a b before run e) [
+  | inl p ↦ at before run some all begins p.0 p.1 p.2
+  | inr p ↦ second p.0 run p.1 some all begins
+]
+  where
+    at : (before run : List ℕ) → 0 < length run → list_all is_run run ≡ true → begins_run (run ++ left) ≡ true → (x : List ℕ) → a ≡ before ++ x → run ≡ x ++ b → NoRunFirst left
+    at before run some all begins [] ea er = second [] run (sym er) some all begins
+    at before run some all begins (c ∷ x) ea er =
+        let both = sym (list_all-append is_run (c ∷ x) b) ∙ ap (list_all is_run) (sym er) ∙ all in
+        let here : begins_run ((c ∷ x) ++ (b ++ left)) ≡ true = ap begins_run (sym (append_assoc (c ∷ x) b left) ∙ ap (λ l. l ++ left) (sym er)) ∙ begins in
+        past_all b left (and_right (list_all is_run (c ∷ x)) (list_all is_run b) both)
+        (first before (c ∷ x) ea (omega arith) (and_left (list_all is_run (c ∷ x)) (list_all is_run b) both) here)
+
+cuts_first : (a b left : List ℕ) → CutsNoRun a (b ++ left) → CutsNoRun a b
+cuts_first a b left cut = λ before run e some all begins.
+    no_first b left (cut before run e some all (ap begins_run (sym (append_assoc run b left)) ∙ begins_more (run ++ b) left begins))
+
+pub passed_trans : (h : Bool) (held mid left : List ℕ) (old between new : Option (List ℕ)) → Passed h held mid old between → Passed h mid left between new → Passed h held left old new
+passed_trans h held mid left old between new p q =
+    let cut = subst (CutsNoRun p.front) q.whole p.uncut in
+    record {
+      front = p.front ++ q.front;
+      whole = p.whole ∙ ap (λ l. p.front ++ l) q.whole ∙ sym (append_assoc p.front q.front left);
+      uncut = cuts_both p.front q.front left cut q.uncut;
+      wrote = subst (Appends old new) (sym (filtered_split h p.front q.front (cuts_first p.front q.front left cut)))
+          (Appends-trans old between new _ _ p.wrote q.wrote);
+    }
+
+-- a text in which no run begins is kept
+pub passed_kept : (h : Bool) (held kept left : List ℕ) (old new : Option (List ℕ)) → held ≡ kept ++ left
+    → ((k : ℕ) → k < length kept → begins_run (drop k held) ≡ false) → Appends old new kept → Passed h held left old new
+passed_kept h held kept left old new e none wrote =
+    let none' = subst (λ l. (k : ℕ) → k < length kept → begins_run (drop k l) ≡ false) e none in
+    let here : (k : ℕ) → k < length kept → begins_run (drop k kept) ≡ false = λ k lt. begins_less (drop k kept) left (ap begins_run (sym (drop-append-le k kept left (omega arith))) ∙ none' k lt) in
+    record {
+      front = kept;
+      whole = e;
+      uncut = cuts_kept kept left none';
+      wrote = subst (Appends old new) (sym (filtered_all h kept here)) wrote;
+    }
+
+-- a run is what stands for it
+pub filtered_whole : (h : Bool) (run : List ℕ) → begins_run run ≡ true → list_all is_run run ≡ true → filtered h run ≡ replacement h run
+unfolding filtered_from
+filtered_whole h run some all =
+    let n = prefix_len is_run run in
+    let full : n ≡ length run = prefix_of_all run all in
+    filtered_run h run some
+    ∙ ap (λ l. replacement h l ++ filtered h (drop n run)) (take_all n run (omega (arith, full)))
+    ∙ ap (λ l. replacement h run ++ filtered h l) (drop_all n run (omega (arith, full)))
+    ∙ append-nil (replacement h run)
+
+-- a front behind which no run goes on is filtered
+pub passed_front : (h : Bool) (held front left : List ℕ) (old new : Option (List ℕ)) → held ≡ front ++ left → NoRunFirst left
+    → Appends old new (filtered h front) → Passed h held left old new
+passed_front h held front left old new e stop wrote = record {
+  front = front;
+  whole = e;
+  uncut = λ before run same some all begins. stop;
+  wrote = wrote;
+}
+
+-- which open texts are runs
+open_run : (s : List ℕ) → IsOpen s → begins_run s ≡ true → list_all is_run s ≡ true
+open_run s (inl e) some = absurd (true≢false (sym some ∙ ap begins_run e))
+open_run s (inr (inl e)) some = absurd (true≢false (sym some ∙ ap begins_run e))
+open_run s (inr (inr (inl e))) some = absurd (true≢false (sym some ∙ ap begins_run e))
+open_run s (inr (inr (inr run))) some = run.1
+
+pub finished_run : (h : Bool) (s : List ℕ) → IsOpen s → begins_run s ≡ true → replacement h s ≡ filtered h s
+finished_run h s is some = sym (filtered_whole h s some (open_run s is some))
+
+pub finished_kept : (h : Bool) (s : List ℕ) → IsOpen s → begins_run s ≡ false → s ≡ filtered h s
+unfolding filtered_from
+finished_kept h s (inl e) none = e ∙ sym (ap (filtered h) e)
+finished_kept h s (inr (inl e)) none = e ∙ sym (ap (filtered h) e)
+finished_kept h s (inr (inr (inl e))) none = e ∙ sym (ap (filtered h) e)
+finished_kept h s (inr (inr (inr run))) none = absurd (true≢false (sym run.0 ∙ none))
+
+-- a run that goes on is one
+pub more_run : (a s : List ℕ) (n : ℕ) → begins_run a ≡ true → list_all is_run a ≡ true → n ≡ prefix_len is_run s → (b : List ℕ) → b ≡ a ++ take n s
+    → (begins_run b ≡ true) × (list_all is_run b ≡ true)
+more_run a s n some all count b e =
+    let last : list_all is_run (take n s) ≡ true = ap (λ m. list_all is_run (take m s)) count ∙ all_prefix s in
+    (ap begins_run e ∙ begins_more a (take n s) some, ap (list_all is_run) e ∙ list_all-append is_run a (take n s) ∙ ap (λ t. t && list_all is_run (take n s)) all ∙ last)
+
+-- what was taken of the shown bytes stands behind what was carried
+pub moved : (a b shown more : List ℕ) (n : ℕ) → b ≡ a ++ take n shown → a ++ (shown ++ more) ≡ b ++ (drop n shown ++ more)
+moved a b shown more n e =
+    ap (λ l. a ++ (l ++ more)) (sym (take-append-drop n shown))
+    ∙ ap (λ l. a ++ l) (append_assoc (take n shown) (drop n shown) more)
+    ∙ sym (append_assoc a (take n shown) (drop n shown ++ more))
+    ∙ ap (λ l. l ++ (drop n shown ++ more)) (sym e)
+
+-- a carried run that ends in the shown bytes
+pub run_ended : (h : Bool) (a b next shown : List ℕ) (n : ℕ) (old new : Option (List ℕ)) → b ≡ a ++ take n shown → n ≡ prefix_len is_run shown → n < length shown → next ≡ []
+    → Appends old new (filtered h b) → (more : List ℕ) → Passed h (a ++ (shown ++ more)) (next ++ (drop n shown ++ more)) old new
+run_ended h a b next shown n old new e count lt none wrote more =
+    let stop : NoRunFirst (drop n shown ++ more) = subst (λ m. NoRunFirst (drop m shown ++ more)) (sym count) (behind_prefix shown more (omega (arith, count))) in
+    passed_front h _ b _ old new (moved a b shown more n e ∙ ap (λ l. b ++ (l ++ (drop n shown ++ more))) (sym none)) (subst (λ l. NoRunFirst (l ++ (drop n shown ++ more))) (sym none) stop) wrote
+
+-- the beginning of a run does not go on
+pub not_on : (a : List ℕ) (c : ℕ) (more : List ℕ) → (length a ≡ 1 → ⊥) → (a ≡ codes "_") ⊎ (a ≡ codes "_Z") → eqb c 78 ≡ false → CutsNoRun a (c ∷ more)
+not_on a c more long (inl e) h = absurd (long (ap length e))
+not_on a c more long (inr e) h = subst (λ l. CutsNoRun l (c ∷ more)) (sym e) (cuts_kept (codes "_Z") (c ∷ more) at)
+  where
+    at : (k : ℕ) → k < 2 → begins_run (drop k (95 ∷ 90 ∷ c ∷ more)) ≡ false
+    at zero lt = let t : eqb 78 c ≡ false = grind (arith, nat_tests) in rw t refl
+    at (suc zero) lt = refl
+    at (suc (suc k)) lt = absurd (omega (arith, lt))
+
+-- what the ends of a text tell of the beginnings in it
+pub uncut_one : (text : List ℕ) → true ≡ pointwise nat_eq (codes "_") (drop (length text - 1) text) → ((k : ℕ) → k < length text → begins_run (drop k text) ≡ false)
+    → (more : List ℕ) (k : ℕ) → k < length text - 1 → begins_run (drop k text ++ more) ≡ false
+uncut_one text last none more k lt =
+    let len : length (drop k text) ≡ length text - k = length-drop k text in
+    begins_never (drop k text) more (none k (omega arith))
+    (λ e. absurd (omega (arith, ap length e, len)))
+    (λ e. absurd (omega (arith, ap length e, len)))
+    (λ e. let at : length text - 1 ≡ k + 1 = omega (arith, ap length e, len) in
+    true≢false (last ∙ ap (pointwise nat_eq (codes "_")) (ap (λ n. drop n text) at ∙ sym (drop-drop 1 k text) ∙ ap (drop 1) e)))
+
+pub uncut_two : (text : List ℕ) → ((k : ℕ) → k < length text → begins_run (drop k text) ≡ false)
+    → (more : List ℕ) (k : ℕ) → k < length text - 2 → begins_run (drop k text ++ more) ≡ false
+uncut_two text none more k lt =
+    let len : length (drop k text) ≡ length text - k = length-drop k text in
+    begins_never (drop k text) more (none k (omega arith))
+    (λ e. absurd (omega (arith, ap length e, len)))
+    (λ e. absurd (omega (arith, ap length e, len)))
+    (λ e. absurd (omega (arith, ap length e, len)))
+
+pub uncut_none : (text : List ℕ) → false ≡ pointwise nat_eq (codes "_") (drop (length text - 1) text) → false ≡ pointwise nat_eq (codes "_Z") (drop (length text - 2) text)
+    → ((k : ℕ) → k < length text → begins_run (drop k text) ≡ false)
+    → (more : List ℕ) (k : ℕ) → k < length text - 0 → begins_run (drop k text ++ more) ≡ false
+uncut_none text last both none more k lt =
+    let len : length (drop k text) ≡ length text - k = length-drop k text in
+    begins_never (drop k text) more (none k (omega arith))
+    (λ e. absurd (omega (arith, ap length e, len)))
+    (λ e. let at : k ≡ length text - 1 = omega (arith, ap length e, len) in
+    true≢false (ap (pointwise nat_eq (codes "_")) (sym e ∙ ap (λ n. drop n text) at) ∙ sym last))
+    (λ e. let at : k ≡ length text - 2 = omega (arith, ap length e, len) in
+    true≢false (ap (pointwise nat_eq (codes "_Z")) (sym e ∙ ap (λ n. drop n text) at) ∙ sym both))
+
+-- what is long enough begins a run or never does
+pub far : (shown : List ℕ) (start : ℕ) → begins_run (drop start shown) ≡ true → ((k : ℕ) → k < start → begins_run (drop k shown) ≡ false)
+    → (more : List ℕ) (k : ℕ) → k < start → begins_run (drop k shown ++ more) ≡ false
+far shown start some none more k lt =
+    let two : 2 ≤ length (drop start shown) = elim ((begins_with (drop start shown) some).1) [ inl e ↦ omega (arith, ap length e) | inr e ↦ omega (arith, ap length e) ] in
+    let here : length (drop start shown) ≡ length shown - start = length-drop start shown in
+    let len : length (drop k shown) ≡ length shown - k = length-drop k shown in
+    begins_never (drop k shown) more (none k lt)
+    (λ e. absurd (omega (arith, ap length e, len, here, two)))
+    (λ e. absurd (omega (arith, ap length e, len, here, two)))
+    (λ e. absurd (omega (arith, ap length e, len, here, two)))
+
+-- a text up to a place, in front of which no run begins
+front_kept : (h : Bool) (a shown kept left : List ℕ) (n : ℕ) (old new : Option (List ℕ)) → a ≡ [] → kept ≡ take n shown → n ≤ length shown
+    → ((more : List ℕ) (k : ℕ) → k < n → begins_run (drop k shown ++ more) ≡ false) → Appends old new kept
+    → (more : List ℕ) → left ≡ drop n shown ++ more → Passed h (a ++ (shown ++ more)) left old new
+front_kept h a shown kept left n old new nil front le none wrote more behind =
+    let held : a ++ (shown ++ more) ≡ shown ++ more = ap (λ l. l ++ (shown ++ more)) nil in
+    let len : length kept ≡ n = ap length front ∙ length-take-le n shown le in
+    passed_kept h _ kept left old new
+    (held ∙ ap (λ l. l ++ more) (sym (take-append-drop n shown)) ∙ append_assoc (take n shown) (drop n shown) more ∙ ap (λ l. l ++ (drop n shown ++ more)) (sym front) ∙ ap (λ l. kept ++ l) (sym behind))
+    (λ k lt. ap (λ l. begins_run (drop k l)) held ∙ ap begins_run (drop-append-le k shown more (omega (arith, len))) ∙ none more k (omega (arith, len)))
+    wrote
+
+-- the same, where what is behind the place is carried
+pub text_kept : (h : Bool) (a shown kept beginning next : List ℕ) (n : ℕ) (old new : Option (List ℕ)) → a ≡ [] → kept ≡ take n shown → beginning ≡ drop n shown
+    → next ≡ a ++ beginning → n ≤ length shown → ((more : List ℕ) (k : ℕ) → k < n → begins_run (drop k shown ++ more) ≡ false) → Appends old new kept
+    → (more : List ℕ) → Passed h (a ++ (shown ++ more)) (next ++ (drop (length shown) shown ++ more)) old new
+text_kept h a shown kept beginning next n old new nil front back carried le none wrote more =
+    front_kept h a shown kept _ n old new nil front le none wrote more
+    (ap (λ l. next ++ (l ++ more)) (drop_all (length shown) shown (omega arith)) ∙ ap (λ l. l ++ more) (carried ∙ ap (λ l. l ++ beginning) nil ∙ back))
+
+-- a run that ends in the shown bytes, and the text in front of it
+pub text_run : (h : Bool) (a shown kept found run : List ℕ) (start len : ℕ) (old mid new : Option (List ℕ)) → a ≡ [] → kept ≡ take start shown → found ≡ drop start shown
+    → run ≡ take len found → len ≡ prefix_len is_run found → len < length found
+    → (start < length shown) × (begins_run (drop start shown) ≡ true) × ((k : ℕ) → k < start → begins_run (drop k shown) ≡ false)
+    → Appends old mid kept → Appends mid new (replacement h run)
+    → (more : List ℕ) → Passed h (a ++ (shown ++ more)) (a ++ (drop (start + len) shown ++ more)) old new
+text_run h a shown kept found run start len old mid new nil front back is count lt at first second more =
+    let one : Passed h (a ++ (shown ++ more)) (found ++ more) old mid = front_kept h a shown kept _ start old mid nil front (omega (arith, at.0)) (far shown start at.1 at.2) first more (ap (λ l. l ++ more) back) in
+    let some : begins_run found ≡ true = ap begins_run back ∙ at.1 in
+    let all : list_all is_run run ≡ true = ap (list_all is_run) (is ∙ ap (λ n. take n found) count) ∙ all_prefix found in
+    let begins : begins_run run ≡ true = ap begins_run is ∙ run_begins found some len count in
+    let left : a ++ (drop (start + len) shown ++ more) ≡ drop len found ++ more =
+    ap (λ l. l ++ (drop (start + len) shown ++ more)) nil ∙ ap (λ l. l ++ more) (sym (drop-drop len start shown) ∙ ap (drop len) (sym back)) in
+    let stop : NoRunFirst (drop len found ++ more) = subst (λ m. NoRunFirst (drop m found ++ more)) (sym count) (behind_prefix found more (omega (arith, count))) in
+    passed_trans h _ (found ++ more) _ old mid new one
+    (passed_front h (found ++ more) run _ mid new
+    (ap (λ l. l ++ more) (sym (take-append-drop len found)) ∙ append_assoc (take len found) (drop len found) more ∙ ap (λ l. l ++ (drop len found ++ more)) (sym is) ∙ ap (λ l. run ++ l) (sym left))
+    (subst NoRunFirst (sym left) stop)
+    (subst (Appends mid new) (sym (filtered_whole h run begins all)) second))
+  where
+    run_begins : (s : List ℕ) → begins_run s ≡ true → (n : ℕ) → n ≡ prefix_len is_run s → begins_run (take n s) ≡ true
+    run_begins s some n count =
+        same_start s some n count (begins_with s some).0 (begins_with s some).1
+      where
+        same_start : (s : List ℕ) → begins_run s ≡ true → (n : ℕ) → n ≡ prefix_len is_run s → (t : List ℕ) → (s ≡ codes "_ZN" ++ t) ⊎ (s ≡ codes "_R" ++ t) → begins_run (take n s) ≡ true
+        same_start s some n count t (inl e) =
+            let len : n ≡ suc (suc (suc (prefix_len is_run t))) = count ∙ ap (prefix_len is_run) e ∙ omega arith in
+            ap (λ l. begins_run (take n l)) e ∙ ap (λ m. begins_run (take m (codes "_ZN" ++ t))) len
+        same_start s some n count t (inr e) =
+            let len : n ≡ suc (suc (prefix_len is_run t)) = count ∙ ap (prefix_len is_run) e ∙ omega arith in
+            ap (λ l. begins_run (take n l)) e ∙ ap (λ m. begins_run (take m (codes "_R" ++ t))) len
+
+-- a run that reaches the end of the shown bytes
+pub found_open : (a found next rest : List ℕ) (len : ℕ) → a ≡ [] → next ≡ a ++ found → found ≡ rest → begins_run rest ≡ true → len ≡ prefix_len is_run found → len ≡ length found → IsOpen next
+found_open a found next rest len nil carried back some count full =
+    let same : next ≡ found = carried ∙ ap (λ l. l ++ found) nil in
+    inr (inr (inr (ap begins_run (same ∙ back) ∙ some, ap (list_all is_run) same ∙ all_of_prefix found (sym count ∙ full))))
+
+-- one step, by what the reader showed and what was taken of it
+pub step_took : (h : Bool) (a next shown : List ℕ) (n : ℕ) (left rest old new : Option (List ℕ)) → IfSome left (λ xs. StartsWith xs shown)
+    → Consumes left rest (take n shown) → ((more : List ℕ) → Passed h (a ++ (shown ++ more)) (next ++ (drop n shown ++ more)) old new)
+    → StepTook h a next left rest old new
+step_took h a next shown n None rest old new front took passed = tt
+step_took h a next shown n (Some xs) None old new front took passed = absurd took
+step_took h a next shown n (Some xs) (Some ys) old new front took passed =
+    let more = drop (length shown) xs in
+    let whole : xs ≡ shown ++ more = starts_with_rest xs shown front in
+    let rest : ys ≡ drop n shown ++ more = append_cancel_left (take n shown) ys (drop n shown ++ more)
+    (sym took ∙ whole ∙ ap (λ l. l ++ more) (sym (take-append-drop n shown)) ∙ append_assoc (take n shown) (drop n shown) more) in
+    (ys, refl, subst (λ l. Passed h (a ++ l) (next ++ ys) old new) (sym whole) (subst (λ l. Passed h (a ++ (shown ++ more)) (next ++ l) old new) (sym rest) (passed more)))
+
+-- a run is ASCII
+ascii : (s : List ℕ) → list_all is_run s ≡ true → (i : ℕ) → get_or s i 0 < 128
+ascii [] all i = let none : List ℕ = [] in let e : get_or none i 0 ≡ 0 = get_or_past none i 0 (omega arith) in omega (arith, e)
+ascii (c ∷ s) all zero = run_ascii c (and_left (is_run c) (list_all is_run s) all)
+ascii (c ∷ s) all (suc i) = ascii s (and_right (is_run c) (list_all is_run s) all) i
+
+pub run_utf8 : (run : List ℕ) → list_all is_run run ≡ true → IsUtf8 run
+run_utf8 run all = IsUtf8-from_ascii run (ascii run all)
+
+-- what was passed of the text that the reader held, and what is carried and left of it
+abbrev pub Passing : Bool → Option (List ℕ) → List ℕ → Option (List ℕ) → Option (List ℕ) → Option (List ℕ) → Type 0
+Passing h held carried left old new = IfSome held (λ text. (rest : List ℕ) × (left ≡ Some rest) × Passed h text (carried ++ rest) old new)
+
+pub passing_init : (h : Bool) (held : Option (List ℕ)) (carried : List ℕ) (old : Option (List ℕ)) → carried ≡ [] → Passing h held carried held old old
+passing_init h None carried old none = tt
+passing_init h (Some text) carried old none = (text, refl, passed_none h text _ old (ap (λ l. l ++ text) (sym none)))
+
+pub passing_step : (h : Bool) (held : Option (List ℕ)) (carried next : List ℕ) (left rest old mid new : Option (List ℕ)) → Passing h held carried left old mid
+    → StepTook h carried next left rest mid new → Passing h held next rest old new
+passing_step h None carried next left rest old mid new p took = tt
+passing_step h (Some text) carried next left rest old mid new p took =
+    let q = MatchOption-at_some ⊤ (λ xs. (ys : List ℕ) × (rest ≡ Some ys) × Passed h (carried ++ xs) (next ++ ys) mid new) p.0 p.1 took in
+    (q.0, q.1, passed_trans h text (carried ++ p.0) _ old mid new p.2 q.2)
+
+pub passing_end : (h : Bool) (held : Option (List ℕ)) (carried next : List ℕ) (left rest old mid new : Option (List ℕ)) → Passing h held carried left old mid
+    → StepEnded h carried next left rest mid new → IfSome held (λ text. (rest ≡ Some []) × Appends old new (filtered h text))
+passing_end h None carried next left rest old mid new p ended = tt
+passing_end h (Some text) carried next left rest old mid new p ended =
+    let none = MatchOption-at_some ⊤ (λ xs. (xs ≡ []) × (rest ≡ Some [])) p.0 p.1 ended.0 in
+    let passed = p.2 in
+    let last : carried ++ p.0 ≡ carried = ap (λ l. carried ++ l) none.0 ∙ append-nil carried in
+    let whole : filtered h text ≡ filtered h passed.front ++ filtered h carried =
+    ap (filtered h) passed.whole ∙ filtered_split h passed.front (carried ++ p.0) passed.uncut ∙ ap (λ l. filtered h passed.front ++ filtered h l) last in
+    (none.1, subst (Appends old new) (sym whole) (Appends-trans old mid new _ _ passed.wrote ended.2))
+
+stopped : (h : Bool) (text carried : List ℕ) (left old mid new : Option (List ℕ)) → Passing h (Some text) carried left old mid → new ≡ mid
+    → (rest : List ℕ) × Passed h text rest old new
+stopped h text carried left old mid new p same = (carried ++ p.0, subst (Passed h text (carried ++ p.0) old) (sym same) p.2)
+
+pub passing_err : (fault : StreamFault) (h : Bool) (held : Option (List ℕ)) (carried next : List ℕ) (left rest old mid new : Option (List ℕ)) → Passing h held carried left old mid
+    → StepRefused fault carried next left rest mid new → IfSome held (λ text. BytesStopped fault text h old new)
+passing_err fault h None carried next left rest old mid new p refused = tt
+passing_err (Read e) h (Some text) carried next left rest old mid new p refused = let w = stopped h text carried left old mid new p refused.3 in (refused.0, w.0, w.1)
+passing_err NotUtf8 h (Some text) carried next left rest old mid new p refused = absurd refused
+passing_err (Write e) h (Some text) carried next left rest old mid new p refused = tt
+passing_err Memory h (Some text) carried next left rest old mid new p refused = stopped h text carried left old mid new p refused.2
+
+-- where there are too many steps, at the writer that a join of branches has
+pub passing_full : {W : Type 0} (contents : W → Option (List ℕ)) (e : Error) (h : Bool) (held : Option (List ℕ)) (carried : List ℕ) (left : Option (List ℕ)) (old new next : W)
+    → Passing h held carried left (contents old) (contents new) → (error_kind e ≡ OutOfMemory → ⊥) → next ≡ new
+    → IfSome held (λ text. BytesStopped (Read e) text h (contents old) (contents next))
+passing_full contents e h None carried left old new next p kind same = tt
+passing_full contents e h (Some text) carried left old new next p kind same = let w = stopped h text carried left (contents old) (contents new) (contents next) p (ap contents same) in (kind, w.0, w.1)

@@ -1,0 +1,16 @@
+use Rattle.std.proofs.Common.{inr}
+use Rattle.rustc_demangle.proofs.BytesSteps.{more_run, run_ended, passed_none, moved}
+use Rattle.rustc_demangle.proofs.stream.carrying.take_run.Goals as goal
+
+pub finish-requires : goal.finish-requires
+finish-requires g c = inr (inr (inr (more_run _ _ _ c.requires.begun c.requires.all c.run_len-len.ensures _ c.in_ok-carry.ensures.ok)))
+
+pub returns-in_ok-finish-clause-ok : goal.returns-in_ok-finish-clause-ok
+returns-in_ok-finish-clause-ok g c =
+    run_ended _ _ _ _ _ _ _ _ c.in_ok-carry.ensures.ok c.run_len-len.ensures c.if-len-shown.true c.finish.ensures.none c.in_ok-finish.ensures.ok
+
+pub returns-else-len-shown-clause-carried : goal.returns-else-len-shown-clause-carried
+returns-else-len-shown-clause-carried g c = inr (inr (inr (more_run _ _ _ c.requires.begun c.requires.all c.run_len-len.ensures _ c.in_ok-carry.ensures.ok)))
+
+pub returns-else-len-shown-clause-ok : goal.returns-else-len-shown-clause-ok
+returns-else-len-shown-clause-ok g c = λ more. passed_none _ _ _ _ (moved _ _ _ more _ c.in_ok-carry.ensures.ok)

@@ -1,0 +1,111 @@
+//! The demangling of any bytes that come from a reader.
+ghost use Rattle.std.specs.Prelude.{◌≡◌, List, ℕ, [], true, false, Ok, Some, IfSome, OnOk, IfErr};
+ghost use Rattle.std.specs.Io.KnownBytes.{Appends};
+ghost use Rattle.rustc_demangle.specs.Filtered.{filtered};
+ghost use Rattle.rustc_demangle.specs.Bytes.{IsOpen, StepTook, StepEnded, StepRefused, BytesStopped};
+
+use crate::stream::carrying::{finish, take_some};
+use crate::stream::fault::{StreamFault, read_fault};
+use std::alloc::{Allocator, Global};
+use std::io;
+use std::io::{BufRead, Write};
+use std::marker::Model;
+
+/// A filter of any bytes, which keeps the run that the bytes so far end with.
+#[derive(Drop)]
+pub struct BytesFilter<A: Allocator> {
+    carried: Vec<u8, A>,
+}
+
+impl<A: Allocator> Model for BytesFilter<A> {
+    ghost Value = { List ℕ };
+
+    ghost view = { λ filter. filter.carried.items };
+
+    ghost invariant = { λ filter. IsOpen filter.carried.items };
+}
+
+impl<A: Allocator> BytesFilter<A> {
+    /// A filter that has had no bytes.
+    pub fn new(alloc: A) -> Self
+        ensures { result ≡ [] }
+    {
+        BytesFilter {
+            carried: Vec::new(alloc),
+        }
+    }
+
+    /// Takes some of the bytes that the reader shows and writes what is known, or answers `false`
+    /// at the end of the input, where it writes what stands for the carried run.
+    ///
+    /// Nothing is taken and nothing written where the reader or the memory refuses it.
+    pub fn step<R: BufRead, W: Write>(
+        &mut self,
+        input: &mut R,
+        output: &mut W,
+        include_hash: bool,
+    ) -> Result<bool, StreamFault>
+        ensures took { result ≡ Ok true → StepTook include_hash self.old self.new
+            (R.remaining input.old) (R.remaining input.new)
+            (W.contents output.old) (W.contents output.new) }
+        ensures ended { result ≡ Ok false → StepEnded include_hash self.old self.new
+            (R.remaining input.old) (R.remaining input.new)
+            (W.contents output.old) (W.contents output.new) }
+        ensures refused { IfErr result (λ fault. StepRefused fault self.old self.new
+            (R.remaining input.old) (R.remaining input.new)
+            (W.contents output.old) (W.contents output.new)) }
+    {
+        let shown = match input.fill_buf() {
+            Ok(shown) => shown,
+            Err(error) => return Err(read_fault(error)),
+        };
+        if shown.is_empty() {
+            finish(&mut self.carried, output, include_hash)?;
+            return Ok(false);
+        }
+        let taken = take_some(&mut self.carried, shown, output, include_hash)?;
+        input.consume(taken);
+        Ok(true)
+    }
+}
+
+/// Takes steps up to the end of the input.
+fn take_steps<R: BufRead, W: Write, A: Allocator>(
+    filter: &mut BytesFilter<A>,
+    input: &mut R,
+    output: &mut W,
+    include_hash: bool,
+) -> Result<(), StreamFault>
+    requires { filter.old ≡ [] }
+    ensures ok { OnOk result (IfSome (R.remaining input.old) (λ text. (R.remaining input.new ≡ Some [])
+        × Appends (W.contents output.old) (W.contents output.new) (filtered include_hash text))) }
+    ensures err { IfErr result (λ fault. IfSome (R.remaining input.old) (λ text.
+        BytesStopped fault text include_hash (W.contents output.old) (W.contents output.new))) }
+{
+    for _ in 0..=u64::MAX {
+        if !filter.step(input, output, include_hash)? {
+            return Ok(());
+        }
+    }
+    Err(StreamFault::Read(io::Error::other("too many steps")))
+}
+
+/// Writes the input, which may be any bytes, with each symbol of it demangled.
+///
+/// A symbol is looked for where `_ZN` or `_R` stands, up to the next byte that is no ASCII letter,
+/// no digit and none of `$`, `.` and `_`. What is no symbol is written as it was. Only a run that
+/// the bytes so far end with is kept.
+pub fn demangle_bytes<R: BufRead, W: Write>(
+    alloc: Global,
+    input: &mut R,
+    output: &mut W,
+    include_hash: bool,
+) -> Result<(), StreamFault>
+    ensures ok { OnOk result (IfSome (R.remaining input.old) (λ text. (R.remaining input.new ≡ Some [])
+        × Appends (W.contents output.old) (W.contents output.new) (filtered include_hash text))) }
+    ensures err { IfErr result (λ fault. IfSome (R.remaining input.old) (λ text.
+        BytesStopped fault text include_hash (W.contents output.old) (W.contents output.new))) }
+{
+    let mut filter = BytesFilter::new(alloc);
+    take_steps(&mut filter, input, output, include_hash)
+}

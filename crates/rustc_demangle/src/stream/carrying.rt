@@ -1,0 +1,208 @@
+//! A text of any bytes, filtered part by part: what is known is written, an carried run is kept.
+ghost use Rattle.std.specs.Prelude.{◌≡◌, ◌∷◌, ◌++◌, ◌+◌, ◌-◌, ◌<◌, ◌≤◌, ◌⊎◌, ℕ, List, [], true, false, codes, drop, take, length, IsTrue, IfOk, OnOk, IfErr, OnErr};
+ghost use Rattle.std.specs.List.{list_all};
+ghost use Rattle.std.specs.Io.KnownBytes.{Appends};
+ghost use Rattle.rustc_demangle.specs.Filtered.{is_run, begins_run, replacement, filtered};
+ghost use Rattle.rustc_demangle.specs.Bytes.{CutsNoRun, IsOpen, PassedIn, IsWriting, TakeRefused};
+
+use crate::runs::{begins_run, run_len, run_start, run_text};
+use crate::stream::fault::StreamFault;
+use crate::stream::line::write_run;
+use std::alloc::Allocator;
+use std::io::Write;
+
+/// Writes bytes by one call of the writer, and none by none.
+fn keep_bytes<W: Write>(bytes: &[u8], output: &mut W) -> Result<(), StreamFault>
+    ensures ok { OnOk result (Appends (W.contents output.old) (W.contents output.new) bytes.now) }
+    ensures named { IfErr result IsWriting }
+{
+    if bytes.is_empty() {
+        return Ok(());
+    }
+    match output.write_all(bytes) {
+        Ok(()) => Ok(()),
+        Err(error) => Err(StreamFault::Write(error)),
+    }
+}
+
+/// Writes what stands for a run.
+fn pass_run<W: Write>(run: &[u8], output: &mut W, include_hash: bool) -> Result<(), StreamFault>
+    requires { list_all is_run run.now ≡ true }
+    ensures ok { OnOk result (Appends
+        (W.contents output.old) (W.contents output.new) (replacement include_hash run.now)) }
+    ensures named { IfErr result IsWriting }
+{
+    match write_run(run_text(run), output, include_hash) {
+        Ok(()) => Ok(()),
+        Err(error) => Err(StreamFault::Write(error)),
+    }
+}
+
+/// Writes what the filter gives for an carried text, to which nothing more comes.
+pub(super) fn finish<W: Write, A: Allocator>(
+    carried: &mut Vec<u8, A>,
+    output: &mut W,
+    include_hash: bool,
+) -> Result<(), StreamFault>
+    requires { IsOpen carried.old.items }
+    ensures ok { OnOk result (Appends
+        (W.contents output.old) (W.contents output.new) (filtered include_hash carried.old.items)) }
+    ensures named { IfErr result IsWriting }
+    ensures none { carried.new.items ≡ [] }
+{
+    let written = if begins_run(carried.as_slice()) {
+        pass_run(carried.as_slice(), output, include_hash)
+    } else {
+        keep_bytes(carried.as_slice(), output)
+    };
+    carried.clear();
+    written
+}
+
+/// Puts bytes behind the carried text.
+fn carry<A: Allocator>(carried: &mut Vec<u8, A>, bytes: &[u8]) -> Result<(), StreamFault>
+    ensures ok { OnOk result (carried.new.items ≡ carried.old.items ++ bytes.now) }
+    ensures err { IfErr result (λ fault. (fault ≡ StreamFault.Memory)
+        × (carried.new.items ≡ carried.old.items)) }
+{
+    if carried.extend_from_slice(bytes).is_err() {
+        return Err(StreamFault::Memory);
+    }
+    Ok(())
+}
+
+/// How many bytes at the end of a text, in which no run begins, may be the beginning of one.
+fn beginning_len(text: &[u8]) -> usize
+    ensures bound { result ≤ length text.now }
+    ensures carried { IsOpen (drop (length text.now - result) text.now) }
+    ensures uncut { ((k : ℕ) → k < length text.now → begins_run (drop k text.now) ≡ false)
+        → (more : List ℕ) → (k : ℕ) → k < length text.now - result
+        → begins_run (drop k text.now ++ more) ≡ false }
+{
+    if text.ends_with(b"_") {
+        1
+    } else if text.ends_with(b"_Z") {
+        2
+    } else {
+        0
+    }
+}
+
+/// Whether the beginning of a run goes on with this byte.
+fn goes_on(carried: &[u8], byte: u8) -> bool
+    requires { (carried.now ≡ codes "_") ⊎ (carried.now ≡ codes "_Z") }
+    ensures on { IsTrue result → IsOpen (carried.now ++ byte ∷ []) }
+    ensures off { result ≡ false → (more : List ℕ) → CutsNoRun carried.now (byte ∷ more) }
+{
+    if carried.len() == 1 {
+        (byte == b'R') | (byte == b'Z')
+    } else {
+        byte == b'N'
+    }
+}
+
+/// Takes one byte behind the beginning of a run, or none and writes that beginning.
+fn take_byte<W: Write, A: Allocator>(
+    carried: &mut Vec<u8, A>,
+    shown: &[u8],
+    output: &mut W,
+    include_hash: bool,
+) -> Result<usize, StreamFault>
+    requires some { 0 < length shown.now }
+    requires beginning { (carried.old.items ≡ codes "_") ⊎ (carried.old.items ≡ codes "_Z") }
+    ensures bound { IfOk result (λ n. n ≤ length shown.now) }
+    ensures carried { IsOpen carried.new.items }
+    ensures ok { IfOk result (λ n. PassedIn include_hash carried.old.items shown.now carried.new.items n
+        (W.contents output.old) (W.contents output.new)) }
+    ensures err { IfErr result (λ fault. TakeRefused fault carried.old.items carried.new.items
+        (W.contents output.old) (W.contents output.new)) }
+{
+    if goes_on(carried.as_slice(), shown[0]) {
+        carry(carried, &shown[..1])?;
+        return Ok(1);
+    }
+    finish(carried, output, include_hash)?;
+    Ok(0)
+}
+
+/// Takes what goes on with the carried run, and writes what stands for it where it ends.
+fn take_run<W: Write, A: Allocator>(
+    carried: &mut Vec<u8, A>,
+    shown: &[u8],
+    output: &mut W,
+    include_hash: bool,
+) -> Result<usize, StreamFault>
+    requires begun { begins_run carried.old.items ≡ true }
+    requires all { list_all is_run carried.old.items ≡ true }
+    ensures bound { IfOk result (λ n. n ≤ length shown.now) }
+    ensures carried { IsOpen carried.new.items }
+    ensures ok { IfOk result (λ n. PassedIn include_hash carried.old.items shown.now carried.new.items n
+        (W.contents output.old) (W.contents output.new)) }
+    ensures err { IfErr result (λ fault. TakeRefused fault carried.old.items carried.new.items
+        (W.contents output.old) (W.contents output.new)) }
+{
+    let len = run_len(shown);
+    carry(carried, &shown[..len])?;
+    if len < shown.len() {
+        finish(carried, output, include_hash)?;
+    }
+    Ok(len)
+}
+
+/// Takes all up to the end of the first run, or what is no beginning of one and opens the rest.
+fn take_text<W: Write, A: Allocator>(
+    carried: &mut Vec<u8, A>,
+    shown: &[u8],
+    output: &mut W,
+    include_hash: bool,
+) -> Result<usize, StreamFault>
+    requires { carried.old.items ≡ [] }
+    ensures bound { IfOk result (λ n. n ≤ length shown.now) }
+    ensures carried { IsOpen carried.new.items }
+    ensures ok { IfOk result (λ n. PassedIn include_hash carried.old.items shown.now carried.new.items n
+        (W.contents output.old) (W.contents output.new)) }
+    ensures err { IfErr result (λ fault. TakeRefused fault carried.old.items carried.new.items
+        (W.contents output.old) (W.contents output.new)) }
+{
+    let Some(start) = run_start(shown) else {
+        let (kept, beginning) = shown.split_at(shown.len() - beginning_len(shown));
+        carry(carried, beginning)?;
+        keep_bytes(kept, output)?;
+        return Ok(shown.len());
+    };
+    let (kept, found) = shown.split_at(start);
+    let len = run_len(found);
+    if len == found.len() {
+        carry(carried, found)?;
+        keep_bytes(kept, output)?;
+        return Ok(shown.len());
+    }
+    keep_bytes(kept, output)?;
+    pass_run(&found[..len], output, include_hash)?;
+    Ok(start + len)
+}
+
+/// Takes some of the bytes that a reader shows, writes what is known, and keeps what is carried.
+pub(super) fn take_some<W: Write, A: Allocator>(
+    carried: &mut Vec<u8, A>,
+    shown: &[u8],
+    output: &mut W,
+    include_hash: bool,
+) -> Result<usize, StreamFault>
+    requires some { 0 < length shown.now }
+    requires carried { IsOpen carried.old.items }
+    ensures bound { IfOk result (λ n. n ≤ length shown.now) }
+    ensures carried { IsOpen carried.new.items }
+    ensures ok { IfOk result (λ n. PassedIn include_hash carried.old.items shown.now carried.new.items n
+        (W.contents output.old) (W.contents output.new)) }
+    ensures err { IfErr result (λ fault. TakeRefused fault carried.old.items carried.new.items
+        (W.contents output.old) (W.contents output.new)) }
+{
+    if carried.is_empty() {
+        return take_text(carried, shown, output, include_hash);
+    }
+    if begins_run(carried.as_slice()) {
+        return take_run(carried, shown, output, include_hash);
+    }
+    take_byte(carried, shown, output, include_hash)
+}
