@@ -24,6 +24,6 @@ slice_hands old s (Err e) new taken alive refused kept fits = hands_put ghosts o
 pub slice_writes : (old new : SliceSink) (list : List (List ℕ)) (result : Result (Unit {0}) SinkRefused) → Hands ghosts old list result new → Writes ghosts old list result new
 slice_writes old new list result h =
     hands_writes ghosts old new list result
-    (λ s. (refl, Laid-nothing s.out.now s.len))
-    (λ s t u xs ys one two. (two.0 ∙ one.0, Laid-joined _ _ _ _ _ _ xs ys one.1 two.1))
+    (λ s. (refl, refl, Laid-nothing s.start s.out.now s.len))
+    (λ s t u xs ys one two. (two.0 ∙ one.0, two.1 ∙ one.1, Laid-joined _ _ _ _ _ _ _ _ xs ys one.1 one.2 two.2))
     h
