@@ -43,6 +43,14 @@ same =
     ("_ZN4$SP$E", "@") ∷
     ("_ZN5$u7f$E", "$u7f$") ∷
     ("_ZN5$u9f$E", "$u9f$") ∷
+    ("_ZN4$LP$E", "(") ∷
+    ("_ZN5$u4a$E", "J") ∷
+    ("_ZN5$u4A$E", "$u4A$") ∷
+    ("_ZN4a$u$E", "a$u$") ∷
+    ("_ZN3_.aE", "_.a") ∷
+    ("_ZN4_..aE", "_::a") ∷
+    ("_ZN6__$C$aE", "__,a") ∷
+    ("_ZN3foo3HabE", "foo::Hab") ∷
     []
 
 same_text : (hash : Bool) → map (λ r. text hash (codes r.0)) same ≡ map (λ r. Some (codes r.1)) same
@@ -59,6 +67,8 @@ hashed =
     ("__ZN5alloc9allocator6Layout9for_value17h02a996811f781011E", "alloc::allocator::Layout::for_value::h02a996811f781011", "alloc::allocator::Layout::for_value") ∷
     ("_ZN3foo20h05af221e174051e9abcE", "foo::h05af221e174051e9abc", "foo") ∷
     ("_ZN3foo2h9E", "foo::h9", "foo") ∷
+    ("_ZN3foo17h05AF221E174051E9E", "foo::h05AF221E174051E9", "foo") ∷
+    ("_ZN3foo3hABE", "foo::hAB", "foo") ∷
     []
 
 with_hash : map (λ r. text true (codes r.0)) hashed ≡ map (λ r. Some (codes r.1)) hashed

@@ -1,12 +1,14 @@
 -- Texts with what is stripped of them, which suffixes are allowed, and lines with what is written for them, by computation:
 -- the definitions are those of the Rust crate here.
 use Rattle.std.specs.Prelude.{◌≡◌, ℕ, true, false, List, [], ◌∷◌, ◌++◌, map, codes, refl}
+use Rattle.std.specs.List.{concat}
 use Rattle.std.specs.Char.{encode_utf8}
 use Rattle.demangle_symbol.specs.Digits.{number}
 use Rattle.rustc_demangle.specs.Filtered.{filtered_by, filtered}
 use Rattle.demangle_legacy.specs.Legacy.{inner_of, element_of, parts_within, parts_of, legacy_of}
 use Rattle.rustc_demangle.specs.Lines.{lines}
 use Rattle.rustc_demangle.specs.Stripped.{stripped, is_allowed}
+use Rattle.rustc_demangle.specs.Symbols.{handed, most_bytes}
 use Rattle.demangle_legacy.specs.Unescaped.{escape_of_digits, escape_of, leading_unit, pieces_from, unescaped, shown_elements}
 use Rattle.demangle_v0.specs.V0.{v0_in, v0_of}
 
@@ -52,3 +54,46 @@ with_hash : map (filtered true) texts ≡
     []
 unfolding filtered_by stripped number inner_of element_of parts_within parts_of legacy_of escape_of_digits escape_of leading_unit pieces_from unescaped shown_elements encode_utf8 v0_in v0_of
 with_hash = refl
+
+-- `_ZN3fooE` and a byte of ASCII behind it, for each of these bytes
+abbrev before_each : List ℕ → List (List ℕ)
+before_each bytes = map (λ b. codes "_ZN3fooE" ++ b ∷ []) bytes
+
+-- the bytes that end a run
+abbrev ends : List ℕ
+ends =
+    0 ∷ 1 ∷ 2 ∷ 3 ∷ 4 ∷ 5 ∷ 6 ∷ 7 ∷ 8 ∷ 9 ∷ 10 ∷ 11 ∷ 12 ∷ 13 ∷ 14 ∷ 15 ∷ 16 ∷ 17 ∷ 18 ∷ 19 ∷ 20 ∷ 21 ∷ 22 ∷ 23 ∷ 24 ∷ 25 ∷ 26 ∷ 27 ∷ 28 ∷ 29 ∷ 30 ∷ 31 ∷ 127 ∷
+    codes " !\"#%&'()*+,-/:;<=>?@[\\]^`{|}~"
+
+-- the bytes that go on with it, but for `.`, which begins a suffix
+abbrev goes_on : List ℕ
+goes_on = codes "$0123456789ABCDEFGHIJKLMNOPQRSTUVWXYZ_abcdefghijklmnopqrstuvwxyz"
+
+run_ends : map (filtered true) (before_each ends) ≡ map (λ b. codes "foo" ++ b ∷ []) ends
+unfolding filtered_from stripped number inner_of element_of parts_within parts_of legacy_of escape_of_digits escape_of leading_unit pieces_from unescaped shown_elements encode_utf8 v0_in v0_of
+run_ends = refl
+
+run_goes_on : map (filtered true) (before_each goes_on) ≡ before_each goes_on
+unfolding filtered_from stripped number inner_of element_of parts_within parts_of legacy_of escape_of_digits escape_of leading_unit pieces_from unescaped shown_elements encode_utf8 v0_in v0_of
+run_goes_on = refl
+
+run_has_a_suffix : filtered true (codes "_ZN3fooE.") ≡ codes "foo."
+unfolding filtered_from stripped number inner_of element_of parts_within parts_of legacy_of escape_of_digits escape_of leading_unit pieces_from unescaped shown_elements encode_utf8 v0_in v0_of
+run_has_a_suffix = refl
+
+-- the text under a limit, with the marker where it is cut, and the suffix
+limited : map (λ limit. concat (handed (codes "_ZN3foo3barE.x") true limit)) (0 ∷ 2 ∷ 3 ∷ 4 ∷ 5 ∷ 7 ∷ 8 ∷ []) ≡
+    codes "{size limit reached}.x" ∷
+    codes "{size limit reached}.x" ∷
+    codes "foo{size limit reached}.x" ∷
+    codes "foo{size limit reached}.x" ∷
+    codes "foo::{size limit reached}.x" ∷
+    codes "foo::{size limit reached}.x" ∷
+    codes "foo::bar.x" ∷
+    []
+unfolding number inner_of element_of parts_within parts_of legacy_of escape_of_digits escape_of leading_unit pieces_from unescaped shown_elements encode_utf8 v0_in v0_of
+limited = refl
+
+-- the limit of the crate's `Display`
+million : most_bytes ≡ 1000000
+million = refl

@@ -1,0 +1,53 @@
+#!/usr/bin/env python3
+"""Tells the least stack with which each demangler of this machine prints a symbol: the least `ulimit -s`, in steps of 4 KB.
+
+"flat" are the real v0 symbols that demangle_corpus stores, "deep" has 490 references in one another and a back reference, and
+"nested" has 60 tuples in one another, more than the short row of frames holds. Where a stack begins is random, so a size counts
+only where each of so many runs succeeded with it.
+"""
+import argparse, subprocess
+
+from common import CORPUS, OURS, further, need_filter, others
+
+
+def texts():
+    with open(CORPUS, encoding='utf-8') as file:
+        lines = file.read().split('\n')
+    flat = ''.join(line.split('\t')[0] + '\n' for line in lines[800:1700])
+    # The reference leads to the `a` behind the path `C0`.
+    return {'flat': flat, 'deep': '_RMC0T' + 'a' + 'R' * 490 + 'B3_' + 'E\n', 'nested': '_RMC0' + 'T' * 60 + 'u' + 'E' * 60 + '\n'}
+
+
+def suffices(words, text, size, runs):
+    """Whether each run with a stack of so many KB succeeds and writes what a run with much stack does."""
+    def run(kilobytes):
+        limited = ['sh', '-c', 'ulimit -s %d && exec "$@"' % kilobytes, 'sh'] + words
+        return subprocess.run(limited, input=text.encode(), stdout=subprocess.PIPE, stderr=subprocess.DEVNULL)
+    wanted = run(8192)
+    if wanted.returncode != 0:
+        return False
+    return all((ran.returncode, ran.stdout) == (0, wanted.stdout) for ran in (run(size) for _ in range(runs)))
+
+
+def least(words, text, runs):
+    for size in range(4, 8192, 4):
+        if suffices(words, text, size, 1) and suffices(words, text, size, runs):
+            return '%d KB' % size
+    return 'over 8 MB'
+
+
+def main():
+    parser = argparse.ArgumentParser(description=__doc__, formatter_class=argparse.RawDescriptionHelpFormatter)
+    parser.add_argument('--runs', type=int, default=20, help='how many runs have to succeed')
+    parser.add_argument('--also', type=further, action='append', default=[], metavar='NAME=COMMAND', help='a further program')
+    options = parser.parse_args()
+    need_filter()
+    programs = [('demangle_filter', [OURS])] + list(others()) + options.also
+    print('| program | %s |' % ' | '.join(texts()))
+    print('| --- |' + ' ---: |' * len(texts()))
+    for name, words in programs:
+        print('| %s | %s |' % (name, ' | '.join(least(words, text, options.runs) for text in texts().values())), flush=True)
+
+
+if __name__ == '__main__':
+    main()
