@@ -4,7 +4,7 @@ use Prim.Native.Nat.{min}
 use Rattle.std.proofs.lemmas.List.{append-nil, append_assoc, take_all, take-take, take_at, drop_at, drop-drop, drop_all, set_split, length-append, length-take, length-drop}
 use Rattle.std.proofs.Math.Numerals.{suc-eq-add-one}
 use Rattle.std.proofs.lemmas.Bool.Decides.{leb_tells}
-use Rattle.rustc_demangle.specs.Slice.{overlay}
+use Rattle.rustc_demangle.specs.Slice.{overlay, overlay_from, Laid}
 use Rattle.demangle_c.specs.Naming.{c_string}
 
 -- a text that is no longer than the memory stands in it whole
@@ -17,6 +17,10 @@ overlay-past memory text h = ap (λ xs. take (length memory) text ++ xs) (drop_a
 
 overlay-exact : (memory text : List ℕ) → length text ≡ length memory → overlay memory text ≡ text
 overlay-exact memory text e = overlay-past memory text (omega (arith, e)) ∙ take_all (length memory) text (omega (arith, e))
+
+pub length-overlay : (memory text : List ℕ) → length (overlay memory text) ≡ length memory
+length-overlay memory text =
+    omega (arith, length-append (take (length memory) text) (drop (length text) memory), length-take (length memory) text, length-drop (length text) memory)
 
 -- a 0 behind a text that stands in memory, or at the memory's last byte, makes it a C string
 pub ended : (memory text : List ℕ) (end : ℕ) → 0 < length memory → end ≡ min (length text) (length memory - 1)
@@ -49,6 +53,13 @@ ended memory text end some is = elim (leb_tells (length memory) (length text)) [
       ∙ sym (overlay-within memory (text ++ 0 ∷ []) (omega (arith, len, within)))
       ∙ ap (overlay memory) (sym as_is)
 ]
+
+-- what a sink laid that began at a place of a text, before which it had nothing
+pub laid_part : (start : ℕ) (memory text new : List ℕ) (len : ℕ) → Laid start memory 0 text new len → new ≡ overlay memory (drop start text)
+laid_part start memory text new len laid =
+    let front : 0 - start ≡ 0 = omega arith in
+    let whole : start - 0 ≡ start = omega arith in
+    laid.kept ∙ ap (λ n. overlay_from n memory (drop (start - 0) text)) front ∙ ap (λ n. overlay memory (drop n text)) whole
 
 -- no memory has no room
 pub overlay-empty : (memory xs ys : List ℕ) → length memory ≡ 0 → overlay memory xs ≡ overlay memory ys

@@ -2,7 +2,7 @@
 //! include/kodliwe.h.
 #![tactic(auto)]
 
-ghost use Rattle.std.specs.Prelude.{◌≡◌, ◌+◌, ◌≤◌, ◌↔◌, length, IsTrue, OnSome, IfSome, IfNone};
+ghost use Rattle.std.specs.Prelude.{◌≡◌, ◌+◌, ◌≤◌, ◌↔◌, ℕ, List, length, take, drop, IsTrue, OnSome, IfSome, IfNone};
 ghost use Prim.Native.Nat.{min};
 ghost use Rattle.std.specs.List.{concat};
 ghost use Rattle.rustc_demangle.specs.Cut.{size};
@@ -33,16 +33,36 @@ fn symbol_of(bytes: &[u8]) -> Option<Demangle<'_>>
     try_demangle(text).ok()
 }
 
-/// Writes the path into memory, as much as there is room for, and counts its bytes.
-fn write_path(symbol: &Demangle<'_>, out: &mut [u8], include_hash: bool, limit: usize) -> usize
+/// Writes the path's bytes from `start` on into memory, as much as there is room for, and counts all
+/// bytes of the path.
+#[tactic(auto, using(crate::proofs::Ending::laid_part))]
+fn write_path(
+    symbol: &Demangle<'_>,
+    out: &mut [u8],
+    include_hash: bool,
+    limit: usize,
+    start: usize,
+) -> usize
     requires { size (handed symbol.now include_hash limit) ≤ usize.MAX }
     ensures len { result ≡ length (concat (handed symbol.now include_hash limit)) }
-    ensures bytes { out.new ≡ overlay out.old (concat (handed symbol.now include_hash limit)) }
+    ensures bytes { out.new ≡
+        overlay out.old (drop start (concat (handed symbol.now include_hash limit))) }
 {
-    let mut sink = SliceSink::new(out);
+    let mut sink = SliceSink::starting_at(out, start);
     match symbol.write_limited(&mut sink, include_hash, limit) {
         Ok(()) => sink.len(),
         Err(_) => unreachable!(),
+    }
+}
+
+/// Puts a 0 behind a text of this many bytes that was laid into memory, or at the memory's last byte.
+fn put_end(out: &mut [u8], len: usize)
+    ensures { (memory text : List ℕ) → out.old ≡ overlay memory text → length text ≡ len →
+        out.new ≡ overlay memory (c_string (length memory) text) }
+{
+    if !out.is_empty() {
+        let end = len.min(out.len() - 1);
+        out[end] = 0;
     }
 }
 
@@ -57,15 +77,58 @@ pub extern "C" fn kodliwe_is_symbol(symbol: &[u8]) -> bool
     symbol_of(symbol).is_some()
 }
 
-/// Writes the path that a Rust symbol names into memory, with a 0 behind it, and answers how many
-/// bytes the two want.
+/// How many bytes of a Rust symbol stand before an ending that ThinLTO appended, all of them where
+/// there is none; 0 where the bytes are no symbol.
+///
+/// It prints nothing, and takes no memory.
+#[unsafe(no_mangle)]
+#[tactic(auto, using(crate::proofs::Stripped::stripped_take))]
+pub extern "C" fn kodliwe_symbol_len(symbol: &[u8]) -> usize
+    ensures none { (NamesRust symbol.now → ⊥) → result ≡ 0 }
+    ensures len { NamesRust symbol.now → result ≡ length (stripped symbol.now) }
+    ensures front { NamesRust symbol.now → take result symbol.now ≡ stripped symbol.now }
+{
+    match symbol_of(symbol) {
+        Some(demangled) => demangled.as_str().len(),
+        None => 0,
+    }
+}
+
+/// Writes the path that a Rust symbol names into memory from its byte `start` on, with a 0 behind
+/// it, and answers how many bytes the whole path and a 0 want.
 ///
 /// The path is cut at `limit` bytes, and at 1,000,000 at most, before `{size limit reached}` and
 /// the symbol's suffix. The answer is 0 where the bytes are no symbol; the memory is then as it
-/// was. Else the answer does not depend on the size of the memory, which holds the path and its 0
-/// where the answer is at most that size, and as much of the path as fits before a 0 where it is
-/// more; no byte behind the 0 is changed, and memory of size 0 stays as it was. It takes no memory
-/// of its own.
+/// was. Else the answer depends on neither the size of the memory nor `start`. The memory holds the
+/// rest of the path from `start` on and a 0 where they fit, and as much of that rest as fits before
+/// a 0 where they do not; the rest is empty where `start` is at or past the path's end. No byte
+/// behind the 0 is changed, and memory of size 0 stays as it was. It takes no memory of its own, so
+/// that a caller prints any path in parts through a buffer of its own.
+#[unsafe(no_mangle)]
+pub extern "C" fn kodliwe_demangle_part(
+    symbol: &[u8],
+    out: &mut [u8],
+    include_hash: bool,
+    limit: usize,
+    start: usize,
+) -> usize
+    ensures none { (NamesRust symbol.now → ⊥) → (result ≡ 0) × (out.new ≡ out.old) }
+    ensures size { NamesRust symbol.now →
+        result ≡ length (path_within symbol.now include_hash (min limit MAX_SIZE)) + 1 }
+    ensures text { NamesRust symbol.now →
+        let path = path_within symbol.now include_hash (min limit MAX_SIZE) in
+        out.new ≡ overlay out.old (c_string (length out.old) (drop start path)) }
+{
+    let Some(demangled) = symbol_of(symbol) else {
+        return 0;
+    };
+    let most = limit.min(MAX_SIZE);
+    let len = write_path(&demangled, out, include_hash, most, start);
+    put_end(out, len.saturating_sub(start));
+    len + 1
+}
+
+/// Writes the path as `kodliwe_demangle_part` does, from its first byte on.
 #[unsafe(no_mangle)]
 pub extern "C" fn kodliwe_demangle_limited(
     symbol: &[u8],
@@ -80,16 +143,7 @@ pub extern "C" fn kodliwe_demangle_limited(
         let path = path_within symbol.now include_hash (min limit MAX_SIZE) in
         out.new ≡ overlay out.old (c_string (length out.old) path) }
 {
-    let Some(demangled) = symbol_of(symbol) else {
-        return 0;
-    };
-    let most = limit.min(MAX_SIZE);
-    let len = write_path(&demangled, out, include_hash, most);
-    if !out.is_empty() {
-        let end = len.min(out.len() - 1);
-        out[end] = 0;
-    }
-    len + 1
+    kodliwe_demangle_part(symbol, out, include_hash, limit, 0)
 }
 
 /// Writes the path as `kodliwe_demangle_limited` does, cut at 1,000,000 bytes.

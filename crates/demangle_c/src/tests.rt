@@ -1,5 +1,8 @@
 //! The calls, once for each kind of answer and of size. The texts are the Rust crate's.
-use crate::{kodliwe_demangle, kodliwe_demangle_limited, kodliwe_is_symbol};
+use crate::{
+    kodliwe_demangle, kodliwe_demangle_limited, kodliwe_demangle_part, kodliwe_is_symbol,
+    kodliwe_symbol_len,
+};
 
 /// Its text doubles with each of 18 tuples, past every limit.
 const TREE: &[u8; 96] =
@@ -134,4 +137,77 @@ fn a_symbol_is_told(rt: HostRuntime) {
     assert!(rt; !kodliwe_is_symbol(b"_ZN3foo17h05af221e174051e9"));
     assert!(rt; !kodliwe_is_symbol(b"_ZN\xFF"));
     assert!(rt; !kodliwe_is_symbol(b""));
+}
+
+#[test]
+fn parts_join_to_the_path(rt: HostRuntime) {
+    let symbol = b"_ZN3foo3barE.cold.7";
+    let mut part = [9; 8];
+    assert_eq!(rt;
+        kodliwe_demangle_part(symbol, &mut part, false, 1000, 0),
+        16
+    );
+    assert!(rt; part == *b"foo::ba\0");
+    assert_eq!(rt;
+        kodliwe_demangle_part(symbol, &mut part, false, 1000, 7),
+        16
+    );
+    assert!(rt; part == *b"r.cold.\0");
+    assert_eq!(rt;
+        kodliwe_demangle_part(symbol, &mut part, false, 1000, 14),
+        16
+    );
+    assert!(rt; part == *b"7\0cold.\0");
+}
+
+#[test]
+fn a_part_past_the_end_is_empty(rt: HostRuntime) {
+    let mut part = [9; 4];
+    assert_eq!(rt;
+        kodliwe_demangle_part(b"_RNvC3foo3bar", &mut part, false, 1000, 8),
+        9
+    );
+    assert!(rt; part == *b"\0\x09\x09\x09");
+    part[0] = 9;
+    assert_eq!(rt;
+        kodliwe_demangle_part(b"_RNvC3foo3bar", &mut part, false, 1000, usize::MAX),
+        9
+    );
+    assert!(rt; part == *b"\0\x09\x09\x09");
+}
+
+#[test]
+fn a_part_is_cut_at_the_limit(rt: HostRuntime) {
+    let mut part = [9; 40];
+    let symbol = b"_ZN3foo3barE.cold.7";
+    assert_eq!(rt; kodliwe_demangle_part(symbol, &mut part, false, 4, 3), 31);
+    assert!(rt; part.starts_with(b"{size limit reached}.cold.7\0\x09"));
+    assert_eq!(rt;
+        kodliwe_demangle_part(TREE, &mut part, true, usize::MAX, 1_000_000),
+        1_000_020
+    );
+    assert!(rt; part.starts_with(b"size limit reached}\0"));
+}
+
+#[test]
+fn no_symbol_has_no_part(rt: HostRuntime) {
+    let mut out = [9; 4];
+    assert_eq!(rt; kodliwe_demangle_part(b"main", &mut out, true, 1000, 0), 0);
+    assert_eq!(rt;
+        kodliwe_demangle_part(b"_RNvC3foo3bar", &mut out[..0], true, 1000, 2),
+        9
+    );
+    assert!(rt; out == [9; 4]);
+}
+
+#[test]
+fn a_symbol_ends_before_thin_lto(rt: HostRuntime) {
+    assert_eq!(rt; kodliwe_symbol_len(b"_ZN3foo17h05af221e174051e9E"), 27);
+    assert_eq!(rt; kodliwe_symbol_len(b"_RNvC3foo3bar.llvm.0AB@1"), 13);
+    assert_eq!(rt; kodliwe_symbol_len(b"_ZN3foo3barE.cold.7"), 19);
+    assert_eq!(rt; kodliwe_symbol_len(b"_ZN3foo3barE.cold.7.llvm.9"), 19);
+    assert_eq!(rt; kodliwe_symbol_len(b"_ZN3fooE.llvm.Z"), 15);
+    assert_eq!(rt; kodliwe_symbol_len(b"main"), 0);
+    assert_eq!(rt; kodliwe_symbol_len(b"_ZN\xFF"), 0);
+    assert_eq!(rt; kodliwe_symbol_len(b""), 0);
 }

@@ -1,7 +1,7 @@
 -- Memory that a text is laid into, and what a sink into it took.
-use Rattle.std.specs.Prelude.{◌≡◌, ℕ, ◌+◌, List, [], ◌∷◌, ◌++◌, length, take, drop, refl}
+use Rattle.std.specs.Prelude.{◌≡◌, ℕ, ◌+◌, ◌-◌, List, [], ◌∷◌, ◌++◌, length, take, drop, refl}
 use Rattle.std.proofs.Common.{zero, suc, sym, ap, ◌∙◌, arith}
-use Rattle.std.proofs.lemmas.List.{take-append-drop, drop_all, length-append}
+use Rattle.std.proofs.lemmas.List.{take-append-drop, drop_all, length-append, length-drop}
 
 -- the memory with the text at its beginning, as far as it reaches, and behind it as it was
 abbrev pub overlay : List ℕ → List ℕ → List ℕ
@@ -11,11 +11,15 @@ overlay memory text = take (length memory) text ++ drop (length text) memory
 abbrev pub overlay_from : ℕ → List ℕ → List ℕ → List ℕ
 overlay_from place memory text = take place memory ++ overlay (drop place memory) text
 
--- These bytes were laid into the memory behind the text that it had, as far as it reaches, and the
--- text is longer by all of them.
-pub record Laid (old : List ℕ) (old_len : ℕ) (bytes : List ℕ) (new : List ℕ) (new_len : ℕ) : Type 0 where
+-- A text of which the memory has the part from a start on took these bytes: those of them that
+-- stand before the start were left out, the others were laid behind the part that there was, as far
+-- as the memory reaches, and the text is longer by all of them.
+pub record Laid (start : ℕ) (old : List ℕ) (old_len : ℕ) (bytes : List ℕ) (new : List ℕ) (new_len : ℕ) : Type 0 where
   pub counted : new_len ≡ old_len + length bytes
-  pub kept : new ≡ overlay_from old_len old bytes
+  pub kept : new ≡ overlay_from (old_len - start) old (drop (start - old_len) bytes)
+
+abbrev nothing : List ℕ
+nothing = []
 
 -- no bytes change nothing
 overlay-nothing : (memory : List ℕ) → overlay memory [] ≡ memory
@@ -43,14 +47,38 @@ overlay_from-joined (suc place) (suc end) [] xs ys e =
     ap (λ memory. overlay_from (suc end) memory ys) (overlay-empty xs) ∙ overlay-empty ys ∙ sym (overlay-empty (xs ++ ys))
 overlay_from-joined (suc place) (suc end) (b ∷ memory) xs ys e = ap (λ zs. b ∷ zs) (overlay_from-joined place end memory xs ys (omega (arith, e)))
 
-pub Laid-nothing : (memory : List ℕ) (len : ℕ) → Laid memory len [] memory len
-Laid-nothing memory len = record {
+drop-append : (n : ℕ) (xs ys : List ℕ) → drop n (xs ++ ys) ≡ drop n xs ++ drop (n - length xs) ys
+drop-append zero xs ys =
+    let e : 0 ≡ 0 - length xs = omega arith in
+    ap (λ m. xs ++ drop m ys) e
+drop-append (suc n) [] ys =
+    let e : suc n ≡ suc n - 0 = omega arith in
+    ap (λ m. drop m ys) e
+drop-append (suc n) (x ∷ xs) ys =
+    let e : n - length xs ≡ suc n - length (x ∷ xs) = omega arith in
+    drop-append n xs ys ∙ ap (λ m. drop n xs ++ drop m ys) e
+
+drop-nothing : (n : ℕ) → drop n [] ≡ nothing
+drop-nothing n = drop_all n [] (omega arith)
+
+pub Laid-nothing : (start : ℕ) (memory : List ℕ) (len : ℕ) → Laid start memory len [] memory len
+Laid-nothing start memory len = record {
   counted = omega arith;
-  kept = sym (overlay_from-nothing len memory);
+  kept = sym (ap (overlay_from (len - start) memory) (drop-nothing (start - len)) ∙ overlay_from-nothing (len - start) memory);
 }
 
-pub Laid-joined : (a b c : List ℕ) (k l m : ℕ) (xs ys : List ℕ) → Laid a k xs b l → Laid b l ys c m → Laid a k (xs ++ ys) c m
-Laid-joined a b c k l m xs ys h g = record {
+pub Laid-joined : (start also : ℕ) (a b c : List ℕ) (k l m : ℕ) (xs ys : List ℕ) → also ≡ start
+    → Laid start a k xs b l → Laid also b l ys c m → Laid start a k (xs ++ ys) c m
+Laid-joined start also a b c k l m xs ys e h g = record {
   counted = omega (arith, h.counted, g.counted, length-append xs ys);
-  kept = g.kept ∙ ap (λ memory. overlay_from l memory ys) h.kept ∙ overlay_from-joined k l a xs ys h.counted;
+  kept =
+      let first : List ℕ = drop (start - k) xs in
+      let second : List ℕ = drop (start - l) ys in
+      let later : start - l ≡ start - k - length xs = omega (arith, h.counted) in
+      g.kept
+      ∙ ap (λ s. overlay_from (l - s) b (drop (s - l) ys)) e
+      ∙ ap (λ memory. overlay_from (l - start) memory second) h.kept
+      ∙ overlay_from-joined (k - start) (l - start) a first second (omega (arith, h.counted, length-drop (start - k) xs))
+      ∙ ap (λ n. overlay_from (k - start) a (first ++ drop n ys)) later
+      ∙ ap (overlay_from (k - start) a) (sym (drop-append (start - k) xs ys));
 }

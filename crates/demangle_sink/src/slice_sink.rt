@@ -6,35 +6,51 @@ ghost use Rattle.demangle_sink.specs.Slice.{overlay_from, Laid, Laid-nothing, La
 
 use crate::{SinkRefused, TextSink};
 
-/// Keeps the front of a text in the caller's bytes, as much as there is room for, and counts all of
-/// it.
+/// Keeps a part of a text in the caller's bytes, as much as there is room for, and counts all of it.
 ///
-/// The text stands from the first byte on, with nothing behind it; the bytes that it does not reach
-/// stay as they were. A character may be cut where the memory ends. A piece is refused only where
-/// the count would go past `usize::MAX`, and changes nothing then.
+/// The part begins at a place of the text, at its front if none is given. It stands from the first
+/// byte on, with nothing behind it; the bytes that it does not reach stay as they were. A character
+/// may be cut at the place, and where the memory ends. A piece is refused only where the count would
+/// go past `usize::MAX`, and changes nothing then.
 #[derive(Drop)]
 pub struct SliceSink<'b> {
     out: &'b mut [u8],
+    /// The text's first byte that is kept.
+    start: usize,
     len: usize,
     failed: bool,
 }
 
 impl<'b> SliceSink<'b> {
-    /// A sink into these bytes, which took nothing and has not failed.
+    /// A sink into these bytes for the front of a text, which took nothing and has not failed.
     pub fn new(out: &'b mut [u8]) -> Self
         ensures same_memory { result.out.ghost_name ≡ out.entry.ghost_name }
         ensures bytes { result.out.now ≡ out.old }
         ensures alive { result.failed ≡ false }
+        ensures begins { result.start ≡ 0 }
+        ensures empty { result.len ≡ 0 }
+    {
+        SliceSink::starting_at(out, 0)
+    }
+
+    /// A sink into these bytes for a text from the byte `start` on, counted from 0, which took
+    /// nothing and has not failed. A text that has no more bytes than that leaves them as they were.
+    pub fn starting_at(out: &'b mut [u8], start: usize) -> Self
+        ensures same_memory { result.out.ghost_name ≡ out.entry.ghost_name }
+        ensures bytes { result.out.now ≡ out.old }
+        ensures alive { result.failed ≡ false }
+        ensures begins { result.start ≡ start }
         ensures empty { result.len ≡ 0 }
     {
         SliceSink {
             out,
+            start,
             len: 0,
             failed: false,
         }
     }
 
-    /// How many bytes the text has, those that found no room among them.
+    /// How many bytes the text has, those before the part and those that found no room among them.
     pub fn len(&self) -> usize
         ensures { result ≡ self.now.len }
     {
@@ -53,8 +69,8 @@ fn lay(out: &mut [u8], place: usize, bytes: &[u8])
 }
 
 impl<'b> TextSink for SliceSink<'b> {
-    ghost took = { λ s bytes t. (t.out.ghost_name ≡ s.out.ghost_name)
-        × Laid s.out.now s.len bytes t.out.now t.len };
+    ghost took = { λ s bytes t. (t.out.ghost_name ≡ s.out.ghost_name) × (t.start ≡ s.start)
+        × Laid s.start s.out.now s.len bytes t.out.now t.len };
 
     ghost failed = { λ s. s.failed };
 
@@ -67,7 +83,9 @@ impl<'b> TextSink for SliceSink<'b> {
             self.failed = true;
             return Err(SinkRefused);
         }
-        lay(self.out, self.len, s.as_bytes());
+        let before = self.start.saturating_sub(self.len).min(s.len());
+        let place = self.len.saturating_sub(self.start);
+        lay(self.out, place, &s.as_bytes()[before..]);
         self.len += s.len();
         Ok(())
     }
@@ -76,7 +94,8 @@ impl<'b> TextSink for SliceSink<'b> {
         self.failed
     }
 
-    ghost took_nothing = { λ s. (refl, Laid-nothing s.out.now s.len) };
+    ghost took_nothing = { λ s. (refl, refl, Laid-nothing s.start s.out.now s.len) };
 
-    ghost took_joined = { λ s t u xs ys h k. (k.0 ∙ h.0, Laid-joined _ _ _ _ _ _ xs ys h.1 k.1) };
+    ghost took_joined = { λ s t u xs ys h k.
+        (k.0 ∙ h.0, k.1 ∙ h.1, Laid-joined _ _ _ _ _ _ _ _ xs ys h.1 h.2 k.2) };
 }

@@ -1,0 +1,10 @@
+-- A symbol without its ending is a beginning of it.
+use Rattle.std.proofs.Common.{◌≡◌, ℕ, List, length, take, ap, ◌∙◌}
+use Rattle.std.proofs.Math.Seq.{take-append_seam}
+use Rattle.rustc_demangle.specs.Stripped.{stripped}
+use Rattle.rustc_demangle.proofs.Stripping.{stripped_front}
+
+pub stripped_take : (s : List ℕ) → take (length (stripped s)) s ≡ stripped s
+stripped_take s =
+    let front = stripped_front s in
+    ap (take (length (stripped s))) front.1 ∙ take-append_seam (stripped s) front.0
