@@ -20,6 +20,7 @@
 #![deny(missing_docs)]
 
 use core::fmt;
+use core::mem::MaybeUninit;
 
 mod raw {
     extern "C" {
@@ -101,7 +102,7 @@ pub struct Part<'b> {
 }
 
 impl<'b> Part<'b> {
-    /// The part's bytes. The last may be the first part of a character.
+    /// The part's bytes, without the NUL. The last may be the first part of a character.
     pub fn as_bytes(&self) -> &'b [u8] {
         self.bytes
     }
@@ -183,8 +184,8 @@ pub fn demangle_limited<'b>(
     (wanted != 0).then(|| Path::new(out, wanted))
 }
 
-/// Writes the bytes of the path, cut at `limit` bytes, that stand from `start` on into `out`, as many as there is room for,
-/// and no NUL.
+/// Writes the bytes of the path, cut at `limit` bytes, that stand from `start` on into `out`, with a NUL behind them, or as
+/// many of them as there is room for.
 ///
 /// It is `None` where the bytes are no Rust symbol, and `out` is then as it was. A `start` behind the path's end gives an
 /// empty part. Each call goes over the whole path, so give large parts of a large path: see [`write_to`].
@@ -195,39 +196,23 @@ pub fn demangle_part<'b>(
     limit: usize,
     start: usize,
 ) -> Option<Part<'b>> {
-    // SAFETY: the pointers and lengths are those of a `&[u8]` and a `&mut [u8]`, which do not overlap.
-    let counted = unsafe {
-        raw::kodliwe_demangle_part(
-            symbol.as_ptr(),
-            symbol.len(),
-            out.as_mut_ptr(),
-            out.len(),
-            include_hash,
-            limit,
-            start,
-        )
+    // SAFETY: the library writes bytes, and never takes one away.
+    let out = unsafe { &mut *(out as *mut [u8] as *mut [MaybeUninit<u8>]) };
+    let request = Request {
+        symbol,
+        include_hash,
+        limit,
     };
-    // The library counts a NUL too.
-    let size = counted.checked_sub(1)?;
-    let held = size.saturating_sub(start).min(out.len());
-    Some(Part {
-        bytes: &out[..held],
-        end: start.saturating_add(held),
-        size,
-    })
+    request.part(out, start)
 }
-
-/// What one call holds of a path on the stack. Of the real symbols that were looked at, 1 in 200 has a longer path.
-const FEW: usize = 1024;
-/// What a call holds of a path of up to this size, and of each longer one.
-const SOME: usize = 8 * 1024;
-const MANY: usize = 64 * 1024;
 
 /// Writes the path that a Rust symbol names to `out`, in parts, without memory.
 ///
 /// It is `Ok(false)` where the bytes are no Rust symbol, and nothing is written then. An error of `out` ends it, and what
-/// was written before stays. A path is cut at [`MAX_SIZE`] bytes. The parts go through a buffer on the stack: of 1 KB, of
-/// 8 KB for a longer path, and of 64 KB for one of over 8 KB.
+/// was written before stays. A path is cut at [`MAX_SIZE`] bytes.
+///
+/// The parts go through a buffer on the stack, of 4 KB, in which one call puts the whole path of 999 of 1,000 symbols of
+/// real programs, and for a longer path of 64 KB.
 pub fn write_to<W: fmt::Write + ?Sized>(
     symbol: &[u8],
     out: &mut W,
@@ -243,57 +228,74 @@ pub fn write_limited<W: fmt::Write + ?Sized>(
     include_hash: bool,
     limit: usize,
 ) -> Result<bool, fmt::Error> {
-    let mut room = [0; FEW];
-    let Some(part) = demangle_part(symbol, &mut room, include_hash, limit, 0) else {
+    let request = Request {
+        symbol,
+        include_hash,
+        limit,
+    };
+    let mut room = [MaybeUninit::uninit(); FEW];
+    let Some(part) = request.part(&mut room, 0) else {
         return Ok(false);
     };
     let text = part.as_str();
     out.write_str(text)?;
     if !part.is_last() {
-        let rest = Rest {
-            symbol,
-            include_hash,
-            limit,
-            start: text.len(),
-        };
-        if part.size() <= SOME {
-            rest.write_by::<SOME, W>(out)?;
-        } else {
-            rest.write_by::<MANY, W>(out)?;
-        }
+        request.write_rest(text.len(), out)?;
     }
     Ok(true)
 }
 
-/// What of a path was not written yet.
-struct Rest<'s> {
+/// The bytes on the stack for the first part of a path, and for each that follows.
+const FEW: usize = 4 * 1024;
+const MANY: usize = 64 * 1024;
+
+/// A symbol, and how its path is to be printed.
+struct Request<'s> {
     symbol: &'s [u8],
     include_hash: bool,
     limit: usize,
-    start: usize,
 }
 
-impl Rest<'_> {
-    /// Writes it in parts of up to `SIZE` bytes.
-    #[cold]
-    #[inline(never)]
-    fn write_by<const SIZE: usize, W: fmt::Write + ?Sized>(mut self, out: &mut W) -> fmt::Result {
-        let mut room = [0; SIZE];
-        loop {
-            let part = demangle_part(
-                self.symbol,
-                &mut room,
+impl Request<'_> {
+    /// The path's part from `start` on, which is put into `out`.
+    fn part<'b>(&self, out: &'b mut [MaybeUninit<u8>], start: usize) -> Option<Part<'b>> {
+        // SAFETY: the pointers and lengths are those of two slices that do not overlap. The library writes to `out`, and
+        // reads nothing of it.
+        let counted = unsafe {
+            raw::kodliwe_demangle_part(
+                self.symbol.as_ptr(),
+                self.symbol.len(),
+                out.as_mut_ptr().cast(),
+                out.len(),
                 self.include_hash,
                 self.limit,
-                self.start,
+                start,
             )
-            .ok_or(fmt::Error)?;
+        };
+        let size = counted.checked_sub(1)?;
+        let held = size.saturating_sub(start).min(out.len().saturating_sub(1));
+        // SAFETY: these bytes of `out` are those of the path that the library has written, in front of its NUL.
+        let bytes = unsafe { core::slice::from_raw_parts(out.as_ptr().cast(), held) };
+        Some(Part {
+            bytes,
+            end: start.saturating_add(held),
+            size,
+        })
+    }
+
+    /// Writes what of the path stands from `start` on.
+    #[cold]
+    #[inline(never)]
+    fn write_rest<W: fmt::Write + ?Sized>(&self, mut start: usize, out: &mut W) -> fmt::Result {
+        let mut room = [MaybeUninit::uninit(); MANY];
+        while let Some(part) = self.part(&mut room, start) {
             let text = part.as_str();
             out.write_str(text)?;
-            if part.is_last() {
-                return Ok(());
+            if part.is_last() || text.is_empty() {
+                break;
             }
-            self.start += text.len();
+            start += text.len();
         }
+        Ok(())
     }
 }

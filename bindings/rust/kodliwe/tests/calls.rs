@@ -85,11 +85,13 @@ fn each_part_is_that_of_the_path() {
             let mut out = [9; 12];
             let part = demangle_part(b"_RNvC3foo3bar", &mut out[..size], true, 99, start).unwrap();
             let from = &path[start.min(8)..];
-            let held = from.len().min(size);
+            let held = from.len().min(size.saturating_sub(1));
+            let end = if size == 0 { 0 } else { held + 1 };
             assert_eq!(part.as_bytes(), &from[..held], "{start} {size}");
             assert_eq!(part.is_last(), held == from.len(), "{start} {size}");
             assert_eq!(part.size(), 8, "{start} {size}");
-            assert!(out[held..].iter().all(|byte| *byte == 9), "{start} {size}");
+            assert_eq!(out[held..end], [0][..end - held], "{start} {size}");
+            assert!(out[end..].iter().all(|byte| *byte == 9), "{start} {size}");
         }
     }
 }
@@ -109,7 +111,7 @@ fn a_part_has_the_form_and_the_limit_that_were_asked_for() {
 
 #[test]
 fn a_part_may_end_inside_a_character() {
-    let mut out = [9; 2];
+    let mut out = [9; 3];
     // it names €, three bytes
     let part = demangle_part(b"_ZN8_$u20ac$E", &mut out, false, 99, 0).unwrap();
     assert_eq!((part.as_bytes(), part.as_str()), (&b"\xE2\x82"[..], ""));
@@ -125,7 +127,7 @@ fn an_empty_path_is_one() {
     assert_eq!((part.as_str(), part.size(), part.is_last()), ("", 0, true));
     let mut text = String::new();
     assert_eq!(write_to(b"_ZNE", &mut text, true), Ok(true));
-    assert_eq!((text.as_str(), out), ("", [9; 2]));
+    assert_eq!((text.as_str(), out), ("", [0, 9]));
 }
 
 #[test]
@@ -142,7 +144,9 @@ fn no_symbol_has_no_part() {
 
 #[test]
 fn a_path_is_written_in_parts() {
-    for len in [1, 1023, 1024, 1025, 8192, 8193, 65_536, 70_000, 200_000] {
+    for len in [
+        1, 1022, 1023, 1024, 8191, 8192, 8193, 66_557, 66_558, 66_559, 200_000,
+    ] {
         let name = "n".repeat(len);
         let mut text = String::new();
         let symbol = format!("_ZN{len}{name}E.cold");
@@ -186,12 +190,12 @@ impl fmt::Write for Takes {
 fn an_error_of_the_writer_ends_it() {
     let name = "n".repeat(200_000);
     let symbol = format!("_ZN200000{name}E");
-    // 1,024 bytes, and then parts of 65,536
+    // 1,023 bytes, and then parts of 65,535
     for takes in 0..5 {
         let mut writer = Takes(takes, String::new());
         let told = write_to(symbol.as_bytes(), &mut writer, false);
         assert_eq!((told, writer.0), (Err(fmt::Error), 0));
-        let taken = takes.min(1) * 1024 + takes.saturating_sub(1) * 65_536;
+        let taken = takes.min(1) * 1023 + takes.saturating_sub(1) * 65_535;
         assert_eq!(writer.1.len(), taken.min(200_000));
     }
     let mut writer = Takes(5, String::new());
