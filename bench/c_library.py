@@ -9,9 +9,16 @@ It builds crates/demangle_c by `rt lib`, and then, in a folder of its own, print
               output, with guard bytes and fenced pages; the answers under the stored limits; and refuses bad texts.
               By gcc and by clang, each linked as usual, with -static, to a shared library, as C++, and with AddressSanitizer
   hostile     the same program's own checks of the symbols of bench/hostile.py, under limits of 0 and of 4,096 bytes
-  python      examples/demangle.py over the shared library
-  backtrace   examples/backtrace.c prints its own backtrace with paths in place of symbols
-  stack       the bytes of stack that a call in a signal handler touches, over the stored symbols and hostile ones: at most 96 KiB
+  headers     both headers compile as C89 but for `bool`, as later C and as C++, without a warning
+  texts       bench/c_library/answers.c filters the corpus's texts of many symbols as TEXTSRC
+  by name     rustc_demangle, put into the archive, is a function of the shared library, and answers as the crate's does
+  sanitizers  bench/c_library/many.c makes each call for 200,000 texts, most of them damaged symbols, from two threads at once,
+              built with AddressSanitizer, UndefinedBehaviorSanitizer and ThreadSanitizer
+  python      the tests of bindings/python over the shared library, and the time of 100,000 texts
+  backtrace   examples/backtrace.c prints its own backtrace with paths in place of symbols, and ends at a symbol that is made
+              to be deep
+  stack       the bytes of stack that a call in a signal handler touches, over the stored symbols and hostile ones: at most 96 KiB,
+              and for the real ones at most 5,632
   times       hostile trees into 4,096 bytes under a limit of 4,096: below 1 ms
   binding     the tests of bindings/rust
   rust        with --rust-crate, the folder of the Rust crate rustc-demangle: one program with both libraries, which are asked in
@@ -20,20 +27,23 @@ It builds crates/demangle_c by `rt lib`, and then, in a folder of its own, print
 
 Status: 0 where all of it held, 1 where something did not, 2 where a tool was lacking and the rest held.
 """
-import argparse, hashlib, os, re, shutil, struct, subprocess, sys, tempfile
+import argparse, ctypes, hashlib, os, random, re, shutil, struct, subprocess, sys, tempfile
 
 import hostile
 from common import CORPUS, ROOT, instructions
 
 HERE = os.path.join(ROOT, 'bench', 'c_library')
 ARCHIVE = os.path.join(ROOT, 'crates', 'demangle_c', 'out', 'libdemangle_c.a')
-CALLS = ['kodliwe_demangle', 'kodliwe_demangle_limited', 'kodliwe_is_symbol']
+CALLS = ['kodliwe_demangle', 'kodliwe_demangle_limited', 'kodliwe_demangle_part', 'kodliwe_demangle_text', 'kodliwe_is_symbol',
+         'kodliwe_symbol_len']
 WANTED = ['memcpy', 'memmove', 'memset']
 NO_LIMIT = 2**64 - 1
 # Texts that are no symbols, by what is wrong with them.
 REFUSED = [b'', b'_', b'_R', b'_ZN', b'_ZNE\xff', b'\xff\xfe', b'_ZN3fo\xc3E', b'_RNvC3foo3b\xe4r', b'_ZN3foo', b'_ZN3foo3barE ', b'_ZN3foo\0E',
            b'_ZN%dfooE' % 10**30, b'_RNvC%da3foo' % 10**30, b'_RNvC3foo%da' % 10**30, b'_RB%s_' % (b'z' * 40), b'_RNvC' + b'9' * 100000,
            b'_ZN' + b'9' * 100000 + b'E', 'ä_ZN3fooE'.encode(), b'_ZN3f\x80oE']
+# How many texts the sanitizers see.
+TEXTS = 200_000
 REAL = [('legacy', 0, 500), ('v0', 800, 1700)]
 
 
@@ -71,15 +81,16 @@ def column(text):
 
 
 def cases():
-    """The symbols with their limits, and for each the two columns of its answer, or None where it is refused."""
+    """The symbols with their limits, and for each the two columns of its answer and the length without ThinLTO's ending
+    (None where it is not stored), or None where it is refused."""
     for line in open(CORPUS, 'rb').read().split(b'\n'):
         fields = line.split(b'\t')
         if fields[0] == b'\\limit':
             # The column of a text that is no symbol has the text itself.
             symbol, refused = unescaped(fields[1]), fields[3] == fields[1] == fields[4]
-            yield symbol, int(fields[2]), None if refused else (fields[3], fields[4])
+            yield symbol, int(fields[2]), None if refused else (fields[3], fields[4], None)
         elif len(fields) == 5 and fields[0] != b'\\pieces':
-            yield unescaped(fields[0]), NO_LIMIT, (fields[3], fields[4]) if fields[1] == b'OK' else None
+            yield unescaped(fields[0]), NO_LIMIT, (fields[3], fields[4], len(unescaped(fields[0] if fields[2] == b'=' else fields[2]))) if fields[1] == b'OK' else None
     for text in REFUSED:
         yield text, NO_LIMIT, None
 
@@ -118,10 +129,11 @@ def compared(out, expected):
     at = wrong = 0
     for symbol, _, answer in expected:
         for form in range(2):
-            (want,) = struct.unpack_from('<I', out, at)
-            text = out[at + 4:at + 4 + max(want - 1, 0)]
-            at += 4 + len(text)
-            if (want == 0) != (answer is None) or answer is not None and column(text) != answer[form]:
+            want, symbol_len = struct.unpack_from('<II', out, at)
+            text = out[at + 8:at + 8 + max(want - 1, 0)]
+            at += 8 + len(text)
+            wrong_len = answer is not None and answer[2] is not None and symbol_len != answer[2]
+            if (want == 0) != (answer is None) or wrong_len or answer is not None and column(text) != answer[form]:
                 wrong += 1
                 print('    differs: %r gives %r' % (symbol[:80], text[:80]))
     assert at == len(out) and wrong == 0, '%d answers differ' % wrong
@@ -173,15 +185,107 @@ def check_hostile(folder):
     return '%d texts of up to %d bytes: each answered as the header says' % (len(texts), max(map(len, texts)))
 
 
-def check_python(folder, expected):
-    shared = shared_library(folder, 'gcc')
-    program = os.path.join(ROOT, 'examples', 'demangle.py')
-    some = [(symbol, answer) for symbol, limit, answer in expected if limit == NO_LIMIT and answer and b'\0' not in symbol and b'\\' not in answer[1]
-            and not answer[1].startswith(b'#len') and not symbol.startswith(b'-')][:1500]
-    out = run([sys.executable, program, shared] + [symbol for symbol, _ in some]).split(b'\n')
-    wrong = [symbol for (symbol, answer), line in zip(some, out) if line != answer[1]]
-    assert len(out) == len(some) + 1 and not wrong, '%d differ, as %r' % (len(wrong), wrong[:1])
-    return '%d symbols: no answer differs' % len(some)
+def check_headers(folder):
+    source = os.path.join(folder, 'headers.c')
+    with open(source, 'w') as file:
+        file.write('#include "kodliwe.h"\n#include "rustc_demangle.h"\nint main(void) { return 0; }\n')
+    ways = [['gcc', '-std=c89'], ['gcc', '-std=c99'], ['gcc', '-std=c17'], ['clang', '-std=c89', '-Wno-c99-extensions'], ['clang', '-std=c17'],
+            ['g++', '-x', 'c++', '-std=c++98'], ['clang++', '-x', 'c++', '-std=c++17']]
+    lacking = sorted({way[0] for way in ways if shutil.which(way[0]) is None})
+    for compiler, *flags in ways:
+        if compiler not in lacking:
+            run([compiler, *flags, '-pedantic', '-Wall', '-Wextra', '-Werror', '-I', os.path.join(ROOT, 'include'), '-c', source, '-o', os.devnull])
+    if lacking:
+        raise Lacking(', '.join(lacking))
+    return 'no warning by %s' % '; '.join(' '.join(way) for way in ways)
+
+
+def check_by_name(folder, expected):
+    """What docs/C.md says, in a folder of its own."""
+    archive, made = os.path.join(folder, 'libkodliwe.a'), os.path.join(folder, 'rustc_demangle.o')
+    shutil.copy(ARCHIVE, archive)
+    run([tool('gcc'), '-O2', '-Wall', '-Wextra', '-Werror', '-fPIC', '-I', os.path.join(ROOT, 'include'), '-c',
+         os.path.join(ROOT, 'bindings', 'c', 'rustc_demangle.c'), '-o', made])
+    run([tool('ar'), 'r', archive, made])
+    shared = os.path.join(folder, 'libby_name.so')
+    run([tool('gcc'), '-shared', '-o', shared, '-Wl,--whole-archive', archive, '-Wl,--no-whole-archive', '-Wl,-z,defs'])
+    call = ctypes.CDLL(shared).rustc_demangle
+    call.argtypes, call.restype = [ctypes.c_char_p, ctypes.c_char_p, ctypes.c_size_t], ctypes.c_int
+    tried = 0
+    for symbol, limit, answer in expected:
+        if limit != NO_LIMIT or b'\0' in symbol or answer and (b'\\' in answer[1] or answer[1].startswith(b'#len')):
+            continue
+        size = len(answer[1]) + 1 if answer else 40
+        out = ctypes.create_string_buffer(b'\x5a' * size, size)
+        assert call(symbol, out, size) == (1 if answer else 0), symbol
+        assert out.raw == (answer[1] + b'\0' if answer else b'\x5a' * size), symbol
+        assert call(symbol, out, size - 1) == 0 and call(symbol, None, 0) == 0, symbol
+        tried += 1
+    return '%d texts by ctypes: no answer differs' % tried
+
+
+def damaged(symbols, count):
+    """So many texts, most of them stored symbols that were changed in a few places, the same ones each time."""
+    dice = random.Random(20251123)
+    for _ in range(count):
+        text = bytearray(dice.choice(symbols))
+        for _ in range(dice.choice((0, 1, 1, 2, 5))):
+            at, other = dice.randrange(len(text) + 1), dice.choice(symbols)
+            change = dice.randrange(5)
+            if change == 0:
+                del text[at:at + dice.randrange(1, 9)]
+            elif change == 1:
+                text[at:at] = bytes([dice.randrange(256)])
+            elif change == 2:
+                text[at:at + 1] = bytes([dice.choice(b'_ZNRBCEKLIMXYTSpaz0159$.@-')])
+            elif change == 3:
+                text[at:] = other[dice.randrange(len(other) + 1):]
+            else:
+                text[at:at] = b' ' + other
+        yield bytes(text[:4000])
+
+
+def check_sanitizer(folder, compiler, sanitizer, stored):
+    program = os.path.join(folder, 'many')
+    try:
+        run([tool(compiler), '-O1', '-g', '-Wall', '-Wextra', '-Werror', '-fsanitize=' + sanitizer, '-fno-sanitize-recover=all', '-pthread',
+             '-I', os.path.join(ROOT, 'include'), os.path.join(HERE, 'many.c'), ARCHIVE, '-o', program])
+    except AssertionError as error:
+        if re.search(r'lib[atu]b?san|libclang_rt|cannot find -l[atu]b?san', str(error)):
+            raise Lacking("%s's runtime of -fsanitize=%s" % (compiler, sanitizer))
+        raise
+    texts = list(damaged([symbol for symbol in stored if symbol], TEXTS))
+    said = run([program], input=b''.join(map(record, texts)), env=dict(os.environ, TSAN_OPTIONS='exitcode=66')).decode().strip()
+    assert said == '%d texts' % len(texts), said
+    return '%s from two threads at once: 0 faults' % said
+
+
+SPEED = '''
+import sys, time, kodliwe
+texts = [line.decode() for line in open(sys.argv[1], 'rb').read().split(b'\\n')[:-1]]
+texts = (texts * (100_000 // len(texts) + 1))[:100_000]
+best = 1e9
+for _ in range(5):
+    began = time.perf_counter()
+    for text in texts:
+        kodliwe.demangle(text)
+    best = min(best, time.perf_counter() - began)
+print('%.2f' % best)
+'''
+
+
+def check_python(folder, stored):
+    package = os.path.join(ROOT, 'bindings', 'python')
+    env = dict(os.environ, KODLIWE_LIB=shared_library(folder, 'gcc'), PYTHONPATH=package, PYTHONDONTWRITEBYTECODE='1')
+    ran = subprocess.run([sys.executable, '-m', 'unittest', 'discover', '-s', os.path.join(package, 'tests')], stderr=subprocess.PIPE, env=env)
+    said = ran.stderr.decode()
+    counted = re.search(r'Ran (\d+) tests', said)
+    assert ran.returncode == 0 and counted, said[-1500:]
+    real = os.path.join(folder, 'real')
+    with open(real, 'wb') as file:
+        file.write(b''.join(symbol + b'\n' for _, start, end in REAL for symbol in stored[start:end]))
+    seconds = run([sys.executable, '-c', SPEED, real], env=env).decode().strip()
+    return '%s tests passed; 100,000 real symbols in %s s' % (counted[1], seconds)
 
 
 def check_backtrace(folder, compiler):
@@ -193,7 +297,13 @@ def check_backtrace(folder, compiler):
     for path in ('crash::fail', 'crash::parser::deep', '<crash::Table<u32>>::fill'):
         assert re.search(r'^ *\d+: %s$' % re.escape(path), said, re.M), 'no line for %s in %s' % (path, said)
     assert ran.returncode == -11, 'status %d' % ran.returncode
-    return 'the handler printed the three paths, and the program ended by SIGSEGV'
+    deep = os.path.join(folder, 'deep.c')
+    with open(os.path.join(ROOT, 'examples', 'backtrace.c')) as source, open(deep, 'w') as file:
+        file.write(source.read().replace('_RNvMC5crashINtB2_5TablemE4fill', '_RNvB_1a'))
+    run([tool(compiler), '-O1', '-rdynamic', '-I', os.path.join(ROOT, 'include'), deep, ARCHIVE, '-o', program])
+    ran = subprocess.run([program], stdout=subprocess.PIPE, stderr=subprocess.PIPE)
+    assert ran.returncode == -11 and b'1: crash::parser::deep' in ran.stderr, 'with a deep symbol: status %d' % ran.returncode
+    return 'the handler printed the three paths, and the program ended by SIGSEGV, also at a symbol that is made to be deep'
 
 
 def compiled(folder, name):
@@ -205,10 +315,12 @@ def compiled(folder, name):
 def check_stack(folder, stored):
     program = compiled(folder, 'in_handler')
     sets = [('real ' + name, stored[start:end]) for name, start, end in REAL]
-    sets += [('stored', stored), ('trees', trees()), ('deep', [hostile.chained(1000).encode(), hostile.into_name(1000).encode()])]
+    sets += [('short', [b'_RNvB_1a', b'_RIC7backrefSB9_E']), ('stored', stored), ('trees', trees()), ('deep', [hostile.chained(1000).encode(), hostile.into_name(1000).encode()])]
     for name, some in sets:
-        print('    %s: %s' % (name, run([program], input=b''.join(map(record, some))).decode().strip().replace('\n', '; ')))
-    return 'at most 96 KiB'
+        said = run([program], input=b''.join(map(record, some))).decode().strip().replace('\n', '; ')
+        print('    %s: %s' % (name, said))
+        assert 'real' not in name or ' 5632 bytes: 0,' in said, 'a real symbol wants more'
+    return 'at most 96 KiB, for the real ones at most 5,632 bytes'
 
 
 def check_times(folder):
@@ -294,8 +406,13 @@ def main():
             step('answers, %s, %s' % (compiler, way), check_answers, folder, compiler, plus, way, expected)
         step('backtrace, ' + compiler, check_backtrace, folder, compiler)
     step('hostile', check_hostile, folder)
-    step('python', check_python, folder, expected)
-    step('stack', check_stack, folder, [symbol for symbol, limit, _ in expected if limit == NO_LIMIT])
+    stored = [symbol for symbol, limit, _ in expected if limit == NO_LIMIT]
+    step('headers', check_headers, folder)
+    step('by name', check_by_name, folder, expected)
+    for sanitizer in ('address', 'undefined', 'thread'):
+        step('sanitizers, ' + sanitizer, check_sanitizer, folder, 'gcc', sanitizer, stored)
+    step('python', check_python, folder, stored)
+    step('stack', check_stack, folder, stored)
     step('times', check_times, folder)
     step('binding', check_binding, folder)
     if options.rust_crate:

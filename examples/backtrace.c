@@ -1,10 +1,15 @@
 /* A program that prints its own backtrace when it fails, with the paths of Rust functions in place of their symbols.
  *
- *     gcc -O1 -g -rdynamic -I include examples/backtrace.c crates/demangle_c/out/libdemangle_c.a -o backtrace && ./backtrace
+ *     gcc -O1 -g -rdynamic -I include examples/backtrace.c crates/demangle_c/out/libdemangle_c.a -o out/backtrace && out/backtrace
  *
- * The handler of SIGSEGV runs on a stack of its own of 96 KiB, takes no memory and no lock of ours, and asks for at most as
- * many bytes of a path as it has room for. So that the program needs no Rust compiler, three functions of C carry
- * the symbols that rustc gives such functions; a program that links Rust code has them of itself. */
+ * The handler of SIGSEGV runs on a stack of its own, takes no memory and no lock of ours, and asks for at most as many
+ * bytes of a path as it has room for. So that the program needs no Rust compiler, three functions of C carry the symbols
+ * that rustc gives such functions; a program that links Rust code has them of itself.
+ *
+ * That stack has 16 KiB, which suffice for every symbol but those that are made to be deep: the handler was seen to touch
+ * 8.9 KB of it, also with the real symbols that want most. A symbol that is made to be deep wants up to 70 KB, and need
+ * not be long (`_RNvB_1a`): more than that lies before the stack and cannot be touched, so that such a symbol ends the program
+ * and overwrites nothing. A program that prints a stranger's symbols takes 96 KiB for the stack. */
 #define _GNU_SOURCE
 #include "kodliwe.h"
 
@@ -13,11 +18,10 @@
 #include <signal.h>
 #include <stdio.h>
 #include <string.h>
+#include <sys/mman.h>
 #include <unistd.h>
 
-enum { FRAMES = 64, LINE = 512, STACK = 96 * 1024 };
-
-static char handler_stack[STACK];
+enum { FRAMES = 64, LINE = 512, STACK = 16 * 1024, FENCE = 96 * 1024 };
 
 static void print(const char *text, size_t len) {
     while (len > 0) {
@@ -68,14 +72,21 @@ int fail(const volatile int *at) { return *at + 1; }
 int deep(int n) { return n == 0 ? fail(NULL) + 1 : deep(n - 1) + 1; }
 int fill(int n) { return deep(n) + 1; }
 
+/* The memory of the handler's stack, behind its fence. */
+static char *handler_stack(void) {
+    char *fence = mmap(NULL, FENCE + STACK, PROT_NONE, MAP_PRIVATE | MAP_ANONYMOUS, -1, 0);
+    if (fence == MAP_FAILED || mprotect(fence + FENCE, STACK, PROT_READ | PROT_WRITE) != 0) return NULL;
+    return fence + FENCE;
+}
+
 int main(void) {
     void *first[1];
-    stack_t stack = {.ss_sp = handler_stack, .ss_size = sizeof handler_stack};
+    stack_t stack = {.ss_sp = handler_stack(), .ss_size = STACK};
     struct sigaction action;
     memset(&action, 0, sizeof action);
     action.sa_handler = on_fault;
     action.sa_flags = SA_ONSTACK | SA_RESETHAND;
     backtrace(first, 1); /* its first call loads a library, which a handler must not do */
-    if (sigaltstack(&stack, NULL) != 0 || sigaction(SIGSEGV, &action, NULL) != 0) return 2;
+    if (stack.ss_sp == NULL || sigaltstack(&stack, NULL) != 0 || sigaction(SIGSEGV, &action, NULL) != 0) return 2;
     return fill(1);
 }

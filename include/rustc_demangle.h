@@ -1,4 +1,7 @@
-/* rustc_demangle.h: the call of the C interface of the Rust crate rustc-demangle, over kodliwe.h. */
+/* rustc_demangle.h: the call of the C interface of the Rust crate rustc-demangle, over kodliwe.h.
+ *
+ * Here it is a function of the file that includes this header. Programs that look it up by its name in a library find it in
+ * bindings/c/rustc_demangle.c, which declares RUSTC_DEMANGLE_EXPORTED. */
 #ifndef RUSTC_DEMANGLE_H
 #define RUSTC_DEMANGLE_H
 
@@ -6,14 +9,34 @@
 
 #include <string.h>
 
+#if defined(RUSTC_DEMANGLE_EXPORTED)
+#define RUSTC_DEMANGLE_LINKAGE
+#elif defined(__cplusplus) || (defined(__STDC_VERSION__) && __STDC_VERSION__ >= 199901L)
+#define RUSTC_DEMANGLE_LINKAGE static inline
+#elif defined(__GNUC__)
+#define RUSTC_DEMANGLE_LINKAGE static __inline__
+#else
+#define RUSTC_DEMANGLE_LINKAGE static
+#endif
+
+#ifdef __cplusplus
+extern "C" {
+#endif
+
 /* Writes the path that the symbol names, without its hash, and a NUL into out.
  *
  * Returns 1 where mangled, a C string, is a Rust symbol and the whole path with its NUL fits in out_size bytes, else 0.
  * At 0 out holds the path's front and a NUL where it was too small, and is untouched where mangled is no symbol. */
-static inline int rustc_demangle(const char *mangled, char *out, size_t out_size) {
+RUSTC_DEMANGLE_LINKAGE int rustc_demangle(const char *mangled, char *out, size_t out_size) {
     char none;
     size_t want = kodliwe_demangle(mangled, strlen(mangled), out_size ? out : &none, out_size, false);
     return want != 0 && want <= out_size;
 }
+
+#ifdef __cplusplus
+}
+#endif
+
+#undef RUSTC_DEMANGLE_LINKAGE
 
 #endif

@@ -1,7 +1,8 @@
 /* Asks the library for each symbol of standard input, at thirteen sizes of the output in both forms, and writes its answers.
  *
  * A record of the input: 4 bytes of the symbol's length, 8 of the limit (all ones: none), the symbol. For each record, with the
- * hash and without it, the output has 4 bytes of what was returned and the path. The symbol ends, and each output ends, where a
+ * hash and without it, the output has 4 bytes of what was returned, 4 of kodliwe_symbol_len, and the path. Each path is also read
+ * in parts of several sizes. The symbol ends, and each output ends, where a
  * page begins that can be neither read nor written; guard bytes stand before the output, and in it behind the NUL.
  *
  * Status 1, with a line on standard error, where a call answers otherwise than kodliwe.h says. */
@@ -52,6 +53,33 @@ static void try_size(const char *symbol, size_t len, bool hash, size_t want, siz
         if (out[i] != MARK) fail("a byte behind the NUL is changed", symbol, len, size);
 }
 
+/* One part of the path, and that nothing else is written. */
+static void try_part(const char *symbol, size_t len, bool hash, size_t want, size_t size, size_t start) {
+    char *out = out_end - size;
+    memset(out - GUARD, MARK, size + GUARD);
+    if (kodliwe_demangle_part(symbol, len, out, size, hash, (size_t)limit, start) != want)
+        fail("a part returns another number", symbol, len, size);
+    size_t left = want == 0 || start >= want ? 0 : want - 1 - start, room = size == 0 ? 0 : size - 1;
+    size_t text = left < room ? left : room, kept = want == 0 || size == 0 ? 0 : text + 1;
+    if (kept != 0 && memcmp(out, whole + (text ? start : 0), text) != 0) fail("a part has another text", symbol, len, size);
+    if (kept != 0 && out[text] != 0) fail("a part has no NUL", symbol, len, size);
+    for (size_t i = 0; i < GUARD; i++)
+        if (out[(ptrdiff_t)i - GUARD] != MARK) fail("a part changes a byte before the output", symbol, len, size);
+    for (size_t i = kept; i < size; i++)
+        if (out[i] != MARK) fail("a part changes a byte behind the NUL", symbol, len, size);
+}
+
+/* The whole path in parts, and parts at and past its end. */
+static void try_parts(const char *symbol, size_t len, bool hash, size_t want) {
+    const size_t sizes[] = {2, 8, 101, 70001}, starts[] = {want, want + 1, (size_t)PTRDIFF_MAX, SIZE_MAX - 1, SIZE_MAX};
+    for (size_t i = 0; i < sizeof sizes / sizeof *sizes; i++) {
+        if (want / sizes[i] > 100) continue;
+        for (size_t start = 0; start < want; start += sizes[i] - 1) try_part(symbol, len, hash, want, sizes[i], start);
+    }
+    for (size_t i = 0; i < sizeof starts / sizeof *starts; i++) try_part(symbol, len, hash, want, 9, starts[i]);
+    for (size_t size = 0; size < 2; size++) try_part(symbol, len, hash, want, size, 1);
+}
+
 static void try_upstream(const char *symbol, size_t len, size_t want) {
     char *text = (char *)malloc(len + 1), *out = (char *)malloc(want + 1);
     if (text == NULL || out == NULL) exit(2);
@@ -80,12 +108,16 @@ int main(void) {
             uint32_t told = (uint32_t)want;
             size_t sizes[] = {0, 1, 2, 3, 7, 16, 40, 100, want > 1 ? want - 2 : 0, want ? want - 1 : 0, want, want + 1, want + 50};
             for (size_t i = 0; i < sizeof sizes / sizeof *sizes; i++) try_size(symbol, len, hash, want, sizes[i]);
+            try_parts(symbol, len, hash, want);
+            uint32_t symbol_len = (uint32_t)kodliwe_symbol_len(symbol, len);
+            if ((symbol_len != 0) != (want != 0) || symbol_len > len) fail("kodliwe_symbol_len says otherwise", symbol, len, 0);
             if (kodliwe_is_symbol(symbol, len) != (want != 0)) fail("kodliwe_is_symbol says otherwise", symbol, len, 0);
             if (limit == NONE && kodliwe_demangle_limited(symbol, len, whole, ROOM, hash, SIZE_MAX) != want)
                 fail("a limit above 1,000,000 is another", symbol, len, ROOM);
             if (want > (limit == NONE ? 1000000 : limit) + 21 + len) fail("more than the limit allows", symbol, len, ROOM);
             if (!hash && limit == NONE && memchr(symbol, 0, len) == NULL) try_upstream(symbol, len, want);
             fwrite(&told, sizeof told, 1, stdout);
+            fwrite(&symbol_len, sizeof symbol_len, 1, stdout);
             if (want != 0) fwrite(whole, 1, want - 1, stdout);
         }
     }

@@ -1,0 +1,80 @@
+/* Makes each call for each text of standard input from two threads at once, which share the texts, and checks that the answers
+ * agree with one another. It is built with a sanitizer. The input is that of answers.c, whose limits are not read.
+ *
+ * Each text is copied to memory of its very size, and each answer goes to memory of its very size. */
+#include "kodliwe.h"
+
+#include <pthread.h>
+#include <stdint.h>
+#include <stdio.h>
+#include <stdlib.h>
+#include <string.h>
+
+enum { THREADS = 2, LIMIT = 600, ROOM = 4096 };
+
+typedef struct {
+    char *bytes;
+    size_t len;
+} text_t;
+
+static text_t *texts;
+static size_t count;
+
+static void fail(const char *why, const text_t *text) {
+    fprintf(stderr, "%s: %.*s\n", why, (int)(text->len < 80 ? text->len : 80), text->bytes);
+    exit(1);
+}
+
+static void ask(const text_t *text, bool hash) {
+    char room[ROOM], part[33];
+    size_t len = text->len;
+    size_t want = kodliwe_demangle_limited(text->bytes, len, room, sizeof room, hash, LIMIT);
+    if (kodliwe_is_symbol(text->bytes, len) != (want != 0)) fail("is_symbol says otherwise", text);
+    size_t symbol_len = kodliwe_symbol_len(text->bytes, len);
+    if ((symbol_len != 0) != (want != 0) || symbol_len > len) fail("symbol_len says otherwise", text);
+    for (size_t start = 0; start < want && start < 100; start += sizeof part - 1) {
+        if (kodliwe_demangle_part(text->bytes, len, part, sizeof part, hash, LIMIT, start) != want) fail("a part has another size", text);
+        size_t left = want - start < sizeof part ? want - start : sizeof part;
+        if (want <= sizeof room && memcmp(part, room + start, left - 1) != 0) fail("a part differs", text);
+    }
+    char *exact = (char *)malloc(want ? want : 1);
+    if (kodliwe_demangle_limited(text->bytes, len, exact, want, hash, LIMIT) != want) fail("another size", text);
+    if (want != 0 && want <= sizeof room && memcmp(exact, room, want) != 0) fail("another path", text);
+    free(exact);
+    want = kodliwe_demangle_text(text->bytes, len, room, sizeof room, hash, LIMIT);
+    if (want == 0) fail("a text has no size", text);
+    exact = (char *)malloc(want);
+    if (kodliwe_demangle_text(text->bytes, len, exact, want, hash, LIMIT) != want || exact[want - 1] != 0) fail("a text has another size", text);
+    if (memcmp(exact, room, want < sizeof room ? want : sizeof room - 1) != 0) fail("another text", text);
+    free(exact);
+}
+
+static void *ask_all(void *hash) {
+    for (size_t i = 0; i < count; i++) ask(&texts[i], hash != NULL);
+    return NULL;
+}
+
+int main(void) {
+    uint32_t len;
+    uint64_t limit;
+    size_t room = 0;
+    while (fread(&len, sizeof len, 1, stdin) == 1) {
+        if (count == room) {
+            room = room ? 2 * room : 1024;
+            texts = (text_t *)realloc(texts, room * sizeof *texts);
+            if (texts == NULL) return 2;
+        }
+        texts[count].bytes = (char *)malloc(len ? len : 1);
+        texts[count].len = len;
+        if (texts[count].bytes == NULL || fread(&limit, sizeof limit, 1, stdin) != 1 || fread(texts[count].bytes, 1, len, stdin) != len) return 2;
+        count++;
+    }
+    pthread_t threads[THREADS];
+    for (size_t i = 0; i < THREADS; i++)
+        if (pthread_create(&threads[i], NULL, ask_all, i ? texts : NULL) != 0) return 2;
+    for (size_t i = 0; i < THREADS; i++) pthread_join(threads[i], NULL);
+    for (size_t i = 0; i < count; i++) free(texts[i].bytes);
+    free(texts);
+    printf("%zu texts\n", count);
+    return 0;
+}

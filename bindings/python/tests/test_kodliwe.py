@@ -1,0 +1,188 @@
+"""The calls of kodliwe, over the library that KODLIWE_LIB names. Expected paths are those of the Rust crate rustc-demangle."""
+
+import doctest
+import os
+import re
+import shutil
+import signal
+import subprocess
+import sys
+import tempfile
+import threading
+import unittest
+
+HERE = os.path.dirname(os.path.abspath(__file__))
+MODULE = os.path.join(HERE, "..", "kodliwe.py")
+CORPUS = os.path.join(HERE, "..", "..", "..", "crates", "demangle_corpus", "stdin")
+sys.path.insert(0, os.path.dirname(MODULE))
+
+import kodliwe  # noqa: E402
+
+LEGACY = "_ZN3foo17h05af221e174051e9E"
+# Its text doubles with each of 18 tuples, past every limit.
+TREE = "_RMC0TTTTTTTTTTTTTTTTTTpBk_EBj_EBi_EBh_EBg_EBf_EBe_EBd_EBc_EBb_EBa_EB9_EB8_EB7_EB6_EB5_EB4_EB3_E"
+
+
+def unescaped(text: bytes) -> bytes:
+    return re.sub(rb"\\(.)", lambda m: {b"n": b"\n", b"t": b"\t", b"r": b"\r", b"0": b"\0"}.get(m[1], m[1]), text)
+
+
+def stored():
+    """Symbols of the corpus with their paths with the hash and without it, and the texts that are refused."""
+    symbols, refused = [], []
+    with open(CORPUS, "rb") as corpus:
+        for line in corpus:
+            fields = line.rstrip(b"\n").split(b"\t")
+            if len(fields) != 5 or fields[0] in (b"\\pieces", b"\\limit"):
+                continue
+            if fields[1] == b"OK" and not fields[3].startswith(b"#len=") and not fields[4].startswith(b"#len="):
+                symbols.append(tuple(unescaped(fields[i]) for i in (0, 3, 4)))
+            elif fields[1] == b"ERR":
+                refused.append(unescaped(fields[0]))
+    return symbols, refused
+
+
+def run(code, *arguments, given=b"", **environment):
+    env = dict(os.environ, **environment)
+    return subprocess.run([sys.executable, "-c", code, *arguments], input=given, stdout=subprocess.PIPE, stderr=subprocess.PIPE, env=env)
+
+
+class Demangle(unittest.TestCase):
+    def test_a_symbol_gives_its_path(self):
+        self.assertEqual(kodliwe.demangle(LEGACY), "foo")
+        self.assertEqual(kodliwe.demangle(LEGACY, hash=True), "foo::h05af221e174051e9")
+        self.assertEqual(kodliwe.demangle(LEGACY.encode()), b"foo")
+        self.assertEqual(kodliwe.demangle("_RNvC3foo3bar.llvm.0AB@1"), "foo::bar")
+
+    def test_what_is_no_symbol_is_given_back(self):
+        for text in ("main", "", "_ZN3foo", "ä", "\udcff", "\ud800_ZN3fooE", "a\0b"):
+            self.assertIs(kodliwe.demangle(text), text)
+        for text in (b"main", b"", b"\xff\xfe", b"_ZN3fo\xc3E"):
+            self.assertIs(kodliwe.demangle(text), text)
+
+    def test_an_empty_path_is_one(self):
+        self.assertTrue(kodliwe.is_symbol("_ZN0E"))
+        self.assertEqual(kodliwe.demangle("_ZN0E"), "")
+
+    def test_a_limit_cuts(self):
+        self.assertEqual(kodliwe.demangle("_ZN3foo3barE.cold.7", limit=4), "foo{size limit reached}.cold.7")
+        with self.assertRaises(ValueError):
+            kodliwe.demangle(LEGACY, limit=-1)
+
+    def test_a_long_path_is_whole(self):
+        path = kodliwe.demangle(TREE, limit=10**30)
+        self.assertEqual(len(path), 1_000_019)
+        self.assertTrue(path.startswith("<((((((((((((((((((") and path.endswith("{size limit reached}"))
+        self.assertEqual(kodliwe.demangle(LEGACY), "foo")
+
+    def test_a_type_that_is_no_text(self):
+        for call in (kodliwe.demangle, kodliwe.is_symbol, kodliwe.demangle_text):
+            with self.assertRaises(TypeError):
+                call(7)
+
+    @unittest.skipUnless(os.path.exists(CORPUS), "the repository's corpus is not there")
+    def test_the_stored_answers(self):
+        symbols, refused = stored()
+        self.assertGreater(len(symbols), 1000)
+        for symbol, full, short in symbols:
+            self.assertEqual((kodliwe.demangle(symbol, hash=True), kodliwe.demangle(symbol)), (full, short))
+            self.assertTrue(kodliwe.is_symbol(symbol))
+        for text in refused:
+            self.assertIs(kodliwe.demangle(text), text)
+            self.assertFalse(kodliwe.is_symbol(text))
+
+
+class IsSymbol(unittest.TestCase):
+    def test_a_symbol_is_told(self):
+        self.assertIs(kodliwe.is_symbol(LEGACY), True)
+        self.assertIs(kodliwe.is_symbol(LEGACY.encode()), True)
+        self.assertIs(kodliwe.is_symbol("main"), False)
+        self.assertIs(kodliwe.is_symbol("\ud800"), False)
+
+
+class DemangleText(unittest.TestCase):
+    def test_a_text_keeps_its_rest(self):
+        self.assertEqual(kodliwe.demangle_text("at %s, _RNvC3foo3bar\n" % LEGACY), "at foo, foo::bar\n")
+        self.assertEqual(kodliwe.demangle_text("%s-x" % LEGACY, hash=True), "foo::h05af221e174051e9-x")
+        self.assertEqual(kodliwe.demangle_text(""), "")
+
+    def test_bytes_need_be_no_utf8(self):
+        self.assertEqual(kodliwe.demangle_text(b"\xff\0_ZN3fooE\xfe"), b"\xff\0foo\xfe")
+        self.assertEqual(kodliwe.demangle_text("\udcff\ud800_ZN3fooEä"), "\udcff\ud800fooä")
+
+    def test_a_limit_is_each_symbols(self):
+        self.assertEqual(
+            kodliwe.demangle_text("_ZN3foo3barE _ZN1aE", limit=4), "foo{size limit reached} a"
+        )
+
+    def test_a_long_text(self):
+        count = 50_000
+        self.assertEqual(kodliwe.demangle_text("x _RNvC3foo3bar\n" * count), "x foo::bar\n" * count)
+
+
+class Calls(unittest.TestCase):
+    def test_threads_do_not_mix(self):
+        wrong = []
+
+        def ask(name):
+            symbol, path = "_RNvC%d%s3bar" % (len(name), name), "%s::bar" % name
+            for _ in range(2000):
+                if kodliwe.demangle(symbol) != path or kodliwe.demangle_text("<%s>" % symbol) != "<%s>" % path:
+                    wrong.append(name)
+
+        threads = [threading.Thread(target=ask, args=(letter * 9,)) for letter in "abcdefgh"]
+        for thread in threads:
+            thread.start()
+        for thread in threads:
+            thread.join()
+        self.assertEqual(wrong, [])
+
+    @unittest.skipUnless(hasattr(signal, "setitimer"), "there is no timer")
+    def test_a_handler_may_call_in_the_midst_of_a_call(self):
+        seen = []
+        old = signal.signal(signal.SIGALRM, lambda *_: seen.append(kodliwe.demangle("_RNvC5other3bar")))
+        signal.setitimer(signal.ITIMER_REAL, 0.0005, 0.0005)
+        try:
+            wrong = [path for path in (kodliwe.demangle(LEGACY) for _ in range(100_000)) if path != "foo"]
+        finally:
+            signal.setitimer(signal.ITIMER_REAL, 0)
+            signal.signal(signal.SIGALRM, old)
+        self.assertEqual(wrong, [])
+        self.assertTrue(seen and set(seen) == {"other::bar"})
+
+    def test_the_examples(self):
+        self.assertEqual(doctest.testmod(kodliwe).failed, 0)
+        self.assertEqual(doctest.testfile(os.path.join(HERE, "..", "README.md"), module_relative=False).failed, 0)
+
+
+class Library(unittest.TestCase):
+    CODE = "import sys; sys.path.insert(0, sys.argv[1]); import kodliwe; print(kodliwe.demangle('_ZN3fooE'))"
+
+    def file(self):
+        return kodliwe._load()._name
+
+    def test_it_is_the_one_that_is_named(self):
+        for named in (self.file(), os.path.dirname(self.file())):
+            self.assertEqual(run(self.CODE, os.path.dirname(MODULE), KODLIWE_LIB=named).stdout, b"foo\n")
+
+    def test_it_is_beside_the_module(self):
+        with tempfile.TemporaryDirectory() as folder:
+            shutil.copy(MODULE, folder)
+            shutil.copy(self.file(), os.path.join(folder, "libkodliwe.so"))
+            self.assertEqual(run(self.CODE, folder, KODLIWE_LIB="").stdout, b"foo\n")
+
+    def test_none_is_said_in_one_line(self):
+        ran = run(self.CODE, os.path.dirname(MODULE), KODLIWE_LIB=os.path.join(HERE, "none.so"))
+        self.assertEqual(ran.returncode, 1)
+        self.assertIn(b"OSError: kodliwe finds no libkodliwe.so: build it as docs/C.md says", ran.stderr.splitlines()[-1])
+
+    def test_the_module_is_a_program(self):
+        library = self.file()
+        program = "import runpy, sys; sys.argv[1:2] = []; runpy.run_path(%r, run_name='__main__')" % MODULE
+        self.assertEqual(run(program, "-", LEGACY, "main", KODLIWE_LIB=library).stdout, b"foo\nmain\n")
+        filtered = run(program, "-", given=b"\xff " + LEGACY.encode() + b"\nend", KODLIWE_LIB=library)
+        self.assertEqual(filtered.stdout, b"\xff foo\nend")
+
+
+if __name__ == "__main__":
+    unittest.main()
