@@ -163,7 +163,7 @@ def check_finding(work):
         ways.append(name)
         return status, said
 
-    for name, library, env in (('KODLIWE_LIB', os.path.join(tree, 'lib'), nothing),
+    for name, library, env in (('KODLIWE_LIB', os.path.join(tree, 'lib'), nothing), ('a file of it', os.path.join(tree, 'lib', 'libkodliwe.a'), nothing),
                                ('pkg-config', None, {'PKG_CONFIG_PATH': os.path.join(tree, 'pkgconfig')} if shutil.which('pkg-config') else None)):
         if env is None:
             raise Lacking('pkg-config, the Debian package pkg-config')
@@ -186,7 +186,7 @@ def check_no_std(work):
     project = work.path('no_std')
     work.write('no_std/Cargo.toml', '[package]\nname = "no_std"\nversion = "0.0.0"\nedition = "2021"\n\n[features]\nstd = ["rustc-demangle/std"]\n\n'
                '[dependencies]\nrustc-demangle = { path = "%s" }\n\n[lib]\ncrate-type = ["staticlib"]\npath = "%s"\n\n'
-               '[profile.release]\npanic = "abort"\n\n[workspace]\n' % (OURS, os.path.join(HERE, 'no_std.rs')))
+               '[profile.release]\npanic = "abort"\nlto = true\n\n[workspace]\n' % (OURS, os.path.join(HERE, 'no_std.rs')))
     work.cargo(project, ['build', '--release'])
     program = work.path('no_std', 'program')
     run([tool('gcc'), '-O1', '-Wall', '-Wextra', os.path.join(HERE, 'no_std.c'), work.path('target', 'release', 'libno_std.a'), '-o', program])

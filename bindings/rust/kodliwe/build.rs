@@ -1,5 +1,5 @@
-//! Finds the static library: in the folder that KODLIWE_LIB names, where pkg-config says that Kodliwe is installed, or
-//! where a build leaves it in this repository.
+//! Finds the static library: in the folder that KODLIWE_LIB names, itself or by a file in it, where pkg-config says that
+//! Kodliwe is installed, or where a build leaves it in this repository.
 use std::env;
 use std::ffi::OsString;
 use std::path::{Path, PathBuf};
@@ -37,13 +37,16 @@ fn main() {
 }
 
 fn found() -> Result<(PathBuf, &'static str), String> {
-    if let Some(folder) = env::var_os("KODLIWE_LIB") {
-        return library_in(PathBuf::from(&folder)).ok_or_else(|| {
-            format!(
-                "KODLIWE_LIB names {}, and there is no libkodliwe.a or libdemangle_c.a in it",
-                folder.to_string_lossy()
-            )
-        });
+    if let Some(named) = env::var_os("KODLIWE_LIB").map(PathBuf::from) {
+        let folder = match named.parent() {
+            Some(parent) if named.is_file() => parent.to_path_buf(),
+            _ => named.clone(),
+        };
+        let lacking = format!(
+            "KODLIWE_LIB names {}, where there is no libkodliwe.a or libdemangle_c.a",
+            named.display()
+        );
+        return library_in(folder).ok_or(lacking);
     }
     let here = PathBuf::from(env::var_os("CARGO_MANIFEST_DIR").expect("cargo sets it"));
     installed()

@@ -144,9 +144,7 @@ fn no_symbol_has_no_part() {
 
 #[test]
 fn a_path_is_written_in_parts() {
-    for len in [
-        1, 1022, 1023, 1024, 8191, 8192, 8193, 66_557, 66_558, 66_559, 200_000,
-    ] {
+    for len in [1, 4094, 4095, 4096, 69_629, 69_630, 69_631, 200_000] {
         let name = "n".repeat(len);
         let mut text = String::new();
         let symbol = format!("_ZN{len}{name}E.cold");
@@ -157,7 +155,7 @@ fn a_path_is_written_in_parts() {
 
 #[test]
 fn characters_are_written_whole() {
-    for count in [341, 342, 2731, 2732, 21_846] {
+    for count in [1364, 1365, 1366, 23_210, 23_211] {
         let symbol = format!("_ZN{}_{}E", 1 + 7 * count, "$u20ac$".repeat(count));
         let mut text = String::new();
         assert_eq!(write_to(symbol.as_bytes(), &mut text, false), Ok(true));
@@ -190,15 +188,15 @@ impl fmt::Write for Takes {
 fn an_error_of_the_writer_ends_it() {
     let name = "n".repeat(200_000);
     let symbol = format!("_ZN200000{name}E");
-    // 1,023 bytes, and then parts of 65,535
-    for takes in 0..5 {
+    // 4,095 bytes, and then parts of 65,535
+    for takes in 0..4 {
         let mut writer = Takes(takes, String::new());
         let told = write_to(symbol.as_bytes(), &mut writer, false);
         assert_eq!((told, writer.0), (Err(fmt::Error), 0));
-        let taken = takes.min(1) * 1023 + takes.saturating_sub(1) * 65_535;
+        let taken = takes.min(1) * 4095 + takes.saturating_sub(1) * 65_535;
         assert_eq!(writer.1.len(), taken.min(200_000));
     }
-    let mut writer = Takes(5, String::new());
+    let mut writer = Takes(4, String::new());
     assert_eq!(write_to(symbol.as_bytes(), &mut writer, false), Ok(true));
     assert!(writer.1 == name);
 }

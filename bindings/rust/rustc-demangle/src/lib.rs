@@ -40,8 +40,8 @@ use core::fmt;
 /// of a legacy symbol, and of a v0 symbol the disambiguators of crates and the types of numbers. A text that is no symbol
 /// is printed as it stands. Width, precision and the other flags of a format have no effect.
 ///
-/// Printing takes no memory: the path goes to the formatter in parts, of 1 KB, and of 64 KB where it has over 8 KB. A path
-/// is cut at 1,000,000 bytes; `{size limit reached}` and the symbol's suffix then follow.
+/// Printing takes no memory: the path goes to the formatter in one part, and in parts of 64 KB where it has over 4 KB. A
+/// path is cut at 1,000,000 bytes; `{size limit reached}` and the symbol's suffix then follow.
 pub struct Demangle<'a> {
     original: &'a str,
     is_symbol: bool,

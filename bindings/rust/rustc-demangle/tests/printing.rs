@@ -150,7 +150,7 @@ fn a_path_of_any_size_is_whole() {
 
 #[test]
 fn characters_of_more_bytes_are_whole() {
-    for count in [340, 341, 342, 1000, 21_845, 21_846, 60_000] {
+    for count in [341, 1364, 1365, 1366, 23_210, 23_211, 60_000] {
         let symbol = format!("_ZN{}_{}E", 1 + 7 * count, "$u20ac$".repeat(count));
         assert_eq!(demangle(&symbol).to_string(), "€".repeat(count), "{count}");
     }
@@ -169,7 +169,7 @@ fn a_path_past_the_limit_is_cut_before_its_suffix() {
 
 #[test]
 fn a_long_name_is_whole() {
-    for len in [1023, 1024, 1025, 8192, 8193, 70_000] {
+    for len in [1023, 1024, 4092, 4093, 4094, 4095, 4096, 70_000] {
         let name = "n".repeat(len);
         assert_eq!(
             demangle(&format!("_RNvC1a{len}{name}")).to_string(),
