@@ -388,7 +388,7 @@ def check_rust(folder, crate, expected):
     with open(os.path.join(project, 'Cargo.toml'), 'w') as manifest:
         manifest.write('[package]\nname = "rust_calls"\nversion = "0.0.0"\nedition = "2021"\n\n[dependencies]\n'
                        'kodliwe = { path = "%s" }\nrustc-demangle = { path = "%s" }\n\n[profile.release]\ndebug = 1\n\n[workspace]\n'
-                       % (os.path.join(ROOT, 'bindings', 'rust'), os.path.abspath(crate)))
+                       % (os.path.join(ROOT, 'bindings', 'rust', 'kodliwe'), os.path.abspath(crate)))
     cargo(folder, ['build', '--release', '--manifest-path', os.path.join(project, 'Cargo.toml')])
     program = os.path.join(folder, 'target', 'release', 'rust_calls')
     stored = [symbol for symbol, limit, _ in expected if limit == NO_LIMIT]
