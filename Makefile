@@ -1,0 +1,108 @@
+# Builds, installs and packs Kodliwe: the programs, the library for C, and what a user reads of them.
+#
+#   make                             into out/build
+#   make install PREFIX= DESTDIR=    PREFIX is /usr/local where it is not given
+#   make uninstall PREFIX= DESTDIR=
+#   make dist                        out/dist: a tarball of the installed tree and a Debian package, with SHA256SUMS
+#   make check                       tries all of these, in folders of its own (packaging/check)
+#
+# `make` proves what it builds, and wants the Rattle kit (`rt`) and a C compiler. What it makes wants the C library alone.
+# FLAGS are handed to `rt`, as --cpu=x86-64-v3: docs/C.md has the choices.
+
+VERSION := 0.1.0
+SONAME := libkodliwe.so.0
+SHARED := libkodliwe.so.$(VERSION)
+PROGRAMS := kodliwe demangle_filter
+HEADERS := include/kodliwe.h include/rustc_demangle.h
+MANUALS := docs/kodliwe.1 docs/demangle_filter.1
+LICENCES := LICENSE LICENSE-MIT-rustc-demangle LICENSE-APACHE-rustc-demangle
+
+PREFIX ?= /usr/local
+DESTDIR ?=
+BINDIR ?= $(PREFIX)/bin
+LIBDIR ?= $(PREFIX)/lib
+INCLUDEDIR ?= $(PREFIX)/include
+DATADIR ?= $(PREFIX)/share
+MANDIR ?= $(DATADIR)/man
+DOCDIR ?= $(DATADIR)/doc/kodliwe
+# Where kodliwe.pc says that the tree lies; a tree that is moved about says it by the file's own place.
+PC_PREFIX ?= $(PREFIX)
+FLAGS ?=
+CC ?= cc
+STRIP ?= strip
+INSTALL ?= install
+
+BUILD := out/build
+DIST := out/dist
+NAME := kodliwe-$(VERSION)-x86_64-linux
+DEB := kodliwe_$(VERSION)_amd64.deb
+SOURCES := crates.txt $(shell find crates -path '*/out' -prune -o -name '*.rt' -print -o -name '*.antt' -print)
+# Times in what is packed: those of the last commit, so that two builds of it are the same.
+SOURCE_DATE_EPOCH ?= $(shell git log -1 --format=%ct 2>/dev/null || date +%s)
+export SOURCE_DATE_EPOCH
+
+.PHONY: all install uninstall dist check clean
+.DELETE_ON_ERROR:
+
+all: $(PROGRAMS:%=$(BUILD)/%) $(BUILD)/libkodliwe.a $(BUILD)/$(SHARED)
+
+$(BUILD):
+	mkdir -p $@
+
+# A program that was proved lies in its crate's out/ once it has run.
+$(PROGRAMS:%=$(BUILD)/%): $(BUILD)/%: $(SOURCES) | $(BUILD)
+	cd crates/$* && rt run $(FLAGS) < /dev/null > /dev/null
+	$(STRIP) -o $@ crates/$*/out/$*
+
+$(BUILD)/libkodliwe.a: $(SOURCES) | $(BUILD)
+	cd crates/demangle_c && rt lib $(FLAGS)
+	$(STRIP) --enable-deterministic-archives --strip-debug -o $@ crates/demangle_c/out/libdemangle_c.a
+
+$(BUILD)/$(SHARED): $(BUILD)/libkodliwe.a packaging/libkodliwe.map
+	$(CC) -shared -Wl,-soname,$(SONAME) -Wl,--version-script=packaging/libkodliwe.map -Wl,-z,defs -Wl,-z,relro,-z,now \
+		-Wl,--gc-sections -Wl,--whole-archive $< -Wl,--no-whole-archive $(LDFLAGS) -o $@
+	$(STRIP) --strip-unneeded $@
+
+install: all
+	$(INSTALL) -d $(DESTDIR)$(BINDIR) $(DESTDIR)$(LIBDIR)/pkgconfig $(DESTDIR)$(INCLUDEDIR) $(DESTDIR)$(MANDIR)/man1 $(DESTDIR)$(DOCDIR) \
+		$(DESTDIR)$(DATADIR)/bash-completion/completions $(DESTDIR)$(DATADIR)/zsh/site-functions $(DESTDIR)$(DATADIR)/fish/vendor_completions.d
+	$(INSTALL) -m 755 $(PROGRAMS:%=$(BUILD)/%) $(DESTDIR)$(BINDIR)
+	$(INSTALL) -m 644 $(BUILD)/libkodliwe.a $(BUILD)/$(SHARED) $(DESTDIR)$(LIBDIR)
+	ln -sf $(SHARED) $(DESTDIR)$(LIBDIR)/$(SONAME)
+	ln -sf $(SONAME) $(DESTDIR)$(LIBDIR)/libkodliwe.so
+	sed -e 's|@PREFIX@|$(PC_PREFIX)|' -e 's|@LIBDIR@|$(LIBDIR:$(PREFIX)/%=%)|' -e 's|@INCLUDEDIR@|$(INCLUDEDIR:$(PREFIX)/%=%)|' \
+		-e 's|@VERSION@|$(VERSION)|' packaging/kodliwe.pc.in > $(DESTDIR)$(LIBDIR)/pkgconfig/kodliwe.pc
+	chmod 644 $(DESTDIR)$(LIBDIR)/pkgconfig/kodliwe.pc
+	$(INSTALL) -m 644 $(HEADERS) $(DESTDIR)$(INCLUDEDIR)
+	$(INSTALL) -m 644 $(MANUALS) $(DESTDIR)$(MANDIR)/man1
+	$(INSTALL) -m 644 completions/kodliwe.bash $(DESTDIR)$(DATADIR)/bash-completion/completions/kodliwe
+	$(INSTALL) -m 644 completions/_kodliwe $(DESTDIR)$(DATADIR)/zsh/site-functions/_kodliwe
+	$(INSTALL) -m 644 completions/kodliwe.fish $(DESTDIR)$(DATADIR)/fish/vendor_completions.d/kodliwe.fish
+	$(INSTALL) -m 644 README.md $(LICENCES) docs/C.md docs/GUARANTEES.md $(DESTDIR)$(DOCDIR)
+
+uninstall:
+	rm -f $(PROGRAMS:%=$(DESTDIR)$(BINDIR)/%) $(DESTDIR)$(LIBDIR)/libkodliwe.a $(DESTDIR)$(LIBDIR)/$(SHARED) \
+		$(DESTDIR)$(LIBDIR)/$(SONAME) $(DESTDIR)$(LIBDIR)/libkodliwe.so $(DESTDIR)$(LIBDIR)/pkgconfig/kodliwe.pc \
+		$(HEADERS:include/%=$(DESTDIR)$(INCLUDEDIR)/%) $(MANUALS:docs/%=$(DESTDIR)$(MANDIR)/man1/%) \
+		$(DESTDIR)$(DATADIR)/bash-completion/completions/kodliwe $(DESTDIR)$(DATADIR)/zsh/site-functions/_kodliwe \
+		$(DESTDIR)$(DATADIR)/fish/vendor_completions.d/kodliwe.fish
+	rm -rf $(DESTDIR)$(DOCDIR)
+
+dist: $(DIST)/$(NAME).tar.gz $(DIST)/$(DEB)
+	cd $(DIST) && sha256sum $(NAME).tar.gz $(DEB) > SHA256SUMS
+
+# A tree that can be unpacked anywhere: kodliwe.pc finds the rest from its own place.
+$(DIST)/$(NAME).tar.gz: all $(HEADERS) $(LICENCES) README.md
+	rm -rf $(DIST)/$(NAME)
+	$(MAKE) --no-print-directory install PREFIX= DESTDIR=$(abspath $(DIST)/$(NAME)) DOCDIR=/share/doc/kodliwe PC_PREFIX='$${pcfiledir}/../..'
+	cd $(DIST)/$(NAME) && find . -type f | LC_ALL=C sort | xargs sha256sum > share/doc/kodliwe/SHA256SUMS
+	tar -C $(DIST) --sort=name --owner=0 --group=0 --numeric-owner --mode=go=rX,u+rw --mtime=@$(SOURCE_DATE_EPOCH) -cf - $(NAME) | gzip -9n > $@
+
+$(DIST)/$(DEB): all $(HEADERS) $(LICENCES) README.md packaging/debian/build
+	packaging/debian/build $(VERSION) $(abspath $(DIST)/debian) $(abspath $@)
+
+check:
+	packaging/check
+
+clean:
+	rm -rf out
