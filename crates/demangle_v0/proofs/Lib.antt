@@ -34,6 +34,9 @@ pub mod PointRuns
 pub mod PointSkips
 pub mod PointSteps
 pub mod PointTaggedConstants
+pub mod PointMarks
+pub mod PointTurns
+pub mod WordLooks
 pub mod PointTuples
 pub mod PointTypes
 pub mod PointVariants

@@ -11,7 +11,7 @@ use Rattle.demangle_v0.specs.declared.grammar.Word.TheVariants as word
 use Rattle.demangle_v0.specs.Table.{more, argument, says}
 use Rattle.demangle_v0.specs.Reading.{Place, run}
 use Rattle.demangle_v0.specs.Arguments.{separator, arguments_point, argument_point, argument_place, argument_costs}
-use Rattle.demangle_v0.specs.Points.{frame_of, then_frame, share_at, none_open, around, mark_texts, goes, way_weight, weight_at, height_at, Fits, DidOn, Did}
+use Rattle.demangle_v0.specs.Points.{frame_of, then_frame, share_at, none_open, around, mark_texts, way_weight, weight_at, height_at, Fits, DidOn, Did}
 use Rattle.demangle_v0.specs.declared.grammar.Mark.TheVariants as mark
 use Rattle.demangle_v0.specs.declared.points.Point.{Point}
 use Rattle.demangle_v0.specs.declared.points.Point.TheVariants as point
@@ -84,10 +84,10 @@ module _ {V : Type 0} (voice : Ghosts V) (b : List ℕ) (plain : Bool) where
   on_so true v c left n i o f e = ap none_open (first_on plain voice.loud (around b voice.loud left n) ", " argument (says ">" done) i e)
   on_so false v c left n i o f e = ap none_open (more_on plain voice.loud b left n ", " argument (says ">" done) i (argument_element b voice.loud left n (omega (arith, f))) e)
 
-  argument_light : (i : ℕ) → way_weight (goes (argument_point b i)) ≤ 1
+  argument_light : (i : ℕ) → way_weight ((argument_point b i)) ≤ 1
   argument_light i = go (is_byte b i (code "L")) (is_byte b i (code "K"))
     where
-      go : (x y : Bool) → way_weight (goes (if x then point.Lifetime else if y then point.Constant else point.«Type»)) ≤ 1
+      go : (x y : Bool) → way_weight ((if x then point.Lifetime else if y then point.Constant else point.«Type»)) ≤ 1
       go true y = omega arith
       go false true = omega arith
       go false false = omega arith
@@ -119,6 +119,6 @@ module _ {V : Type 0} (voice : Ghosts V) (b : List ℕ) (plain : Bool) where
 
   -- a lifetime
   pub lifetime_word : (s : State) (row now : List Frame) (u w : V) (result : Result Point Stop) (new : State) (made : ℕ)
-      → DidOn voice b plain (heard voice b plain (word_items word.LifetimeIndex s.letter done) s.depth_left s.lifetimes s.place) 1 0 row u result new now w made → Did voice b plain point.Lifetime s row u result new now w made
+      → DidOn voice b plain (heard voice b plain (word_items word.LifetimeIndex s.letter done) s.depth_left s.lifetimes s.place) 1 (8 * s.depth_left + 0) row u result new now w made → Did voice b plain point.Lifetime s row u result new now w made
   unfolding share_at
-  lifetime_word s row now u w result new made d = same voice b plain _ (heard voice b plain (word_items word.LifetimeIndex s.letter done) s.depth_left s.lifetimes s.place) 1 (8 * s.depth_left + 1) 1 0 row u w result new now made refl (omega arith) (omega arith) d
+  lifetime_word s row now u w result new made d = same voice b plain _ (heard voice b plain (word_items word.LifetimeIndex s.letter done) s.depth_left s.lifetimes s.place) 1 (8 * s.depth_left + 1) 1 (8 * s.depth_left + 0) row u w result new now made refl (omega arith) (omega arith) d

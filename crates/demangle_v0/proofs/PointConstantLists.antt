@@ -10,7 +10,7 @@ use Rattle.demangle_v0.specs.Grammar.{text}
 use Rattle.demangle_v0.specs.Table.{says, more, at_end, constant_inside}
 use Rattle.demangle_v0.specs.Reading.{Place, run, max_depth}
 use Rattle.demangle_v0.specs.ConstantLists.{first_point, second_point, next_point, element_point, list_element, close_of}
-use Rattle.demangle_v0.specs.Points.{frame_of, then_frame, share_at, none_open, around, mark_texts, goes, way_weight, weight_at, height_at, Fits, is_inner, DidOn}
+use Rattle.demangle_v0.specs.Points.{frame_of, then_frame, share_at, none_open, around, mark_texts, way_weight, weight_at, height_at, Fits, is_inner, DidOn}
 use Rattle.demangle_v0.specs.declared.grammar.Mark.{Mark}
 use Rattle.demangle_v0.specs.declared.grammar.Mark.TheVariants as mark
 use Rattle.demangle_v0.specs.declared.points.Point.{Point}
@@ -55,7 +55,7 @@ next_listed list.Fields = record { light = omega arith; low = λ left. omega ari
 
 -- so is that of its elements, and lower
 pub record Lowest (p : Point) : Type 0 where
-  pub light : way_weight (goes p) ≤ 3
+  pub light : way_weight p ≤ 3
   pub low : (left : ℕ) → height_at p left ≤ 8 * left + 1
   pub fits : (left n : ℕ) → Fits point.Constant left n → Fits p left n
 

@@ -14,7 +14,7 @@ use Rattle.demangle_v0.specs.DynTraits.{dyn_type}
 use Rattle.demangle_v0.specs.Events.{Heard, of, nothing_heard, and_then, with_looks, with_texts}
 use Rattle.demangle_v0.specs.Grammar.{word_items, text}
 use Rattle.demangle_v0.specs.Reading.{Place, run, unit_outcome, max_depth}
-use Rattle.demangle_v0.specs.Points.{mark_texts, share_at, share, share_of, bindings_left, none_open, around, goes, way_weight, weight_at, height_at, Fits, is_list_over, behind_list, list_costs, DidOn}
+use Rattle.demangle_v0.specs.Points.{mark_texts, share_at, share, share_of, bindings_left, none_open, around, way_weight, weight_at, height_at, Fits, is_list_over, behind_list, list_costs, DidOn}
 use Rattle.demangle_v0.specs.declared.grammar.Mark.{Mark}
 use Rattle.demangle_v0.specs.declared.grammar.Mark.TheVariants as mark
 use Rattle.demangle_v0.specs.declared.grammar.Word.TheVariants as word
@@ -76,7 +76,7 @@ first_text false = refl
 abbrev told : Bool → Bool → Point
 told x y = if x then point.Lifetime else if y then point.Constant else point.«Type»
 
-told_light : (x y : Bool) → way_weight (goes (told x y)) ≤ 1
+told_light : (x y : Bool) → way_weight ((told x y)) ≤ 1
 told_light true y = omega arith
 told_light false true = omega arith
 told_light false false = omega arith
@@ -298,7 +298,7 @@ module _ {V : Type 0} (voice : Ghosts V) (b : List ℕ) (plain : Bool) where
       → open_did first s row u (argument_point b i) new now made
   open_on first s i row now u new made p e l f kv kc kl kn kp ko km w =
       let x = is_byte b i (code "L") in let y = is_byte b i (code "K") in
-      let light : way_weight (goes (argument_point b i)) ≤ 1 = told_light x y in
+      let light : way_weight ((argument_point b i)) ≤ 1 = told_light x y in
       let high : height_at (argument_point b i) s.depth_left ≡ 8 * s.depth_left + 1 = told_high x y s.depth_left in
       open_as first s row u (argument_point b i) new now made
       (enters voice b plain (argument_point b i) (separator first mark.Comma) (1 ∷ []) (argument_costs b i) (frame_at point.NextOpenArgument s) _ (argument_share s i) 1 (8 * s.depth_left + 2) row now u new made

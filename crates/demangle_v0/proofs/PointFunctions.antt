@@ -14,13 +14,14 @@ use Rattle.demangle_v0.specs.Events.{Heard, of, nothing_heard, and_then, with_lo
 use Rattle.demangle_v0.specs.Grammar.{word_items, text}
 use Rattle.demangle_v0.specs.Groups.{texts_of, word_group}
 use Rattle.demangle_v0.specs.Reading.{Place, run, unit_outcome, max_depth}
-use Rattle.demangle_v0.specs.Points.{frame_of, mark_texts, then_frame, share_at, share, is_inner, weight_at, share_of, returns, none_open, around, goes, way_weight, height_at, Fits, is_list_over, behind_list, list_costs, DidOn}
+use Rattle.demangle_v0.specs.Points.{frame_of, mark_texts, then_frame, share_at, share, is_inner, weight_at, share_of, returns, none_open, around, way_weight, height_at, Fits, is_list_over, behind_list, list_costs, DidOn}
 use Rattle.demangle_sink.specs.declared.SinkRefused.{SinkRefused}
 use Rattle.demangle_v0.specs.declared.grammar.Mark.{Mark}
 use Rattle.demangle_v0.specs.declared.grammar.Mark.TheVariants as mark
 use Rattle.demangle_v0.specs.declared.grammar.Word.{Word}
 use Rattle.demangle_v0.specs.declared.grammar.Word.TheVariants as word
 use Rattle.demangle_v0.specs.declared.stretch.Stretch.{Stretch}
+use Rattle.demangle_v0.specs.declared.stretch.Stretch.TheVariants.{Binder}
 use Rattle.demangle_v0.specs.declared.words.WordRead.TheVariants as reads
 use Rattle.demangle_v0.specs.declared.points.Point.{Point}
 use Rattle.demangle_v0.specs.declared.points.Point.TheVariants as point
@@ -57,24 +58,24 @@ module _ {V : Type 0} (voice : Ghosts V) (b : List ℕ) (plain : Bool) where
   -- a mark may be left, and the point behind it
   pub moves : (to : Point) (ms : Option Mark) (front : List ℕ) (h rest : Heard) (weight high : ℕ) (row : List Frame) (u : V) (new : State) (made : ℕ)
       → h ≡ with_looks front (with_texts voice.loud (mark_texts ms) rest) → rest ≡ share_of b plain voice.loud to new → new.mark ≡ ms → made ≤ total front
-      → way_weight (goes to) + 1 ≤ weight + 100 * total front → height_at to new.depth_left ≤ high → Fits to new.depth_left new.lifetimes
+      → way_weight to + 1 ≤ weight + 100 * total front → height_at to new.depth_left ≤ high → Fits to new.depth_left new.lifetimes
       → DidOn voice b plain h weight high row u (Ok to) new row u made
   unfolding then_frame
   moves to ms front h rest weight high row u new made e r k l x y f = record {
     comes =
-        steps voice b plain (goes to) front [] None h weight high row row u new made (rw k (e ∙ ap (λ (g : Heard). with_looks front (with_texts voice.loud (mark_texts ms) g)) r)) refl (omega (arith, l)) (omega (arith, l)) (omega (arith, x)) (omega arith) (omega (arith, y)) tt f (λ _. tt);
+        steps voice b plain to front [] None h weight high row row u new made (rw k (e ∙ ap (λ (g : Heard). with_looks front (with_texts voice.loud (mark_texts ms) g)) r)) refl (omega (arith, l)) (omega (arith, l)) (omega (arith, x)) (omega arith) (omega (arith, y)) tt f (λ _. tt);
   }
 
   -- a unit is entered, behind which a frame stands
   pub enters : (to : Point) (ms : Option Mark) (front back : List ℕ) (f : Frame) (h g : Heard) (weight high : ℕ) (row now : List Frame) (u : V) (new : State) (made : ℕ)
       → h ≡ with_looks front (with_texts voice.loud (mark_texts ms) (with_looks back (and_then g (share b plain voice.loud f)))) → g ≡ share_of b plain voice.loud to new → new.mark ≡ ms → now ≡ row ++ f ∷ []
-      → made ≤ total front + total back → made ≤ total front + 2 → way_weight (goes to) + weight_at f.point + 2 ≤ weight + 100 * (total front + total back)
+      → made ≤ total front + total back → made ≤ total front + 2 → way_weight to + weight_at f.point + 2 ≤ weight + 100 * (total front + total back)
       → height_at f.point f.depth_left ≤ high → height_at to new.depth_left + 1 ≤ high → Fits f.point f.depth_left f.number → Fits to new.depth_left new.lifetimes → is_inner f.point ≡ true
       → DidOn voice b plain h weight high row u (Ok to) new now u made
   unfolding then_frame
   enters to ms front back f h g weight high row now u new made e r k w l m d y z p q i = record {
     comes =
-        steps voice b plain (goes to) front back (Some f) h weight high row now u new made (rw k (e ∙ ap (λ (x : Heard). with_looks front (with_texts voice.loud (mark_texts ms) (with_looks back (and_then x (share b plain voice.loud f))))) r)) w l m (omega (arith, d)) y z p q (λ _. i);
+        steps voice b plain to front back (Some f) h weight high row now u new made (rw k (e ∙ ap (λ (x : Heard). with_looks front (with_texts voice.loud (mark_texts ms) (with_looks back (and_then x (share b plain voice.loud f))))) r)) w l m (omega (arith, d)) y z p q (λ _. i);
   }
 
   -- Words behind which the unit goes on.
@@ -82,7 +83,7 @@ module _ {V : Type 0} (voice : Ghosts V) (b : List ℕ) (plain : Bool) where
   pub word_on : (to : Point) (x : Word) (c : ℕ) (p : Items) (left n : ℕ) (i j : Place) (s : Stretch) (weight high : ℕ) (row : List Frame) (v w : V) (new : State) (made : ℕ)
       → reads.Goes s j ≡ (word_group b x c voice.loud n i).reads → made ≤ total (word_group b x c voice.loud n i).costs
       → voice.prints v (texts_of b plain s) (Ok tt) w → new.mark ≡ None → heard voice b plain p left n j ≡ share_of b plain voice.loud to new
-      → way_weight (goes to) + 1 ≤ weight → height_at to new.depth_left ≤ high → Fits to new.depth_left new.lifetimes
+      → way_weight to + 1 ≤ weight → height_at to new.depth_left ≤ high → Fits to new.depth_left new.lifetimes
       → DidOn voice b plain (heard voice b plain (word_items x c p) left n i) weight high row v (Ok to) new row w made
   word_on to x c p left n i j s weight high row v w new made r l q m e y z f =
       group_goes voice b plain to _ (word_group b x c voice.loud n i) (heard voice b plain p left n) j s weight high row v w new made (word_so voice b plain x c p left n i) r l q m e y z f
@@ -138,17 +139,17 @@ module _ {V : Type 0} (voice : Ghosts V) (b : List ℕ) (plain : Bool) where
 
   pub binder_goes : (to : Point) (p : Items) (left n i j m weight high : ℕ) (row : List Frame) (v w : V) (new : State) (made : ℕ)
       → Some (m, j) ≡ optional_at (code "G") b i → made ≤ 4 * (j - i + 1) → voice.prints v (binder_texts m n) (Ok tt) w → new.mark ≡ None
-      → heard voice b plain p left (n + m) (Some j) ≡ share_of b plain voice.loud to new → way_weight (goes to) ≤ weight + 99 → height_at to new.depth_left ≤ high → Fits to new.depth_left new.lifetimes
+      → heard voice b plain p left (n + m) (Some j) ≡ share_of b plain voice.loud to new → way_weight to ≤ weight + 99 → height_at to new.depth_left ≤ high → Fits to new.depth_left new.lifetimes
       → DidOn voice b plain (heard voice b plain (in_binder p) left n (Some i)) weight high row v (Ok to) new row w made
   binder_goes to p left n i j m weight high row v w new made e l q k h x y f =
-      put_goes voice b plain to (4 * (j - i + 1) ∷ []) (binder_texts m n) _ weight high row v w new made
+      put_goes voice b plain to (4 * (j - i + 1) ∷ []) (Binder n m) _ weight high row v w new made
       (binder_so p left n i j m e ∙ ap (λ (h : Heard). with_looks (4 * (j - i + 1) ∷ []) (with_texts voice.loud (binder_texts m n) h)) h) q k (omega (arith, l)) (omega (arith, x)) y f
 
   pub binder_refused : (p : Items) (left n i j m weight high : ℕ) (row : List Frame) (v w : V) (new : State) (r : SinkRefused) (made : ℕ)
       → Some (m, j) ≡ optional_at (code "G") b i → made ≤ 4 * (j - i + 1) → voice.prints v (binder_texts m n) (Err r) w → (voice.loud ≡ false → IsOk (refused r))
       → DidOn voice b plain (heard voice b plain (in_binder p) left n (Some i)) weight high row v (Err Refused) new row w made
   binder_refused p left n i j m weight high row v w new r made e l q k =
-      put_refused voice b plain (4 * (j - i + 1) ∷ []) (binder_texts m n) _ (heard voice b plain p left (n + m) (Some j)) weight high row v w new r made (binder_so p left n i j m e) q (omega (arith, l)) (λ h. absurd (false≢true (k h)))
+      put_refused voice b plain (4 * (j - i + 1) ∷ []) (Binder n m) _ (heard voice b plain p left (n + m) (Some j)) weight high row v w new r made (binder_so p left n i j m e) q (omega (arith, l)) (λ h. absurd (false≢true (k h)))
 
   abbrev parameter_did : Bool → State → List Frame → V → Point → State → List Frame → ℕ → Type 0
   parameter_did first s row u to new now made = let p = if first then point.FirstParameter else point.NextParameter in

@@ -10,7 +10,7 @@ use Rattle.demangle_v0.specs.Grammar.{text, found}
 use Rattle.demangle_v0.specs.Table.{says, list, tuple, row_of, integer_constant, string, constant, constant_inside, constant_rows}
 use Rattle.demangle_v0.specs.Tags.{constant_kinds, constant_of}
 use Rattle.demangle_v0.specs.Reading.{Place, run}
-use Rattle.demangle_v0.specs.Points.{frame_of, then_frame, share_at, none_open, around, pushed_on, goes, way_weight, height_at, Fits, DidOn}
+use Rattle.demangle_v0.specs.Points.{frame_of, then_frame, share_at, none_open, around, pushed_on, way_weight, height_at, Fits, DidOn}
 use Rattle.demangle_v0.specs.declared.grammar.Mark.TheVariants as mark
 use Rattle.demangle_v0.specs.declared.points.Point.{Point}
 use Rattle.demangle_v0.specs.declared.points.Point.TheVariants as point
@@ -59,7 +59,7 @@ module _ {V : Type 0} (voice : Ghosts V) (b : List ℕ) (plain : Bool) where
   -- Braces.
 
   pub braced_goes : (p : Point) (q : Items) (v : Bool) (c left n : ℕ) (i : Place) (o : Bool) (row now : List Frame) (u : V) (new : State) (made : ℕ)
-      → IsExtended q → share_at b plain voice.loud p v c left n i o ≡ heard voice b plain q left n i → way_weight (goes p) ≤ 3 → height_at p left ≤ 8 * left + 2 → Fits p left n → Fits point.Constant left n → made ≤ 0
+      → IsExtended q → share_at b plain voice.loud p v c left n i o ≡ heard voice b plain q left n i → way_weight p ≤ 3 → height_at p left ≤ 8 * left + 2 → Fits p left n → Fits point.Constant left n → made ≤ 0
       → new.in_value ≡ v → new.letter ≡ c → new.depth_left ≡ left → new.lifetimes ≡ n → new.place ≡ i → new.is_open ≡ o → new.mark ≡ (if v then None else Some mark.OpenBrace) → now ≡ pushed_on row (if v then None else Some (frame_of point.CloseBrace v c left n))
       → DidOn voice b plain (heard voice b plain (if v then q else says "{" (extended (says "}" done) q)) left n i) 6 (8 * left + 9) row u (Ok p) new now u made
   unfolding run then_frame share_at
@@ -81,7 +81,7 @@ module _ {V : Type 0} (voice : Ghosts V) (b : List ℕ) (plain : Bool) where
   in_braces v q = if v then q else says "{" (extended (says "}" done) q)
 
   braced_from : (p : Point) (q : Items) (old : State) (row now : List Frame) (u : V) (new : State) (made : ℕ)
-      → IsExtended q → Inside p q → way_weight (goes p) ≤ 3 → ((left : ℕ) → height_at p left ≤ 8 * left + 2) → Fits p old.depth_left old.lifetimes → Fits point.Constant old.depth_left old.lifetimes → made ≤ 0
+      → IsExtended q → Inside p q → way_weight p ≤ 3 → ((left : ℕ) → height_at p left ≤ 8 * left + 2) → Fits p old.depth_left old.lifetimes → Fits point.Constant old.depth_left old.lifetimes → made ≤ 0
       → Braced old new row now → DidOn voice b plain (heard voice b plain (in_braces old.in_value q) old.depth_left old.lifetimes old.place) 6 (8 * old.depth_left + 9) row u (Ok p) new now u made
   braced_from p q old row now u new made x e w y f g l r =
       braced_goes p q old.in_value old.letter old.depth_left old.lifetimes old.place old.is_open row now u new made x (e old.in_value old.letter old.depth_left old.lifetimes old.place old.is_open) w (y old.depth_left) f g l

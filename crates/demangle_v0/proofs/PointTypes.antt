@@ -14,7 +14,7 @@ use Rattle.demangle_v0.specs.Grammar.{text, found, basic_marks}
 use Rattle.demangle_v0.specs.Table.{says_if, type_inside, type_rows, is_among, row_text, basic_types}
 use Rattle.demangle_v0.specs.Tags.{type_kinds, type_of, reference_to, lifetime_before}
 use Rattle.demangle_v0.specs.Reading.{Place, unit_outcome, run}
-use Rattle.demangle_v0.specs.Points.{weight_at, frame_of, then_frame, share_at, none_open, around, goes, mark_texts, pushed_on, way_weight, weight_of, height_at, height_of, count_of, Fits, FitsFrame, IsInner, DidOn, behind_reference, lifetime_point}
+use Rattle.demangle_v0.specs.Points.{Turn, Env, RestDoes, weight_at, frame_of, then_frame, share_at, none_open, around, mark_texts, pushed_on, way_weight, weight_of, height_at, height_of, count_of, Fits, FitsFrame, IsInner, DidOn, behind_reference, lifetime_point}
 use Rattle.demangle_v0.specs.declared.grammar.Mark.{Mark}
 use Rattle.demangle_v0.specs.declared.grammar.Mark.TheVariants as mark
 use Rattle.demangle_v0.specs.declared.points.tags.TypeKind.{TypeKind}
@@ -28,6 +28,7 @@ use Rattle.demangle_v0.specs.declared.points.Stop.TheVariants.{Fault}
 use Rattle.demangle_v0.specs.declared.points.voice.Voice.{Ghosts}
 use Rattle.demangle_v0.proofs.GrammarRows.{rows_of, basic_found}
 use Rattle.demangle_v0.proofs.PointSteps.{heard, mark_goes, child_last, steps, after, faulty_after}
+use Rattle.demangle_v0.proofs.PointTurns.{marks, leaves}
 use Rattle.demangle_v0.proofs.TypeReads.{row_at, splat_reads, type_reads, tag_missing, basic_reads, type_deep, constructed_reads, path_type_reads, row_reads}
 
 module _ {V : Type 0} (voice : Ghosts V) (b : List ℕ) (plain : Bool) where
@@ -45,12 +46,12 @@ module _ {V : Type 0} (voice : Ghosts V) (b : List ℕ) (plain : Bool) where
       → h ≡ with_looks front (with_texts voice.loud (mark_texts m) (with_looks back (then_frame b plain voice.loud pushed (heard_at p new.in_value new.letter left n i new.is_open))))
       → new.depth_left ≡ left → new.lifetimes ≡ n → new.place ≡ i → new.mark ≡ m
       → now ≡ pushed_on row pushed → made ≤ total front + total back → made ≤ total front + 2
-      → way_weight (goes p) + weight_of pushed + 1 ≤ weight + 100 * (total front + total back)
+      → way_weight p + weight_of pushed + 1 ≤ weight + 100 * (total front + total back)
       → height_of pushed ≤ high → height_at p left + count_of pushed ≤ high → FitsFrame pushed → Fits p left n → (voice.loud ≡ false → IsInner pushed)
       → DidOn voice b plain h weight high row u (Ok p) new now u made
   enters h p left n i m front back pushed weight high row now u new made e kl kn kp km r l k w x y f g q = record {
     comes =
-        steps voice b plain (goes p) front back pushed h weight high row now u new made (rw (kl, kn, kp, km) e) r l k w x (rw kl y) f (rw (kl, kn) g) q;
+        steps voice b plain p front back pushed h weight high row now u new made (rw (kl, kn, kp, km) e) r l k w x (rw kl y) f (rw (kl, kn) g) q;
   }
 
   -- A text, and what stands behind it.
@@ -118,7 +119,7 @@ module _ {V : Type 0} (voice : Ghosts V) (b : List ℕ) (plain : Bool) where
   behind_so true v c left n i o = refl
   behind_so false v c left n i o = child_last voice b plain a_type false left n i
 
-  pub behind_light : (q : Bool) → way_weight (goes (behind_reference q)) ≤ 2
+  pub behind_light : (q : Bool) → way_weight ((behind_reference q)) ≤ 2
   behind_light true = omega arith
   behind_light false = omega arith
 
@@ -130,52 +131,22 @@ module _ {V : Type 0} (voice : Ghosts V) (b : List ℕ) (plain : Bool) where
   behind_fits true left n f = f
   behind_fits false left n f = f
 
-  pub reference_failed : (q : Bool) (left n : ℕ) (row : List Frame) (u : V) (new : State) (made : ℕ) → made ≤ 0 → Fits point.«Type» left n
-      → new.depth_left ≡ left → new.lifetimes ≡ n → new.place ≡ None → new.mark ≡ Some mark.Ampersand
-      → DidOn voice b plain (heard voice b plain (reference_to q) left n None) 50 (8 * left + 9) row u (Ok (behind_reference q)) new row u made
-  unfolding run
-  reference_failed q left n row u new made l f kl kn kp km =
-      mark_goes voice b plain (behind_reference q) mark.Ampersand _ 50 (8 * left + 9) row u new made
-      (rw (kl, kn, kp) (ap (with_texts voice.loud (text mark.Ampersand ∷ [])) (behind_so q new.in_value new.letter left n None new.is_open))) km l (omega (arith, behind_light q)) (rw kl (omega (arith, behind_low q left))) (rw (kl, kn) (behind_fits q left n f))
-
-  pub reference_goes : (q : Bool) (left n i : ℕ) (row : List Frame) (u : V) (new : State) (made : ℕ) → is_byte b i (code "L") ≡ false → made ≤ 1 → Fits point.«Type» left n
-      → new.depth_left ≡ left → new.lifetimes ≡ n → new.place ≡ Some i → new.mark ≡ Some mark.Ampersand
-      → DidOn voice b plain (heard voice b plain (reference_to q) left n (Some i)) 50 (8 * left + 9) row u (Ok (behind_reference q)) new row u made
-  unfolding run then_frame
-  reference_goes q left n i row u new made e l f kl kn kp km = record {
-    comes =
-        steps voice b plain (goes (behind_reference q)) [] (1 ∷ []) None _ 50 (8 * left + 9) row row u new made
-        (rw (kl, kn, kp, km, e) (ap (λ (h : Heard). with_texts voice.loud (text mark.Ampersand ∷ []) (with_looks (1 ∷ []) h)) (behind_so q new.in_value new.letter left n (Some i) new.is_open))) refl (omega (arith, l)) (omega (arith, l)) (omega (arith, behind_light q)) (omega arith)
-        (rw kl (omega (arith, behind_low q left))) tt (rw (kl, kn) (behind_fits q left n f)) (λ _. tt);
-  }
-
   pub lifetime_so : (q : Bool) (v : Bool) (c left n : ℕ) (i : Place) (o : Bool) → heard voice b plain (lifetime_before (says_if q "mut " type_inside)) left n i ≡ heard_at (lifetime_point q) v c left n i o
   unfolding share_at
   lifetime_so true v c left n i o = refl
   lifetime_so false v c left n i o = refl
 
-  lifetime_light : (q : Bool) → way_weight (goes (lifetime_point q)) ≤ 3
+  pub lifetime_light : (q : Bool) → way_weight ((lifetime_point q)) ≤ 3
   lifetime_light true = omega arith
   lifetime_light false = omega arith
 
-  lifetime_low : (q : Bool) (left : ℕ) → height_at (lifetime_point q) left ≤ 8 * left + 2
+  pub lifetime_low : (q : Bool) (left : ℕ) → height_at (lifetime_point q) left ≤ 8 * left + 2
   lifetime_low true left = omega arith
   lifetime_low false left = omega arith
 
-  lifetime_fits : (q : Bool) (left n : ℕ) → Fits point.«Type» left n → Fits (lifetime_point q) left n
+  pub lifetime_fits : (q : Bool) (left n : ℕ) → Fits point.«Type» left n → Fits (lifetime_point q) left n
   lifetime_fits true left n f = f
   lifetime_fits false left n f = f
-
-  pub reference_named : (q : Bool) (left n i : ℕ) (row : List Frame) (u : V) (new : State) (made : ℕ) → is_byte b i (code "L") ≡ true → made ≤ 1 → Fits point.«Type» left n
-      → new.depth_left ≡ left → new.lifetimes ≡ n → new.place ≡ Some (i + 1) → new.mark ≡ Some mark.Ampersand
-      → DidOn voice b plain (heard voice b plain (reference_to q) left n (Some i)) 50 (8 * left + 9) row u (Ok (lifetime_point q)) new row u made
-  unfolding run then_frame
-  reference_named q left n i row u new made e l f kl kn kp km = record {
-    comes =
-        steps voice b plain (goes (lifetime_point q)) [] (1 ∷ []) None _ 50 (8 * left + 9) row row u new made
-        (rw (kl, kn, kp, km, e) (ap (λ (h : Heard). with_texts voice.loud (text mark.Ampersand ∷ []) (with_looks (1 ∷ []) h)) (lifetime_so q new.in_value new.letter left n (Some (i + 1)) new.is_open))) refl (omega (arith, l)) (omega (arith, l)) (omega (arith, lifetime_light q)) (omega arith)
-        (rw kl (omega (arith, lifetime_low q left))) tt (rw (kl, kn) (lifetime_fits q left n f)) (λ _. tt);
-  }
 
   -- A type by its tag.
 
@@ -264,3 +235,28 @@ module _ {V : Type 0} (voice : Ghosts V) (b : List ℕ) (plain : Bool) where
       → DidOn voice b plain (heard_at point.TaggedType v c left n i o) 1 (8 * left + 1) row u result new now w made
   type_stays v c left n i o row now u w result new second made l d =
       after voice b plain [] (heard_at point.TaggedType v c left n i o) (heard_at point.TaggedType v c left n i o) 1 (8 * left + 1) 1 (8 * left + 1) row u w result new now 0 second made refl (omega arith) (omega (arith, l)) (omega arith) (omega arith) d
+
+-- References.
+module _ {V : Type 0} {e : Env V} where
+  pub reference_failed : {t : Turn V} (q : Bool) → t.state.place ≡ None → Fits point.«Type» t.state.depth_left t.state.lifetimes → RestDoes e (reference_to q) 50 9 t (Ok (behind_reference q)) (record t { state = record t.state { mark = Some mark.Ampersand } })
+  unfolding run
+  reference_failed {t} q at f =
+      let s = t.state in
+      marks (behind_reference q) (rw at (ap (with_texts e.voice.loud (text mark.Ampersand ∷ [])) (behind_so e.voice e.symbol e.plain q s.in_value s.letter s.depth_left s.lifetimes None s.is_open)))
+      (omega (arith, behind_light e.voice e.symbol e.plain q)) (omega (arith, behind_low e.voice e.symbol e.plain q s.depth_left)) (behind_fits e.voice e.symbol e.plain q s.depth_left s.lifetimes f)
+
+  pub reference_goes : {t : Turn V} {n : ℕ} (q : Bool) (i : ℕ) → t.state.place ≡ Some i → is_byte e.symbol i (code "L") ≡ false → n ≡ t.looks + 1 → Fits point.«Type» t.state.depth_left t.state.lifetimes
+      → RestDoes e (reference_to q) 50 9 t (Ok (behind_reference q)) (record t { state = record t.state { mark = Some mark.Ampersand }; looks = n })
+  unfolding run then_frame
+  reference_goes {t} q i at b l f =
+      let s = t.state in
+      leaves (behind_reference q) [] (1 ∷ []) None (ap (λ (x : Place). heard e.voice e.symbol e.plain (reference_to q) s.depth_left s.lifetimes x) at ∙ rw (at, b) (ap (λ (h : Heard). with_texts e.voice.loud (text mark.Ampersand ∷ []) (with_looks (1 ∷ []) h)) (behind_so e.voice e.symbol e.plain q s.in_value s.letter s.depth_left s.lifetimes (Some i) s.is_open))) refl
+      (record { grows = omega arith; within = omega arith }) (omega arith) (rw at (omega (arith, l))) (omega (arith, behind_light e.voice e.symbol e.plain q)) (omega arith) (omega (arith, behind_low e.voice e.symbol e.plain q s.depth_left)) tt (behind_fits e.voice e.symbol e.plain q s.depth_left s.lifetimes f) (λ _. tt)
+
+  pub reference_named : {t : Turn V} {n : ℕ} (q : Bool) (i : ℕ) → t.state.place ≡ Some i → is_byte e.symbol i (code "L") ≡ true → n ≡ t.looks + 1 → Fits point.«Type» t.state.depth_left t.state.lifetimes
+      → RestDoes e (reference_to q) 50 9 t (Ok (lifetime_point q)) (record t { state = record t.state { place = Some (i + 1); mark = Some mark.Ampersand }; looks = n })
+  unfolding run then_frame
+  reference_named {t} q i at b l f =
+      let s = t.state in
+      leaves (lifetime_point q) [] (1 ∷ []) None (ap (λ (x : Place). heard e.voice e.symbol e.plain (reference_to q) s.depth_left s.lifetimes x) at ∙ rw b (ap (λ (h : Heard). with_texts e.voice.loud (text mark.Ampersand ∷ []) (with_looks (1 ∷ []) h)) (lifetime_so e.voice e.symbol e.plain q s.in_value s.letter s.depth_left s.lifetimes (Some (i + 1)) s.is_open))) refl
+      (record { grows = omega arith; within = omega arith }) (omega arith) (rw at (omega (arith, l))) (omega (arith, lifetime_light e.voice e.symbol e.plain q)) (omega arith) (omega (arith, lifetime_low e.voice e.symbol e.plain q s.depth_left)) tt (lifetime_fits e.voice e.symbol e.plain q s.depth_left s.lifetimes f) (λ _. tt)

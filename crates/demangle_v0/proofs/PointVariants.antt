@@ -10,7 +10,7 @@ use Rattle.demangle_v0.specs.Groups.{texts_of, word_group}
 use Rattle.demangle_v0.specs.Table.{says, list, row_of, variant_rows, constant_inside, field}
 use Rattle.demangle_v0.specs.Tags.{variant_kinds, variant_of, closes}
 use Rattle.demangle_v0.specs.Reading.{Place, run}
-use Rattle.demangle_v0.specs.Points.{frame_of, then_frame, share_at, none_open, around, pushed_on, goes, way_weight, height_at, Fits, DidOn}
+use Rattle.demangle_v0.specs.Points.{frame_of, then_frame, share_at, none_open, around, pushed_on, way_weight, height_at, Fits, DidOn}
 use Rattle.demangle_sink.specs.declared.SinkRefused.{SinkRefused}
 use Rattle.demangle_v0.specs.declared.grammar.Mark.{Mark}
 use Rattle.demangle_v0.specs.declared.grammar.Mark.TheVariants as mark
@@ -84,7 +84,7 @@ module _ {V : Type 0} (voice : Ghosts V) (b : List ℕ) (plain : Bool) where
 
   held_goes : (p : Point) (m : Mark) (q : Items) (f : Bool → Items) (v : Bool) (c left n : ℕ) (i : Place) (o : Bool) (row now : List Frame) (u : V) (new : State) (made : ℕ)
       → f true ≡ say (text m) q → f false ≡ say (text m) (extended (says "}" done) q) → IsExtended q
-      → share_at b plain voice.loud p v c left n i o ≡ heard voice b plain q left n i → way_weight (goes p) ≤ 1 → height_at p left ≤ 8 * left + 2 → Fits p left n → Fits point.Variant left n → made ≤ 0
+      → share_at b plain voice.loud p v c left n i o ≡ heard voice b plain q left n i → way_weight p ≤ 1 → height_at p left ≤ 8 * left + 2 → Fits p left n → Fits point.Variant left n → made ≤ 0
       → new.in_value ≡ v → new.letter ≡ c → new.depth_left ≡ left → new.lifetimes ≡ n → new.place ≡ i → new.is_open ≡ o → new.mark ≡ Some m → now ≡ pushed_on row (if v then None else Some (frame_of point.CloseBrace v c left n))
       → DidOn voice b plain (heard voice b plain (f v) left n i) 5 (8 * left + 3) row u (Ok p) new now u made
   unfolding run then_frame share_at

@@ -16,6 +16,7 @@ pub mod Grammar
 pub mod Groups
 pub mod Heights
 pub mod Impls
+pub mod Marks
 pub mod Packing
 pub mod PointRuns
 pub mod PointContracts

@@ -1,8 +1,7 @@
 //! Reading by resume points: each reads up to its next child, puts what stands behind that on the
 //! frame stack, and answers where it goes on.
 ghost use Rattle.std.specs.Prelude.{true, ◌≡◌, ◌+◌, ◌-◌, ◌<◌, ◌≤◌, None, Ok, Err, IsOk, IsAscii, List};
-ghost use Rattle.demangle_v0.specs.PointContracts.{heard_of};
-ghost use Rattle.demangle_v0.specs.Points.{DidOn};
+ghost use Rattle.demangle_v0.specs.Points.{MaySpeak, RestDoes, env, turn};
 ghost use Rattle.demangle_v0.specs.Totals.{total};
 ghost use Rattle.demangle_v0.specs.Groups.{word_group, read_stretch, looks_later};
 ghost use Rattle.demangle_v0.specs.Serving.{LiesIn};
@@ -24,6 +23,7 @@ mod dyn_traits;
 pub mod frames;
 mod functions;
 mod impls;
+mod marks;
 mod names;
 mod paths;
 mod patterns;
@@ -213,15 +213,10 @@ fn last_word<V: Voice>(
     voice: &mut V,
     looks: &mut Looks,
 ) -> Result<Point, Stop>
-    requires ascii { V.loud ≡ true → IsAscii symbol.now }
-    requires ready { V.ready voice.old }
-    requires unmarked { state.old.mark ≡ None }
-    ensures did { (row : List Frame) → DidOn V.Voice symbol.now plain (heard_of symbol.now plain
-        V.loud (word_items word state.old.letter done) state.old) 1 0 row voice.old result state.new
-        row voice.new (looks.new - looks.old) }
-    ensures ready { IsOk result → V.ready voice.new }
-    ensures sound { (m : Mark) → result ≡ Err (Stop.Fault m) → V.ready voice.new }
-    ensures grows { looks.old ≤ looks.new }
+    requires may { MaySpeak (env V.Voice symbol.now plain) state.old voice.old }
+    ensures did { (row : List Frame) → RestDoes (env V.Voice symbol.now plain) (word_items word
+        state.old.letter done) 1 0 (turn state.old row voice.old looks.old) result (turn state.new
+        row voice.new looks.new) }
 {
     match word_at(symbol, word, state, voice, looks) {
         WordRead::Goes(stretch, next) => {

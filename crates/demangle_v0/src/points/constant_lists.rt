@@ -1,7 +1,7 @@
 //! The lists of constants.
 ghost use Rattle.std.specs.Prelude.{true, ◌≡◌, ◌*◌, ◌+◌, ◌-◌, ◌<◌, ◌≤◌, Some, None, Ok, length, Bool};
 ghost use Rattle.demangle_v0.specs.ConstantLists.{first_point, second_point, next_point, element_point, close_of};
-ghost use Rattle.demangle_v0.specs.Points.{Did, DidOn, share_of, Fits};
+ghost use Rattle.demangle_v0.specs.Points.{own_by, Did, DidOn, share_of, Fits};
 ghost use Rattle.demangle_v0.specs.Table.{constant};
 
 use crate::grammar::Mark;
@@ -86,6 +86,7 @@ pub(super) fn first_constant<V: Voice, const N: usize>(
         V.loud (first_point list) state.old) 1 (8 * state.old.depth_left + 2) row.old v (Ok result)
         state.new row.new v (looks.new - looks.old) }
     ensures grows { looks.old ≤ looks.new }
+    ensures own { looks.new ≤ looks.old + own_by 20 symbol.now state.old.place }
 {
     let Some(at) = state.place else {
         state.mark = Some(list.close());
@@ -119,6 +120,7 @@ pub(super) fn next_constant<V: Voice, const N: usize>(
         V.loud (next_point list) state.old) 1 (8 * state.old.depth_left + 2) row.old v (Ok result)
         state.new row.new v (looks.new - looks.old) }
     ensures grows { looks.old ≤ looks.new }
+    ensures own { looks.new ≤ looks.old + own_by 20 symbol.now state.old.place }
 {
     let Some(at) = state.place else {
         state.mark = Some(list.close());
@@ -151,6 +153,7 @@ pub(super) fn second_tuple_constant<V: Voice, const N: usize>(
     ensures did { (plain : Bool) (v : V) → Did V.Voice symbol.now plain Point.SecondTupleConstant
         state.old row.old v (Ok result) state.new row.new v (looks.new - looks.old) }
     ensures grows { looks.old ≤ looks.new }
+    ensures own { looks.new ≤ looks.old + own_by 20 symbol.now state.old.place }
 {
     let Some(at) = state.place else {
         state.mark = Some(Mark::OneComma);

@@ -1,6 +1,6 @@
 //! The points of constants.
 ghost use Rattle.std.specs.Prelude.{true, ◌≡◌, ◌==◌, ◌*◌, ℕ, ◌+◌, ◌-◌, ◌<◌, ◌≤◌, Some, None, Ok, Err, IsOk, length, IsAscii, List, Bool, if◌then◌else◌};
-ghost use Rattle.demangle_v0.specs.Points.{Did, DidOn, pushed_on, Fits};
+ghost use Rattle.demangle_v0.specs.Points.{own_by, Did, DidOn, pushed_on, Fits};
 ghost use Rattle.demangle_v0.specs.Table.{constant};
 ghost use Rattle.demangle_v0.specs.PointContracts.{DidFree, brace_behind, heard_of};
 ghost use Rattle.demangle_v0.specs.Tags.{constant_of};
@@ -12,27 +12,6 @@ use crate::points::tags::{ConstantKind, constant_kind};
 use crate::points::voice::Voice;
 use crate::points::{Point, State, Stop, last_word};
 use demangle_symbol::cursor::{Looks, Symbol};
-
-/// A string, behind its `e`.
-#[inline(always)]
-pub(super) fn text_constant<V: Voice>(state: &mut State) -> Point
-    requires fits { Fits Point.TextConstant state.old.depth_left state.old.lifetimes }
-    ensures did { DidFree V.Voice Point.TextConstant state.old result state.new }
-{
-    state.mark = Some(Mark::Star);
-    Point::Literal
-}
-
-/// What a reference refers to, behind its tag.
-#[inline(always)]
-pub(super) fn reference_constant<V: Voice>(state: &mut State) -> Point
-    requires fits { Fits Point.ReferenceConstant state.old.depth_left state.old.lifetimes }
-    ensures did { DidFree V.Voice Point.ReferenceConstant state.old result state.new }
-{
-    state.mark = Some(Mark::Ampersand);
-    state.in_value = true;
-    Point::Constant
-}
 
 /// What a mutable reference refers to, behind its tag.
 #[inline(always)]
@@ -103,6 +82,7 @@ pub(super) fn literal<V: Voice>(
     ensures ready { IsOk result → V.ready voice.new }
     ensures sound { (m : Mark) → result ≡ Err (Stop.Fault m) → V.ready voice.new }
     ensures grows { looks.old ≤ looks.new }
+    ensures own { looks.new ≤ looks.old + own_by 20 symbol.now state.old.place }
 {
     last_word(symbol, Word::Literal, plain, state, voice, looks)
 }
@@ -124,6 +104,7 @@ pub(super) fn number<V: Voice>(
     ensures ready { IsOk result → V.ready voice.new }
     ensures sound { (m : Mark) → result ≡ Err (Stop.Fault m) → V.ready voice.new }
     ensures grows { looks.old ≤ looks.new }
+    ensures own { looks.new ≤ looks.old + own_by 20 symbol.now state.old.place }
 {
     last_word(symbol, Word::Number, plain, state, voice, looks)
 }
@@ -169,6 +150,7 @@ fn signed_number<V: Voice>(
     ensures ready { IsOk result → V.ready voice.new }
     ensures sound { (m : Mark) → result ≡ Err (Stop.Fault m) → V.ready voice.new }
     ensures grows { looks.old ≤ looks.new }
+    ensures own { looks.new ≤ looks.old + own_by 21 symbol.now state.old.place }
 {
     let Some(at) = state.place else {
         return Err(Stop::Fault(Mark::Unread));
@@ -203,6 +185,7 @@ fn shared_reference<V: Voice, const N: usize>(
     ensures ready { IsOk result → V.ready voice.new }
     ensures sound { (m : Mark) → result ≡ Err (Stop.Fault m) → V.ready voice.new }
     ensures grows { looks.old ≤ looks.new }
+    ensures own { looks.new ≤ looks.old + own_by 20 symbol.now state.old.place }
 {
     let Some(at) = state.place else {
         return Ok(in_braces(Point::ReferenceConstant, state, row));
@@ -255,6 +238,7 @@ fn tagged_constant<V: Voice, const N: usize>(
     ensures ready { IsOk result → V.ready voice.new }
     ensures sound { (m : Mark) → result ≡ Err (Stop.Fault m) → V.ready voice.new }
     ensures grows { looks.old ≤ looks.new }
+    ensures own { looks.new ≤ looks.old + own_by 21 symbol.now state.old.place }
 {
     let Some(kind) = constant_kind(tag) else {
         return Err(Stop::Fault(Mark::Invalid));
@@ -302,6 +286,7 @@ pub(super) fn constant<V: Voice, const N: usize>(
     ensures ready { IsOk result → V.ready voice.new }
     ensures sound { (m : Mark) → result ≡ Err (Stop.Fault m) → V.ready voice.new }
     ensures grows { looks.old ≤ looks.new }
+    ensures own { looks.new ≤ looks.old + own_by 20 symbol.now state.old.place }
 {
     let Some(at) = state.place else {
         return Err(Stop::Fault(Mark::Unread));

@@ -1,6 +1,6 @@
 //! The points of variants, and of their fields.
 ghost use Rattle.std.specs.Prelude.{true, ◌≡◌, ◌*◌, ℕ, ◌+◌, ◌-◌, ◌<◌, ◌≤◌, Some, None, Ok, Err, IsOk, length, IsAscii, List, Bool};
-ghost use Rattle.demangle_v0.specs.Points.{Did, DidOn, pushed_on, Fits};
+ghost use Rattle.demangle_v0.specs.Points.{own_by, Did, DidOn, pushed_on, Fits};
 ghost use Rattle.demangle_v0.specs.PointContracts.{DidFree, brace_behind, heard_of};
 ghost use Rattle.demangle_v0.specs.Tags.{variant_of};
 
@@ -64,6 +64,7 @@ pub(super) fn variant<V: Voice, const N: usize>(
     ensures did { (plain : Bool) (v : V) → Did V.Voice symbol.now plain Point.Variant state.old
         row.old v result state.new row.new v (looks.new - looks.old) }
     ensures grows { looks.old ≤ looks.new }
+    ensures own { looks.new ≤ looks.old + own_by 20 symbol.now state.old.place }
 {
     let Some(at) = state.place else {
         return Err(Stop::Fault(Mark::Unread));
@@ -100,6 +101,7 @@ pub(super) fn field<V: Voice>(
     ensures ready { IsOk result → V.ready voice.new }
     ensures sound { (m : Mark) → result ≡ Err (Stop.Fault m) → V.ready voice.new }
     ensures grows { looks.old ≤ looks.new }
+    ensures own { looks.new ≤ looks.old + own_by 20 symbol.now state.old.place }
 {
     match word_at(symbol, Word::FieldName, state, voice, looks) {
         WordRead::Goes(stretch, next) => {

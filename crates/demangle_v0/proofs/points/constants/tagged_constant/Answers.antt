@@ -3,6 +3,8 @@ use Rattle.demangle_v0.specs.declared.points.tags.ConstantKind.TheVariants as ki
 use Rattle.demangle_v0.proofs.PointTaggedConstants.{constant_wrong, constant_as, placeholder, unsigned_reads, text_braced, mutable_braced, array_braced, tuple_braced}
 use Rattle.demangle_v0.specs.Items.{a_constant}
 use Rattle.demangle_v0.proofs.PointReferences.{unit_constant}
+use Rattle.demangle_v0.proofs.PointTurns.{did}
+use Rattle.demangle_v0.proofs.WordLooks.{own_more}
 use Rattle.demangle_v0.proofs.points.constants.tagged_constant.Goals as goal
 
 pub returns-in_default-clause-did : goal.returns-in_default-clause-did
@@ -26,13 +28,13 @@ returns-in-Signed-clause-did g c =
 
 pub returns-in-Bool-clause-did : goal.returns-in-Bool-clause-did
 returns-in-Bool-clause-did g c =
-    constant_as g.V.Voice c.args.symbol.now c.args.plain c.args.state.now.in_value c.args.state.now.depth_left c.args.state.now.lifetimes c.args.state.now.place c.args.tag kind.Bool 1 0 _ _ _ _ _ _ _ (rw c.in-Bool.is at c.in-Some.ensures) (omega arith) (omega arith)
-    (c.last_word.ensures.did c.args.row.now)
+    constant_as g.V.Voice c.args.symbol.now c.args.plain c.args.state.now.in_value c.args.state.now.depth_left c.args.state.now.lifetimes c.args.state.now.place c.args.tag kind.Bool 1 (8 * c.args.state.now.depth_left + 0) _ _ _ _ _ _ _ (rw c.in-Bool.is at c.in-Some.ensures) (omega arith) (omega arith)
+    (did (c.last_word.ensures.did c.args.row.now))
 
 pub returns-in-Char-clause-did : goal.returns-in-Char-clause-did
 returns-in-Char-clause-did g c =
-    constant_as g.V.Voice c.args.symbol.now c.args.plain c.args.state.now.in_value c.args.state.now.depth_left c.args.state.now.lifetimes c.args.state.now.place c.args.tag kind.Char 1 0 _ _ _ _ _ _ _ (rw c.in-Char.is at c.in-Some.ensures) (omega arith) (omega arith)
-    (c.last_word-in-Char.ensures.did c.args.row.now)
+    constant_as g.V.Voice c.args.symbol.now c.args.plain c.args.state.now.in_value c.args.state.now.depth_left c.args.state.now.lifetimes c.args.state.now.place c.args.tag kind.Char 1 (8 * c.args.state.now.depth_left + 0) _ _ _ _ _ _ _ (rw c.in-Char.is at c.in-Some.ensures) (omega arith) (omega arith)
+    (did (c.last_word-in-Char.ensures.did c.args.row.now))
 
 pub returns-in-Text-clause-did : goal.returns-in-Text-clause-did
 returns-in-Text-clause-did g c = rw c.in_braces.ensures.point
@@ -67,4 +69,34 @@ returns-in-Variant-clause-did g c =
 pub returns-in-Reference-clause-did : goal.returns-in-Reference-clause-did
 returns-in-Reference-clause-did g c =
     constant_as g.V.Voice c.args.symbol.now c.args.plain c.args.state.now.in_value c.args.state.now.depth_left c.args.state.now.lifetimes c.args.state.now.place c.args.tag kind.Reference 1 (8 * c.args.state.now.depth_left + 2) _ _ _ _ _ _ _ (rw c.in-Reference.is at c.in-Some.ensures) (omega arith) (omega arith)
-    (c.follow.ensures.did c.args.plain c.args.voice.now true a_constant c.args.state.now.in_value (unit_constant c.args.symbol.now c.args.plain c.args.state.now.in_value c.args.state.now.letter c.args.state.now.lifetimes))
+    (did (c.follow.ensures.did c.args.plain c.args.voice.now true a_constant c.args.state.now.in_value (unit_constant c.args.symbol.now c.args.plain c.args.state.now.in_value c.args.state.now.letter c.args.state.now.lifetimes)))
+
+pub returns-in-Bool-clause-ready : goal.returns-in-Bool-clause-ready
+returns-in-Bool-clause-ready g c = (c.last_word.ensures.did c.args.row.now).ready c.requires.ready
+
+pub returns-in-Bool-clause-sound : goal.returns-in-Bool-clause-sound
+returns-in-Bool-clause-sound g c = (c.last_word.ensures.did c.args.row.now).sound c.requires.ready
+
+pub returns-in-Bool-clause-grows : goal.returns-in-Bool-clause-grows
+returns-in-Bool-clause-grows g c = (c.last_word.ensures.did c.args.row.now).grows
+
+pub returns-in-Char-clause-ready : goal.returns-in-Char-clause-ready
+returns-in-Char-clause-ready g c = (c.last_word-in-Char.ensures.did c.args.row.now).ready c.requires.ready
+
+pub returns-in-Char-clause-sound : goal.returns-in-Char-clause-sound
+returns-in-Char-clause-sound g c = (c.last_word-in-Char.ensures.did c.args.row.now).sound c.requires.ready
+
+pub returns-in-Char-clause-grows : goal.returns-in-Char-clause-grows
+returns-in-Char-clause-grows g c = (c.last_word-in-Char.ensures.did c.args.row.now).grows
+
+pub returns-in-Reference-clause-grows : goal.returns-in-Reference-clause-grows
+returns-in-Reference-clause-grows g c = (c.follow.ensures.did c.args.plain c.args.voice.now true a_constant c.args.state.now.in_value (unit_constant c.args.symbol.now c.args.plain c.args.state.now.in_value c.args.state.now.letter c.args.state.now.lifetimes)).grows
+
+pub returns-in-Bool-clause-own : goal.returns-in-Bool-clause-own
+returns-in-Bool-clause-own g c = own_more _ 20 21 _ _ (omega arith) (c.last_word.ensures.did c.args.row.now).own
+
+pub returns-in-Char-clause-own : goal.returns-in-Char-clause-own
+returns-in-Char-clause-own g c = own_more _ 20 21 _ _ (omega arith) (c.last_word-in-Char.ensures.did c.args.row.now).own
+
+pub returns-in-Reference-clause-own : goal.returns-in-Reference-clause-own
+returns-in-Reference-clause-own g c = own_more _ 20 21 _ _ (omega arith) (c.follow.ensures.did c.args.plain c.args.voice.now true a_constant c.args.state.now.in_value (unit_constant c.args.symbol.now c.args.plain c.args.state.now.in_value c.args.state.now.letter c.args.state.now.lifetimes)).own

@@ -3,6 +3,7 @@ use Rattle.demangle_v0.specs.Points.{share_at}
 use Rattle.demangle_v0.specs.declared.points.Point.TheVariants as point
 use Rattle.demangle_v0.specs.declared.grammar.Word.TheVariants as word
 use Rattle.demangle_v0.proofs.PointFunctions.{parameters, word_on, word_bare, word_on_refused, word_fails}
+use Rattle.demangle_v0.proofs.WordLooks.{group_short}
 use Rattle.demangle_v0.proofs.points.functions.function_head.Goals as goal
 
 pub returns-then-is_bare-clause-did : goal.returns-then-is_bare-clause-did
@@ -28,3 +29,15 @@ unfolding share_at
 returns-in-Stops-clause-did g c = λ row.
     word_fails g.V.Voice c.args.symbol.now c.args.plain word.FunctionHead c.args.state.now.letter parameters c.args.state.now.depth_left c.args.state.now.lifetimes c.args.state.now.place _ 5 (8 * c.args.state.now.depth_left + 2) row _ _ _
     c.in-Stops.ensures.value (omega (arith, c.in-Stops.ensures.looks)) c.requires.unmarked (omega arith)
+
+pub returns-then-is_bare-clause-own : goal.returns-then-is_bare-clause-own
+returns-then-is_bare-clause-own g c = omega (arith, c.in-Goes.ensures.looks, group_short c.args.symbol.now word.FunctionHead c.args.state.now.letter g.V.Voice.loud c.args.state.now.lifetimes c.args.state.now.place)
+
+pub returns-in_default-clause-own : goal.returns-in_default-clause-own
+returns-in_default-clause-own g c = omega (arith, c.in-Goes.ensures.looks, c.in_default.ensures.most, group_short c.args.symbol.now word.FunctionHead c.args.state.now.letter g.V.Voice.loud c.args.state.now.lifetimes c.args.state.now.place)
+
+pub returns-in-Ok-clause-own : goal.returns-in-Ok-clause-own
+returns-in-Ok-clause-own g c = omega (arith, c.in-Goes.ensures.looks, c.in-Ok.ensures.most, group_short c.args.symbol.now word.FunctionHead c.args.state.now.letter g.V.Voice.loud c.args.state.now.lifetimes c.args.state.now.place)
+
+pub returns-in-Stops-clause-own : goal.returns-in-Stops-clause-own
+returns-in-Stops-clause-own g c = omega (arith, c.in-Stops.ensures.looks, group_short c.args.symbol.now word.FunctionHead c.args.state.now.letter g.V.Voice.loud c.args.state.now.lifetimes c.args.state.now.place)
