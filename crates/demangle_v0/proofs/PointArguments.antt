@@ -3,25 +3,25 @@ use Rattle.std.specs.Prelude.{◌*◌}
 use Rattle.std.proofs.Common.{◌≡◌, ℕ, ◌+◌, ◌≤◌, Bool, true, false, if◌then◌else◌, Some, None, List, [], ◌∷◌, ◌++◌, Result, Ok, refl, arith, ap, ◌∙◌}
 use Prim.Native.Char.{code}
 use Rattle.demangle_symbol.specs.Digits.{is_byte}
-use Rattle.demangle_v0.specs.Items.{done, unit}
-use Rattle.demangle_v0.specs.Totals.{total}
-use Rattle.demangle_v0.specs.Events.{Heard, of, with_looks, with_texts}
-use Rattle.demangle_v0.specs.Grammar.{word_items}
-use Rattle.demangle_v0.specs.declared.grammar.Word.TheVariants as word
-use Rattle.demangle_v0.specs.Table.{more, argument, says}
-use Rattle.demangle_v0.specs.Reading.{Place, run}
+use Rattle.demangle_grammar.specs.Items.{done, unit}
+use Rattle.demangle_grammar.specs.Totals.{total}
+use Rattle.demangle_grammar.specs.Events.{Heard, of, with_looks, with_texts, around}
+use Rattle.demangle_words.specs.Texts.{word_items}
+use Rattle.demangle_words.specs.declared.texts.Word.TheVariants as word
+use Rattle.demangle_grammar.specs.Table.{more, argument, says}
+use Rattle.demangle_grammar.specs.Reading.{Place, run}
 use Rattle.demangle_v0.specs.Arguments.{separator, arguments_point, argument_point, argument_place, argument_costs}
-use Rattle.demangle_v0.specs.Points.{frame_of, then_frame, share_at, none_open, around, mark_texts, way_weight, weight_at, height_at, Fits, DidOn, Did}
-use Rattle.demangle_v0.specs.declared.grammar.Mark.TheVariants as mark
+use Rattle.demangle_v0.specs.Points.{frame_of, then_frame, share_at, none_open, mark_texts, way_weight, weight_at, height_at, Fits, DidOn, Did}
+use Rattle.demangle_words.specs.declared.texts.Mark.TheVariants as mark
 use Rattle.demangle_v0.specs.declared.points.Point.{Point}
 use Rattle.demangle_v0.specs.declared.points.Point.TheVariants as point
 use Rattle.demangle_v0.specs.declared.points.Stop.{Stop}
 use Rattle.demangle_v0.specs.declared.points.frames.Frame.{Frame}
 use Rattle.demangle_v0.specs.declared.points.State.{State}
 use Rattle.demangle_v0.specs.declared.points.voice.Voice.{Ghosts}
-use Rattle.demangle_v0.proofs.Elements.{argument_element}
-use Rattle.demangle_v0.proofs.ListReads.{end_failed, end_over, more_failed, more_over, first_on, more_on, argument_lifetime, argument_constant, argument_type}
-use Rattle.demangle_v0.proofs.ListReads.{followed as behind}
+use Rattle.demangle_grammar.proofs.Elements.{argument_element}
+use Rattle.demangle_grammar.proofs.ListReads.{end_failed, end_over, more_failed, more_over, first_on, more_on, argument_lifetime, argument_constant, argument_type}
+use Rattle.demangle_grammar.proofs.ListReads.{followed as behind}
 use Rattle.demangle_v0.proofs.PointSteps.{heard, same}
 use Rattle.demangle_v0.proofs.PointTypes.{heard_at, enters}
 

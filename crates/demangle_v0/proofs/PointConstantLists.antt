@@ -3,16 +3,16 @@ use Rattle.std.specs.Prelude.{◌*◌}
 use Rattle.std.proofs.Common.{◌≡◌, ℕ, ◌+◌, ◌≤◌, Bool, true, false, Option, Some, None, List, [], ◌∷◌, ◌++◌, Ok, refl, arith, sym, ap, ◌∙◌}
 use Prim.Native.Char.{code}
 use Rattle.demangle_symbol.specs.Digits.{is_byte}
-use Rattle.demangle_v0.specs.Items.{a_constant, Items, say, done, unit}
-use Rattle.demangle_v0.specs.Totals.{total}
-use Rattle.demangle_v0.specs.Events.{Heard, of, and_then, with_looks, with_texts}
-use Rattle.demangle_v0.specs.Grammar.{text}
-use Rattle.demangle_v0.specs.Table.{says, more, at_end, constant_inside}
-use Rattle.demangle_v0.specs.Reading.{Place, run, max_depth}
+use Rattle.demangle_grammar.specs.Items.{a_constant, Items, say, done, unit}
+use Rattle.demangle_grammar.specs.Totals.{total}
+use Rattle.demangle_grammar.specs.Events.{Heard, of, and_then, with_looks, with_texts, around}
+use Rattle.demangle_words.specs.Texts.{text}
+use Rattle.demangle_grammar.specs.Table.{says, more, at_end, constant_inside}
+use Rattle.demangle_grammar.specs.Reading.{Place, run, max_depth}
 use Rattle.demangle_v0.specs.ConstantLists.{first_point, second_point, next_point, element_point, list_element, close_of}
-use Rattle.demangle_v0.specs.Points.{frame_of, then_frame, share_at, none_open, around, mark_texts, way_weight, weight_at, height_at, Fits, is_inner, DidOn}
-use Rattle.demangle_v0.specs.declared.grammar.Mark.{Mark}
-use Rattle.demangle_v0.specs.declared.grammar.Mark.TheVariants as mark
+use Rattle.demangle_v0.specs.Points.{frame_of, then_frame, share_at, none_open, mark_texts, way_weight, weight_at, height_at, Fits, is_inner, DidOn}
+use Rattle.demangle_words.specs.declared.texts.Mark.{Mark}
+use Rattle.demangle_words.specs.declared.texts.Mark.TheVariants as mark
 use Rattle.demangle_v0.specs.declared.points.Point.{Point}
 use Rattle.demangle_v0.specs.declared.points.Point.TheVariants as point
 use Rattle.demangle_v0.specs.declared.points.frames.Frame.{Frame}
@@ -20,8 +20,8 @@ use Rattle.demangle_v0.specs.declared.points.State.{State}
 use Rattle.demangle_v0.specs.declared.points.constant_lists.ConstantList.{ConstantList}
 use Rattle.demangle_v0.specs.declared.points.constant_lists.ConstantList.TheVariants as list
 use Rattle.demangle_v0.specs.declared.points.voice.Voice.{Ghosts}
-use Rattle.demangle_v0.proofs.Elements.{Element, constant_element, field_element}
-use Rattle.demangle_v0.proofs.ListReads.{end_failed, end_over, end_on, more_failed, more_over, more_on, second_over}
+use Rattle.demangle_grammar.proofs.Elements.{Element, constant_element, field_element}
+use Rattle.demangle_grammar.proofs.ListReads.{end_failed, end_over, end_on, more_failed, more_over, more_on, second_over}
 use Rattle.demangle_v0.proofs.PointConstants.{moves}
 use Rattle.demangle_v0.proofs.PointSteps.{heard, child_last, after, same}
 

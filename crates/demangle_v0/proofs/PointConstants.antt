@@ -2,14 +2,14 @@
 use Rattle.std.specs.Prelude.{◌*◌}
 use Rattle.std.proofs.lemmas.List.{append-nil}
 use Rattle.std.proofs.Common.{◌≡◌, ℕ, ◌+◌, ◌≤◌, Bool, false, Option, List, [], Result, Ok, refl, arith, ap}
-use Rattle.demangle_v0.specs.Items.{Items, done, unit}
-use Rattle.demangle_v0.specs.Totals.{total}
-use Rattle.demangle_v0.specs.Events.{Heard, of, events, with_looks, with_texts}
-use Rattle.demangle_v0.specs.Grammar.{word_items}
-use Rattle.demangle_v0.specs.Reading.{Place, run}
-use Rattle.demangle_v0.specs.Points.{then_frame, share_at, none_open, around, mark_texts, pushed_on, way_weight, weight_of, height_at, height_of, count_of, Fits, FitsFrame, IsInner, DidOn}
-use Rattle.demangle_v0.specs.declared.grammar.Mark.{Mark}
-use Rattle.demangle_v0.specs.declared.grammar.Word.TheVariants as word
+use Rattle.demangle_grammar.specs.Items.{Items, done, unit}
+use Rattle.demangle_grammar.specs.Totals.{total}
+use Rattle.demangle_grammar.specs.Events.{Heard, of, events, with_looks, with_texts, around}
+use Rattle.demangle_words.specs.Texts.{word_items}
+use Rattle.demangle_grammar.specs.Reading.{Place, run}
+use Rattle.demangle_v0.specs.Points.{then_frame, share_at, none_open, mark_texts, pushed_on, way_weight, weight_of, height_at, height_of, count_of, Fits, FitsFrame, IsInner, DidOn}
+use Rattle.demangle_words.specs.declared.texts.Mark.{Mark}
+use Rattle.demangle_words.specs.declared.texts.Word.TheVariants as word
 use Rattle.demangle_v0.specs.declared.points.Point.{Point}
 use Rattle.demangle_v0.specs.declared.points.Point.TheVariants as point
 use Rattle.demangle_v0.specs.declared.points.frames.Frame.{Frame}

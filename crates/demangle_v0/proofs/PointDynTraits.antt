@@ -6,18 +6,18 @@ use Prim.Native.Char.{code}
 use Rattle.demangle_symbol.specs.Digits.{is_byte}
 use Rattle.demangle_symbol.specs.Words.{Name, Read, identifier_at}
 use Rattle.demangle_symbol.specs.Names.{name_pieces}
-use Rattle.demangle_v0.specs.Items.{Text, Items, a_path, a_type, a_constant, a_trait_path, done, unit, dyn_trait, bindings, opens, target}
-use Rattle.demangle_v0.specs.Table.{says, type_inside, says_name, list, more, argument, in_binder, binding_value}
-use Rattle.demangle_v0.specs.Totals.{total}
+use Rattle.demangle_grammar.specs.Items.{Text, Items, a_path, a_type, a_constant, a_trait_path, done, unit, dyn_trait, bindings, opens, target}
+use Rattle.demangle_grammar.specs.Table.{says, type_inside, says_name, list, more, argument, in_binder, binding_value}
+use Rattle.demangle_grammar.specs.Totals.{total}
 use Rattle.demangle_v0.specs.Arguments.{separator, argument_point, argument_place, argument_costs}
 use Rattle.demangle_v0.specs.DynTraits.{dyn_type}
-use Rattle.demangle_v0.specs.Events.{Heard, of, nothing_heard, and_then, with_looks, with_texts}
-use Rattle.demangle_v0.specs.Grammar.{word_items, text}
-use Rattle.demangle_v0.specs.Reading.{Place, run, unit_outcome, max_depth}
-use Rattle.demangle_v0.specs.Points.{mark_texts, share_at, share, share_of, bindings_left, none_open, around, way_weight, weight_at, height_at, Fits, is_list_over, behind_list, list_costs, DidOn}
-use Rattle.demangle_v0.specs.declared.grammar.Mark.{Mark}
-use Rattle.demangle_v0.specs.declared.grammar.Mark.TheVariants as mark
-use Rattle.demangle_v0.specs.declared.grammar.Word.TheVariants as word
+use Rattle.demangle_grammar.specs.Events.{Heard, of, nothing_heard, and_then, with_looks, with_texts, around}
+use Rattle.demangle_words.specs.Texts.{word_items, text}
+use Rattle.demangle_grammar.specs.Reading.{Place, run, unit_outcome, max_depth}
+use Rattle.demangle_v0.specs.Points.{mark_texts, share_at, share, share_of, bindings_left, none_open, way_weight, weight_at, height_at, Fits, is_list_over, behind_list, list_costs, DidOn}
+use Rattle.demangle_words.specs.declared.texts.Mark.{Mark}
+use Rattle.demangle_words.specs.declared.texts.Mark.TheVariants as mark
+use Rattle.demangle_words.specs.declared.texts.Word.TheVariants as word
 use Rattle.demangle_v0.specs.declared.points.Point.{Point}
 use Rattle.demangle_v0.specs.declared.points.Point.TheVariants as point
 use Rattle.demangle_v0.specs.declared.points.frames.Frame.{Frame}
@@ -25,14 +25,14 @@ use Rattle.demangle_v0.specs.declared.points.State.{State}
 use Rattle.demangle_v0.specs.declared.points.Stop.{Stop}
 use Rattle.demangle_v0.specs.declared.points.Stop.TheVariants.{Fault}
 use Rattle.demangle_v0.specs.declared.points.voice.Voice.{Ghosts}
-use Rattle.demangle_v0.proofs.ClosedUnits.{last_child, unit_closed}
-use Rattle.demangle_v0.proofs.Elements.{argument_element, dyn_trait_element}
-use Rattle.demangle_v0.proofs.Hearing.{handing_both, and_then_assoc, handing_then, allowing_then}
-use Rattle.demangle_v0.proofs.ListReads.{end_failed, end_over, more_failed, more_over, first_on, more_on, argument_lifetime, argument_constant, argument_type}
-use Rattle.demangle_v0.proofs.PathReads.{trait_path_reads, trait_path_refers, trait_path_generic, trait_path_plain}
+use Rattle.demangle_grammar.proofs.ClosedUnits.{last_child, unit_closed}
+use Rattle.demangle_grammar.proofs.Elements.{argument_element, dyn_trait_element}
+use Rattle.demangle_grammar.proofs.Hearing.{handing_both, and_then_assoc, handing_then, allowing_then}
+use Rattle.demangle_grammar.proofs.ListReads.{end_failed, end_over, more_failed, more_over, first_on, more_on, argument_lifetime, argument_constant, argument_type}
+use Rattle.demangle_grammar.proofs.PathReads.{trait_path_reads, trait_path_refers, trait_path_generic, trait_path_plain}
 use Rattle.demangle_v0.proofs.PointFunctions.{frame_at, moves, enters}
 use Rattle.demangle_v0.proofs.PointSteps.{heard, after, faulty}
-use Rattle.demangle_v0.proofs.TypeReads.{if_so, says_all, bound_constant, bound_type, mark_of, bindings_failed, bindings_over, binding_stops, binding_reads}
+use Rattle.demangle_grammar.proofs.TypeReads.{if_so, says_all, bound_constant, bound_type, mark_of, bindings_failed, bindings_over, binding_stops, binding_reads}
 
 -- the state's frame
 abbrev pub first_traits : Items

@@ -5,24 +5,24 @@ use Rattle.std.proofs.lemmas.Bool.{false≢true}
 use Prim.Native.Char.{code}
 use Rattle.demangle_symbol.specs.Digits.{is_byte}
 use Rattle.demangle_symbol.specs.Words.{optional_at}
-use Rattle.demangle_v0.specs.Items.{Items, a_type, unit}
-use Rattle.demangle_v0.specs.Table.{says, list, more, type_inside, in_binder}
-use Rattle.demangle_v0.specs.Totals.{total}
+use Rattle.demangle_grammar.specs.Items.{Items, a_type, unit}
+use Rattle.demangle_grammar.specs.Table.{says, list, more, type_inside, in_binder}
+use Rattle.demangle_grammar.specs.Totals.{total}
 use Rattle.demangle_v0.specs.Arguments.{separator}
-use Rattle.demangle_v0.specs.Binders.{binder_texts}
-use Rattle.demangle_v0.specs.Events.{Heard, of, nothing_heard, and_then, with_looks, with_texts}
-use Rattle.demangle_v0.specs.Grammar.{word_items, text}
-use Rattle.demangle_v0.specs.Groups.{texts_of, word_group}
-use Rattle.demangle_v0.specs.Reading.{Place, run, unit_outcome, max_depth}
-use Rattle.demangle_v0.specs.Points.{frame_of, mark_texts, then_frame, share_at, share, is_inner, weight_at, share_of, returns, none_open, around, way_weight, height_at, Fits, is_list_over, behind_list, list_costs, DidOn}
+use Rattle.demangle_grammar.specs.Binders.{binder_texts}
+use Rattle.demangle_grammar.specs.Events.{Heard, of, nothing_heard, and_then, with_looks, with_texts, around}
+use Rattle.demangle_words.specs.Texts.{word_items, text}
+use Rattle.demangle_words.specs.Groups.{texts_of, word_group}
+use Rattle.demangle_grammar.specs.Reading.{Place, run, unit_outcome, max_depth}
+use Rattle.demangle_v0.specs.Points.{frame_of, mark_texts, then_frame, share_at, share, is_inner, weight_at, share_of, returns, none_open, way_weight, height_at, Fits, is_list_over, behind_list, list_costs, DidOn}
 use Rattle.demangle_sink.specs.declared.SinkRefused.{SinkRefused}
-use Rattle.demangle_v0.specs.declared.grammar.Mark.{Mark}
-use Rattle.demangle_v0.specs.declared.grammar.Mark.TheVariants as mark
-use Rattle.demangle_v0.specs.declared.grammar.Word.{Word}
-use Rattle.demangle_v0.specs.declared.grammar.Word.TheVariants as word
-use Rattle.demangle_v0.specs.declared.stretch.Stretch.{Stretch}
-use Rattle.demangle_v0.specs.declared.stretch.Stretch.TheVariants.{Binder}
-use Rattle.demangle_v0.specs.declared.words.WordRead.TheVariants as reads
+use Rattle.demangle_words.specs.declared.texts.Mark.{Mark}
+use Rattle.demangle_words.specs.declared.texts.Mark.TheVariants as mark
+use Rattle.demangle_words.specs.declared.texts.Word.{Word}
+use Rattle.demangle_words.specs.declared.texts.Word.TheVariants as word
+use Rattle.demangle_words.specs.declared.stretch.Stretch.{Stretch}
+use Rattle.demangle_words.specs.declared.stretch.Stretch.TheVariants.{Binder}
+use Rattle.demangle_words.specs.declared.read.WordRead.TheVariants as reads
 use Rattle.demangle_v0.specs.declared.points.Point.{Point}
 use Rattle.demangle_v0.specs.declared.points.Point.TheVariants as point
 use Rattle.demangle_v0.specs.declared.points.frames.Frame.{Frame}
@@ -30,10 +30,10 @@ use Rattle.demangle_v0.specs.declared.points.State.{State}
 use Rattle.demangle_v0.specs.declared.points.Stop.{Stop}
 use Rattle.demangle_v0.specs.declared.points.Stop.TheVariants.{Refused, Fault}
 use Rattle.demangle_v0.specs.declared.points.voice.Voice.{Ghosts}
-use Rattle.demangle_v0.proofs.Elements.{type_element}
-use Rattle.demangle_v0.proofs.ListReads.{child_followed, end_failed, end_over, more_failed, more_over, first_on, more_on}
+use Rattle.demangle_grammar.proofs.Elements.{type_element}
+use Rattle.demangle_grammar.proofs.ListReads.{child_followed, end_failed, end_over, more_failed, more_over, first_on, more_on}
 use Rattle.demangle_v0.proofs.PointSteps.{heard, child_last, refused, steps, after, faulty, faulty_after, put_goes, put_refused, group_so, group_goes, group_fails, group_refused, word_so}
-use Rattle.demangle_v0.proofs.TypeReads.{binder_reads}
+use Rattle.demangle_grammar.proofs.TypeReads.{binder_reads}
 
 abbrev pub parameters : Items
 parameters = says "fn(" (list ", " type_inside (says ")" returns))

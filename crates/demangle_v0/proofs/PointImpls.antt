@@ -3,13 +3,13 @@ use Rattle.std.specs.Prelude.{◌*◌}
 use Rattle.std.proofs.Common.{◌≡◌, ℕ, ◌+◌, ◌-◌, ◌≤◌, length, Bool, true, false, Some, None, List, [], ◌∷◌, ◌++◌, Ok, Err, refl, arith, sym, ap, ◌∙◌}
 use Prim.Native.Char.{code}
 use Rattle.demangle_symbol.specs.Words.{optional_at}
-use Rattle.demangle_v0.specs.Events.{of, and_then, with_texts}
-use Rattle.demangle_v0.specs.Grammar.{text}
+use Rattle.demangle_grammar.specs.Events.{of, and_then, with_texts, around}
+use Rattle.demangle_words.specs.Texts.{text}
 use Rattle.demangle_v0.specs.Impls.{impl_items, skip_point, self_point}
-use Rattle.demangle_v0.specs.Items.{Kind, Items, a_type, say, child}
-use Rattle.demangle_v0.specs.Points.{frame_at, Turn, Env, Paid, RestDoes, PointDoes, frame_of, then_frame, share, share_at, rest_at, none_open, around, weight_at, Fits, DidOn}
-use Rattle.demangle_v0.specs.Reading.{Place, unit_outcome, run}
-use Rattle.demangle_v0.specs.declared.grammar.Mark.TheVariants as mark
+use Rattle.demangle_grammar.specs.Items.{Kind, Items, a_type, say, child}
+use Rattle.demangle_v0.specs.Points.{frame_at, Turn, Env, Paid, RestDoes, PointDoes, frame_of, then_frame, share, share_at, rest_at, none_open, weight_at, Fits, DidOn}
+use Rattle.demangle_grammar.specs.Reading.{Place, unit_outcome, run}
+use Rattle.demangle_words.specs.declared.texts.Mark.TheVariants as mark
 use Rattle.demangle_v0.specs.declared.points.Point.TheVariants as point
 use Rattle.demangle_v0.specs.declared.points.frames.Frame.{Frame}
 use Rattle.demangle_v0.specs.declared.points.State.{State}

@@ -3,19 +3,18 @@ use Rattle.std.specs.Prelude.{◌*◌, nat_le, codes}
 use Rattle.std.proofs.lemmas.Bool.{ne_eqb, false≢true}
 use Rattle.std.proofs.Common.{◌≡◌, ℕ, ◌+◌, ◌-◌, ◌≤◌, length, Bool, true, false, Some, None, List, [], ◌∷◌, Result, Ok, Err, refl, arith, sym, ap, ◌∙◌}
 use Rattle.demangle_symbol.specs.Words.{integer_at}
-use Rattle.demangle_v0.specs.Items.{Items, lifetime}
-use Rattle.demangle_v0.specs.Events.{Heard, of, with_looks, with_texts}
-use Rattle.demangle_v0.specs.Groups.{texts_of}
-use Rattle.demangle_v0.specs.Table.{type_inside, says, says_if}
+use Rattle.demangle_grammar.specs.Items.{Items, lifetime}
+use Rattle.demangle_grammar.specs.Events.{Heard, of, with_looks, with_texts, around}
+use Rattle.demangle_words.specs.Groups.{texts_of}
+use Rattle.demangle_grammar.specs.Table.{type_inside, says, says_if}
 use Rattle.demangle_v0.specs.Tags.{lifetime_before}
-use Rattle.demangle_v0.specs.Reading.{Place, letter_of, run}
-use Rattle.demangle_v0.specs.Points.{Turn, Env, Paid, RestDoes, PointDoes, own_looks, then_frame, none_open, around, weight_at, height_at, Fits, DidOn, behind_reference, lifetime_point, spaced_lifetime}
+use Rattle.demangle_grammar.specs.Reading.{Place, letter_of, run}
+use Rattle.demangle_v0.specs.Points.{Turn, Env, Paid, RestDoes, PointDoes, own_looks, then_frame, none_open, Fits, behind_reference, lifetime_point, spaced_lifetime}
 use Rattle.demangle_sink.specs.declared.SinkRefused.{SinkRefused}
-use Rattle.demangle_v0.specs.declared.grammar.Mark.TheVariants as mark
-use Rattle.demangle_v0.specs.declared.stretch.Stretch.{Stretch}
+use Rattle.demangle_words.specs.declared.texts.Mark.TheVariants as mark
+use Rattle.demangle_words.specs.declared.stretch.Stretch.{Stretch}
 use Rattle.demangle_v0.specs.declared.points.Point.{Point}
 use Rattle.demangle_v0.specs.declared.points.Point.TheVariants as point
-use Rattle.demangle_v0.specs.declared.points.frames.Frame.{Frame}
 use Rattle.demangle_v0.specs.declared.points.State.{State}
 use Rattle.demangle_v0.specs.declared.points.Stop.{Stop}
 use Rattle.demangle_v0.specs.declared.points.Stop.TheVariants.{Refused, Fault}
@@ -24,8 +23,8 @@ use Rattle.demangle_v0.proofs.PointSteps.{heard}
 use Rattle.demangle_v0.proofs.PointTurns.{leaves, ends, unread, tells, halts, alike}
 use Rattle.demangle_symbol.proofs.Counts.{placed, integer_placed}
 use Rattle.demangle_v0.proofs.PointTypes.{behind_so, behind_light, behind_low, behind_fits, lifetime_so}
-use Rattle.demangle_v0.proofs.TypeReads.{says_all, lifetime_named, lifetime_wrong}
-use Rattle.demangle_v0.proofs.Hearing.{said_both}
+use Rattle.demangle_grammar.proofs.TypeReads.{says_all, lifetime_named, lifetime_wrong}
+use Rattle.demangle_grammar.proofs.Hearing.{said_both}
 
 module _ {V : Type 0} (voice : Ghosts V) (b : List ℕ) (plain : Bool) where
   -- The lifetime of a reference.

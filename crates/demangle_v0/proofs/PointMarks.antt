@@ -1,13 +1,13 @@
 -- Points that do no more than leave a mark.
 use Rattle.std.proofs.Common.{◌≡◌, ℕ, Bool, true, false, Option, Some, None, List, [], ◌∷◌, Ok, refl, arith, ap, ◌∙◌}
-use Rattle.demangle_v0.specs.Events.{with_texts}
-use Rattle.demangle_v0.specs.Grammar.{text}
-use Rattle.demangle_v0.specs.Items.{a_type, a_constant}
+use Rattle.demangle_grammar.specs.Events.{with_texts}
+use Rattle.demangle_words.specs.Texts.{text}
+use Rattle.demangle_grammar.specs.Items.{a_type, a_constant}
 use Rattle.demangle_v0.specs.Marks.{left_at}
-use Rattle.demangle_v0.specs.Reading.{run}
-use Rattle.demangle_v0.specs.Table.{string}
+use Rattle.demangle_grammar.specs.Reading.{run}
+use Rattle.demangle_grammar.specs.Table.{string}
 use Rattle.demangle_v0.specs.Points.{share_at, Fits, Turn, Env, PointDoes}
-use Rattle.demangle_v0.specs.declared.grammar.Mark.TheVariants as mark
+use Rattle.demangle_words.specs.declared.texts.Mark.TheVariants as mark
 use Rattle.demangle_v0.specs.declared.points.marks.Left.{Left}
 use Rattle.demangle_v0.specs.declared.points.Point.{Point}
 use Rattle.demangle_v0.specs.declared.points.Point.TheVariants as point

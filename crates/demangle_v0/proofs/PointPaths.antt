@@ -1,19 +1,19 @@
 -- The points of paths.
 use Rattle.std.specs.Prelude.{◌*◌}
 use Rattle.std.proofs.Common.{◌≡◌, ℕ, zero, suc, sub-one, ◌+◌, ◌-◌, ◌<◌, ◌≤◌, length, Bool, false, Option, Some, None, List, [], ◌∷◌, ◌++◌, Result, Ok, Err, refl, arith, sym, ap, ◌∙◌}
-use Rattle.demangle_v0.specs.Items.{Items, invalid, byte}
-use Rattle.demangle_v0.specs.Events.{Heard, of, nothing_heard}
-use Rattle.demangle_v0.specs.Groups.{texts_of, crate_group, nested_group}
+use Rattle.demangle_grammar.specs.Items.{Items, invalid, byte}
+use Rattle.demangle_grammar.specs.Events.{Heard, of, nothing_heard, around}
+use Rattle.demangle_words.specs.Groups.{texts_of, crate_group, nested_group}
 use Rattle.demangle_sink.specs.declared.SinkRefused.{SinkRefused}
-use Rattle.demangle_v0.specs.declared.stretch.Stretch.TheVariants.{NestedUnread}
-use Rattle.demangle_v0.proofs.GroupReads.{crate_reads, nested_reads}
-use Rattle.demangle_v0.specs.Grammar.{found}
+use Rattle.demangle_words.specs.declared.stretch.Stretch.TheVariants.{NestedUnread}
+use Rattle.demangle_words.proofs.GroupReads.{crate_reads, nested_reads}
+use Rattle.demangle_words.specs.Texts.{found}
 use Rattle.demangle_symbol.specs.Words.{some_or, namespace_at, byte_at}
-use Rattle.demangle_v0.specs.Table.{path, path_rows}
+use Rattle.demangle_grammar.specs.Table.{path, path_rows}
 use Rattle.demangle_v0.specs.Tags.{path_kinds, path_of}
-use Rattle.demangle_v0.specs.Reading.{Place, run, level_of, levels}
-use Rattle.demangle_v0.specs.Points.{frame_of, frame_at, then_frame, share_at, share_of, none_open, around, Turn, Env, MayRead, RestDoes, PointDoes, Paid}
-use Rattle.demangle_v0.specs.declared.grammar.Mark.TheVariants as mark
+use Rattle.demangle_grammar.specs.Reading.{Place, run, level_of, levels}
+use Rattle.demangle_v0.specs.Points.{frame_of, frame_at, then_frame, share_at, share_of, none_open, Turn, Env, MayRead, RestDoes, PointDoes, Paid}
+use Rattle.demangle_words.specs.declared.texts.Mark.TheVariants as mark
 use Rattle.demangle_v0.specs.declared.points.tags.PathKind.{PathKind}
 use Rattle.demangle_v0.specs.declared.points.tags.PathKind.TheVariants as kind
 use Rattle.demangle_v0.specs.declared.points.Point.{Point}
@@ -23,7 +23,7 @@ use Rattle.demangle_v0.specs.declared.points.State.{State}
 use Rattle.demangle_v0.specs.declared.points.Stop.{Stop}
 use Rattle.demangle_v0.specs.declared.points.Stop.TheVariants.{Refused, Fault}
 use Rattle.demangle_v0.specs.declared.points.voice.Voice.{Ghosts}
-use Rattle.demangle_v0.proofs.GrammarRows.{rows_of, row_found}
+use Rattle.demangle_words.proofs.TagRows.{rows_of, row_found}
 use Rattle.demangle_v0.proofs.PointSteps.{group_heard, group_then, group_shut}
 use Rattle.demangle_v0.proofs.PointTurns.{ended, leaves, ends, tells, halts, behind, alike}
 use Rattle.demangle_symbol.proofs.Counts.{placed, byte_placed}
@@ -41,7 +41,7 @@ module _ {V : Type 0} (voice : Ghosts V) (b : List ℕ) (plain : Bool) where
 
   path_so : (v : Bool) (left n : ℕ) (i : Place) (c : ℕ) (o : Option PathKind) → o ≡ found c path_kinds → path_heard v left n i c ≡ none_open (of plain voice.loud (run (some_or invalid o (path_of v)) (around b voice.loud left n) i))
   path_so v left n i c o e =
-      ap (λ (p : Items). none_open (of plain voice.loud (run p (around b voice.loud left n) i))) (ap (λ rs. Rattle.demangle_v0.specs.Table.row_of c invalid rs) (path_kinds_so v) ∙ row_found c invalid (path_of v) path_kinds)
+      ap (λ (p : Items). none_open (of plain voice.loud (run p (around b voice.loud left n) i))) (ap (λ rs. Rattle.demangle_grammar.specs.Table.row_of c invalid rs) (path_kinds_so v) ∙ row_found c invalid (path_of v) path_kinds)
       ∙ ap (λ (o : Option PathKind). none_open (of plain voice.loud (run (some_or invalid o (path_of v)) (around b voice.loud left n) i))) (sym e)
 
   -- A path.

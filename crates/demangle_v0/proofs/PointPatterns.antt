@@ -4,14 +4,14 @@ use Rattle.std.proofs.Common.{◌≡◌, ℕ, ◌+◌, ◌-◌, ◌≤◌, lengt
 use Prim.Native.Char.{code}
 use Rattle.demangle_symbol.specs.Digits.{is_byte}
 use Rattle.demangle_symbol.specs.Words.{some_or, byte_at}
-use Rattle.demangle_v0.specs.Items.{Items, a_pattern, invalid, done, sound, child}
-use Rattle.demangle_v0.specs.Events.{Heard, of, with_looks, with_texts}
-use Rattle.demangle_v0.specs.Grammar.{text, found}
-use Rattle.demangle_v0.specs.Table.{row_of, pattern_rows, more}
+use Rattle.demangle_grammar.specs.Items.{Items, a_pattern, invalid, done, sound, child}
+use Rattle.demangle_grammar.specs.Events.{Heard, of, with_looks, with_texts, around}
+use Rattle.demangle_words.specs.Texts.{text, found}
+use Rattle.demangle_grammar.specs.Table.{row_of, pattern_rows, more}
 use Rattle.demangle_v0.specs.Tags.{pattern_kinds, pattern_kind_of}
-use Rattle.demangle_v0.specs.Reading.{Place, run}
-use Rattle.demangle_v0.specs.Points.{frame_of, then_frame, share_at, none_open, around, Fits, DidOn}
-use Rattle.demangle_v0.specs.declared.grammar.Mark.TheVariants as mark
+use Rattle.demangle_grammar.specs.Reading.{Place, run}
+use Rattle.demangle_v0.specs.Points.{frame_of, then_frame, share_at, none_open, Fits, DidOn}
+use Rattle.demangle_words.specs.declared.texts.Mark.TheVariants as mark
 use Rattle.demangle_v0.specs.declared.points.Point.TheVariants as point
 use Rattle.demangle_v0.specs.declared.points.frames.Frame.{Frame}
 use Rattle.demangle_v0.specs.declared.points.State.{State}
@@ -19,13 +19,13 @@ use Rattle.demangle_v0.specs.declared.points.Stop.TheVariants.{Fault}
 use Rattle.demangle_v0.specs.declared.points.tags.PatternKind.{PatternKind}
 use Rattle.demangle_v0.specs.declared.points.tags.PatternKind.TheVariants as kind
 use Rattle.demangle_v0.specs.declared.points.voice.Voice.{Ghosts}
-use Rattle.demangle_v0.proofs.Elements.{pattern_element}
-use Rattle.demangle_v0.proofs.GrammarRows.{rows_of, row_found}
-use Rattle.demangle_v0.proofs.ListReads.{child_followed, more_failed, more_over, more_on}
-use Rattle.demangle_v0.proofs.PathReads.{pattern_missing, pattern_reads}
+use Rattle.demangle_grammar.proofs.Elements.{pattern_element}
+use Rattle.demangle_words.proofs.TagRows.{rows_of, row_found}
+use Rattle.demangle_grammar.proofs.ListReads.{child_followed, more_failed, more_over, more_on}
+use Rattle.demangle_grammar.proofs.PathReads.{pattern_missing, pattern_reads}
 use Rattle.demangle_v0.proofs.PointConstants.{moves}
 use Rattle.demangle_v0.proofs.PointSteps.{heard, faulty, faulty_after}
-use Rattle.demangle_v0.proofs.UnitReads.{raise_deep, raise_on}
+use Rattle.demangle_grammar.proofs.UnitReads.{raise_deep, raise_on}
 
 patterns_so : pattern_rows ≡ rows_of pattern_kind_of pattern_kinds
 patterns_so = refl

@@ -4,21 +4,22 @@ use Rattle.std.proofs.Common.{◌≡◌, ℕ, ◌+◌, ◌-◌, ◌<◌, ◌≤�
 use Rattle.std.proofs.lemmas.Bool.{false≢true}
 use Rattle.std.proofs.lemmas.List.{append-nil}
 use Rattle.std.proofs.Math.Nat.{mul-le-mul_left}
-use Rattle.demangle_v0.specs.Items.{Text, a_path}
-use Rattle.demangle_v0.specs.Cost.{Pays}
-use Rattle.demangle_v0.specs.Reading.{max_depth, path_texts, read_at, level_of, levels}
+use Rattle.demangle_grammar.specs.Items.{Text, a_path}
+use Rattle.demangle_grammar.specs.Cost.{Pays}
+use Rattle.demangle_grammar.specs.Reading.{max_depth, path_texts, read_at, level_of, levels}
 use Rattle.demangle_sink.specs.Cut.{size, kept}
 use Rattle.demangle_sink.proofs.CutLemmas.{size-append}
 use Rattle.demangle_sink.proofs.PrintsLemmas.{prints_ready, prints_nothing, prints_then, prints_stop}
-use Rattle.demangle_v0.proofs.LooksLaw.{looks_a_byte, looks_before, printing_pays}
-use Rattle.demangle_v0.proofs.PrintingLooks.{pays_tree, kept_bytes}
-use Rattle.demangle_v0.proofs.PrintingSteps.{shown_events, weighed, weighed_said, weighed_allowed}
-use Rattle.demangle_v0.proofs.StepsPaid.{pays_looks, pays_texts}
+use Rattle.demangle_grammar.proofs.LooksLaw.{looks_a_byte, looks_before, printing_pays}
+use Rattle.demangle_grammar.proofs.PrintingLooks.{pays_tree}
+use Rattle.demangle_v0.proofs.Kept.{kept_bytes}
+use Rattle.demangle_grammar.proofs.PrintingSteps.{shown_events, weighed, weighed_said, weighed_allowed}
+use Rattle.demangle_grammar.proofs.StepsPaid.{pays_looks, pays_texts}
 use Rattle.demangle_v0.proofs.PointWholes.{owed_alone}
-use Rattle.demangle_v0.specs.Totals.{total}
-use Rattle.demangle_v0.specs.Groups.{texts_of}
-use Rattle.demangle_v0.specs.declared.stretch.Stretch.{Stretch}
-use Rattle.demangle_v0.specs.Events.{Event, Heard, and_then, with_texts, allowed_all, said_all, shown_in}
+use Rattle.demangle_grammar.specs.Totals.{total}
+use Rattle.demangle_words.specs.Groups.{texts_of}
+use Rattle.demangle_words.specs.declared.stretch.Stretch.{Stretch}
+use Rattle.demangle_grammar.specs.Events.{Event, Heard, and_then, with_texts, allowed_all, said_all, shown_in}
 use Rattle.demangle_sink.specs.Limit.{Prints, Ready}
 use Rattle.demangle_sink.specs.declared.TextSink.{Ghosts as Sinks}
 use Rattle.demangle_sink.specs.declared.SinkRefused.{SinkRefused}
@@ -33,11 +34,11 @@ use Rattle.demangle_v0.specs.declared.points.read.Reading.{Reading}
 use Rattle.demangle_v0.specs.declared.printing.Left.{Left}
 use Rattle.demangle_v0.specs.declared.printing.Left.TheVariants as left
 use Rattle.demangle_v0.specs.declared.points.voice.Voice.{Ghosts}
-use Rattle.demangle_v0.proofs.Hearing.{handing_then}
+use Rattle.demangle_grammar.proofs.Hearing.{handing_then}
 use Rattle.demangle_v0.proofs.PointSteps.{bits_append, looks_append}
 use Rattle.demangle_v0.proofs.PointRuns.{step_heard, bits_of, bits_total, bits_then, resumes_heard}
 use Rattle.demangle_v0.proofs.PointSkips.{skip_is, skipped_owed, skipped_valid}
-use Rattle.demangle_v0.proofs.SkippedPaths.{allowances, total_allowances}
+use Rattle.demangle_grammar.proofs.SkippedPaths.{allowances, total_allowances}
 use Rattle.demangle_v0.specs.Impls.{skip_point, is_skip}
 use Rattle.demangle_v0.proofs.PointWholes.{valid_length}
 

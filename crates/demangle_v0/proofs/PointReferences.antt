@@ -3,17 +3,17 @@ use Rattle.std.specs.Prelude.{◌*◌, ◌^◌, if◌then◌else◌}
 use Rattle.std.proofs.lemmas.Bool.{false≢true}
 use Rattle.std.proofs.Common.{◌≡◌, ℕ, zero, suc, sub-one, ◌+◌, ◌-◌, ◌<◌, ◌≤◌, length, Bool, true, false, Some, None, List, [], ◌∷◌, ◌++◌, Ok, Err, refl, arith, sym, ap, ◌∙◌}
 use Rattle.demangle_symbol.specs.Words.{Read, backref_at}
-use Rattle.demangle_v0.specs.Totals.{total}
-use Rattle.demangle_v0.specs.Events.{Heard, of, nothing_heard, and_then, with_looks, with_texts}
-use Rattle.demangle_v0.specs.Grammar.{text}
-use Rattle.demangle_v0.specs.Items.{Kind, a_path, a_type, a_constant, a_trait_path, target}
-use Rattle.demangle_v0.specs.Points.{Turn, Env, Paid, Does, PointDoes, MayRead, frame_of, then_frame, share_at, around, Fits, DidOn}
-use Rattle.demangle_v0.specs.Reading.{Place, run, word_outcome, level_of, levels, target_of, target_read}
+use Rattle.demangle_grammar.specs.Totals.{total}
+use Rattle.demangle_grammar.specs.Events.{Heard, of, nothing_heard, and_then, with_looks, with_texts, around}
+use Rattle.demangle_words.specs.Texts.{text}
+use Rattle.demangle_grammar.specs.Items.{Kind, a_path, a_type, a_constant, a_trait_path, target}
+use Rattle.demangle_v0.specs.Points.{Turn, Env, Paid, Does, PointDoes, MayRead, frame_of, then_frame, share_at, DidOn}
+use Rattle.demangle_grammar.specs.Reading.{Place, run, word_outcome, level_of, levels, target_of, target_read}
 use Rattle.demangle_v0.specs.References.{IsUnit, none_open_if, target_part}
-use Rattle.demangle_v0.specs.Serving.{refer, reference_read, leads}
-use Rattle.demangle_v0.specs.declared.grammar.Mark.{Mark}
-use Rattle.demangle_v0.specs.declared.reference.Reference.{Reference}
-use Rattle.demangle_v0.specs.declared.reference.Reference.TheVariants.{Faulty, Target}
+use Rattle.demangle_words.specs.Serving.{refer, reference_read, leads}
+use Rattle.demangle_words.specs.declared.texts.Mark.{Mark}
+use Rattle.demangle_words.specs.declared.reference.Reference.{Reference}
+use Rattle.demangle_words.specs.declared.reference.Reference.TheVariants.{Faulty, Target}
 use Rattle.demangle_v0.specs.declared.points.Point.{Point}
 use Rattle.demangle_v0.specs.declared.points.Point.TheVariants as point
 use Rattle.demangle_v0.specs.declared.points.frames.Frame.{Frame}

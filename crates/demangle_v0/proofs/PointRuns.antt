@@ -1,21 +1,21 @@
 -- Steps on a whole row.
 use Rattle.std.proofs.Common.{inl, inr, ◌⊎◌, ◌≡◌, ℕ, ◌+◌, ◌≤◌, ◌<◌, Bool, true, false, Option, Some, None, List, [], ◌∷◌, ◌++◌, length, Result, Ok, Err, IsErr, refl, arith, sym, ap, ◌∙◌, subst, append_assoc, length-append}
 use Rattle.std.proofs.lemmas.Bool.{false≢true}
-use Rattle.demangle_v0.specs.Items.{Text}
-use Rattle.demangle_v0.specs.Totals.{total}
-use Rattle.demangle_v0.specs.Running.{allowed_in}
-use Rattle.demangle_v0.specs.Events.{Event, Heard, nothing_heard, and_then, with_looks, with_texts, allowed_all, said_all}
-use Rattle.demangle_v0.specs.Grammar.{text}
-use Rattle.demangle_v0.specs.Groups.{texts_of}
-use Rattle.demangle_v0.specs.declared.stretch.Stretch.{Stretch}
-use Rattle.demangle_v0.specs.declared.stretch.Stretch.TheVariants.{Fixed}
+use Rattle.demangle_grammar.specs.Items.{Text}
+use Rattle.demangle_grammar.specs.Totals.{total}
+use Rattle.demangle_grammar.specs.Running.{allowed_in}
+use Rattle.demangle_grammar.specs.Events.{Event, Heard, nothing_heard, and_then, with_looks, with_texts, allowed_all, said_all, around}
+use Rattle.demangle_words.specs.Texts.{text}
+use Rattle.demangle_words.specs.Groups.{texts_of}
+use Rattle.demangle_words.specs.declared.stretch.Stretch.{Stretch}
+use Rattle.demangle_words.specs.declared.stretch.Stretch.TheVariants.{Fixed}
 use Rattle.demangle_v0.specs.Heights as heights
-use Rattle.demangle_v0.specs.Reading.{Place}
-use Rattle.demangle_v0.proofs.Failed.{failed}
-use Rattle.demangle_v0.specs.Points.{most_frames, Bit, pays, puts, heard_bits, bits_looks, Env, env, Part, part, Turn, turn, Told, said_texts, mark_texts, pushed_on, then_frame, way_weight, weight_at, weight_of, weights, height_at, height_of, count_of, FitsFrame, Fits, rest_at, around, share, share_at, share_of, row_owed, reading_owed, measure, is_inner, IsInner, AllInner, Went, Halted, Kept, DidOn, resumed_of, bindings_left}
+use Rattle.demangle_grammar.specs.Reading.{Place}
+use Rattle.demangle_grammar.proofs.Failed.{failed}
+use Rattle.demangle_v0.specs.Points.{most_frames, Bit, pays, puts, heard_bits, bits_looks, env, part, turn, Told, said_texts, mark_texts, pushed_on, then_frame, way_weight, weight_at, weight_of, weights, height_at, height_of, count_of, FitsFrame, Fits, rest_at, share, share_at, share_of, row_owed, reading_owed, measure, is_inner, IsInner, AllInner, Went, Halted, Kept, DidOn, resumed_of, bindings_left}
 use Rattle.demangle_v0.specs.PointRuns.{Puts, unmarked_of, Stepped, Resumes, stays, pops, frame_height, AllFit, Valid, Reads, ReadOn, first_looks}
 use Rattle.demangle_sink.specs.declared.SinkRefused.{SinkRefused}
-use Rattle.demangle_v0.specs.declared.grammar.Mark.{Mark}
+use Rattle.demangle_words.specs.declared.texts.Mark.{Mark}
 use Rattle.demangle_v0.specs.declared.points.Point.{Point}
 use Rattle.demangle_v0.specs.declared.points.Point.TheVariants as point
 use Rattle.demangle_v0.specs.declared.points.frames.Frame.{Frame}
@@ -23,7 +23,7 @@ use Rattle.demangle_v0.specs.declared.points.State.{State}
 use Rattle.demangle_v0.specs.declared.points.Stop.TheVariants.{Fault}
 use Rattle.demangle_v0.specs.declared.points.voice.Voice.{Ghosts}
 use Rattle.demangle_v0.specs.declared.points.read.Halt.TheVariants as halt
-use Rattle.demangle_v0.proofs.Hearing.{and_then_assoc, and_then_ended, handing_then, allowing_then}
+use Rattle.demangle_grammar.proofs.Hearing.{and_then_assoc, and_then_ended, handing_then, allowing_then}
 use Rattle.demangle_v0.proofs.Standing.{above_pop}
 use Rattle.demangle_v0.proofs.PointSteps.{refused}
 

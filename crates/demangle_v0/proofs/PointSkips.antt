@@ -4,13 +4,13 @@ use Rattle.std.proofs.Common.{◌≡◌, ℕ, ◌+◌, ◌≤◌, ◌<◌, Bool,
 use Rattle.std.proofs.lemmas.Bool.{false≢true}
 use Rattle.std.proofs.lemmas.List.{append-nil}
 use Rattle.std.proofs.Math.Seq.{take-append_seam}
-use Rattle.demangle_v0.specs.Events.{Heard, of, and_then, with_looks}
+use Rattle.demangle_grammar.specs.Events.{Heard, of, and_then, with_looks, around}
 use Rattle.demangle_v0.specs.Impls.{skip_point, self_point, is_skip}
-use Rattle.demangle_v0.specs.Items.{Items, a_path, a_type, done, child}
-use Rattle.demangle_v0.specs.Table.{says}
-use Rattle.demangle_v0.specs.Reading.{Place, unit_outcome, run}
-use Rattle.demangle_v0.specs.Running.{allowed_in}
-use Rattle.demangle_v0.specs.Points.{most_frames, pays, heard_bits, way_weight, weights, measure, share_at, share_of, row_owed, reading_owed, none_open, around}
+use Rattle.demangle_grammar.specs.Items.{Items, a_path, a_type, done, child}
+use Rattle.demangle_grammar.specs.Table.{says}
+use Rattle.demangle_grammar.specs.Reading.{Place, unit_outcome, run}
+use Rattle.demangle_grammar.specs.Running.{allowed_in}
+use Rattle.demangle_v0.specs.Points.{most_frames, pays, heard_bits, way_weight, weights, measure, share_at, share_of, row_owed, reading_owed, none_open}
 use Rattle.demangle_v0.specs.PointRuns.{Resumes, Valid, frame_height, Quiet, Reads, ReadOn, Skipped, Skipping, silent_of, own_path, own_heard, state_at, first_looks}
 use Rattle.demangle_v0.specs.declared.points.Point.{Point}
 use Rattle.demangle_v0.specs.declared.points.Point.TheVariants as point
@@ -18,11 +18,11 @@ use Rattle.demangle_v0.specs.declared.points.frames.Frame.{Frame}
 use Rattle.demangle_v0.specs.declared.points.State.{State}
 use Rattle.demangle_v0.specs.declared.points.read.Halt.TheVariants as halt
 use Rattle.demangle_v0.specs.declared.points.read.Reading.{Reading}
-use Rattle.demangle_v0.proofs.Hearing.{allowing_then}
+use Rattle.demangle_grammar.proofs.Hearing.{allowing_then}
 use Rattle.demangle_v0.proofs.Heights.{stands_on}
 use Rattle.demangle_v0.proofs.PointRuns.{allowed_bits, reads_none, resumes_heard, resume_light}
 use Rattle.demangle_v0.proofs.PointWholes.{owed_alone, over_place}
-use Rattle.demangle_v0.proofs.SkippedPaths.{allowances, skip_reads, skip_failed}
+use Rattle.demangle_grammar.proofs.SkippedPaths.{allowances, skip_reads, skip_failed}
 use Rattle.demangle_v0.proofs.PointSteps.{way_light}
 
 -- Where it is read and printing goes on.
@@ -56,7 +56,7 @@ unfolding share_at
 own_is b plain s = owed_alone b plain false point.Path (silent_of s)
 
 skip_items : (b : List ℕ) (plain : Bool) (p : Items) (left n : ℕ) (i : Place)
-    → none_open (of plain true (run (Rattle.demangle_v0.specs.Items.skip p) (around b true left n) i)) ≡ with_looks (allowances (read_own b plain left n i).events) (none_open (of plain true (run p (around b true left n) (read_own b plain left n i).place)))
+    → none_open (of plain true (run (Rattle.demangle_grammar.specs.Items.skip p) (around b true left n) i)) ≡ with_looks (allowances (read_own b plain left n i).events) (none_open (of plain true (run p (around b true left n) (read_own b plain left n i).place)))
 unfolding run
 skip_items b plain p left n None = ap none_open (skip_failed plain true p (around b true left n))
 skip_items b plain p left n (Some i) = ap none_open (skip_reads plain true b left n false n p i)

@@ -3,19 +3,19 @@ use Rattle.std.specs.Prelude.{◌*◌}
 use Rattle.std.proofs.lemmas.Bool.{false≢true}
 use Rattle.std.proofs.lemmas.List.{append-nil}
 use Rattle.std.proofs.Common.{inl, inr, ◌≡◌, ℕ, ◌+◌, ◌-◌, ◌≤◌, Bool, false, Option, Some, None, List, [], ◌∷◌, ◌++◌, Result, Ok, Err, IsOk, refl, arith, sym, ap, ◌∙◌, subst}
-use Rattle.demangle_v0.specs.Items.{Text, Items, Kind, say, child, done}
-use Rattle.demangle_v0.specs.Totals.{total}
-use Rattle.demangle_v0.specs.Events.{Event, allows, allowed_all, Heard, of, events, nothing_heard, with_looks, with_texts}
-use Rattle.demangle_v0.specs.Groups.{Group, texts_of, word_group}
-use Rattle.demangle_v0.specs.Grammar.{word_items, text}
-use Rattle.demangle_v0.specs.Reading.{Place, run, unit_outcome}
-use Rattle.demangle_v0.specs.Points.{Bit, pays, puts, heard_bits, bits_looks, Env, env, Part, part, Turn, turn, mark_texts, then_frame, way_weight, weight_at, weight_of, height_of, count_of, FitsFrame, IsInner, Fits, height_at, pushed_on, share_at, share_of, none_open, around, Went, Faulted, Halted, Kept, DidOn}
+use Rattle.demangle_grammar.specs.Items.{Items, Kind, say, child, done}
+use Rattle.demangle_grammar.specs.Totals.{total}
+use Rattle.demangle_grammar.specs.Events.{Event, allows, allowed_all, Heard, of, events, nothing_heard, with_looks, with_texts, around}
+use Rattle.demangle_words.specs.Groups.{Group, texts_of, word_group}
+use Rattle.demangle_words.specs.Texts.{word_items, text}
+use Rattle.demangle_grammar.specs.Reading.{Place, run, unit_outcome}
+use Rattle.demangle_v0.specs.Points.{Bit, pays, puts, heard_bits, bits_looks, env, part, turn, mark_texts, then_frame, way_weight, weight_at, weight_of, height_of, count_of, FitsFrame, IsInner, Fits, height_at, pushed_on, share_at, share_of, none_open, Went, Kept, DidOn}
 use Rattle.demangle_sink.specs.declared.SinkRefused.{SinkRefused}
-use Rattle.demangle_v0.specs.declared.grammar.Mark.{Mark}
-use Rattle.demangle_v0.specs.declared.grammar.Word.{Word}
-use Rattle.demangle_v0.specs.declared.stretch.Stretch.{Stretch}
-use Rattle.demangle_v0.specs.declared.words.WordRead.{WordRead}
-use Rattle.demangle_v0.specs.declared.words.WordRead.TheVariants as reads
+use Rattle.demangle_words.specs.declared.texts.Mark.{Mark}
+use Rattle.demangle_words.specs.declared.texts.Word.{Word}
+use Rattle.demangle_words.specs.declared.stretch.Stretch.{Stretch}
+use Rattle.demangle_words.specs.declared.read.WordRead.{WordRead}
+use Rattle.demangle_words.specs.declared.read.WordRead.TheVariants as reads
 use Rattle.demangle_v0.specs.declared.points.Point.{Point}
 use Rattle.demangle_v0.specs.declared.points.Point.TheVariants as point
 use Rattle.demangle_v0.specs.declared.points.frames.Frame.{Frame}
@@ -23,7 +23,7 @@ use Rattle.demangle_v0.specs.declared.points.State.{State}
 use Rattle.demangle_v0.specs.declared.points.Stop.{Stop}
 use Rattle.demangle_v0.specs.declared.points.Stop.TheVariants.{Refused, Fault}
 use Rattle.demangle_v0.specs.declared.points.voice.Voice.{Ghosts}
-use Rattle.demangle_v0.proofs.GroupReads.{word_then, grouped, word_read}
+use Rattle.demangle_words.proofs.GroupReads.{word_then, grouped, word_read}
 
 pub bits_append : (out : Bool) (xs ys : List Bit) (h : Heard) → heard_bits out (xs ++ ys) h ≡ heard_bits out xs (heard_bits out ys h)
 bits_append out [] ys h = refl

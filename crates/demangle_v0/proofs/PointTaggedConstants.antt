@@ -4,14 +4,14 @@ use Rattle.std.proofs.Common.{◌≡◌, ℕ, ◌+◌, ◌-◌, ◌≤◌, lengt
 use Prim.Native.Char.{code}
 use Rattle.demangle_symbol.specs.Digits.{is_byte}
 use Rattle.demangle_symbol.specs.Words.{some_or, byte_at}
-use Rattle.demangle_v0.specs.Items.{Items, invalid, done, unit}
-use Rattle.demangle_v0.specs.Events.{Heard, and_then, with_looks, with_texts}
-use Rattle.demangle_v0.specs.Grammar.{text, found}
-use Rattle.demangle_v0.specs.Table.{says, list, tuple, row_of, integer_constant, string, constant, constant_inside, constant_rows}
+use Rattle.demangle_grammar.specs.Items.{Items, invalid, done, unit}
+use Rattle.demangle_grammar.specs.Events.{Heard, and_then, with_looks, with_texts, around}
+use Rattle.demangle_words.specs.Texts.{text, found}
+use Rattle.demangle_grammar.specs.Table.{says, list, tuple, row_of, integer_constant, string, constant, constant_inside, constant_rows}
 use Rattle.demangle_v0.specs.Tags.{constant_kinds, constant_of}
-use Rattle.demangle_v0.specs.Reading.{Place, run}
-use Rattle.demangle_v0.specs.Points.{frame_of, then_frame, share_at, none_open, around, pushed_on, way_weight, height_at, Fits, DidOn}
-use Rattle.demangle_v0.specs.declared.grammar.Mark.TheVariants as mark
+use Rattle.demangle_grammar.specs.Reading.{Place, run}
+use Rattle.demangle_v0.specs.Points.{frame_of, then_frame, share_at, none_open, pushed_on, way_weight, height_at, Fits, DidOn}
+use Rattle.demangle_words.specs.declared.texts.Mark.TheVariants as mark
 use Rattle.demangle_v0.specs.declared.points.Point.{Point}
 use Rattle.demangle_v0.specs.declared.points.Point.TheVariants as point
 use Rattle.demangle_v0.specs.declared.points.frames.Frame.{Frame}
@@ -21,9 +21,9 @@ use Rattle.demangle_v0.specs.declared.points.Stop.TheVariants.{Fault}
 use Rattle.demangle_v0.specs.declared.points.tags.ConstantKind.{ConstantKind}
 use Rattle.demangle_v0.specs.declared.points.tags.ConstantKind.TheVariants as kind
 use Rattle.demangle_v0.specs.declared.points.voice.Voice.{Ghosts}
-use Rattle.demangle_v0.proofs.ConstantReads.{constant_missing, constant_deep, constant_reads, minus_reads, plus_reads, text_reads, reference_reads}
-use Rattle.demangle_v0.proofs.Extended.{extended, IsExtended, extended_reads}
-use Rattle.demangle_v0.proofs.GrammarRows.{rows_of, row_found}
+use Rattle.demangle_grammar.proofs.ConstantReads.{constant_missing, constant_deep, constant_reads, minus_reads, plus_reads, text_reads, reference_reads}
+use Rattle.demangle_grammar.proofs.Extended.{extended, IsExtended, extended_reads}
+use Rattle.demangle_words.proofs.TagRows.{rows_of, row_found}
 use Rattle.demangle_v0.proofs.PointConstants.{moves}
 use Rattle.demangle_v0.proofs.PointSteps.{heard, after, same, faulty, faulty_after}
 

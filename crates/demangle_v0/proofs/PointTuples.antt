@@ -6,22 +6,22 @@ use Prim.Native.String.{String}
 use Rattle.std.proofs.lemmas.Bool.{false≢true}
 use Rattle.std.proofs.lemmas.List.{append-nil}
 use Rattle.demangle_symbol.specs.Digits.{is_byte}
-use Rattle.demangle_v0.specs.declared.grammar.Mark.{Mark}
+use Rattle.demangle_words.specs.declared.texts.Mark.{Mark}
 use Rattle.demangle_v0.specs.declared.points.Point.{Point}
-use Rattle.demangle_v0.specs.Items.{a_type, Items, done, unit}
-use Rattle.demangle_v0.specs.Totals.{total}
-use Rattle.demangle_v0.specs.Events.{Heard, of, and_then, with_looks, with_texts}
-use Rattle.demangle_v0.specs.Grammar.{text}
-use Rattle.demangle_v0.specs.Table.{at_end, more, type_inside, says}
-use Rattle.demangle_v0.specs.Reading.{Place, run}
-use Rattle.demangle_v0.specs.Points.{mark_texts, frame_at, then_frame, share, share_at, share_of, none_open, around, weight_at, height_at, is_inner, Fits, Turn, Env, part, MayRead, Does, PointDoes, Paid, is_list_over, behind_list, list_costs}
-use Rattle.demangle_v0.specs.declared.grammar.Mark.TheVariants as mark
+use Rattle.demangle_grammar.specs.Items.{a_type, Items, done, unit}
+use Rattle.demangle_grammar.specs.Totals.{total}
+use Rattle.demangle_grammar.specs.Events.{Heard, of, and_then, with_looks, with_texts, around}
+use Rattle.demangle_words.specs.Texts.{text}
+use Rattle.demangle_grammar.specs.Table.{at_end, more, type_inside, says}
+use Rattle.demangle_grammar.specs.Reading.{Place, run}
+use Rattle.demangle_v0.specs.Points.{mark_texts, frame_at, then_frame, share, share_at, share_of, none_open, weight_at, height_at, is_inner, Fits, Turn, Env, part, MayRead, Does, PointDoes, Paid, is_list_over, behind_list, list_costs}
+use Rattle.demangle_words.specs.declared.texts.Mark.TheVariants as mark
 use Rattle.demangle_v0.specs.declared.points.Point.TheVariants as point
 use Rattle.demangle_v0.specs.declared.points.frames.Frame.{Frame}
 use Rattle.demangle_v0.specs.declared.points.State.{State}
 use Rattle.demangle_v0.specs.declared.points.voice.Voice.{Ghosts}
-use Rattle.demangle_v0.proofs.Elements.{type_element}
-use Rattle.demangle_v0.proofs.ListReads.{second, child_followed, end_failed, end_over, more_failed, more_over, tuple_on, second_on, more_on}
+use Rattle.demangle_grammar.proofs.Elements.{type_element}
+use Rattle.demangle_grammar.proofs.ListReads.{second, child_followed, end_failed, end_over, more_failed, more_over, tuple_on, second_on, more_on}
 use Rattle.demangle_v0.proofs.PointSteps.{heard, total_both}
 use Rattle.demangle_v0.proofs.PointTurns.{list_short, list_few, leaves}
 

@@ -1,18 +1,17 @@
 -- What points do, from one turn to the next.
 use Rattle.std.specs.Prelude.{◌*◌}
 use Rattle.std.proofs.lemmas.Bool.{false≢true}
-use Rattle.std.proofs.Common.{inl, inr, ◌≡◌, ℕ, ◌+◌, ◌-◌, ◌≤◌, length, Bool, true, false, Option, Some, None, List, [], ◌∷◌, ◌++◌, Result, Ok, Err, IsOk, refl, arith, sym, ap, ◌∙◌}
-use Rattle.demangle_v0.specs.Items.{Items}
-use Rattle.demangle_v0.specs.Totals.{total}
-use Rattle.demangle_v0.specs.Events.{Heard, of, nothing_heard, with_looks, with_texts}
-use Rattle.demangle_v0.specs.Groups.{texts_of}
-use Rattle.demangle_v0.specs.Grammar.{text}
-use Rattle.demangle_v0.specs.Reading.{Place, unit_outcome}
-use Rattle.demangle_v0.specs.Points.{mark_texts, then_frame, way_weight, weight_of, height_of, count_of, FitsFrame, IsInner, Fits, height_at, pushed_on, share_of, Turn, turn, Env, env, Part, part, Went, DidOn, Does, Paid, own_looks, list_costs}
+use Rattle.std.proofs.Common.{inl, inr, ◌≡◌, ℕ, ◌+◌, ◌-◌, ◌≤◌, Bool, false, Option, Some, None, List, [], ◌∷◌, ◌++◌, Result, Ok, Err, IsOk, refl, arith, sym, ap, ◌∙◌}
+use Rattle.demangle_grammar.specs.Totals.{total}
+use Rattle.demangle_grammar.specs.Events.{Heard, of, nothing_heard, with_looks, with_texts, around}
+use Rattle.demangle_words.specs.Groups.{texts_of}
+use Rattle.demangle_words.specs.Texts.{text}
+use Rattle.demangle_grammar.specs.Reading.{Place, unit_outcome}
+use Rattle.demangle_v0.specs.Points.{mark_texts, then_frame, way_weight, weight_of, height_of, count_of, FitsFrame, IsInner, Fits, height_at, pushed_on, share_of, Turn, Env, env, part, DidOn, Does, Paid, own_looks, list_costs}
 use Rattle.demangle_sink.specs.declared.SinkRefused.{SinkRefused}
-use Rattle.demangle_v0.specs.declared.grammar.Mark.{Mark}
-use Rattle.demangle_v0.specs.declared.grammar.Mark.TheVariants as mark
-use Rattle.demangle_v0.specs.declared.stretch.Stretch.{Stretch}
+use Rattle.demangle_words.specs.declared.texts.Mark.{Mark}
+use Rattle.demangle_words.specs.declared.texts.Mark.TheVariants as mark
+use Rattle.demangle_words.specs.declared.stretch.Stretch.{Stretch}
 use Rattle.demangle_v0.specs.declared.points.Point.{Point}
 use Rattle.demangle_v0.specs.declared.points.frames.Frame.{Frame}
 use Rattle.demangle_v0.specs.declared.points.State.{State}
@@ -21,13 +20,12 @@ use Rattle.demangle_v0.specs.declared.points.Stop.TheVariants.{Refused, Fault}
 use Rattle.demangle_v0.specs.declared.points.voice.Voice.{Ghosts}
 use Rattle.demangle_v0.proofs.PointSteps.{looks_both, total_both, kept_none, refused, heard, child_last, group_then, group_so, last_word_so}
 use Rattle.demangle_v0.proofs.WordLooks.{group_short}
-use Rattle.demangle_v0.specs.Grammar.{word_items}
-use Rattle.demangle_v0.specs.Items.{Kind, child, done}
-use Rattle.demangle_v0.specs.Groups.{Group, word_group}
-use Rattle.demangle_v0.specs.Points.{share_at, RestDoes, none_open, around}
-use Rattle.demangle_v0.specs.declared.grammar.Word.{Word}
-use Rattle.demangle_v0.specs.declared.words.WordRead.{WordRead}
-use Rattle.demangle_v0.specs.declared.words.WordRead.TheVariants as reads
+use Rattle.demangle_words.specs.Texts.{word_items}
+use Rattle.demangle_grammar.specs.Items.{Kind, child, done}
+use Rattle.demangle_words.specs.Groups.{Group, word_group}
+use Rattle.demangle_v0.specs.Points.{share_at, RestDoes, none_open}
+use Rattle.demangle_words.specs.declared.texts.Word.{Word}
+use Rattle.demangle_words.specs.declared.read.WordRead.TheVariants as reads
 use Rattle.demangle_v0.specs.declared.points.Point.TheVariants as point
 
 -- the unit is over

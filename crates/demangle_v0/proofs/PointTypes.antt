@@ -7,16 +7,16 @@ use Prim.Native.Char.{code}
 use Prim.Native.String.{String}
 use Rattle.demangle_symbol.specs.Digits.{is_byte}
 use Rattle.demangle_symbol.specs.Words.{then_if_some}
-use Rattle.demangle_v0.specs.Items.{Text, Kind, a_type, a_constant, say, child, done}
-use Rattle.demangle_v0.specs.Totals.{total}
-use Rattle.demangle_v0.specs.Events.{Heard, of, events, with_looks, with_texts}
-use Rattle.demangle_v0.specs.Grammar.{text, found, basic_marks}
-use Rattle.demangle_v0.specs.Table.{says_if, type_inside, type_rows, is_among, row_text, basic_types}
+use Rattle.demangle_grammar.specs.Items.{Text, Kind, a_type, a_constant, say, child, done}
+use Rattle.demangle_grammar.specs.Totals.{total}
+use Rattle.demangle_grammar.specs.Events.{Heard, of, events, with_looks, with_texts, around}
+use Rattle.demangle_words.specs.Texts.{text, found, basic_marks}
+use Rattle.demangle_grammar.specs.Table.{says_if, type_inside, type_rows, is_among, row_text, basic_types}
 use Rattle.demangle_v0.specs.Tags.{type_kinds, type_of, reference_to, lifetime_before}
-use Rattle.demangle_v0.specs.Reading.{Place, unit_outcome, run}
-use Rattle.demangle_v0.specs.Points.{Turn, Env, RestDoes, weight_at, frame_of, then_frame, share_at, none_open, around, mark_texts, pushed_on, way_weight, weight_of, height_at, height_of, count_of, Fits, FitsFrame, IsInner, DidOn, behind_reference, lifetime_point}
-use Rattle.demangle_v0.specs.declared.grammar.Mark.{Mark}
-use Rattle.demangle_v0.specs.declared.grammar.Mark.TheVariants as mark
+use Rattle.demangle_grammar.specs.Reading.{Place, unit_outcome, run}
+use Rattle.demangle_v0.specs.Points.{Turn, Env, RestDoes, weight_at, frame_of, then_frame, share_at, none_open, mark_texts, pushed_on, way_weight, weight_of, height_at, height_of, count_of, Fits, FitsFrame, IsInner, DidOn, behind_reference, lifetime_point}
+use Rattle.demangle_words.specs.declared.texts.Mark.{Mark}
+use Rattle.demangle_words.specs.declared.texts.Mark.TheVariants as mark
 use Rattle.demangle_v0.specs.declared.points.tags.TypeKind.{TypeKind}
 use Rattle.demangle_v0.specs.declared.points.tags.TypeKind.TheVariants as kind
 use Rattle.demangle_v0.specs.declared.points.Point.{Point}
@@ -26,10 +26,10 @@ use Rattle.demangle_v0.specs.declared.points.State.{State}
 use Rattle.demangle_v0.specs.declared.points.Stop.{Stop}
 use Rattle.demangle_v0.specs.declared.points.Stop.TheVariants.{Fault}
 use Rattle.demangle_v0.specs.declared.points.voice.Voice.{Ghosts}
-use Rattle.demangle_v0.proofs.GrammarRows.{rows_of, basic_found}
-use Rattle.demangle_v0.proofs.PointSteps.{heard, mark_goes, child_last, steps, after, faulty_after}
+use Rattle.demangle_words.proofs.TagRows.{rows_of, basic_found}
+use Rattle.demangle_v0.proofs.PointSteps.{heard, child_last, steps, after, faulty_after}
 use Rattle.demangle_v0.proofs.PointTurns.{marks, leaves}
-use Rattle.demangle_v0.proofs.TypeReads.{row_at, splat_reads, type_reads, tag_missing, basic_reads, type_deep, constructed_reads, path_type_reads, row_reads}
+use Rattle.demangle_grammar.proofs.TypeReads.{row_at, splat_reads, type_reads, tag_missing, basic_reads, type_deep, constructed_reads, path_type_reads, row_reads}
 
 module _ {V : Type 0} (voice : Ghosts V) (b : List ℕ) (plain : Bool) where
   abbrev pub heard_at : Point → Bool → ℕ → ℕ → ℕ → Place → Bool → Heard

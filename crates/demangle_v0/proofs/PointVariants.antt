@@ -2,21 +2,21 @@
 use Rattle.std.specs.Prelude.{◌*◌, if◌then◌else◌}
 use Rattle.std.proofs.Common.{◌≡◌, ℕ, ◌+◌, ◌-◌, ◌≤◌, length, Bool, true, false, Option, Some, None, List, [], ◌∷◌, Result, Ok, Err, IsOk, refl, arith, sym, ap, ◌∙◌}
 use Rattle.demangle_symbol.specs.Words.{some_or, byte_at}
-use Rattle.demangle_v0.specs.Items.{Items, invalid, done, say}
-use Rattle.demangle_v0.specs.Totals.{total}
-use Rattle.demangle_v0.specs.Events.{Heard, and_then, with_looks, with_texts}
-use Rattle.demangle_v0.specs.Grammar.{text, found}
-use Rattle.demangle_v0.specs.Groups.{texts_of, word_group}
-use Rattle.demangle_v0.specs.Table.{says, list, row_of, variant_rows, constant_inside, field}
+use Rattle.demangle_grammar.specs.Items.{Items, invalid, done, say}
+use Rattle.demangle_grammar.specs.Totals.{total}
+use Rattle.demangle_grammar.specs.Events.{Heard, and_then, with_looks, with_texts, around}
+use Rattle.demangle_words.specs.Texts.{text, found}
+use Rattle.demangle_words.specs.Groups.{texts_of, word_group}
+use Rattle.demangle_grammar.specs.Table.{says, list, row_of, variant_rows, constant_inside, field}
 use Rattle.demangle_v0.specs.Tags.{variant_kinds, variant_of, closes}
-use Rattle.demangle_v0.specs.Reading.{Place, run}
-use Rattle.demangle_v0.specs.Points.{frame_of, then_frame, share_at, none_open, around, pushed_on, way_weight, height_at, Fits, DidOn}
+use Rattle.demangle_grammar.specs.Reading.{Place, run}
+use Rattle.demangle_v0.specs.Points.{frame_of, then_frame, share_at, none_open, pushed_on, way_weight, height_at, Fits, DidOn}
 use Rattle.demangle_sink.specs.declared.SinkRefused.{SinkRefused}
-use Rattle.demangle_v0.specs.declared.grammar.Mark.{Mark}
-use Rattle.demangle_v0.specs.declared.grammar.Mark.TheVariants as mark
-use Rattle.demangle_v0.specs.declared.grammar.Word.TheVariants as word
-use Rattle.demangle_v0.specs.declared.stretch.Stretch.{Stretch}
-use Rattle.demangle_v0.specs.declared.words.WordRead.TheVariants as reads
+use Rattle.demangle_words.specs.declared.texts.Mark.{Mark}
+use Rattle.demangle_words.specs.declared.texts.Mark.TheVariants as mark
+use Rattle.demangle_words.specs.declared.texts.Word.TheVariants as word
+use Rattle.demangle_words.specs.declared.stretch.Stretch.{Stretch}
+use Rattle.demangle_words.specs.declared.read.WordRead.TheVariants as reads
 use Rattle.demangle_v0.specs.declared.points.Point.{Point}
 use Rattle.demangle_v0.specs.declared.points.Point.TheVariants as point
 use Rattle.demangle_v0.specs.declared.points.frames.Frame.{Frame}
@@ -26,9 +26,9 @@ use Rattle.demangle_v0.specs.declared.points.Stop.TheVariants.{Refused, Fault}
 use Rattle.demangle_v0.specs.declared.points.tags.VariantKind.{VariantKind}
 use Rattle.demangle_v0.specs.declared.points.tags.VariantKind.TheVariants as kind
 use Rattle.demangle_v0.specs.declared.points.voice.Voice.{Ghosts}
-use Rattle.demangle_v0.proofs.ConstantReads.{variant_failed, variant_missing, variant_reads}
-use Rattle.demangle_v0.proofs.Extended.{extended, IsExtended, extended_reads}
-use Rattle.demangle_v0.proofs.GrammarRows.{rows_of, row_found}
+use Rattle.demangle_grammar.proofs.ConstantReads.{variant_failed, variant_missing, variant_reads}
+use Rattle.demangle_grammar.proofs.Extended.{extended, IsExtended, extended_reads}
+use Rattle.demangle_words.proofs.TagRows.{rows_of, row_found}
 use Rattle.demangle_v0.proofs.PointConstants.{moves}
 use Rattle.demangle_v0.proofs.PointFunctions.{word_on, word_on_refused, word_fails}
 use Rattle.demangle_v0.proofs.PointSteps.{heard, after, refused, faulty, faulty_after}
@@ -121,7 +121,7 @@ module _ {V : Type 0} (voice : Ghosts V) (b : List ℕ) (plain : Bool) where
 
   -- Fields.
 
-  abbrev group_of : ℕ → ℕ → Place → Rattle.demangle_v0.specs.Groups.Group
+  abbrev group_of : ℕ → ℕ → Place → Rattle.demangle_words.specs.Groups.Group
   group_of c n i = word_group b word.FieldName c voice.loud n i
 
   abbrev field_at : Bool → ℕ → ℕ → ℕ → Place → Bool → Heard

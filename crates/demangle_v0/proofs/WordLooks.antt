@@ -4,7 +4,6 @@ use Rattle.std.proofs.Common.{◌≡◌, ℕ, ◌+◌, ◌-◌, ◌≤◌, lengt
 use Rattle.std.specs.Prelude.{option_map}
 use Prim.Native.Char.{code}
 use lib.Utf8.{scalar}
-use Rattle.std.proofs.lemmas.Bool.{leb-true}
 use Rattle.demangle_symbol.specs.Digits.{is_byte}
 use Rattle.demangle_symbol.specs.Words.{Read, integer_at, optional_at, backref_at, identifier_at, nibbles_at, number_of}
 use Rattle.demangle_symbol.specs.Idents.{ident_at}
@@ -12,20 +11,20 @@ use Rattle.demangle_symbol.specs.Nibbles.{hex_at}
 use Rattle.demangle_symbol.specs.Names.{is_empty}
 use Rattle.demangle_symbol.specs.Literals.{string_of}
 use Rattle.demangle_symbol.proofs.Counts.{Placed, integer_placed, optional_placed, backref_placed, nibbles_placed, identifier_placed}
-use Rattle.demangle_v0.specs.Totals.{total}
-use Rattle.demangle_v0.specs.Groups.{Group, goes, faulty, byte_group, dyn_group, head_group, bytes_in, behind_word, named_group, abi_named, abi_group, if_in_force, truth_stretch, character_stretch, literal_stretch, word_at, word_group}
+use Rattle.demangle_grammar.specs.Totals.{total}
+use Rattle.demangle_words.specs.Groups.{Group, goes, faulty, byte_group, dyn_group, head_group, bytes_in, behind_word, named_group, abi_named, abi_group, if_in_force, truth_stretch, character_stretch, literal_stretch, word_at, word_group}
 use Rattle.demangle_v0.specs.Points.{own_by, own_looks}
-use Rattle.demangle_v0.specs.Reading.{Place}
-use Rattle.demangle_v0.specs.Serving.{refer, reference_read}
+use Rattle.demangle_grammar.specs.Reading.{Place}
+use Rattle.demangle_words.specs.Serving.{refer, reference_read}
 use Rattle.demangle_symbol.specs.declared.cursor.Part.{Part}
 use Rattle.demangle_symbol.specs.declared.cursor.ident.Ident.{Ident}
-use Rattle.demangle_v0.specs.declared.grammar.Word.{Word}
-use Rattle.demangle_v0.specs.declared.grammar.Word.TheVariants as word
-use Rattle.demangle_v0.specs.declared.stretch.Stretch.{Stretch}
-use Rattle.demangle_v0.specs.declared.stretch.Stretch.TheVariants.{Nothing, Fixed, FieldName, Lifetime, LifetimeFault, DynLifetime, DynLifetimeFault, FunctionHead, Number, Character, Literal, BindingName}
-use Rattle.demangle_v0.specs.declared.stretch.Abi.TheVariants as abi
-use Rattle.demangle_v0.specs.declared.grammar.Mark.TheVariants as mark
-use Rattle.demangle_v0.proofs.Complete.{there_placed}
+use Rattle.demangle_words.specs.declared.texts.Word.{Word}
+use Rattle.demangle_words.specs.declared.texts.Word.TheVariants as word
+use Rattle.demangle_words.specs.declared.stretch.Stretch.{Stretch}
+use Rattle.demangle_words.specs.declared.stretch.Stretch.TheVariants.{Nothing, Fixed, FieldName, Lifetime, LifetimeFault, DynLifetime, DynLifetimeFault, FunctionHead, Number, Character, BindingName}
+use Rattle.demangle_words.specs.declared.stretch.Abi.TheVariants as abi
+use Rattle.demangle_words.specs.declared.texts.Mark.TheVariants as mark
+use Rattle.demangle_grammar.proofs.Complete.{there_placed}
 
 mapped : {A B : Type 0} (low : ℕ) (s : List ℕ) (r : Read A) (g : A × ℕ → B) → Placed low s r → Placed low s (option_map (λ r. (g r, r.1)) r)
 mapped low s None g h = tt

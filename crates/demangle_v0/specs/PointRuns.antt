@@ -1,16 +1,16 @@
 -- Internal: no public contract cites this.
 -- Steps on a whole row of frames.
 use Rattle.std.specs.Prelude.{◌≡◌, ℕ, ◌+◌, ◌≤◌, ◌<◌, min, Bool, true, false, Option, Some, None, List, [], ◌∷◌, ◌++◌, length, Result, Ok, Err, IsOk}
-use Rattle.demangle_v0.specs.Events.{Heard, with_texts}
-use Rattle.demangle_v0.specs.Grammar.{text}
+use Rattle.demangle_grammar.specs.Events.{Heard, with_texts}
+use Rattle.demangle_words.specs.Texts.{text}
 use Rattle.demangle_v0.specs.Heights as heights
 use Rattle.demangle_v0.specs.Impls.{skip_point, self_point}
-use Rattle.demangle_v0.specs.declared.grammar.Mark.{Mark}
+use Rattle.demangle_words.specs.declared.texts.Mark.{Mark}
 use Rattle.demangle_sink.specs.declared.SinkRefused.{SinkRefused}
 use Rattle.demangle_v0.specs.Points.{Bit, pays, puts, heard_bits, bits_looks, env, part, turn, Went, Halted, Kept, AllInner, Fits, share_of, reading_owed, weight_at, height_at, most_frames, resumed_of}
-use Rattle.demangle_v0.specs.Running.{allowed_in}
-use Rattle.demangle_v0.specs.Reading.{Place, max_depth}
-use Rattle.demangle_v0.specs.Items.{Text}
+use Rattle.demangle_grammar.specs.Running.{allowed_in}
+use Rattle.demangle_grammar.specs.Reading.{Place, max_depth}
+use Rattle.demangle_grammar.specs.Items.{Text}
 use Rattle.demangle_sink.specs.Limit.{Prints}
 use Rattle.demangle_sink.specs.declared.TextSink.{Ghosts as Sinks}
 use Rattle.demangle_sink.specs.declared.limit.SizeLimitedFmtAdapter.{SizeLimitedFmtAdapter}

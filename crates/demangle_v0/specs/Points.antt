@@ -3,18 +3,18 @@
 use Rattle.std.specs.Prelude.{◌≡◌, ℕ, ◌+◌, ◌-◌, ◌*◌, ◌^◌, ◌<◌, ◌≤◌, ◌==◌, nat_le, ◌⊎◌, if◌then◌else◌, Bool, true, false, Option, Some, None, List, [], ◌∷◌, ◌++◌, length, IsOk, IsAscii, Result, Ok, Err}
 use Prim.Native.Char.{code}
 use Rattle.demangle_symbol.specs.Digits.{is_byte}
-use Rattle.demangle_v0.specs.Items.{Text, Items, a_path, a_type, a_constant, a_pattern, a_trait_path, done, invalid, byte, integer, next, sound, until_end, unit, child, skip, lifetime, opens, dyn_trait, bindings, identifier}
-use Rattle.demangle_v0.specs.Table.{says, says_if, at_end, list, more, tuple, type_inside, constant_inside, argument, in_namespace, in_binder, function, binding_value, type_tagged, integer_constant, string, field, variant, says_name}
-use Rattle.demangle_v0.specs.Reading.{Place, Surroundings, run, unit_outcome, level_of, levels, max_depth}
-use Rattle.demangle_v0.specs.Totals.{total}
-use Rattle.demangle_v0.specs.Running.{allowed_in}
-use Rattle.demangle_v0.specs.Events.{Heard, of, nothing_heard, and_then, with_looks, with_texts}
-use Rattle.demangle_v0.specs.Grammar.{text}
-use Rattle.demangle_v0.specs.Groups.{texts_of}
+use Rattle.demangle_grammar.specs.Items.{Text, Items, a_path, a_type, a_constant, a_pattern, a_trait_path, done, invalid, byte, integer, next, sound, until_end, unit, child, skip, lifetime, opens, dyn_trait, bindings, identifier}
+use Rattle.demangle_grammar.specs.Table.{says, says_if, at_end, list, more, tuple, type_inside, constant_inside, argument, in_namespace, in_binder, function, binding_value, type_tagged, integer_constant, string, field, variant, says_name}
+use Rattle.demangle_grammar.specs.Reading.{Place, run, unit_outcome, max_depth}
+use Rattle.demangle_grammar.specs.Totals.{total}
+use Rattle.demangle_grammar.specs.Running.{allowed_in}
+use Rattle.demangle_grammar.specs.Events.{Heard, of, around, nothing_heard, and_then, with_looks, with_texts}
+use Rattle.demangle_words.specs.Texts.{text}
+use Rattle.demangle_words.specs.Groups.{texts_of}
 use Rattle.demangle_v0.specs.Tags.{lifetime_before}
-use Rattle.demangle_v0.specs.declared.grammar.Mark.{Mark}
-use Rattle.demangle_v0.specs.declared.stretch.Stretch.{Stretch}
-use Rattle.demangle_v0.specs.declared.stretch.Stretch.TheVariants.{SpacedLifetime, SpacedFault}
+use Rattle.demangle_words.specs.declared.texts.Mark.{Mark}
+use Rattle.demangle_words.specs.declared.stretch.Stretch.{Stretch}
+use Rattle.demangle_words.specs.declared.stretch.Stretch.TheVariants.{SpacedLifetime, SpacedFault}
 use Rattle.demangle_v0.specs.declared.points.Point.{Point}
 use Rattle.demangle_v0.specs.declared.points.Point.TheVariants as point
 use Rattle.demangle_v0.specs.declared.points.frames.Frame.{Frame}
@@ -130,10 +130,6 @@ behind_reference is_mut = if is_mut then point.Mutable else point.«Type»
 -- what the lifetime of an index above 0 hands over, and the place behind it
 abbrev pub spaced_lifetime : ℕ → ℕ → ℕ → Stretch × Place
 spaced_lifetime lifetimes k j = if nat_le k lifetimes then (SpacedLifetime (lifetimes - k), Some j) else (SpacedFault, None)
-
--- what a unit at this depth is read in, printed or not
-abbrev pub around : List ℕ → Bool → ℕ → ℕ → Surroundings
-around b out left lifetimes = record { symbol = b; printed = out; here = level_of b (levels b left); deeper = levels b left; lifetimes = lifetimes }
 
 -- no bracket of a dyn trait path is open behind it
 abbrev pub none_open : Heard → Heard

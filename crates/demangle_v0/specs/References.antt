@@ -1,10 +1,10 @@
 -- Internal: no public contract cites this.
 -- The units to which references lead.
 use Rattle.std.specs.Prelude.{◌≡◌, ℕ, ◌+◌, ◌*◌, ◌≤◌, Bool, true, false, Some, List}
-use Rattle.demangle_v0.specs.Events.{Heard, of}
-use Rattle.demangle_v0.specs.Items.{Kind, target}
-use Rattle.demangle_v0.specs.Reading.{level_of, levels, run}
-use Rattle.demangle_v0.specs.Points.{Env, Part, part, around, none_open, share_at, weight_at, height_at, Fits}
+use Rattle.demangle_grammar.specs.Events.{Heard, of, around}
+use Rattle.demangle_grammar.specs.Items.{Kind, target}
+use Rattle.demangle_grammar.specs.Reading.{level_of, levels, run}
+use Rattle.demangle_v0.specs.Points.{Env, Part, part, none_open, share_at, weight_at, height_at, Fits}
 use Rattle.demangle_v0.specs.declared.points.Point.{Point}
 use Rattle.demangle_v0.specs.declared.points.State.{State}
 use Rattle.demangle_v0.specs.declared.points.Point.TheVariants as point

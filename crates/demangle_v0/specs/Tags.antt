@@ -3,8 +3,8 @@
 use Rattle.std.specs.Prelude.{ℕ, Bool, true, false, if◌then◌else◌, ◌==◌, List, [], ◌∷◌}
 use Prim.Native.Char.{code}
 use Prim.Native.String.{String}
-use Rattle.demangle_v0.specs.Items.{Items, a_type, a_constant, a_pattern, done, invalid, integer, next, unit, child, target, lifetime, dyn_trait}
-use Rattle.demangle_v0.specs.Table.{path, says, says_if, list, tuple, type_inside, in_binder, function, binding_value, constant, integer_constant, variant, pattern_of}
+use Rattle.demangle_grammar.specs.Items.{Items, a_type, a_constant, a_pattern, done, invalid, integer, next, unit, child, target, lifetime, dyn_trait}
+use Rattle.demangle_grammar.specs.Table.{path, says, says_if, list, tuple, type_inside, in_binder, function, binding_value, constant, integer_constant, variant, pattern_of}
 use Rattle.demangle_v0.specs.declared.points.tags.PathKind.{PathKind}
 use Rattle.demangle_v0.specs.declared.points.tags.PathKind.TheVariants as kind
 use Rattle.demangle_v0.specs.declared.points.tags.TypeKind.{TypeKind}

@@ -2,18 +2,18 @@
 //! frame stack, and answers where it goes on.
 ghost use Rattle.std.specs.Prelude.{true, ◌≡◌, ◌+◌, ◌-◌, ◌<◌, ◌≤◌, None, Ok, Err, IsOk, IsAscii, List};
 ghost use Rattle.demangle_v0.specs.Points.{MaySpeak, RestDoes, env, turn};
-ghost use Rattle.demangle_v0.specs.Totals.{total};
-ghost use Rattle.demangle_v0.specs.Groups.{word_group, read_stretch, looks_later};
-ghost use Rattle.demangle_v0.specs.Serving.{LiesIn};
-ghost use Rattle.demangle_v0.specs.Table.{path};
-ghost use Rattle.demangle_v0.specs.Items.{done};
-ghost use Rattle.demangle_v0.specs.Grammar.{word_items};
+ghost use Rattle.demangle_grammar.specs.Totals.{total};
+ghost use Rattle.demangle_words.specs.Groups.{word_group, read_stretch, looks_later};
+ghost use Rattle.demangle_words.specs.Serving.{LiesIn};
+ghost use Rattle.demangle_grammar.specs.Table.{path};
+ghost use Rattle.demangle_grammar.specs.Items.{done};
+ghost use Rattle.demangle_words.specs.Texts.{word_items};
 
-use crate::grammar::{Mark, Word};
 use crate::points::frames::Frame;
 use crate::points::voice::Voice;
-use crate::words::{WordRead, read_word};
 use demangle_symbol::cursor::{Looks, Symbol};
+use demangle_words::read::{WordRead, read_word};
+use demangle_words::texts::{Mark, Word};
 
 mod arguments;
 mod bindings;

@@ -1,16 +1,16 @@
 //! The points of the arguments of a path.
 ghost use Rattle.std.specs.Prelude.{◌≡◌, ℕ, ◌-◌, ◌+◌, ◌<◌, ◌≤◌, List, Bool, false, Ok, Some, length};
 ghost use Rattle.demangle_v0.specs.Arguments.{arguments_point, argument_point, argument_place, argument_costs};
-ghost use Rattle.demangle_v0.specs.Totals.{total};
+ghost use Rattle.demangle_grammar.specs.Totals.{total};
 ghost use Rattle.demangle_v0.specs.declared.points.frames.Frame.{Frame};
 ghost use Rattle.demangle_v0.specs.Points.{own_by, Did, Fits};
 
-use crate::grammar::Mark;
 use crate::points::frames::FrameStack;
 use crate::points::functions::separator;
 use crate::points::voice::Voice;
 use crate::points::{Point, State};
 use demangle_symbol::cursor::{Looks, Symbol};
+use demangle_words::texts::Mark;
 
 /// The arguments of a path, behind it.
 #[inline(always)]

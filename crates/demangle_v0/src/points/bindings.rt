@@ -3,12 +3,12 @@ ghost use Rattle.std.specs.Prelude.{◌≡◌, ◌+◌, ◌-◌, ◌*◌, ◌<�
 ghost use Rattle.demangle_v0.specs.PointContracts.{heard_of};
 ghost use Rattle.demangle_v0.specs.Points.{own_by, Did, DidOn, Fits, bindings_left};
 
-use crate::grammar::{Mark, Word};
 use crate::points::frames::{Frame, FrameStack};
 use crate::points::voice::Voice;
 use crate::points::{Point, State, Stop, word_at};
-use crate::words::WordRead;
 use demangle_symbol::cursor::{Looks, Symbol};
+use demangle_words::read::WordRead;
+use demangle_words::texts::{Mark, Word};
 
 /// What bindings print at their end.
 #[inline(always)]

@@ -2,13 +2,13 @@
 ghost use Rattle.std.specs.Prelude.{true, ◌≡◌, ◌*◌, ◌+◌, ◌-◌, ◌<◌, ◌≤◌, Some, None, Ok, length, Bool};
 ghost use Rattle.demangle_v0.specs.ConstantLists.{first_point, second_point, next_point, element_point, close_of};
 ghost use Rattle.demangle_v0.specs.Points.{own_by, Did, DidOn, share_of, Fits};
-ghost use Rattle.demangle_v0.specs.Table.{constant};
+ghost use Rattle.demangle_grammar.specs.Table.{constant};
 
-use crate::grammar::Mark;
 use crate::points::frames::FrameStack;
 use crate::points::voice::Voice;
 use crate::points::{Point, State};
 use demangle_symbol::cursor::{Looks, Symbol};
+use demangle_words::texts::Mark;
 
 /// What constants stand in, one behind the other.
 #[derive(Clone, Copy)]

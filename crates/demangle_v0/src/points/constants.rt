@@ -1,17 +1,17 @@
 //! The points of constants.
 ghost use Rattle.std.specs.Prelude.{true, ◌≡◌, ◌==◌, ◌*◌, ℕ, ◌+◌, ◌-◌, ◌<◌, ◌≤◌, Some, None, Ok, Err, IsOk, length, IsAscii, List, Bool, if◌then◌else◌};
 ghost use Rattle.demangle_v0.specs.Points.{own_by, Did, DidOn, pushed_on, Fits};
-ghost use Rattle.demangle_v0.specs.Table.{constant};
+ghost use Rattle.demangle_grammar.specs.Table.{constant};
 ghost use Rattle.demangle_v0.specs.PointContracts.{DidFree, brace_behind, heard_of};
 ghost use Rattle.demangle_v0.specs.Tags.{constant_of};
 
-use crate::grammar::{Mark, Word};
 use crate::points::frames::{Frame, FrameStack};
 use crate::points::references::follow;
 use crate::points::tags::{ConstantKind, constant_kind};
 use crate::points::voice::Voice;
 use crate::points::{Point, State, Stop, last_word};
 use demangle_symbol::cursor::{Looks, Symbol};
+use demangle_words::texts::{Mark, Word};
 
 /// What a mutable reference refers to, behind its tag.
 #[inline(always)]

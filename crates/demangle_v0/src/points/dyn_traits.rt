@@ -4,7 +4,6 @@ ghost use Rattle.demangle_v0.specs.PointContracts.{heard_of};
 ghost use Rattle.demangle_v0.specs.Points.{own_by, MaySpeak, PointDoes, env, turn, Did, DidOn, Fits};
 ghost use Rattle.demangle_v0.specs.DynTraits.{dyn_type};
 
-use crate::grammar::{Mark, Word};
 use crate::points::arguments::argument;
 use crate::points::frames::{Frame, FrameStack};
 use crate::points::functions::{name_lifetimes, separator};
@@ -13,6 +12,7 @@ use crate::points::tuples::is_over;
 use crate::points::voice::Voice;
 use crate::points::{Point, State, Stop, last_word};
 use demangle_symbol::cursor::{Looks, Symbol};
+use demangle_words::texts::{Mark, Word};
 
 /// A dyn type, behind its tag.
 #[inline(always)]

@@ -1,19 +1,19 @@
 //! The points of function types, and binders.
 ghost use Rattle.std.specs.Prelude.{◌≡◌, ℕ, ◌+◌, ◌-◌, ◌^◌, ◌<◌, ◌≤◌, List, Bool, Some, None, Ok, Err, IsOk, OnOk, IsAscii, length, true, false, if◌then◌else◌, []};
-ghost use Rattle.demangle_v0.specs.Binders.{binder_texts};
-ghost use Rattle.demangle_v0.specs.Events.{of};
-ghost use Rattle.demangle_v0.specs.Groups.{texts_of};
+ghost use Rattle.demangle_grammar.specs.Binders.{binder_texts};
+ghost use Rattle.demangle_grammar.specs.Events.{of};
+ghost use Rattle.demangle_words.specs.Groups.{texts_of};
 ghost use Rattle.demangle_v0.specs.Points.{own_by, Did, Fits, most_lifetimes};
 
-use crate::grammar::{Mark, Word};
 use crate::points::frames::{Frame, FrameStack};
 use crate::points::tuples::is_over;
 use crate::points::voice::Voice;
 use crate::points::{Point, State, Stop, word_at};
-use crate::stretch::{Abi, Stretch};
-use crate::words::WordRead;
 use demangle_sink::SinkRefused;
 use demangle_symbol::cursor::{Looks, Symbol};
+use demangle_words::read::WordRead;
+use demangle_words::stretch::{Abi, Stretch};
+use demangle_words::texts::{Mark, Word};
 
 /// The lifetimes of a binder come into force, and are handed over.
 #[inline(always)]

@@ -3,11 +3,11 @@ ghost use Rattle.std.specs.Prelude.{◌≡◌, ℕ, ◌+◌, ◌-◌, ◌*◌, �
 ghost use Rattle.demangle_v0.specs.Impls.{impl_items, skip_point, self_point};
 ghost use Rattle.demangle_v0.specs.Points.{Did, Fits, PointDoes, RestDoes, env, turn};
 
-use crate::grammar::Mark;
 use crate::points::frames::{Frame, FrameStack};
 use crate::points::voice::Voice;
 use crate::points::{Point, State, Stop};
 use demangle_symbol::cursor::{Looks, Symbol};
+use demangle_words::texts::Mark;
 
 /// An impl's path, behind its `M`, or its `X` where the impl is of a trait.
 #[inline(always)]

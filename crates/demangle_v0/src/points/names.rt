@@ -1,15 +1,15 @@
 //! The names of paths.
 ghost use Rattle.std.specs.Prelude.{◌≡◌, None, List};
 ghost use Rattle.demangle_v0.specs.Points.{MaySpeak, PointDoes, RestDoes, env, turn};
-ghost use Rattle.demangle_v0.specs.Table.{path};
+ghost use Rattle.demangle_grammar.specs.Table.{path};
 ghost use Rattle.demangle_v0.specs.declared.points.frames.Frame.{Frame};
 
-use crate::grammar::Mark;
 use crate::points::voice::Voice;
 use crate::points::{Point, State, Stop};
-use crate::stretch::Stretch;
-use crate::words::names::numbered_name;
 use demangle_symbol::cursor::{Looks, Symbol};
+use demangle_words::read::names::numbered_name;
+use demangle_words::stretch::Stretch;
+use demangle_words::texts::Mark;
 
 /// The name of a crate, with which its path ends.
 #[inline(always)]

@@ -2,10 +2,9 @@
 ghost use Rattle.std.specs.Prelude.{◌≡◌, ℕ, ◌+◌, ◌≤◌, Ok, Bool, List};
 ghost use Rattle.demangle_v0.specs.Points.{MayRead, MayStep, PointDoes, RestDoes, env, turn};
 ghost use Rattle.demangle_v0.specs.PointRuns.{first_looks};
-ghost use Rattle.demangle_v0.specs.Table.{path};
+ghost use Rattle.demangle_grammar.specs.Table.{path};
 ghost use Rattle.demangle_v0.specs.Tags.{path_of};
 
-use crate::grammar::Mark;
 use crate::points::frames::{Frame, FrameStack};
 use crate::points::impls::{impl_path, self_type};
 use crate::points::names::crate_name;
@@ -14,6 +13,7 @@ use crate::points::tags::{PathKind, path_kind};
 use crate::points::voice::Voice;
 use crate::points::{Point, State, Stop};
 use demangle_symbol::cursor::{Looks, Symbol};
+use demangle_words::texts::Mark;
 
 /// A path of names, behind its `N`.
 #[inline(always)]

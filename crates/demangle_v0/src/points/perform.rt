@@ -4,7 +4,6 @@ ghost use Rattle.demangle_v0.specs.Impls.{is_skip};
 ghost use Rattle.demangle_v0.specs.Points.{own_by, Did, Fits};
 ghost use Rattle.demangle_v0.specs.PointRuns.{first_looks};
 
-use crate::grammar::{Mark, Word};
 use crate::points::arguments::{arguments, generic, open_arguments};
 use crate::points::bindings::{binding_name, bindings, bound, open_bindings};
 use crate::points::constant_lists::{
@@ -34,6 +33,7 @@ use crate::points::variants::{field, field_colon, variant};
 use crate::points::voice::Voice;
 use crate::points::{Point, State, Stop, last_word};
 use demangle_symbol::cursor::{Looks, Symbol};
+use demangle_words::texts::{Mark, Word};
 
 /// What a point does.
 #[inline(always)]

@@ -1,6 +1,6 @@
 //! References to units that stand before them.
 ghost use Rattle.std.specs.Prelude.{◌≡◌, ℕ, None, Ok, Bool, List};
-ghost use Rattle.demangle_v0.specs.Items.{Kind};
+ghost use Rattle.demangle_grammar.specs.Items.{Kind};
 ghost use Rattle.demangle_v0.specs.Points.{Fits, Does, MayRead, PointDoes, env, turn};
 ghost use Rattle.demangle_v0.specs.References.{IsUnit, target_part};
 ghost use Rattle.demangle_v0.specs.declared.points.frames.Frame.{Frame};
@@ -8,8 +8,8 @@ ghost use Rattle.demangle_v0.specs.declared.points.frames.Frame.{Frame};
 use crate::points::frames::{Frame, FrameStack};
 use crate::points::voice::Voice;
 use crate::points::{Point, State, Stop};
-use crate::reference::{Reference, refer};
 use demangle_symbol::cursor::{Looks, Symbol};
+use demangle_words::reference::{Reference, refer};
 
 /// A reference to a unit, behind its `B`. It is followed where it is printed.
 #[inline(always)]

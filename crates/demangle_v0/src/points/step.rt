@@ -4,14 +4,14 @@ ghost use Rattle.demangle_v0.specs.Impls.{is_skip};
 ghost use Rattle.demangle_v0.specs.Points.{own_by, Fits, resumed_of};
 ghost use Rattle.demangle_v0.specs.PointRuns.{Puts, Stepped, Resumes, first_looks};
 
-use crate::grammar::Mark;
 use crate::points::frames::{Frame, FrameStack};
 use crate::points::perform::perform;
 use crate::points::voice::Voice;
 use crate::points::{Point, State, Stop};
-use crate::stretch::Stretch;
 use demangle_sink::SinkRefused;
 use demangle_symbol::cursor::{Looks, Symbol};
+use demangle_words::stretch::Stretch;
+use demangle_words::texts::Mark;
 
 /// Hands a mark over, if there is one.
 #[inline(always)]

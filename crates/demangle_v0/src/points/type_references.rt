@@ -2,14 +2,14 @@
 ghost use Rattle.std.specs.Prelude.{◌≡◌, ℕ, List, Bool, Ok};
 ghost use Rattle.demangle_v0.specs.declared.points.frames.Frame.{Frame};
 ghost use Rattle.demangle_v0.specs.Points.{Fits, MaySpeak, PointDoes, RestDoes, env, turn, behind_reference, lifetime_point, spaced_lifetime};
-ghost use Rattle.demangle_v0.specs.Groups.{looks_later};
+ghost use Rattle.demangle_words.specs.Groups.{looks_later};
 ghost use Rattle.demangle_v0.specs.Tags.{reference_to};
 
-use crate::grammar::Mark;
 use crate::points::voice::Voice;
 use crate::points::{Point, State, Stop};
-use crate::stretch::Stretch;
 use demangle_symbol::cursor::{Looks, Symbol};
+use demangle_words::stretch::Stretch;
+use demangle_words::texts::Mark;
 
 /// A reference, behind its tag.
 #[inline(always)]

@@ -6,7 +6,6 @@ ghost use Rattle.demangle_v0.specs.PointContracts.{heard_of};
 ghost use Rattle.demangle_v0.specs.Points.{own_by, Did, DidOn, Fits, frame_of};
 ghost use Rattle.demangle_v0.specs.Tags.{type_of};
 
-use crate::grammar::{Mark, basic_mark};
 use crate::points::dyn_traits::dyn_type;
 use crate::points::frames::FrameStack;
 use crate::points::functions::function_binder;
@@ -16,6 +15,7 @@ use crate::points::type_references::reference;
 use crate::points::voice::Voice;
 use crate::points::{Point, State, Stop};
 use demangle_symbol::cursor::{Looks, Symbol};
+use demangle_words::texts::{Mark, basic_mark};
 
 /// Whether a type is begun, and not only gone on with behind its `w`.
 #[inline(always)]

@@ -4,13 +4,13 @@ ghost use Rattle.demangle_v0.specs.Points.{own_by, Did, DidOn, pushed_on, Fits};
 ghost use Rattle.demangle_v0.specs.PointContracts.{DidFree, brace_behind, heard_of};
 ghost use Rattle.demangle_v0.specs.Tags.{variant_of};
 
-use crate::grammar::{Mark, Word};
 use crate::points::frames::{Frame, FrameStack};
 use crate::points::tags::{VariantKind, variant_kind};
 use crate::points::voice::Voice;
 use crate::points::{Point, State, Stop, word_at};
-use crate::words::WordRead;
 use demangle_symbol::cursor::{Looks, Symbol};
+use demangle_words::read::WordRead;
+use demangle_words::texts::{Mark, Word};
 
 /// A variant that holds nothing.
 #[inline(always)]

@@ -1,14 +1,14 @@
 //! What becomes of what is read: text, or nothing.
 ghost use Rattle.std.specs.Prelude.{◌≡◌, ◌+◌, ◌≤◌, ℕ, List, Bool, Result, Ok, true, false, IsAscii, IsOk, OnOk};
-ghost use Rattle.demangle_v0.specs.Groups.{texts_of, looks_later};
+ghost use Rattle.demangle_words.specs.Groups.{texts_of, looks_later};
 ghost use Rattle.demangle_sink.specs.Limit.{Prints, Ready};
-ghost use Rattle.demangle_v0.specs.Serving.{LiesIn};
+ghost use Rattle.demangle_words.specs.Serving.{LiesIn};
 ghost use Rattle.demangle_sink.specs.declared.SinkRefused.{SinkRefused};
 
-use crate::render::render;
-use crate::stretch::Stretch;
 use demangle_sink::{SinkRefused, SizeLimitedFmtAdapter, TextSink};
 use demangle_symbol::cursor::{Looks, Symbol};
+use demangle_words::render::render;
+use demangle_words::stretch::Stretch;
 
 /// What stretches are handed to.
 pub trait Voice {

@@ -1,7 +1,7 @@
 use Rattle.std.proofs.Common.{arith, refl, ◌+◌, ◌*◌}
 use Rattle.demangle_v0.specs.Points.{share_at}
 use Rattle.demangle_v0.specs.declared.points.Point.TheVariants as point
-use Rattle.demangle_v0.specs.declared.grammar.Word.TheVariants as word
+use Rattle.demangle_words.specs.declared.texts.Word.TheVariants as word
 use Rattle.demangle_v0.proofs.PointDynTraits.{behind_name}
 use Rattle.demangle_v0.proofs.PointFunctions.{word_on, word_on_refused, word_fails}
 use Rattle.demangle_v0.proofs.points.bindings.binding_name.Goals as goal

@@ -1,6 +1,6 @@
 use Rattle.std.proofs.Common.{arith, refl, ◌-◌}
-use Rattle.demangle_v0.specs.Reading.{run}
-use Rattle.demangle_v0.specs.declared.grammar.Mark.TheVariants as mark
+use Rattle.demangle_grammar.specs.Reading.{run}
+use Rattle.demangle_words.specs.declared.texts.Mark.TheVariants as mark
 use Rattle.demangle_v0.proofs.PointSteps.{faulty}
 use Rattle.demangle_v0.proofs.PointTaggedConstants.{signed_minus, signed_plus}
 use Rattle.demangle_v0.proofs.points.constants.signed_number.Goals as goal

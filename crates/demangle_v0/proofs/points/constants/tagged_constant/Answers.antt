@@ -1,7 +1,7 @@
 use Rattle.std.proofs.Common.{true, arith, refl, ◌*◌, ◌+◌}
 use Rattle.demangle_v0.specs.declared.points.tags.ConstantKind.TheVariants as kind
 use Rattle.demangle_v0.proofs.PointTaggedConstants.{constant_wrong, constant_as, placeholder, unsigned_reads, text_braced, mutable_braced, array_braced, tuple_braced}
-use Rattle.demangle_v0.specs.Items.{a_constant}
+use Rattle.demangle_grammar.specs.Items.{a_constant}
 use Rattle.demangle_v0.proofs.PointReferences.{unit_constant}
 use Rattle.demangle_v0.proofs.PointTurns.{did}
 use Rattle.demangle_v0.proofs.WordLooks.{own_more}

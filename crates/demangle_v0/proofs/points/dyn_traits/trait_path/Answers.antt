@@ -1,7 +1,7 @@
 use Rattle.std.proofs.Common.{arith, refl, false, ◌-◌}
 use Rattle.demangle_v0.proofs.PointDynTraits.{trait_unread, trait_refers, generic_trait, plain_trait}
 use Rattle.demangle_v0.proofs.PointReferences.{unit_trait}
-use Rattle.demangle_v0.specs.Items.{a_trait_path}
+use Rattle.demangle_grammar.specs.Items.{a_trait_path}
 use Rattle.demangle_v0.proofs.PointTurns.{did}
 use Rattle.demangle_v0.proofs.points.dyn_traits.trait_path.Goals as goal
 

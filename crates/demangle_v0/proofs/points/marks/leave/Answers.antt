@@ -1,4 +1,3 @@
-use Rattle.std.proofs.Common.{refl}
 use Rattle.demangle_v0.specs.Points.{env, turn}
 use Rattle.demangle_v0.proofs.PointMarks.{left_so}
 use Rattle.demangle_v0.proofs.points.marks.leave.Goals as goal

@@ -1,9 +1,9 @@
 use Rattle.std.proofs.Common.{arith, refl}
 use Rattle.demangle_v0.specs.Points.{env, share_at}
-use Rattle.demangle_v0.specs.Reading.{run}
+use Rattle.demangle_grammar.specs.Reading.{run}
 use Rattle.demangle_v0.specs.declared.points.Point.TheVariants as point
-use Rattle.demangle_v0.specs.Groups.{crate_group}
-use Rattle.demangle_v0.specs.declared.stretch.Stretch.TheVariants.{CrateName}
+use Rattle.demangle_words.specs.Groups.{crate_group}
+use Rattle.demangle_words.specs.declared.stretch.Stretch.TheVariants.{CrateName}
 use Rattle.demangle_v0.proofs.WordLooks.{named_at}
 use Rattle.demangle_v0.proofs.PointTurns.{ended, unread, group_tells, group_halts, group_faults}
 use Rattle.demangle_v0.proofs.PointPaths.{crate_heard}

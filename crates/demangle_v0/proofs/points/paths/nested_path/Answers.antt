@@ -1,5 +1,5 @@
 use Rattle.std.proofs.Common.{arith, refl}
-use Rattle.demangle_v0.specs.Reading.{run}
+use Rattle.demangle_grammar.specs.Reading.{run}
 use Rattle.demangle_v0.proofs.PointTurns.{unread}
 use Rattle.demangle_v0.proofs.PointPaths.{nested_stops, nested_goes}
 use Rattle.demangle_v0.proofs.points.paths.nested_path.Goals as goal

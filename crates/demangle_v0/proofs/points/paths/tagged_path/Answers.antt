@@ -1,5 +1,5 @@
 use Rattle.std.proofs.Common.{true, arith}
-use Rattle.demangle_v0.specs.Items.{a_path}
+use Rattle.demangle_grammar.specs.Items.{a_path}
 use Rattle.demangle_v0.specs.Points.{share_at}
 use Rattle.demangle_v0.specs.declared.points.tags.PathKind.TheVariants as kind
 use Rattle.demangle_v0.proofs.PointPaths.{path_wrong, path_as}

@@ -1,4 +1,4 @@
-use Rattle.std.proofs.Common.{refl, sym, ◌∙◌, true, false}
+use Rattle.std.proofs.Common.{sym, ◌∙◌, true, false}
 use Rattle.demangle_v0.proofs.PointTypes.{reference_failed, reference_goes, reference_named}
 use Rattle.demangle_v0.proofs.points.type_references.reference.Goals as goal
 

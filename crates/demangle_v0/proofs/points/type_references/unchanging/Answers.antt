@@ -1,7 +1,7 @@
 use Rattle.std.proofs.Common.{false, refl, arith}
-use Rattle.demangle_v0.specs.Items.{a_type}
+use Rattle.demangle_grammar.specs.Items.{a_type}
 use Rattle.demangle_v0.specs.Points.{share_at}
-use Rattle.demangle_v0.specs.Reading.{run}
+use Rattle.demangle_grammar.specs.Reading.{run}
 use Rattle.demangle_v0.specs.declared.points.Point.TheVariants as point
 use Rattle.demangle_v0.proofs.PointTurns.{marks_child}
 use Rattle.demangle_v0.proofs.points.type_references.unchanging.Goals as goal

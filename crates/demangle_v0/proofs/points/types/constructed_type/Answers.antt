@@ -1,10 +1,10 @@
 use Rattle.std.proofs.Common.{true, false, ◌*◌, ◌+◌, arith, refl}
 use Rattle.demangle_v0.proofs.PointTypes.{array_goes, slice_goes, pattern_type_goes}
-use Rattle.demangle_v0.specs.Items.{a_type}
+use Rattle.demangle_grammar.specs.Items.{a_type}
 use Rattle.demangle_v0.proofs.PointReferences.{unit_type}
-use Rattle.demangle_v0.specs.Reading.{run}
+use Rattle.demangle_grammar.specs.Reading.{run}
 use Rattle.demangle_v0.specs.Points.{share_at}
-use Rattle.demangle_v0.specs.declared.grammar.Mark.TheVariants as mark
+use Rattle.demangle_words.specs.declared.texts.Mark.TheVariants as mark
 use Rattle.demangle_v0.specs.declared.points.Point.TheVariants as point
 use Rattle.demangle_v0.proofs.PointSteps.{mark_goes, same, zero_looks}
 use Rattle.demangle_v0.proofs.PointTurns.{did}

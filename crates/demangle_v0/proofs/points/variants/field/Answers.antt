@@ -1,6 +1,6 @@
 use Rattle.std.proofs.Common.{arith, refl}
 use Rattle.demangle_v0.proofs.PointVariants.{field_goes, field_fails, field_refused}
-use Rattle.demangle_v0.specs.declared.grammar.Word.TheVariants as word
+use Rattle.demangle_words.specs.declared.texts.Word.TheVariants as word
 use Rattle.demangle_v0.proofs.WordLooks.{group_short}
 use Rattle.demangle_v0.proofs.points.variants.field.Goals as goal
 

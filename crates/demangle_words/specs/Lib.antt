@@ -1,0 +1,5 @@
+-- Internal.
+pub mod Groups
+pub mod Serving
+pub mod Stretches
+pub mod Texts
