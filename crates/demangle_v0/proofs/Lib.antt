@@ -1,4 +1,3 @@
-pub mod FrameRows
 pub mod Heights
 pub mod Kept
 pub mod PointArguments

@@ -33,7 +33,7 @@ use Rattle.demangle_v0.specs.declared.points.State.{State}
 use Rattle.demangle_v0.specs.declared.points.read.Reading.{Reading}
 use Rattle.demangle_v0.specs.declared.printing.Left.{Left}
 use Rattle.demangle_v0.specs.declared.printing.Left.TheVariants as left
-use Rattle.demangle_v0.specs.declared.points.voice.Voice.{Ghosts}
+use Rattle.demangle_words.specs.declared.voice.Voice.{Ghosts}
 use Rattle.demangle_grammar.proofs.Hearing.{handing_then}
 use Rattle.demangle_v0.proofs.PointSteps.{bits_append, looks_append}
 use Rattle.demangle_v0.proofs.PointRuns.{step_heard, bits_of, bits_total, bits_then, resumes_heard}

@@ -10,4 +10,3 @@ pub mod PointRuns
 pub mod PointContracts
 pub mod Points
 pub mod References
-pub mod Tags

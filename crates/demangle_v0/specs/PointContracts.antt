@@ -9,7 +9,7 @@ use Rattle.demangle_v0.specs.declared.points.Point.{Point}
 use Rattle.demangle_v0.specs.declared.points.Point.TheVariants as point
 use Rattle.demangle_v0.specs.declared.points.frames.Frame.{Frame}
 use Rattle.demangle_v0.specs.declared.points.State.{State}
-use Rattle.demangle_v0.specs.declared.points.voice.Voice.{Ghosts}
+use Rattle.demangle_words.specs.declared.voice.Voice.{Ghosts}
 
 -- what is heard of items where the state stands
 abbrev pub heard_of : List ℕ → Bool → Bool → Items → State → Heard

@@ -10,10 +10,10 @@ ghost use Rattle.demangle_grammar.specs.Items.{done};
 ghost use Rattle.demangle_words.specs.Texts.{word_items};
 
 use crate::points::frames::Frame;
-use crate::points::voice::Voice;
 use demangle_symbol::cursor::{Looks, Symbol};
 use demangle_words::read::{WordRead, read_word};
 use demangle_words::texts::{Mark, Word};
+use demangle_words::voice::Voice;
 
 mod arguments;
 mod bindings;
@@ -32,12 +32,10 @@ pub mod read;
 mod references;
 pub mod skip;
 pub mod step;
-mod tags;
 mod tuples;
 mod type_references;
 mod types;
 mod variants;
-pub mod voice;
 
 /// Where a unit begins, or goes on behind a part of it.
 #[derive(Clone, Copy)]
@@ -215,7 +213,7 @@ fn last_word<V: Voice>(
 ) -> Result<Point, Stop>
     requires may { MaySpeak (env V.Voice symbol.now plain) state.old voice.old }
     ensures did { (row : List Frame) → RestDoes (env V.Voice symbol.now plain) (word_items word
-        state.old.letter done) 1 0 (turn state.old row voice.old looks.old) result (turn state.new
+        state.old.letter done) 4 1 0 (turn state.old row voice.old looks.old) result (turn state.new
         row voice.new looks.new) }
 {
     match word_at(symbol, word, state, voice, looks) {

@@ -6,4 +6,6 @@ pub mod read;
 pub mod reference;
 pub mod render;
 pub mod stretch;
+pub mod tags;
 pub mod texts;
+pub mod voice;

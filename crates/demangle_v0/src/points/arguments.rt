@@ -7,10 +7,10 @@ ghost use Rattle.demangle_v0.specs.Points.{own_by, Did, Fits};
 
 use crate::points::frames::FrameStack;
 use crate::points::functions::separator;
-use crate::points::voice::Voice;
 use crate::points::{Point, State};
 use demangle_symbol::cursor::{Looks, Symbol};
 use demangle_words::texts::Mark;
+use demangle_words::voice::Voice;
 
 /// The arguments of a path, behind it.
 #[inline(always)]

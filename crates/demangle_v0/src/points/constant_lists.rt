@@ -5,10 +5,10 @@ ghost use Rattle.demangle_v0.specs.Points.{own_by, Did, DidOn, share_of, Fits};
 ghost use Rattle.demangle_grammar.specs.Table.{constant};
 
 use crate::points::frames::FrameStack;
-use crate::points::voice::Voice;
 use crate::points::{Point, State};
 use demangle_symbol::cursor::{Looks, Symbol};
 use demangle_words::texts::Mark;
+use demangle_words::voice::Voice;
 
 /// What constants stand in, one behind the other.
 #[derive(Clone, Copy)]
@@ -82,7 +82,7 @@ pub(super) fn first_constant<V: Voice, const N: usize>(
     requires room { length row.old < N }
     requires unmarked { state.old.mark ≡ None }
     requires fits { Fits Point.Constant state.old.depth_left state.old.lifetimes }
-    ensures did { (plain : Bool) (v : V) → DidOn V.Voice symbol.now plain (share_of symbol.now plain
+    ensures did { (plain : Bool) (v : V) → DidOn V.Voice symbol.now plain 8 (share_of symbol.now plain
         V.loud (first_point list) state.old) 1 (8 * state.old.depth_left + 2) row.old v (Ok result)
         state.new row.new v (looks.new - looks.old) }
     ensures grows { looks.old ≤ looks.new }
@@ -116,7 +116,7 @@ pub(super) fn next_constant<V: Voice, const N: usize>(
     requires room { length row.old < N }
     requires unmarked { state.old.mark ≡ None }
     requires fits { Fits Point.Constant state.old.depth_left state.old.lifetimes }
-    ensures did { (plain : Bool) (v : V) → DidOn V.Voice symbol.now plain (share_of symbol.now plain
+    ensures did { (plain : Bool) (v : V) → DidOn V.Voice symbol.now plain 8 (share_of symbol.now plain
         V.loud (next_point list) state.old) 1 (8 * state.old.depth_left + 2) row.old v (Ok result)
         state.new row.new v (looks.new - looks.old) }
     ensures grows { looks.old ≤ looks.new }

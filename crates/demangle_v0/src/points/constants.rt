@@ -3,15 +3,15 @@ ghost use Rattle.std.specs.Prelude.{true, ◌≡◌, ◌==◌, ◌*◌, ℕ, ◌
 ghost use Rattle.demangle_v0.specs.Points.{own_by, Did, DidOn, pushed_on, Fits};
 ghost use Rattle.demangle_grammar.specs.Table.{constant};
 ghost use Rattle.demangle_v0.specs.PointContracts.{DidFree, brace_behind, heard_of};
-ghost use Rattle.demangle_v0.specs.Tags.{constant_of};
+ghost use Rattle.demangle_words.specs.Tags.{constant_of};
 
 use crate::points::frames::{Frame, FrameStack};
 use crate::points::references::follow;
-use crate::points::tags::{ConstantKind, constant_kind};
-use crate::points::voice::Voice;
 use crate::points::{Point, State, Stop, last_word};
 use demangle_symbol::cursor::{Looks, Symbol};
+use demangle_words::tags::{ConstantKind, constant_kind};
 use demangle_words::texts::{Mark, Word};
+use demangle_words::voice::Voice;
 
 /// What a mutable reference refers to, behind its tag.
 #[inline(always)]
@@ -143,7 +143,7 @@ fn signed_number<V: Voice>(
     requires ready { V.ready voice.old }
     requires unmarked { state.old.mark ≡ None }
     requires fits { Fits Point.Constant state.old.depth_left state.old.lifetimes }
-    ensures did { (row : List Frame) → DidOn V.Voice symbol.now plain (heard_of symbol.now plain
+    ensures did { (row : List Frame) → DidOn V.Voice symbol.now plain 6 (heard_of symbol.now plain
         V.loud (constant_of state.old.in_value tag ConstantKind.Signed) state.old) 6 (8 *
         state.old.depth_left + 9) row voice.old result state.new row voice.new (looks.new -
         looks.old) }
@@ -179,7 +179,7 @@ fn shared_reference<V: Voice, const N: usize>(
     requires unmarked { state.old.mark ≡ None }
     requires room { length row.old < N }
     requires fits { Fits Point.Constant state.old.depth_left state.old.lifetimes }
-    ensures did { DidOn V.Voice symbol.now plain (heard_of symbol.now plain V.loud (constant
+    ensures did { DidOn V.Voice symbol.now plain 6 (heard_of symbol.now plain V.loud (constant
         state.old.in_value 82) state.old) 6 (8 * state.old.depth_left + 9) row.old voice.old result
         state.new row.new voice.new (looks.new - looks.old) }
     ensures ready { IsOk result → V.ready voice.new }
@@ -204,7 +204,7 @@ fn variant_path<V: Voice, const N: usize>(state: &mut State, row: &mut FrameStac
     requires unmarked { state.old.mark ≡ None }
     requires fits { Fits Point.Constant state.old.depth_left state.old.lifetimes }
     ensures did { (b : List ℕ) (plain : Bool) (v : V) (made : ℕ) → made ≤ 0 → DidOn V.Voice b plain
-        (heard_of b plain V.loud (constant state.old.in_value 86) state.old) 6 (8 *
+        6 (heard_of b plain V.loud (constant state.old.in_value 86) state.old) 6 (8 *
         state.old.depth_left + 9) row.old v (Ok result) state.new row.new v made }
 {
     row.push(state.frame(Point::Variant));
@@ -232,7 +232,7 @@ fn tagged_constant<V: Voice, const N: usize>(
     requires unmarked { state.old.mark ≡ None }
     requires room { length row.old < N }
     requires fits { Fits Point.Constant state.old.depth_left state.old.lifetimes }
-    ensures did { DidOn V.Voice symbol.now plain (heard_of symbol.now plain V.loud (constant
+    ensures did { DidOn V.Voice symbol.now plain 6 (heard_of symbol.now plain V.loud (constant
         state.old.in_value tag) state.old) 6 (8 * state.old.depth_left + 9) row.old voice.old result
         state.new row.new voice.new (looks.new - looks.old) }
     ensures ready { IsOk result → V.ready voice.new }

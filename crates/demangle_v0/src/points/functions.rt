@@ -7,13 +7,13 @@ ghost use Rattle.demangle_v0.specs.Points.{own_by, Did, Fits, most_lifetimes};
 
 use crate::points::frames::{Frame, FrameStack};
 use crate::points::tuples::is_over;
-use crate::points::voice::Voice;
 use crate::points::{Point, State, Stop, word_at};
 use demangle_sink::SinkRefused;
 use demangle_symbol::cursor::{Looks, Symbol};
 use demangle_words::read::WordRead;
 use demangle_words::stretch::{Abi, Stretch};
 use demangle_words::texts::{Mark, Word};
+use demangle_words::voice::Voice;
 
 /// The lifetimes of a binder come into force, and are handed over.
 #[inline(always)]

@@ -4,10 +4,10 @@ ghost use Rattle.demangle_v0.specs.Impls.{impl_items, skip_point, self_point};
 ghost use Rattle.demangle_v0.specs.Points.{Did, Fits, PointDoes, RestDoes, env, turn};
 
 use crate::points::frames::{Frame, FrameStack};
-use crate::points::voice::Voice;
 use crate::points::{Point, State, Stop};
 use demangle_symbol::cursor::{Looks, Symbol};
 use demangle_words::texts::Mark;
+use demangle_words::voice::Voice;
 
 /// An impl's path, behind its `M`, or its `X` where the impl is of a trait.
 #[inline(always)]
@@ -20,7 +20,7 @@ pub(super) fn impl_path<V: Voice>(
     requires unmarked { state.old.mark ≡ None }
     requires fits { Fits Point.Path state.old.depth_left state.old.lifetimes }
     ensures did { (plain : Bool) (v : V) (row : List Frame) → RestDoes (env V.Voice symbol.now
-        plain) (impl_items of_trait) 1 2 (turn state.old row v looks.old) result (turn state.new row
+        plain) (impl_items of_trait) 6 1 2 (turn state.old row v looks.old) result (turn state.new row
         v looks.new) }
 {
     let Some(at) = state.place else {

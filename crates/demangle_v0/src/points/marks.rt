@@ -4,9 +4,9 @@ ghost use Rattle.demangle_v0.specs.Marks.{left_at};
 ghost use Rattle.demangle_v0.specs.Points.{Fits, PointDoes, env, turn};
 ghost use Rattle.demangle_v0.specs.declared.points.frames.Frame.{Frame};
 
-use crate::points::voice::Voice;
 use crate::points::{Point, State};
 use demangle_words::texts::Mark;
+use demangle_words::voice::Voice;
 
 /// The mark that a point leaves, where it goes on, and whether that stands in value position.
 #[derive(Clone, Copy)]

@@ -4,12 +4,12 @@ ghost use Rattle.demangle_v0.specs.Points.{MaySpeak, PointDoes, RestDoes, env, t
 ghost use Rattle.demangle_grammar.specs.Table.{path};
 ghost use Rattle.demangle_v0.specs.declared.points.frames.Frame.{Frame};
 
-use crate::points::voice::Voice;
 use crate::points::{Point, State, Stop};
 use demangle_symbol::cursor::{Looks, Symbol};
 use demangle_words::read::names::numbered_name;
 use demangle_words::stretch::Stretch;
 use demangle_words::texts::Mark;
+use demangle_words::voice::Voice;
 
 /// The name of a crate, with which its path ends.
 #[inline(always)]
@@ -22,7 +22,7 @@ pub(super) fn crate_name<V: Voice>(
 ) -> Result<Point, Stop>
     requires may { MaySpeak (env V.Voice symbol.now plain) state.old voice.old }
     ensures did { (row : List Frame) → RestDoes (env V.Voice symbol.now plain) (path
-        state.old.in_value 67) 1 0 (turn state.old row voice.old looks.old) result (turn state.new
+        state.old.in_value 67) 6 1 0 (turn state.old row voice.old looks.old) result (turn state.new
         row voice.new looks.new) }
 {
     let Some(at) = state.place else {

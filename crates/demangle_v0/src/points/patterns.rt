@@ -4,11 +4,11 @@ ghost use Rattle.demangle_v0.specs.PointContracts.{DidFree};
 ghost use Rattle.demangle_v0.specs.Points.{own_by, Did, Fits};
 
 use crate::points::frames::FrameStack;
-use crate::points::tags::{PatternKind, pattern_kind};
-use crate::points::voice::Voice;
 use crate::points::{Point, State, Stop};
 use demangle_symbol::cursor::{Looks, Symbol};
+use demangle_words::tags::{PatternKind, pattern_kind};
 use demangle_words::texts::Mark;
+use demangle_words::voice::Voice;
 
 /// A pattern.
 #[inline(always)]

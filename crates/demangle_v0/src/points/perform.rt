@@ -30,10 +30,10 @@ use crate::points::tuples::{first_tuple_type, next_tuple_type, second_tuple_type
 use crate::points::type_references::{reference_lifetime, unchanging};
 use crate::points::types::{array_length, close_bracket, is_begun, pattern_is, type_};
 use crate::points::variants::{field, field_colon, variant};
-use crate::points::voice::Voice;
 use crate::points::{Point, State, Stop, last_word};
 use demangle_symbol::cursor::{Looks, Symbol};
 use demangle_words::texts::{Mark, Word};
+use demangle_words::voice::Voice;
 
 /// What a point does.
 #[inline(always)]

@@ -6,10 +6,10 @@ ghost use Rattle.demangle_v0.specs.References.{IsUnit, target_part};
 ghost use Rattle.demangle_v0.specs.declared.points.frames.Frame.{Frame};
 
 use crate::points::frames::{Frame, FrameStack};
-use crate::points::voice::Voice;
 use crate::points::{Point, State, Stop};
 use demangle_symbol::cursor::{Looks, Symbol};
 use demangle_words::reference::{Reference, refer};
+use demangle_words::voice::Voice;
 
 /// A reference to a unit, behind its `B`. It is followed where it is printed.
 #[inline(always)]

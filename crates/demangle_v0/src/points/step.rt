@@ -6,12 +6,12 @@ ghost use Rattle.demangle_v0.specs.PointRuns.{Puts, Stepped, Resumes, first_look
 
 use crate::points::frames::{Frame, FrameStack};
 use crate::points::perform::perform;
-use crate::points::voice::Voice;
 use crate::points::{Point, State, Stop};
 use demangle_sink::SinkRefused;
 use demangle_symbol::cursor::{Looks, Symbol};
 use demangle_words::stretch::Stretch;
 use demangle_words::texts::Mark;
+use demangle_words::voice::Voice;
 
 /// Hands a mark over, if there is one.
 #[inline(always)]

@@ -4,10 +4,10 @@ ghost use Rattle.demangle_v0.specs.declared.points.frames.Frame.{Frame};
 ghost use Rattle.demangle_v0.specs.Points.{MayRead, Paid, PointDoes, env, turn, is_list_over, behind_list, list_costs};
 
 use crate::points::frames::FrameStack;
-use crate::points::voice::Voice;
 use crate::points::{Point, State};
 use demangle_symbol::cursor::{Looks, Symbol};
 use demangle_words::texts::Mark;
+use demangle_words::voice::Voice;
 
 /// Whether a list is over: at its `E`, which is read, or where the reading has failed.
 #[inline(always)]

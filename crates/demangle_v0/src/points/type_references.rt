@@ -3,13 +3,13 @@ ghost use Rattle.std.specs.Prelude.{◌≡◌, ℕ, List, Bool, Ok};
 ghost use Rattle.demangle_v0.specs.declared.points.frames.Frame.{Frame};
 ghost use Rattle.demangle_v0.specs.Points.{Fits, MaySpeak, PointDoes, RestDoes, env, turn, behind_reference, lifetime_point, spaced_lifetime};
 ghost use Rattle.demangle_words.specs.Groups.{looks_later};
-ghost use Rattle.demangle_v0.specs.Tags.{reference_to};
+ghost use Rattle.demangle_words.specs.Tags.{reference_to};
 
-use crate::points::voice::Voice;
 use crate::points::{Point, State, Stop};
 use demangle_symbol::cursor::{Looks, Symbol};
 use demangle_words::stretch::Stretch;
 use demangle_words::texts::Mark;
+use demangle_words::voice::Voice;
 
 /// A reference, behind its tag.
 #[inline(always)]
@@ -21,7 +21,7 @@ pub(super) fn reference<V: Voice>(
 ) -> Point
     requires fits { Fits Point.«Type» state.old.depth_left state.old.lifetimes }
     ensures did { (plain : Bool) (v : V) (row : List Frame) → RestDoes (env V.Voice symbol.now
-        plain) (reference_to is_mut) 50 9 (turn state.old row v looks.old) (Ok result) (turn
+        plain) (reference_to is_mut) 5 50 9 (turn state.old row v looks.old) (Ok result) (turn
         state.new row v looks.new) }
 {
     state.mark = Some(Mark::Ampersand);

@@ -4,18 +4,18 @@ ghost use Rattle.demangle_symbol.specs.Digits.{is_byte};
 ghost use Rattle.demangle_v0.specs.declared.points.frames.Frame.{Frame};
 ghost use Rattle.demangle_v0.specs.PointContracts.{heard_of};
 ghost use Rattle.demangle_v0.specs.Points.{own_by, Did, DidOn, Fits, frame_of};
-ghost use Rattle.demangle_v0.specs.Tags.{type_of};
+ghost use Rattle.demangle_words.specs.Tags.{type_of};
 
 use crate::points::dyn_traits::dyn_type;
 use crate::points::frames::FrameStack;
 use crate::points::functions::function_binder;
 use crate::points::references::follow;
-use crate::points::tags::{TypeKind, type_kind};
 use crate::points::type_references::reference;
-use crate::points::voice::Voice;
 use crate::points::{Point, State, Stop};
 use demangle_symbol::cursor::{Looks, Symbol};
+use demangle_words::tags::{TypeKind, type_kind};
 use demangle_words::texts::{Mark, basic_mark};
+use demangle_words::voice::Voice;
 
 /// Whether a type is begun, and not only gone on with behind its `w`.
 #[inline(always)]
@@ -138,7 +138,7 @@ fn constructed_type<V: Voice, const N: usize>(
     requires unmarked { state.old.mark ≡ None }
     requires room { length row.old < N }
     requires fits { Fits Point.FunctionBinder state.old.depth_left state.old.lifetimes }
-    ensures did { DidOn V.Voice symbol.now plain (heard_of symbol.now plain V.loud (type_of kind)
+    ensures did { DidOn V.Voice symbol.now plain 5 (heard_of symbol.now plain V.loud (type_of kind)
         state.old) 50 (8 * state.old.depth_left + 9) row.old voice.old result state.new row.new
         voice.new (looks.new - looks.old) }
     ensures ready { IsOk result → V.ready voice.new }

@@ -2,22 +2,22 @@
 ghost use Rattle.std.specs.Prelude.{true, ◌≡◌, ◌*◌, ℕ, ◌+◌, ◌-◌, ◌<◌, ◌≤◌, Some, None, Ok, Err, IsOk, length, IsAscii, List, Bool};
 ghost use Rattle.demangle_v0.specs.Points.{own_by, Did, DidOn, pushed_on, Fits};
 ghost use Rattle.demangle_v0.specs.PointContracts.{DidFree, brace_behind, heard_of};
-ghost use Rattle.demangle_v0.specs.Tags.{variant_of};
+ghost use Rattle.demangle_words.specs.Tags.{variant_of};
 
 use crate::points::frames::{Frame, FrameStack};
-use crate::points::tags::{VariantKind, variant_kind};
-use crate::points::voice::Voice;
 use crate::points::{Point, State, Stop, word_at};
 use demangle_symbol::cursor::{Looks, Symbol};
 use demangle_words::read::WordRead;
+use demangle_words::tags::{VariantKind, variant_kind};
 use demangle_words::texts::{Mark, Word};
+use demangle_words::voice::Voice;
 
 /// A variant that holds nothing.
 #[inline(always)]
 fn unit_variant<V: Voice>(state: &mut State) -> Point
     requires unmarked { state.old.mark ≡ None }
     ensures did { (b : List ℕ) (plain : Bool) (row : List Frame) (v : V) (made : ℕ) → made ≤ 0 →
-        DidOn V.Voice b plain (heard_of b plain V.loud (variant_of state.old.in_value
+        DidOn V.Voice b plain 3 (heard_of b plain V.loud (variant_of state.old.in_value
         VariantKind.Unit) state.old) 5 (8 * state.old.depth_left + 3) row v (Ok result) state.new
         row v made }
 {

@@ -5,16 +5,16 @@ use Prim.Native.Char.{code}
 use Prim.Native.String.{String}
 use Rattle.demangle_grammar.specs.Items.{Items, a_type, a_constant, a_pattern, done, invalid, integer, next, unit, child, target, lifetime, dyn_trait}
 use Rattle.demangle_grammar.specs.Table.{path, says, says_if, list, tuple, type_inside, in_binder, function, binding_value, constant, integer_constant, variant, pattern_of}
-use Rattle.demangle_v0.specs.declared.points.tags.PathKind.{PathKind}
-use Rattle.demangle_v0.specs.declared.points.tags.PathKind.TheVariants as kind
-use Rattle.demangle_v0.specs.declared.points.tags.TypeKind.{TypeKind}
-use Rattle.demangle_v0.specs.declared.points.tags.TypeKind.TheVariants as type_kind
-use Rattle.demangle_v0.specs.declared.points.tags.ConstantKind.{ConstantKind}
-use Rattle.demangle_v0.specs.declared.points.tags.ConstantKind.TheVariants as constant_kind
-use Rattle.demangle_v0.specs.declared.points.tags.VariantKind.{VariantKind}
-use Rattle.demangle_v0.specs.declared.points.tags.VariantKind.TheVariants as variant_kind
-use Rattle.demangle_v0.specs.declared.points.tags.PatternKind.{PatternKind}
-use Rattle.demangle_v0.specs.declared.points.tags.PatternKind.TheVariants as pattern_kind
+use Rattle.demangle_words.specs.declared.tags.PathKind.{PathKind}
+use Rattle.demangle_words.specs.declared.tags.PathKind.TheVariants as kind
+use Rattle.demangle_words.specs.declared.tags.TypeKind.{TypeKind}
+use Rattle.demangle_words.specs.declared.tags.TypeKind.TheVariants as type_kind
+use Rattle.demangle_words.specs.declared.tags.ConstantKind.{ConstantKind}
+use Rattle.demangle_words.specs.declared.tags.ConstantKind.TheVariants as constant_kind
+use Rattle.demangle_words.specs.declared.tags.VariantKind.{VariantKind}
+use Rattle.demangle_words.specs.declared.tags.VariantKind.TheVariants as variant_kind
+use Rattle.demangle_words.specs.declared.tags.PatternKind.{PatternKind}
+use Rattle.demangle_words.specs.declared.tags.PatternKind.TheVariants as pattern_kind
 
 abbrev pub path_kinds : List (String × PathKind)
 path_kinds = ("C", kind.CrateRoot) ∷ ("N", kind.Nested) ∷ ("M", kind.InherentImpl) ∷ ("X", kind.TraitImpl) ∷ ("Y", kind.TraitDefinition) ∷ ("I", kind.Generic) ∷ ("B", kind.Reference) ∷ []

@@ -5,10 +5,10 @@ ghost use Rattle.demangle_sink.specs.Limit.{Prints, Ready};
 ghost use Rattle.demangle_words.specs.Serving.{LiesIn};
 ghost use Rattle.demangle_sink.specs.declared.SinkRefused.{SinkRefused};
 
+use crate::render::render;
+use crate::stretch::Stretch;
 use demangle_sink::{SinkRefused, SizeLimitedFmtAdapter, TextSink};
 use demangle_symbol::cursor::{Looks, Symbol};
-use demangle_words::render::render;
-use demangle_words::stretch::Stretch;
 
 /// What stretches are handed to.
 pub trait Voice {

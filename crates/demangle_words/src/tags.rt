@@ -1,7 +1,7 @@
 //! What begins with a tag.
 ghost use Rattle.std.specs.Prelude.{◌≡◌};
 ghost use Rattle.demangle_words.specs.Texts.{found};
-ghost use Rattle.demangle_v0.specs.Tags.{path_kinds, type_kinds, constant_kinds, variant_kinds, pattern_kinds};
+ghost use Rattle.demangle_words.specs.Tags.{path_kinds, type_kinds, constant_kinds, variant_kinds, pattern_kinds};
 
 /// What begins with the tag of a path.
 #[derive(Clone, Copy)]
