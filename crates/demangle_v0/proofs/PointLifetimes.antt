@@ -3,27 +3,28 @@ use Rattle.std.specs.Prelude.{◌*◌, nat_le, codes}
 use Rattle.std.proofs.lemmas.Bool.{ne_eqb, false≢true}
 use Rattle.std.proofs.Common.{◌≡◌, ℕ, ◌+◌, ◌-◌, ◌≤◌, length, Bool, true, false, Some, None, List, [], ◌∷◌, Result, Ok, Err, refl, arith, sym, ap, ◌∙◌}
 use Rattle.demangle_symbol.specs.Words.{integer_at}
-use Rattle.demangle_v0.specs.Items.{Items, lifetime}
-use Rattle.demangle_v0.specs.Events.{Heard, of, with_looks, with_texts}
-use Rattle.demangle_v0.specs.Groups.{texts_of}
-use Rattle.demangle_v0.specs.Table.{type_inside, says, says_if}
-use Rattle.demangle_v0.specs.Tags.{lifetime_before}
-use Rattle.demangle_v0.specs.Reading.{Place, letter_of, run}
-use Rattle.demangle_v0.specs.Points.{then_frame, none_open, around, weight_at, height_at, Fits, DidOn, behind_reference, lifetime_point, spaced_lifetime}
+use Rattle.demangle_grammar.specs.Items.{Items, lifetime}
+use Rattle.demangle_grammar.specs.Events.{Heard, of, with_looks, with_texts, around}
+use Rattle.demangle_words.specs.Groups.{texts_of}
+use Rattle.demangle_grammar.specs.Table.{type_inside, says, says_if}
+use Rattle.demangle_words.specs.Tags.{lifetime_before}
+use Rattle.demangle_grammar.specs.Reading.{Place, letter_of, run}
+use Rattle.demangle_v0.specs.Points.{Turn, Env, Paid, RestDoes, PointDoes, own_looks, then_frame, none_open, Fits, behind_reference, lifetime_point, spaced_lifetime}
 use Rattle.demangle_sink.specs.declared.SinkRefused.{SinkRefused}
-use Rattle.demangle_v0.specs.declared.grammar.Mark.TheVariants as mark
-use Rattle.demangle_v0.specs.declared.stretch.Stretch.{Stretch}
+use Rattle.demangle_words.specs.declared.texts.Mark.TheVariants as mark
+use Rattle.demangle_words.specs.declared.stretch.Stretch.{Stretch}
 use Rattle.demangle_v0.specs.declared.points.Point.{Point}
 use Rattle.demangle_v0.specs.declared.points.Point.TheVariants as point
-use Rattle.demangle_v0.specs.declared.points.frames.Frame.{Frame}
 use Rattle.demangle_v0.specs.declared.points.State.{State}
 use Rattle.demangle_v0.specs.declared.points.Stop.{Stop}
 use Rattle.demangle_v0.specs.declared.points.Stop.TheVariants.{Refused, Fault}
-use Rattle.demangle_v0.specs.declared.points.voice.Voice.{Ghosts}
-use Rattle.demangle_v0.proofs.PointSteps.{heard, refused, same, faulty, faulty_after, put_goes, put_refused}
-use Rattle.demangle_v0.proofs.PointTypes.{heard_at, enters, behind_so, behind_light, behind_low, behind_fits, lifetime_so}
-use Rattle.demangle_v0.proofs.TypeReads.{says_all, lifetime_named, lifetime_wrong}
-use Rattle.demangle_v0.proofs.Hearing.{said_both}
+use Rattle.demangle_words.specs.declared.voice.Voice.{Ghosts}
+use Rattle.demangle_v0.proofs.PointSteps.{heard}
+use Rattle.demangle_v0.proofs.PointTurns.{leaves, ends, unread, tells, halts, alike}
+use Rattle.demangle_symbol.proofs.Counts.{placed, integer_placed}
+use Rattle.demangle_v0.proofs.PointTypes.{behind_so, behind_light, behind_low, behind_fits, lifetime_so}
+use Rattle.demangle_grammar.proofs.TypeReads.{says_all, lifetime_named, lifetime_wrong}
+use Rattle.demangle_grammar.proofs.Hearing.{said_both}
 
 module _ {V : Type 0} (voice : Ghosts V) (b : List ℕ) (plain : Bool) where
   -- The lifetime of a reference.
@@ -31,36 +32,10 @@ module _ {V : Type 0} (voice : Ghosts V) (b : List ℕ) (plain : Bool) where
   abbrev named_heard : Bool → ℕ → ℕ → Place → Heard
   named_heard q left n i = heard voice b plain (lifetime_before (says_if q "mut " type_inside)) left n i
 
-  as_lifetime : (q : Bool) (v : Bool) (c left n : ℕ) (i : Place) (o : Bool) (row now : List Frame) (u w : V) (result : Result Point Stop) (new : State) (made : ℕ)
-      → DidOn voice b plain (named_heard q left n i) 2 (8 * left + 2) row u result new now w made
-      → DidOn voice b plain (heard_at voice b plain (lifetime_point q) v c left n i o) (weight_at (lifetime_point q)) (height_at (lifetime_point q) left) row u result new now w made
-  as_lifetime true v c left n i o row now u w result new made = same voice b plain _ (named_heard true left n i) 3 (8 * left + 2) 2 (8 * left + 2) row u w result new now made (sym (lifetime_so voice b plain true v c left n i o)) (omega arith) (omega arith)
-  as_lifetime false v c left n i o row now u w result new made = same voice b plain _ (named_heard false left n i) 2 (8 * left + 2) 2 (8 * left + 2) row u w result new now made (sym (lifetime_so voice b plain false v c left n i o)) (omega arith) (omega arith)
-
-  pub lifetime_unread : (q : Bool) (v : Bool) (c left n : ℕ) (o : Bool) (row : List Frame) (u : V) (new : State) (made : ℕ) → new.mark ≡ None → made ≤ 0
-      → DidOn voice b plain (heard_at voice b plain (lifetime_point q) v c left n None o) (weight_at (lifetime_point q)) (height_at (lifetime_point q) left) row u (Err (Fault mark.Unread)) new row u made
-  unfolding run
-  lifetime_unread q v c left n o row u new made k l = as_lifetime q v c left n None o row row u u (Err (Fault mark.Unread)) new made (faulty voice b plain mark.Unread _ 2 (8 * left + 2) row u new made k refl l (omega arith))
-
-  pub lifetime_stops : (q : Bool) (v : Bool) (c left n i : ℕ) (o : Bool) (row : List Frame) (u : V) (new : State) (made : ℕ) → None ≡ integer_at b i → new.mark ≡ None → made ≤ 4 * (length b - i + 1)
-      → DidOn voice b plain (heard_at voice b plain (lifetime_point q) v c left n (Some i) o) (weight_at (lifetime_point q)) (height_at (lifetime_point q) left) row u (Err (Fault mark.Invalid)) new row u made
-  unfolding run
-  lifetime_stops q v c left n i o row u new made e k l = as_lifetime q v c left n (Some i) o row row u u (Err (Fault mark.Invalid)) new made
-      (faulty_after voice b plain (4 * (length b - i + 1) ∷ []) mark.Invalid (named_heard q left n (Some i)) 2 (8 * left + 2) row u new made k (rw (sym e) refl) (omega (arith, l)) (omega arith))
-
   -- one that is not named, or not printed
   named_nothing : (q : Bool) (left n i j : ℕ) → Some (0, j) ≡ integer_at b i → named_heard q left n (Some i) ≡ with_looks (4 * (j - i + 1) ∷ []) (heard voice b plain (says_if q "mut " type_inside) left n (Some j))
   unfolding run
   named_nothing q left n i j e = rw (sym e) refl
-
-  pub lifetime_unnamed : (q : Bool) (v : Bool) (c left n i j k : ℕ) (o : Bool) (row : List Frame) (u : V) (new : State) (made : ℕ) → Some (k, j) ≡ integer_at b i → k ≡ 0 → made ≤ 4 * (j - i + 1) → Fits point.«Type» left n
-      → new.depth_left ≡ left → new.lifetimes ≡ n → new.place ≡ Some j → new.mark ≡ None
-      → DidOn voice b plain (heard_at voice b plain (lifetime_point q) v c left n (Some i) o) (weight_at (lifetime_point q)) (height_at (lifetime_point q) left) row u (Ok (behind_reference q)) new row u made
-  unfolding then_frame
-  lifetime_unnamed q v c left n i j k o row u new made e z l f kl kn kp km = as_lifetime q v c left n (Some i) o row row u u (Ok (behind_reference q)) new made
-      (enters voice b plain _ (behind_reference q) left n (Some j) None (4 * (j - i + 1) ∷ []) [] None 2 (8 * left + 2) row row u new made
-      (named_nothing q left n i j (rw z at e) ∙ ap (with_looks (4 * (j - i + 1) ∷ [])) (behind_so voice b plain q new.in_value new.letter left n (Some j) new.is_open))
-      kl kn kp km refl (omega (arith, l)) (omega (arith, l)) (omega (arith, behind_light voice b plain q)) (omega arith) (omega (arith, behind_low voice b plain q left)) tt (behind_fits voice b plain q left n f) (λ _. tt))
 
   lifetime_behind : (q : Bool) (left n i j k : ℕ) → Some (k, j) ≡ integer_at b i → (k ≡ 0 → ⊥) → named_heard q left n (Some i) ≡ with_looks (4 * (j - i + 1) ∷ []) (heard voice b plain (lifetime k (says " " (says_if q "mut " type_inside))) left n (Some j))
   unfolding run
@@ -70,15 +45,6 @@ module _ {V : Type 0} (voice : Ghosts V) (b : List ℕ) (plain : Bool) where
   unfolding run
   silent_so q left n j k true s = absurd (false≢true (sym s))
   silent_so q left n j k false s = refl
-
-  pub lifetime_unheard : (q : Bool) (v : Bool) (c left n i j k : ℕ) (o : Bool) (row : List Frame) (u : V) (new : State) (made : ℕ) → Some (k, j) ≡ integer_at b i → (k ≡ 0 → ⊥) → voice.loud ≡ false → made ≤ 4 * (j - i + 1) → Fits point.«Type» left n
-      → new.depth_left ≡ left → new.lifetimes ≡ n → new.place ≡ Some j → new.mark ≡ None
-      → DidOn voice b plain (heard_at voice b plain (lifetime_point q) v c left n (Some i) o) (weight_at (lifetime_point q)) (height_at (lifetime_point q) left) row u (Ok (behind_reference q)) new row u made
-  unfolding then_frame
-  lifetime_unheard q v c left n i j k o row u new made e z s l f kl kn kp km = as_lifetime q v c left n (Some i) o row row u u (Ok (behind_reference q)) new made
-      (enters voice b plain _ (behind_reference q) left n (Some j) None (4 * (j - i + 1) ∷ []) [] None 2 (8 * left + 2) row row u new made
-      (lifetime_behind q left n i j k e z ∙ ap (with_looks (4 * (j - i + 1) ∷ [])) (silent_so q left n j k voice.loud s ∙ behind_so voice b plain q new.in_value new.letter left n (Some j) new.is_open))
-      kl kn kp km refl (omega (arith, l)) (omega (arith, l)) (omega (arith, behind_light voice b plain q)) (omega arith) (omega (arith, behind_low voice b plain q left)) tt (behind_fits voice b plain q left n f) (λ _. tt))
 
   -- one that is printed
   spaced_so : (left n k j : ℕ) (p : Items) (out : Bool) → out ≡ true → (k ≡ 0 → ⊥)
@@ -103,16 +69,63 @@ module _ {V : Type 0} (voice : Ghosts V) (b : List ℕ) (plain : Bool) where
       lifetime_behind q left n i j k e z ∙ ap (λ (h : Heard). with_looks (4 * (j - i + 1) ∷ []) (none_open h)) (spaced_so left n k j (says_if q "mut " type_inside) voice.loud y z)
       ∙ ap (λ (r : Stretch × Place). with_looks (4 * (j - i + 1) ∷ []) (with_texts voice.loud (texts_of b plain r.0) (heard voice b plain (says_if q "mut " type_inside) left n r.1))) (sym g)
 
-  pub lifetime_tells : (q : Bool) (v : Bool) (c left n i j k : ℕ) (s : Stretch) (x : Place) (o : Bool) (row : List Frame) (u w : V) (new : State) (made : ℕ) → Some (k, j) ≡ integer_at b i → (k ≡ 0 → ⊥) → voice.loud ≡ true → (s, x) ≡ spaced_lifetime n k j → made ≤ 4 * (j - i + 1) → Fits point.«Type» left n
-      → new.depth_left ≡ left → new.lifetimes ≡ n → new.place ≡ x → new.mark ≡ None → voice.prints u (texts_of b plain s) (Ok tt) w
-      → DidOn voice b plain (heard_at voice b plain (lifetime_point q) v c left n (Some i) o) (weight_at (lifetime_point q)) (height_at (lifetime_point q) left) row u (Ok (behind_reference q)) new row w made
-  lifetime_tells q v c left n i j k s x o row u w new made e z y g l f kl kn kp km r = as_lifetime q v c left n (Some i) o row row u w (Ok (behind_reference q)) new made
-      (put_goes voice b plain (behind_reference q) (4 * (j - i + 1) ∷ []) (texts_of b plain s) _ 2 (8 * left + 2) row u w new made
-      (rw (kl, kn, kp) (spaced_heard q left n i j k s x e z y g ∙ ap (λ (h : Heard). with_looks (4 * (j - i + 1) ∷ []) (with_texts voice.loud (texts_of b plain s) h)) (behind_so voice b plain q new.in_value new.letter left n x new.is_open)))
-      r km (omega (arith, l)) (omega (arith, behind_light voice b plain q)) (rw kl (behind_low voice b plain q left)) (rw (kl, kn) (behind_fits voice b plain q left n f)))
+-- the index of a lifetime was read
+pub record Indexed {V : Type 0} (e : Env V) (t : Turn V) (i k j n : ℕ) : Type 0 where
+  pub at : t.state.place ≡ Some i
+  pub is : Some (k, j) ≡ integer_at e.symbol i
+  pub paid : Paid t.looks (4 * (j - i + 1) ∷ []) n
+  pub unmarked : t.state.mark ≡ None
+  pub fits : Fits point.«Type» t.state.depth_left t.state.lifetimes
 
-  pub lifetime_refused : (q : Bool) (v : Bool) (c left n i j k : ℕ) (s : Stretch) (x : Place) (o : Bool) (row : List Frame) (u w : V) (t : SinkRefused) (new : State) (made : ℕ) → Some (k, j) ≡ integer_at b i → (k ≡ 0 → ⊥) → voice.loud ≡ true → (s, x) ≡ spaced_lifetime n k j → made ≤ 4 * (j - i + 1)
-      → voice.prints u (texts_of b plain s) (refused t) w
-      → DidOn voice b plain (heard_at voice b plain (lifetime_point q) v c left n (Some i) o) (weight_at (lifetime_point q)) (height_at (lifetime_point q) left) row u (Err Refused) new row w made
-  lifetime_refused q v c left n i j k s x o row u w t new made e z y g l r = as_lifetime q v c left n (Some i) o row row u w (Err Refused) new made
-      (put_refused voice b plain (4 * (j - i + 1) ∷ []) (texts_of b plain s) _ _ 2 (8 * left + 2) row u w new t made (spaced_heard q left n i j k s x e z y g) r (omega (arith, l)) (λ h. absurd (false≢true (sym h ∙ y))))
+module _ {V : Type 0} {e : Env V} where
+  as_lifetime : {t u : Turn V} {r : Result Point Stop} (q : Bool) → RestDoes e (lifetime_before (says_if q "mut " type_inside)) 8 2 2 t r u → PointDoes e (lifetime_point q) t r u
+  as_lifetime {t} true d = let s = t.state in alike (omega arith) (sym (lifetime_so e.voice e.symbol e.plain true s.in_value s.letter s.depth_left s.lifetimes s.place s.is_open)) (omega arith) (omega arith) d
+  as_lifetime {t} false d = let s = t.state in alike (omega arith) (sym (lifetime_so e.voice e.symbol e.plain false s.in_value s.letter s.depth_left s.lifetimes s.place s.is_open)) (omega arith) (omega arith) d
+
+  pub lifetime_unread : {t : Turn V} (q : Bool) → t.state.place ≡ None → t.state.mark ≡ None → PointDoes e (lifetime_point q) t (Err (Fault mark.Unread)) t
+  unfolding run
+  lifetime_unread q at k = as_lifetime q (unread k (rw at refl) (omega arith))
+
+  pub lifetime_stops : {t : Turn V} {n : ℕ} (q : Bool) (i : ℕ) → t.state.place ≡ Some i → None ≡ integer_at e.symbol i → Paid t.looks (4 * (length e.symbol - i + 1) ∷ []) n → t.state.mark ≡ None → PointDoes e (lifetime_point q) t (Err (Fault mark.Invalid)) (record t { looks = n })
+  unfolding run
+  lifetime_stops q i at r p k = as_lifetime q (ends mark.Invalid (4 * (length e.symbol - i + 1) ∷ []) (omega arith) k (rw (at, sym r) refl) p (rw at (omega (arith, p.within))) (omega arith))
+
+  short : {t : Turn V} {i k j n : ℕ} → Indexed e t i k j n → n ≤ t.looks + own_looks e.symbol t.state.place
+  short {t} {i} {k} {j} x = let p = placed (i + 1) e.symbol (integer_at e.symbol i) (integer_placed e.symbol i) k j (sym x.is) in rw x.at (omega (arith, x.paid.within, p.0, p.1))
+
+  -- one that is not named, or not printed
+  unsaid : {t : Turn V} {i k j n : ℕ} (q : Bool) → Indexed e t i k j n
+      → named_heard e.voice e.symbol e.plain q t.state.depth_left t.state.lifetimes (Some i) ≡ with_looks (4 * (j - i + 1) ∷ []) (heard e.voice e.symbol e.plain (says_if q "mut " type_inside) t.state.depth_left t.state.lifetimes (Some j))
+      → PointDoes e (lifetime_point q) t (Ok (behind_reference q)) (record t { state = record t.state { place = Some j }; looks = n })
+  unfolding then_frame
+  unsaid {t} {i} {k} {j} q x o =
+      let s = t.state in
+      as_lifetime q (leaves (behind_reference q) (4 * (j - i + 1) ∷ []) [] (omega arith) None
+      (ap (λ (z : Place). named_heard e.voice e.symbol e.plain q s.depth_left s.lifetimes z) x.at ∙ (o ∙ rw x.unmarked (ap (with_looks (4 * (j - i + 1) ∷ [])) (behind_so e.voice e.symbol e.plain q s.in_value s.letter s.depth_left s.lifetimes (Some j) s.is_open)))) refl x.paid (omega arith) (short x)
+      (omega (arith, behind_light e.voice e.symbol e.plain q)) (omega arith) (omega (arith, behind_low e.voice e.symbol e.plain q s.depth_left)) tt (behind_fits e.voice e.symbol e.plain q s.depth_left s.lifetimes x.fits) (λ _. tt))
+
+  pub lifetime_unnamed : {t : Turn V} {n : ℕ} (q : Bool) (i k j : ℕ) → Indexed e t i k j n → k ≡ 0 → PointDoes e (lifetime_point q) t (Ok (behind_reference q)) (record t { state = record t.state { place = Some j }; looks = n })
+  lifetime_unnamed {t} q i k j x z = unsaid q x (named_nothing e.voice e.symbol e.plain q t.state.depth_left t.state.lifetimes i j (rw z at x.is))
+
+  pub lifetime_unheard : {t : Turn V} {n : ℕ} (q : Bool) (i k j : ℕ) → Indexed e t i k j n → (k ≡ 0 → ⊥) → e.voice.loud ≡ false → PointDoes e (lifetime_point q) t (Ok (behind_reference q)) (record t { state = record t.state { place = Some j }; looks = n })
+  lifetime_unheard {t} q i k j x z m =
+      let s = t.state in
+      unsaid q x (lifetime_behind e.voice e.symbol e.plain q s.depth_left s.lifetimes i j k x.is z ∙ ap (with_looks (4 * (j - i + 1) ∷ [])) (silent_so e.voice e.symbol e.plain q s.depth_left s.lifetimes j k e.voice.loud m))
+
+  -- one that is printed
+  said : {t : Turn V} {i k j n : ℕ} (q : Bool) (y : Stretch) (x : Place) → Indexed e t i k j n → (k ≡ 0 → ⊥) → e.voice.loud ≡ true → (y, x) ≡ spaced_lifetime t.state.lifetimes k j
+      → named_heard e.voice e.symbol e.plain q t.state.depth_left t.state.lifetimes t.state.place ≡ with_looks (4 * (j - i + 1) ∷ []) (with_texts e.voice.loud (texts_of e.symbol e.plain y) (heard e.voice e.symbol e.plain (says_if q "mut " type_inside) t.state.depth_left t.state.lifetimes x))
+  said {t} {i} {k} {j} q y x d z m g = let s = t.state in ap (λ (p : Place). named_heard e.voice e.symbol e.plain q s.depth_left s.lifetimes p) d.at ∙ spaced_heard e.voice e.symbol e.plain q s.depth_left s.lifetimes i j k y x d.is z m g
+
+  pub lifetime_tells : {t : Turn V} {v : V} {n : ℕ} (q : Bool) (i k j : ℕ) (y : Stretch) (x : Place) → Indexed e t i k j n → (k ≡ 0 → ⊥) → e.voice.loud ≡ true → (y, x) ≡ spaced_lifetime t.state.lifetimes k j
+      → e.voice.prints t.voice (texts_of e.symbol e.plain y) (Ok tt) v → e.voice.ready v → PointDoes e (lifetime_point q) t (Ok (behind_reference q)) (record t { state = record t.state { place = x }; voice = v; looks = n })
+  lifetime_tells {t} q i k j y x d z m g r w =
+      let s = t.state in
+      as_lifetime q (tells (behind_reference q) (4 * (j - i + 1) ∷ []) (omega arith) y
+      (said q y x d z m g ∙ ap (λ (h : Heard). with_looks (4 * (j - i + 1) ∷ []) (with_texts e.voice.loud (texts_of e.symbol e.plain y) h)) (behind_so e.voice e.symbol e.plain q s.in_value s.letter s.depth_left s.lifetimes x s.is_open))
+      r w d.unmarked d.paid (short d) (omega (arith, behind_light e.voice e.symbol e.plain q)) (behind_low e.voice e.symbol e.plain q s.depth_left) (behind_fits e.voice e.symbol e.plain q s.depth_left s.lifetimes d.fits))
+
+  pub lifetime_refused : {t : Turn V} {s : State} {v : V} {n : ℕ} {f : SinkRefused} (q : Bool) (i k j : ℕ) (y : Stretch) (x : Place) → Indexed e t i k j n → (k ≡ 0 → ⊥) → e.voice.loud ≡ true → (y, x) ≡ spaced_lifetime t.state.lifetimes k j
+      → e.voice.prints t.voice (texts_of e.symbol e.plain y) (Err f) v → PointDoes e (lifetime_point q) t (Err Refused) (record t { state = s; voice = v; looks = n })
+  lifetime_refused {t} q i k j y x d z m g r =
+      as_lifetime q (halts (4 * (j - i + 1) ∷ []) (omega arith) y (heard e.voice e.symbol e.plain (says_if q "mut " type_inside) t.state.depth_left t.state.lifetimes x) (said q y x d z m g) r (λ h. absurd (false≢true (sym h ∙ m))) d.paid (short d))

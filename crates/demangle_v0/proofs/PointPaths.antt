@@ -1,53 +1,38 @@
 -- The points of paths.
 use Rattle.std.specs.Prelude.{◌*◌}
 use Rattle.std.proofs.Common.{◌≡◌, ℕ, zero, suc, sub-one, ◌+◌, ◌-◌, ◌<◌, ◌≤◌, length, Bool, false, Option, Some, None, List, [], ◌∷◌, ◌++◌, Result, Ok, Err, refl, arith, sym, ap, ◌∙◌}
-use Rattle.demangle_v0.specs.Items.{Items, invalid, byte}
-use Rattle.demangle_v0.specs.Events.{Heard, of, nothing_heard}
-use Rattle.demangle_v0.specs.Groups.{texts_of, crate_group, nested_group}
+use Rattle.demangle_grammar.specs.Items.{Items, invalid, byte}
+use Rattle.demangle_grammar.specs.Events.{Heard, of, nothing_heard, around}
+use Rattle.demangle_words.specs.Groups.{texts_of, crate_group, nested_group}
 use Rattle.demangle_sink.specs.declared.SinkRefused.{SinkRefused}
-use Rattle.demangle_v0.specs.declared.stretch.Stretch.TheVariants.{NestedUnread}
-use Rattle.demangle_v0.proofs.GroupReads.{crate_reads, nested_reads}
-use Rattle.demangle_v0.specs.Grammar.{found}
+use Rattle.demangle_words.specs.declared.stretch.Stretch.TheVariants.{NestedUnread}
+use Rattle.demangle_words.proofs.GroupReads.{crate_reads, nested_reads}
+use Rattle.demangle_words.specs.Texts.{found}
 use Rattle.demangle_symbol.specs.Words.{some_or, namespace_at, byte_at}
-use Rattle.demangle_v0.specs.Table.{path, path_rows}
-use Rattle.demangle_v0.specs.Tags.{path_kinds, path_of}
-use Rattle.demangle_v0.specs.Reading.{Place, run, level_of, levels}
-use Rattle.demangle_v0.specs.Points.{frame_of, then_frame, share_at, none_open, around, goes, Fits, DidOn}
-use Rattle.demangle_v0.specs.declared.grammar.Mark.TheVariants as mark
-use Rattle.demangle_v0.specs.declared.points.tags.PathKind.{PathKind}
-use Rattle.demangle_v0.specs.declared.points.tags.PathKind.TheVariants as kind
+use Rattle.demangle_grammar.specs.Table.{path, path_rows}
+use Rattle.demangle_words.specs.Tags.{path_kinds, path_of}
+use Rattle.demangle_grammar.specs.Reading.{Place, run, level_of, levels}
+use Rattle.demangle_v0.specs.Points.{frame_of, frame_at, then_frame, share_at, share_of, none_open, Turn, Env, MayRead, RestDoes, PointDoes, Paid}
+use Rattle.demangle_words.specs.declared.texts.Mark.TheVariants as mark
+use Rattle.demangle_words.specs.declared.tags.PathKind.{PathKind}
+use Rattle.demangle_words.specs.declared.tags.PathKind.TheVariants as kind
 use Rattle.demangle_v0.specs.declared.points.Point.{Point}
 use Rattle.demangle_v0.specs.declared.points.Point.TheVariants as point
 use Rattle.demangle_v0.specs.declared.points.frames.Frame.{Frame}
 use Rattle.demangle_v0.specs.declared.points.State.{State}
 use Rattle.demangle_v0.specs.declared.points.Stop.{Stop}
 use Rattle.demangle_v0.specs.declared.points.Stop.TheVariants.{Refused, Fault}
-use Rattle.demangle_v0.specs.declared.points.voice.Voice.{Ghosts}
-use Rattle.demangle_v0.proofs.GrammarRows.{rows_of, row_found}
-use Rattle.demangle_v0.proofs.PointSteps.{steps, after, same, faulty, faulty_after, put_goes, put_refused, group_heard, group_shut}
+use Rattle.demangle_words.specs.declared.voice.Voice.{Ghosts}
+use Rattle.demangle_words.proofs.TagRows.{rows_of, row_found}
+use Rattle.demangle_v0.proofs.PointSteps.{group_heard, group_then, group_shut}
+use Rattle.demangle_v0.proofs.PointTurns.{ended, leaves, ends, tells, halts, behind, alike}
+use Rattle.demangle_symbol.proofs.Counts.{placed, byte_placed}
 
 module _ {V : Type 0} (voice : Ghosts V) (b : List ℕ) (plain : Bool) where
   -- Paths of names.
 
   abbrev path_heard : Bool → ℕ → ℕ → Place → ℕ → Heard
   path_heard v left n i c = none_open (of plain voice.loud (run (path v c) (around b voice.loud left n) i))
-
-  pub nested_stops : (v : Bool) (left n i : ℕ) (row : List Frame) (u : V) (new : State) (made : ℕ) → new.mark ≡ None → None ≡ namespace_at b i → made ≤ 1
-      → DidOn voice b plain (path_heard v left n (Some i) 78) 1 (8 * left + 9) row u (Err (Fault mark.Invalid)) new row u made
-  unfolding run
-  nested_stops v left n i row u new made k e l = faulty_after voice b plain (4 * (length b - i + 1) ∷ []) mark.Invalid _ 1 (8 * left + 9) row u new made k (rw (sym e) refl) (omega (arith, l)) (omega arith)
-
-  pub nested_goes : (v : Bool) (left n i letter j : ℕ) (row now : List Frame) (u : V) (new : State) (made : ℕ) → Some (letter, j) ≡ namespace_at b i → made ≤ 1
-      → Fits point.Nested left n
-      → new.in_value ≡ v → new.depth_left ≡ left → new.lifetimes ≡ n → new.place ≡ Some j → new.mark ≡ None
-      → now ≡ row ++ frame_of point.Nested v letter left n ∷ []
-      → DidOn voice b plain (path_heard v left n (Some i) 78) 1 (8 * left + 9) row u (Ok point.Path) new now u made
-  unfolding run then_frame share_at
-  nested_goes v left n i letter j row now u new made e l f kv kl kn kp km r = record {
-    comes =
-        steps voice b plain (goes point.Path) (4 * (j - i + 1) ∷ []) [] (Some (frame_of point.Nested v letter left n)) _ 1 (8 * left + 9) row now u new made
-        (rw (kv, kl, kn, kp, km, sym e) refl) r (omega (arith, l)) (omega (arith, l)) (omega arith) (omega arith) (omega (arith, kl)) f (rw (kl, kn) f) (λ _. refl);
-  }
 
   -- A path by its tag.
 
@@ -56,59 +41,18 @@ module _ {V : Type 0} (voice : Ghosts V) (b : List ℕ) (plain : Bool) where
 
   path_so : (v : Bool) (left n : ℕ) (i : Place) (c : ℕ) (o : Option PathKind) → o ≡ found c path_kinds → path_heard v left n i c ≡ none_open (of plain voice.loud (run (some_or invalid o (path_of v)) (around b voice.loud left n) i))
   path_so v left n i c o e =
-      ap (λ (p : Items). none_open (of plain voice.loud (run p (around b voice.loud left n) i))) (ap (λ rs. Rattle.demangle_v0.specs.Table.row_of c invalid rs) (path_kinds_so v) ∙ row_found c invalid (path_of v) path_kinds)
+      ap (λ (p : Items). none_open (of plain voice.loud (run p (around b voice.loud left n) i))) (ap (λ rs. Rattle.demangle_grammar.specs.Table.row_of c invalid rs) (path_kinds_so v) ∙ row_found c invalid (path_of v) path_kinds)
       ∙ ap (λ (o : Option PathKind). none_open (of plain voice.loud (run (some_or invalid o (path_of v)) (around b voice.loud left n) i))) (sym e)
-
-  pub path_wrong : (v : Bool) (left n : ℕ) (i : Place) (c : ℕ) (row : List Frame) (u : V) (new : State) (made : ℕ) → None ≡ found c path_kinds → new.mark ≡ None → made ≤ 0
-      → DidOn voice b plain (path_heard v left n i c) 7 (8 * left + 9) row u (Err (Fault mark.Invalid)) new row u made
-  unfolding run
-  path_wrong v left n i c row u new made e k l = faulty voice b plain mark.Invalid _ 7 (8 * left + 9) row u new made k (path_so v left n i c None e) l (omega arith)
-
-  pub path_as : (v : Bool) (left n : ℕ) (i : Place) (c : ℕ) (p : PathKind) (weight' high' : ℕ) (row : List Frame) (u w : V) (result : Result Point Stop) (new : State) (now : List Frame) (made : ℕ) → Some p ≡ found c path_kinds → weight' ≤ 7 → high' ≤ 8 * left + 9
-      → DidOn voice b plain (none_open (of plain voice.loud (run (path_of v p) (around b voice.loud left n) i))) weight' high' row u result new now w made
-      → DidOn voice b plain (path_heard v left n i c) 7 (8 * left + 9) row u result new now w made
-  path_as v left n i c p weight' high' row u w result new now made e x y d =
-      same voice b plain (path_heard v left n i c) (none_open (of plain voice.loud (run (path_of v p) (around b voice.loud left n) i))) 7 (8 * left + 9) weight' high' row u w result new now made (path_so v left n i c (Some p) e) x y d
-
-  -- a path with arguments
-  pub generic_goes : (v : Bool) (left n c : ℕ) (i : Place) (row now : List Frame) (u : V) (new : State) (made : ℕ) → made ≤ 0
-      → Fits point.Generic left n
-      → new.in_value ≡ v → new.depth_left ≡ left → new.lifetimes ≡ n → new.place ≡ i → new.mark ≡ None
-      → now ≡ row ++ frame_of point.Generic v c left n ∷ []
-      → DidOn voice b plain (none_open (of plain voice.loud (run (path_of v kind.Generic) (around b voice.loud left n) i))) 7 (8 * left + 9) row u (Ok point.Path) new now u made
-  unfolding run then_frame share_at
-  generic_goes v left n c i row now u new made l f kv kl kn kp km r = record {
-    comes =
-        steps voice b plain (goes point.Path) [] [] (Some (frame_of point.Generic v c left n)) _ 7 (8 * left + 9) row now u new made
-        (rw (kv, kl, kn, kp, km) refl) r (omega (arith, l)) (omega (arith, l)) (omega arith) (omega arith) (omega (arith, kl)) f (rw (kl, kn) f) (λ _. refl);
-  }
 
   -- A path.
 
   abbrev path_at : Bool → ℕ → ℕ → ℕ → Place → Bool → Heard
   path_at v c left n i o = share_at b plain voice.loud point.Path v c left n i o
 
-  pub path_deep : (v : Bool) (c left n i : ℕ) (o : Bool) (row : List Frame) (u : V) (new : State) (made : ℕ) → left ≡ 0 → new.mark ≡ None → made ≤ 0
-      → DidOn voice b plain (path_at v c left n (Some i) o) 1 (8 * left + 1) row u (Err (Fault mark.Recursion)) new row u made
-  unfolding share_at run level_of levels
-  path_deep v c left n i o row u new made e k l = faulty voice b plain mark.Recursion _ 1 (8 * left + 1) row u new made k (rw e refl) l (omega arith)
-
   path_opens : (v : Bool) (c left n i : ℕ) (o : Bool) → 0 < left → path_at v c left n (Some i) o ≡ none_open (of plain voice.loud (run (byte (path v)) (around b voice.loud (left - 1) n) (Some i)))
   unfolding share_at run level_of levels
   path_opens v c zero n i o l = absurd (omega (arith, l))
   path_opens v c (suc left) n i o l = rw sub-one refl
-
-  pub path_untagged : (v : Bool) (c left n i : ℕ) (o : Bool) (row : List Frame) (u : V) (new : State) (made : ℕ) → 0 < left → None ≡ byte_at b i → new.mark ≡ None → made ≤ 1
-      → DidOn voice b plain (path_at v c left n (Some i) o) 1 (8 * left + 1) row u (Err (Fault mark.Invalid)) new row u made
-  unfolding run
-  path_untagged v c left n i o row u new made l e k m =
-      faulty_after voice b plain (4 * (length b - i + 1) ∷ []) mark.Invalid (path_at v c left n (Some i) o) 1 (8 * left + 1) row u new made k (path_opens v c left n i o l ∙ rw (sym e) refl) (omega (arith, m)) (omega arith)
-
-  pub path_tagged : (v : Bool) (c left n i t j : ℕ) (o : Bool) (row now : List Frame) (u w : V) (result : Result Point Stop) (new : State) (second made : ℕ) → 0 < left → Some (t, j) ≡ byte_at b i → made ≤ 1 + second
-      → DidOn voice b plain (path_heard v (left - 1) n (Some j) t) 7 (8 * (left - 1) + 9) row u result new now w second → DidOn voice b plain (path_at v c left n (Some i) o) 1 (8 * left + 1) row u result new now w made
-  unfolding run
-  path_tagged v c left n i t j o row now u w result new second made l e m d =
-      after voice b plain (4 * (j - i + 1) ∷ []) (path_at v c left n (Some i) o) (path_heard v (left - 1) n (Some j) t) 1 (8 * left + 1) 7 (8 * (left - 1) + 9) row u w result new now 1 second made (path_opens v c left n i o l ∙ rw (sym e) refl) (omega arith) m (omega arith) (omega arith) d
 
   -- Names.
 
@@ -123,14 +67,65 @@ module _ {V : Type 0} (voice : Ghosts V) (b : List ℕ) (plain : Bool) where
   unfolding run share_at
   nested_so v c left n i o = group_shut voice b plain _ (nested_group b c i) _ (nested_reads b plain left voice.loud n c i)
 
-  -- the path that the name lies in has failed
-  pub name_unread : (v : Bool) (c left n : ℕ) (o : Bool) (row : List Frame) (u w : V) (new : State) (made : ℕ) → made ≤ 0
-      → voice.prints u (texts_of b plain NestedUnread) (Ok tt) w → new.mark ≡ None → new.place ≡ None → new.is_open ≡ false
-      → DidOn voice b plain (nested_at v c left n None o) 1 (8 * left + 2) row u (Ok point.End) new row w made
-  unfolding run share_at
-  name_unread v c left n o row u w new made l p m k q = put_goes voice b plain point.End [] (texts_of b plain NestedUnread) _ 1 (8 * left + 2) row u w new made (rw (k, q) refl) p m l (omega arith) (omega arith) tt
+opened : {V : Type 0} (e : Env V) (s : State) (i : ℕ) → s.place ≡ Some i → 0 < s.depth_left
+    → share_of e.symbol e.plain e.voice.loud point.Path s ≡ none_open (of e.plain e.voice.loud (run (byte (path s.in_value)) (around e.symbol e.voice.loud (s.depth_left - 1) s.lifetimes) (Some i)))
+opened e s i at d = rw at (path_opens e.voice e.symbol e.plain s.in_value s.letter s.depth_left s.lifetimes i s.is_open d)
 
-  pub name_unread_refused : (v : Bool) (c left n : ℕ) (o : Bool) (row : List Frame) (u w : V) (new : State) (e : SinkRefused) (made : ℕ) → made ≤ 0
-      → voice.prints u (texts_of b plain NestedUnread) (Err e) w → DidOn voice b plain (nested_at v c left n None o) 1 (8 * left + 2) row u (Err Refused) new row w made
+-- A crate's name.
+pub crate_heard : {V : Type 0} (e : Env V) (s : State) (i : ℕ) → s.place ≡ Some i → path_heard e.voice e.symbol e.plain s.in_value s.depth_left s.lifetimes s.place 67 ≡ group_then e.voice e.symbol e.plain (crate_group e.symbol i) ended
+crate_heard e s i at = rw at (crate_so e.voice e.symbol e.plain s.in_value s.depth_left s.lifetimes i)
+
+-- A name behind its path.
+pub nested_heard : {V : Type 0} (e : Env V) (s : State) (i : ℕ) → s.place ≡ Some i → share_of e.symbol e.plain e.voice.loud point.Nested s ≡ group_then e.voice e.symbol e.plain (nested_group e.symbol s.letter i) ended
+nested_heard e s i at = rw at (nested_so e.voice e.symbol e.plain s.in_value s.letter s.depth_left s.lifetimes i s.is_open)
+
+module _ {V : Type 0} {e : Env V} where
+  pub nested_stops : {t : Turn V} {n : ℕ} (i : ℕ) → t.state.place ≡ Some i → None ≡ namespace_at e.symbol i → n ≡ t.looks + 1 → t.state.mark ≡ None → RestDoes e (path t.state.in_value 78) 6 1 9 t (Err (Fault mark.Invalid)) (record t { looks = n })
+  unfolding run
+  nested_stops i at r l k = ends mark.Invalid (4 * (length e.symbol - i + 1) ∷ []) (omega arith) k (rw (at, sym r) refl) (record { grows = omega arith; within = omega arith }) (rw at (omega (arith, l))) (omega arith)
+
+  pub nested_goes : {t : Turn V} {row : List Frame} {n most : ℕ} (i letter j : ℕ) → t.state.place ≡ Some i → Some (letter, j) ≡ namespace_at e.symbol i → n ≡ t.looks + 1 → MayRead point.Nested most t.state t.row
+      → row ≡ t.row ++ frame_of point.Nested t.state.in_value letter t.state.depth_left t.state.lifetimes ∷ [] → RestDoes e (path t.state.in_value 78) 6 1 9 t (Ok point.Path) (record t { state = record t.state { place = Some j }; row = row; looks = n })
+  unfolding run then_frame share_at
+  nested_goes {t} i letter j at r l may q =
+      leaves point.Path (4 * (j - i + 1) ∷ []) [] (omega arith) (Some (frame_of point.Nested t.state.in_value letter t.state.depth_left t.state.lifetimes)) (rw (at, may.unmarked, sym r) refl) q
+      (record { grows = omega arith; within = omega arith }) (omega arith) (rw at (omega (arith, l))) (omega arith) (omega arith) (omega arith) may.fits may.fits (λ _. refl)
+
+  -- a path with arguments
+  pub generic_goes : {t : Turn V} {row : List Frame} {most : ℕ} → MayRead point.Generic most t.state t.row → row ≡ t.row ++ frame_at point.Generic t.state ∷ [] → RestDoes e (path_of t.state.in_value kind.Generic) 6 7 9 t (Ok point.Path) (record t { row = row })
+  unfolding run then_frame share_at
+  generic_goes {t} may q =
+      leaves point.Path [] [] (omega arith) (Some (frame_at point.Generic t.state)) (rw may.unmarked refl) q (record { grows = omega arith; within = omega arith }) (omega arith) (omega arith) (omega arith) (omega arith) (omega arith) may.fits may.fits (λ _. refl)
+
+  pub path_wrong : {t : Turn V} (c : ℕ) → None ≡ found c path_kinds → t.state.mark ≡ None → RestDoes e (path t.state.in_value c) 6 7 9 t (Err (Fault mark.Invalid)) t
+  unfolding run
+  path_wrong {t} c r k = let s = t.state in ends mark.Invalid [] (omega arith) k (path_so e.voice e.symbol e.plain s.in_value s.depth_left s.lifetimes s.place c None r) (record { grows = omega arith; within = omega arith }) (omega arith) (omega arith)
+
+  pub path_as : {t u : Turn V} {r : Result Point Stop} {words weight above : ℕ} (c : ℕ) (p : PathKind) → Some p ≡ found c path_kinds → words ≤ 6 → weight ≤ 7 → above ≤ 9 → RestDoes e (path_of t.state.in_value p) words weight above t r u → RestDoes e (path t.state.in_value c) 6 7 9 t r u
+  path_as {t} c p h few w x d = let s = t.state in alike few (path_so e.voice e.symbol e.plain s.in_value s.depth_left s.lifetimes s.place c (Some p) h) w (omega (arith, x)) d
+
+  pub path_deep : {t : Turn V} (i : ℕ) → t.state.place ≡ Some i → t.state.depth_left ≡ 0 → t.state.mark ≡ None → PointDoes e point.Path t (Err (Fault mark.Recursion)) t
+  unfolding share_at run level_of levels
+  path_deep i at d k = ends mark.Recursion [] (omega arith) k (rw (at, d) refl) (record { grows = omega arith; within = omega arith }) (omega arith) (omega arith)
+
+  pub path_untagged : {t : Turn V} {n : ℕ} (i : ℕ) → t.state.place ≡ Some i → 0 < t.state.depth_left → None ≡ byte_at e.symbol i → n ≡ t.looks + 1 → t.state.mark ≡ None → PointDoes e point.Path t (Err (Fault mark.Invalid)) (record t { looks = n })
+  unfolding run
+  path_untagged {t} i at d r l k =
+      ends mark.Invalid (4 * (length e.symbol - i + 1) ∷ []) (omega arith) k (opened e t.state i at d ∙ rw (sym r) refl) (record { grows = omega arith; within = omega arith }) (rw at (omega (arith, l))) (omega arith)
+
+  pub path_tagged : {t u : Turn V} {r : Result Point Stop} (i c j n : ℕ) → t.state.place ≡ Some i → 0 < t.state.depth_left → Some (c, j) ≡ byte_at e.symbol i → n ≡ t.looks + 1
+      → RestDoes e (path t.state.in_value c) 6 7 9 (record t { state = record t.state { depth_left = t.state.depth_left - 1; place = Some j }; looks = n }) r u → PointDoes e point.Path t r u
+  unfolding run
+  path_tagged {t} i c j n at d q l z =
+      let p = placed (i + 1) e.symbol (byte_at e.symbol i) (byte_placed e.symbol i) c j (sym q) in
+      behind {t = t} (4 * (j - i + 1) ∷ []) (omega arith) (opened e t.state i at d ∙ rw (sym q) refl) (record { grows = omega arith; within = omega arith }) (rw at (omega (arith, p.0, p.1, l))) (omega arith) (omega (arith, d)) z
+
+  -- the path that it lies in has failed
+  pub name_unread : {t : Turn V} {v : V} {n : ℕ} → t.state.place ≡ None → Paid t.looks [] n → e.voice.prints t.voice (texts_of e.symbol e.plain NestedUnread) (Ok tt) v → e.voice.ready v → t.state.mark ≡ None
+      → PointDoes e point.Nested t (Ok point.End) (record t { state = record t.state { is_open = false }; voice = v; looks = n })
   unfolding run share_at
-  name_unread_refused v c left n o row u w new e made l p = put_refused voice b plain [] (texts_of b plain NestedUnread) _ (nothing_heard None false) 1 (8 * left + 2) row u w new e made refl p l (λ _. refl)
+  name_unread at p q r k = tells point.End [] (omega arith) NestedUnread (rw at refl) q r k p (omega (arith, p.within)) (omega arith) (omega arith) tt
+
+  pub name_unread_refused : {t : Turn V} {s : State} {v : V} {n : ℕ} {f : SinkRefused} → t.state.place ≡ None → Paid t.looks [] n → e.voice.prints t.voice (texts_of e.symbol e.plain NestedUnread) (Err f) v → PointDoes e point.Nested t (Err Refused) (record t { state = s; voice = v; looks = n })
+  unfolding run share_at
+  name_unread_refused at p q = halts [] (omega arith) NestedUnread (nothing_heard None false) (rw at refl) q (λ _. refl) p (omega (arith, p.within))

@@ -4,24 +4,27 @@ use Rattle.std.proofs.Common.{◌≡◌, ℕ, ◌+◌, ◌-◌, ◌<◌, ◌≤�
 use Rattle.std.proofs.lemmas.Bool.{false≢true}
 use Rattle.std.proofs.lemmas.List.{append-nil}
 use Rattle.std.proofs.Math.Nat.{mul-le-mul_left}
-use Rattle.demangle_v0.specs.Items.{Text, a_path}
-use Rattle.demangle_v0.specs.Cost.{Pays}
-use Rattle.demangle_v0.specs.Reading.{max_depth, path_texts, read_at, level_of, levels}
+use Rattle.demangle_grammar.specs.Items.{Text, a_path}
+use Rattle.demangle_grammar.specs.Cost.{Pays}
+use Rattle.demangle_grammar.specs.Reading.{max_depth, path_texts, read_at, level_of, levels}
 use Rattle.demangle_sink.specs.Cut.{size, kept}
 use Rattle.demangle_sink.proofs.CutLemmas.{size-append}
 use Rattle.demangle_sink.proofs.PrintsLemmas.{prints_ready, prints_nothing, prints_then, prints_stop}
-use Rattle.demangle_v0.proofs.LooksLaw.{looks_a_byte, looks_before, printing_pays}
-use Rattle.demangle_v0.proofs.PrintingLooks.{pays_tree, kept_bytes}
-use Rattle.demangle_v0.proofs.PrintingSteps.{shown_events, weighed, weighed_said, weighed_allowed}
-use Rattle.demangle_v0.proofs.StepsPaid.{pays_looks, pays_texts}
+use Rattle.demangle_grammar.proofs.LooksLaw.{looks_a_byte, looks_before, printing_pays}
+use Rattle.demangle_grammar.proofs.PrintingLooks.{pays_tree}
+use Rattle.demangle_v0.proofs.Kept.{kept_bytes}
+use Rattle.demangle_grammar.proofs.PrintingSteps.{shown_events, weighed, weighed_said, weighed_allowed}
+use Rattle.demangle_grammar.proofs.StepsPaid.{pays_looks, pays_texts}
 use Rattle.demangle_v0.proofs.PointWholes.{owed_alone}
-use Rattle.demangle_v0.specs.Totals.{total}
-use Rattle.demangle_v0.specs.Events.{Event, Heard, and_then, with_texts, allowed_all, said_all, shown_in}
+use Rattle.demangle_grammar.specs.Totals.{total}
+use Rattle.demangle_words.specs.Groups.{texts_of}
+use Rattle.demangle_words.specs.declared.stretch.Stretch.{Stretch}
+use Rattle.demangle_grammar.specs.Events.{Event, Heard, and_then, with_texts, allowed_all, said_all, shown_in}
 use Rattle.demangle_sink.specs.Limit.{Prints, Ready}
 use Rattle.demangle_sink.specs.declared.TextSink.{Ghosts as Sinks}
 use Rattle.demangle_sink.specs.declared.SinkRefused.{SinkRefused}
 use Rattle.demangle_sink.specs.declared.limit.SizeLimitedFmtAdapter.{SizeLimitedFmtAdapter}
-use Rattle.demangle_v0.specs.Points.{most_frames, Bit, pays, puts, heard_bits, bits_looks, bits_texts, Told, pushed_on, share_at, share_of, row_owed, reading_owed}
+use Rattle.demangle_v0.specs.Points.{most_frames, Bit, pays, puts, heard_bits, bits_looks, bits_texts, env, Told, pushed_on, share_at, share_of, row_owed, reading_owed}
 use Rattle.demangle_v0.specs.PointRuns.{Valid, Reads, Stepped, Resumes, Said, Ran, Broke, Skipped, RanOn, Passed, ValidLeft, first_looks, Ended, first_state, silent_of, own_heard}
 use Rattle.demangle_v0.specs.declared.points.Point.{Point}
 use Rattle.demangle_v0.specs.declared.points.Point.TheVariants as point
@@ -30,12 +33,12 @@ use Rattle.demangle_v0.specs.declared.points.State.{State}
 use Rattle.demangle_v0.specs.declared.points.read.Reading.{Reading}
 use Rattle.demangle_v0.specs.declared.printing.Left.{Left}
 use Rattle.demangle_v0.specs.declared.printing.Left.TheVariants as left
-use Rattle.demangle_v0.specs.declared.points.voice.Voice.{Ghosts}
-use Rattle.demangle_v0.proofs.Hearing.{handing_then}
+use Rattle.demangle_words.specs.declared.voice.Voice.{Ghosts}
+use Rattle.demangle_grammar.proofs.Hearing.{handing_then}
 use Rattle.demangle_v0.proofs.PointSteps.{bits_append, looks_append}
-use Rattle.demangle_v0.proofs.PointRuns.{step_heard, bits_then, resumes_heard}
+use Rattle.demangle_v0.proofs.PointRuns.{step_heard, bits_of, bits_total, bits_then, resumes_heard}
 use Rattle.demangle_v0.proofs.PointSkips.{skip_is, skipped_owed, skipped_valid}
-use Rattle.demangle_v0.proofs.SkippedPaths.{allowances, total_allowances}
+use Rattle.demangle_grammar.proofs.SkippedPaths.{allowances, total_allowances}
 use Rattle.demangle_v0.specs.Impls.{skip_point, is_skip}
 use Rattle.demangle_v0.proofs.PointWholes.{valid_length}
 
@@ -46,26 +49,25 @@ said_append sink u v w (puts ts ∷ xs) ys h k = (h.0, h.1, said_append sink h.0
 
 module _ {S : Type 0} (sink : Sinks S) (voice : Ghosts (SizeLimitedFmtAdapter S)) (b : List ℕ) (plain : Bool)
     (same : (v w : SizeLimitedFmtAdapter S) (ts : List Text) (r : Result (Unit {0}) SinkRefused) → voice.prints v ts r w → Prints sink v ts r w) (loud : voice.loud ≡ true) where
-  said_told : (v w : SizeLimitedFmtAdapter S) (bits : List Bit) → Told voice v bits w → Said sink v bits w
-  said_told v w [] t = t
-  said_told v w (pays ks ∷ bits) t = said_told v w bits t
-  said_told v w (puts ts ∷ bits) t = (t.0, same v t.0 ts (Ok tt) t.1, said_told t.0 w bits t.2)
+  said_told : (v w : SizeLimitedFmtAdapter S) (front back : List ℕ) (said : Option Stretch) → Told (env voice b plain) said v w → Said sink v (bits_of voice b plain front said back) w
+  said_told v w front back None t = t
+  said_told v w front back (Some s) t = (w, same v w (texts_of b plain s) (Ok tt) t, refl)
 
   -- one turn
   pub ran_turn : (base : ℕ) (p0 p q u : Point) (s0 s t r : State) (row0 row mid now : List Frame) (v0 v w : SizeLimitedFmtAdapter S) (first second made : ℕ) → Ran sink b plain p0 s0 row0 v0 p s row v first
       → Resumes base p s row q t mid → Stepped voice b plain q t mid v (Ok u) r now w second → made ≤ first + second → Ran sink b plain p0 s0 row0 v0 u r now w made
   ran_turn base p0 p q u s0 s t r row0 row mid now v0 v w first second made x k z l =
       let d = z.steps.0 in
-      let bits = d.bits ++ pays d.back ∷ [] in
+      let bits = bits_of voice b plain d.front d.said d.back in
       let resumed = resumes_heard b plain true base p q s t row mid k in
       let heard : reading_owed b plain true q t mid ≡ heard_bits true bits (reading_owed b plain true u r now) =
       subst (λ (ys : List Frame). reading_owed b plain true q t mid ≡ heard_bits true bits (reading_owed b plain true u r ys)) (sym d.is_row)
       (subst (λ (out : Bool). reading_owed b plain out q t mid ≡ heard_bits out bits (reading_owed b plain out u r (pushed_on mid d.pushed))) loud (step_heard voice b plain q u t r mid v w second now z mid)) in
       record {
         bits = x.bits ++ bits;
-        told = said_append sink v0 v w x.bits bits x.told (said_append sink v w w d.bits (pays d.back ∷ []) (said_told v w d.bits d.told) refl);
+        told = said_append sink v0 v w x.bits bits x.told (said_told v w d.front d.back d.said d.told);
         reads = x.reads ∙ (ap (heard_bits true x.bits) (resumed ∙ heard) ∙ sym (bits_append true x.bits bits (reading_owed b plain true u r now)));
-        enough = omega (arith, l, x.enough, d.enough, looks_append x.bits bits, looks_append d.bits (pays d.back ∷ []));
+        enough = omega (arith, l, x.enough, d.enough, looks_append x.bits bits, bits_total voice b plain d.front d.said d.back);
       }
 
   -- it was refused
@@ -73,21 +75,22 @@ module _ {S : Type 0} (sink : Sinks S) (voice : Ghosts (SizeLimitedFmtAdapter S)
       → Resumes base p s row q t mid → Stepped voice b plain q t mid v (Err e) r now w second → made ≤ first + second → Broke sink b plain p0 s0 row0 v0 w made
   ran_broke base p0 p q s0 s t r row0 row mid now v0 v w first second made e x k z l =
       let d = z.steps.0 in
+      let texts = texts_of b plain d.said in
       let resumed = resumes_heard b plain true base p q s t row mid k in
       let rest = and_then d.rest (row_owed b plain true mid) in
-      let heard : reading_owed b plain true q t mid ≡ heard_bits true d.front (with_texts true d.texts rest) =
-      ap (λ (h : Heard). and_then h (row_owed b plain true mid)) (subst (λ (out : Bool). share_of b plain out q t ≡ heard_bits out d.front (with_texts out d.texts d.rest)) loud d.reads)
-      ∙ (bits_then true d.front (with_texts true d.texts d.rest) (row_owed b plain true mid) ∙ ap (heard_bits true d.front) (handing_then true d.texts d.rest (row_owed b plain true mid))) in
+      let heard : reading_owed b plain true q t mid ≡ heard_bits true (pays d.front ∷ []) (with_texts true texts rest) =
+      ap (λ (h : Heard). and_then h (row_owed b plain true mid)) (subst (λ (out : Bool). share_of b plain out q t ≡ heard_bits out (pays d.front ∷ []) (with_texts out texts d.rest)) loud d.reads)
+      ∙ (bits_then true (pays d.front ∷ []) (with_texts true texts d.rest) (row_owed b plain true mid) ∙ ap (heard_bits true (pays d.front ∷ [])) (handing_then true texts d.rest (row_owed b plain true mid))) in
       record {
-        front = x.bits ++ d.front;
-        texts = d.texts;
+        front = x.bits ++ pays d.front ∷ [];
+        texts = texts;
         rest = rest;
-        mid = d.mid;
-        told = said_append sink v0 v d.mid x.bits d.front x.told (said_told v d.mid d.front d.told);
+        mid = v;
+        told = said_append sink v0 v v x.bits (pays d.front ∷ []) x.told refl;
         refusal = d.refusal;
-        prints = same d.mid w d.texts (Err d.refusal) d.prints;
-        reads = x.reads ∙ (ap (heard_bits true x.bits) (resumed ∙ heard) ∙ sym (bits_append true x.bits d.front (with_texts true d.texts rest)));
-        enough = omega (arith, l, x.enough, d.enough, looks_append x.bits d.front);
+        prints = same v w texts (Err d.refusal) d.prints;
+        reads = x.reads ∙ (ap (heard_bits true x.bits) (resumed ∙ heard) ∙ sym (bits_append true x.bits (pays d.front ∷ []) (with_texts true texts rest)));
+        enough = omega (arith, l, x.enough, d.enough, looks_append x.bits (pays d.front ∷ []));
       }
 
   pub ran_fail : (base : ℕ) (p0 p q : Point) (s0 s t r : State) (row0 row mid now : List Frame) (v0 v w : SizeLimitedFmtAdapter S) (first second made : ℕ) (e : SinkRefused) (result : Result (Option Left) SinkRefused) (to : Reading) (end : List Frame)

@@ -3,24 +3,27 @@ use Rattle.std.specs.Prelude.{◌*◌, ◌^◌, if◌then◌else◌}
 use Rattle.std.proofs.lemmas.Bool.{false≢true}
 use Rattle.std.proofs.Common.{◌≡◌, ℕ, zero, suc, sub-one, ◌+◌, ◌-◌, ◌<◌, ◌≤◌, length, Bool, true, false, Some, None, List, [], ◌∷◌, ◌++◌, Ok, Err, refl, arith, sym, ap, ◌∙◌}
 use Rattle.demangle_symbol.specs.Words.{Read, backref_at}
-use Rattle.demangle_v0.specs.Totals.{total}
-use Rattle.demangle_v0.specs.Events.{Heard, of, nothing_heard, and_then, with_looks, with_texts}
-use Rattle.demangle_v0.specs.Grammar.{text}
-use Rattle.demangle_v0.specs.Items.{Kind, a_path, a_type, a_constant, a_trait_path, target}
-use Rattle.demangle_v0.specs.Points.{frame_of, then_frame, goes, share_at, around, Fits, DidOn}
-use Rattle.demangle_v0.specs.Reading.{Place, run, word_outcome, level_of, levels, target_of, target_read}
-use Rattle.demangle_v0.specs.References.{IsUnit, none_open_if}
-use Rattle.demangle_v0.specs.Serving.{refer, reference_read, leads}
-use Rattle.demangle_v0.specs.declared.grammar.Mark.{Mark}
-use Rattle.demangle_v0.specs.declared.reference.Reference.{Reference}
-use Rattle.demangle_v0.specs.declared.reference.Reference.TheVariants.{Faulty, Target}
+use Rattle.demangle_grammar.specs.Totals.{total}
+use Rattle.demangle_grammar.specs.Events.{Heard, of, nothing_heard, and_then, with_looks, with_texts, around}
+use Rattle.demangle_words.specs.Texts.{text}
+use Rattle.demangle_grammar.specs.Items.{Kind, a_path, a_type, a_constant, a_trait_path, target}
+use Rattle.demangle_v0.specs.Points.{Turn, Env, Paid, Does, PointDoes, MayRead, frame_of, then_frame, share_at, DidOn}
+use Rattle.demangle_grammar.specs.Reading.{Place, run, word_outcome, level_of, levels, target_of, target_read}
+use Rattle.demangle_v0.specs.References.{IsUnit, none_open_if, target_part}
+use Rattle.demangle_words.specs.Serving.{refer, reference_read, leads}
+use Rattle.demangle_words.specs.declared.texts.Mark.{Mark}
+use Rattle.demangle_words.specs.declared.reference.Reference.{Reference}
+use Rattle.demangle_words.specs.declared.reference.Reference.TheVariants.{Faulty, Target}
 use Rattle.demangle_v0.specs.declared.points.Point.{Point}
 use Rattle.demangle_v0.specs.declared.points.Point.TheVariants as point
 use Rattle.demangle_v0.specs.declared.points.frames.Frame.{Frame}
 use Rattle.demangle_v0.specs.declared.points.State.{State}
 use Rattle.demangle_v0.specs.declared.points.Stop.TheVariants.{Fault}
-use Rattle.demangle_v0.specs.declared.points.voice.Voice.{Ghosts}
-use Rattle.demangle_v0.proofs.PointSteps.{way_light, steps, faulty_after}
+use Rattle.demangle_words.specs.declared.voice.Voice.{Ghosts}
+use Rattle.demangle_v0.proofs.PointSteps.{way_light, steps}
+use Rattle.demangle_v0.proofs.PointTurns.{leaves, ends}
+use Rattle.demangle_v0.proofs.WordLooks.{refer_short, refer_few}
+use Rattle.std.proofs.lemmas.List.{append-nil}
 
 shut_allowing : (shut : Bool) (ks : List ℕ) (h : Heard) → none_open_if shut (with_looks ks h) ≡ with_looks ks (none_open_if shut h)
 shut_allowing true ks h = refl
@@ -83,11 +86,6 @@ module _ {V : Type 0} (voice : Ghosts V) (b : List ℕ) (plain : Bool) where
   shut_heard : (shut : Bool) (left : ℕ) (k : Kind) (v : Bool) (n : ℕ) (i : Place) (r : Reference) → r ≡ (refer b left i).refers → target_at shut left k v n i ≡ with_looks (refer b left i).costs (none_open_if shut (led voice.loud left k v n r))
   shut_heard shut left k v n i r e = ap (none_open_if shut) (target_heard left k v n i r e) ∙ shut_allowing shut (refer b left i).costs (led voice.loud left k v n r)
 
-  pub ref_stops : (shut : Bool) (left : ℕ) (k : Kind) (v : Bool) (n : ℕ) (i : Place) (m : Mark) (row : List Frame) (u : V) (new : State) (made : ℕ) → Faulty m ≡ (refer b left i).refers → made ≤ total (refer b left i).costs → new.mark ≡ None
-      → DidOn voice b plain (target_at shut left k v n i) 1 (8 * left + 2) row u (Err (Fault m)) new row u made
-  ref_stops shut left k v n i m row u new made e l q =
-      faulty_after voice b plain (refer b left i).costs m (target_at shut left k v n i) 1 (8 * left + 2) row u new made q (shut_heard shut left k v n i (Faulty m) e ∙ ap (with_looks (refer b left i).costs) (shut_fault shut voice.loud m)) l (omega arith)
-
   ref_paid : (left t j : ℕ) (i : Place) → Target t j ≡ (refer b left i).refers → 1 ≤ total (refer b left i).costs
   ref_paid left t j None e = absurd (no_target e)
     where
@@ -99,50 +97,54 @@ module _ {V : Type 0} (voice : Ghosts V) (b : List ℕ) (plain : Bool) where
       go None = omega arith
       go (Some r) = omega arith
 
-  -- it is not followed
-  pub ref_hidden : (shut : Bool) (left : ℕ) (k : Kind) (v : Bool) (n : ℕ) (i : Place) (t j : ℕ) (row : List Frame) (u : V) (new : State) (made : ℕ) → Target t j ≡ (refer b left i).refers → made ≤ total (refer b left i).costs → voice.loud ≡ false
-      → new.mark ≡ None → new.place ≡ Some j → new.is_open ≡ false
-      → DidOn voice b plain (target_at shut left k v n i) 1 (8 * left + 2) row u (Ok point.End) new row u made
-  unfolding then_frame share_at
-  ref_hidden shut left k v n i t j row u new made e l q km kp ko = record {
-    comes =
-        steps voice b plain (goes point.End) (refer b left i).costs [] None _ 1 (8 * left + 2) row row u new made
-        (shut_heard shut left k v n i (Target t j) e
-        ∙ (ap (λ (c : Bool). with_looks (refer b left i).costs (none_open_if shut (led c left k v n (Target t j)))) q
-        ∙ (ap (with_looks (refer b left i).costs) (shut_ended shut (Some j)) ∙ rw (km, kp, ko) refl)))
-        refl (omega (arith, l)) (omega (arith, l)) (omega (arith, ref_paid left t j i e)) (omega arith) (omega arith) tt tt (λ _. tt);
-  }
-
-  -- it is followed
-  pub ref_shown : (p : Point) (shut : Bool) (left : ℕ) (w : Bool) (c : ℕ) (k : Kind) (v : Bool) (n : ℕ) (i : Place) (t j : ℕ) (row now : List Frame) (u : V) (new : State) (made : ℕ) → IsUnit b plain p w c n shut k v
-      → Target t j ≡ (refer b left i).refers → made ≤ total (refer b left i).costs → voice.loud ≡ true → 0 < left → j < 2 ^ 64 → Fits point.Path left n
-      → new.in_value ≡ w → new.letter ≡ c → new.depth_left ≡ left - 1 → new.lifetimes ≡ n → new.mark ≡ None → new.place ≡ Some t → new.is_open ≡ false
-      → now ≡ row ++ frame_of point.Behind w c left j ∷ []
-      → DidOn voice b plain (target_at shut left k v n i) 1 (8 * left + 2) row u (Ok p) new now u made
-  unfolding then_frame share_at
-  ref_shown p shut left w c k v n i t j row now u new made unit e l q d small fit kv kc kl kn km kp ko r = record {
-    comes =
-        steps voice b plain (goes p) (refer b left i).costs [] (Some (frame_of point.Behind w c left j)) _ 1 (8 * left + 2) row now u new made
-        (shut_heard shut left k v n i (Target t j) e
-        ∙ (ap (λ (z : Bool). with_looks (refer b left i).costs (none_open_if shut (led z left k v n (Target t j)))) q
-        ∙ (ap (with_looks (refer b left i).costs) (shut_behind shut (of plain true (level_of b (levels b (left - 1)) true k v n t)) j)
-        ∙ (ap (λ (h : Heard). with_looks (refer b left i).costs (and_then h (λ i o. nothing_heard (Some j) o))) (sym (unit.same (left - 1) t))
-        ∙ (ap (λ (z : Bool). with_looks (refer b left i).costs (and_then (share_at b plain z p w c (left - 1) n (Some t) false) (λ i o. nothing_heard (Some j) o))) (sym q)
-        ∙ rw (kv, kc, kl, kn, km, kp, ko) refl)))))
-        r (omega (arith, l)) (omega (arith, l)) (omega (arith, ref_paid left t j i e, unit.light, way_light p)) (omega arith) (omega (arith, kl, d, unit.low (left - 1))) small (rw (kl, kn) (unit.fits (left - 1) (omega (arith, fit, d)))) (λ h. absurd (false≢true (sym h ∙ q)));
-  }
-
-  -- behind the reference
-  pub goes_behind : (s : State) (row : List Frame) (u : V) (new : State) (made : ℕ) → made ≤ 0 → new.place ≡ Some s.lifetimes → new.is_open ≡ s.is_open → new.mark ≡ None
-      → DidOn voice b plain (share_at b plain voice.loud point.Behind s.in_value s.letter s.depth_left s.lifetimes s.place s.is_open) 1 1 row u (Ok point.End) new row u made
-  unfolding then_frame share_at
-  goes_behind s row u new made l kp ko km = record {
-    comes = steps voice b plain (goes point.End) [] [] None _ 1 1 row row u new made (rw (kp, ko, km) refl) refl (omega (arith, l)) (omega (arith, l)) (omega arith) (omega arith) (omega arith) tt tt (λ _. tt);
-  }
-
   -- a unit that is over
-  pub stays_over : (s : State) (row : List Frame) (u : V) (made : ℕ) → made ≤ 0 → s.mark ≡ None → DidOn voice b plain (share_at b plain voice.loud point.End s.in_value s.letter s.depth_left s.lifetimes s.place s.is_open) 1 0 row u (Ok point.End) s row u made
+  pub stays_over : (s : State) (row : List Frame) (u : V) (made : ℕ) → made ≤ 0 → s.mark ≡ None → DidOn voice b plain 8 (share_at b plain voice.loud point.End s.in_value s.letter s.depth_left s.lifetimes s.place s.is_open) 1 0 row u (Ok point.End) s row u made
   unfolding then_frame share_at
   stays_over s row u made l k = record {
-    comes = steps voice b plain (goes point.End) [] [] None _ 1 0 row row u s made (rw k refl) refl (omega (arith, l)) (omega (arith, l)) (omega arith) (omega arith) (omega arith) tt tt (λ _. tt);
+    comes = steps voice b plain point.End [] [] (omega arith) None _ 1 0 row row u s made (rw k refl) refl (omega (arith, l)) (omega (arith, l)) (omega arith) (omega arith) (omega arith) tt tt (λ _. tt);
   }
+
+module _ {V : Type 0} {e : Env V} where
+  pub target_stops : {t : Turn V} {n : ℕ} (shut : Bool) (k : Kind) (v : Bool) (m : Mark) → Faulty m ≡ (refer e.symbol t.state.depth_left t.state.place).refers → Paid t.looks (refer e.symbol t.state.depth_left t.state.place).costs n → t.state.mark ≡ None
+      → Does e t (target_part e shut k v t.state) (Err (Fault m)) (record t { looks = n })
+  target_stops {t} shut k v m r p q =
+      let s = t.state in
+      let ks = (refer e.symbol s.depth_left s.place).costs in
+      ends m ks (refer_few e.symbol s.depth_left s.place) q (shut_heard e.voice e.symbol e.plain shut s.depth_left k v s.lifetimes s.place (Faulty m) r ∙ ap (with_looks ks) (shut_fault shut e.voice.loud m)) p (omega (arith, p.within, refer_short e.symbol s.depth_left s.place)) (omega arith)
+
+  -- it is not followed
+  pub target_hidden : {t : Turn V} {n : ℕ} (shut : Bool) (k : Kind) (v : Bool) (a j : ℕ) → Target a j ≡ (refer e.symbol t.state.depth_left t.state.place).refers → Paid t.looks (refer e.symbol t.state.depth_left t.state.place).costs n → e.voice.loud ≡ false → t.state.mark ≡ None
+      → Does e t (target_part e shut k v t.state) (Ok point.End) (record t { state = record t.state { place = Some j; is_open = false }; looks = n })
+  unfolding then_frame share_at
+  target_hidden {t} shut k v a j r p q m =
+      let s = t.state in
+      let ks = (refer e.symbol s.depth_left s.place).costs in
+      leaves point.End ks [] (omega (arith, refer_few e.symbol s.depth_left s.place)) None
+      (shut_heard e.voice e.symbol e.plain shut s.depth_left k v s.lifetimes s.place (Target a j) r
+      ∙ (ap (λ (c : Bool). with_looks ks (none_open_if shut (led e.voice e.symbol e.plain c s.depth_left k v s.lifetimes (Target a j)))) q
+      ∙ (ap (with_looks ks) (shut_ended shut (Some j)) ∙ rw m refl)))
+      refl (rw append-nil p) (omega arith) (omega (arith, p.within, refer_short e.symbol s.depth_left s.place)) (omega (arith, ref_paid e.voice e.symbol e.plain s.depth_left a j s.place r)) (omega arith) (omega arith) tt tt (λ _. tt)
+
+  -- it is followed
+  pub target_shown : {t : Turn V} {row : List Frame} {n most : ℕ} (p : Point) (shut : Bool) (k : Kind) (v : Bool) (a j : ℕ) → IsUnit e.symbol e.plain p t.state.in_value t.state.letter t.state.lifetimes shut k v → Target a j ≡ (refer e.symbol t.state.depth_left t.state.place).refers
+      → Paid t.looks (refer e.symbol t.state.depth_left t.state.place).costs n → e.voice.loud ≡ true → 0 < t.state.depth_left → j < 2 ^ 64 → MayRead point.Path most t.state t.row
+      → row ≡ t.row ++ frame_of point.Behind t.state.in_value t.state.letter t.state.depth_left j ∷ []
+      → Does e t (target_part e shut k v t.state) (Ok p) (record t { state = record t.state { depth_left = t.state.depth_left - 1; place = Some a; is_open = false }; row = row; looks = n })
+  unfolding then_frame share_at
+  target_shown {t} p shut k v a j unit r paid q d small may w =
+      let s = t.state in
+      let ks = (refer e.symbol s.depth_left s.place).costs in
+      leaves p ks [] (omega (arith, refer_few e.symbol s.depth_left s.place)) (Some (frame_of point.Behind s.in_value s.letter s.depth_left j))
+      (shut_heard e.voice e.symbol e.plain shut s.depth_left k v s.lifetimes s.place (Target a j) r
+      ∙ (ap (λ (z : Bool). with_looks ks (none_open_if shut (led e.voice e.symbol e.plain z s.depth_left k v s.lifetimes (Target a j)))) q
+      ∙ (ap (with_looks ks) (shut_behind shut (of e.plain true (level_of e.symbol (levels e.symbol (s.depth_left - 1)) true k v s.lifetimes a)) j)
+      ∙ (ap (λ (h : Heard). with_looks ks (and_then h (λ i o. nothing_heard (Some j) o))) (sym (unit.same (s.depth_left - 1) a))
+      ∙ (ap (λ (z : Bool). with_looks ks (and_then (share_at e.symbol e.plain z p s.in_value s.letter (s.depth_left - 1) s.lifetimes (Some a) false) (λ i o. nothing_heard (Some j) o))) (sym q)
+      ∙ rw may.unmarked refl)))))
+      w (rw append-nil paid) (omega arith) (omega (arith, paid.within, refer_short e.symbol s.depth_left s.place)) (omega (arith, ref_paid e.voice e.symbol e.plain s.depth_left a j s.place r, unit.light, way_light p)) (omega arith) (omega (arith, d, unit.low (s.depth_left - 1))) small
+      (unit.fits (s.depth_left - 1) (omega (arith, may.fits, d))) (λ h. absurd (false≢true (sym h ∙ q)))
+
+  -- behind the reference
+  pub goes_behind : {t : Turn V} → t.state.mark ≡ None → PointDoes e point.Behind t (Ok point.End) (record t { state = record t.state { place = Some t.state.lifetimes } })
+  unfolding then_frame share_at
+  goes_behind k = leaves point.End [] [] (omega arith) None (rw k refl) refl (record { grows = omega arith; within = omega arith }) (omega arith) (omega arith) (omega arith) (omega arith) (omega arith) tt tt (λ _. tt)

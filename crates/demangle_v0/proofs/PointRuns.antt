@@ -1,28 +1,31 @@
 -- Steps on a whole row.
-use Rattle.std.proofs.Common.{◌≡◌, ℕ, ◌+◌, ◌≤◌, ◌<◌, Bool, true, false, Option, Some, None, List, [], ◌∷◌, ◌++◌, length, Result, Ok, Err, IsErr, refl, arith, sym, ap, ◌∙◌, subst, append_assoc, length-append}
+use Rattle.std.proofs.Common.{inl, inr, ◌⊎◌, ◌≡◌, ℕ, ◌+◌, ◌≤◌, ◌<◌, Bool, true, false, Option, Some, None, List, [], ◌∷◌, ◌++◌, length, Result, Ok, Err, IsErr, refl, arith, sym, ap, ◌∙◌, subst, append_assoc, length-append}
 use Rattle.std.proofs.lemmas.Bool.{false≢true}
-use Rattle.demangle_v0.specs.Items.{Text}
-use Rattle.demangle_v0.specs.Totals.{total}
-use Rattle.demangle_v0.specs.Running.{allowed_in}
-use Rattle.demangle_v0.specs.Events.{Event, Heard, nothing_heard, and_then, with_looks, with_texts, allowed_all, said_all}
-use Rattle.demangle_v0.specs.Grammar.{text}
+use Rattle.demangle_grammar.specs.Items.{Text}
+use Rattle.demangle_grammar.specs.Totals.{total}
+use Rattle.demangle_grammar.specs.Running.{allowed_in}
+use Rattle.demangle_grammar.specs.Events.{Event, Heard, nothing_heard, and_then, with_looks, with_texts, allowed_all, said_all, around}
+use Rattle.demangle_words.specs.Texts.{text}
+use Rattle.demangle_words.specs.Groups.{texts_of}
+use Rattle.demangle_words.specs.declared.stretch.Stretch.{Stretch}
+use Rattle.demangle_words.specs.declared.stretch.Stretch.TheVariants.{Fixed}
 use Rattle.demangle_v0.specs.Heights as heights
-use Rattle.demangle_v0.specs.Reading.{Place}
-use Rattle.demangle_v0.proofs.Failed.{failed}
-use Rattle.demangle_v0.specs.Points.{most_frames, Bit, pays, puts, heard_bits, bits_looks, Told, mark_texts, pushed_on, then_frame, Way, goes, fails, way_heard, way_weight, way_height, weight_at, weight_of, weights, height_at, height_of, count_of, FitsFrame, FitsWay, Fits, rest_at, around, share, share_at, share_of, row_owed, reading_owed, measure, is_inner, IsInner, AllInner, Went, Halted, Kept, DidOn, resumed_of, bindings_left}
+use Rattle.demangle_grammar.specs.Reading.{Place}
+use Rattle.demangle_grammar.proofs.Failed.{failed}
+use Rattle.demangle_v0.specs.Points.{most_frames, Bit, pays, puts, heard_bits, bits_looks, Env, env, Part, part, Turn, turn, Told, said_texts, mark_texts, pushed_on, then_frame, way_weight, weight_at, weight_of, weights, height_at, height_of, count_of, FitsFrame, Fits, rest_at, share, share_at, share_of, row_owed, reading_owed, measure, is_inner, IsInner, AllInner, Went, Halted, Kept, DidOn, resumed_of, bindings_left, words_at, whole}
 use Rattle.demangle_v0.specs.PointRuns.{Puts, unmarked_of, Stepped, Resumes, stays, pops, frame_height, AllFit, Valid, Reads, ReadOn, first_looks}
 use Rattle.demangle_sink.specs.declared.SinkRefused.{SinkRefused}
-use Rattle.demangle_v0.specs.declared.grammar.Mark.{Mark}
+use Rattle.demangle_words.specs.declared.texts.Mark.{Mark}
 use Rattle.demangle_v0.specs.declared.points.Point.{Point}
 use Rattle.demangle_v0.specs.declared.points.Point.TheVariants as point
 use Rattle.demangle_v0.specs.declared.points.frames.Frame.{Frame}
 use Rattle.demangle_v0.specs.declared.points.State.{State}
 use Rattle.demangle_v0.specs.declared.points.Stop.TheVariants.{Fault}
-use Rattle.demangle_v0.specs.declared.points.voice.Voice.{Ghosts}
+use Rattle.demangle_words.specs.declared.voice.Voice.{Ghosts}
 use Rattle.demangle_v0.specs.declared.points.read.Halt.TheVariants as halt
-use Rattle.demangle_v0.proofs.Hearing.{and_then_assoc, and_then_ended, handing_then, allowing_then}
+use Rattle.demangle_grammar.proofs.Hearing.{and_then_assoc, and_then_ended, handing_then, allowing_then}
 use Rattle.demangle_v0.proofs.Standing.{above_pop}
-use Rattle.demangle_v0.proofs.PointSteps.{bits_append, looks_append, told_append, refused}
+use Rattle.demangle_v0.proofs.PointSteps.{refused}
 
 pub share_failed : (b : List ℕ) (plain out : Bool) (p : Point) (v : Bool) (c left n : ℕ) (o : Bool) → is_inner p ≡ true → (share_at b plain out p v c left n None o).place ≡ None
 unfolding share_at
@@ -103,82 +106,111 @@ share_failed b plain out point.Behind v c left n o h = absurd (false≢true h)
 err_ok : (e : SinkRefused) → refused e ≡ Ok tt → ⊥
 err_ok e z = cc
 
+some_none : (m : Mark) → Some m ≡ None → ⊥
+some_none m z = cc
+
 module _ {V : Type 0} (voice : Ghosts V) (b : List ℕ) (plain : Bool) where
-  -- what a mark and the looks behind it are
-  abbrev tail_of : Option Mark → List ℕ → List Bit
-  tail_of None back = pays back ∷ []
-  tail_of (Some m) back = puts (text m ∷ []) ∷ pays back ∷ []
+  -- what a step took, in turn
+  abbrev pub bits_of : List ℕ → Option Stretch → List ℕ → List Bit
+  bits_of front None back = pays front ∷ pays back ∷ []
+  bits_of front (Some s) back = pays front ∷ puts (texts_of b plain s) ∷ pays back ∷ []
 
-  tail_heard : (k : Option Mark) (back : List ℕ) (h : Heard) → heard_bits voice.loud (tail_of k back) h ≡ with_texts voice.loud (mark_texts k) (with_looks back h)
-  tail_heard None back h = refl
-  tail_heard (Some m) back h = refl
+  abbrev taken : List ℕ → Option Stretch → Option Mark → List ℕ → Heard → Heard
+  taken front said m back h = with_looks front (with_texts voice.loud (said_texts (env voice b plain) said) (with_texts voice.loud (mark_texts m) (with_looks back h)))
 
-  tail_looks : (k : Option Mark) (back : List ℕ) → bits_looks (tail_of k back) ≡ total back
-  tail_looks None back = omega arith
-  tail_looks (Some m) back = omega arith
+  bits_heard : (front : List ℕ) (said : Option Stretch) (back : List ℕ) (h : Heard) → heard_bits voice.loud (bits_of front said back) h ≡ taken front said None back h
+  bits_heard front None back h = refl
+  bits_heard front (Some s) back h = refl
 
-  tail_told : (k : Option Mark) (back : List ℕ) (v w : V) → Puts voice k v (Ok tt) w → Told voice v (tail_of k back) w
-  tail_told None back v w p = sym p.1
-  tail_told (Some m) back v w p = (w, p.0, refl)
+  pub bits_total : (front : List ℕ) (said : Option Stretch) (back : List ℕ) → bits_looks (bits_of front said back) ≡ total front + total back
+  bits_total front None back = omega arith
+  bits_total front (Some s) back = omega arith
 
-  put_way : (way : Way) (new : State) (h : Heard) (weight high : ℕ) (row now : List Frame) (v w x : V) (first made : ℕ)
-      → way_heard b plain voice.loud way (unmarked_of new) ≡ way_heard b plain voice.loud way new → way_height way (unmarked_of new) ≡ way_height way new → (FitsWay way new → FitsWay way (unmarked_of new))
-      → Went voice b plain h weight high row v way new now w first → Puts voice new.mark w (Ok tt) x → made ≤ first → Went voice b plain h weight high row v way (unmarked_of new) now x made
-  put_way way new h weight high row now v w x first made e y f d p l = record {
-    bits = d.bits ++ tail_of new.mark d.back;
-    back = [];
+  put_way : (q : Point) (new : State) (words : ℕ) (h : Heard) (weight high : ℕ) (row now : List Frame) (v w x : V) (first made : ℕ) (k : Option Mark) → k ≡ new.mark
+      → (d : Went (env voice b plain) (part words h weight high) (turn new row v 0) q (turn new now w first)) → (d.said ≡ None) ⊎ (new.mark ≡ None) → Puts voice k w (Ok tt) x → made ≤ first
+      → Went (env voice b plain) (part words h weight high) (turn (unmarked_of new) row v 0) q (turn (unmarked_of new) now x made)
+  put_way q new words h weight high row now v w x first made None c d o p l = record {
+    front = d.front;
+    said = d.said;
+    back = d.back;
     pushed = d.pushed;
-    told = told_append voice v w x d.bits (tail_of new.mark d.back) d.told (tail_told new.mark d.back w x p);
-    reads = d.reads
-        ∙ (ap (heard_bits voice.loud d.bits) (sym (tail_heard new.mark d.back (then_frame b plain voice.loud d.pushed (way_heard b plain voice.loud way new))))
-        ∙ (sym (bits_append voice.loud d.bits (tail_of new.mark d.back) (then_frame b plain voice.loud d.pushed (way_heard b plain voice.loud way new)))
-        ∙ ap (λ (g : Heard). heard_bits voice.loud (d.bits ++ tail_of new.mark d.back) (then_frame b plain voice.loud d.pushed g)) (sym e)));
+    told = subst (λ (z : V). Told (env voice b plain) d.said v z) (sym p.1) d.told;
+    one = inr refl;
+    reads = subst (λ (z : Option Mark). h ≡ taken d.front d.said z d.back (then_frame b plain voice.loud d.pushed (share_of b plain voice.loud q new))) (sym c) d.reads;
     is_row = d.is_row;
-    enough = omega (arith, l, d.enough, looks_append d.bits (tail_of new.mark d.back), tail_looks new.mark d.back);
-    late = omega (arith, l, d.enough, looks_append d.bits (tail_of new.mark d.back), tail_looks new.mark d.back);
-    lighter = omega (arith, d.lighter, looks_append d.bits (tail_of new.mark d.back), tail_looks new.mark d.back);
+    few = omega (arith, d.few);
+    enough = omega (arith, l, d.enough);
+    late = omega (arith, l, d.late);
+    lighter = d.lighter;
     outer_height = d.outer_height;
-    inner_height = omega (arith, y, d.inner_height);
+    inner_height = d.inner_height;
     outer_fits = d.outer_fits;
-    inner_fits = f d.inner_fits;
+    inner_fits = d.inner_fits;
     quiet = d.quiet;
   }
+  put_way q new words h weight high row now v w x first made (Some m) c d (inr e) p l = absurd (some_none m (c ∙ e))
+  put_way q new words h weight high row now v w x first made (Some m) c d (inl e) p l =
+      let t = then_frame b plain voice.loud d.pushed (share_of b plain voice.loud q new) in
+      let same : v ≡ w = subst (λ (z : Option Stretch). Told (env voice b plain) z v w) e d.told in
+      record {
+        front = d.front;
+        said = Some (Fixed m);
+        back = d.back;
+        pushed = d.pushed;
+        told = subst (λ (z : V). voice.prints z (text m ∷ []) (Ok tt) x) (sym same) p.0;
+        one = inr refl;
+        reads = d.reads ∙ (ap (λ (z : Option Stretch). taken d.front z new.mark d.back t) e ∙ ap (λ (z : Option Mark). taken d.front None z d.back t) (sym c));
+        is_row = d.is_row;
+        few = omega (arith, d.few);
+        enough = omega (arith, l, d.enough);
+        late = omega (arith, l, d.late);
+        lighter = d.lighter;
+        outer_height = d.outer_height;
+        inner_height = d.inner_height;
+        outer_fits = d.outer_fits;
+        inner_fits = d.inner_fits;
+        quiet = d.quiet;
+      }
 
   -- the step went on
   pub step_goes : (p q : Point) (s new : State) (row now : List Frame) (v w x : V) (first made : ℕ)
-      → DidOn voice b plain (share_of b plain voice.loud p s) (weight_at p) (height_at p s.depth_left) row v (Ok q) new now w first → Puts voice new.mark w (Ok tt) x → made ≤ first
+      → DidOn voice b plain (words_at p) (share_of b plain voice.loud p s) (weight_at p) (height_at p s.depth_left) row v (Ok q) new now w first → Puts voice new.mark w (Ok tt) x → made ≤ first
       → Stepped voice b plain p s row v (Ok q) (unmarked_of new) now x made
   step_goes p q s new row now v w x first made d k l = record {
-    steps = (put_way (goes q) new _ _ _ row now v w x first made refl refl (λ f. f) d.comes k l, refl);
+    steps = (put_way q new _ _ _ _ row now v w x first made new.mark refl d.comes d.comes.one k l, refl);
   }
 
   -- the mark was refused
-  mark_refused : (way : Way) (new : State) (h : Heard) (weight high : ℕ) (row now : List Frame) (v w x : V) (e : SinkRefused) (first made : ℕ) (k : Option Mark) → k ≡ new.mark
-      → Went voice b plain h weight high row v way new now w first → Puts voice k w (Err e) x → made ≤ first → Halted voice h v x made
-  mark_refused way new h weight high row now v w x e first made None c d p l = absurd (err_ok e p.0)
-  mark_refused way new h weight high row now v w x e first made (Some m) c d p l = record {
-    front = d.bits;
-    texts = text m ∷ [];
-    rest = with_looks d.back (then_frame b plain voice.loud d.pushed (way_heard b plain voice.loud way new));
-    mid = w;
-    told = d.told;
-    refusal = e;
-    prints = p.0;
-    reads = subst (λ (z : Option Mark). h ≡ heard_bits voice.loud d.bits (with_texts voice.loud (mark_texts z) (with_looks d.back (then_frame b plain voice.loud d.pushed (way_heard b plain voice.loud way new))))) (sym c) d.reads;
-    enough = omega (arith, l, d.late);
-    exact = λ q. absurd (false≢true (p.1 q));
-    fails = λ q. absurd (false≢true (p.1 q));
-  }
+  mark_refused : (q : Point) (new t : State) (words : ℕ) (h : Heard) (weight high : ℕ) (row now : List Frame) (v w x : V) (e : SinkRefused) (first made : ℕ) (k : Option Mark) → k ≡ new.mark
+      → (d : Went (env voice b plain) (part words h weight high) (turn new row v 0) q (turn new now w first)) → (d.said ≡ None) ⊎ (new.mark ≡ None) → Puts voice k w (Err e) x → made ≤ first
+      → Halted (env voice b plain) (part words h weight high) (turn t row v 0) (turn t now x made)
+  mark_refused q new t words h weight high row now v w x e first made None c d o p l = absurd (err_ok e p.0)
+  mark_refused q new t words h weight high row now v w x e first made (Some m) c d (inr o) p l = absurd (some_none m (c ∙ o))
+  mark_refused q new t words h weight high row now v w x e first made (Some m) c d (inl o) p l =
+      let u = then_frame b plain voice.loud d.pushed (share_of b plain voice.loud q new) in
+      let same : v ≡ w = subst (λ (z : Option Stretch). Told (env voice b plain) z v w) o d.told in
+      record {
+        front = d.front;
+        said = Fixed m;
+        rest = with_looks d.back u;
+        refusal = e;
+        prints = subst (λ (z : V). voice.prints z (text m ∷ []) (Err e) x) (sym same) p.0;
+        reads = d.reads ∙ (ap (λ (z : Option Stretch). taken d.front z new.mark d.back u) o ∙ ap (λ (z : Option Mark). taken d.front None z d.back u) (sym c));
+        few = omega (arith, d.few);
+        enough = omega (arith, l, d.late);
+        exact = λ q. absurd (false≢true (p.1 q));
+        fails = λ q. absurd (false≢true (p.1 q));
+      }
 
   kept_pushed : (row now : List Frame) (p : Option Frame) → now ≡ pushed_on row p → Kept row now
   kept_pushed row now None e = ([], e ∙ sym (Rattle.std.proofs.lemmas.List.append-nil row))
   kept_pushed row now (Some f) e = (f ∷ [], e)
 
   pub step_refused : (p q : Point) (s new : State) (t : State) (row now : List Frame) (v w x : V) (e : SinkRefused) (first made : ℕ)
-      → DidOn voice b plain (share_of b plain voice.loud p s) (weight_at p) (height_at p s.depth_left) row v (Ok q) new now w first → Puts voice new.mark w (Err e) x → made ≤ first
+      → DidOn voice b plain (words_at p) (share_of b plain voice.loud p s) (weight_at p) (height_at p s.depth_left) row v (Ok q) new now w first → Puts voice new.mark w (Err e) x → made ≤ first
       → Stepped voice b plain p s row v (Err e) t now x made
   step_refused p q s new t row now v w x e first made d k l = record {
-    steps = (mark_refused (goes q) new _ _ _ row now v w x e first made new.mark refl d.comes k l, kept_pushed row now d.comes.pushed d.comes.is_row);
+    steps = (mark_refused q new t _ _ _ _ row now v w x e first made new.mark refl d.comes d.comes.one k l, kept_pushed row now d.comes.pushed d.comes.is_row);
   }
 
   -- which error is answered makes no difference
@@ -186,87 +218,63 @@ module _ {V : Type 0} (voice : Ghosts V) (b : List ℕ) (plain : Bool) where
   stepped_err p s t row now v w made e (Ok q) h d = absurd (false≢true h)
   stepped_err p s t row now v w made e (Err f) h d = record { steps = d.steps }
 
-  followed_said : (p : Option Frame) (ts : List Text) → then_frame b plain voice.loud p (with_texts voice.loud ts (nothing_heard None false)) ≡ with_texts voice.loud ts (then_frame b plain voice.loud p (nothing_heard None false))
-  unfolding then_frame
-  followed_said None ts = refl
-  followed_said (Some f) ts = Rattle.demangle_v0.proofs.Hearing.handing_then voice.loud ts (nothing_heard None false) (share b plain voice.loud f)
-
-  pub followed_failed : (p : Option Frame) → IsInner p → (then_frame b plain voice.loud p (nothing_heard None false)).place ≡ None
-  unfolding then_frame
-  followed_failed None q = refl
-  followed_failed (Some f) q = share_failed b plain voice.loud f.point f.in_value f.letter f.depth_left f.number false q
-
-  unput : (m : Option Mark) (v : V) → m ≡ None → Puts voice m v (Ok tt) v
-  unput None v e = (refl, refl)
-  unput (Some m) v e = absurd (some_none e)
-    where
-      some_none : Some m ≡ None → ⊥
-      some_none z = cc
-
   -- a fault comes with no mark, so that one stretch is handed over
-  pub fault_unmarked : (h : Heard) (weight high : ℕ) (row : List Frame) (v : V) (f : Mark) (new : State) (now : List Frame) (w : V) (made : ℕ) → DidOn voice b plain h weight high row v (Err (Fault f)) new now w made → new.mark ≡ None
-  fault_unmarked h weight high row v f new now w made z = z.comes.1
+  pub fault_unmarked : (words : ℕ) (h : Heard) (weight high : ℕ) (row : List Frame) (v : V) (f : Mark) (new : State) (now : List Frame) (w : V) (made : ℕ) → DidOn voice b plain words h weight high row v (Err (Fault f)) new now w made → new.mark ≡ None
+  fault_unmarked words h weight high row v f new now w made z = z.comes.unmarked
 
   -- the text of the fault was handed over
   pub fault_goes : (p : Point) (f : Mark) (s new t : State) (row now : List Frame) (v x y : V) (first made : ℕ)
-      → DidOn voice b plain (share_of b plain voice.loud p s) (weight_at p) (height_at p s.depth_left) row v (Err (Fault f)) new now x first → voice.prints x (text f ∷ []) (Ok tt) y
+      → DidOn voice b plain (words_at p) (share_of b plain voice.loud p s) (weight_at p) (height_at p s.depth_left) row v (Err (Fault f)) new now x first → voice.prints x (text f ∷ []) (Ok tt) y
       → t.mark ≡ None → t.place ≡ None → t.is_open ≡ false → made ≤ first
       → Stepped voice b plain p s row v (Ok point.End) t now y made
-  unfolding share_at
-  fault_goes p f s new t row now v x y first made z u c i o l =
-      let d = put_way (fails f) new _ _ _ row now v x x first made refl refl (λ g. g) z.comes.0 (unput new.mark x z.comes.1) l in
+  unfolding share_at then_frame
+  fault_goes p f s new t row now v x y first made z u c i o l = let d = z.comes in record {
+    steps = (
       record {
-        steps = (
-          record {
-            bits = d.bits ++ (pays d.back ∷ puts (text f ∷ []) ∷ []);
-            back = [];
-            pushed = d.pushed;
-            told = told_append voice v x y d.bits (pays d.back ∷ puts (text f ∷ []) ∷ []) d.told (y, u, refl);
-            reads = d.reads
-                ∙ (ap (λ (h : Heard). heard_bits voice.loud d.bits (with_looks d.back h)) (followed_said d.pushed (text f ∷ []))
-                ∙ (sym (bits_append voice.loud d.bits (pays d.back ∷ puts (text f ∷ []) ∷ []) (then_frame b plain voice.loud d.pushed (nothing_heard None false)))
-                ∙ rw (c, i, o) refl));
-            is_row = d.is_row;
-            enough = omega (arith, d.enough, looks_append d.bits (pays d.back ∷ puts (text f ∷ []) ∷ []));
-            late = omega (arith, d.enough, looks_append d.bits (pays d.back ∷ puts (text f ∷ []) ∷ []));
-            lighter = omega (arith, d.lighter, looks_append d.bits (pays d.back ∷ puts (text f ∷ []) ∷ []));
-            outer_height = d.outer_height;
-            inner_height = omega (arith, d.inner_height);
-            outer_fits = d.outer_fits;
-            inner_fits = tt;
-            quiet = d.quiet;
-          },
-          c,
-        );
-      }
+        front = d.front;
+        said = Some (Fixed f);
+        back = [];
+        pushed = None;
+        told = subst (λ (z : V). voice.prints z (text f ∷ []) (Ok tt) y) (sym d.told) u;
+        one = inr c;
+        reads = rw (c, i, o) d.reads;
+        is_row = d.is_row;
+        few = omega (arith, d.few);
+        enough = omega (arith, l, d.enough);
+        late = omega (arith, l, d.enough);
+        lighter = omega (arith, d.lighter);
+        outer_height = omega arith;
+        inner_height = omega arith;
+        outer_fits = tt;
+        inner_fits = tt;
+        quiet = λ _. tt;
+      },
+      c,
+    );
+  }
 
   -- or refused
   pub fault_refused : (p : Point) (f : Mark) (s new t : State) (row now : List Frame) (v x y : V) (e : SinkRefused) (first made : ℕ)
-      → DidOn voice b plain (share_of b plain voice.loud p s) (weight_at p) (height_at p s.depth_left) row v (Err (Fault f)) new now x first → voice.prints x (text f ∷ []) (Err e) y
+      → DidOn voice b plain (words_at p) (share_of b plain voice.loud p s) (weight_at p) (height_at p s.depth_left) row v (Err (Fault f)) new now x first → voice.prints x (text f ∷ []) (Err e) y
       → made ≤ first
       → Stepped voice b plain p s row v (Err e) t now y made
-  fault_refused p f s new t row now v x y e first made z u l =
-      let d = put_way (fails f) new _ _ _ row now v x x first made refl refl (λ g. g) z.comes.0 (unput new.mark x z.comes.1) l in
+  fault_refused p f s new t row now v x y e first made z u l = let d = z.comes in record {
+    steps = (
       record {
-        steps = (
-          record {
-            front = d.bits ++ (pays d.back ∷ []);
-            texts = text f ∷ [];
-            rest = then_frame b plain voice.loud d.pushed (nothing_heard None false);
-            mid = x;
-            told = told_append voice v x x d.bits (pays d.back ∷ []) d.told refl;
-            refusal = e;
-            prints = u;
-            reads = d.reads
-                ∙ (ap (λ (h : Heard). heard_bits voice.loud d.bits (with_looks d.back h)) (followed_said d.pushed (text f ∷ []))
-                ∙ sym (bits_append voice.loud d.bits (pays d.back ∷ []) (with_texts voice.loud (text f ∷ []) (then_frame b plain voice.loud d.pushed (nothing_heard None false)))));
-            enough = omega (arith, d.enough, looks_append d.bits (pays d.back ∷ []));
-            exact = λ q. omega (arith, d.enough, looks_append d.bits (pays d.back ∷ []));
-            fails = λ q. followed_failed d.pushed (d.quiet q);
-          },
-          kept_pushed row now d.pushed d.is_row,
-        );
-      }
+        front = d.front;
+        said = Fixed f;
+        rest = nothing_heard None false;
+        refusal = e;
+        prints = subst (λ (z : V). voice.prints z (text f ∷ []) (Err e) y) (sym d.told) u;
+        reads = d.reads;
+        few = d.few;
+        enough = omega (arith, l, d.enough);
+        exact = λ q. omega (arith, l, d.enough);
+        fails = λ q. refl;
+      },
+      kept_pushed row now None d.is_row,
+    );
+  }
 
 -- What a row still reads.
 
@@ -385,11 +393,11 @@ unfolding share_at
 resumes_heard b plain out base p q s t row now (stays other e k r) = rw (e, k, r) refl
 resumes_heard b plain out base p q s t row now (pops f e l r d k) = rw (e, r, d, k) (row_push b plain out now f s.place s.is_open)
 
-light : (p : Point) → (p ≡ point.End → ⊥) → way_weight (goes p) ≡ weight_at p
+light : (p : Point) → (p ≡ point.End → ⊥) → way_weight p ≡ weight_at p
 light point.End h = absurd (h refl)
 light p h = refl
 
-pub resume_light : (base : ℕ) (p q : Point) (s t : State) (row now : List Frame) → Resumes base p s row q t now → weight_at q + weights now ≤ way_weight (goes p) + weights row
+pub resume_light : (base : ℕ) (p q : Point) (s t : State) (row now : List Frame) → Resumes base p s row q t now → weight_at q + weights now ≤ way_weight p + weights row
 resume_light base p q s t row now (stays other e k r) = rw (e, r) (omega (arith, light p other))
 resume_light base p q s t row now (pops f e l r d k) = rw (r, d) (omega (arith, weights_push now f))
 
@@ -400,15 +408,16 @@ module _ {V : Type 0} (voice : Ghosts V) (b : List ℕ) (plain : Bool) where
 
   -- what a step does over more frames
   pub step_heard : (p q : Point) (s t : State) (row : List Frame) (v w : V) (made : ℕ) (now : List Frame) (z : Stepped voice b plain p s row v (Ok q) t now w made) → (above : List Frame)
-      → reading_owed b plain voice.loud p s above ≡ heard_bits voice.loud (z.steps.0.bits ++ pays z.steps.0.back ∷ []) (reading_owed b plain voice.loud q t (pushed_on above z.steps.0.pushed))
+      → reading_owed b plain voice.loud p s above ≡ heard_bits voice.loud (bits_of voice b plain z.steps.0.front z.steps.0.said z.steps.0.back) (reading_owed b plain voice.loud q t (pushed_on above z.steps.0.pushed))
   step_heard p q s t row v w made now z above =
       let d = z.steps.0 in
       let x = then_frame b plain voice.loud d.pushed (share_of b plain voice.loud q t) in
-      let one : share_of b plain voice.loud p s ≡ heard_bits voice.loud (d.bits ++ pays d.back ∷ []) x =
-      subst (λ (m : Option Mark). share_of b plain voice.loud p s ≡ heard_bits voice.loud d.bits (with_texts voice.loud (mark_texts m) (with_looks d.back x))) z.steps.1 d.reads ∙ sym (bits_append voice.loud d.bits (pays d.back ∷ []) x) in
+      let bits = bits_of voice b plain d.front d.said d.back in
+      let one : share_of b plain voice.loud p s ≡ heard_bits voice.loud bits x =
+      subst (λ (m : Option Mark). share_of b plain voice.loud p s ≡ taken voice b plain d.front d.said m d.back x) z.steps.1 d.reads ∙ sym (bits_heard voice b plain d.front d.said d.back x) in
       ap (λ (h : Heard). and_then h (row_owed b plain voice.loud above)) one
-      ∙ (bits_then voice.loud (d.bits ++ pays d.back ∷ []) x (row_owed b plain voice.loud above)
-      ∙ ap (heard_bits voice.loud (d.bits ++ pays d.back ∷ [])) (followed_row b plain voice.loud above d.pushed (share_of b plain voice.loud q t)))
+      ∙ (bits_then voice.loud bits x (row_owed b plain voice.loud above)
+      ∙ ap (heard_bits voice.loud bits) (followed_row b plain voice.loud above d.pushed (share_of b plain voice.loud q t)))
 
   -- one turn of a reading
   pub turn_less : (base : ℕ) (p q u : Point) (s t r : State) (row mid now : List Frame) (v w : V) (made : ℕ) → Resumes base p s row q t mid → Stepped voice b plain q t mid v (Ok u) r now w made
@@ -421,12 +430,12 @@ module _ {V : Type 0} (voice : Ghosts V) (b : List ℕ) (plain : Bool) where
         resume_light base p q s t row mid x,
         ap (λ (h : Heard). allowed_in h.events) (resumes_heard b plain voice.loud base p q s t row mid x),
         k,
-        allowed_bits voice.loud (d.bits ++ pays d.back ∷ []) (reading_owed b plain voice.loud u r (pushed_on mid d.pushed)),
+        allowed_bits voice.loud (bits_of voice b plain d.front d.said d.back) (reading_owed b plain voice.loud u r (pushed_on mid d.pushed)),
         ap (λ (ys : List Frame). allowed_in (reading_owed b plain voice.loud u r ys).events) d.is_row,
         ap weights d.is_row,
         weights_pushed mid d.pushed,
         d.lighter,
-        looks_append d.bits (pays d.back ∷ []),
+        bits_total voice b plain d.front d.said d.back,
       )
 
 -- Readings without a voice, above other frames.
@@ -460,7 +469,7 @@ module _ {V : Type 0} (voice : Ghosts V) (b : List ℕ) (plain : Bool) (silent :
       → Stepped voice b plain q t mid v (Ok u) r now w second → made ≤ first + second → Reads b plain below p0 s0 above u r now made
   reads_step below above p0 q u s0 t r mid now v w first second made x z l =
       let d = z.steps.0 in
-      let bits = d.bits ++ pays d.back ∷ [] in
+      let bits = bits_of voice b plain d.front d.said d.back in
       let heard : reading_owed b plain false q t x.frames ≡ heard_bits false bits (reading_owed b plain false u r (pushed_on x.frames d.pushed)) =
       subst (λ (out : Bool). reading_owed b plain out q t x.frames ≡ heard_bits out bits (reading_owed b plain out u r (pushed_on x.frames d.pushed))) silent (step_heard voice b plain q u t r mid v w second now z x.frames) in
       record {
@@ -474,7 +483,7 @@ module _ {V : Type 0} (voice : Ghosts V) (b : List ℕ) (plain : Bool) (silent :
             l,
             d.enough,
             x.quiet.looks,
-            looks_append d.bits (pays d.back ∷ []),
+            bits_total voice b plain d.front d.said d.back,
             ap (λ (h : Heard). allowed_in h.events) heard,
             allowed_bits false bits (reading_owed b plain false u r (pushed_on x.frames d.pushed)),
           );
@@ -487,15 +496,16 @@ module _ {V : Type 0} (voice : Ghosts V) (b : List ℕ) (plain : Bool) (silent :
   reads_turn base below above p0 p q u s0 s t r row mid now v w first second made x l k z m =
       reads_step below above p0 q u s0 t r mid now v w first second made (reads_resume base below above p0 p q s0 s t row mid first x l k) z m
 
-  stop_quiet : (q : Point) (t : State) (frames : List Frame) (v w : V) (made : ℕ) → AllInner frames → Halted voice (share_of b plain voice.loud q t) v w made
+  stop_quiet : (q : Point) (t r : State) (frames row now : List Frame) (v w : V) (made : ℕ) → AllInner frames → Halted (env voice b plain) (whole (env voice b plain) q t) (turn r row v 0) (turn r now w made)
       → ((reading_owed b plain false q t frames).place ≡ None) × (made ≤ allowed_in (reading_owed b plain false q t frames).events)
-  stop_quiet q t frames v w made i d =
-      let rest = and_then (with_texts false d.texts d.rest) (row_owed b plain false frames) in
-      let heard : reading_owed b plain false q t frames ≡ heard_bits false d.front rest =
-      ap (λ (h : Heard). and_then h (row_owed b plain false frames)) (subst (λ (out : Bool). share_of b plain out q t ≡ heard_bits out d.front (with_texts out d.texts d.rest)) silent d.reads)
-      ∙ bits_then false d.front (with_texts false d.texts d.rest) (row_owed b plain false frames) in (
-        ap (λ (h : Heard). h.place) heard ∙ (place_bits false d.front rest ∙ row_failed b plain false frames d.rest.place d.rest.is_open i (d.fails silent)),
-        omega (arith, d.exact silent, ap (λ (h : Heard). allowed_in h.events) heard, allowed_bits false d.front rest),
+  stop_quiet q t r frames row now v w made i d =
+      let texts = texts_of b plain d.said in
+      let rest = and_then (with_texts false texts d.rest) (row_owed b plain false frames) in
+      let heard : reading_owed b plain false q t frames ≡ heard_bits false (pays d.front ∷ []) rest =
+      ap (λ (h : Heard). and_then h (row_owed b plain false frames)) (subst (λ (out : Bool). share_of b plain out q t ≡ heard_bits out (pays d.front ∷ []) (with_texts out texts d.rest)) silent d.reads)
+      ∙ bits_then false (pays d.front ∷ []) (with_texts false texts d.rest) (row_owed b plain false frames) in (
+        ap (λ (h : Heard). h.place) heard ∙ (place_bits false (pays d.front ∷ []) rest ∙ row_failed b plain false frames d.rest.place d.rest.is_open i (d.fails silent)),
+        omega (arith, d.exact silent, ap (λ (h : Heard). allowed_in h.events) heard, allowed_bits false (pays d.front ∷ []) rest),
       )
 
   -- it failed
@@ -503,7 +513,7 @@ module _ {V : Type 0} (voice : Ghosts V) (b : List ℕ) (plain : Bool) (silent :
       → Resumes base p s row q t mid → Stepped voice b plain q t mid v (Err e) r now w second → made ≤ first + second → ReadOn b plain below p0 s0 above halt.Failed end u now made
   reads_fail base below above p0 p q end s0 s t r u row mid now v w first second made e x l k z h =
       let y = reads_resume base below above p0 p q s0 s t row mid first x l k in
-      let f = stop_quiet q t y.frames v w second y.inner z.steps.0 in
+      let f = stop_quiet q t r y.frames mid now v w second y.inner z.steps.0 in
       record {
         reads = (
           record { place = sym y.quiet.place ∙ f.0; looks = omega (arith, h, f.1, y.quiet.looks) },

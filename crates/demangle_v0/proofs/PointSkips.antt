@@ -4,13 +4,13 @@ use Rattle.std.proofs.Common.{◌≡◌, ℕ, ◌+◌, ◌≤◌, ◌<◌, Bool,
 use Rattle.std.proofs.lemmas.Bool.{false≢true}
 use Rattle.std.proofs.lemmas.List.{append-nil}
 use Rattle.std.proofs.Math.Seq.{take-append_seam}
-use Rattle.demangle_v0.specs.Events.{Heard, of, and_then, with_looks}
+use Rattle.demangle_grammar.specs.Events.{Heard, of, and_then, with_looks, around}
 use Rattle.demangle_v0.specs.Impls.{skip_point, self_point, is_skip}
-use Rattle.demangle_v0.specs.Items.{Items, a_path, a_type, done, child}
-use Rattle.demangle_v0.specs.Table.{says}
-use Rattle.demangle_v0.specs.Reading.{Place, unit_outcome, run}
-use Rattle.demangle_v0.specs.Running.{allowed_in}
-use Rattle.demangle_v0.specs.Points.{most_frames, pays, heard_bits, goes, way_weight, weights, measure, share_at, share_of, row_owed, reading_owed, none_open, around}
+use Rattle.demangle_grammar.specs.Items.{Items, a_path, a_type, done, child}
+use Rattle.demangle_grammar.specs.Table.{says}
+use Rattle.demangle_grammar.specs.Reading.{Place, unit_outcome, run}
+use Rattle.demangle_grammar.specs.Running.{allowed_in}
+use Rattle.demangle_v0.specs.Points.{most_frames, pays, heard_bits, way_weight, weights, measure, share_at, share_of, row_owed, reading_owed, none_open}
 use Rattle.demangle_v0.specs.PointRuns.{Resumes, Valid, frame_height, Quiet, Reads, ReadOn, Skipped, Skipping, silent_of, own_path, own_heard, state_at, first_looks}
 use Rattle.demangle_v0.specs.declared.points.Point.{Point}
 use Rattle.demangle_v0.specs.declared.points.Point.TheVariants as point
@@ -18,11 +18,11 @@ use Rattle.demangle_v0.specs.declared.points.frames.Frame.{Frame}
 use Rattle.demangle_v0.specs.declared.points.State.{State}
 use Rattle.demangle_v0.specs.declared.points.read.Halt.TheVariants as halt
 use Rattle.demangle_v0.specs.declared.points.read.Reading.{Reading}
-use Rattle.demangle_v0.proofs.Hearing.{allowing_then}
+use Rattle.demangle_grammar.proofs.Hearing.{allowing_then}
 use Rattle.demangle_v0.proofs.Heights.{stands_on}
 use Rattle.demangle_v0.proofs.PointRuns.{allowed_bits, reads_none, resumes_heard, resume_light}
 use Rattle.demangle_v0.proofs.PointWholes.{owed_alone, over_place}
-use Rattle.demangle_v0.proofs.SkippedPaths.{allowances, skip_reads, skip_failed}
+use Rattle.demangle_grammar.proofs.SkippedPaths.{allowances, skip_reads, skip_failed}
 use Rattle.demangle_v0.proofs.PointSteps.{way_light}
 
 -- Where it is read and printing goes on.
@@ -40,7 +40,7 @@ skip_unread p s e = absurd (false≢true e)
 
 -- Where a unit is over and another goes on.
 
-resumes_weight : (base : ℕ) (p q : Point) (s t : State) (row now : List Frame) → Resumes base p s row q t now → way_weight (goes q) + weights now ≤ way_weight (goes p) + weights row
+resumes_weight : (base : ℕ) (p q : Point) (s t : State) (row now : List Frame) → Resumes base p s row q t now → way_weight q + weights now ≤ way_weight p + weights row
 resumes_weight base p q s t row now x = omega (arith, resume_light base p q s t row now x, way_light q)
 
 resumes_less : (b : List ℕ) (plain out : Bool) (base : ℕ) (p q : Point) (s t : State) (row now : List Frame) → Resumes base p s row q t now → measure b plain out q t now ≤ measure b plain out p s row
@@ -56,7 +56,7 @@ unfolding share_at
 own_is b plain s = owed_alone b plain false point.Path (silent_of s)
 
 skip_items : (b : List ℕ) (plain : Bool) (p : Items) (left n : ℕ) (i : Place)
-    → none_open (of plain true (run (Rattle.demangle_v0.specs.Items.skip p) (around b true left n) i)) ≡ with_looks (allowances (read_own b plain left n i).events) (none_open (of plain true (run p (around b true left n) (read_own b plain left n i).place)))
+    → none_open (of plain true (run (Rattle.demangle_grammar.specs.Items.skip p) (around b true left n) i)) ≡ with_looks (allowances (read_own b plain left n i).events) (none_open (of plain true (run p (around b true left n) (read_own b plain left n i).place)))
 unfolding run
 skip_items b plain p left n None = ap none_open (skip_failed plain true p (around b true left n))
 skip_items b plain p left n (Some i) = ap none_open (skip_reads plain true b left n false n p i)
@@ -93,7 +93,7 @@ behind_valid false s i row v = record { stands = v.stands; fits = v.fits; all_fi
 pub skipped_valid : (q : Bool) (b : List ℕ) (plain : Bool) (p : Point) (s t : State) (below now : List Frame) (made : ℕ) → Skipped b plain q s below p t now made → Valid (skip_point q) s below → Valid p t now
 skipped_valid q b plain p s t below now made k v = rw (k.at, k.state, k.is_row) (behind_valid q s k.place below v)
 
-weight_less : (q : Bool) → way_weight (goes (self_point q)) < way_weight (goes (skip_point q))
+weight_less : (q : Bool) → way_weight ((self_point q)) < way_weight ((skip_point q))
 weight_less true = omega arith
 weight_less false = omega arith
 
@@ -103,7 +103,7 @@ skipped_less q b plain p s t below now made k =
     omega (
       arith,
       weight_less q,
-      ap (λ (z : Point). way_weight (goes z)) k.at,
+      ap (λ (z : Point). way_weight z) k.at,
       ap weights k.is_row,
       ap (λ (h : Heard). allowed_in h.events) (skipped_owed q b plain p s t below now made k),
       allowed_bits true (pays ks ∷ []) (reading_owed b plain true p t now),

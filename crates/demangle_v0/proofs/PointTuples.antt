@@ -1,23 +1,29 @@
 -- The points of tuple types.
 use Rattle.std.specs.Prelude.{◌*◌}
-use Rattle.std.proofs.Common.{◌≡◌, ℕ, ◌+◌, ◌≤◌, Bool, true, false, Some, None, List, [], ◌∷◌, ◌++◌, Ok, refl, arith, ap, ◌∙◌}
+use Rattle.std.proofs.Common.{◌≡◌, ℕ, ◌+◌, ◌≤◌, Bool, true, false, Option, Some, None, List, [], ◌∷◌, ◌++◌, Ok, refl, arith, sym, ap, ◌∙◌, length}
+use Prim.Native.Char.{code}
 use Prim.Native.String.{String}
-use Rattle.demangle_v0.specs.Items.{a_type, Items, done, unit}
-use Rattle.demangle_v0.specs.Totals.{total}
-use Rattle.demangle_v0.specs.Events.{Heard, of, with_looks, with_texts}
-use Rattle.demangle_v0.specs.Grammar.{text}
-use Rattle.demangle_v0.specs.Table.{at_end, more, type_inside, says}
-use Rattle.demangle_v0.specs.Reading.{Place, run}
-use Rattle.demangle_v0.specs.Points.{frame_of, then_frame, share_at, none_open, around, Fits, DidOn, is_list_over, behind_list, list_costs}
-use Rattle.demangle_v0.specs.declared.grammar.Mark.TheVariants as mark
+use Rattle.std.proofs.lemmas.Bool.{false≢true}
+use Rattle.std.proofs.lemmas.List.{append-nil}
+use Rattle.demangle_symbol.specs.Digits.{is_byte}
+use Rattle.demangle_words.specs.declared.texts.Mark.{Mark}
+use Rattle.demangle_v0.specs.declared.points.Point.{Point}
+use Rattle.demangle_grammar.specs.Items.{a_type, Items, done, unit}
+use Rattle.demangle_grammar.specs.Totals.{total}
+use Rattle.demangle_grammar.specs.Events.{Heard, of, and_then, with_looks, with_texts, around}
+use Rattle.demangle_words.specs.Texts.{text}
+use Rattle.demangle_grammar.specs.Table.{at_end, more, type_inside, says}
+use Rattle.demangle_grammar.specs.Reading.{Place, run}
+use Rattle.demangle_v0.specs.Points.{mark_texts, frame_at, then_frame, share, share_at, share_of, none_open, weight_at, height_at, is_inner, Fits, Turn, Env, part, MayRead, Does, PointDoes, Paid, is_list_over, behind_list, list_costs}
+use Rattle.demangle_words.specs.declared.texts.Mark.TheVariants as mark
 use Rattle.demangle_v0.specs.declared.points.Point.TheVariants as point
 use Rattle.demangle_v0.specs.declared.points.frames.Frame.{Frame}
 use Rattle.demangle_v0.specs.declared.points.State.{State}
-use Rattle.demangle_v0.specs.declared.points.voice.Voice.{Ghosts}
-use Rattle.demangle_v0.proofs.Elements.{type_element}
-use Rattle.demangle_v0.proofs.ListReads.{child_followed, end_failed, end_over, more_failed, more_over, tuple_on, second_on, more_on}
-use Rattle.demangle_v0.proofs.PointSteps.{heard}
-use Rattle.demangle_v0.proofs.PointTypes.{heard_at, enters}
+use Rattle.demangle_words.specs.declared.voice.Voice.{Ghosts}
+use Rattle.demangle_grammar.proofs.Elements.{type_element}
+use Rattle.demangle_grammar.proofs.ListReads.{second, child_followed, end_failed, end_over, more_failed, more_over, tuple_on, second_on, more_on}
+use Rattle.demangle_v0.proofs.PointSteps.{heard, total_both}
+use Rattle.demangle_v0.proofs.PointTurns.{list_short, list_few, list_words, leaves}
 
 module _ {V : Type 0} (voice : Ghosts V) (b : List ℕ) (plain : Bool) where
   -- A list that is over.
@@ -30,65 +36,89 @@ module _ {V : Type 0} (voice : Ghosts V) (b : List ℕ) (plain : Bool) where
   rest_over left n text element p None e = ap none_open (more_failed plain voice.loud (around b voice.loud left n) text element p)
   rest_over left n text element p (Some i) e = rw e (ap none_open (more_over plain voice.loud (around b voice.loud left n) text element p i e))
 
-  -- the first type of a tuple
-  pub first_closes : (v : Bool) (c left n : ℕ) (i : Place) (o : Bool) (row : List Frame) (u : V) (new : State) (made : ℕ) → is_list_over b i ≡ true → made ≤ total (list_costs i)
-      → new.place ≡ behind_list b i → new.mark ≡ Some mark.CloseParen → new.is_open ≡ false
-      → DidOn voice b plain (heard_at voice b plain point.FirstTupleType v c left n i o) 1 (8 * left + 2) row u (Ok point.End) new row u made
-  unfolding run then_frame share_at
-  first_closes v c left n i o row u new made e l kp km ko =
-      enters voice b plain _ point.End new.depth_left new.lifetimes (behind_list b i) (Some mark.CloseParen) (list_costs i) [] None 1 (8 * left + 2) row row u new made
-      (rw ko (list_over left n (says ")" done) (unit type_inside (at_end (says "," (says ")" done)) (more ", " type_inside (says ")" done)))) i e)) refl refl kp km refl (omega (arith, l)) (omega (arith, l)) (omega arith) (omega arith) (omega arith) tt tt (λ _. tt)
+-- a list that is not over
+on : (b : List ℕ) (i : Place) → is_list_over b i ≡ false → (k : ℕ) × (i ≡ Some k) × (is_byte b k (code "E") ≡ false) × (behind_list b i ≡ Some k)
+on b None h = absurd (false≢true (sym h))
+on b (Some k) h = (k, refl, h, rw h refl)
 
-  pub first_goes : (v : Bool) (c left n : ℕ) (i : Place) (o : Bool) (row now : List Frame) (u : V) (new : State) (made : ℕ) → is_list_over b i ≡ false → made ≤ total (list_costs i) → Fits point.FirstTupleType left n
-      → new.depth_left ≡ left → new.lifetimes ≡ n → new.place ≡ behind_list b i → new.mark ≡ None
-      → now ≡ row ++ frame_of point.SecondTupleType v c left n ∷ []
-      → DidOn voice b plain (heard_at voice b plain point.FirstTupleType v c left n i o) 1 (8 * left + 2) row u (Ok point.«Type») new now u made
+abbrev closed : {V : Type 0} → Turn V → Place → ℕ → Turn V
+closed t j n = record t { state = record t.state { place = j; mark = Some mark.CloseParen; is_open = false }; looks = n }
+
+abbrev entered : {V : Type 0} → Turn V → Place → Option Mark → List Frame → ℕ → Turn V
+entered t j m row n = record t { state = record t.state { place = j; mark = m }; row = row; looks = n }
+
+abbrev left_at : {V : Type 0} → Env V → Items → State → Place → Heard
+left_at e p s i = heard e.voice e.symbol e.plain p s.depth_left s.lifetimes i
+
+-- a type behind a mark, and what stands behind it
+abbrev type_then : {V : Type 0} → Env V → Option Mark → Point → State → ℕ → Heard
+type_then e m f s i = with_texts e.voice.loud (mark_texts m) (and_then (share_of e.symbol e.plain e.voice.loud point.«Type» (record s { place = Some i })) (share e.symbol e.plain e.voice.loud (frame_at f s)))
+
+first_heard : {V : Type 0} (e : Env V) (s : State) (k : ℕ) → s.place ≡ Some k → is_byte e.symbol k (code "E") ≡ false → share_of e.symbol e.plain e.voice.loud point.FirstTupleType s ≡ with_looks (1 ∷ []) (type_then e (None) point.SecondTupleType s k)
+unfolding run share_at
+first_heard e s k at z =
+    let a = around e.symbol e.voice.loud s.depth_left s.lifetimes in
+    rw at (ap none_open (tuple_on e.plain e.voice.loud a type_inside (says ")" done) k z
+    ∙ ap (with_looks (1 ∷ [])) (child_followed e.plain e.voice.loud a_type false a (Some k) (λ j. of e.plain e.voice.loud (run (second type_inside (says ")" done)) a j)))))
+
+second_heard : {V : Type 0} (e : Env V) (s : State) (k : ℕ) → s.place ≡ Some k → is_byte e.symbol k (code "E") ≡ false → Fits point.«Type» s.depth_left s.lifetimes → share_of e.symbol e.plain e.voice.loud point.SecondTupleType s ≡ with_looks (1 ∷ 1 ∷ []) (type_then e (Some mark.Comma) point.NextTupleType s k)
+unfolding run share_at
+second_heard e s k at z f =
+    let a = around e.symbol e.voice.loud s.depth_left s.lifetimes in
+    rw at (ap none_open (second_on e.plain e.voice.loud e.symbol s.depth_left s.lifetimes type_inside (says ")" done) k (type_element e.symbol e.voice.loud s.depth_left s.lifetimes (omega (arith, f))) z
+    ∙ ap (λ (h : Heard). with_looks (1 ∷ 1 ∷ []) (with_texts e.voice.loud (text mark.Comma ∷ []) h)) (child_followed e.plain e.voice.loud a_type false a (Some k) (λ j. of e.plain e.voice.loud (run (more ", " type_inside (says ")" done)) a j)))))
+
+next_heard : {V : Type 0} (e : Env V) (s : State) (k : ℕ) → s.place ≡ Some k → is_byte e.symbol k (code "E") ≡ false → Fits point.«Type» s.depth_left s.lifetimes → share_of e.symbol e.plain e.voice.loud point.NextTupleType s ≡ with_looks (1 ∷ []) (type_then e (Some mark.Comma) point.NextTupleType s k)
+unfolding run share_at
+next_heard e s k at z f =
+    let a = around e.symbol e.voice.loud s.depth_left s.lifetimes in
+    rw at (ap none_open (more_on e.plain e.voice.loud e.symbol s.depth_left s.lifetimes ", " type_inside (says ")" done) k (type_element e.symbol e.voice.loud s.depth_left s.lifetimes (omega (arith, f))) z
+    ∙ ap (λ (h : Heard). with_looks (1 ∷ []) (with_texts e.voice.loud (text mark.Comma ∷ []) h)) (child_followed e.plain e.voice.loud a_type false a (Some k) (λ j. of e.plain e.voice.loud (run (more ", " type_inside (says ")" done)) a j)))))
+
+module _ {V : Type 0} {e : Env V} where
+  closes : {t : Turn V} {h : Heard} {high : ℕ} {j : Place} {n : ℕ} → h ≡ with_looks (list_costs t.state.place) (left_at e (says ")" done) t.state (behind_list e.symbol t.state.place)) → j ≡ behind_list e.symbol t.state.place → Paid t.looks (list_costs t.state.place) n
+      → Does e t (part 8 h 1 high) (Ok point.End) (closed t j n)
   unfolding run then_frame share_at
-  first_goes v c left n None o row now u new made e l f kl kn kp km r = cc
-  first_goes v c left n (Some i) o row now u new made e l f kl kn kp km r =
-      enters voice b plain _ point.«Type» left n (Some i) None (1 ∷ []) [] (Some (frame_of point.SecondTupleType v c left n)) 1 (8 * left + 2) row now u new made
-      (ap none_open (tuple_on plain voice.loud (around b voice.loud left n) type_inside (says ")" done) i e
-      ∙ ap (with_looks (1 ∷ [])) (child_followed plain voice.loud a_type false (around b voice.loud left n) (Some i) (λ j. of plain voice.loud (run (at_end (says "," (says ")" done)) (more ", " type_inside (says ")" done))) (around b voice.loud left n) j)))))
-      kl kn (rw e at kp) km r (omega (arith, l)) (omega (arith, l)) (omega arith) (omega arith) (omega arith) f f (λ _. refl)
+  closes {t} r k p = let short = list_short e.symbol t.state.place in leaves point.End (list_costs t.state.place) [] (omega (arith, list_words t.state.place)) None (rw k r) refl (rw append-nil p) (omega arith) (omega (arith, p.within, short)) (omega arith) (omega arith) (omega arith) tt tt (λ _. tt)
+
+  -- a type is entered, behind these looks and this mark
+  enters_type : {t : Turn V} {h : Heard} {weight high : ℕ} {j : Place} {m : Option Mark} {row : List Frame} {n : ℕ} (i : ℕ) (ks : List ℕ) → length ks ≤ 8 → (f : Point) → t.state.place ≡ Some i
+      → h ≡ with_looks ks (type_then e m f t.state i)
+      → j ≡ Some i → Paid t.looks (list_costs t.state.place) n → row ≡ t.row ++ frame_at f t.state ∷ [] → 1 ≤ total ks → total ks ≤ 2 → weight_at f + 3 ≤ weight + 100 * total ks
+      → height_at f t.state.depth_left ≤ high → 8 * t.state.depth_left + 2 ≤ high → Fits f t.state.depth_left t.state.lifetimes → Fits point.«Type» t.state.depth_left t.state.lifetimes → is_inner f ≡ true
+      → Does e t (part 8 h weight high) (Ok point.«Type») (entered t j m row n)
+  unfolding then_frame share_at
+  enters_type {t} i ks few f at r k p q least most w x y g z o =
+      let one : total (list_costs t.state.place) ≤ total (ks ++ []) = omega (arith, list_few t.state.place, least, total_both ks []) in
+      leaves point.«Type» ks [] (omega (arith, few)) (Some (frame_at f t.state)) (rw k r) q (record { grows = p.grows; within = omega (arith, p.within, one) }) (omega arith) (omega (arith, p.within, list_short e.symbol t.state.place)) (omega (arith, w)) x (omega (arith, y)) g z (λ _. o)
+
+  -- the first type of a tuple
+  pub first_closes : {t : Turn V} {j : Place} {n : ℕ} → is_list_over e.symbol t.state.place ≡ true → j ≡ behind_list e.symbol t.state.place → Paid t.looks (list_costs t.state.place) n → PointDoes e point.FirstTupleType t (Ok point.End) (closed t j n)
+  unfolding share_at
+  first_closes {t} h k p = closes {t = t} (list_over e.voice e.symbol e.plain t.state.depth_left t.state.lifetimes (says ")" done) (unit type_inside (second type_inside (says ")" done))) t.state.place h) k p
+
+  pub first_goes : {t : Turn V} {j : Place} {row : List Frame} {n most : ℕ} → is_list_over e.symbol t.state.place ≡ false → j ≡ behind_list e.symbol t.state.place → Paid t.looks (list_costs t.state.place) n → MayRead point.FirstTupleType most t.state t.row
+      → row ≡ t.row ++ frame_at point.SecondTupleType t.state ∷ [] → PointDoes e point.FirstTupleType t (Ok point.«Type») (entered t j t.state.mark row n)
+  first_goes {t} h k p may r = let i = on e.symbol t.state.place h in enters_type i.0 (1 ∷ []) (omega arith) point.SecondTupleType i.1 (rw may.unmarked (first_heard e t.state i.0 i.1 i.2)) (k ∙ i.3) p r (omega arith) (omega arith) (omega arith) (omega arith) (omega arith) may.fits may.fits refl
 
   -- the second, or the comma behind one that stands alone
-  pub second_closes : (v : Bool) (c left n : ℕ) (i : Place) (o : Bool) (row : List Frame) (u : V) (new : State) (made : ℕ) → is_list_over b i ≡ true → made ≤ total (list_costs i) → Fits point.SecondTupleType left n
-      → new.depth_left ≡ left → new.lifetimes ≡ n → new.place ≡ behind_list b i → new.mark ≡ Some mark.OneComma
-      → DidOn voice b plain (heard_at voice b plain point.SecondTupleType v c left n i o) 2 (8 * left + 2) row u (Ok point.CloseParen) new row u made
+  pub second_closes : {t : Turn V} {j : Place} {n most : ℕ} → is_list_over e.symbol t.state.place ≡ true → j ≡ behind_list e.symbol t.state.place → Paid t.looks (list_costs t.state.place) n → MayRead point.SecondTupleType most t.state t.row
+      → PointDoes e point.SecondTupleType t (Ok point.CloseParen) (entered t j (Some mark.OneComma) t.row n)
   unfolding run then_frame share_at
-  second_closes v c left n i o row u new made e l f kl kn kp km =
-      enters voice b plain _ point.CloseParen left n (behind_list b i) (Some mark.OneComma) (list_costs i) [] None 2 (8 * left + 2) row row u new made
-      (list_over left n (says "," (says ")" done)) (more ", " type_inside (says ")" done)) i e) kl kn kp km refl (omega (arith, l)) (omega (arith, l)) (omega arith) (omega arith) (omega arith) tt f (λ _. tt)
+  second_closes {t} h k p may =
+      let short = list_short e.symbol t.state.place in
+      leaves point.CloseParen (list_costs t.state.place) [] (omega (arith, list_words t.state.place)) None (rw k (list_over e.voice e.symbol e.plain t.state.depth_left t.state.lifetimes (says "," (says ")" done)) (more ", " type_inside (says ")" done)) t.state.place h)) refl
+      (rw append-nil p) (omega arith) (omega (arith, p.within, short)) (omega arith) (omega arith) (omega arith) tt may.fits (λ _. tt)
 
-  pub second_goes : (v : Bool) (c left n : ℕ) (i : Place) (o : Bool) (row now : List Frame) (u : V) (new : State) (made : ℕ) → is_list_over b i ≡ false → made ≤ total (list_costs i) → Fits point.SecondTupleType left n
-      → new.depth_left ≡ left → new.lifetimes ≡ n → new.place ≡ behind_list b i → new.mark ≡ Some mark.Comma
-      → now ≡ row ++ frame_of point.NextTupleType v c left n ∷ []
-      → DidOn voice b plain (heard_at voice b plain point.SecondTupleType v c left n i o) 2 (8 * left + 2) row u (Ok point.«Type») new now u made
-  unfolding run then_frame share_at
-  second_goes v c left n None o row now u new made e l f kl kn kp km r = cc
-  second_goes v c left n (Some i) o row now u new made e l f kl kn kp km r =
-      enters voice b plain _ point.«Type» left n (Some i) (Some mark.Comma) (1 ∷ 1 ∷ []) [] (Some (frame_of point.NextTupleType v c left n)) 2 (8 * left + 2) row now u new made
-      (ap none_open (second_on plain voice.loud b left n type_inside (says ")" done) i (type_element b voice.loud left n (omega (arith, f))) e
-      ∙ ap (λ (h : Heard). with_looks (1 ∷ 1 ∷ []) (with_texts voice.loud (text mark.Comma ∷ []) h)) (child_followed plain voice.loud a_type false (around b voice.loud left n) (Some i) (λ j. of plain voice.loud (run (more ", " type_inside (says ")" done)) (around b voice.loud left n) j)))))
-      kl kn (rw e at kp) km r (omega (arith, l)) (omega (arith, l)) (omega arith) (omega arith) (omega arith) f f (λ _. refl)
+  pub second_goes : {t : Turn V} {j : Place} {row : List Frame} {n most : ℕ} → is_list_over e.symbol t.state.place ≡ false → j ≡ behind_list e.symbol t.state.place → Paid t.looks (list_costs t.state.place) n → MayRead point.SecondTupleType most t.state t.row
+      → row ≡ t.row ++ frame_at point.NextTupleType t.state ∷ [] → PointDoes e point.SecondTupleType t (Ok point.«Type») (entered t j (Some mark.Comma) row n)
+  second_goes {t} h k p may r = let i = on e.symbol t.state.place h in enters_type i.0 (1 ∷ 1 ∷ []) (omega arith) point.NextTupleType i.1 (second_heard e t.state i.0 i.1 i.2 may.fits) (k ∙ i.3) p r (omega arith) (omega arith) (omega arith) (omega arith) (omega arith) may.fits may.fits refl
 
   -- a further one
-  pub next_closes : (v : Bool) (c left n : ℕ) (i : Place) (o : Bool) (row : List Frame) (u : V) (new : State) (made : ℕ) → is_list_over b i ≡ true → made ≤ total (list_costs i)
-      → new.place ≡ behind_list b i → new.mark ≡ Some mark.CloseParen → new.is_open ≡ false
-      → DidOn voice b plain (heard_at voice b plain point.NextTupleType v c left n i o) 1 (8 * left + 2) row u (Ok point.End) new row u made
-  unfolding run then_frame share_at
-  next_closes v c left n i o row u new made e l kp km ko =
-      enters voice b plain _ point.End new.depth_left new.lifetimes (behind_list b i) (Some mark.CloseParen) (list_costs i) [] None 1 (8 * left + 2) row row u new made
-      (rw ko (rest_over left n ", " type_inside (says ")" done) i e)) refl refl kp km refl (omega (arith, l)) (omega (arith, l)) (omega arith) (omega arith) (omega arith) tt tt (λ _. tt)
+  pub next_closes : {t : Turn V} {j : Place} {n : ℕ} → is_list_over e.symbol t.state.place ≡ true → j ≡ behind_list e.symbol t.state.place → Paid t.looks (list_costs t.state.place) n → PointDoes e point.NextTupleType t (Ok point.End) (closed t j n)
+  unfolding share_at
+  next_closes {t} h k p = closes {t = t} (rest_over e.voice e.symbol e.plain t.state.depth_left t.state.lifetimes ", " type_inside (says ")" done) t.state.place h) k p
 
-  pub next_goes : (v : Bool) (c left n : ℕ) (i : Place) (o : Bool) (row now : List Frame) (u : V) (new : State) (made : ℕ) → is_list_over b i ≡ false → made ≤ total (list_costs i) → Fits point.NextTupleType left n
-      → new.depth_left ≡ left → new.lifetimes ≡ n → new.place ≡ behind_list b i → new.mark ≡ Some mark.Comma
-      → now ≡ row ++ frame_of point.NextTupleType v c left n ∷ []
-      → DidOn voice b plain (heard_at voice b plain point.NextTupleType v c left n i o) 1 (8 * left + 2) row u (Ok point.«Type») new now u made
-  unfolding run then_frame share_at
-  next_goes v c left n None o row now u new made e l f kl kn kp km r = cc
-  next_goes v c left n (Some i) o row now u new made e l f kl kn kp km r =
-      enters voice b plain _ point.«Type» left n (Some i) (Some mark.Comma) (1 ∷ []) [] (Some (frame_of point.NextTupleType v c left n)) 1 (8 * left + 2) row now u new made
-      (ap none_open (more_on plain voice.loud b left n ", " type_inside (says ")" done) i (type_element b voice.loud left n (omega (arith, f))) e
-      ∙ ap (λ (h : Heard). with_looks (1 ∷ []) (with_texts voice.loud (text mark.Comma ∷ []) h)) (child_followed plain voice.loud a_type false (around b voice.loud left n) (Some i) (λ j. of plain voice.loud (run (more ", " type_inside (says ")" done)) (around b voice.loud left n) j)))))
-      kl kn (rw e at kp) km r (omega (arith, l)) (omega (arith, l)) (omega arith) (omega arith) (omega arith) f f (λ _. refl)
+  pub next_goes : {t : Turn V} {j : Place} {row : List Frame} {n most : ℕ} → is_list_over e.symbol t.state.place ≡ false → j ≡ behind_list e.symbol t.state.place → Paid t.looks (list_costs t.state.place) n → MayRead point.NextTupleType most t.state t.row
+      → row ≡ t.row ++ frame_at point.NextTupleType t.state ∷ [] → PointDoes e point.NextTupleType t (Ok point.«Type») (entered t j (Some mark.Comma) row n)
+  next_goes {t} h k p may r = let i = on e.symbol t.state.place h in enters_type i.0 (1 ∷ []) (omega arith) point.NextTupleType i.1 (next_heard e t.state i.0 i.1 i.2 may.fits) (k ∙ i.3) p r (omega arith) (omega arith) (omega arith) (omega arith) (omega arith) may.fits may.fits refl

@@ -1,11 +1,11 @@
 -- Readings of a whole path.
 use Rattle.std.specs.Prelude.{◌*◌}
 use Rattle.std.proofs.Common.{◌≡◌, ℕ, ◌+◌, ◌≤◌, Bool, true, false, None, List, [], length, refl, arith, sym, ap, ◌∙◌, subst}
-use Rattle.demangle_v0.specs.Accepting.{looks_in}
-use Rattle.demangle_v0.specs.Events.{Heard}
-use Rattle.demangle_v0.specs.Items.{a_path}
-use Rattle.demangle_v0.specs.Reading.{max_depth, unit_end, read_at, level_of, levels}
-use Rattle.demangle_v0.specs.Running.{allowed_in}
+use Rattle.demangle_grammar.specs.Accepting.{looks_in}
+use Rattle.demangle_grammar.specs.Events.{Heard}
+use Rattle.demangle_grammar.specs.Items.{a_path}
+use Rattle.demangle_grammar.specs.Reading.{max_depth, unit_end, read_at, level_of, levels}
+use Rattle.demangle_grammar.specs.Running.{allowed_in}
 use Rattle.demangle_v0.specs.Points.{most_frames, AllInner, share_at, share_of, row_owed, reading_owed}
 use Rattle.demangle_v0.specs.PointRuns.{Valid, frame_height, ReadOn, first_state}
 use Rattle.demangle_v0.specs.declared.points.Point.{Point}
@@ -13,8 +13,8 @@ use Rattle.demangle_v0.specs.declared.points.Point.TheVariants as point
 use Rattle.demangle_v0.specs.declared.points.frames.Frame.{Frame}
 use Rattle.demangle_v0.specs.declared.points.State.{State}
 use Rattle.demangle_v0.specs.declared.points.read.Halt.TheVariants as halt
-use Rattle.demangle_v0.proofs.FailedRows.{allowed_looks}
-use Rattle.demangle_v0.proofs.Hearing.{and_then_ended}
+use Rattle.demangle_grammar.proofs.FailedRows.{allowed_looks}
+use Rattle.demangle_grammar.proofs.Hearing.{and_then_ended}
 use Rattle.demangle_v0.proofs.Heights.{stands_first}
 
 pub valid_first : (i : ℕ) → Valid point.Path (first_state i) []

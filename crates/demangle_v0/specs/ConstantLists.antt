@@ -1,9 +1,9 @@
 -- Internal: no public contract cites this.
 -- What constants stand in, one behind the other: the points of their readings.
-use Rattle.demangle_v0.specs.Items.{Items}
-use Rattle.demangle_v0.specs.Table.{constant_inside, field}
-use Rattle.demangle_v0.specs.declared.grammar.Mark.{Mark}
-use Rattle.demangle_v0.specs.declared.grammar.Mark.TheVariants as mark
+use Rattle.demangle_grammar.specs.Items.{Items}
+use Rattle.demangle_grammar.specs.Table.{constant_inside, field}
+use Rattle.demangle_words.specs.declared.texts.Mark.{Mark}
+use Rattle.demangle_words.specs.declared.texts.Mark.TheVariants as mark
 use Rattle.demangle_v0.specs.declared.points.Point.{Point}
 use Rattle.demangle_v0.specs.declared.points.Point.TheVariants as point
 use Rattle.demangle_v0.specs.declared.points.constant_lists.ConstantList.{ConstantList}

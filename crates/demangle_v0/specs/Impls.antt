@@ -1,8 +1,8 @@
 -- Internal: no public contract cites this.
 -- Paths of impls.
 use Rattle.std.specs.Prelude.{Bool, true, false}
-use Rattle.demangle_v0.specs.Items.{Items, a_path, a_type, done, child, skip}
-use Rattle.demangle_v0.specs.Table.{disambiguator, says}
+use Rattle.demangle_grammar.specs.Items.{Items, a_path, a_type, done, child, skip}
+use Rattle.demangle_grammar.specs.Table.{disambiguator, says}
 use Rattle.demangle_v0.specs.declared.points.Point.{Point}
 use Rattle.demangle_v0.specs.declared.points.Point.TheVariants as point
 

@@ -1,15 +1,15 @@
 -- Internal: no public contract cites this.
 -- What contracts of points say of a state.
 use Rattle.std.specs.Prelude.{◌≤◌, ℕ, Bool, if◌then◌else◌, Option, Some, None, List, Ok}
-use Rattle.demangle_v0.specs.Items.{Items}
-use Rattle.demangle_v0.specs.Reading.{run}
-use Rattle.demangle_v0.specs.Events.{Heard, of}
-use Rattle.demangle_v0.specs.Points.{Did, around, none_open, frame_of}
+use Rattle.demangle_grammar.specs.Items.{Items}
+use Rattle.demangle_grammar.specs.Reading.{run}
+use Rattle.demangle_grammar.specs.Events.{Heard, of, around}
+use Rattle.demangle_v0.specs.Points.{Did, none_open, frame_of}
 use Rattle.demangle_v0.specs.declared.points.Point.{Point}
 use Rattle.demangle_v0.specs.declared.points.Point.TheVariants as point
 use Rattle.demangle_v0.specs.declared.points.frames.Frame.{Frame}
 use Rattle.demangle_v0.specs.declared.points.State.{State}
-use Rattle.demangle_v0.specs.declared.points.voice.Voice.{Ghosts}
+use Rattle.demangle_words.specs.declared.voice.Voice.{Ghosts}
 
 -- what is heard of items where the state stands
 abbrev pub heard_of : List ℕ → Bool → Bool → Items → State → Heard

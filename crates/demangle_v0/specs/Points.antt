@@ -1,26 +1,27 @@
 -- Internal: no public contract cites this.
 -- What the points of a reading stand for, and what one point does.
-use Rattle.std.specs.Prelude.{◌≡◌, ℕ, ◌+◌, ◌-◌, ◌*◌, ◌^◌, ◌<◌, ◌≤◌, ◌==◌, nat_le, if◌then◌else◌, Bool, true, false, Option, Some, None, List, [], ◌∷◌, ◌++◌, Result, Ok, Err}
+use Rattle.std.specs.Prelude.{◌≡◌, ℕ, ◌+◌, ◌-◌, ◌*◌, ◌^◌, ◌<◌, ◌≤◌, ◌==◌, nat_le, ◌⊎◌, if◌then◌else◌, Bool, true, false, Option, Some, None, List, [], ◌∷◌, ◌++◌, length, IsOk, IsAscii, Result, Ok, Err}
 use Prim.Native.Char.{code}
 use Rattle.demangle_symbol.specs.Digits.{is_byte}
-use Rattle.demangle_v0.specs.Items.{Text, Items, a_path, a_type, a_constant, a_pattern, a_trait_path, done, invalid, byte, integer, next, sound, until_end, unit, child, skip, lifetime, opens, dyn_trait, bindings, identifier}
-use Rattle.demangle_v0.specs.Table.{says, says_if, at_end, list, more, tuple, type_inside, constant_inside, argument, in_namespace, in_binder, function, binding_value, type_tagged, integer_constant, string, field, variant, says_name}
-use Rattle.demangle_v0.specs.Reading.{Place, Surroundings, run, unit_outcome, level_of, levels, max_depth}
-use Rattle.demangle_v0.specs.Totals.{total}
-use Rattle.demangle_v0.specs.Running.{allowed_in}
-use Rattle.demangle_v0.specs.Events.{Heard, of, nothing_heard, and_then, with_looks, with_texts}
-use Rattle.demangle_v0.specs.Grammar.{text}
-use Rattle.demangle_v0.specs.Tags.{lifetime_before}
-use Rattle.demangle_v0.specs.declared.grammar.Mark.{Mark}
-use Rattle.demangle_v0.specs.declared.stretch.Stretch.{Stretch}
-use Rattle.demangle_v0.specs.declared.stretch.Stretch.TheVariants.{SpacedLifetime, SpacedFault}
+use Rattle.demangle_grammar.specs.Items.{Text, Items, a_path, a_type, a_constant, a_pattern, a_trait_path, done, invalid, byte, integer, next, sound, until_end, unit, child, skip, lifetime, opens, dyn_trait, bindings, identifier}
+use Rattle.demangle_grammar.specs.Table.{says, says_if, at_end, list, more, tuple, type_inside, constant_inside, argument, in_namespace, in_binder, function, binding_value, type_tagged, integer_constant, string, field, variant, says_name}
+use Rattle.demangle_grammar.specs.Reading.{Place, run, unit_outcome, max_depth}
+use Rattle.demangle_grammar.specs.Totals.{total}
+use Rattle.demangle_grammar.specs.Running.{allowed_in}
+use Rattle.demangle_grammar.specs.Events.{Heard, of, around, nothing_heard, and_then, with_looks, with_texts}
+use Rattle.demangle_words.specs.Texts.{text}
+use Rattle.demangle_words.specs.Groups.{texts_of}
+use Rattle.demangle_words.specs.Tags.{lifetime_before}
+use Rattle.demangle_words.specs.declared.texts.Mark.{Mark}
+use Rattle.demangle_words.specs.declared.stretch.Stretch.{Stretch}
+use Rattle.demangle_words.specs.declared.stretch.Stretch.TheVariants.{SpacedLifetime, SpacedFault}
 use Rattle.demangle_v0.specs.declared.points.Point.{Point}
 use Rattle.demangle_v0.specs.declared.points.Point.TheVariants as point
 use Rattle.demangle_v0.specs.declared.points.frames.Frame.{Frame}
 use Rattle.demangle_v0.specs.declared.points.State.{State}
 use Rattle.demangle_v0.specs.declared.points.Stop.{Stop}
 use Rattle.demangle_v0.specs.declared.points.Stop.TheVariants.{Refused, Fault}
-use Rattle.demangle_v0.specs.declared.points.voice.Voice.{Ghosts}
+use Rattle.demangle_words.specs.declared.voice.Voice.{Ghosts}
 use Rattle.demangle_sink.specs.declared.SinkRefused.{SinkRefused}
 
 -- What is still to be read.
@@ -130,10 +131,6 @@ behind_reference is_mut = if is_mut then point.Mutable else point.«Type»
 abbrev pub spaced_lifetime : ℕ → ℕ → ℕ → Stretch × Place
 spaced_lifetime lifetimes k j = if nat_le k lifetimes then (SpacedLifetime (lifetimes - k), Some j) else (SpacedFault, None)
 
--- what a unit at this depth is read in, printed or not
-abbrev pub around : List ℕ → Bool → ℕ → ℕ → Surroundings
-around b out left lifetimes = record { symbol = b; printed = out; here = level_of b (levels b left); deeper = levels b left; lifetimes = lifetimes }
-
 -- no bracket of a dyn trait path is open behind it
 abbrev pub none_open : Heard → Heard
 none_open h = record h { is_open = false }
@@ -171,6 +168,9 @@ reading_owed b plain out p s row = and_then (share_of b plain out p s) (row_owed
 abbrev pub frame_of : Point → Bool → ℕ → ℕ → ℕ → Frame
 frame_of p v c left n = record { point = p; in_value = v; letter = c; depth_left = left; number = n }
 
+abbrev pub frame_at : Point → State → Frame
+frame_at p s = frame_of p s.in_value s.letter s.depth_left s.lifetimes
+
 -- Parts of a step.
 
 -- so many looks are allowed, or texts are handed over
@@ -192,12 +192,6 @@ abbrev pub bits_texts : List Bit → List Text
 bits_texts [] = []
 bits_texts (pays k ∷ bits) = bits_texts bits
 bits_texts (puts ts ∷ bits) = ts ++ bits_texts bits
-
--- the voice was handed the texts in turn
-abbrev pub Told : {V : Type 0} → Ghosts V → V → List Bit → V → Type 0
-Told voice v [] w = v ≡ w
-Told voice v (pays k ∷ bits) w = Told voice v bits w
-Told {V = V} voice v (puts ts ∷ bits) w = (mid : V) × voice.prints v ts (Ok tt) mid × Told voice mid bits w
 
 -- the text that a step leaves to be handed over
 abbrev pub mark_texts : Option Mark → List Text
@@ -224,15 +218,6 @@ AllInner (f ∷ above) = (is_inner f.point ≡ true) × AllInner above
 unfoldable pub then_frame : List ℕ → Bool → Bool → Option Frame → Heard → Heard
 then_frame b plain out None h = h
 then_frame b plain out (Some f) h = and_then h (share b plain out f)
-
--- where a step goes on: at a point, or with the text of a fault, which ends the unit
-pub data Way : Type 0 where
-  goes : Point → Way
-  fails : Mark → Way
-
-abbrev pub way_heard : List ℕ → Bool → Bool → Way → State → Heard
-way_heard b plain out (goes p) s = share_of b plain out p s
-way_heard b plain out (fails m) s = with_texts out (text m ∷ []) (nothing_heard None false)
 
 -- How much there is still to do, how high frames may stand, and how many lifetimes may be in force.
 
@@ -279,17 +264,16 @@ weight_of None = 0
 weight_of (Some f) = weight_at f.point + 1
 
 -- where the unit is over, nothing is left to do
-abbrev pub way_weight : Way → ℕ
-way_weight (goes point.End) = 0
-way_weight (goes p) = weight_at p
-way_weight (fails m) = 0
+abbrev pub way_weight : Point → ℕ
+way_weight point.End = 0
+way_weight p = weight_at p
 
 abbrev pub weights : List Frame → ℕ
 weights [] = 0
 weights (f ∷ above) = weight_at f.point + 1 + weights above
 
 abbrev pub measure : List ℕ → Bool → Bool → Point → State → List Frame → ℕ
-measure b plain out p s row = way_weight (goes p) + weights row + 100 * allowed_in (reading_owed b plain out p s row).events
+measure b plain out p s row = way_weight p + weights row + 100 * allowed_in (reading_owed b plain out p s row).events
 
 abbrev pub height_at : Point → ℕ → ℕ
 height_at point.End left = 0
@@ -316,10 +300,6 @@ abbrev pub height_of : Option Frame → ℕ
 height_of None = 0
 height_of (Some f) = height_at f.point f.depth_left
 
-abbrev pub way_height : Way → State → ℕ
-way_height (goes p) s = height_at p s.depth_left
-way_height (fails m) s = 0
-
 abbrev pub count_of : Option Frame → ℕ
 count_of None = 0
 count_of (Some f) = 1
@@ -327,6 +307,24 @@ count_of (Some f) = 1
 -- so many frames can stand at once: at most eight a depth, and eight more at the outermost
 abbrev pub most_frames : ℕ
 most_frames = 8 * max_depth + 8
+
+-- A step reads at most so many words.
+abbrev pub most_words : ℕ
+most_words = 8
+
+-- a point with which another may go on at once reads fewer
+abbrev pub words_at : Point → ℕ
+words_at point.InherentType = 0
+words_at point.SelfType = 0
+words_at point.TaggedType = 7
+words_at point.FunctionBinder = 5
+words_at point.FunctionHead = 4
+words_at point.OpenParameters = 0
+words_at point.FirstDynTrait = 1
+words_at point.NextDynTrait = 1
+words_at point.Literal = 4
+words_at point.Number = 4
+words_at _ = most_words
 
 -- how many binders may still be met at the point's own depth
 abbrev pub binders_at : Point → ℕ
@@ -347,60 +345,166 @@ abbrev pub FitsFrame : Option Frame → Type 0
 FitsFrame None = Unit {0}
 FitsFrame (Some f) = Fits f.point f.depth_left f.number
 
-abbrev pub FitsWay : Way → State → Type 0
-FitsWay (goes p) s = Fits p s.depth_left s.lifetimes
-FitsWay (fails m) s = Unit {0}
+-- Steps.
 
--- Steps, from what is heard of a point, whose weight and height are these.
+-- what stands before a step, and behind it
+pub record Turn (V : Type 0) : Type 0 where
+  pub state : State
+  pub row : List Frame
+  pub voice : V
+  pub looks : ℕ
 
--- the point was left for another, and a frame may have been put on the row; the state's mark is still to be handed over
-pub record Went {V : Type 0} (voice : Ghosts V) (b : List ℕ) (plain : Bool) (h : Heard) (weight high : ℕ) (row : List Frame) (v : V) (way : Way) (new : State) (now : List Frame) (w : V) (made : ℕ) : Type 0 where
-  pub bits : List Bit
+abbrev pub turn : {V : Type 0} → State → List Frame → V → ℕ → Turn V
+turn s row v n = record { state = s; row = row; voice = v; looks = n }
+
+-- what it is done in
+pub record Env (V : Type 0) : Type 1 where
+  pub voice : Ghosts V
+  pub symbol : List ℕ
+  pub plain : Bool
+
+abbrev pub env : {V : Type 0} → Ghosts V → List ℕ → Bool → Env V
+env voice b plain = record { voice = voice; symbol = b; plain = plain }
+
+-- what is heard of a point, or of what is left of one, with how many words may be read of it, its weight and its height
+pub record Part : Type 0 where
+  pub words : ℕ
+  pub heard : Heard
+  pub weight : ℕ
+  pub height : ℕ
+
+abbrev pub part : ℕ → Heard → ℕ → ℕ → Part
+part words h weight height = record { words = words; heard = h; weight = weight; height = height }
+
+-- a stretch, if the voice was handed one
+abbrev pub said_texts : {V : Type 0} → Env V → Option Stretch → List Text
+said_texts env None = []
+said_texts env (Some s) = texts_of env.symbol env.plain s
+
+abbrev pub Told : {V : Type 0} → Env V → Option Stretch → V → V → Type 0
+Told env None v w = v ≡ w
+Told env (Some s) v w = env.voice.prints v (texts_of env.symbol env.plain s) (Ok tt) w
+
+-- The point was left for another, and a frame may have been put on the row. One stretch is handed over: to the voice, or as
+-- the mark that is left.
+pub record Went {V : Type 0} (env : Env V) (part : Part) (before : Turn V) (to : Point) (after : Turn V) : Type 0 where
+  pub front : List ℕ
+  pub said : Option Stretch
   pub back : List ℕ
   pub pushed : Option Frame
-  pub told : Told voice v bits w
-  pub reads : h ≡ heard_bits voice.loud bits (with_texts voice.loud (mark_texts new.mark) (with_looks back (then_frame b plain voice.loud pushed (way_heard b plain voice.loud way new))))
-  pub is_row : now ≡ pushed_on row pushed
-  pub enough : made ≤ bits_looks bits + total back
-  pub late : made ≤ bits_looks bits + 2
-  pub lighter : way_weight way + weight_of pushed + 1 ≤ weight + 100 * (bits_looks bits + total back)
-  pub outer_height : height_of pushed ≤ high
-  pub inner_height : way_height way new + count_of pushed ≤ high
+  pub told : Told env said before.voice after.voice
+  pub one : (said ≡ None) ⊎ (after.state.mark ≡ None)
+  pub reads : part.heard
+      ≡ with_looks front (with_texts env.voice.loud (said_texts env said) (with_texts env.voice.loud (mark_texts after.state.mark) (with_looks back (then_frame env.symbol env.plain env.voice.loud pushed (share_of env.symbol env.plain env.voice.loud to after.state)))))
+  pub is_row : after.row ≡ pushed_on before.row pushed
+  pub few : length front + length back ≤ part.words
+  pub enough : after.looks ≤ before.looks + (total front + total back)
+  pub late : after.looks ≤ before.looks + (total front + 2)
+  pub lighter : way_weight to + weight_of pushed + 1 ≤ part.weight + 100 * (total front + total back)
+  pub outer_height : height_of pushed ≤ part.height
+  pub inner_height : height_at to after.state.depth_left + count_of pushed ≤ part.height
   pub outer_fits : FitsFrame pushed
-  pub inner_fits : FitsWay way new
-  pub quiet : voice.loud ≡ false → IsInner pushed
+  pub inner_fits : Fits to after.state.depth_left after.state.lifetimes
+  pub quiet : env.voice.loud ≡ false → IsInner pushed
 
--- The voice refused, or, where it does not speak, the reading failed. At most two looks were made too early, and none
--- where it does not speak.
-pub record Halted {V : Type 0} (voice : Ghosts V) (h : Heard) (v w : V) (made : ℕ) : Type 0 where
-  pub front : List Bit
-  pub texts : List Text
+-- The unit ends with this text, which is still to be handed over.
+pub record Faulted {V : Type 0} (env : Env V) (part : Part) (before : Turn V) (m : Mark) (after : Turn V) : Type 0 where
+  pub front : List ℕ
+  pub told : before.voice ≡ after.voice
+  pub unmarked : after.state.mark ≡ None
+  pub reads : part.heard ≡ with_looks front (with_texts env.voice.loud (text m ∷ []) (nothing_heard None false))
+  pub is_row : after.row ≡ before.row
+  pub few : length front ≤ part.words
+  pub enough : after.looks ≤ before.looks + total front
+  pub lighter : 1 ≤ part.weight + 100 * total front
+
+-- The voice refused the stretch, or, where it does not speak, the reading failed. At most two looks were made too early, and
+-- none where it does not speak.
+pub record Halted {V : Type 0} (env : Env V) (part : Part) (before after : Turn V) : Type 0 where
+  pub front : List ℕ
+  pub said : Stretch
   pub rest : Heard
-  pub mid : V
-  pub told : Told voice v front mid
   pub refusal : SinkRefused
-  pub prints : voice.prints mid texts (Err refusal) w
-  pub reads : h ≡ heard_bits voice.loud front (with_texts voice.loud texts rest)
-  pub enough : made ≤ bits_looks front + 2
-  pub exact : voice.loud ≡ false → made ≤ bits_looks front
-  pub fails : voice.loud ≡ false → rest.place ≡ None
+  pub prints : env.voice.prints before.voice (texts_of env.symbol env.plain said) (Err refusal) after.voice
+  pub reads : part.heard ≡ with_looks front (with_texts env.voice.loud (texts_of env.symbol env.plain said) rest)
+  pub few : length front ≤ part.words
+  pub enough : after.looks ≤ before.looks + (total front + 2)
+  pub exact : env.voice.loud ≡ false → after.looks ≤ before.looks + total front
+  pub fails : env.voice.loud ≡ false → rest.place ≡ None
 
 -- frames may have been put on the row
 abbrev pub Kept : List Frame → List Frame → Type 0
 Kept row now = (more : List Frame) × (now ≡ row ++ more)
 
-abbrev pub Comes : {V : Type 0} → Ghosts V → List ℕ → Bool → Heard → ℕ → ℕ → List Frame → V → Result Point Stop → State → List Frame → V → ℕ → Type 0
-Comes voice b plain h weight high row v (Ok p) new now w made = Went voice b plain h weight high row v (goes p) new now w made
-Comes voice b plain h weight high row v (Err (Fault m)) new now w made = Went voice b plain h weight high row v (fails m) new now w made × (new.mark ≡ None)
-Comes voice b plain h weight high row v (Err Refused) new now w made = Halted voice h v w made × Kept row now
+abbrev pub Comes : {V : Type 0} → Env V → Part → Turn V → Result Point Stop → Turn V → Type 0
+Comes env part before (Ok p) after = Went env part before p after
+Comes env part before (Err (Fault m)) after = Faulted env part before m after
+Comes env part before (Err Refused) after = Halted env part before after × Kept before.row after.row
+
+-- these looks were made, among those that are allowed
+pub record Paid (before : ℕ) (costs : List ℕ) (after : ℕ) : Type 0 where
+  pub grows : before ≤ after
+  pub within : after ≤ before + total costs
+
+-- the looks of one step: no more than those of the words that it may read, and none where the reading has failed
+abbrev pub own_by : ℕ → List ℕ → Place → ℕ
+own_by k b None = 0
+own_by k b (Some i) = 4 * (length b - i) + k
+
+abbrev pub own_looks : List ℕ → Place → ℕ
+own_looks b i = own_by 20 b i
+
+-- what is done at a point, or with what is left of one
+pub record Does {V : Type 0} (env : Env V) (before : Turn V) (part : Part) (result : Result Point Stop) (after : Turn V) : Type 0 where
+  pub comes : Comes env part before result after
+  pub grows : before.looks ≤ after.looks
+  pub own : after.looks ≤ before.looks + own_looks env.symbol before.state.place
+  pub ready : env.voice.ready before.voice → IsOk result → env.voice.ready after.voice
+  pub sound : env.voice.ready before.voice → (m : Mark) → result ≡ Err (Fault m) → env.voice.ready after.voice
+
+-- a whole point
+abbrev pub whole : {V : Type 0} → Env V → Point → State → Part
+whole env p s = part (words_at p) (share_of env.symbol env.plain env.voice.loud p s) (weight_at p) (height_at p s.depth_left)
+
+-- these items, which are left of a unit, with how many words may be read of them, their weight, and how much higher than its children they stand
+abbrev pub rest : {V : Type 0} → Env V → Items → ℕ → ℕ → ℕ → State → Part
+rest env items words weight above s = part words (none_open (of env.plain env.voice.loud (run items (around env.symbol env.voice.loud s.depth_left s.lifetimes) s.place))) weight (8 * s.depth_left + above)
+
+-- What a point does.
+abbrev pub PointDoes : {V : Type 0} → Env V → Point → Turn V → Result Point Stop → Turn V → Type 0
+PointDoes env p before result after = Does env before (whole env p before.state) result after
+
+-- the same of what is left of one
+abbrev pub RestDoes : {V : Type 0} → Env V → Items → ℕ → ℕ → ℕ → Turn V → Result Point Stop → Turn V → Type 0
+RestDoes env items words weight above before result after = Does env before (rest env items words weight above before.state) result after
+
+-- When a point may do it: there is room for a frame, and the lifetimes fit.
+pub record MayRead (p : Point) (most : ℕ) (s : State) (row : List Frame) : Type 0 where
+  pub unmarked : s.mark ≡ None
+  pub room : length row < most
+  pub fits : Fits p s.depth_left s.lifetimes
+
+-- the same of one that has no frame to put on the row, and where no lifetimes have to fit
+pub record MaySpeak {V : Type 0} (env : Env V) (s : State) (v : V) : Type 0 where
+  pub ascii : env.voice.loud ≡ true → IsAscii env.symbol
+  pub ready : env.voice.ready v
+  pub unmarked : s.mark ≡ None
+
+-- the same, where it may be heard
+pub record MayStep {V : Type 0} (env : Env V) (p : Point) (most : ℕ) (before : Turn V) : Type 0 where
+  pub ascii : env.voice.loud ≡ true → IsAscii env.symbol
+  pub ready : env.voice.ready before.voice
+  pub unmarked : before.state.mark ≡ None
+  pub room : length before.row < most
+  pub fits : Fits p before.state.depth_left before.state.lifetimes
 
 -- a record, so that a lemma finds its arguments
-pub record DidOn {V : Type 0} (voice : Ghosts V) (b : List ℕ) (plain : Bool) (h : Heard) (weight high : ℕ) (row : List Frame) (v : V) (result : Result Point Stop) (new : State) (now : List Frame) (w : V) (made : ℕ) : Type 0 where
-  pub comes : Comes voice b plain h weight high row v result new now w made
+pub record DidOn {V : Type 0} (voice : Ghosts V) (b : List ℕ) (plain : Bool) (words : ℕ) (h : Heard) (weight high : ℕ) (row : List Frame) (v : V) (result : Result Point Stop) (new : State) (now : List Frame) (w : V) (made : ℕ) : Type 0 where
+  pub comes : Comes (env voice b plain) (part words h weight high) (turn new row v 0) result (turn new now w made)
 
 -- what a point does
 abbrev pub Did : {V : Type 0} → Ghosts V → List ℕ → Bool → Point → State → List Frame → V → Result Point Stop → State → List Frame → V → ℕ → Type 0
-Did voice b plain p old row v result new now w made = DidOn voice b plain (share_of b plain voice.loud p old) (weight_at p) (height_at p old.depth_left) row v result new now w made
+Did voice b plain p old row v result new now w made = DidOn voice b plain (words_at p) (share_of b plain voice.loud p old) (weight_at p) (height_at p old.depth_left) row v result new now w made
 
 -- where a frame goes on
 abbrev pub resumed_of : State → Frame → State

@@ -1,11 +1,12 @@
 -- Internal: no public contract cites this.
 -- The units to which references lead.
 use Rattle.std.specs.Prelude.{◌≡◌, ℕ, ◌+◌, ◌*◌, ◌≤◌, Bool, true, false, Some, List}
-use Rattle.demangle_v0.specs.Events.{Heard, of}
-use Rattle.demangle_v0.specs.Items.{Kind}
-use Rattle.demangle_v0.specs.Reading.{level_of, levels}
-use Rattle.demangle_v0.specs.Points.{none_open, share_at, weight_at, height_at, Fits}
+use Rattle.demangle_grammar.specs.Events.{Heard, of, around}
+use Rattle.demangle_grammar.specs.Items.{Kind, target}
+use Rattle.demangle_grammar.specs.Reading.{level_of, levels, run}
+use Rattle.demangle_v0.specs.Points.{Env, Part, part, none_open, share_at, weight_at, height_at, Fits}
 use Rattle.demangle_v0.specs.declared.points.Point.{Point}
+use Rattle.demangle_v0.specs.declared.points.State.{State}
 use Rattle.demangle_v0.specs.declared.points.Point.TheVariants as point
 
 -- a dyn trait path may leave its bracket open, other units do not
@@ -19,3 +20,7 @@ pub record IsUnit (b : List ℕ) (plain : Bool) (p : Point) (in_value : Bool) (l
   pub light : weight_at p ≤ 2
   pub low : (left : ℕ) → height_at p left ≤ 8 * left + 2
   pub fits : (left : ℕ) → Fits point.Path left lifetimes → Fits p left lifetimes
+
+-- what is heard of a reference to a unit of this kind
+abbrev pub target_part : {V : Type 0} → Env V → Bool → Kind → Bool → State → Part
+target_part env shut k value s = part 1 (none_open_if shut (of env.plain env.voice.loud (run (target k value) (around env.symbol env.voice.loud s.depth_left s.lifetimes) s.place))) 1 (8 * s.depth_left + 2)

@@ -1,11 +1,11 @@
 //! Acceptance of v0 symbols: readings without a voice.
 ghost use Rattle.std.specs.Prelude.{◌≡◌, ◌+◌, ◌-◌, ◌≤◌, true, false};
-ghost use Rattle.demangle_v0.specs.Items.{a_path};
+ghost use Rattle.demangle_grammar.specs.Items.{a_path};
 ghost use Rattle.demangle_v0.specs.Points.{AllInner, reading_owed};
 ghost use Rattle.demangle_v0.specs.PointRuns.{Valid};
-ghost use Rattle.demangle_v0.specs.Reading.{goes_on_at, unit_end, suffix_place, read_at};
-ghost use Rattle.demangle_v0.specs.Running.{allowed_in};
-ghost use Rattle.demangle_v0.specs.Accepting.{looks_in, suffix_looks, accepting_looks};
+ghost use Rattle.demangle_grammar.specs.Reading.{goes_on_at, unit_end, suffix_place, read_at};
+ghost use Rattle.demangle_grammar.specs.Running.{allowed_in};
+ghost use Rattle.demangle_grammar.specs.Accepting.{looks_in, suffix_looks, accepting_looks};
 
 use crate::points::frames::{FEW, FrameStack, MOST};
 use crate::points::read::{Halt, Reading, read_on};

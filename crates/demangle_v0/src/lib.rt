@@ -2,22 +2,17 @@
 #![tactic(auto)]
 
 ghost use Rattle.std.specs.Prelude.{◌≡◌, ◌+◌, ◌-◌, ◌*◌, ◌≤◌, IfOk, IfSome, OnErr, Some, None, length, option_map};
-ghost use Rattle.demangle_v0.specs.V0.{v0_inner, v0_of};
+ghost use Rattle.demangle_grammar.specs.V0.{v0_inner, v0_of};
 
 use crate::accept::{begins_path, suffix_at};
 use demangle_symbol::cursor::{Looks, ParseError, Symbol};
 
 mod accept;
-mod grammar;
 mod points;
 mod printing;
-mod reference;
-mod render;
-mod stretch;
 #[cfg(test)]
 mod tests;
 mod value;
-mod words;
 
 pub use value::Demangle;
 

@@ -1,20 +1,19 @@
 //! Reading by resume points: each reads up to its next child, puts what stands behind that on the
 //! frame stack, and answers where it goes on.
 ghost use Rattle.std.specs.Prelude.{true, ◌≡◌, ◌+◌, ◌-◌, ◌<◌, ◌≤◌, None, Ok, Err, IsOk, IsAscii, List};
-ghost use Rattle.demangle_v0.specs.PointContracts.{heard_of};
-ghost use Rattle.demangle_v0.specs.Points.{DidOn};
-ghost use Rattle.demangle_v0.specs.Totals.{total};
-ghost use Rattle.demangle_v0.specs.Groups.{word_group, read_stretch, looks_later};
-ghost use Rattle.demangle_v0.specs.Serving.{LiesIn};
-ghost use Rattle.demangle_v0.specs.Table.{path};
-ghost use Rattle.demangle_v0.specs.Items.{done};
-ghost use Rattle.demangle_v0.specs.Grammar.{word_items};
+ghost use Rattle.demangle_v0.specs.Points.{MaySpeak, RestDoes, env, turn};
+ghost use Rattle.demangle_grammar.specs.Totals.{total};
+ghost use Rattle.demangle_words.specs.Groups.{word_group, read_stretch, looks_later};
+ghost use Rattle.demangle_words.specs.Serving.{LiesIn};
+ghost use Rattle.demangle_grammar.specs.Table.{path};
+ghost use Rattle.demangle_grammar.specs.Items.{done};
+ghost use Rattle.demangle_words.specs.Texts.{word_items};
 
-use crate::grammar::{Mark, Word};
 use crate::points::frames::Frame;
-use crate::points::voice::Voice;
-use crate::words::{WordRead, read_word};
 use demangle_symbol::cursor::{Looks, Symbol};
+use demangle_words::read::{WordRead, read_word};
+use demangle_words::texts::{Mark, Word};
+use demangle_words::voice::Voice;
 
 mod arguments;
 mod bindings;
@@ -24,6 +23,7 @@ mod dyn_traits;
 pub mod frames;
 mod functions;
 mod impls;
+mod marks;
 mod names;
 mod paths;
 mod patterns;
@@ -32,12 +32,10 @@ pub mod read;
 mod references;
 pub mod skip;
 pub mod step;
-mod tags;
 mod tuples;
 mod type_references;
 mod types;
 mod variants;
-pub mod voice;
 
 /// Where a unit begins, or goes on behind a part of it.
 #[derive(Clone, Copy)]
@@ -213,15 +211,10 @@ fn last_word<V: Voice>(
     voice: &mut V,
     looks: &mut Looks,
 ) -> Result<Point, Stop>
-    requires ascii { V.loud ≡ true → IsAscii symbol.now }
-    requires ready { V.ready voice.old }
-    requires unmarked { state.old.mark ≡ None }
-    ensures did { (row : List Frame) → DidOn V.Voice symbol.now plain (heard_of symbol.now plain
-        V.loud (word_items word state.old.letter done) state.old) 1 0 row voice.old result state.new
-        row voice.new (looks.new - looks.old) }
-    ensures ready { IsOk result → V.ready voice.new }
-    ensures sound { (m : Mark) → result ≡ Err (Stop.Fault m) → V.ready voice.new }
-    ensures grows { looks.old ≤ looks.new }
+    requires may { MaySpeak (env V.Voice symbol.now plain) state.old voice.old }
+    ensures did { (row : List Frame) → RestDoes (env V.Voice symbol.now plain) (word_items word
+        state.old.letter done) 4 1 0 (turn state.old row voice.old looks.old) result (turn state.new
+        row voice.new looks.new) }
 {
     match word_at(symbol, word, state, voice, looks) {
         WordRead::Goes(stretch, next) => {

@@ -4,15 +4,21 @@ ghost use Rattle.std.proofs.Common.{sym, ap, ◌∙◌};
 ghost use Rattle.std.proofs.lemmas.List.{append-nil, append_assoc};
 ghost use Rattle.std.specs.Str.{IsAscii};
 ghost use Rattle.demangle_sink.specs.Array.{text_of};
+ghost use Rattle.demangle_sink.specs.Limit.{Prints, Ready};
 ghost use Rattle.demangle_v0.specs.PointRuns.{Valid};
 
+use demangle_words::texts::text;
 use crate::points::frames::{FrameStack, MOST};
 use crate::points::read::Reading;
 use crate::points::skip::{is_skipped, skip};
 use crate::points::step::{resume, step};
+use demangle_words::voice::Voice;
+use demangle_words::stretch::Stretch;
 use demangle_sink::{ArraySink, SinkRefused, SizeLimitedFmtAdapter, TextSink};
 use demangle_symbol::cursor::{Looks, Symbol};
 use std::test::Fail;
+
+mod rows;
 
 /// Keeps the text that it took, and counts the nonempty pieces.
 #[derive(Drop)]
@@ -57,8 +63,75 @@ impl TextSink for CountingSink {
     ghost took_joined = { λ s t u xs ys h k. k ∙ (ap (λ z. z ++ ys) h ∙ append_assoc (text_of s.text) xs ys) };
 }
 
-/// Whether the steps of a printing hand over at most one piece each, and all of them this text.
-fn steps_print(inner: &str, wanted: &str) -> bool {
+/// Prints into a counting sink, and counts the stretches that are something.
+#[derive(Drop)]
+struct CountingVoice<'s> {
+    out: SizeLimitedFmtAdapter<'s, CountingSink>,
+    stretches: usize,
+    last: Stretch,
+}
+
+impl<'s> CountingVoice<'s> {
+    /// Counts a stretch that is handed over.
+    fn count(&mut self, stretch: &Stretch)
+        ensures same { self.new.out ≡ self.old.out }
+    {
+        if !matches!(stretch, Stretch::Nothing) {
+            self.stretches = self.stretches.saturating_add(1);
+            self.last = *stretch;
+        }
+    }
+}
+
+impl<'s> Voice for CountingVoice<'s> {
+    ghost loud = { true };
+
+    ghost ready = { λ v. Ready ⟦<CountingSink as TextSink>⟧ v.out };
+
+    ghost prints = { λ v texts result w. Prints ⟦<CountingSink as TextSink>⟧ v.out texts result w.out };
+
+    fn speaks(&self) -> bool {
+        true
+    }
+
+    fn say(
+        &mut self,
+        symbol: &Symbol<'_>,
+        stretch: &Stretch,
+        plain: bool,
+        looks: &mut Looks,
+    ) -> Result<(), SinkRefused> {
+        self.count(stretch);
+        self.out.say(symbol, stretch, plain, looks)
+    }
+
+    fn stop(
+        &mut self,
+        symbol: &Symbol<'_>,
+        stretch: &Stretch,
+        plain: bool,
+        looks: &mut Looks,
+    ) -> Result<(), SinkRefused> {
+        self.count(stretch);
+        self.out.stop(symbol, stretch, plain, looks)
+    }
+}
+
+/// Whether a step that handed over so many stretches, the last of them this one, may have added
+/// this text in so many nonempty pieces.
+fn is_of_one_step(stretches: usize, last: Stretch, added: &str, pieces: usize) -> bool {
+    if stretches > 1 {
+        return false;
+    }
+    match last {
+        Stretch::Nothing => added.is_empty() && pieces == 0,
+        Stretch::Fixed(mark) => added == text(mark) && pieces <= 1,
+        _ => true,
+    }
+}
+
+/// Whether the steps of a printing hand over at most one stretch each, and all of them this text.
+fn steps_print(inner: &str, include_hash: bool, wanted: &str) -> bool {
     let symbol = Symbol::new(inner);
     let mut looks = Looks::new();
     if !symbol.is_ascii(&mut looks) {
@@ -68,23 +141,27 @@ fn steps_print(inner: &str, wanted: &str) -> bool {
     let mut reading = Reading::of_path(0);
     let mut sink = CountingSink::new();
     for _ in 0..200_000 {
-        let before = sink.pieces;
-        match goes_on(&symbol, &mut reading, &mut row, &mut sink, &mut looks) {
+        match goes_on(
+            &symbol,
+            include_hash,
+            &mut reading,
+            &mut row,
+            &mut sink,
+            &mut looks,
+        ) {
             Some(false) => {}
             Some(true) => return sink.text.as_str() == wanted,
             None => return false,
-        }
-        if sink.pieces.saturating_sub(before) > 1 {
-            return false;
         }
     }
     false
 }
 
-/// Does one step, or reads over the own path of an impl: whether nothing is left, if it was not
-/// refused.
+/// Does one step, or reads over the own path of an impl: whether nothing is left, if it was one
+/// step and was not refused.
 fn goes_on(
     symbol: &Symbol<'_>,
+    include_hash: bool,
     reading: &mut Reading,
     row: &mut FrameStack<MOST>,
     sink: &mut CountingSink,
@@ -104,23 +181,58 @@ fn goes_on(
     if is_skipped(at) {
         let base = row.len();
         let own = reading.own_path();
-        return match skip(symbol, false, base, own, reading, row, looks) {
+        return match skip(symbol, include_hash, base, own, reading, row, looks) {
             None => Some(false),
             Some(_) => None,
         };
     }
-    let mut out = SizeLimitedFmtAdapter::new(sink, 1_000_000);
-    match step(symbol, at, false, &mut reading.state, row, &mut out, looks) {
-        Ok(next) => {
-            reading.point = next;
-            Some(false)
-        }
-        Err(_) => None,
+    let (from, pieces) = (sink.text.as_str().len(), sink.pieces);
+    let mut voice = CountingVoice {
+        out: SizeLimitedFmtAdapter::new(sink, 1_000_000),
+        stretches: 0,
+        last: Stretch::Nothing,
+    };
+    let Ok(next) = step(
+        symbol,
+        at,
+        include_hash,
+        &mut reading.state,
+        row,
+        &mut voice,
+        looks,
+    ) else {
+        return None;
+    };
+    reading.point = next;
+    let (stretches, last) = (voice.stretches, voice.last);
+    let added = sink.text.as_str().get(from..)?;
+    if !is_of_one_step(stretches, last, added, sink.pieces.saturating_sub(pieces)) {
+        return None;
     }
+    Some(false)
+}
+
+/// Whether the steps print each of these symbols so, in both forms.
+fn all_step(rows: &[(&str, &str, &str)]) -> bool {
+    for &(inner, plain, alt) in rows {
+        if !steps_print(inner, true, plain) || !steps_print(inner, false, alt) {
+            return false;
+        }
+    }
+    true
 }
 
 #[test]
 fn one_piece_a_step(rt: HostRuntime) -> Result<(), Fail> {
+    assert!(rt; all_step(rows::CONSTANTS));
+    assert!(rt; all_step(rows::REFERENCES));
+    assert!(rt; all_step(rows::MORE_REFERENCES));
+    assert!(rt; all_step(rows::TYPES));
+    assert!(rt; all_step(rows::MORE_TYPES));
+    assert!(rt; all_step(rows::FURTHER_TYPES));
+    assert!(rt; all_step(rows::LAST_TYPES));
+    assert!(rt; all_step(rows::PATHS));
+    assert!(rt; all_step(rows::MORE_PATHS));
     let alloc = rt.alloc();
     let mut tuples = String::from_str(alloc, "(_, _)")?;
     for _ in 1..6 {
@@ -128,11 +240,13 @@ fn one_piece_a_step(rt: HostRuntime) -> Result<(), Fail> {
     }
     let wanted = format!(in alloc; "<{tuples}>")?;
     let inner = "MC0TTTTTTpB8_EB7_EB6_EB5_EB4_EB3_E";
-    assert!(rt; steps_print(inner, wanted.as_str()));
+    assert!(rt; steps_print(inner, false, wanted.as_str()));
+    assert!(rt; steps_print(inner, true, wanted.as_str()));
     let name = String::from_utf8_lossy(alloc, vec![in alloc; b'R'; 100_000]?.as_slice())?;
     let inner = format!(in alloc; "IC100000{name}B7_E")?;
     let marks = String::from_utf8_lossy(alloc, vec![in alloc; b'&'; 497]?.as_slice())?;
     let wanted = format!(in alloc; "{name}::<{marks}{{recursion limit reached}}>")?;
-    assert!(rt; steps_print(inner.as_str(), wanted.as_str()));
+    assert!(rt; steps_print(inner.as_str(), false, wanted.as_str()));
+    assert!(rt; steps_print(inner.as_str(), true, wanted.as_str()));
     Ok(())
 }

@@ -2,7 +2,7 @@
 ghost use Rattle.std.specs.Prelude.{◌≡◌, ◌+◌, ◌*◌, ◌≤◌, IsAscii, length};
 ghost use Rattle.demangle_sink.specs.Cut.{kept};
 ghost use Rattle.demangle_sink.specs.Limit.{Prints, Ready};
-ghost use Rattle.demangle_v0.specs.Reading.{path_texts};
+ghost use Rattle.demangle_grammar.specs.Reading.{path_texts};
 
 use crate::points::frames::{FEW, FrameStack};
 use crate::points::read::Reading;

@@ -17,9 +17,9 @@ use Rattle.rustc_demangle.proofs.LineDivision.{lines_join}
 use Rattle.rustc_demangle.proofs.RunSteps.{turn, first_of_run}
 use Rattle.demangle_legacy.proofs.LegacyLaws.{legacy_spelled}
 use Rattle.rustc_demangle.proofs.SymbolSteps.{symbol-pieces, pieces-legacy, pieces-v0}
-use Rattle.demangle_v0.proofs.V0Reading.{v0_is_read}
+use Rattle.demangle_grammar.proofs.V0Reading.{v0_is_read}
 use Rattle.rustc_demangle.proofs.V0Feeds.{feeds-rendered}
-use Rattle.demangle_v0.specs.Reading.{path_texts}
+use Rattle.demangle_grammar.specs.Reading.{path_texts}
 use Rattle.demangle_sink.specs.Cut.{size, front_within, cut, marker}
 use Rattle.rustc_demangle.specs.Lines.{lines, feeds}
 use Rattle.demangle_legacy.specs.Legacy.{IsElements, IsLegacy}

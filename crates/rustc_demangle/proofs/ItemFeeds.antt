@@ -7,8 +7,8 @@ use Rattle.rustc_demangle.specs.Lines.{feeds}
 use Rattle.demangle_symbol.specs.Digits.{is_byte}
 use Rattle.demangle_symbol.specs.Words.{Name, Read, byte_at, namespace_at, integer_at, optional_at, backref_at, identifier_at, nibbles_at}
 use Rattle.demangle_symbol.specs.Names.{name_pieces}
-use Rattle.demangle_v0.specs.Items.{Text, Kind, a_path, a_trait_path, Items, done, invalid, say, say_plain, byte, namespace, integer, optional, identifier, nibbles, peek, next, sound, until_end, raise, unit, child, skip, target, lifetime, binder, opens, dyn_trait, bindings}
-use Rattle.demangle_v0.specs.Reading.{Tree, nothing, piece, plain_piece, node, looked, hidden, invalid_syntax, too_deep, unread, pieces, Place, Outcome, Level, Surroundings, stands, behind, followed_by, word_outcome, word, peek_outcome, byte_choice, one_depth_on, turns, unit_outcome, hidden_path, all_pieces, angle_if_open, binding_separator, name_equals, bound_by, target_read, target_of, letter_of, lifetime_at, new_lifetimes, binder_at, run}
+use Rattle.demangle_grammar.specs.Items.{Text, Kind, a_path, a_trait_path, Items, done, invalid, say, say_plain, byte, namespace, integer, optional, identifier, nibbles, peek, next, sound, until_end, raise, unit, child, skip, target, lifetime, binder, opens, dyn_trait, bindings}
+use Rattle.demangle_grammar.specs.Reading.{Tree, nothing, piece, plain_piece, node, looked, hidden, invalid_syntax, too_deep, unread, pieces, Place, Outcome, Level, Surroundings, stands, behind, followed_by, word_outcome, word, peek_outcome, byte_choice, one_depth_on, turns, unit_outcome, hidden_path, all_pieces, angle_if_open, binding_separator, name_equals, bound_by, target_read, target_of, letter_of, lifetime_at, new_lifetimes, binder_at, run}
 use Rattle.rustc_demangle.proofs.Feeds.{feeds-append, feeds-concat, feeds-other}
 use Rattle.rustc_demangle.proofs.WordFeeds.{AreClear, number_clear, namespace_clear, nibbles_clear, identifier_clear, name_clear}
 

@@ -8,14 +8,14 @@ use Rattle.demangle_sink.specs.Cut.{cut, kept}
 use Rattle.demangle_legacy.specs.Legacy.{IsElements, inner_of, legacy_of, elements_of}
 use Rattle.rustc_demangle.specs.Stripped.{is_allowed}
 use Rattle.demangle_legacy.specs.Unescaped.{legacy_pieces}
-use Rattle.demangle_v0.specs.Reading.{path_texts}
-use Rattle.demangle_v0.specs.V0.{IsV0, IsV0Prefix, v0_of}
+use Rattle.demangle_grammar.specs.Reading.{path_texts}
+use Rattle.demangle_grammar.specs.V0.{IsV0, IsV0Prefix, v0_of}
 use Rattle.rustc_demangle.specs.Symbols.{IsLegacySymbol, IsV0Symbol, IsSymbol, kept_of, if_allowed, read_of, pieces_of, handed, PrintingLooks}
 use Rattle.rustc_demangle.specs.Style.{style_pieces, style_looks, style_least, IsReadAs, HasNoStyle, HasStyle, IsStyled}
 use Rattle.rustc_demangle.specs.declared.value.DemangleStyle.{DemangleStyle}
 use Rattle.rustc_demangle.specs.declared.value.DemangleStyle.TheVariants.{Legacy, V0}
 use Rattle.demangle_legacy.proofs.LegacyLaws.{legacy_no_prefix, legacy_read, legacy_spelled}
-use Rattle.demangle_v0.proofs.V0Reading.{read_is_v0, v0_is_read}
+use Rattle.demangle_grammar.proofs.V0Reading.{read_is_v0, v0_is_read}
 
 -- a text without a style hands over itself
 pub handed-none : (text : List ℕ) (hash : Bool) (limit : ℕ) → HasNoStyle text → handed text hash limit ≡ text ∷ []

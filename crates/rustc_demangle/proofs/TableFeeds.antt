@@ -8,8 +8,8 @@ use Rattle.rustc_demangle.specs.Lines.{feeds}
 use Rattle.demangle_symbol.specs.Words.{Name, is_upper, some_or, number_of}
 use Rattle.demangle_symbol.specs.Names.{is_empty, is_nameless, name_pieces}
 use Rattle.demangle_symbol.specs.Literals.{literal, string_of}
-use Rattle.demangle_v0.specs.Items.{Text, Kind, a_path, a_type, a_constant, a_pattern, a_trait_path, Items, done, invalid, say, say_plain, byte, next, raise, unit, child, opens, dyn_trait}
-use Rattle.demangle_v0.specs.Table.{is_among, row_of, says, says_if, say_all, list, tuple, type_inside, constant_inside, argument, in_special, in_namespace, path_rows, basic_types, row_text, extern, signature, function, binding_value, after_tag, type_rows, type_behind_tag, type_tagged, pattern_rows, braces, integer_constant, character, truth, string, field, variant, variant_rows, constant_rows, items}
+use Rattle.demangle_grammar.specs.Items.{Text, Kind, a_path, a_type, a_constant, a_pattern, a_trait_path, Items, done, invalid, say, say_plain, byte, next, raise, unit, child, opens, dyn_trait}
+use Rattle.demangle_grammar.specs.Table.{is_among, row_of, says, says_if, say_all, list, tuple, type_inside, constant_inside, argument, in_special, in_namespace, path_rows, basic_types, row_text, extern, signature, function, binding_value, after_tag, type_rows, type_behind_tag, type_tagged, pattern_rows, braces, integer_constant, character, truth, string, field, variant, variant_rows, constant_rows, items}
 use Rattle.rustc_demangle.proofs.Feeds.{feeds-other}
 use Rattle.rustc_demangle.proofs.WordFeeds.{AreClear, number_clear, name_clear, extern_clear, literal_clear}
 use Rattle.rustc_demangle.proofs.ItemFeeds.{SaysClear}

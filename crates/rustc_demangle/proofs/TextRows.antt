@@ -10,7 +10,7 @@ use Rattle.rustc_demangle.specs.Lines.{lines}
 use Rattle.rustc_demangle.specs.Stripped.{stripped, is_allowed}
 use Rattle.rustc_demangle.specs.Symbols.{handed, most_bytes}
 use Rattle.demangle_legacy.specs.Unescaped.{escape_of_digits, escape_of, leading_unit, pieces_from, unescaped, shown_elements}
-use Rattle.demangle_v0.specs.V0.{v0_in, v0_of}
+use Rattle.demangle_grammar.specs.V0.{v0_in, v0_of}
 
 endings : map stripped (codes "foo.llvm.AB" ∷ codes "foo.llvm." ∷ codes "foo.llvm.F0@9" ∷ codes "foo.llvm.AG" ∷ codes "foo.llvm.ab" ∷ codes "a.llvm.A.llvm.G" ∷ codes "a.llvm.A.llvm.B" ∷ codes "foo.llv.AB" ∷ []) ≡
     codes "foo" ∷ codes "foo" ∷ codes "foo" ∷ codes "foo.llvm.AG" ∷ codes "foo.llvm.ab" ∷ codes "a.llvm.A.llvm.G" ∷ codes "a.llvm.A.llvm.B" ∷ codes "foo.llv.AB" ∷ []

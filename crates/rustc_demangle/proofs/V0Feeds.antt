@@ -2,9 +2,9 @@
 use Rattle.std.proofs.Common.{◌≡◌, ℕ, zero, suc, ◌-◌, Bool, true, List, Some}
 use Rattle.std.specs.List.{concat}
 use Rattle.rustc_demangle.specs.Lines.{feeds}
-use Rattle.demangle_v0.specs.Items.{Kind, a_path}
-use Rattle.demangle_v0.specs.Table.{items}
-use Rattle.demangle_v0.specs.Reading.{Level, Surroundings, run, nowhere, level_of, levels, max_depth, read_at, path_texts}
+use Rattle.demangle_grammar.specs.Items.{Kind, a_path}
+use Rattle.demangle_grammar.specs.Table.{items}
+use Rattle.demangle_grammar.specs.Reading.{Level, Surroundings, run, nowhere, level_of, levels, max_depth, read_at, path_texts}
 use Rattle.rustc_demangle.proofs.ItemFeeds.{IsClear, clear_pieces, LevelClear, LevelsClear, clear}
 use Rattle.rustc_demangle.proofs.TableFeeds.{items_clear}
 

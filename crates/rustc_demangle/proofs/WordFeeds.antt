@@ -14,7 +14,7 @@ use Rattle.demangle_symbol.specs.Words.{Name, only_if, then_if_some, some_or, is
 use Rattle.demangle_symbol.specs.Punycode.{insertions, deltas, next_delta, puny}
 use Rattle.demangle_symbol.specs.Names.{is_empty, fallback_pieces, name_pieces}
 use Rattle.demangle_symbol.specs.Literals.{literal_escape, literal, is_shown}
-use Rattle.demangle_v0.specs.Table.{hyphenated_abi, extern}
+use Rattle.demangle_grammar.specs.Table.{hyphenated_abi, extern}
 use Rattle.rustc_demangle.proofs.Feeds.{feeds-append, feeds-take, feeds-drop, feeds-other, feeds-character}
 
 -- texts without line feeds

@@ -26,13 +26,13 @@ pub use Rattle.demangle_symbol.specs.Literals
 -- and of demangle_legacy
 pub use Rattle.demangle_legacy.specs.Legacy
 pub use Rattle.demangle_legacy.specs.Unescaped
--- and of demangle_v0
-pub use Rattle.demangle_v0.specs.Items
-pub use Rattle.demangle_v0.specs.Table
-pub use Rattle.demangle_v0.specs.Cost
-pub use Rattle.demangle_v0.specs.Reading
-pub use Rattle.demangle_v0.specs.Spelling
-pub use Rattle.demangle_v0.specs.V0
-pub use Rattle.demangle_v0.specs.Accepting
+-- and of demangle_grammar
+pub use Rattle.demangle_grammar.specs.Items
+pub use Rattle.demangle_grammar.specs.Table
+pub use Rattle.demangle_grammar.specs.Cost
+pub use Rattle.demangle_grammar.specs.Reading
+pub use Rattle.demangle_grammar.specs.Spelling
+pub use Rattle.demangle_grammar.specs.V0
+pub use Rattle.demangle_grammar.specs.Accepting
 -- Internal.
 pub mod Style

@@ -4,10 +4,10 @@ use Rattle.std.specs.List.{concat}
 use Rattle.std.specs.Option.{option_map_or, option_or}
 use Rattle.demangle_sink.specs.Cut.{cut, kept}
 use Rattle.demangle_legacy.specs.Legacy.{IsLegacy, legacy_of}
-use Rattle.demangle_v0.specs.Reading.{path_texts}
+use Rattle.demangle_grammar.specs.Reading.{path_texts}
 use Rattle.rustc_demangle.specs.Stripped.{is_allowed}
 use Rattle.demangle_legacy.specs.Unescaped.{legacy_pieces}
-use Rattle.demangle_v0.specs.V0.{IsV0, v0_of}
+use Rattle.demangle_grammar.specs.V0.{IsV0, v0_of}
 
 -- the text is spelled by the grammar of the legacy scheme, up to an allowed suffix
 abbrev pub IsLegacySymbol : List ℕ → Type 0

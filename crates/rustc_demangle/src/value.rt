@@ -7,7 +7,7 @@ ghost use Rattle.demangle_sink.specs.Limit.{Prints, Ready};
 ghost use Rattle.rustc_demangle.specs.Stripped.{is_allowed, is_graphic};
 ghost use Rattle.rustc_demangle.specs.Style.{style_pieces, style_len, style_looks, style_least, IsReadAs, HasNoStyle, HasStyle};
 ghost use Rattle.rustc_demangle.specs.Symbols.{handed, most_bytes, IsSymbol, PrintingLooks};
-ghost use Rattle.demangle_v0.specs.V0.{v0_of};
+ghost use Rattle.demangle_grammar.specs.V0.{v0_of};
 ghost use Rattle.demangle_sink.specs.Writes.{Writes};
 
 use demangle_sink::{SinkRefused, SizeLimitedFmtAdapter, TextSink, put_piece};

@@ -1,9 +1,9 @@
 use Rattle.std.proofs.Common.{◌≡◌, true, false, length, ap, sym, refl, arith, Some, None, Option, ℕ}
 use Rattle.std.specs.Prelude.{IsAscii}
 use Rattle.std.proofs.lemmas.Bool.{false≢true}
-use Rattle.demangle_v0.specs.Reading.{goes_on_at, suffix_place}
-use Rattle.demangle_v0.proofs.LooksLaw.{accepting_costs}
-use Rattle.demangle_v0.proofs.V0Reading.{v0_no_prefix, v0_not_ascii, v0_not_begun, v0_no_paths, v0_there, suffix_within}
+use Rattle.demangle_grammar.specs.Reading.{goes_on_at, suffix_place}
+use Rattle.demangle_grammar.proofs.LooksLaw.{accepting_costs}
+use Rattle.demangle_grammar.proofs.V0Reading.{v0_no_prefix, v0_not_ascii, v0_not_begun, v0_no_paths, v0_there, suffix_within}
 use Rattle.demangle_v0.proofs.demangle.Goals as goal
 
 pub returns-in_default-clause-err : goal.returns-in_default-clause-err

@@ -1,16 +1,16 @@
 //! The points of the arguments of a path.
 ghost use Rattle.std.specs.Prelude.{◌≡◌, ℕ, ◌-◌, ◌+◌, ◌<◌, ◌≤◌, List, Bool, false, Ok, Some, length};
 ghost use Rattle.demangle_v0.specs.Arguments.{arguments_point, argument_point, argument_place, argument_costs};
-ghost use Rattle.demangle_v0.specs.Totals.{total};
+ghost use Rattle.demangle_grammar.specs.Totals.{total};
 ghost use Rattle.demangle_v0.specs.declared.points.frames.Frame.{Frame};
-ghost use Rattle.demangle_v0.specs.Points.{Did, Fits};
+ghost use Rattle.demangle_v0.specs.Points.{own_by, Did, Fits};
 
-use crate::grammar::Mark;
 use crate::points::frames::FrameStack;
 use crate::points::functions::separator;
-use crate::points::voice::Voice;
 use crate::points::{Point, State};
 use demangle_symbol::cursor::{Looks, Symbol};
+use demangle_words::texts::Mark;
+use demangle_words::voice::Voice;
 
 /// The arguments of a path, behind it.
 #[inline(always)]
@@ -52,6 +52,7 @@ pub(super) fn arguments<V: Voice, const N: usize>(
     ensures did { (plain : Bool) (v : V) → Did V.Voice symbol.now plain (arguments_point is_first)
         state.old row.old v (Ok result) state.new row.new v (looks.new - looks.old) }
     ensures grows { looks.old ≤ looks.new }
+    ensures own { looks.new ≤ looks.old + own_by 20 symbol.now state.old.place }
 {
     let Some(at) = state.place else {
         return close_arguments(state);
@@ -92,6 +93,7 @@ pub(super) fn argument(
           symbol.now at);
     } }
     ensures grows { looks.old ≤ looks.new }
+    ensures own { looks.new ≤ looks.old + own_by 20 symbol.now state.old.place }
     ensures looks { looks.new ≤ looks.old + total (argument_costs symbol.now at) }
     ensures few { looks.new ≤ looks.old + 2 }
 {

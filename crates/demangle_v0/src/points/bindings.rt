@@ -1,14 +1,14 @@
 //! The bindings of a dyn trait path.
 ghost use Rattle.std.specs.Prelude.{◌≡◌, ◌+◌, ◌-◌, ◌*◌, ◌<◌, ◌≤◌, List, Bool, Some, None, Ok, Err, IsOk, IsAscii, length, true, false, if◌then◌else◌};
 ghost use Rattle.demangle_v0.specs.PointContracts.{heard_of};
-ghost use Rattle.demangle_v0.specs.Points.{Did, DidOn, Fits, bindings_left};
+ghost use Rattle.demangle_v0.specs.Points.{own_by, Did, DidOn, Fits, bindings_left};
 
-use crate::grammar::{Mark, Word};
 use crate::points::frames::{Frame, FrameStack};
-use crate::points::voice::Voice;
 use crate::points::{Point, State, Stop, word_at};
-use crate::words::WordRead;
 use demangle_symbol::cursor::{Looks, Symbol};
+use demangle_words::read::WordRead;
+use demangle_words::texts::{Mark, Word};
+use demangle_words::voice::Voice;
 
 /// What bindings print at their end.
 #[inline(always)]
@@ -36,9 +36,10 @@ fn binding<V: Voice>(
 ) -> Point
     requires fits { Fits Point.Bindings state.old.depth_left state.old.lifetimes }
     ensures did { (plain : Bool) (v : V) (row : List Frame) → DidOn V.Voice symbol.now plain
-        (heard_of symbol.now plain V.loud (bindings_left is_open) state.old) 2 (8 *
+        8 (heard_of symbol.now plain V.loud (bindings_left is_open) state.old) 2 (8 *
         state.old.depth_left + 4) row v (Ok result) state.new row v (looks.new - looks.old) }
     ensures grows { looks.old ≤ looks.new }
+    ensures own { looks.new ≤ looks.old + own_by 20 symbol.now state.old.place }
 {
     let Some(at) = state.place else {
         state.mark = end_mark(is_open);
@@ -61,6 +62,7 @@ pub(super) fn bindings<V: Voice>(symbol: &Symbol<'_>, state: &mut State, looks: 
     ensures did { (plain : Bool) (v : V) (row : List Frame) → Did V.Voice symbol.now plain
         Point.Bindings state.old row v (Ok result) state.new row v (looks.new - looks.old) }
     ensures grows { looks.old ≤ looks.new }
+    ensures own { looks.new ≤ looks.old + own_by 20 symbol.now state.old.place }
 {
     binding::<V>(symbol, state.is_open, state, looks)
 }
@@ -76,6 +78,7 @@ pub(super) fn open_bindings<V: Voice>(
     ensures did { (plain : Bool) (v : V) (row : List Frame) → Did V.Voice symbol.now plain
         Point.OpenBindings state.old row v (Ok result) state.new row v (looks.new - looks.old) }
     ensures grows { looks.old ≤ looks.new }
+    ensures own { looks.new ≤ looks.old + own_by 20 symbol.now state.old.place }
 {
     binding::<V>(symbol, true, state, looks)
 }
@@ -98,6 +101,7 @@ pub(super) fn binding_name<V: Voice>(
     ensures ready { IsOk result → V.ready voice.new }
     ensures sound { (m : Mark) → result ≡ Err (Stop.Fault m) → V.ready voice.new }
     ensures grows { looks.old ≤ looks.new }
+    ensures own { looks.new ≤ looks.old + own_by 20 symbol.now state.old.place }
 {
     match word_at(symbol, Word::BindingName, state, voice, looks) {
         WordRead::Goes(name, next) => {
@@ -125,6 +129,7 @@ pub(super) fn bound<V: Voice, const N: usize>(
     ensures did { (plain : Bool) (v : V) → Did V.Voice symbol.now plain Point.Bound state.old
         row.old v (Ok result) state.new row.new v (looks.new - looks.old) }
     ensures grows { looks.old ≤ looks.new }
+    ensures own { looks.new ≤ looks.old + own_by 20 symbol.now state.old.place }
 {
     row.push(state.frame(Point::OpenBindings));
     state.in_value = false;

@@ -1,14 +1,14 @@
 //! The lists of constants.
 ghost use Rattle.std.specs.Prelude.{true, ◌≡◌, ◌*◌, ◌+◌, ◌-◌, ◌<◌, ◌≤◌, Some, None, Ok, length, Bool};
 ghost use Rattle.demangle_v0.specs.ConstantLists.{first_point, second_point, next_point, element_point, close_of};
-ghost use Rattle.demangle_v0.specs.Points.{Did, DidOn, share_of, Fits};
-ghost use Rattle.demangle_v0.specs.Table.{constant};
+ghost use Rattle.demangle_v0.specs.Points.{own_by, Did, DidOn, share_of, Fits};
+ghost use Rattle.demangle_grammar.specs.Table.{constant};
 
-use crate::grammar::Mark;
 use crate::points::frames::FrameStack;
-use crate::points::voice::Voice;
 use crate::points::{Point, State};
 use demangle_symbol::cursor::{Looks, Symbol};
+use demangle_words::texts::Mark;
+use demangle_words::voice::Voice;
 
 /// What constants stand in, one behind the other.
 #[derive(Clone, Copy)]
@@ -82,10 +82,11 @@ pub(super) fn first_constant<V: Voice, const N: usize>(
     requires room { length row.old < N }
     requires unmarked { state.old.mark ≡ None }
     requires fits { Fits Point.Constant state.old.depth_left state.old.lifetimes }
-    ensures did { (plain : Bool) (v : V) → DidOn V.Voice symbol.now plain (share_of symbol.now plain
+    ensures did { (plain : Bool) (v : V) → DidOn V.Voice symbol.now plain 8 (share_of symbol.now plain
         V.loud (first_point list) state.old) 1 (8 * state.old.depth_left + 2) row.old v (Ok result)
         state.new row.new v (looks.new - looks.old) }
     ensures grows { looks.old ≤ looks.new }
+    ensures own { looks.new ≤ looks.old + own_by 20 symbol.now state.old.place }
 {
     let Some(at) = state.place else {
         state.mark = Some(list.close());
@@ -115,10 +116,11 @@ pub(super) fn next_constant<V: Voice, const N: usize>(
     requires room { length row.old < N }
     requires unmarked { state.old.mark ≡ None }
     requires fits { Fits Point.Constant state.old.depth_left state.old.lifetimes }
-    ensures did { (plain : Bool) (v : V) → DidOn V.Voice symbol.now plain (share_of symbol.now plain
+    ensures did { (plain : Bool) (v : V) → DidOn V.Voice symbol.now plain 8 (share_of symbol.now plain
         V.loud (next_point list) state.old) 1 (8 * state.old.depth_left + 2) row.old v (Ok result)
         state.new row.new v (looks.new - looks.old) }
     ensures grows { looks.old ≤ looks.new }
+    ensures own { looks.new ≤ looks.old + own_by 20 symbol.now state.old.place }
 {
     let Some(at) = state.place else {
         state.mark = Some(list.close());
@@ -151,6 +153,7 @@ pub(super) fn second_tuple_constant<V: Voice, const N: usize>(
     ensures did { (plain : Bool) (v : V) → Did V.Voice symbol.now plain Point.SecondTupleConstant
         state.old row.old v (Ok result) state.new row.new v (looks.new - looks.old) }
     ensures grows { looks.old ≤ looks.new }
+    ensures own { looks.new ≤ looks.old + own_by 20 symbol.now state.old.place }
 {
     let Some(at) = state.place else {
         state.mark = Some(Mark::OneComma);

@@ -1,38 +1,17 @@
 //! The points of constants.
 ghost use Rattle.std.specs.Prelude.{true, ◌≡◌, ◌==◌, ◌*◌, ℕ, ◌+◌, ◌-◌, ◌<◌, ◌≤◌, Some, None, Ok, Err, IsOk, length, IsAscii, List, Bool, if◌then◌else◌};
-ghost use Rattle.demangle_v0.specs.Points.{Did, DidOn, pushed_on, Fits};
-ghost use Rattle.demangle_v0.specs.Table.{constant};
+ghost use Rattle.demangle_v0.specs.Points.{own_by, Did, DidOn, pushed_on, Fits};
+ghost use Rattle.demangle_grammar.specs.Table.{constant};
 ghost use Rattle.demangle_v0.specs.PointContracts.{DidFree, brace_behind, heard_of};
-ghost use Rattle.demangle_v0.specs.Tags.{constant_of};
+ghost use Rattle.demangle_words.specs.Tags.{constant_of};
 
-use crate::grammar::{Mark, Word};
 use crate::points::frames::{Frame, FrameStack};
 use crate::points::references::follow;
-use crate::points::tags::{ConstantKind, constant_kind};
-use crate::points::voice::Voice;
 use crate::points::{Point, State, Stop, last_word};
 use demangle_symbol::cursor::{Looks, Symbol};
-
-/// A string, behind its `e`.
-#[inline(always)]
-pub(super) fn text_constant<V: Voice>(state: &mut State) -> Point
-    requires fits { Fits Point.TextConstant state.old.depth_left state.old.lifetimes }
-    ensures did { DidFree V.Voice Point.TextConstant state.old result state.new }
-{
-    state.mark = Some(Mark::Star);
-    Point::Literal
-}
-
-/// What a reference refers to, behind its tag.
-#[inline(always)]
-pub(super) fn reference_constant<V: Voice>(state: &mut State) -> Point
-    requires fits { Fits Point.ReferenceConstant state.old.depth_left state.old.lifetimes }
-    ensures did { DidFree V.Voice Point.ReferenceConstant state.old result state.new }
-{
-    state.mark = Some(Mark::Ampersand);
-    state.in_value = true;
-    Point::Constant
-}
+use demangle_words::tags::{ConstantKind, constant_kind};
+use demangle_words::texts::{Mark, Word};
+use demangle_words::voice::Voice;
 
 /// What a mutable reference refers to, behind its tag.
 #[inline(always)]
@@ -103,6 +82,7 @@ pub(super) fn literal<V: Voice>(
     ensures ready { IsOk result → V.ready voice.new }
     ensures sound { (m : Mark) → result ≡ Err (Stop.Fault m) → V.ready voice.new }
     ensures grows { looks.old ≤ looks.new }
+    ensures own { looks.new ≤ looks.old + own_by 20 symbol.now state.old.place }
 {
     last_word(symbol, Word::Literal, plain, state, voice, looks)
 }
@@ -124,6 +104,7 @@ pub(super) fn number<V: Voice>(
     ensures ready { IsOk result → V.ready voice.new }
     ensures sound { (m : Mark) → result ≡ Err (Stop.Fault m) → V.ready voice.new }
     ensures grows { looks.old ≤ looks.new }
+    ensures own { looks.new ≤ looks.old + own_by 20 symbol.now state.old.place }
 {
     last_word(symbol, Word::Number, plain, state, voice, looks)
 }
@@ -162,13 +143,14 @@ fn signed_number<V: Voice>(
     requires ready { V.ready voice.old }
     requires unmarked { state.old.mark ≡ None }
     requires fits { Fits Point.Constant state.old.depth_left state.old.lifetimes }
-    ensures did { (row : List Frame) → DidOn V.Voice symbol.now plain (heard_of symbol.now plain
+    ensures did { (row : List Frame) → DidOn V.Voice symbol.now plain 6 (heard_of symbol.now plain
         V.loud (constant_of state.old.in_value tag ConstantKind.Signed) state.old) 6 (8 *
         state.old.depth_left + 9) row voice.old result state.new row voice.new (looks.new -
         looks.old) }
     ensures ready { IsOk result → V.ready voice.new }
     ensures sound { (m : Mark) → result ≡ Err (Stop.Fault m) → V.ready voice.new }
     ensures grows { looks.old ≤ looks.new }
+    ensures own { looks.new ≤ looks.old + own_by 21 symbol.now state.old.place }
 {
     let Some(at) = state.place else {
         return Err(Stop::Fault(Mark::Unread));
@@ -197,12 +179,13 @@ fn shared_reference<V: Voice, const N: usize>(
     requires unmarked { state.old.mark ≡ None }
     requires room { length row.old < N }
     requires fits { Fits Point.Constant state.old.depth_left state.old.lifetimes }
-    ensures did { DidOn V.Voice symbol.now plain (heard_of symbol.now plain V.loud (constant
+    ensures did { DidOn V.Voice symbol.now plain 6 (heard_of symbol.now plain V.loud (constant
         state.old.in_value 82) state.old) 6 (8 * state.old.depth_left + 9) row.old voice.old result
         state.new row.new voice.new (looks.new - looks.old) }
     ensures ready { IsOk result → V.ready voice.new }
     ensures sound { (m : Mark) → result ≡ Err (Stop.Fault m) → V.ready voice.new }
     ensures grows { looks.old ≤ looks.new }
+    ensures own { looks.new ≤ looks.old + own_by 20 symbol.now state.old.place }
 {
     let Some(at) = state.place else {
         return Ok(in_braces(Point::ReferenceConstant, state, row));
@@ -221,7 +204,7 @@ fn variant_path<V: Voice, const N: usize>(state: &mut State, row: &mut FrameStac
     requires unmarked { state.old.mark ≡ None }
     requires fits { Fits Point.Constant state.old.depth_left state.old.lifetimes }
     ensures did { (b : List ℕ) (plain : Bool) (v : V) (made : ℕ) → made ≤ 0 → DidOn V.Voice b plain
-        (heard_of b plain V.loud (constant state.old.in_value 86) state.old) 6 (8 *
+        6 (heard_of b plain V.loud (constant state.old.in_value 86) state.old) 6 (8 *
         state.old.depth_left + 9) row.old v (Ok result) state.new row.new v made }
 {
     row.push(state.frame(Point::Variant));
@@ -249,12 +232,13 @@ fn tagged_constant<V: Voice, const N: usize>(
     requires unmarked { state.old.mark ≡ None }
     requires room { length row.old < N }
     requires fits { Fits Point.Constant state.old.depth_left state.old.lifetimes }
-    ensures did { DidOn V.Voice symbol.now plain (heard_of symbol.now plain V.loud (constant
+    ensures did { DidOn V.Voice symbol.now plain 6 (heard_of symbol.now plain V.loud (constant
         state.old.in_value tag) state.old) 6 (8 * state.old.depth_left + 9) row.old voice.old result
         state.new row.new voice.new (looks.new - looks.old) }
     ensures ready { IsOk result → V.ready voice.new }
     ensures sound { (m : Mark) → result ≡ Err (Stop.Fault m) → V.ready voice.new }
     ensures grows { looks.old ≤ looks.new }
+    ensures own { looks.new ≤ looks.old + own_by 21 symbol.now state.old.place }
 {
     let Some(kind) = constant_kind(tag) else {
         return Err(Stop::Fault(Mark::Invalid));
@@ -302,6 +286,7 @@ pub(super) fn constant<V: Voice, const N: usize>(
     ensures ready { IsOk result → V.ready voice.new }
     ensures sound { (m : Mark) → result ≡ Err (Stop.Fault m) → V.ready voice.new }
     ensures grows { looks.old ≤ looks.new }
+    ensures own { looks.new ≤ looks.old + own_by 20 symbol.now state.old.place }
 {
     let Some(at) = state.place else {
         return Err(Stop::Fault(Mark::Unread));

@@ -1,18 +1,18 @@
 //! The points of dyn types.
 ghost use Rattle.std.specs.Prelude.{◌≡◌, ℕ, ◌+◌, ◌-◌, ◌*◌, ◌<◌, ◌≤◌, List, Bool, Some, None, Ok, Err, IsOk, IsAscii, length, true, false, if◌then◌else◌};
 ghost use Rattle.demangle_v0.specs.PointContracts.{heard_of};
-ghost use Rattle.demangle_v0.specs.Points.{Did, DidOn, Fits};
+ghost use Rattle.demangle_v0.specs.Points.{own_by, MaySpeak, PointDoes, env, turn, Did, DidOn, Fits};
 ghost use Rattle.demangle_v0.specs.DynTraits.{dyn_type};
 
-use crate::grammar::{Mark, Word};
 use crate::points::arguments::argument;
 use crate::points::frames::{Frame, FrameStack};
 use crate::points::functions::{name_lifetimes, separator};
 use crate::points::references::follow;
 use crate::points::tuples::is_over;
-use crate::points::voice::Voice;
 use crate::points::{Point, State, Stop, last_word};
 use demangle_symbol::cursor::{Looks, Symbol};
+use demangle_words::texts::{Mark, Word};
+use demangle_words::voice::Voice;
 
 /// A dyn type, behind its tag.
 #[inline(always)]
@@ -23,7 +23,7 @@ pub(super) fn dyn_type<V: Voice, const N: usize>(
 ) -> Point
     requires room { length row.old < N }
     requires fits { Fits Point.DynBinder state.old.depth_left state.old.lifetimes }
-    ensures did { (plain : Bool) (v : V) → DidOn V.Voice symbol.now plain (heard_of symbol.now plain
+    ensures did { (plain : Bool) (v : V) → DidOn V.Voice symbol.now plain 5 (heard_of symbol.now plain
         V.loud dyn_type state.old) 4 (8 * state.old.depth_left + 5) row.old v (Ok result) state.new
         row.new v 0 }
 {
@@ -52,6 +52,7 @@ pub(super) fn dyn_binder<V: Voice, const N: usize>(
     ensures ready { IsOk result → V.ready voice.new }
     ensures sound { (m : Mark) → result ≡ Err (Stop.Fault m) → V.ready voice.new }
     ensures grows { looks.old ≤ looks.new }
+    ensures own { looks.new ≤ looks.old + own_by 24 symbol.now state.old.place }
 {
     let Some(at) = state.place else {
         return Err(Stop::Fault(Mark::Unread));
@@ -85,6 +86,7 @@ pub(super) fn dyn_trait<V: Voice, const N: usize>(
         Point.FirstDynTrait else Point.NextDynTrait) state.old row.old v (Ok result) state.new
         row.new v (looks.new - looks.old) }
     ensures grows { looks.old ≤ looks.new }
+    ensures own { looks.new ≤ looks.old + own_by 20 symbol.now state.old.place }
 {
     if is_over(symbol, &mut state.place, looks) {
         state.is_open = false;
@@ -110,6 +112,7 @@ pub(super) fn trait_path<V: Voice, const N: usize>(
     ensures did { (plain : Bool) (v : V) → Did V.Voice symbol.now plain Point.TraitPath state.old
         row.old v result state.new row.new v (looks.new - looks.old) }
     ensures grows { looks.old ≤ looks.new }
+    ensures own { looks.new ≤ looks.old + own_by 20 symbol.now state.old.place }
 {
     let Some(at) = state.place else {
         return Err(Stop::Fault(Mark::Unread));
@@ -155,6 +158,7 @@ pub(super) fn open_argument<V: Voice, const N: usize>(
         Point.FirstOpenArgument else Point.NextOpenArgument) state.old row.old v (Ok result)
         state.new row.new v (looks.new - looks.old) }
     ensures grows { looks.old ≤ looks.new }
+    ensures own { looks.new ≤ looks.old + own_by 20 symbol.now state.old.place }
 {
     let Some(at) = state.place else {
         state.is_open = true;
@@ -179,14 +183,9 @@ pub(super) fn dyn_lifetime<V: Voice>(
     voice: &mut V,
     looks: &mut Looks,
 ) -> Result<Point, Stop>
-    requires ascii { V.loud ≡ true → IsAscii symbol.now }
-    requires ready { V.ready voice.old }
-    requires unmarked { state.old.mark ≡ None }
-    ensures did { (row : List Frame) → Did V.Voice symbol.now plain Point.DynLifetime state.old row
-        voice.old result state.new row voice.new (looks.new - looks.old) }
-    ensures ready { IsOk result → V.ready voice.new }
-    ensures sound { (m : Mark) → result ≡ Err (Stop.Fault m) → V.ready voice.new }
-    ensures grows { looks.old ≤ looks.new }
+    requires may { MaySpeak (env V.Voice symbol.now plain) state.old voice.old }
+    ensures did { (row : List Frame) → PointDoes (env V.Voice symbol.now plain) Point.DynLifetime (turn
+        state.old row voice.old looks.old) result (turn state.new row voice.new looks.new) }
 {
     last_word(symbol, Word::DynLifetime, plain, state, voice, looks)
 }

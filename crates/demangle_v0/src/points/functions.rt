@@ -1,19 +1,19 @@
 //! The points of function types, and binders.
 ghost use Rattle.std.specs.Prelude.{◌≡◌, ℕ, ◌+◌, ◌-◌, ◌^◌, ◌<◌, ◌≤◌, List, Bool, Some, None, Ok, Err, IsOk, OnOk, IsAscii, length, true, false, if◌then◌else◌, []};
-ghost use Rattle.demangle_v0.specs.Binders.{binder_texts};
-ghost use Rattle.demangle_v0.specs.Events.{of};
-ghost use Rattle.demangle_v0.specs.Groups.{texts_of};
-ghost use Rattle.demangle_v0.specs.Points.{Did, Fits, most_lifetimes};
+ghost use Rattle.demangle_grammar.specs.Binders.{binder_texts};
+ghost use Rattle.demangle_grammar.specs.Events.{of};
+ghost use Rattle.demangle_words.specs.Groups.{texts_of};
+ghost use Rattle.demangle_v0.specs.Points.{own_by, Did, Fits, most_lifetimes};
 
-use crate::grammar::{Mark, Word};
 use crate::points::frames::{Frame, FrameStack};
 use crate::points::tuples::is_over;
-use crate::points::voice::Voice;
 use crate::points::{Point, State, Stop, word_at};
-use crate::stretch::{Abi, Stretch};
-use crate::words::WordRead;
 use demangle_sink::SinkRefused;
 use demangle_symbol::cursor::{Looks, Symbol};
+use demangle_words::read::WordRead;
+use demangle_words::stretch::{Abi, Stretch};
+use demangle_words::texts::{Mark, Word};
+use demangle_words::voice::Voice;
 
 /// The lifetimes of a binder come into force, and are handed over.
 #[inline(always)]
@@ -58,6 +58,7 @@ pub(super) fn function_binder<V: Voice>(
     ensures ready { IsOk result → V.ready voice.new }
     ensures sound { (m : Mark) → result ≡ Err (Stop.Fault m) → V.ready voice.new }
     ensures grows { looks.old ≤ looks.new }
+    ensures own { looks.new ≤ looks.old + own_by 24 symbol.now state.old.place }
 {
     let Some(at) = state.place else {
         return Err(Stop::Fault(Mark::Unread));
@@ -101,6 +102,7 @@ pub(super) fn function_head<V: Voice>(
     ensures ready { IsOk result → V.ready voice.new }
     ensures sound { (m : Mark) → result ≡ Err (Stop.Fault m) → V.ready voice.new }
     ensures grows { looks.old ≤ looks.new }
+    ensures own { looks.new ≤ looks.old + own_by 20 symbol.now state.old.place }
 {
     match word_at(symbol, Word::FunctionHead, state, voice, looks) {
         WordRead::Goes(head, next) => {
@@ -151,6 +153,7 @@ pub(super) fn parameter<V: Voice, const N: usize>(
         Point.FirstParameter else Point.NextParameter) state.old row.old v (Ok result) state.new
         row.new v (looks.new - looks.old) }
     ensures grows { looks.old ≤ looks.new }
+    ensures own { looks.new ≤ looks.old + own_by 20 symbol.now state.old.place }
 {
     if is_over(symbol, &mut state.place, looks) {
         state.mark = Some(Mark::CloseParen);
@@ -169,6 +172,7 @@ pub(super) fn returns<V: Voice>(symbol: &Symbol<'_>, state: &mut State, looks: &
     ensures did { (plain : Bool) (v : V) (row : List Frame) → Did V.Voice symbol.now plain
         Point.Returns state.old row v (Ok result) state.new row v (looks.new - looks.old) }
     ensures grows { looks.old ≤ looks.new }
+    ensures own { looks.new ≤ looks.old + own_by 20 symbol.now state.old.place }
 {
     let Some(at) = state.place else {
         state.mark = Some(Mark::Arrow);

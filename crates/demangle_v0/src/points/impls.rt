@@ -1,14 +1,13 @@
 //! Paths of impls, and of what implements a trait.
 ghost use Rattle.std.specs.Prelude.{◌≡◌, ℕ, ◌+◌, ◌-◌, ◌*◌, ◌<◌, ◌≤◌, false, None, Ok, Err, length, Bool, List};
 ghost use Rattle.demangle_v0.specs.Impls.{impl_items, skip_point, self_point};
-ghost use Rattle.demangle_v0.specs.PointContracts.{heard_of};
-ghost use Rattle.demangle_v0.specs.Points.{Did, DidOn, Fits};
+ghost use Rattle.demangle_v0.specs.Points.{Did, Fits, PointDoes, RestDoes, env, turn};
 
-use crate::grammar::Mark;
 use crate::points::frames::{Frame, FrameStack};
-use crate::points::voice::Voice;
 use crate::points::{Point, State, Stop};
 use demangle_symbol::cursor::{Looks, Symbol};
+use demangle_words::texts::Mark;
+use demangle_words::voice::Voice;
 
 /// An impl's path, behind its `M`, or its `X` where the impl is of a trait.
 #[inline(always)]
@@ -20,10 +19,9 @@ pub(super) fn impl_path<V: Voice>(
 ) -> Result<Point, Stop>
     requires unmarked { state.old.mark ≡ None }
     requires fits { Fits Point.Path state.old.depth_left state.old.lifetimes }
-    ensures did { (plain : Bool) (v : V) (row : List Frame) → DidOn V.Voice symbol.now plain
-        (heard_of symbol.now plain V.loud (impl_items of_trait) state.old) 1 (8 *
-        state.old.depth_left + 2) row v result state.new row v (looks.new - looks.old) }
-    ensures grows { looks.old ≤ looks.new }
+    ensures did { (plain : Bool) (v : V) (row : List Frame) → RestDoes (env V.Voice symbol.now
+        plain) (impl_items of_trait) 6 1 2 (turn state.old row v looks.old) result (turn state.new row
+        v looks.new) }
 {
     let Some(at) = state.place else {
         return Err(Stop::Fault(Mark::Unread));
@@ -74,8 +72,8 @@ pub(super) fn self_type<V: Voice, const N: usize>(
 ) -> Point
     requires room { length row.old < N }
     requires fits { Fits Point.Path state.old.depth_left state.old.lifetimes }
-    ensures did { (b : List ℕ) (plain : Bool) (v : V) → Did V.Voice b plain (self_point of_trait)
-        state.old row.old v (Ok result) state.new row.new v 0 }
+    ensures did { (b : List ℕ) (plain : Bool) (v : V) (n : ℕ) → PointDoes (env V.Voice b plain)
+        (self_point of_trait) (turn state.old row.old v n) (Ok result) (turn state.new row.new v n) }
 {
     state.mark = Some(Mark::Less);
     if of_trait {
@@ -101,15 +99,4 @@ pub(super) fn as_trait<V: Voice, const N: usize>(
     state.mark = Some(Mark::As);
     state.in_value = false;
     Point::Path
-}
-
-/// The `>` behind an impl.
-#[inline(always)]
-pub(super) fn close_angle<V: Voice>(state: &mut State) -> Point
-    ensures did { (b : List ℕ) (plain : Bool) (v : V) (row : List Frame) → Did V.Voice b plain
-        Point.CloseAngle state.old row v (Ok result) state.new row v 0 }
-{
-    state.mark = Some(Mark::Greater);
-    state.is_open = false;
-    Point::End
 }

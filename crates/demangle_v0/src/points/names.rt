@@ -1,16 +1,15 @@
 //! The names of paths.
-ghost use Rattle.std.specs.Prelude.{true, ◌≡◌, ◌-◌, ◌≤◌, None, Err, IsOk, List, IsAscii};
-ghost use Rattle.demangle_v0.specs.PointContracts.{heard_of};
-ghost use Rattle.demangle_v0.specs.Points.{Did, DidOn};
-ghost use Rattle.demangle_v0.specs.Table.{path};
+ghost use Rattle.std.specs.Prelude.{◌≡◌, None, List};
+ghost use Rattle.demangle_v0.specs.Points.{MaySpeak, PointDoes, RestDoes, env, turn};
+ghost use Rattle.demangle_grammar.specs.Table.{path};
 ghost use Rattle.demangle_v0.specs.declared.points.frames.Frame.{Frame};
 
-use crate::grammar::Mark;
-use crate::points::voice::Voice;
 use crate::points::{Point, State, Stop};
-use crate::stretch::Stretch;
-use crate::words::names::numbered_name;
 use demangle_symbol::cursor::{Looks, Symbol};
+use demangle_words::read::names::numbered_name;
+use demangle_words::stretch::Stretch;
+use demangle_words::texts::Mark;
+use demangle_words::voice::Voice;
 
 /// The name of a crate, with which its path ends.
 #[inline(always)]
@@ -21,15 +20,10 @@ pub(super) fn crate_name<V: Voice>(
     voice: &mut V,
     looks: &mut Looks,
 ) -> Result<Point, Stop>
-    requires ascii { V.loud ≡ true → IsAscii symbol.now }
-    requires ready { V.ready voice.old }
-    requires unmarked { state.old.mark ≡ None }
-    ensures did { (row : List Frame) → DidOn V.Voice symbol.now plain (heard_of symbol.now plain
-        V.loud (path state.old.in_value 67) state.old) 1 0 row voice.old result state.new row
-        voice.new (looks.new - looks.old) }
-    ensures ready { IsOk result → V.ready voice.new }
-    ensures sound { (m : Mark) → result ≡ Err (Stop.Fault m) → V.ready voice.new }
-    ensures grows { looks.old ≤ looks.new }
+    requires may { MaySpeak (env V.Voice symbol.now plain) state.old voice.old }
+    ensures did { (row : List Frame) → RestDoes (env V.Voice symbol.now plain) (path
+        state.old.in_value 67) 6 1 0 (turn state.old row voice.old looks.old) result (turn state.new
+        row voice.new looks.new) }
 {
     let Some(at) = state.place else {
         return Err(Stop::Fault(Mark::Unread));
@@ -54,15 +48,10 @@ fn unread_name<V: Voice>(
     voice: &mut V,
     looks: &mut Looks,
 ) -> Result<Point, Stop>
-    requires ascii { V.loud ≡ true → IsAscii symbol.now }
-    requires ready { V.ready voice.old }
-    requires unmarked { state.old.mark ≡ None }
+    requires may { MaySpeak (env V.Voice symbol.now plain) state.old voice.old }
     requires failed { state.old.place ≡ None }
-    ensures did { (row : List Frame) → Did V.Voice symbol.now plain Point.Nested state.old row
-        voice.old result state.new row voice.new (looks.new - looks.old) }
-    ensures ready { IsOk result → V.ready voice.new }
-    ensures sound { (m : Mark) → result ≡ Err (Stop.Fault m) → V.ready voice.new }
-    ensures grows { looks.old ≤ looks.new }
+    ensures did { (row : List Frame) → PointDoes (env V.Voice symbol.now plain) Point.Nested (turn
+        state.old row voice.old looks.old) result (turn state.new row voice.new looks.new) }
 {
     state.is_open = false;
     let Ok(()) = voice.stop(symbol, &Stretch::NestedUnread, plain, looks) else {
@@ -80,14 +69,9 @@ pub(super) fn nested_name<V: Voice>(
     voice: &mut V,
     looks: &mut Looks,
 ) -> Result<Point, Stop>
-    requires ascii { V.loud ≡ true → IsAscii symbol.now }
-    requires ready { V.ready voice.old }
-    requires unmarked { state.old.mark ≡ None }
-    ensures did { (row : List Frame) → Did V.Voice symbol.now plain Point.Nested state.old row
-        voice.old result state.new row voice.new (looks.new - looks.old) }
-    ensures ready { IsOk result → V.ready voice.new }
-    ensures sound { (m : Mark) → result ≡ Err (Stop.Fault m) → V.ready voice.new }
-    ensures grows { looks.old ≤ looks.new }
+    requires may { MaySpeak (env V.Voice symbol.now plain) state.old voice.old }
+    ensures did { (row : List Frame) → PointDoes (env V.Voice symbol.now plain) Point.Nested (turn
+        state.old row voice.old looks.old) result (turn state.new row voice.new looks.new) }
 {
     let Some(at) = state.place else {
         return unread_name(symbol, plain, state, voice, looks);

@@ -1,19 +1,19 @@
 //! The points of paths.
-ghost use Rattle.std.specs.Prelude.{true, ◌≡◌, ◌==◌, ◌*◌, ◌+◌, ◌-◌, ◌<◌, ◌≤◌, ◌++◌, [], ◌∷◌, Some, None, Ok, Err, IsOk, length, IsAscii, Bool};
-ghost use Rattle.demangle_v0.specs.PointContracts.{heard_of};
-ghost use Rattle.demangle_v0.specs.Points.{Did, DidOn, Fits};
+ghost use Rattle.std.specs.Prelude.{◌≡◌, ℕ, ◌+◌, ◌≤◌, Ok, Bool, List};
+ghost use Rattle.demangle_v0.specs.Points.{MayRead, MayStep, PointDoes, RestDoes, env, turn};
 ghost use Rattle.demangle_v0.specs.PointRuns.{first_looks};
-ghost use Rattle.demangle_v0.specs.Table.{path};
+ghost use Rattle.demangle_grammar.specs.Table.{path};
+ghost use Rattle.demangle_words.specs.Tags.{path_of};
 
-use crate::grammar::Mark;
 use crate::points::frames::{Frame, FrameStack};
 use crate::points::impls::{impl_path, self_type};
 use crate::points::names::crate_name;
 use crate::points::references::follow;
-use crate::points::tags::{PathKind, path_kind};
-use crate::points::voice::Voice;
 use crate::points::{Point, State, Stop};
 use demangle_symbol::cursor::{Looks, Symbol};
+use demangle_words::tags::{PathKind, path_kind};
+use demangle_words::texts::Mark;
+use demangle_words::voice::Voice;
 
 /// A path of names, behind its `N`.
 #[inline(always)]
@@ -23,13 +23,10 @@ fn nested_path<V: Voice, const N: usize>(
     row: &mut FrameStack<N>,
     looks: &mut Looks,
 ) -> Result<Point, Stop>
-    requires room { length row.old < N }
-    requires unmarked { state.old.mark ≡ None }
-    requires fits { Fits Point.Nested state.old.depth_left state.old.lifetimes }
-    ensures did { (plain : Bool) (v : V) → DidOn V.Voice symbol.now plain (heard_of symbol.now plain
-        V.loud (path state.old.in_value 78) state.old) 1 (8 * state.old.depth_left + 9) row.old v
-        result state.new row.new v (looks.new - looks.old) }
-    ensures grows { looks.old ≤ looks.new }
+    requires may { MayRead Point.Nested N state.old row.old }
+    ensures did { (plain : Bool) (v : V) → RestDoes (env V.Voice symbol.now plain) (path
+        state.old.in_value 78) 6 1 9 (turn state.old row.old v looks.old) result (turn state.new
+        row.new v looks.new) }
 {
     let Some(at) = state.place else {
         return Err(Stop::Fault(Mark::Unread));
@@ -45,19 +42,11 @@ fn nested_path<V: Voice, const N: usize>(
 
 /// A path with arguments, behind its `I`.
 #[inline(always)]
-fn generic_path<const N: usize>(state: &State, row: &mut FrameStack<N>) -> Point
-    requires room { length row.old < N }
-    requires fits { Fits Point.Generic state.now.depth_left state.now.lifetimes }
-    ensures point { result ≡ Point.Path }
-    ensures row { row.new ≡ row.old ++ (record {
-      point = Point.Generic;
-      in_value =
-          state.now.in_value;
-      letter = state.now.letter;
-      depth_left = state.now.depth_left;
-      number =
-          state.now.lifetimes;
-    }) ∷ [] }
+fn generic_path<V: Voice, const N: usize>(state: &State, row: &mut FrameStack<N>) -> Point
+    requires may { MayRead Point.Generic N state.now row.old }
+    ensures did { (b : List ℕ) (plain : Bool) (v : V) (n : ℕ) → RestDoes (env V.Voice b plain)
+        (path_of state.now.in_value PathKind.Generic) 6 7 9 (turn state.now row.old v n) (Ok result)
+        (turn state.now row.new v n) }
 {
     row.push(state.frame(Point::Generic));
     Point::Path
@@ -74,17 +63,10 @@ fn tagged_path<V: Voice, const N: usize>(
     voice: &mut V,
     looks: &mut Looks,
 ) -> Result<Point, Stop>
-    requires ascii { V.loud ≡ true → IsAscii symbol.now }
-    requires ready { V.ready voice.old }
-    requires unmarked { state.old.mark ≡ None }
-    requires room { length row.old < N }
-    requires fits { Fits Point.Path state.old.depth_left state.old.lifetimes }
-    ensures did { DidOn V.Voice symbol.now plain (heard_of symbol.now plain V.loud (path
-        state.old.in_value tag) state.old) 7 (8 * state.old.depth_left + 9) row.old voice.old result
-        state.new row.new voice.new (looks.new - looks.old) }
-    ensures ready { IsOk result → V.ready voice.new }
-    ensures sound { (m : Mark) → result ≡ Err (Stop.Fault m) → V.ready voice.new }
-    ensures grows { looks.old ≤ looks.new }
+    requires may { MayStep (env V.Voice symbol.now plain) Point.Path N (turn state.old row.old
+        voice.old looks.old) }
+    ensures did { RestDoes (env V.Voice symbol.now plain) (path state.old.in_value tag) 6 7 9 (turn
+        state.old row.old voice.old looks.old) result (turn state.new row.new voice.new looks.new) }
 {
     let Some(kind) = path_kind(tag) else {
         return Err(Stop::Fault(Mark::Invalid));
@@ -92,7 +74,7 @@ fn tagged_path<V: Voice, const N: usize>(
     match kind {
         PathKind::CrateRoot => crate_name(symbol, plain, state, voice, looks),
         PathKind::Nested => nested_path::<V, N>(symbol, state, row, looks),
-        PathKind::Generic => Ok(generic_path(state, row)),
+        PathKind::Generic => Ok(generic_path::<V, N>(state, row)),
         PathKind::Reference => follow(symbol, Point::Path, state, row, voice, looks),
         PathKind::InherentImpl => impl_path::<V>(symbol, false, state, looks),
         PathKind::TraitImpl => impl_path::<V>(symbol, true, state, looks),
@@ -110,16 +92,10 @@ pub(super) fn path<V: Voice, const N: usize>(
     voice: &mut V,
     looks: &mut Looks,
 ) -> Result<Point, Stop>
-    requires ascii { V.loud ≡ true → IsAscii symbol.now }
-    requires ready { V.ready voice.old }
-    requires unmarked { state.old.mark ≡ None }
-    requires room { length row.old < N }
-    requires fits { Fits Point.Path state.old.depth_left state.old.lifetimes }
-    ensures did { Did V.Voice symbol.now plain Point.Path state.old row.old voice.old result
-        state.new row.new voice.new (looks.new - looks.old) }
-    ensures ready { IsOk result → V.ready voice.new }
-    ensures sound { (m : Mark) → result ≡ Err (Stop.Fault m) → V.ready voice.new }
-    ensures grows { looks.old ≤ looks.new }
+    requires may { MayStep (env V.Voice symbol.now plain) Point.Path N (turn state.old row.old
+        voice.old looks.old) }
+    ensures did { PointDoes (env V.Voice symbol.now plain) Point.Path (turn state.old row.old
+        voice.old looks.old) result (turn state.new row.new voice.new looks.new) }
     ensures least { looks.old + first_looks Point.Path state.old ≤ looks.new }
 {
     let Some(at) = state.place else {

@@ -1,14 +1,14 @@
 //! The points of patterns.
 ghost use Rattle.std.specs.Prelude.{◌≡◌, ◌==◌, ◌+◌, ◌-◌, ◌<◌, ◌≤◌, Some, None, Ok, Err, length, Bool};
 ghost use Rattle.demangle_v0.specs.PointContracts.{DidFree};
-ghost use Rattle.demangle_v0.specs.Points.{Did, Fits};
+ghost use Rattle.demangle_v0.specs.Points.{own_by, Did, Fits};
 
-use crate::grammar::Mark;
 use crate::points::frames::FrameStack;
-use crate::points::tags::{PatternKind, pattern_kind};
-use crate::points::voice::Voice;
 use crate::points::{Point, State, Stop};
 use demangle_symbol::cursor::{Looks, Symbol};
+use demangle_words::tags::{PatternKind, pattern_kind};
+use demangle_words::texts::Mark;
+use demangle_words::voice::Voice;
 
 /// A pattern.
 #[inline(always)]
@@ -24,6 +24,7 @@ pub(super) fn pattern<V: Voice, const N: usize>(
     ensures did { (plain : Bool) (v : V) → Did V.Voice symbol.now plain Point.Pattern state.old
         row.old v result state.new row.new v (looks.new - looks.old) }
     ensures grows { looks.old ≤ looks.new }
+    ensures own { looks.new ≤ looks.old + own_by 20 symbol.now state.old.place }
 {
     let Some(at) = state.place else {
         return Err(Stop::Fault(Mark::Unread));
@@ -82,6 +83,7 @@ pub(super) fn next_pattern<V: Voice, const N: usize>(
     ensures did { (plain : Bool) (v : V) → Did V.Voice symbol.now plain Point.NextPattern state.old
         row.old v result state.new row.new v (looks.new - looks.old) }
     ensures grows { looks.old ≤ looks.new }
+    ensures own { looks.new ≤ looks.old + own_by 20 symbol.now state.old.place }
 {
     let Some(at) = state.place else {
         return Err(Stop::Fault(Mark::Invalid));

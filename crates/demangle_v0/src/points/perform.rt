@@ -1,10 +1,9 @@
 //! What each resume point does.
 ghost use Rattle.std.specs.Prelude.{◌≡◌, ◌+◌, ◌-◌, ◌<◌, ◌≤◌, true, false, Err, IsOk, length, IsAscii};
 ghost use Rattle.demangle_v0.specs.Impls.{is_skip};
-ghost use Rattle.demangle_v0.specs.Points.{Did, Fits};
+ghost use Rattle.demangle_v0.specs.Points.{own_by, Did, Fits};
 ghost use Rattle.demangle_v0.specs.PointRuns.{first_looks};
 
-use crate::grammar::{Mark, Word};
 use crate::points::arguments::{arguments, generic, open_arguments};
 use crate::points::bindings::{binding_name, bindings, bound, open_bindings};
 use crate::points::constant_lists::{
@@ -12,7 +11,7 @@ use crate::points::constant_lists::{
 };
 use crate::points::constants::{
     array_constant, close_brace, constant, literal, mut_reference_constant, mutable_constant,
-    number, reference_constant, text_constant, tuple_constant,
+    number, tuple_constant,
 };
 use crate::points::dyn_traits::{
     dyn_binder, dyn_lifetime, dyn_trait, open_argument, open_trait_path, trait_path,
@@ -21,18 +20,20 @@ use crate::points::frames::FrameStack;
 use crate::points::functions::{
     function_binder, function_head, open_parameters, parameter, returns,
 };
-use crate::points::impls::{as_trait, close_angle, self_type, skipped_path};
+use crate::points::impls::{as_trait, self_type, skipped_path};
+use crate::points::marks::leave;
 use crate::points::names::nested_name;
 use crate::points::paths::path;
 use crate::points::patterns::{next_pattern, pattern, range_end};
 use crate::points::references::behind;
-use crate::points::tuples::{close_paren, first_tuple_type, next_tuple_type, second_tuple_type};
-use crate::points::type_references::{mutable, reference_lifetime, unchanging};
+use crate::points::tuples::{first_tuple_type, next_tuple_type, second_tuple_type};
+use crate::points::type_references::{reference_lifetime, unchanging};
 use crate::points::types::{array_length, close_bracket, is_begun, pattern_is, type_};
 use crate::points::variants::{field, field_colon, variant};
-use crate::points::voice::Voice;
 use crate::points::{Point, State, Stop, last_word};
 use demangle_symbol::cursor::{Looks, Symbol};
+use demangle_words::texts::{Mark, Word};
+use demangle_words::voice::Voice;
 
 /// What a point does.
 #[inline(always)]
@@ -56,6 +57,7 @@ pub(super) fn perform<V: Voice, const N: usize>(
     ensures ready { IsOk result → V.ready voice.new }
     ensures sound { (m : Mark) → result ≡ Err (Stop.Fault m) → V.ready voice.new }
     ensures grows { looks.old ≤ looks.new }
+    ensures own { looks.new ≤ looks.old + own_by 24 symbol.now state.old.place }
     ensures least { looks.old + first_looks point state.old ≤ looks.new }
 {
     match point {
@@ -66,7 +68,6 @@ pub(super) fn perform<V: Voice, const N: usize>(
         Point::InherentType => Ok(self_type::<V, N>(false, state, row)),
         Point::SelfType => Ok(self_type::<V, N>(true, state, row)),
         Point::As => Ok(as_trait::<V, N>(state, row)),
-        Point::CloseAngle => Ok(close_angle::<V>(state)),
         Point::Generic => Ok(generic::<V>(state)),
         Point::OpenArguments => Ok(open_arguments::<V>(state)),
         Point::FirstArgument => Ok(arguments::<V, N>(symbol, true, state, row, looks)),
@@ -80,10 +81,8 @@ pub(super) fn perform<V: Voice, const N: usize>(
         Point::FirstTupleType => Ok(first_tuple_type::<V, N>(symbol, state, row, looks)),
         Point::SecondTupleType => Ok(second_tuple_type::<V, N>(symbol, state, row, looks)),
         Point::NextTupleType => Ok(next_tuple_type::<V, N>(symbol, state, row, looks)),
-        Point::CloseParen => Ok(close_paren::<V>(state)),
         Point::ReferenceLifetime => reference_lifetime(symbol, false, plain, state, voice, looks),
         Point::MutReferenceLifetime => reference_lifetime(symbol, true, plain, state, voice, looks),
-        Point::Mutable => Ok(mutable::<V>(state)),
         Point::Unchanging => Ok(unchanging::<V>(state)),
         Point::PatternIs => Ok(pattern_is::<V>(state)),
         Point::FunctionBinder => function_binder(symbol, plain, state, voice, looks),
@@ -109,9 +108,7 @@ pub(super) fn perform<V: Voice, const N: usize>(
         Point::NextPattern => next_pattern::<V, N>(symbol, state, row, looks),
         Point::Constant => constant(symbol, plain, state, row, voice, looks),
         Point::Number => number(symbol, plain, state, voice, looks),
-        Point::TextConstant => Ok(text_constant::<V>(state)),
         Point::Literal => literal(symbol, plain, state, voice, looks),
-        Point::ReferenceConstant => Ok(reference_constant::<V>(state)),
         Point::MutReferenceConstant => Ok(mut_reference_constant::<V>(state)),
         Point::MutableConstant => Ok(mutable_constant::<V>(state)),
         Point::ArrayConstant => Ok(array_constant::<V>(state)),
@@ -148,6 +145,11 @@ pub(super) fn perform<V: Voice, const N: usize>(
         Point::FieldColon => Ok(field_colon::<V>(state)),
         Point::CloseBrace => Ok(close_brace::<V>(state)),
         Point::Behind => Ok(behind::<V>(state)),
+        Point::CloseParen
+        | Point::CloseAngle
+        | Point::Mutable
+        | Point::TextConstant
+        | Point::ReferenceConstant => { Ok(leave::<V>(point, state)) }
         Point::End => Ok(Point::End),
     }
 }

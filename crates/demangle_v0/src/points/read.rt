@@ -6,9 +6,9 @@ ghost use Rattle.demangle_v0.specs.declared.points.frames.Frame.{Frame};
 
 use crate::points::frames::FrameStack;
 use crate::points::step::{resume, step};
-use crate::points::voice::Silent;
 use crate::points::{Point, State};
 use demangle_symbol::cursor::{Looks, MAX_DEPTH, Symbol};
+use demangle_words::voice::Silent;
 
 /// Where a reading stands.
 #[derive(Clone, Copy)]

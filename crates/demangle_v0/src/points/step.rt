@@ -1,17 +1,17 @@
 //! Steps: what a point does and the mark that it leaves, and where a unit that is over goes on.
 ghost use Rattle.std.specs.Prelude.{◌≡◌, ◌+◌, ◌-◌, ◌<◌, ◌≤◌, true, false, IfSome, IfNone, IsOk, OnOk, length, IsAscii};
 ghost use Rattle.demangle_v0.specs.Impls.{is_skip};
-ghost use Rattle.demangle_v0.specs.Points.{Fits, resumed_of};
+ghost use Rattle.demangle_v0.specs.Points.{own_by, Fits, resumed_of};
 ghost use Rattle.demangle_v0.specs.PointRuns.{Puts, Stepped, Resumes, first_looks};
 
-use crate::grammar::Mark;
 use crate::points::frames::{Frame, FrameStack};
 use crate::points::perform::perform;
-use crate::points::voice::Voice;
 use crate::points::{Point, State, Stop};
-use crate::stretch::Stretch;
 use demangle_sink::SinkRefused;
 use demangle_symbol::cursor::{Looks, Symbol};
+use demangle_words::stretch::Stretch;
+use demangle_words::texts::Mark;
+use demangle_words::voice::Voice;
 
 /// Hands a mark over, if there is one.
 #[inline(always)]
@@ -58,6 +58,7 @@ pub(crate) fn step<V: Voice, const N: usize>(
         state.new row.new voice.new (looks.new - looks.old) }
     ensures ready { IsOk result → V.ready voice.new }
     ensures grows { looks.old ≤ looks.new }
+    ensures own { looks.new ≤ looks.old + own_by 24 symbol.now state.old.place }
     ensures least { looks.old + first_looks point state.old ≤ looks.new }
 {
     match perform(symbol, point, plain, state, row, voice, looks) {

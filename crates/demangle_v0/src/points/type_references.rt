@@ -1,16 +1,15 @@
 //! The points of types behind a mark: references and pointers.
-ghost use Rattle.std.specs.Prelude.{◌≡◌, ℕ, ◌*◌, ◌+◌, ◌-◌, ◌<◌, ◌≤◌, List, Bool, Ok, Err, IsOk, IsAscii, true};
+ghost use Rattle.std.specs.Prelude.{◌≡◌, ℕ, List, Bool, Ok};
 ghost use Rattle.demangle_v0.specs.declared.points.frames.Frame.{Frame};
-ghost use Rattle.demangle_v0.specs.PointContracts.{heard_of};
-ghost use Rattle.demangle_v0.specs.Points.{Did, DidOn, Fits, behind_reference, lifetime_point, spaced_lifetime};
-ghost use Rattle.demangle_v0.specs.Groups.{looks_later};
-ghost use Rattle.demangle_v0.specs.Tags.{reference_to};
+ghost use Rattle.demangle_v0.specs.Points.{Fits, MaySpeak, PointDoes, RestDoes, env, turn, behind_reference, lifetime_point, spaced_lifetime};
+ghost use Rattle.demangle_words.specs.Groups.{looks_later};
+ghost use Rattle.demangle_words.specs.Tags.{reference_to};
 
-use crate::grammar::Mark;
-use crate::points::voice::Voice;
 use crate::points::{Point, State, Stop};
-use crate::stretch::Stretch;
 use demangle_symbol::cursor::{Looks, Symbol};
+use demangle_words::stretch::Stretch;
+use demangle_words::texts::Mark;
+use demangle_words::voice::Voice;
 
 /// A reference, behind its tag.
 #[inline(always)]
@@ -21,10 +20,9 @@ pub(super) fn reference<V: Voice>(
     looks: &mut Looks,
 ) -> Point
     requires fits { Fits Point.«Type» state.old.depth_left state.old.lifetimes }
-    ensures did { (plain : Bool) (v : V) (row : List Frame) → DidOn V.Voice symbol.now plain
-        (heard_of symbol.now plain V.loud (reference_to is_mut) state.old) 50 (8 *
-        state.old.depth_left + 9) row v (Ok result) state.new row v (looks.new - looks.old) }
-    ensures grows { looks.old ≤ looks.new }
+    ensures did { (plain : Bool) (v : V) (row : List Frame) → RestDoes (env V.Voice symbol.now
+        plain) (reference_to is_mut) 5 50 9 (turn state.old row v looks.old) (Ok result) (turn
+        state.new row v looks.new) }
 {
     state.mark = Some(Mark::Ampersand);
     let Some(at) = state.place else {
@@ -59,15 +57,11 @@ pub(super) fn reference_lifetime<V: Voice>(
     voice: &mut V,
     looks: &mut Looks,
 ) -> Result<Point, Stop>
-    requires ascii { V.loud ≡ true → IsAscii symbol.now }
-    requires ready { V.ready voice.old }
-    requires unmarked { state.old.mark ≡ None }
+    requires may { MaySpeak (env V.Voice symbol.now plain) state.old voice.old }
     requires fits { Fits Point.«Type» state.old.depth_left state.old.lifetimes }
-    ensures did { (row : List Frame) → Did V.Voice symbol.now plain (lifetime_point is_mut)
-        state.old row voice.old result state.new row voice.new (looks.new - looks.old) }
-    ensures ready { IsOk result → V.ready voice.new }
-    ensures sound { (m : Mark) → result ≡ Err (Stop.Fault m) → V.ready voice.new }
-    ensures grows { looks.old ≤ looks.new }
+    ensures did { (row : List Frame) → PointDoes (env V.Voice symbol.now plain) (lifetime_point
+        is_mut) (turn state.old row voice.old looks.old) result (turn state.new row voice.new
+        looks.new) }
 {
     let Some(at) = state.place else {
         return Err(Stop::Fault(Mark::Unread));
@@ -102,23 +96,12 @@ fn spaced_lifetime(lifetimes: u128, index: u64, next: usize) -> (Stretch, Option
     )
 }
 
-/// The type behind `mut `.
-#[inline(always)]
-pub(super) fn mutable<V: Voice>(state: &mut State) -> Point
-    requires fits { Fits Point.Mutable state.old.depth_left state.old.lifetimes }
-    ensures did { (b : List ℕ) (plain : Bool) (v : V) (row : List Frame) → Did V.Voice b plain
-        Point.Mutable state.old row v (Ok result) state.new row v 0 }
-{
-    state.mark = Some(Mark::Mutable);
-    Point::Type
-}
-
 /// The type behind `const `.
 #[inline(always)]
 pub(super) fn unchanging<V: Voice>(state: &mut State) -> Point
     requires fits { Fits Point.Unchanging state.old.depth_left state.old.lifetimes }
-    ensures did { (b : List ℕ) (plain : Bool) (v : V) (row : List Frame) → Did V.Voice b plain
-        Point.Unchanging state.old row v (Ok result) state.new row v 0 }
+    ensures did { (b : List ℕ) (plain : Bool) (v : V) (row : List Frame) (n : ℕ) → PointDoes (env
+        V.Voice b plain) Point.Unchanging (turn state.old row v n) (Ok result) (turn state.new row v n) }
 {
     state.mark = Some(Mark::Unchanging);
     Point::Type

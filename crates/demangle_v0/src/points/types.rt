@@ -3,19 +3,19 @@ ghost use Rattle.std.specs.Prelude.{if◌then◌else◌, IsTrue, ◌≡◌, ℕ,
 ghost use Rattle.demangle_symbol.specs.Digits.{is_byte};
 ghost use Rattle.demangle_v0.specs.declared.points.frames.Frame.{Frame};
 ghost use Rattle.demangle_v0.specs.PointContracts.{heard_of};
-ghost use Rattle.demangle_v0.specs.Points.{Did, DidOn, Fits, frame_of};
-ghost use Rattle.demangle_v0.specs.Tags.{type_of};
+ghost use Rattle.demangle_v0.specs.Points.{own_by, Did, DidOn, Fits, frame_of};
+ghost use Rattle.demangle_words.specs.Tags.{type_of};
 
-use crate::grammar::{Mark, basic_mark};
 use crate::points::dyn_traits::dyn_type;
 use crate::points::frames::FrameStack;
 use crate::points::functions::function_binder;
 use crate::points::references::follow;
-use crate::points::tags::{TypeKind, type_kind};
 use crate::points::type_references::reference;
-use crate::points::voice::Voice;
 use crate::points::{Point, State, Stop};
 use demangle_symbol::cursor::{Looks, Symbol};
+use demangle_words::tags::{TypeKind, type_kind};
+use demangle_words::texts::{Mark, basic_mark};
+use demangle_words::voice::Voice;
 
 /// Whether a type is begun, and not only gone on with behind its `w`.
 #[inline(always)]
@@ -63,6 +63,7 @@ pub(super) fn type_<V: Voice, const N: usize>(
     ensures ready { IsOk result → V.ready voice.new }
     ensures sound { (m : Mark) → result ≡ Err (Stop.Fault m) → V.ready voice.new }
     ensures grows { looks.old ≤ looks.new }
+    ensures own { looks.new ≤ looks.old + own_by 22 symbol.now state.old.place }
 {
     let Some(at) = state.place else {
         return Err(Stop::Fault(Mark::Unread));
@@ -95,6 +96,7 @@ fn tagged_type<V: Voice, const N: usize>(
     ensures ready { IsOk result → V.ready voice.new }
     ensures sound { (m : Mark) → result ≡ Err (Stop.Fault m) → V.ready voice.new }
     ensures grows { looks.old ≤ looks.new }
+    ensures own { looks.new ≤ looks.old + own_by 21 symbol.now state.old.place }
 {
     let Some(at) = state.place else {
         return Err(Stop::Fault(Mark::Unread));
@@ -136,12 +138,13 @@ fn constructed_type<V: Voice, const N: usize>(
     requires unmarked { state.old.mark ≡ None }
     requires room { length row.old < N }
     requires fits { Fits Point.FunctionBinder state.old.depth_left state.old.lifetimes }
-    ensures did { DidOn V.Voice symbol.now plain (heard_of symbol.now plain V.loud (type_of kind)
+    ensures did { DidOn V.Voice symbol.now plain 5 (heard_of symbol.now plain V.loud (type_of kind)
         state.old) 50 (8 * state.old.depth_left + 9) row.old voice.old result state.new row.new
         voice.new (looks.new - looks.old) }
     ensures ready { IsOk result → V.ready voice.new }
     ensures sound { (m : Mark) → result ≡ Err (Stop.Fault m) → V.ready voice.new }
     ensures grows { looks.old ≤ looks.new }
+    ensures own { looks.new ≤ looks.old + own_by 24 symbol.now state.old.place }
 {
     match kind {
         TypeKind::SharedReference => Ok(reference::<V>(symbol, false, state, looks)),

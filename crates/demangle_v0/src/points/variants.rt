@@ -1,23 +1,23 @@
 //! The points of variants, and of their fields.
 ghost use Rattle.std.specs.Prelude.{true, ◌≡◌, ◌*◌, ℕ, ◌+◌, ◌-◌, ◌<◌, ◌≤◌, Some, None, Ok, Err, IsOk, length, IsAscii, List, Bool};
-ghost use Rattle.demangle_v0.specs.Points.{Did, DidOn, pushed_on, Fits};
+ghost use Rattle.demangle_v0.specs.Points.{own_by, Did, DidOn, pushed_on, Fits};
 ghost use Rattle.demangle_v0.specs.PointContracts.{DidFree, brace_behind, heard_of};
-ghost use Rattle.demangle_v0.specs.Tags.{variant_of};
+ghost use Rattle.demangle_words.specs.Tags.{variant_of};
 
-use crate::grammar::{Mark, Word};
 use crate::points::frames::{Frame, FrameStack};
-use crate::points::tags::{VariantKind, variant_kind};
-use crate::points::voice::Voice;
 use crate::points::{Point, State, Stop, word_at};
-use crate::words::WordRead;
 use demangle_symbol::cursor::{Looks, Symbol};
+use demangle_words::read::WordRead;
+use demangle_words::tags::{VariantKind, variant_kind};
+use demangle_words::texts::{Mark, Word};
+use demangle_words::voice::Voice;
 
 /// A variant that holds nothing.
 #[inline(always)]
 fn unit_variant<V: Voice>(state: &mut State) -> Point
     requires unmarked { state.old.mark ≡ None }
     ensures did { (b : List ℕ) (plain : Bool) (row : List Frame) (v : V) (made : ℕ) → made ≤ 0 →
-        DidOn V.Voice b plain (heard_of b plain V.loud (variant_of state.old.in_value
+        DidOn V.Voice b plain 3 (heard_of b plain V.loud (variant_of state.old.in_value
         VariantKind.Unit) state.old) 5 (8 * state.old.depth_left + 3) row v (Ok result) state.new
         row v made }
 {
@@ -64,6 +64,7 @@ pub(super) fn variant<V: Voice, const N: usize>(
     ensures did { (plain : Bool) (v : V) → Did V.Voice symbol.now plain Point.Variant state.old
         row.old v result state.new row.new v (looks.new - looks.old) }
     ensures grows { looks.old ≤ looks.new }
+    ensures own { looks.new ≤ looks.old + own_by 20 symbol.now state.old.place }
 {
     let Some(at) = state.place else {
         return Err(Stop::Fault(Mark::Unread));
@@ -100,6 +101,7 @@ pub(super) fn field<V: Voice>(
     ensures ready { IsOk result → V.ready voice.new }
     ensures sound { (m : Mark) → result ≡ Err (Stop.Fault m) → V.ready voice.new }
     ensures grows { looks.old ≤ looks.new }
+    ensures own { looks.new ≤ looks.old + own_by 20 symbol.now state.old.place }
 {
     match word_at(symbol, Word::FieldName, state, voice, looks) {
         WordRead::Goes(stretch, next) => {

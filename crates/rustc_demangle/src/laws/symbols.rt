@@ -2,11 +2,11 @@
 ghost use Rattle.std.specs.Prelude.{◌≡◌, ℕ, Bool, true, List, [], ◌∷◌, ◌++◌};
 ghost use Rattle.demangle_sink.specs.Cut.{cut, kept};
 ghost use Rattle.demangle_legacy.specs.Legacy.{IsLegacy};
-ghost use Rattle.demangle_v0.specs.Reading.{path_texts};
+ghost use Rattle.demangle_grammar.specs.Reading.{path_texts};
 ghost use Rattle.rustc_demangle.specs.Stripped.{is_allowed};
 ghost use Rattle.rustc_demangle.specs.Symbols.{handed, kept_of};
 ghost use Rattle.demangle_legacy.specs.Unescaped.{legacy_pieces};
-ghost use Rattle.demangle_v0.specs.V0.{IsV0};
+ghost use Rattle.demangle_grammar.specs.V0.{IsV0};
 
 /// A legacy symbol with an allowed suffix hands over the pieces of its elements, cut at the limit,
 /// and then its suffix.

@@ -1,10 +1,10 @@
 //! How many looks reading a v0 symbol takes.
 ghost use Rattle.std.specs.Prelude.{◌≡◌, ℕ, ◌+◌, ◌-◌, ◌*◌, ◌≤◌, Bool, true, false, List, length, take, None};
-ghost use Rattle.demangle_v0.specs.Accepting.{accepting_looks};
-ghost use Rattle.demangle_v0.specs.Cost.{bytes_of, looks_of, Pays};
+ghost use Rattle.demangle_grammar.specs.Accepting.{accepting_looks};
+ghost use Rattle.demangle_grammar.specs.Cost.{bytes_of, looks_of, Pays};
 ghost use Rattle.demangle_sink.specs.Cut.{size};
-ghost use Rattle.demangle_v0.specs.Items.{Items, Kind, a_path};
-ghost use Rattle.demangle_v0.specs.Reading.{Surroundings, max_depth, stretches, pieces, read_at, path_texts, run};
+ghost use Rattle.demangle_grammar.specs.Items.{Items, Kind, a_path};
+ghost use Rattle.demangle_grammar.specs.Reading.{Surroundings, max_depth, stretches, pieces, read_at, path_texts, run};
 
 /// However large the tree of a symbol is, the looks up to a stretch, and for it, are bounded by the
 /// bytes that were handed over before it; and so for each unit, by the depths that are left to it.
@@ -26,13 +26,13 @@ pub fn printing_looks_stay_linear()
 {}
 
 /// Accepting a symbol takes at most 32 looks for each of its bytes, and 32 more.
-#[tactic(auto, using(demangle_v0::proofs::LooksLaw::accepting_costs))]
+#[tactic(auto, using(demangle_grammar::proofs::LooksLaw::accepting_costs))]
 pub fn accepting_looks_stay_linear()
     ensures { (symbol : List ℕ) → accepting_looks symbol ≤ 32 * (length symbol + 1) }
 {}
 
 /// Once a reading failed, what goes on takes no look.
-#[tactic(auto, using(demangle_v0::proofs::LooksLaw::failed_looks))]
+#[tactic(auto, using(demangle_grammar::proofs::LooksLaw::failed_looks))]
 pub fn failed_readings_look_at_nothing()
     ensures { (p : Items) (s : Surroundings) (plain : Bool) →
         looks_of (stretches plain (run p s None).tree) ≡ 0 }

@@ -1,13 +1,13 @@
 //! Which bytes are v0 symbols, and where their readings end.
 ghost use Rattle.std.specs.Prelude.{◌≡◌, ◌↔◌, ◌⊎◌, ℕ, ◌≤◌, Bool, true, false, List, length, Some, None};
-ghost use Rattle.demangle_v0.specs.Items.{Items, Kind};
-ghost use Rattle.demangle_v0.specs.Table.{items};
-ghost use Rattle.demangle_v0.specs.Reading.{IsWhole, max_depth, read_at, suffix_place};
-ghost use Rattle.demangle_v0.specs.V0.{IsV0, v0_of};
-ghost use Rattle.demangle_v0.specs.Spelling.{Rule, freely, named, simple, Spells, IsPaths};
+ghost use Rattle.demangle_grammar.specs.Items.{Items, Kind};
+ghost use Rattle.demangle_grammar.specs.Table.{items};
+ghost use Rattle.demangle_grammar.specs.Reading.{IsWhole, max_depth, read_at, suffix_place};
+ghost use Rattle.demangle_grammar.specs.V0.{IsV0, v0_of};
+ghost use Rattle.demangle_grammar.specs.Spelling.{Rule, freely, named, simple, Spells, IsPaths};
 
 /// What a v0 symbol is made of ends at one place at most, for each place at which it begins.
-#[tactic(auto, using(demangle_v0::proofs::Unique::unique, demangle_v0::proofs::Accepted::one_suffix))]
+#[tactic(auto, using(demangle_grammar::proofs::Unique::unique, demangle_grammar::proofs::Accepted::one_suffix))]
 pub fn units_end_once()
     ensures unit { (symbol : List ℕ) (rule : Rule) (depth lifetimes : ℕ) (p : Items) (i j k : ℕ) →
         Spells symbol rule depth lifetimes p i j → Spells symbol rule depth lifetimes p i k →
@@ -16,7 +16,7 @@ pub fn units_end_once()
 {}
 
 /// Reading without printing accepts exactly what is spelled.
-#[tactic(auto, using(demangle_v0::proofs::Accepted::reading_is_spelling))]
+#[tactic(auto, using(demangle_grammar::proofs::Accepted::reading_is_spelling))]
 pub fn reading_accepts_what_is_spelled()
     ensures unit { (symbol : List ℕ) (kind : Kind) (value : Bool) (i j depth lifetimes : ℕ) →
         depth ≤ max_depth → i ≤ length symbol →
@@ -29,7 +29,7 @@ pub fn reading_accepts_what_is_spelled()
 
 /// A printed reading ends where the unprinted one does, or failed. It fails only at a lifetime
 /// outside references that names none in force.
-#[tactic(auto, using(demangle_v0::proofs::Accepted::printing_is_spelling, demangle_v0::proofs::Accepted::printing_ends, demangle_v0::proofs::Rules::named_freely))]
+#[tactic(auto, using(demangle_grammar::proofs::Accepted::printing_is_spelling, demangle_grammar::proofs::Accepted::printing_ends, demangle_grammar::proofs::Rules::named_freely))]
 pub fn printing_ends_where_reading_does()
     ensures named { (symbol : List ℕ) (kind : Kind) (value : Bool) (i j depth lifetimes : ℕ) →
         depth ≤ max_depth → i ≤ length symbol →
@@ -47,7 +47,7 @@ pub fn printing_ends_where_reading_does()
 
 /// What is spelled without a reference, and with no lifetime but that of index 0, hands over no
 /// stop.
-#[tactic(auto, using(demangle_v0::proofs::Whole::read_whole, demangle_v0::proofs::Rules::simply_named))]
+#[tactic(auto, using(demangle_grammar::proofs::Whole::read_whole, demangle_grammar::proofs::Rules::simply_named))]
 pub fn simple_units_have_no_stop()
     ensures whole { (symbol : List ℕ) (kind : Kind) (value : Bool) (i j depth lifetimes : ℕ) →
         depth ≤ max_depth → i ≤ length symbol →

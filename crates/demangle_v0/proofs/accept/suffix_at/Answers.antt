@@ -1,6 +1,6 @@
 use Rattle.std.proofs.Common.{◌∙◌, sym, ap, arith}
-use Rattle.demangle_v0.specs.Accepting.{suffix_looks}
-use Rattle.demangle_v0.proofs.Accepts.{suffix_none, suffix_one, suffix_two}
+use Rattle.demangle_grammar.specs.Accepting.{suffix_looks}
+use Rattle.demangle_grammar.proofs.Accepts.{suffix_none, suffix_one, suffix_two}
 use Rattle.demangle_v0.proofs.accept.suffix_at.Goals as goal
 
 pub returns-in_default-clause-value : goal.returns-in_default-clause-value

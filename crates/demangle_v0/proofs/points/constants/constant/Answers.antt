@@ -1,6 +1,6 @@
 use Rattle.std.proofs.Common.{arith, refl, ◌-◌}
 use Rattle.demangle_v0.specs.Points.{share_at}
-use Rattle.demangle_v0.specs.declared.grammar.Mark.TheVariants as mark
+use Rattle.demangle_words.specs.declared.texts.Mark.TheVariants as mark
 use Rattle.demangle_v0.proofs.PointSteps.{faulty}
 use Rattle.demangle_v0.proofs.PointTaggedConstants.{constant_untagged, constant_too_deep, constant_tagged}
 use Rattle.demangle_v0.proofs.points.constants.constant.Goals as goal

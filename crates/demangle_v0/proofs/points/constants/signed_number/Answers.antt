@@ -1,6 +1,6 @@
 use Rattle.std.proofs.Common.{arith, refl, ◌-◌}
-use Rattle.demangle_v0.specs.Reading.{run}
-use Rattle.demangle_v0.specs.declared.grammar.Mark.TheVariants as mark
+use Rattle.demangle_grammar.specs.Reading.{run}
+use Rattle.demangle_words.specs.declared.texts.Mark.TheVariants as mark
 use Rattle.demangle_v0.proofs.PointSteps.{faulty}
 use Rattle.demangle_v0.proofs.PointTaggedConstants.{signed_minus, signed_plus}
 use Rattle.demangle_v0.proofs.points.constants.signed_number.Goals as goal
@@ -17,3 +17,6 @@ returns-then-is_at-clause-did g c = λ row. rw c.in-Some.is
 pub returns-clause-did : goal.returns-clause-did
 returns-clause-did g c = λ row. rw c.in-Some.is
     (signed_plus g.V.Voice c.args.symbol.now c.args.plain c.args.state.now.in_value c.args.tag c.args.state.now.depth_left c.args.state.now.lifetimes c.in-Some.at c.args.state.now.is_open row _ _ _ _ (c.number.new.looks - c.is_at.new.looks) _ c.if-is_at.ensures.there (omega (arith, c.is_at.ensures.look, c.number.ensures.grows)) (rw c.in-Some.is at c.number.ensures.did row))
+
+pub returns-clause-own : goal.returns-clause-own
+returns-clause-own g c = rw c.in-Some.is (omega (arith, c.is_at.ensures.look, rw c.in-Some.is at c.number.ensures.own))

@@ -1,18 +1,21 @@
-use Rattle.std.proofs.Common.{arith, refl}
-use Rattle.demangle_v0.proofs.PointImpls.{impl_unread, impl_stops, impl_goes, trait_impl_goes}
+use Rattle.std.proofs.Common.{true, false, arith}
+use Rattle.demangle_v0.proofs.PointImpls.{impl_unread, impl_stops, impl_goes}
 use Rattle.demangle_v0.proofs.points.impls.impl_path.Goals as goal
 
-pub returns-in_default-clause-did : goal.returns-in_default-clause-did
-returns-in_default-clause-did g c = λ plain v row. rw c.in_default.is (impl_unread g.V.Voice c.args.symbol.now plain c.args.of_trait c.args.state.now.depth_left c.args.state.now.lifetimes row v _ _ c.requires.unmarked (omega arith))
+pub returns-in_default : goal.returns-in_default
+returns-in_default g c = record { did = λ plain v row. impl_unread c.args.of_trait c.in_default.is c.requires.unmarked }
 
-pub returns-in_default-opt_integer_62-clause-did : goal.returns-in_default-opt_integer_62-clause-did
-returns-in_default-opt_integer_62-clause-did g c = λ plain v row. rw c.in-Some.is
-    (impl_stops g.V.Voice c.args.symbol.now plain c.args.of_trait c.args.state.now.depth_left c.args.state.now.lifetimes c.in-Some.at row v _ _ c.requires.unmarked c.in_default-opt_integer_62.ensures.read (omega (arith, c.in_default-opt_integer_62.ensures.err_looks)))
+pub returns-in_default-opt_integer_62 : goal.returns-in_default-opt_integer_62
+returns-in_default-opt_integer_62 g c = record {
+  did = λ plain v row. impl_stops c.args.of_trait c.in-Some.at c.in-Some.is c.in_default-opt_integer_62.ensures.read (record { grows = omega arith; within = omega (arith, c.in_default-opt_integer_62.ensures.err_looks) }) c.requires.unmarked;
+}
 
-pub returns-then-of_trait-clause-did : goal.returns-then-of_trait-clause-did
-returns-then-of_trait-clause-did g c = λ plain v row. rw (c.in-Some.is, c.if-of_trait.true)
-    (trait_impl_goes g.V.Voice c.args.symbol.now plain c.args.state.now.depth_left c.args.state.now.lifetimes c.in-Some.at _ c.in-Ok.next row v _ _ c.in-Ok.ensures.read (omega (arith, c.in-Ok.ensures.ok_looks)) c.requires.fits refl refl refl c.requires.unmarked)
+pub returns-then-of_trait : goal.returns-then-of_trait
+returns-then-of_trait g c = record {
+  did = λ plain v row. rw c.if-of_trait.true (impl_goes true c.in-Some.at _ c.in-Ok.next c.in-Some.is c.in-Ok.ensures.read (record { grows = omega arith; within = omega (arith, c.in-Ok.ensures.ok_looks) }) c.requires.unmarked c.requires.fits);
+}
 
-pub returns-clause-did : goal.returns-clause-did
-returns-clause-did g c = λ plain v row. rw (c.in-Some.is, c.if-of_trait.false)
-    (impl_goes g.V.Voice c.args.symbol.now plain c.args.state.now.depth_left c.args.state.now.lifetimes c.in-Some.at _ c.in-Ok.next row v _ _ c.in-Ok.ensures.read (omega (arith, c.in-Ok.ensures.ok_looks)) c.requires.fits refl refl refl c.requires.unmarked)
+pub returns : goal.returns
+returns g c = record {
+  did = λ plain v row. rw c.if-of_trait.false (impl_goes false c.in-Some.at _ c.in-Ok.next c.in-Some.is c.in-Ok.ensures.read (record { grows = omega arith; within = omega (arith, c.in-Ok.ensures.ok_looks) }) c.requires.unmarked c.requires.fits);
+}

@@ -1,28 +1,33 @@
 use Rattle.std.proofs.Common.{arith, refl}
-use Rattle.demangle_v0.specs.Reading.{run}
-use Rattle.demangle_v0.specs.declared.grammar.Mark.TheVariants as mark
-use Rattle.demangle_v0.specs.Groups.{crate_group}
-use Rattle.demangle_v0.specs.declared.stretch.Stretch.TheVariants.{CrateName}
-use Rattle.demangle_v0.proofs.PointPaths.{crate_so}
-use Rattle.demangle_v0.proofs.PointSteps.{faulty, group_ends, group_fails, group_refused}
+use Rattle.demangle_v0.specs.Points.{env, share_at}
+use Rattle.demangle_grammar.specs.Reading.{run}
+use Rattle.demangle_v0.specs.declared.points.Point.TheVariants as point
+use Rattle.demangle_words.specs.Groups.{crate_group}
+use Rattle.demangle_words.specs.declared.stretch.Stretch.TheVariants.{CrateName}
+use Rattle.demangle_v0.proofs.WordLooks.{named_at, named_few}
+use Rattle.demangle_v0.proofs.PointTurns.{ended, unread, group_tells, group_halts, group_faults}
+use Rattle.demangle_v0.proofs.PointPaths.{crate_heard}
 use Rattle.demangle_v0.proofs.points.names.crate_name.Goals as goal
 
-pub returns-in_default-clause-did : goal.returns-in_default-clause-did
+pub returns-in_default : goal.returns-in_default
 unfolding run
-returns-in_default-clause-did g c = λ row. rw c.in_default.is
-    (faulty g.V.Voice c.args.symbol.now c.args.plain mark.Unread _ _ _ _ _ _ _ c.requires.unmarked refl (omega arith) (omega arith))
+returns-in_default g c = record { did = λ row. unread c.requires.may.unmarked (rw c.in_default.is refl) (omega arith) }
 
-pub returns-in_default-numbered_name-clause-did : goal.returns-in_default-numbered_name-clause-did
-returns-in_default-numbered_name-clause-did g c = λ row. rw c.in-Some.is
-    (group_fails g.V.Voice c.args.symbol.now c.args.plain _ (crate_group c.args.symbol.now c.in-Some.at) _ _ 1 0 row _ _ _ (crate_so g.V.Voice c.args.symbol.now c.args.plain c.args.state.now.in_value c.args.state.now.depth_left c.args.state.now.lifetimes c.in-Some.at)
-    (c.in_default-numbered_name.ensures.none CrateName) (omega (arith, c.in_default-numbered_name.ensures.looks CrateName)) c.requires.unmarked (omega arith))
+pub returns-in_default-numbered_name : goal.returns-in_default-numbered_name
+returns-in_default-numbered_name g c = record {
+  did = λ row. group_faults (crate_group c.args.symbol.now c.in-Some.at) (omega (arith, named_few c.args.symbol.now c.in-Some.at CrateName)) ended _ (crate_heard (env g.V.Voice c.args.symbol.now c.args.plain) c.args.state.now c.in-Some.at c.in-Some.is) (c.in_default-numbered_name.ensures.none (CrateName)) (record { grows = omega arith; within = omega (arith, c.in_default-numbered_name.ensures.looks (CrateName)) })
+      (named_at _ c.args.symbol.now c.in-Some.at (CrateName) c.in-Some.is (omega (arith, c.in_default-numbered_name.ensures.looks (CrateName)))) c.requires.may.unmarked (omega arith);
+}
 
-pub returns-in_default-say-clause-did : goal.returns-in_default-say-clause-did
-returns-in_default-say-clause-did g c = λ row. rw c.in-Some.is
-    (group_refused g.V.Voice c.args.symbol.now c.args.plain _ (crate_group c.args.symbol.now c.in-Some.at) _ _ _ 1 0 row _ _ _ _ _ (crate_so g.V.Voice c.args.symbol.now c.args.plain c.args.state.now.in_value c.args.state.now.depth_left c.args.state.now.lifetimes c.in-Some.at)
-    (c.in-Some-numbered_name.ensures.some CrateName) (omega (arith, c.in-Some-numbered_name.ensures.looks CrateName, c.in_default-say.ensures.most)) c.in_default-say.ensures.prints c.in_default-say.ensures.quiet)
+pub returns-in_default-say : goal.returns-in_default-say
+returns-in_default-say g c = record {
+  did = λ row. group_halts (crate_group c.args.symbol.now c.in-Some.at) (omega (arith, named_few c.args.symbol.now c.in-Some.at CrateName)) ended _ _ (crate_heard (env g.V.Voice c.args.symbol.now c.args.plain) c.args.state.now c.in-Some.at c.in-Some.is) (c.in-Some-numbered_name.ensures.some (CrateName)) (record { grows = omega arith; within = omega (arith, c.in-Some-numbered_name.ensures.looks (CrateName), c.in_default-say.ensures.most) })
+      (named_at _ c.args.symbol.now c.in-Some.at (CrateName) c.in-Some.is (omega (arith, c.in-Some-numbered_name.ensures.looks (CrateName), c.in_default-say.ensures.most))) c.in_default-say.ensures.prints c.in_default-say.ensures.quiet;
+}
 
-pub returns-clause-did : goal.returns-clause-did
-returns-clause-did g c = λ row. rw c.in-Some.is
-    (group_ends g.V.Voice c.args.symbol.now c.args.plain _ (crate_group c.args.symbol.now c.in-Some.at) _ _ 1 0 row _ _ _ _ (crate_so g.V.Voice c.args.symbol.now c.args.plain c.args.state.now.in_value c.args.state.now.depth_left c.args.state.now.lifetimes c.in-Some.at)
-    (c.in-Some-numbered_name.ensures.some CrateName) (omega (arith, c.in-Some-numbered_name.ensures.looks CrateName, c.in-Ok.ensures.most)) c.in-Ok.ensures.prints c.requires.unmarked refl refl (omega arith))
+pub returns : goal.returns
+unfolding share_at
+returns g c = record {
+  did = λ row. group_tells point.End (crate_group c.args.symbol.now c.in-Some.at) (omega (arith, named_few c.args.symbol.now c.in-Some.at CrateName)) ended _ _ (crate_heard (env g.V.Voice c.args.symbol.now c.args.plain) c.args.state.now c.in-Some.at c.in-Some.is) (c.in-Some-numbered_name.ensures.some (CrateName)) (record { grows = omega arith; within = omega (arith, c.in-Some-numbered_name.ensures.looks (CrateName), c.in-Ok.ensures.most) })
+      (named_at _ c.args.symbol.now c.in-Some.at (CrateName) c.in-Some.is (omega (arith, c.in-Some-numbered_name.ensures.looks (CrateName), c.in-Ok.ensures.most))) c.in-Ok.ensures.prints c.in-Ok.ensures.ready c.requires.may.unmarked refl (omega arith) (omega arith) tt;
+}

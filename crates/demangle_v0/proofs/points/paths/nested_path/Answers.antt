@@ -1,18 +1,15 @@
 use Rattle.std.proofs.Common.{arith, refl}
-use Rattle.demangle_v0.specs.Reading.{run}
-use Rattle.demangle_v0.specs.declared.grammar.Mark.TheVariants as mark
-use Rattle.demangle_v0.proofs.PointSteps.{faulty}
+use Rattle.demangle_grammar.specs.Reading.{run}
+use Rattle.demangle_v0.proofs.PointTurns.{unread}
 use Rattle.demangle_v0.proofs.PointPaths.{nested_stops, nested_goes}
 use Rattle.demangle_v0.proofs.points.paths.nested_path.Goals as goal
 
-pub returns-in_default-clause-did : goal.returns-in_default-clause-did
+pub returns-in_default : goal.returns-in_default
 unfolding run
-returns-in_default-clause-did g c = λ plain v. rw c.in_default.is (faulty g.V.Voice c.args.symbol.now plain mark.Unread _ _ _ _ _ _ _ c.requires.unmarked refl (omega arith) (omega arith))
+returns-in_default g c = record { did = λ plain v. unread c.requires.may.unmarked (rw c.in_default.is refl) (omega arith) }
 
-pub returns-in_default-namespace-clause-did : goal.returns-in_default-namespace-clause-did
-returns-in_default-namespace-clause-did g c = λ plain v. rw c.in-Some.is (nested_stops g.V.Voice c.args.symbol.now plain c.args.state.now.in_value c.args.state.now.depth_left c.args.state.now.lifetimes c.in-Some.at _ _ _ _ c.requires.unmarked c.in_default-namespace.ensures.read (omega (arith, c.namespace.ensures.look)))
+pub returns-in_default-namespace : goal.returns-in_default-namespace
+returns-in_default-namespace g c = record { did = λ plain v. nested_stops c.in-Some.at c.in-Some.is c.in_default-namespace.ensures.read c.namespace.ensures.look c.requires.may.unmarked }
 
-pub returns-clause-did : goal.returns-clause-did
-returns-clause-did g c = λ plain v. rw c.in-Some.is
-    (nested_goes g.V.Voice c.args.symbol.now plain c.args.state.now.in_value c.args.state.now.depth_left c.args.state.now.lifetimes c.in-Some.at c.in-Ok.letter c.in-Ok.next _ _ _ _ _ c.in-Ok.ensures.read (omega (arith, c.namespace.ensures.look)) c.requires.fits refl refl refl refl c.requires.unmarked
-    (rw c.frame-frame.ensures at c.push.ensures.pushed (omega (arith, c.requires.fits))))
+pub returns : goal.returns
+returns g c = record { did = λ plain v. nested_goes c.in-Some.at c.in-Ok.letter c.in-Ok.next c.in-Some.is c.in-Ok.ensures.read c.namespace.ensures.look c.requires.may (rw c.frame-frame.ensures at c.push.ensures.pushed (omega (arith, c.requires.may.fits))) }

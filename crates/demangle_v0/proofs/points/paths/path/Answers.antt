@@ -1,21 +1,18 @@
-use Rattle.std.proofs.Common.{arith, refl, ◌-◌}
+use Rattle.std.proofs.Common.{arith, refl}
 use Rattle.demangle_v0.specs.Points.{share_at}
-use Rattle.demangle_v0.specs.declared.grammar.Mark.TheVariants as mark
-use Rattle.demangle_v0.proofs.PointSteps.{faulty}
+use Rattle.demangle_v0.proofs.PointTurns.{unread}
 use Rattle.demangle_v0.proofs.PointPaths.{path_deep, path_untagged, path_tagged}
 use Rattle.demangle_v0.proofs.points.paths.path.Goals as goal
 
 pub returns-in_default-clause-did : goal.returns-in_default-clause-did
 unfolding share_at
-returns-in_default-clause-did g c = rw c.in_default.is (faulty g.V.Voice c.args.symbol.now c.args.plain mark.Unread _ _ _ _ _ _ _ c.requires.unmarked refl (omega arith) (omega arith))
+returns-in_default-clause-did g c = unread c.requires.may.unmarked (rw c.in_default.is refl) (omega arith)
 
 pub returns-then-state-eq0-clause-did : goal.returns-then-state-eq0-clause-did
-returns-then-state-eq0-clause-did g c = rw c.in-Some.is (path_deep g.V.Voice c.args.symbol.now c.args.plain c.args.state.now.in_value c.args.state.now.letter c.args.state.now.depth_left c.args.state.now.lifetimes c.in-Some.at _ _ _ _ _ c.if-state-eq0.true c.requires.unmarked (omega arith))
+returns-then-state-eq0-clause-did g c = path_deep c.in-Some.at c.in-Some.is c.if-state-eq0.true c.requires.may.unmarked
 
 pub returns-in_default-tag-clause-did : goal.returns-in_default-tag-clause-did
-returns-in_default-tag-clause-did g c = rw c.in-Some.is (path_untagged g.V.Voice c.args.symbol.now c.args.plain c.args.state.now.in_value c.args.state.now.letter c.args.state.now.depth_left c.args.state.now.lifetimes c.in-Some.at _ _ _ _ _ (omega arith) c.in_default-tag.ensures.read c.requires.unmarked (omega (arith, c.tag.ensures.look)))
+returns-in_default-tag-clause-did g c = path_untagged c.in-Some.at c.in-Some.is (omega arith) c.in_default-tag.ensures.read c.tag.ensures.look c.requires.may.unmarked
 
 pub returns-clause-did : goal.returns-clause-did
-returns-clause-did g c = rw c.in-Some.is
-    (path_tagged g.V.Voice c.args.symbol.now c.args.plain c.args.state.now.in_value c.args.state.now.letter c.args.state.now.depth_left c.args.state.now.lifetimes c.in-Some.at c.in-Ok.tag c.in-Ok.next _ _ _ _ _ _ _ (c.tagged_path.new.looks - c.tag.new.looks) (c.tagged_path.new.looks - c.args.looks.now) (omega arith) c.in-Ok.ensures.read
-    (omega (arith, c.tag.ensures.look, c.tagged_path.ensures.grows)) c.tagged_path.ensures.did)
+returns-clause-did g c = path_tagged c.in-Some.at c.in-Ok.tag c.in-Ok.next c.tag.new.looks c.in-Some.is (omega arith) c.in-Ok.ensures.read c.tag.ensures.look c.tagged_path.ensures.did

@@ -1,6 +1,6 @@
 use Rattle.std.proofs.Common.{arith, refl}
 use Rattle.demangle_v0.specs.Points.{share_at}
-use Rattle.demangle_v0.specs.declared.grammar.Mark.TheVariants as mark
+use Rattle.demangle_words.specs.declared.texts.Mark.TheVariants as mark
 use Rattle.demangle_v0.proofs.PointSteps.{faulty}
 use Rattle.demangle_v0.proofs.PointPatterns.{pattern_untagged, pattern_wrong, range_goes, not_null, or_too_deep, or_goes}
 use Rattle.demangle_v0.proofs.points.patterns.pattern.Goals as goal

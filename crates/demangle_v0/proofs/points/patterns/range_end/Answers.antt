@@ -1,8 +1,8 @@
 use Rattle.std.proofs.Common.{false, arith, refl}
-use Rattle.demangle_v0.specs.Items.{a_constant}
-use Rattle.demangle_v0.specs.Reading.{run}
+use Rattle.demangle_grammar.specs.Items.{a_constant}
+use Rattle.demangle_grammar.specs.Reading.{run}
 use Rattle.demangle_v0.specs.Points.{share_at}
-use Rattle.demangle_v0.specs.declared.grammar.Mark.TheVariants as mark
+use Rattle.demangle_words.specs.declared.texts.Mark.TheVariants as mark
 use Rattle.demangle_v0.specs.declared.points.Point.TheVariants as point
 use Rattle.demangle_v0.proofs.PointSteps.{child_goes}
 use Rattle.demangle_v0.proofs.points.patterns.range_end.Goals as goal

@@ -1,16 +1,15 @@
-use Rattle.std.proofs.Common.{arith, refl, sym, ◌∙◌}
-use Rattle.demangle_v0.proofs.PointReferences.{ref_stops, ref_hidden, ref_shown}
+use Rattle.std.proofs.Common.{arith, sym, ◌∙◌}
+use Rattle.demangle_v0.proofs.PointReferences.{target_stops, target_hidden, target_shown}
 use Rattle.demangle_v0.proofs.points.references.follow.Goals as goal
 
-pub returns-in-Faulty-clause-did : goal.returns-in-Faulty-clause-did
-returns-in-Faulty-clause-did g c = λ plain v shut k value unit.
-    ref_stops g.V.Voice c.args.symbol.now plain shut _ k value _ _ _ _ _ _ _ c.in-Faulty.ensures.value (omega (arith, c.in-Faulty.ensures.looks)) c.requires.unmarked
+pub returns-in-Faulty : goal.returns-in-Faulty
+returns-in-Faulty g c = record { did = λ plain v shut k value unit. target_stops shut k value _ c.in-Faulty.ensures.value (record { grows = omega arith; within = omega (arith, c.in-Faulty.ensures.looks) }) c.requires.may.unmarked }
 
-pub returns-then-not-speaks-clause-did : goal.returns-then-not-speaks-clause-did
-returns-then-not-speaks-clause-did g c = λ plain v shut k value unit.
-    ref_hidden g.V.Voice c.args.symbol.now plain shut _ k value _ _ _ _ _ _ _ _ c.in-Target.ensures.value (omega (arith, c.in-Target.ensures.looks)) (sym c.speaks.ensures ∙ c.if-not-speaks.true) c.requires.unmarked refl refl
+pub returns-then-not-speaks : goal.returns-then-not-speaks
+returns-then-not-speaks g c = record { did = λ plain v shut k value unit. target_hidden shut k value _ _ c.in-Target.ensures.value (record { grows = omega arith; within = omega (arith, c.in-Target.ensures.looks) }) (sym c.speaks.ensures ∙ c.if-not-speaks.true) c.requires.may.unmarked }
 
-pub returns-else-not-speaks-clause-did : goal.returns-else-not-speaks-clause-did
-returns-else-not-speaks-clause-did g c = λ plain v shut k value unit.
-    ref_shown g.V.Voice c.args.symbol.now plain c.args.unit shut c.args.state.now.depth_left c.args.state.now.in_value c.args.state.now.letter k value c.args.state.now.lifetimes c.args.state.now.place c.in-Target.target c.in-Target.behind _ _ _ _ _ unit c.in-Target.ensures.value (omega (arith, c.in-Target.ensures.looks)) (sym c.speaks.ensures ∙ c.if-not-speaks.false) c.in-Target.ensures.deep (omega arith) c.requires.fits refl refl refl refl c.requires.unmarked refl refl
-    (rw c.frame-frame.ensures at c.push.ensures.pushed (omega arith))
+pub returns-else-not-speaks : goal.returns-else-not-speaks
+returns-else-not-speaks g c = record {
+  did = λ plain v shut k value unit. target_shown c.args.unit shut k value c.in-Target.target c.in-Target.behind unit c.in-Target.ensures.value (record { grows = omega arith; within = omega (arith, c.in-Target.ensures.looks) }) (sym c.speaks.ensures ∙ c.if-not-speaks.false) c.in-Target.ensures.deep (omega arith) c.requires.may
+      (rw c.frame-frame.ensures at c.push.ensures.pushed (omega arith));
+}

@@ -1,15 +1,15 @@
-use Rattle.std.proofs.Common.{arith, refl, sym, ◌∙◌, true, false}
+use Rattle.std.proofs.Common.{sym, ◌∙◌, true, false}
 use Rattle.demangle_v0.proofs.PointTypes.{reference_failed, reference_goes, reference_named}
 use Rattle.demangle_v0.proofs.points.type_references.reference.Goals as goal
 
-pub returns-in_default-clause-did : goal.returns-in_default-clause-did
-returns-in_default-clause-did g c = λ plain v row. rw (c.in_default.is, c.behind_reference.ensures) (reference_failed g.V.Voice c.args.symbol.now plain c.args.is_mut c.args.state.now.depth_left c.args.state.now.lifetimes row v _ _ (omega arith) c.requires.fits refl refl refl refl)
+pub returns-in_default : goal.returns-in_default
+returns-in_default g c = record { did = λ plain v row. rw c.behind_reference.ensures (reference_failed c.args.is_mut c.in_default.is c.requires.fits) }
 
-pub returns-then-not-is_at-clause-did : goal.returns-then-not-is_at-clause-did
-returns-then-not-is_at-clause-did g c = λ plain v row. rw (c.in-Some.is, c.behind_reference-then-not-is_at.ensures) (reference_goes g.V.Voice c.args.symbol.now plain c.args.is_mut c.args.state.now.depth_left c.args.state.now.lifetimes c.in-Some.at row v _ _ (sym c.is_at.ensures.there ∙ c.if-not-is_at.true) (omega (arith, c.is_at.ensures.look)) c.requires.fits refl refl refl refl)
+pub returns-then-not-is_at : goal.returns-then-not-is_at
+returns-then-not-is_at g c = record { did = λ plain v row. rw c.behind_reference-then-not-is_at.ensures (reference_goes c.args.is_mut c.in-Some.at c.in-Some.is (sym c.is_at.ensures.there ∙ c.if-not-is_at.true) c.is_at.ensures.look c.requires.fits) }
 
-pub returns-then-is_mut-clause-did : goal.returns-then-is_mut-clause-did
-returns-then-is_mut-clause-did g c = λ plain v row. rw (c.in-Some.is, c.if-is_mut.true) (reference_named g.V.Voice c.args.symbol.now plain true c.args.state.now.depth_left c.args.state.now.lifetimes c.in-Some.at row v _ _ (sym c.is_at.ensures.there ∙ c.if-not-is_at.false) (omega (arith, c.is_at.ensures.look)) c.requires.fits refl refl refl refl)
+pub returns-then-is_mut : goal.returns-then-is_mut
+returns-then-is_mut g c = record { did = λ plain v row. rw c.if-is_mut.true (reference_named true c.in-Some.at c.in-Some.is (sym c.is_at.ensures.there ∙ c.if-not-is_at.false) c.is_at.ensures.look c.requires.fits) }
 
-pub returns-else-is_mut-clause-did : goal.returns-else-is_mut-clause-did
-returns-else-is_mut-clause-did g c = λ plain v row. rw (c.in-Some.is, c.if-is_mut.false) (reference_named g.V.Voice c.args.symbol.now plain false c.args.state.now.depth_left c.args.state.now.lifetimes c.in-Some.at row v _ _ (sym c.is_at.ensures.there ∙ c.if-not-is_at.false) (omega (arith, c.is_at.ensures.look)) c.requires.fits refl refl refl refl)
+pub returns-else-is_mut : goal.returns-else-is_mut
+returns-else-is_mut g c = record { did = λ plain v row. rw c.if-is_mut.false (reference_named false c.in-Some.at c.in-Some.is (sym c.is_at.ensures.there ∙ c.if-not-is_at.false) c.is_at.ensures.look c.requires.fits) }

@@ -1,12 +1,14 @@
 use Rattle.std.proofs.Common.{true, false, ◌*◌, ◌+◌, arith, refl}
 use Rattle.demangle_v0.proofs.PointTypes.{array_goes, slice_goes, pattern_type_goes}
-use Rattle.demangle_v0.specs.Items.{a_type}
+use Rattle.demangle_grammar.specs.Items.{a_type}
 use Rattle.demangle_v0.proofs.PointReferences.{unit_type}
-use Rattle.demangle_v0.specs.Reading.{run}
+use Rattle.demangle_grammar.specs.Reading.{run}
 use Rattle.demangle_v0.specs.Points.{share_at}
-use Rattle.demangle_v0.specs.declared.grammar.Mark.TheVariants as mark
+use Rattle.demangle_words.specs.declared.texts.Mark.TheVariants as mark
 use Rattle.demangle_v0.specs.declared.points.Point.TheVariants as point
 use Rattle.demangle_v0.proofs.PointSteps.{mark_goes, same, zero_looks}
+use Rattle.demangle_v0.proofs.PointTurns.{did}
+use Rattle.demangle_v0.proofs.WordLooks.{own_more}
 use Rattle.demangle_v0.proofs.points.types.constructed_type.Goals as goal
 
 pub returns-in-ConstPointer-clause-did : goal.returns-in-ConstPointer-clause-did
@@ -35,15 +37,39 @@ returns-in-Pattern-clause-did g c = rw c.in-Pattern.is (pattern_type_goes g.V.Vo
 
 pub returns-in-Reference-clause-did : goal.returns-in-Reference-clause-did
 returns-in-Reference-clause-did g c = rw c.in-Reference.is
-    (same g.V.Voice c.args.symbol.now c.args.plain _ _ 50 (8 * c.args.state.now.depth_left + 9) 1 (8 * c.args.state.now.depth_left + 2) _ _ _ _ _ _ _ refl (omega arith) (omega arith)
-    (c.follow.ensures.did c.args.plain c.args.voice.now true a_type false (unit_type c.args.symbol.now c.args.plain c.args.state.now.in_value c.args.state.now.letter c.args.state.now.lifetimes)))
+    (same g.V.Voice c.args.symbol.now c.args.plain (omega arith) _ _ 50 (8 * c.args.state.now.depth_left + 9) 1 (8 * c.args.state.now.depth_left + 2) _ _ _ _ _ _ _ refl (omega arith) (omega arith)
+    (did (c.follow.ensures.did c.args.plain c.args.voice.now true a_type false (unit_type c.args.symbol.now c.args.plain c.args.state.now.in_value c.args.state.now.letter c.args.state.now.lifetimes))))
 
 pub returns-in-Function-clause-did : goal.returns-in-Function-clause-did
 unfolding share_at
 returns-in-Function-clause-did g c = rw c.in-Function.is
-    (same g.V.Voice c.args.symbol.now c.args.plain _ _ 50 (8 * c.args.state.now.depth_left + 9) 1 (8 * c.args.state.now.depth_left + 2) _ _ _ _ _ _ _ refl (omega arith) (omega arith) (c.function_binder.ensures.did c.args.row.now))
+    (same g.V.Voice c.args.symbol.now c.args.plain (omega arith) _ _ 50 (8 * c.args.state.now.depth_left + 9) 1 (8 * c.args.state.now.depth_left + 2) _ _ _ _ _ _ _ refl (omega arith) (omega arith) (c.function_binder.ensures.did c.args.row.now))
 
 pub returns-in-Dyn-clause-did : goal.returns-in-Dyn-clause-did
 returns-in-Dyn-clause-did g c = rw c.in-Dyn.is
-    (same g.V.Voice c.args.symbol.now c.args.plain _ _ 50 (8 * c.args.state.now.depth_left + 9) 4 (8 * c.args.state.now.depth_left + 5) _ _ _ _ _ _ _ refl (omega arith) (omega arith)
+    (same g.V.Voice c.args.symbol.now c.args.plain (omega arith) _ _ 50 (8 * c.args.state.now.depth_left + 9) 4 (8 * c.args.state.now.depth_left + 5) _ _ _ _ _ _ _ refl (omega arith) (omega arith)
     (zero_looks g.V.Voice c.args.symbol.now c.args.plain _ _ _ _ _ _ _ _ _ _ (c.dyn_type.ensures.did c.args.plain c.args.voice.now)))
+
+pub returns-in-Reference-clause-grows : goal.returns-in-Reference-clause-grows
+returns-in-Reference-clause-grows g c = (c.follow.ensures.did c.args.plain c.args.voice.now true a_type false (unit_type c.args.symbol.now c.args.plain c.args.state.now.in_value c.args.state.now.letter c.args.state.now.lifetimes)).grows
+
+pub returns-in-SharedReference-clause-did : goal.returns-in-SharedReference-clause-did
+returns-in-SharedReference-clause-did g c = rw c.in-SharedReference.is (did (c.reference.ensures.did c.args.plain c.args.voice.now c.args.row.now))
+
+pub returns-in-SharedReference-clause-grows : goal.returns-in-SharedReference-clause-grows
+returns-in-SharedReference-clause-grows g c = (c.reference.ensures.did c.args.plain c.args.voice.now c.args.row.now).grows
+
+pub returns-in-MutReference-clause-did : goal.returns-in-MutReference-clause-did
+returns-in-MutReference-clause-did g c = rw c.in-MutReference.is (did (c.reference-in-MutReference.ensures.did c.args.plain c.args.voice.now c.args.row.now))
+
+pub returns-in-MutReference-clause-grows : goal.returns-in-MutReference-clause-grows
+returns-in-MutReference-clause-grows g c = (c.reference-in-MutReference.ensures.did c.args.plain c.args.voice.now c.args.row.now).grows
+
+pub returns-in-SharedReference-clause-own : goal.returns-in-SharedReference-clause-own
+returns-in-SharedReference-clause-own g c = own_more _ 20 24 _ _ (omega arith) (c.reference.ensures.did c.args.plain c.args.voice.now c.args.row.now).own
+
+pub returns-in-MutReference-clause-own : goal.returns-in-MutReference-clause-own
+returns-in-MutReference-clause-own g c = own_more _ 20 24 _ _ (omega arith) (c.reference-in-MutReference.ensures.did c.args.plain c.args.voice.now c.args.row.now).own
+
+pub returns-in-Reference-clause-own : goal.returns-in-Reference-clause-own
+returns-in-Reference-clause-own g c = own_more _ 20 24 _ _ (omega arith) (c.follow.ensures.did c.args.plain c.args.voice.now true a_type false (unit_type c.args.symbol.now c.args.plain c.args.state.now.in_value c.args.state.now.letter c.args.state.now.lifetimes)).own

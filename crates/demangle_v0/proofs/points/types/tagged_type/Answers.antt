@@ -1,7 +1,7 @@
 use Rattle.std.proofs.Common.{arith, refl, ◌-◌}
-use Rattle.demangle_v0.specs.Reading.{run}
+use Rattle.demangle_grammar.specs.Reading.{run}
 use Rattle.demangle_v0.specs.Points.{share_at}
-use Rattle.demangle_v0.specs.declared.grammar.Mark.TheVariants as mark
+use Rattle.demangle_words.specs.declared.texts.Mark.TheVariants as mark
 use Rattle.demangle_v0.proofs.PointSteps.{faulty}
 use Rattle.demangle_v0.proofs.PointTypes.{no_tag, basic_ends, tag_deep, path_follows, tag_goes}
 use Rattle.demangle_v0.proofs.points.types.tagged_type.Goals as goal

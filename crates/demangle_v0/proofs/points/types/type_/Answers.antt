@@ -1,7 +1,7 @@
 use Rattle.std.proofs.Common.{arith, refl, sym, ◌∙◌, ◌-◌}
-use Rattle.demangle_v0.specs.Reading.{run}
+use Rattle.demangle_grammar.specs.Reading.{run}
 use Rattle.demangle_v0.specs.Points.{share_at}
-use Rattle.demangle_v0.specs.declared.grammar.Mark.TheVariants as mark
+use Rattle.demangle_words.specs.declared.texts.Mark.TheVariants as mark
 use Rattle.demangle_v0.proofs.PointSteps.{faulty}
 use Rattle.std.proofs.lemmas.Bool.{false≢true}
 use Rattle.demangle_v0.proofs.PointTypes.{type_splats, type_goes, type_either, type_stays}

@@ -1,5 +1,5 @@
 use Rattle.std.proofs.Common.{Some, arith}
-use Rattle.demangle_v0.specs.declared.points.tags.VariantKind.TheVariants as kind
+use Rattle.demangle_words.specs.declared.tags.VariantKind.TheVariants as kind
 use Rattle.demangle_v0.proofs.PointVariants.{variant_unread, variant_untagged, variant_wrong, variant_as, tuple_opens, fields_open}
 use Rattle.demangle_v0.proofs.points.variants.variant.Goals as goal
 

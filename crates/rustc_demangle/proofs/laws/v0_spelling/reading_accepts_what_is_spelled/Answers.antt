@@ -1,5 +1,5 @@
-use Rattle.demangle_v0.proofs.Accepted.{accepted_is_spelled}
-use Rattle.demangle_v0.proofs.V0Reading.{reading_is_v0}
+use Rattle.demangle_grammar.proofs.Accepted.{accepted_is_spelled}
+use Rattle.demangle_grammar.proofs.V0Reading.{reading_is_v0}
 use Rattle.rustc_demangle.proofs.laws.v0_spelling.reading_accepts_what_is_spelled.Goals as goal
 
 pub returns-clause-symbol : goal.returns-clause-symbol

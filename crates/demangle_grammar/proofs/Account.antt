@@ -1,0 +1,169 @@
+-- What a reading pays for its looks: the account of each item.
+use Rattle.std.specs.Prelude.{ℕ, zero, suc, ◌≤◌, ◌*◌, ◌||◌, ◌==◌, nat_le, IsTrue, codes}
+use Rattle.std.proofs.Common.{◌≡◌, Bool, true, false, cond, List, [], ◌∷◌, length, Some, None, refl, sym, ◌+◌, ◌-◌, subst, arith}
+use Rattle.demangle_symbol.specs.Words.{Name}
+use Rattle.demangle_grammar.specs.Items.{Text, Kind, a_path, a_type, a_constant, a_pattern, a_trait_path, Items, done, invalid, say, say_plain, byte, namespace, integer, optional, identifier, nibbles, peek, next, sound, until_end, raise, unit, child, skip, target, lifetime, binder, opens, dyn_trait, bindings}
+use Rattle.demangle_grammar.specs.Cost.{StretchCost, Pays}
+use Rattle.demangle_grammar.specs.Reading.{Tree, nothing, piece, plain_piece, node, invalid_syntax, too_deep, unread, Place, Outcome, Level, Surroundings, followed_by, stretches, hands, run, one_depth_on, turns, angle_if_open, bound_by, unit_outcome, lifetime_at, lifetime_named, letter_of, all_pieces, new_lifetimes, binder_of, binder_at}
+use Rattle.demangle_grammar.proofs.PaysRules.{Pays-more, Pays-append}
+
+-- the credit that a unit is begun with, and the credit that it leaves
+abbrev pub start : Kind → ℕ
+start a_path = 0
+start a_type = 2
+start a_constant = 0
+start a_pattern = 0
+start a_trait_path = 2
+
+abbrev pub is_some_text : Text → Bool
+is_some_text [] = false
+is_some_text (b ∷ bs) = true
+
+-- The items may run from k looks of credit and end with e. Each byte that is read gives 32, and a word costs 4 for
+-- each byte and 4 more. `g` says that a child may come now: at least a byte was handed over since the one before.
+abbrev pub Cheap : ℕ → ℕ → Bool → Items → Type 0
+Cheap e k g done = e ≤ k
+Cheap e k g invalid = Unit {0}
+Cheap e k g (say t p) = Cheap e k (g || is_some_text t) p
+Cheap e k g (say_plain t p) = Cheap e k g p
+Cheap e k g (byte f) = (v : ℕ) → Cheap e (k + 24) g (f v)
+Cheap e k g (namespace f) = (v : ℕ) → Cheap e (k + 24) g (f v)
+Cheap e k g (integer f) = (v : ℕ) → Cheap e (k + 24) g (f v)
+Cheap e k g (optional tag f) = (4 ≤ k) × ((v : ℕ) → Cheap e (k - 4) g (f v))
+Cheap e k g (identifier f) = (v : Name) → Cheap e (k + 24) g (f v)
+Cheap e k g (nibbles f) = (v : List ℕ) → Cheap e (k + 24) g (f v)
+Cheap e k g (peek f) = (1 ≤ k) × ((v : ℕ) → Cheap e (k - 1) g (f v))
+Cheap e k g (next b p q) = (1 ≤ k) × Cheap e (k + 31) g p × Cheap e (k - 1) g q
+Cheap e k g (sound p q) = Cheap e k g p
+Cheap e k g (until_end p q) = (c : ℕ) × (c ≤ k) × (1 ≤ c) × Cheap c (c - 1) false p × Cheap e (c + 31) false q
+Cheap e k g (raise p) = Cheap e k g p
+Cheap e k g (unit p q) = (c : ℕ) × Cheap c k g p × Cheap e c false q
+Cheap e k g (child kind value p) = (start kind ≤ k) × IsTrue g × Cheap e 8 false p
+Cheap e k g (skip p) = Cheap e 8 g p
+Cheap e k g (target kind value) = IsTrue g × (e ≤ k + 24)
+Cheap e k g (lifetime n p) = Cheap e k g p
+Cheap e k g (binder n p) = Cheap e k g p
+Cheap e k g (opens p) = Cheap e k g p
+Cheap e k g (dyn_trait p) = (start a_trait_path ≤ k) × IsTrue g × ((c : ℕ) × (c ≤ 8) × (1 ≤ c) × Cheap c (c + 55) true p × (e ≤ c - 1))
+Cheap e k g (bindings o p) = (c : ℕ) × (c ≤ k) × (1 ≤ c) × Cheap c (c + 55) true p × (e ≤ c - 1)
+
+-- From place i on, of n bytes, the stretches are paid for by the bytes that were read and `from`, and `to` is left.
+abbrev pub Ends : (n r i from to : ℕ) → List StretchCost → Place → Type 0
+Ends n r i from to xs None = Pays r (32 * (n + 1 - i) + from) xs 0
+Ends n r i from to xs (Some j) = (i ≤ j) × (j ≤ n) × Pays r (32 * (j - i) + from) xs to
+
+abbrev pub Paid : Bool → (n r i from to : ℕ) → Outcome → Type 0
+Paid plain n r i from to o = Ends n r i from to (stretches plain o.tree) o.place
+
+-- what is handed over while failed costs nothing
+abbrev pub Free : Bool → ℕ → Tree → Type 0
+Free plain r t = Pays r 0 (stretches plain t) 0
+
+abbrev pub Idle : Bool → ℕ → Outcome → Type 0
+Idle plain r o = (o.place ≡ None) × Free plain r o.tree
+
+-- Free trees.
+
+pub free_piece : (plain : Bool) (r : ℕ) (t : Text) (rest : Tree) → Free plain r rest → Free plain r (piece t rest)
+free_piece plain r t rest h = (omega arith, Pays-more r 0 (0 - 0 + r * length t) 0 0 0 (stretches plain rest) (omega arith) (omega arith) h)
+
+free_plain : (plain : Bool) (r : ℕ) (t : Text) (rest : Tree) → Free plain r rest → Free plain r (plain_piece t rest)
+free_plain true r t rest h = free_piece true r t rest h
+free_plain false r t rest h = h
+
+free_node : (plain : Bool) (r : ℕ) (x y : Tree) → Free plain r x → Free plain r y → Free plain r (node x y)
+free_node plain r x y h k = Pays-append r 0 0 0 (stretches plain x) (stretches plain y) h k
+
+pub free_pieces : (plain : Bool) (r : ℕ) (ts : List Text) (rest : Tree) → Free plain r rest → Free plain r (all_pieces ts rest)
+free_pieces plain r [] rest h = h
+free_pieces plain r (t ∷ ts) rest h = free_piece plain r t (all_pieces ts rest) (free_pieces plain r ts rest h)
+
+pub free_stop : (plain : Bool) (r : ℕ) → Free plain r invalid_syntax
+free_stop plain r = (omega arith, omega arith)
+
+free_deep : (plain : Bool) (r : ℕ) → Free plain r too_deep
+free_deep plain r = (omega arith, omega arith)
+
+free_unread : (plain : Bool) (r : ℕ) → Free plain r unread
+free_unread plain r = (omega arith, omega arith)
+
+-- a text before the stretches
+pub paid_hands : (r a b : ℕ) (t : Text) (xs : List StretchCost) → Pays r a xs b → Pays r a (hands t ∷ xs) b
+paid_hands r a b t xs h = (omega arith, Pays-more r a (a - 0 + r * length t) b b 0 xs (omega arith) (omega arith) h)
+
+pub paid_pieces : (plain : Bool) (r a b : ℕ) (ts : List Text) (rest : Tree) → Pays r a (stretches plain rest) b → Pays r a (stretches plain (all_pieces ts rest)) b
+paid_pieces plain r a b [] rest h = h
+paid_pieces plain r a b (t ∷ ts) rest h = paid_hands r a b t (stretches plain (all_pieces ts rest)) (paid_pieces plain r a b ts rest h)
+
+paid_new : (plain : Bool) (r a b m n : ℕ) (rest : Tree) → Pays r a (stretches plain rest) b → Pays r a (stretches plain (new_lifetimes m n rest)) b
+paid_new plain r a b zero n rest h = h
+paid_new plain r a b (suc m) n rest h =
+    let after = all_pieces (letter_of n) (new_lifetimes m (n + 1) rest) in
+    paid_hands r a b (codes ", ") (stretches plain (piece (codes "'") after)) (paid_hands r a b (codes "'") (stretches plain after)
+    (paid_pieces plain r a b (letter_of n) (new_lifetimes m (n + 1) rest) (paid_new plain r a b m (n + 1) rest h)))
+
+pub paid_binder : (plain : Bool) (r a b m n : ℕ) (rest : Tree) → Pays r a (stretches plain rest) b → Pays r a (stretches plain (binder_of m n rest)) b
+paid_binder plain r a b zero n rest h = h
+paid_binder plain r a b (suc m) n rest h =
+    let last = new_lifetimes m (n + 1) (piece (codes "> ") rest) in
+    let after = all_pieces (letter_of n) last in
+    paid_hands r a b (codes "for<") (stretches plain (piece (codes "'") after)) (paid_hands r a b (codes "'") (stretches plain after)
+    (paid_pieces plain r a b (letter_of n) last (paid_new plain r a b m (n + 1) (piece (codes "> ") rest) (paid_hands r a b (codes "> ") (stretches plain rest) h))))
+
+-- Once failed.
+
+pub idle_after : (plain : Bool) (r : ℕ) (f : Place → Outcome) (x : Place) → x ≡ None → Idle plain r (f None) → Idle plain r (f x)
+idle_after plain r f x e h = subst (λ z. Idle plain r (f z)) (sym e) h
+
+idle_followed : (plain : Bool) (r : ℕ) (o : Outcome) (f : Place → Outcome) → Idle plain r o → Idle plain r (f None) → Idle plain r (followed_by o f)
+idle_followed plain r o f h k = let q : Idle plain r (f o.place) = idle_after plain r f o.place h.0 k in (q.0, free_node plain r o.tree (f o.place).tree h.1 q.1)
+
+idle_choice : (plain : Bool) (r : ℕ) (b : Bool) (x y : Outcome) → Idle plain r x → Idle plain r y → Idle plain r (cond b x y)
+idle_choice plain r true x y p q = p
+idle_choice plain r false x y p q = q
+
+idle_lifetime : (plain : Bool) (r : ℕ) (b : Bool) (m k : ℕ) → Idle plain r (lifetime_at b m k None)
+idle_lifetime plain r false m k = (refl, omega arith)
+idle_lifetime plain r true m k =
+    let inner : Idle plain r (lifetime_named m k None) =
+    idle_choice plain r (k == 0) _ _ (refl, free_piece plain r (codes "_") nothing (omega arith)) (idle_choice plain r (nat_le k m) _ _ (refl, free_pieces plain r (letter_of (m - k)) nothing (omega arith)) (refl, free_stop plain r)) in
+    (inner.0, free_piece plain r (codes "'") (lifetime_named m k None).tree inner.1)
+
+idle_raised : (plain : Bool) (r : ℕ) (ls : List Level) (f : Level → List Level → Place → Outcome) → ((l : Level) (ls : List Level) → Idle plain r (f l ls None)) → Idle plain r (one_depth_on ls f None)
+idle_raised plain r [] f h = (refl, free_deep plain r)
+idle_raised plain r (l ∷ ls) f h = h l ls
+
+free_binder : (plain : Bool) (r : ℕ) (c : Bool) (m n : ℕ) (t : Tree) → Free plain r t → Free plain r (binder_at c m n t)
+free_binder plain r true m n t h = paid_binder plain r 0 0 m n t h
+free_binder plain r false m n t h = h
+
+pub idle_closed : (plain : Bool) (r : ℕ) (o : Bool) → Idle plain r (angle_if_open o None)
+idle_closed plain r true = (refl, free_piece plain r (codes ">") nothing (omega arith))
+idle_closed plain r false = (refl, omega arith)
+
+pub idle : (plain : Bool) (r : ℕ) (p : Items) (s : Surroundings) → Idle plain r (run p s None)
+unfolding run turns bound_by
+idle plain r done s = (refl, omega arith)
+idle plain r invalid s = (refl, free_stop plain r)
+idle plain r (say t p) s = let q : Idle plain r (run p s None) = idle plain r p s in (q.0, free_piece plain r t (run p s None).tree q.1)
+idle plain r (say_plain t p) s = let q : Idle plain r (run p s None) = idle plain r p s in (q.0, free_plain plain r t (run p s None).tree q.1)
+idle plain r (byte f) s = (refl, free_unread plain r)
+idle plain r (namespace f) s = (refl, free_unread plain r)
+idle plain r (integer f) s = (refl, free_unread plain r)
+idle plain r (optional tag f) s = (refl, free_unread plain r)
+idle plain r (identifier f) s = (refl, free_unread plain r)
+idle plain r (nibbles f) s = (refl, free_unread plain r)
+idle plain r (peek f) s = (refl, free_unread plain r)
+idle plain r (next b p q) s = idle plain r q s
+idle plain r (sound p q) s = idle plain r q s
+idle plain r (until_end p q) s = idle_followed plain r (turns (suc (length s.symbol)) s.symbol (run p s) None) (run q s) (refl, omega arith) (idle plain r q s)
+idle plain r (raise p) s = idle_raised plain r s.deeper (λ l ls. run p (record s { here = l; deeper = ls })) (λ l ls. idle plain r p (record s { here = l; deeper = ls }))
+idle plain r (unit p q) s = idle_followed plain r (run p s None) (run q s) (idle plain r p s) (idle plain r q s)
+idle plain r (child kind value p) s = idle_followed plain r (unit_outcome s kind value None) (run p s) (refl, free_unread plain r) (idle plain r p s)
+idle plain r (skip p) s = idle plain r p s
+idle plain r (target kind value) s = (refl, free_unread plain r)
+idle plain r (lifetime k p) s = idle_followed plain r (lifetime_at s.printed s.lifetimes k None) (run p s) (idle_lifetime plain r s.printed s.lifetimes k) (idle plain r p s)
+idle plain r (binder m p) s = let q : Idle plain r (run p (record s { lifetimes = s.lifetimes + m }) None) = idle plain r p (record s { lifetimes = s.lifetimes + m }) in (q.0, free_binder plain r s.printed m s.lifetimes (run p (record s { lifetimes = s.lifetimes + m }) None).tree q.1)
+idle plain r (opens p) s = let q : Idle plain r (run p s None) = idle plain r p s in (q.0, q.1)
+idle plain r (dyn_trait p) s = idle_followed plain r (unit_outcome s a_trait_path false None) (bound_by (suc (length s.symbol)) s (run p s) false) (refl, free_unread plain r) (idle_closed plain r false)
+idle plain r (bindings o p) s = idle_closed plain r o

@@ -1,0 +1,158 @@
+-- Elements of lists: behind the last byte of the symbol none is read, and before it each moves on.
+use Rattle.std.specs.Prelude.{ℕ, suc, ◌≤◌, nat_le, slice_get}
+use Rattle.std.proofs.Common.{◌≡◌, Bool, true, false, List, [], ◌∷◌, length, Option, Some, None, refl, sym, ap, ◌+◌, ◌-◌, subst, arith}
+use Rattle.std.proofs.lemmas.Option.{slice_get_past}
+use Rattle.std.proofs.lemmas.Bool.{leb-true, leb-false}
+use Prim.Native.Char.{code}
+use Rattle.demangle_symbol.specs.Digits.{is_byte}
+use Rattle.demangle_symbol.specs.Words.{Read, byte_at, optional_at, identifier_at}
+use Rattle.demangle_grammar.specs.Items.{Text, Kind, a_path, a_type, a_constant, a_pattern, a_trait_path, Items, done, say, byte, raise, identifier, child, dyn_trait}
+use Rattle.demangle_grammar.specs.Table.{items, path, constant, pattern_of, binding_value, type_inside, argument, field, constant_inside, says, says_name}
+use Rattle.demangle_grammar.specs.Reading.{looked, node, Place, Outcome, Level, Surroundings, run, turns, stands, behind, followed_by, byte_choice, peek_outcome, word_outcome, one_depth_on, bound_by, level_of, levels, max_depth}
+use Rattle.demangle_symbol.proofs.Counts.{Placed, byte_placed, identifier_placed}
+use Rattle.demangle_grammar.proofs.Complete.{there_placed, Moves}
+use Rattle.demangle_grammar.proofs.Failed.{bound_failed}
+use Rattle.demangle_grammar.specs.Events.{around}
+use Rattle.demangle_grammar.proofs.Spelled.{level_spelt, levels_spelt}
+use Rattle.demangle_grammar.proofs.Turns.{Advances, Keeps, within_later, all_turns, turns_on, advances}
+
+placed_none : {A : Type 0} (i : ℕ) (s : List ℕ) (r : Read A) → Placed (i + 1) s r → length s ≤ i → r ≡ None
+placed_none i s None p h = refl
+placed_none i s (Some r) p h = absurd (omega (arith, p.0, p.1, h))
+
+no_byte : (s : List ℕ) (i b : ℕ) → length s ≤ i → is_byte s i b ≡ false
+no_byte s i b h = go (is_byte s i b) refl
+  where
+    go : (c : Bool) → is_byte s i b ≡ c → c ≡ false
+    go false e = refl
+    go true e = absurd (omega (arith, there_placed s b i e, h))
+
+no_word : {A : Type 0} (n i : ℕ) (f : A → Place → Outcome) (r : Read A) → r ≡ None → (word_outcome n i f r).place ≡ None
+no_word n i f r e = subst (λ r. (word_outcome n i f r).place ≡ None) (sym e) refl
+
+no_peek : (f : ℕ → Outcome) (r : Option ℕ) → r ≡ None → (peek_outcome f r).place ≡ None
+no_peek f r e = subst (λ r. (peek_outcome f r).place ≡ None) (sym e) refl
+
+no_fork : (c : Bool) (f g : Place → Outcome) (i : ℕ) → c ≡ false → (g (Some i)).place ≡ None → (byte_choice c f g (Some i)).place ≡ None
+no_fork c f g i e h = subst (λ c. (byte_choice c f g (Some i)).place ≡ None) (sym e) h
+
+no_raise : (ls : List Level) (f : Level → List Level → Place → Outcome) (i : ℕ) → ((l : Level) (ls : List Level) → (f l ls (Some i)).place ≡ None) → (one_depth_on ls f (Some i)).place ≡ None
+no_raise [] f i h = refl
+no_raise (l ∷ ls) f i h = h l ls
+
+no_tag : (f : ℕ → Items) (s : Surroundings) (i : ℕ) → length s.symbol ≤ i → (run (byte f) s (Some i)).place ≡ None
+unfolding run
+no_tag f s i h = no_word (length s.symbol) i (λ c. run (f c) s) (byte_at s.symbol i) (placed_none i s.symbol (byte_at s.symbol i) (byte_placed s.symbol i) h)
+
+abbrev NoUnit : Level → Kind → ℕ → Type 0
+NoUnit l kind i = (pr v : Bool) (n : ℕ) → (l pr kind v n i).place ≡ None
+
+no_tagged : (tag : ℕ) (s : List ℕ) (i : ℕ) → length s ≤ i → optional_at tag s i ≡ Some (0, i)
+unfolding optional_at
+no_tagged tag s i h = rw (no_byte s i tag h) refl
+
+no_path : (s : Surroundings) (v : Bool) (i : ℕ) → length s.symbol ≤ i → (run (items a_path v) s (Some i)).place ≡ None
+unfolding run
+no_path s v i h = no_raise s.deeper (λ l ls. run (byte (path v)) (record s { here = l; deeper = ls })) i (λ l ls. no_tag (path v) (record s { here = l; deeper = ls }) i h)
+
+no_type : (s : Surroundings) (v : Bool) (i : ℕ) → length s.symbol ≤ i → (run (items a_type v) s (Some i)).place ≡ None
+unfolding run
+no_type s v i h = no_fork (is_byte s.symbol i (code "w")) _ _ i (no_byte s.symbol i (code "w") h) (no_peek _ (slice_get s.symbol i) (slice_get_past s.symbol i h))
+
+no_constant : (s : Surroundings) (v : Bool) (i : ℕ) → length s.symbol ≤ i → (run (items a_constant v) s (Some i)).place ≡ None
+unfolding run
+no_constant s v i h = no_tag (λ tag. raise (constant v tag)) s i h
+
+no_pattern : (s : Surroundings) (v : Bool) (i : ℕ) → length s.symbol ≤ i → (run (items a_pattern v) s (Some i)).place ≡ None
+unfolding run
+no_pattern s v i h = no_tag pattern_of s i h
+
+no_trait_path : (s : Surroundings) (v : Bool) (i : ℕ) → length s.symbol ≤ i → NoUnit s.here a_path i → (run (items a_trait_path v) s (Some i)).place ≡ None
+unfolding run
+no_trait_path s v i h k =
+    no_fork (is_byte s.symbol i (code "B")) _ _ i (no_byte s.symbol i (code "B") h)
+    (no_fork (is_byte s.symbol i (code "I")) _ _ i (no_byte s.symbol i (code "I") h) (k s.printed false s.lifetimes))
+
+no_unit : (b : List ℕ) (ls : List Level) (kind : Kind) (pr v : Bool) (n i : ℕ) → length b ≤ i → (level_of b ls pr kind v n i).place ≡ None
+unfolding level_of
+no_unit b ls a_path pr v n i h = no_path _ v i h
+no_unit b ls a_type pr v n i h = no_type _ v i h
+no_unit b ls a_constant pr v n i h = no_constant _ v i h
+no_unit b ls a_pattern pr v n i h = no_pattern _ v i h
+no_unit b ls a_trait_path pr v n i h = no_trait_path _ v i h (λ c w m. no_path _ w i h)
+
+-- what lists are of, with so many depths left and lifetimes in force
+pub record Element (b : List ℕ) (out : Bool) (left n : ℕ) (p : Items) : Type 0 where
+  pub advances : Advances b (run p (around b out left n))
+  pub beyond : (i : ℕ) → length b ≤ i → (run p (around b out left n) (Some i)).place ≡ None
+
+moving : (b : List ℕ) (out : Bool) (left n : ℕ) (p : Items) → Moves p → left ≤ max_depth → Advances b (run p (around b out left n))
+moving b out left n p m l =
+    advances p (around b out left n) (max_depth - left) m
+    (level_spelt b (max_depth - left) (levels b left) (levels_spelt b left (max_depth - left) (omega arith)))
+    (levels_spelt b left (max_depth - left) (omega arith))
+
+module _ (b : List ℕ) (out : Bool) (left n : ℕ) (l : left ≤ max_depth) where
+  pub type_element : Element b out left n type_inside
+  unfolding run
+  type_element = record { advances = moving b out left n type_inside tt l; beyond = λ i h. no_unit b (levels b left) a_type out false n i h }
+
+  pub constant_element : Element b out left n constant_inside
+  unfolding run
+  constant_element = record { advances = moving b out left n constant_inside tt l; beyond = λ i h. no_unit b (levels b left) a_constant out true n i h }
+
+  pub pattern_element : Element b out left n (child a_pattern false done)
+  unfolding run
+  pattern_element = record { advances = moving b out left n (child a_pattern false done) tt l; beyond = λ i h. no_unit b (levels b left) a_pattern out false n i h }
+
+  pub argument_element : Element b out left n argument
+  unfolding run
+  argument_element = record {
+    advances = moving b out left n argument tt l;
+    beyond = λ i h. no_fork (is_byte b i (code "L")) _ _ i (no_byte b i (code "L") h)
+        (no_fork (is_byte b i (code "K")) _ _ i (no_byte b i (code "K") h) (no_unit b (levels b left) a_type out false n i h));
+  }
+
+  pub field_element : Element b out left n field
+  unfolding run
+  field_element = record { advances = moving b out left n field (λ _. tt) l; beyond = past }
+    where
+      past : (i : ℕ) → length b ≤ i → (run field (around b out left n) (Some i)).place ≡ None
+      past i h =
+          let at = around b out left n in
+          let reads : ℕ → Place → Outcome = λ _. run (identifier (λ a. says_name a (says ": " constant_inside))) at in
+          subst (λ r. (word_outcome (length b) i reads r).place ≡ None) (sym (no_tagged 115 b i h))
+          (no_word (length b) i (λ a. run (says_name a (says ": " constant_inside)) at) (identifier_at b i) (placed_none i b (identifier_at b i) (identifier_placed b i) h))
+
+  pub dyn_trait_element : Element b out left n (dyn_trait binding_value)
+  unfolding run
+  dyn_trait_element = record { advances = moving b out left n (dyn_trait binding_value) tt l; beyond = past }
+    where
+      past : (i : ℕ) → length b ≤ i → (run (dyn_trait binding_value) (around b out left n) (Some i)).place ≡ None
+      past i h =
+          let at = around b out left n in
+          let o = level_of b (levels b left) out a_trait_path false n i in
+          subst (λ x. (bound_by (suc (length b)) at (run binding_value at) o.is_open x).place ≡ None) (sym (no_unit b (levels b left) a_trait_path out false n i h)) (bound_failed (suc (length b)) at (run binding_value at) o.is_open)
+
+  -- what a binding is bound to
+  pub bound_keeps : Keeps b (run binding_value (around b out left n))
+  bound_keeps i h = within_later b i (i + 1) (run binding_value (around b out left n) (Some i)).place (omega arith) (moving b out left n binding_value tt l i h)
+
+all_end : (b : List ℕ) (f : Place → Outcome) (x : Place) → x ≡ None → turns (length b) b f x ≡ all_turns b f x
+unfolding turns
+all_end b f x e = subst (λ x. turns (length b) b f x ≡ all_turns b f x) (sym e) refl
+
+-- a turn of an element that stands behind a text, and all turns again
+pub element_on : (b : List ℕ) (out : Bool) (left n : ℕ) (p : Items) (text : Text) (i : ℕ) → Element b out left n p → is_byte b i (code "E") ≡ false →
+    let f : Place → Outcome = run (say text p) (around b out left n) in
+    all_turns b f (Some i) ≡ behind (looked 1) (followed_by (f (Some i)) (all_turns b f))
+unfolding run turns
+element_on b out left n p text i el e = go (nat_le i (length b)) refl
+  where
+    f : Place → Outcome
+    f = run (say text p) (around b out left n)
+
+    go : (c : Bool) → nat_le i (length b) ≡ c → all_turns b f (Some i) ≡ behind (looked 1) (followed_by (f (Some i)) (all_turns b f))
+    go true c = turns_on b f i el.advances (leb-true _ _ c) e
+    go false c = subst (λ c. byte_choice c stands (λ j. followed_by (f j) (turns (length b) b f)) (Some i) ≡ behind (looked 1) (followed_by (f (Some i)) (all_turns b f))) (sym e)
+        (ap (λ o. behind (looked 1) (behind (node (f (Some i)).tree) o)) (all_end b f (f (Some i)).place (el.beyond i (omega (arith, leb-false _ _ c)))))

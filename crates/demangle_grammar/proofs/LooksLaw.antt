@@ -1,0 +1,135 @@
+-- The law on looks.
+use Rattle.std.specs.Prelude.{ℕ, suc, ◌≤◌, ◌*◌}
+use Rattle.std.proofs.Common.{◌≡◌, Bool, true, false, cond, List, [], ◌∷◌, length, take, Some, None, ◌+◌, ◌++◌, ◌-◌, refl, arith}
+use Rattle.demangle_grammar.specs.Items.{Text, Items, Kind, a_path}
+use Rattle.demangle_grammar.specs.Cost.{StretchCost, bytes_of, looks_of, Pays}
+use Rattle.demangle_sink.specs.Cut.{size}
+use Rattle.demangle_grammar.specs.Reading.{Tree, nothing, piece, plain_piece, node, looked, hidden, invalid_syntax, too_deep, unread, Place, Surroundings, max_depth, run, stretches, looks, pieces, looks_alone, goes_on_at, read_at, path_texts}
+use Rattle.demangle_grammar.specs.Accepting.{looks_in, suffix_looks, second_looks, accepting_looks}
+use Rattle.demangle_grammar.proofs.PaysRules.{Pays-more, Pays-bound, Pays-whole}
+use Rattle.demangle_grammar.proofs.Account.{Ends, Idle, start, idle}
+use Rattle.demangle_grammar.proofs.Paid.{money, read_paid, spelling_paid, small}
+use Rattle.demangle_grammar.proofs.TableCost.{cheap}
+
+abbrev pub path_stretches : List ℕ → Bool → List StretchCost
+path_stretches symbol plain = stretches plain (read_at symbol true a_path 0 0 0 true).tree
+
+-- in a symbol of so many bytes: the looks that each byte printed pays for, and those allowed before the first
+abbrev pub looks_a_byte : ℕ → ℕ
+looks_a_byte n = 34 * max_depth * (n + 1)
+
+abbrev pub looks_before : ℕ → ℕ
+looks_before n = 34 * (max_depth + 1) * (n + 1)
+
+pub printing_pays : (symbol : List ℕ) (plain : Bool) → Pays (looks_a_byte (length symbol)) (looks_before (length symbol)) (path_stretches symbol plain) 0
+printing_pays symbol plain = go (read_at symbol true a_path 0 0 0 true).tree (read_at symbol true a_path 0 0 0 true).place
+    (read_paid plain (looks_a_byte (length symbol)) symbol a_path 0 0 0 true (omega arith) cheap (omega arith))
+  where
+    go : (t : Tree) (x : Place) → Ends (length symbol) (looks_a_byte (length symbol)) 0 (0 + money (length symbol) (max_depth - 0)) 8 (stretches plain t) x → Pays (looks_a_byte (length symbol)) (looks_before (length symbol)) (stretches plain t) 0
+    go t None h = Pays-more (looks_a_byte (length symbol)) (32 * (length symbol + 1 - 0) + (0 + money (length symbol) (max_depth - 0))) (looks_before (length symbol)) 0 0 0 (stretches plain t) (omega arith) (omega arith) h
+    go t (Some j) h = Pays-more (looks_a_byte (length symbol)) (32 * (j - 0) + (0 + money (length symbol) (max_depth - 0))) (looks_before (length symbol)) 8 0 0 (stretches plain t) (omega (arith, h.1)) (omega arith) h.2
+
+in_all : (n w looks : ℕ) → looks ≤ looks_before n + looks_a_byte n * w → looks ≤ 100000 * (w + 1) * (n + 1)
+in_all n w looks h = omega (arith, h)
+
+pub printing_looks : (symbol : List ℕ) (plain : Bool) (k : ℕ) →
+    looks_of (take (suc k) (path_stretches symbol plain)) ≤ 100000 * (bytes_of (take k (path_stretches symbol plain)) + 1) * (length symbol + 1)
+printing_looks symbol plain k = in_all (length symbol) (bytes_of (take k (path_stretches symbol plain))) (looks_of (take (suc k) (path_stretches symbol plain)))
+    (Pays-bound (looks_a_byte (length symbol)) (looks_before (length symbol)) 0 (path_stretches symbol plain) k (printing_pays symbol plain))
+
+-- the looks of a reading without references, by where it ends
+abbrev pub Costs : ℕ → ℕ → ℕ → Place → Type 0
+Costs n i c None = c ≤ 32 * (n + 1 - i)
+Costs n i c (Some j) = (i ≤ j) × (j ≤ n) × (c + 8 ≤ 32 * (j - i))
+
+costs : (symbol : List ℕ) (i : ℕ) → i ≤ length symbol → Costs (length symbol) i (looks_in (read_at symbol false a_path i 0 0 true)) (read_at symbol false a_path i 0 0 true).place
+costs symbol i l = go (read_at symbol false a_path i 0 0 true).tree (read_at symbol false a_path i 0 0 true).place (spelling_paid true symbol a_path i 0 0 true cheap l)
+  where
+    go : (t : Tree) (x : Place) → Ends (length symbol) 0 i (0 + 0) 8 (stretches true t) x → Costs (length symbol) i (looks_of (stretches true t)) x
+    go t None h = let w : looks_of (stretches true t) + 0 ≤ 32 * (length symbol + 1 - i) + (0 + 0) + 0 * bytes_of (stretches true t) = Pays-whole 0 (32 * (length symbol + 1 - i) + (0 + 0)) 0 (stretches true t) h in omega (arith, w)
+    go t (Some j) h = let w : looks_of (stretches true t) + 8 ≤ 32 * (j - i) + (0 + 0) + 0 * bytes_of (stretches true t) = Pays-whole 0 (32 * (j - i) + (0 + 0)) 8 (stretches true t) h.2 in (h.0, h.1, omega (arith, w))
+
+-- with the suffix
+with_suffix : (symbol : List ℕ) (j c : ℕ) (x : Place) → j ≤ length symbol → Costs (length symbol) j c x → c + suffix_looks symbol x ≤ 32 * (length symbol + 1 - j)
+with_suffix symbol j c None l h = omega (arith, h)
+with_suffix symbol j c (Some k) l h = omega (arith, l, h.0, h.1, h.2)
+
+second_costs : (symbol : List ℕ) (j : ℕ) → j ≤ length symbol → second_looks symbol (Some j) ≤ 1 + 32 * (length symbol + 1 - j)
+second_costs symbol j l = go (goes_on_at symbol j)
+  where
+    go : (c : Bool) → 1 + (cond c (looks_in (read_at symbol false a_path j 0 0 true) + suffix_looks symbol (read_at symbol false a_path j 0 0 true).place) (suffix_looks symbol (Some j))) ≤ 1 + 32 * (length symbol + 1 - j)
+    go true = let w : looks_in (read_at symbol false a_path j 0 0 true) + suffix_looks symbol (read_at symbol false a_path j 0 0 true).place ≤ 32 * (length symbol + 1 - j) =
+        with_suffix symbol j (looks_in (read_at symbol false a_path j 0 0 true)) (read_at symbol false a_path j 0 0 true).place l (costs symbol j l) in omega (arith, w)
+    go false = omega (arith, l)
+
+both_cost : (symbol : List ℕ) (c : ℕ) (x : Place) → Costs (length symbol) 0 c x → c + second_looks symbol x ≤ 32 * (length symbol + 1)
+both_cost symbol c None h = omega (arith, h)
+both_cost symbol c (Some j) h = let w : second_looks symbol (Some j) ≤ 1 + 32 * (length symbol + 1 - j) = second_costs symbol j h.1 in omega (arith, h.0, h.1, h.2, w)
+
+pub accepting_costs : (symbol : List ℕ) → accepting_looks symbol ≤ 32 * (length symbol + 1)
+unfolding accepting_looks
+accepting_costs symbol = both_cost symbol (looks_in (read_at symbol false a_path 0 0 0 true)) (read_at symbol false a_path 0 0 0 true).place (costs symbol 0 (omega arith))
+
+-- any unit, at any depth
+pub unit_looks : (symbol : List ℕ) (plain : Bool) (kind : Kind) (i d m : ℕ) (value : Bool) (k : ℕ) → i ≤ length symbol → d ≤ max_depth →
+    looks_of (take (suc k) (stretches plain (read_at symbol true kind i d m value).tree)) ≤ 34 * (length symbol + 1) * (max_depth + 1 - d) * (bytes_of (take k (stretches plain (read_at symbol true kind i d m value).tree)) + 1)
+unit_looks symbol plain kind i d m value k l b = go (read_at symbol true kind i d m value).tree (read_at symbol true kind i d m value).place
+    (read_paid plain (34 * (length symbol + 1) * (max_depth - d)) symbol kind i d m value (rate (length symbol) (max_depth - d)) cheap l)
+  where
+    rate : (n e : ℕ) → money n e ≤ 34 * (n + 1) * e
+    rate n e = omega arith
+
+    sum : (n c e w looks : ℕ) → c ≤ 34 * (n + 1) * (e + 1) → looks ≤ c + 34 * (n + 1) * e * w → looks ≤ 34 * (n + 1) * (e + 1) * (w + 1)
+    sum n c e w looks x y = omega (arith, x, y)
+
+    levels_left : (d : ℕ) → d ≤ max_depth → max_depth + 1 - d ≡ (max_depth - d) + 1
+    levels_left d b = omega (arith, b)
+
+    start_money : (n e c : ℕ) → c ≤ 32 * (n + 1) → c + (start kind + money n e) ≤ 34 * (n + 1) * (e + 1)
+    start_money n e c x = omega (arith, x, small kind)
+
+    bound : (t : Tree) (c : ℕ) → c ≤ 32 * (length symbol + 1) → (z : ℕ) → Pays (34 * (length symbol + 1) * (max_depth - d)) (c + (start kind + money (length symbol) (max_depth - d))) (stretches plain t) z →
+        looks_of (take (suc k) (stretches plain t)) ≤ 34 * (length symbol + 1) * (max_depth + 1 - d) * (bytes_of (take k (stretches plain t)) + 1)
+    bound t c x z h = rw (levels_left d b) (sum (length symbol) (c + (start kind + money (length symbol) (max_depth - d))) (max_depth - d) (bytes_of (take k (stretches plain t))) (looks_of (take (suc k) (stretches plain t)))
+        (start_money (length symbol) (max_depth - d) c x) (Pays-bound (34 * (length symbol + 1) * (max_depth - d)) (c + (start kind + money (length symbol) (max_depth - d))) z (stretches plain t) k h))
+
+    go : (t : Tree) (x : Place) → Ends (length symbol) (34 * (length symbol + 1) * (max_depth - d)) i (start kind + money (length symbol) (max_depth - d)) 8 (stretches plain t) x →
+        looks_of (take (suc k) (stretches plain t)) ≤ 34 * (length symbol + 1) * (max_depth + 1 - d) * (bytes_of (take k (stretches plain t)) + 1)
+    go t None h = bound t (32 * (length symbol + 1 - i)) (omega arith) 0 h
+    go t (Some j) h = bound t (32 * (j - i)) (omega (arith, h.1)) 8 h.2
+
+-- while failed
+pub failed_looks : (p : Items) (s : Surroundings) (plain : Bool) → looks_of (stretches plain (run p s None).tree) ≡ 0
+failed_looks p s plain =
+    let q : Idle plain 0 (run p s None) = idle plain 0 p s in
+    let w : looks_of (stretches plain (run p s None).tree) + 0 ≤ 0 + 0 * bytes_of (stretches plain (run p s None).tree) = Pays-whole 0 0 0 (stretches plain (run p s None).tree) q.1 in
+    omega (arith, w)
+
+bytes_append : (xs ys : List StretchCost) → bytes_of (xs ++ ys) ≡ bytes_of xs + bytes_of ys
+bytes_append [] ys = omega arith
+bytes_append (x ∷ xs) ys = omega (arith, bytes_append xs ys)
+
+size_append : (xs ys : List Text) → size (xs ++ ys) ≡ size xs + size ys
+size_append [] ys = omega arith
+size_append (x ∷ xs) ys = omega (arith, size_append xs ys)
+
+bytes_unheard : (xs : List StretchCost) → bytes_of (looks_alone xs) ≡ 0
+bytes_unheard [] = refl
+bytes_unheard (x ∷ xs) = omega (arith, bytes_unheard xs)
+
+-- the stretches hand over the bytes of the pieces
+pub tree_bytes : (plain : Bool) (t : Tree) → bytes_of (stretches plain t) ≡ size (pieces plain t)
+tree_bytes plain nothing = refl
+tree_bytes plain (piece t rest) = omega (arith, tree_bytes plain rest)
+tree_bytes true (plain_piece t rest) = omega (arith, tree_bytes true rest)
+tree_bytes false (plain_piece t rest) = tree_bytes false rest
+tree_bytes plain (node x y) = omega (arith, tree_bytes plain x, tree_bytes plain y, bytes_append (stretches plain x) (stretches plain y), size_append (pieces plain x) (pieces plain y))
+tree_bytes plain (looked k rest) = omega (arith, tree_bytes plain rest)
+tree_bytes plain (hidden x rest) = omega (arith, tree_bytes plain rest, bytes_unheard (stretches plain x), bytes_append (looks_alone (stretches plain x)) (stretches plain rest))
+tree_bytes plain invalid_syntax = omega arith
+tree_bytes plain too_deep = omega arith
+tree_bytes plain unread = omega arith
+
+pub rendered_bytes : (symbol : List ℕ) (plain : Bool) → bytes_of (stretches plain (read_at symbol true a_path 0 0 0 true).tree) ≡ size (path_texts symbol plain)
+unfolding path_texts
+rendered_bytes symbol plain = tree_bytes plain (read_at symbol true a_path 0 0 0 true).tree

@@ -1,0 +1,402 @@
+-- Each item pays for its looks.
+use Rattle.std.specs.Prelude.{ℕ, zero, suc, ◌≤◌, ◌<◌, ◌*◌, ◌||◌, ◌==◌, nat_lt, nat_le, IsTrue, codes, slice_get}
+use Rattle.std.proofs.Common.{◌≡◌, Bool, true, false, cond, List, [], ◌∷◌, ◌++◌, length, Option, Some, None, refl, sym, ◌+◌, ◌-◌, subst, arith}
+use Rattle.std.proofs.Math.Nat.{le-mul_of_pos_right}
+use Rattle.std.proofs.lemmas.Bool.{ltb-true}
+use Prim.Native.Char.{code}
+use Rattle.demangle_symbol.specs.Digits.{is_byte}
+use Rattle.demangle_symbol.specs.Words.{Name, Read, only_if, then_if_some, byte_at, namespace_at, integer_at, optional_at, backref_at, identifier_at, nibbles_at}
+use Rattle.demangle_symbol.specs.Names.{name_pieces}
+use Rattle.demangle_grammar.specs.Items.{Text, Kind, a_path, a_type, a_constant, a_pattern, a_trait_path, Items, done, invalid, say, say_plain, byte, namespace, integer, optional, identifier, nibbles, peek, next, sound, until_end, raise, unit, child, skip, target, lifetime, binder, opens, dyn_trait, bindings}
+use Rattle.demangle_grammar.specs.Table.{items}
+use Rattle.demangle_grammar.specs.Cost.{StretchCost, Pays}
+use Rattle.demangle_grammar.specs.Reading.{Tree, nothing, piece, plain_piece, node, looked, invalid_syntax, looks_alone, Place, Outcome, Level, Surroundings, stands, behind, word, followed_by, stretches, run, word_outcome, peek_outcome, byte_choice, one_depth_on, max_depth, turns, angle_if_open, binding_separator, name_equals, bound_by, unit_outcome, behind_hidden, target_of, target_read, lifetime_at, lifetime_named, letter_of, all_pieces, binder_at, level_of, levels, nowhere, read_at}
+use Rattle.demangle_grammar.proofs.PaysRules.{Pays-more, Pays-append}
+use Rattle.demangle_symbol.proofs.Counts.{Placed, byte_placed, namespace_placed, integer_placed, optional_placed, backref_placed, identifier_placed, nibbles_placed}
+use Rattle.demangle_grammar.proofs.Complete.{there_placed}
+use Rattle.demangle_grammar.proofs.Account.{start, is_some_text, Cheap, Ends, Paid, Idle, idle, idle_closed, paid_hands, paid_binder, paid_pieces}
+
+-- The rules for a place and its stretches.
+
+-- further on, with the looks c between
+step : (plain : Bool) (n r i k from mid to c : ℕ) (t : Tree) (x : Place) → i ≤ k → k ≤ n → c + mid ≤ 32 * (k - i) + from →
+    Ends n r k mid to (stretches plain t) x → Ends n r i from to (stretches plain (looked c t)) x
+step plain n r i k from mid to c t None l m e h = (
+  omega (arith, l, m, e),
+  Pays-more r (32 * (n + 1 - k) + mid) (32 * (n + 1 - i) + from - c + r * 0) 0 0 0 (stretches plain t) (omega (arith, l, m, e)) (omega arith) h,
+)
+step plain n r i k from mid to c t (Some j) l m e h = (
+  omega (arith, l, h.0),
+  h.1,
+  (
+    omega (arith, l, h.0, e),
+    Pays-more r (32 * (j - k) + mid) (32 * (j - i) + from - c + r * 0) to to 0 (stretches plain t) (omega (arith, l, h.0, e)) (omega arith) h.2,
+  ),
+)
+
+-- a text at the place
+says : (plain : Bool) (n r i from mid to : ℕ) (text : Text) (t : Tree) (x : Place) → mid ≤ from + r * length text →
+    Ends n r i mid to (stretches plain t) x → Ends n r i from to (stretches plain (piece text t)) x
+says plain n r i from mid to text t None e h = (
+  omega arith,
+  Pays-more r (32 * (n + 1 - i) + mid) (32 * (n + 1 - i) + from - 0 + r * length text) 0 0 0 (stretches plain t) (omega (arith, e)) (omega arith) h,
+)
+says plain n r i from mid to text t (Some j) e h = (
+  h.0,
+  h.1,
+  (
+    omega arith,
+    Pays-more r (32 * (j - i) + mid) (32 * (j - i) + from - 0 + r * length text) to to 0 (stretches plain t) (omega (arith, e)) (omega arith) h.2,
+  ),
+)
+
+says_plain : (plain : Bool) (n r i from to : ℕ) (text : Text) (t : Tree) (x : Place) →
+    Ends n r i from to (stretches plain t) x → Ends n r i from to (stretches plain (plain_piece text t)) x
+says_plain true n r i from to text t x h = says true n r i from from to text t x (omega arith) h
+says_plain false n r i from to text t x h = h
+
+-- a larger account, and less of it left
+more : (n r i from mid to low : ℕ) (xs : List StretchCost) (x : Place) → mid ≤ from → low ≤ to → Ends n r i mid to xs x → Ends n r i from low xs x
+more n r i from mid to low xs None e l h = Pays-more r (32 * (n + 1 - i) + mid) (32 * (n + 1 - i) + from) 0 0 0 xs (omega (arith, e)) (omega arith) h
+more n r i from mid to low xs (Some j) e l h = (h.0, h.1, Pays-more r (32 * (j - i) + mid) (32 * (j - i) + from) to low 0 xs (omega (arith, e)) (omega (arith, l)) h.2)
+
+fault_ends : (plain : Bool) (n r i from to : ℕ) → Ends n r i from to (stretches plain invalid_syntax) None
+fault_ends plain n r i from to = (omega arith, omega arith)
+
+-- one after another
+joined : (n r i j from mid to : ℕ) (xs ys : List StretchCost) (x : Place) → i ≤ j → j ≤ n →
+    Pays r (32 * (j - i) + from) xs mid → Ends n r j mid to ys x → Ends n r i from to (xs ++ ys) x
+joined n r i j from mid to xs ys None l m h e =
+    Pays-append r (32 * (n + 1 - i) + from) (32 * (n + 1 - j) + mid) 0 xs ys
+    (Pays-more r (32 * (j - i) + from) (32 * (n + 1 - i) + from) mid (32 * (n + 1 - j) + mid) (32 * (n + 1 - j)) xs (omega (arith, l, m)) (omega arith) h) e
+joined n r i j from mid to xs ys (Some k) l m h e = (
+  omega (arith, l, e.0),
+  e.1,
+  Pays-append r (32 * (k - i) + from) (32 * (k - j) + mid) to xs ys
+      (Pays-more r (32 * (j - i) + from) (32 * (k - i) + from) mid (32 * (k - j) + mid) (32 * (k - j)) xs (omega (arith, l, e.0)) (omega arith) h) e.2,
+)
+
+joined_idle : (n r i from to : ℕ) (xs ys : List StretchCost) (x : Place) → x ≡ None →
+    Pays r (32 * (n + 1 - i) + from) xs 0 → Pays r 0 ys 0 → Ends n r i from to (xs ++ ys) x
+joined_idle n r i from to xs ys (Some j) e h f = cc e
+joined_idle n r i from to xs ys None e h f = Pays-append r (32 * (n + 1 - i) + from) 0 0 xs ys h f
+
+then_paid : (plain : Bool) (n r i from mid to : ℕ) (o : Outcome) (f : Place → Outcome) → Paid plain n r i from mid o →
+    ((j : ℕ) → i ≤ j → j ≤ n → Paid plain n r j mid to (f (Some j))) → Idle plain r (f None) → Paid plain n r i from to (followed_by o f)
+then_paid plain n r i from mid to o f h k d = go o.tree o.place h
+  where
+    go : (t : Tree) (x : Place) → Ends n r i from mid (stretches plain t) x → Paid plain n r i from to (followed_by (record { tree = t; place = x; is_open = false }) f)
+    go t None h = joined_idle n r i from to (stretches plain t) (stretches plain (f None).tree) (f None).place d.0 h d.1
+    go t (Some j) h = joined n r i j from mid to (stretches plain t) (stretches plain (f (Some j)).tree) (f (Some j)).place h.0 h.1 h.2 (k j h.0 h.1)
+
+-- The money for a reference: in front of it, if a child may come now.
+abbrev pub purse : Bool → ℕ → ℕ
+purse g R = cond g R 0
+
+-- the units of a level
+abbrev pub LevelPays : Bool → (n r R : ℕ) → Bool → Level → Type 0
+LevelPays plain n r R fl l = (kind : Kind) (value : Bool) (m i : ℕ) → i ≤ n → Paid plain n r i (start kind + R) 8 (l fl kind value m i)
+
+-- Each depth has its money. A reference takes from it what reading all the bytes takes, and the money of its target.
+abbrev pub Deeper : Bool → (n r : ℕ) → Bool → ℕ → List Level → Type 0
+Deeper plain n r fl R [] = Unit {0}
+Deeper plain n r fl R (l ∷ ls) =
+    (S : ℕ) × (S ≤ R) × (fl ≡ true → 32 * (n + 1) + 2 + S ≤ R) × LevelPays plain n r S fl l × LevelPays plain n 0 0 false l × Deeper plain n r fl S ls
+
+-- Words.
+
+word_paid : {A : Type 0} (plain : Bool) (n r i from mid to low : ℕ) (bs : List ℕ) (q : Read A) (f : A → Place → Outcome) → length bs ≡ n → i ≤ n → Placed (i + low) bs q →
+    4 * low + 4 + mid ≤ 32 * low + from →
+    ((v : A) (j : ℕ) → q ≡ Some (v, j) → i ≤ j → j ≤ n → Paid plain n r j mid to (f v (Some j))) → Paid plain n r i from to (word_outcome n i f q)
+word_paid plain n r i from mid to low bs None f b l c e h = (omega (arith, l), (omega arith, omega arith))
+word_paid plain n r i from mid to low bs (Some (v, j)) f b l c e h =
+    let w : (i + low ≤ j) × (j ≤ length bs) = c in
+    let u : j ≤ n = subst (λ z. j ≤ z) b w.1 in
+    step plain n r i j from mid to (4 * (j - i + 1)) (f v (Some j)).tree (f v (Some j)).place (omega (arith, w.0)) u (omega (arith, e, w.0)) (h v j refl (omega (arith, w.0)) u)
+
+peek_paid : (plain : Bool) (n r i from mid to : ℕ) (q : Option ℕ) (f : ℕ → Outcome) → i ≤ n → 1 + mid ≤ from →
+    ((v : ℕ) → Paid plain n r i mid to (f v)) → Paid plain n r i from to (peek_outcome f q)
+peek_paid plain n r i from mid to None f l e h = (omega (arith, l), (omega arith, omega arith))
+peek_paid plain n r i from mid to (Some q) f l e h = step plain n r i i from mid to 1 (f q).tree (f q).place (omega arith) l (omega (arith, e)) (h q)
+
+fork_paid : (plain : Bool) (n r i from there other to : ℕ) (c : Bool) (f g : Place → Outcome) → i ≤ n → (c ≡ true → i + 1 ≤ n) →
+    1 + there ≤ 32 + from → 1 + other ≤ from →
+    (i + 1 ≤ n → Paid plain n r (i + 1) there to (f (Some (i + 1)))) → Paid plain n r i other to (g (Some i)) → Paid plain n r i from to (byte_choice c f g (Some i))
+fork_paid plain n r i from there other to true f g l m a b h k = step plain n r i (i + 1) from there to 1 (f (Some (i + 1))).tree (f (Some (i + 1))).place (omega arith) (m refl) (omega (arith, a)) (h (m refl))
+fork_paid plain n r i from there other to false f g l m a b h k = step plain n r i i from other to 1 (g (Some i)).tree (g (Some i)).place (omega arith) l (omega (arith, b)) k
+
+-- where the byte stands it is within the symbol
+there_within : (n : ℕ) (symbol : List ℕ) (b i : ℕ) → length symbol ≡ n → is_byte symbol i b ≡ true → i + 1 ≤ n
+there_within n symbol b i e h = subst (λ z. i + 1 ≤ z) e (there_placed symbol b i h)
+
+-- with the text the money is there again
+refilled : (r R k : ℕ) (g : Bool) (t : Text) → R ≤ r → k + purse (g || is_some_text t) R ≤ k + purse g R + r * length t
+refilled r R k true t l = omega arith
+refilled r R k false [] l = omega arith
+refilled r R k false (b ∷ bs) l = let h : r ≤ r * length (b ∷ bs) = le-mul_of_pos_right r (omega arith) in omega (arith, h, l)
+
+-- the text before a binding brings the money
+opened_paid : (plain : Bool) (n r R i from to : ℕ) (o : Bool) (t : Tree) (x : Place) → R ≤ r →
+    Ends n r i (from + R) to (stretches plain t) x → Ends n r i from to (stretches plain (binding_separator o t)) x
+opened_paid plain n r R i from to true t x l h = says plain n r i from (from + R) to (codes ", ") t x (omega (arith, l)) h
+opened_paid plain n r R i from to false t x l h = says plain n r i from (from + R) to (codes "<") t x (omega (arith, l)) h
+
+pieces_paid : (plain : Bool) (n r i from to : ℕ) (ts : List Text) (t : Tree) (x : Place) →
+    Ends n r i from to (stretches plain t) x → Ends n r i from to (stretches plain (all_pieces ts t)) x
+pieces_paid plain n r i from to ts t None h = paid_pieces plain r (32 * (n + 1 - i) + from) 0 ts t h
+pieces_paid plain n r i from to ts t (Some j) h = (h.0, h.1, paid_pieces plain r (32 * (j - i) + from) to ts t h.2)
+
+named_paid : (plain : Bool) (n r i from to : ℕ) (a : Name) (t : Tree) (x : Place) →
+    Ends n r i from to (stretches plain t) x → Ends n r i from to (stretches plain (name_equals a t)) x
+named_paid plain n r i from to a t x h = pieces_paid plain n r i from to (name_pieces a) (piece (codes " = ") t) x (says plain n r i from from to (codes " = ") t x (omega arith) h)
+
+closed_paid : (plain : Bool) (n r i from to : ℕ) (o : Bool) → i ≤ n → to ≤ from → Paid plain n r i from to (angle_if_open o (Some i))
+closed_paid plain n r i from to true l e = says plain n r i from from to (codes ">") nothing (Some i) (omega arith) (omega arith, l, omega (arith, e))
+closed_paid plain n r i from to false l e = (omega arith, l, omega (arith, e))
+
+binder_paid : (plain : Bool) (n r i from to : ℕ) (c : Bool) (m k : ℕ) (t : Tree) (x : Place) →
+    Ends n r i from to (stretches plain t) x → Ends n r i from to (stretches plain (binder_at c m k t)) x
+binder_paid plain n r i from to false m k t x h = h
+binder_paid plain n r i from to true m k t None h = paid_binder plain r (32 * (n + 1 - i) + from) 0 m k t h
+binder_paid plain n r i from to true m k t (Some j) h = (h.0, h.1, paid_binder plain r (32 * (j - i) + from) to m k t h.2)
+
+choice_paid : (plain : Bool) (n r i from to : ℕ) (b : Bool) (x y : Outcome) → Paid plain n r i from to x → Paid plain n r i from to y → Paid plain n r i from to (cond b x y)
+choice_paid plain n r i from to true x y h k = h
+choice_paid plain n r i from to false x y h k = k
+
+lifetime_paid : (plain : Bool) (n r i from : ℕ) (b : Bool) (m k : ℕ) → i ≤ n → Paid plain n r i from from (lifetime_at b m k (Some i))
+lifetime_paid plain n r i from false m k l = (omega arith, l, omega arith)
+lifetime_paid plain n r i from true m k l =
+    let o : Outcome = lifetime_named m k (Some i) in
+    let inner : Paid plain n r i from from o =
+    choice_paid plain n r i from from (k == 0) _ _ (omega arith, l, paid_hands r (32 * (i - i) + from) from (codes "_") [] (omega arith))
+    (choice_paid plain n r i from from (nat_le k m) _ _ (omega arith, l, paid_pieces plain r (32 * (i - i) + from) from (letter_of (m - k)) nothing (omega arith)) (fault_ends plain n r i from from)) in
+    says plain n r i from from from (codes "'") o.tree o.place (omega arith) inner
+
+-- a path that is skipped
+unheard_pays : (r a b : ℕ) (xs : List StretchCost) → Pays 0 a xs b → Pays r a (looks_alone xs) b
+unheard_pays r a b [] h = h
+unheard_pays r a b (x ∷ xs) h = (h.0, Pays-more r (a - x.looks + 0 * x.bytes) (a - x.looks + r * 0) b b 0 (looks_alone xs) (omega arith) (omega arith) (unheard_pays r (a - x.looks + 0 * x.bytes) b xs h.1))
+
+hushed_paid : (plain : Bool) (n r i from mid to : ℕ) (o : Outcome) (f : Place → Outcome) → Paid plain n 0 i 0 8 o →
+    ((j : ℕ) → i ≤ j → j ≤ n → Paid plain n r j (8 + mid) to (f (Some j))) → Idle plain r (f None) → mid ≤ from → Paid plain n r i from to (behind_hidden o f)
+hushed_paid plain n r i from mid to o f h k d l = go o.tree o.place h
+  where
+    go : (t : Tree) (x : Place) → Ends n 0 i 0 8 (stretches plain t) x → Paid plain n r i from to (behind_hidden (record { tree = t; place = x; is_open = false }) f)
+    go t None h = joined_idle n r i from to (looks_alone (stretches plain t)) (stretches plain (f None).tree) (f None).place d.0
+        (Pays-more r (32 * (n + 1 - i) + 0) (32 * (n + 1 - i) + from) 0 0 0 (looks_alone (stretches plain t)) (omega arith) (omega arith) (unheard_pays r (32 * (n + 1 - i) + 0) 0 (stretches plain t) h)) d.1
+    go t (Some j) h = joined n r i j from (8 + mid) to (looks_alone (stretches plain t)) (stretches plain (f (Some j)).tree) (f (Some j)).place h.0 h.1
+        (Pays-more r (32 * (j - i) + 0) (32 * (j - i) + from) 8 (8 + mid) mid (looks_alone (stretches plain t)) (omega (arith, l)) (omega arith) (unheard_pays r (32 * (j - i) + 0) 8 (stretches plain t) h.2)) (k j h.0 h.1)
+
+pub small : (kind : Kind) → start kind ≤ 2
+small a_path = omega arith
+small a_type = omega arith
+small a_constant = omega arith
+small a_pattern = omega arith
+small a_trait_path = omega arith
+
+-- a target's tree, with the money for it
+target_paid : (plain : Bool) (n r S m t a k : ℕ) (kind : Kind) (value : Bool) (l : Level) → LevelPays plain n r S true l → t ≤ n → 32 * (n + 1) + 2 + S + k ≤ a →
+    Pays r a (stretches plain (node (l true kind value m t).tree nothing)) k
+target_paid plain n r S m t a k kind value l h b c = go (l true kind value m t).tree (l true kind value m t).place (h kind value m t b)
+  where
+    go : (u : Tree) (x : Place) → Ends n r t (start kind + S) 8 (stretches plain u) x → Pays r a (stretches plain (node u nothing)) k
+    go u None h = Pays-append r a k k (stretches plain u) [] (Pays-more r (32 * (n + 1 - t) + (start kind + S)) a 0 k k (stretches plain u) (omega (arith, small kind, c)) (omega arith) h) (omega arith)
+    go u (Some j) h = Pays-append r a k k (stretches plain u) [] (Pays-more r (32 * (j - t) + (start kind + S)) a 8 k k (stretches plain u) (omega (arith, small kind, c, h.0, h.1)) (omega arith) h.2) (omega arith)
+
+target_of_paid : (plain : Bool) (n r R i m t k e : ℕ) (kind : Kind) (value fl : Bool) (ls : List Level) → Deeper plain n r fl R ls → t ≤ n → i ≤ n → e ≤ k →
+    Paid plain n r i (k + R) e (target_of ls (λ level. target_read fl (level true kind value m) t (Some i)))
+target_of_paid plain n r R i m t k e kind value fl [] d b l a = (omega arith, omega arith)
+target_of_paid plain n r R i m t k e kind value true (x ∷ xs) d b l a =
+    let y : 32 * (n + 1) + 2 + d.0 ≤ R = d.2 refl in
+    (omega arith, l, target_paid plain n r d.0 m t (32 * (i - i) + (k + R)) e kind value x d.3 b (omega (arith, y, a)))
+target_of_paid plain n r R i m t k e kind value false (x ∷ xs) d b l a = (omega arith, l, omega (arith, a))
+
+-- a target begins before its reference
+target_within : (symbol : List ℕ) (i t j n : ℕ) → i ≤ n → backref_at symbol i ≡ Some (t, j) → t ≤ n
+unfolding backref_at
+target_within symbol i t j n l e = go (integer_at symbol i) e
+  where
+    inner : (c : Bool) (r : ℕ × ℕ) → nat_lt (r.0 + 1) i ≡ c → only_if c r ≡ Some (t, j) → t ≤ n
+    inner true r p q = let w : r.0 + 1 < i = ltb-true (r.0 + 1) i p in subst (λ z. z ≤ n) (firsts q) (omega (arith, w, l))
+      where
+        firsts : {x y : ℕ × ℕ} → Some x ≡ Some y → x.0 ≡ y.0
+        firsts q = cc q
+    inner false r p q = cc q
+
+    go : (o : Read ℕ) → then_if_some o (λ r. only_if (nat_lt (r.0 + 1) i) r) ≡ Some (t, j) → t ≤ n
+    go None q = cc q
+    go (Some r) q = inner (nat_lt (r.0 + 1) i) r refl q
+
+-- at the head of the turns there are c looks; behind the `E` there are 31 more
+turns_paid : (plain : Bool) (n r c m : ℕ) (symbol : List ℕ) (f : Place → Outcome) → length symbol ≡ n → 1 ≤ c →
+    ((i : ℕ) → i ≤ n → Paid plain n r i (c - 1) c (f (Some i))) → (i : ℕ) → i ≤ n → Paid plain n r i c (c + 31) (turns m symbol f (Some i))
+unfolding turns
+turns_paid plain n r c zero symbol f e o h i l = fault_ends plain n r i c (c + 31)
+turns_paid plain n r c (suc m) symbol f e o h i l =
+    fork_paid plain n r i c (c + 31) (c - 1) (c + 31) (is_byte symbol i (code "E")) stands (λ j. followed_by (f j) (turns m symbol f)) l (there_within n symbol (code "E") i e) (omega arith) (omega (arith, o))
+    (λ y. (omega arith, y, omega arith))
+    (then_paid plain n r i (c - 1) c (c + 31) (f (Some i)) (turns m symbol f) (h i l) (λ j _ b. turns_paid plain n r c m symbol f e o h j b) (refl, omega arith))
+
+-- at the head of bindings there are c looks; a binding ends with so many
+bound_paid : (plain : Bool) (n r R c e m : ℕ) (s : Surroundings) (f : Place → Outcome) → length s.symbol ≡ n → R ≤ r → 1 ≤ c → e ≤ c - 1 →
+    ((i : ℕ) → i ≤ n → Paid plain n r i (c + 55 + R) c (f (Some i))) → (o : Bool) (i : ℕ) → i ≤ n → Paid plain n r i c e (bound_by m s f o (Some i))
+unfolding bound_by
+bound_paid plain n r R c e zero s f q w b a h o i l = fault_ends plain n r i c e
+bound_paid plain n r R c e (suc m) s f q w b low h o i l =
+    fork_paid plain n r i c (c + 31) (c - 1) e (is_byte s.symbol i (code "p"))
+    (λ j. behind (binding_separator o) (word s j identifier_at (λ a k. behind (name_equals a) (followed_by (f k) (bound_by m s f true))))) (angle_if_open o) l (there_within n s.symbol (code "p") i q) (omega arith) (omega (arith, b))
+    (λ y. let inner : Outcome = word s (Some (i + 1)) identifier_at (λ a k. behind (name_equals a) (followed_by (f k) (bound_by m s f true))) in
+    opened_paid plain n r R (i + 1) (c + 31) e o inner.tree inner.place w
+    (subst (λ z. Paid plain n r (i + 1) (c + 31 + R) e (word_outcome z (i + 1) (λ a k. behind (name_equals a) (followed_by (f k) (bound_by m s f true))) (identifier_at s.symbol (i + 1)))) (sym q)
+    (word_paid plain n r (i + 1) (c + 31 + R) (c + 55 + R) e 1 s.symbol (identifier_at s.symbol (i + 1)) (λ a k. behind (name_equals a) (followed_by (f k) (bound_by m s f true))) q y (identifier_placed s.symbol (i + 1)) (omega arith)
+    (λ a j _ _ z. let all : Outcome = followed_by (f (Some j)) (bound_by m s f true) in
+    named_paid plain n r j (c + 55 + R) e a all.tree all.place
+    (then_paid plain n r j (c + 55 + R) c e (f (Some j)) (bound_by m s f true) (h j z) (λ k _ x. bound_paid plain n r R c e m s f q w b low h true k x) (idle_closed plain r true))))))
+    (closed_paid plain n r i (c - 1) e o l low)
+
+raised_paid : (plain : Bool) (n r R k e i : ℕ) (fl g : Bool) (ls : List Level) (f : Level → List Level → Place → Outcome) → Deeper plain n r fl R ls →
+    ((S : ℕ) (l : Level) (ls : List Level) → S ≤ R → LevelPays plain n r S fl l → LevelPays plain n 0 0 false l → Deeper plain n r fl S ls → Paid plain n r i (k + purse g S) e (f l ls (Some i))) →
+    Paid plain n r i (k + purse g R) e (one_depth_on ls f (Some i))
+raised_paid plain n r R k e i fl g [] f d h = (omega arith, omega arith)
+raised_paid plain n r R k e i fl g (x ∷ xs) f d h = more n r i (k + purse g R) (k + purse g d.0) e e (stretches plain (f x xs (Some i)).tree) (f x xs (Some i)).place (less g) (omega arith) (h d.0 x xs d.1 d.3 d.4 d.5)
+  where
+    less : (g : Bool) → k + purse g d.0 ≤ k + purse g R
+    less true = omega (arith, d.1)
+    less false = omega arith
+
+purse_true : (g : Bool) (R : ℕ) → IsTrue g → R ≤ purse g R
+purse_true true R h = omega arith
+purse_true false R h = absurd (cc h)
+
+pub record Holds (plain : Bool) (r R : ℕ) (s : Surroundings) : Type 0 where
+  pub enough : R ≤ r
+  pub here : LevelPays plain (length s.symbol) r R s.printed s.here
+  pub hidden : LevelPays plain (length s.symbol) 0 0 false s.here
+  pub deeper : Deeper plain (length s.symbol) r s.printed R s.deeper
+
+pub paid : (plain : Bool) (r R : ℕ) (p : Items) (s : Surroundings) (e k : ℕ) (g : Bool) → Cheap e k g p → Holds plain r R s →
+    (i : ℕ) → i ≤ length s.symbol → Paid plain (length s.symbol) r i (k + purse g R) e (run p s (Some i))
+unfolding run bound_by
+paid plain r R done s e k g a m i l = (omega arith, l, omega (arith, a))
+paid plain r R invalid s e k g a m i l = fault_ends plain (length s.symbol) r i (k + purse g R) e
+paid plain r R (say t p) s e k g a m i l = says plain (length s.symbol) r i (k + purse g R) (k + purse (g || is_some_text t) R) e t (run p s (Some i)).tree (run p s (Some i)).place
+    (refilled r R k g t m.enough) (paid plain r R p s e k (g || is_some_text t) a m i l)
+paid plain r R (say_plain t p) s e k g a m i l = says_plain plain (length s.symbol) r i (k + purse g R) e t (run p s (Some i)).tree (run p s (Some i)).place (paid plain r R p s e k g a m i l)
+paid plain r R (byte f) s e k g a m i l = word_paid plain (length s.symbol) r i (k + purse g R) (k + 24 + purse g R) e 1 s.symbol (byte_at s.symbol i) (λ v. run (f v) s) refl l (byte_placed s.symbol i) (omega arith)
+    (λ v j _ _ b. paid plain r R (f v) s e (k + 24) g (a v) m j b)
+paid plain r R (namespace f) s e k g a m i l = word_paid plain (length s.symbol) r i (k + purse g R) (k + 24 + purse g R) e 1 s.symbol (namespace_at s.symbol i) (λ v. run (f v) s) refl l (namespace_placed s.symbol i) (omega arith)
+    (λ v j _ _ b. paid plain r R (f v) s e (k + 24) g (a v) m j b)
+paid plain r R (integer f) s e k g a m i l = word_paid plain (length s.symbol) r i (k + purse g R) (k + 24 + purse g R) e 1 s.symbol (integer_at s.symbol i) (λ v. run (f v) s) refl l (integer_placed s.symbol i) (omega arith)
+    (λ v j _ _ b. paid plain r R (f v) s e (k + 24) g (a v) m j b)
+paid plain r R (optional tag f) s e k g a m i l = word_paid plain (length s.symbol) r i (k + purse g R) (k - 4 + purse g R) e 0 s.symbol (optional_at tag s.symbol i) (λ v. run (f v) s) refl l (subst (λ z. Placed z s.symbol (optional_at tag s.symbol i)) plus (optional_placed tag s.symbol i l)) (omega (arith, a.0))
+    (λ v j _ _ b. paid plain r R (f v) s e (k - 4) g (a.1 v) m j b)
+  where
+    plus : i ≡ i + 0
+    plus = omega arith
+paid plain r R (identifier f) s e k g a m i l = word_paid plain (length s.symbol) r i (k + purse g R) (k + 24 + purse g R) e 1 s.symbol (identifier_at s.symbol i) (λ v. run (f v) s) refl l (identifier_placed s.symbol i) (omega arith)
+    (λ v j _ _ b. paid plain r R (f v) s e (k + 24) g (a v) m j b)
+paid plain r R (nibbles f) s e k g a m i l = word_paid plain (length s.symbol) r i (k + purse g R) (k + 24 + purse g R) e 1 s.symbol (nibbles_at s.symbol i) (λ v. run (f v) s) refl l (nibbles_placed s.symbol i) (omega arith)
+    (λ v j _ _ b. paid plain r R (f v) s e (k + 24) g (a v) m j b)
+paid plain r R (peek f) s e k g a m i l = peek_paid plain (length s.symbol) r i (k + purse g R) (k - 1 + purse g R) e (slice_get s.symbol i) (λ v. run (f v) s (Some i)) l (omega (arith, a.0))
+    (λ v. paid plain r R (f v) s e (k - 1) g (a.1 v) m i l)
+paid plain r R (next b p q) s e k g a m i l = fork_paid plain (length s.symbol) r i (k + purse g R) (k + 31 + purse g R) (k - 1 + purse g R) e (is_byte s.symbol i b) (run p s) (run q s) l
+    (there_placed s.symbol b i) (omega arith) (omega (arith, a.0))
+    (λ y. paid plain r R p s e (k + 31) g a.1 m (i + 1) y) (paid plain r R q s e (k - 1) g a.2 m i l)
+paid plain r R (sound p q) s e k g a m i l = paid plain r R p s e k g a m i l
+paid plain r R (until_end p q) s e k g a m i l = then_paid plain (length s.symbol) r i (k + purse g R) (a.0 + 31) e (turns (suc (length s.symbol)) s.symbol (run p s) (Some i)) (run q s)
+    (more (length s.symbol) r i (k + purse g R) a.0 (a.0 + 31) (a.0 + 31) (stretches plain (turns (suc (length s.symbol)) s.symbol (run p s) (Some i)).tree) (turns (suc (length s.symbol)) s.symbol (run p s) (Some i)).place (omega (arith, a.1)) (omega arith)
+    (turns_paid plain (length s.symbol) r a.0 (suc (length s.symbol)) s.symbol (run p s) refl a.2
+    (λ j b. more (length s.symbol) r j (a.0 - 1) (a.0 - 1 + 0) a.0 a.0 (stretches plain (run p s (Some j)).tree) (run p s (Some j)).place (omega arith) (omega arith) (paid plain r R p s a.0 (a.0 - 1) false a.3 m j b)) i l))
+    (λ j _ b. more (length s.symbol) r j (a.0 + 31) (a.0 + 31 + 0) e e (stretches plain (run q s (Some j)).tree) (run q s (Some j)).place (omega arith) (omega arith) (paid plain r R q s e (a.0 + 31) false a.4 m j b)) (idle plain r q s)
+paid plain r R (raise p) s e k g a m i l = raised_paid plain (length s.symbol) r R k e i s.printed g s.deeper (λ x xs. run p (record s { here = x; deeper = xs })) m.deeper
+    (λ S x xs b y z w. paid plain r S p (record s { here = x; deeper = xs }) e k g a
+    (record { enough = omega (arith, m.enough, b); here = y; hidden = z; deeper = w }) i l)
+paid plain r R (unit p q) s e k g a m i l = then_paid plain (length s.symbol) r i (k + purse g R) a.0 e (run p s (Some i)) (run q s)
+    (paid plain r R p s a.0 k g a.1 m i l)
+    (λ j _ b. more (length s.symbol) r j a.0 (a.0 + 0) e e (stretches plain (run q s (Some j)).tree) (run q s (Some j)).place (omega arith) (omega arith) (paid plain r R q s e a.0 false a.2 m j b)) (idle plain r q s)
+paid plain r R (child kind value p) s e k g a m i l = then_paid plain (length s.symbol) r i (k + purse g R) 8 e (unit_outcome s kind value (Some i)) (run p s)
+    (more (length s.symbol) r i (k + purse g R) (start kind + R) 8 8 (stretches plain (unit_outcome s kind value (Some i)).tree) (unit_outcome s kind value (Some i)).place (let y : R ≤ purse g R = purse_true g R a.1 in omega (arith, a.0, y)) (omega arith) (m.here kind value s.lifetimes i l))
+    (λ j _ b. paid plain r R p s e 8 false a.2 m j b) (idle plain r p s)
+paid plain r R (skip p) s e k g a m i l = hushed_paid plain (length s.symbol) r i (k + purse g R) (purse g R) e (s.here false a_path false s.lifetimes i) (run p s) (m.hidden a_path false s.lifetimes i l)
+    (λ j _ b. paid plain r R p s e 8 g a m j b) (idle plain r p s) (omega arith)
+paid plain r R (target kind value) s e k g a m i l =
+    word_paid plain (length s.symbol) r i (k + purse g R) (k + 24 + R) e 1 s.symbol (backref_at s.symbol i)
+    (λ t j. target_of s.deeper (λ level. target_read s.printed (level true kind value s.lifetimes) t j)) refl l (backref_placed s.symbol i)
+    (let y : R ≤ purse g R = purse_true g R a.0 in omega (arith, y))
+    (λ t j w _ b. target_of_paid plain (length s.symbol) r R j s.lifetimes t (k + 24) e kind value s.printed s.deeper m.deeper (target_within s.symbol i t j (length s.symbol) l w) b a.1)
+paid plain r R (lifetime x p) s e k g a m i l = then_paid plain (length s.symbol) r i (k + purse g R) (k + purse g R) e (lifetime_at s.printed s.lifetimes x (Some i)) (run p s)
+    (lifetime_paid plain (length s.symbol) r i (k + purse g R) s.printed s.lifetimes x l) (λ j _ b. paid plain r R p s e k g a m j b) (idle plain r p s)
+paid plain r R (binder x p) s e k g a m i l = let y = record s { lifetimes = s.lifetimes + x } in
+    binder_paid plain (length s.symbol) r i (k + purse g R) e s.printed x s.lifetimes (run p y (Some i)).tree (run p y (Some i)).place (paid plain r R p y e k g a (record { enough = m.enough; here = m.here; hidden = m.hidden; deeper = m.deeper }) i l)
+paid plain r R (opens p) s e k g a m i l = paid plain r R p s e k g a m i l
+paid plain r R (dyn_trait p) s e k g a m i l =
+    let path : Outcome = unit_outcome s a_trait_path false (Some i) in
+    then_paid plain (length s.symbol) r i (k + purse g R) 8 e path (bound_by (suc (length s.symbol)) s (run p s) path.is_open)
+    (more (length s.symbol) r i (k + purse g R) (start a_trait_path + R) 8 8 (stretches plain path.tree) path.place (let y : R ≤ purse g R = purse_true g R a.1 in omega (arith, a.0, y)) (omega arith) (m.here a_trait_path false s.lifetimes i l))
+    (λ j _ b. let all : Outcome = bound_by (suc (length s.symbol)) s (run p s) path.is_open (Some j) in
+    more (length s.symbol) r j 8 a.2.0 e e (stretches plain all.tree) all.place (omega (arith, a.2.1)) (omega arith)
+    (bound_paid plain (length s.symbol) r R a.2.0 e (suc (length s.symbol)) s (run p s) refl m.enough a.2.2 a.2.4 (λ z x. paid plain r R p s a.2.0 (a.2.0 + 55) true a.2.3 m z x) path.is_open j b)) (idle_closed plain r path.is_open)
+paid plain r R (bindings o p) s e k g a m i l =
+    let all : Outcome = bound_by (suc (length s.symbol)) s (run p s) o (Some i) in
+    more (length s.symbol) r i (k + purse g R) a.0 e e (stretches plain all.tree) all.place (omega (arith, a.1)) (omega arith)
+    (bound_paid plain (length s.symbol) r R a.0 e (suc (length s.symbol)) s (run p s) refl m.enough a.2 a.4 (λ z x. paid plain r R p s a.0 (a.0 + 55) true a.3 m z x) o i l)
+
+-- The levels.
+
+level_paid : (plain : Bool) (r R : ℕ) (symbol : List ℕ) (ls : List Level) (fl : Bool) → R ≤ r → ((kind : Kind) (value : Bool) → Cheap 8 (start kind) true (items kind value)) →
+    Deeper plain (length symbol) r fl R ls → Deeper plain (length symbol) 0 false 0 ls → LevelPays plain (length symbol) r R fl (level_of symbol ls)
+unfolding run level_of
+level_paid plain r R symbol ls fl b a d e kind value m i l =
+    let at : Level → Bool → ℕ → Surroundings = λ here f k. record { symbol = symbol; printed = f; here = here; deeper = ls; lifetimes = k } in
+    let inner : Level = λ f k v o j. run (items k v) (at nowhere f o) (Some j) in
+    paid plain r R (items kind value) (at inner fl m) 8 (start kind) true (a kind value)
+    (record {
+      enough = b;
+      here = λ k v o j q. paid plain r R (items k v) (at nowhere fl o) 8 (start k) true (a k v)
+          (record { enough = b; here = λ k' v' o' j' q'. fault_ends plain (length symbol) r j' (start k' + R) 8; hidden = λ k' v' o' j' q'. fault_ends plain (length symbol) 0 j' (start k' + 0) 8; deeper = d }) j q;
+      hidden = λ k v o j q. paid plain 0 0 (items k v) (at nowhere false o) 8 (start k) true (a k v)
+          (record { enough = omega arith; here = λ k' v' o' j' q'. fault_ends plain (length symbol) 0 j' (start k' + 0) 8; hidden = λ k' v' o' j' q'. fault_ends plain (length symbol) 0 j' (start k' + 0) 8; deeper = e }) j q;
+      deeper = d;
+    }) i l
+
+-- the money of m depths
+abbrev pub money : ℕ → ℕ → ℕ
+money n m = (32 * (n + 1) + 2) * m
+
+levels_hidden : (plain : Bool) (symbol : List ℕ) (m : ℕ) → ((kind : Kind) (value : Bool) → Cheap 8 (start kind) true (items kind value)) → Deeper plain (length symbol) 0 false 0 (levels symbol m)
+unfolding levels
+levels_hidden plain symbol zero a = tt
+levels_hidden plain symbol (suc m) a =
+    let q : Deeper plain (length symbol) 0 false 0 (levels symbol m) = levels_hidden plain symbol m a in
+    let w : LevelPays plain (length symbol) 0 0 false (level_of symbol (levels symbol m)) = level_paid plain 0 0 symbol (levels symbol m) false (omega arith) a q q in
+    (0, omega arith, (λ f. cc f), w, w, q)
+
+levels_paid : (plain : Bool) (r : ℕ) (symbol : List ℕ) (m : ℕ) → money (length symbol) m ≤ r → ((kind : Kind) (value : Bool) → Cheap 8 (start kind) true (items kind value)) → Deeper plain (length symbol) r true (money (length symbol) m) (levels symbol m)
+unfolding levels
+levels_paid plain r symbol zero b a = tt
+levels_paid plain r symbol (suc m) b a =
+    let c : money (length symbol) m ≤ r = omega (arith, b) in
+    let q : Deeper plain (length symbol) r true (money (length symbol) m) (levels symbol m) = levels_paid plain r symbol m c a in
+    let z : Deeper plain (length symbol) 0 false 0 (levels symbol m) = levels_hidden plain symbol m a in (
+      money (length symbol) m,
+      omega arith,
+      (λ _. omega arith),
+      level_paid plain r (money (length symbol) m) symbol (levels symbol m) true c a q z,
+      level_paid plain 0 0 symbol (levels symbol m) false (omega arith) a z z,
+      q,
+    )
+
+-- to be printed
+pub read_paid : (plain : Bool) (r : ℕ) (symbol : List ℕ) (kind : Kind) (i d m : ℕ) (value : Bool) → money (length symbol) (max_depth - d) ≤ r → ((kind : Kind) (value : Bool) → Cheap 8 (start kind) true (items kind value)) → i ≤ length symbol →
+    Paid plain (length symbol) r i (start kind + money (length symbol) (max_depth - d)) 8 (read_at symbol true kind i d m value)
+unfolding read_at
+read_paid plain r symbol kind i d m value b a l =
+    level_paid plain r (money (length symbol) (max_depth - d)) symbol (levels symbol (max_depth - d)) true b a (levels_paid plain r symbol (max_depth - d) b a) (levels_hidden plain symbol (max_depth - d) a) kind value m i l
+
+-- not to be printed
+pub spelling_paid : (plain : Bool) (symbol : List ℕ) (kind : Kind) (i d m : ℕ) (value : Bool) → ((kind : Kind) (value : Bool) → Cheap 8 (start kind) true (items kind value)) → i ≤ length symbol →
+    Paid plain (length symbol) 0 i (start kind + 0) 8 (read_at symbol false kind i d m value)
+unfolding read_at
+spelling_paid plain symbol kind i d m value a l = let q : Deeper plain (length symbol) 0 false 0 (levels symbol (max_depth - d)) = levels_hidden plain symbol (max_depth - d) a in
+    level_paid plain 0 0 symbol (levels symbol (max_depth - d)) false (omega arith) a q q kind value m i l

@@ -1,0 +1,240 @@
+-- What is heard of a reading that is not printed: the same for any lifetimes in force, in value position or not.
+use Rattle.std.specs.Prelude.{ℕ, zero, suc, ◌&&◌, codes, slice_get}
+use Rattle.std.proofs.Common.{◌≡◌, Bool, true, false, cond, List, [], ◌∷◌, length, Option, Some, None, refl, sym, ap, ◌∙◌, ◌+◌, ◌-◌, ◌*◌}
+use Prim.Native.Char.{code}
+use Prim.Native.String.{String}
+use Rattle.demangle_symbol.specs.Digits.{is_byte}
+use Rattle.demangle_symbol.specs.Words.{Name, Read, byte_at, namespace_at, integer_at, optional_at, identifier_at, nibbles_at}
+use Rattle.demangle_symbol.specs.Names.{name_pieces}
+use Rattle.demangle_grammar.specs.Items.{Text, Kind, a_path, a_type, a_constant, a_pattern, a_trait_path, Items, done, invalid, say, say_plain, byte, namespace, integer, optional, identifier, nibbles, peek, next, sound, until_end, raise, unit, child, skip, target, lifetime, binder, opens, dyn_trait, bindings}
+use Rattle.demangle_grammar.specs.Table.{items, is_among, row_of, path, path_rows, constant, constant_rows, variant, variant_rows, says}
+use Rattle.demangle_grammar.specs.Reading.{Tree, piece, Place, Outcome, Level, Surroundings, stands, fault, unread, run, turns, word_outcome, bound_by, followed_by, followed_open, behind, binding_separator, name_equals, angle_if_open, all_pieces, word, byte_choice, peek_outcome, level_of, levels, nowhere}
+use Rattle.demangle_grammar.specs.Events.{Event, shown_if, Heard, of, events, and_then, with_looks}
+
+-- surroundings in which nothing is printed
+abbrev pub silent : List ℕ → Level → List Level → ℕ → Surroundings
+silent b here deeper m = record { symbol = b; printed = false; here = here; deeper = deeper; lifetimes = m }
+
+-- items without the texts that they say, the lifetimes that they name and the value position
+abbrev mute : Items → Items
+mute done = done
+mute invalid = invalid
+mute (say t p) = mute p
+mute (say_plain t p) = mute p
+mute (byte f) = byte (λ v. mute (f v))
+mute (namespace f) = namespace (λ v. mute (f v))
+mute (integer f) = integer (λ v. mute (f v))
+mute (optional tag f) = optional tag (λ v. mute (f v))
+mute (identifier f) = identifier (λ v. mute (f v))
+mute (nibbles f) = nibbles (λ v. mute (f v))
+mute (peek f) = peek (λ v. mute (f v))
+mute (next b p q) = next b (mute p) (mute q)
+mute (sound p q) = sound (mute p) (mute q)
+mute (until_end p q) = until_end (mute p) (mute q)
+mute (raise p) = raise (mute p)
+mute (unit p q) = unit (mute p) (mute q)
+mute (child kind value p) = child kind false (mute p)
+mute (skip p) = skip (mute p)
+mute (target kind value) = target kind false
+mute (lifetime k p) = mute p
+mute (binder k p) = mute p
+mute (opens p) = opens (mute p)
+mute (dyn_trait p) = dyn_trait (mute p)
+mute (bindings o p) = bindings o (mute p)
+
+-- of both the same is heard where they are not printed
+abbrev Alike : Bool → Outcome → Outcome → Type 0
+Alike plain o o' = of plain false o ≡ of plain false o'
+
+-- a level of whose readings that are not printed the same is heard
+abbrev pub Uniform : Bool → Level → Type 0
+Uniform plain l = (kind : Kind) (v w : Bool) (m n i : ℕ) → of plain false (l false kind v m i) ≡ of plain false (l false kind w n i)
+
+abbrev pub AllUniform : Bool → List Level → Type 0
+AllUniform plain [] = Unit {0}
+AllUniform plain (l ∷ ls) = Uniform plain l × AllUniform plain ls
+
+said_plain : (plain : Bool) (t : Text) (xs : List Event) → shown_if (plain && false) t xs ≡ xs
+said_plain true t xs = refl
+said_plain false t xs = refl
+
+module _ (plain : Bool) where
+  alike_followed : (o o' : Outcome) (f g : Place → Outcome) → Alike plain o o' → ((x : Place) → Alike plain (f x) (g x)) → Alike plain (followed_by o f) (followed_by o' g)
+  alike_followed o o' f g e h =
+      ap (λ (z : Heard). and_then z (λ x _. of plain false (f x))) e
+      ∙ ap (λ (z : Heard). and_then (of plain false o') (λ _ _. z)) (h o'.place)
+
+  alike_resumed : {A : Type 0} (k i : ℕ) (f g : A → Place → Outcome) (r : Read A) → ((v : A) (j : ℕ) → Alike plain (f v (Some j)) (g v (Some j))) → Alike plain (word_outcome k i f r) (word_outcome k i g r)
+  alike_resumed k i f g None h = refl
+  alike_resumed k i f g (Some r) h = ap (with_looks (4 * (r.1 - i + 1) ∷ [])) (h r.0 r.1)
+
+  alike_peeked : (f g : ℕ → Outcome) (r : Option ℕ) → ((v : ℕ) → Alike plain (f v) (g v)) → Alike plain (peek_outcome f r) (peek_outcome g r)
+  alike_peeked f g None h = refl
+  alike_peeked f g (Some v) h = ap (with_looks (1 ∷ [])) (h v)
+
+  alike_forked : (c : Bool) (f g f' g' : Place → Outcome) (i : Place) → ((x : Place) → Alike plain (f x) (g x)) → ((x : Place) → Alike plain (f' x) (g' x)) → Alike plain (byte_choice c f f' i) (byte_choice c g g' i)
+  alike_forked c f g f' g' None h k = k None
+  alike_forked true f g f' g' (Some i) h k = ap (with_looks (1 ∷ [])) (h (Some (i + 1)))
+  alike_forked false f g f' g' (Some i) h k = ap (with_looks (1 ∷ [])) (k (Some i))
+
+  alike_turns : (k : ℕ) (b : List ℕ) (f g : Place → Outcome) → ((x : Place) → Alike plain (f x) (g x)) → (i : Place) → Alike plain (turns k b f i) (turns k b g i)
+  unfolding turns
+  alike_turns k b f g h None = refl
+  alike_turns zero b f g h (Some i) = refl
+  alike_turns (suc k) b f g h (Some i) =
+      alike_forked (is_byte b i (code "E")) stands stands (λ j. followed_by (f j) (turns k b f)) (λ j. followed_by (g j) (turns k b g)) (Some i) (λ x. refl)
+      (λ j. alike_followed (f j) (g j) (turns k b f) (turns k b g) (h j) (alike_turns k b f g h))
+
+  pieces_quiet : (ts : List Text) (t : Tree) → events plain false (all_pieces ts t) ≡ events plain false t
+  pieces_quiet [] t = refl
+  pieces_quiet (x ∷ ts) t = pieces_quiet ts t
+
+  alike_named : (a : Name) (o : Outcome) → Alike plain (behind (name_equals a) o) o
+  alike_named a o = ap (λ xs. record { events = xs; place = o.place; is_open = o.is_open }) (pieces_quiet (name_pieces a) (piece (codes " = ") o.tree))
+
+  alike_opened : (o : Bool) (x : Outcome) → Alike plain (behind (binding_separator o) x) x
+  alike_opened true x = refl
+  alike_opened false x = refl
+
+  alike_name : (b : List ℕ) (here : Level) (deeper : List Level) (m n : ℕ) (f g : Name → Place → Outcome) → ((a : Name) (x : Place) → Alike plain (f a x) (g a x)) → (j : Place)
+      → Alike plain (word (silent b here deeper m) j identifier_at f) (word (silent b here deeper n) j identifier_at g)
+  alike_name b here deeper m n f g h None = refl
+  alike_name b here deeper m n f g h (Some j) = alike_resumed (length b) j f g (identifier_at b j) (λ a x. h a (Some x))
+
+  alike_bound : (k : ℕ) (b : List ℕ) (here : Level) (deeper : List Level) (m n : ℕ) (f g : Place → Outcome) → ((x : Place) → Alike plain (f x) (g x)) → (o : Bool) (i : Place) → Alike plain (bound_by k (silent b here deeper m) f o i) (bound_by k (silent b here deeper n) g o i)
+  unfolding bound_by
+  alike_bound k b here deeper m n f g h o None = refl
+  alike_bound zero b here deeper m n f g h o (Some i) = refl
+  alike_bound (suc k) b here deeper m n f g h o (Some i) =
+      let s = silent b here deeper m in
+      let t = silent b here deeper n in
+      let one : Name → Place → Outcome = λ a x. behind (name_equals a) (followed_by (f x) (bound_by k s f true)) in
+      let other : Name → Place → Outcome = λ a x. behind (name_equals a) (followed_by (g x) (bound_by k t g true)) in
+      alike_forked (is_byte b i (code "p"))
+      (λ j. behind (binding_separator o) (word s j identifier_at one)) (λ j. behind (binding_separator o) (word t j identifier_at other)) (angle_if_open o) (angle_if_open o) (Some i)
+      (λ j. alike_opened o (word s j identifier_at one)
+      ∙ (alike_name b here deeper m n one other
+      (λ a x. alike_named a (followed_by (f x) (bound_by k s f true))
+      ∙ (alike_followed (f x) (g x) (bound_by k s f true) (bound_by k t g true) (h x) (alike_bound k b here deeper m n f g h true)
+      ∙ sym (alike_named a (followed_by (g x) (bound_by k t g true))))) j
+      ∙ sym (alike_opened o (word t j identifier_at other)))) (λ x. refl)
+
+  alike_open : (k : ℕ) (b : List ℕ) (here : Level) (deeper : List Level) (m n : ℕ) (f g : Place → Outcome) → ((x : Place) → Alike plain (f x) (g x)) → (o o' : Outcome) → Alike plain o o'
+      → Alike plain (followed_open o (bound_by k (silent b here deeper m) f)) (followed_open o' (bound_by k (silent b here deeper n) g))
+  alike_open k b here deeper m n f g h o o' e =
+      ap (λ (z : Heard). and_then z (λ x p. of plain false (bound_by k (silent b here deeper m) f p x))) e
+      ∙ ap (λ (z : Heard). and_then (of plain false o') (λ _ _. z)) (alike_bound k b here deeper m n f g h o'.is_open o'.place)
+
+  muted : (p : Items) (b : List ℕ) (here : Level) (deeper : List Level) (m n : ℕ) → Uniform plain here → AllUniform plain deeper → (i : Place) → Alike plain (run p (silent b here deeper m) i) (run (mute p) (silent b here deeper n) i)
+  unfolding run
+  muted done b here deeper m n h a i = refl
+  muted invalid b here deeper m n h a i = refl
+  muted (say t p) b here deeper m n h a i = muted p b here deeper m n h a i
+  muted (say_plain t p) b here deeper m n h a i = let o = run p (silent b here deeper m) i in ap (λ xs. record { events = xs; place = o.place; is_open = o.is_open }) (said_plain plain t (events plain false o.tree)) ∙ muted p b here deeper m n h a i
+  muted (byte f) b here deeper m n h a None = refl
+  muted (byte f) b here deeper m n h a (Some i) = alike_resumed (length b) i (λ v. run (f v) (silent b here deeper m)) (λ v. run (mute (f v)) (silent b here deeper n)) (byte_at b i) (λ v j. muted (f v) b here deeper m n h a (Some j))
+  muted (namespace f) b here deeper m n h a None = refl
+  muted (namespace f) b here deeper m n h a (Some i) = alike_resumed (length b) i (λ v. run (f v) (silent b here deeper m)) (λ v. run (mute (f v)) (silent b here deeper n)) (namespace_at b i) (λ v j. muted (f v) b here deeper m n h a (Some j))
+  muted (integer f) b here deeper m n h a None = refl
+  muted (integer f) b here deeper m n h a (Some i) = alike_resumed (length b) i (λ v. run (f v) (silent b here deeper m)) (λ v. run (mute (f v)) (silent b here deeper n)) (integer_at b i) (λ v j. muted (f v) b here deeper m n h a (Some j))
+  muted (optional tag f) b here deeper m n h a None = refl
+  muted (optional tag f) b here deeper m n h a (Some i) = alike_resumed (length b) i (λ v. run (f v) (silent b here deeper m)) (λ v. run (mute (f v)) (silent b here deeper n)) (optional_at tag b i) (λ v j. muted (f v) b here deeper m n h a (Some j))
+  muted (identifier f) b here deeper m n h a None = refl
+  muted (identifier f) b here deeper m n h a (Some i) = alike_resumed (length b) i (λ v. run (f v) (silent b here deeper m)) (λ v. run (mute (f v)) (silent b here deeper n)) (identifier_at b i) (λ v j. muted (f v) b here deeper m n h a (Some j))
+  muted (nibbles f) b here deeper m n h a None = refl
+  muted (nibbles f) b here deeper m n h a (Some i) = alike_resumed (length b) i (λ v. run (f v) (silent b here deeper m)) (λ v. run (mute (f v)) (silent b here deeper n)) (nibbles_at b i) (λ v j. muted (f v) b here deeper m n h a (Some j))
+  muted (peek f) b here deeper m n h a None = refl
+  muted (peek f) b here deeper m n h a (Some i) = alike_peeked (λ v. run (f v) (silent b here deeper m) (Some i)) (λ v. run (mute (f v)) (silent b here deeper n) (Some i)) (slice_get b i) (λ v. muted (f v) b here deeper m n h a (Some i))
+  muted (next c p q) b here deeper m n h a None = muted q b here deeper m n h a None
+  muted (next c p q) b here deeper m n h a (Some i) = alike_forked (is_byte b i c) (run p (silent b here deeper m)) (run (mute p) (silent b here deeper n)) (run q (silent b here deeper m)) (run (mute q) (silent b here deeper n)) (Some i) (muted p b here deeper m n h a) (muted q b here deeper m n h a)
+  muted (sound p q) b here deeper m n h a None = muted q b here deeper m n h a None
+  muted (sound p q) b here deeper m n h a (Some i) = muted p b here deeper m n h a (Some i)
+  muted (until_end p q) b here deeper m n h a i = alike_followed (turns (suc (length b)) b (run p (silent b here deeper m)) i) (turns (suc (length b)) b (run (mute p) (silent b here deeper n)) i) (run q (silent b here deeper m)) (run (mute q) (silent b here deeper n))
+      (alike_turns (suc (length b)) b (run p (silent b here deeper m)) (run (mute p) (silent b here deeper n)) (muted p b here deeper m n h a) i) (muted q b here deeper m n h a)
+  muted (raise p) b here [] m n h a i = refl
+  muted (raise p) b here (l ∷ ls) m n h a i = muted p b l ls m n a.0 a.1 i
+  muted (unit p q) b here deeper m n h a i = alike_followed (run p (silent b here deeper m) i) (run (mute p) (silent b here deeper n) i) (run q (silent b here deeper m)) (run (mute q) (silent b here deeper n)) (muted p b here deeper m n h a i) (muted q b here deeper m n h a)
+  muted (child kind value p) b here deeper m n h a None = alike_followed (fault unread) (fault unread) (run p (silent b here deeper m)) (run (mute p) (silent b here deeper n)) refl (muted p b here deeper m n h a)
+  muted (child kind value p) b here deeper m n h a (Some i) = alike_followed (here false kind value m i) (here false kind false n i) (run p (silent b here deeper m)) (run (mute p) (silent b here deeper n)) (h kind value false m n i) (muted p b here deeper m n h a)
+  muted (skip p) b here deeper m n h a None = muted p b here deeper m n h a None
+  muted (skip p) b here deeper m n h a (Some i) = alike_followed (here false a_path false m i) (here false a_path false n i) (run p (silent b here deeper m)) (run (mute p) (silent b here deeper n)) (h a_path false false m n i) (muted p b here deeper m n h a)
+  muted (target kind value) b here deeper m n h a None = refl
+  muted (target kind value) b here [] m n h a (Some i) = refl
+  muted (target kind value) b here (l ∷ ls) m n h a (Some i) = refl
+  muted (lifetime k p) b here deeper m n h a i = muted p b here deeper m n h a i
+  muted (binder k p) b here deeper m n h a i = muted p b here deeper (m + k) n h a i
+  muted (opens p) b here deeper m n h a i = ap (λ (z : Heard). record z { is_open = true }) (muted p b here deeper m n h a i)
+  muted (dyn_trait p) b here deeper m n h a None = alike_open (suc (length b)) b here deeper m n (run p (silent b here deeper m)) (run (mute p) (silent b here deeper n)) (muted p b here deeper m n h a) (fault unread) (fault unread) refl
+  muted (dyn_trait p) b here deeper m n h a (Some i) = alike_open (suc (length b)) b here deeper m n (run p (silent b here deeper m)) (run (mute p) (silent b here deeper n)) (muted p b here deeper m n h a) (here false a_trait_path false m i) (here false a_trait_path false n i) (h a_trait_path false false m n i)
+  muted (bindings o p) b here deeper m n h a i = alike_bound (suc (length b)) b here deeper m n (run p (silent b here deeper m)) (run (mute p) (silent b here deeper n)) (muted p b here deeper m n h a) o i
+
+-- The table.
+
+-- the same rows, but for texts, lifetimes and the value position
+abbrev SameRows : List (String × Items) → List (String × Items) → Type 0
+SameRows [] [] = Unit {0}
+SameRows [] (s ∷ ss) = ⊥
+SameRows (r ∷ rs) [] = ⊥
+SameRows (r ∷ rs) (s ∷ ss) = (r.0 ≡ s.0) × (mute r.1 ≡ mute s.1) × SameRows rs ss
+
+same_choice : (c : Bool) (p q p' q' : Items) → mute p ≡ mute q → mute p' ≡ mute q' → mute (cond c p p') ≡ mute (cond c q q')
+same_choice true p q p' q' e f = e
+same_choice false p q p' q' e f = f
+
+same_row : (tag : ℕ) (p : Items) (rs ss : List (String × Items)) → SameRows rs ss → mute (row_of tag p rs) ≡ mute (row_of tag p ss)
+same_row tag p [] [] h = refl
+same_row tag p [] (s ∷ ss) h = absurd h
+same_row tag p (r ∷ rs) [] h = absurd h
+same_row tag p (r ∷ rs) (s ∷ ss) h =
+    ap (λ (x : String). mute (cond (is_among tag (codes x)) r.1 (row_of tag p rs))) h.0
+    ∙ same_choice (is_among tag (codes s.0)) r.1 s.1 (row_of tag p rs) (row_of tag p ss) h.1 (same_row tag p rs ss h.2)
+
+same_for_all : {A B : Type 0} {f g : A → B} → ((x : A) → f x ≡ g x) → f ≡ g
+same_for_all h = λ i x. h x i
+
+path_same : (tag : ℕ) → mute (path true tag) ≡ mute (path false tag)
+path_same tag = same_row tag invalid (path_rows true) (path_rows false) ((refl, refl, (refl, refl, (refl, refl, (refl, refl, (refl, refl, (refl, refl, (refl, refl, tt))))))))
+
+variant_same : (tag : ℕ) → mute (variant done tag) ≡ mute (variant (says "}" done) tag)
+variant_same tag = same_row tag invalid (variant_rows done) (variant_rows (says "}" done)) (refl, refl, (refl, refl, (refl, refl, tt)))
+
+constant_same : (tag : ℕ) → mute (constant true tag) ≡ mute (constant false tag)
+constant_same tag = same_row tag invalid (constant_rows true tag) (constant_rows false tag)
+    (refl, refl, (refl, refl, (refl, refl, (refl, refl, (refl, refl, (refl, refl, (refl, refl, (refl, refl, (refl, refl, (refl, refl, (refl, ap (λ (f : ℕ → Items). child a_path false (byte f)) (same_for_all variant_same), (refl, refl, tt))))))))))))
+
+items_same : (kind : Kind) → mute (items kind true) ≡ mute (items kind false)
+items_same a_path = ap (λ (f : ℕ → Items). raise (byte f)) (same_for_all path_same)
+items_same a_type = refl
+items_same a_constant = ap (λ (f : ℕ → Items). byte (λ tag. raise (f tag))) (same_for_all constant_same)
+items_same a_pattern = refl
+items_same a_trait_path = refl
+
+items_alike : (kind : Kind) (v w : Bool) → mute (items kind v) ≡ mute (items kind w)
+items_alike kind true true = refl
+items_alike kind true false = items_same kind
+items_alike kind false true = sym (items_same kind)
+items_alike kind false false = refl
+
+-- The levels.
+
+unit_uniform : (plain : Bool) (b : List ℕ) (here : Level) (deeper : List Level) → Uniform plain here → AllUniform plain deeper → (kind : Kind) (v w : Bool) (m n : ℕ) (i : Place)
+    → of plain false (run (items kind v) (silent b here deeper m) i) ≡ of plain false (run (items kind w) (silent b here deeper n) i)
+unit_uniform plain b here deeper h a kind v w m n i =
+    muted plain (items kind v) b here deeper m 0 h a i
+    ∙ (ap (λ (p : Items). of plain false (run p (silent b here deeper 0) i)) (items_alike kind v w)
+    ∙ sym (muted plain (items kind w) b here deeper n 0 h a i))
+
+level_uniform : (plain : Bool) (b : List ℕ) (ls : List Level) → AllUniform plain ls → Uniform plain (level_of b ls)
+unfolding level_of
+level_uniform plain b ls a kind v w m n i =
+    let inner : Level = λ pr k u o j. run (items k u) (record { symbol = b; printed = pr; here = nowhere; deeper = ls; lifetimes = o }) (Some j) in
+    unit_uniform plain b inner ls (λ k x y o o' j. unit_uniform plain b nowhere ls (λ _ _ _ _ _ _. refl) a k x y o o' (Some j)) a kind v w m n (Some i)
+
+pub levels_uniform : (plain : Bool) (b : List ℕ) (left : ℕ) → AllUniform plain (levels b left)
+unfolding levels
+levels_uniform plain b zero = tt
+levels_uniform plain b (suc left) = (level_uniform plain b (levels b left) (levels_uniform plain b left), levels_uniform plain b left)
+
+-- a unit that is not printed: no lifetimes in force and no value position are heard
+pub silent_unit : (plain : Bool) (b : List ℕ) (left : ℕ) (kind : Kind) (v w : Bool) (m n i : ℕ) → of plain false (level_of b (levels b left) false kind v m i) ≡ of plain false (level_of b (levels b left) false kind w n i)
+silent_unit plain b left kind v w m n i = level_uniform plain b (levels b left) (levels_uniform plain b left) kind v w m n i

@@ -1,0 +1,50 @@
+-- A path that is read and not printed: its looks within the account of what is printed.
+use Rattle.std.specs.Prelude.{ℕ, ◌+◌}
+use Rattle.std.proofs.Common.{◌≡◌, Bool, false, List, [], ◌∷◌, ◌++◌, Some, None, refl, ap, ◌∙◌}
+use Rattle.demangle_grammar.specs.Totals.{total}
+use Rattle.demangle_grammar.specs.Events.{Event, shows, allows, events, shown_in, allowed_all, Heard, of, and_then, with_looks, around}
+use Rattle.demangle_grammar.specs.Items.{a_path, Items, skip}
+use Rattle.demangle_grammar.specs.Reading.{Place, Outcome, Surroundings, run, level_of, levels}
+use Rattle.demangle_grammar.specs.Running.{allowed_in}
+use Rattle.demangle_grammar.proofs.PrintingSteps.{quiet_events}
+use Rattle.demangle_grammar.proofs.Silence.{silent_unit}
+
+-- the looks that are allowed, one after another
+abbrev pub allowances : List Event → List ℕ
+allowances [] = []
+allowances (shows t ∷ xs) = allowances xs
+allowances (allows k ∷ xs) = k ∷ allowances xs
+
+pub total_allowances : (xs : List Event) → total (allowances xs) ≡ allowed_in xs
+total_allowances [] = refl
+total_allowances (shows t ∷ xs) = total_allowances xs
+total_allowances (allows k ∷ xs) = ap (λ n. k + n) (total_allowances xs)
+
+some_none : {A : Type 0} (x : A) (xs : List A) → x ∷ xs ≡ [] → ⊥
+some_none x xs e = cc
+
+only_allowed : (xs ys : List Event) → shown_in xs ≡ [] → xs ++ ys ≡ allowed_all (allowances xs) ys
+only_allowed [] ys e = refl
+only_allowed (shows t ∷ xs) ys e = absurd (some_none t (shown_in xs) e)
+only_allowed (allows k ∷ xs) ys e = ap (λ zs. allows k ∷ zs) (only_allowed xs ys e)
+
+-- what is not printed allows looks, and nothing else
+pub silent_allowed : (plain : Bool) (o : Outcome) (k : Place → Bool → Heard) → and_then (of plain false o) k ≡ with_looks (allowances (of plain false o).events) (k o.place o.is_open)
+silent_allowed plain o k = let g = k o.place o.is_open in ap (λ xs. record { events = xs; place = g.place; is_open = g.is_open }) (only_allowed (events plain false o.tree) g.events (quiet_events plain o.tree))
+
+-- a path that is not printed, with so many depths left
+abbrev pub path_heard : Bool → List ℕ → ℕ → Bool → ℕ → ℕ → Heard
+path_heard plain b left value m i = of plain false (level_of b (levels b left) false a_path value m i)
+
+-- Where it is skipped, the looks that its reading allows are allowed there, and it goes on where its reading ends: with
+-- any lifetimes in force in that reading, and in value position or not.
+pub skip_reads : (plain out : Bool) (b : List ℕ) (left n : ℕ) (value : Bool) (m : ℕ) (p : Items) (i : ℕ)
+    → of plain out (run (skip p) (around b out left n) (Some i)) ≡ with_looks (allowances (path_heard plain b left value m i).events) (of plain out (run p (around b out left n) (path_heard plain b left value m i).place))
+unfolding run
+skip_reads plain out b left n value m p i =
+    ap (λ (h : Heard). and_then h (λ j _. of plain out (run p (around b out left n) j))) (silent_unit plain b left a_path false value n m i)
+    ∙ silent_allowed plain (level_of b (levels b left) false a_path value m i) (λ j _. of plain out (run p (around b out left n) j))
+
+pub skip_failed : (plain out : Bool) (p : Items) (s : Surroundings) → of plain out (run (skip p) s None) ≡ of plain out (run p s None)
+unfolding run
+skip_failed plain out p s = refl

@@ -1,0 +1,30 @@
+-- A whole v0 symbol, with its prefix.
+use Rattle.std.specs.Prelude.{◌≡◌, ◌⊎◌, ℕ, true, ◌&&◌, if◌then◌else◌, nat_lt, List, ◌++◌, drop, Option, Some, None, codes, IsAscii}
+use Rattle.std.specs.List.{list_all}
+use Rattle.demangle_symbol.specs.Prefix.{behind_prefix}
+use Rattle.demangle_symbol.specs.Words.{then_if_some, some_or}
+use Rattle.demangle_grammar.specs.Reading.{goes_on_at, suffix_place}
+use Rattle.demangle_grammar.specs.Spelling.{IsPaths}
+
+abbrev pub IsV0Prefix : List ℕ → Type 0
+IsV0Prefix p = (p ≡ codes "_R") ⊎ (p ≡ codes "R") ⊎ (p ≡ codes "__R")
+
+-- the symbol is a v0 one with these bytes behind its prefix, ASCII that begins with `A` to `Z`, and ends with this suffix
+abbrev pub IsV0 : List ℕ → List ℕ → List ℕ → Type 0
+IsV0 symbol inner suffix =
+    (prefix : List ℕ) × (symbol ≡ prefix ++ inner) × IsV0Prefix prefix × IsAscii inner × (goes_on_at inner 0 ≡ true)
+    × ((k : ℕ) × IsPaths inner k × (suffix ≡ drop k inner))
+
+-- the bytes behind a v0 prefix
+abbrev pub v0_inner : List ℕ → Option (List ℕ)
+v0_inner s = some_or (some_or (behind_prefix (codes "__R") s) (behind_prefix (codes "R") s) Some) (behind_prefix (codes "_R") s) Some
+
+-- these bytes behind a prefix, and the suffix
+unfoldable pub v0_in : List ℕ → Option (List ℕ × List ℕ)
+v0_in inner =
+    if list_all (λ b. nat_lt b 128) inner && goes_on_at inner 0 then then_if_some (suffix_place inner) (λ k. Some (inner, drop k inner))
+    else None
+
+-- the bytes behind the prefix, and the suffix, as they are read
+unfoldable pub v0_of : List ℕ → Option (List ℕ × List ℕ)
+v0_of symbol = then_if_some (v0_inner symbol) v0_in

@@ -1,0 +1,54 @@
+//! Points that do no more than leave a mark.
+ghost use Rattle.std.specs.Prelude.{◌≡◌, ℕ, List, Bool, Ok, IsSome};
+ghost use Rattle.demangle_v0.specs.Marks.{left_at};
+ghost use Rattle.demangle_v0.specs.Points.{Fits, PointDoes, env, turn};
+ghost use Rattle.demangle_v0.specs.declared.points.frames.Frame.{Frame};
+
+use crate::points::{Point, State};
+use demangle_words::texts::Mark;
+use demangle_words::voice::Voice;
+
+/// The mark that a point leaves, where it goes on, and whether that stands in value position.
+#[derive(Clone, Copy)]
+pub struct Left {
+    mark: Mark,
+    next: Point,
+    in_value: bool,
+}
+
+/// What a point leaves that does no more.
+#[inline(always)]
+fn left_at(point: Point) -> Option<Left>
+    ensures { result ≡ left_at point }
+{
+    let (mark, next, in_value) = match point {
+        Point::CloseParen => (Mark::CloseParen, Point::End, false),
+        Point::CloseAngle => (Mark::Greater, Point::End, false),
+        Point::Mutable => (Mark::Mutable, Point::Type, false),
+        Point::TextConstant => (Mark::Star, Point::Literal, false),
+        Point::ReferenceConstant => (Mark::Ampersand, Point::Constant, true),
+        _ => return None,
+    };
+    Some(Left {
+        mark,
+        next,
+        in_value,
+    })
+}
+
+/// Leaves the mark of a point that does no more.
+#[inline(always)]
+pub(super) fn leave<V: Voice>(point: Point, state: &mut State) -> Point
+    requires listed { IsSome (left_at point) }
+    requires fits { Fits point state.old.depth_left state.old.lifetimes }
+    ensures did { (b : List ℕ) (plain : Bool) (v : V) (row : List Frame) (n : ℕ) → PointDoes (env
+        V.Voice b plain) point (turn state.old row v n) (Ok result) (turn state.new row v n) }
+{
+    let Some(left) = left_at(point) else {
+        return Point::End;
+    };
+    state.mark = Some(left.mark);
+    state.in_value = left.in_value;
+    state.is_open = false;
+    left.next
+}

@@ -1,0 +1,4 @@
+pub mod GroupReads
+pub mod HexDigits
+pub mod StretchTexts
+pub mod TagRows

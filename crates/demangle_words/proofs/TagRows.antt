@@ -1,0 +1,37 @@
+-- What is found by a tag is what the table has, row by row.
+use Rattle.std.specs.Prelude.{ℕ, map, codes}
+use Prim.Native.String.{String}
+use Rattle.std.proofs.Common.{◌≡◌, Bool, true, false, cond, List, [], ◌∷◌, Some, refl, ap, ◌∙◌}
+use Rattle.demangle_symbol.specs.Words.{some_or, then_if_some}
+use Rattle.demangle_grammar.specs.Items.{Items}
+use Rattle.demangle_grammar.specs.Table.{is_among, row_of, row_text, basic_types}
+use Rattle.demangle_words.specs.Texts.{text, found, basic_marks}
+use Rattle.demangle_words.specs.declared.texts.Mark.{Mark}
+
+-- the rows of kinds
+abbrev pub rows_of : {A : Type 0} → (A → Items) → List (String × A) → List (String × Items)
+rows_of {A = A} f rs = map (λ (r : String × A). (r.0, f r.1)) rs
+
+pub row_found : {A : Type 0} (tag : ℕ) (other : Items) (f : A → Items) (rs : List (String × A)) → row_of tag other (rows_of f rs) ≡ some_or other (found tag rs) f
+row_found tag other f [] = refl
+row_found tag other f (r ∷ rs) = go (is_among tag (codes r.0)) (row_found tag other f rs)
+  where
+    go : (c : Bool) → row_of tag other (rows_of f rs) ≡ some_or other (found tag rs) f → cond c (f r.1) (row_of tag other (rows_of f rs)) ≡ some_or other (cond c (Some r.1) (found tag rs)) f
+    go true h = refl
+    go false h = h
+
+-- the same of the texts of basic types
+text_found : (tag : ℕ) (rs : List (String × String)) → row_text tag rs ≡ found tag (map (λ (r : String × String). (r.0, codes r.1)) rs)
+text_found tag [] = refl
+text_found tag (r ∷ rs) = ap (cond (is_among tag (codes r.0)) (Some (codes r.1))) (text_found tag rs)
+
+mark_found : (tag : ℕ) (rs : List (String × Mark)) → found tag (map (λ (r : String × Mark). (r.0, text r.1)) rs) ≡ then_if_some (found tag rs) (λ m. Some (text m))
+mark_found tag [] = refl
+mark_found tag (r ∷ rs) = go (is_among tag (codes r.0)) (mark_found tag rs)
+  where
+    go : (c : Bool) → found tag (map (λ (r : String × Mark). (r.0, text r.1)) rs) ≡ then_if_some (found tag rs) (λ m. Some (text m)) → cond c (Some (text r.1)) (found tag (map (λ (r : String × Mark). (r.0, text r.1)) rs)) ≡ then_if_some (cond c (Some r.1) (found tag rs)) (λ m. Some (text m))
+    go true h = refl
+    go false h = h
+
+pub basic_found : (tag : ℕ) → row_text tag basic_types ≡ then_if_some (found tag basic_marks) (λ m. Some (text m))
+basic_found tag = text_found tag basic_types ∙ mark_found tag basic_marks

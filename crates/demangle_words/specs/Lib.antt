@@ -1,0 +1,6 @@
+-- Internal.
+pub mod Groups
+pub mod Serving
+pub mod Stretches
+pub mod Tags
+pub mod Texts

@@ -1,0 +1,11 @@
+//! The words of v0 symbols (RFC 2603) and their fixed texts: how a word is read, where a back
+//! reference leads, and how what was read is put into a sink.
+#![tactic(auto)]
+
+pub mod read;
+pub mod reference;
+pub mod render;
+pub mod stretch;
+pub mod tags;
+pub mod texts;
+pub mod voice;

@@ -1,0 +1,90 @@
+//! The words of a v0 symbol that are read in one step, and what they hand over.
+ghost use Rattle.std.specs.Prelude.{◌≡◌, ℕ, ◌+◌, ◌≤◌, Some, List};
+ghost use Rattle.demangle_grammar.specs.Totals.{total};
+ghost use Rattle.demangle_words.specs.Serving.{LiesIn};
+ghost use Rattle.demangle_words.specs.Groups.{read_stretch, looks_later, word_group, word_failed};
+
+use crate::read::constants::{read_character, read_literal, read_number, read_truth};
+use crate::read::functions::read_head;
+use crate::read::lifetimes::{read_dyn, read_lifetime};
+use crate::read::names::{read_binding, read_field};
+use crate::stretch::{Abi, Stretch};
+use crate::texts::{Mark, Word};
+use demangle_symbol::cursor::{Looks, Symbol};
+
+mod constants;
+mod functions;
+mod lifetimes;
+pub mod names;
+
+/// What became of a word.
+#[derive(Clone, Copy)]
+pub enum WordRead {
+    /// The unit goes on at the place.
+    Goes(Stretch, Option<usize>),
+    /// The unit ends with this text.
+    Stops(Mark),
+}
+
+/// Reads a word; a number has a tag.
+#[inline(always)]
+pub fn read_word(
+    symbol: &Symbol<'_>,
+    word: Word,
+    tag: u8,
+    output: bool,
+    lifetimes: u128,
+    place: Option<usize>,
+    looks: &mut Looks,
+) -> WordRead
+    ensures value { result ≡ (word_group symbol.now word tag output lifetimes place).reads }
+    ensures grows { looks.old ≤ looks.new }
+    ensures looks { looks.new + looks_later (read_stretch result) ≤ looks.old + total (word_group
+        symbol.now word tag output lifetimes place).costs }
+    ensures lies { LiesIn symbol.now (read_stretch result) }
+{
+    let Some(at) = place else {
+        return word_failed(word);
+    };
+    match word {
+        Word::FieldName => read_field(symbol, at, looks),
+        Word::BindingName => read_binding(symbol, at, looks),
+        Word::LifetimeIndex => read_lifetime(symbol, output, lifetimes, at, looks),
+        Word::DynLifetime => read_dyn(symbol, output, lifetimes, at, looks),
+        Word::FunctionHead => read_head(symbol, at, looks),
+        Word::Number => read_number(symbol, tag, at, looks),
+        Word::Truth => read_truth(symbol, at, looks),
+        Word::Character => read_character(symbol, at, looks),
+        Word::Literal => read_literal(symbol, at, looks),
+    }
+}
+
+/// What a word hands over where the reading has failed.
+#[inline(always)]
+fn word_failed(word: Word) -> WordRead
+    ensures value { result ≡ word_failed word }
+    ensures later { looks_later (read_stretch result) ≡ 0 }
+    ensures lies { (b : List ℕ) → LiesIn b (read_stretch result) }
+{
+    match word {
+        Word::DynLifetime => faulty(),
+        Word::FunctionHead => WordRead::Goes(Stretch::FunctionHead(false, Abi::Rust), None),
+        _ => WordRead::Stops(Mark::Unread),
+    }
+}
+
+/// A word that is not spelled.
+#[inline(always)]
+fn faulty() -> WordRead
+    ensures { result ≡ WordRead.Stops Mark.Invalid }
+{
+    WordRead::Stops(Mark::Invalid)
+}
+
+/// A word that was read, and the place behind it.
+#[inline(always)]
+fn goes(stretch: Stretch, next: usize) -> WordRead
+    ensures { result ≡ WordRead.Goes stretch (Some next) }
+{
+    WordRead::Goes(stretch, Some(next))
+}

@@ -1,0 +1,70 @@
+//! Names, and disambiguators.
+ghost use Rattle.std.specs.Prelude.{◌≡◌, ℕ, ◌+◌, ◌-◌, ◌≤◌, Some, IfSome, IfNone, MatchOption};
+ghost use Rattle.demangle_grammar.specs.Totals.{total};
+ghost use Rattle.demangle_words.specs.Serving.{LiesIn};
+ghost use Rattle.demangle_words.specs.Groups.{read_stretch, looks_later, named_group, field_group, binding_group};
+ghost use Rattle.demangle_symbol.specs.Idents.{LiesWithin, name_size};
+ghost use Rattle.demangle_words.specs.declared.read.WordRead.TheVariants.{Goes, Stops};
+ghost use Rattle.demangle_words.specs.declared.stretch.Stretch.{Stretch};
+ghost use Rattle.demangle_words.specs.declared.texts.Mark.{Mark};
+ghost use Rattle.demangle_symbol.specs.declared.cursor.ident.Ident.{Ident};
+
+use crate::read::{WordRead, faulty, goes};
+use crate::stretch::Stretch;
+use demangle_symbol::cursor::{Ident, Looks, Symbol};
+
+/// A name behind a disambiguator, its number, and the place behind it.
+#[inline(always)]
+pub fn numbered_name(
+    symbol: &Symbol<'_>,
+    place: usize,
+    looks: &mut Looks,
+) -> Option<(Ident, u64, usize)>
+    ensures some { (f : Ident → ℕ → Stretch) → IfSome result (λ r. Goes (f r.0 r.1) (Some r.2) ≡
+        (named_group symbol.now place f).reads) }
+    ensures none { (f : Ident → ℕ → Stretch) → IfNone result (Stops Mark.Invalid ≡ (named_group
+        symbol.now place f).reads) }
+    ensures grows { looks.old ≤ looks.new }
+    ensures looks { (f : Ident → ℕ → Stretch) → MatchOption result (looks.new ≤ looks.old + total
+        (named_group symbol.now place f).costs) (λ r. looks.new + name_size r.0 ≤ looks.old + total
+        (named_group symbol.now place f).costs) }
+    ensures lies { IfSome result (λ r. LiesWithin symbol.now r.0) }
+{
+    let Ok((number, at)) = symbol.disambiguator(place, looks) else {
+        return None;
+    };
+    let Ok((ident, next)) = symbol.ident(at, looks) else {
+        return None;
+    };
+    Some((ident, number, next))
+}
+
+/// The name of a field, whose disambiguator is not printed.
+#[inline(always)]
+pub(super) fn read_field(symbol: &Symbol<'_>, place: usize, looks: &mut Looks) -> WordRead
+    ensures value { result ≡ (field_group symbol.now place).reads }
+    ensures grows { looks.old ≤ looks.new }
+    ensures looks { looks.new + looks_later (read_stretch result) ≤ looks.old + total (field_group
+        symbol.now place).costs }
+    ensures lies { LiesIn symbol.now (read_stretch result) }
+{
+    match numbered_name(symbol, place, looks) {
+        Some((ident, _, next)) => goes(Stretch::FieldName(ident), next),
+        None => faulty(),
+    }
+}
+
+/// The name of a binding.
+#[inline(always)]
+pub(super) fn read_binding(symbol: &Symbol<'_>, place: usize, looks: &mut Looks) -> WordRead
+    ensures value { result ≡ (binding_group symbol.now place).reads }
+    ensures grows { looks.old ≤ looks.new }
+    ensures looks { looks.new + looks_later (read_stretch result) ≤ looks.old + total (binding_group
+        symbol.now place).costs }
+    ensures lies { LiesIn symbol.now (read_stretch result) }
+{
+    match symbol.ident(place, looks) {
+        Ok((ident, next)) => goes(Stretch::BindingName(ident), next),
+        Err(_) => faulty(),
+    }
+}

@@ -1,0 +1,151 @@
+//! What begins with a tag.
+ghost use Rattle.std.specs.Prelude.{◌≡◌};
+ghost use Rattle.demangle_words.specs.Texts.{found};
+ghost use Rattle.demangle_words.specs.Tags.{path_kinds, type_kinds, constant_kinds, variant_kinds, pattern_kinds};
+
+/// What begins with the tag of a path.
+#[derive(Clone, Copy)]
+pub enum PathKind {
+    CrateRoot,
+    Nested,
+    InherentImpl,
+    TraitImpl,
+    TraitDefinition,
+    Generic,
+    Reference,
+}
+
+/// Which path begins with a tag.
+#[inline(always)]
+pub fn path_kind(tag: u8) -> Option<PathKind>
+    ensures { result ≡ found tag path_kinds }
+{
+    match tag {
+        b'C' => Some(PathKind::CrateRoot),
+        b'N' => Some(PathKind::Nested),
+        b'M' => Some(PathKind::InherentImpl),
+        b'X' => Some(PathKind::TraitImpl),
+        b'Y' => Some(PathKind::TraitDefinition),
+        b'I' => Some(PathKind::Generic),
+        b'B' => Some(PathKind::Reference),
+        _ => None,
+    }
+}
+
+/// What begins with the tag of a type that is no basic one.
+#[derive(Clone, Copy)]
+pub enum TypeKind {
+    SharedReference,
+    MutReference,
+    ConstPointer,
+    MutPointer,
+    Array,
+    Slice,
+    Tuple,
+    Function,
+    Dyn,
+    Reference,
+    Pattern,
+}
+
+/// Which type begins with a tag, that is no basic type.
+#[inline(always)]
+pub fn type_kind(tag: u8) -> Option<TypeKind>
+    ensures { result ≡ found tag (type_kinds tag) }
+{
+    match tag {
+        b'R' => Some(TypeKind::SharedReference),
+        b'Q' => Some(TypeKind::MutReference),
+        b'P' => Some(TypeKind::ConstPointer),
+        b'O' => Some(TypeKind::MutPointer),
+        b'A' => Some(TypeKind::Array),
+        b'S' => Some(TypeKind::Slice),
+        b'T' => Some(TypeKind::Tuple),
+        b'F' => Some(TypeKind::Function),
+        b'D' => Some(TypeKind::Dyn),
+        b'B' => Some(TypeKind::Reference),
+        b'W' => Some(TypeKind::Pattern),
+        _ => None,
+    }
+}
+
+/// What begins with the tag of a constant.
+#[derive(Clone, Copy)]
+pub enum ConstantKind {
+    Placeholder,
+    Unsigned,
+    Signed,
+    Bool,
+    Char,
+    Text,
+    Shared,
+    Mutable,
+    Array,
+    Tuple,
+    Variant,
+    Reference,
+}
+
+/// Which constant begins with a tag.
+#[inline(always)]
+pub fn constant_kind(tag: u8) -> Option<ConstantKind>
+    ensures { result ≡ found tag constant_kinds }
+{
+    match tag {
+        b'p' => Some(ConstantKind::Placeholder),
+        b'h' | b't' | b'm' | b'y' | b'o' | b'j' => Some(ConstantKind::Unsigned),
+        b'a' | b's' | b'l' | b'x' | b'n' | b'i' => Some(ConstantKind::Signed),
+        b'b' => Some(ConstantKind::Bool),
+        b'c' => Some(ConstantKind::Char),
+        b'e' => Some(ConstantKind::Text),
+        b'R' => Some(ConstantKind::Shared),
+        b'Q' => Some(ConstantKind::Mutable),
+        b'A' => Some(ConstantKind::Array),
+        b'T' => Some(ConstantKind::Tuple),
+        b'V' => Some(ConstantKind::Variant),
+        b'B' => Some(ConstantKind::Reference),
+        _ => None,
+    }
+}
+
+/// What a variant holds.
+#[derive(Clone, Copy)]
+pub enum VariantKind {
+    Unit,
+    Tuple,
+    Fields,
+}
+
+/// Which fields of a variant begin with a tag.
+#[inline(always)]
+pub fn variant_kind(tag: u8) -> Option<VariantKind>
+    ensures { result ≡ found tag variant_kinds }
+{
+    match tag {
+        b'U' => Some(VariantKind::Unit),
+        b'T' => Some(VariantKind::Tuple),
+        b'S' => Some(VariantKind::Fields),
+        _ => None,
+    }
+}
+
+/// What begins with the tag of a pattern.
+#[derive(Clone, Copy)]
+pub enum PatternKind {
+    Range,
+    Or,
+    NotNull,
+}
+
+/// Which pattern begins with a tag.
+#[inline(always)]
+pub fn pattern_kind(tag: u8) -> Option<PatternKind>
+    ensures { result ≡ found tag pattern_kinds }
+{
+    match tag {
+        b'R' => Some(PatternKind::Range),
+        b'O' => Some(PatternKind::Or),
+        b'N' => Some(PatternKind::NotNull),
+        _ => None,
+    }
+}
