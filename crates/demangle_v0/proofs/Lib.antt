@@ -8,7 +8,6 @@ pub mod Elements
 pub mod Extended
 pub mod Failed
 pub mod FailedRows
-pub mod FrameRows
 pub mod GrammarRows
 pub mod GroupReads
 pub mod Hearing

@@ -3,6 +3,8 @@ ghost use Rattle.std.specs.Prelude.{◌≡◌, ◌^◌, ◌+◌, ◌<◌, ◌≤
 ghost use Rattle.demangle_v0.specs.Packing.{packed_frame};
 
 use crate::points::Point;
+use arrayvec::ArrayVec;
+use std::default::Default;
 use std::marker::Model;
 use std::mem;
 
@@ -36,15 +38,20 @@ struct Packed {
 
 const _: () = prove!(mem::size_of::<Packed>() == 16);
 
-/// What lies where no frame stands.
-const EMPTY: Packed = Packed {
-    low: 0,
-    high: 0,
-    depth_left: 0,
-    point: Point::End,
-    in_value: false,
-    letter: 0,
-};
+impl Default for Packed {
+    /// What lies where no frame stands.
+    #[inline(always)]
+    fn default() -> Self {
+        Packed {
+            low: 0,
+            high: 0,
+            depth_left: 0,
+            point: Point::End,
+            in_value: false,
+            letter: 0,
+        }
+    }
+}
 
 /// The frame as it lies in the row.
 #[inline(always)]
@@ -81,29 +88,22 @@ pub const FEW: usize = 32;
 /// How many frames a row holds in which there is room for all that can ever stand there.
 pub const MOST: usize = 4096;
 
-/// The places of a row: a struct, since an array of structs in `FrameStack` gets `len` no proof.
-#[derive(Clone, Copy)]
-struct Places<const N: usize> {
-    frames: [Packed; N],
-}
-
 /// The frames that stand, at most `N`, the topmost last.
 #[derive(Drop)]
 pub struct FrameStack<const N: usize> {
-    places: Places<N>,
-    len: usize,
+    frames: ArrayVec<Packed, N>,
 }
 
 impl<const N: usize> Model for FrameStack<N> {
-    ghost use Rattle.std.specs.Prelude.{◌≡◌, ◌≤◌, List, length, map, take};
+    ghost use Rattle.std.specs.Prelude.{◌≤◌, List, length, map};
     ghost use Rattle.demangle_v0.specs.declared.points.frames.Frame.{Frame};
     ghost use Rattle.demangle_v0.specs.Packing.{packed_frame};
 
     ghost Value = { List Frame };
 
-    ghost view = { λ row. map packed_frame (take row.len row.places.frames) };
+    ghost view = { λ row. map packed_frame row.frames.items };
 
-    ghost invariant = { λ row. (row.len ≤ N) × (length row.places.frames ≡ N) };
+    ghost invariant = { λ row. length row.frames.items ≤ N };
 }
 
 impl<const N: usize> FrameStack<N> {
@@ -113,8 +113,7 @@ impl<const N: usize> FrameStack<N> {
         ensures { result ≡ [] }
     {
         FrameStack {
-            places: Places { frames: [EMPTY; N] },
-            len: 0,
+            frames: ArrayVec::new(),
         }
     }
 
@@ -123,7 +122,7 @@ impl<const N: usize> FrameStack<N> {
     pub fn len(&self) -> usize
         ensures { result ≡ length self.now }
     {
-        self.len
+        self.frames.len()
     }
 
     /// Puts a frame on top.
@@ -133,8 +132,7 @@ impl<const N: usize> FrameStack<N> {
         ensures pushed { frame.number < 2 ^ 80 → self.new ≡ self.old ++ frame ∷ [] }
         ensures length { length self.new ≡ length self.old + 1 }
     {
-        self.places.frames[self.len] = pack(frame);
-        self.len += 1;
+        self.frames.push(pack(frame));
     }
 
     /// Puts all frames of another row on top.
@@ -142,19 +140,14 @@ impl<const N: usize> FrameStack<N> {
         requires room { length self.old + length other.now ≤ N }
         ensures { self.new ≡ self.old ++ other.now }
     {
-        let end = self.len + other.len;
-        let to = &mut self.places.frames[..];
-        to[self.len..end].copy_from_slice(&other.places.frames[..other.len]);
-        self.len = end;
+        let _ = self.frames.try_extend_from_slice(other.frames.as_slice());
     }
 
     /// Keeps so many frames, those at the bottom.
     pub fn truncate(&mut self, count: usize)
         ensures { self.new ≡ take count self.old }
     {
-        if count < self.len {
-            self.len = count;
-        }
+        self.frames.truncate(count);
     }
 
     /// Takes the topmost frame off, if one stands.
@@ -164,10 +157,6 @@ impl<const N: usize> FrameStack<N> {
         ensures none { IfNone result (self.old ≡ []) }
         ensures same { IfNone result (self.new ≡ self.old) }
     {
-        if self.len == 0 {
-            return None;
-        }
-        self.len -= 1;
-        Some(unpack(self.places.frames[self.len]))
+        Some(unpack(self.frames.pop()?))
     }
 }

@@ -1,9 +1,8 @@
-use Rattle.std.specs.Prelude.{take}
-use Rattle.std.proofs.Common.{ap, ◌∙◌, arith}
-use Rattle.demangle_v0.proofs.FrameRows.{row_kept}
+use Rattle.std.specs.Prelude.{map, take}
+use Rattle.std.proofs.Common.{ap, sym, ◌∙◌}
+use Rattle.std.proofs.lemmas.List.{take-map}
+use Rattle.demangle_v0.specs.Packing.{packed_frame}
 use Rattle.demangle_v0.proofs.points.frames.FrameStack.truncate.Goals as goal
 
-pub returns-then-count-self : goal.returns-then-count-self
-returns-then-count-self g c =
-    row_kept c.args.count c.self.inside.len c.self.inside.places.frames (omega (arith, c.if-count-self.true))
-    ∙ ap (take c.args.count) c.self.view_is
+pub returns : goal.returns
+returns g c = ap (map packed_frame) c.truncate.ensures.items ∙ (sym (take-map packed_frame c.args.count c.self.inside.frames.items) ∙ ap (take c.args.count) c.self.view_is)
