@@ -1,6 +1,6 @@
 -- The points of the arguments of a path.
 use Rattle.std.specs.Prelude.{◌*◌}
-use Rattle.std.proofs.Common.{◌≡◌, ℕ, ◌+◌, ◌≤◌, Bool, true, false, if◌then◌else◌, Some, None, List, [], ◌∷◌, ◌++◌, Result, Ok, refl, arith, ap, ◌∙◌}
+use Rattle.std.proofs.Common.{◌≡◌, ℕ, ◌+◌, ◌≤◌, Bool, true, false, if◌then◌else◌, Some, None, List, [], ◌∷◌, ◌++◌, Result, Ok, refl, arith, ap, ◌∙◌, length}
 use Prim.Native.Char.{code}
 use Rattle.demangle_symbol.specs.Digits.{is_byte}
 use Rattle.demangle_v0.specs.Items.{done, unit}
@@ -11,7 +11,7 @@ use Rattle.demangle_v0.specs.declared.grammar.Word.TheVariants as word
 use Rattle.demangle_v0.specs.Table.{more, argument, says}
 use Rattle.demangle_v0.specs.Reading.{Place, run}
 use Rattle.demangle_v0.specs.Arguments.{separator, arguments_point, argument_point, argument_place, argument_costs}
-use Rattle.demangle_v0.specs.Points.{frame_of, then_frame, share_at, none_open, around, mark_texts, way_weight, weight_at, height_at, Fits, DidOn, Did}
+use Rattle.demangle_v0.specs.Points.{frame_of, then_frame, share_at, none_open, around, mark_texts, way_weight, weight_at, height_at, Fits, DidOn, Did, words_at}
 use Rattle.demangle_v0.specs.declared.grammar.Mark.TheVariants as mark
 use Rattle.demangle_v0.specs.declared.points.Point.{Point}
 use Rattle.demangle_v0.specs.declared.points.Point.TheVariants as point
@@ -38,6 +38,10 @@ module _ {V : Type 0} (voice : Ghosts V) (b : List ℕ) (plain : Bool) where
   over_so true v c left n i o e = ap none_open (end_over plain voice.loud (around b voice.loud left n) (says ">" done) (unit argument (more ", " argument (says ">" done))) i e)
   over_so false v c left n i o e = ap none_open (more_over plain voice.loud (around b voice.loud left n) ", " argument (says ">" done) i e)
 
+  words_so : (first : Bool) → words_at (arguments_point first) ≡ 8
+  words_so true = refl
+  words_so false = refl
+
   weight_so : (first : Bool) → weight_at (arguments_point first) ≡ 1
   weight_so true = refl
   weight_so false = refl
@@ -48,18 +52,18 @@ module _ {V : Type 0} (voice : Ghosts V) (b : List ℕ) (plain : Bool) where
 
   pub failed_closes : (first : Bool) (v : Bool) (c left n : ℕ) (o : Bool) (row : List Frame) (u : V) (new : State) (made : ℕ) → made ≤ 0
       → new.place ≡ None → new.mark ≡ Some mark.Greater → new.is_open ≡ false
-      → DidOn voice b plain (heard_at voice b plain (arguments_point first) v c left n None o) (weight_at (arguments_point first)) (height_at (arguments_point first) left) row u (Ok point.End) new row u made
+      → DidOn voice b plain (words_at (arguments_point first)) (heard_at voice b plain (arguments_point first) v c left n None o) (weight_at (arguments_point first)) (height_at (arguments_point first) left) row u (Ok point.End) new row u made
   unfolding run then_frame share_at
-  failed_closes first v c left n o row u new made l kp km ko = rw (weight_so first, height_so first left)
-      (enters voice b plain _ point.End new.depth_left new.lifetimes None (Some mark.Greater) [] [] None 1 (8 * left + 2) row row u new made
+  failed_closes first v c left n o row u new made l kp km ko = rw (words_so first, weight_so first, height_so first left)
+      (enters voice b plain _ point.End new.depth_left new.lifetimes None (Some mark.Greater) [] [] (omega arith) None 1 (8 * left + 2) row row u new made
       (rw ko (failed_so first v c left n o)) refl refl kp km refl (omega (arith, l)) (omega (arith, l)) (omega arith) (omega arith) (omega arith) tt tt (λ _. tt))
 
   pub arguments_close : (first : Bool) (v : Bool) (c left n i : ℕ) (o : Bool) (row : List Frame) (u : V) (new : State) (made : ℕ) → is_byte b i (code "E") ≡ true → made ≤ 1
       → new.place ≡ Some (i + 1) → new.mark ≡ Some mark.Greater → new.is_open ≡ false
-      → DidOn voice b plain (heard_at voice b plain (arguments_point first) v c left n (Some i) o) (weight_at (arguments_point first)) (height_at (arguments_point first) left) row u (Ok point.End) new row u made
+      → DidOn voice b plain (words_at (arguments_point first)) (heard_at voice b plain (arguments_point first) v c left n (Some i) o) (weight_at (arguments_point first)) (height_at (arguments_point first) left) row u (Ok point.End) new row u made
   unfolding run then_frame share_at
-  arguments_close first v c left n i o row u new made e l kp km ko = rw (weight_so first, height_so first left)
-      (enters voice b plain _ point.End new.depth_left new.lifetimes (Some (i + 1)) (Some mark.Greater) (1 ∷ []) [] None 1 (8 * left + 2) row row u new made
+  arguments_close first v c left n i o row u new made e l kp km ko = rw (words_so first, weight_so first, height_so first left)
+      (enters voice b plain _ point.End new.depth_left new.lifetimes (Some (i + 1)) (Some mark.Greater) (1 ∷ []) [] (omega arith) None 1 (8 * left + 2) row row u new made
       (rw ko (over_so first v c left n i o e)) refl refl kp km refl (omega (arith, l)) (omega (arith, l)) (omega arith) (omega arith) (omega arith) tt tt (λ _. tt))
 
   -- An argument.
@@ -83,6 +87,13 @@ module _ {V : Type 0} (voice : Ghosts V) (b : List ℕ) (plain : Bool) where
   unfolding share_at
   on_so true v c left n i o f e = ap none_open (first_on plain voice.loud (around b voice.loud left n) ", " argument (says ">" done) i e)
   on_so false v c left n i o f e = ap none_open (more_on plain voice.loud b left n ", " argument (says ">" done) i (argument_element b voice.loud left n (omega (arith, f))) e)
+
+  costs_few : (i : ℕ) → length (argument_costs b i) ≤ 2
+  costs_few i = go (is_byte b i (code "L"))
+    where
+      go : (x : Bool) → length {A = ℕ} (if x then 1 ∷ [] else 1 ∷ 1 ∷ []) ≤ 2
+      go true = omega arith
+      go false = omega arith
 
   argument_light : (i : ℕ) → way_weight ((argument_point b i)) ≤ 1
   argument_light i = go (is_byte b i (code "L")) (is_byte b i (code "K"))
@@ -111,14 +122,14 @@ module _ {V : Type 0} (voice : Ghosts V) (b : List ℕ) (plain : Bool) where
   pub argument_goes : (first : Bool) (v : Bool) (c left n i : ℕ) (o : Bool) (row now : List Frame) (u : V) (new : State) (made : ℕ) → is_byte b i (code "E") ≡ false → made ≤ 1 + total (argument_costs b i) → made ≤ 3 → Fits point.NextArgument left n
       → new.in_value ≡ false → new.letter ≡ c → new.depth_left ≡ left → new.lifetimes ≡ n → new.place ≡ Some (argument_place b i) → new.mark ≡ separator first mark.Comma
       → now ≡ row ++ frame_of point.NextArgument v c left n ∷ []
-      → DidOn voice b plain (heard_at voice b plain (arguments_point first) v c left n (Some i) o) (weight_at (arguments_point first)) (height_at (arguments_point first) left) row u (Ok (argument_point b i)) new now u made
-  argument_goes first v c left n i o row now u new made e l m f kv kc kl kn kp km r = rw (weight_so first, height_so first left)
-      (enters voice b plain _ (argument_point b i) left n (Some (argument_place b i)) (separator first mark.Comma) (1 ∷ []) (argument_costs b i) (Some (frame_of point.NextArgument v c left n)) 1 (8 * left + 2) row now u new made
+      → DidOn voice b plain (words_at (arguments_point first)) (heard_at voice b plain (arguments_point first) v c left n (Some i) o) (weight_at (arguments_point first)) (height_at (arguments_point first) left) row u (Ok (argument_point b i)) new now u made
+  argument_goes first v c left n i o row now u new made e l m f kv kc kl kn kp km r = rw (words_so first, weight_so first, height_so first left)
+      (enters voice b plain _ (argument_point b i) left n (Some (argument_place b i)) (separator first mark.Comma) (1 ∷ []) (argument_costs b i) (omega (arith, costs_few i)) (Some (frame_of point.NextArgument v c left n)) 1 (8 * left + 2) row now u new made
       (rw (kv, kc) (on_so first v c left n i o f e ∙ ap (λ (h : Heard). with_looks (1 ∷ []) (with_texts voice.loud (mark_texts (separator first mark.Comma)) h)) (argument_so left n i c v new.is_open)))
       kl kn kp km r (omega (arith, l)) (omega (arith, m)) (omega (arith, argument_light i)) (omega arith) (omega (arith, argument_low i left)) f (argument_fits i left n f) (λ _. refl))
 
   -- a lifetime
   pub lifetime_word : (s : State) (row now : List Frame) (u w : V) (result : Result Point Stop) (new : State) (made : ℕ)
-      → DidOn voice b plain (heard voice b plain (word_items word.LifetimeIndex s.letter done) s.depth_left s.lifetimes s.place) 1 (8 * s.depth_left + 0) row u result new now w made → Did voice b plain point.Lifetime s row u result new now w made
+      → DidOn voice b plain 4 (heard voice b plain (word_items word.LifetimeIndex s.letter done) s.depth_left s.lifetimes s.place) 1 (8 * s.depth_left + 0) row u result new now w made → Did voice b plain point.Lifetime s row u result new now w made
   unfolding share_at
-  lifetime_word s row now u w result new made d = same voice b plain _ (heard voice b plain (word_items word.LifetimeIndex s.letter done) s.depth_left s.lifetimes s.place) 1 (8 * s.depth_left + 1) 1 (8 * s.depth_left + 0) row u w result new now made refl (omega arith) (omega arith) d
+  lifetime_word s row now u w result new made d = same voice b plain (omega arith) _ (heard voice b plain (word_items word.LifetimeIndex s.letter done) s.depth_left s.lifetimes s.place) 1 (8 * s.depth_left + 1) 1 (8 * s.depth_left + 0) row u w result new now made refl (omega arith) (omega arith) d

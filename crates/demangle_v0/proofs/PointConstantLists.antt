@@ -1,6 +1,6 @@
 -- The points of lists of constants.
 use Rattle.std.specs.Prelude.{◌*◌}
-use Rattle.std.proofs.Common.{◌≡◌, ℕ, ◌+◌, ◌≤◌, Bool, true, false, Option, Some, None, List, [], ◌∷◌, ◌++◌, Ok, refl, arith, sym, ap, ◌∙◌}
+use Rattle.std.proofs.Common.{◌≡◌, ℕ, ◌+◌, ◌≤◌, Bool, true, false, Option, Some, None, List, [], ◌∷◌, ◌++◌, Ok, refl, arith, sym, ap, ◌∙◌, length}
 use Prim.Native.Char.{code}
 use Rattle.demangle_symbol.specs.Digits.{is_byte}
 use Rattle.demangle_v0.specs.Items.{a_constant, Items, say, done, unit}
@@ -101,11 +101,11 @@ module _ {V : Type 0} (voice : Ghosts V) (b : List ℕ) (plain : Bool) where
   element_is list.Fields left n h = field_element b voice.loud left n h
 
   -- the end of a list
-  pub list_ends : (l : ConstantList) (ks : List ℕ) (h : Heard) (v : Bool) (c left n : ℕ) (i : Place) (row : List Frame) (u : V) (new : State) (made : ℕ) → h ≡ with_looks ks (heard voice b plain (ending l) left n i) → made ≤ total ks
-      → new.in_value ≡ v → new.letter ≡ c → new.depth_left ≡ left → new.lifetimes ≡ n → new.place ≡ i → new.is_open ≡ false → new.mark ≡ Some (close_of l) → DidOn voice b plain h 1 (8 * left + 2) row u (Ok point.End) new row u made
+  pub list_ends : (l : ConstantList) (ks : List ℕ) → length ks ≤ 8 → (h : Heard) (v : Bool) (c left n : ℕ) (i : Place) (row : List Frame) (u : V) (new : State) (made : ℕ) → h ≡ with_looks ks (heard voice b plain (ending l) left n i) → made ≤ total ks
+      → new.in_value ≡ v → new.letter ≡ c → new.depth_left ≡ left → new.lifetimes ≡ n → new.place ≡ i → new.is_open ≡ false → new.mark ≡ Some (close_of l) → DidOn voice b plain 8 h 1 (8 * left + 2) row u (Ok point.End) new row u made
   unfolding run then_frame share_at
-  list_ends l ks h v c left n i row u new made e x kv kc kl kn kp ko km =
-      moves voice b plain ks point.End (Some (close_of l)) None h v c left n i false 1 (8 * left + 2) row row u new made kv kc kl kn kp ko km e refl x (omega arith) (omega arith) (omega arith) tt tt (λ _. tt)
+  list_ends l ks few h v c left n i row u new made e x kv kc kl kn kp ko km =
+      moves voice b plain ks few point.End (Some (close_of l)) None h v c left n i false 1 (8 * left + 2) row row u new made kv kc kl kn kp ko km e refl x (omega arith) (omega arith) (omega arith) tt tt (λ _. tt)
 
   -- an element, and then the list goes on at p with these items
   element_then : (l : ConstantList) (p : Point) (rest : Items) (m : Option Mark) (v : Bool) (c left n i : ℕ) (o : Bool) → ((v : Bool) (c left n : ℕ) (i : Place) (o : Bool) → share_at b plain voice.loud p v c left n i o ≡ heard voice b plain rest left n i)
@@ -117,15 +117,15 @@ module _ {V : Type 0} (voice : Ghosts V) (b : List ℕ) (plain : Bool) where
       ap (λ (h : Heard). and_then (none_open (of plain voice.loud x)) (λ _ _. h)) (sym (e v c left n x.place false))
       ∙ ap (λ (h : Heard). and_then h (λ j o. share_at b plain voice.loud p v c left n j o)) (sym (element_share l c left n (Some i) o))
 
-  pub element_goes : (l : ConstantList) (p : Point) (rest : Items) (m : Option Mark) (h : Heard) (v : Bool) (c left n i : ℕ) (o : Bool) (row now : List Frame) (u : V) (new : State) (made : ℕ)
+  pub element_goes : {words : ℕ} (few : 1 ≤ words) (l : ConstantList) (p : Point) (rest : Items) (m : Option Mark) (h : Heard) (v : Bool) (c left n i : ℕ) (o : Bool) (row now : List Frame) (u : V) (new : State) (made : ℕ)
       → Listed p → ((v : Bool) (c left n : ℕ) (i : Place) (o : Bool) → share_at b plain voice.loud p v c left n i o ≡ heard voice b plain rest left n i)
       → h ≡ with_looks (1 ∷ []) (with_texts voice.loud (mark_texts m) (none_open (and_then (of plain voice.loud (run (list_element l) (around b voice.loud left n) (Some i))) (λ j _. of plain voice.loud (run rest (around b voice.loud left n) j)))))
       → Fits point.Constant left n → made ≤ 1
       → new.in_value ≡ true → new.letter ≡ c → new.depth_left ≡ left → new.lifetimes ≡ n → new.place ≡ Some i → new.is_open ≡ o → new.mark ≡ m → now ≡ row ++ frame_of p v c left n ∷ []
-      → DidOn voice b plain h 1 (8 * left + 2) row u (Ok (element_point l)) new now u made
-  element_goes l p rest m h v c left n i o row now u new made w s e f x kv kc kl kn kp ko km r =
+      → DidOn voice b plain words h 1 (8 * left + 2) row u (Ok (element_point l)) new now u made
+  element_goes few l p rest m h v c left n i o row now u new made w s e f x kv kc kl kn kp ko km r =
       let z = element_lowest l in
-      moves voice b plain (1 ∷ []) (element_point l) m (Some (frame_of p v c left n)) h true c left n (Some i) o 1 (8 * left + 2) row now u new made kv kc kl kn kp ko km
+      moves voice b plain (1 ∷ []) (omega (arith, few)) (element_point l) m (Some (frame_of p v c left n)) h true c left n (Some i) o 1 (8 * left + 2) row now u new made kv kc kl kn kp ko km
       (e ∙ ap (λ (k : Heard). with_looks (1 ∷ []) (with_texts voice.loud (mark_texts m) k)) (element_then l p rest m v c left n i o s)) r (omega (arith, x)) (omega (arith, w.light, z.light)) (w.low left) (omega (arith, z.low left)) (w.fits left n f) (z.fits left n f) (λ _. w.inner)
 
   -- The first.
@@ -134,21 +134,21 @@ module _ {V : Type 0} (voice : Ghosts V) (b : List ℕ) (plain : Bool) where
   first_at l v c left n i o = share_at b plain voice.loud (first_point l) v c left n i o
 
   pub first_failed : (l : ConstantList) (v : Bool) (c left n : ℕ) (o : Bool) (row : List Frame) (u : V) (new : State) (made : ℕ) → made ≤ 0
-      → new.in_value ≡ v → new.letter ≡ c → new.depth_left ≡ left → new.lifetimes ≡ n → new.place ≡ None → new.is_open ≡ false → new.mark ≡ Some (close_of l) → DidOn voice b plain (first_at l v c left n None o) 1 (8 * left + 2) row u (Ok point.End) new row u made
+      → new.in_value ≡ v → new.letter ≡ c → new.depth_left ≡ left → new.lifetimes ≡ n → new.place ≡ None → new.is_open ≡ false → new.mark ≡ Some (close_of l) → DidOn voice b plain 8 (first_at l v c left n None o) 1 (8 * left + 2) row u (Ok point.End) new row u made
   first_failed l v c left n o row u new made x kv kc kl kn kp ko km =
-      list_ends l [] _ v c left n None row u new made (first_share l v c left n None o ∙ ap none_open (end_failed plain voice.loud (around b voice.loud left n) (ending l) (unit (list_element l) (behind_second l)))) x kv kc kl kn kp ko km
+      list_ends l [] (omega arith) _ v c left n None row u new made (first_share l v c left n None o ∙ ap none_open (end_failed plain voice.loud (around b voice.loud left n) (ending l) (unit (list_element l) (behind_second l)))) x kv kc kl kn kp ko km
 
   pub first_over : (l : ConstantList) (v : Bool) (c left n i : ℕ) (o : Bool) (row : List Frame) (u : V) (new : State) (made : ℕ) → true ≡ is_byte b i (code "E") → made ≤ 1
-      → new.in_value ≡ v → new.letter ≡ c → new.depth_left ≡ left → new.lifetimes ≡ n → new.place ≡ Some (i + 1) → new.is_open ≡ false → new.mark ≡ Some (close_of l) → DidOn voice b plain (first_at l v c left n (Some i) o) 1 (8 * left + 2) row u (Ok point.End) new row u made
+      → new.in_value ≡ v → new.letter ≡ c → new.depth_left ≡ left → new.lifetimes ≡ n → new.place ≡ Some (i + 1) → new.is_open ≡ false → new.mark ≡ Some (close_of l) → DidOn voice b plain 8 (first_at l v c left n (Some i) o) 1 (8 * left + 2) row u (Ok point.End) new row u made
   first_over l v c left n i o row u new made e x kv kc kl kn kp ko km =
-      list_ends l (1 ∷ []) _ v c left n (Some (i + 1)) row u new made (first_share l v c left n (Some i) o ∙ ap none_open (end_over plain voice.loud (around b voice.loud left n) (ending l) (unit (list_element l) (behind_second l)) i (sym e))) x kv kc kl kn kp ko km
+      list_ends l (1 ∷ []) (omega arith) _ v c left n (Some (i + 1)) row u new made (first_share l v c left n (Some i) o ∙ ap none_open (end_over plain voice.loud (around b voice.loud left n) (ending l) (unit (list_element l) (behind_second l)) i (sym e))) x kv kc kl kn kp ko km
 
   pub first_goes : (l : ConstantList) (v : Bool) (c left n i : ℕ) (o : Bool) (row now : List Frame) (u : V) (new : State) (made : ℕ) → false ≡ is_byte b i (code "E") → Fits point.Constant left n → made ≤ 1
       → new.in_value ≡ true → new.letter ≡ c → new.depth_left ≡ left → new.lifetimes ≡ n → new.place ≡ Some i → new.is_open ≡ o → new.mark ≡ None → now ≡ row ++ frame_of (second_point l) v c left n ∷ []
-      → DidOn voice b plain (first_at l v c left n (Some i) o) 1 (8 * left + 2) row u (Ok (element_point l)) new now u made
+      → DidOn voice b plain 8 (first_at l v c left n (Some i) o) 1 (8 * left + 2) row u (Ok (element_point l)) new now u made
   unfolding run
   first_goes l v c left n i o row now u new made e f x kv kc kl kn kp ko km r =
-      element_goes l (second_point l) (behind_second l) None _ v c left n i o row now u new made (second_listed l) (second_share l)
+      element_goes (omega arith) l (second_point l) (behind_second l) None _ v c left n i o row now u new made (second_listed l) (second_share l)
       (first_share l v c left n (Some i) o ∙ ap none_open (end_on plain voice.loud (around b voice.loud left n) (ending l) (unit (list_element l) (behind_second l)) i (sym e))) f x kv kc kl kn kp ko km r
 
   -- Another.
@@ -157,20 +157,20 @@ module _ {V : Type 0} (voice : Ghosts V) (b : List ℕ) (plain : Bool) where
   next_at l v c left n i o = share_at b plain voice.loud (next_point l) v c left n i o
 
   pub next_failed : (l : ConstantList) (v : Bool) (c left n : ℕ) (o : Bool) (row : List Frame) (u : V) (new : State) (made : ℕ) → made ≤ 0
-      → new.in_value ≡ v → new.letter ≡ c → new.depth_left ≡ left → new.lifetimes ≡ n → new.place ≡ None → new.is_open ≡ false → new.mark ≡ Some (close_of l) → DidOn voice b plain (next_at l v c left n None o) 1 (8 * left + 2) row u (Ok point.End) new row u made
+      → new.in_value ≡ v → new.letter ≡ c → new.depth_left ≡ left → new.lifetimes ≡ n → new.place ≡ None → new.is_open ≡ false → new.mark ≡ Some (close_of l) → DidOn voice b plain 8 (next_at l v c left n None o) 1 (8 * left + 2) row u (Ok point.End) new row u made
   next_failed l v c left n o row u new made x kv kc kl kn kp ko km =
-      list_ends l [] _ v c left n None row u new made (next_share l v c left n None o ∙ ap none_open (more_failed plain voice.loud (around b voice.loud left n) ", " (list_element l) (ending l))) x kv kc kl kn kp ko km
+      list_ends l [] (omega arith) _ v c left n None row u new made (next_share l v c left n None o ∙ ap none_open (more_failed plain voice.loud (around b voice.loud left n) ", " (list_element l) (ending l))) x kv kc kl kn kp ko km
 
   pub next_over : (l : ConstantList) (v : Bool) (c left n i : ℕ) (o : Bool) (row : List Frame) (u : V) (new : State) (made : ℕ) → true ≡ is_byte b i (code "E") → made ≤ 1
-      → new.in_value ≡ v → new.letter ≡ c → new.depth_left ≡ left → new.lifetimes ≡ n → new.place ≡ Some (i + 1) → new.is_open ≡ false → new.mark ≡ Some (close_of l) → DidOn voice b plain (next_at l v c left n (Some i) o) 1 (8 * left + 2) row u (Ok point.End) new row u made
+      → new.in_value ≡ v → new.letter ≡ c → new.depth_left ≡ left → new.lifetimes ≡ n → new.place ≡ Some (i + 1) → new.is_open ≡ false → new.mark ≡ Some (close_of l) → DidOn voice b plain 8 (next_at l v c left n (Some i) o) 1 (8 * left + 2) row u (Ok point.End) new row u made
   next_over l v c left n i o row u new made e x kv kc kl kn kp ko km =
-      list_ends l (1 ∷ []) _ v c left n (Some (i + 1)) row u new made (next_share l v c left n (Some i) o ∙ ap none_open (more_over plain voice.loud (around b voice.loud left n) ", " (list_element l) (ending l) i (sym e))) x kv kc kl kn kp ko km
+      list_ends l (1 ∷ []) (omega arith) _ v c left n (Some (i + 1)) row u new made (next_share l v c left n (Some i) o ∙ ap none_open (more_over plain voice.loud (around b voice.loud left n) ", " (list_element l) (ending l) i (sym e))) x kv kc kl kn kp ko km
 
-  pub next_goes : (l : ConstantList) (v : Bool) (c left n i : ℕ) (o : Bool) (row now : List Frame) (u : V) (new : State) (made : ℕ) → false ≡ is_byte b i (code "E") → Fits point.Constant left n → made ≤ 1
+  pub next_goes : {words : ℕ} (few : 1 ≤ words) (l : ConstantList) (v : Bool) (c left n i : ℕ) (o : Bool) (row now : List Frame) (u : V) (new : State) (made : ℕ) → false ≡ is_byte b i (code "E") → Fits point.Constant left n → made ≤ 1
       → new.in_value ≡ true → new.letter ≡ c → new.depth_left ≡ left → new.lifetimes ≡ n → new.place ≡ Some i → new.is_open ≡ o → new.mark ≡ Some mark.Comma → now ≡ row ++ frame_of (next_point l) v c left n ∷ []
-      → DidOn voice b plain (next_at l v c left n (Some i) o) 1 (8 * left + 2) row u (Ok (element_point l)) new now u made
-  next_goes l v c left n i o row now u new made e f x kv kc kl kn kp ko km r =
-      element_goes l (next_point l) (more ", " (list_element l) (ending l)) (Some mark.Comma) _ v c left n i o row now u new made (next_listed l) (next_share l)
+      → DidOn voice b plain words (next_at l v c left n (Some i) o) 1 (8 * left + 2) row u (Ok (element_point l)) new now u made
+  next_goes few l v c left n i o row now u new made e f x kv kc kl kn kp ko km r =
+      element_goes few l (next_point l) (more ", " (list_element l) (ending l)) (Some mark.Comma) _ v c left n i o row now u new made (next_listed l) (next_share l)
       (next_share l v c left n (Some i) o ∙ ap none_open (more_on plain voice.loud b left n ", " (list_element l) (ending l) i (element_is l left n (omega (arith, f))) (sym e))) f x kv kc kl kn kp ko km r
 
   -- The second of a tuple, or the one comma.
@@ -180,24 +180,24 @@ module _ {V : Type 0} (voice : Ghosts V) (b : List ℕ) (plain : Bool) where
 
   pub comma_failed : (v : Bool) (c left n : ℕ) (o : Bool) (row : List Frame) (u : V) (new : State) (made : ℕ) → Fits point.SecondTupleConstant left n → made ≤ 0
       → new.in_value ≡ v → new.letter ≡ c → new.depth_left ≡ left → new.lifetimes ≡ n → new.place ≡ None → new.is_open ≡ o → new.mark ≡ Some mark.OneComma
-      → DidOn voice b plain (second_at v c left n None o) 2 (8 * left + 2) row u (Ok point.CloseParen) new row u made
+      → DidOn voice b plain 8 (second_at v c left n None o) 2 (8 * left + 2) row u (Ok point.CloseParen) new row u made
   unfolding run then_frame share_at
   comma_failed v c left n o row u new made f x kv kc kl kn kp ko km =
-      moves voice b plain [] point.CloseParen (Some mark.OneComma) None _ v c left n None o 2 (8 * left + 2) row row u new made kv kc kl kn kp ko km refl refl x (omega arith) (omega arith) (omega arith) tt f (λ _. tt)
+      moves voice b plain [] (omega arith) point.CloseParen (Some mark.OneComma) None _ v c left n None o 2 (8 * left + 2) row row u new made kv kc kl kn kp ko km refl refl x (omega arith) (omega arith) (omega arith) tt f (λ _. tt)
 
   pub comma_over : (v : Bool) (c left n i : ℕ) (o : Bool) (row : List Frame) (u : V) (new : State) (made : ℕ) → true ≡ is_byte b i (code "E") → Fits point.SecondTupleConstant left n → made ≤ 1
       → new.in_value ≡ v → new.letter ≡ c → new.depth_left ≡ left → new.lifetimes ≡ n → new.place ≡ Some (i + 1) → new.is_open ≡ o → new.mark ≡ Some mark.OneComma
-      → DidOn voice b plain (second_at v c left n (Some i) o) 2 (8 * left + 2) row u (Ok point.CloseParen) new row u made
+      → DidOn voice b plain 8 (second_at v c left n (Some i) o) 2 (8 * left + 2) row u (Ok point.CloseParen) new row u made
   unfolding then_frame share_at
   comma_over v c left n i o row u new made e f x kv kc kl kn kp ko km =
-      moves voice b plain (1 ∷ []) point.CloseParen (Some mark.OneComma) None _ v c left n (Some (i + 1)) o 2 (8 * left + 2) row row u new made kv kc kl kn kp ko km
+      moves voice b plain (1 ∷ []) (omega arith) point.CloseParen (Some mark.OneComma) None _ v c left n (Some (i + 1)) o 2 (8 * left + 2) row row u new made kv kc kl kn kp ko km
       (ap none_open (second_over plain voice.loud (around b voice.loud left n) constant_inside (ending list.Tuple) i (sym e))) refl x (omega arith) (omega arith) (omega arith) tt f (λ _. tt)
 
   pub comma_goes : (v : Bool) (c left n i : ℕ) (o : Bool) (row now : List Frame) (u : V) (new : State) (made : ℕ) → false ≡ is_byte b i (code "E") → Fits point.Constant left n → made ≤ 1
       → new.in_value ≡ true → new.letter ≡ c → new.depth_left ≡ left → new.lifetimes ≡ n → new.place ≡ Some i → new.is_open ≡ o → new.mark ≡ Some mark.Comma → now ≡ row ++ frame_of point.NextTupleConstant v c left n ∷ []
-      → DidOn voice b plain (second_at v c left n (Some i) o) 2 (8 * left + 2) row u (Ok point.Constant) new now u made
+      → DidOn voice b plain 8 (second_at v c left n (Some i) o) 2 (8 * left + 2) row u (Ok point.Constant) new now u made
   comma_goes v c left n i o row now u new made e f x kv kc kl kn kp ko km r =
-      same voice b plain (second_at v c left n (Some i) o) (with_looks (1 ∷ []) (next_at list.Tuple v c left n (Some i) o)) 2 (8 * left + 2) 1 (8 * left + 2) row u u (Ok point.Constant) new now made
+      same voice b plain {words' = 8} (omega arith) (second_at v c left n (Some i) o) (with_looks (1 ∷ []) (next_at list.Tuple v c left n (Some i) o)) 2 (8 * left + 2) 1 (8 * left + 2) row u u (Ok point.Constant) new now made
       (second_share list.Tuple v c left n (Some i) o ∙ (ap none_open (end_on plain voice.loud (around b voice.loud left n) (says "," (ending list.Tuple)) (more ", " constant_inside (ending list.Tuple)) i (sym e)) ∙ ap (with_looks (1 ∷ [])) (sym (next_share list.Tuple v c left n (Some i) o)))) (omega arith) (omega arith)
-      (after voice b plain (1 ∷ []) _ (next_at list.Tuple v c left n (Some i) o) 1 (8 * left + 2) 1 (8 * left + 2) row u u (Ok point.Constant) new now 0 made made refl (omega arith) (omega arith) (omega arith) (omega arith)
-      (next_goes list.Tuple v c left n i o row now u new made e f x kv kc kl kn kp ko km r))
+      (after voice b plain {words' = 1} (1 ∷ []) (omega arith) _ (next_at list.Tuple v c left n (Some i) o) 1 (8 * left + 2) 1 (8 * left + 2) row u u (Ok point.Constant) new now 0 made made refl (omega arith) (omega arith) (omega arith) (omega arith)
+      (next_goes (omega arith) list.Tuple v c left n i o row now u new made e f x kv kc kl kn kp ko km r))

@@ -1,4 +1,5 @@
 -- The points of dyn types.
+use Rattle.demangle_v0.proofs.PointTurns.{list_words}
 use Rattle.std.specs.Prelude.{◌*◌, if◌then◌else◌, codes}
 use Rattle.std.proofs.Common.{◌≡◌, ℕ, ◌+◌, ◌-◌, ◌≤◌, length, Bool, true, false, Option, Some, None, List, [], ◌∷◌, ◌++◌, Result, Ok, Err, refl, arith, sym, ap, ◌∙◌}
 use Rattle.std.proofs.lemmas.Bool.{false≢true}
@@ -14,7 +15,7 @@ use Rattle.demangle_v0.specs.DynTraits.{dyn_type}
 use Rattle.demangle_v0.specs.Events.{Heard, of, nothing_heard, and_then, with_looks, with_texts}
 use Rattle.demangle_v0.specs.Grammar.{word_items, text}
 use Rattle.demangle_v0.specs.Reading.{Place, run, unit_outcome, max_depth}
-use Rattle.demangle_v0.specs.Points.{mark_texts, share_at, share, share_of, bindings_left, none_open, around, way_weight, weight_at, height_at, Fits, is_list_over, behind_list, list_costs, DidOn}
+use Rattle.demangle_v0.specs.Points.{mark_texts, share_at, share, share_of, bindings_left, none_open, around, way_weight, weight_at, height_at, Fits, is_list_over, behind_list, list_costs, DidOn, words_at}
 use Rattle.demangle_v0.specs.declared.grammar.Mark.{Mark}
 use Rattle.demangle_v0.specs.declared.grammar.Mark.TheVariants as mark
 use Rattle.demangle_v0.specs.declared.grammar.Word.TheVariants as word
@@ -98,6 +99,13 @@ costs_most b i = go (is_byte b i (code "L"))
     go true = omega arith
     go false = omega arith
 
+pub costs_few : (b : List ℕ) (i : ℕ) → length (argument_costs b i) ≤ 2
+costs_few b i = go (is_byte b i (code "L"))
+  where
+    go : (x : Bool) → length {A = ℕ} (if x then 1 ∷ [] else 1 ∷ 1 ∷ []) ≤ 2
+    go true = omega arith
+    go false = omega arith
+
 module _ {V : Type 0} (voice : Ghosts V) (b : List ℕ) (plain : Bool) where
   -- A dyn type.
 
@@ -108,20 +116,20 @@ module _ {V : Type 0} (voice : Ghosts V) (b : List ℕ) (plain : Bool) where
 
   pub dyn_type_did : (s : State) (row now : List Frame) (u : V) (new : State) → Fits point.DynBinder s.depth_left s.lifetimes
       → new.depth_left ≡ s.depth_left → new.lifetimes ≡ s.lifetimes → new.place ≡ s.place → new.mark ≡ Some mark.Dyn → now ≡ row ++ frame_at point.DynLifetime s ∷ []
-      → DidOn voice b plain (heard voice b plain dyn_type s.depth_left s.lifetimes s.place) 4 (8 * s.depth_left + 5) row u (Ok point.DynBinder) new now u 0
+      → DidOn voice b plain 5 (heard voice b plain dyn_type s.depth_left s.lifetimes s.place) 4 (8 * s.depth_left + 5) row u (Ok point.DynBinder) new now u 0
   unfolding share_at
   dyn_type_did s row now u new f kl kn kp km w =
-      enters voice b plain point.DynBinder (Some mark.Dyn) [] [] (frame_at point.DynLifetime s) _ (heard voice b plain (in_binder first_traits) s.depth_left s.lifetimes s.place) 4 (8 * s.depth_left + 5) row now u new 0
+      enters voice b plain point.DynBinder (Some mark.Dyn) [] [] (omega arith) (frame_at point.DynLifetime s) _ (heard voice b plain (in_binder first_traits) s.depth_left s.lifetimes s.place) 4 (8 * s.depth_left + 5) row now u new 0
       (dyn_reads s) (rw (kl, kn, kp) refl) km w (omega arith) (omega arith) (omega arith) (omega arith) (omega (arith, kl)) (omega (arith, f)) (rw (kl, kn) f) refl
 
   -- Dyn traits.
 
   abbrev trait_did : Bool → State → List Frame → V → Point → State → List Frame → ℕ → Type 0
   trait_did first s row u to new now made = let p = if first then point.FirstDynTrait else point.NextDynTrait in
-      DidOn voice b plain (share_of b plain voice.loud p s) (weight_at p) (height_at p s.depth_left) row u (Ok to) new now u made
+      DidOn voice b plain (words_at p) (share_of b plain voice.loud p s) (weight_at p) (height_at p s.depth_left) row u (Ok to) new now u made
 
   trait_as : (first : Bool) (s : State) (row : List Frame) (u : V) (to : Point) (new : State) (now : List Frame) (made : ℕ)
-      → DidOn voice b plain (heard voice b plain (left_traits first) s.depth_left s.lifetimes s.place) 1 (8 * s.depth_left + 4) row u (Ok to) new now u made → trait_did first s row u to new now made
+      → DidOn voice b plain 1 (heard voice b plain (left_traits first) s.depth_left s.lifetimes s.place) 1 (8 * s.depth_left + 4) row u (Ok to) new now u made → trait_did first s row u to new now made
   unfolding share_at
   trait_as true s row u to new now made d = d
   trait_as false s row u to new now made d = d
@@ -140,7 +148,7 @@ module _ {V : Type 0} (voice : Ghosts V) (b : List ℕ) (plain : Bool) where
       → new.place ≡ behind_list b s.place → new.is_open ≡ false → new.mark ≡ None → trait_did first s row u point.End new row made
   unfolding share_at
   traits_over first s row u new made e l kp ko km = trait_as first s row u point.End new row made
-      (moves voice b plain point.End None (list_costs s.place) _ (nothing_heard (behind_list b s.place) false) 1 (8 * s.depth_left + 4) row u new made
+      (moves voice b plain point.End None (list_costs s.place) (omega (arith, list_words s.place)) _ (nothing_heard (behind_list b s.place) false) 1 (8 * s.depth_left + 4) row u new made
       (traits_end first s.depth_left s.lifetimes s.place e ∙ ap (with_looks (list_costs s.place)) (done_reads s.depth_left s.lifetimes (behind_list b s.place))) (rw (kp, ko) refl) km l (omega arith) (omega arith) tt)
 
   -- a dyn trait, and further ones
@@ -174,13 +182,13 @@ module _ {V : Type 0} (voice : Ghosts V) (b : List ℕ) (plain : Bool) where
           let d : is_byte b i (code "E") ≡ false = rw p at e in
           let q : new.place ≡ Some i = rw (p, d) at kp in
           trait_as first s row u point.TraitPath new now made
-          (enters voice b plain point.TraitPath (separator first mark.Plus) (1 ∷ []) [] (frame_at point.Bindings s) _ (of plain voice.loud (unit_outcome (around b voice.loud s.depth_left s.lifetimes) a_trait_path false (Some i))) 1 (8 * s.depth_left + 4) row now u new made
+          (enters voice b plain point.TraitPath (separator first mark.Plus) (1 ∷ []) [] (omega arith) (frame_at point.Bindings s) _ (of plain voice.loud (unit_outcome (around b voice.loud s.depth_left s.lifetimes) a_trait_path false (Some i))) 1 (8 * s.depth_left + 4) row now u new made
           (rw p (trait_reads first s i (omega (arith, f)) d)) (rw (kl, kn, q) refl) km w (omega (arith, rw p at l)) (omega (arith, rw p at l)) (omega arith) (omega arith) (omega (arith, kl)) f (rw (kl, kn) f) refl)
 
   -- Paths of dyn traits.
 
   pub trait_unread : (s : State) (row : List Frame) (u : V) (new : State) (made : ℕ) → s.place ≡ None → new.mark ≡ None → made ≤ 0
-      → DidOn voice b plain (share_of b plain voice.loud point.TraitPath s) 1 (8 * s.depth_left + 2) row u (Err (Fault mark.Unread)) new row u made
+      → DidOn voice b plain 8 (share_of b plain voice.loud point.TraitPath s) 1 (8 * s.depth_left + 2) row u (Err (Fault mark.Unread)) new row u made
   unfolding share_at
   trait_unread s row u new made p k l = faulty voice b plain mark.Unread _ 1 (8 * s.depth_left + 2) row u new made k (rw p refl) l (omega arith)
 
@@ -190,10 +198,10 @@ module _ {V : Type 0} (voice : Ghosts V) (b : List ℕ) (plain : Bool) where
   refers_reads s i p e = rw p (trait_path_reads plain voice.loud b s.depth_left s.lifetimes false i ∙ trait_path_refers plain voice.loud b s.depth_left s.lifetimes i e)
 
   pub trait_refers : (s : State) (i : ℕ) (row now : List Frame) (u : V) (result : Result Point Stop) (new : State) (second made : ℕ) → s.place ≡ Some i → is_byte b i (code "B") ≡ true → made ≤ 1 + second
-      → DidOn voice b plain (of plain voice.loud (run (target a_trait_path false) (around b voice.loud s.depth_left s.lifetimes) (Some (i + 1)))) 1 (8 * s.depth_left + 2) row u result new now u second
-      → DidOn voice b plain (share_of b plain voice.loud point.TraitPath s) 1 (8 * s.depth_left + 2) row u result new now u made
+      → DidOn voice b plain 1 (of plain voice.loud (run (target a_trait_path false) (around b voice.loud s.depth_left s.lifetimes) (Some (i + 1)))) 1 (8 * s.depth_left + 2) row u result new now u second
+      → DidOn voice b plain 8 (share_of b plain voice.loud point.TraitPath s) 1 (8 * s.depth_left + 2) row u result new now u made
   trait_refers s i row now u result new second made p e l d =
-      after voice b plain (1 ∷ []) _ (of plain voice.loud (run (target a_trait_path false) (around b voice.loud s.depth_left s.lifetimes) (Some (i + 1)))) 1 (8 * s.depth_left + 2) 1 (8 * s.depth_left + 2) row u u result new now 1 second made
+      after voice b plain (1 ∷ []) (omega arith) _ (of plain voice.loud (run (target a_trait_path false) (around b voice.loud s.depth_left s.lifetimes) (Some (i + 1)))) 1 (8 * s.depth_left + 2) 1 (8 * s.depth_left + 2) row u u result new now 1 second made
       (refers_reads s i p e) (omega arith) l (omega arith) (omega arith) d
 
   generic_reads : (s : State) (i : ℕ) → s.place ≡ Some i → is_byte b i (code "B") ≡ false → is_byte b i (code "I") ≡ true
@@ -204,10 +212,10 @@ module _ {V : Type 0} (voice : Ghosts V) (b : List ℕ) (plain : Bool) where
 
   pub generic_trait : (s : State) (i : ℕ) (row now : List Frame) (u : V) (new : State) (made : ℕ) → s.place ≡ Some i → is_byte b i (code "B") ≡ false → is_byte b i (code "I") ≡ true → made ≤ 2 → Fits point.TraitPath s.depth_left s.lifetimes
       → new.in_value ≡ false → new.depth_left ≡ s.depth_left → new.lifetimes ≡ s.lifetimes → new.place ≡ Some (i + 1) → new.mark ≡ None → now ≡ row ++ record (frame_at point.OpenTraitPath s) { in_value = false } ∷ []
-      → DidOn voice b plain (share_of b plain voice.loud point.TraitPath s) 1 (8 * s.depth_left + 2) row u (Ok point.Path) new now u made
+      → DidOn voice b plain 8 (share_of b plain voice.loud point.TraitPath s) 1 (8 * s.depth_left + 2) row u (Ok point.Path) new now u made
   unfolding share_at
   generic_trait s i row now u new made p e g l f kv kl kn kp km w =
-      enters voice b plain point.Path None [] (1 ∷ 1 ∷ []) (record (frame_at point.OpenTraitPath s) { in_value = false }) _ (none_open (of plain voice.loud (unit_outcome (around b voice.loud s.depth_left s.lifetimes) a_path false (Some (i + 1))))) 1 (8 * s.depth_left + 2) row now u new made
+      enters voice b plain point.Path None [] (1 ∷ 1 ∷ []) (omega arith) (record (frame_at point.OpenTraitPath s) { in_value = false }) _ (none_open (of plain voice.loud (unit_outcome (around b voice.loud s.depth_left s.lifetimes) a_path false (Some (i + 1))))) 1 (8 * s.depth_left + 2) row now u new made
       (generic_reads s i p e g) (rw (kv, kl, kn, kp) refl) km w (omega (arith, l)) (omega (arith, l)) (omega arith) (omega arith) (omega (arith, kl)) f (rw (kl, kn) f) refl
 
   shut_path : (left n i : ℕ) → of plain voice.loud (unit_outcome (around b voice.loud left n) a_path false (Some i)) ≡ none_open (of plain voice.loud (unit_outcome (around b voice.loud left n) a_path false (Some i)))
@@ -223,10 +231,10 @@ module _ {V : Type 0} (voice : Ghosts V) (b : List ℕ) (plain : Bool) where
 
   pub plain_trait : (s : State) (i : ℕ) (row : List Frame) (u : V) (new : State) (made : ℕ) → s.place ≡ Some i → is_byte b i (code "B") ≡ false → is_byte b i (code "I") ≡ false → made ≤ 2 → Fits point.TraitPath s.depth_left s.lifetimes
       → new.in_value ≡ false → new.depth_left ≡ s.depth_left → new.lifetimes ≡ s.lifetimes → new.place ≡ Some i → new.mark ≡ None
-      → DidOn voice b plain (share_of b plain voice.loud point.TraitPath s) 1 (8 * s.depth_left + 2) row u (Ok point.Path) new row u made
+      → DidOn voice b plain 8 (share_of b plain voice.loud point.TraitPath s) 1 (8 * s.depth_left + 2) row u (Ok point.Path) new row u made
   unfolding share_at
   plain_trait s i row u new made p e g l f kv kl kn kp km =
-      moves voice b plain point.Path None (1 ∷ 1 ∷ []) _ (none_open (of plain voice.loud (unit_outcome (around b voice.loud s.depth_left s.lifetimes) a_path false (Some i)))) 1 (8 * s.depth_left + 2) row u new made
+      moves voice b plain point.Path None (1 ∷ 1 ∷ []) (omega arith) _ (none_open (of plain voice.loud (unit_outcome (around b voice.loud s.depth_left s.lifetimes) a_path false (Some i)))) 1 (8 * s.depth_left + 2) row u new made
       (plain_reads s i p e g) (rw (kv, kl, kn, kp) refl) km (omega (arith, l)) (omega arith) (omega (arith, kl)) (rw (kl, kn) f)
 
   abbrev open_heard : Items → ℕ → ℕ → Place → Heard
@@ -246,10 +254,10 @@ module _ {V : Type 0} (voice : Ghosts V) (b : List ℕ) (plain : Bool) where
 
   abbrev open_did : Bool → State → List Frame → V → Point → State → List Frame → ℕ → Type 0
   open_did first s row u to new now made = let p = if first then point.FirstOpenArgument else point.NextOpenArgument in
-      DidOn voice b plain (share_of b plain voice.loud p s) (weight_at p) (height_at p s.depth_left) row u (Ok to) new now u made
+      DidOn voice b plain (words_at p) (share_of b plain voice.loud p s) (weight_at p) (height_at p s.depth_left) row u (Ok to) new now u made
 
   open_as : (first : Bool) (s : State) (row : List Frame) (u : V) (to : Point) (new : State) (now : List Frame) (made : ℕ)
-      → DidOn voice b plain (open_heard (left_open first) s.depth_left s.lifetimes s.place) 1 (8 * s.depth_left + 2) row u (Ok to) new now u made → open_did first s row u to new now made
+      → DidOn voice b plain 8 (open_heard (left_open first) s.depth_left s.lifetimes s.place) 1 (8 * s.depth_left + 2) row u (Ok to) new now u made → open_did first s row u to new now made
   unfolding share_at
   open_as true s row u to new now made d = d
   open_as false s row u to new now made d = d
@@ -257,13 +265,13 @@ module _ {V : Type 0} (voice : Ghosts V) (b : List ℕ) (plain : Bool) where
   pub open_unread : (first : Bool) (s : State) (row : List Frame) (u : V) (new : State) (made : ℕ) → s.place ≡ None → made ≤ 0 → new.place ≡ None → new.is_open ≡ true → new.mark ≡ None → open_did first s row u point.End new row made
   unfolding share_at
   open_unread first s row u new made p l kp ko km = open_as first s row u point.End new row made
-      (moves voice b plain point.End None [] _ (nothing_heard None true) 1 (8 * s.depth_left + 2) row u new made (rw p (open_failed first s.depth_left s.lifetimes)) (rw (kp, ko) refl) km (omega (arith, l)) (omega arith) (omega arith) tt)
+      (moves voice b plain point.End None [] (omega arith) _ (nothing_heard None true) 1 (8 * s.depth_left + 2) row u new made (rw p (open_failed first s.depth_left s.lifetimes)) (rw (kp, ko) refl) km (omega (arith, l)) (omega arith) (omega arith) tt)
 
   pub open_over : (first : Bool) (s : State) (i : ℕ) (row : List Frame) (u : V) (new : State) (made : ℕ) → s.place ≡ Some i → is_byte b i (code "E") ≡ true → made ≤ 1
       → new.place ≡ Some (i + 1) → new.is_open ≡ true → new.mark ≡ None → open_did first s row u point.End new row made
   unfolding share_at
   open_over first s i row u new made p e l kp ko km = open_as first s row u point.End new row made
-      (moves voice b plain point.End None (1 ∷ []) _ (nothing_heard (Some (i + 1)) true) 1 (8 * s.depth_left + 2) row u new made (rw p (open_end first s.depth_left s.lifetimes i e)) (rw (kp, ko) refl) km (omega (arith, l)) (omega arith) (omega arith) tt)
+      (moves voice b plain point.End None (1 ∷ []) (omega arith) _ (nothing_heard (Some (i + 1)) true) 1 (8 * s.depth_left + 2) row u new made (rw p (open_end first s.depth_left s.lifetimes i e)) (rw (kp, ko) refl) km (omega (arith, l)) (omega arith) (omega arith) tt)
 
   -- an argument, and what follows
   abbrev argument_share : State → ℕ → Heard
@@ -301,7 +309,7 @@ module _ {V : Type 0} (voice : Ghosts V) (b : List ℕ) (plain : Bool) where
       let light : way_weight ((argument_point b i)) ≤ 1 = told_light x y in
       let high : height_at (argument_point b i) s.depth_left ≡ 8 * s.depth_left + 1 = told_high x y s.depth_left in
       open_as first s row u (argument_point b i) new now made
-      (enters voice b plain (argument_point b i) (separator first mark.Comma) (1 ∷ []) (argument_costs b i) (frame_at point.NextOpenArgument s) _ (argument_share s i) 1 (8 * s.depth_left + 2) row now u new made
+      (enters voice b plain (argument_point b i) (separator first mark.Comma) (1 ∷ []) (argument_costs b i) (omega (arith, costs_few b i)) (frame_at point.NextOpenArgument s) _ (argument_share s i) 1 (8 * s.depth_left + 2) row now u new made
       (rw p (open_reads first s i (omega (arith, f)) e)) (rw (kv, kc, kl, kn, kp, ko) refl) km w (omega (arith, l)) (omega (arith, l, costs_most b i)) (omega (arith, light)) (omega arith) (rw kl (omega (arith, high))) f (rw (kl, kn) (told_fits x y s.depth_left s.lifetimes f)) refl)
 
   -- Bindings.
@@ -331,18 +339,18 @@ module _ {V : Type 0} (voice : Ghosts V) (b : List ℕ) (plain : Bool) where
       ∙ ap (λ ts. with_looks (1 ∷ []) (with_texts voice.loud ts (k (Some i) false))) (end_text o))))
 
   abbrev binding_did : Bool → State → List Frame → V → Point → State → ℕ → Type 0
-  binding_did o s row u to new made = DidOn voice b plain (heard voice b plain (bindings_left o) s.depth_left s.lifetimes s.place) 2 (8 * s.depth_left + 4) row u (Ok to) new row u made
+  binding_did o s row u to new made = DidOn voice b plain 8 (heard voice b plain (bindings_left o) s.depth_left s.lifetimes s.place) 2 (8 * s.depth_left + 4) row u (Ok to) new row u made
 
   pub binding_unread : (o : Bool) (s : State) (row : List Frame) (u : V) (new : State) (made : ℕ) → s.place ≡ None → made ≤ 0 → new.place ≡ None → new.is_open ≡ false → new.mark ≡ end_mark o → binding_did o s row u point.End new made
   unfolding share_at
   binding_unread o s row u new made p l kp ko km =
-      moves voice b plain point.End (end_mark o) [] _ (nothing_heard None false) 2 (8 * s.depth_left + 4) row u new made (rw p (failed_reads o s.depth_left s.lifetimes)) (rw (kp, ko) refl) km (omega (arith, l)) (omega arith) (omega arith) tt
+      moves voice b plain point.End (end_mark o) [] (omega arith) _ (nothing_heard None false) 2 (8 * s.depth_left + 4) row u new made (rw p (failed_reads o s.depth_left s.lifetimes)) (rw (kp, ko) refl) km (omega (arith, l)) (omega arith) (omega arith) tt
 
   pub binding_over : (o : Bool) (s : State) (i : ℕ) (row : List Frame) (u : V) (new : State) (made : ℕ) → s.place ≡ Some i → is_byte b i (code "p") ≡ false → made ≤ 1 → Fits point.Bindings s.depth_left s.lifetimes
       → new.depth_left ≡ s.depth_left → new.lifetimes ≡ s.lifetimes → new.place ≡ Some i → new.mark ≡ end_mark o → binding_did o s row u point.NextDynTrait new made
   unfolding share_at
   binding_over o s i row u new made p e l f kl kn kp km =
-      moves voice b plain point.NextDynTrait (end_mark o) (1 ∷ []) _ (heard voice b plain next_traits s.depth_left s.lifetimes (Some i)) 2 (8 * s.depth_left + 4) row u new made (rw p (over_reads o s.depth_left s.lifetimes i e)) (rw (kl, kn, kp) refl) km (omega (arith, l)) (omega arith) (omega (arith, kl)) (rw (kl, kn) f)
+      moves voice b plain point.NextDynTrait (end_mark o) (1 ∷ []) (omega arith) _ (heard voice b plain next_traits s.depth_left s.lifetimes (Some i)) 2 (8 * s.depth_left + 4) row u new made (rw p (over_reads o s.depth_left s.lifetimes i e)) (rw (kl, kn, kp) refl) km (omega (arith, l)) (omega arith) (omega (arith, kl)) (rw (kl, kn) f)
 
   abbrev name_heard : ℕ → ℕ → ℕ → Heard
   name_heard left n i = heard voice b plain (word_items word.BindingName 0 behind_name) left n (Some i)
@@ -404,14 +412,14 @@ module _ {V : Type 0} (voice : Ghosts V) (b : List ℕ) (plain : Bool) where
       → new.depth_left ≡ s.depth_left → new.lifetimes ≡ s.lifetimes → new.place ≡ Some (i + 1) → new.mark ≡ Some (first_mark o) → binding_did o s row u point.BindingName new made
   unfolding share_at
   binding_on o s i row u new made p e l f kl kn kp km =
-      moves voice b plain point.BindingName (Some (first_mark o)) (1 ∷ []) _ (name_heard s.depth_left s.lifetimes (i + 1)) 2 (8 * s.depth_left + 4) row u new made
+      moves voice b plain point.BindingName (Some (first_mark o)) (1 ∷ []) (omega arith) _ (name_heard s.depth_left s.lifetimes (i + 1)) 2 (8 * s.depth_left + 4) row u new made
       (rw p (on_reads o s.depth_left s.lifetimes i (omega (arith, f)) e ∙ ap (λ (t : Text). with_looks (1 ∷ []) (with_texts voice.loud (t ∷ []) (name_heard s.depth_left s.lifetimes (i + 1)))) (first_text o)))
       (rw (kl, kn, kp) refl) km (omega (arith, l)) (omega arith) (omega (arith, kl)) (rw (kl, kn) f)
 
   -- What is bound.
 
   abbrev bound_did : State → List Frame → V → Point → State → List Frame → ℕ → Type 0
-  bound_did s row u to new now made = DidOn voice b plain (share_of b plain voice.loud point.Bound s) 5 (8 * s.depth_left + 4) row u (Ok to) new now u made
+  bound_did s row u to new now made = DidOn voice b plain 8 (share_of b plain voice.loud point.Bound s) 5 (8 * s.depth_left + 4) row u (Ok to) new now u made
 
   bound_reads : (s : State) (i : Place) (front : List ℕ) (g : Heard) → s.place ≡ i → open_heard binding_value s.depth_left s.lifetimes i ≡ with_looks front g
       → share_of b plain voice.loud point.Bound s ≡ with_looks front (with_texts voice.loud (mark_texts None) (with_looks [] (and_then (none_open g) (share b plain voice.loud (frame_at point.OpenBindings s)))))
@@ -432,7 +440,7 @@ module _ {V : Type 0} (voice : Ghosts V) (b : List ℕ) (plain : Bool) where
   unfolding share_at
   bound_unread s row now u new made p l f kl kn kp km w =
       let g : Heard = of plain voice.loud (unit_outcome (around b voice.loud s.depth_left s.lifetimes) a_type false None) in
-      enters voice b plain point.«Type» None [] [] (frame_at point.OpenBindings s) _ (none_open g) 5 (8 * s.depth_left + 4) row now u new made
+      enters voice b plain point.«Type» None [] [] (omega arith) (frame_at point.OpenBindings s) _ (none_open g) 5 (8 * s.depth_left + 4) row now u new made
       (bound_reads s None [] g p (no_bound s.depth_left s.lifetimes ∙ type_heard s.depth_left s.lifetimes None)) (rw (kl, kn, kp) refl) km w (omega (arith, l)) (omega (arith, l)) (omega arith) (omega arith) (omega (arith, kl)) f (rw (kl, kn) f) refl
 
   pub bound_constant_on : (s : State) (i : ℕ) (row now : List Frame) (u : V) (new : State) (made : ℕ) → s.place ≡ Some i → is_byte b i (code "K") ≡ true → made ≤ 1 → Fits point.Bound s.depth_left s.lifetimes
@@ -440,7 +448,7 @@ module _ {V : Type 0} (voice : Ghosts V) (b : List ℕ) (plain : Bool) where
   unfolding share_at
   bound_constant_on s i row now u new made p e l f kv kl kn kp km w =
       let g : Heard = of plain voice.loud (unit_outcome (around b voice.loud s.depth_left s.lifetimes) a_constant false (Some (i + 1))) in
-      enters voice b plain point.Constant None (1 ∷ []) [] (frame_at point.OpenBindings s) _ (none_open g) 5 (8 * s.depth_left + 4) row now u new made
+      enters voice b plain point.Constant None (1 ∷ []) [] (omega arith) (frame_at point.OpenBindings s) _ (none_open g) 5 (8 * s.depth_left + 4) row now u new made
       (bound_reads s (Some i) (1 ∷ []) g p (bound_constant plain voice.loud b s.depth_left s.lifetimes i e)) (rw (kv, kl, kn, kp) refl) km w (omega (arith, l)) (omega (arith, l)) (omega arith) (omega arith) (omega (arith, kl)) f (rw (kl, kn) f) refl
 
   pub bound_type_on : (s : State) (i : ℕ) (row now : List Frame) (u : V) (new : State) (made : ℕ) → s.place ≡ Some i → is_byte b i (code "K") ≡ false → made ≤ 1 → Fits point.Bound s.depth_left s.lifetimes
@@ -448,5 +456,5 @@ module _ {V : Type 0} (voice : Ghosts V) (b : List ℕ) (plain : Bool) where
   unfolding share_at
   bound_type_on s i row now u new made p e l f kl kn kp km w =
       let g : Heard = of plain voice.loud (unit_outcome (around b voice.loud s.depth_left s.lifetimes) a_type false (Some i)) in
-      enters voice b plain point.«Type» None (1 ∷ []) [] (frame_at point.OpenBindings s) _ (none_open g) 5 (8 * s.depth_left + 4) row now u new made
+      enters voice b plain point.«Type» None (1 ∷ []) [] (omega arith) (frame_at point.OpenBindings s) _ (none_open g) 5 (8 * s.depth_left + 4) row now u new made
       (bound_reads s (Some i) (1 ∷ []) g p (bound_type plain voice.loud b s.depth_left s.lifetimes i e)) (rw (kl, kn, kp) refl) km w (omega (arith, l)) (omega (arith, l)) (omega arith) (omega arith) (omega (arith, kl)) f (rw (kl, kn) f) refl

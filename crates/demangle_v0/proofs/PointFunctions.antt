@@ -14,7 +14,7 @@ use Rattle.demangle_v0.specs.Events.{Heard, of, nothing_heard, and_then, with_lo
 use Rattle.demangle_v0.specs.Grammar.{word_items, text}
 use Rattle.demangle_v0.specs.Groups.{texts_of, word_group}
 use Rattle.demangle_v0.specs.Reading.{Place, run, unit_outcome, max_depth}
-use Rattle.demangle_v0.specs.Points.{frame_of, mark_texts, then_frame, share_at, share, is_inner, weight_at, share_of, returns, none_open, around, way_weight, height_at, Fits, is_list_over, behind_list, list_costs, DidOn}
+use Rattle.demangle_v0.specs.Points.{frame_of, mark_texts, then_frame, share_at, share, is_inner, weight_at, words_at, share_of, returns, none_open, around, way_weight, height_at, Fits, is_list_over, behind_list, list_costs, DidOn}
 use Rattle.demangle_sink.specs.declared.SinkRefused.{SinkRefused}
 use Rattle.demangle_v0.specs.declared.grammar.Mark.{Mark}
 use Rattle.demangle_v0.specs.declared.grammar.Mark.TheVariants as mark
@@ -34,6 +34,8 @@ use Rattle.demangle_v0.proofs.Elements.{type_element}
 use Rattle.demangle_v0.proofs.ListReads.{child_followed, end_failed, end_over, more_failed, more_over, first_on, more_on}
 use Rattle.demangle_v0.proofs.PointSteps.{heard, child_last, refused, steps, after, faulty, faulty_after, put_goes, put_refused, group_so, group_goes, group_fails, group_refused, word_so}
 use Rattle.demangle_v0.proofs.TypeReads.{binder_reads}
+use Rattle.demangle_v0.proofs.PointTurns.{list_words}
+use Rattle.demangle_v0.proofs.WordLooks.{group_few}
 
 abbrev pub parameters : Items
 parameters = says "fn(" (list ", " type_inside (says ")" returns))
@@ -56,108 +58,108 @@ frame_at p s = frame_of p s.in_value s.letter s.depth_left s.lifetimes
 
 module _ {V : Type 0} (voice : Ghosts V) (b : List ℕ) (plain : Bool) where
   -- a mark may be left, and the point behind it
-  pub moves : (to : Point) (ms : Option Mark) (front : List ℕ) (h rest : Heard) (weight high : ℕ) (row : List Frame) (u : V) (new : State) (made : ℕ)
+  pub moves : {words : ℕ} (to : Point) (ms : Option Mark) (front : List ℕ) → length front ≤ words → (h rest : Heard) (weight high : ℕ) (row : List Frame) (u : V) (new : State) (made : ℕ)
       → h ≡ with_looks front (with_texts voice.loud (mark_texts ms) rest) → rest ≡ share_of b plain voice.loud to new → new.mark ≡ ms → made ≤ total front
       → way_weight to + 1 ≤ weight + 100 * total front → height_at to new.depth_left ≤ high → Fits to new.depth_left new.lifetimes
-      → DidOn voice b plain h weight high row u (Ok to) new row u made
+      → DidOn voice b plain words h weight high row u (Ok to) new row u made
   unfolding then_frame
-  moves to ms front h rest weight high row u new made e r k l x y f = record {
+  moves to ms front c h rest weight high row u new made e r k l x y f = record {
     comes =
-        steps voice b plain to front [] None h weight high row row u new made (rw k (e ∙ ap (λ (g : Heard). with_looks front (with_texts voice.loud (mark_texts ms) g)) r)) refl (omega (arith, l)) (omega (arith, l)) (omega (arith, x)) (omega arith) (omega (arith, y)) tt f (λ _. tt);
+        steps voice b plain to front [] (omega (arith, c)) None h weight high row row u new made (rw k (e ∙ ap (λ (g : Heard). with_looks front (with_texts voice.loud (mark_texts ms) g)) r)) refl (omega (arith, l)) (omega (arith, l)) (omega (arith, x)) (omega arith) (omega (arith, y)) tt f (λ _. tt);
   }
 
   -- a unit is entered, behind which a frame stands
-  pub enters : (to : Point) (ms : Option Mark) (front back : List ℕ) (f : Frame) (h g : Heard) (weight high : ℕ) (row now : List Frame) (u : V) (new : State) (made : ℕ)
+  pub enters : {words : ℕ} (to : Point) (ms : Option Mark) (front back : List ℕ) → length front + length back ≤ words → (f : Frame) (h g : Heard) (weight high : ℕ) (row now : List Frame) (u : V) (new : State) (made : ℕ)
       → h ≡ with_looks front (with_texts voice.loud (mark_texts ms) (with_looks back (and_then g (share b plain voice.loud f)))) → g ≡ share_of b plain voice.loud to new → new.mark ≡ ms → now ≡ row ++ f ∷ []
       → made ≤ total front + total back → made ≤ total front + 2 → way_weight to + weight_at f.point + 2 ≤ weight + 100 * (total front + total back)
       → height_at f.point f.depth_left ≤ high → height_at to new.depth_left + 1 ≤ high → Fits f.point f.depth_left f.number → Fits to new.depth_left new.lifetimes → is_inner f.point ≡ true
-      → DidOn voice b plain h weight high row u (Ok to) new now u made
+      → DidOn voice b plain words h weight high row u (Ok to) new now u made
   unfolding then_frame
-  enters to ms front back f h g weight high row now u new made e r k w l m d y z p q i = record {
+  enters to ms front back c f h g weight high row now u new made e r k w l m d y z p q i = record {
     comes =
-        steps voice b plain to front back (Some f) h weight high row now u new made (rw k (e ∙ ap (λ (x : Heard). with_looks front (with_texts voice.loud (mark_texts ms) (with_looks back (and_then x (share b plain voice.loud f))))) r)) w l m (omega (arith, d)) y z p q (λ _. i);
+        steps voice b plain to front back c (Some f) h weight high row now u new made (rw k (e ∙ ap (λ (x : Heard). with_looks front (with_texts voice.loud (mark_texts ms) (with_looks back (and_then x (share b plain voice.loud f))))) r)) w l m (omega (arith, d)) y z p q (λ _. i);
   }
 
   -- Words behind which the unit goes on.
 
-  pub word_on : (to : Point) (x : Word) (c : ℕ) (p : Items) (left n : ℕ) (i j : Place) (s : Stretch) (weight high : ℕ) (row : List Frame) (v w : V) (new : State) (made : ℕ)
+  pub word_on : {words : ℕ} (few : 4 ≤ words) (to : Point) (x : Word) (c : ℕ) (p : Items) (left n : ℕ) (i j : Place) (s : Stretch) (weight high : ℕ) (row : List Frame) (v w : V) (new : State) (made : ℕ)
       → reads.Goes s j ≡ (word_group b x c voice.loud n i).reads → made ≤ total (word_group b x c voice.loud n i).costs
       → voice.prints v (texts_of b plain s) (Ok tt) w → new.mark ≡ None → heard voice b plain p left n j ≡ share_of b plain voice.loud to new
       → way_weight to + 1 ≤ weight → height_at to new.depth_left ≤ high → Fits to new.depth_left new.lifetimes
-      → DidOn voice b plain (heard voice b plain (word_items x c p) left n i) weight high row v (Ok to) new row w made
-  word_on to x c p left n i j s weight high row v w new made r l q m e y z f =
-      group_goes voice b plain to _ (word_group b x c voice.loud n i) (heard voice b plain p left n) j s weight high row v w new made (word_so voice b plain x c p left n i) r l q m e y z f
+      → DidOn voice b plain words (heard voice b plain (word_items x c p) left n i) weight high row v (Ok to) new row w made
+  word_on few to x c p left n i j s weight high row v w new made r l q m e y z f =
+      group_goes voice b plain to _ (word_group b x c voice.loud n i) (omega (arith, few, group_few b x c voice.loud n i)) (heard voice b plain p left n) j s weight high row v w new made (word_so voice b plain x c p left n i) r l q m e y z f
 
   -- one that hands nothing over
-  pub word_bare : (x : Word) (c : ℕ) (p : Items) (left n : ℕ) (i j : Place) (s : Stretch) (weight high weight' high' : ℕ) (row : List Frame) (v w : V) (result : Result Point Stop) (new : State) (now : List Frame) (second made : ℕ)
+  pub word_bare : {words words' : ℕ} (few : 4 + words' ≤ words) (x : Word) (c : ℕ) (p : Items) (left n : ℕ) (i j : Place) (s : Stretch) (weight high weight' high' : ℕ) (row : List Frame) (v w : V) (result : Result Point Stop) (new : State) (now : List Frame) (second made : ℕ)
       → reads.Goes s j ≡ (word_group b x c voice.loud n i).reads → made ≤ total (word_group b x c voice.loud n i).costs + second
       → texts_of b plain s ≡ [] → weight' ≤ weight → high' ≤ high
-      → DidOn voice b plain (heard voice b plain p left n j) weight' high' row v result new now w second → DidOn voice b plain (heard voice b plain (word_items x c p) left n i) weight high row v result new now w made
-  word_bare x c p left n i j s weight high weight' high' row v w result new now second made r l q y z d =
+      → DidOn voice b plain words' (heard voice b plain p left n j) weight' high' row v result new now w second → DidOn voice b plain words (heard voice b plain (word_items x c p) left n i) weight high row v result new now w made
+  word_bare few x c p left n i j s weight high weight' high' row v w result new now second made r l q y z d =
       let g = word_group b x c voice.loud n i in
-      after voice b plain g.costs _ (heard voice b plain p left n j) weight high weight' high' row v w result new now (total g.costs) second made
+      after voice b plain g.costs (omega (arith, few, group_few b x c voice.loud n i)) _ (heard voice b plain p left n j) weight high weight' high' row v w result new now (total g.costs) second made
       (group_so voice b plain _ g (heard voice b plain p left n) (reads.Goes s j) (word_so voice b plain x c p left n i) r ∙ ap (λ ts. with_looks g.costs (with_texts voice.loud ts (heard voice b plain p left n j))) q) (omega arith) l (omega arith) z d
 
-  pub word_on_refused : (x : Word) (c : ℕ) (p : Items) (left n : ℕ) (i j : Place) (s : Stretch) (weight high : ℕ) (row : List Frame) (v w : V) (new : State) (e : SinkRefused) (made : ℕ)
+  pub word_on_refused : {words : ℕ} (few : 4 ≤ words) (x : Word) (c : ℕ) (p : Items) (left n : ℕ) (i j : Place) (s : Stretch) (weight high : ℕ) (row : List Frame) (v w : V) (new : State) (e : SinkRefused) (made : ℕ)
       → reads.Goes s j ≡ (word_group b x c voice.loud n i).reads → made ≤ total (word_group b x c voice.loud n i).costs
-      → voice.prints v (texts_of b plain s) (Err e) w → (voice.loud ≡ false → IsOk (refused e)) → DidOn voice b plain (heard voice b plain (word_items x c p) left n i) weight high row v (Err Refused) new row w made
-  word_on_refused x c p left n i j s weight high row v w new e made r l q k =
-      group_refused voice b plain _ (word_group b x c voice.loud n i) (heard voice b plain p left n) j s weight high row v w new e made (word_so voice b plain x c p left n i) r l q k
+      → voice.prints v (texts_of b plain s) (Err e) w → (voice.loud ≡ false → IsOk (refused e)) → DidOn voice b plain words (heard voice b plain (word_items x c p) left n i) weight high row v (Err Refused) new row w made
+  word_on_refused few x c p left n i j s weight high row v w new e made r l q k =
+      group_refused voice b plain _ (word_group b x c voice.loud n i) (omega (arith, few, group_few b x c voice.loud n i)) (heard voice b plain p left n) j s weight high row v w new e made (word_so voice b plain x c p left n i) r l q k
 
   -- one that ends the unit
-  pub word_fails : (x : Word) (c : ℕ) (p : Items) (left n : ℕ) (i : Place) (m : Mark) (weight high : ℕ) (row : List Frame) (v : V) (new : State) (made : ℕ)
+  pub word_fails : {words : ℕ} (few : 4 ≤ words) (x : Word) (c : ℕ) (p : Items) (left n : ℕ) (i : Place) (m : Mark) (weight high : ℕ) (row : List Frame) (v : V) (new : State) (made : ℕ)
       → reads.Stops m ≡ (word_group b x c voice.loud n i).reads → made ≤ total (word_group b x c voice.loud n i).costs → new.mark ≡ None → 1 ≤ weight
-      → DidOn voice b plain (heard voice b plain (word_items x c p) left n i) weight high row v (Err (Fault m)) new row v made
-  word_fails x c p left n i m weight high row v new made r l k y =
-      group_fails voice b plain _ (word_group b x c voice.loud n i) (heard voice b plain p left n) m weight high row v new made (word_so voice b plain x c p left n i) r l k y
+      → DidOn voice b plain words (heard voice b plain (word_items x c p) left n i) weight high row v (Err (Fault m)) new row v made
+  word_fails few x c p left n i m weight high row v new made r l k y =
+      group_fails voice b plain _ (word_group b x c voice.loud n i) (omega (arith, few, group_few b x c voice.loud n i)) (heard voice b plain p left n) m weight high row v new made (word_so voice b plain x c p left n i) r l k y
 
   -- Binders.
 
-  pub binder_unread : (p : Items) (left n weight high : ℕ) (row : List Frame) (u : V) (new : State) (made : ℕ) → new.mark ≡ None → made ≤ 0 → 1 ≤ weight
-      → DidOn voice b plain (heard voice b plain (in_binder p) left n None) weight high row u (Err (Fault mark.Unread)) new row u made
+  pub binder_unread : {words : ℕ} (p : Items) (left n weight high : ℕ) (row : List Frame) (u : V) (new : State) (made : ℕ) → new.mark ≡ None → made ≤ 0 → 1 ≤ weight
+      → DidOn voice b plain words (heard voice b plain (in_binder p) left n None) weight high row u (Err (Fault mark.Unread)) new row u made
   unfolding run
   binder_unread p left n weight high row u new made k l x = faulty voice b plain mark.Unread _ weight high row u new made k refl l x
 
-  pub binder_stops : (p : Items) (left n i weight high : ℕ) (row : List Frame) (u : V) (new : State) (made : ℕ) → new.mark ≡ None → None ≡ optional_at (code "G") b i → made ≤ 4 * (length b - i + 1) → 1 ≤ weight
-      → DidOn voice b plain (heard voice b plain (in_binder p) left n (Some i)) weight high row u (Err (Fault mark.Invalid)) new row u made
+  pub binder_stops : {words : ℕ} (few : 1 ≤ words) (p : Items) (left n i weight high : ℕ) (row : List Frame) (u : V) (new : State) (made : ℕ) → new.mark ≡ None → None ≡ optional_at (code "G") b i → made ≤ 4 * (length b - i + 1) → 1 ≤ weight
+      → DidOn voice b plain words (heard voice b plain (in_binder p) left n (Some i)) weight high row u (Err (Fault mark.Invalid)) new row u made
   unfolding run
-  binder_stops p left n i weight high row u new made k e l x = faulty_after voice b plain (4 * (length b - i + 1) ∷ []) mark.Invalid _ weight high row u new made k (rw (sym e) refl) (omega (arith, l)) x
+  binder_stops few p left n i weight high row u new made k e l x = faulty_after voice b plain (4 * (length b - i + 1) ∷ []) (omega (arith, few)) mark.Invalid _ weight high row u new made k (rw (sym e) refl) (omega (arith, l)) x
 
   binder_so : (p : Items) (left n i j m : ℕ) → Some (m, j) ≡ optional_at (code "G") b i
       → heard voice b plain (in_binder p) left n (Some i) ≡ with_looks (4 * (j - i + 1) ∷ []) (with_texts voice.loud (binder_texts m n) (heard voice b plain p left (n + m) (Some j)))
   binder_so p left n i j m e = ap none_open (binder_reads plain voice.loud b left n p i j m (sym e))
 
   -- no lifetime
-  pub binder_none : (p : Items) (left n i j m weight high weight' high' : ℕ) (row : List Frame) (v w : V) (result : Result Point Stop) (new : State) (now : List Frame) (first second made : ℕ)
+  pub binder_none : {words words' : ℕ} (few : 1 + words' ≤ words) (p : Items) (left n i j m weight high weight' high' : ℕ) (row : List Frame) (v w : V) (result : Result Point Stop) (new : State) (now : List Frame) (first second made : ℕ)
       → Some (m, j) ≡ optional_at (code "G") b i → m ≡ 0 → first ≤ 4 * (j - i + 1) → made ≤ first + second → weight' ≤ weight + 100 → high' ≤ high
-      → DidOn voice b plain (heard voice b plain p left n (Some j)) weight' high' row v result new now w second → DidOn voice b plain (heard voice b plain (in_binder p) left n (Some i)) weight high row v result new now w made
+      → DidOn voice b plain words' (heard voice b plain p left n (Some j)) weight' high' row v result new now w second → DidOn voice b plain words (heard voice b plain (in_binder p) left n (Some i)) weight high row v result new now w made
   unfolding binder_texts
-  binder_none p left n i j m weight high weight' high' row v w result new now first second made e z k l x y d =
+  binder_none few p left n i j m weight high weight' high' row v w result new now first second made e z k l x y d =
       let add : n + 0 ≡ n = omega arith in
-      after voice b plain (4 * (j - i + 1) ∷ []) _ (heard voice b plain p left n (Some j)) weight high weight' high' row v w result new now first second made
+      after voice b plain (4 * (j - i + 1) ∷ []) (omega (arith, few)) _ (heard voice b plain p left n (Some j)) weight high weight' high' row v w result new now first second made
       (binder_so p left n i j m e ∙ rw (z, add) refl) (omega (arith, k)) l (omega arith) y d
 
-  pub binder_goes : (to : Point) (p : Items) (left n i j m weight high : ℕ) (row : List Frame) (v w : V) (new : State) (made : ℕ)
+  pub binder_goes : {words : ℕ} (few : 1 ≤ words) (to : Point) (p : Items) (left n i j m weight high : ℕ) (row : List Frame) (v w : V) (new : State) (made : ℕ)
       → Some (m, j) ≡ optional_at (code "G") b i → made ≤ 4 * (j - i + 1) → voice.prints v (binder_texts m n) (Ok tt) w → new.mark ≡ None
       → heard voice b plain p left (n + m) (Some j) ≡ share_of b plain voice.loud to new → way_weight to ≤ weight + 99 → height_at to new.depth_left ≤ high → Fits to new.depth_left new.lifetimes
-      → DidOn voice b plain (heard voice b plain (in_binder p) left n (Some i)) weight high row v (Ok to) new row w made
-  binder_goes to p left n i j m weight high row v w new made e l q k h x y f =
-      put_goes voice b plain to (4 * (j - i + 1) ∷ []) (Binder n m) _ weight high row v w new made
+      → DidOn voice b plain words (heard voice b plain (in_binder p) left n (Some i)) weight high row v (Ok to) new row w made
+  binder_goes few to p left n i j m weight high row v w new made e l q k h x y f =
+      put_goes voice b plain to (4 * (j - i + 1) ∷ []) (omega (arith, few)) (Binder n m) _ weight high row v w new made
       (binder_so p left n i j m e ∙ ap (λ (h : Heard). with_looks (4 * (j - i + 1) ∷ []) (with_texts voice.loud (binder_texts m n) h)) h) q k (omega (arith, l)) (omega (arith, x)) y f
 
-  pub binder_refused : (p : Items) (left n i j m weight high : ℕ) (row : List Frame) (v w : V) (new : State) (r : SinkRefused) (made : ℕ)
+  pub binder_refused : {words : ℕ} (few : 1 ≤ words) (p : Items) (left n i j m weight high : ℕ) (row : List Frame) (v w : V) (new : State) (r : SinkRefused) (made : ℕ)
       → Some (m, j) ≡ optional_at (code "G") b i → made ≤ 4 * (j - i + 1) → voice.prints v (binder_texts m n) (Err r) w → (voice.loud ≡ false → IsOk (refused r))
-      → DidOn voice b plain (heard voice b plain (in_binder p) left n (Some i)) weight high row v (Err Refused) new row w made
-  binder_refused p left n i j m weight high row v w new r made e l q k =
-      put_refused voice b plain (4 * (j - i + 1) ∷ []) (Binder n m) _ (heard voice b plain p left (n + m) (Some j)) weight high row v w new r made (binder_so p left n i j m e) q (omega (arith, l)) (λ h. absurd (false≢true (k h)))
+      → DidOn voice b plain words (heard voice b plain (in_binder p) left n (Some i)) weight high row v (Err Refused) new row w made
+  binder_refused few p left n i j m weight high row v w new r made e l q k =
+      put_refused voice b plain (4 * (j - i + 1) ∷ []) (omega (arith, few)) (Binder n m) _ (heard voice b plain p left (n + m) (Some j)) weight high row v w new r made (binder_so p left n i j m e) q (omega (arith, l)) (λ h. absurd (false≢true (k h)))
 
   abbrev parameter_did : Bool → State → List Frame → V → Point → State → List Frame → ℕ → Type 0
   parameter_did first s row u to new now made = let p = if first then point.FirstParameter else point.NextParameter in
-      DidOn voice b plain (share_of b plain voice.loud p s) (weight_at p) (height_at p s.depth_left) row u (Ok to) new now u made
+      DidOn voice b plain (words_at p) (share_of b plain voice.loud p s) (weight_at p) (height_at p s.depth_left) row u (Ok to) new now u made
 
   -- their points weigh the same
   parameter_as : (first : Bool) (s : State) (row : List Frame) (u : V) (to : Point) (new : State) (now : List Frame) (made : ℕ)
-      → DidOn voice b plain (heard voice b plain (left_parameters first) s.depth_left s.lifetimes s.place) 3 (8 * s.depth_left + 2) row u (Ok to) new now u made → parameter_did first s row u to new now made
+      → DidOn voice b plain 8 (heard voice b plain (left_parameters first) s.depth_left s.lifetimes s.place) 3 (8 * s.depth_left + 2) row u (Ok to) new now u made → parameter_did first s row u to new now made
   unfolding share_at
   parameter_as true s row u to new now made d = d
   parameter_as false s row u to new now made d = d
@@ -180,7 +182,7 @@ module _ {V : Type 0} (voice : Ghosts V) (b : List ℕ) (plain : Bool) where
       → parameter_did first s row u point.Returns new row made
   unfolding share_at
   parameters_over first s row u new made e l f kl kn kp km = parameter_as first s row u point.Returns new row made
-      (moves point.Returns (Some mark.CloseParen) (list_costs s.place) _ (heard voice b plain returns s.depth_left s.lifetimes (behind_list b s.place)) 3 (8 * s.depth_left + 2) row u new made
+      (moves point.Returns (Some mark.CloseParen) (list_costs s.place) (omega (arith, list_words s.place)) _ (heard voice b plain returns s.depth_left s.lifetimes (behind_list b s.place)) 3 (8 * s.depth_left + 2) row u new made
       (parameters_end first s.depth_left s.lifetimes s.place e ∙ ap (with_looks (list_costs s.place)) (closing_reads s.depth_left s.lifetimes (behind_list b s.place))) (rw (kl, kn, kp) refl) km l (omega arith) (omega (arith, kl)) (rw (kl, kn) f))
 
   -- one of them
@@ -209,7 +211,7 @@ module _ {V : Type 0} (voice : Ghosts V) (b : List ℕ) (plain : Bool) where
           let d : is_byte b i (code "E") ≡ false = rw p at e in
           let q : new.place ≡ Some i = rw (p, d) at kp in
           parameter_as first s row u point.«Type» new now made
-          (enters point.«Type» (separator first mark.Comma) (1 ∷ []) [] (frame_at point.NextParameter s) _ (none_open (of plain voice.loud (unit_outcome (around b voice.loud s.depth_left s.lifetimes) a_type false (Some i)))) 3 (8 * s.depth_left + 2) row now u new made
+          (enters point.«Type» (separator first mark.Comma) (1 ∷ []) [] (omega arith) (frame_at point.NextParameter s) _ (none_open (of plain voice.loud (unit_outcome (around b voice.loud s.depth_left s.lifetimes) a_type false (Some i)))) 3 (8 * s.depth_left + 2) row now u new made
           (rw p (parameter_reads first s i (omega (arith, f)) d)) (rw (kl, kn, q) refl) km w (omega (arith, rw p at l)) (omega (arith, rw p at l)) (omega arith) (omega arith) (omega (arith, kl)) f (rw (kl, kn) f) refl)
 
   -- What is returned.
@@ -219,22 +221,22 @@ module _ {V : Type 0} (voice : Ghosts V) (b : List ℕ) (plain : Bool) where
   type_share new left n i kl kn kp = rw (kl, kn, kp) (child_last voice b plain a_type false left n i)
 
   abbrev returns_did : State → List Frame → V → Point → State → ℕ → Type 0
-  returns_did s row u to new made = DidOn voice b plain (share_of b plain voice.loud point.Returns s) 2 (8 * s.depth_left + 2) row u (Ok to) new row u made
+  returns_did s row u to new made = DidOn voice b plain 8 (share_of b plain voice.loud point.Returns s) 2 (8 * s.depth_left + 2) row u (Ok to) new row u made
 
   pub returns_unit : (s : State) (i : ℕ) (row : List Frame) (u : V) (new : State) (made : ℕ) → s.place ≡ Some i → is_byte b i (code "u") ≡ true → made ≤ 1
       → new.place ≡ Some (i + 1) → new.is_open ≡ false → new.mark ≡ None → returns_did s row u point.End new made
   unfolding run share_at
   returns_unit s i row u new made p e l kp ko km =
-      moves point.End None (1 ∷ []) _ (nothing_heard (Some (i + 1)) false) 2 (8 * s.depth_left + 2) row u new made (rw (p, e) refl) (rw (kp, ko) refl) km (omega (arith, l)) (omega arith) (omega arith) tt
+      moves point.End None (1 ∷ []) (omega arith) _ (nothing_heard (Some (i + 1)) false) 2 (8 * s.depth_left + 2) row u new made (rw (p, e) refl) (rw (kp, ko) refl) km (omega (arith, l)) (omega arith) (omega arith) tt
 
   pub returns_failed : (s : State) (row : List Frame) (u : V) (new : State) (made : ℕ) → s.place ≡ None → made ≤ 0 → Fits point.Returns s.depth_left s.lifetimes
       → new.depth_left ≡ s.depth_left → new.lifetimes ≡ s.lifetimes → new.place ≡ None → new.mark ≡ Some mark.Arrow → returns_did s row u point.«Type» new made
   unfolding run share_at
   returns_failed s row u new made p l f kl kn kp km =
-      moves point.«Type» (Some mark.Arrow) [] _ (heard voice b plain type_inside s.depth_left s.lifetimes None) 2 (8 * s.depth_left + 2) row u new made (rw p refl) (type_share new s.depth_left s.lifetimes None kl kn kp) km (omega (arith, l)) (omega arith) (omega (arith, kl)) (rw (kl, kn) f)
+      moves point.«Type» (Some mark.Arrow) [] (omega arith) _ (heard voice b plain type_inside s.depth_left s.lifetimes None) 2 (8 * s.depth_left + 2) row u new made (rw p refl) (type_share new s.depth_left s.lifetimes None kl kn kp) km (omega (arith, l)) (omega arith) (omega (arith, kl)) (rw (kl, kn) f)
 
   pub returns_type : (s : State) (i : ℕ) (row : List Frame) (u : V) (new : State) (made : ℕ) → s.place ≡ Some i → is_byte b i (code "u") ≡ false → made ≤ 1 → Fits point.Returns s.depth_left s.lifetimes
       → new.depth_left ≡ s.depth_left → new.lifetimes ≡ s.lifetimes → new.place ≡ Some i → new.mark ≡ Some mark.Arrow → returns_did s row u point.«Type» new made
   unfolding run share_at
   returns_type s i row u new made p e l f kl kn kp km =
-      moves point.«Type» (Some mark.Arrow) (1 ∷ []) _ (heard voice b plain type_inside s.depth_left s.lifetimes (Some i)) 2 (8 * s.depth_left + 2) row u new made (rw (p, e) refl) (type_share new s.depth_left s.lifetimes (Some i) kl kn kp) km (omega (arith, l)) (omega arith) (omega (arith, kl)) (rw (kl, kn) f)
+      moves point.«Type» (Some mark.Arrow) (1 ∷ []) (omega arith) _ (heard voice b plain type_inside s.depth_left s.lifetimes (Some i)) 2 (8 * s.depth_left + 2) row u new made (rw (p, e) refl) (type_share new s.depth_left s.lifetimes (Some i) kl kn kp) km (omega (arith, l)) (omega arith) (omega (arith, kl)) (rw (kl, kn) f)

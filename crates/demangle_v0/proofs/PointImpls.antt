@@ -7,7 +7,7 @@ use Rattle.demangle_v0.specs.Events.{of, and_then, with_texts}
 use Rattle.demangle_v0.specs.Grammar.{text}
 use Rattle.demangle_v0.specs.Impls.{impl_items, skip_point, self_point}
 use Rattle.demangle_v0.specs.Items.{Kind, Items, a_type, say, child}
-use Rattle.demangle_v0.specs.Points.{frame_at, Turn, Env, Paid, RestDoes, PointDoes, frame_of, then_frame, share, share_at, rest_at, none_open, around, weight_at, Fits, DidOn}
+use Rattle.demangle_v0.specs.Points.{frame_at, Turn, Env, Paid, RestDoes, PointDoes, frame_of, then_frame, share, share_at, rest_at, none_open, around, weight_at, Fits, DidOn, words_at}
 use Rattle.demangle_v0.specs.Reading.{Place, unit_outcome, run}
 use Rattle.demangle_v0.specs.declared.grammar.Mark.TheVariants as mark
 use Rattle.demangle_v0.specs.declared.points.Point.TheVariants as point
@@ -34,11 +34,11 @@ module _ {V : Type 0} (voice : Ghosts V) (b : List ℕ) (plain : Bool) where
   pub skip_goes : (q : Bool) (v : Bool) (c left n : ℕ) (i : Place) (o : Bool) (row now : List Frame) (u : V) (new : State) (made : ℕ) → voice.loud ≡ false → made ≤ 0 → Fits point.Path left n
       → new.in_value ≡ false → new.letter ≡ c → new.depth_left ≡ left → new.lifetimes ≡ n → new.place ≡ i → new.mark ≡ None → new.is_open ≡ o
       → now ≡ row ++ frame_of (self_point q) v c left n ∷ []
-      → DidOn voice b plain (heard_at voice b plain (skip_point q) v c left n i o) (weight_at (skip_point q)) (8 * left + 2) row u (Ok point.Path) new now u made
+      → DidOn voice b plain (words_at (skip_point q)) (heard_at voice b plain (skip_point q) v c left n i o) (weight_at (skip_point q)) (8 * left + 2) row u (Ok point.Path) new now u made
   unfolding then_frame
   skip_goes true v c left n i o row now u new made silent l f kv kc kl kn kp km ko r = record {
     comes =
-        steps voice b plain point.Path [] [] (Some (frame_of point.SelfType v c left n)) _ 10 (8 * left + 2) row now u new made
+        steps voice b plain point.Path [] [] (omega arith) (Some (frame_of point.SelfType v c left n)) _ 10 (8 * left + 2) row now u new made
         (ap (λ (out : Bool). share_at b plain out point.ImplPath v c left n i o) silent
         ∙ (skip_heard true v c left n i o
         ∙ (ap (λ (out : Bool). and_then (share_at b plain out point.Path false c left n i o) (share b plain out (frame_of point.SelfType v c left n))) (sym silent) ∙ rw (kv, kc, kl, kn, kp, km, ko) refl)))
@@ -46,7 +46,7 @@ module _ {V : Type 0} (voice : Ghosts V) (b : List ℕ) (plain : Bool) where
   }
   skip_goes false v c left n i o row now u new made silent l f kv kc kl kn kp km ko r = record {
     comes =
-        steps voice b plain point.Path [] [] (Some (frame_of point.InherentType v c left n)) _ 7 (8 * left + 2) row now u new made
+        steps voice b plain point.Path [] [] (omega arith) (Some (frame_of point.InherentType v c left n)) _ 7 (8 * left + 2) row now u new made
         (ap (λ (out : Bool). share_at b plain out point.InherentPath v c left n i o) silent
         ∙ (skip_heard false v c left n i o
         ∙ (ap (λ (out : Bool). and_then (share_at b plain out point.Path false c left n i o) (share b plain out (frame_of point.InherentType v c left n))) (sym silent) ∙ rw (kv, kc, kl, kn, kp, km, ko) refl)))
@@ -67,39 +67,39 @@ module _ {V : Type 0} (voice : Ghosts V) (b : List ℕ) (plain : Bool) where
 
   pub as_goes : (v : Bool) (c left n : ℕ) (i : Place) (o : Bool) (row now : List Frame) (u : V) (new : State) (made : ℕ) → made ≤ 0 → Fits point.Path left n
       → new.in_value ≡ false → new.depth_left ≡ left → new.lifetimes ≡ n → new.place ≡ i → new.mark ≡ Some mark.As → now ≡ row ++ frame_of point.CloseAngle v c left n ∷ []
-      → DidOn voice b plain (heard_at voice b plain point.As v c left n i o) 4 (8 * left + 2) row u (Ok point.Path) new now u made
+      → DidOn voice b plain 8 (heard_at voice b plain point.As v c left n i o) 4 (8 * left + 2) row u (Ok point.Path) new now u made
   unfolding run then_frame share_at
   as_goes v c left n i o row now u new made l f kv kl kn kp km r = record {
     comes =
-        steps voice b plain point.Path [] [] (Some (frame_of point.CloseAngle v c left n)) _ 4 (8 * left + 2) row now u new made (rw (kv, kl, kn, kp, km) refl)
+        steps voice b plain point.Path [] [] (omega arith) (Some (frame_of point.CloseAngle v c left n)) _ 4 (8 * left + 2) row now u new made (rw (kv, kl, kn, kp, km) refl)
         r (omega (arith, l)) (omega (arith, l)) (omega arith) (omega arith) (omega (arith, kl)) f (rw (kl, kn) f) (λ _. refl);
   }
 
 module _ {V : Type 0} {e : Env V} where
   -- Behind the tag of an impl.
-  pub impl_unread : {t : Turn V} (q : Bool) → t.state.place ≡ None → t.state.mark ≡ None → RestDoes e (impl_items q) 1 2 t (Err (Fault mark.Unread)) t
+  pub impl_unread : {t : Turn V} (q : Bool) → t.state.place ≡ None → t.state.mark ≡ None → RestDoes e (impl_items q) 6 1 2 t (Err (Fault mark.Unread)) t
   unfolding run
   impl_unread true at k = unread k (rw at refl) (omega arith)
   impl_unread false at k = unread k (rw at refl) (omega arith)
 
-  pub impl_stops : {t : Turn V} {n : ℕ} (q : Bool) (i : ℕ) → t.state.place ≡ Some i → None ≡ optional_at (code "s") e.symbol i → Paid t.looks (4 * (length e.symbol - i + 1) ∷ []) n → t.state.mark ≡ None → RestDoes e (impl_items q) 1 2 t (Err (Fault mark.Invalid)) (record t { looks = n })
+  pub impl_stops : {t : Turn V} {n : ℕ} (q : Bool) (i : ℕ) → t.state.place ≡ Some i → None ≡ optional_at (code "s") e.symbol i → Paid t.looks (4 * (length e.symbol - i + 1) ∷ []) n → t.state.mark ≡ None → RestDoes e (impl_items q) 6 1 2 t (Err (Fault mark.Invalid)) (record t { looks = n })
   unfolding run
-  impl_stops true i at r p k = ends mark.Invalid (4 * (length e.symbol - i + 1) ∷ []) k (rw (at, sym r) refl) p (rw at (omega (arith, p.within))) (omega arith)
-  impl_stops false i at r p k = ends mark.Invalid (4 * (length e.symbol - i + 1) ∷ []) k (rw (at, sym r) refl) p (rw at (omega (arith, p.within))) (omega arith)
+  impl_stops true i at r p k = ends mark.Invalid (4 * (length e.symbol - i + 1) ∷ []) (omega arith) k (rw (at, sym r) refl) p (rw at (omega (arith, p.within))) (omega arith)
+  impl_stops false i at r p k = ends mark.Invalid (4 * (length e.symbol - i + 1) ∷ []) (omega arith) k (rw (at, sym r) refl) p (rw at (omega (arith, p.within))) (omega arith)
 
   pub impl_goes : {t : Turn V} {n : ℕ} (q : Bool) (i m j : ℕ) → t.state.place ≡ Some i → Some (m, j) ≡ optional_at (code "s") e.symbol i → Paid t.looks (4 * (j - i + 1) ∷ []) n → t.state.mark ≡ None → Fits point.Path t.state.depth_left t.state.lifetimes
-      → RestDoes e (impl_items q) 1 2 t (Ok (skip_point q)) (record t { state = record t.state { place = Some j }; looks = n })
+      → RestDoes e (impl_items q) 6 1 2 t (Ok (skip_point q)) (record t { state = record t.state { place = Some j }; looks = n })
   unfolding run then_frame share_at
-  impl_goes true i m j at r p k f = let w = (optional_there (code "s") e.symbol i m j (sym r)).1 in leaves point.ImplPath (4 * (j - i + 1) ∷ []) [] None (rw (at, k, sym r) refl) refl p (omega arith) (rw at (omega (arith, p.within, w))) (omega arith) (omega arith) (omega arith) tt f (λ _. tt)
-  impl_goes false i m j at r p k f = let w = (optional_there (code "s") e.symbol i m j (sym r)).1 in leaves point.InherentPath (4 * (j - i + 1) ∷ []) [] None (rw (at, k, sym r) refl) refl p (omega arith) (rw at (omega (arith, p.within, w))) (omega arith) (omega arith) (omega arith) tt f (λ _. tt)
+  impl_goes true i m j at r p k f = let w = (optional_there (code "s") e.symbol i m j (sym r)).1 in leaves point.ImplPath (4 * (j - i + 1) ∷ []) [] (omega arith) None (rw (at, k, sym r) refl) refl p (omega arith) (rw at (omega (arith, p.within, w))) (omega arith) (omega arith) (omega arith) tt f (λ _. tt)
+  impl_goes false i m j at r p k f = let w = (optional_there (code "s") e.symbol i m j (sym r)).1 in leaves point.InherentPath (4 * (j - i + 1) ∷ []) [] (omega arith) None (rw (at, k, sym r) refl) refl p (omega arith) (rw at (omega (arith, p.within, w))) (omega arith) (omega arith) (omega arith) tt f (λ _. tt)
 
   -- Behind the impl's own path.
   pub self_goes : {t : Turn V} {row : List Frame} → Fits point.Path t.state.depth_left t.state.lifetimes → row ≡ t.row ++ frame_at point.As t.state ∷ [] → PointDoes e point.SelfType t (Ok point.«Type») (record t { state = record t.state { mark = Some mark.Less }; row = row })
   unfolding then_frame share_at
   self_goes {t} f r =
       let s = t.state in
-      leaves point.«Type» [] [] (Some (frame_at point.As t.state)) (self_heard e.voice e.symbol e.plain s.in_value s.letter s.depth_left s.lifetimes s.place s.is_open) r (record { grows = omega arith; within = omega arith }) (omega arith) (omega arith) (omega arith) (omega arith) (omega arith) f f (λ _. refl)
+      leaves point.«Type» [] [] (omega arith) (Some (frame_at point.As t.state)) (self_heard e.voice e.symbol e.plain s.in_value s.letter s.depth_left s.lifetimes s.place s.is_open) r (record { grows = omega arith; within = omega arith }) (omega arith) (omega arith) (omega arith) (omega arith) (omega arith) f f (λ _. refl)
 
   pub inherent_goes : {t : Turn V} {row : List Frame} → Fits point.Path t.state.depth_left t.state.lifetimes → row ≡ t.row ++ frame_at point.CloseAngle t.state ∷ [] → PointDoes e point.InherentType t (Ok point.«Type») (record t { state = record t.state { mark = Some mark.Less }; row = row })
   unfolding run then_frame share_at
-  inherent_goes {t} f r = leaves point.«Type» [] [] (Some (frame_at point.CloseAngle t.state)) refl r (record { grows = omega arith; within = omega arith }) (omega arith) (omega arith) (omega arith) (omega arith) (omega arith) f f (λ _. refl)
+  inherent_goes {t} f r = leaves point.«Type» [] [] (omega arith) (Some (frame_at point.CloseAngle t.state)) refl r (record { grows = omega arith; within = omega arith }) (omega arith) (omega arith) (omega arith) (omega arith) (omega arith) f f (λ _. refl)

@@ -79,9 +79,9 @@ pub record Indexed {V : Type 0} (e : Env V) (t : Turn V) (i k j n : ℕ) : Type 
   pub fits : Fits point.«Type» t.state.depth_left t.state.lifetimes
 
 module _ {V : Type 0} {e : Env V} where
-  as_lifetime : {t u : Turn V} {r : Result Point Stop} (q : Bool) → RestDoes e (lifetime_before (says_if q "mut " type_inside)) 2 2 t r u → PointDoes e (lifetime_point q) t r u
-  as_lifetime {t} true d = let s = t.state in alike (sym (lifetime_so e.voice e.symbol e.plain true s.in_value s.letter s.depth_left s.lifetimes s.place s.is_open)) (omega arith) (omega arith) d
-  as_lifetime {t} false d = let s = t.state in alike (sym (lifetime_so e.voice e.symbol e.plain false s.in_value s.letter s.depth_left s.lifetimes s.place s.is_open)) (omega arith) (omega arith) d
+  as_lifetime : {t u : Turn V} {r : Result Point Stop} (q : Bool) → RestDoes e (lifetime_before (says_if q "mut " type_inside)) 8 2 2 t r u → PointDoes e (lifetime_point q) t r u
+  as_lifetime {t} true d = let s = t.state in alike (omega arith) (sym (lifetime_so e.voice e.symbol e.plain true s.in_value s.letter s.depth_left s.lifetimes s.place s.is_open)) (omega arith) (omega arith) d
+  as_lifetime {t} false d = let s = t.state in alike (omega arith) (sym (lifetime_so e.voice e.symbol e.plain false s.in_value s.letter s.depth_left s.lifetimes s.place s.is_open)) (omega arith) (omega arith) d
 
   pub lifetime_unread : {t : Turn V} (q : Bool) → t.state.place ≡ None → t.state.mark ≡ None → PointDoes e (lifetime_point q) t (Err (Fault mark.Unread)) t
   unfolding run
@@ -89,7 +89,7 @@ module _ {V : Type 0} {e : Env V} where
 
   pub lifetime_stops : {t : Turn V} {n : ℕ} (q : Bool) (i : ℕ) → t.state.place ≡ Some i → None ≡ integer_at e.symbol i → Paid t.looks (4 * (length e.symbol - i + 1) ∷ []) n → t.state.mark ≡ None → PointDoes e (lifetime_point q) t (Err (Fault mark.Invalid)) (record t { looks = n })
   unfolding run
-  lifetime_stops q i at r p k = as_lifetime q (ends mark.Invalid (4 * (length e.symbol - i + 1) ∷ []) k (rw (at, sym r) refl) p (rw at (omega (arith, p.within))) (omega arith))
+  lifetime_stops q i at r p k = as_lifetime q (ends mark.Invalid (4 * (length e.symbol - i + 1) ∷ []) (omega arith) k (rw (at, sym r) refl) p (rw at (omega (arith, p.within))) (omega arith))
 
   short : {t : Turn V} {i k j n : ℕ} → Indexed e t i k j n → n ≤ t.looks + own_looks e.symbol t.state.place
   short {t} {i} {k} {j} x = let p = placed (i + 1) e.symbol (integer_at e.symbol i) (integer_placed e.symbol i) k j (sym x.is) in rw x.at (omega (arith, x.paid.within, p.0, p.1))
@@ -101,7 +101,7 @@ module _ {V : Type 0} {e : Env V} where
   unfolding then_frame
   unsaid {t} {i} {k} {j} q x o =
       let s = t.state in
-      as_lifetime q (leaves (behind_reference q) (4 * (j - i + 1) ∷ []) [] None
+      as_lifetime q (leaves (behind_reference q) (4 * (j - i + 1) ∷ []) [] (omega arith) None
       (ap (λ (z : Place). named_heard e.voice e.symbol e.plain q s.depth_left s.lifetimes z) x.at ∙ (o ∙ rw x.unmarked (ap (with_looks (4 * (j - i + 1) ∷ [])) (behind_so e.voice e.symbol e.plain q s.in_value s.letter s.depth_left s.lifetimes (Some j) s.is_open)))) refl x.paid (omega arith) (short x)
       (omega (arith, behind_light e.voice e.symbol e.plain q)) (omega arith) (omega (arith, behind_low e.voice e.symbol e.plain q s.depth_left)) tt (behind_fits e.voice e.symbol e.plain q s.depth_left s.lifetimes x.fits) (λ _. tt))
 
@@ -122,11 +122,11 @@ module _ {V : Type 0} {e : Env V} where
       → e.voice.prints t.voice (texts_of e.symbol e.plain y) (Ok tt) v → e.voice.ready v → PointDoes e (lifetime_point q) t (Ok (behind_reference q)) (record t { state = record t.state { place = x }; voice = v; looks = n })
   lifetime_tells {t} q i k j y x d z m g r w =
       let s = t.state in
-      as_lifetime q (tells (behind_reference q) (4 * (j - i + 1) ∷ []) y
+      as_lifetime q (tells (behind_reference q) (4 * (j - i + 1) ∷ []) (omega arith) y
       (said q y x d z m g ∙ ap (λ (h : Heard). with_looks (4 * (j - i + 1) ∷ []) (with_texts e.voice.loud (texts_of e.symbol e.plain y) h)) (behind_so e.voice e.symbol e.plain q s.in_value s.letter s.depth_left s.lifetimes x s.is_open))
       r w d.unmarked d.paid (short d) (omega (arith, behind_light e.voice e.symbol e.plain q)) (behind_low e.voice e.symbol e.plain q s.depth_left) (behind_fits e.voice e.symbol e.plain q s.depth_left s.lifetimes d.fits))
 
   pub lifetime_refused : {t : Turn V} {s : State} {v : V} {n : ℕ} {f : SinkRefused} (q : Bool) (i k j : ℕ) (y : Stretch) (x : Place) → Indexed e t i k j n → (k ≡ 0 → ⊥) → e.voice.loud ≡ true → (y, x) ≡ spaced_lifetime t.state.lifetimes k j
       → e.voice.prints t.voice (texts_of e.symbol e.plain y) (Err f) v → PointDoes e (lifetime_point q) t (Err Refused) (record t { state = s; voice = v; looks = n })
   lifetime_refused {t} q i k j y x d z m g r =
-      as_lifetime q (halts (4 * (j - i + 1) ∷ []) y (heard e.voice e.symbol e.plain (says_if q "mut " type_inside) t.state.depth_left t.state.lifetimes x) (said q y x d z m g) r (λ h. absurd (false≢true (sym h ∙ m))) d.paid (short d))
+      as_lifetime q (halts (4 * (j - i + 1) ∷ []) (omega arith) y (heard e.voice e.symbol e.plain (says_if q "mut " type_inside) t.state.depth_left t.state.lifetimes x) (said q y x d z m g) r (λ h. absurd (false≢true (sym h ∙ m))) d.paid (short d))

@@ -80,52 +80,52 @@ pub nested_heard : {V : Type 0} (e : Env V) (s : State) (i : ℕ) → s.place �
 nested_heard e s i at = rw at (nested_so e.voice e.symbol e.plain s.in_value s.letter s.depth_left s.lifetimes i s.is_open)
 
 module _ {V : Type 0} {e : Env V} where
-  pub nested_stops : {t : Turn V} {n : ℕ} (i : ℕ) → t.state.place ≡ Some i → None ≡ namespace_at e.symbol i → n ≡ t.looks + 1 → t.state.mark ≡ None → RestDoes e (path t.state.in_value 78) 1 9 t (Err (Fault mark.Invalid)) (record t { looks = n })
+  pub nested_stops : {t : Turn V} {n : ℕ} (i : ℕ) → t.state.place ≡ Some i → None ≡ namespace_at e.symbol i → n ≡ t.looks + 1 → t.state.mark ≡ None → RestDoes e (path t.state.in_value 78) 6 1 9 t (Err (Fault mark.Invalid)) (record t { looks = n })
   unfolding run
-  nested_stops i at r l k = ends mark.Invalid (4 * (length e.symbol - i + 1) ∷ []) k (rw (at, sym r) refl) (record { grows = omega arith; within = omega arith }) (rw at (omega (arith, l))) (omega arith)
+  nested_stops i at r l k = ends mark.Invalid (4 * (length e.symbol - i + 1) ∷ []) (omega arith) k (rw (at, sym r) refl) (record { grows = omega arith; within = omega arith }) (rw at (omega (arith, l))) (omega arith)
 
   pub nested_goes : {t : Turn V} {row : List Frame} {n most : ℕ} (i letter j : ℕ) → t.state.place ≡ Some i → Some (letter, j) ≡ namespace_at e.symbol i → n ≡ t.looks + 1 → MayRead point.Nested most t.state t.row
-      → row ≡ t.row ++ frame_of point.Nested t.state.in_value letter t.state.depth_left t.state.lifetimes ∷ [] → RestDoes e (path t.state.in_value 78) 1 9 t (Ok point.Path) (record t { state = record t.state { place = Some j }; row = row; looks = n })
+      → row ≡ t.row ++ frame_of point.Nested t.state.in_value letter t.state.depth_left t.state.lifetimes ∷ [] → RestDoes e (path t.state.in_value 78) 6 1 9 t (Ok point.Path) (record t { state = record t.state { place = Some j }; row = row; looks = n })
   unfolding run then_frame share_at
   nested_goes {t} i letter j at r l may q =
-      leaves point.Path (4 * (j - i + 1) ∷ []) [] (Some (frame_of point.Nested t.state.in_value letter t.state.depth_left t.state.lifetimes)) (rw (at, may.unmarked, sym r) refl) q
+      leaves point.Path (4 * (j - i + 1) ∷ []) [] (omega arith) (Some (frame_of point.Nested t.state.in_value letter t.state.depth_left t.state.lifetimes)) (rw (at, may.unmarked, sym r) refl) q
       (record { grows = omega arith; within = omega arith }) (omega arith) (rw at (omega (arith, l))) (omega arith) (omega arith) (omega arith) may.fits may.fits (λ _. refl)
 
   -- a path with arguments
-  pub generic_goes : {t : Turn V} {row : List Frame} {most : ℕ} → MayRead point.Generic most t.state t.row → row ≡ t.row ++ frame_at point.Generic t.state ∷ [] → RestDoes e (path_of t.state.in_value kind.Generic) 7 9 t (Ok point.Path) (record t { row = row })
+  pub generic_goes : {t : Turn V} {row : List Frame} {most : ℕ} → MayRead point.Generic most t.state t.row → row ≡ t.row ++ frame_at point.Generic t.state ∷ [] → RestDoes e (path_of t.state.in_value kind.Generic) 6 7 9 t (Ok point.Path) (record t { row = row })
   unfolding run then_frame share_at
   generic_goes {t} may q =
-      leaves point.Path [] [] (Some (frame_at point.Generic t.state)) (rw may.unmarked refl) q (record { grows = omega arith; within = omega arith }) (omega arith) (omega arith) (omega arith) (omega arith) (omega arith) may.fits may.fits (λ _. refl)
+      leaves point.Path [] [] (omega arith) (Some (frame_at point.Generic t.state)) (rw may.unmarked refl) q (record { grows = omega arith; within = omega arith }) (omega arith) (omega arith) (omega arith) (omega arith) (omega arith) may.fits may.fits (λ _. refl)
 
-  pub path_wrong : {t : Turn V} (c : ℕ) → None ≡ found c path_kinds → t.state.mark ≡ None → RestDoes e (path t.state.in_value c) 7 9 t (Err (Fault mark.Invalid)) t
+  pub path_wrong : {t : Turn V} (c : ℕ) → None ≡ found c path_kinds → t.state.mark ≡ None → RestDoes e (path t.state.in_value c) 6 7 9 t (Err (Fault mark.Invalid)) t
   unfolding run
-  path_wrong {t} c r k = let s = t.state in ends mark.Invalid [] k (path_so e.voice e.symbol e.plain s.in_value s.depth_left s.lifetimes s.place c None r) (record { grows = omega arith; within = omega arith }) (omega arith) (omega arith)
+  path_wrong {t} c r k = let s = t.state in ends mark.Invalid [] (omega arith) k (path_so e.voice e.symbol e.plain s.in_value s.depth_left s.lifetimes s.place c None r) (record { grows = omega arith; within = omega arith }) (omega arith) (omega arith)
 
-  pub path_as : {t u : Turn V} {r : Result Point Stop} {weight above : ℕ} (c : ℕ) (p : PathKind) → Some p ≡ found c path_kinds → weight ≤ 7 → above ≤ 9 → RestDoes e (path_of t.state.in_value p) weight above t r u → RestDoes e (path t.state.in_value c) 7 9 t r u
-  path_as {t} c p h w x d = let s = t.state in alike (path_so e.voice e.symbol e.plain s.in_value s.depth_left s.lifetimes s.place c (Some p) h) w (omega (arith, x)) d
+  pub path_as : {t u : Turn V} {r : Result Point Stop} {words weight above : ℕ} (c : ℕ) (p : PathKind) → Some p ≡ found c path_kinds → words ≤ 6 → weight ≤ 7 → above ≤ 9 → RestDoes e (path_of t.state.in_value p) words weight above t r u → RestDoes e (path t.state.in_value c) 6 7 9 t r u
+  path_as {t} c p h few w x d = let s = t.state in alike few (path_so e.voice e.symbol e.plain s.in_value s.depth_left s.lifetimes s.place c (Some p) h) w (omega (arith, x)) d
 
   pub path_deep : {t : Turn V} (i : ℕ) → t.state.place ≡ Some i → t.state.depth_left ≡ 0 → t.state.mark ≡ None → PointDoes e point.Path t (Err (Fault mark.Recursion)) t
   unfolding share_at run level_of levels
-  path_deep i at d k = ends mark.Recursion [] k (rw (at, d) refl) (record { grows = omega arith; within = omega arith }) (omega arith) (omega arith)
+  path_deep i at d k = ends mark.Recursion [] (omega arith) k (rw (at, d) refl) (record { grows = omega arith; within = omega arith }) (omega arith) (omega arith)
 
   pub path_untagged : {t : Turn V} {n : ℕ} (i : ℕ) → t.state.place ≡ Some i → 0 < t.state.depth_left → None ≡ byte_at e.symbol i → n ≡ t.looks + 1 → t.state.mark ≡ None → PointDoes e point.Path t (Err (Fault mark.Invalid)) (record t { looks = n })
   unfolding run
   path_untagged {t} i at d r l k =
-      ends mark.Invalid (4 * (length e.symbol - i + 1) ∷ []) k (opened e t.state i at d ∙ rw (sym r) refl) (record { grows = omega arith; within = omega arith }) (rw at (omega (arith, l))) (omega arith)
+      ends mark.Invalid (4 * (length e.symbol - i + 1) ∷ []) (omega arith) k (opened e t.state i at d ∙ rw (sym r) refl) (record { grows = omega arith; within = omega arith }) (rw at (omega (arith, l))) (omega arith)
 
   pub path_tagged : {t u : Turn V} {r : Result Point Stop} (i c j n : ℕ) → t.state.place ≡ Some i → 0 < t.state.depth_left → Some (c, j) ≡ byte_at e.symbol i → n ≡ t.looks + 1
-      → RestDoes e (path t.state.in_value c) 7 9 (record t { state = record t.state { depth_left = t.state.depth_left - 1; place = Some j }; looks = n }) r u → PointDoes e point.Path t r u
+      → RestDoes e (path t.state.in_value c) 6 7 9 (record t { state = record t.state { depth_left = t.state.depth_left - 1; place = Some j }; looks = n }) r u → PointDoes e point.Path t r u
   unfolding run
   path_tagged {t} i c j n at d q l z =
       let p = placed (i + 1) e.symbol (byte_at e.symbol i) (byte_placed e.symbol i) c j (sym q) in
-      behind {t = t} (4 * (j - i + 1) ∷ []) (opened e t.state i at d ∙ rw (sym q) refl) (record { grows = omega arith; within = omega arith }) (rw at (omega (arith, p.0, p.1, l))) (omega arith) (omega (arith, d)) z
+      behind {t = t} (4 * (j - i + 1) ∷ []) (omega arith) (opened e t.state i at d ∙ rw (sym q) refl) (record { grows = omega arith; within = omega arith }) (rw at (omega (arith, p.0, p.1, l))) (omega arith) (omega (arith, d)) z
 
   -- the path that it lies in has failed
   pub name_unread : {t : Turn V} {v : V} {n : ℕ} → t.state.place ≡ None → Paid t.looks [] n → e.voice.prints t.voice (texts_of e.symbol e.plain NestedUnread) (Ok tt) v → e.voice.ready v → t.state.mark ≡ None
       → PointDoes e point.Nested t (Ok point.End) (record t { state = record t.state { is_open = false }; voice = v; looks = n })
   unfolding run share_at
-  name_unread at p q r k = tells point.End [] NestedUnread (rw at refl) q r k p (omega (arith, p.within)) (omega arith) (omega arith) tt
+  name_unread at p q r k = tells point.End [] (omega arith) NestedUnread (rw at refl) q r k p (omega (arith, p.within)) (omega arith) (omega arith) tt
 
   pub name_unread_refused : {t : Turn V} {s : State} {v : V} {n : ℕ} {f : SinkRefused} → t.state.place ≡ None → Paid t.looks [] n → e.voice.prints t.voice (texts_of e.symbol e.plain NestedUnread) (Err f) v → PointDoes e point.Nested t (Err Refused) (record t { state = s; voice = v; looks = n })
   unfolding run share_at
-  name_unread_refused at p q = halts [] NestedUnread (nothing_heard None false) (rw at refl) q (λ _. refl) p (omega (arith, p.within))
+  name_unread_refused at p q = halts [] (omega arith) NestedUnread (nothing_heard None false) (rw at refl) q (λ _. refl) p (omega (arith, p.within))

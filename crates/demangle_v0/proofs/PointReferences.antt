@@ -22,7 +22,7 @@ use Rattle.demangle_v0.specs.declared.points.Stop.TheVariants.{Fault}
 use Rattle.demangle_v0.specs.declared.points.voice.Voice.{Ghosts}
 use Rattle.demangle_v0.proofs.PointSteps.{way_light, steps}
 use Rattle.demangle_v0.proofs.PointTurns.{leaves, ends}
-use Rattle.demangle_v0.proofs.WordLooks.{refer_short}
+use Rattle.demangle_v0.proofs.WordLooks.{refer_short, refer_few}
 use Rattle.std.proofs.lemmas.List.{append-nil}
 
 shut_allowing : (shut : Bool) (ks : List ℕ) (h : Heard) → none_open_if shut (with_looks ks h) ≡ with_looks ks (none_open_if shut h)
@@ -98,10 +98,10 @@ module _ {V : Type 0} (voice : Ghosts V) (b : List ℕ) (plain : Bool) where
       go (Some r) = omega arith
 
   -- a unit that is over
-  pub stays_over : (s : State) (row : List Frame) (u : V) (made : ℕ) → made ≤ 0 → s.mark ≡ None → DidOn voice b plain (share_at b plain voice.loud point.End s.in_value s.letter s.depth_left s.lifetimes s.place s.is_open) 1 0 row u (Ok point.End) s row u made
+  pub stays_over : (s : State) (row : List Frame) (u : V) (made : ℕ) → made ≤ 0 → s.mark ≡ None → DidOn voice b plain 8 (share_at b plain voice.loud point.End s.in_value s.letter s.depth_left s.lifetimes s.place s.is_open) 1 0 row u (Ok point.End) s row u made
   unfolding then_frame share_at
   stays_over s row u made l k = record {
-    comes = steps voice b plain point.End [] [] None _ 1 0 row row u s made (rw k refl) refl (omega (arith, l)) (omega (arith, l)) (omega arith) (omega arith) (omega arith) tt tt (λ _. tt);
+    comes = steps voice b plain point.End [] [] (omega arith) None _ 1 0 row row u s made (rw k refl) refl (omega (arith, l)) (omega (arith, l)) (omega arith) (omega arith) (omega arith) tt tt (λ _. tt);
   }
 
 module _ {V : Type 0} {e : Env V} where
@@ -110,7 +110,7 @@ module _ {V : Type 0} {e : Env V} where
   target_stops {t} shut k v m r p q =
       let s = t.state in
       let ks = (refer e.symbol s.depth_left s.place).costs in
-      ends m ks q (shut_heard e.voice e.symbol e.plain shut s.depth_left k v s.lifetimes s.place (Faulty m) r ∙ ap (with_looks ks) (shut_fault shut e.voice.loud m)) p (omega (arith, p.within, refer_short e.symbol s.depth_left s.place)) (omega arith)
+      ends m ks (refer_few e.symbol s.depth_left s.place) q (shut_heard e.voice e.symbol e.plain shut s.depth_left k v s.lifetimes s.place (Faulty m) r ∙ ap (with_looks ks) (shut_fault shut e.voice.loud m)) p (omega (arith, p.within, refer_short e.symbol s.depth_left s.place)) (omega arith)
 
   -- it is not followed
   pub target_hidden : {t : Turn V} {n : ℕ} (shut : Bool) (k : Kind) (v : Bool) (a j : ℕ) → Target a j ≡ (refer e.symbol t.state.depth_left t.state.place).refers → Paid t.looks (refer e.symbol t.state.depth_left t.state.place).costs n → e.voice.loud ≡ false → t.state.mark ≡ None
@@ -119,7 +119,7 @@ module _ {V : Type 0} {e : Env V} where
   target_hidden {t} shut k v a j r p q m =
       let s = t.state in
       let ks = (refer e.symbol s.depth_left s.place).costs in
-      leaves point.End ks [] None
+      leaves point.End ks [] (omega (arith, refer_few e.symbol s.depth_left s.place)) None
       (shut_heard e.voice e.symbol e.plain shut s.depth_left k v s.lifetimes s.place (Target a j) r
       ∙ (ap (λ (c : Bool). with_looks ks (none_open_if shut (led e.voice e.symbol e.plain c s.depth_left k v s.lifetimes (Target a j)))) q
       ∙ (ap (with_looks ks) (shut_ended shut (Some j)) ∙ rw m refl)))
@@ -134,7 +134,7 @@ module _ {V : Type 0} {e : Env V} where
   target_shown {t} p shut k v a j unit r paid q d small may w =
       let s = t.state in
       let ks = (refer e.symbol s.depth_left s.place).costs in
-      leaves p ks [] (Some (frame_of point.Behind s.in_value s.letter s.depth_left j))
+      leaves p ks [] (omega (arith, refer_few e.symbol s.depth_left s.place)) (Some (frame_of point.Behind s.in_value s.letter s.depth_left j))
       (shut_heard e.voice e.symbol e.plain shut s.depth_left k v s.lifetimes s.place (Target a j) r
       ∙ (ap (λ (z : Bool). with_looks ks (none_open_if shut (led e.voice e.symbol e.plain z s.depth_left k v s.lifetimes (Target a j)))) q
       ∙ (ap (with_looks ks) (shut_behind shut (of e.plain true (level_of e.symbol (levels e.symbol (s.depth_left - 1)) true k v s.lifetimes a)) j)
@@ -147,4 +147,4 @@ module _ {V : Type 0} {e : Env V} where
   -- behind the reference
   pub goes_behind : {t : Turn V} → t.state.mark ≡ None → PointDoes e point.Behind t (Ok point.End) (record t { state = record t.state { place = Some t.state.lifetimes } })
   unfolding then_frame share_at
-  goes_behind k = leaves point.End [] [] None (rw k refl) refl (record { grows = omega arith; within = omega arith }) (omega arith) (omega arith) (omega arith) (omega arith) (omega arith) tt tt (λ _. tt)
+  goes_behind k = leaves point.End [] [] (omega arith) None (rw k refl) refl (record { grows = omega arith; within = omega arith }) (omega arith) (omega arith) (omega arith) (omega arith) (omega arith) tt tt (λ _. tt)

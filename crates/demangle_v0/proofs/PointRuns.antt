@@ -12,7 +12,7 @@ use Rattle.demangle_v0.specs.declared.stretch.Stretch.TheVariants.{Fixed}
 use Rattle.demangle_v0.specs.Heights as heights
 use Rattle.demangle_v0.specs.Reading.{Place}
 use Rattle.demangle_v0.proofs.Failed.{failed}
-use Rattle.demangle_v0.specs.Points.{most_frames, Bit, pays, puts, heard_bits, bits_looks, Env, env, Part, part, Turn, turn, Told, said_texts, mark_texts, pushed_on, then_frame, way_weight, weight_at, weight_of, weights, height_at, height_of, count_of, FitsFrame, Fits, rest_at, around, share, share_at, share_of, row_owed, reading_owed, measure, is_inner, IsInner, AllInner, Went, Halted, Kept, DidOn, resumed_of, bindings_left}
+use Rattle.demangle_v0.specs.Points.{most_frames, Bit, pays, puts, heard_bits, bits_looks, Env, env, Part, part, Turn, turn, Told, said_texts, mark_texts, pushed_on, then_frame, way_weight, weight_at, weight_of, weights, height_at, height_of, count_of, FitsFrame, Fits, rest_at, around, share, share_at, share_of, row_owed, reading_owed, measure, is_inner, IsInner, AllInner, Went, Halted, Kept, DidOn, resumed_of, bindings_left, words_at, whole}
 use Rattle.demangle_v0.specs.PointRuns.{Puts, unmarked_of, Stepped, Resumes, stays, pops, frame_height, AllFit, Valid, Reads, ReadOn, first_looks}
 use Rattle.demangle_sink.specs.declared.SinkRefused.{SinkRefused}
 use Rattle.demangle_v0.specs.declared.grammar.Mark.{Mark}
@@ -126,10 +126,10 @@ module _ {V : Type 0} (voice : Ghosts V) (b : List ℕ) (plain : Bool) where
   bits_total front None back = omega arith
   bits_total front (Some s) back = omega arith
 
-  put_way : (q : Point) (new : State) (h : Heard) (weight high : ℕ) (row now : List Frame) (v w x : V) (first made : ℕ) (k : Option Mark) → k ≡ new.mark
-      → (d : Went (env voice b plain) (part h weight high) (turn new row v 0) q (turn new now w first)) → (d.said ≡ None) ⊎ (new.mark ≡ None) → Puts voice k w (Ok tt) x → made ≤ first
-      → Went (env voice b plain) (part h weight high) (turn (unmarked_of new) row v 0) q (turn (unmarked_of new) now x made)
-  put_way q new h weight high row now v w x first made None c d o p l = record {
+  put_way : (q : Point) (new : State) (words : ℕ) (h : Heard) (weight high : ℕ) (row now : List Frame) (v w x : V) (first made : ℕ) (k : Option Mark) → k ≡ new.mark
+      → (d : Went (env voice b plain) (part words h weight high) (turn new row v 0) q (turn new now w first)) → (d.said ≡ None) ⊎ (new.mark ≡ None) → Puts voice k w (Ok tt) x → made ≤ first
+      → Went (env voice b plain) (part words h weight high) (turn (unmarked_of new) row v 0) q (turn (unmarked_of new) now x made)
+  put_way q new words h weight high row now v w x first made None c d o p l = record {
     front = d.front;
     said = d.said;
     back = d.back;
@@ -138,6 +138,7 @@ module _ {V : Type 0} (voice : Ghosts V) (b : List ℕ) (plain : Bool) where
     one = inr refl;
     reads = subst (λ (z : Option Mark). h ≡ taken d.front d.said z d.back (then_frame b plain voice.loud d.pushed (share_of b plain voice.loud q new))) (sym c) d.reads;
     is_row = d.is_row;
+    few = omega (arith, d.few);
     enough = omega (arith, l, d.enough);
     late = omega (arith, l, d.late);
     lighter = d.lighter;
@@ -147,8 +148,8 @@ module _ {V : Type 0} (voice : Ghosts V) (b : List ℕ) (plain : Bool) where
     inner_fits = d.inner_fits;
     quiet = d.quiet;
   }
-  put_way q new h weight high row now v w x first made (Some m) c d (inr e) p l = absurd (some_none m (c ∙ e))
-  put_way q new h weight high row now v w x first made (Some m) c d (inl e) p l =
+  put_way q new words h weight high row now v w x first made (Some m) c d (inr e) p l = absurd (some_none m (c ∙ e))
+  put_way q new words h weight high row now v w x first made (Some m) c d (inl e) p l =
       let t = then_frame b plain voice.loud d.pushed (share_of b plain voice.loud q new) in
       let same : v ≡ w = subst (λ (z : Option Stretch). Told (env voice b plain) z v w) e d.told in
       record {
@@ -160,6 +161,7 @@ module _ {V : Type 0} (voice : Ghosts V) (b : List ℕ) (plain : Bool) where
         one = inr refl;
         reads = d.reads ∙ (ap (λ (z : Option Stretch). taken d.front z new.mark d.back t) e ∙ ap (λ (z : Option Mark). taken d.front None z d.back t) (sym c));
         is_row = d.is_row;
+        few = omega (arith, d.few);
         enough = omega (arith, l, d.enough);
         late = omega (arith, l, d.late);
         lighter = d.lighter;
@@ -172,19 +174,19 @@ module _ {V : Type 0} (voice : Ghosts V) (b : List ℕ) (plain : Bool) where
 
   -- the step went on
   pub step_goes : (p q : Point) (s new : State) (row now : List Frame) (v w x : V) (first made : ℕ)
-      → DidOn voice b plain (share_of b plain voice.loud p s) (weight_at p) (height_at p s.depth_left) row v (Ok q) new now w first → Puts voice new.mark w (Ok tt) x → made ≤ first
+      → DidOn voice b plain (words_at p) (share_of b plain voice.loud p s) (weight_at p) (height_at p s.depth_left) row v (Ok q) new now w first → Puts voice new.mark w (Ok tt) x → made ≤ first
       → Stepped voice b plain p s row v (Ok q) (unmarked_of new) now x made
   step_goes p q s new row now v w x first made d k l = record {
-    steps = (put_way q new _ _ _ row now v w x first made new.mark refl d.comes d.comes.one k l, refl);
+    steps = (put_way q new _ _ _ _ row now v w x first made new.mark refl d.comes d.comes.one k l, refl);
   }
 
   -- the mark was refused
-  mark_refused : (q : Point) (new t : State) (h : Heard) (weight high : ℕ) (row now : List Frame) (v w x : V) (e : SinkRefused) (first made : ℕ) (k : Option Mark) → k ≡ new.mark
-      → (d : Went (env voice b plain) (part h weight high) (turn new row v 0) q (turn new now w first)) → (d.said ≡ None) ⊎ (new.mark ≡ None) → Puts voice k w (Err e) x → made ≤ first
-      → Halted (env voice b plain) h (turn t row v 0) (turn t now x made)
-  mark_refused q new t h weight high row now v w x e first made None c d o p l = absurd (err_ok e p.0)
-  mark_refused q new t h weight high row now v w x e first made (Some m) c d (inr o) p l = absurd (some_none m (c ∙ o))
-  mark_refused q new t h weight high row now v w x e first made (Some m) c d (inl o) p l =
+  mark_refused : (q : Point) (new t : State) (words : ℕ) (h : Heard) (weight high : ℕ) (row now : List Frame) (v w x : V) (e : SinkRefused) (first made : ℕ) (k : Option Mark) → k ≡ new.mark
+      → (d : Went (env voice b plain) (part words h weight high) (turn new row v 0) q (turn new now w first)) → (d.said ≡ None) ⊎ (new.mark ≡ None) → Puts voice k w (Err e) x → made ≤ first
+      → Halted (env voice b plain) (part words h weight high) (turn t row v 0) (turn t now x made)
+  mark_refused q new t words h weight high row now v w x e first made None c d o p l = absurd (err_ok e p.0)
+  mark_refused q new t words h weight high row now v w x e first made (Some m) c d (inr o) p l = absurd (some_none m (c ∙ o))
+  mark_refused q new t words h weight high row now v w x e first made (Some m) c d (inl o) p l =
       let u = then_frame b plain voice.loud d.pushed (share_of b plain voice.loud q new) in
       let same : v ≡ w = subst (λ (z : Option Stretch). Told (env voice b plain) z v w) o d.told in
       record {
@@ -194,6 +196,7 @@ module _ {V : Type 0} (voice : Ghosts V) (b : List ℕ) (plain : Bool) where
         refusal = e;
         prints = subst (λ (z : V). voice.prints z (text m ∷ []) (Err e) x) (sym same) p.0;
         reads = d.reads ∙ (ap (λ (z : Option Stretch). taken d.front z new.mark d.back u) o ∙ ap (λ (z : Option Mark). taken d.front None z d.back u) (sym c));
+        few = omega (arith, d.few);
         enough = omega (arith, l, d.late);
         exact = λ q. absurd (false≢true (p.1 q));
         fails = λ q. absurd (false≢true (p.1 q));
@@ -204,10 +207,10 @@ module _ {V : Type 0} (voice : Ghosts V) (b : List ℕ) (plain : Bool) where
   kept_pushed row now (Some f) e = (f ∷ [], e)
 
   pub step_refused : (p q : Point) (s new : State) (t : State) (row now : List Frame) (v w x : V) (e : SinkRefused) (first made : ℕ)
-      → DidOn voice b plain (share_of b plain voice.loud p s) (weight_at p) (height_at p s.depth_left) row v (Ok q) new now w first → Puts voice new.mark w (Err e) x → made ≤ first
+      → DidOn voice b plain (words_at p) (share_of b plain voice.loud p s) (weight_at p) (height_at p s.depth_left) row v (Ok q) new now w first → Puts voice new.mark w (Err e) x → made ≤ first
       → Stepped voice b plain p s row v (Err e) t now x made
   step_refused p q s new t row now v w x e first made d k l = record {
-    steps = (mark_refused q new t _ _ _ row now v w x e first made new.mark refl d.comes d.comes.one k l, kept_pushed row now d.comes.pushed d.comes.is_row);
+    steps = (mark_refused q new t _ _ _ _ row now v w x e first made new.mark refl d.comes d.comes.one k l, kept_pushed row now d.comes.pushed d.comes.is_row);
   }
 
   -- which error is answered makes no difference
@@ -216,12 +219,12 @@ module _ {V : Type 0} (voice : Ghosts V) (b : List ℕ) (plain : Bool) where
   stepped_err p s t row now v w made e (Err f) h d = record { steps = d.steps }
 
   -- a fault comes with no mark, so that one stretch is handed over
-  pub fault_unmarked : (h : Heard) (weight high : ℕ) (row : List Frame) (v : V) (f : Mark) (new : State) (now : List Frame) (w : V) (made : ℕ) → DidOn voice b plain h weight high row v (Err (Fault f)) new now w made → new.mark ≡ None
-  fault_unmarked h weight high row v f new now w made z = z.comes.unmarked
+  pub fault_unmarked : (words : ℕ) (h : Heard) (weight high : ℕ) (row : List Frame) (v : V) (f : Mark) (new : State) (now : List Frame) (w : V) (made : ℕ) → DidOn voice b plain words h weight high row v (Err (Fault f)) new now w made → new.mark ≡ None
+  fault_unmarked words h weight high row v f new now w made z = z.comes.unmarked
 
   -- the text of the fault was handed over
   pub fault_goes : (p : Point) (f : Mark) (s new t : State) (row now : List Frame) (v x y : V) (first made : ℕ)
-      → DidOn voice b plain (share_of b plain voice.loud p s) (weight_at p) (height_at p s.depth_left) row v (Err (Fault f)) new now x first → voice.prints x (text f ∷ []) (Ok tt) y
+      → DidOn voice b plain (words_at p) (share_of b plain voice.loud p s) (weight_at p) (height_at p s.depth_left) row v (Err (Fault f)) new now x first → voice.prints x (text f ∷ []) (Ok tt) y
       → t.mark ≡ None → t.place ≡ None → t.is_open ≡ false → made ≤ first
       → Stepped voice b plain p s row v (Ok point.End) t now y made
   unfolding share_at then_frame
@@ -236,6 +239,7 @@ module _ {V : Type 0} (voice : Ghosts V) (b : List ℕ) (plain : Bool) where
         one = inr c;
         reads = rw (c, i, o) d.reads;
         is_row = d.is_row;
+        few = omega (arith, d.few);
         enough = omega (arith, l, d.enough);
         late = omega (arith, l, d.enough);
         lighter = omega (arith, d.lighter);
@@ -251,7 +255,7 @@ module _ {V : Type 0} (voice : Ghosts V) (b : List ℕ) (plain : Bool) where
 
   -- or refused
   pub fault_refused : (p : Point) (f : Mark) (s new t : State) (row now : List Frame) (v x y : V) (e : SinkRefused) (first made : ℕ)
-      → DidOn voice b plain (share_of b plain voice.loud p s) (weight_at p) (height_at p s.depth_left) row v (Err (Fault f)) new now x first → voice.prints x (text f ∷ []) (Err e) y
+      → DidOn voice b plain (words_at p) (share_of b plain voice.loud p s) (weight_at p) (height_at p s.depth_left) row v (Err (Fault f)) new now x first → voice.prints x (text f ∷ []) (Err e) y
       → made ≤ first
       → Stepped voice b plain p s row v (Err e) t now y made
   fault_refused p f s new t row now v x y e first made z u l = let d = z.comes in record {
@@ -263,6 +267,7 @@ module _ {V : Type 0} (voice : Ghosts V) (b : List ℕ) (plain : Bool) where
         refusal = e;
         prints = subst (λ (z : V). voice.prints z (text f ∷ []) (Err e) y) (sym d.told) u;
         reads = d.reads;
+        few = d.few;
         enough = omega (arith, l, d.enough);
         exact = λ q. omega (arith, l, d.enough);
         fails = λ q. refl;
@@ -491,7 +496,7 @@ module _ {V : Type 0} (voice : Ghosts V) (b : List ℕ) (plain : Bool) (silent :
   reads_turn base below above p0 p q u s0 s t r row mid now v w first second made x l k z m =
       reads_step below above p0 q u s0 t r mid now v w first second made (reads_resume base below above p0 p q s0 s t row mid first x l k) z m
 
-  stop_quiet : (q : Point) (t r : State) (frames row now : List Frame) (v w : V) (made : ℕ) → AllInner frames → Halted (env voice b plain) (share_of b plain voice.loud q t) (turn r row v 0) (turn r now w made)
+  stop_quiet : (q : Point) (t r : State) (frames row now : List Frame) (v w : V) (made : ℕ) → AllInner frames → Halted (env voice b plain) (whole (env voice b plain) q t) (turn r row v 0) (turn r now w made)
       → ((reading_owed b plain false q t frames).place ≡ None) × (made ≤ allowed_in (reading_owed b plain false q t frames).events)
   stop_quiet q t r frames row now v w made i d =
       let texts = texts_of b plain d.said in

@@ -1,8 +1,8 @@
 -- Steps of points, one behind another.
 use Rattle.std.specs.Prelude.{◌*◌}
 use Rattle.std.proofs.lemmas.Bool.{false≢true}
-use Rattle.std.proofs.lemmas.List.{append-nil}
-use Rattle.std.proofs.Common.{inl, inr, ◌≡◌, ℕ, ◌+◌, ◌-◌, ◌≤◌, Bool, false, Option, Some, None, List, [], ◌∷◌, ◌++◌, Result, Ok, Err, IsOk, refl, arith, sym, ap, ◌∙◌, subst}
+use Rattle.std.proofs.lemmas.List.{append-nil, length-append}
+use Rattle.std.proofs.Common.{length, inl, inr, ◌≡◌, ℕ, ◌+◌, ◌-◌, ◌≤◌, Bool, false, Option, Some, None, List, [], ◌∷◌, ◌++◌, Result, Ok, Err, IsOk, refl, arith, sym, ap, ◌∙◌, subst}
 use Rattle.demangle_v0.specs.Items.{Text, Items, Kind, say, child, done}
 use Rattle.demangle_v0.specs.Totals.{total}
 use Rattle.demangle_v0.specs.Events.{Event, allows, allowed_all, Heard, of, events, nothing_heard, with_looks, with_texts}
@@ -60,13 +60,13 @@ refused e = Err e
 
 module _ {V : Type 0} (voice : Ghosts V) (b : List ℕ) (plain : Bool) where
   -- what a step does by these looks, before its mark and behind it, and by this frame
-  pub steps : (to : Point) (front back : List ℕ) (pushed : Option Frame) (h : Heard) (weight high : ℕ) (row now : List Frame) (v : V) (new : State) (made : ℕ)
+  pub steps : {words : ℕ} (to : Point) (front back : List ℕ) → length front + length back ≤ words → (pushed : Option Frame) (h : Heard) (weight high : ℕ) (row now : List Frame) (v : V) (new : State) (made : ℕ)
       → h ≡ with_looks front (with_texts voice.loud (mark_texts new.mark) (with_looks back (then_frame b plain voice.loud pushed (share_of b plain voice.loud to new))))
       → now ≡ pushed_on row pushed → made ≤ total front + total back → made ≤ total front + 2
       → way_weight to + weight_of pushed + 1 ≤ weight + 100 * (total front + total back)
       → height_of pushed ≤ high → height_at to new.depth_left + count_of pushed ≤ high → FitsFrame pushed → Fits to new.depth_left new.lifetimes → (voice.loud ≡ false → IsInner pushed)
-      → Went (env voice b plain) (part h weight high) (turn new row v 0) to (turn new now v made)
-  steps to front back pushed h weight high row now v new made e r l m w x y f g q = record {
+      → Went (env voice b plain) (part words h weight high) (turn new row v 0) to (turn new now v made)
+  steps to front back c pushed h weight high row now v new made e r l m w x y f g q = record {
     front = front;
     said = None;
     back = back;
@@ -75,6 +75,7 @@ module _ {V : Type 0} (voice : Ghosts V) (b : List ℕ) (plain : Bool) where
     one = inl refl;
     reads = e;
     is_row = r;
+    few = c;
     enough = omega (arith, l);
     late = omega (arith, m);
     lighter = omega (arith, w);
@@ -86,10 +87,10 @@ module _ {V : Type 0} (voice : Ghosts V) (b : List ℕ) (plain : Bool) where
   }
 
   -- a step behind some looks
-  pub after : (ks : List ℕ) (h k : Heard) (weight high weight' high' : ℕ) (row : List Frame) (v w : V) (result : Result Point Stop) (new : State) (now : List Frame) (first second made : ℕ)
+  pub after : {words words' : ℕ} (ks : List ℕ) → length ks + words' ≤ words → (h k : Heard) (weight high weight' high' : ℕ) (row : List Frame) (v w : V) (result : Result Point Stop) (new : State) (now : List Frame) (first second made : ℕ)
       → h ≡ with_looks ks k → first ≤ total ks → made ≤ first + second → weight' ≤ weight + 100 * total ks → high' ≤ high
-      → DidOn voice b plain k weight' high' row v result new now w second → DidOn voice b plain h weight high row v result new now w made
-  after ks h k weight high weight' high' row v w (Ok p) new now first second made e l m x y z = let d = z.comes in record {
+      → DidOn voice b plain words' k weight' high' row v result new now w second → DidOn voice b plain words h weight high row v result new now w made
+  after ks c h k weight high weight' high' row v w (Ok p) new now first second made e l m x y z = let d = z.comes in record {
     comes = record {
       front = ks ++ d.front;
       said = d.said;
@@ -99,6 +100,7 @@ module _ {V : Type 0} (voice : Ghosts V) (b : List ℕ) (plain : Bool) where
       one = d.one;
       reads = e ∙ (ap (with_looks ks) d.reads ∙ sym (looks_both ks d.front _));
       is_row = d.is_row;
+      few = omega (arith, c, d.few, length-append ks d.front);
       enough = omega (arith, l, m, d.enough, total_both ks d.front);
       late = omega (arith, l, m, d.late, total_both ks d.front);
       lighter = omega (arith, d.lighter, total_both ks d.front);
@@ -109,18 +111,19 @@ module _ {V : Type 0} (voice : Ghosts V) (b : List ℕ) (plain : Bool) where
       quiet = d.quiet;
     };
   }
-  after ks h k weight high weight' high' row v w (Err (Fault f)) new now first second made e l m x y z = let d = z.comes in record {
+  after ks c h k weight high weight' high' row v w (Err (Fault f)) new now first second made e l m x y z = let d = z.comes in record {
     comes = record {
       front = ks ++ d.front;
       told = d.told;
       unmarked = d.unmarked;
       reads = e ∙ (ap (with_looks ks) d.reads ∙ sym (looks_both ks d.front _));
       is_row = d.is_row;
+      few = omega (arith, c, d.few, length-append ks d.front);
       enough = omega (arith, l, m, d.enough, total_both ks d.front);
       lighter = omega (arith, d.lighter, total_both ks d.front);
     };
   }
-  after ks h k weight high weight' high' row v w (Err Refused) new now first second made e l m x y z = let d = z.comes.0 in record {
+  after ks c h k weight high weight' high' row v w (Err Refused) new now first second made e l m x y z = let d = z.comes.0 in record {
     comes = (
       record {
         front = ks ++ d.front;
@@ -129,6 +132,7 @@ module _ {V : Type 0} (voice : Ghosts V) (b : List ℕ) (plain : Bool) where
         refusal = d.refusal;
         prints = d.prints;
         reads = e ∙ (ap (with_looks ks) d.reads ∙ sym (looks_both ks d.front _));
+        few = omega (arith, c, d.few, length-append ks d.front);
         enough = omega (arith, l, m, d.enough, total_both ks d.front);
         exact = λ q. omega (arith, l, m, d.exact q, total_both ks d.front);
         fails = d.fails;
@@ -138,33 +142,33 @@ module _ {V : Type 0} (voice : Ghosts V) (b : List ℕ) (plain : Bool) where
   }
 
   -- the same heard in another way
-  pub same : (h k : Heard) (weight high weight' high' : ℕ) (row : List Frame) (v w : V) (result : Result Point Stop) (new : State) (now : List Frame) (made : ℕ) → h ≡ k → weight' ≤ weight → high' ≤ high
-      → DidOn voice b plain k weight' high' row v result new now w made → DidOn voice b plain h weight high row v result new now w made
-  same h k weight high weight' high' row v w result new now made e x y d = after [] h k weight high weight' high' row v w result new now 0 made made e (omega arith) (omega arith) (omega arith) y d
+  pub same : {words words' : ℕ} → words' ≤ words → (h k : Heard) (weight high weight' high' : ℕ) (row : List Frame) (v w : V) (result : Result Point Stop) (new : State) (now : List Frame) (made : ℕ) → h ≡ k → weight' ≤ weight → high' ≤ high
+      → DidOn voice b plain words' k weight' high' row v result new now w made → DidOn voice b plain words h weight high row v result new now w made
+  same c h k weight high weight' high' row v w result new now made e x y d = after [] (omega (arith, c)) h k weight high weight' high' row v w result new now 0 made made e (omega arith) (omega arith) (omega arith) y d
 
   -- Faults.
 
-  pub faulty : (m : Mark) (h : Heard) (weight high : ℕ) (row : List Frame) (v : V) (new : State) (made : ℕ) → new.mark ≡ None → h ≡ with_texts voice.loud (text m ∷ []) (nothing_heard None false) → made ≤ 0 → 1 ≤ weight
-      → DidOn voice b plain h weight high row v (Err (Fault m)) new row v made
+  pub faulty : {words : ℕ} (m : Mark) (h : Heard) (weight high : ℕ) (row : List Frame) (v : V) (new : State) (made : ℕ) → new.mark ≡ None → h ≡ with_texts voice.loud (text m ∷ []) (nothing_heard None false) → made ≤ 0 → 1 ≤ weight
+      → DidOn voice b plain words h weight high row v (Err (Fault m)) new row v made
   faulty m h weight high row v new made k e l x = record {
-    comes = record { front = []; told = refl; unmarked = k; reads = e; is_row = refl; enough = omega (arith, l); lighter = omega (arith, x) };
+    comes = record { front = []; told = refl; unmarked = k; reads = e; is_row = refl; few = omega arith; enough = omega (arith, l); lighter = omega (arith, x) };
   }
 
   -- a fault behind some looks
-  pub faulty_after : (ks : List ℕ) (m : Mark) (h : Heard) (weight high : ℕ) (row : List Frame) (v : V) (new : State) (made : ℕ) → new.mark ≡ None → h ≡ with_looks ks (with_texts voice.loud (text m ∷ []) (nothing_heard None false)) → made ≤ total ks → 1 ≤ weight
-      → DidOn voice b plain h weight high row v (Err (Fault m)) new row v made
-  faulty_after ks m h weight high row v new made k e l x =
-      after ks h (with_texts voice.loud (text m ∷ []) (nothing_heard None false)) weight high 1 0 row v v (Err (Fault m)) new row made 0 made e l (omega arith) (omega arith) (omega arith)
+  pub faulty_after : {words : ℕ} (ks : List ℕ) → length ks ≤ words → (m : Mark) (h : Heard) (weight high : ℕ) (row : List Frame) (v : V) (new : State) (made : ℕ) → new.mark ≡ None → h ≡ with_looks ks (with_texts voice.loud (text m ∷ []) (nothing_heard None false)) → made ≤ total ks → 1 ≤ weight
+      → DidOn voice b plain words h weight high row v (Err (Fault m)) new row v made
+  faulty_after ks c m h weight high row v new made k e l x =
+      after {words' = 0} ks (omega (arith, c)) h (with_texts voice.loud (text m ∷ []) (nothing_heard None false)) weight high 1 0 row v v (Err (Fault m)) new row made 0 made e l (omega arith) (omega arith) (omega arith)
       (faulty m (with_texts voice.loud (text m ∷ []) (nothing_heard None false)) 1 0 row v new 0 k refl (omega arith) (omega arith))
 
   -- Texts that are handed over behind some looks, and the point behind them.
 
-  pub put_goes : (to : Point) (front : List ℕ) (s : Stretch) (h : Heard) (weight high : ℕ) (row : List Frame) (v w : V) (new : State) (made : ℕ)
+  pub put_goes : {words : ℕ} (to : Point) (front : List ℕ) → length front ≤ words → (s : Stretch) (h : Heard) (weight high : ℕ) (row : List Frame) (v w : V) (new : State) (made : ℕ)
       → h ≡ with_looks front (with_texts voice.loud (texts_of b plain s) (share_of b plain voice.loud to new)) → voice.prints v (texts_of b plain s) (Ok tt) w → new.mark ≡ None → made ≤ total front
       → way_weight to + 1 ≤ weight + 100 * total front → height_at to new.depth_left ≤ high → Fits to new.depth_left new.lifetimes
-      → DidOn voice b plain h weight high row v (Ok to) new row w made
+      → DidOn voice b plain words h weight high row v (Ok to) new row w made
   unfolding then_frame
-  put_goes to front s h weight high row v w new made e p m l x y f = record {
+  put_goes to front c s h weight high row v w new made e p m l x y f = record {
     comes = record {
       front = front;
       said = Some s;
@@ -174,6 +178,7 @@ module _ {V : Type 0} (voice : Ghosts V) (b : List ℕ) (plain : Bool) where
       one = inr m;
       reads = rw m e;
       is_row = refl;
+      few = omega (arith, c);
       enough = omega (arith, l);
       late = omega (arith, l);
       lighter = omega (arith, x);
@@ -186,10 +191,10 @@ module _ {V : Type 0} (voice : Ghosts V) (b : List ℕ) (plain : Bool) where
   }
 
   -- the voice refused them
-  pub put_refused : (front : List ℕ) (s : Stretch) (h rest : Heard) (weight high : ℕ) (row : List Frame) (v w : V) (new : State) (e : SinkRefused) (made : ℕ)
+  pub put_refused : {words : ℕ} (front : List ℕ) → length front ≤ words → (s : Stretch) (h rest : Heard) (weight high : ℕ) (row : List Frame) (v w : V) (new : State) (e : SinkRefused) (made : ℕ)
       → h ≡ with_looks front (with_texts voice.loud (texts_of b plain s) rest) → voice.prints v (texts_of b plain s) (Err e) w → made ≤ total front → (voice.loud ≡ false → rest.place ≡ None)
-      → DidOn voice b plain h weight high row v (Err Refused) new row w made
-  put_refused front s h rest weight high row v w new e made r p l q = record {
+      → DidOn voice b plain words h weight high row v (Err Refused) new row w made
+  put_refused front c s h rest weight high row v w new e made r p l q = record {
     comes = (
       record {
         front = front;
@@ -198,6 +203,7 @@ module _ {V : Type 0} (voice : Ghosts V) (b : List ℕ) (plain : Bool) where
         refusal = e;
         prints = p;
         reads = r;
+        few = c;
         enough = omega (arith, l);
         exact = λ _. omega (arith, l);
         fails = q;
@@ -212,14 +218,14 @@ module _ {V : Type 0} (voice : Ghosts V) (b : List ℕ) (plain : Bool) where
   abbrev pub heard : Items → ℕ → ℕ → Place → Heard
   heard p left n i = none_open (of plain voice.loud (run p (around b voice.loud left n) i))
 
-  pub mark_goes : (to : Point) (m : Mark) (h : Heard) (weight high : ℕ) (row : List Frame) (u : V) (new : State) (made : ℕ)
+  pub mark_goes : {words : ℕ} (to : Point) (m : Mark) (h : Heard) (weight high : ℕ) (row : List Frame) (u : V) (new : State) (made : ℕ)
       → h ≡ with_texts voice.loud (text m ∷ []) (share_of b plain voice.loud to new) → new.mark ≡ Some m → made ≤ 0
       → way_weight to + 1 ≤ weight → height_at to new.depth_left ≤ high → Fits to new.depth_left new.lifetimes
-      → DidOn voice b plain h weight high row u (Ok to) new row u made
+      → DidOn voice b plain words h weight high row u (Ok to) new row u made
   unfolding then_frame
   mark_goes to m h weight high row u new made e k l x y f = record {
     comes =
-        steps to [] [] None h weight high row row u new made (rw k e) refl (omega (arith, l)) (omega (arith, l)) (omega (arith, x)) (omega arith) (omega (arith, y)) tt f (λ _. tt);
+        steps to [] [] (omega arith) None h weight high row row u new made (rw k e) refl (omega (arith, l)) (omega (arith, l)) (omega (arith, x)) (omega arith) (omega (arith, y)) tt f (λ _. tt);
   }
 
   -- a child with which a unit ends
@@ -227,11 +233,11 @@ module _ {V : Type 0} (voice : Ghosts V) (b : List ℕ) (plain : Bool) where
   unfolding run
   child_last k v left n i = let o = unit_outcome (around b voice.loud left n) k v i in ap (λ xs. record { events = xs; place = o.place; is_open = false }) (append-nil (events plain voice.loud o.tree))
 
-  pub child_goes : (to : Point) (k : Kind) (v : Bool) (m : Mark) (h : Heard) (weight high : ℕ) (row : List Frame) (u : V) (new : State) (made : ℕ)
+  pub child_goes : {words : ℕ} (to : Point) (k : Kind) (v : Bool) (m : Mark) (h : Heard) (weight high : ℕ) (row : List Frame) (u : V) (new : State) (made : ℕ)
       → h ≡ heard (say (text m) (child k v done)) new.depth_left new.lifetimes new.place
       → none_open (of plain voice.loud (unit_outcome (around b voice.loud new.depth_left new.lifetimes) k v new.place)) ≡ share_of b plain voice.loud to new → new.mark ≡ Some m → made ≤ 0
       → way_weight to + 1 ≤ weight → height_at to new.depth_left ≤ high → Fits to new.depth_left new.lifetimes
-      → DidOn voice b plain h weight high row u (Ok to) new row u made
+      → DidOn voice b plain words h weight high row u (Ok to) new row u made
   unfolding run
   child_goes to k v m h weight high row u new made e r =
       mark_goes to m h weight high row u new made (e ∙ ap (with_texts voice.loud (text m ∷ [])) (child_last k v new.depth_left new.lifetimes new.place ∙ r))
@@ -272,28 +278,28 @@ module _ {V : Type 0} (voice : Ghosts V) (b : List ℕ) (plain : Bool) where
   pub group_so : (h : Heard) (g : Group) (k : Place → Heard) (r : WordRead) → h ≡ group_then g k → r ≡ g.reads → h ≡ with_looks g.costs (word_then b plain voice.loud r k)
   group_so h g k r so e = so ∙ ap (λ (z : WordRead). with_looks g.costs (word_then b plain voice.loud z k)) (sym e)
 
-  pub group_goes : (to : Point) (h : Heard) (g : Group) (k : Place → Heard) (j : Place) (s : Stretch) (weight high : ℕ) (row : List Frame) (v w : V) (new : State) (made : ℕ) → h ≡ group_then g k → reads.Goes s j ≡ g.reads → made ≤ total g.costs
+  pub group_goes : {words : ℕ} (to : Point) (h : Heard) (g : Group) → length g.costs ≤ words → (k : Place → Heard) (j : Place) (s : Stretch) (weight high : ℕ) (row : List Frame) (v w : V) (new : State) (made : ℕ) → h ≡ group_then g k → reads.Goes s j ≡ g.reads → made ≤ total g.costs
       → voice.prints v (texts_of b plain s) (Ok tt) w → new.mark ≡ None → k j ≡ share_of b plain voice.loud to new
-      → way_weight to + 1 ≤ weight → height_at to new.depth_left ≤ high → Fits to new.depth_left new.lifetimes → DidOn voice b plain h weight high row v (Ok to) new row w made
-  group_goes to h g k j s weight high row v w new made so r l q m e x y f =
-      put_goes to g.costs s h weight high row v w new made (group_so h g k (reads.Goes s j) so r ∙ ap (λ (z : Heard). with_looks g.costs (with_texts voice.loud (texts_of b plain s) z)) e) q m l (omega arith) y f
+      → way_weight to + 1 ≤ weight → height_at to new.depth_left ≤ high → Fits to new.depth_left new.lifetimes → DidOn voice b plain words h weight high row v (Ok to) new row w made
+  group_goes to h g c k j s weight high row v w new made so r l q m e x y f =
+      put_goes to g.costs c s h weight high row v w new made (group_so h g k (reads.Goes s j) so r ∙ ap (λ (z : Heard). with_looks g.costs (with_texts voice.loud (texts_of b plain s) z)) e) q m l (omega arith) y f
 
   -- the unit ends behind it
-  pub group_ends : (h : Heard) (g : Group) (j : Place) (s : Stretch) (weight high : ℕ) (row : List Frame) (v w : V) (new : State) (made : ℕ) → h ≡ group_heard g → reads.Goes s j ≡ g.reads → made ≤ total g.costs
-      → voice.prints v (texts_of b plain s) (Ok tt) w → new.mark ≡ None → new.place ≡ j → new.is_open ≡ false → 1 ≤ weight → DidOn voice b plain h weight high row v (Ok point.End) new row w made
+  pub group_ends : {words : ℕ} (h : Heard) (g : Group) → length g.costs ≤ words → (j : Place) (s : Stretch) (weight high : ℕ) (row : List Frame) (v w : V) (new : State) (made : ℕ) → h ≡ group_heard g → reads.Goes s j ≡ g.reads → made ≤ total g.costs
+      → voice.prints v (texts_of b plain s) (Ok tt) w → new.mark ≡ None → new.place ≡ j → new.is_open ≡ false → 1 ≤ weight → DidOn voice b plain words h weight high row v (Ok point.End) new row w made
   unfolding share_at
-  group_ends h g j s weight high row v w new made so e l p m k o x = group_goes point.End h g ended j s weight high row v w new made so e l p m (rw (k, o) refl) (omega (arith, x)) (omega arith) tt
+  group_ends h g c j s weight high row v w new made so e l p m k o x = group_goes point.End h g c ended j s weight high row v w new made so e l p m (rw (k, o) refl) (omega (arith, x)) (omega arith) tt
 
   -- a fault
-  pub group_fails : (h : Heard) (g : Group) (k : Place → Heard) (m : Mark) (weight high : ℕ) (row : List Frame) (v : V) (new : State) (made : ℕ) → h ≡ group_then g k → reads.Stops m ≡ g.reads → made ≤ total g.costs → new.mark ≡ None → 1 ≤ weight
-      → DidOn voice b plain h weight high row v (Err (Fault m)) new row v made
-  group_fails h g k m weight high row v new made so e l n x = faulty_after g.costs m h weight high row v new made n (group_so h g k (reads.Stops m) so e) l x
+  pub group_fails : {words : ℕ} (h : Heard) (g : Group) → length g.costs ≤ words → (k : Place → Heard) (m : Mark) (weight high : ℕ) (row : List Frame) (v : V) (new : State) (made : ℕ) → h ≡ group_then g k → reads.Stops m ≡ g.reads → made ≤ total g.costs → new.mark ≡ None → 1 ≤ weight
+      → DidOn voice b plain words h weight high row v (Err (Fault m)) new row v made
+  group_fails h g c k m weight high row v new made so e l n x = faulty_after g.costs c m h weight high row v new made n (group_so h g k (reads.Stops m) so e) l x
 
-  pub group_refused : (h : Heard) (g : Group) (k : Place → Heard) (j : Place) (s : Stretch) (weight high : ℕ) (row : List Frame) (v w : V) (new : State) (e : SinkRefused) (made : ℕ) → h ≡ group_then g k → reads.Goes s j ≡ g.reads → made ≤ total g.costs
-      → voice.prints v (texts_of b plain s) (Err e) w → (voice.loud ≡ false → IsOk (refused e)) → DidOn voice b plain h weight high row v (Err Refused) new row w made
-  group_refused h g k j s weight high row v w new e made so r l p q =
-      put_refused g.costs s h (k j) weight high row v w new e made (group_so h g k (reads.Goes s j) so r) p l (λ z. absurd (false≢true (q z)))
+  pub group_refused : {words : ℕ} (h : Heard) (g : Group) → length g.costs ≤ words → (k : Place → Heard) (j : Place) (s : Stretch) (weight high : ℕ) (row : List Frame) (v w : V) (new : State) (e : SinkRefused) (made : ℕ) → h ≡ group_then g k → reads.Goes s j ≡ g.reads → made ≤ total g.costs
+      → voice.prints v (texts_of b plain s) (Err e) w → (voice.loud ≡ false → IsOk (refused e)) → DidOn voice b plain words h weight high row v (Err Refused) new row w made
+  group_refused h g c k j s weight high row v w new e made so r l p q =
+      put_refused g.costs c s h (k j) weight high row v w new e made (group_so h g k (reads.Goes s j) so r) p l (λ z. absurd (false≢true (q z)))
 
   -- no looks were made
-  pub zero_looks : (h : Heard) (weight high : ℕ) (row : List Frame) (v w : V) (result : Result Point Stop) (new : State) (now : List Frame) (l : ℕ) → DidOn voice b plain h weight high row v result new now w 0 → DidOn voice b plain h weight high row v result new now w (l - l)
-  zero_looks h weight high row v w result new now l d = subst (λ (m : ℕ). DidOn voice b plain h weight high row v result new now w m) (omega arith) d
+  pub zero_looks : {words : ℕ} (h : Heard) (weight high : ℕ) (row : List Frame) (v w : V) (result : Result Point Stop) (new : State) (now : List Frame) (l : ℕ) → DidOn voice b plain words h weight high row v result new now w 0 → DidOn voice b plain words h weight high row v result new now w (l - l)
+  zero_looks {words = words} h weight high row v w result new now l d = subst (λ (m : ℕ). DidOn voice b plain words h weight high row v result new now w m) (omega arith) d

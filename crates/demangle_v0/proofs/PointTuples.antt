@@ -1,6 +1,6 @@
 -- The points of tuple types.
 use Rattle.std.specs.Prelude.{◌*◌}
-use Rattle.std.proofs.Common.{◌≡◌, ℕ, ◌+◌, ◌≤◌, Bool, true, false, Option, Some, None, List, [], ◌∷◌, ◌++◌, Ok, refl, arith, sym, ap, ◌∙◌}
+use Rattle.std.proofs.Common.{◌≡◌, ℕ, ◌+◌, ◌≤◌, Bool, true, false, Option, Some, None, List, [], ◌∷◌, ◌++◌, Ok, refl, arith, sym, ap, ◌∙◌, length}
 use Prim.Native.Char.{code}
 use Prim.Native.String.{String}
 use Rattle.std.proofs.lemmas.Bool.{false≢true}
@@ -23,7 +23,7 @@ use Rattle.demangle_v0.specs.declared.points.voice.Voice.{Ghosts}
 use Rattle.demangle_v0.proofs.Elements.{type_element}
 use Rattle.demangle_v0.proofs.ListReads.{second, child_followed, end_failed, end_over, more_failed, more_over, tuple_on, second_on, more_on}
 use Rattle.demangle_v0.proofs.PointSteps.{heard, total_both}
-use Rattle.demangle_v0.proofs.PointTurns.{list_short, list_few, leaves}
+use Rattle.demangle_v0.proofs.PointTurns.{list_short, list_few, list_words, leaves}
 
 module _ {V : Type 0} (voice : Ghosts V) (b : List ℕ) (plain : Bool) where
   -- A list that is over.
@@ -77,20 +77,20 @@ next_heard e s k at z f =
 
 module _ {V : Type 0} {e : Env V} where
   closes : {t : Turn V} {h : Heard} {high : ℕ} {j : Place} {n : ℕ} → h ≡ with_looks (list_costs t.state.place) (left_at e (says ")" done) t.state (behind_list e.symbol t.state.place)) → j ≡ behind_list e.symbol t.state.place → Paid t.looks (list_costs t.state.place) n
-      → Does e t (part h 1 high) (Ok point.End) (closed t j n)
+      → Does e t (part 8 h 1 high) (Ok point.End) (closed t j n)
   unfolding run then_frame share_at
-  closes {t} r k p = let short = list_short e.symbol t.state.place in leaves point.End (list_costs t.state.place) [] None (rw k r) refl (rw append-nil p) (omega arith) (omega (arith, p.within, short)) (omega arith) (omega arith) (omega arith) tt tt (λ _. tt)
+  closes {t} r k p = let short = list_short e.symbol t.state.place in leaves point.End (list_costs t.state.place) [] (omega (arith, list_words t.state.place)) None (rw k r) refl (rw append-nil p) (omega arith) (omega (arith, p.within, short)) (omega arith) (omega arith) (omega arith) tt tt (λ _. tt)
 
   -- a type is entered, behind these looks and this mark
-  enters_type : {t : Turn V} {h : Heard} {weight high : ℕ} {j : Place} {m : Option Mark} {row : List Frame} {n : ℕ} (i : ℕ) (ks : List ℕ) (f : Point) → t.state.place ≡ Some i
+  enters_type : {t : Turn V} {h : Heard} {weight high : ℕ} {j : Place} {m : Option Mark} {row : List Frame} {n : ℕ} (i : ℕ) (ks : List ℕ) → length ks ≤ 8 → (f : Point) → t.state.place ≡ Some i
       → h ≡ with_looks ks (type_then e m f t.state i)
       → j ≡ Some i → Paid t.looks (list_costs t.state.place) n → row ≡ t.row ++ frame_at f t.state ∷ [] → 1 ≤ total ks → total ks ≤ 2 → weight_at f + 3 ≤ weight + 100 * total ks
       → height_at f t.state.depth_left ≤ high → 8 * t.state.depth_left + 2 ≤ high → Fits f t.state.depth_left t.state.lifetimes → Fits point.«Type» t.state.depth_left t.state.lifetimes → is_inner f ≡ true
-      → Does e t (part h weight high) (Ok point.«Type») (entered t j m row n)
+      → Does e t (part 8 h weight high) (Ok point.«Type») (entered t j m row n)
   unfolding then_frame share_at
-  enters_type {t} i ks f at r k p q least most w x y g z o =
+  enters_type {t} i ks few f at r k p q least most w x y g z o =
       let one : total (list_costs t.state.place) ≤ total (ks ++ []) = omega (arith, list_few t.state.place, least, total_both ks []) in
-      leaves point.«Type» ks [] (Some (frame_at f t.state)) (rw k r) q (record { grows = p.grows; within = omega (arith, p.within, one) }) (omega arith) (omega (arith, p.within, list_short e.symbol t.state.place)) (omega (arith, w)) x (omega (arith, y)) g z (λ _. o)
+      leaves point.«Type» ks [] (omega (arith, few)) (Some (frame_at f t.state)) (rw k r) q (record { grows = p.grows; within = omega (arith, p.within, one) }) (omega arith) (omega (arith, p.within, list_short e.symbol t.state.place)) (omega (arith, w)) x (omega (arith, y)) g z (λ _. o)
 
   -- the first type of a tuple
   pub first_closes : {t : Turn V} {j : Place} {n : ℕ} → is_list_over e.symbol t.state.place ≡ true → j ≡ behind_list e.symbol t.state.place → Paid t.looks (list_costs t.state.place) n → PointDoes e point.FirstTupleType t (Ok point.End) (closed t j n)
@@ -99,7 +99,7 @@ module _ {V : Type 0} {e : Env V} where
 
   pub first_goes : {t : Turn V} {j : Place} {row : List Frame} {n most : ℕ} → is_list_over e.symbol t.state.place ≡ false → j ≡ behind_list e.symbol t.state.place → Paid t.looks (list_costs t.state.place) n → MayRead point.FirstTupleType most t.state t.row
       → row ≡ t.row ++ frame_at point.SecondTupleType t.state ∷ [] → PointDoes e point.FirstTupleType t (Ok point.«Type») (entered t j t.state.mark row n)
-  first_goes {t} h k p may r = let i = on e.symbol t.state.place h in enters_type i.0 (1 ∷ []) point.SecondTupleType i.1 (rw may.unmarked (first_heard e t.state i.0 i.1 i.2)) (k ∙ i.3) p r (omega arith) (omega arith) (omega arith) (omega arith) (omega arith) may.fits may.fits refl
+  first_goes {t} h k p may r = let i = on e.symbol t.state.place h in enters_type i.0 (1 ∷ []) (omega arith) point.SecondTupleType i.1 (rw may.unmarked (first_heard e t.state i.0 i.1 i.2)) (k ∙ i.3) p r (omega arith) (omega arith) (omega arith) (omega arith) (omega arith) may.fits may.fits refl
 
   -- the second, or the comma behind one that stands alone
   pub second_closes : {t : Turn V} {j : Place} {n most : ℕ} → is_list_over e.symbol t.state.place ≡ true → j ≡ behind_list e.symbol t.state.place → Paid t.looks (list_costs t.state.place) n → MayRead point.SecondTupleType most t.state t.row
@@ -107,12 +107,12 @@ module _ {V : Type 0} {e : Env V} where
   unfolding run then_frame share_at
   second_closes {t} h k p may =
       let short = list_short e.symbol t.state.place in
-      leaves point.CloseParen (list_costs t.state.place) [] None (rw k (list_over e.voice e.symbol e.plain t.state.depth_left t.state.lifetimes (says "," (says ")" done)) (more ", " type_inside (says ")" done)) t.state.place h)) refl
+      leaves point.CloseParen (list_costs t.state.place) [] (omega (arith, list_words t.state.place)) None (rw k (list_over e.voice e.symbol e.plain t.state.depth_left t.state.lifetimes (says "," (says ")" done)) (more ", " type_inside (says ")" done)) t.state.place h)) refl
       (rw append-nil p) (omega arith) (omega (arith, p.within, short)) (omega arith) (omega arith) (omega arith) tt may.fits (λ _. tt)
 
   pub second_goes : {t : Turn V} {j : Place} {row : List Frame} {n most : ℕ} → is_list_over e.symbol t.state.place ≡ false → j ≡ behind_list e.symbol t.state.place → Paid t.looks (list_costs t.state.place) n → MayRead point.SecondTupleType most t.state t.row
       → row ≡ t.row ++ frame_at point.NextTupleType t.state ∷ [] → PointDoes e point.SecondTupleType t (Ok point.«Type») (entered t j (Some mark.Comma) row n)
-  second_goes {t} h k p may r = let i = on e.symbol t.state.place h in enters_type i.0 (1 ∷ 1 ∷ []) point.NextTupleType i.1 (second_heard e t.state i.0 i.1 i.2 may.fits) (k ∙ i.3) p r (omega arith) (omega arith) (omega arith) (omega arith) (omega arith) may.fits may.fits refl
+  second_goes {t} h k p may r = let i = on e.symbol t.state.place h in enters_type i.0 (1 ∷ 1 ∷ []) (omega arith) point.NextTupleType i.1 (second_heard e t.state i.0 i.1 i.2 may.fits) (k ∙ i.3) p r (omega arith) (omega arith) (omega arith) (omega arith) (omega arith) may.fits may.fits refl
 
   -- a further one
   pub next_closes : {t : Turn V} {j : Place} {n : ℕ} → is_list_over e.symbol t.state.place ≡ true → j ≡ behind_list e.symbol t.state.place → Paid t.looks (list_costs t.state.place) n → PointDoes e point.NextTupleType t (Ok point.End) (closed t j n)
@@ -121,4 +121,4 @@ module _ {V : Type 0} {e : Env V} where
 
   pub next_goes : {t : Turn V} {j : Place} {row : List Frame} {n most : ℕ} → is_list_over e.symbol t.state.place ≡ false → j ≡ behind_list e.symbol t.state.place → Paid t.looks (list_costs t.state.place) n → MayRead point.NextTupleType most t.state t.row
       → row ≡ t.row ++ frame_at point.NextTupleType t.state ∷ [] → PointDoes e point.NextTupleType t (Ok point.«Type») (entered t j (Some mark.Comma) row n)
-  next_goes {t} h k p may r = let i = on e.symbol t.state.place h in enters_type i.0 (1 ∷ []) point.NextTupleType i.1 (next_heard e t.state i.0 i.1 i.2 may.fits) (k ∙ i.3) p r (omega arith) (omega arith) (omega arith) (omega arith) (omega arith) may.fits may.fits refl
+  next_goes {t} h k p may r = let i = on e.symbol t.state.place h in enters_type i.0 (1 ∷ []) (omega arith) point.NextTupleType i.1 (next_heard e t.state i.0 i.1 i.2 may.fits) (k ∙ i.3) p r (omega arith) (omega arith) (omega arith) (omega arith) (omega arith) may.fits may.fits refl

@@ -1,6 +1,7 @@
 -- What points do, from one turn to the next.
 use Rattle.std.specs.Prelude.{◌*◌}
 use Rattle.std.proofs.lemmas.Bool.{false≢true}
+use Rattle.std.proofs.lemmas.List.{length-append}
 use Rattle.std.proofs.Common.{inl, inr, ◌≡◌, ℕ, ◌+◌, ◌-◌, ◌≤◌, length, Bool, true, false, Option, Some, None, List, [], ◌∷◌, ◌++◌, Result, Ok, Err, IsOk, refl, arith, sym, ap, ◌∙◌}
 use Rattle.demangle_v0.specs.Items.{Items}
 use Rattle.demangle_v0.specs.Totals.{total}
@@ -20,7 +21,7 @@ use Rattle.demangle_v0.specs.declared.points.Stop.{Stop}
 use Rattle.demangle_v0.specs.declared.points.Stop.TheVariants.{Refused, Fault}
 use Rattle.demangle_v0.specs.declared.points.voice.Voice.{Ghosts}
 use Rattle.demangle_v0.proofs.PointSteps.{looks_both, total_both, kept_none, refused, heard, child_last, group_then, group_so, last_word_so}
-use Rattle.demangle_v0.proofs.WordLooks.{group_short}
+use Rattle.demangle_v0.proofs.WordLooks.{group_short, group_few}
 use Rattle.demangle_v0.specs.Grammar.{word_items}
 use Rattle.demangle_v0.specs.Items.{Kind, child, done}
 use Rattle.demangle_v0.specs.Groups.{Group, word_group}
@@ -41,6 +42,10 @@ pub list_short : (b : List ℕ) (i : Place) → total (list_costs i) ≤ own_loo
 list_short b None = omega arith
 list_short b (Some i) = omega arith
 
+pub list_words : (i : Place) → length (list_costs i) ≤ 1
+list_words None = omega arith
+list_words (Some i) = omega arith
+
 pub list_few : (i : Place) → total (list_costs i) ≤ 1
 list_few None = omega arith
 list_few (Some i) = omega arith
@@ -50,13 +55,13 @@ no_fault m k = cc
 
 module _ {V : Type 0} {e : Env V} where
   -- The point is left for another, by these looks before the mark and behind it, and with this frame.
-  pub leaves : {t : Turn V} {h : Heard} {weight high : ℕ} (to : Point) (front back : List ℕ) (pushed : Option Frame) {s : State} {row : List Frame} {n : ℕ}
+  pub leaves : {t : Turn V} {h : Heard} {words weight high : ℕ} (to : Point) (front back : List ℕ) → length front + length back ≤ words → (pushed : Option Frame) {s : State} {row : List Frame} {n : ℕ}
       → h ≡ with_looks front (with_texts e.voice.loud (mark_texts s.mark) (with_looks back (then_frame e.symbol e.plain e.voice.loud pushed (share_of e.symbol e.plain e.voice.loud to s))))
       → row ≡ pushed_on t.row pushed → Paid t.looks (front ++ back) n → total back ≤ 2 → n ≤ t.looks + own_looks e.symbol t.state.place
       → way_weight to + weight_of pushed + 1 ≤ weight + 100 * (total front + total back)
       → height_of pushed ≤ high → height_at to s.depth_left + count_of pushed ≤ high → FitsFrame pushed → Fits to s.depth_left s.lifetimes → (e.voice.loud ≡ false → IsInner pushed)
-      → Does e t (part h weight high) (Ok to) (record t { state = s; row = row; looks = n })
-  leaves to front back pushed r q p few short w x y f g i = let both = total_both front back in record {
+      → Does e t (part words h weight high) (Ok to) (record t { state = s; row = row; looks = n })
+  leaves to front back c pushed r q p few short w x y f g i = let both = total_both front back in record {
     comes = record {
       front = front;
       said = None;
@@ -66,6 +71,7 @@ module _ {V : Type 0} {e : Env V} where
       one = inl refl;
       reads = r;
       is_row = q;
+      few = c;
       enough = omega (arith, p.within, both);
       late = omega (arith, p.within, both, few);
       lighter = w;
@@ -82,23 +88,23 @@ module _ {V : Type 0} {e : Env V} where
   }
 
   -- by no looks and with no frame
-  pub marks : {t : Turn V} {h : Heard} {weight high : ℕ} (to : Point) {s : State} → h ≡ with_texts e.voice.loud (mark_texts s.mark) (share_of e.symbol e.plain e.voice.loud to s)
-      → way_weight to + 1 ≤ weight → height_at to s.depth_left ≤ high → Fits to s.depth_left s.lifetimes → Does e t (part h weight high) (Ok to) (record t { state = s })
+  pub marks : {t : Turn V} {h : Heard} {words weight high : ℕ} (to : Point) {s : State} → h ≡ with_texts e.voice.loud (mark_texts s.mark) (share_of e.symbol e.plain e.voice.loud to s)
+      → way_weight to + 1 ≤ weight → height_at to s.depth_left ≤ high → Fits to s.depth_left s.lifetimes → Does e t (part words h weight high) (Ok to) (record t { state = s })
   unfolding then_frame
-  marks to r w x f = leaves to [] [] None r refl (record { grows = omega arith; within = omega arith }) (omega arith) (omega arith) (omega (arith, w)) (omega arith) (omega (arith, x)) tt f (λ _. tt)
+  marks to r w x f = leaves to [] [] (omega arith) None r refl (record { grows = omega arith; within = omega arith }) (omega arith) (omega arith) (omega (arith, w)) (omega arith) (omega (arith, x)) tt f (λ _. tt)
 
   -- a child, behind a mark
-  pub marks_child : {t : Turn V} {h : Heard} {weight high : ℕ} (to : Point) (k : Kind) (v : Bool) {s : State} → h ≡ with_texts e.voice.loud (mark_texts s.mark) (heard e.voice e.symbol e.plain (child k v done) s.depth_left s.lifetimes s.place)
+  pub marks_child : {t : Turn V} {h : Heard} {words weight high : ℕ} (to : Point) (k : Kind) (v : Bool) {s : State} → h ≡ with_texts e.voice.loud (mark_texts s.mark) (heard e.voice e.symbol e.plain (child k v done) s.depth_left s.lifetimes s.place)
       → none_open (of e.plain e.voice.loud (unit_outcome (around e.symbol e.voice.loud s.depth_left s.lifetimes) k v s.place)) ≡ share_of e.symbol e.plain e.voice.loud to s
-      → way_weight to + 1 ≤ weight → height_at to s.depth_left ≤ high → Fits to s.depth_left s.lifetimes → Does e t (part h weight high) (Ok to) (record t { state = s })
+      → way_weight to + 1 ≤ weight → height_at to s.depth_left ≤ high → Fits to s.depth_left s.lifetimes → Does e t (part words h weight high) (Ok to) (record t { state = s })
   marks_child to k v {s} q r w x f = marks to (q ∙ ap (with_texts e.voice.loud (mark_texts s.mark)) (child_last e.voice e.symbol e.plain k v s.depth_left s.lifetimes s.place ∙ r)) w x f
 
   -- The unit ends with a fault.
-  pub ends : {t : Turn V} {h : Heard} {weight high : ℕ} (m : Mark) (front : List ℕ) {s : State} {n : ℕ} → s.mark ≡ None
+  pub ends : {t : Turn V} {h : Heard} {words weight high : ℕ} (m : Mark) (front : List ℕ) → length front ≤ words → {s : State} {n : ℕ} → s.mark ≡ None
       → h ≡ with_looks front (with_texts e.voice.loud (text m ∷ []) (nothing_heard None false)) → Paid t.looks front n → n ≤ t.looks + own_looks e.symbol t.state.place → 1 ≤ weight
-      → Does e t (part h weight high) (Err (Fault m)) (record t { state = s; looks = n })
-  ends m front k r p short w = record {
-    comes = record { front = front; told = refl; unmarked = k; reads = r; is_row = refl; enough = p.within; lighter = omega (arith, w) };
+      → Does e t (part words h weight high) (Err (Fault m)) (record t { state = s; looks = n })
+  ends m front c k r p short w = record {
+    comes = record { front = front; told = refl; unmarked = k; reads = r; is_row = refl; few = c; enough = p.within; lighter = omega (arith, w) };
     grows = p.grows;
     own = short;
     ready = λ y _. y;
@@ -106,16 +112,16 @@ module _ {V : Type 0} {e : Env V} where
   }
 
   -- The reading had failed before.
-  pub unread : {t : Turn V} {h : Heard} {weight high : ℕ} → t.state.mark ≡ None → h ≡ with_texts e.voice.loud (text mark.Unread ∷ []) (nothing_heard None false) → 1 ≤ weight → Does e t (part h weight high) (Err (Fault mark.Unread)) t
-  unread k r w = ends mark.Unread [] k r (record { grows = omega arith; within = omega arith }) (omega arith) w
+  pub unread : {t : Turn V} {h : Heard} {words weight high : ℕ} → t.state.mark ≡ None → h ≡ with_texts e.voice.loud (text mark.Unread ∷ []) (nothing_heard None false) → 1 ≤ weight → Does e t (part words h weight high) (Err (Fault mark.Unread)) t
+  unread k r w = ends mark.Unread [] (omega arith) k r (record { grows = omega arith; within = omega arith }) (omega arith) w
 
   -- A stretch is handed over.
-  pub tells : {t : Turn V} {h : Heard} {weight high : ℕ} (to : Point) (front : List ℕ) (x : Stretch) {s : State} {v : V} {n : ℕ}
+  pub tells : {t : Turn V} {h : Heard} {words weight high : ℕ} (to : Point) (front : List ℕ) → length front ≤ words → (x : Stretch) {s : State} {v : V} {n : ℕ}
       → h ≡ with_looks front (with_texts e.voice.loud (texts_of e.symbol e.plain x) (share_of e.symbol e.plain e.voice.loud to s)) → e.voice.prints t.voice (texts_of e.symbol e.plain x) (Ok tt) v → e.voice.ready v → s.mark ≡ None
       → Paid t.looks front n → n ≤ t.looks + own_looks e.symbol t.state.place → way_weight to + 1 ≤ weight + 100 * total front → height_at to s.depth_left ≤ high → Fits to s.depth_left s.lifetimes
-      → Does e t (part h weight high) (Ok to) (record t { state = s; voice = v; looks = n })
+      → Does e t (part words h weight high) (Ok to) (record t { state = s; voice = v; looks = n })
   unfolding then_frame
-  tells to front x r q y k p short w z f = record {
+  tells to front c x r q y k p short w z f = record {
     comes = record {
       front = front;
       said = Some x;
@@ -125,6 +131,7 @@ module _ {V : Type 0} {e : Env V} where
       one = inr k;
       reads = rw k r;
       is_row = refl;
+      few = omega (arith, c);
       enough = omega (arith, p.within);
       late = omega (arith, p.within);
       lighter = omega (arith, w);
@@ -141,12 +148,12 @@ module _ {V : Type 0} {e : Env V} where
   }
 
   -- The voice refuses it.
-  pub halts : {t : Turn V} {h : Heard} {weight high : ℕ} (front : List ℕ) (x : Stretch) (rest : Heard) {s : State} {v : V} {n : ℕ} {r : SinkRefused}
+  pub halts : {t : Turn V} {h : Heard} {words weight high : ℕ} (front : List ℕ) → length front ≤ words → (x : Stretch) (rest : Heard) {s : State} {v : V} {n : ℕ} {r : SinkRefused}
       → h ≡ with_looks front (with_texts e.voice.loud (texts_of e.symbol e.plain x) rest) → e.voice.prints t.voice (texts_of e.symbol e.plain x) (Err r) v
       → (e.voice.loud ≡ false → rest.place ≡ None) → Paid t.looks front n → n ≤ t.looks + own_looks e.symbol t.state.place
-      → Does e t (part h weight high) (Err Refused) (record t { state = s; voice = v; looks = n })
-  halts {t} front x rest {r = f} r q i p short = record {
-    comes = (record { front = front; said = x; rest = rest; refusal = f; prints = q; reads = r; enough = omega (arith, p.within); exact = λ _. p.within; fails = i }, kept_none t.row);
+      → Does e t (part words h weight high) (Err Refused) (record t { state = s; voice = v; looks = n })
+  halts {t} front c x rest {r = f} r q i p short = record {
+    comes = (record { front = front; said = x; rest = rest; refusal = f; prints = q; reads = r; few = c; enough = omega (arith, p.within); exact = λ _. p.within; fails = i }, kept_none t.row);
     grows = p.grows;
     own = short;
     ready = λ _ k. absurd (false≢true k);
@@ -154,9 +161,9 @@ module _ {V : Type 0} {e : Env V} where
   }
 
   -- Behind some looks.
-  pub behind : {t u : Turn V} {r : Result Point Stop} {h k : Heard} {weight high weight' high' : ℕ} {s : State} {n : ℕ} (ks : List ℕ) → h ≡ with_looks ks k → Paid t.looks ks n → n + own_looks e.symbol s.place ≤ t.looks + own_looks e.symbol t.state.place
-      → weight' ≤ weight + 100 * total ks → high' ≤ high → Does e (record t { state = s; looks = n }) (part k weight' high') r u → Does e t (part h weight high) r u
-  behind {r = Ok q} ks o p short w x z = let d = z.comes in record {
+  pub behind : {t u : Turn V} {r : Result Point Stop} {h k : Heard} {words words' weight high weight' high' : ℕ} {s : State} {n : ℕ} (ks : List ℕ) → length ks + words' ≤ words → h ≡ with_looks ks k → Paid t.looks ks n → n + own_looks e.symbol s.place ≤ t.looks + own_looks e.symbol t.state.place
+      → weight' ≤ weight + 100 * total ks → high' ≤ high → Does e (record t { state = s; looks = n }) (part words' k weight' high') r u → Does e t (part words h weight high) r u
+  behind {r = Ok q} ks c o p short w x z = let d = z.comes in record {
     comes = record {
       front = ks ++ d.front;
       said = d.said;
@@ -166,6 +173,7 @@ module _ {V : Type 0} {e : Env V} where
       one = d.one;
       reads = o ∙ (ap (with_looks ks) d.reads ∙ sym (looks_both ks d.front _));
       is_row = d.is_row;
+      few = omega (arith, c, d.few, length-append ks d.front);
       enough = omega (arith, p.within, d.enough, total_both ks d.front);
       late = omega (arith, p.within, d.late, total_both ks d.front);
       lighter = omega (arith, w, d.lighter, total_both ks d.front);
@@ -180,13 +188,14 @@ module _ {V : Type 0} {e : Env V} where
     ready = z.ready;
     sound = z.sound;
   }
-  behind {r = Err (Fault m)} ks o p short w x z = let d = z.comes in record {
+  behind {r = Err (Fault m)} ks c o p short w x z = let d = z.comes in record {
     comes = record {
       front = ks ++ d.front;
       told = d.told;
       unmarked = d.unmarked;
       reads = o ∙ (ap (with_looks ks) d.reads ∙ sym (looks_both ks d.front _));
       is_row = d.is_row;
+      few = omega (arith, c, d.few, length-append ks d.front);
       enough = omega (arith, p.within, d.enough, total_both ks d.front);
       lighter = omega (arith, w, d.lighter, total_both ks d.front);
     };
@@ -195,7 +204,7 @@ module _ {V : Type 0} {e : Env V} where
     ready = z.ready;
     sound = z.sound;
   }
-  behind {r = Err Refused} ks o p short w x z = let d = z.comes.0 in record {
+  behind {r = Err Refused} ks c o p short w x z = let d = z.comes.0 in record {
     comes = (
       record {
         front = ks ++ d.front;
@@ -204,6 +213,7 @@ module _ {V : Type 0} {e : Env V} where
         refusal = d.refusal;
         prints = d.prints;
         reads = o ∙ (ap (with_looks ks) d.reads ∙ sym (looks_both ks d.front _));
+        few = omega (arith, c, d.few, length-append ks d.front);
         enough = omega (arith, p.within, d.enough, total_both ks d.front);
         exact = λ q. omega (arith, p.within, d.exact q, total_both ks d.front);
         fails = d.fails;
@@ -217,12 +227,12 @@ module _ {V : Type 0} {e : Env V} where
   }
 
   -- the same heard in another way
-  pub alike : {t u : Turn V} {r : Result Point Stop} {h k : Heard} {weight high weight' high' : ℕ} → h ≡ k → weight' ≤ weight → high' ≤ high → Does e t (part k weight' high') r u → Does e t (part h weight high) r u
-  alike o w x z = behind [] o (record { grows = omega arith; within = omega arith }) (omega arith) (omega (arith, w)) x z
+  pub alike : {t u : Turn V} {r : Result Point Stop} {h k : Heard} {words words' weight high weight' high' : ℕ} → words' ≤ words → h ≡ k → weight' ≤ weight → high' ≤ high → Does e t (part words' k weight' high') r u → Does e t (part words h weight high) r u
+  alike c o w x z = behind [] (omega (arith, c)) o (record { grows = omega arith; within = omega arith }) (omega arith) (omega (arith, w)) x z
 
 -- As the points that are not written so.
-pub did : {V : Type 0} {voice : Ghosts V} {b : List ℕ} {plain : Bool} {h : Heard} {weight high : ℕ} {t u : Turn V} {r : Result Point Stop} → Does (env voice b plain) t (part h weight high) r u
-    → DidOn voice b plain h weight high t.row t.voice r u.state u.row u.voice (u.looks - t.looks)
+pub did : {V : Type 0} {voice : Ghosts V} {b : List ℕ} {plain : Bool} {h : Heard} {words weight high : ℕ} {t u : Turn V} {r : Result Point Stop} → Does (env voice b plain) t (part words h weight high) r u
+    → DidOn voice b plain words h weight high t.row t.voice r u.state u.row u.voice (u.looks - t.looks)
 did {r = Ok p} d = let w = d.comes in record {
   comes = record {
     front = w.front;
@@ -233,6 +243,7 @@ did {r = Ok p} d = let w = d.comes in record {
     one = w.one;
     reads = w.reads;
     is_row = w.is_row;
+    few = w.few;
     enough = omega (arith, w.enough);
     late = omega (arith, w.late);
     lighter = w.lighter;
@@ -244,7 +255,7 @@ did {r = Ok p} d = let w = d.comes in record {
   };
 }
 did {r = Err (Fault m)} d = let w = d.comes in record {
-  comes = record { front = w.front; told = w.told; unmarked = w.unmarked; reads = w.reads; is_row = w.is_row; enough = omega (arith, w.enough); lighter = w.lighter };
+  comes = record { front = w.front; told = w.told; unmarked = w.unmarked; reads = w.reads; is_row = w.is_row; few = w.few; enough = omega (arith, w.enough); lighter = w.lighter };
 }
 did {r = Err Refused} d = let w = d.comes.0 in record {
   comes = (
@@ -255,6 +266,7 @@ did {r = Err Refused} d = let w = d.comes.0 in record {
       refusal = w.refusal;
       prints = w.prints;
       reads = w.reads;
+      few = w.few;
       enough = omega (arith, w.enough);
       exact = λ q. omega (arith, w.exact q);
       fails = w.fails;
@@ -264,9 +276,9 @@ did {r = Err Refused} d = let w = d.comes.0 in record {
 }
 
 -- From them.
-pub does : {V : Type 0} {voice : Ghosts V} {b : List ℕ} {plain : Bool} {h : Heard} {weight high : ℕ} {t u : Turn V} {r : Result Point Stop} → DidOn voice b plain h weight high t.row t.voice r u.state u.row u.voice (u.looks - t.looks)
+pub does : {V : Type 0} {voice : Ghosts V} {b : List ℕ} {plain : Bool} {h : Heard} {words weight high : ℕ} {t u : Turn V} {r : Result Point Stop} → DidOn voice b plain words h weight high t.row t.voice r u.state u.row u.voice (u.looks - t.looks)
     → t.looks ≤ u.looks → u.looks ≤ t.looks + own_looks b t.state.place → (voice.ready t.voice → IsOk r → voice.ready u.voice) → (voice.ready t.voice → (m : Mark) → r ≡ Err (Fault m) → voice.ready u.voice)
-    → Does (env voice b plain) t (part h weight high) r u
+    → Does (env voice b plain) t (part words h weight high) r u
 does {r = Ok q} z l short y x = let w = z.comes in record {
   comes = record {
     front = w.front;
@@ -277,6 +289,7 @@ does {r = Ok q} z l short y x = let w = z.comes in record {
     one = w.one;
     reads = w.reads;
     is_row = w.is_row;
+    few = w.few;
     enough = omega (arith, w.enough, l);
     late = omega (arith, w.late, l);
     lighter = w.lighter;
@@ -292,7 +305,7 @@ does {r = Ok q} z l short y x = let w = z.comes in record {
   sound = x;
 }
 does {r = Err (Fault m)} z l short y x = let w = z.comes in record {
-  comes = record { front = w.front; told = w.told; unmarked = w.unmarked; reads = w.reads; is_row = w.is_row; enough = omega (arith, w.enough, l); lighter = w.lighter };
+  comes = record { front = w.front; told = w.told; unmarked = w.unmarked; reads = w.reads; is_row = w.is_row; few = w.few; enough = omega (arith, w.enough, l); lighter = w.lighter };
   grows = l;
   own = short;
   ready = y;
@@ -307,6 +320,7 @@ does {r = Err Refused} z l short y x = let w = z.comes.0 in record {
       refusal = w.refusal;
       prints = w.prints;
       reads = w.reads;
+      few = w.few;
       enough = omega (arith, w.enough, l);
       exact = λ q. omega (arith, w.exact q, l);
       fails = w.fails;
@@ -324,36 +338,36 @@ word_of e x s = word_group e.symbol x s.letter e.voice.loud s.lifetimes s.place
 
 -- What is read as a group.
 module _ {V : Type 0} {e : Env V} where
-  pub group_tells : {t : Turn V} {h : Heard} {weight high : ℕ} {s : State} {v : V} {n : ℕ} (to : Point) (g : Group) (k : Place → Heard) (y : Stretch) (j : Place) → h ≡ group_then e.voice e.symbol e.plain g k → reads.Goes y j ≡ g.reads → Paid t.looks g.costs n
+  pub group_tells : {t : Turn V} {h : Heard} {words weight high : ℕ} {s : State} {v : V} {n : ℕ} (to : Point) (g : Group) → length g.costs ≤ words → (k : Place → Heard) (y : Stretch) (j : Place) → h ≡ group_then e.voice e.symbol e.plain g k → reads.Goes y j ≡ g.reads → Paid t.looks g.costs n
       → n ≤ t.looks + own_looks e.symbol t.state.place → e.voice.prints t.voice (texts_of e.symbol e.plain y) (Ok tt) v → e.voice.ready v → s.mark ≡ None → k j ≡ share_of e.symbol e.plain e.voice.loud to s
-      → way_weight to + 1 ≤ weight → height_at to s.depth_left ≤ high → Fits to s.depth_left s.lifetimes → Does e t (part h weight high) (Ok to) (record t { state = s; voice = v; looks = n })
-  group_tells to g k y j so r p short q x m o w z f =
-      tells to g.costs y (group_so e.voice e.symbol e.plain _ g k (reads.Goes y j) so r ∙ ap (λ (z : Heard). with_looks g.costs (with_texts e.voice.loud (texts_of e.symbol e.plain y) z)) o) q x m p short (omega (arith, w)) z f
+      → way_weight to + 1 ≤ weight → height_at to s.depth_left ≤ high → Fits to s.depth_left s.lifetimes → Does e t (part words h weight high) (Ok to) (record t { state = s; voice = v; looks = n })
+  group_tells to g c k y j so r p short q x m o w z f =
+      tells to g.costs c y (group_so e.voice e.symbol e.plain _ g k (reads.Goes y j) so r ∙ ap (λ (z : Heard). with_looks g.costs (with_texts e.voice.loud (texts_of e.symbol e.plain y) z)) o) q x m p short (omega (arith, w)) z f
 
-  pub group_halts : {t : Turn V} {h : Heard} {weight high : ℕ} {s : State} {v : V} {n : ℕ} {f : SinkRefused} (g : Group) (k : Place → Heard) (y : Stretch) (j : Place) → h ≡ group_then e.voice e.symbol e.plain g k → reads.Goes y j ≡ g.reads → Paid t.looks g.costs n
-      → n ≤ t.looks + own_looks e.symbol t.state.place → e.voice.prints t.voice (texts_of e.symbol e.plain y) (Err f) v → (e.voice.loud ≡ false → IsOk (refused f)) → Does e t (part h weight high) (Err Refused) (record t { state = s; voice = v; looks = n })
-  group_halts g k y j so r p short q x = halts g.costs y (k j) (group_so e.voice e.symbol e.plain _ g k (reads.Goes y j) so r) q (λ z. absurd (false≢true (x z))) p short
+  pub group_halts : {t : Turn V} {h : Heard} {words weight high : ℕ} {s : State} {v : V} {n : ℕ} {f : SinkRefused} (g : Group) → length g.costs ≤ words → (k : Place → Heard) (y : Stretch) (j : Place) → h ≡ group_then e.voice e.symbol e.plain g k → reads.Goes y j ≡ g.reads → Paid t.looks g.costs n
+      → n ≤ t.looks + own_looks e.symbol t.state.place → e.voice.prints t.voice (texts_of e.symbol e.plain y) (Err f) v → (e.voice.loud ≡ false → IsOk (refused f)) → Does e t (part words h weight high) (Err Refused) (record t { state = s; voice = v; looks = n })
+  group_halts g c k y j so r p short q x = halts g.costs c y (k j) (group_so e.voice e.symbol e.plain _ g k (reads.Goes y j) so r) q (λ z. absurd (false≢true (x z))) p short
 
-  pub group_faults : {t : Turn V} {h : Heard} {weight high : ℕ} {n : ℕ} (g : Group) (k : Place → Heard) (m : Mark) → h ≡ group_then e.voice e.symbol e.plain g k → reads.Stops m ≡ g.reads → Paid t.looks g.costs n
-      → n ≤ t.looks + own_looks e.symbol t.state.place → t.state.mark ≡ None → 1 ≤ weight → Does e t (part h weight high) (Err (Fault m)) (record t { looks = n })
-  group_faults g k m so r p short x w = ends m g.costs x (group_so e.voice e.symbol e.plain _ g k (reads.Stops m) so r) p short w
+  pub group_faults : {t : Turn V} {h : Heard} {words weight high : ℕ} {n : ℕ} (g : Group) → length g.costs ≤ words → (k : Place → Heard) (m : Mark) → h ≡ group_then e.voice e.symbol e.plain g k → reads.Stops m ≡ g.reads → Paid t.looks g.costs n
+      → n ≤ t.looks + own_looks e.symbol t.state.place → t.state.mark ≡ None → 1 ≤ weight → Does e t (part words h weight high) (Err (Fault m)) (record t { looks = n })
+  group_faults g c k m so r p short x w = ends m g.costs c x (group_so e.voice e.symbol e.plain _ g k (reads.Stops m) so r) p short w
 
   -- Words with which a unit ends.
 
   pub word_ends : {t : Turn V} {v : V} {n : ℕ} (x : Word) (y : Stretch) (j : Place) → reads.Goes y j ≡ (word_of e x t.state).reads → Paid t.looks (word_of e x t.state).costs n → e.voice.prints t.voice (texts_of e.symbol e.plain y) (Ok tt) v → e.voice.ready v → t.state.mark ≡ None
-      → RestDoes e (word_items x t.state.letter done) 1 0 t (Ok point.End) (record t { state = record t.state { place = j; is_open = false }; voice = v; looks = n })
+      → RestDoes e (word_items x t.state.letter done) 4 1 0 t (Ok point.End) (record t { state = record t.state { place = j; is_open = false }; voice = v; looks = n })
   unfolding share_at
   word_ends {t} x y j r p q k m =
-      group_tells point.End (word_of e x t.state) ended y j (last_word_so e.voice e.symbol e.plain x t.state.letter t.state.depth_left t.state.lifetimes t.state.place) r p
+      group_tells point.End (word_of e x t.state) (group_few e.symbol x t.state.letter e.voice.loud t.state.lifetimes t.state.place) ended y j (last_word_so e.voice e.symbol e.plain x t.state.letter t.state.depth_left t.state.lifetimes t.state.place) r p
       (omega (arith, p.within, group_short e.symbol x t.state.letter e.voice.loud t.state.lifetimes t.state.place)) q k m refl (omega arith) (omega arith) tt
 
   pub word_halts : {t : Turn V} {s : State} {v : V} {n : ℕ} {f : SinkRefused} (x : Word) (y : Stretch) (j : Place) → reads.Goes y j ≡ (word_of e x t.state).reads → Paid t.looks (word_of e x t.state).costs n → e.voice.prints t.voice (texts_of e.symbol e.plain y) (Err f) v → (e.voice.loud ≡ false → IsOk (refused f))
-      → RestDoes e (word_items x t.state.letter done) 1 0 t (Err Refused) (record t { state = s; voice = v; looks = n })
+      → RestDoes e (word_items x t.state.letter done) 4 1 0 t (Err Refused) (record t { state = s; voice = v; looks = n })
   word_halts {t} x y j r p q k =
-      group_halts (word_of e x t.state) ended y j (last_word_so e.voice e.symbol e.plain x t.state.letter t.state.depth_left t.state.lifetimes t.state.place) r p
+      group_halts (word_of e x t.state) (group_few e.symbol x t.state.letter e.voice.loud t.state.lifetimes t.state.place) ended y j (last_word_so e.voice e.symbol e.plain x t.state.letter t.state.depth_left t.state.lifetimes t.state.place) r p
       (omega (arith, p.within, group_short e.symbol x t.state.letter e.voice.loud t.state.lifetimes t.state.place)) q k
 
-  pub word_faults : {t : Turn V} {n : ℕ} (x : Word) (m : Mark) → reads.Stops m ≡ (word_of e x t.state).reads → Paid t.looks (word_of e x t.state).costs n → t.state.mark ≡ None → RestDoes e (word_items x t.state.letter done) 1 0 t (Err (Fault m)) (record t { looks = n })
+  pub word_faults : {t : Turn V} {n : ℕ} (x : Word) (m : Mark) → reads.Stops m ≡ (word_of e x t.state).reads → Paid t.looks (word_of e x t.state).costs n → t.state.mark ≡ None → RestDoes e (word_items x t.state.letter done) 4 1 0 t (Err (Fault m)) (record t { looks = n })
   word_faults {t} x m r p k =
-      group_faults (word_of e x t.state) ended m (last_word_so e.voice e.symbol e.plain x t.state.letter t.state.depth_left t.state.lifetimes t.state.place) r p
+      group_faults (word_of e x t.state) (group_few e.symbol x t.state.letter e.voice.loud t.state.lifetimes t.state.place) ended m (last_word_so e.voice e.symbol e.plain x t.state.letter t.state.depth_left t.state.lifetimes t.state.place) r p
       (omega (arith, p.within, group_short e.symbol x t.state.letter e.voice.loud t.state.lifetimes t.state.place)) k (omega arith)

@@ -1,6 +1,6 @@
 -- The points of types.
 use Rattle.std.specs.Prelude.{if◌then◌else◌, ◌*◌, ◌==◌, slice_get, codes}
-use Rattle.std.proofs.Common.{◌≡◌, ℕ, ◌+◌, ◌-◌, ◌<◌, ◌≤◌, Bool, true, false, cond, Option, Some, None, List, [], ◌∷◌, ◌++◌, Result, Ok, Err, refl, arith, sym, ap, ◌∙◌}
+use Rattle.std.proofs.Common.{◌≡◌, ℕ, ◌+◌, ◌-◌, ◌<◌, ◌≤◌, length, Bool, true, false, cond, Option, Some, None, List, [], ◌∷◌, ◌++◌, Result, Ok, Err, refl, arith, sym, ap, ◌∙◌}
 use Rattle.std.proofs.lemmas.List.{append-nil}
 use Rattle.std.proofs.lemmas.Bool.{false≢true}
 use Prim.Native.Char.{code}
@@ -14,7 +14,7 @@ use Rattle.demangle_v0.specs.Grammar.{text, found, basic_marks}
 use Rattle.demangle_v0.specs.Table.{says_if, type_inside, type_rows, is_among, row_text, basic_types}
 use Rattle.demangle_v0.specs.Tags.{type_kinds, type_of, reference_to, lifetime_before}
 use Rattle.demangle_v0.specs.Reading.{Place, unit_outcome, run}
-use Rattle.demangle_v0.specs.Points.{Turn, Env, RestDoes, weight_at, frame_of, then_frame, share_at, none_open, around, mark_texts, pushed_on, way_weight, weight_of, height_at, height_of, count_of, Fits, FitsFrame, IsInner, DidOn, behind_reference, lifetime_point}
+use Rattle.demangle_v0.specs.Points.{Turn, Env, RestDoes, weight_at, words_at, frame_of, then_frame, share_at, none_open, around, mark_texts, pushed_on, way_weight, weight_of, height_at, height_of, count_of, Fits, FitsFrame, IsInner, DidOn, behind_reference, lifetime_point}
 use Rattle.demangle_v0.specs.declared.grammar.Mark.{Mark}
 use Rattle.demangle_v0.specs.declared.grammar.Mark.TheVariants as mark
 use Rattle.demangle_v0.specs.declared.points.tags.TypeKind.{TypeKind}
@@ -42,16 +42,16 @@ module _ {V : Type 0} (voice : Ghosts V) (b : List ℕ) (plain : Bool) where
   child_silent k v left n i t false q = let o = unit_outcome (around b false left n) k v i in ap (λ xs. record { events = xs; place = o.place; is_open = false }) (append-nil (events plain false o.tree))
 
   -- a step that goes on at a point of this state
-  pub enters : (h : Heard) (p : Point) (left n : ℕ) (i : Place) (m : Option Mark) (front back : List ℕ) (pushed : Option Frame) (weight high : ℕ) (row now : List Frame) (u : V) (new : State) (made : ℕ)
+  pub enters : {words : ℕ} (h : Heard) (p : Point) (left n : ℕ) (i : Place) (m : Option Mark) (front back : List ℕ) → length front + length back ≤ words → (pushed : Option Frame) (weight high : ℕ) (row now : List Frame) (u : V) (new : State) (made : ℕ)
       → h ≡ with_looks front (with_texts voice.loud (mark_texts m) (with_looks back (then_frame b plain voice.loud pushed (heard_at p new.in_value new.letter left n i new.is_open))))
       → new.depth_left ≡ left → new.lifetimes ≡ n → new.place ≡ i → new.mark ≡ m
       → now ≡ pushed_on row pushed → made ≤ total front + total back → made ≤ total front + 2
       → way_weight p + weight_of pushed + 1 ≤ weight + 100 * (total front + total back)
       → height_of pushed ≤ high → height_at p left + count_of pushed ≤ high → FitsFrame pushed → Fits p left n → (voice.loud ≡ false → IsInner pushed)
-      → DidOn voice b plain h weight high row u (Ok p) new now u made
-  enters h p left n i m front back pushed weight high row now u new made e kl kn kp km r l k w x y f g q = record {
+      → DidOn voice b plain words h weight high row u (Ok p) new now u made
+  enters h p left n i m front back c pushed weight high row now u new made e kl kn kp km r l k w x y f g q = record {
     comes =
-        steps voice b plain p front back pushed h weight high row now u new made (rw (kl, kn, kp, km) e) r l k w x (rw kl y) f (rw (kl, kn) g) q;
+        steps voice b plain p front back c pushed h weight high row now u new made (rw (kl, kn, kp, km) e) r l k w x (rw kl y) f (rw (kl, kn) g) q;
   }
 
   -- A text, and what stands behind it.
@@ -59,16 +59,16 @@ module _ {V : Type 0} (voice : Ghosts V) (b : List ℕ) (plain : Bool) where
   pub length_goes : (v : Bool) (c left n : ℕ) (i : Place) (o : Bool) (row now : List Frame) (u : V) (new : State) (made : ℕ) → made ≤ 0 → Fits point.CloseBracket left n
       → new.in_value ≡ true → new.depth_left ≡ left → new.lifetimes ≡ n → new.place ≡ i → new.mark ≡ Some mark.Semicolon
       → (voice.loud ≡ true → now ≡ row ++ frame_of point.CloseBracket v c left n ∷ []) → (voice.loud ≡ false → now ≡ row)
-      → DidOn voice b plain (heard_at point.ArrayLength v c left n i o) 4 (8 * left + 2) row u (Ok point.Constant) new now u made
+      → DidOn voice b plain 8 (heard_at point.ArrayLength v c left n i o) 4 (8 * left + 2) row u (Ok point.Constant) new now u made
   unfolding run then_frame share_at
   length_goes v c left n i o row now u new made l f kv kl kn kp km r s = go voice.loud refl
     where
-      go : (x : Bool) → voice.loud ≡ x → DidOn voice b plain (heard_at point.ArrayLength v c left n i o) 4 (8 * left + 2) row u (Ok point.Constant) new now u made
+      go : (x : Bool) → voice.loud ≡ x → DidOn voice b plain 8 (heard_at point.ArrayLength v c left n i o) 4 (8 * left + 2) row u (Ok point.Constant) new now u made
       go true q =
-          enters _ point.Constant left n i (Some mark.Semicolon) [] [] (Some (frame_of point.CloseBracket v c left n)) 4 (8 * left + 2) row now u new made (rw kv refl) kl kn kp km (r q)
+          enters _ point.Constant left n i (Some mark.Semicolon) [] [] (omega arith) (Some (frame_of point.CloseBracket v c left n)) 4 (8 * left + 2) row now u new made (rw kv refl) kl kn kp km (r q)
           (omega (arith, l)) (omega (arith, l)) (omega arith) (omega arith) (omega arith) f f (λ _. refl)
       go false q =
-          enters _ point.Constant left n i (Some mark.Semicolon) [] [] None 4 (8 * left + 2) row now u new made (rw kv (ap (with_texts voice.loud (text mark.Semicolon ∷ [])) (child_silent a_constant true left n i (text mark.CloseBracket) voice.loud q))) kl kn kp km (s q)
+          enters _ point.Constant left n i (Some mark.Semicolon) [] [] (omega arith) None 4 (8 * left + 2) row now u new made (rw kv (ap (with_texts voice.loud (text mark.Semicolon ∷ [])) (child_silent a_constant true left n i (text mark.CloseBracket) voice.loud q))) kl kn kp km (s q)
           (omega (arith, l)) (omega (arith, l)) (omega arith) (omega arith) (omega arith) tt f (λ _. tt)
 
   -- Types that are made of others, behind their tag.
@@ -83,33 +83,33 @@ module _ {V : Type 0} (voice : Ghosts V) (b : List ℕ) (plain : Bool) where
   pub array_goes : (v : Bool) (c left n : ℕ) (i : Place) (row now : List Frame) (u : V) (new : State) (made : ℕ) → made ≤ 0 → Fits point.ArrayLength left n
       → new.depth_left ≡ left → new.lifetimes ≡ n → new.place ≡ i → new.mark ≡ Some mark.OpenBracket
       → now ≡ row ++ frame_of point.ArrayLength v c left n ∷ []
-      → DidOn voice b plain (heard voice b plain (type_of kind.Array) left n i) 50 (8 * left + 9) row u (Ok point.«Type») new now u made
+      → DidOn voice b plain 5 (heard voice b plain (type_of kind.Array) left n i) 50 (8 * left + 9) row u (Ok point.«Type») new now u made
   unfolding run then_frame share_at
   array_goes v c left n i row now u new made l f kl kn kp km r =
-      enters _ point.«Type» left n i (Some mark.OpenBracket) [] [] (Some (frame_of point.ArrayLength v c left n)) 50 (8 * left + 9) row now u new made refl kl kn kp km r (omega (arith, l)) (omega (arith, l)) (omega arith) (omega arith) (omega arith) f f (λ _. refl)
+      enters _ point.«Type» left n i (Some mark.OpenBracket) [] [] (omega arith) (Some (frame_of point.ArrayLength v c left n)) 50 (8 * left + 9) row now u new made refl kl kn kp km r (omega (arith, l)) (omega (arith, l)) (omega arith) (omega arith) (omega arith) f f (λ _. refl)
 
   pub slice_goes : (v : Bool) (c left n : ℕ) (i : Place) (row now : List Frame) (u : V) (new : State) (made : ℕ) → made ≤ 0 → Fits point.CloseBracket left n
       → new.depth_left ≡ left → new.lifetimes ≡ n → new.place ≡ i → new.mark ≡ Some mark.OpenBracket
       → (voice.loud ≡ true → now ≡ row ++ frame_of point.CloseBracket v c left n ∷ []) → (voice.loud ≡ false → now ≡ row)
-      → DidOn voice b plain (heard voice b plain (type_of kind.Slice) left n i) 50 (8 * left + 9) row u (Ok point.«Type») new now u made
+      → DidOn voice b plain 5 (heard voice b plain (type_of kind.Slice) left n i) 50 (8 * left + 9) row u (Ok point.«Type») new now u made
   unfolding run then_frame share_at
   slice_goes v c left n i row now u new made l f kl kn kp km r s = go voice.loud refl
     where
-      go : (x : Bool) → voice.loud ≡ x → DidOn voice b plain (heard voice b plain (type_of kind.Slice) left n i) 50 (8 * left + 9) row u (Ok point.«Type») new now u made
+      go : (x : Bool) → voice.loud ≡ x → DidOn voice b plain 5 (heard voice b plain (type_of kind.Slice) left n i) 50 (8 * left + 9) row u (Ok point.«Type») new now u made
       go true q =
-          enters _ point.«Type» left n i (Some mark.OpenBracket) [] [] (Some (frame_of point.CloseBracket v c left n)) 50 (8 * left + 9) row now u new made refl kl kn kp km (r q)
+          enters _ point.«Type» left n i (Some mark.OpenBracket) [] [] (omega arith) (Some (frame_of point.CloseBracket v c left n)) 50 (8 * left + 9) row now u new made refl kl kn kp km (r q)
           (omega (arith, l)) (omega (arith, l)) (omega arith) (omega arith) (omega arith) f f (λ _. refl)
       go false q =
-          enters _ point.«Type» left n i (Some mark.OpenBracket) [] [] None 50 (8 * left + 9) row now u new made (ap (with_texts voice.loud (text mark.OpenBracket ∷ [])) (child_silent a_type false left n i (text mark.CloseBracket) voice.loud q)) kl kn kp km (s q)
+          enters _ point.«Type» left n i (Some mark.OpenBracket) [] [] (omega arith) None 50 (8 * left + 9) row now u new made (ap (with_texts voice.loud (text mark.OpenBracket ∷ [])) (child_silent a_type false left n i (text mark.CloseBracket) voice.loud q)) kl kn kp km (s q)
           (omega (arith, l)) (omega (arith, l)) (omega arith) (omega arith) (omega arith) tt f (λ _. tt)
 
   pub pattern_type_goes : (v : Bool) (c left n : ℕ) (i : Place) (row now : List Frame) (u : V) (new : State) (made : ℕ) → made ≤ 0 → Fits point.PatternIs left n
       → new.depth_left ≡ left → new.lifetimes ≡ n → new.place ≡ i → new.mark ≡ None
       → now ≡ row ++ frame_of point.PatternIs v c left n ∷ []
-      → DidOn voice b plain (heard voice b plain (type_of kind.Pattern) left n i) 50 (8 * left + 9) row u (Ok point.«Type») new now u made
+      → DidOn voice b plain 5 (heard voice b plain (type_of kind.Pattern) left n i) 50 (8 * left + 9) row u (Ok point.«Type») new now u made
   unfolding run then_frame share_at
   pattern_type_goes v c left n i row now u new made l f kl kn kp km r =
-      enters _ point.«Type» left n i (None) [] [] (Some (frame_of point.PatternIs v c left n)) 50 (8 * left + 9) row now u new made refl kl kn kp km r (omega (arith, l)) (omega (arith, l)) (omega arith) (omega arith) (omega arith) f f (λ _. refl)
+      enters _ point.«Type» left n i (None) [] [] (omega arith) (Some (frame_of point.PatternIs v c left n)) 50 (8 * left + 9) row now u new made refl kl kn kp km r (omega (arith, l)) (omega (arith, l)) (omega arith) (omega arith) (omega arith) f f (λ _. refl)
 
   -- references
 
@@ -151,27 +151,27 @@ module _ {V : Type 0} (voice : Ghosts V) (b : List ℕ) (plain : Bool) where
   -- A type by its tag.
 
   pub no_tag : (v : Bool) (c left n i : ℕ) (o : Bool) (row : List Frame) (u : V) (new : State) (made : ℕ) → None ≡ slice_get b i → new.mark ≡ None → made ≤ 1
-      → DidOn voice b plain (heard_at point.TaggedType v c left n (Some i) o) 1 (8 * left + 1) row u (Err (Fault mark.Invalid)) new row u made
+      → DidOn voice b plain 7 (heard_at point.TaggedType v c left n (Some i) o) 1 (8 * left + 1) row u (Err (Fault mark.Invalid)) new row u made
   unfolding share_at
   no_tag v c left n i o row u new made e k l =
-      faulty_after voice b plain (1 ∷ []) mark.Invalid _ 1 (8 * left + 1) row u new made k (ap none_open (tag_missing plain voice.loud b left n i (sym e))) l (omega arith)
+      faulty_after voice b plain (1 ∷ []) (omega arith) mark.Invalid _ 1 (8 * left + 1) row u new made k (ap none_open (tag_missing plain voice.loud b left n i (sym e))) l (omega arith)
 
   basic_so : (t : ℕ) (m : Option Mark) → m ≡ found t basic_marks → row_text t basic_types ≡ then_if_some m (λ m. Some (text m))
   basic_so t m e = basic_found t ∙ ap (λ (o : Option Mark). then_if_some o (λ m. Some (text m))) (sym e)
 
   pub basic_ends : (v : Bool) (c left n i t : ℕ) (m : Mark) (o : Bool) (row : List Frame) (u : V) (new : State) (made : ℕ) → Some t ≡ slice_get b i → Some m ≡ found t basic_marks → made ≤ 1
       → new.place ≡ Some (i + 1) → new.mark ≡ Some m → new.is_open ≡ false
-      → DidOn voice b plain (heard_at point.TaggedType v c left n (Some i) o) 1 (8 * left + 1) row u (Ok point.End) new row u made
+      → DidOn voice b plain 7 (heard_at point.TaggedType v c left n (Some i) o) 1 (8 * left + 1) row u (Ok point.End) new row u made
   unfolding share_at then_frame
   basic_ends v c left n i t m o row u new made e f l kp km ko =
-      enters _ point.End new.depth_left new.lifetimes (Some (i + 1)) (Some m) (1 ∷ 4 * (i + 1 - i + 1) ∷ []) [] None 1 (8 * left + 1) row row u new made
+      enters _ point.End new.depth_left new.lifetimes (Some (i + 1)) (Some m) (1 ∷ 4 * (i + 1 - i + 1) ∷ []) [] (omega arith) None 1 (8 * left + 1) row row u new made
       (rw ko (ap none_open (basic_reads plain voice.loud b left n i t (text m) (sym e) (basic_so t (Some m) f)))) refl refl kp km refl (omega (arith, l)) (omega (arith, l)) (omega arith) (omega arith) (omega arith) tt tt (λ _. tt)
 
   pub tag_deep : (v : Bool) (c left n i t : ℕ) (o : Bool) (row : List Frame) (u : V) (new : State) (made : ℕ) → Some t ≡ slice_get b i → None ≡ found t basic_marks → left ≡ 0 → new.mark ≡ None → made ≤ 1
-      → DidOn voice b plain (heard_at point.TaggedType v c left n (Some i) o) 1 (8 * left + 1) row u (Err (Fault mark.Recursion)) new row u made
+      → DidOn voice b plain 7 (heard_at point.TaggedType v c left n (Some i) o) 1 (8 * left + 1) row u (Err (Fault mark.Recursion)) new row u made
   unfolding share_at
   tag_deep v c left n i t o row u new made e f z k l =
-      faulty_after voice b plain (1 ∷ []) mark.Recursion _ 1 (8 * left + 1) row u new made k (ap none_open (type_deep plain voice.loud b left n i t (sym e) (basic_so t None f) z)) l (omega arith)
+      faulty_after voice b plain (1 ∷ []) (omega arith) mark.Recursion _ 1 (8 * left + 1) row u new made k (ap none_open (type_deep plain voice.loud b left n i t (sym e) (basic_so t None f) z)) l (omega arith)
 
   -- the row of a tag
   row_so : (t : ℕ) (k : Option TypeKind) → k ≡ found t (type_kinds t) → row_at t (type_rows t) ≡ then_if_some k (λ k. Some (type_of k))
@@ -188,18 +188,18 @@ module _ {V : Type 0} (voice : Ghosts V) (b : List ℕ) (plain : Bool) where
   -- any other tag is that of a path
   pub path_follows : (v : Bool) (c left n i t : ℕ) (o : Bool) (row : List Frame) (u : V) (new : State) (made : ℕ) → Some t ≡ slice_get b i → None ≡ found t basic_marks → 0 < left → None ≡ found t (type_kinds t) → made ≤ 1
       → Fits point.TaggedType left n → new.in_value ≡ false → new.depth_left ≡ left - 1 → new.lifetimes ≡ n → new.place ≡ Some i → new.mark ≡ None
-      → DidOn voice b plain (heard_at point.TaggedType v c left n (Some i) o) 1 (8 * left + 1) row u (Ok point.Path) new row u made
+      → DidOn voice b plain 7 (heard_at point.TaggedType v c left n (Some i) o) 1 (8 * left + 1) row u (Ok point.Path) new row u made
   unfolding share_at then_frame
   path_follows v c left n i t o row u new made e f z g l w kv kl kn kp km =
-      enters _ point.Path (left - 1) n (Some i) None (1 ∷ []) [] None 1 (8 * left + 1) row row u new made
+      enters _ point.Path (left - 1) n (Some i) None (1 ∷ []) [] (omega arith) None 1 (8 * left + 1) row row u new made
       (rw kv (ap none_open (constructed_reads plain voice.loud b left n i t (sym e) (basic_so t None f) z ∙ ap (with_looks (1 ∷ [])) (path_type_reads plain voice.loud b (left - 1) n (Some i) t (row_so t None g))))) kl kn kp km refl (omega (arith, l)) (omega (arith, l)) (omega arith) (omega arith) (omega (arith, z)) tt (omega (arith, w)) (λ _. tt)
 
   pub tag_goes : (v : Bool) (c left n i t : ℕ) (o : Bool) (k : TypeKind) (row now : List Frame) (u w : V) (result : Result Point Stop) (new : State) (second made : ℕ) → Some t ≡ slice_get b i → None ≡ found t basic_marks → 0 < left → Some k ≡ found t (type_kinds t) → made ≤ 1 + second
-      → DidOn voice b plain (heard voice b plain (type_of k) (left - 1) n (Some (i + 1))) 50 (8 * (left - 1) + 9) row u result new now w second
-      → DidOn voice b plain (heard_at point.TaggedType v c left n (Some i) o) 1 (8 * left + 1) row u result new now w made
+      → DidOn voice b plain 5 (heard voice b plain (type_of k) (left - 1) n (Some (i + 1))) 50 (8 * (left - 1) + 9) row u result new now w second
+      → DidOn voice b plain 7 (heard_at point.TaggedType v c left n (Some i) o) 1 (8 * left + 1) row u result new now w made
   unfolding share_at
   tag_goes v c left n i t o k row now u w result new second made e f z g l d =
-      after voice b plain (1 ∷ 4 * (i + 1 - i + 1) ∷ []) _ (heard voice b plain (type_of k) (left - 1) n (Some (i + 1))) 1 (8 * left + 1) 50 (8 * (left - 1) + 9) row u w result new now 1 second made
+      after voice b plain (1 ∷ 4 * (i + 1 - i + 1) ∷ []) (omega arith) _ (heard voice b plain (type_of k) (left - 1) n (Some (i + 1))) 1 (8 * left + 1) 50 (8 * (left - 1) + 9) row u w result new now 1 second made
       (ap none_open (constructed_reads plain voice.loud b left n i t (sym e) (basic_so t None f) z ∙ ap (with_looks (1 ∷ [])) (row_reads plain voice.loud b (left - 1) n i t (type_of k) (sym e) (row_so t (Some k) g))))
       (omega arith) l (omega arith) (omega (arith, z)) d
 
@@ -207,38 +207,38 @@ module _ {V : Type 0} (voice : Ghosts V) (b : List ℕ) (plain : Bool) where
 
   pub type_splats : (v : Bool) (c left n i : ℕ) (o : Bool) (row : List Frame) (u : V) (new : State) (made : ℕ) → is_byte b i (code "w") ≡ true → made ≤ 1 → Fits point.TaggedType left n
       → new.depth_left ≡ left → new.lifetimes ≡ n → new.place ≡ Some (i + 1) → new.mark ≡ Some mark.Splat
-      → DidOn voice b plain (heard_at point.«Type» v c left n (Some i) o) 1 (8 * left + 1) row u (Ok point.TaggedType) new row u made
+      → DidOn voice b plain 8 (heard_at point.«Type» v c left n (Some i) o) 1 (8 * left + 1) row u (Ok point.TaggedType) new row u made
   unfolding share_at then_frame
   type_splats v c left n i o row u new made e l f kl kn kp km =
-      enters _ point.TaggedType left n (Some (i + 1)) (Some mark.Splat) (1 ∷ []) [] None 1 (8 * left + 1) row row u new made
+      enters _ point.TaggedType left n (Some (i + 1)) (Some mark.Splat) (1 ∷ []) [] (omega arith) None 1 (8 * left + 1) row row u new made
       (ap none_open (splat_reads plain voice.loud b left n false i e)) kl kn kp km refl (omega (arith, l)) (omega (arith, l)) (omega arith) (omega arith) (omega arith) tt f (λ _. tt)
 
   pub type_goes : (v : Bool) (c left n i : ℕ) (o : Bool) (row now : List Frame) (u w : V) (result : Result Point Stop) (new : State) (second made : ℕ) → is_byte b i (code "w") ≡ false → made ≤ 1 + second
-      → DidOn voice b plain (heard_at point.TaggedType v c left n (Some i) o) 1 (8 * left + 1) row u result new now w second
-      → DidOn voice b plain (heard_at point.«Type» v c left n (Some i) o) 1 (8 * left + 1) row u result new now w made
+      → DidOn voice b plain 7 (heard_at point.TaggedType v c left n (Some i) o) 1 (8 * left + 1) row u result new now w second
+      → DidOn voice b plain 8 (heard_at point.«Type» v c left n (Some i) o) 1 (8 * left + 1) row u result new now w made
   unfolding share_at
   type_goes v c left n i o row now u w result new second made e l d =
-      after voice b plain (1 ∷ []) _ _ 1 (8 * left + 1) 1 (8 * left + 1) row u w result new now 1 second made
+      after voice b plain (1 ∷ []) (omega arith) _ _ 1 (8 * left + 1) 1 (8 * left + 1) row u w result new now 1 second made
       (ap none_open (type_reads plain voice.loud b left n false i e)) (omega arith) l (omega arith) (omega arith) d
 
   -- a type that is begun, or gone on with behind its `w`
   pub type_either : (q : Bool) (v : Bool) (c left n : ℕ) (i : Place) (o : Bool) (row now : List Frame) (u w : V) (result : Result Point Stop) (new : State) (made : ℕ)
-      → (q ≡ true → DidOn voice b plain (heard_at point.«Type» v c left n i o) 1 (8 * left + 1) row u result new now w made)
-      → (q ≡ false → DidOn voice b plain (heard_at point.TaggedType v c left n i o) 1 (8 * left + 1) row u result new now w made)
-      → DidOn voice b plain (heard_at (if q then point.«Type» else point.TaggedType) v c left n i o) (weight_at (if q then point.«Type» else point.TaggedType)) (height_at (if q then point.«Type» else point.TaggedType) left) row u result new now w made
+      → (q ≡ true → DidOn voice b plain 8 (heard_at point.«Type» v c left n i o) 1 (8 * left + 1) row u result new now w made)
+      → (q ≡ false → DidOn voice b plain 7 (heard_at point.TaggedType v c left n i o) 1 (8 * left + 1) row u result new now w made)
+      → DidOn voice b plain (words_at (if q then point.«Type» else point.TaggedType)) (heard_at (if q then point.«Type» else point.TaggedType) v c left n i o) (weight_at (if q then point.«Type» else point.TaggedType)) (height_at (if q then point.«Type» else point.TaggedType) left) row u result new now w made
   type_either true v c left n i o row now u w result new made h k = h refl
   type_either false v c left n i o row now u w result new made h k = k refl
 
   -- behind looks that were not made
   pub type_stays : (v : Bool) (c left n : ℕ) (i : Place) (o : Bool) (row now : List Frame) (u w : V) (result : Result Point Stop) (new : State) (second made : ℕ) → made ≤ second
-      → DidOn voice b plain (heard_at point.TaggedType v c left n i o) 1 (8 * left + 1) row u result new now w second
-      → DidOn voice b plain (heard_at point.TaggedType v c left n i o) 1 (8 * left + 1) row u result new now w made
+      → DidOn voice b plain 7 (heard_at point.TaggedType v c left n i o) 1 (8 * left + 1) row u result new now w second
+      → DidOn voice b plain 7 (heard_at point.TaggedType v c left n i o) 1 (8 * left + 1) row u result new now w made
   type_stays v c left n i o row now u w result new second made l d =
-      after voice b plain [] (heard_at point.TaggedType v c left n i o) (heard_at point.TaggedType v c left n i o) 1 (8 * left + 1) 1 (8 * left + 1) row u w result new now 0 second made refl (omega arith) (omega (arith, l)) (omega arith) (omega arith) d
+      after voice b plain [] (omega arith) (heard_at point.TaggedType v c left n i o) (heard_at point.TaggedType v c left n i o) 1 (8 * left + 1) 1 (8 * left + 1) row u w result new now 0 second made refl (omega arith) (omega (arith, l)) (omega arith) (omega arith) d
 
 -- References.
 module _ {V : Type 0} {e : Env V} where
-  pub reference_failed : {t : Turn V} (q : Bool) → t.state.place ≡ None → Fits point.«Type» t.state.depth_left t.state.lifetimes → RestDoes e (reference_to q) 50 9 t (Ok (behind_reference q)) (record t { state = record t.state { mark = Some mark.Ampersand } })
+  pub reference_failed : {t : Turn V} (q : Bool) → t.state.place ≡ None → Fits point.«Type» t.state.depth_left t.state.lifetimes → RestDoes e (reference_to q) 5 50 9 t (Ok (behind_reference q)) (record t { state = record t.state { mark = Some mark.Ampersand } })
   unfolding run
   reference_failed {t} q at f =
       let s = t.state in
@@ -246,17 +246,17 @@ module _ {V : Type 0} {e : Env V} where
       (omega (arith, behind_light e.voice e.symbol e.plain q)) (omega (arith, behind_low e.voice e.symbol e.plain q s.depth_left)) (behind_fits e.voice e.symbol e.plain q s.depth_left s.lifetimes f)
 
   pub reference_goes : {t : Turn V} {n : ℕ} (q : Bool) (i : ℕ) → t.state.place ≡ Some i → is_byte e.symbol i (code "L") ≡ false → n ≡ t.looks + 1 → Fits point.«Type» t.state.depth_left t.state.lifetimes
-      → RestDoes e (reference_to q) 50 9 t (Ok (behind_reference q)) (record t { state = record t.state { mark = Some mark.Ampersand }; looks = n })
+      → RestDoes e (reference_to q) 5 50 9 t (Ok (behind_reference q)) (record t { state = record t.state { mark = Some mark.Ampersand }; looks = n })
   unfolding run then_frame
   reference_goes {t} q i at b l f =
       let s = t.state in
-      leaves (behind_reference q) [] (1 ∷ []) None (ap (λ (x : Place). heard e.voice e.symbol e.plain (reference_to q) s.depth_left s.lifetimes x) at ∙ rw (at, b) (ap (λ (h : Heard). with_texts e.voice.loud (text mark.Ampersand ∷ []) (with_looks (1 ∷ []) h)) (behind_so e.voice e.symbol e.plain q s.in_value s.letter s.depth_left s.lifetimes (Some i) s.is_open))) refl
+      leaves (behind_reference q) [] (1 ∷ []) (omega arith) None (ap (λ (x : Place). heard e.voice e.symbol e.plain (reference_to q) s.depth_left s.lifetimes x) at ∙ rw (at, b) (ap (λ (h : Heard). with_texts e.voice.loud (text mark.Ampersand ∷ []) (with_looks (1 ∷ []) h)) (behind_so e.voice e.symbol e.plain q s.in_value s.letter s.depth_left s.lifetimes (Some i) s.is_open))) refl
       (record { grows = omega arith; within = omega arith }) (omega arith) (rw at (omega (arith, l))) (omega (arith, behind_light e.voice e.symbol e.plain q)) (omega arith) (omega (arith, behind_low e.voice e.symbol e.plain q s.depth_left)) tt (behind_fits e.voice e.symbol e.plain q s.depth_left s.lifetimes f) (λ _. tt)
 
   pub reference_named : {t : Turn V} {n : ℕ} (q : Bool) (i : ℕ) → t.state.place ≡ Some i → is_byte e.symbol i (code "L") ≡ true → n ≡ t.looks + 1 → Fits point.«Type» t.state.depth_left t.state.lifetimes
-      → RestDoes e (reference_to q) 50 9 t (Ok (lifetime_point q)) (record t { state = record t.state { place = Some (i + 1); mark = Some mark.Ampersand }; looks = n })
+      → RestDoes e (reference_to q) 5 50 9 t (Ok (lifetime_point q)) (record t { state = record t.state { place = Some (i + 1); mark = Some mark.Ampersand }; looks = n })
   unfolding run then_frame
   reference_named {t} q i at b l f =
       let s = t.state in
-      leaves (lifetime_point q) [] (1 ∷ []) None (ap (λ (x : Place). heard e.voice e.symbol e.plain (reference_to q) s.depth_left s.lifetimes x) at ∙ rw b (ap (λ (h : Heard). with_texts e.voice.loud (text mark.Ampersand ∷ []) (with_looks (1 ∷ []) h)) (lifetime_so e.voice e.symbol e.plain q s.in_value s.letter s.depth_left s.lifetimes (Some (i + 1)) s.is_open))) refl
+      leaves (lifetime_point q) [] (1 ∷ []) (omega arith) None (ap (λ (x : Place). heard e.voice e.symbol e.plain (reference_to q) s.depth_left s.lifetimes x) at ∙ rw b (ap (λ (h : Heard). with_texts e.voice.loud (text mark.Ampersand ∷ []) (with_looks (1 ∷ []) h)) (lifetime_so e.voice e.symbol e.plain q s.in_value s.letter s.depth_left s.lifetimes (Some (i + 1)) s.is_open))) refl
       (record { grows = omega arith; within = omega arith }) (omega arith) (rw at (omega (arith, l))) (omega (arith, lifetime_light e.voice e.symbol e.plain q)) (omega arith) (omega (arith, lifetime_low e.voice e.symbol e.plain q s.depth_left)) tt (lifetime_fits e.voice e.symbol e.plain q s.depth_left s.lifetimes f) (λ _. tt)

@@ -1,6 +1,6 @@
 -- How many looks the words of one step are.
 use Rattle.std.specs.Prelude.{◌*◌, ◌==◌, nat_le, if◌then◌else◌}
-use Rattle.std.proofs.Common.{◌≡◌, ℕ, ◌+◌, ◌-◌, ◌≤◌, length, Bool, true, false, Option, Some, None, List, refl, ap, arith}
+use Rattle.std.proofs.Common.{◌≡◌, ℕ, ◌+◌, ◌-◌, ◌≤◌, length, Bool, true, false, Option, Some, None, List, [], refl, ap, arith}
 use Rattle.std.specs.Prelude.{option_map}
 use Prim.Native.Char.{code}
 use lib.Utf8.{scalar}
@@ -27,6 +27,12 @@ use Rattle.demangle_v0.specs.declared.stretch.Abi.TheVariants as abi
 use Rattle.demangle_v0.specs.declared.grammar.Mark.TheVariants as mark
 use Rattle.demangle_v0.proofs.Complete.{there_placed}
 
+no_looks : {m : ℕ} {ks : List ℕ} → ks ≡ [] → total ks ≤ m
+no_looks e = rw e (omega arith)
+
+no_words : {m : ℕ} {ks : List ℕ} → ks ≡ [] → length ks ≤ m
+no_words e = rw e (omega arith)
+
 mapped : {A B : Type 0} (low : ℕ) (s : List ℕ) (r : Read A) (g : A × ℕ → B) → Placed low s r → Placed low s (option_map (λ r. (g r, r.1)) r)
 mapped low s None g h = tt
 mapped low s (Some r) g h = h
@@ -34,6 +40,11 @@ mapped low s (Some r) g h = h
 one : {A : Type 0} (b : List ℕ) (i k : ℕ) (r : Read A) (f : A → ℕ → Group) → Placed (i + 1) b r → ((v : A) (j : ℕ) → total (f v j).costs ≤ 4 * (length b - j) + k) → total (behind_word (length b) i r f).costs ≤ 4 * (length b - i) + (k + 4)
 one b i k None f p h = omega arith
 one b i k (Some r) f p h = omega (arith, p.0, p.1, h r.0 r.1)
+
+-- one word more
+one_few : {A : Type 0} (n i k : ℕ) (r : Read A) (f : A → ℕ → Group) → ((v : A) (j : ℕ) → length (f v j).costs ≤ k) → length (behind_word n i r f).costs ≤ k + 1
+one_few n i k None f h = omega arith
+one_few n i k (Some r) f h = omega (arith, h r.0 r.1)
 
 ident_placed : (b : List ℕ) (i : ℕ) → Placed (i + 1) b (ident_at b i)
 ident_placed b i = mapped (i + 1) b (identifier_at b i) _ (identifier_placed b i)
@@ -66,43 +77,48 @@ named_short b i f = go (optional_at 115 b i) refl
         let p = optional_there 115 b i r.0 r.1 e in
         omega (arith, p.0, p.1, one b r.1 0 (ident_at b r.1) (λ a k. goes (f a r.0) (Some k)) (ident_placed b r.1) (λ a k. omega arith))
 
-force_free : (q : Bool) (out : Bool) (n k j : ℕ) (x y z : Stretch) → total (if q then goes z (Some j) else if_in_force out n k j x y).costs ≤ 0
-force_free true out n k j x y z = omega arith
-force_free false false n k j x y z = omega arith
+pub named_few : (b : List ℕ) (i : ℕ) (f : Ident → ℕ → Stretch) → length (named_group b i f).costs ≤ 2
+named_few b i f =
+    one_few (length b) i 1 (optional_at 115 b i) (λ d j. behind_word (length b) j (ident_at b j) (λ a k. goes (f a d) (Some k)))
+    (λ d j. one_few (length b) j 0 (ident_at b j) (λ a k. goes (f a d) (Some k)) (λ a k. omega arith))
+
+force_free : (q : Bool) (out : Bool) (n k j : ℕ) (x y z : Stretch) → (if q then goes z (Some j) else if_in_force out n k j x y).costs ≡ []
+force_free true out n k j x y z = refl
+force_free false false n k j x y z = refl
 force_free false true n k j x y z = go (nat_le k n)
   where
-    go : (c : Bool) → total (if c then goes x (Some j) else goes y None).costs ≤ 0
-    go true = omega arith
-    go false = omega arith
+    go : (c : Bool) → (if c then goes x (Some j) else goes y None).costs ≡ []
+    go true = refl
+    go false = refl
 
-truth_free : (r : Option ℕ) (j : ℕ) → total (truth_stretch r j).costs ≤ 0
-truth_free None j = omega arith
+truth_free : (r : Option ℕ) (j : ℕ) → (truth_stretch r j).costs ≡ []
+truth_free None j = refl
 truth_free (Some n) j = go (n == 0) (n == 1)
   where
-    go : (x y : Bool) → total (if x then goes (Fixed mark.False) (Some j) else if y then goes (Fixed mark.True) (Some j) else faulty).costs ≤ 0
-    go true y = omega arith
-    go false true = omega arith
-    go false false = omega arith
+    go : (x y : Bool) → (if x then goes (Fixed mark.False) (Some j) else if y then goes (Fixed mark.True) (Some j) else faulty).costs ≡ []
+    go true y = refl
+    go false true = refl
+    go false false = refl
 
-character_free : (r : Option ℕ) (j : ℕ) → total (character_stretch r j).costs ≤ 0
-character_free None j = omega arith
+character_free : (r : Option ℕ) (j : ℕ) → (character_stretch r j).costs ≡ []
+character_free None j = refl
 character_free (Some c) j = go (scalar c)
   where
-    go : (x : Bool) → total (if x then goes (Character c) (Some j) else faulty).costs ≤ 0
-    go true = omega arith
-    go false = omega arith
+    go : (x : Bool) → (if x then goes (Character c) (Some j) else faulty).costs ≡ []
+    go true = refl
+    go false = refl
 
-literal_free : (r : Option (List ℕ)) (h : Part) (j : ℕ) → total (literal_stretch r h j).costs ≤ 0
-literal_free None h j = omega arith
-literal_free (Some cs) h j = omega arith
+literal_free : (r : Option (List ℕ)) (h : Part) (j : ℕ) → (literal_stretch r h j).costs ≡ []
+literal_free None h j = refl
+literal_free (Some cs) h j = refl
 
-abi_free : (u : Bool) (a : Ident) (b : List ℕ) (j : ℕ) → total (abi_named u a b j).costs ≤ 0
+abi_free : (u : Bool) (a : Ident) (b : List ℕ) (j : ℕ) → (abi_named u a b j).costs ≡ []
 abi_free u a b j = go (is_empty (bytes_in b a.ascii)) (is_empty (bytes_in b a.punycode))
   where
-    go : (x y : Bool) → total (if x then faulty else if y then goes (FunctionHead u (abi.Named a.ascii)) (Some j) else faulty).costs ≤ 0
-    go true y = omega arith
-    go false true = omega arith
-    go false false = omega arith
+    go : (x y : Bool) → (if x then faulty else if y then goes (FunctionHead u (abi.Named a.ascii)) (Some j) else faulty).costs ≡ []
+    go true y = refl
+    go false true = refl
+    go false false = refl
 
 abi_short : (b : List ℕ) (u : Bool) (i : ℕ) → total (abi_group b u i).costs ≤ 4 * (length b - i) + 6
 abi_short b u i = go (is_byte b i (code "K")) (is_byte b (i + 1) (code "C"))
@@ -110,7 +126,7 @@ abi_short b u i = go (is_byte b i (code "K")) (is_byte b (i + 1) (code "C"))
     go : (x y : Bool) → total (byte_group x (byte_group y (goes (FunctionHead u abi.C) (Some (i + 1 + 1))) (behind_word (length b) (i + 1) (ident_at b (i + 1)) (λ a j. abi_named u a b j))) (goes (FunctionHead u abi.Rust) (Some i))).costs ≤ 4 * (length b - i) + 6
     go false y = omega arith
     go true true = omega arith
-    go true false = omega (arith, one b (i + 1) 0 (ident_at b (i + 1)) (λ a j. abi_named u a b j) (ident_placed b (i + 1)) (λ a j. omega (arith, abi_free u a b j)))
+    go true false = omega (arith, one b (i + 1) 0 (ident_at b (i + 1)) (λ a j. abi_named u a b j) (ident_placed b (i + 1)) (λ a j. no_looks (abi_free u a b j)))
 
 head_short : (b : List ℕ) (i : ℕ) → total (head_group b i).costs ≤ 4 * (length b - i) + 8
 head_short b i = go (is_byte b i (code "U"))
@@ -123,20 +139,68 @@ dyn_short : (b : List ℕ) (out : Bool) (n i : ℕ) → total (dyn_group b out n
 dyn_short b out n i = go (is_byte b i (code "L"))
   where
     go : (x : Bool) → total (byte_group x (behind_word (length b) (i + 1) (integer_at b (i + 1)) (λ k j. if k == 0 then goes Nothing (Some j) else if_in_force out n k j (DynLifetime (n - k)) DynLifetimeFault)) faulty).costs ≤ 4 * (length b - i) + 8
-    go true = omega (arith, one b (i + 1) 0 (integer_at b (i + 1)) (λ k j. if k == 0 then goes Nothing (Some j) else if_in_force out n k j (DynLifetime (n - k)) DynLifetimeFault) (integer_placed b (i + 1)) (λ k j. omega (arith, force_free (k == 0) out n k j (DynLifetime (n - k)) DynLifetimeFault Nothing)))
+    go true = omega (arith, one b (i + 1) 0 (integer_at b (i + 1)) (λ k j. if k == 0 then goes Nothing (Some j) else if_in_force out n k j (DynLifetime (n - k)) DynLifetimeFault) (integer_placed b (i + 1)) (λ k j. no_looks (force_free (k == 0) out n k j (DynLifetime (n - k)) DynLifetimeFault Nothing)))
     go false = omega arith
 
 pub word_short : (b : List ℕ) (x : Word) (c : ℕ) (out : Bool) (n i : ℕ) → total (word_at b x c out n i).costs ≤ 4 * (length b - i) + 8
 word_short b word.FieldName c out n i = named_short b i (λ a d. FieldName a)
 word_short b word.BindingName c out n i = omega (arith, one b i 0 (ident_at b i) (λ a j. goes (BindingName a) (Some j)) (ident_placed b i) (λ a j. omega arith))
 word_short b word.LifetimeIndex c out n i =
-    omega (arith, one b i 0 (integer_at b i) (λ k j. if k == 0 then goes (Lifetime None) (Some j) else if_in_force out n k j (Lifetime (Some (n - k))) LifetimeFault) (integer_placed b i) (λ k j. omega (arith, force_free (k == 0) out n k j (Lifetime (Some (n - k))) LifetimeFault (Lifetime None))))
+    omega (arith, one b i 0 (integer_at b i) (λ k j. if k == 0 then goes (Lifetime None) (Some j) else if_in_force out n k j (Lifetime (Some (n - k))) LifetimeFault) (integer_placed b i) (λ k j. no_looks (force_free (k == 0) out n k j (Lifetime (Some (n - k))) LifetimeFault (Lifetime None))))
 word_short b word.DynLifetime c out n i = dyn_short b out n i
 word_short b word.FunctionHead c out n i = head_short b i
 word_short b word.Number c out n i = omega (arith, one b i 0 (hex_at b i) (λ h j. goes (Number (number_of (bytes_in b h)) h c) (Some j)) (hex_placed b i) (λ h j. omega arith))
-word_short b word.Truth c out n i = omega (arith, one b i 0 (hex_at b i) (λ h j. truth_stretch (number_of (bytes_in b h)) j) (hex_placed b i) (λ h j. omega (arith, truth_free (number_of (bytes_in b h)) j)))
-word_short b word.Character c out n i = omega (arith, one b i 0 (hex_at b i) (λ h j. character_stretch (number_of (bytes_in b h)) j) (hex_placed b i) (λ h j. omega (arith, character_free (number_of (bytes_in b h)) j)))
-word_short b word.Literal c out n i = omega (arith, one b i 0 (hex_at b i) (λ h j. literal_stretch (string_of (bytes_in b h)) h j) (hex_placed b i) (λ h j. omega (arith, literal_free (string_of (bytes_in b h)) h j)))
+word_short b word.Truth c out n i = omega (arith, one b i 0 (hex_at b i) (λ h j. truth_stretch (number_of (bytes_in b h)) j) (hex_placed b i) (λ h j. no_looks (truth_free (number_of (bytes_in b h)) j)))
+word_short b word.Character c out n i = omega (arith, one b i 0 (hex_at b i) (λ h j. character_stretch (number_of (bytes_in b h)) j) (hex_placed b i) (λ h j. no_looks (character_free (number_of (bytes_in b h)) j)))
+word_short b word.Literal c out n i = omega (arith, one b i 0 (hex_at b i) (λ h j. literal_stretch (string_of (bytes_in b h)) h j) (hex_placed b i) (λ h j. no_looks (literal_free (string_of (bytes_in b h)) h j)))
+
+-- how many words they are
+
+abi_few : (b : List ℕ) (u : Bool) (i : ℕ) → length (abi_group b u i).costs ≤ 3
+abi_few b u i = go (is_byte b i (code "K")) (is_byte b (i + 1) (code "C"))
+  where
+    go : (x y : Bool) → length (byte_group x (byte_group y (goes (FunctionHead u abi.C) (Some (i + 1 + 1))) (behind_word (length b) (i + 1) (ident_at b (i + 1)) (λ a j. abi_named u a b j))) (goes (FunctionHead u abi.Rust) (Some i))).costs ≤ 3
+    go false y = omega arith
+    go true true = omega arith
+    go true false = omega (arith, one_few (length b) (i + 1) 0 (ident_at b (i + 1)) (λ a j. abi_named u a b j) (λ a j. no_words (abi_free u a b j)))
+
+head_few : (b : List ℕ) (i : ℕ) → length (head_group b i).costs ≤ 4
+head_few b i = go (is_byte b i (code "U"))
+  where
+    go : (x : Bool) → length (byte_group x (abi_group b true (i + 1)) (abi_group b false i)).costs ≤ 4
+    go true = omega (arith, abi_few b true (i + 1))
+    go false = omega (arith, abi_few b false i)
+
+dyn_few : (b : List ℕ) (out : Bool) (n i : ℕ) → length (dyn_group b out n i).costs ≤ 2
+dyn_few b out n i = go (is_byte b i (code "L"))
+  where
+    go : (x : Bool) → length (byte_group x (behind_word (length b) (i + 1) (integer_at b (i + 1)) (λ k j. if k == 0 then goes Nothing (Some j) else if_in_force out n k j (DynLifetime (n - k)) DynLifetimeFault)) faulty).costs ≤ 2
+    go true = omega (arith, one_few (length b) (i + 1) 0 (integer_at b (i + 1)) (λ k j. if k == 0 then goes Nothing (Some j) else if_in_force out n k j (DynLifetime (n - k)) DynLifetimeFault) (λ k j. no_words (force_free (k == 0) out n k j (DynLifetime (n - k)) DynLifetimeFault Nothing)))
+    go false = omega arith
+
+word_few : (b : List ℕ) (x : Word) (c : ℕ) (out : Bool) (n i : ℕ) → length (word_at b x c out n i).costs ≤ 4
+word_few b word.FieldName c out n i = omega (arith, named_few b i (λ a d. FieldName a))
+word_few b word.BindingName c out n i = omega (arith, one_few (length b) i 0 (ident_at b i) (λ a j. goes (BindingName a) (Some j)) (λ a j. omega arith))
+word_few b word.LifetimeIndex c out n i =
+    omega (arith, one_few (length b) i 0 (integer_at b i) (λ k j. if k == 0 then goes (Lifetime None) (Some j) else if_in_force out n k j (Lifetime (Some (n - k))) LifetimeFault) (λ k j. no_words (force_free (k == 0) out n k j (Lifetime (Some (n - k))) LifetimeFault (Lifetime None))))
+word_few b word.DynLifetime c out n i = omega (arith, dyn_few b out n i)
+word_few b word.FunctionHead c out n i = head_few b i
+word_few b word.Number c out n i = omega (arith, one_few (length b) i 0 (hex_at b i) (λ h j. goes (Number (number_of (bytes_in b h)) h c) (Some j)) (λ h j. omega arith))
+word_few b word.Truth c out n i = omega (arith, one_few (length b) i 0 (hex_at b i) (λ h j. truth_stretch (number_of (bytes_in b h)) j) (λ h j. no_words (truth_free (number_of (bytes_in b h)) j)))
+word_few b word.Character c out n i = omega (arith, one_few (length b) i 0 (hex_at b i) (λ h j. character_stretch (number_of (bytes_in b h)) j) (λ h j. no_words (character_free (number_of (bytes_in b h)) j)))
+word_few b word.Literal c out n i = omega (arith, one_few (length b) i 0 (hex_at b i) (λ h j. literal_stretch (string_of (bytes_in b h)) h j) (λ h j. no_words (literal_free (string_of (bytes_in b h)) h j)))
+
+pub group_few : (b : List ℕ) (x : Word) (c : ℕ) (out : Bool) (n : ℕ) (i : Place) → length (word_group b x c out n i).costs ≤ 4
+group_few b x c out n None = omega arith
+group_few b x c out n (Some i) = word_few b x c out n i
+
+pub refer_few : (b : List ℕ) (left : ℕ) (i : Place) → length (refer b left i).costs ≤ 1
+refer_few b left None = omega arith
+refer_few b left (Some i) = go (backref_at b i)
+  where
+    go : (r : Read ℕ) → length (reference_read (length b) left i r).costs ≤ 1
+    go None = omega arith
+    go (Some r) = omega arith
 
 pub named_at : {i : Place} {n : ℕ} (m : ℕ) (b : List ℕ) (at : ℕ) (f : Ident → ℕ → Stretch) → i ≡ Some at → n ≤ m + total (named_group b at f).costs → n ≤ m + own_looks b i
 named_at m b at f k l = rw k (omega (arith, l, named_short b at f))

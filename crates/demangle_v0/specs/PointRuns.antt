@@ -7,7 +7,7 @@ use Rattle.demangle_v0.specs.Heights as heights
 use Rattle.demangle_v0.specs.Impls.{skip_point, self_point}
 use Rattle.demangle_v0.specs.declared.grammar.Mark.{Mark}
 use Rattle.demangle_sink.specs.declared.SinkRefused.{SinkRefused}
-use Rattle.demangle_v0.specs.Points.{Bit, pays, puts, heard_bits, bits_looks, env, part, turn, Went, Halted, Kept, AllInner, Fits, share_of, reading_owed, weight_at, height_at, most_frames, resumed_of}
+use Rattle.demangle_v0.specs.Points.{Bit, pays, puts, heard_bits, bits_looks, env, whole, turn, Went, Halted, Kept, AllInner, Fits, share_of, reading_owed, weight_at, height_at, most_frames, resumed_of}
 use Rattle.demangle_v0.specs.Running.{allowed_in}
 use Rattle.demangle_v0.specs.Reading.{Place, max_depth}
 use Rattle.demangle_v0.specs.Items.{Text}
@@ -35,8 +35,8 @@ abbrev pub unmarked_of : State → State
 unmarked_of s = record s { mark = None }
 
 abbrev pub Steps : {V : Type 0} → Ghosts V → List ℕ → Bool → Point → State → List Frame → V → Result Point SinkRefused → State → List Frame → V → ℕ → Type 0
-Steps voice b plain p s row v (Ok q) t now w made = Went (env voice b plain) (part (share_of b plain voice.loud p s) (weight_at p) (height_at p s.depth_left)) (turn t row v 0) q (turn t now w made) × (t.mark ≡ None)
-Steps voice b plain p s row v (Err e) t now w made = Halted (env voice b plain) (share_of b plain voice.loud p s) (turn t row v 0) (turn t now w made) × Kept row now
+Steps voice b plain p s row v (Ok q) t now w made = Went (env voice b plain) (whole (env voice b plain) p s) (turn t row v 0) q (turn t now w made) × (t.mark ≡ None)
+Steps voice b plain p s row v (Err e) t now w made = Halted (env voice b plain) (whole (env voice b plain) p s) (turn t row v 0) (turn t now w made) × Kept row now
 
 -- a record, so that a lemma finds its arguments
 pub record Stepped {V : Type 0} (voice : Ghosts V) (b : List ℕ) (plain : Bool) (p : Point) (s : State) (row : List Frame) (v : V) (result : Result Point SinkRefused) (t : State) (now : List Frame) (w : V) (made : ℕ) : Type 0 where

@@ -312,6 +312,24 @@ count_of (Some f) = 1
 abbrev pub most_frames : ℕ
 most_frames = 8 * max_depth + 8
 
+-- A step reads at most so many words.
+abbrev pub most_words : ℕ
+most_words = 8
+
+-- a point with which another may go on at once reads fewer
+abbrev pub words_at : Point → ℕ
+words_at point.InherentType = 0
+words_at point.SelfType = 0
+words_at point.TaggedType = 7
+words_at point.FunctionBinder = 5
+words_at point.FunctionHead = 4
+words_at point.OpenParameters = 0
+words_at point.FirstDynTrait = 1
+words_at point.NextDynTrait = 1
+words_at point.Literal = 4
+words_at point.Number = 4
+words_at _ = most_words
+
 -- how many binders may still be met at the point's own depth
 abbrev pub binders_at : Point → ℕ
 binders_at point.FunctionBinder = 1
@@ -352,14 +370,15 @@ pub record Env (V : Type 0) : Type 1 where
 abbrev pub env : {V : Type 0} → Ghosts V → List ℕ → Bool → Env V
 env voice b plain = record { voice = voice; symbol = b; plain = plain }
 
--- what is heard of a point, or of what is left of one, with its weight and its height
+-- what is heard of a point, or of what is left of one, with how many words may be read of it, its weight and its height
 pub record Part : Type 0 where
+  pub words : ℕ
   pub heard : Heard
   pub weight : ℕ
   pub height : ℕ
 
-abbrev pub part : Heard → ℕ → ℕ → Part
-part h weight height = record { heard = h; weight = weight; height = height }
+abbrev pub part : ℕ → Heard → ℕ → ℕ → Part
+part words h weight height = record { words = words; heard = h; weight = weight; height = height }
 
 -- a stretch, if the voice was handed one
 abbrev pub said_texts : {V : Type 0} → Env V → Option Stretch → List Text
@@ -382,6 +401,7 @@ pub record Went {V : Type 0} (env : Env V) (part : Part) (before : Turn V) (to :
   pub reads : part.heard
       ≡ with_looks front (with_texts env.voice.loud (said_texts env said) (with_texts env.voice.loud (mark_texts after.state.mark) (with_looks back (then_frame env.symbol env.plain env.voice.loud pushed (share_of env.symbol env.plain env.voice.loud to after.state)))))
   pub is_row : after.row ≡ pushed_on before.row pushed
+  pub few : length front + length back ≤ part.words
   pub enough : after.looks ≤ before.looks + (total front + total back)
   pub late : after.looks ≤ before.looks + (total front + 2)
   pub lighter : way_weight to + weight_of pushed + 1 ≤ part.weight + 100 * (total front + total back)
@@ -398,18 +418,20 @@ pub record Faulted {V : Type 0} (env : Env V) (part : Part) (before : Turn V) (m
   pub unmarked : after.state.mark ≡ None
   pub reads : part.heard ≡ with_looks front (with_texts env.voice.loud (text m ∷ []) (nothing_heard None false))
   pub is_row : after.row ≡ before.row
+  pub few : length front ≤ part.words
   pub enough : after.looks ≤ before.looks + total front
   pub lighter : 1 ≤ part.weight + 100 * total front
 
 -- The voice refused the stretch, or, where it does not speak, the reading failed. At most two looks were made too early, and
 -- none where it does not speak.
-pub record Halted {V : Type 0} (env : Env V) (h : Heard) (before after : Turn V) : Type 0 where
+pub record Halted {V : Type 0} (env : Env V) (part : Part) (before after : Turn V) : Type 0 where
   pub front : List ℕ
   pub said : Stretch
   pub rest : Heard
   pub refusal : SinkRefused
   pub prints : env.voice.prints before.voice (texts_of env.symbol env.plain said) (Err refusal) after.voice
-  pub reads : h ≡ with_looks front (with_texts env.voice.loud (texts_of env.symbol env.plain said) rest)
+  pub reads : part.heard ≡ with_looks front (with_texts env.voice.loud (texts_of env.symbol env.plain said) rest)
+  pub few : length front ≤ part.words
   pub enough : after.looks ≤ before.looks + (total front + 2)
   pub exact : env.voice.loud ≡ false → after.looks ≤ before.looks + total front
   pub fails : env.voice.loud ≡ false → rest.place ≡ None
@@ -421,7 +443,7 @@ Kept row now = (more : List Frame) × (now ≡ row ++ more)
 abbrev pub Comes : {V : Type 0} → Env V → Part → Turn V → Result Point Stop → Turn V → Type 0
 Comes env part before (Ok p) after = Went env part before p after
 Comes env part before (Err (Fault m)) after = Faulted env part before m after
-Comes env part before (Err Refused) after = Halted env part.heard before after × Kept before.row after.row
+Comes env part before (Err Refused) after = Halted env part before after × Kept before.row after.row
 
 -- these looks were made, among those that are allowed
 pub record Paid (before : ℕ) (costs : List ℕ) (after : ℕ) : Type 0 where
@@ -446,19 +468,19 @@ pub record Does {V : Type 0} (env : Env V) (before : Turn V) (part : Part) (resu
 
 -- a whole point
 abbrev pub whole : {V : Type 0} → Env V → Point → State → Part
-whole env p s = part (share_of env.symbol env.plain env.voice.loud p s) (weight_at p) (height_at p s.depth_left)
+whole env p s = part (words_at p) (share_of env.symbol env.plain env.voice.loud p s) (weight_at p) (height_at p s.depth_left)
 
--- these items, which are left of a unit, with their weight, and how much higher than its children they stand
-abbrev pub rest : {V : Type 0} → Env V → Items → ℕ → ℕ → State → Part
-rest env items weight above s = part (none_open (of env.plain env.voice.loud (run items (around env.symbol env.voice.loud s.depth_left s.lifetimes) s.place))) weight (8 * s.depth_left + above)
+-- these items, which are left of a unit, with how many words may be read of them, their weight, and how much higher than its children they stand
+abbrev pub rest : {V : Type 0} → Env V → Items → ℕ → ℕ → ℕ → State → Part
+rest env items words weight above s = part words (none_open (of env.plain env.voice.loud (run items (around env.symbol env.voice.loud s.depth_left s.lifetimes) s.place))) weight (8 * s.depth_left + above)
 
 -- What a point does.
 abbrev pub PointDoes : {V : Type 0} → Env V → Point → Turn V → Result Point Stop → Turn V → Type 0
 PointDoes env p before result after = Does env before (whole env p before.state) result after
 
 -- the same of what is left of one
-abbrev pub RestDoes : {V : Type 0} → Env V → Items → ℕ → ℕ → Turn V → Result Point Stop → Turn V → Type 0
-RestDoes env items weight above before result after = Does env before (rest env items weight above before.state) result after
+abbrev pub RestDoes : {V : Type 0} → Env V → Items → ℕ → ℕ → ℕ → Turn V → Result Point Stop → Turn V → Type 0
+RestDoes env items words weight above before result after = Does env before (rest env items words weight above before.state) result after
 
 -- When a point may do it: there is room for a frame, and the lifetimes fit.
 pub record MayRead (p : Point) (most : ℕ) (s : State) (row : List Frame) : Type 0 where
@@ -481,12 +503,12 @@ pub record MayStep {V : Type 0} (env : Env V) (p : Point) (most : ℕ) (before :
   pub fits : Fits p before.state.depth_left before.state.lifetimes
 
 -- a record, so that a lemma finds its arguments
-pub record DidOn {V : Type 0} (voice : Ghosts V) (b : List ℕ) (plain : Bool) (h : Heard) (weight high : ℕ) (row : List Frame) (v : V) (result : Result Point Stop) (new : State) (now : List Frame) (w : V) (made : ℕ) : Type 0 where
-  pub comes : Comes (env voice b plain) (part h weight high) (turn new row v 0) result (turn new now w made)
+pub record DidOn {V : Type 0} (voice : Ghosts V) (b : List ℕ) (plain : Bool) (words : ℕ) (h : Heard) (weight high : ℕ) (row : List Frame) (v : V) (result : Result Point Stop) (new : State) (now : List Frame) (w : V) (made : ℕ) : Type 0 where
+  pub comes : Comes (env voice b plain) (part words h weight high) (turn new row v 0) result (turn new now w made)
 
 -- what a point does
 abbrev pub Did : {V : Type 0} → Ghosts V → List ℕ → Bool → Point → State → List Frame → V → Result Point Stop → State → List Frame → V → ℕ → Type 0
-Did voice b plain p old row v result new now w made = DidOn voice b plain (share_of b plain voice.loud p old) (weight_at p) (height_at p old.depth_left) row v result new now w made
+Did voice b plain p old row v result new now w made = DidOn voice b plain (words_at p) (share_of b plain voice.loud p old) (weight_at p) (height_at p old.depth_left) row v result new now w made
 
 -- where a frame goes on
 abbrev pub resumed_of : State → Frame → State

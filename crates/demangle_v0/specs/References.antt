@@ -23,4 +23,4 @@ pub record IsUnit (b : List ℕ) (plain : Bool) (p : Point) (in_value : Bool) (l
 
 -- what is heard of a reference to a unit of this kind
 abbrev pub target_part : {V : Type 0} → Env V → Bool → Kind → Bool → State → Part
-target_part env shut k value s = part (none_open_if shut (of env.plain env.voice.loud (run (target k value) (around env.symbol env.voice.loud s.depth_left s.lifetimes) s.place))) 1 (8 * s.depth_left + 2)
+target_part env shut k value s = part 1 (none_open_if shut (of env.plain env.voice.loud (run (target k value) (around env.symbol env.voice.loud s.depth_left s.lifetimes) s.place))) 1 (8 * s.depth_left + 2)

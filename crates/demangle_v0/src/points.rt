@@ -215,7 +215,7 @@ fn last_word<V: Voice>(
 ) -> Result<Point, Stop>
     requires may { MaySpeak (env V.Voice symbol.now plain) state.old voice.old }
     ensures did { (row : List Frame) → RestDoes (env V.Voice symbol.now plain) (word_items word
-        state.old.letter done) 1 0 (turn state.old row voice.old looks.old) result (turn state.new
+        state.old.letter done) 4 1 0 (turn state.old row voice.old looks.old) result (turn state.new
         row voice.new looks.new) }
 {
     match word_at(symbol, word, state, voice, looks) {

@@ -36,7 +36,7 @@ fn binding<V: Voice>(
 ) -> Point
     requires fits { Fits Point.Bindings state.old.depth_left state.old.lifetimes }
     ensures did { (plain : Bool) (v : V) (row : List Frame) → DidOn V.Voice symbol.now plain
-        (heard_of symbol.now plain V.loud (bindings_left is_open) state.old) 2 (8 *
+        8 (heard_of symbol.now plain V.loud (bindings_left is_open) state.old) 2 (8 *
         state.old.depth_left + 4) row v (Ok result) state.new row v (looks.new - looks.old) }
     ensures grows { looks.old ≤ looks.new }
     ensures own { looks.new ≤ looks.old + own_by 20 symbol.now state.old.place }

@@ -82,7 +82,7 @@ pub(super) fn first_constant<V: Voice, const N: usize>(
     requires room { length row.old < N }
     requires unmarked { state.old.mark ≡ None }
     requires fits { Fits Point.Constant state.old.depth_left state.old.lifetimes }
-    ensures did { (plain : Bool) (v : V) → DidOn V.Voice symbol.now plain (share_of symbol.now plain
+    ensures did { (plain : Bool) (v : V) → DidOn V.Voice symbol.now plain 8 (share_of symbol.now plain
         V.loud (first_point list) state.old) 1 (8 * state.old.depth_left + 2) row.old v (Ok result)
         state.new row.new v (looks.new - looks.old) }
     ensures grows { looks.old ≤ looks.new }
@@ -116,7 +116,7 @@ pub(super) fn next_constant<V: Voice, const N: usize>(
     requires room { length row.old < N }
     requires unmarked { state.old.mark ≡ None }
     requires fits { Fits Point.Constant state.old.depth_left state.old.lifetimes }
-    ensures did { (plain : Bool) (v : V) → DidOn V.Voice symbol.now plain (share_of symbol.now plain
+    ensures did { (plain : Bool) (v : V) → DidOn V.Voice symbol.now plain 8 (share_of symbol.now plain
         V.loud (next_point list) state.old) 1 (8 * state.old.depth_left + 2) row.old v (Ok result)
         state.new row.new v (looks.new - looks.old) }
     ensures grows { looks.old ≤ looks.new }

@@ -143,7 +143,7 @@ fn signed_number<V: Voice>(
     requires ready { V.ready voice.old }
     requires unmarked { state.old.mark ≡ None }
     requires fits { Fits Point.Constant state.old.depth_left state.old.lifetimes }
-    ensures did { (row : List Frame) → DidOn V.Voice symbol.now plain (heard_of symbol.now plain
+    ensures did { (row : List Frame) → DidOn V.Voice symbol.now plain 6 (heard_of symbol.now plain
         V.loud (constant_of state.old.in_value tag ConstantKind.Signed) state.old) 6 (8 *
         state.old.depth_left + 9) row voice.old result state.new row voice.new (looks.new -
         looks.old) }
@@ -179,7 +179,7 @@ fn shared_reference<V: Voice, const N: usize>(
     requires unmarked { state.old.mark ≡ None }
     requires room { length row.old < N }
     requires fits { Fits Point.Constant state.old.depth_left state.old.lifetimes }
-    ensures did { DidOn V.Voice symbol.now plain (heard_of symbol.now plain V.loud (constant
+    ensures did { DidOn V.Voice symbol.now plain 6 (heard_of symbol.now plain V.loud (constant
         state.old.in_value 82) state.old) 6 (8 * state.old.depth_left + 9) row.old voice.old result
         state.new row.new voice.new (looks.new - looks.old) }
     ensures ready { IsOk result → V.ready voice.new }
@@ -204,7 +204,7 @@ fn variant_path<V: Voice, const N: usize>(state: &mut State, row: &mut FrameStac
     requires unmarked { state.old.mark ≡ None }
     requires fits { Fits Point.Constant state.old.depth_left state.old.lifetimes }
     ensures did { (b : List ℕ) (plain : Bool) (v : V) (made : ℕ) → made ≤ 0 → DidOn V.Voice b plain
-        (heard_of b plain V.loud (constant state.old.in_value 86) state.old) 6 (8 *
+        6 (heard_of b plain V.loud (constant state.old.in_value 86) state.old) 6 (8 *
         state.old.depth_left + 9) row.old v (Ok result) state.new row.new v made }
 {
     row.push(state.frame(Point::Variant));
@@ -232,7 +232,7 @@ fn tagged_constant<V: Voice, const N: usize>(
     requires unmarked { state.old.mark ≡ None }
     requires room { length row.old < N }
     requires fits { Fits Point.Constant state.old.depth_left state.old.lifetimes }
-    ensures did { DidOn V.Voice symbol.now plain (heard_of symbol.now plain V.loud (constant
+    ensures did { DidOn V.Voice symbol.now plain 6 (heard_of symbol.now plain V.loud (constant
         state.old.in_value tag) state.old) 6 (8 * state.old.depth_left + 9) row.old voice.old result
         state.new row.new voice.new (looks.new - looks.old) }
     ensures ready { IsOk result → V.ready voice.new }

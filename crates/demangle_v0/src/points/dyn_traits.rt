@@ -23,7 +23,7 @@ pub(super) fn dyn_type<V: Voice, const N: usize>(
 ) -> Point
     requires room { length row.old < N }
     requires fits { Fits Point.DynBinder state.old.depth_left state.old.lifetimes }
-    ensures did { (plain : Bool) (v : V) → DidOn V.Voice symbol.now plain (heard_of symbol.now plain
+    ensures did { (plain : Bool) (v : V) → DidOn V.Voice symbol.now plain 5 (heard_of symbol.now plain
         V.loud dyn_type state.old) 4 (8 * state.old.depth_left + 5) row.old v (Ok result) state.new
         row.new v 0 }
 {

@@ -20,7 +20,7 @@ pub(super) fn impl_path<V: Voice>(
     requires unmarked { state.old.mark ≡ None }
     requires fits { Fits Point.Path state.old.depth_left state.old.lifetimes }
     ensures did { (plain : Bool) (v : V) (row : List Frame) → RestDoes (env V.Voice symbol.now
-        plain) (impl_items of_trait) 1 2 (turn state.old row v looks.old) result (turn state.new row
+        plain) (impl_items of_trait) 6 1 2 (turn state.old row v looks.old) result (turn state.new row
         v looks.new) }
 {
     let Some(at) = state.place else {

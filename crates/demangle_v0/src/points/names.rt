@@ -22,7 +22,7 @@ pub(super) fn crate_name<V: Voice>(
 ) -> Result<Point, Stop>
     requires may { MaySpeak (env V.Voice symbol.now plain) state.old voice.old }
     ensures did { (row : List Frame) → RestDoes (env V.Voice symbol.now plain) (path
-        state.old.in_value 67) 1 0 (turn state.old row voice.old looks.old) result (turn state.new
+        state.old.in_value 67) 6 1 0 (turn state.old row voice.old looks.old) result (turn state.new
         row voice.new looks.new) }
 {
     let Some(at) = state.place else {

@@ -25,7 +25,7 @@ fn nested_path<V: Voice, const N: usize>(
 ) -> Result<Point, Stop>
     requires may { MayRead Point.Nested N state.old row.old }
     ensures did { (plain : Bool) (v : V) → RestDoes (env V.Voice symbol.now plain) (path
-        state.old.in_value 78) 1 9 (turn state.old row.old v looks.old) result (turn state.new
+        state.old.in_value 78) 6 1 9 (turn state.old row.old v looks.old) result (turn state.new
         row.new v looks.new) }
 {
     let Some(at) = state.place else {
@@ -45,7 +45,7 @@ fn nested_path<V: Voice, const N: usize>(
 fn generic_path<V: Voice, const N: usize>(state: &State, row: &mut FrameStack<N>) -> Point
     requires may { MayRead Point.Generic N state.now row.old }
     ensures did { (b : List ℕ) (plain : Bool) (v : V) (n : ℕ) → RestDoes (env V.Voice b plain)
-        (path_of state.now.in_value PathKind.Generic) 7 9 (turn state.now row.old v n) (Ok result)
+        (path_of state.now.in_value PathKind.Generic) 6 7 9 (turn state.now row.old v n) (Ok result)
         (turn state.now row.new v n) }
 {
     row.push(state.frame(Point::Generic));
@@ -65,7 +65,7 @@ fn tagged_path<V: Voice, const N: usize>(
 ) -> Result<Point, Stop>
     requires may { MayStep (env V.Voice symbol.now plain) Point.Path N (turn state.old row.old
         voice.old looks.old) }
-    ensures did { RestDoes (env V.Voice symbol.now plain) (path state.old.in_value tag) 7 9 (turn
+    ensures did { RestDoes (env V.Voice symbol.now plain) (path state.old.in_value tag) 6 7 9 (turn
         state.old row.old voice.old looks.old) result (turn state.new row.new voice.new looks.new) }
 {
     let Some(kind) = path_kind(tag) else {

@@ -21,7 +21,7 @@ pub(super) fn reference<V: Voice>(
 ) -> Point
     requires fits { Fits Point.«Type» state.old.depth_left state.old.lifetimes }
     ensures did { (plain : Bool) (v : V) (row : List Frame) → RestDoes (env V.Voice symbol.now
-        plain) (reference_to is_mut) 50 9 (turn state.old row v looks.old) (Ok result) (turn
+        plain) (reference_to is_mut) 5 50 9 (turn state.old row v looks.old) (Ok result) (turn
         state.new row v looks.new) }
 {
     state.mark = Some(Mark::Ampersand);

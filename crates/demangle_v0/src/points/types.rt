@@ -138,7 +138,7 @@ fn constructed_type<V: Voice, const N: usize>(
     requires unmarked { state.old.mark ≡ None }
     requires room { length row.old < N }
     requires fits { Fits Point.FunctionBinder state.old.depth_left state.old.lifetimes }
-    ensures did { DidOn V.Voice symbol.now plain (heard_of symbol.now plain V.loud (type_of kind)
+    ensures did { DidOn V.Voice symbol.now plain 5 (heard_of symbol.now plain V.loud (type_of kind)
         state.old) 50 (8 * state.old.depth_left + 9) row.old voice.old result state.new row.new
         voice.new (looks.new - looks.old) }
     ensures ready { IsOk result → V.ready voice.new }

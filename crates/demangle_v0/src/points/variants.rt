@@ -17,7 +17,7 @@ use demangle_symbol::cursor::{Looks, Symbol};
 fn unit_variant<V: Voice>(state: &mut State) -> Point
     requires unmarked { state.old.mark ≡ None }
     ensures did { (b : List ℕ) (plain : Bool) (row : List Frame) (v : V) (made : ℕ) → made ≤ 0 →
-        DidOn V.Voice b plain (heard_of b plain V.loud (variant_of state.old.in_value
+        DidOn V.Voice b plain 3 (heard_of b plain V.loud (variant_of state.old.in_value
         VariantKind.Unit) state.old) 5 (8 * state.old.depth_left + 3) row v (Ok result) state.new
         row v made }
 {

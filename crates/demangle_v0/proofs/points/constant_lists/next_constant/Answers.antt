@@ -12,5 +12,5 @@ returns-then-is_at-clause-did g c = λ plain v. rw c.in-Some.is
 
 pub returns-clause-did : goal.returns-clause-did
 returns-clause-did g c = λ plain v. rw (c.element.ensures, c.in-Some.is)
-    (next_goes g.V.Voice c.args.symbol.now plain c.args.list c.args.state.now.in_value c.args.state.now.letter c.args.state.now.depth_left c.args.state.now.lifetimes c.in-Some.at c.args.state.now.is_open _ _ v _ _ c.if-is_at.ensures.there c.requires.fits (omega (arith, c.is_at.ensures.look)) refl refl refl refl refl refl refl
+    (next_goes g.V.Voice c.args.symbol.now plain (omega arith) c.args.list c.args.state.now.in_value c.args.state.now.letter c.args.state.now.depth_left c.args.state.now.lifetimes c.in-Some.at c.args.state.now.is_open _ _ v _ _ c.if-is_at.ensures.there c.requires.fits (omega (arith, c.is_at.ensures.look)) refl refl refl refl refl refl refl
     (rw (c.frame.ensures, c.behind_next.ensures) at c.push.ensures.pushed (omega (arith, c.requires.fits))))

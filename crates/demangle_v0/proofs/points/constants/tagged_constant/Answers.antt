@@ -13,62 +13,62 @@ returns-in_default-clause-did g c =
 
 pub returns-in-Placeholder-clause-did : goal.returns-in-Placeholder-clause-did
 returns-in-Placeholder-clause-did g c =
-    constant_as g.V.Voice c.args.symbol.now c.args.plain c.args.state.now.in_value c.args.state.now.depth_left c.args.state.now.lifetimes c.args.state.now.place c.args.tag kind.Placeholder 6 (8 * c.args.state.now.depth_left + 9) _ _ _ _ _ _ _ (rw c.in-Placeholder.is at c.in-Some.ensures) (omega arith) (omega arith)
+    constant_as g.V.Voice c.args.symbol.now c.args.plain c.args.state.now.in_value c.args.state.now.depth_left c.args.state.now.lifetimes c.args.state.now.place c.args.tag kind.Placeholder (omega arith) 6 (8 * c.args.state.now.depth_left + 9) _ _ _ _ _ _ _ (rw c.in-Placeholder.is at c.in-Some.ensures) (omega arith) (omega arith)
     (placeholder g.V.Voice c.args.symbol.now c.args.plain c.args.state.now.in_value c.args.state.now.letter c.args.state.now.depth_left c.args.state.now.lifetimes c.args.state.now.place _ _ _ _ (omega arith) refl refl refl refl refl refl refl)
 
 pub returns-in-Unsigned-clause-did : goal.returns-in-Unsigned-clause-did
 returns-in-Unsigned-clause-did g c =
-    constant_as g.V.Voice c.args.symbol.now c.args.plain c.args.state.now.in_value c.args.state.now.depth_left c.args.state.now.lifetimes c.args.state.now.place c.args.tag kind.Unsigned 1 (8 * c.args.state.now.depth_left + 2) _ _ _ _ _ _ _ (rw c.in-Unsigned.is at c.in-Some.ensures) (omega arith) (omega arith)
+    constant_as g.V.Voice c.args.symbol.now c.args.plain c.args.state.now.in_value c.args.state.now.depth_left c.args.state.now.lifetimes c.args.state.now.place c.args.tag kind.Unsigned (omega arith) 1 (8 * c.args.state.now.depth_left + 2) _ _ _ _ _ _ _ (rw c.in-Unsigned.is at c.in-Some.ensures) (omega arith) (omega arith)
     (unsigned_reads g.V.Voice c.args.symbol.now c.args.plain c.args.state.now.in_value c.args.tag c.args.state.now.depth_left c.args.state.now.lifetimes c.args.state.now.place c.args.state.now.is_open _ _ _ _ _ _ (c.number.ensures.did c.args.row.now))
 
 pub returns-in-Signed-clause-did : goal.returns-in-Signed-clause-did
 returns-in-Signed-clause-did g c =
-    constant_as g.V.Voice c.args.symbol.now c.args.plain c.args.state.now.in_value c.args.state.now.depth_left c.args.state.now.lifetimes c.args.state.now.place c.args.tag kind.Signed 6 (8 * c.args.state.now.depth_left + 9) _ _ _ _ _ _ _ (rw c.in-Signed.is at c.in-Some.ensures) (omega arith) (omega arith)
+    constant_as g.V.Voice c.args.symbol.now c.args.plain c.args.state.now.in_value c.args.state.now.depth_left c.args.state.now.lifetimes c.args.state.now.place c.args.tag kind.Signed (omega arith) 6 (8 * c.args.state.now.depth_left + 9) _ _ _ _ _ _ _ (rw c.in-Signed.is at c.in-Some.ensures) (omega arith) (omega arith)
     (c.signed_number.ensures.did c.args.row.now)
 
 pub returns-in-Bool-clause-did : goal.returns-in-Bool-clause-did
 returns-in-Bool-clause-did g c =
-    constant_as g.V.Voice c.args.symbol.now c.args.plain c.args.state.now.in_value c.args.state.now.depth_left c.args.state.now.lifetimes c.args.state.now.place c.args.tag kind.Bool 1 (8 * c.args.state.now.depth_left + 0) _ _ _ _ _ _ _ (rw c.in-Bool.is at c.in-Some.ensures) (omega arith) (omega arith)
+    constant_as g.V.Voice c.args.symbol.now c.args.plain c.args.state.now.in_value c.args.state.now.depth_left c.args.state.now.lifetimes c.args.state.now.place c.args.tag kind.Bool (omega arith) 1 (8 * c.args.state.now.depth_left + 0) _ _ _ _ _ _ _ (rw c.in-Bool.is at c.in-Some.ensures) (omega arith) (omega arith)
     (did (c.last_word.ensures.did c.args.row.now))
 
 pub returns-in-Char-clause-did : goal.returns-in-Char-clause-did
 returns-in-Char-clause-did g c =
-    constant_as g.V.Voice c.args.symbol.now c.args.plain c.args.state.now.in_value c.args.state.now.depth_left c.args.state.now.lifetimes c.args.state.now.place c.args.tag kind.Char 1 (8 * c.args.state.now.depth_left + 0) _ _ _ _ _ _ _ (rw c.in-Char.is at c.in-Some.ensures) (omega arith) (omega arith)
+    constant_as g.V.Voice c.args.symbol.now c.args.plain c.args.state.now.in_value c.args.state.now.depth_left c.args.state.now.lifetimes c.args.state.now.place c.args.tag kind.Char (omega arith) 1 (8 * c.args.state.now.depth_left + 0) _ _ _ _ _ _ _ (rw c.in-Char.is at c.in-Some.ensures) (omega arith) (omega arith)
     (did (c.last_word-in-Char.ensures.did c.args.row.now))
 
 pub returns-in-Text-clause-did : goal.returns-in-Text-clause-did
 returns-in-Text-clause-did g c = rw c.in_braces.ensures.point
-    (constant_as g.V.Voice c.args.symbol.now c.args.plain c.args.state.now.in_value c.args.state.now.depth_left c.args.state.now.lifetimes c.args.state.now.place c.args.tag kind.Text 6 (8 * c.args.state.now.depth_left + 9) _ _ _ _ _ _ _ (rw c.in-Text.is at c.in-Some.ensures) (omega arith) (omega arith)
+    (constant_as g.V.Voice c.args.symbol.now c.args.plain c.args.state.now.in_value c.args.state.now.depth_left c.args.state.now.lifetimes c.args.state.now.place c.args.tag kind.Text (omega arith) 6 (8 * c.args.state.now.depth_left + 9) _ _ _ _ _ _ _ (rw c.in-Text.is at c.in-Some.ensures) (omega arith) (omega arith)
     (text_braced g.V.Voice c.args.symbol.now c.args.plain c.args.state.now _ _ _ _ _ c.requires.fits (omega arith) (c.in_braces.ensures.state, c.in_braces.ensures.row)))
 
 pub returns-in-Mutable-clause-did : goal.returns-in-Mutable-clause-did
 returns-in-Mutable-clause-did g c = rw c.in_braces-in-Mutable.ensures.point
-    (constant_as g.V.Voice c.args.symbol.now c.args.plain c.args.state.now.in_value c.args.state.now.depth_left c.args.state.now.lifetimes c.args.state.now.place c.args.tag kind.Mutable 6 (8 * c.args.state.now.depth_left + 9) _ _ _ _ _ _ _ (rw c.in-Mutable.is at c.in-Some.ensures) (omega arith) (omega arith)
+    (constant_as g.V.Voice c.args.symbol.now c.args.plain c.args.state.now.in_value c.args.state.now.depth_left c.args.state.now.lifetimes c.args.state.now.place c.args.tag kind.Mutable (omega arith) 6 (8 * c.args.state.now.depth_left + 9) _ _ _ _ _ _ _ (rw c.in-Mutable.is at c.in-Some.ensures) (omega arith) (omega arith)
     (mutable_braced g.V.Voice c.args.symbol.now c.args.plain c.args.state.now _ _ _ _ _ c.requires.fits (omega arith) (c.in_braces-in-Mutable.ensures.state, c.in_braces-in-Mutable.ensures.row)))
 
 pub returns-in-Array-clause-did : goal.returns-in-Array-clause-did
 returns-in-Array-clause-did g c = rw c.in_braces-in-Array.ensures.point
-    (constant_as g.V.Voice c.args.symbol.now c.args.plain c.args.state.now.in_value c.args.state.now.depth_left c.args.state.now.lifetimes c.args.state.now.place c.args.tag kind.Array 6 (8 * c.args.state.now.depth_left + 9) _ _ _ _ _ _ _ (rw c.in-Array.is at c.in-Some.ensures) (omega arith) (omega arith)
+    (constant_as g.V.Voice c.args.symbol.now c.args.plain c.args.state.now.in_value c.args.state.now.depth_left c.args.state.now.lifetimes c.args.state.now.place c.args.tag kind.Array (omega arith) 6 (8 * c.args.state.now.depth_left + 9) _ _ _ _ _ _ _ (rw c.in-Array.is at c.in-Some.ensures) (omega arith) (omega arith)
     (array_braced g.V.Voice c.args.symbol.now c.args.plain c.args.state.now _ _ _ _ _ c.requires.fits (omega arith) (c.in_braces-in-Array.ensures.state, c.in_braces-in-Array.ensures.row)))
 
 pub returns-in-Tuple-clause-did : goal.returns-in-Tuple-clause-did
 returns-in-Tuple-clause-did g c = rw c.in_braces-in-Tuple.ensures.point
-    (constant_as g.V.Voice c.args.symbol.now c.args.plain c.args.state.now.in_value c.args.state.now.depth_left c.args.state.now.lifetimes c.args.state.now.place c.args.tag kind.Tuple 6 (8 * c.args.state.now.depth_left + 9) _ _ _ _ _ _ _ (rw c.in-Tuple.is at c.in-Some.ensures) (omega arith) (omega arith)
+    (constant_as g.V.Voice c.args.symbol.now c.args.plain c.args.state.now.in_value c.args.state.now.depth_left c.args.state.now.lifetimes c.args.state.now.place c.args.tag kind.Tuple (omega arith) 6 (8 * c.args.state.now.depth_left + 9) _ _ _ _ _ _ _ (rw c.in-Tuple.is at c.in-Some.ensures) (omega arith) (omega arith)
     (tuple_braced g.V.Voice c.args.symbol.now c.args.plain c.args.state.now _ _ _ _ _ c.requires.fits (omega arith) (c.in_braces-in-Tuple.ensures.state, c.in_braces-in-Tuple.ensures.row)))
 
 pub returns-in-Shared-clause-did : goal.returns-in-Shared-clause-did
 returns-in-Shared-clause-did g c =
-    constant_as g.V.Voice c.args.symbol.now c.args.plain c.args.state.now.in_value c.args.state.now.depth_left c.args.state.now.lifetimes c.args.state.now.place c.args.tag kind.Shared 6 (8 * c.args.state.now.depth_left + 9) _ _ _ _ _ _ _ (rw c.in-Shared.is at c.in-Some.ensures) (omega arith) (omega arith)
+    constant_as g.V.Voice c.args.symbol.now c.args.plain c.args.state.now.in_value c.args.state.now.depth_left c.args.state.now.lifetimes c.args.state.now.place c.args.tag kind.Shared (omega arith) 6 (8 * c.args.state.now.depth_left + 9) _ _ _ _ _ _ _ (rw c.in-Shared.is at c.in-Some.ensures) (omega arith) (omega arith)
     (c.shared_reference.ensures.did)
 
 pub returns-in-Variant-clause-did : goal.returns-in-Variant-clause-did
 returns-in-Variant-clause-did g c =
-    constant_as g.V.Voice c.args.symbol.now c.args.plain c.args.state.now.in_value c.args.state.now.depth_left c.args.state.now.lifetimes c.args.state.now.place c.args.tag kind.Variant 6 (8 * c.args.state.now.depth_left + 9) _ _ _ _ _ _ _ (rw c.in-Variant.is at c.in-Some.ensures) (omega arith) (omega arith)
+    constant_as g.V.Voice c.args.symbol.now c.args.plain c.args.state.now.in_value c.args.state.now.depth_left c.args.state.now.lifetimes c.args.state.now.place c.args.tag kind.Variant (omega arith) 6 (8 * c.args.state.now.depth_left + 9) _ _ _ _ _ _ _ (rw c.in-Variant.is at c.in-Some.ensures) (omega arith) (omega arith)
     (c.variant_path.ensures.did c.args.symbol.now c.args.plain c.args.voice.now _ (omega arith))
 
 pub returns-in-Reference-clause-did : goal.returns-in-Reference-clause-did
 returns-in-Reference-clause-did g c =
-    constant_as g.V.Voice c.args.symbol.now c.args.plain c.args.state.now.in_value c.args.state.now.depth_left c.args.state.now.lifetimes c.args.state.now.place c.args.tag kind.Reference 1 (8 * c.args.state.now.depth_left + 2) _ _ _ _ _ _ _ (rw c.in-Reference.is at c.in-Some.ensures) (omega arith) (omega arith)
+    constant_as g.V.Voice c.args.symbol.now c.args.plain c.args.state.now.in_value c.args.state.now.depth_left c.args.state.now.lifetimes c.args.state.now.place c.args.tag kind.Reference (omega arith) 1 (8 * c.args.state.now.depth_left + 2) _ _ _ _ _ _ _ (rw c.in-Reference.is at c.in-Some.ensures) (omega arith) (omega arith)
     (did (c.follow.ensures.did c.args.plain c.args.voice.now true a_constant c.args.state.now.in_value (unit_constant c.args.symbol.now c.args.plain c.args.state.now.in_value c.args.state.now.letter c.args.state.now.lifetimes)))
 
 pub returns-in-Bool-clause-ready : goal.returns-in-Bool-clause-ready

@@ -13,22 +13,22 @@ returns-in_default-clause-did g c = rw c.in_default.is
 pub returns-in_default-opt_integer_62-clause-did : goal.returns-in_default-opt_integer_62-clause-did
 unfolding share_at
 returns-in_default-opt_integer_62-clause-did g c = rw c.in-Some.is
-    (binder_stops g.V.Voice c.args.symbol.now c.args.plain first_traits c.args.state.now.depth_left c.args.state.now.lifetimes c.in-Some.at 1 (8 * c.args.state.now.depth_left + 4) _ _ _ _ c.requires.unmarked c.in_default-opt_integer_62.ensures.read (omega (arith, c.in_default-opt_integer_62.ensures.err_looks)) (omega arith))
+    (binder_stops g.V.Voice c.args.symbol.now c.args.plain (omega arith) first_traits c.args.state.now.depth_left c.args.state.now.lifetimes c.in-Some.at 1 (8 * c.args.state.now.depth_left + 4) _ _ _ _ c.requires.unmarked c.in_default-opt_integer_62.ensures.read (omega (arith, c.in_default-opt_integer_62.ensures.err_looks)) (omega arith))
 
 pub returns-then-number-eq0-clause-did : goal.returns-then-number-eq0-clause-did
 unfolding share_at
 returns-then-number-eq0-clause-did g c = rw c.in-Some.is
-    (binder_none g.V.Voice c.args.symbol.now c.args.plain first_traits c.args.state.now.depth_left c.args.state.now.lifetimes c.in-Some.at c.in-Ok.next c.in-Ok.number 1 (8 * c.args.state.now.depth_left + 4) 1 (8 * c.args.state.now.depth_left + 4) _ _ _ _ _ _ (c.opt_integer_62.new.looks - c.args.looks.now) (c.dyn_trait.new.looks - c.opt_integer_62.new.looks) _
+    (binder_none g.V.Voice c.args.symbol.now c.args.plain (omega arith) first_traits c.args.state.now.depth_left c.args.state.now.lifetimes c.in-Some.at c.in-Ok.next c.in-Ok.number 1 (8 * c.args.state.now.depth_left + 4) 1 (8 * c.args.state.now.depth_left + 4) _ _ _ _ _ _ (c.opt_integer_62.new.looks - c.args.looks.now) (c.dyn_trait.new.looks - c.opt_integer_62.new.looks) _
     c.in-Ok.ensures.read c.if-number-eq0.true (omega (arith, c.in-Ok.ensures.ok_looks)) (omega (arith, c.in-Ok.ensures.grows, c.dyn_trait.ensures.grows)) (omega arith) (omega arith) (c.dyn_trait.ensures.did c.args.plain c.args.voice.now))
 
 pub returns-in_default-name_lifetimes-clause-did : goal.returns-in_default-name_lifetimes-clause-did
 unfolding share_at
 returns-in_default-name_lifetimes-clause-did g c = rw c.in-Some.is
-    (binder_refused g.V.Voice c.args.symbol.now c.args.plain first_traits c.args.state.now.depth_left c.args.state.now.lifetimes c.in-Some.at c.in-Ok.next c.in-Ok.number 1 (8 * c.args.state.now.depth_left + 4) _ _ _ _ _ _
+    (binder_refused g.V.Voice c.args.symbol.now c.args.plain (omega arith) first_traits c.args.state.now.depth_left c.args.state.now.lifetimes c.in-Some.at c.in-Ok.next c.in-Ok.number 1 (8 * c.args.state.now.depth_left + 4) _ _ _ _ _ _
     c.in-Ok.ensures.read (omega (arith, c.in-Ok.ensures.ok_looks, c.in_default-name_lifetimes.ensures.looks)) c.in_default-name_lifetimes.ensures.prints c.in_default-name_lifetimes.ensures.quiet)
 
 pub returns-clause-did : goal.returns-clause-did
 unfolding share_at
 returns-clause-did g c = rw c.in-Some.is
-    (binder_goes g.V.Voice c.args.symbol.now c.args.plain point.FirstDynTrait first_traits c.args.state.now.depth_left c.args.state.now.lifetimes c.in-Some.at c.in-Ok.next c.in-Ok.number 1 (8 * c.args.state.now.depth_left + 4) _ _ _ _ _
+    (binder_goes g.V.Voice c.args.symbol.now c.args.plain (omega arith) point.FirstDynTrait first_traits c.args.state.now.depth_left c.args.state.now.lifetimes c.in-Some.at c.in-Ok.next c.in-Ok.number 1 (8 * c.args.state.now.depth_left + 4) _ _ _ _ _
     c.in-Ok.ensures.read (omega (arith, c.in-Ok.ensures.ok_looks, c.in-Ok-name_lifetimes.ensures.looks)) c.in-Ok-name_lifetimes.ensures.prints (rw c.in-Ok-name_lifetimes.ensures.state c.requires.unmarked) (rw c.in-Ok-name_lifetimes.ensures.state refl) (omega arith) (rw c.in-Ok-name_lifetimes.ensures.state (omega arith)) (rw c.in-Ok-name_lifetimes.ensures.state (omega (arith, c.requires.fits, c.in-Ok-name_lifetimes.ensures.number))))

@@ -5,4 +5,4 @@ use Rattle.demangle_v0.proofs.points.dyn_traits.dyn_lifetime.Goals as goal
 
 pub returns : goal.returns
 unfolding share_at
-returns g c = record { did = λ row. alike refl (omega arith) (omega arith) (c.last_word.ensures.did row) }
+returns g c = record { did = λ row. alike (omega arith) refl (omega arith) (omega arith) (c.last_word.ensures.did row) }

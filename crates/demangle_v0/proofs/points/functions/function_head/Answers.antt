@@ -9,25 +9,25 @@ use Rattle.demangle_v0.proofs.points.functions.function_head.Goals as goal
 pub returns-then-is_bare-clause-did : goal.returns-then-is_bare-clause-did
 unfolding share_at
 returns-then-is_bare-clause-did g c = λ row.
-    word_bare g.V.Voice c.args.symbol.now c.args.plain word.FunctionHead c.args.state.now.letter parameters c.args.state.now.depth_left c.args.state.now.lifetimes c.args.state.now.place c.in-Goes.next c.in-Goes.head 5 (8 * c.args.state.now.depth_left + 2) 4 (8 * c.args.state.now.depth_left + 2) row _ _ _ _ _ 0 _
+    word_bare g.V.Voice c.args.symbol.now c.args.plain (omega arith) word.FunctionHead c.args.state.now.letter parameters c.args.state.now.depth_left c.args.state.now.lifetimes c.args.state.now.place c.in-Goes.next c.in-Goes.head 5 (8 * c.args.state.now.depth_left + 2) 4 (8 * c.args.state.now.depth_left + 2) row _ _ _ _ _ 0 _
     c.in-Goes.ensures.value (omega (arith, c.in-Goes.ensures.looks)) (c.is_bare.ensures c.if-is_bare.true c.args.symbol.now c.args.plain) (omega arith) (omega arith) (c.open_parameters.ensures.did c.args.symbol.now c.args.plain c.args.voice.now row)
 
 pub returns-in_default-clause-did : goal.returns-in_default-clause-did
 unfolding share_at
 returns-in_default-clause-did g c = λ row.
-    word_on_refused g.V.Voice c.args.symbol.now c.args.plain word.FunctionHead c.args.state.now.letter parameters c.args.state.now.depth_left c.args.state.now.lifetimes c.args.state.now.place c.in-Goes.next c.in-Goes.head 5 (8 * c.args.state.now.depth_left + 2) row _ _ _ _ _
+    word_on_refused g.V.Voice c.args.symbol.now c.args.plain (omega arith) word.FunctionHead c.args.state.now.letter parameters c.args.state.now.depth_left c.args.state.now.lifetimes c.args.state.now.place c.in-Goes.next c.in-Goes.head 5 (8 * c.args.state.now.depth_left + 2) row _ _ _ _ _
     c.in-Goes.ensures.value (omega (arith, c.in-Goes.ensures.looks, c.in_default.ensures.most)) c.in_default.ensures.prints c.in_default.ensures.quiet
 
 pub returns-in-Ok-clause-did : goal.returns-in-Ok-clause-did
 unfolding share_at
 returns-in-Ok-clause-did g c = λ row.
-    word_on g.V.Voice c.args.symbol.now c.args.plain point.OpenParameters word.FunctionHead c.args.state.now.letter parameters c.args.state.now.depth_left c.args.state.now.lifetimes c.args.state.now.place c.in-Goes.next c.in-Goes.head 5 (8 * c.args.state.now.depth_left + 2) row _ _ _ _
+    word_on g.V.Voice c.args.symbol.now c.args.plain (omega arith) point.OpenParameters word.FunctionHead c.args.state.now.letter parameters c.args.state.now.depth_left c.args.state.now.lifetimes c.args.state.now.place c.in-Goes.next c.in-Goes.head 5 (8 * c.args.state.now.depth_left + 2) row _ _ _ _
     c.in-Goes.ensures.value (omega (arith, c.in-Goes.ensures.looks, c.in-Ok.ensures.most)) c.in-Ok.ensures.prints c.requires.unmarked refl (omega arith) (omega arith) c.requires.fits
 
 pub returns-in-Stops-clause-did : goal.returns-in-Stops-clause-did
 unfolding share_at
 returns-in-Stops-clause-did g c = λ row.
-    word_fails g.V.Voice c.args.symbol.now c.args.plain word.FunctionHead c.args.state.now.letter parameters c.args.state.now.depth_left c.args.state.now.lifetimes c.args.state.now.place _ 5 (8 * c.args.state.now.depth_left + 2) row _ _ _
+    word_fails g.V.Voice c.args.symbol.now c.args.plain (omega arith) word.FunctionHead c.args.state.now.letter parameters c.args.state.now.depth_left c.args.state.now.lifetimes c.args.state.now.place _ 5 (8 * c.args.state.now.depth_left + 2) row _ _ _
     c.in-Stops.ensures.value (omega (arith, c.in-Stops.ensures.looks)) c.requires.unmarked (omega arith)
 
 pub returns-then-is_bare-clause-own : goal.returns-then-is_bare-clause-own

@@ -19,5 +19,5 @@ returns-in_ok-put_mark-in-Ok-clause-stepped g c =
 
 pub returns-in_ok-stop-in-Err-Fault-clause-stepped : goal.returns-in_ok-stop-in-Err-Fault-clause-stepped
 returns-in_ok-stop-in-Err-Fault-clause-stepped g c =
-    fault_goes g.V.Voice c.args.symbol.now c.args.plain c.args.point c.in-Err-Fault.fault c.args.state.now c.perform.new.state _ _ _ _ _ _ (c.perform.new.looks - c.args.looks.now) _ (rw c.in-Err-Fault.field-0-is at c.in-Err-Fault.ensures.did) c.in_ok-stop-in-Err-Fault.ensures.prints (fault_unmarked g.V.Voice c.args.symbol.now c.args.plain _ _ _ _ _ _ c.perform.new.state _ _ _ (rw c.in-Err-Fault.field-0-is at c.in-Err-Fault.ensures.did))
+    fault_goes g.V.Voice c.args.symbol.now c.args.plain c.args.point c.in-Err-Fault.fault c.args.state.now c.perform.new.state _ _ _ _ _ _ (c.perform.new.looks - c.args.looks.now) _ (rw c.in-Err-Fault.field-0-is at c.in-Err-Fault.ensures.did) c.in_ok-stop-in-Err-Fault.ensures.prints (fault_unmarked g.V.Voice c.args.symbol.now c.args.plain _ _ _ _ _ _ _ c.perform.new.state _ _ _ (rw c.in-Err-Fault.field-0-is at c.in-Err-Fault.ensures.did))
     refl refl (omega (arith, c.in_ok-stop-in-Err-Fault.ensures.most))

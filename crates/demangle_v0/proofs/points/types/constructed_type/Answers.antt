@@ -37,17 +37,17 @@ returns-in-Pattern-clause-did g c = rw c.in-Pattern.is (pattern_type_goes g.V.Vo
 
 pub returns-in-Reference-clause-did : goal.returns-in-Reference-clause-did
 returns-in-Reference-clause-did g c = rw c.in-Reference.is
-    (same g.V.Voice c.args.symbol.now c.args.plain _ _ 50 (8 * c.args.state.now.depth_left + 9) 1 (8 * c.args.state.now.depth_left + 2) _ _ _ _ _ _ _ refl (omega arith) (omega arith)
+    (same g.V.Voice c.args.symbol.now c.args.plain (omega arith) _ _ 50 (8 * c.args.state.now.depth_left + 9) 1 (8 * c.args.state.now.depth_left + 2) _ _ _ _ _ _ _ refl (omega arith) (omega arith)
     (did (c.follow.ensures.did c.args.plain c.args.voice.now true a_type false (unit_type c.args.symbol.now c.args.plain c.args.state.now.in_value c.args.state.now.letter c.args.state.now.lifetimes))))
 
 pub returns-in-Function-clause-did : goal.returns-in-Function-clause-did
 unfolding share_at
 returns-in-Function-clause-did g c = rw c.in-Function.is
-    (same g.V.Voice c.args.symbol.now c.args.plain _ _ 50 (8 * c.args.state.now.depth_left + 9) 1 (8 * c.args.state.now.depth_left + 2) _ _ _ _ _ _ _ refl (omega arith) (omega arith) (c.function_binder.ensures.did c.args.row.now))
+    (same g.V.Voice c.args.symbol.now c.args.plain (omega arith) _ _ 50 (8 * c.args.state.now.depth_left + 9) 1 (8 * c.args.state.now.depth_left + 2) _ _ _ _ _ _ _ refl (omega arith) (omega arith) (c.function_binder.ensures.did c.args.row.now))
 
 pub returns-in-Dyn-clause-did : goal.returns-in-Dyn-clause-did
 returns-in-Dyn-clause-did g c = rw c.in-Dyn.is
-    (same g.V.Voice c.args.symbol.now c.args.plain _ _ 50 (8 * c.args.state.now.depth_left + 9) 4 (8 * c.args.state.now.depth_left + 5) _ _ _ _ _ _ _ refl (omega arith) (omega arith)
+    (same g.V.Voice c.args.symbol.now c.args.plain (omega arith) _ _ 50 (8 * c.args.state.now.depth_left + 9) 4 (8 * c.args.state.now.depth_left + 5) _ _ _ _ _ _ _ refl (omega arith) (omega arith)
     (zero_looks g.V.Voice c.args.symbol.now c.args.plain _ _ _ _ _ _ _ _ _ _ (c.dyn_type.ensures.did c.args.plain c.args.voice.now)))
 
 pub returns-in-Reference-clause-grows : goal.returns-in-Reference-clause-grows
