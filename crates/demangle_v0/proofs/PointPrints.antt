@@ -25,7 +25,7 @@ use Rattle.demangle_sink.specs.declared.TextSink.{Ghosts as Sinks}
 use Rattle.demangle_sink.specs.declared.SinkRefused.{SinkRefused}
 use Rattle.demangle_sink.specs.declared.limit.SizeLimitedFmtAdapter.{SizeLimitedFmtAdapter}
 use Rattle.demangle_v0.specs.Points.{most_frames, Bit, pays, puts, heard_bits, bits_looks, bits_texts, env, Told, pushed_on, share_at, share_of, row_owed, reading_owed}
-use Rattle.demangle_v0.specs.PointRuns.{Valid, Reads, Stepped, Resumes, Said, Ran, Broke, Skipped, RanOn, Passed, ValidLeft, first_looks, Ended, first_state, silent_of, own_heard}
+use Rattle.demangle_v0.specs.PointRuns.{Valid, Reads, Stepped, Resumes, Said, Ran, Broke, Skipped, RanOn, Passed, ValidLeft, Finishes, first_looks, Ended, first_state, silent_of, own_heard}
 use Rattle.demangle_v0.specs.declared.points.Point.{Point}
 use Rattle.demangle_v0.specs.declared.points.Point.TheVariants as point
 use Rattle.demangle_v0.specs.declared.points.frames.Frame.{Frame}
@@ -167,10 +167,6 @@ ran_then sink b plain p q r s t u row mid now v w x first second made l a c = re
   enough = omega (arith, l, a.enough, c.enough, looks_append a.bits c.bits);
 }
 
-pub none_read : (n : ℕ) (row : List Frame) (x : Option Reading) → most_frames < n → IfSome x (λ r. Valid r.point r.state row) → IfSome x (λ r. n ≤ length row) → x ≡ None
-none_read n row None m v l = refl
-none_read n row (Some r) m v l = absurd (omega (arith, m, l, valid_length r.point r.state row v))
-
 pub if_none : {A : Type 0} (x : Option Reading) → x ≡ None → IfNone x A → A
 if_none None e h = h
 if_none (Some r) e h = absurd (some_none r e)
@@ -203,19 +199,69 @@ passed_unread b plain few now n (left.Behind base inner) r to second v k = let s
     unread true = omega arith
     unread false = omega arith
 
--- in the row for every frame, behind what came before
-pub ended_all : {S : Type 0} (sink : Sinks S) (b : List ℕ) (plain : Bool) (p q : Point) (s t : State) (row mid now : List Frame) (v w x : SizeLimitedFmtAdapter S) (r : Reading) (first second made : ℕ) (answer : Option Left) → made ≤ first + second
-    → Ran sink b plain p s row v q t mid w first → RanOn sink b plain q t mid w (Ok answer) r now x second → answer ≡ None → Ended sink b plain p s row v (Ok tt) x made
-ended_all sink b plain p q s t row mid now v w x r first second made None l a c e = record { ended = (r.state, ran_then sink b plain p q point.End s t r.state row mid [] v w x first second made l a c.ran) }
-ended_all sink b plain p q s t row mid now v w x r first second made (Some y) l a c e = absurd (some_none e)
+-- A reading that goes on where another stopped.
+
+pub ran_joins : {S : Type 0} (sink : Sinks S) (b : List ℕ) (plain : Bool) (p q : Point) (s t : State) (row mid now : List Frame) (v w x : SizeLimitedFmtAdapter S) (first second made : ℕ) (result : Result (Option Left) SinkRefused) (r : Reading) → made ≤ first + second
+    → Ran sink b plain p s row v q t mid w first → RanOn sink b plain q t mid w result r now x second → RanOn sink b plain p s row v result r now x made
+ran_joins sink b plain p q s t row mid now v w x first second made (Ok None) r l a c = record { ran = ran_then sink b plain p q point.End s t r.state row mid [] v w x first second made l a c.ran }
+ran_joins sink b plain p q s t row mid now v w x first second made (Ok (Some left.Row)) r l a c = record { ran = ran_then sink b plain p q r.point s t r.state row mid now v w x first second made l a c.ran }
+ran_joins sink b plain p q s t row mid now v w x first second made (Ok (Some (left.Behind base inner))) r l a c =
+    let m = c.ran in
+    record {
+      ran = record {
+        first = first + m.first;
+        second = m.second;
+        skips = m.skips;
+        ran = ran_then sink b plain p q r.point s t r.state row mid m.skips.below v w x first m.first (first + m.first) (omega arith) a m.ran;
+        enough = omega (arith, l, m.enough);
+      };
+    }
+ran_joins sink b plain p q s t row mid now v w x first second made (Err e) r l a c = record { ran = broke_then sink b plain p q s t row mid v w x first second made l a c.ran }
+
+-- behind an impl's own path, or where the row is full before
+pub finished_ran : {S : Type 0} (sink : Sinks S) (b : List ℕ) (plain : Bool) (n : ℕ) (p : Point) (s : State) (row few now : List Frame) (v w : SizeLimitedFmtAdapter S) (x y : Left) (r to : Reading) (first second made : ℕ) → made ≤ first + second
+    → RanOn sink b plain p s row v (Ok (Some x)) r few w first → Finishes b plain n x r few (Some y) to now second → RanOn sink b plain p s row v (Ok (Some y)) to now w made
+finished_ran sink b plain n p s row few now v w left.Row y r to first second made l a k = absurd k
+finished_ran sink b plain n p s row few now v w (left.Behind base inner) left.Row r to first second made l a k = absurd k
+finished_ran sink b plain n p s row few now v w (left.Behind base inner) (left.Behind height more) r to first second made l a k =
+    let m = a.ran in
+    let z = m.skips in
+    rw (k.0, k.1) (record {
+      ran = record {
+        first = m.first;
+        second = m.second + second;
+        skips = record { below = z.below; height = z.height; of_trait = z.of_trait; at = z.at; valid = z.valid; reads = k.4 z.below m.second z.reads z.height };
+        ran = m.ran;
+        enough = omega (arith, l, m.enough);
+      };
+    })
+
+pub finished_valid : (b : List ℕ) (plain : Bool) (n m : ℕ) (few now : List Frame) (x y : Left) (r to : Reading) (second : ℕ) → ValidLeft b plain m (Ok (Some x)) r few → Finishes b plain n x r few (Some y) to now second → ValidLeft b plain n (Ok (Some y)) to now
+finished_valid b plain n m few now left.Row y r to second v k = absurd k
+finished_valid b plain n m few now (left.Behind base inner) left.Row r to second v k = absurd k
+finished_valid b plain n m few now (left.Behind base inner) (left.Behind height more) r to second v k =
+    let z = v.1 in
+    rw (k.0, k.1) (v.0 + second, record { below = z.below; height = z.height; of_trait = z.of_trait; at = z.at; valid = z.valid; reads = k.4 z.below v.0 z.reads z.height }, k.2, k.3)
+
+pub finished_same : (b : List ℕ) (plain : Bool) (n : ℕ) (few now : List Frame) (x y : Left) (r to : Reading) (second : ℕ) → Finishes b plain n x r few (Some y) to now second → to ≡ r
+finished_same b plain n few now left.Row y r to second k = absurd k
+finished_same b plain n few now (left.Behind base inner) left.Row r to second k = absurd k
+finished_same b plain n few now (left.Behind base inner) (left.Behind height more) r to second k = k.1
+
+-- nothing is left
+pub ended_all : {S : Type 0} (sink : Sinks S) (b : List ℕ) (plain : Bool) (p : Point) (s : State) (row now : List Frame) (v x : SizeLimitedFmtAdapter S) (r : Reading) (made : ℕ) (answer : Option Left) → RanOn sink b plain p s row v (Ok answer) r now x made → answer ≡ None
+    → Ended sink b plain p s row v (Ok tt) x made
+ended_all sink b plain p s row now v x r made None c e = record { ended = (r.state, c.ran) }
+ended_all sink b plain p s row now v x r made (Some y) c e = absurd (some_none e)
   where
     some_none : Some y ≡ None → ⊥
     some_none z = cc
 
-pub ended_err : {S : Type 0} (sink : Sinks S) (b : List ℕ) (plain : Bool) (p q : Point) (s t : State) (row mid now : List Frame) (v w x : SizeLimitedFmtAdapter S) (r : Reading) (first second made : ℕ) (e : SinkRefused) (result : Result (Unit {0}) SinkRefused) → made ≤ first + second
-    → IsErr result → Ran sink b plain p s row v q t mid w first → RanOn sink b plain q t mid w (Err e) r now x second → Ended sink b plain p s row v result x made
-ended_err sink b plain p q s t row mid now v w x r first second made e (Ok y) l h a c = absurd (false≢true h)
-ended_err sink b plain p q s t row mid now v w x r first second made e (Err f) l h a c = record { ended = broke_then sink b plain p q s t row mid v w x first second made l a c.ran }
+-- it was refused
+pub ended_err : {S : Type 0} (sink : Sinks S) (b : List ℕ) (plain : Bool) (p : Point) (s : State) (row now : List Frame) (v x : SizeLimitedFmtAdapter S) (r : Reading) (made : ℕ) (e : SinkRefused) (result : Result (Unit {0}) SinkRefused) → IsErr result → RanOn sink b plain p s row v (Err e) r now x made
+    → Ended sink b plain p s row v result x made
+ended_err sink b plain p s row now v x r made e (Ok y) h c = absurd (false≢true h)
+ended_err sink b plain p s row now v x r made e (Err f) h c = record { ended = c.ran }
 
 pub ran_begun : {S : Type 0} (sink : Sinks S) (b : List ℕ) (plain : Bool) (p : Point) (s : State) (row : List Frame) (v : SizeLimitedFmtAdapter S) → Ran sink b plain p s row v p s row v 0
 ran_begun sink b plain p s row v = record { bits = []; told = refl; reads = refl; enough = omega arith }

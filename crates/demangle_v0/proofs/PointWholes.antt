@@ -58,14 +58,21 @@ path_fails b i made q t now r = sym r.reads.0.place ∙ first_place b i
 pub path_fails_looks : (b : List ℕ) (i made : ℕ) (q : Point) (t : State) (now : List Frame) → ReadOn b true [] point.Path (first_state i) [] halt.Failed q t now made → made ≤ looks_in (read_at b false a_path i 0 0 true)
 path_fails_looks b i made q t now r = omega (arith, r.reads.0.looks, first_allowed b i)
 
--- in two
+-- in more than one
 
 pub rest_inner : (b : List ℕ) (plain : Bool) (p q : Point) (s t : State) (row now : List Frame) (made : ℕ) → ReadOn b plain [] p s row halt.Full q t now made → AllInner now
 rest_inner b plain p q s t row now made r = subst AllInner (sym r.reads.is_row) r.reads.inner
 
+pub full_place : (b : List ℕ) (plain : Bool) (p q : Point) (s t : State) (row now : List Frame) (made : ℕ) → ReadOn b plain [] p s row halt.Full q t now made → (reading_owed b plain false q t now).place ≡ (reading_owed b plain false p s row).place
+full_place b plain p q s t row now made r = ap (λ (ys : List Frame). (reading_owed b plain false q t ys).place) r.reads.is_row ∙ r.reads.quiet.place
+
+pub full_looks : (b : List ℕ) (plain : Bool) (p q : Point) (s t : State) (row now : List Frame) (made : ℕ) → ReadOn b plain [] p s row halt.Full q t now made
+    → made + allowed_in (reading_owed b plain false q t now).events ≤ allowed_in (reading_owed b plain false p s row).events
+full_looks b plain p q s t row now made r = omega (arith, r.reads.quiet.looks, ap (λ (ys : List Frame). allowed_in (reading_owed b plain false q t ys).events) r.reads.is_row)
+
 pub rest_ends : (b : List ℕ) (i made : ℕ) (q : Point) (t : State) (now : List Frame) → ReadOn b true [] point.Path (first_state i) [] halt.Full q t now made → (reading_owed b true false q t now).place ≡ unit_end b a_path i 0
-rest_ends b i made q t now r = ap (λ (ys : List Frame). (reading_owed b true false q t ys).place) r.reads.is_row ∙ (r.reads.quiet.place ∙ first_place b i)
+rest_ends b i made q t now r = full_place b true point.Path q (first_state i) t [] now made r ∙ first_place b i
 
 pub rest_looks : (b : List ℕ) (i made : ℕ) (q : Point) (t : State) (now : List Frame) → ReadOn b true [] point.Path (first_state i) [] halt.Full q t now made
     → made + allowed_in (reading_owed b true false q t now).events ≤ looks_in (read_at b false a_path i 0 0 true)
-rest_looks b i made q t now r = omega (arith, r.reads.quiet.looks, ap (λ (ys : List Frame). allowed_in (reading_owed b true false q t ys).events) r.reads.is_row, first_allowed b i)
+rest_looks b i made q t now r = omega (arith, full_looks b true point.Path q (first_state i) t [] now made r, first_allowed b i)

@@ -190,6 +190,14 @@ Passed b plain left.Row r row to now made = (to ≡ r) × (now ≡ row) × (made
 Passed b plain (left.Behind base inner) r row to now made = (below : List Frame) (q : Bool) (first : ℕ) → Reads b plain below point.Path (silent_of r.state) [] inner.point inner.state row first → length below ≡ base → r.point ≡ skip_point q
     → Skipped b plain q r.state below to.point to.state now (first + made)
 
+-- the same, where the row of so many frames may be full before
+abbrev pub Finishes : List ℕ → Bool → ℕ → Left → Reading → List Frame → Option Left → Reading → List Frame → ℕ → Type 0
+Finishes b plain n x r row None to now made = Passed b plain x r row to now made
+Finishes b plain n left.Row r row (Some y) to now made = ⊥
+Finishes b plain n (left.Behind base inner) r row (Some left.Row) to now made = ⊥
+Finishes b plain n (left.Behind base inner) r row (Some (left.Behind height more)) to now made = (height ≡ base) × (to ≡ r) × Valid more.point more.state now × (n ≤ length now)
+    × ((below : List Frame) (first : ℕ) → Reads b plain below point.Path (silent_of r.state) [] inner.point inner.state row first → length below ≡ base → Reads b plain below point.Path (silent_of r.state) [] more.point more.state now (first + made))
+
 -- the looks that what is left makes for certain
 abbrev pub looks_left : Result (Option Left) SinkRefused → Reading → ℕ
 looks_left (Ok None) r = 0

@@ -7,7 +7,7 @@ ghost use Rattle.demangle_grammar.specs.Reading.{goes_on_at, unit_end, suffix_pl
 ghost use Rattle.demangle_grammar.specs.Running.{allowed_in};
 ghost use Rattle.demangle_grammar.specs.Accepting.{looks_in, suffix_looks, accepting_looks};
 
-use crate::points::frames::{FEW, FrameStack, MOST};
+use crate::points::frames::{FEW, FrameStack, MIDDLE, MOST};
 use crate::points::read::{Halt, Reading, read_on};
 use demangle_symbol::cursor::{Looks, Symbol};
 
@@ -15,7 +15,7 @@ use demangle_symbol::cursor::{Looks, Symbol};
 #[inline(never)]
 fn read_rest(
     symbol: &Symbol<'_>,
-    few: &FrameStack<FEW>,
+    few: &FrameStack<MIDDLE>,
     from: &Reading,
     looks: &mut Looks,
 ) -> Option<usize>
@@ -37,6 +37,32 @@ fn read_rest(
     }
 }
 
+/// Reads the rest in a second row, and where that is full too, in the last: where it ends.
+#[inline(never)]
+fn read_more(
+    symbol: &Symbol<'_>,
+    few: &FrameStack<FEW>,
+    from: &Reading,
+    looks: &mut Looks,
+) -> Option<usize>
+    requires valid { Valid from.now.point from.now.state few.now }
+    requires inner { AllInner few.now }
+    ensures value { result ≡ (reading_owed symbol.now true false from.now.point from.now.state
+        few.now).place }
+    ensures looks { looks.new ≤ looks.old + allowed_in (reading_owed symbol.now true false
+        from.now.point from.now.state few.now).events }
+    ensures grows { looks.old ≤ looks.new }
+{
+    let mut row: FrameStack<MIDDLE> = FrameStack::new();
+    row.append(few);
+    let mut reading = *from;
+    match read_on(symbol, 0, true, &mut reading, &mut row, looks) {
+        Halt::Over => reading.place(),
+        Halt::Full => read_rest(symbol, &row, &reading, looks),
+        Halt::Failed => None,
+    }
+}
+
 /// Where the path at a place ends, if one is spelled there.
 pub fn path_end(symbol: &Symbol<'_>, place: usize, looks: &mut Looks) -> Option<usize>
     ensures value { result ≡ unit_end symbol.now a_path place 0 }
@@ -48,7 +74,7 @@ pub fn path_end(symbol: &Symbol<'_>, place: usize, looks: &mut Looks) -> Option<
     let mut reading = Reading::of_path(place);
     match read_on(symbol, 0, true, &mut reading, &mut row, looks) {
         Halt::Over => reading.place(),
-        Halt::Full => read_rest(symbol, &row, &reading, looks),
+        Halt::Full => read_more(symbol, &row, &reading, looks),
         Halt::Failed => None,
     }
 }

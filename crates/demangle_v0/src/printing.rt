@@ -1,10 +1,10 @@
 //! How a v0 symbol prints: steps, of which each hands over what it reads as soon as it is known.
 ghost use Rattle.std.specs.Prelude.{ℕ, ◌+◌, ◌-◌, ◌≤◌, List, IsAscii, IsOk, Ok, Some};
 ghost use Rattle.demangle_sink.specs.Limit.{Ready};
-ghost use Rattle.demangle_v0.specs.PointRuns.{Valid, RanOn, Ended, Passed, ValidLeft, looks_left, first_looks};
+ghost use Rattle.demangle_v0.specs.PointRuns.{Valid, RanOn, Ended, Finishes, ValidLeft, looks_left, first_looks};
 ghost use Rattle.demangle_v0.specs.declared.points.frames.Frame.{Frame};
 
-use crate::points::frames::{FEW, FrameStack, MOST};
+use crate::points::frames::{FEW, FrameStack, MIDDLE, MOST};
 use crate::points::read::Reading;
 use crate::points::skip::{is_skipped, skip};
 use crate::points::step::{resume, step};
@@ -72,34 +72,65 @@ pub(crate) fn print_on<const N: usize, S: TextSink>(
     Ok(Some(Left::Row))
 }
 
-/// Goes behind the own path of an impl, if one was read so far.
-fn finish_skip(
+/// Goes behind the own path of an impl, if one was read so far, or answers what is left, where the
+/// row is full.
+fn finish_skip<const N: usize>(
     symbol: &Symbol<'_>,
     include_hash: bool,
     left: Left,
     reading: &mut Reading,
-    row: &mut FrameStack<MOST>,
+    row: &mut FrameStack<N>,
     looks: &mut Looks,
-)
+) -> Option<Left>
     requires valid { ValidLeft symbol.now include_hash 0 (Ok (Some left)) reading.old row.old }
-    ensures passed { Passed symbol.now include_hash left reading.old row.old reading.new row.new
-        (looks.new - looks.old) }
+    ensures finishes { Finishes symbol.now include_hash N left reading.old row.old result
+        reading.new row.new (looks.new - looks.old) }
     ensures grows { looks.old ≤ looks.new }
 {
-    match left {
-        Left::Row => {}
-        Left::Behind(base, inner) => {
-            skip(symbol, include_hash, base, inner, reading, row, looks);
-        }
+    let Left::Behind(base, inner) = left else {
+        return None;
+    };
+    let more = skip(symbol, include_hash, base, inner, reading, row, looks)?;
+    Some(Left::Behind(base, more))
+}
+
+/// Prints what is left, until nothing is or the row is full.
+///
+/// It ends at the piece that the limit or the sink refuses.
+fn print_left<const N: usize, S: TextSink>(
+    symbol: &Symbol<'_>,
+    include_hash: bool,
+    left: Left,
+    reading: &mut Reading,
+    row: &mut FrameStack<N>,
+    out: &mut SizeLimitedFmtAdapter<'_, S>,
+    looks: &mut Looks,
+) -> Result<Option<Left>, SinkRefused>
+    requires ascii { IsAscii symbol.now }
+    requires ready { Ready S.TextSink out.old }
+    requires valid { ValidLeft symbol.now include_hash 0 (Ok (Some left)) reading.old row.old }
+    ensures ran { (p : Point) (s : State) (before : List Frame) (v : SizeLimitedFmtAdapter S) (first
+        : ℕ) → RanOn S.TextSink symbol.now include_hash p s before v (Ok (Some left)) reading.old
+        row.old out.old first → RanOn S.TextSink symbol.now include_hash p s before v result
+        reading.new row.new out.new (first + (looks.new - looks.old)) }
+    ensures ready { IsOk result → Ready S.TextSink out.new }
+    ensures valid { ValidLeft symbol.now include_hash N result reading.new row.new }
+    ensures grows { looks.old ≤ looks.new }
+    ensures least { looks.old + first_looks reading.old.point reading.old.state ≤ looks.new +
+        looks_left result reading.new }
+{
+    if let Some(more) = finish_skip(symbol, include_hash, left, reading, row, looks) {
+        return Ok(Some(more));
     }
+    print_on(symbol, include_hash, reading, row, out, looks)
 }
 
 /// Prints the rest, with room for every frame.
 #[inline(never)]
-pub(crate) fn print_rest<S: TextSink>(
+fn print_rest<S: TextSink>(
     symbol: &Symbol<'_>,
     include_hash: bool,
-    few: &FrameStack<FEW>,
+    few: &FrameStack<MIDDLE>,
     from: &Reading,
     left: Left,
     out: &mut SizeLimitedFmtAdapter<'_, S>,
@@ -118,7 +149,44 @@ pub(crate) fn print_rest<S: TextSink>(
     let mut row: FrameStack<MOST> = FrameStack::new();
     row.append(few);
     let mut reading = *from;
-    finish_skip(symbol, include_hash, left, &mut reading, &mut row, looks);
-    print_on(symbol, include_hash, &mut reading, &mut row, out, looks)?;
+    print_left(symbol, include_hash, left, &mut reading, &mut row, out, looks)?;
     Ok(())
+}
+
+/// Prints the rest in a second row, and where that is full too, in the last.
+#[inline(never)]
+pub(crate) fn print_more<S: TextSink>(
+    symbol: &Symbol<'_>,
+    include_hash: bool,
+    few: &FrameStack<FEW>,
+    from: &Reading,
+    left: Left,
+    out: &mut SizeLimitedFmtAdapter<'_, S>,
+    looks: &mut Looks,
+) -> Result<(), SinkRefused>
+    requires ascii { IsAscii symbol.now }
+    requires ready { Ready S.TextSink out.old }
+    requires valid { ValidLeft symbol.now include_hash 0 (Ok (Some left)) from.now few.now }
+    ensures ended { (p : Point) (s : State) (row : List Frame) (v : SizeLimitedFmtAdapter S) (first
+        : ℕ) → RanOn S.TextSink symbol.now include_hash p s row v (Ok (Some left)) from.now few.now
+        out.old first → Ended S.TextSink symbol.now include_hash p s row v result out.new (first +
+        (looks.new - looks.old)) }
+    ensures grows { looks.old ≤ looks.new }
+    ensures least { looks.old + first_looks from.now.point from.now.state ≤ looks.new }
+{
+    let mut row: FrameStack<MIDDLE> = FrameStack::new();
+    row.append(few);
+    let mut reading = *from;
+    match print_left(
+        symbol,
+        include_hash,
+        left,
+        &mut reading,
+        &mut row,
+        out,
+        looks,
+    )? {
+        None => Ok(()),
+        Some(left) => print_rest(symbol, include_hash, &row, &reading, left, out, looks),
+    }
 }

@@ -6,7 +6,7 @@ ghost use Rattle.demangle_grammar.specs.Reading.{path_texts};
 
 use crate::points::frames::{FEW, FrameStack};
 use crate::points::read::Reading;
-use crate::printing::{print_on, print_rest};
+use crate::printing::{print_on, print_more};
 use demangle_sink::{SinkRefused, SizeLimitedFmtAdapter, TextSink};
 use demangle_symbol::cursor::{Looks, Symbol};
 use std::marker::Model;
@@ -64,7 +64,7 @@ impl<'s> Demangle<'s> {
             looks,
         )? {
             None => Ok(()),
-            Some(left) => print_rest(&self.inner, include_hash, &row, &reading, left, out, looks),
+            Some(left) => print_more(&self.inner, include_hash, &row, &reading, left, out, looks),
         }
     }
 }

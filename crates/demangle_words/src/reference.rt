@@ -16,6 +16,7 @@ pub enum Reference {
 
 /// Reads where a reference leads, behind its `B`.
 #[tactic(auto, unfolding(demangle_symbol::specs::Words::backref_at))]
+#[inline(always)]
 pub fn refer(symbol: &Symbol<'_>, left: u16, place: Option<usize>, looks: &mut Looks) -> Reference
     ensures value { result ≡ (refer symbol.now left place).refers }
     ensures grows { looks.old ≤ looks.new }

@@ -78,6 +78,7 @@ pub enum Word {
 }
 
 /// The text of a mark.
+#[inline(always)]
 pub fn text(mark: Mark) -> &'static str
     ensures { result.now ≡ text mark }
 {

@@ -83,7 +83,10 @@ fn unpack(packed: Packed) -> Frame
 }
 
 /// How many frames a first row holds, which is enough for all but deep symbols.
-pub const FEW: usize = 32;
+pub const FEW: usize = 64;
+
+/// How many frames a second row holds: eight thousand bytes, where the last takes eight times that.
+pub const MIDDLE: usize = 512;
 
 /// How many frames a row holds in which there is room for all that can ever stand there.
 pub const MOST: usize = 4096;
@@ -137,7 +140,7 @@ impl<const N: usize> FrameStack<N> {
 
     /// Puts all frames of another row on top.
     pub fn append<const M: usize>(&mut self, other: &FrameStack<M>)
-        requires room { length self.old + length other.now ≤ N }
+        requires room { length self.old + M ≤ N }
         ensures { self.new ≡ self.old ++ other.now }
     {
         let _ = self.frames.try_extend_from_slice(other.frames.as_slice());

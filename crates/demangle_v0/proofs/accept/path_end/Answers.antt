@@ -5,8 +5,8 @@ use Rattle.demangle_v0.proofs.accept.path_end.Goals as goal
 pub read_on-requires : goal.read_on-requires
 read_on-requires c = (omega arith, rw (c.of_path-reading.ensures, c.new-row.ensures) (valid_first c.args.place))
 
-pub read_rest-requires-clause-inner : goal.read_rest-requires-clause-inner
-read_rest-requires-clause-inner c =
+pub read_more-requires-clause-inner : goal.read_more-requires-clause-inner
+read_more-requires-clause-inner c =
     rest_inner c.args.symbol.now _ _ _ _ _ [] _ _ (rw c.of_path-reading.ensures at c.in-Full.ensures.reads [] [] c.new-row.ensures refl tt)
 
 pub returns-in-Over-clause-value : goal.returns-in-Over-clause-value
@@ -20,12 +20,12 @@ returns-in-Over-clause-looks c =
 
 pub returns-in-Full-clause-value : goal.returns-in-Full-clause-value
 returns-in-Full-clause-value c =
-    c.read_rest.ensures.value ∙ rest_ends c.args.symbol.now c.args.place _ _ _ _ (rw c.of_path-reading.ensures at c.in-Full.ensures.reads [] [] c.new-row.ensures refl tt)
+    c.read_more.ensures.value ∙ rest_ends c.args.symbol.now c.args.place _ _ _ _ (rw c.of_path-reading.ensures at c.in-Full.ensures.reads [] [] c.new-row.ensures refl tt)
 
 pub returns-in-Full-clause-looks : goal.returns-in-Full-clause-looks
 returns-in-Full-clause-looks c =
     let l = rest_looks c.args.symbol.now c.args.place _ _ _ _ (rw c.of_path-reading.ensures at c.in-Full.ensures.reads [] [] c.new-row.ensures refl tt) in
-    omega (arith, l, c.in-Full.ensures.grows, c.read_rest.ensures.looks)
+    omega (arith, l, c.in-Full.ensures.grows, c.read_more.ensures.looks)
 
 pub returns-in-Failed-clause-value : goal.returns-in-Failed-clause-value
 returns-in-Failed-clause-value c =
