@@ -30,6 +30,7 @@ PC_PREFIX ?= $(PREFIX)
 FLAGS ?=
 CC ?= cc
 STRIP ?= strip
+AR ?= ar
 INSTALL ?= install
 
 BUILD := out/build
@@ -54,9 +55,13 @@ $(PROGRAMS:%=$(BUILD)/%): $(BUILD)/%: $(SOURCES) | $(BUILD)
 	cd crates/$* && rt run $(FLAGS) < /dev/null > /dev/null
 	$(STRIP) -o $@ crates/$*/out/$*
 
-$(BUILD)/libkodliwe.a: $(SOURCES) | $(BUILD)
+$(BUILD)/rustc_demangle.o: bindings/c/rustc_demangle.c $(HEADERS) | $(BUILD)
+	$(CC) -O2 -fPIC -I include $(CFLAGS) -c $< -o $@
+
+$(BUILD)/libkodliwe.a: $(SOURCES) $(BUILD)/rustc_demangle.o | $(BUILD)
 	cd crates/demangle_c && rt lib $(FLAGS)
 	$(STRIP) --enable-deterministic-archives --strip-debug -o $@ crates/demangle_c/out/libdemangle_c.a
+	$(AR) rD $@ $(BUILD)/rustc_demangle.o
 
 $(BUILD)/$(SHARED): $(BUILD)/libkodliwe.a packaging/libkodliwe.map
 	$(CC) -shared -Wl,-soname,$(SONAME) -Wl,--version-script=packaging/libkodliwe.map -Wl,-z,defs -Wl,-z,relro,-z,now \
