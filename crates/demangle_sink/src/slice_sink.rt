@@ -1,9 +1,9 @@
 //! A sink into memory of the caller's.
-ghost use Rattle.std.specs.Prelude.{◌≡◌, ◌-◌, [], length, Some, true, false, refl, IsOk, OnOk, OnErr};
+ghost use Rattle.std.specs.Prelude.{◌≡◌, ◌-◌, [], drop, length, Some, true, false, refl, IsOk, OnOk, OnErr};
 ghost use Rattle.std.proofs.Common.{◌∙◌};
 ghost use Rattle.std.below.core.specs.declared.int.usize.TheConstants.{MAX};
 ghost use Rattle.demangle_sink.specs.Sink.{IsWithin, room_after};
-ghost use Rattle.demangle_sink.specs.Slice.{overlay_from, Laid, Laid-nothing, Laid-joined};
+ghost use Rattle.demangle_sink.specs.Slice.{overlay, overlay_from, Laid, Laid-nothing, Laid-joined};
 
 use crate::{SinkRefused, TextSink};
 
@@ -59,6 +59,7 @@ impl<'b> SliceSink<'b> {
     }
 
     /// Takes bytes, which need not be UTF-8, as `put` takes a piece.
+    #[inline(always)]
     pub fn put_bytes(&mut self, bytes: &[u8]) -> Result<(), SinkRefused>
         requires { ⟦<SliceSink<'b> as TextSink>⟧.failed self.old ≡ false }
         ensures taken { OnOk result
@@ -67,21 +68,30 @@ impl<'b> SliceSink<'b> {
         ensures refused { OnErr result (⟦<SliceSink<'b> as TextSink>⟧.failed self.new ≡ true) }
         ensures kept { OnErr result (⟦<SliceSink<'b> as TextSink>⟧.took self.old [] self.new
             × (⟦<SliceSink<'b> as TextSink>⟧.room self.new
-                ≡ ⟦<SliceSink<'b> as TextSink>⟧.room self.old)) }
+            ≡ ⟦<SliceSink<'b> as TextSink>⟧.room self.old)) }
         ensures fits { IsWithin (length bytes.now) (⟦<SliceSink<'b> as TextSink>⟧.room self.old) →
             IsOk result × (⟦<SliceSink<'b> as TextSink>⟧.room self.new
-                ≡ room_after (length bytes.now) (⟦<SliceSink<'b> as TextSink>⟧.room self.old)) }
+            ≡ room_after (length bytes.now) (⟦<SliceSink<'b> as TextSink>⟧.room self.old)) }
     {
         if bytes.len() > usize::MAX - self.len {
             self.failed = true;
             return Err(SinkRefused);
         }
-        let before = self.start.saturating_sub(self.len).min(bytes.len());
-        let place = self.len.saturating_sub(self.start);
-        lay(self.out, place, &bytes[before..]);
+        if self.start <= self.len {
+            lay(self.out, self.len - self.start, bytes);
+        } else {
+            lay_behind(self.out, self.start - self.len, bytes);
+        }
         self.len += bytes.len();
         Ok(())
     }
+}
+
+/// Lays what stands behind so many bytes at the memory's beginning, as far as it reaches.
+fn lay_behind(out: &mut [u8], before: usize, bytes: &[u8])
+    ensures { out.new ≡ overlay out.old (drop before bytes.now) }
+{
+    lay(out, 0, &bytes[before.min(bytes.len())..]);
 }
 
 /// Lays bytes into memory from a place on, as far as it reaches.
