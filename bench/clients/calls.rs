@@ -109,8 +109,9 @@ fn main() {
         ["time", rounds] => times(&symbols(), rounds.parse().expect("a number"), &mut out),
         ["count", which, rounds] => {
             let (_, job) = JOBS.into_iter().find(|(name, _)| *name == which).expect("a job");
+            let symbols = symbols();
             for _ in 0..rounds.parse().expect("a number") {
-                run(job, &symbols(), &mut out);
+                run(job, &symbols, &mut out);
             }
         }
         _ => panic!("see the usage in the source"),
