@@ -2,7 +2,7 @@
 use Rattle.std.proofs.Common.{◌≡◌, ℕ, Bool, true, false, Option, Some, None, List, [], ◌∷◌, Ok, refl, arith, ap, ◌∙◌}
 use Rattle.demangle_grammar.specs.Events.{with_texts}
 use Rattle.demangle_words.specs.Texts.{text}
-use Rattle.demangle_grammar.specs.Items.{a_type, a_constant}
+use Rattle.demangle_grammar.specs.Items.{a_type, a_constant, a_pattern}
 use Rattle.demangle_v0.specs.Marks.{left_at}
 use Rattle.demangle_grammar.specs.Reading.{run}
 use Rattle.demangle_grammar.specs.Table.{string}
@@ -30,6 +30,19 @@ module _ {V : Type 0} (e : Env V) (t : Turn V) where
   each point.Mutable = λ f. marks_child point.«Type» a_type false refl refl (omega arith) (omega arith) f
   each point.TextConstant = λ f. marks point.Literal (ap (with_texts e.voice.loud (text mark.Star ∷ [])) (last_unit e.voice e.symbol e.plain string _ _ _)) (omega arith) (omega arith) f
   each point.ReferenceConstant = λ f. marks_child point.Constant a_constant true refl refl (omega arith) (omega arith) f
+  each point.OpenArguments = λ f. marks point.FirstArgument refl (omega arith) (omega arith) f
+  each point.Unchanging = λ f. marks_child point.«Type» a_type false refl refl (omega arith) (omega arith) f
+  each point.PatternIs = λ f. marks_child point.Pattern a_pattern false refl refl (omega arith) (omega arith) f
+  each point.OpenParameters = λ f. marks point.FirstParameter refl (omega arith) (omega arith) f
+  each point.OpenTraitPath = λ f. marks point.FirstOpenArgument refl (omega arith) (omega arith) f
+  each point.CloseBracket = λ _. marks point.End refl (omega arith) (omega arith) tt
+  each point.RangeEnd = λ f. marks_child point.Constant a_constant false refl refl (omega arith) (omega arith) f
+  each point.MutReferenceConstant = λ f. marks point.MutableConstant refl (omega arith) (omega arith) f
+  each point.MutableConstant = λ f. marks_child point.Constant a_constant true refl refl (omega arith) (omega arith) f
+  each point.ArrayConstant = λ f. marks point.FirstArrayConstant refl (omega arith) (omega arith) f
+  each point.TupleConstant = λ f. marks point.FirstTupleConstant refl (omega arith) (omega arith) f
+  each point.FieldColon = λ f. marks_child point.Constant a_constant true refl refl (omega arith) (omega arith) f
+  each point.CloseBrace = λ _. marks point.End refl (omega arith) (omega arith) tt
   each _ = tt
 
   pub left_so : (p : Point) (l : Left) → Some l ≡ left_at p → Fits p t.state.depth_left t.state.lifetimes → PointDoes e p t (Ok l.next) (record t { state = left_by l t.state })

@@ -7,15 +7,15 @@ ghost use Rattle.demangle_sink.specs.Array.{text_of};
 ghost use Rattle.demangle_sink.specs.Limit.{Prints, Ready};
 ghost use Rattle.demangle_v0.specs.PointRuns.{Valid};
 
-use demangle_words::texts::text;
 use crate::points::frames::{FrameStack, MOST};
 use crate::points::read::Reading;
 use crate::points::skip::{is_skipped, skip};
 use crate::points::step::{resume, step};
-use demangle_words::voice::Voice;
-use demangle_words::stretch::Stretch;
 use demangle_sink::{ArraySink, SinkRefused, SizeLimitedFmtAdapter, TextSink};
 use demangle_symbol::cursor::{Looks, Symbol};
+use demangle_words::stretch::Stretch;
+use demangle_words::texts::text;
+use demangle_words::voice::Voice;
 use std::test::Fail;
 
 mod rows;

@@ -27,17 +27,6 @@ pub(super) fn generic<V: Voice>(state: &mut State) -> Point
     Point::FirstArgument
 }
 
-/// The arguments of a path in value position, behind `::`.
-#[inline(always)]
-pub(super) fn open_arguments<V: Voice>(state: &mut State) -> Point
-    requires fits { Fits Point.OpenArguments state.old.depth_left state.old.lifetimes }
-    ensures did { (b : List ℕ) (plain : Bool) (v : V) (row : List Frame) → Did V.Voice b plain
-        Point.OpenArguments state.old row v (Ok result) state.new row v 0 }
-{
-    state.mark = Some(Mark::Less);
-    Point::FirstArgument
-}
-
 /// An argument of a path, the first or a further one, or their end.
 #[inline(always)]
 pub(super) fn arguments<V: Voice, const N: usize>(

@@ -13,58 +13,6 @@ use demangle_words::tags::{ConstantKind, constant_kind};
 use demangle_words::texts::{Mark, Word};
 use demangle_words::voice::Voice;
 
-/// What a mutable reference refers to, behind its tag.
-#[inline(always)]
-pub(super) fn mut_reference_constant<V: Voice>(state: &mut State) -> Point
-    requires fits { Fits Point.MutReferenceConstant state.old.depth_left state.old.lifetimes }
-    ensures did { DidFree V.Voice Point.MutReferenceConstant state.old result state.new }
-{
-    state.mark = Some(Mark::Ampersand);
-    Point::MutableConstant
-}
-
-/// The same behind the `&`.
-#[inline(always)]
-pub(super) fn mutable_constant<V: Voice>(state: &mut State) -> Point
-    requires fits { Fits Point.MutableConstant state.old.depth_left state.old.lifetimes }
-    ensures did { DidFree V.Voice Point.MutableConstant state.old result state.new }
-{
-    state.mark = Some(Mark::Mutable);
-    state.in_value = true;
-    Point::Constant
-}
-
-/// An array, behind its tag.
-#[inline(always)]
-pub(super) fn array_constant<V: Voice>(state: &mut State) -> Point
-    requires fits { Fits Point.ArrayConstant state.old.depth_left state.old.lifetimes }
-    ensures did { DidFree V.Voice Point.ArrayConstant state.old result state.new }
-{
-    state.mark = Some(Mark::OpenBracket);
-    Point::FirstArrayConstant
-}
-
-/// A tuple, behind its tag.
-#[inline(always)]
-pub(super) fn tuple_constant<V: Voice>(state: &mut State) -> Point
-    requires fits { Fits Point.TupleConstant state.old.depth_left state.old.lifetimes }
-    ensures did { DidFree V.Voice Point.TupleConstant state.old result state.new }
-{
-    state.mark = Some(Mark::OpenParen);
-    Point::FirstTupleConstant
-}
-
-/// The brace behind a constant outside value position.
-#[inline(always)]
-pub(super) fn close_brace<V: Voice>(state: &mut State) -> Point
-    requires fits { Fits Point.CloseBrace state.old.depth_left state.old.lifetimes }
-    ensures did { DidFree V.Voice Point.CloseBrace state.old result state.new }
-{
-    state.mark = Some(Mark::CloseBrace);
-    state.is_open = false;
-    Point::End
-}
-
 /// The string of a constant.
 #[inline(never)]
 pub(super) fn literal<V: Voice>(

@@ -130,17 +130,6 @@ pub(super) fn trait_path<V: Voice, const N: usize>(
     Ok(Point::Path)
 }
 
-/// The arguments of a dyn trait path.
-#[inline(always)]
-pub(super) fn open_trait_path<V: Voice>(state: &mut State) -> Point
-    requires fits { Fits Point.OpenTraitPath state.old.depth_left state.old.lifetimes }
-    ensures did { (b : List ℕ) (plain : Bool) (v : V) (row : List Frame) → Did V.Voice b plain
-        Point.OpenTraitPath state.old row v (Ok result) state.new row v 0 }
-{
-    state.mark = Some(Mark::Less);
-    Point::FirstOpenArgument
-}
-
 /// An argument of a dyn trait path, the first or a further one, or their end, behind which the
 /// bracket is open.
 #[inline(always)]

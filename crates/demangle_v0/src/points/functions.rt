@@ -6,6 +6,7 @@ ghost use Rattle.demangle_words.specs.Groups.{texts_of};
 ghost use Rattle.demangle_v0.specs.Points.{own_by, Did, Fits, most_lifetimes};
 
 use crate::points::frames::{Frame, FrameStack};
+use crate::points::marks::leave;
 use crate::points::tuples::is_over;
 use crate::points::{Point, State, Stop, word_at};
 use demangle_sink::SinkRefused;
@@ -108,7 +109,7 @@ pub(super) fn function_head<V: Voice>(
         WordRead::Goes(head, next) => {
             state.place = next;
             if is_bare(&head) {
-                return Ok(open_parameters::<V>(state));
+                return Ok(leave::<V>(Point::OpenParameters, state));
             }
             let Ok(()) = voice.say(symbol, &head, plain, looks) else {
                 return Err(Stop::Refused);
@@ -117,17 +118,6 @@ pub(super) fn function_head<V: Voice>(
         }
         WordRead::Stops(mark) => Err(Stop::Fault(mark)),
     }
-}
-
-/// The parameters of a function.
-#[inline(always)]
-pub(super) fn open_parameters<V: Voice>(state: &mut State) -> Point
-    requires fits { Fits Point.OpenParameters state.old.depth_left state.old.lifetimes }
-    ensures did { (b : List ℕ) (plain : Bool) (v : V) (row : List Frame) → Did V.Voice b plain
-        Point.OpenParameters state.old row v (Ok result) state.new row v 0 }
-{
-    state.mark = Some(Mark::Function);
-    Point::FirstParameter
 }
 
 /// What stands in front of an element, unless it is the first.

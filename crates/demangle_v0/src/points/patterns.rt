@@ -58,17 +58,6 @@ pub(super) fn pattern<V: Voice, const N: usize>(
     }
 }
 
-/// What stands behind the first constant of a range.
-#[inline(always)]
-pub(super) fn range_end<V: Voice>(state: &mut State) -> Point
-    requires fits { Fits Point.RangeEnd state.old.depth_left state.old.lifetimes }
-    ensures did { DidFree V.Voice Point.RangeEnd state.old result state.new }
-{
-    state.mark = Some(Mark::Range);
-    state.in_value = false;
-    Point::Constant
-}
-
 /// Another pattern behind `|`, or the end. Where the reading has failed the end is a new fault.
 #[inline(always)]
 pub(super) fn next_pattern<V: Voice, const N: usize>(

@@ -4,32 +4,25 @@ ghost use Rattle.demangle_v0.specs.Impls.{is_skip};
 ghost use Rattle.demangle_v0.specs.Points.{own_by, Did, Fits};
 ghost use Rattle.demangle_v0.specs.PointRuns.{first_looks};
 
-use crate::points::arguments::{arguments, generic, open_arguments};
+use crate::points::arguments::{arguments, generic};
 use crate::points::bindings::{binding_name, bindings, bound, open_bindings};
 use crate::points::constant_lists::{
     ConstantList, first_constant, next_constant, second_tuple_constant,
 };
-use crate::points::constants::{
-    array_constant, close_brace, constant, literal, mut_reference_constant, mutable_constant,
-    number, tuple_constant,
-};
-use crate::points::dyn_traits::{
-    dyn_binder, dyn_lifetime, dyn_trait, open_argument, open_trait_path, trait_path,
-};
+use crate::points::constants::{constant, literal, number};
+use crate::points::dyn_traits::{dyn_binder, dyn_lifetime, dyn_trait, open_argument, trait_path};
 use crate::points::frames::FrameStack;
-use crate::points::functions::{
-    function_binder, function_head, open_parameters, parameter, returns,
-};
+use crate::points::functions::{function_binder, function_head, parameter, returns};
 use crate::points::impls::{as_trait, self_type, skipped_path};
 use crate::points::marks::leave;
 use crate::points::names::nested_name;
 use crate::points::paths::path;
-use crate::points::patterns::{next_pattern, pattern, range_end};
+use crate::points::patterns::{next_pattern, pattern};
 use crate::points::references::behind;
 use crate::points::tuples::{first_tuple_type, next_tuple_type, second_tuple_type};
-use crate::points::type_references::{reference_lifetime, unchanging};
-use crate::points::types::{array_length, close_bracket, is_begun, pattern_is, type_};
-use crate::points::variants::{field, field_colon, variant};
+use crate::points::type_references::reference_lifetime;
+use crate::points::types::{array_length, is_begun, type_};
+use crate::points::variants::{field, variant};
 use crate::points::{Point, State, Stop, last_word};
 use demangle_symbol::cursor::{Looks, Symbol};
 use demangle_words::texts::{Mark, Word};
@@ -69,7 +62,6 @@ pub(super) fn perform<V: Voice, const N: usize>(
         Point::SelfType => Ok(self_type::<V, N>(true, state, row)),
         Point::As => Ok(as_trait::<V, N>(state, row)),
         Point::Generic => Ok(generic::<V>(state)),
-        Point::OpenArguments => Ok(open_arguments::<V>(state)),
         Point::FirstArgument => Ok(arguments::<V, N>(symbol, true, state, row, looks)),
         Point::NextArgument => Ok(arguments::<V, N>(symbol, false, state, row, looks)),
         Point::Lifetime => last_word(symbol, Word::LifetimeIndex, plain, state, voice, looks),
@@ -77,17 +69,13 @@ pub(super) fn perform<V: Voice, const N: usize>(
             type_(symbol, is_begun(point), plain, state, row, voice, looks)
         }
         Point::ArrayLength => Ok(array_length(state, row, voice)),
-        Point::CloseBracket => Ok(close_bracket::<V>(state)),
         Point::FirstTupleType => Ok(first_tuple_type::<V, N>(symbol, state, row, looks)),
         Point::SecondTupleType => Ok(second_tuple_type::<V, N>(symbol, state, row, looks)),
         Point::NextTupleType => Ok(next_tuple_type::<V, N>(symbol, state, row, looks)),
         Point::ReferenceLifetime => reference_lifetime(symbol, false, plain, state, voice, looks),
         Point::MutReferenceLifetime => reference_lifetime(symbol, true, plain, state, voice, looks),
-        Point::Unchanging => Ok(unchanging::<V>(state)),
-        Point::PatternIs => Ok(pattern_is::<V>(state)),
         Point::FunctionBinder => function_binder(symbol, plain, state, voice, looks),
         Point::FunctionHead => function_head(symbol, plain, state, voice, looks),
-        Point::OpenParameters => Ok(open_parameters::<V>(state)),
         Point::FirstParameter => Ok(parameter::<V, N>(symbol, true, state, row, looks)),
         Point::NextParameter => Ok(parameter::<V, N>(symbol, false, state, row, looks)),
         Point::Returns => Ok(returns::<V>(symbol, state, looks)),
@@ -95,7 +83,6 @@ pub(super) fn perform<V: Voice, const N: usize>(
         Point::FirstDynTrait => Ok(dyn_trait::<V, N>(symbol, true, state, row, looks)),
         Point::NextDynTrait => Ok(dyn_trait::<V, N>(symbol, false, state, row, looks)),
         Point::TraitPath => trait_path(symbol, state, row, voice, looks),
-        Point::OpenTraitPath => Ok(open_trait_path::<V>(state)),
         Point::FirstOpenArgument => Ok(open_argument::<V, N>(symbol, true, state, row, looks)),
         Point::NextOpenArgument => Ok(open_argument::<V, N>(symbol, false, state, row, looks)),
         Point::Bindings => Ok(bindings::<V>(symbol, state, looks)),
@@ -104,21 +91,16 @@ pub(super) fn perform<V: Voice, const N: usize>(
         Point::Bound => Ok(bound::<V, N>(symbol, state, row, looks)),
         Point::DynLifetime => dyn_lifetime(symbol, plain, state, voice, looks),
         Point::Pattern => pattern::<V, N>(symbol, state, row, looks),
-        Point::RangeEnd => Ok(range_end::<V>(state)),
         Point::NextPattern => next_pattern::<V, N>(symbol, state, row, looks),
         Point::Constant => constant(symbol, plain, state, row, voice, looks),
         Point::Number => number(symbol, plain, state, voice, looks),
         Point::Literal => literal(symbol, plain, state, voice, looks),
-        Point::MutReferenceConstant => Ok(mut_reference_constant::<V>(state)),
-        Point::MutableConstant => Ok(mutable_constant::<V>(state)),
-        Point::ArrayConstant => Ok(array_constant::<V>(state)),
         Point::FirstArrayConstant => {
             Ok(first_constant::<V, N>(symbol, ConstantList::Array, state, row, looks))
         }
         Point::NextArrayConstant => {
             Ok(next_constant::<V, N>(symbol, ConstantList::Array, state, row, looks))
         }
-        Point::TupleConstant => Ok(tuple_constant::<V>(state)),
         Point::FirstTupleConstant => {
             Ok(first_constant::<V, N>(symbol, ConstantList::Tuple, state, row, looks))
         }
@@ -142,14 +124,25 @@ pub(super) fn perform<V: Voice, const N: usize>(
             Ok(next_constant::<V, N>(symbol, ConstantList::Fields, state, row, looks))
         }
         Point::Field => field(symbol, plain, state, voice, looks),
-        Point::FieldColon => Ok(field_colon::<V>(state)),
-        Point::CloseBrace => Ok(close_brace::<V>(state)),
         Point::Behind => Ok(behind::<V>(state)),
         Point::CloseParen
         | Point::CloseAngle
         | Point::Mutable
         | Point::TextConstant
-        | Point::ReferenceConstant => { Ok(leave::<V>(point, state)) }
+        | Point::ReferenceConstant
+        | Point::OpenArguments
+        | Point::Unchanging
+        | Point::PatternIs
+        | Point::OpenParameters
+        | Point::OpenTraitPath
+        | Point::CloseBracket
+        | Point::RangeEnd
+        | Point::MutReferenceConstant
+        | Point::MutableConstant
+        | Point::ArrayConstant
+        | Point::TupleConstant
+        | Point::FieldColon
+        | Point::CloseBrace => { Ok(leave::<V>(point, state)) }
         Point::End => Ok(Point::End),
     }
 }

@@ -95,14 +95,3 @@ fn spaced_lifetime(lifetimes: u128, index: u64, next: usize) -> (Stretch, Option
         Some(next),
     )
 }
-
-/// The type behind `const `.
-#[inline(always)]
-pub(super) fn unchanging<V: Voice>(state: &mut State) -> Point
-    requires fits { Fits Point.Unchanging state.old.depth_left state.old.lifetimes }
-    ensures did { (b : List ℕ) (plain : Bool) (v : V) (row : List Frame) (n : ℕ) → PointDoes (env
-        V.Voice b plain) Point.Unchanging (turn state.old row v n) (Ok result) (turn state.new row v n) }
-{
-    state.mark = Some(Mark::Unchanging);
-    Point::Type
-}

@@ -200,17 +200,6 @@ pub(super) fn push_printing<V: Voice, const N: usize>(
     }
 }
 
-/// The pattern of a type, behind the type.
-#[inline(always)]
-pub(super) fn pattern_is<V: Voice>(state: &mut State) -> Point
-    requires fits { Fits Point.PatternIs state.old.depth_left state.old.lifetimes }
-    ensures did { (b : List ℕ) (plain : Bool) (v : V) (row : List Frame) → Did V.Voice b plain
-        Point.PatternIs state.old row v (Ok result) state.new row v 0 }
-{
-    state.mark = Some(Mark::Is);
-    Point::Pattern
-}
-
 /// The length of an array, behind its type.
 #[inline(always)]
 pub(super) fn array_length<V: Voice, const N: usize>(
@@ -227,15 +216,4 @@ pub(super) fn array_length<V: Voice, const N: usize>(
     state.mark = Some(Mark::Semicolon);
     state.in_value = true;
     Point::Constant
-}
-
-/// The `]` behind an array or a slice.
-#[inline(always)]
-pub(super) fn close_bracket<V: Voice>(state: &mut State) -> Point
-    ensures did { (b : List ℕ) (plain : Bool) (v : V) (row : List Frame) → Did V.Voice b plain
-        Point.CloseBracket state.old row v (Ok result) state.new row v 0 }
-{
-    state.mark = Some(Mark::CloseBracket);
-    state.is_open = false;
-    Point::End
 }

@@ -114,14 +114,3 @@ pub(super) fn field<V: Voice>(
         WordRead::Stops(mark) => Err(Stop::Fault(mark)),
     }
 }
-
-/// What stands behind the name of a field.
-#[inline(always)]
-pub(super) fn field_colon<V: Voice>(state: &mut State) -> Point
-    requires fits { Fits Point.FieldColon state.old.depth_left state.old.lifetimes }
-    ensures did { DidFree V.Voice Point.FieldColon state.old result state.new }
-{
-    state.mark = Some(Mark::Colon);
-    state.in_value = true;
-    Point::Constant
-}

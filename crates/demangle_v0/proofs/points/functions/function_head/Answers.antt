@@ -3,6 +3,7 @@ use Rattle.demangle_v0.specs.Points.{share_at}
 use Rattle.demangle_v0.specs.declared.points.Point.TheVariants as point
 use Rattle.demangle_words.specs.declared.texts.Word.TheVariants as word
 use Rattle.demangle_v0.proofs.PointFunctions.{parameters, word_on, word_bare, word_on_refused, word_fails}
+use Rattle.demangle_v0.proofs.PointTurns.{did}
 use Rattle.demangle_v0.proofs.WordLooks.{group_short}
 use Rattle.demangle_v0.proofs.points.functions.function_head.Goals as goal
 
@@ -10,7 +11,7 @@ pub returns-then-is_bare-clause-did : goal.returns-then-is_bare-clause-did
 unfolding share_at
 returns-then-is_bare-clause-did g c = λ row.
     word_bare g.V.Voice c.args.symbol.now c.args.plain (omega arith) word.FunctionHead c.args.state.now.letter parameters c.args.state.now.depth_left c.args.state.now.lifetimes c.args.state.now.place c.in-Goes.next c.in-Goes.head 5 (8 * c.args.state.now.depth_left + 2) 4 (8 * c.args.state.now.depth_left + 2) row _ _ _ _ _ 0 _
-    c.in-Goes.ensures.value (omega (arith, c.in-Goes.ensures.looks)) (c.is_bare.ensures c.if-is_bare.true c.args.symbol.now c.args.plain) (omega arith) (omega arith) (c.open_parameters.ensures.did c.args.symbol.now c.args.plain c.args.voice.now row)
+    c.in-Goes.ensures.value (omega (arith, c.in-Goes.ensures.looks)) (c.is_bare.ensures c.if-is_bare.true c.args.symbol.now c.args.plain) (omega arith) (omega arith) (did (c.leave.ensures.did c.args.symbol.now c.args.plain c.args.voice.now row 0))
 
 pub returns-in_default-clause-did : goal.returns-in_default-clause-did
 unfolding share_at

@@ -62,9 +62,6 @@ returns-in-NextTupleType-clause-grows g c = (c.next_tuple_type.ensures.did c.arg
 pub returns-in-NextTupleType-clause-least : goal.returns-in-NextTupleType-clause-least
 returns-in-NextTupleType-clause-least g c = rw c.in-NextTupleType.is (omega (arith, (c.next_tuple_type.ensures.did c.args.plain c.args.voice.now).grows))
 
-pub returns-in-Unchanging-clause-did : goal.returns-in-Unchanging-clause-did
-returns-in-Unchanging-clause-did g c = rw c.in-Unchanging.is (did (c.unchanging.ensures.did c.args.symbol.now c.args.plain c.args.voice.now c.args.row.now c.args.looks.now))
-
 pub returns-in-Behind-clause-did : goal.returns-in-Behind-clause-did
 returns-in-Behind-clause-did g c = rw c.in-Behind.is (did (c.behind.ensures.did c.args.symbol.now c.args.plain c.args.voice.now c.args.row.now c.args.looks.now))
 
