@@ -1,5 +1,6 @@
 //! The program's work over any streams.
-ghost use Rattle.std.specs.Prelude.{◌≡◌, ◌≤◌, length};
+ghost use Rattle.std.specs.Prelude.{◌≡◌, ◌≢◌, ◌==◌, ◌≤◌, [], ◌∷◌, codes, length, map, string_bytes, IfSome, OnOk};
+ghost use Rattle.rustc_demangle.specs.Stream.{Finished};
 
 use rustc_demangle::{StreamFault, demangle_stream_named};
 use std::alloc::Global;
@@ -37,7 +38,11 @@ fn filter<R: BufRead, W: Write>(
     input: &mut R,
     output: &mut W,
     include_hash: bool,
-) -> Result<(), &'static str> {
+) -> Result<(), &'static str>
+    ensures { OnOk result (IfSome (R.remaining input.old) (λ text.
+        Finished text include_hash (R.remaining input.new)
+        (W.contents output.old) (W.contents output.new))) }
+{
     let copied = demangle_stream_named(alloc, input, output, include_hash);
     if output.flush().is_err() {
         return Err(WRITE_FAILED);
@@ -57,6 +62,10 @@ pub fn filter_run<R: BufRead, W: Write, E: Write>(
 ) -> u8
     ensures status { result ≤ 2 }
     ensures usage { 2 ≤ length words.now → result ≡ 2 }
+    ensures word { length words.now ≡ 1 → map string_bytes words.now ≢ codes "--no-hash" ∷ [] → result ≡ 2 }
+    ensures done { result ≡ 0 → IfSome (R.remaining input.old) (λ text.
+        Finished text (length words.now == 0) (R.remaining input.new)
+        (W.contents output.old) (W.contents output.new)) }
 {
     let include_hash = match words {
         [] => true,

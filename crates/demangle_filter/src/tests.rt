@@ -11,6 +11,7 @@ use std::test::Fail;
 use streams::{WatchedWriter, WatchingReader};
 use test_doubles::streams::{NotingWriter, PartsReader, RefusingWriter};
 
+mod outputs;
 mod streams;
 
 /// The status of a run, and what it wrote as errors.
@@ -70,9 +71,12 @@ fn symbols_are_demangled_with_their_hash_or_without(rt: HostRuntime) -> Result<(
 #[test]
 fn other_words_read_nothing(rt: HostRuntime) -> Result<(), Fail> {
     let alloc = rt.alloc();
-    let cases: [&[&str]; 5] = [
+    let cases: [&[&str]; 8] = [
         &["--no-hash", "--no-hash"],
         &["--hash"],
+        &["-n"],
+        &["--no-has"],
+        &["no-hash"],
         &[""],
         &["--no-hash", "x"],
         &["--no-hash "],
@@ -119,11 +123,18 @@ fn a_reader_that_fails_is_told(rt: HostRuntime) -> Result<(), Fail> {
 #[test]
 fn a_line_that_is_not_utf8_is_told(rt: HostRuntime) -> Result<(), Fail> {
     let alloc = rt.alloc();
-    let mut input: &[u8] = b"x _ZN3fooE\n_ZN3fooE \xFF\n_ZN3fooE";
-    let mut output = Vec::new(alloc);
-    let ended = run(alloc, &[], &mut input, &mut output)?;
-    assert_failed(&rt, &ended, b"demangle_filter: not UTF-8\n");
-    assert_eq!(rt; output.as_slice(), b"x foo\n".as_slice());
+    let cases: [(&[u8], &[u8]); 3] = [
+        (b"x _ZN3fooE\n_ZN3fooE \xFF\n_ZN3fooE", b"x foo\n"),
+        (b"x _RCx _ZN3fooE\n\xFF", b"x _RCx foo\n"),
+        (b"x _RCx _ZN3fooE\xFF", b""),
+    ];
+    for (text, wanted) in cases {
+        let mut input = text;
+        let mut output = Vec::new(alloc);
+        let ended = run(alloc, &[], &mut input, &mut output)?;
+        assert_failed(&rt, &ended, b"demangle_filter: not UTF-8\n");
+        assert_eq!(rt; output.as_slice(), wanted, "of {text:?}");
+    }
     Ok(())
 }
 

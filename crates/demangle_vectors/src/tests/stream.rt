@@ -57,6 +57,25 @@ fn symbols_are_replaced_in_lines(rt: HostRuntime) -> Result<(), Fail> {
 }
 
 #[test]
+fn a_run_ends_at_each_byte_that_it_may_not_have(rt: HostRuntime) -> Result<(), Fail> {
+    let alloc = rt.alloc();
+    for byte in 0..128u8 {
+        let goes_on = byte.is_ascii_alphanumeric() || byte == b'$' || byte == b'_';
+        let mut text = Vec::from_slice(alloc, b"_ZN3fooE")?;
+        text.push(byte)?;
+        let mut wanted = Vec::new(alloc);
+        if goes_on {
+            wanted.extend_from_slice(b"_ZN3fooE")?;
+        } else {
+            wanted.extend_from_slice(b"foo")?;
+        }
+        wanted.push(byte)?;
+        assert_writes(&rt, alloc, text.as_slice(), true, wanted.as_slice())?;
+    }
+    Ok(())
+}
+
+#[test]
 fn the_stream_leaves_out_a_hash(rt: HostRuntime) -> Result<(), Fail> {
     let text = b"<_ZN3foo17h05af221e174051e9E>\n".as_slice();
     assert_writes(&rt, rt.alloc(), text, true, b"<foo::h05af221e174051e9>\n")?;

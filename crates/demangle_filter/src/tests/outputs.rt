@@ -1,0 +1,233 @@
+//! What the output holds and when it is written, where its writer takes a part of what it is
+//! handed, or refuses once.
+use super::{WRITE_FAILED, assert_failed, run_pausing};
+use crate::held::CAPACITY;
+use crate::pausing::PausingOutput;
+use std::alloc::Global;
+use std::cell::Cell;
+use std::io;
+use std::io::{ErrorKind, Read, Write};
+use std::test::Fail;
+use test_doubles::streams::{PartsReader, RefusingWriter};
+
+/// Takes at most three bytes a write.
+#[derive(Drop)]
+struct ShortWriter {
+    held: Vec<u8>,
+}
+
+impl Write for ShortWriter {
+    fn write(&mut self, buf: &[u8]) -> io::Result<usize> {
+        let part = buf.get(..3).unwrap_or(buf);
+        self.held.extend_from_slice(part)?;
+        Ok(part.len())
+    }
+
+    fn flush(&mut self) -> io::Result<()> {
+        Ok(())
+    }
+}
+
+/// Refuses one write and one flush, each the one after so many, takes those that follow, and counts
+/// the flushes that it took.
+#[derive(Drop)]
+struct OnceRefusingWriter {
+    held: Vec<u8>,
+    writes_left: usize,
+    flushes_left: usize,
+    flushed: usize,
+}
+
+impl OnceRefusingWriter {
+    fn new(alloc: Global, writes: usize, flushes: usize) -> OnceRefusingWriter {
+        OnceRefusingWriter {
+            held: Vec::new(alloc),
+            writes_left: writes,
+            flushes_left: flushes,
+            flushed: 0,
+        }
+    }
+}
+
+impl Write for OnceRefusingWriter {
+    fn write(&mut self, buf: &[u8]) -> io::Result<usize> {
+        if self.writes_left == 0 {
+            self.writes_left = usize::MAX;
+            return Err(io::Error::from(ErrorKind::BrokenPipe));
+        }
+        self.writes_left -= 1;
+        self.held.extend_from_slice(buf)?;
+        Ok(buf.len())
+    }
+
+    fn flush(&mut self) -> io::Result<()> {
+        if self.flushes_left == 0 {
+            self.flushes_left = usize::MAX;
+            return Err(io::Error::from(ErrorKind::BrokenPipe));
+        }
+        self.flushes_left -= 1;
+        self.flushed = self.flushed.saturating_add(1);
+        Ok(())
+    }
+}
+
+/// Counts the bytes that are written, and tells its reader of them.
+#[derive(Drop)]
+struct CountingWriter<'a> {
+    written: &'a Cell<usize>,
+    is_unflushed: &'a Cell<bool>,
+}
+
+impl Write for CountingWriter<'_> {
+    fn write(&mut self, buf: &[u8]) -> io::Result<usize> {
+        self.written
+            .set(self.written.get().saturating_add(buf.len()));
+        self.is_unflushed.set(true);
+        Ok(buf.len())
+    }
+
+    fn flush(&mut self) -> io::Result<()> {
+        self.is_unflushed.set(false);
+        Ok(())
+    }
+}
+
+/// Fails where it is read before all bytes that it handed out were written and flushed.
+#[derive(Drop)]
+struct CountingReader<'a> {
+    parts: PartsReader<'a>,
+    read: usize,
+    written: &'a Cell<usize>,
+    is_unflushed: &'a Cell<bool>,
+}
+
+impl Read for CountingReader<'_> {
+    fn read(&mut self, buf: &mut [u8]) -> io::Result<usize> {
+        if self.written.get() != self.read || self.is_unflushed.get() {
+            return Err(io::Error::from(ErrorKind::Other));
+        }
+        let count = self.parts.read(buf)?;
+        self.read = self.read.saturating_add(count);
+        Ok(count)
+    }
+}
+
+#[test]
+fn long_pieces_are_written_whole(rt: HostRuntime) -> Result<(), Fail> {
+    let alloc = rt.alloc();
+    let mut text = vec![in alloc; b'l'; CAPACITY + 5]?;
+    text.extend_from_slice(b"\nx _ZN3fooE\n")?;
+    let mut wanted = vec![in alloc; b'l'; CAPACITY + 5]?;
+    wanted.extend_from_slice(b"\nx foo\n")?;
+    let parts: [&[u8]; 1] = [text.as_slice()];
+    let input = PartsReader::new(&parts, 100, ErrorKind::Other);
+    let mut output = ShortWriter {
+        held: Vec::new(alloc),
+    };
+    let ended = run_pausing(alloc, input, &mut output)?;
+    assert_eq!(rt; ended.status, 0);
+    assert!(rt; output.held.as_slice() == wanted.as_slice());
+    Ok(())
+}
+
+#[test]
+fn held_pieces_are_written_whole(rt: HostRuntime) -> Result<(), Fail> {
+    let alloc = rt.alloc();
+    let parts: [&[u8]; 1] = [b"abcdef _ZN3fooE\n"];
+    let input = PartsReader::new(&parts, 100, ErrorKind::Other);
+    let mut output = ShortWriter {
+        held: Vec::new(alloc),
+    };
+    let ended = run_pausing(alloc, input, &mut output)?;
+    assert_eq!(rt; ended.status, 0);
+    assert_eq!(rt; output.held.as_slice(), b"abcdef foo\n".as_slice());
+    Ok(())
+}
+
+#[test]
+fn lines_are_written_before_more_is_read(rt: HostRuntime) -> Result<(), Fail> {
+    let alloc = rt.alloc();
+    let mut long = vec![in alloc; b'l'; CAPACITY + 5]?;
+    long.push(b'\n')?;
+    let written = Cell::new(0);
+    let is_unflushed = Cell::new(false);
+    let parts: [&[u8]; 3] = [b"a\n", long.as_slice(), b"b\nc\n"];
+    let input = CountingReader {
+        parts: PartsReader::new(&parts, 100, ErrorKind::Other),
+        read: 0,
+        written: &written,
+        is_unflushed: &is_unflushed,
+    };
+    let mut output = CountingWriter {
+        written: &written,
+        is_unflushed: &is_unflushed,
+    };
+    let ended = run_pausing(alloc, input, &mut output)?;
+    assert_eq!(rt; ended.status, 0);
+    Ok(())
+}
+
+#[test]
+fn a_refused_line_goes_before_one_that_is_not_utf8(rt: HostRuntime) -> Result<(), Fail> {
+    let alloc = rt.alloc();
+    let parts: [&[u8]; 1] = [b"_ZN3fooE\n\xFF\n"];
+    let input = PartsReader::new(&parts, 100, ErrorKind::Other);
+    let mut output = RefusingWriter::new(alloc, b"", 0, true)?;
+    let ended = run_pausing(alloc, input, &mut output)?;
+    assert_failed(&rt, &ended, WRITE_FAILED);
+    Ok(())
+}
+
+#[test]
+fn a_flush_that_fails_once_ends_the_run(rt: HostRuntime) -> Result<(), Fail> {
+    let alloc = rt.alloc();
+    let parts: [&[u8]; 2] = [b"_ZN3fooE\n", b"z\n"];
+    let input = PartsReader::new(&parts, 100, ErrorKind::Other);
+    let mut output = OnceRefusingWriter::new(alloc, 100, 0);
+    let ended = run_pausing(alloc, input, &mut output)?;
+    assert_failed(&rt, &ended, WRITE_FAILED);
+    assert_eq!(rt; output.held.as_slice(), b"foo\n".as_slice());
+    Ok(())
+}
+
+#[test]
+fn a_write_that_fails_once_is_told(rt: HostRuntime) -> Result<(), Fail> {
+    let alloc = rt.alloc();
+    let full = vec![in alloc; b'f'; CAPACITY]?;
+    let mut refusing = OnceRefusingWriter::new(alloc, 0, 100);
+    let output = PausingOutput::new(&mut refusing);
+    let mut writer = output.writer();
+    assert!(rt; writer.write_all(b"x").is_ok());
+    assert!(rt; writer.write_all(full.as_slice()).is_err());
+    assert!(rt; writer.flush().is_err());
+    drop(output);
+    // What was refused stays held, and the flush hands it on.
+    assert_eq!(rt; refusing.held.as_slice(), b"x".as_slice());
+    Ok(())
+}
+
+#[test]
+fn each_pause_flushes_once(rt: HostRuntime) -> Result<(), Fail> {
+    let alloc = rt.alloc();
+    let parts: [&[u8]; 3] = [b"a\n", b"b", b"c\n"];
+    let input = PartsReader::new(&parts, 100, ErrorKind::Other);
+    let mut output = OnceRefusingWriter::new(alloc, 100, 100);
+    let ended = run_pausing(alloc, input, &mut output)?;
+    assert_eq!(rt; ended.status, 0);
+    assert_eq!(rt; output.flushed, 3);
+    Ok(())
+}
+
+#[test]
+fn a_part_follows_what_is_held(rt: HostRuntime) -> Result<(), Fail> {
+    let alloc = rt.alloc();
+    let mut held = Vec::new(alloc);
+    let output = PausingOutput::new(&mut held);
+    let mut writer = output.writer();
+    writer.write_all(b"a")?;
+    assert_eq!(rt; writer.write(b"b")?, 1);
+    writer.flush()?;
+    drop(output);
+    assert_eq!(rt; held.as_slice(), b"ab".as_slice());
+    Ok(())
+}
