@@ -59,7 +59,7 @@ pub(super) fn function_binder<V: Voice>(
     ensures ready { IsOk result → V.ready voice.new }
     ensures sound { (m : Mark) → result ≡ Err (Stop.Fault m) → V.ready voice.new }
     ensures grows { looks.old ≤ looks.new }
-    ensures own { looks.new ≤ looks.old + own_by 24 symbol.now state.old.place }
+    ensures own { looks.new ≤ looks.old + own_by 16 symbol.now state.old.place }
 {
     let Some(at) = state.place else {
         return Err(Stop::Fault(Mark::Unread));
@@ -103,7 +103,7 @@ pub(super) fn function_head<V: Voice>(
     ensures ready { IsOk result → V.ready voice.new }
     ensures sound { (m : Mark) → result ≡ Err (Stop.Fault m) → V.ready voice.new }
     ensures grows { looks.old ≤ looks.new }
-    ensures own { looks.new ≤ looks.old + own_by 20 symbol.now state.old.place }
+    ensures own { looks.new ≤ looks.old + own_by 8 symbol.now state.old.place }
 {
     match word_at(symbol, Word::FunctionHead, state, voice, looks) {
         WordRead::Goes(head, next) => {
