@@ -99,13 +99,22 @@ pub returns-in-FunctionHead-clause-did : goal.returns-in-FunctionHead-clause-did
 returns-in-FunctionHead-clause-did g c = rw c.in-FunctionHead.is (does (c.function_head.ensures.did c.args.row.now) c.function_head.ensures.grows (own_more _ 8 20 _ _ (omega arith) c.function_head.ensures.own) (λ _. c.function_head.ensures.ready) (λ _. c.function_head.ensures.sound))
 
 pub returns-in-FirstParameter-clause-did : goal.returns-in-FirstParameter-clause-did
-returns-in-FirstParameter-clause-did g c = rw c.in-FirstParameter.is (does (c.parameter.ensures.did c.args.plain c.args.voice.now) c.parameter.ensures.grows c.parameter.ensures.own (λ k _. k) (λ k _ _. k))
+returns-in-FirstParameter-clause-did g c = rw c.in-FirstParameter.is (c.parameter.ensures.did c.args.plain c.args.voice.now)
+
+pub returns-in-FirstParameter-clause-least : goal.returns-in-FirstParameter-clause-least
+returns-in-FirstParameter-clause-least g c = rw c.in-FirstParameter.is (omega (arith, (c.parameter.ensures.did c.args.plain c.args.voice.now).grows))
 
 pub returns-in-NextParameter-clause-did : goal.returns-in-NextParameter-clause-did
-returns-in-NextParameter-clause-did g c = rw c.in-NextParameter.is (does (c.parameter-in-NextParameter.ensures.did c.args.plain c.args.voice.now) c.parameter-in-NextParameter.ensures.grows c.parameter-in-NextParameter.ensures.own (λ k _. k) (λ k _ _. k))
+returns-in-NextParameter-clause-did g c = rw c.in-NextParameter.is (c.parameter-in-NextParameter.ensures.did c.args.plain c.args.voice.now)
+
+pub returns-in-NextParameter-clause-least : goal.returns-in-NextParameter-clause-least
+returns-in-NextParameter-clause-least g c = rw c.in-NextParameter.is (omega (arith, (c.parameter-in-NextParameter.ensures.did c.args.plain c.args.voice.now).grows))
 
 pub returns-in-Returns-clause-did : goal.returns-in-Returns-clause-did
-returns-in-Returns-clause-did g c = rw c.in-Returns.is (does (c.returns.ensures.did c.args.plain c.args.voice.now c.args.row.now) c.returns.ensures.grows c.returns.ensures.own (λ k _. k) (λ k _ _. k))
+returns-in-Returns-clause-did g c = rw c.in-Returns.is (c.returns.ensures.did c.args.plain c.args.voice.now c.args.row.now)
+
+pub returns-in-Returns-clause-least : goal.returns-in-Returns-clause-least
+returns-in-Returns-clause-least g c = rw c.in-Returns.is (omega (arith, (c.returns.ensures.did c.args.plain c.args.voice.now c.args.row.now).grows))
 
 pub returns-in-DynBinder-clause-did : goal.returns-in-DynBinder-clause-did
 returns-in-DynBinder-clause-did g c = rw c.in-DynBinder.is (does (c.dyn_binder.ensures.did) c.dyn_binder.ensures.grows c.dyn_binder.ensures.own (λ _. c.dyn_binder.ensures.ready) (λ _. c.dyn_binder.ensures.sound))
@@ -135,7 +144,10 @@ pub returns-in-BindingName-clause-did : goal.returns-in-BindingName-clause-did
 returns-in-BindingName-clause-did g c = rw c.in-BindingName.is (does (c.binding_name.ensures.did c.args.row.now) c.binding_name.ensures.grows c.binding_name.ensures.own (λ _. c.binding_name.ensures.ready) (λ _. c.binding_name.ensures.sound))
 
 pub returns-in-Bound-clause-did : goal.returns-in-Bound-clause-did
-returns-in-Bound-clause-did g c = rw c.in-Bound.is (does (c.bound.ensures.did c.args.plain c.args.voice.now) c.bound.ensures.grows c.bound.ensures.own (λ k _. k) (λ k _ _. k))
+returns-in-Bound-clause-did g c = rw c.in-Bound.is (c.bound.ensures.did c.args.plain c.args.voice.now)
+
+pub returns-in-Bound-clause-least : goal.returns-in-Bound-clause-least
+returns-in-Bound-clause-least g c = rw c.in-Bound.is (omega (arith, (c.bound.ensures.did c.args.plain c.args.voice.now).grows))
 
 pub returns-in-DynLifetime-clause-did : goal.returns-in-DynLifetime-clause-did
 returns-in-DynLifetime-clause-did g c = rw c.in-DynLifetime.is (c.dyn_lifetime.ensures.did c.args.row.now)
@@ -144,10 +156,16 @@ pub returns-in-DynLifetime-clause-least : goal.returns-in-DynLifetime-clause-lea
 returns-in-DynLifetime-clause-least g c = rw c.in-DynLifetime.is (omega (arith, (c.dyn_lifetime.ensures.did c.args.row.now).grows))
 
 pub returns-in-Pattern-clause-did : goal.returns-in-Pattern-clause-did
-returns-in-Pattern-clause-did g c = rw c.in-Pattern.is (does (c.pattern.ensures.did c.args.plain c.args.voice.now) c.pattern.ensures.grows c.pattern.ensures.own (λ k _. k) (λ k _ _. k))
+returns-in-Pattern-clause-did g c = rw c.in-Pattern.is (c.pattern.ensures.did c.args.plain c.args.voice.now)
+
+pub returns-in-Pattern-clause-least : goal.returns-in-Pattern-clause-least
+returns-in-Pattern-clause-least g c = rw c.in-Pattern.is (omega (arith, (c.pattern.ensures.did c.args.plain c.args.voice.now).grows))
 
 pub returns-in-NextPattern-clause-did : goal.returns-in-NextPattern-clause-did
-returns-in-NextPattern-clause-did g c = rw c.in-NextPattern.is (does (c.next_pattern.ensures.did c.args.plain c.args.voice.now) c.next_pattern.ensures.grows c.next_pattern.ensures.own (λ k _. k) (λ k _ _. k))
+returns-in-NextPattern-clause-did g c = rw c.in-NextPattern.is (c.next_pattern.ensures.did c.args.plain c.args.voice.now)
+
+pub returns-in-NextPattern-clause-least : goal.returns-in-NextPattern-clause-least
+returns-in-NextPattern-clause-least g c = rw c.in-NextPattern.is (omega (arith, (c.next_pattern.ensures.did c.args.plain c.args.voice.now).grows))
 
 pub returns-in-Constant-clause-did : goal.returns-in-Constant-clause-did
 returns-in-Constant-clause-did g c = rw c.in-Constant.is (does (c.constant.ensures.did) c.constant.ensures.grows c.constant.ensures.own (λ _. c.constant.ensures.ready) (λ _. c.constant.ensures.sound))
@@ -183,10 +201,16 @@ pub returns-in-NextField-clause-did : goal.returns-in-NextField-clause-did
 returns-in-NextField-clause-did g c = rw c.in-NextField.is (does (c.next_constant-in-NextField.ensures.did c.args.plain c.args.voice.now) c.next_constant-in-NextField.ensures.grows c.next_constant-in-NextField.ensures.own (λ k _. k) (λ k _ _. k))
 
 pub returns-in-SecondTupleConstant-clause-did : goal.returns-in-SecondTupleConstant-clause-did
-returns-in-SecondTupleConstant-clause-did g c = rw c.in-SecondTupleConstant.is (does (c.second_tuple_constant.ensures.did c.args.plain c.args.voice.now) c.second_tuple_constant.ensures.grows c.second_tuple_constant.ensures.own (λ k _. k) (λ k _ _. k))
+returns-in-SecondTupleConstant-clause-did g c = rw c.in-SecondTupleConstant.is (c.second_tuple_constant.ensures.did c.args.plain c.args.voice.now)
+
+pub returns-in-SecondTupleConstant-clause-least : goal.returns-in-SecondTupleConstant-clause-least
+returns-in-SecondTupleConstant-clause-least g c = rw c.in-SecondTupleConstant.is (omega (arith, (c.second_tuple_constant.ensures.did c.args.plain c.args.voice.now).grows))
 
 pub returns-in-Variant-clause-did : goal.returns-in-Variant-clause-did
-returns-in-Variant-clause-did g c = rw c.in-Variant.is (does (c.variant.ensures.did c.args.plain c.args.voice.now) c.variant.ensures.grows c.variant.ensures.own (λ k _. k) (λ k _ _. k))
+returns-in-Variant-clause-did g c = rw c.in-Variant.is (c.variant.ensures.did c.args.plain c.args.voice.now)
+
+pub returns-in-Variant-clause-least : goal.returns-in-Variant-clause-least
+returns-in-Variant-clause-least g c = rw c.in-Variant.is (omega (arith, (c.variant.ensures.did c.args.plain c.args.voice.now).grows))
 
 pub returns-in-Field-clause-did : goal.returns-in-Field-clause-did
 returns-in-Field-clause-did g c = rw c.in-Field.is (does (c.field.ensures.did c.args.row.now) c.field.ensures.grows c.field.ensures.own (λ _. c.field.ensures.ready) (λ _. c.field.ensures.sound))
