@@ -97,14 +97,12 @@ module _ {V : Type 0} (voice : Ghosts V) (b : List ℕ) (plain : Bool) where
       go None = omega arith
       go (Some r) = omega arith
 
-  -- a unit that is over
-  pub stays_over : (s : State) (row : List Frame) (u : V) (made : ℕ) → made ≤ 0 → s.mark ≡ None → DidOn voice b plain 8 (share_at b plain voice.loud point.End s.in_value s.letter s.depth_left s.lifetimes s.place s.is_open) 1 0 row u (Ok point.End) s row u made
-  unfolding then_frame share_at
-  stays_over s row u made l k = record {
-    comes = steps voice b plain point.End [] [] (omega arith) None _ 1 0 row row u s made (rw k refl) refl (omega (arith, l)) (omega (arith, l)) (omega arith) (omega arith) (omega arith) tt tt (λ _. tt);
-  }
-
 module _ {V : Type 0} {e : Env V} where
+  -- a unit that is over
+  pub stays_over : {t : Turn V} → t.state.mark ≡ None → PointDoes e point.End t (Ok point.End) t
+  unfolding then_frame share_at
+  stays_over k = leaves point.End [] [] (omega arith) None (rw k refl) refl (record { grows = omega arith; within = omega arith }) (omega arith) (omega arith) (omega arith) (omega arith) (omega arith) tt tt (λ _. tt)
+
   pub target_stops : {t : Turn V} {n : ℕ} (shut : Bool) (k : Kind) (v : Bool) (m : Mark) → Faulty m ≡ (refer e.symbol t.state.depth_left t.state.place).refers → Paid t.looks (refer e.symbol t.state.depth_left t.state.place).costs n → t.state.mark ≡ None
       → Does e t (target_part e shut k v t.state) (Err (Fault m)) (record t { looks = n })
   target_stops {t} shut k v m r p q =

@@ -1,6 +1,6 @@
 -- The points of types.
 use Rattle.std.specs.Prelude.{if◌then◌else◌, ◌*◌, ◌==◌, slice_get, codes}
-use Rattle.std.proofs.Common.{◌≡◌, ℕ, ◌+◌, ◌-◌, ◌<◌, ◌≤◌, length, Bool, true, false, cond, Option, Some, None, List, [], ◌∷◌, ◌++◌, Result, Ok, Err, refl, arith, sym, ap, ◌∙◌}
+use Rattle.std.proofs.Common.{inl, inr, ◌⊎◌, ◌≡◌, ℕ, ◌+◌, ◌-◌, ◌<◌, ◌≤◌, length, Bool, true, false, cond, Option, Some, None, List, [], ◌∷◌, ◌++◌, Result, Ok, Err, refl, arith, sym, ap, ◌∙◌}
 use Rattle.std.proofs.lemmas.List.{append-nil}
 use Rattle.std.proofs.lemmas.Bool.{false≢true}
 use Prim.Native.Char.{code}
@@ -30,6 +30,11 @@ use Rattle.demangle_words.proofs.TagRows.{rows_of, basic_found}
 use Rattle.demangle_v0.proofs.PointSteps.{heard, child_last, steps, after, faulty_after}
 use Rattle.demangle_v0.proofs.PointTurns.{marks, leaves}
 use Rattle.demangle_grammar.proofs.TypeReads.{row_at, splat_reads, type_reads, tag_missing, basic_reads, type_deep, constructed_reads, path_type_reads, row_reads}
+
+-- the point of a type that is begun, or gone on with behind its `w`
+pub type_point : (p : Point) (q : Bool) → (p ≡ point.«Type») ⊎ (p ≡ point.TaggedType) → (p ≡ point.«Type» → q ≡ true) → (p ≡ point.TaggedType → q ≡ false) → (if q then point.«Type» else point.TaggedType) ≡ p
+type_point p q (inl e) y n = rw (y e) (sym e)
+type_point p q (inr e) y n = rw (n e) (sym e)
 
 module _ {V : Type 0} (voice : Ghosts V) (b : List ℕ) (plain : Bool) where
   abbrev pub heard_at : Point → Bool → ℕ → ℕ → ℕ → Place → Bool → Heard

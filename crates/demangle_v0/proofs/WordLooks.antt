@@ -208,6 +208,10 @@ pub group_short : (b : List ℕ) (x : Word) (c : ℕ) (out : Bool) (n : ℕ) (i 
 group_short b x c out n None = omega arith
 group_short b x c out n (Some i) = omega (arith, word_short b x c out n i)
 
+pub group_tight : (b : List ℕ) (x : Word) (c : ℕ) (out : Bool) (n : ℕ) (i : Place) → total (word_group b x c out n i).costs ≤ own_by 8 b i
+group_tight b x c out n None = omega arith
+group_tight b x c out n (Some i) = word_short b x c out n i
+
 pub refer_short : (b : List ℕ) (left : ℕ) (i : Place) → total (refer b left i).costs ≤ own_looks b i
 refer_short b left None = omega arith
 refer_short b left (Some i) = go (backref_at b i) (backref_placed b i)

@@ -3,7 +3,7 @@ ghost use Rattle.std.specs.Prelude.{◌≡◌, ℕ, ◌-◌, ◌+◌, ◌<◌, �
 ghost use Rattle.demangle_v0.specs.Arguments.{arguments_point, argument_point, argument_place, argument_costs};
 ghost use Rattle.demangle_grammar.specs.Totals.{total};
 ghost use Rattle.demangle_v0.specs.declared.points.frames.Frame.{Frame};
-ghost use Rattle.demangle_v0.specs.Points.{own_by, Did, Fits};
+ghost use Rattle.demangle_v0.specs.Points.{own_by, Did, Fits, PointDoes, env, turn};
 
 use crate::points::frames::FrameStack;
 use crate::points::functions::separator;
@@ -16,8 +16,7 @@ use demangle_words::voice::Voice;
 #[inline(always)]
 pub(super) fn generic<V: Voice>(state: &mut State) -> Point
     requires fits { Fits Point.Generic state.old.depth_left state.old.lifetimes }
-    ensures did { (b : List ℕ) (plain : Bool) (v : V) (row : List Frame) → Did V.Voice b plain
-        Point.Generic state.old row v (Ok result) state.new row v 0 }
+    ensures did { (b : List ℕ) (plain : Bool) (v : V) (row : List Frame) (n : ℕ) → PointDoes (env V.Voice b plain) Point.Generic (turn state.old row v n) (Ok result) (turn state.new row v n) }
 {
     if state.in_value {
         state.mark = Some(Mark::Colons);

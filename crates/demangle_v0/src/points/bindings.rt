@@ -1,7 +1,7 @@
 //! The bindings of a dyn trait path.
 ghost use Rattle.std.specs.Prelude.{◌≡◌, ◌+◌, ◌-◌, ◌*◌, ◌<◌, ◌≤◌, List, Bool, Some, None, Ok, Err, IsOk, IsAscii, length, true, false, if◌then◌else◌};
 ghost use Rattle.demangle_v0.specs.PointContracts.{heard_of};
-ghost use Rattle.demangle_v0.specs.Points.{own_by, Did, DidOn, Fits, bindings_left};
+ghost use Rattle.demangle_v0.specs.Points.{own_by, Did, DidOn, Fits, bindings_left, MayRead, PointDoes, env, turn};
 
 use crate::points::frames::{Frame, FrameStack};
 use crate::points::{Point, State, Stop, word_at};
@@ -123,13 +123,8 @@ pub(super) fn bound<V: Voice, const N: usize>(
     row: &mut FrameStack<N>,
     looks: &mut Looks,
 ) -> Point
-    requires unmarked { state.old.mark ≡ None }
-    requires room { length row.old < N }
-    requires fits { Fits Point.Bound state.old.depth_left state.old.lifetimes }
-    ensures did { (plain : Bool) (v : V) → Did V.Voice symbol.now plain Point.Bound state.old
-        row.old v (Ok result) state.new row.new v (looks.new - looks.old) }
-    ensures grows { looks.old ≤ looks.new }
-    ensures own { looks.new ≤ looks.old + own_by 20 symbol.now state.old.place }
+    requires may { MayRead Point.Bound N state.old row.old }
+    ensures did { (plain : Bool) (v : V) → PointDoes (env V.Voice symbol.now plain) Point.Bound (turn state.old row.old v looks.old) (Ok result) (turn state.new row.new v looks.new) }
 {
     row.push(state.frame(Point::OpenBindings));
     state.in_value = false;

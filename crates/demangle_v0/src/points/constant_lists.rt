@@ -1,7 +1,7 @@
 //! The lists of constants.
 ghost use Rattle.std.specs.Prelude.{true, ◌≡◌, ◌*◌, ◌+◌, ◌-◌, ◌<◌, ◌≤◌, Some, None, Ok, length, Bool};
 ghost use Rattle.demangle_v0.specs.ConstantLists.{first_point, second_point, next_point, element_point, close_of};
-ghost use Rattle.demangle_v0.specs.Points.{own_by, Did, DidOn, share_of, Fits};
+ghost use Rattle.demangle_v0.specs.Points.{own_by, DidOn, share_of, Fits, MayRead, PointDoes, env, turn};
 ghost use Rattle.demangle_grammar.specs.Table.{constant};
 
 use crate::points::frames::FrameStack;
@@ -147,13 +147,8 @@ pub(super) fn second_tuple_constant<V: Voice, const N: usize>(
     row: &mut FrameStack<N>,
     looks: &mut Looks,
 ) -> Point
-    requires room { length row.old < N }
-    requires unmarked { state.old.mark ≡ None }
-    requires fits { Fits Point.SecondTupleConstant state.old.depth_left state.old.lifetimes }
-    ensures did { (plain : Bool) (v : V) → Did V.Voice symbol.now plain Point.SecondTupleConstant
-        state.old row.old v (Ok result) state.new row.new v (looks.new - looks.old) }
-    ensures grows { looks.old ≤ looks.new }
-    ensures own { looks.new ≤ looks.old + own_by 20 symbol.now state.old.place }
+    requires may { MayRead Point.SecondTupleConstant N state.old row.old }
+    ensures did { (plain : Bool) (v : V) → PointDoes (env V.Voice symbol.now plain) Point.SecondTupleConstant (turn state.old row.old v looks.old) (Ok result) (turn state.new row.new v looks.new) }
 {
     let Some(at) = state.place else {
         state.mark = Some(Mark::OneComma);

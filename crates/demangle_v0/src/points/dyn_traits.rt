@@ -52,7 +52,7 @@ pub(super) fn dyn_binder<V: Voice, const N: usize>(
     ensures ready { IsOk result → V.ready voice.new }
     ensures sound { (m : Mark) → result ≡ Err (Stop.Fault m) → V.ready voice.new }
     ensures grows { looks.old ≤ looks.new }
-    ensures own { looks.new ≤ looks.old + own_by 24 symbol.now state.old.place }
+    ensures own { looks.new ≤ looks.old + own_by 20 symbol.now state.old.place }
 {
     let Some(at) = state.place else {
         return Err(Stop::Fault(Mark::Unread));
@@ -86,7 +86,7 @@ pub(super) fn dyn_trait<V: Voice, const N: usize>(
         Point.FirstDynTrait else Point.NextDynTrait) state.old row.old v (Ok result) state.new
         row.new v (looks.new - looks.old) }
     ensures grows { looks.old ≤ looks.new }
-    ensures own { looks.new ≤ looks.old + own_by 20 symbol.now state.old.place }
+    ensures own { looks.new ≤ looks.old + own_by 16 symbol.now state.old.place }
 {
     if is_over(symbol, &mut state.place, looks) {
         state.is_open = false;

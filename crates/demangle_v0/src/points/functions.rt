@@ -3,7 +3,7 @@ ghost use Rattle.std.specs.Prelude.{◌≡◌, ℕ, ◌+◌, ◌-◌, ◌^◌, �
 ghost use Rattle.demangle_grammar.specs.Binders.{binder_texts};
 ghost use Rattle.demangle_grammar.specs.Events.{of};
 ghost use Rattle.demangle_words.specs.Groups.{texts_of};
-ghost use Rattle.demangle_v0.specs.Points.{own_by, Did, Fits, most_lifetimes};
+ghost use Rattle.demangle_v0.specs.Points.{own_by, Did, Fits, most_lifetimes, MayRead, PointDoes, env, turn};
 
 use crate::points::frames::{Frame, FrameStack};
 use crate::points::marks::leave;
@@ -59,7 +59,7 @@ pub(super) fn function_binder<V: Voice>(
     ensures ready { IsOk result → V.ready voice.new }
     ensures sound { (m : Mark) → result ≡ Err (Stop.Fault m) → V.ready voice.new }
     ensures grows { looks.old ≤ looks.new }
-    ensures own { looks.new ≤ looks.old + own_by 24 symbol.now state.old.place }
+    ensures own { looks.new ≤ looks.old + own_by 16 symbol.now state.old.place }
 {
     let Some(at) = state.place else {
         return Err(Stop::Fault(Mark::Unread));
@@ -103,7 +103,7 @@ pub(super) fn function_head<V: Voice>(
     ensures ready { IsOk result → V.ready voice.new }
     ensures sound { (m : Mark) → result ≡ Err (Stop.Fault m) → V.ready voice.new }
     ensures grows { looks.old ≤ looks.new }
-    ensures own { looks.new ≤ looks.old + own_by 20 symbol.now state.old.place }
+    ensures own { looks.new ≤ looks.old + own_by 8 symbol.now state.old.place }
 {
     match word_at(symbol, Word::FunctionHead, state, voice, looks) {
         WordRead::Goes(head, next) => {
@@ -137,13 +137,8 @@ pub(super) fn parameter<V: Voice, const N: usize>(
     row: &mut FrameStack<N>,
     looks: &mut Looks,
 ) -> Point
-    requires room { length row.old < N }
-    requires fits { Fits Point.NextParameter state.old.depth_left state.old.lifetimes }
-    ensures did { (plain : Bool) (v : V) → Did V.Voice symbol.now plain (if is_first then
-        Point.FirstParameter else Point.NextParameter) state.old row.old v (Ok result) state.new
-        row.new v (looks.new - looks.old) }
-    ensures grows { looks.old ≤ looks.new }
-    ensures own { looks.new ≤ looks.old + own_by 20 symbol.now state.old.place }
+    requires may { MayRead Point.NextParameter N state.old row.old }
+    ensures did { (plain : Bool) (v : V) → PointDoes (env V.Voice symbol.now plain) (if is_first then Point.FirstParameter else Point.NextParameter) (turn state.old row.old v looks.old) (Ok result) (turn state.new row.new v looks.new) }
 {
     if is_over(symbol, &mut state.place, looks) {
         state.mark = Some(Mark::CloseParen);
@@ -159,10 +154,7 @@ pub(super) fn parameter<V: Voice, const N: usize>(
 pub(super) fn returns<V: Voice>(symbol: &Symbol<'_>, state: &mut State, looks: &mut Looks) -> Point
     requires unmarked { state.old.mark ≡ None }
     requires fits { Fits Point.Returns state.old.depth_left state.old.lifetimes }
-    ensures did { (plain : Bool) (v : V) (row : List Frame) → Did V.Voice symbol.now plain
-        Point.Returns state.old row v (Ok result) state.new row v (looks.new - looks.old) }
-    ensures grows { looks.old ≤ looks.new }
-    ensures own { looks.new ≤ looks.old + own_by 20 symbol.now state.old.place }
+    ensures did { (plain : Bool) (v : V) (row : List Frame) → PointDoes (env V.Voice symbol.now plain) Point.Returns (turn state.old row v looks.old) (Ok result) (turn state.new row v looks.new) }
 {
     let Some(at) = state.place else {
         state.mark = Some(Mark::Arrow);

@@ -1,7 +1,7 @@
 //! Paths of impls, and of what implements a trait.
 ghost use Rattle.std.specs.Prelude.{◌≡◌, ℕ, ◌+◌, ◌-◌, ◌*◌, ◌<◌, ◌≤◌, false, None, Ok, Err, length, Bool, List};
 ghost use Rattle.demangle_v0.specs.Impls.{impl_items, skip_point, self_point};
-ghost use Rattle.demangle_v0.specs.Points.{Did, Fits, PointDoes, RestDoes, env, turn};
+ghost use Rattle.demangle_v0.specs.Points.{Fits, PointDoes, RestDoes, env, turn, MayRead};
 
 use crate::points::frames::{Frame, FrameStack};
 use crate::points::{Point, State, Stop};
@@ -44,11 +44,8 @@ pub(super) fn skipped_path<V: Voice, const N: usize>(
     row: &mut FrameStack<N>,
 ) -> Point
     requires silent { V.loud ≡ false }
-    requires unmarked { state.old.mark ≡ None }
-    requires room { length row.old < N }
-    requires fits { Fits Point.Path state.old.depth_left state.old.lifetimes }
-    ensures did { (b : List ℕ) (plain : Bool) (v : V) → Did V.Voice b plain (skip_point of_trait)
-        state.old row.old v (Ok result) state.new row.new v 0 }
+    requires may { MayRead Point.Path N state.old row.old }
+    ensures did { (b : List ℕ) (plain : Bool) (v : V) (n : ℕ) → PointDoes (env V.Voice b plain) (skip_point of_trait) (turn state.old row.old v n) (Ok result) (turn state.new row.new v n) }
 {
     let frame = state.frame(Point::InherentType);
     state.in_value = false;
@@ -92,8 +89,7 @@ pub(super) fn as_trait<V: Voice, const N: usize>(
 ) -> Point
     requires room { length row.old < N }
     requires fits { Fits Point.Path state.old.depth_left state.old.lifetimes }
-    ensures did { (b : List ℕ) (plain : Bool) (v : V) → Did V.Voice b plain Point.As state.old
-        row.old v (Ok result) state.new row.new v 0 }
+    ensures did { (b : List ℕ) (plain : Bool) (v : V) (n : ℕ) → PointDoes (env V.Voice b plain) Point.As (turn state.old row.old v n) (Ok result) (turn state.new row.new v n) }
 {
     row.push(state.frame(Point::CloseAngle));
     state.mark = Some(Mark::As);

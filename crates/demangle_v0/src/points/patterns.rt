@@ -1,7 +1,7 @@
 //! The points of patterns.
 ghost use Rattle.std.specs.Prelude.{◌≡◌, ◌==◌, ◌+◌, ◌-◌, ◌<◌, ◌≤◌, Some, None, Ok, Err, length, Bool};
 ghost use Rattle.demangle_v0.specs.PointContracts.{DidFree};
-ghost use Rattle.demangle_v0.specs.Points.{own_by, Did, Fits};
+ghost use Rattle.demangle_v0.specs.Points.{MayRead, PointDoes, env, turn};
 
 use crate::points::frames::FrameStack;
 use crate::points::{Point, State, Stop};
@@ -18,13 +18,8 @@ pub(super) fn pattern<V: Voice, const N: usize>(
     row: &mut FrameStack<N>,
     looks: &mut Looks,
 ) -> Result<Point, Stop>
-    requires room { length row.old < N }
-    requires unmarked { state.old.mark ≡ None }
-    requires fits { Fits Point.Pattern state.old.depth_left state.old.lifetimes }
-    ensures did { (plain : Bool) (v : V) → Did V.Voice symbol.now plain Point.Pattern state.old
-        row.old v result state.new row.new v (looks.new - looks.old) }
-    ensures grows { looks.old ≤ looks.new }
-    ensures own { looks.new ≤ looks.old + own_by 20 symbol.now state.old.place }
+    requires may { MayRead Point.Pattern N state.old row.old }
+    ensures did { (plain : Bool) (v : V) → PointDoes (env V.Voice symbol.now plain) Point.Pattern (turn state.old row.old v looks.old) result (turn state.new row.new v looks.new) }
 {
     let Some(at) = state.place else {
         return Err(Stop::Fault(Mark::Unread));
@@ -66,13 +61,8 @@ pub(super) fn next_pattern<V: Voice, const N: usize>(
     row: &mut FrameStack<N>,
     looks: &mut Looks,
 ) -> Result<Point, Stop>
-    requires room { length row.old < N }
-    requires unmarked { state.old.mark ≡ None }
-    requires fits { Fits Point.NextPattern state.old.depth_left state.old.lifetimes }
-    ensures did { (plain : Bool) (v : V) → Did V.Voice symbol.now plain Point.NextPattern state.old
-        row.old v result state.new row.new v (looks.new - looks.old) }
-    ensures grows { looks.old ≤ looks.new }
-    ensures own { looks.new ≤ looks.old + own_by 20 symbol.now state.old.place }
+    requires may { MayRead Point.NextPattern N state.old row.old }
+    ensures did { (plain : Bool) (v : V) → PointDoes (env V.Voice symbol.now plain) Point.NextPattern (turn state.old row.old v looks.old) result (turn state.new row.new v looks.new) }
 {
     let Some(at) = state.place else {
         return Err(Stop::Fault(Mark::Invalid));

@@ -1,7 +1,7 @@
 //! What each resume point does.
 ghost use Rattle.std.specs.Prelude.{◌≡◌, ◌+◌, ◌-◌, ◌<◌, ◌≤◌, true, false, Err, IsOk, length, IsAscii};
 ghost use Rattle.demangle_v0.specs.Impls.{is_skip};
-ghost use Rattle.demangle_v0.specs.Points.{own_by, Did, Fits};
+ghost use Rattle.demangle_v0.specs.Points.{PointDoes, Fits, env, turn};
 ghost use Rattle.demangle_v0.specs.PointRuns.{first_looks};
 
 use crate::points::arguments::{arguments, generic};
@@ -45,12 +45,8 @@ pub(super) fn perform<V: Voice, const N: usize>(
     requires room { length row.old < N }
     requires fits { Fits point state.old.depth_left state.old.lifetimes }
     requires unskipped { V.loud ≡ true → is_skip point ≡ false }
-    ensures did { Did V.Voice symbol.now plain point state.old row.old voice.old result state.new
-        row.new voice.new (looks.new - looks.old) }
-    ensures ready { IsOk result → V.ready voice.new }
-    ensures sound { (m : Mark) → result ≡ Err (Stop.Fault m) → V.ready voice.new }
-    ensures grows { looks.old ≤ looks.new }
-    ensures own { looks.new ≤ looks.old + own_by 24 symbol.now state.old.place }
+    ensures did { PointDoes (env V.Voice symbol.now plain) point (turn state.old row.old voice.old
+        looks.old) result (turn state.new row.new voice.new looks.new) }
     ensures least { looks.old + first_looks point state.old ≤ looks.new }
 {
     match point {

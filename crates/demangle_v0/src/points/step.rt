@@ -58,7 +58,7 @@ pub(crate) fn step<V: Voice, const N: usize>(
         state.new row.new voice.new (looks.new - looks.old) }
     ensures ready { IsOk result → V.ready voice.new }
     ensures grows { looks.old ≤ looks.new }
-    ensures own { looks.new ≤ looks.old + own_by 24 symbol.now state.old.place }
+    ensures own { looks.new ≤ looks.old + own_by 20 symbol.now state.old.place }
     ensures least { looks.old + first_looks point state.old ≤ looks.new }
 {
     match perform(symbol, point, plain, state, row, voice, looks) {

@@ -3,7 +3,7 @@ ghost use Rattle.std.specs.Prelude.{if◌then◌else◌, IsTrue, ◌≡◌, ℕ,
 ghost use Rattle.demangle_symbol.specs.Digits.{is_byte};
 ghost use Rattle.demangle_v0.specs.declared.points.frames.Frame.{Frame};
 ghost use Rattle.demangle_v0.specs.PointContracts.{heard_of};
-ghost use Rattle.demangle_v0.specs.Points.{own_by, Did, DidOn, Fits, frame_of};
+ghost use Rattle.demangle_v0.specs.Points.{own_by, Did, DidOn, Fits, frame_of, PointDoes, env, turn};
 ghost use Rattle.demangle_words.specs.Tags.{type_of};
 
 use crate::points::dyn_traits::dyn_type;
@@ -63,7 +63,7 @@ pub(super) fn type_<V: Voice, const N: usize>(
     ensures ready { IsOk result → V.ready voice.new }
     ensures sound { (m : Mark) → result ≡ Err (Stop.Fault m) → V.ready voice.new }
     ensures grows { looks.old ≤ looks.new }
-    ensures own { looks.new ≤ looks.old + own_by 22 symbol.now state.old.place }
+    ensures own { looks.new ≤ looks.old + own_by 20 symbol.now state.old.place }
 {
     let Some(at) = state.place else {
         return Err(Stop::Fault(Mark::Unread));
@@ -96,7 +96,7 @@ fn tagged_type<V: Voice, const N: usize>(
     ensures ready { IsOk result → V.ready voice.new }
     ensures sound { (m : Mark) → result ≡ Err (Stop.Fault m) → V.ready voice.new }
     ensures grows { looks.old ≤ looks.new }
-    ensures own { looks.new ≤ looks.old + own_by 21 symbol.now state.old.place }
+    ensures own { looks.new ≤ looks.old + own_by 18 symbol.now state.old.place }
 {
     let Some(at) = state.place else {
         return Err(Stop::Fault(Mark::Unread));
@@ -144,7 +144,7 @@ fn constructed_type<V: Voice, const N: usize>(
     ensures ready { IsOk result → V.ready voice.new }
     ensures sound { (m : Mark) → result ≡ Err (Stop.Fault m) → V.ready voice.new }
     ensures grows { looks.old ≤ looks.new }
-    ensures own { looks.new ≤ looks.old + own_by 24 symbol.now state.old.place }
+    ensures own { looks.new ≤ looks.old + own_by 20 symbol.now state.old.place }
 {
     match kind {
         TypeKind::SharedReference => Ok(reference::<V>(symbol, false, state, looks)),
@@ -209,8 +209,7 @@ pub(super) fn array_length<V: Voice, const N: usize>(
 ) -> Point
     requires room { length row.old < N }
     requires fits { Fits Point.ArrayLength state.old.depth_left state.old.lifetimes }
-    ensures did { (b : List ℕ) (plain : Bool) (v : V) → Did V.Voice b plain Point.ArrayLength
-        state.old row.old v (Ok result) state.new row.new v 0 }
+    ensures did { (b : List ℕ) (plain : Bool) (v : V) (n : ℕ) → PointDoes (env V.Voice b plain) Point.ArrayLength (turn state.old row.old v n) (Ok result) (turn state.new row.new v n) }
 {
     push_printing(Point::CloseBracket, state, row, voice);
     state.mark = Some(Mark::Semicolon);

@@ -1,6 +1,6 @@
 //! The points of variants, and of their fields.
 ghost use Rattle.std.specs.Prelude.{true, ◌≡◌, ◌*◌, ℕ, ◌+◌, ◌-◌, ◌<◌, ◌≤◌, Some, None, Ok, Err, IsOk, length, IsAscii, List, Bool};
-ghost use Rattle.demangle_v0.specs.Points.{own_by, Did, DidOn, pushed_on, Fits};
+ghost use Rattle.demangle_v0.specs.Points.{own_by, Did, DidOn, pushed_on, Fits, MayRead, PointDoes, env, turn};
 ghost use Rattle.demangle_v0.specs.PointContracts.{DidFree, brace_behind, heard_of};
 ghost use Rattle.demangle_words.specs.Tags.{variant_of};
 
@@ -58,13 +58,8 @@ pub(super) fn variant<V: Voice, const N: usize>(
     row: &mut FrameStack<N>,
     looks: &mut Looks,
 ) -> Result<Point, Stop>
-    requires room { length row.old < N }
-    requires unmarked { state.old.mark ≡ None }
-    requires fits { Fits Point.Variant state.old.depth_left state.old.lifetimes }
-    ensures did { (plain : Bool) (v : V) → Did V.Voice symbol.now plain Point.Variant state.old
-        row.old v result state.new row.new v (looks.new - looks.old) }
-    ensures grows { looks.old ≤ looks.new }
-    ensures own { looks.new ≤ looks.old + own_by 20 symbol.now state.old.place }
+    requires may { MayRead Point.Variant N state.old row.old }
+    ensures did { (plain : Bool) (v : V) → PointDoes (env V.Voice symbol.now plain) Point.Variant (turn state.old row.old v looks.old) result (turn state.new row.new v looks.new) }
 {
     let Some(at) = state.place else {
         return Err(Stop::Fault(Mark::Unread));

@@ -4,7 +4,7 @@ use Rattle.demangle_v0.specs.declared.points.Point.TheVariants as point
 use Rattle.demangle_words.specs.declared.texts.Word.TheVariants as word
 use Rattle.demangle_v0.proofs.PointFunctions.{parameters, word_on, word_bare, word_on_refused, word_fails}
 use Rattle.demangle_v0.proofs.PointTurns.{did}
-use Rattle.demangle_v0.proofs.WordLooks.{group_short}
+use Rattle.demangle_v0.proofs.WordLooks.{group_tight}
 use Rattle.demangle_v0.proofs.points.functions.function_head.Goals as goal
 
 pub returns-then-is_bare-clause-did : goal.returns-then-is_bare-clause-did
@@ -32,13 +32,13 @@ returns-in-Stops-clause-did g c = λ row.
     c.in-Stops.ensures.value (omega (arith, c.in-Stops.ensures.looks)) c.requires.unmarked (omega arith)
 
 pub returns-then-is_bare-clause-own : goal.returns-then-is_bare-clause-own
-returns-then-is_bare-clause-own g c = omega (arith, c.in-Goes.ensures.looks, group_short c.args.symbol.now word.FunctionHead c.args.state.now.letter g.V.Voice.loud c.args.state.now.lifetimes c.args.state.now.place)
+returns-then-is_bare-clause-own g c = omega (arith, c.in-Goes.ensures.looks, group_tight c.args.symbol.now word.FunctionHead c.args.state.now.letter g.V.Voice.loud c.args.state.now.lifetimes c.args.state.now.place)
 
 pub returns-in_default-clause-own : goal.returns-in_default-clause-own
-returns-in_default-clause-own g c = omega (arith, c.in-Goes.ensures.looks, c.in_default.ensures.most, group_short c.args.symbol.now word.FunctionHead c.args.state.now.letter g.V.Voice.loud c.args.state.now.lifetimes c.args.state.now.place)
+returns-in_default-clause-own g c = omega (arith, c.in-Goes.ensures.looks, c.in_default.ensures.most, group_tight c.args.symbol.now word.FunctionHead c.args.state.now.letter g.V.Voice.loud c.args.state.now.lifetimes c.args.state.now.place)
 
 pub returns-in-Ok-clause-own : goal.returns-in-Ok-clause-own
-returns-in-Ok-clause-own g c = omega (arith, c.in-Goes.ensures.looks, c.in-Ok.ensures.most, group_short c.args.symbol.now word.FunctionHead c.args.state.now.letter g.V.Voice.loud c.args.state.now.lifetimes c.args.state.now.place)
+returns-in-Ok-clause-own g c = omega (arith, c.in-Goes.ensures.looks, c.in-Ok.ensures.most, group_tight c.args.symbol.now word.FunctionHead c.args.state.now.letter g.V.Voice.loud c.args.state.now.lifetimes c.args.state.now.place)
 
 pub returns-in-Stops-clause-own : goal.returns-in-Stops-clause-own
-returns-in-Stops-clause-own g c = omega (arith, c.in-Stops.ensures.looks, group_short c.args.symbol.now word.FunctionHead c.args.state.now.letter g.V.Voice.loud c.args.state.now.lifetimes c.args.state.now.place)
+returns-in-Stops-clause-own g c = omega (arith, c.in-Stops.ensures.looks, group_tight c.args.symbol.now word.FunctionHead c.args.state.now.letter g.V.Voice.loud c.args.state.now.lifetimes c.args.state.now.place)

@@ -1,150 +1,219 @@
-use Rattle.std.proofs.Common.{arith}
+use Rattle.std.proofs.Common.{arith, refl, subst}
+use Rattle.demangle_v0.specs.Points.{share_at, PointDoes, env, turn}
+use Rattle.demangle_v0.specs.declared.points.Point.{Point}
 use Rattle.demangle_v0.proofs.PointReferences.{stays_over}
-use Rattle.demangle_v0.proofs.PointArguments.{lifetime_word}
-use Rattle.demangle_v0.proofs.PointTurns.{did}
+use Rattle.demangle_v0.proofs.PointTypes.{type_point}
+use Rattle.demangle_v0.proofs.PointTurns.{alike, does}
 use Rattle.demangle_v0.proofs.WordLooks.{own_more}
 use Rattle.demangle_v0.proofs.points.perform.perform.Goals as goal
 
+pub returns-in-Path-clause-did : goal.returns-in-Path-clause-did
+returns-in-Path-clause-did g c = rw c.in-Path.is c.path.ensures.did
+
 pub returns-in-Lifetime-clause-did : goal.returns-in-Lifetime-clause-did
-returns-in-Lifetime-clause-did g c = rw c.in-Lifetime.is (lifetime_word g.V.Voice c.args.symbol.now c.args.plain c.args.state.now _ _ _ _ _ _ _ (did (c.last_word.ensures.did c.args.row.now)))
+unfolding share_at
+returns-in-Lifetime-clause-did g c = rw c.in-Lifetime.is (alike (omega arith) refl (omega arith) (omega arith) (c.last_word.ensures.did c.args.row.now))
+
+pub returns-in-Lifetime-clause-least : goal.returns-in-Lifetime-clause-least
+returns-in-Lifetime-clause-least g c = rw c.in-Lifetime.is (omega (arith, (c.last_word.ensures.did c.args.row.now).grows))
 
 pub returns-in-End-clause-did : goal.returns-in-End-clause-did
-returns-in-End-clause-did g c = rw c.in-End.is (stays_over g.V.Voice c.args.symbol.now c.args.plain c.args.state.now c.args.row.now c.args.voice.now _ (omega arith) c.requires.unmarked)
+returns-in-End-clause-did g c = rw c.in-End.is (stays_over c.requires.unmarked)
 
-pub returns-in-Path-clause-did : goal.returns-in-Path-clause-did
-returns-in-Path-clause-did g c = rw c.in-Path.is (did c.path.ensures.did)
+pub returns-in-CloseParen-clause-did : goal.returns-in-CloseParen-clause-did
+returns-in-CloseParen-clause-did g c = c.leave.ensures.did c.args.symbol.now c.args.plain c.args.voice.now c.args.row.now c.args.looks.now
+
+pub returns-in-Type-clause-did : goal.returns-in-Type-clause-did
+returns-in-Type-clause-did g c =
+    subst (λ (p : Point). PointDoes (env g.V.Voice c.args.symbol.now c.args.plain) p (turn c.args.state.now c.args.row.now c.args.voice.now c.args.looks.now) c.type_.result (turn c.type_.new.state c.type_.new.row c.type_.new.voice c.type_.new.looks))
+    (type_point c.args.point c.is_begun.result c.in-Type.is c.is_begun.ensures.yes c.is_begun.ensures.no)
+    (does c.type_.ensures.did c.type_.ensures.grows c.type_.ensures.own (λ _. c.type_.ensures.ready) (λ _. c.type_.ensures.sound))
 
 pub returns-in-Nested-clause-did : goal.returns-in-Nested-clause-did
-returns-in-Nested-clause-did g c = rw c.in-Nested.is (did (c.nested_name.ensures.did c.args.row.now))
-
-pub returns-in-Nested-clause-ready : goal.returns-in-Nested-clause-ready
-returns-in-Nested-clause-ready g c = (c.nested_name.ensures.did c.args.row.now).ready c.requires.ready
-
-pub returns-in-Nested-clause-sound : goal.returns-in-Nested-clause-sound
-returns-in-Nested-clause-sound g c = (c.nested_name.ensures.did c.args.row.now).sound c.requires.ready
-
-pub returns-in-Nested-clause-grows : goal.returns-in-Nested-clause-grows
-returns-in-Nested-clause-grows g c = (c.nested_name.ensures.did c.args.row.now).grows
+returns-in-Nested-clause-did g c = rw c.in-Nested.is (c.nested_name.ensures.did c.args.row.now)
 
 pub returns-in-Nested-clause-least : goal.returns-in-Nested-clause-least
 returns-in-Nested-clause-least g c = rw c.in-Nested.is (omega (arith, (c.nested_name.ensures.did c.args.row.now).grows))
 
+pub returns-in-InherentPath-clause-did : goal.returns-in-InherentPath-clause-did
+returns-in-InherentPath-clause-did g c = rw c.in-InherentPath.is (c.skipped_path.ensures.did c.args.symbol.now c.args.plain c.args.voice.now c.args.looks.now)
+
+pub returns-in-ImplPath-clause-did : goal.returns-in-ImplPath-clause-did
+returns-in-ImplPath-clause-did g c = rw c.in-ImplPath.is (c.skipped_path-in-ImplPath.ensures.did c.args.symbol.now c.args.plain c.args.voice.now c.args.looks.now)
+
 pub returns-in-InherentType-clause-did : goal.returns-in-InherentType-clause-did
-returns-in-InherentType-clause-did g c = rw c.in-InherentType.is (did (c.self_type.ensures.did c.args.symbol.now c.args.plain c.args.voice.now c.args.looks.now))
+returns-in-InherentType-clause-did g c = rw c.in-InherentType.is (c.self_type.ensures.did c.args.symbol.now c.args.plain c.args.voice.now c.args.looks.now)
 
 pub returns-in-SelfType-clause-did : goal.returns-in-SelfType-clause-did
-returns-in-SelfType-clause-did g c = rw c.in-SelfType.is (did (c.self_type-in-SelfType.ensures.did c.args.symbol.now c.args.plain c.args.voice.now c.args.looks.now))
+returns-in-SelfType-clause-did g c = rw c.in-SelfType.is (c.self_type-in-SelfType.ensures.did c.args.symbol.now c.args.plain c.args.voice.now c.args.looks.now)
+
+pub returns-in-As-clause-did : goal.returns-in-As-clause-did
+returns-in-As-clause-did g c = rw c.in-As.is (c.as_trait.ensures.did c.args.symbol.now c.args.plain c.args.voice.now c.args.looks.now)
+
+pub returns-in-Generic-clause-did : goal.returns-in-Generic-clause-did
+returns-in-Generic-clause-did g c = rw c.in-Generic.is (c.generic.ensures.did c.args.symbol.now c.args.plain c.args.voice.now c.args.row.now c.args.looks.now)
+
+pub returns-in-FirstArgument-clause-did : goal.returns-in-FirstArgument-clause-did
+returns-in-FirstArgument-clause-did g c = rw c.in-FirstArgument.is (does (c.arguments.ensures.did c.args.plain c.args.voice.now) c.arguments.ensures.grows c.arguments.ensures.own (λ k _. k) (λ k _ _. k))
+
+pub returns-in-NextArgument-clause-did : goal.returns-in-NextArgument-clause-did
+returns-in-NextArgument-clause-did g c = rw c.in-NextArgument.is (does (c.arguments-in-NextArgument.ensures.did c.args.plain c.args.voice.now) c.arguments-in-NextArgument.ensures.grows c.arguments-in-NextArgument.ensures.own (λ k _. k) (λ k _ _. k))
+
+pub returns-in-ArrayLength-clause-did : goal.returns-in-ArrayLength-clause-did
+returns-in-ArrayLength-clause-did g c = rw c.in-ArrayLength.is (c.array_length.ensures.did c.args.symbol.now c.args.plain c.args.voice.now c.args.looks.now)
 
 pub returns-in-FirstTupleType-clause-did : goal.returns-in-FirstTupleType-clause-did
-returns-in-FirstTupleType-clause-did g c = rw c.in-FirstTupleType.is (did (c.first_tuple_type.ensures.did c.args.plain c.args.voice.now))
-
-pub returns-in-FirstTupleType-clause-grows : goal.returns-in-FirstTupleType-clause-grows
-returns-in-FirstTupleType-clause-grows g c = (c.first_tuple_type.ensures.did c.args.plain c.args.voice.now).grows
+returns-in-FirstTupleType-clause-did g c = rw c.in-FirstTupleType.is (c.first_tuple_type.ensures.did c.args.plain c.args.voice.now)
 
 pub returns-in-FirstTupleType-clause-least : goal.returns-in-FirstTupleType-clause-least
 returns-in-FirstTupleType-clause-least g c = rw c.in-FirstTupleType.is (omega (arith, (c.first_tuple_type.ensures.did c.args.plain c.args.voice.now).grows))
 
 pub returns-in-SecondTupleType-clause-did : goal.returns-in-SecondTupleType-clause-did
-returns-in-SecondTupleType-clause-did g c = rw c.in-SecondTupleType.is (did (c.second_tuple_type.ensures.did c.args.plain c.args.voice.now))
-
-pub returns-in-SecondTupleType-clause-grows : goal.returns-in-SecondTupleType-clause-grows
-returns-in-SecondTupleType-clause-grows g c = (c.second_tuple_type.ensures.did c.args.plain c.args.voice.now).grows
+returns-in-SecondTupleType-clause-did g c = rw c.in-SecondTupleType.is (c.second_tuple_type.ensures.did c.args.plain c.args.voice.now)
 
 pub returns-in-SecondTupleType-clause-least : goal.returns-in-SecondTupleType-clause-least
 returns-in-SecondTupleType-clause-least g c = rw c.in-SecondTupleType.is (omega (arith, (c.second_tuple_type.ensures.did c.args.plain c.args.voice.now).grows))
 
 pub returns-in-NextTupleType-clause-did : goal.returns-in-NextTupleType-clause-did
-returns-in-NextTupleType-clause-did g c = rw c.in-NextTupleType.is (did (c.next_tuple_type.ensures.did c.args.plain c.args.voice.now))
-
-pub returns-in-NextTupleType-clause-grows : goal.returns-in-NextTupleType-clause-grows
-returns-in-NextTupleType-clause-grows g c = (c.next_tuple_type.ensures.did c.args.plain c.args.voice.now).grows
+returns-in-NextTupleType-clause-did g c = rw c.in-NextTupleType.is (c.next_tuple_type.ensures.did c.args.plain c.args.voice.now)
 
 pub returns-in-NextTupleType-clause-least : goal.returns-in-NextTupleType-clause-least
 returns-in-NextTupleType-clause-least g c = rw c.in-NextTupleType.is (omega (arith, (c.next_tuple_type.ensures.did c.args.plain c.args.voice.now).grows))
 
-pub returns-in-Behind-clause-did : goal.returns-in-Behind-clause-did
-returns-in-Behind-clause-did g c = rw c.in-Behind.is (did (c.behind.ensures.did c.args.symbol.now c.args.plain c.args.voice.now c.args.row.now c.args.looks.now))
-
 pub returns-in-ReferenceLifetime-clause-did : goal.returns-in-ReferenceLifetime-clause-did
-returns-in-ReferenceLifetime-clause-did g c = rw c.in-ReferenceLifetime.is (did (c.reference_lifetime.ensures.did c.args.row.now))
-
-pub returns-in-ReferenceLifetime-clause-ready : goal.returns-in-ReferenceLifetime-clause-ready
-returns-in-ReferenceLifetime-clause-ready g c = (c.reference_lifetime.ensures.did c.args.row.now).ready c.requires.ready
-
-pub returns-in-ReferenceLifetime-clause-sound : goal.returns-in-ReferenceLifetime-clause-sound
-returns-in-ReferenceLifetime-clause-sound g c = (c.reference_lifetime.ensures.did c.args.row.now).sound c.requires.ready
-
-pub returns-in-ReferenceLifetime-clause-grows : goal.returns-in-ReferenceLifetime-clause-grows
-returns-in-ReferenceLifetime-clause-grows g c = (c.reference_lifetime.ensures.did c.args.row.now).grows
+returns-in-ReferenceLifetime-clause-did g c = rw c.in-ReferenceLifetime.is (c.reference_lifetime.ensures.did c.args.row.now)
 
 pub returns-in-ReferenceLifetime-clause-least : goal.returns-in-ReferenceLifetime-clause-least
 returns-in-ReferenceLifetime-clause-least g c = rw c.in-ReferenceLifetime.is (omega (arith, (c.reference_lifetime.ensures.did c.args.row.now).grows))
 
 pub returns-in-MutReferenceLifetime-clause-did : goal.returns-in-MutReferenceLifetime-clause-did
-returns-in-MutReferenceLifetime-clause-did g c = rw c.in-MutReferenceLifetime.is (did (c.reference_lifetime-in-MutReferenceLifetime.ensures.did c.args.row.now))
-
-pub returns-in-MutReferenceLifetime-clause-ready : goal.returns-in-MutReferenceLifetime-clause-ready
-returns-in-MutReferenceLifetime-clause-ready g c = (c.reference_lifetime-in-MutReferenceLifetime.ensures.did c.args.row.now).ready c.requires.ready
-
-pub returns-in-MutReferenceLifetime-clause-sound : goal.returns-in-MutReferenceLifetime-clause-sound
-returns-in-MutReferenceLifetime-clause-sound g c = (c.reference_lifetime-in-MutReferenceLifetime.ensures.did c.args.row.now).sound c.requires.ready
-
-pub returns-in-MutReferenceLifetime-clause-grows : goal.returns-in-MutReferenceLifetime-clause-grows
-returns-in-MutReferenceLifetime-clause-grows g c = (c.reference_lifetime-in-MutReferenceLifetime.ensures.did c.args.row.now).grows
+returns-in-MutReferenceLifetime-clause-did g c = rw c.in-MutReferenceLifetime.is (c.reference_lifetime-in-MutReferenceLifetime.ensures.did c.args.row.now)
 
 pub returns-in-MutReferenceLifetime-clause-least : goal.returns-in-MutReferenceLifetime-clause-least
 returns-in-MutReferenceLifetime-clause-least g c = rw c.in-MutReferenceLifetime.is (omega (arith, (c.reference_lifetime-in-MutReferenceLifetime.ensures.did c.args.row.now).grows))
 
+pub returns-in-FunctionBinder-clause-did : goal.returns-in-FunctionBinder-clause-did
+returns-in-FunctionBinder-clause-did g c = rw c.in-FunctionBinder.is (does (c.function_binder.ensures.did c.args.row.now) c.function_binder.ensures.grows (own_more _ 16 20 _ _ (omega arith) c.function_binder.ensures.own) (λ _. c.function_binder.ensures.ready) (λ _. c.function_binder.ensures.sound))
+
+pub returns-in-FunctionHead-clause-did : goal.returns-in-FunctionHead-clause-did
+returns-in-FunctionHead-clause-did g c = rw c.in-FunctionHead.is (does (c.function_head.ensures.did c.args.row.now) c.function_head.ensures.grows (own_more _ 8 20 _ _ (omega arith) c.function_head.ensures.own) (λ _. c.function_head.ensures.ready) (λ _. c.function_head.ensures.sound))
+
+pub returns-in-FirstParameter-clause-did : goal.returns-in-FirstParameter-clause-did
+returns-in-FirstParameter-clause-did g c = rw c.in-FirstParameter.is (c.parameter.ensures.did c.args.plain c.args.voice.now)
+
+pub returns-in-FirstParameter-clause-least : goal.returns-in-FirstParameter-clause-least
+returns-in-FirstParameter-clause-least g c = rw c.in-FirstParameter.is (omega (arith, (c.parameter.ensures.did c.args.plain c.args.voice.now).grows))
+
+pub returns-in-NextParameter-clause-did : goal.returns-in-NextParameter-clause-did
+returns-in-NextParameter-clause-did g c = rw c.in-NextParameter.is (c.parameter-in-NextParameter.ensures.did c.args.plain c.args.voice.now)
+
+pub returns-in-NextParameter-clause-least : goal.returns-in-NextParameter-clause-least
+returns-in-NextParameter-clause-least g c = rw c.in-NextParameter.is (omega (arith, (c.parameter-in-NextParameter.ensures.did c.args.plain c.args.voice.now).grows))
+
+pub returns-in-Returns-clause-did : goal.returns-in-Returns-clause-did
+returns-in-Returns-clause-did g c = rw c.in-Returns.is (c.returns.ensures.did c.args.plain c.args.voice.now c.args.row.now)
+
+pub returns-in-Returns-clause-least : goal.returns-in-Returns-clause-least
+returns-in-Returns-clause-least g c = rw c.in-Returns.is (omega (arith, (c.returns.ensures.did c.args.plain c.args.voice.now c.args.row.now).grows))
+
+pub returns-in-DynBinder-clause-did : goal.returns-in-DynBinder-clause-did
+returns-in-DynBinder-clause-did g c = rw c.in-DynBinder.is (does (c.dyn_binder.ensures.did) c.dyn_binder.ensures.grows c.dyn_binder.ensures.own (λ _. c.dyn_binder.ensures.ready) (λ _. c.dyn_binder.ensures.sound))
+
+pub returns-in-FirstDynTrait-clause-did : goal.returns-in-FirstDynTrait-clause-did
+returns-in-FirstDynTrait-clause-did g c = rw c.in-FirstDynTrait.is (does (c.dyn_trait.ensures.did c.args.plain c.args.voice.now) c.dyn_trait.ensures.grows (own_more _ 16 20 _ _ (omega arith) c.dyn_trait.ensures.own) (λ k _. k) (λ k _ _. k))
+
+pub returns-in-NextDynTrait-clause-did : goal.returns-in-NextDynTrait-clause-did
+returns-in-NextDynTrait-clause-did g c = rw c.in-NextDynTrait.is (does (c.dyn_trait-in-NextDynTrait.ensures.did c.args.plain c.args.voice.now) c.dyn_trait-in-NextDynTrait.ensures.grows (own_more _ 16 20 _ _ (omega arith) c.dyn_trait-in-NextDynTrait.ensures.own) (λ k _. k) (λ k _ _. k))
+
+pub returns-in-TraitPath-clause-did : goal.returns-in-TraitPath-clause-did
+returns-in-TraitPath-clause-did g c = rw c.in-TraitPath.is (does (c.trait_path.ensures.did c.args.plain c.args.voice.now) c.trait_path.ensures.grows c.trait_path.ensures.own (λ k _. k) (λ k _ _. k))
+
+pub returns-in-FirstOpenArgument-clause-did : goal.returns-in-FirstOpenArgument-clause-did
+returns-in-FirstOpenArgument-clause-did g c = rw c.in-FirstOpenArgument.is (does (c.open_argument.ensures.did c.args.plain c.args.voice.now) c.open_argument.ensures.grows c.open_argument.ensures.own (λ k _. k) (λ k _ _. k))
+
+pub returns-in-NextOpenArgument-clause-did : goal.returns-in-NextOpenArgument-clause-did
+returns-in-NextOpenArgument-clause-did g c = rw c.in-NextOpenArgument.is (does (c.open_argument-in-NextOpenArgument.ensures.did c.args.plain c.args.voice.now) c.open_argument-in-NextOpenArgument.ensures.grows c.open_argument-in-NextOpenArgument.ensures.own (λ k _. k) (λ k _ _. k))
+
+pub returns-in-Bindings-clause-did : goal.returns-in-Bindings-clause-did
+returns-in-Bindings-clause-did g c = rw c.in-Bindings.is (does (c.bindings.ensures.did c.args.plain c.args.voice.now c.args.row.now) c.bindings.ensures.grows c.bindings.ensures.own (λ k _. k) (λ k _ _. k))
+
+pub returns-in-OpenBindings-clause-did : goal.returns-in-OpenBindings-clause-did
+returns-in-OpenBindings-clause-did g c = rw c.in-OpenBindings.is (does (c.open_bindings.ensures.did c.args.plain c.args.voice.now c.args.row.now) c.open_bindings.ensures.grows c.open_bindings.ensures.own (λ k _. k) (λ k _ _. k))
+
+pub returns-in-BindingName-clause-did : goal.returns-in-BindingName-clause-did
+returns-in-BindingName-clause-did g c = rw c.in-BindingName.is (does (c.binding_name.ensures.did c.args.row.now) c.binding_name.ensures.grows c.binding_name.ensures.own (λ _. c.binding_name.ensures.ready) (λ _. c.binding_name.ensures.sound))
+
+pub returns-in-Bound-clause-did : goal.returns-in-Bound-clause-did
+returns-in-Bound-clause-did g c = rw c.in-Bound.is (c.bound.ensures.did c.args.plain c.args.voice.now)
+
+pub returns-in-Bound-clause-least : goal.returns-in-Bound-clause-least
+returns-in-Bound-clause-least g c = rw c.in-Bound.is (omega (arith, (c.bound.ensures.did c.args.plain c.args.voice.now).grows))
+
 pub returns-in-DynLifetime-clause-did : goal.returns-in-DynLifetime-clause-did
-returns-in-DynLifetime-clause-did g c = rw c.in-DynLifetime.is (did (c.dyn_lifetime.ensures.did c.args.row.now))
-
-pub returns-in-DynLifetime-clause-ready : goal.returns-in-DynLifetime-clause-ready
-returns-in-DynLifetime-clause-ready g c = (c.dyn_lifetime.ensures.did c.args.row.now).ready c.requires.ready
-
-pub returns-in-DynLifetime-clause-sound : goal.returns-in-DynLifetime-clause-sound
-returns-in-DynLifetime-clause-sound g c = (c.dyn_lifetime.ensures.did c.args.row.now).sound c.requires.ready
-
-pub returns-in-DynLifetime-clause-grows : goal.returns-in-DynLifetime-clause-grows
-returns-in-DynLifetime-clause-grows g c = (c.dyn_lifetime.ensures.did c.args.row.now).grows
+returns-in-DynLifetime-clause-did g c = rw c.in-DynLifetime.is (c.dyn_lifetime.ensures.did c.args.row.now)
 
 pub returns-in-DynLifetime-clause-least : goal.returns-in-DynLifetime-clause-least
 returns-in-DynLifetime-clause-least g c = rw c.in-DynLifetime.is (omega (arith, (c.dyn_lifetime.ensures.did c.args.row.now).grows))
 
-pub returns-in-Lifetime-clause-ready : goal.returns-in-Lifetime-clause-ready
-returns-in-Lifetime-clause-ready g c = (c.last_word.ensures.did c.args.row.now).ready c.requires.ready
+pub returns-in-Pattern-clause-did : goal.returns-in-Pattern-clause-did
+returns-in-Pattern-clause-did g c = rw c.in-Pattern.is (c.pattern.ensures.did c.args.plain c.args.voice.now)
 
-pub returns-in-Lifetime-clause-sound : goal.returns-in-Lifetime-clause-sound
-returns-in-Lifetime-clause-sound g c = (c.last_word.ensures.did c.args.row.now).sound c.requires.ready
+pub returns-in-Pattern-clause-least : goal.returns-in-Pattern-clause-least
+returns-in-Pattern-clause-least g c = rw c.in-Pattern.is (omega (arith, (c.pattern.ensures.did c.args.plain c.args.voice.now).grows))
 
-pub returns-in-Lifetime-clause-grows : goal.returns-in-Lifetime-clause-grows
-returns-in-Lifetime-clause-grows g c = (c.last_word.ensures.did c.args.row.now).grows
+pub returns-in-NextPattern-clause-did : goal.returns-in-NextPattern-clause-did
+returns-in-NextPattern-clause-did g c = rw c.in-NextPattern.is (c.next_pattern.ensures.did c.args.plain c.args.voice.now)
 
-pub returns-in-Lifetime-clause-least : goal.returns-in-Lifetime-clause-least
-returns-in-Lifetime-clause-least g c = rw c.in-Lifetime.is (omega (arith, (c.last_word.ensures.did c.args.row.now).grows))
+pub returns-in-NextPattern-clause-least : goal.returns-in-NextPattern-clause-least
+returns-in-NextPattern-clause-least g c = rw c.in-NextPattern.is (omega (arith, (c.next_pattern.ensures.did c.args.plain c.args.voice.now).grows))
 
-pub returns-in-CloseParen-clause-did : goal.returns-in-CloseParen-clause-did
-returns-in-CloseParen-clause-did g c = did (c.leave.ensures.did c.args.symbol.now c.args.plain c.args.voice.now c.args.row.now c.args.looks.now)
+pub returns-in-Constant-clause-did : goal.returns-in-Constant-clause-did
+returns-in-Constant-clause-did g c = rw c.in-Constant.is (does (c.constant.ensures.did) c.constant.ensures.grows c.constant.ensures.own (λ _. c.constant.ensures.ready) (λ _. c.constant.ensures.sound))
 
-pub returns-in-Nested-clause-own : goal.returns-in-Nested-clause-own
-returns-in-Nested-clause-own g c = own_more _ 20 24 _ _ (omega arith) (c.nested_name.ensures.did c.args.row.now).own
+pub returns-in-Number-clause-did : goal.returns-in-Number-clause-did
+returns-in-Number-clause-did g c = rw c.in-Number.is (does (c.number.ensures.did c.args.row.now) c.number.ensures.grows c.number.ensures.own (λ _. c.number.ensures.ready) (λ _. c.number.ensures.sound))
 
-pub returns-in-Lifetime-clause-own : goal.returns-in-Lifetime-clause-own
-returns-in-Lifetime-clause-own g c = own_more _ 20 24 _ _ (omega arith) (c.last_word.ensures.did c.args.row.now).own
+pub returns-in-Literal-clause-did : goal.returns-in-Literal-clause-did
+returns-in-Literal-clause-did g c = rw c.in-Literal.is (does (c.literal.ensures.did c.args.row.now) c.literal.ensures.grows c.literal.ensures.own (λ _. c.literal.ensures.ready) (λ _. c.literal.ensures.sound))
 
-pub returns-in-FirstTupleType-clause-own : goal.returns-in-FirstTupleType-clause-own
-returns-in-FirstTupleType-clause-own g c = own_more _ 20 24 _ _ (omega arith) (c.first_tuple_type.ensures.did c.args.plain c.args.voice.now).own
+pub returns-in-FirstArrayConstant-clause-did : goal.returns-in-FirstArrayConstant-clause-did
+returns-in-FirstArrayConstant-clause-did g c = rw c.in-FirstArrayConstant.is (does (c.first_constant.ensures.did c.args.plain c.args.voice.now) c.first_constant.ensures.grows c.first_constant.ensures.own (λ k _. k) (λ k _ _. k))
 
-pub returns-in-SecondTupleType-clause-own : goal.returns-in-SecondTupleType-clause-own
-returns-in-SecondTupleType-clause-own g c = own_more _ 20 24 _ _ (omega arith) (c.second_tuple_type.ensures.did c.args.plain c.args.voice.now).own
+pub returns-in-NextArrayConstant-clause-did : goal.returns-in-NextArrayConstant-clause-did
+returns-in-NextArrayConstant-clause-did g c = rw c.in-NextArrayConstant.is (does (c.next_constant.ensures.did c.args.plain c.args.voice.now) c.next_constant.ensures.grows c.next_constant.ensures.own (λ k _. k) (λ k _ _. k))
 
-pub returns-in-NextTupleType-clause-own : goal.returns-in-NextTupleType-clause-own
-returns-in-NextTupleType-clause-own g c = own_more _ 20 24 _ _ (omega arith) (c.next_tuple_type.ensures.did c.args.plain c.args.voice.now).own
+pub returns-in-FirstTupleConstant-clause-did : goal.returns-in-FirstTupleConstant-clause-did
+returns-in-FirstTupleConstant-clause-did g c = rw c.in-FirstTupleConstant.is (does (c.first_constant-in-FirstTupleConstant.ensures.did c.args.plain c.args.voice.now) c.first_constant-in-FirstTupleConstant.ensures.grows c.first_constant-in-FirstTupleConstant.ensures.own (λ k _. k) (λ k _ _. k))
 
-pub returns-in-ReferenceLifetime-clause-own : goal.returns-in-ReferenceLifetime-clause-own
-returns-in-ReferenceLifetime-clause-own g c = own_more _ 20 24 _ _ (omega arith) (c.reference_lifetime.ensures.did c.args.row.now).own
+pub returns-in-NextTupleConstant-clause-did : goal.returns-in-NextTupleConstant-clause-did
+returns-in-NextTupleConstant-clause-did g c = rw c.in-NextTupleConstant.is (does (c.next_constant-in-NextTupleConstant.ensures.did c.args.plain c.args.voice.now) c.next_constant-in-NextTupleConstant.ensures.grows c.next_constant-in-NextTupleConstant.ensures.own (λ k _. k) (λ k _ _. k))
 
-pub returns-in-MutReferenceLifetime-clause-own : goal.returns-in-MutReferenceLifetime-clause-own
-returns-in-MutReferenceLifetime-clause-own g c = own_more _ 20 24 _ _ (omega arith) (c.reference_lifetime-in-MutReferenceLifetime.ensures.did c.args.row.now).own
+pub returns-in-FirstVariantConstant-clause-did : goal.returns-in-FirstVariantConstant-clause-did
+returns-in-FirstVariantConstant-clause-did g c = rw c.in-FirstVariantConstant.is (does (c.first_constant-in-FirstVariantConstant.ensures.did c.args.plain c.args.voice.now) c.first_constant-in-FirstVariantConstant.ensures.grows c.first_constant-in-FirstVariantConstant.ensures.own (λ k _. k) (λ k _ _. k))
 
-pub returns-in-DynLifetime-clause-own : goal.returns-in-DynLifetime-clause-own
-returns-in-DynLifetime-clause-own g c = own_more _ 20 24 _ _ (omega arith) (c.dyn_lifetime.ensures.did c.args.row.now).own
+pub returns-in-NextVariantConstant-clause-did : goal.returns-in-NextVariantConstant-clause-did
+returns-in-NextVariantConstant-clause-did g c = rw c.in-NextVariantConstant.is (does (c.next_constant-in-NextVariantConstant.ensures.did c.args.plain c.args.voice.now) c.next_constant-in-NextVariantConstant.ensures.grows c.next_constant-in-NextVariantConstant.ensures.own (λ k _. k) (λ k _ _. k))
+
+pub returns-in-FirstField-clause-did : goal.returns-in-FirstField-clause-did
+returns-in-FirstField-clause-did g c = rw c.in-FirstField.is (does (c.first_constant-in-FirstField.ensures.did c.args.plain c.args.voice.now) c.first_constant-in-FirstField.ensures.grows c.first_constant-in-FirstField.ensures.own (λ k _. k) (λ k _ _. k))
+
+pub returns-in-NextField-clause-did : goal.returns-in-NextField-clause-did
+returns-in-NextField-clause-did g c = rw c.in-NextField.is (does (c.next_constant-in-NextField.ensures.did c.args.plain c.args.voice.now) c.next_constant-in-NextField.ensures.grows c.next_constant-in-NextField.ensures.own (λ k _. k) (λ k _ _. k))
+
+pub returns-in-SecondTupleConstant-clause-did : goal.returns-in-SecondTupleConstant-clause-did
+returns-in-SecondTupleConstant-clause-did g c = rw c.in-SecondTupleConstant.is (c.second_tuple_constant.ensures.did c.args.plain c.args.voice.now)
+
+pub returns-in-SecondTupleConstant-clause-least : goal.returns-in-SecondTupleConstant-clause-least
+returns-in-SecondTupleConstant-clause-least g c = rw c.in-SecondTupleConstant.is (omega (arith, (c.second_tuple_constant.ensures.did c.args.plain c.args.voice.now).grows))
+
+pub returns-in-Variant-clause-did : goal.returns-in-Variant-clause-did
+returns-in-Variant-clause-did g c = rw c.in-Variant.is (c.variant.ensures.did c.args.plain c.args.voice.now)
+
+pub returns-in-Variant-clause-least : goal.returns-in-Variant-clause-least
+returns-in-Variant-clause-least g c = rw c.in-Variant.is (omega (arith, (c.variant.ensures.did c.args.plain c.args.voice.now).grows))
+
+pub returns-in-Field-clause-did : goal.returns-in-Field-clause-did
+returns-in-Field-clause-did g c = rw c.in-Field.is (does (c.field.ensures.did c.args.row.now) c.field.ensures.grows c.field.ensures.own (λ _. c.field.ensures.ready) (λ _. c.field.ensures.sound))
+
+pub returns-in-Behind-clause-did : goal.returns-in-Behind-clause-did
+returns-in-Behind-clause-did g c = rw c.in-Behind.is (c.behind.ensures.did c.args.symbol.now c.args.plain c.args.voice.now c.args.row.now c.args.looks.now)

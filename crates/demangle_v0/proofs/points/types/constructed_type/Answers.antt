@@ -66,10 +66,10 @@ pub returns-in-MutReference-clause-grows : goal.returns-in-MutReference-clause-g
 returns-in-MutReference-clause-grows g c = (c.reference-in-MutReference.ensures.did c.args.plain c.args.voice.now c.args.row.now).grows
 
 pub returns-in-SharedReference-clause-own : goal.returns-in-SharedReference-clause-own
-returns-in-SharedReference-clause-own g c = own_more _ 20 24 _ _ (omega arith) (c.reference.ensures.did c.args.plain c.args.voice.now c.args.row.now).own
+returns-in-SharedReference-clause-own g c = own_more _ 20 20 _ _ (omega arith) (c.reference.ensures.did c.args.plain c.args.voice.now c.args.row.now).own
 
 pub returns-in-MutReference-clause-own : goal.returns-in-MutReference-clause-own
-returns-in-MutReference-clause-own g c = own_more _ 20 24 _ _ (omega arith) (c.reference-in-MutReference.ensures.did c.args.plain c.args.voice.now c.args.row.now).own
+returns-in-MutReference-clause-own g c = own_more _ 20 20 _ _ (omega arith) (c.reference-in-MutReference.ensures.did c.args.plain c.args.voice.now c.args.row.now).own
 
 pub returns-in-Reference-clause-own : goal.returns-in-Reference-clause-own
-returns-in-Reference-clause-own g c = own_more _ 20 24 _ _ (omega arith) (c.follow.ensures.did c.args.plain c.args.voice.now true a_type false (unit_type c.args.symbol.now c.args.plain c.args.state.now.in_value c.args.state.now.letter c.args.state.now.lifetimes)).own
+returns-in-Reference-clause-own g c = own_more _ 20 20 _ _ (omega arith) (c.follow.ensures.did c.args.plain c.args.voice.now true a_type false (unit_type c.args.symbol.now c.args.plain c.args.state.now.in_value c.args.state.now.letter c.args.state.now.lifetimes)).own
