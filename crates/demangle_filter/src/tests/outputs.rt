@@ -4,9 +4,8 @@ use super::{WRITE_FAILED, assert_failed, run_pausing};
 use crate::held::CAPACITY;
 use crate::pausing::PausingOutput;
 use std::alloc::Global;
-use std::cell::Cell;
 use std::io;
-use std::io::{ErrorKind, Read, Write};
+use std::io::{ErrorKind, Write};
 use std::test::Fail;
 use test_doubles::streams::{PartsReader, RefusingWriter};
 
@@ -71,47 +70,6 @@ impl Write for OnceRefusingWriter {
     }
 }
 
-/// Counts the bytes that are written, and tells its reader of them.
-#[derive(Drop)]
-struct CountingWriter<'a> {
-    written: &'a Cell<usize>,
-    is_unflushed: &'a Cell<bool>,
-}
-
-impl Write for CountingWriter<'_> {
-    fn write(&mut self, buf: &[u8]) -> io::Result<usize> {
-        self.written
-            .set(self.written.get().saturating_add(buf.len()));
-        self.is_unflushed.set(true);
-        Ok(buf.len())
-    }
-
-    fn flush(&mut self) -> io::Result<()> {
-        self.is_unflushed.set(false);
-        Ok(())
-    }
-}
-
-/// Fails where it is read before all bytes that it handed out were written and flushed.
-#[derive(Drop)]
-struct CountingReader<'a> {
-    parts: PartsReader<'a>,
-    read: usize,
-    written: &'a Cell<usize>,
-    is_unflushed: &'a Cell<bool>,
-}
-
-impl Read for CountingReader<'_> {
-    fn read(&mut self, buf: &mut [u8]) -> io::Result<usize> {
-        if self.written.get() != self.read || self.is_unflushed.get() {
-            return Err(io::Error::from(ErrorKind::Other));
-        }
-        let count = self.parts.read(buf)?;
-        self.read = self.read.saturating_add(count);
-        Ok(count)
-    }
-}
-
 #[test]
 fn long_pieces_are_written_whole(rt: HostRuntime) -> Result<(), Fail> {
     let alloc = rt.alloc();
@@ -141,29 +99,6 @@ fn held_pieces_are_written_whole(rt: HostRuntime) -> Result<(), Fail> {
     let ended = run_pausing(alloc, input, &mut output)?;
     assert_eq!(rt; ended.status, 0);
     assert_eq!(rt; output.held.as_slice(), b"abcdef foo\n".as_slice());
-    Ok(())
-}
-
-#[test]
-fn lines_are_written_before_more_is_read(rt: HostRuntime) -> Result<(), Fail> {
-    let alloc = rt.alloc();
-    let mut long = vec![in alloc; b'l'; CAPACITY + 5]?;
-    long.push(b'\n')?;
-    let written = Cell::new(0);
-    let is_unflushed = Cell::new(false);
-    let parts: [&[u8]; 3] = [b"a\n", long.as_slice(), b"b\nc\n"];
-    let input = CountingReader {
-        parts: PartsReader::new(&parts, 100, ErrorKind::Other),
-        read: 0,
-        written: &written,
-        is_unflushed: &is_unflushed,
-    };
-    let mut output = CountingWriter {
-        written: &written,
-        is_unflushed: &is_unflushed,
-    };
-    let ended = run_pausing(alloc, input, &mut output)?;
-    assert_eq!(rt; ended.status, 0);
     Ok(())
 }
 

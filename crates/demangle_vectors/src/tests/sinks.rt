@@ -1,8 +1,36 @@
 //! Sinks that take a part, and what they hold then.
-use rustc_demangle::demangle;
 use rustc_demangle::sink::{ArraySink, TextSink, WriteSink};
-use std::io::ErrorKind;
+use rustc_demangle::{demangle, demangle_stream};
+use std::io;
+use std::io::{ErrorKind, Write};
+use std::test::Fail;
 use test_doubles::RefusingSink;
+
+/// Counts the texts that are written whole, the bytes of them, and the flushes.
+#[derive(Drop, Default)]
+struct CountingWriter {
+    texts: usize,
+    bytes: usize,
+    flushes: usize,
+}
+
+impl Write for CountingWriter {
+    fn write(&mut self, buf: &[u8]) -> io::Result<usize> {
+        self.bytes = self.bytes.saturating_add(buf.len());
+        Ok(buf.len())
+    }
+
+    fn write_all(&mut self, buf: &[u8]) -> io::Result<()> {
+        self.texts = self.texts.saturating_add(1);
+        self.bytes = self.bytes.saturating_add(buf.len());
+        Ok(())
+    }
+
+    fn flush(&mut self) -> io::Result<()> {
+        self.flushes = self.flushes.saturating_add(1);
+        Ok(())
+    }
+}
 
 #[test]
 fn a_full_sink_holds_the_pieces_before_the_refused_one(rt: HostRuntime) {
@@ -75,4 +103,26 @@ fn a_write_sink_holds_the_fault_of_its_writer(rt: HostRuntime) {
     let fault = sink.into_fault();
     assert!(rt; matches!(&fault, Some(fault) if fault.kind() == ErrorKind::WriteZero));
     assert!(rt; bytes.starts_with(b"a::"));
+}
+
+#[test]
+fn a_write_sink_writes_each_piece_once_and_flushes_nothing(rt: HostRuntime) -> Result<(), Fail> {
+    for (symbol, texts, bytes) in [("_ZN1a1bE.x", 4, 6), ("_ZN1a0E", 2, 3), ("_ZNE", 0, 0)] {
+        let mut writer = CountingWriter::default();
+        let mut sink = WriteSink::new(&mut writer);
+        assert!(rt; demangle(symbol).write_to(&mut sink, true).is_ok());
+        assert!(rt; sink.into_fault().is_none());
+        assert_eq!(rt; writer.texts, texts, "of {symbol}");
+        assert_eq!(rt; writer.bytes, bytes, "of {symbol}");
+        assert_eq!(rt; writer.flushes, 0, "of {symbol}");
+    }
+    let mut writer = CountingWriter::default();
+    demangle_stream(
+        rt.alloc(),
+        &mut b"_ZN1a1bE.x\n".as_slice(),
+        &mut writer,
+        true,
+    )?;
+    assert_eq!(rt; (writer.texts, writer.bytes, writer.flushes), (5, 7, 0));
+    Ok(())
 }
