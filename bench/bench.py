@@ -1,15 +1,17 @@
 #!/usr/bin/env python3
-"""Runs demangle_filter and the other demanglers of this machine over the same text, side by side.
+"""Runs kodliwe, demangle_filter and the other demanglers of this machine over the same text, side by side.
 
 Without --text it makes a log of the symbols that crates/demangle_corpus/stdin has.
 For each program it prints lines a second (the best of five runs) and instructions a line, counted by
 `valgrind --tool=callgrind` over each 21st line, with those of a run on no input taken off; without valgrind it prints
-`-` for these. With --save it writes the text that it makes, and runs nothing.
-Build the program first, by `rt run </dev/null` in crates/demangle_filter.
+`-` for these. With --save it writes the text that it makes, and runs nothing. With --scheme the text has the symbols of one scheme
+alone. With --rates it prints megabytes a second of processor time (the best of five runs) over three texts of which most is no symbol,
+and how many times as fast as demangle_filter that is; `cat` and `grep -c _R` are run for comparison.
+Build the programs first, by `rt run </dev/null` in crates/demangle_filter and `rt run` in crates/kodliwe.
 """
-import argparse, itertools, re, shutil, sys
+import argparse, itertools, os, re, shutil, sys, tempfile
 
-from common import CORPUS, OURS, further, instructions, need_filter, others, seconds
+from common import CORPUS, KODLIWE, OURS, further, instructions, need_filter, need_kodliwe, others, processor_seconds, seconds
 
 FORMS = [
     '  {n:>4}: 0x{a:012x} - {s}\n             at /src/lib.rs:{n}:17\n',
@@ -20,17 +22,22 @@ FORMS = [
 ]
 
 
-def symbols():
+PLAIN = 'no symbol on this line, only a few words and numbers {n}\n'
+LOW_LINES = 'call_of_{n} in my_module_name.c: some_field->other_field_{n} __attribute__ _start _end_of_text\n'
+SCHEMES = {'all': '_ZN|_R', 'legacy': '_ZN', 'v0': '_R'}
+
+
+def symbols(scheme):
     """The symbols that a line can hold, of those that the stored corpus has from libraries and programs, and its generated legacy ones."""
     for line in itertools.islice(open(CORPUS, encoding='utf-8'), 1700):
         for field in line.rstrip('\n').split('\t'):
-            if re.fullmatch(r'(_ZN|_R)[!-~]+', field) and '\\' not in field:
+            if re.fullmatch(r'(%s)[!-~]+' % SCHEMES[scheme], field) and '\\' not in field:
                 yield field
                 break
 
 
-def made_lines(repeat):
-    found = list(symbols())
+def made_lines(repeat, scheme):
+    found = list(symbols(scheme))
     for turn in range(repeat):
         for n, symbol in enumerate(found):
             yield FORMS[(n + turn) % len(FORMS)].format(n=n, a=0x55d0c0de0000 + 64 * n, s=symbol)
@@ -40,21 +47,54 @@ def text_of(given):
     if given.text:
         with open(given.text, 'rb') as file:
             return file.read()
-    return ''.join(made_lines(given.repeat)).encode()
+    return ''.join(made_lines(given.repeat, given.scheme)).encode()
+
+
+def rate_texts():
+    """Texts of which most is no symbol, by name: each some lines, which are repeated."""
+    found = list(symbols('all'))
+    plain = [PLAIN.format(n=n) for n in range(100 * len(found))]
+    yield 'no symbol', plain
+    yield 'a symbol in a hundred lines', [FORMS[0].format(n=n, a=n, s=found[n // 100]) if n % 100 == 0 else line for n, line in enumerate(plain)]
+    yield 'many `_`', [LOW_LINES.format(n=n) for n in range(100_000)]
+
+
+def print_rates(size, also):
+    """Megabytes a second of processor time, over texts of so many megabytes."""
+    programs = [('kodliwe', [KODLIWE]), ('demangle_filter', [OURS]), ('cat', ['cat']), ('grep -c _R', ['grep', '-c', '_R'])]
+    programs += list(others()) + also
+    print('| text | program | MB a second | times demangle_filter |')
+    print('| --- | --- | ---: | ---: |')
+    for name, lines in rate_texts():
+        part = ''.join(lines).encode()
+        with tempfile.NamedTemporaryFile() as file:
+            for _ in range(size * 1_000_000 // len(part) + 1):
+                file.write(part)
+            file.flush()
+            megabytes = os.path.getsize(file.name) / 1_000_000
+            rates = {program: megabytes / processor_seconds(command, file.name) for program, command in programs}
+        for program, rate in rates.items():
+            print('| %s | %s | %s | %.2f |' % (name, program, '{:,.0f}'.format(rate), rate / rates['demangle_filter']), flush=True)
 
 
 def main():
     words = argparse.ArgumentParser(description=__doc__, formatter_class=argparse.RawDescriptionHelpFormatter)
     words.add_argument('--text', metavar='FILE', help='run over this text')
     words.add_argument('--repeat', type=int, default=20, metavar='N', help='how often each symbol stands in the text that is made (default 20)')
+    words.add_argument('--scheme', choices=sorted(SCHEMES), default='all', help='the scheme of the symbols in the text that is made')
+    words.add_argument('--rates', type=int, metavar='MB', help='print the rates over texts of so many megabytes instead')
     words.add_argument('--save', metavar='FILE', help='write the text that is made into this file, and run nothing')
     words.add_argument('--also', type=further, action='append', default=[], metavar='NAME=COMMAND', help='a further program to run (may stand more than once)')
     given = words.parse_args()
     if given.save:
         with open(given.save, 'w', encoding='utf-8') as file:
-            file.writelines(made_lines(given.repeat))
+            file.writelines(made_lines(given.repeat, given.scheme))
         return
     need_filter()
+    need_kodliwe()
+    if given.rates:
+        print_rates(given.rates, given.also)
+        return
     text = text_of(given)
     lines = text.count(b'\n')
     few = b''.join(text.splitlines(True)[::21])
@@ -62,7 +102,7 @@ def main():
     counts = shutil.which('valgrind')
     if not counts:
         print('no valgrind on this machine (Debian package valgrind): instructions are left out', file=sys.stderr)
-    programs = [('demangle_filter', [OURS])] + list(others()) + given.also
+    programs = [('kodliwe', [KODLIWE, '--hash']), ('demangle_filter', [OURS])] + list(others()) + given.also
     print('%d lines, %d bytes' % (lines, len(text)))
     print('| program | lines a second | instructions a line |')
     print('| --- | ---: | ---: |')

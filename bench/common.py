@@ -3,6 +3,7 @@ import argparse, os, re, shlex, shutil, subprocess, sys, time
 
 ROOT = os.path.dirname(os.path.dirname(os.path.abspath(__file__)))
 OURS = os.path.join(ROOT, 'crates', 'demangle_filter', 'out', 'demangle_filter')
+KODLIWE = os.path.join(ROOT, 'crates', 'kodliwe', 'out', 'kodliwe')
 CORPUS = os.path.join(ROOT, 'crates', 'demangle_corpus', 'stdin')
 LIBRARY = 'rustc_demangle'
 OTHERS = ['rustfilt', 'c++filt', 'llvm-cxxfilt']
@@ -12,6 +13,12 @@ def need_filter():
     """Ends with what is to be done where demangle_filter was not built."""
     if not os.path.exists(OURS):
         sys.exit('no %s: build it first, by `rt run </dev/null` in crates/demangle_filter' % OURS)
+
+
+def need_kodliwe():
+    """Ends with what is to be done where kodliwe was not built."""
+    if not os.path.exists(KODLIWE):
+        sys.exit('no %s: build it first, by `rt run` in crates/kodliwe' % KODLIWE)
 
 
 def need_tool(name, package):
@@ -62,6 +69,19 @@ def seconds(command, text):
         began = time.perf_counter()
         subprocess.run(command, input=text, stdout=subprocess.DEVNULL, check=True)
         took = time.perf_counter() - began
+        best = took if best is None else min(best, took)
+    return best
+
+
+def processor_seconds(command, path):
+    """The processor time that a program takes over a file, in it and in the system: the least of five runs."""
+    best = None
+    for _ in range(5):
+        before = os.times()
+        with open(path, 'rb') as file:
+            subprocess.run(command, stdin=file, stdout=subprocess.DEVNULL, stderr=subprocess.DEVNULL)
+        after = os.times()
+        took = after.children_user + after.children_system - before.children_user - before.children_system
         best = took if best is None else min(best, took)
     return best
 

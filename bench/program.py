@@ -1,0 +1,328 @@
+#!/usr/bin/env python3
+"""Tries the built program kodliwe where `rt ci` can't: with files, pipes, full disks and long lines.
+
+It prints a line for each of these, and at last how many passed:
+
+  log           a byte of Latin-1 and a NUL in a log stay, and the symbols around them are demangled
+  inputs        several inputs in the order of the words, one of them without its last line feed
+  words         -- and symbols that begin with -; 10,000 symbols as words
+  unknown       a word that is no option ends it with status 2 before anything is read
+  missing       an input that is not there, or is a directory, is named; what came before it stands
+  full          /dev/full is told, as the output and under --output
+  closed        a pipe that whoever read it has closed ends it silently with status 0
+  followed      what is finished is shown while the input is still open
+  replaced      --output replaces a file only once all is written, keeps its permissions, takes an input as its own output,
+                follows a link, and leaves no other file
+  kept          a fault leaves the file of --output as it was
+  device        --output into a device and into a pipe writes in place
+  interrupted   a signal that is caught interrupts reading and writing, and nothing is lost
+  memory        a run under each limit of address space ends with all of the text or with one line and status 1
+  long          a line of 1 GB without a line feed, within 8 MB of memory
+  help          --help has at most 24 lines of 80 columns, and names every option
+  manual        docs/kodliwe.1 has each option and is laid out without a warning
+  completions   bash, zsh and fish offer each option
+  filter        the output is that of demangle_filter over the stored corpus and the symbols of bench/hostile.py
+
+Build the programs first, by `rt run` in crates/kodliwe and in crates/demangle_filter.
+Status: 0 where all of it held, 1 where something did not, 2 where a tool was lacking and the rest held.
+"""
+import argparse, os, re, resource, shutil, signal, stat, subprocess, sys, tempfile, threading, time
+
+import hostile
+from common import CORPUS, KODLIWE, OURS, ROOT, need_filter, need_kodliwe
+
+FOO = '_ZN3foo17h05af221e174051e9E'
+OPTIONS = ['-i', '--input', '-o', '--output', '--hash', '-h', '--help', '-V', '--version']
+
+
+class Lacking(Exception):
+    """A tool that this machine does not have."""
+
+
+def tool(name):
+    if not shutil.which(name):
+        raise Lacking(name)
+    return name
+
+
+def run(*words, text=b'', **more):
+    """What a run wrote, what it told, and its status."""
+    ran = subprocess.run([KODLIWE, *words], input=text, stdout=subprocess.PIPE, stderr=subprocess.PIPE, timeout=120, **more)
+    return ran.stdout, ran.stderr.decode(), ran.returncode
+
+
+def same(found, wanted):
+    assert found == wanted, 'found %.300r, wanted %.300r' % (found, wanted)
+
+
+def write(name, text):
+    with open(name, 'wb') as file:
+        file.write(text)
+    return name
+
+
+def read(name):
+    with open(name, 'rb') as file:
+        return file.read()
+
+
+def log():
+    text = b'a %b\r\ncaf\xe9 \0 _RNvC5crate4main\0_ZN3barE\n\xff_ZN1aE' % FOO.encode()
+    wanted = b'a foo\r\ncaf\xe9 \0 crate::main\0bar\n\xffa'
+    same(run(text=text), (wanted, '', 0))
+    same(run('--hash', text=text), (wanted.replace(b'foo', b'foo::h05af221e174051e9'), '', 0))
+
+
+def inputs():
+    write('one', b'1 _ZN3foo')
+    write('two', b'E _ZN3fooE\n')
+    same(run('-i', 'one', '--input=two', text=b'x'), (b'1 _ZN3fooE foo\n', '', 0))
+    same(run('-itwo', 'x _ZN1aE', '-i', '-', '--input', 'one', text=b'_ZN1bE\n'), (b'E foo\nx a\nb\n1 _ZN3foo', '', 0))
+    same(run('-i', '-', '-', text=b'_ZN1bE'), (b'b', '', 0))
+
+
+def words():
+    same(run('--', '--hash', '-' + FOO, text=b'x'), (b'--hash\n-foo\n', '', 0))
+    same(run(*[FOO] * 10000, text=b'x'), (b'foo\n' * 10000, '', 0))
+
+
+def unknown():
+    for word in ['--frob', '-x', '--hash=1']:
+        before = run_from_file(['-i', 'nothing', word], b'_ZN3fooE')
+        same(before, (b'', "kodliwe: unknown option '%s'; try 'kodliwe --help'\n" % word, 2, 0))
+    same(run('-i'), (b'', "kodliwe: option '-i' needs a FILE; try 'kodliwe --help'\n", 2))
+    same(run(b'\xff'), (b'', "kodliwe: a word is not UTF-8; try 'kodliwe --help'\n", 2))
+
+
+def run_from_file(words, text):
+    """The same over standard input from a file, and how much of that was read."""
+    with open(write('input', text), 'rb') as file:
+        ran = subprocess.run([KODLIWE, *words], stdin=file, stdout=subprocess.PIPE, stderr=subprocess.PIPE, timeout=120)
+        return ran.stdout, ran.stderr.decode(), ran.returncode, os.lseek(file.fileno(), 0, os.SEEK_CUR)
+
+
+def missing():
+    same(run('_ZN1aE', '-i', 'none.txt', '_ZN1bE'), (b'a\n', 'kodliwe: none.txt: No such file or directory\n', 1))
+    os.mkdir('folder')
+    same(run('_ZN1aE', '-i', 'folder'), (b'a\n', 'kodliwe: folder: Is a directory\n', 1))
+    same(run('-o', 'none/out', '_ZN1aE'), (b'', 'kodliwe: none/out: No such file or directory\n', 1))
+    same(run('-o', 'folder', '_ZN1aE'), (b'', 'kodliwe: folder: Is a directory\n', 1))
+    with open('folder/../closed', 'wb') as file:
+        ran = subprocess.run([KODLIWE], stdin=file, stdout=subprocess.PIPE, stderr=subprocess.PIPE, timeout=120)
+    same((ran.stdout, ran.stderr, ran.returncode), (b'', b'kodliwe: standard input: Bad file descriptor\n', 1))
+
+
+def full():
+    line = 'kodliwe: write failed: No space left on device\n'
+    for words in [[FOO], ['--help'], ['--version']]:
+        with open('/dev/full', 'wb') as file:
+            ran = subprocess.run([KODLIWE, *words], stdout=file, stderr=subprocess.PIPE, timeout=120)
+        same((ran.stderr.decode(), ran.returncode), (line, 1))
+    same(run('-o', '/dev/full', FOO), (b'', line, 1))
+    assert stat.S_ISCHR(os.stat('/dev/full').st_mode)
+
+
+def closed():
+    text = write('log', (b'x %b y\n' % FOO.encode()) * 100000)
+    for words in [['-i', text], ['--help']]:
+        reader, writer = os.pipe()
+        os.close(reader)
+        ran = subprocess.run([KODLIWE, *words], stdout=writer, stderr=subprocess.PIPE, timeout=120)
+        os.close(writer)
+        same((ran.stderr, ran.returncode), (b'', 0))
+    ran = subprocess.Popen([KODLIWE, '-i', text], stdout=subprocess.PIPE, stderr=subprocess.PIPE)
+    same(ran.stdout.readline(), b'x foo y\n')
+    ran.stdout.close()
+    same((ran.stderr.read(), ran.wait(120)), (b'', 0))
+    ran.stderr.close()
+
+
+def followed():
+    ran = subprocess.Popen([KODLIWE], stdin=subprocess.PIPE, stdout=subprocess.PIPE)
+    for text, wanted in [(b'_ZN3fooE\n', b'foo\n'), (b'x _ZN1', b'x '), (b'aE\n', b'a\n'), (b'caf\xe9 ', b'caf\xe9 ')]:
+        ran.stdin.write(text)
+        ran.stdin.flush()
+        same(os.read(ran.stdout.fileno(), 100), wanted)
+    ran.stdin.close()
+    same((ran.stdout.read(), ran.wait(120)), (b'', 0))
+    ran.stdout.close()
+
+
+def replaced():
+    os.mkdir('replaced')
+    name = write('replaced/out', b'old')
+    os.chmod(name, 0o640)
+    same(run('-o', name, FOO), (b'', '', 0))
+    same(read(name), b'foo\n')
+    same(stat.S_IMODE(os.stat(name).st_mode), 0o640)
+    write(name, b'_ZN3barE _ZN1aE\n')
+    same(run('-o', name, '-i', name), (b'', '', 0))
+    same(read(name), b'bar a\n')
+    os.symlink('out', 'replaced/link')
+    same(run('-oreplaced/link', '_ZN1bE'), (b'', '', 0))
+    same(read(name), b'b\n')
+    assert os.path.islink('replaced/link')
+    write('replaced/new.kodliwe-0', b'of another run')
+    same(run('--output=replaced/new', '_ZN1bE'), (b'', '', 0))
+    same((read('replaced/new'), read('replaced/new.kodliwe-0')), (b'b\n', b'of another run'))
+    same(sorted(os.listdir('replaced')), ['link', 'new', 'new.kodliwe-0', 'out'])
+
+
+def kept():
+    os.mkdir('kept')
+    name = write('kept/out', b'old')
+    same(run('-o', name, FOO, '-i', 'kept/none'), (b'', 'kodliwe: kept/none: No such file or directory\n', 1))
+    same(run('-o', name, FOO, '--frob')[2], 2)
+    text = write('long', b'x' * 300000)
+    # A file may have 200,000 bytes, and the signal that tells it is ignored: so writing fails in the middle.
+    small = lambda: (resource.setrlimit(resource.RLIMIT_FSIZE, (200000, 200000)), signal.signal(signal.SIGXFSZ, signal.SIG_IGN))
+    same(run('-o', name, '-i', text, preexec_fn=small), (b'', 'kodliwe: write failed: File too large\n', 1))
+    same((read(name), os.listdir('kept')), (b'old', ['out']))
+
+
+def device():
+    same(run('-o', '/dev/null', FOO), (b'', '', 0))
+    assert stat.S_ISCHR(os.stat('/dev/null').st_mode)
+    same(run('-o', '/dev/stdout', FOO), (b'foo\n', '', 0))
+    os.mkfifo('fifo')
+    ran = subprocess.Popen([KODLIWE, '-o', 'fifo', FOO])
+    same(read('fifo'), b'foo\n')
+    same(ran.wait(120), 0)
+
+
+def interrupted():
+    # A program that catches a signal without SA_RESTART starts kodliwe's work as a child would: kodliwe itself catches none,
+    # so the signals are those that stop and continue it, at which a call on a pipe that waits is made again.
+    ran = subprocess.Popen([KODLIWE], stdin=subprocess.PIPE, stdout=subprocess.PIPE)
+    for _ in range(20):
+        os.kill(ran.pid, signal.SIGSTOP)
+        os.kill(ran.pid, signal.SIGCONT)
+        time.sleep(0.005)
+        ran.stdin.write(b'_ZN3fooE\n')
+        ran.stdin.flush()
+    out, _ = ran.communicate(timeout=120)
+    same((out, ran.returncode), (b'foo\n' * 20, 0))
+
+
+def memory():
+    text = b'x ' + b'_ZN' + b'3foo' * 50000 + b'E\n'
+    wanted = b'x ' + b'::'.join([b'foo'] * 50000) + b'\n'
+    ended = set()
+    for pages in range(300, 900, 7):
+        limit = lambda: resource.setrlimit(resource.RLIMIT_AS, (pages * 4096, pages * 4096))
+        ran = subprocess.run([KODLIWE], input=text, stdout=subprocess.PIPE, stderr=subprocess.PIPE, timeout=120, preexec_fn=limit)
+        if ran.returncode in (127, -signal.SIGSEGV, -signal.SIGKILL):
+            continue    # the system could not start it
+        found = (ran.stdout, ran.stderr, ran.returncode)
+        assert found in [(wanted, b'', 0), (b'x ', b'kodliwe: out of memory\n', 1), (b'', b'kodliwe: out of memory\n', 1)], '%d pages: %.200r' % (pages, found)
+        ended.add(found[2])
+    same(ended, {0, 1})
+
+
+def long():
+    piece = b'x_ y' * 262144
+    ran = subprocess.Popen([KODLIWE], stdin=subprocess.PIPE, stdout=subprocess.PIPE)
+    counted = []
+
+    def count():
+        total = 0
+        while True:
+            part = ran.stdout.read(1 << 20)
+            if not part:
+                break
+            total += len(part)
+        counted.append(total)
+
+    counting = threading.Thread(target=count)
+    counting.start()
+    for _ in range(1024):
+        ran.stdin.write(piece)
+    with open('/proc/%d/status' % ran.pid) as file:
+        peak = int(re.search(r'VmHWM:\s+(\d+) kB', file.read()).group(1))
+    ran.stdin.close()
+    counting.join()
+    same((ran.wait(120), counted), (0, [1024 * len(piece)]))
+    assert peak <= 8192, 'it took %d KB' % peak
+    return '%d KB' % peak
+
+
+def help_():
+    text, told, status = run('--help')
+    same((told, status), ('', 0))
+    lines = text.decode().splitlines()
+    assert len(lines) <= 24 and max(map(len, lines)) <= 80
+    for option in OPTIONS:
+        assert re.search(r'(^|\W)%s\b' % option, text.decode()), option
+
+
+def manual():
+    page = os.path.join(ROOT, 'docs', 'kodliwe.1')
+    tool('groff')
+    ran = subprocess.run(['groff', '-man', '-Tutf8', '-ww', page], stdout=subprocess.PIPE, stderr=subprocess.PIPE, check=True)
+    same(ran.stderr, b'')
+    text = re.sub('\x1b\\[[0-9;]*m|.\b', '', ran.stdout.decode()).replace('\u2010', '-').replace('\u2212', '-')
+    for option in OPTIONS:
+        assert option in text, option
+
+
+def completions():
+    folder = os.path.join(ROOT, 'completions')
+    tool('bash'), tool('zsh'), tool('fish')
+    asked = 'source %s/kodliwe.bash; COMP_WORDS=(kodliwe -); COMP_CWORD=1; _kodliwe; echo "${COMPREPLY[@]}"' % folder
+    same(subprocess.check_output(['bash', '-c', asked]).decode().split(), OPTIONS)
+    subprocess.run(['zsh', '-n', folder + '/_kodliwe'], check=True)
+    with open(folder + '/_kodliwe') as file:
+        text = file.read()
+    for option in OPTIONS:
+        assert option in text, option
+    offered = ''
+    for front in ['-', '--']:
+        asked = 'source %s/kodliwe.fish; complete -C "kodliwe %s"' % (folder, front)
+        offered += subprocess.check_output(['fish', '--no-config', '-c', asked], env=dict(os.environ, HOME=os.getcwd())).decode()
+    for option in OPTIONS:
+        assert re.search(r'^%s\t' % option, offered, re.M), option
+
+
+def filter_():
+    need_filter()
+    texts = [read(CORPUS), b''.join(symbol.encode() + b'\n' for _, symbol in hostile.cases())]
+    for text in texts:
+        for ours, words in [(['--hash'], []), ([], ['--no-hash'])]:
+            wanted = subprocess.run([OURS, *words], input=text, stdout=subprocess.PIPE, check=True, timeout=120).stdout
+            found = run(*ours, text=text)
+            assert found == (wanted, '', 0), 'the output differs, with %r' % ours
+
+
+CHECKS = [log, inputs, words, unknown, missing, full, closed, followed, replaced, kept, device, interrupted, memory, long, help_, manual,
+          completions, filter_]
+
+
+def main():
+    parsed = argparse.ArgumentParser(description=__doc__, formatter_class=argparse.RawDescriptionHelpFormatter)
+    parsed.add_argument('only', nargs='*', metavar='NAME', help='run these alone')
+    given = parsed.parse_args()
+    need_kodliwe()
+    passed = failed = lacking = 0
+    for check in CHECKS:
+        name = check.__name__.rstrip('_')
+        if given.only and name not in given.only:
+            continue
+        with tempfile.TemporaryDirectory() as folder:
+            os.chdir(folder)
+            try:
+                told = check()
+                passed += 1
+                print('%-12s ok%s' % (name, ', ' + told if told else ''), flush=True)
+            except Lacking as missing_tool:
+                lacking += 1
+                print('%-12s left out: no %s on this machine' % (name, missing_tool), flush=True)
+            except (AssertionError, subprocess.SubprocessError, OSError) as wrong:
+                failed += 1
+                print('%-12s FAILED: %s' % (name, wrong), flush=True)
+            os.chdir('/')
+    print('%d passed, %d failed' % (passed, failed))
+    return 1 if failed else 2 if lacking else 0
+
+
+if __name__ == '__main__':
+    sys.exit(main())

@@ -1,0 +1,21 @@
+# bash completion for kodliwe
+_kodliwe() {
+    local word=${COMP_WORDS[COMP_CWORD]} before=${COMP_WORDS[COMP_CWORD-1]} i
+    COMPREPLY=()
+    for ((i = 1; i < COMP_CWORD; i++)); do
+        if [[ ${COMP_WORDS[i]} == -- ]]; then
+            return
+        fi
+    done
+    case $before in
+        -i | --input | -o | --output)
+            compopt -o filenames 2>/dev/null
+            mapfile -t COMPREPLY < <(compgen -f -- "$word")
+            return
+            ;;
+    esac
+    if [[ $word == -* ]]; then
+        mapfile -t COMPREPLY < <(compgen -W '-i --input -o --output --hash -h --help -V --version' -- "$word")
+    fi
+}
+complete -F _kodliwe kodliwe

@@ -1,0 +1,7 @@
+use Rattle.std.specs.Io.Buffered.{reader_remaining}
+use Rattle.rustc_demangle.proofs.BytesSteps.{Passing}
+use Rattle.kodliwe.proofs.run.filter_steps.Given as goal
+
+abbrev pub invariant-loop : goal.invariant-loop
+invariant-loop g l = Passing l.include_hash (reader_remaining g.R.Read.remaining l.initial.input) l.filter (reader_remaining g.R.Read.remaining l.input)
+    (g.W.Write.contents l.initial.output) (g.W.Write.contents l.output)

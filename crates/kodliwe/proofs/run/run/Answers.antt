@@ -1,0 +1,17 @@
+use Rattle.std.proofs.Common.{map}
+use Rattle.kodliwe.proofs.RunLemmas.{front_kept, front_joined, not_writing}
+use Rattle.kodliwe.proofs.run.run.Goals.{then-eq, else-eq}
+use Rattle.kodliwe.proofs.run.run.Goals as goal
+
+pub returns-then-ne-clause-unread : goal.returns-then-ne-clause-unread
+returns-then-ne-clause-unread g c = λ e.
+    let h = c.args.include_hash in
+    let all = map (λ input. g.R.Read.remaining input.reader) c.args.inputs.items in
+    let old = g.W.Write.contents c.args.output.now in
+    let mid = g.W.Write.contents c.filter_inputs.new.output in
+    let stopped = not_writing c.in-Err.stop.fault h all old mid (c.end_of-ended.ensures.unread e) c.in-Err.ensures.err in
+    elim c.if-eq.branch [
+      | then-eq w ↦ front_joined g.W.Write.contents h all old w.flush.new.output c.if-eq.output w.output-is
+          (front_kept h all old mid (g.W.Write.contents w.flush.new.output) stopped w.flush.ensures.bytes)
+      | else-eq w ↦ front_joined g.W.Write.contents h all old c.filter_inputs.new.output c.if-eq.output w.output-is stopped
+    ]

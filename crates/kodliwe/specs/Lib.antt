@@ -1,0 +1,2 @@
+-- What a reader of the program's contracts believes.
+pub mod Run

@@ -1,0 +1,47 @@
+//! Copies texts with each Rust symbol demangled.
+#![tactic(auto)]
+
+mod fault;
+mod program;
+mod replacing;
+mod run;
+mod streams;
+#[cfg(test)]
+mod tests;
+mod texts;
+mod words;
+
+use program::{start, words_fault};
+use std::io::Write;
+use std::process::ExitCode;
+use std::rt::Env;
+use std::{env, io};
+
+/// The words behind the program's name.
+fn arguments(rt: &(impl Env + AllocGlobal)) -> io::Result<Vec<String>> {
+    let words = env::args(rt)?;
+    Ok(words.skip(1).collect::<Vec<String>>(rt.alloc())?)
+}
+
+fn main(rt: HostRuntime) -> ExitCode {
+    let alloc = rt.alloc();
+    let mut errors = rt.stderr().lock();
+    let words = match arguments(&rt) {
+        Ok(words) => words,
+        Err(error) => {
+            let (line, status) = words_fault(&error);
+            let _ = errors.write_all(line.as_bytes());
+            return ExitCode::from(status);
+        }
+    };
+    let stdout = rt.stdout().lock();
+    let status = start(
+        alloc,
+        words.as_slice(),
+        &rt,
+        rt.stdin(),
+        stdout,
+        &mut errors,
+    );
+    ExitCode::from(status)
+}

@@ -1,0 +1,243 @@
+//! The program's work over any readers and any writer.
+ghost use Rattle.std.specs.Prelude.{◌≡◌, ◌++◌, [], true, false, Ok, IfSome, OnOk, IfErr, map};
+ghost use Rattle.std.specs.Io.KnownBytes.{Appends, Keeps};
+ghost use Rattle.std.specs.Io.Buffered.{reader_remaining};
+ghost use Rattle.rustc_demangle.specs.Filtered.{filtered};
+ghost use Rattle.rustc_demangle.specs.Bytes.{IsWriting, StepTook, StepEnded, StepRefused, BytesStopped};
+ghost use Rattle.kodliwe.specs.Run.{WroteAll, WroteFront, RunStopped};
+
+use crate::fault::{InputFault, report};
+use rustc_demangle::{BytesFilter, StreamFault};
+use std::alloc::{Allocator, Global};
+use std::io;
+use std::io::{BufRead, BufReader, ErrorKind, Read, Write};
+
+/// How many bytes are read at once.
+pub const BUFFER: usize = 65_536;
+
+/// A reader, and its name in the line of a fault.
+#[derive(Drop)]
+pub struct Input<'a, R: Drop> {
+    pub name: &'a str,
+    pub reader: R,
+}
+
+/// How a run ended.
+#[derive(Clone, Copy, Debug, PartialEq, Eq)]
+pub enum Ended {
+    /// All was written.
+    Complete,
+    /// Who reads the output has closed it.
+    Closed,
+    /// An input can't be read, or memory was refused.
+    Unread,
+    /// The output can't be written.
+    Unwritten,
+}
+
+impl Ended {
+    /// The exit status.
+    pub fn status(self) -> u8
+        ensures complete { self ≡ Ended.Complete → result ≡ 0 }
+        ensures closed { self ≡ Ended.Closed → result ≡ 0 }
+        ensures unread { self ≡ Ended.Unread → result ≡ 1 }
+        ensures unwritten { self ≡ Ended.Unwritten → result ≡ 1 }
+    {
+        match self {
+            Ended::Complete | Ended::Closed => 0,
+            Ended::Unread | Ended::Unwritten => 1,
+        }
+    }
+}
+
+/// Flushes, and again where a signal interrupted it.
+fn flush<W: Write>(output: &mut W) -> Result<(), StreamFault>
+    ensures bytes { Keeps (W.contents output.old) (W.contents output.new) }
+    ensures named { IfErr result IsWriting }
+{
+    for _ in 0..=u64::MAX {
+        match output.flush() {
+            Ok(()) => return Ok(()),
+            Err(error) if error.kind() == ErrorKind::Interrupted => {}
+            Err(error) => return Err(StreamFault::Write(error)),
+        }
+    }
+    Err(StreamFault::Write(io::Error::other("too many signals")))
+}
+
+/// Flushes the output where the next step reads.
+fn pause<R: Read, W: Write, B: Allocator>(
+    input: &BufReader<R, B>,
+    output: &mut W,
+) -> Result<(), StreamFault>
+    ensures bytes { Keeps (W.contents output.old) (W.contents output.new) }
+    ensures named { IfErr result IsWriting }
+{
+    if input.buffer().is_empty() {
+        flush(output)
+    } else {
+        Ok(())
+    }
+}
+
+/// A step, which takes nothing where a signal interrupted the reader.
+fn step<R: BufRead, W: Write, A: Allocator>(
+    filter: &mut BytesFilter<A>,
+    input: &mut R,
+    output: &mut W,
+    include_hash: bool,
+) -> Result<bool, StreamFault>
+    ensures took { result ≡ Ok true → StepTook include_hash filter.old filter.new
+        (R.remaining input.old) (R.remaining input.new)
+        (W.contents output.old) (W.contents output.new) }
+    ensures ended { result ≡ Ok false → StepEnded include_hash filter.old filter.new
+        (R.remaining input.old) (R.remaining input.new)
+        (W.contents output.old) (W.contents output.new) }
+    ensures refused { IfErr result (λ fault. StepRefused fault filter.old filter.new
+        (R.remaining input.old) (R.remaining input.new)
+        (W.contents output.old) (W.contents output.new)) }
+{
+    match filter.step(input, output, include_hash) {
+        Err(StreamFault::Read(error)) if error.kind() == ErrorKind::Interrupted => Ok(true),
+        stepped => stepped,
+    }
+}
+
+/// Flushes the output where more is to be read, and takes a step.
+fn turn<R: Read, W: Write, A: Allocator, B: Allocator>(
+    filter: &mut BytesFilter<A>,
+    input: &mut BufReader<R, B>,
+    output: &mut W,
+    include_hash: bool,
+) -> Result<bool, StreamFault>
+    ensures took { result ≡ Ok true → StepTook include_hash filter.old filter.new
+        (reader_remaining R.remaining input.old) (reader_remaining R.remaining input.new)
+        (W.contents output.old) (W.contents output.new) }
+    ensures ended { result ≡ Ok false → StepEnded include_hash filter.old filter.new
+        (reader_remaining R.remaining input.old) (reader_remaining R.remaining input.new)
+        (W.contents output.old) (W.contents output.new) }
+    ensures refused { IfErr result (λ fault. IfSome (reader_remaining R.remaining input.old) (λ text.
+        BytesStopped fault (filter.old ++ text) include_hash
+        (W.contents output.old) (W.contents output.new))) }
+{
+    pause(input, output)?;
+    step(filter, input, output, include_hash)
+}
+
+/// Filters what a reader holds, up to its end. The output is flushed before each reading.
+fn filter_steps<R: Read, W: Write, A: Allocator, B: Allocator>(
+    filter: &mut BytesFilter<A>,
+    input: &mut BufReader<R, B>,
+    output: &mut W,
+    include_hash: bool,
+) -> Result<(), StreamFault>
+    requires { filter.old ≡ [] }
+    ensures ok { OnOk result (IfSome (reader_remaining R.remaining input.old) (λ text.
+        Appends (W.contents output.old) (W.contents output.new) (filtered include_hash text))) }
+    ensures err { IfErr result (λ fault. IfSome (reader_remaining R.remaining input.old) (λ text.
+        BytesStopped fault text include_hash (W.contents output.old) (W.contents output.new))) }
+{
+    for _ in 0..=u64::MAX {
+        if !turn(filter, input, output, include_hash)? {
+            return Ok(());
+        }
+    }
+    Err(StreamFault::Read(io::Error::other("too many steps")))
+}
+
+/// Filters what one reader holds.
+fn filter_reader<R: Read + Drop, W: Write>(
+    alloc: Global,
+    reader: R,
+    output: &mut W,
+    include_hash: bool,
+) -> Result<(), StreamFault>
+    ensures ok { OnOk result (IfSome (R.remaining reader) (λ text.
+        Appends (W.contents output.old) (W.contents output.new) (filtered include_hash text))) }
+    ensures err { IfErr result (λ fault. IfSome (R.remaining reader) (λ text.
+        BytesStopped fault text include_hash (W.contents output.old) (W.contents output.new))) }
+{
+    let Ok(mut input) = BufReader::with_capacity(alloc, BUFFER, reader) else {
+        return Err(StreamFault::Memory);
+    };
+    let mut filter = BytesFilter::new(alloc);
+    filter_steps(&mut filter, &mut input, output, include_hash)
+}
+
+/// Filters what each reader holds, in order, and flushes the output.
+fn filter_inputs<'a, R: Read + Drop, W: Write>(
+    alloc: Global,
+    inputs: Vec<Input<'a, R>>,
+    output: &mut W,
+    include_hash: bool,
+) -> Result<(), InputFault<'a>>
+    ensures ok { OnOk result (WroteAll include_hash
+        (map (λ input. R.remaining input.reader) inputs.entry.items)
+        (W.contents output.old) (W.contents output.new)) }
+    ensures err { IfErr result (λ stop. RunStopped stop.fault include_hash
+        (map (λ input. R.remaining input.reader) inputs.entry.items)
+        (W.contents output.old) (W.contents output.new)) }
+{
+    for input in inputs {
+        let Input { name, reader } = input;
+        match filter_reader(alloc, reader, output, include_hash) {
+            Ok(()) => {}
+            Err(fault) => return Err(InputFault { name, fault }),
+        }
+    }
+    match flush(output) {
+        Ok(()) => Ok(()),
+        Err(fault) => Err(InputFault { name: "", fault }),
+    }
+}
+
+/// How a run ended that a fault stopped.
+fn end_of(fault: &StreamFault) -> Ended
+    ensures stopped { (result ≡ Ended.Complete → ⊥) }
+    ensures unread { result ≡ Ended.Unread → IsWriting fault.now → ⊥ }
+{
+    match fault {
+        StreamFault::Write(error) => {
+            if error.kind() == ErrorKind::BrokenPipe {
+                Ended::Closed
+            } else {
+                Ended::Unwritten
+            }
+        }
+        _ => Ended::Unread,
+    }
+}
+
+/// Filters the inputs in order, each by itself, and writes a line where an input can't be read, the
+/// output can't be written, or memory is refused.
+///
+/// `Complete`: the bytes that the writer tells grew by what the filter gives for all that the
+/// readers still held. `Unread`: by what it gives for the inputs in front of one and for a front of
+/// that one, which cuts no symbol. Nothing is known of what a writer took in a call that it
+/// refused. What was written before is flushed in any case. A fault of `errors` is ignored.
+pub fn run<R: Read + Drop, W: Write, E: Write>(
+    alloc: Global,
+    inputs: Vec<Input<'_, R>>,
+    output: &mut W,
+    errors: &mut E,
+    include_hash: bool,
+) -> Ended
+    ensures complete { result ≡ Ended.Complete → WroteAll include_hash
+        (map (λ input. R.remaining input.reader) inputs.entry.items)
+        (W.contents output.old) (W.contents output.new) }
+    ensures unread { result ≡ Ended.Unread → WroteFront include_hash
+        (map (λ input. R.remaining input.reader) inputs.entry.items)
+        (W.contents output.old) (W.contents output.new) }
+{
+    let Err(stop) = filter_inputs(alloc, inputs, output, include_hash) else {
+        return Ended::Complete;
+    };
+    let ended = end_of(&stop.fault);
+    if ended == Ended::Unread {
+        let _ = flush(output);
+    }
+    if ended != Ended::Closed {
+        report(alloc, errors, &stop);
+    }
+    ended
+}

@@ -1,0 +1,424 @@
+//! The run over readers and writers that fail, and the words. What the filter gives for a text is
+//! tested with the library, by which this is compared.
+use crate::program::start;
+use crate::run::{Ended, Input, run};
+use rustc_demangle::demangle_stream_named;
+use std::alloc::{AllocError, Global};
+use std::cell::Cell;
+use std::fs::Files;
+use std::io::{ErrorKind, Read, Stdin, Write};
+use std::process::Abort;
+use std::test::Fail;
+use streams::{CallsWriter, ChunkReader, WatchedWriter, WatchingReader};
+
+mod streams;
+
+/// What a log may have: both schemes, what only begins as one, a byte of Latin-1, NUL, long runs.
+const LOG: &[u8] = b"a _ZN3foo17h05af221e174051e9E\r\n\n_ _Z _R _ZN __R \
+    _RNvC5crate4main.llvm.0 _RCs_3foo \xE9t\xE9 \0_ZN3fooE\0 _ZN1a1bE._ZN1cE _Z_ZN1a1bE$x\n_ZN3barE";
+
+/// What the line filter writes of a text, which has to be UTF-8, with hashes or without.
+fn by_lines(
+    rt: &impl Abort,
+    alloc: Global,
+    text: &[u8],
+    include_hash: bool,
+) -> Result<Vec<u8>, AllocError> {
+    let mut wanted = Vec::new(alloc);
+    let mut input = text;
+    let copied = demangle_stream_named(alloc, &mut input, &mut wanted, include_hash);
+    assert!(rt; copied.is_ok(), "of {text:?}");
+    Ok(wanted)
+}
+
+/// Runs over one reader, and answers what it wrote as errors too.
+fn run_one<R: Read + Drop, W: Write>(
+    alloc: Global,
+    reader: R,
+    output: &mut W,
+    include_hash: bool,
+) -> Result<(Ended, Vec<u8>), AllocError> {
+    let mut inputs = Vec::new(alloc);
+    inputs.push(Input {
+        name: "log.txt",
+        reader,
+    })?;
+    let mut errors = Vec::new(alloc);
+    let ended = run(alloc, inputs, output, &mut errors, include_hash);
+    Ok((ended, errors))
+}
+
+/// Asserts what a run over fillings of so many bytes writes.
+fn assert_writes(
+    rt: &impl Abort,
+    alloc: Global,
+    text: &[u8],
+    most: usize,
+    wanted: &[u8],
+    include_hash: bool,
+) -> Result<(), AllocError> {
+    let mut output = Vec::new(alloc);
+    let reader = ChunkReader::new(text, most);
+    let (ended, errors) = run_one(alloc, reader, &mut output, include_hash)?;
+    assert_eq!(rt; ended, Ended::Complete, "of {text:?} by {most}");
+    assert_eq!(rt; output.as_slice(), wanted, "of {text:?} by {most}");
+    assert!(rt; errors.is_empty(), "of {text:?} by {most}");
+    Ok(())
+}
+
+#[test]
+fn a_log_of_any_bytes_is_filtered_by_fillings_of_any_size(rt: HostRuntime) -> Result<(), Fail> {
+    let alloc = rt.alloc();
+    let wanted: &[u8] = b"a foo\r\n\n_ _Z _R _ZN __R \
+        crate::main foo \xE9t\xE9 \0foo\0 a::b._ZN1cE _Z_ZN1a1bE$x\nbar";
+    for most in 1..LOG.len() {
+        assert_writes(&rt, alloc, LOG, most, wanted, false)?;
+    }
+    Ok(())
+}
+
+#[test]
+fn each_beginning_is_filtered_as_by_lines(rt: HostRuntime) -> Result<(), Fail> {
+    let alloc = rt.alloc();
+    let text: &[u8] = b"x _ZN3foo17h05af221e174051e9E\n_RNvC5crate4main _RCs_3foo _ZN1a1bE__RC1a";
+    for len in 0..=text.len() {
+        let front = &text[..len];
+        for include_hash in [false, true] {
+            let wanted = by_lines(&rt, alloc, front, include_hash)?;
+            for most in 1..4 {
+                assert_writes(&rt, alloc, front, most, wanted.as_slice(), include_hash)?;
+            }
+        }
+    }
+    Ok(())
+}
+
+#[test]
+fn inputs_are_filtered_each_by_itself(rt: HostRuntime) -> Result<(), Fail> {
+    let alloc = rt.alloc();
+    let mut inputs = Vec::new(alloc);
+    let texts: [&[u8]; 4] = [b"x _ZN3fo", b"oE\n_ZN3fooE", b"", b"_ZN3barE\n"];
+    for text in texts {
+        inputs.push(Input {
+            name: "log.txt",
+            reader: ChunkReader::new(text, 100),
+        })?;
+    }
+    let mut output = Vec::new(alloc);
+    let mut errors = Vec::new(alloc);
+    let ended = run(alloc, inputs, &mut output, &mut errors, false);
+    assert_eq!(rt; ended, Ended::Complete);
+    assert_eq!(rt; output.as_slice(), b"x _ZN3fooE\nfoobar\n".as_slice());
+    Ok(())
+}
+
+#[test]
+fn a_reader_that_fails_is_told_by_its_name(rt: HostRuntime) -> Result<(), Fail> {
+    let alloc = rt.alloc();
+    let text: &[u8] = b"x _ZN3fooE\ny _ZN3barE";
+    let faults: [(ErrorKind, &[u8]); 2] = [
+        (
+            ErrorKind::IsADirectory,
+            b"kodliwe: log.txt: reset by the other side\n",
+        ),
+        (ErrorKind::OutOfMemory, b"kodliwe: out of memory\n"),
+    ];
+    for (kind, line) in faults {
+        // The run that the input so far ends with is not known, and so is not written.
+        for (reads, wanted) in [
+            (0, b"".as_slice()),
+            (1, b"x "),
+            (2, b"x foo\ny"),
+            (3, b"x foo\ny "),
+        ] {
+            let reader = ChunkReader::new(text, 6).failing(reads, kind);
+            let mut output = Vec::new(alloc);
+            let (ended, errors) = run_one(alloc, reader, &mut output, false)?;
+            assert_eq!(rt; ended, Ended::Unread, "at {reads}");
+            assert_eq!(rt; ended.status(), 1);
+            assert_eq!(rt; errors.as_slice(), line, "at {reads}");
+            assert_eq!(rt; output.as_slice(), wanted, "at {reads}");
+        }
+    }
+    Ok(())
+}
+
+#[test]
+fn interrupted_calls_are_made_again(rt: HostRuntime) -> Result<(), Fail> {
+    let alloc = rt.alloc();
+    let reader = ChunkReader::new(LOG, 5).interrupted();
+    let mut output = CallsWriter::new(alloc, usize::MAX, ErrorKind::Other, 3).interrupted();
+    let (ended, errors) = run_one(alloc, reader, &mut output, false)?;
+    assert_eq!(rt; ended, Ended::Complete);
+    assert!(rt; errors.is_empty());
+    let mut wanted = Vec::new(alloc);
+    let _ = run_one(alloc, ChunkReader::new(LOG, 1000), &mut wanted, false)?;
+    assert_eq!(rt; output.held(), wanted.as_slice());
+    Ok(())
+}
+
+#[test]
+fn a_writer_that_fails_at_any_call_is_told(rt: HostRuntime) -> Result<(), Fail> {
+    let alloc = rt.alloc();
+    let text: &[u8] = b"x _ZN1a1bE y\n_ZN3fooE\n";
+    let wanted: &[u8] = b"x a::b y\nfoo\n";
+    let mut calls = 0;
+    loop {
+        let mut output = CallsWriter::new(alloc, calls, ErrorKind::StorageFull, 2);
+        let (ended, errors) = run_one(alloc, ChunkReader::new(text, 4), &mut output, false)?;
+        assert!(rt; wanted.starts_with(output.held()), "at {calls}");
+        if ended == Ended::Complete {
+            assert_eq!(rt; output.held(), wanted);
+            break;
+        }
+        assert_eq!(rt; ended, Ended::Unwritten, "at {calls}");
+        assert_eq!(rt; ended.status(), 1);
+        assert_eq!(rt;
+            errors.as_slice(),
+            b"kodliwe: write failed: no space\n".as_slice()
+        );
+        calls += 1;
+        if calls > 1000 {
+            break;
+        }
+    }
+    // Two bytes a write, and a flush before each reading and at the end.
+    assert!(rt; calls > 13 && calls < 100, "{calls}");
+    Ok(())
+}
+
+#[test]
+fn a_closed_pipe_ends_the_run_silently(rt: HostRuntime) -> Result<(), Fail> {
+    let alloc = rt.alloc();
+    for calls in 0..8 {
+        let mut output = CallsWriter::new(alloc, calls, ErrorKind::BrokenPipe, 100);
+        let (ended, errors) = run_one(alloc, ChunkReader::new(LOG, 9), &mut output, false)?;
+        assert_eq!(rt; ended, Ended::Closed, "at {calls}");
+        assert_eq!(rt; ended.status(), 0);
+        assert!(rt; errors.is_empty());
+    }
+    Ok(())
+}
+
+#[test]
+fn what_is_finished_is_flushed_before_more_is_read(rt: HostRuntime) -> Result<(), Fail> {
+    let alloc = rt.alloc();
+    let is_unflushed = Cell::new(false);
+    let text: &[u8] = b"_ZN3fooE\nx_ZN3barE\ny _ZN1aE";
+    let reader = WatchingReader::new(text, &is_unflushed);
+    let mut output = WatchedWriter::new(Vec::new(alloc), &is_unflushed);
+    let (ended, _) = run_one(alloc, reader, &mut output, false)?;
+    assert_eq!(rt; ended, Ended::Complete);
+    assert_eq!(rt; output.held(), b"foo\nxbar\ny a".as_slice());
+    assert!(rt; !is_unflushed.get());
+    Ok(())
+}
+
+/// Runs the program on these words, and asserts what it writes.
+fn assert_program<R: Abort + Files>(
+    rt: &R,
+    alloc: Global,
+    stdin: Stdin,
+    words: &[&str],
+    status: u8,
+    wanted: &[u8],
+    line: &[u8],
+) -> Result<(), Fail> {
+    let mut owned = Vec::new(alloc);
+    for word in words.iter() {
+        owned.push(String::from_str(alloc, word)?)?;
+    }
+    let mut output = Vec::new(alloc);
+    let mut errors = Vec::new(alloc);
+    let ended = start(alloc, owned.as_slice(), rt, stdin, &mut output, &mut errors);
+    assert_eq!(rt; ended, status, "with {words:?}");
+    assert_eq!(rt; output.as_slice(), wanted, "with {words:?}");
+    assert_eq!(rt; errors.as_slice(), line, "with {words:?}");
+    Ok(())
+}
+
+const FOO: &str = "_ZN3foo17h05af221e174051e9E";
+
+#[test]
+fn symbols_are_words_in_any_place(rt: HostRuntime) -> Result<(), Fail> {
+    let kept = b"foo::h05af221e174051e9\nb\n";
+    assert_program(
+        &rt,
+        rt.alloc(),
+        rt.stdin(),
+        &[FOO, "x _ZN1aE"],
+        0,
+        b"foo\nx a\n",
+        b"",
+    )?;
+    assert_program(
+        &rt,
+        rt.alloc(),
+        rt.stdin(),
+        &["--hash", FOO, "_ZN1bE"],
+        0,
+        kept,
+        b"",
+    )?;
+    assert_program(
+        &rt,
+        rt.alloc(),
+        rt.stdin(),
+        &[FOO, "_ZN1bE", "--hash"],
+        0,
+        kept,
+        b"",
+    )?;
+    assert_program(
+        &rt,
+        rt.alloc(),
+        rt.stdin(),
+        &["_ZN1aE", "--", "--hash", "-_ZN1bE", "--", "-"],
+        0,
+        b"a\n--hash\n-b\n--\n-\n",
+        b"",
+    )?;
+    assert_program(
+        &rt,
+        rt.alloc(),
+        rt.stdin(),
+        &["", "_ZN1aE\n_ZN1bE"],
+        0,
+        b"\na\nb\n",
+        b"",
+    )
+}
+
+#[test]
+fn words_that_are_no_option_are_refused(rt: HostRuntime) -> Result<(), Fail> {
+    for word in [
+        "--frob", "-x", "--hashes", "--hash=1", "--help=1", "-hV", "--inputs", "-Vx",
+    ] {
+        let line = format!(in rt.alloc();
+            "kodliwe: unknown option '{word}'; try 'kodliwe --help'\n"
+        )?;
+        assert_program(
+            &rt,
+            rt.alloc(),
+            rt.stdin(),
+            &[FOO, word, "--help"],
+            2,
+            b"",
+            line.as_bytes(),
+        )?;
+    }
+    for word in ["-i", "--input", "-o", "--output"] {
+        let line = format!(in rt.alloc();
+            "kodliwe: option '{word}' needs a FILE; try 'kodliwe --help'\n"
+        )?;
+        assert_program(
+            &rt,
+            rt.alloc(),
+            rt.stdin(),
+            &[FOO, word],
+            2,
+            b"",
+            line.as_bytes(),
+        )?;
+    }
+    Ok(())
+}
+
+#[test]
+fn files_that_are_not_there_are_named(rt: HostRuntime) -> Result<(), Fail> {
+    let line: &[u8] = b"kodliwe: none/log.txt: No such file or directory\n";
+    let cases: [&[&str]; 4] = [
+        &["_ZN1aE", "-i", "none/log.txt", "_ZN1bE"],
+        &["_ZN1aE", "-inone/log.txt"],
+        &["_ZN1aE", "--input", "none/log.txt"],
+        &["_ZN1aE", "--input=none/log.txt"],
+    ];
+    for words in cases {
+        assert_program(&rt, rt.alloc(), rt.stdin(), words, 1, b"a\n", line)?;
+    }
+    let cases: [&[&str]; 3] = [
+        &["-o", "none/log.txt", "_ZN1aE"],
+        &["_ZN1aE", "-onone/log.txt"],
+        &["--output=none/log.txt", "_ZN1aE"],
+    ];
+    for words in cases {
+        assert_program(
+            &rt,
+            rt.alloc(),
+            rt.stdin(),
+            words,
+            1,
+            b"",
+            b"kodliwe: none/log.txt: No such file or directory\n",
+        )?;
+    }
+    Ok(())
+}
+
+#[test]
+fn the_help_fits_a_terminal(rt: HostRuntime) -> Result<(), Fail> {
+    let text = crate::texts::HELP;
+    assert_program(
+        &rt,
+        rt.alloc(),
+        rt.stdin(),
+        &["-h"],
+        0,
+        text.as_bytes(),
+        b"",
+    )?;
+    assert_program(
+        &rt,
+        rt.alloc(),
+        rt.stdin(),
+        &["_ZN1aE", "--help", "--frob"],
+        0,
+        text.as_bytes(),
+        b"",
+    )?;
+    assert_program(
+        &rt,
+        rt.alloc(),
+        rt.stdin(),
+        &["-V"],
+        0,
+        b"kodliwe 0.1.0\n",
+        b"",
+    )?;
+    assert_program(
+        &rt,
+        rt.alloc(),
+        rt.stdin(),
+        &["--version", "-h"],
+        0,
+        b"kodliwe 0.1.0\n",
+        b"",
+    )?;
+    let mut lines = 0;
+    for line in text.lines() {
+        assert!(rt; line.len() <= 80, "{line}");
+        lines += 1;
+    }
+    assert!(rt; lines <= 24);
+    Ok(())
+}
+
+#[test]
+fn ten_thousand_symbols_are_words(rt: HostRuntime) -> Result<(), Fail> {
+    let alloc = rt.alloc();
+    let mut words = Vec::new(alloc);
+    let mut wanted = Vec::new(alloc);
+    for _ in 0..10_000 {
+        words.push(FOO)?;
+        wanted.extend_from_slice(b"foo\n")?;
+    }
+    assert_program(
+        &rt,
+        rt.alloc(),
+        rt.stdin(),
+        words.as_slice(),
+        0,
+        wanted.as_slice(),
+        b"",
+    )
+}
