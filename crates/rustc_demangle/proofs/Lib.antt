@@ -20,4 +20,5 @@ pub mod SymbolSteps
 pub mod TableFeeds
 pub mod TextRows
 pub mod V0Feeds
+pub mod WholeText
 pub mod WordFeeds

@@ -9,10 +9,10 @@ use Rattle.demangle_sink.specs.declared.SinkRefused.{SinkRefused}
 use Rattle.demangle_sink.specs.Hands.{Hands}
 use Rattle.demangle_sink.proofs.HandsLemmas.{hands_nothing, hands_then, hands_stop}
 use Rattle.rustc_demangle.specs.Stripped.{stripped}
-use Rattle.rustc_demangle.specs.Symbols.{IsSymbol, pieces_of, handed, printed, most_bytes}
+use Rattle.rustc_demangle.specs.Symbols.{IsSymbol, pieces_of, handed}
 use Rattle.rustc_demangle.specs.Lines.{onto_first}
-use Rattle.rustc_demangle.specs.Filtered.{is_run, begins_run, replacement, filtered_from, filtered}
-use Rattle.rustc_demangle.specs.Pieces.{run_pieces, filtered_pieces_from, filtered_pieces, filtered_within}
+use Rattle.rustc_demangle.specs.Filtered.{is_run, begins_run, replacement_within, filtered_by, filtered_within}
+use Rattle.rustc_demangle.specs.Pieces.{run_pieces, filtered_pieces_from, filtered_pieces}
 use Rattle.rustc_demangle.proofs.SymbolSteps.{pieces-symbol, symbol-pieces}
 use Rattle.rustc_demangle.proofs.RunSteps.{turn, first_of_run, run_some}
 
@@ -77,10 +77,11 @@ run_pieces-no_symbol h l run none = at (pieces_of h (stripped run)) refl
     at None e = refl
     at (Some read) e = absurd (none (symbol-pieces h (stripped run) read e))
 
-concat-run : (h : Bool) (run : List ℕ) → concat (run_pieces h most_bytes run) ≡ replacement h run
-concat-run h run = at (pieces_of h (stripped run))
+-- what stands for a run is its pieces, joined
+pub concat-run : (h : Bool) (l : ℕ) (run : List ℕ) → concat (run_pieces h l run) ≡ replacement_within h l run
+concat-run h l run = at (pieces_of h (stripped run))
   where
-    at : (read : Option (List (List ℕ) × List ℕ)) → concat (option_map_or (λ _. handed (stripped run) h most_bytes) read (run ∷ [])) ≡ option_map_or (λ _. printed (stripped run) h) read run
+    at : (read : Option (List (List ℕ) × List ℕ)) → concat (option_map_or (λ _. handed (stripped run) h l) read (run ∷ [])) ≡ option_map_or (λ _. concat (handed (stripped run) h l)) read run
     at None = append-nil run
     at (Some read) = refl
 
@@ -88,24 +89,24 @@ concat-onto : (c : ℕ) (ps : List (List ℕ)) → concat (onto_first c ps) ≡ 
 concat-onto c [] = refl
 concat-onto c (p ∷ ps) = refl
 
-join_from : (h : Bool) (k : ℕ) (s : List ℕ) → concat (filtered_pieces_from h most_bytes k s) ≡ filtered_from h k s
-unfolding filtered_from filtered_pieces_from
-join_from h zero [] = refl
-join_from h (suc k) [] = refl
-join_from h (suc k) (c ∷ s) = join_from h k s
-join_from h zero (c ∷ s) = at (λ k. join_from h k s) (begins_run (c ∷ s))
+join_from : (h : Bool) (l k : ℕ) (s : List ℕ) → concat (filtered_pieces_from h l k s) ≡ filtered_by (replacement_within h l) k s
+unfolding filtered_by filtered_pieces_from
+join_from h l zero [] = refl
+join_from h l (suc k) [] = refl
+join_from h l (suc k) (c ∷ s) = join_from h l k s
+join_from h l zero (c ∷ s) = at (λ k. join_from h l k s) (begins_run (c ∷ s))
   where
-    at : ((k : ℕ) → concat (filtered_pieces_from h most_bytes k s) ≡ filtered_from h k s) → (b : Bool) → concat (pieces_turn h most_bytes c s b) ≡ turn h c s b
+    at : ((k : ℕ) → concat (filtered_pieces_from h l k s) ≡ filtered_by (replacement_within h l) k s) → (b : Bool) → concat (pieces_turn h l c s b) ≡ turn (replacement_within h l) c s b
     at ih true =
         let run = c ∷ take_while is_run s in
-        concat-append (run_pieces h most_bytes run) (filtered_pieces_from h most_bytes (prefix_len is_run s) s)
-        ∙ ap (λ l. l ++ concat (filtered_pieces_from h most_bytes (prefix_len is_run s) s)) (concat-run h run)
-        ∙ ap (λ l. replacement h run ++ l) (ih (prefix_len is_run s))
-    at ih false = concat-onto c (filtered_pieces_from h most_bytes zero s) ∙ ap (λ l. c ∷ l) (ih zero)
+        concat-append (run_pieces h l run) (filtered_pieces_from h l (prefix_len is_run s) s)
+        ∙ ap (λ t. t ++ concat (filtered_pieces_from h l (prefix_len is_run s) s)) (concat-run h l run)
+        ∙ ap (λ t. replacement_within h l run ++ t) (ih (prefix_len is_run s))
+    at ih false = concat-onto c (filtered_pieces_from h l zero s) ∙ ap (λ t. c ∷ t) (ih zero)
 
--- the pieces within the limit of every call that takes none join to the filtered text
-pub pieces_join : (h : Bool) (text : List ℕ) → filtered_within h most_bytes text ≡ filtered h text
-pieces_join h text = join_from h zero text
+-- the pieces join to the filtered text
+pub pieces_join : (h : Bool) (l : ℕ) (text : List ℕ) → concat (filtered_pieces h l text) ≡ filtered_within h l text
+pieces_join h l text = join_from h l zero text
 
 -- what was handed over of a text, up to what is left of it
 abbrev pub Feeding : {S : Type 0} → Ghosts S → Bool → ℕ → List ℕ → S → S → List ℕ → Type 0

@@ -1,6 +1,6 @@
 -- The pieces of a text whose symbols are demangled, as they are handed to a sink.
 use Rattle.std.specs.Prelude.{ℕ, zero, suc, Bool, true, false, List, [], ◌∷◌, ◌++◌}
-use Rattle.std.specs.List.{prefix_len, take_while, concat}
+use Rattle.std.specs.List.{prefix_len, take_while}
 use Rattle.std.specs.Option.{option_map_or}
 use Rattle.rustc_demangle.specs.Stripped.{stripped}
 use Rattle.rustc_demangle.specs.Symbols.{pieces_of, handed}
@@ -23,7 +23,3 @@ filtered_pieces_from hash limit zero (c ∷ s) = elim (begins_run (c ∷ s)) [
 -- the pieces of a text
 abbrev pub filtered_pieces : Bool → ℕ → List ℕ → List (List ℕ)
 filtered_pieces hash limit text = filtered_pieces_from hash limit zero text
-
--- the text with what each symbol prints within the limit in place of it
-abbrev pub filtered_within : Bool → ℕ → List ℕ → List ℕ
-filtered_within hash limit text = concat (filtered_pieces hash limit text)

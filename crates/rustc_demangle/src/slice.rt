@@ -1,8 +1,10 @@
 //! Any bytes in memory with their symbols demangled.
 ghost use Rattle.std.specs.Prelude.{◌≡◌, ◌<◌, length, false, IfSome, IfNone};
+ghost use Rattle.std.specs.List.{concat};
 ghost use Rattle.demangle_sink.specs.Slice.{overlay};
 ghost use Rattle.demangle_sink.specs.Writes.{Writes};
-ghost use Rattle.rustc_demangle.specs.Pieces.{filtered_pieces, filtered_within};
+ghost use Rattle.rustc_demangle.specs.Filtered.{filtered_within};
+ghost use Rattle.rustc_demangle.specs.Pieces.{filtered_pieces};
 
 use crate::runs::{run_len, run_start, run_text};
 use crate::text::put_run;
@@ -30,6 +32,22 @@ fn put_slice<'b>(
     out.put_bytes(rest)
 }
 
+/// Writes any bytes into memory with each symbol of them demangled, by their pieces.
+fn write_slice(text: &[u8], out: &mut [u8], include_hash: bool, limit: usize) -> Option<usize>
+    ensures size { IfSome result
+        (λ n. n ≡ length (concat (filtered_pieces include_hash limit text.now))) }
+    ensures bytes { IfSome result
+        (λ _. out.new ≡ overlay out.old (concat (filtered_pieces include_hash limit text.now))) }
+    ensures none { IfNone result
+        (usize.MAX < length (concat (filtered_pieces include_hash limit text.now))) }
+{
+    let mut sink = SliceSink::new(out);
+    match put_slice(text, &mut sink, include_hash, limit) {
+        Ok(()) => Some(sink.len()),
+        Err(_) => None,
+    }
+}
+
 /// Writes any bytes into memory with each symbol of them demangled, as much as there is room for,
 /// and counts all that they are then, those that found no room among them.
 ///
@@ -49,9 +67,5 @@ pub fn demangle_slice(
     ensures none { IfNone result
         (usize.MAX < length (filtered_within include_hash limit text.now)) }
 {
-    let mut sink = SliceSink::new(out);
-    match put_slice(text, &mut sink, include_hash, limit) {
-        Ok(()) => Some(sink.len()),
-        Err(_) => None,
-    }
+    write_slice(text, out, include_hash, limit)
 }

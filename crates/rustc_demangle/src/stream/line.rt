@@ -1,8 +1,9 @@
 //! A line with its symbols demangled.
 ghost use Rattle.std.specs.Prelude.{OnOk};
 ghost use Rattle.std.specs.Io.KnownBytes.{Appends};
-ghost use Rattle.rustc_demangle.specs.Filtered.{filtered, replacement};
-ghost use Rattle.rustc_demangle.specs.Symbols.{printed};
+ghost use Rattle.std.specs.List.{concat};
+ghost use Rattle.rustc_demangle.specs.Filtered.{filtered, replacement_within};
+ghost use Rattle.rustc_demangle.specs.Symbols.{handed};
 
 use crate::text::demangle_text;
 use crate::{Demangle, try_demangle};
@@ -15,13 +16,14 @@ fn write_symbol<W: Write>(
     symbol: &Demangle<'_>,
     output: &mut W,
     include_hash: bool,
+    limit: usize,
 ) -> io::Result<()>
-    ensures { OnOk result (Appends
-        (W.contents output.old) (W.contents output.new) (printed symbol.now include_hash)) }
+    ensures { OnOk result (Appends (W.contents output.old) (W.contents output.new)
+        (concat (handed symbol.now include_hash limit))) }
 {
     let mut sink = WriteSink::new(output);
     // Where it is refused, the sink has a fault.
-    let _ = symbol.write_to(&mut sink, include_hash);
+    let _ = symbol.write_limited(&mut sink, include_hash, limit);
     match sink.into_fault() {
         Some(error) => Err(error),
         None => Ok(()),
@@ -36,12 +38,17 @@ fn write_kept<W: Write>(text: &str, output: &mut W) -> io::Result<()>
 }
 
 /// Writes what stands for a run: what it prints where it is a symbol, else the run.
-pub(super) fn write_run<W: Write>(run: &str, output: &mut W, include_hash: bool) -> io::Result<()>
-    ensures { OnOk result (Appends
-        (W.contents output.old) (W.contents output.new) (replacement include_hash run.now)) }
+pub(super) fn write_run<W: Write>(
+    run: &str,
+    output: &mut W,
+    include_hash: bool,
+    limit: usize,
+) -> io::Result<()>
+    ensures { OnOk result (Appends (W.contents output.old) (W.contents output.new)
+        (replacement_within include_hash limit run.now)) }
 {
     match try_demangle(run) {
-        Ok(symbol) => write_symbol(&symbol, output, include_hash),
+        Ok(symbol) => write_symbol(&symbol, output, include_hash, limit),
         Err(_) => write_kept(run, output),
     }
 }
