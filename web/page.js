@@ -186,8 +186,19 @@ stack backtrace:
         break;
       }
       const mark = this.point(number);
-      mark?.scrollIntoView({ block: "center", inline: "nearest" });
+      if (mark) this.scrollTo(mark.getBoundingClientRect());
       return mark;
+    }
+
+    // Scrolls a place into view, as little as may be; a name may be wider than the pane.
+    scrollTo(place) {
+      const box = this.element.getBoundingClientRect();
+      if (place.top < box.top || place.bottom > box.bottom) {
+        this.element.scrollTop += place.top - box.top - box.height / 2;
+      }
+      if (place.left < box.left || place.left > box.right - box.width / 4) {
+        this.element.scrollLeft += place.left - box.left - box.width / 4;
+      }
     }
   }
 

@@ -178,6 +178,7 @@ user_pref("network.captive-portal-service.enabled", false);
 user_pref("network.connectivity-service.enabled", false);
 user_pref("services.settings.server", "http://127.0.0.1:9/");
 user_pref("toolkit.telemetry.enabled", false);
+user_pref("browser.download.alwaysOpenPanel", false);
 user_pref("browser.download.folderList", 2);
 user_pref("browser.download.useDownloadDir", true);
 user_pref("browser.download.always_ask_before_handling_new_types", false);
@@ -193,9 +194,10 @@ async function startFirefox(command, { downloads, preferences = "" } = {}) {
   const wire = await connect(`ws://127.0.0.1:${port}/session`);
   const { send, events } = wire;
   const session = await send("session.new", { capabilities: {} });
-  const context = (await send("browsingContext.getTree")).contexts[0].context;
+  // of the first window, which is not active, keys press no button
+  const { context } = await send("browsingContext.create", { type: "window" });
   const target = { context };
-  await send("browsingContext.activate", target); // else keys press no button
+  await send("browsingContext.activate", target);
   await send("session.subscribe", { events: ["network.beforeRequestSent", "log.entryAdded"] });
   const version = `Firefox/${session.capabilities.browserVersion}`;
 

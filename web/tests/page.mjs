@@ -248,6 +248,10 @@ export async function testPage(kind, check, shots) {
         const shown = await evaluate(`crypto.subtle.digest("SHA-256", new TextEncoder().encode(document.getElementById("output").textContent)).then((it) => [...new Uint8Array(it)].map((one) => one.toString(16).padStart(2, "0")).join(""))`);
         say(`${name}: shown as the module says`, shown === sum(it.demangleText(text)));
         say(`${name}: counted`, (await value("count")) === "40,000 symbols demangled.", await value("count"));
+        await click("previous");
+        await sleep(300);
+        const seen = await evaluate(`["shown", "output"].every((id) => { const box = document.getElementById(id).getBoundingClientRect(), it = document.querySelector("#" + id + " mark.current")?.getBoundingClientRect(); return it && it.top >= box.top && it.bottom <= box.bottom && it.left < box.right; })`);
+        say(`${name}: steps to the last symbol`, seen, await value("mangled"));
       }
     }
     await evaluate(`document.getElementById("clear").click(); 0`);
