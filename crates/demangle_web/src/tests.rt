@@ -1,0 +1,54 @@
+//! The calls, once for each kind of answer. The texts are the Rust crate's.
+use crate::{
+    kodliwe_demangle_limited, kodliwe_demangle_text, kodliwe_is_symbol, kodliwe_run_len,
+    kodliwe_run_start,
+};
+
+#[test]
+fn a_path_and_its_end_stand_in_the_memory(rt: HostRuntime) {
+    let mut out = [9; 40];
+    let want = kodliwe_demangle_limited(b"_ZN3foo17h05af221e174051e9E", &mut out, true, 100);
+    assert_eq!(rt; want, 23);
+    assert!(rt; out.starts_with(b"foo::h05af221e174051e9\0\x09\x09"));
+}
+
+#[test]
+fn a_limit_cuts_before_the_suffix(rt: HostRuntime) {
+    let mut out = [9; 40];
+    let want = kodliwe_demangle_limited(b"_ZN3foo3barE.cold.7", &mut out, false, 4);
+    assert_eq!(rt; want, 31);
+    assert!(rt; out.starts_with(b"foo{size limit reached}.cold.7\0\x09"));
+}
+
+#[test]
+fn no_symbol_leaves_the_memory(rt: HostRuntime) {
+    let mut out = [9; 4];
+    assert_eq!(rt; kodliwe_demangle_limited(b"main", &mut out, true, 100), 0);
+    assert!(rt; out == [9; 4]);
+    assert!(rt; !kodliwe_is_symbol(b"main"));
+    assert!(rt; kodliwe_is_symbol(b"_RNvC3foo3bar.llvm.0AB@1"));
+}
+
+#[test]
+fn a_text_keeps_what_is_no_symbol(rt: HostRuntime) {
+    let mut out = [9; 40];
+    let want = kodliwe_demangle_text(b"\xFF _ZN3foo3barE\r\n\0_R", &mut out, false, 100);
+    assert_eq!(rt; want, 16);
+    assert!(rt; out.starts_with(b"\xFF foo::bar\r\n\0_R\0\x09"));
+}
+
+#[test]
+fn a_text_is_counted_past_the_memory(rt: HostRuntime) {
+    let mut out = [9; 5];
+    assert_eq!(rt; kodliwe_demangle_text(b"_ZN3foo3barE", &mut out, false, 100), 9);
+    assert!(rt; out == *b"foo:\0");
+    assert_eq!(rt; kodliwe_demangle_text(b"_ZN3foo3barE", &mut out[..0], false, 4), 24);
+}
+
+#[test]
+fn runs_are_found(rt: HostRuntime) {
+    assert_eq!(rt; kodliwe_run_start(b"a _Z _ZN3fooE"), 5);
+    assert_eq!(rt; kodliwe_run_start(b"a _r _"), 6);
+    assert_eq!(rt; kodliwe_run_len(b"_ZN3foo$.1E-x"), 11);
+    assert_eq!(rt; kodliwe_run_len(b" _R"), 0);
+}

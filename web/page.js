@@ -1,0 +1,646 @@
+// The page: a text, with its symbols demangled beside it. The work is done by a worker (worker.js),
+// and what it answers is shown in blocks of lines, which are laid out only where they are seen.
+"use strict";
+
+(() => {
+  // A text of more characters, or with a longer line, is shown and not edited: of a text area
+  // browsers lay out anew all of a line, and some all of its lines, at each key.
+  const EDITED = 100_000;
+  const LONG_LINE = new RegExp("[^\\n]{20001}");
+  const LARGEST = 32_000_000; // characters, or bytes of a file
+  const SLICE = 8; // milliseconds of showing, between which keys are heard
+  const TOLD = 600; // characters of a name in the line below
+  const STILL = 600; // milliseconds until a screen reader is told
+  const EXAMPLE = `thread 'main' panicked at src/parse.rs:88:14:
+called \`Option::unwrap()\` on a \`None\` value
+stack backtrace:
+   0:     0x55d0c1a2b3c4 - _ZN3std9panicking11begin_panic17h3f1a9c2b7d5e6041E
+   1:     0x55d0c1a2b5f0 - _ZN71_$LT$Test$u20$$u2b$$u20$$u27$static$u20$as$u20$foo..Bar$LT$Test$GT$$GT$3bar17h930b740aa94f1d3aE
+   2:     0x55d0c1a2b9a8 - _RNvMsr_NtCs3ssYzQotkvD_3std4pathNtB5_7PathBuf3newCs15kBYyAo9fc_7mycrate
+   3:     0x55d0c1a2bb10 - _RINbNbCskIICzLVDPPb_5alloc5alloc8box_freeDINbNiB4_5boxed5FnBoxuEp6OutputuEL_ECs1iopQbuBiw2_3std
+   4:     0x55d0c1a2bc44 - __libc_start_main
+`;
+
+  const $ = (id) => document.getElementById(id);
+  const [input, hash, copy, download, clear] = ["input", "hash", "copy", "download", "clear"].map($);
+  const commas = (number) => number.toLocaleString("en");
+
+  // ---- What is told
+
+  let waiting = 0;
+
+  // Speaks once the page has been still for a moment, so that a screen reader is not flooded.
+  function say(text) {
+    clearTimeout(waiting);
+    waiting = setTimeout(() => { $("status").textContent = text; }, STILL);
+  }
+
+  function tell(fault) {
+    $("fault").textContent = fault;
+    $("fault").hidden = fault === "";
+  }
+
+  const shortened = (text) =>
+    text.length > TOLD ? `${text.slice(0, TOLD)}… (${commas(text.length)} characters)` : text;
+
+  // ---- Panes
+
+  // The place of the first element of which a test holds, in a row that is false before it.
+  function firstOf(row, test) {
+    let low = 0, high = row.length;
+    while (low < high) {
+      const middle = (low + high) >> 1;
+      if (test(row[middle])) high = middle; else low = middle + 1;
+    }
+    return low;
+  }
+
+  // A text in blocks { text, marks, rows, isOpen }, as the worker makes them. A block's marks are
+  // made of elements once it comes into view.
+  class Pane {
+    constructor(element) {
+      this.element = element;
+      this.blocks = [];
+      this.begin();
+      this.current = -1;
+      const seen = (entries) => entries.forEach((it) => { if (it.isIntersecting) this.mark(it.target.block); });
+      this.observer = new IntersectionObserver(seen, { root: element, rootMargin: "50% 0px" });
+    }
+
+    begin() {
+      this.reached = 0; // so many blocks are of the text that is shown now
+      this.isDivided = false; // whether a line of it takes several rows
+    }
+
+    clear() {
+      this.observer.disconnect();
+      this.element.replaceChildren();
+      this.blocks = [];
+      this.begin();
+    }
+
+    // Takes the next block; one that is there already stays.
+    take(block) {
+      const old = this.blocks[this.reached];
+      this.isDivided ||= block.isOpen || block.breaks.length > 0;
+      if (!old || !isSame(old, block)) {
+        this.make(block);
+        if (old) {
+          this.observer.unobserve(old.element);
+          old.element.replaceWith(block.element);
+        } else {
+          this.element.append(block.element);
+        }
+        this.blocks[this.reached] = block;
+      }
+      this.reached++;
+    }
+
+    make(block) {
+      const element = document.createElement("div");
+      element.className = block.isOpen ? "block open" : "block";
+      element.style.height = `calc(${block.rows} * var(--row))`;
+      element.textContent = block.text;
+      element.block = block;
+      block.element = element;
+      block.isMade = block.marks.length + block.breaks.length === 0;
+      if (!block.isMade) this.observer.observe(element);
+    }
+
+    // Takes off what is left of an earlier text.
+    end() {
+      for (const { element } of this.blocks.splice(this.reached)) {
+        this.observer.unobserve(element);
+        element.remove();
+      }
+    }
+
+    // Makes the marks and rows of a block that comes into view.
+    mark(block) {
+      this.observer.unobserve(block.element);
+      if (block.isMade) return;
+      block.isMade = true;
+      const { text, marks, breaks } = block;
+      const parts = [];
+      let kept = 0, divided = 0;
+      const put = (to, into) => {
+        for (; divided < breaks.length && breaks[divided] <= to; divided++) {
+          const row = document.createElement("span");
+          row.className = "row";
+          into.push(text.slice(kept, breaks[divided]), row);
+          kept = breaks[divided];
+        }
+        into.push(text.slice(kept, to));
+        kept = to;
+      };
+      for (let n = 0; n < marks.length; n += 3) {
+        put(marks[n + 1], parts);
+        const mark = document.createElement("mark");
+        mark.dataset.number = marks[n];
+        mark.classList.toggle("current", marks[n] === this.current);
+        mark.textContent = text.slice(kept, marks[n + 2]);
+        kept = marks[n + 2];
+        parts.push(mark);
+      }
+      put(text.length, parts);
+      block.element.replaceChildren(...parts);
+    }
+
+    text() {
+      return this.blocks.map((it) => it.text).join("");
+    }
+
+    // The places in the row of blocks that have a part of a symbol.
+    *blocksOf(number) {
+      const last = ({ marks }) => (marks.length ? marks[marks.length - 3] : -1);
+      const marked = this.blocks.filter((it) => it.marks.length);
+      for (let at = firstOf(marked, (it) => last(it) >= number); at < marked.length && marked[at].marks[0] <= number; at++) {
+        yield marked[at];
+      }
+    }
+
+    textOf(number) {
+      let text = "";
+      for (const block of this.blocksOf(number)) {
+        const { marks } = block;
+        for (let n = 0; n < marks.length; n += 3) {
+          if (marks[n] === number) text += block.text.slice(marks[n + 1], marks[n + 2]);
+        }
+      }
+      return text;
+    }
+
+    // Marks a symbol as the one that is told, and answers its element, if it is in view.
+    point(number) {
+      this.current = number;
+      for (const it of this.element.querySelectorAll("mark.current")) it.classList.remove("current");
+      const found = this.element.querySelectorAll(`mark[data-number="${number}"]`);
+      for (const it of found) it.classList.add("current");
+      return found[0];
+    }
+
+    // The same, with the symbol brought into view.
+    reveal(number) {
+      for (const block of this.blocksOf(number)) {
+        this.mark(block);
+        break;
+      }
+      const mark = this.point(number);
+      if (mark) this.scrollTo(mark.getBoundingClientRect());
+      return mark;
+    }
+
+    // Scrolls a place into view, as little as may be; a name may be wider than the pane.
+    scrollTo(place) {
+      const box = this.element.getBoundingClientRect();
+      if (place.top < box.top || place.bottom > box.bottom) {
+        this.element.scrollTop += place.top - box.top - box.height / 2;
+      }
+      if (place.left < box.left || place.left > box.right - box.width / 4) {
+        this.element.scrollLeft += place.left - box.left - box.width / 4;
+      }
+    }
+  }
+
+  function isSame(one, other) {
+    return one.text === other.text && one.isOpen === other.isOpen && one.rows === other.rows
+      && isEqual(one.marks, other.marks) && isEqual(one.breaks, other.breaks);
+  }
+
+  const isEqual = (one, other) => one.length === other.length && one.every((it, n) => it === other[n]);
+
+  const shown = new Pane($("shown"));
+  const output = new Pane($("output"));
+
+  // ---- The text
+
+  let held = null; // { text, name } where the text is shown, null where it is in the text area
+  let lineEnd = "\n"; // what the text area's line feeds stand for
+  let worker = null;
+  let turn = 0; // answers to what was asked before it are dropped
+  let asked = { text: "", isNew: true };
+  let symbols = 0;
+  let cut = new Set(); // the numbers of the paths that end in the marker
+
+  const isArea = () => held === null;
+
+  const isEdited = (text) => text.length <= EDITED && !LONG_LINE.test(text);
+
+  // The line end of a text, or null where it has several kinds, or carriage returns alone.
+  function lineEndOf(text) {
+    if (!text.includes("\r")) return "\n";
+    return /\r(?!\n)|(?<!\r)\n/.test(text) ? null : "\r\n";
+  }
+
+  function isTooLarge(size, what) {
+    if (size <= LARGEST) return false;
+    tell(`${what} is too large for this page: it has ${commas(size)} characters, and the page takes `
+      + `${commas(LARGEST)}. The program kodliwe filters texts of any size.`);
+    return true;
+  }
+
+  function hold(text, name) {
+    held = { text, name };
+    input.value = "";
+    input.hidden = true;
+    const box = shown.element;
+    box.removeAttribute("aria-hidden");
+    box.setAttribute("role", "region");
+    box.setAttribute("aria-labelledby", "label held");
+    box.tabIndex = 0;
+    $("held").textContent = `${name}: ${commas(text.length)} characters, shown but not edited here`;
+  }
+
+  function release() {
+    held = null;
+    input.hidden = false;
+    const box = shown.element;
+    box.setAttribute("aria-hidden", "true");
+    box.removeAttribute("role");
+    box.removeAttribute("aria-labelledby");
+    box.removeAttribute("tabindex");
+    $("held").textContent = "";
+  }
+
+  // Takes a text in place of the one that was there: into the text area, where that loses nothing.
+  function set(text, name) {
+    if (isTooLarge(text.length, name)) return;
+    tell("");
+    const ends = lineEndOf(text);
+    release();
+    if (ends !== null && isEdited(text)) {
+      input.value = text;
+      lineEnd = ends;
+      if (input.value === text.replaceAll("\r\n", "\n")) {
+        ask(true);
+        return;
+      }
+    }
+    lineEnd = "\n";
+    hold(text, name);
+    ask(true);
+  }
+
+  // What the text area has after an edit.
+  function edited() {
+    if (!isEdited(input.value)) {
+      set(input.value, "The text");
+      shown.element.focus();
+    } else {
+      tell("");
+      ask(false);
+    }
+  }
+
+  function pasted(event) {
+    const [file] = event.clipboardData.files;
+    const text = event.clipboardData.getData("text/plain");
+    if (file && text === "") {
+      event.preventDefault();
+      open(file);
+      return;
+    }
+    const ends = lineEndOf(text);
+    if (isArea() && event.target === input) {
+      const before = input.value.slice(0, input.selectionStart), behind = input.value.slice(input.selectionEnd);
+      const isWhole = before + behind === "";
+      if (isEdited(before + text + behind) && ends !== null && !text.includes("\0")) {
+        if (isWhole) lineEnd = ends; // else it takes the line ends that the text has
+        return;
+      }
+      event.preventDefault();
+      set(isWhole ? text : withEnds(before) + text + withEnds(behind), "The pasted text");
+    } else {
+      event.preventDefault();
+      set(text, "The pasted text");
+    }
+    (isArea() ? input : shown.element).focus();
+  }
+
+  const withEnds = (text) => (lineEnd === "\n" ? text : text.replaceAll("\n", lineEnd));
+
+  // ---- Files
+
+  // The text of a file's bytes: UTF-8, or UTF-16 with its mark, as some shells write; else
+  // Windows-1252, which has a character for every byte.
+  function decoded(bytes) {
+    const [first, second] = bytes;
+    const named = first === 0xff && second === 0xfe ? "utf-16le" : first === 0xfe && second === 0xff ? "utf-16be" : "utf-8";
+    for (const label of [named, "windows-1252"]) {
+      try {
+        const text = new TextDecoder(label, { fatal: true, ignoreBOM: label === "utf-8" }).decode(bytes);
+        return { text, label };
+      } catch {
+        // the next takes it
+      }
+    }
+    throw new Error("no text");
+  }
+
+  async function open(file) {
+    if (isTooLarge(file.size, file.name)) return;
+    let bytes;
+    try {
+      bytes = new Uint8Array(await file.arrayBuffer());
+    } catch (error) {
+      tell(`${file.name} could not be read: ${error.message}`);
+      return;
+    }
+    const { text, label } = decoded(bytes);
+    set(text, file.name);
+    fileName = file.name;
+    if (label !== "utf-8") tell(`${file.name} is not UTF-8; it was read as ${label}.`);
+    (isArea() ? input : shown.element).focus();
+  }
+
+  let fileName = "";
+
+  function resultName() {
+    const [, stem, ending] = /^(.*?)(\.[^.]*)?$/.exec(fileName);
+    return `${stem || "text"}.demangled${ending ?? ".txt"}`;
+  }
+
+  // ---- Asking the worker, and showing what it answers
+
+  function ask(isNew) {
+    const text = held ? held.text : input.value;
+    asked = { text, isNew };
+    if (text === "") fileName = "";
+    worker.postMessage({ turn: ++turn, text, hash: hash.checked, isWhole: isArea() });
+    clear.disabled = text === "";
+    for (const it of [copy, download, $("previous"), $("next")]) it.disabled = true;
+    shown.begin();
+    output.begin();
+    symbols = 0;
+    cut = new Set();
+    point(-1);
+    output.element.ariaBusy = "true";
+  }
+
+  // What was answered is shown in slices, so that a key never waits for all of it.
+  const answers = [];
+
+  const pause = () => new Promise((done) => {
+    const channel = new MessageChannel();
+    channel.port1.onmessage = () => { channel.port1.close(); done(); };
+    channel.port2.postMessage(0);
+  });
+
+  async function answered(news) {
+    if (answers.push(news) > 1) return;
+    let until = performance.now() + SLICE;
+    while (answers.length) {
+      for (const _ of showing(answers[0])) {
+        if (performance.now() < until) continue;
+        await pause();
+        until = performance.now() + SLICE;
+      }
+      answers.shift();
+    }
+  }
+
+  function* showing(news) {
+    const isLate = () => news.turn !== turn;
+    if (isLate()) return;
+    if (asked.isNew) {
+      asked.isNew = false;
+      for (const pane of [shown, output]) {
+        pane.clear();
+        pane.element.scrollTo(0, 0);
+      }
+    }
+    for (const it of news.input) {
+      shown.take({ ...it, text: asked.text.slice(it.from, it.to) });
+      yield;
+      if (isLate()) return;
+    }
+    for (const it of news.output) {
+      output.take(it);
+      yield;
+      if (isLate()) return;
+    }
+    for (const number of news.cut) cut.add(number);
+    symbols = news.count;
+    count(news);
+    if (news.isDone) finish();
+  }
+
+  function finish() {
+    shown.end();
+    output.end();
+    output.element.ariaBusy = "false";
+    for (const it of [copy, download]) it.disabled = asked.text === "";
+    for (const it of [$("previous"), $("next")]) it.disabled = symbols === 0;
+    scrolled(input, shown.element);
+    document.body.dataset.done = turn;
+  }
+
+  function count({ isDone, isFew }) {
+    const found = `${commas(symbols)} ${symbols === 1 ? "symbol" : "symbols"}`;
+    const text = asked.text === "" ? "" : isDone ? `${found} demangled.` : `${found} so far …`;
+    const few = isFew ? ", and past 256 once all were very long" : "";
+    const paths = cut.size === 1 ? "path ends" : "paths end";
+    const more = cut.size ? `${commas(cut.size)} ${paths} in {size limit reached}, past 16,384 bytes${few}.` : "";
+    $("count").textContent = text;
+    $("cut").textContent = more;
+    if (isDone) say(`${text} ${more}`);
+  }
+
+  // ---- Pointing at a symbol, and stepping to it
+
+  let current = -1;
+
+  function point(number, isRevealed = false) {
+    if (number === current && !isRevealed) return;
+    current = number;
+    if (number === -1) {
+      shown.point(-1);
+      output.point(-1);
+      $("mangled").textContent = "Point at a marked name, or step to one.";
+      $("path").textContent = "";
+      return;
+    }
+    $("mangled").textContent = shortened(shown.textOf(number));
+    $("path").textContent = shortened(output.textOf(number)) || "(empty)";
+    if (!isRevealed) {
+      shown.point(number);
+      output.point(number);
+      return;
+    }
+    const mark = shown.reveal(number);
+    output.reveal(number);
+    if (isArea() && mark) {
+      // the text area follows the marks that lie under it
+      input.scrollTo(shown.element.scrollLeft, shown.element.scrollTop);
+    }
+    say(`${commas(number + 1)} of ${commas(symbols)}: ${$("mangled").textContent} is ${$("path").textContent}`);
+  }
+
+  function step(by) {
+    const from = current === -1 && by < 0 ? symbols : current;
+    point(Math.min(Math.max(from + by, 0), symbols - 1), true);
+  }
+
+  // A text area lies over the marks, so they are looked for under the pointer.
+  function pointed(event) {
+    const mark = document.elementsFromPoint(event.clientX, event.clientY).find((it) => it.localName === "mark");
+    if (mark) point(Number(mark.dataset.number));
+  }
+
+  // ---- Scrolling: the marks under the text area follow it, and the panes one another
+
+  function scrolled(one, other) {
+    if (one.hidden) return;
+    if (one === input) {
+      const { style } = shown.element;
+      style.setProperty("--wide", `${input.scrollWidth}px`);
+    }
+    other.scrollTo(one.scrollLeft, one.scrollTop);
+  }
+
+  function follow(event) {
+    const one = event.currentTarget;
+    if (one === input) scrolled(input, shown.element);
+    if (!one.matches(":hover, :focus")) return;
+    if (shown.isDivided || output.isDivided) return; // their rows are not the same lines
+    const source = isArea() ? input : shown.element;
+    const other = one === output.element ? source : output.element;
+    if (other.scrollTop !== one.scrollTop) other.scrollTop = one.scrollTop;
+  }
+
+  // ---- Copying
+
+  // A selection is copied as the text is, not as it is divided into blocks.
+  function copied(event) {
+    event.clipboardData.setData("text/plain", withEnds(getSelection().toString() && getSelection().getRangeAt(0).toString()));
+    event.preventDefault();
+  }
+
+  async function copyResult() {
+    const text = withEnds(output.text());
+    try {
+      await navigator.clipboard.writeText(text);
+    } catch {
+      getSelection().selectAllChildren(output.element);
+      if (!document.execCommand("copy")) {
+        say("The result is selected: press Ctrl+C or Cmd+C to copy it.");
+        $("count").textContent = "The result is selected: press Ctrl+C or Cmd+C to copy it.";
+        return;
+      }
+      getSelection().removeAllRanges();
+    }
+    $("count").textContent = "Copied.";
+    say("Copied.");
+  }
+
+  function downloadResult() {
+    const link = document.createElement("a");
+    link.href = URL.createObjectURL(new Blob([withEnds(output.text())], { type: "text/plain;charset=utf-8" }));
+    link.download = resultName();
+    link.click();
+    setTimeout(() => URL.revokeObjectURL(link.href), 60_000);
+    say(`Downloaded as ${link.download}.`);
+  }
+
+  // ---- What is kept for the next visit: the switch alone
+
+  function kept() {
+    try {
+      return localStorage.getItem("kodliwe-hash") === "shown";
+    } catch {
+      return false; // this browser keeps nothing for the page
+    }
+  }
+
+  function keep() {
+    try {
+      localStorage.setItem("kodliwe-hash", hash.checked ? "shown" : "hidden");
+    } catch {
+      // as above
+    }
+  }
+
+  // ---- The start
+
+  function listen() {
+    input.addEventListener("input", edited);
+    addEventListener("paste", pasted);
+    shown.element.addEventListener("keydown", (event) => {
+      if (event.key.length === 1 && event.key !== " " && !event.ctrlKey && !event.metaKey && !event.altKey) {
+        tell("A text that is only shown can't be typed into: clear it, or paste another.");
+      }
+    });
+    hash.addEventListener("change", () => { keep(); ask(false); });
+    copy.addEventListener("click", copyResult);
+    download.addEventListener("click", downloadResult);
+    $("previous").addEventListener("click", () => step(-1));
+    $("next").addEventListener("click", () => step(1));
+    $("example").addEventListener("click", () => { set(EXAMPLE, "The example"); input.focus(); });
+    clear.addEventListener("click", () => { set("", ""); input.focus(); });
+    $("file").addEventListener("change", ({ target }) => {
+      if (target.files.length) open(target.files[0]);
+      target.value = "";
+    });
+    for (const one of [input, shown.element, output.element]) {
+      one.addEventListener("scroll", follow, { passive: true });
+      one.addEventListener("pointermove", pointed, { passive: true });
+      one.addEventListener("click", pointed);
+    }
+    for (const one of [shown.element, output.element]) one.addEventListener("copy", copied);
+    new ResizeObserver(() => scrolled(input, shown.element)).observe(input);
+    listenToDrops();
+  }
+
+  function listenToDrops() {
+    const isFile = (event) => event.dataTransfer.types.includes("Files");
+    addEventListener("dragover", (event) => {
+      if (!isFile(event)) return;
+      event.preventDefault();
+      document.body.classList.add("dropped");
+    });
+    addEventListener("dragleave", () => document.body.classList.remove("dropped"));
+    addEventListener("drop", (event) => {
+      document.body.classList.remove("dropped");
+      const text = event.dataTransfer.getData("text/plain");
+      if (!isFile(event) && isEdited(text)) return;
+      event.preventDefault();
+      const [file] = event.dataTransfer.files;
+      if (file) open(file); else if (text) set(text, "The dropped text");
+    });
+  }
+
+  function startWorker() {
+    const source = `"use strict";\n${kodliweEngine}\n(${kodliweWorker})(kodliweEngine());`;
+    const url = URL.createObjectURL(new Blob([source], { type: "text/javascript" }));
+    return new Promise((done, fail) => {
+      worker = new Worker(url);
+      worker.onerror = (event) => fail(new Error(event.message || "no worker can be started"));
+      worker.onmessage = ({ data }) => (data.isReady ? done() : data.fault ? fail(new Error(data.fault)) : answered(data));
+      kodliwe.unpack(KODLIWE_MODULE).then((bytes) => worker.postMessage({ bytes }, [bytes.buffer]), fail);
+    });
+  }
+
+  async function main() {
+    if (!kodliwe.isSupported()) {
+      tell("This browser has no 64-bit WebAssembly memory, which this page needs. Chromium 156 and "
+        + "Firefox 153 have it, and so do somewhat older ones.");
+      return;
+    }
+    if (typeof KODLIWE_MODULE === "undefined") {
+      tell("The file module.js is missing beside this page: web/build makes it.");
+      return;
+    }
+    try {
+      await startWorker();
+    } catch (error) {
+      tell(`This browser does not run the module: ${error.message}.`);
+      return;
+    }
+    hash.checked = kept();
+    listen();
+    if (location.hash === "#example" && input.value === "") set(EXAMPLE, "The example"); else edited();
+    document.body.dataset.ready = "";
+  }
+
+  main();
+})();

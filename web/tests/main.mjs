@@ -1,0 +1,33 @@
+// Runs all tests, and counts them.
+import { parseArgs } from "node:util";
+import { program } from "./driver.mjs";
+import { testModule } from "./module.mjs";
+import { testPage } from "./page.mjs";
+
+const { values, positionals } = parseArgs({ options: { shots: { type: "string" } }, allowPositionals: true });
+let passed = 0, failed = 0;
+
+function check(name, isRight, told = "") {
+  if (isRight) passed++; else failed++;
+  console.log(`${isRight ? "ok  " : "FAIL"} ${name}${told === "" ? "" : `: ${told}`}`);
+}
+
+async function guarded(name, run) {
+  try {
+    await run();
+  } catch (error) {
+    check(name, false, error.stack);
+  }
+}
+
+await guarded("module", () => testModule(check));
+for (const kind of positionals.length ? positionals : ["chromium", "firefox"]) {
+  if (program(kind)) {
+    await guarded(kind, () => testPage(kind, check, values.shots));
+  } else {
+    const debian = { chromium: "chromium", firefox: "firefox-esr" }[kind];
+    console.log(`no ${kind} on this machine, and its tests are left out: it is the Debian package ${debian}`);
+  }
+}
+console.log(`${passed} passed, ${failed} failed`);
+process.exit(failed === 0 ? 0 : 1);

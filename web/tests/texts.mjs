@@ -1,0 +1,19 @@
+// Texts for the tests.
+const DIGITS = "0123456789abcdefghijklmnopqrstuvwxyzABCDEFGHIJKLMNOPQRSTUVWXYZ";
+
+// A symbol whose path doubles with each of 58 tuples, past every limit.
+export const HOSTILE = `_RMC0${"T".repeat(58)}p${[...Array(58).keys()].map((n) => `B${DIGITS[60 - n]}_E`).join("")}`;
+
+const named = (n) => {
+  const size = 30 + (n % 60);
+  return `_ZN3std9panicking${size}${"abcdefghij".repeat(9).slice(0, size)}17h3f1a9c2b7d5e6041E`;
+};
+
+export const LOG = Array.from({ length: 40000 }, (_, n) => `${n}: ${named(n)}\n`).join("");
+export const LOG_LINE = LOG.replaceAll("\n", " ");
+export const HOSTILE_LINES = `${HOSTILE}\n`.repeat(5000);
+export const HOSTILE_LINE = `${HOSTILE} `.repeat(5000);
+
+// What a text loses first: halves of characters, NUL, both line ends, a mark in front.
+export const ODD = "\ufeffa\ud800 _ZN3foo3barE\udc00\r\n\0_RNvC3foo3bar\0\n\u{1f600}é _ZN3fooE\r";
+export const ODD_RESULT = "\ufeffa\ud800 foo::bar\udc00\r\n\0foo::bar\0\n\u{1f600}é foo\r";
