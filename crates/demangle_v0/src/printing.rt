@@ -149,7 +149,15 @@ fn print_rest<S: TextSink>(
     let mut row: FrameStack<MOST> = FrameStack::new();
     row.append(few);
     let mut reading = *from;
-    print_left(symbol, include_hash, left, &mut reading, &mut row, out, looks)?;
+    print_left(
+        symbol,
+        include_hash,
+        left,
+        &mut reading,
+        &mut row,
+        out,
+        looks,
+    )?;
     Ok(())
 }
 

@@ -6,7 +6,7 @@ ghost use Rattle.demangle_grammar.specs.Reading.{path_texts};
 
 use crate::points::frames::{FEW, FrameStack};
 use crate::points::read::Reading;
-use crate::printing::{print_on, print_more};
+use crate::printing::{print_more, print_on};
 use demangle_sink::{SinkRefused, SizeLimitedFmtAdapter, TextSink};
 use demangle_symbol::cursor::{Looks, Symbol};
 use std::marker::Model;

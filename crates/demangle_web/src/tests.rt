@@ -40,9 +40,15 @@ fn a_text_keeps_what_is_no_symbol(rt: HostRuntime) {
 #[test]
 fn a_text_is_counted_past_the_memory(rt: HostRuntime) {
     let mut out = [9; 5];
-    assert_eq!(rt; kodliwe_demangle_text(b"_ZN3foo3barE", &mut out, false, 100), 9);
+    assert_eq!(rt;
+        kodliwe_demangle_text(b"_ZN3foo3barE", &mut out, false, 100),
+        9
+    );
     assert!(rt; out == *b"foo:\0");
-    assert_eq!(rt; kodliwe_demangle_text(b"_ZN3foo3barE", &mut out[..0], false, 4), 24);
+    assert_eq!(rt;
+        kodliwe_demangle_text(b"_ZN3foo3barE", &mut out[..0], false, 4),
+        24
+    );
 }
 
 #[test]
