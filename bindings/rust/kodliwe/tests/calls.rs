@@ -161,6 +161,11 @@ fn characters_are_written_whole() {
         assert_eq!(write_to(symbol.as_bytes(), &mut text, false), Ok(true));
         assert!(text == format!("x{}", "€".repeat(count)), "{count}");
     }
+    // Both buffers end inside an é, of two bytes.
+    let mut text = String::new();
+    let symbol = format!("_ZN200000{}E", "$ue9$".repeat(40_000));
+    assert_eq!(write_to(symbol.as_bytes(), &mut text, false), Ok(true));
+    assert!(text == "é".repeat(40_000));
 }
 
 #[test]
