@@ -155,12 +155,17 @@ fn a_path_is_written_in_parts() {
 
 #[test]
 fn characters_are_written_whole() {
-    for count in [1364, 1365, 1366, 23_210, 23_211] {
-        let symbol = format!("_ZN{}_{}E", 1 + 7 * count, "$u20ac$".repeat(count));
+    for count in [1364, 1365, 1366, 23_209, 23_210, 50_000] {
+        let symbol = format!("_ZN{}x{}E", 1 + 7 * count, "$u20ac$".repeat(count));
         let mut text = String::new();
         assert_eq!(write_to(symbol.as_bytes(), &mut text, false), Ok(true));
-        assert!(text == "€".repeat(count), "{count}");
+        assert!(text == format!("x{}", "€".repeat(count)), "{count}");
     }
+    // Both buffers end inside an é, of two bytes.
+    let mut text = String::new();
+    let symbol = format!("_ZN200000{}E", "$ue9$".repeat(40_000));
+    assert_eq!(write_to(symbol.as_bytes(), &mut text, false), Ok(true));
+    assert!(text == "é".repeat(40_000));
 }
 
 #[test]

@@ -151,8 +151,11 @@ fn a_path_of_any_size_is_whole() {
 #[test]
 fn characters_of_more_bytes_are_whole() {
     for count in [341, 1364, 1365, 1366, 23_210, 23_211, 60_000] {
-        let symbol = format!("_ZN{}_{}E", 1 + 7 * count, "$u20ac$".repeat(count));
-        assert_eq!(demangle(&symbol).to_string(), "€".repeat(count), "{count}");
+        let symbol = format!("_ZN{}x{}E", 1 + 7 * count, "$u20ac$".repeat(count));
+        assert!(
+            demangle(&symbol).to_string() == format!("x{}", "€".repeat(count)),
+            "{count}"
+        );
     }
 }
 

@@ -59,6 +59,10 @@ fn what_only_begins_as_a_symbol_is_kept() {
         "_ZN _R __R _Z _ZN3fo _RNvC3foo3ba\n"
     );
     assert_eq!(streamed("x_ZN3fooE", false), "xfoo");
+    assert_eq!(
+        streamed("_ZN3fooE.llvm.9D1C9369 _ZN8_$u20ac$E", false),
+        "foo €"
+    );
     assert_eq!(streamed("__ZN3fooE", false), "_foo");
     assert_eq!(streamed("ZN3fooE", false), "ZN3fooE");
     assert_eq!(streamed("_ZN3foo€_ZN3fooE", false), "_ZN3foo€foo");
