@@ -20,6 +20,11 @@ async function guarded(name, run) {
   }
 }
 
+const unknown = positionals.filter((it) => !["chromium", "firefox"].includes(it));
+if (unknown.length) {
+  console.error(`web/test knows chromium and firefox, and not ${unknown.join(", ")}`);
+  process.exit(2);
+}
 await guarded("module", () => testModule(check));
 for (const kind of positionals.length ? positionals : ["chromium", "firefox"]) {
   if (program(kind)) {

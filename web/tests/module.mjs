@@ -15,7 +15,7 @@ const LETTERS = { n: "\n", r: "\r", t: "\t", "\\": "\\", "|": "|" };
 
 // A field of the corpus without its escapes (docs/CORPUS.md).
 function plain(field) {
-  return field.replace(/\\(x[0-9a-fA-F]{2}|u\{[0-9a-fA-F]+\}|.)/g, (_, it) =>
+  return field.replace(/\\(x[0-9a-fA-F]{2}|u\{[0-9a-fA-F]+\}|[nrt\\|])/g, (_, it) =>
     LETTERS[it] ?? String.fromCodePoint(parseInt(it.replace(/^[xu]\{?/, ""), 16)));
 }
 

@@ -1,4 +1,4 @@
-use Rattle.std.proofs.Common.{◌≡◌, length, sym, ap, subst, ◌∙◌, arith}
+use Rattle.std.proofs.Common.{length, sym, ap, subst, ◌∙◌, arith}
 use Rattle.rustc_demangle.specs.Slice.{overlay}
 use Rattle.rustc_demangle.specs.Symbols.{IsSymbol, handed}
 use Rattle.std.specs.List.{concat}
