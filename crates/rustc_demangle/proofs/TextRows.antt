@@ -70,15 +70,15 @@ abbrev goes_on : List ℕ
 goes_on = codes "$0123456789ABCDEFGHIJKLMNOPQRSTUVWXYZ_abcdefghijklmnopqrstuvwxyz"
 
 run_ends : map (filtered true) (before_each ends) ≡ map (λ b. codes "foo" ++ b ∷ []) ends
-unfolding filtered_from stripped number inner_of element_of parts_within parts_of legacy_of escape_of_digits escape_of leading_unit pieces_from unescaped shown_elements encode_utf8 v0_in v0_of
+unfolding filtered_by stripped number inner_of element_of parts_within parts_of legacy_of escape_of_digits escape_of leading_unit pieces_from unescaped shown_elements encode_utf8 v0_in v0_of
 run_ends = refl
 
 run_goes_on : map (filtered true) (before_each goes_on) ≡ before_each goes_on
-unfolding filtered_from stripped number inner_of element_of parts_within parts_of legacy_of escape_of_digits escape_of leading_unit pieces_from unescaped shown_elements encode_utf8 v0_in v0_of
+unfolding filtered_by stripped number inner_of element_of parts_within parts_of legacy_of escape_of_digits escape_of leading_unit pieces_from unescaped shown_elements encode_utf8 v0_in v0_of
 run_goes_on = refl
 
 run_has_a_suffix : filtered true (codes "_ZN3fooE.") ≡ codes "foo."
-unfolding filtered_from stripped number inner_of element_of parts_within parts_of legacy_of escape_of_digits escape_of leading_unit pieces_from unescaped shown_elements encode_utf8 v0_in v0_of
+unfolding filtered_by stripped number inner_of element_of parts_within parts_of legacy_of escape_of_digits escape_of leading_unit pieces_from unescaped shown_elements encode_utf8 v0_in v0_of
 run_has_a_suffix = refl
 
 -- the text under a limit, with the marker where it is cut, and the suffix
