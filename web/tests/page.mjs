@@ -93,7 +93,7 @@ export async function testPage(kind, check, shots) {
     await files();
     await staying();
     await pictures();
-    await visit(`${site.url}old/`);
+    await visit(`${site.url}old/index.html`);
     say("without 64-bit memory it says so", /no 64-bit WebAssembly memory/.test(await value("fault")) && !(await value("fault", "hidden")));
     requests();
     say("no fault is logged", browser.faults().length === 0, browser.faults().join("\n"));
@@ -275,6 +275,6 @@ export async function testPage(kind, check, shots) {
     const others = browser.requests().filter((url) => !own(url));
     say("no request but its own files", others.length === 0, others.join(" "));
     const served = [...new Set(site.asked.map((url) => path.basename(url)))].filter((it) => it !== "favicon.ico").sort();
-    say("the files of the page", served.join() === ",kodliwe.js,module.js,old,page.js,style.css,worker.js" || served.join() === ",kodliwe.js,module.js,page.js,style.css,worker.js", served.join(" "));
+    say("the files of the page", served.join() === ",index.html,kodliwe.js,module.js,page.js,style.css,worker.js", served.join(" "));
   }
 }
