@@ -275,8 +275,11 @@ stack backtrace:
     if (isTooLarge(text.length, name)) return;
     tell("");
     const ends = lineEndOf(text);
-    release();
     if (ends !== null && isEdited(text)) {
+      if (!isArea()) {
+        shown.clear(); // else all of what was held would be laid out under the text area
+        release();
+      }
       input.value = text;
       lineEnd = ends;
       if (input.value === text.replaceAll("\r\n", "\n")) {

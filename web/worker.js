@@ -5,7 +5,7 @@
 // of both.
 function kodliweWorker(kodliwe) {
   const LINES = 100; // the most lines of a block,
-  const CHARS = 16_384; // and about the most characters
+  const CHARS = 8_192; // and about the most characters
   const ROW = 1_024; // a longer line goes on in the next row
   const LIMIT = 16_384; // bytes of one path, before `{size limit reached}`;
   const FEW = 256; // that many once all paths have
