@@ -6,7 +6,7 @@
   // A text of more characters, or with a longer line, is shown and not edited: of a text area
   // browsers lay out anew all of a line, and some all of its lines, at each key.
   const EDITED = 100_000;
-  const LONG_LINE = new RegExp("[^\\n]{20001}");
+  const EDITED_LINE = 20_000;
   const LARGEST = 32_000_000; // characters, or bytes of a file
   const SLICE = 8; // milliseconds of showing, between which keys are heard
   const TOLD = 600; // characters of a name in the line below
@@ -224,7 +224,15 @@ stack backtrace:
 
   const isArea = () => held === null;
 
-  const isEdited = (text) => text.length <= EDITED && !LONG_LINE.test(text);
+  function isEdited(text) {
+    if (text.length > EDITED) return false;
+    for (let at = 0; text.length - at > EDITED_LINE;) {
+      const end = text.indexOf("\n", at);
+      if (end === -1 || end - at > EDITED_LINE) return false;
+      at = end + 1;
+    }
+    return true;
+  }
 
   // The line end of a text, or null where it has several kinds, or carriage returns alone.
   function lineEndOf(text) {
@@ -267,8 +275,11 @@ stack backtrace:
     if (isTooLarge(text.length, name)) return;
     tell("");
     const ends = lineEndOf(text);
-    release();
     if (ends !== null && isEdited(text)) {
+      if (!isArea()) {
+        shown.clear(); // else all of what was held would be laid out under the text area
+        release();
+      }
       input.value = text;
       lineEnd = ends;
       if (input.value === text.replaceAll("\r\n", "\n")) {
@@ -491,11 +502,8 @@ stack backtrace:
 
   function scrolled(one, other) {
     if (one.hidden) return;
-    if (one === input) {
-      const { style } = shown.element;
-      style.setProperty("--wide", `${input.scrollWidth}px`);
-    }
-    other.scrollTo(one.scrollLeft, one.scrollTop);
+    const { scrollLeft, scrollTop } = one;
+    if (other.scrollLeft !== scrollLeft || other.scrollTop !== scrollTop) other.scrollTo(scrollLeft, scrollTop);
   }
 
   function follow(event) {

@@ -5,11 +5,11 @@
 // of both.
 function kodliweWorker(kodliwe) {
   const LINES = 100; // the most lines of a block,
-  const CHARS = 16_384; // and about the most characters
+  const CHARS = 8_192; // and about the most characters
   const ROW = 1_024; // a longer line goes on in the next row
   const LIMIT = 16_384; // bytes of one path, before `{size limit reached}`;
   const FEW = 256; // that many once all paths have
-  const MANY = 8_000_000; // so many characters and four for each of the text's
+  const MANY = 1_000_000; // so many characters and eight for each of the text's
   const MARKER = "{size limit reached}";
   const STRETCH = 262_144; // characters without a symbol that are gone through at a time
   const SLICE = 40; // milliseconds between two looks whether another text has come
@@ -104,7 +104,7 @@ function kodliweWorker(kodliwe) {
       from += part.length;
     }, isWhole);
     const output = blocks((block) => news.output.push(block), false);
-    const most = MANY + 4 * text.length;
+    const most = MANY + 8 * text.length;
     const limit = () => (printed < most ? LIMIT : FEW);
     let kept = 0;
     let until = performance.now() + SLICE / 2;

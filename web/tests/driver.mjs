@@ -121,7 +121,7 @@ async function startChromium(command) {
   }
 
   return {
-    kind: "chromium", version, evaluate, key, events,
+    kind: "chromium", version, evaluate, key, events, send,
     mouse: (x, y) => send("Input.dispatchMouseEvent", { type: "mouseMoved", x, y }),
     async files(selector, files) {
       await send("DOM.setFileInputFiles", { files, nodeId: await node(selector) });

@@ -15,7 +15,7 @@ const FILE = `file://${WEB}index.html`;
 const PAUSE = 200; // milliseconds that a key may wait, until what it did is painted
 const TRIES = 4; // of these the best counts: other programs of the machine make pauses too
 
-const TYPES = { ".html": "text/html", ".js": "text/javascript", ".css": "text/css" };
+const TYPES = { ".html": "text/html", ".js": "text/javascript", ".css": "text/css", ".svg": "image/svg+xml" };
 
 // Serves the folder, and notes what was asked for. Under /old/ 64-bit memory is hidden.
 function serve() {
@@ -93,7 +93,7 @@ export async function testPage(kind, check, shots) {
     await files();
     await staying();
     await pictures();
-    await visit(`${site.url}old/`);
+    await visit(`${site.url}old/index.html`);
     say("without 64-bit memory it says so", /no 64-bit WebAssembly memory/.test(await value("fault")) && !(await value("fault", "hidden")));
     requests();
     say("no fault is logged", browser.faults().length === 0, browser.faults().join("\n"));
@@ -274,7 +274,7 @@ export async function testPage(kind, check, shots) {
     const own = (url) => url.startsWith(`file://${WEB}`) || url.startsWith(site.url) || url.startsWith("blob:") || /^(data|about|chrome|resource|moz-extension):/.test(url);
     const others = browser.requests().filter((url) => !own(url));
     say("no request but its own files", others.length === 0, others.join(" "));
-    const served = [...new Set(site.asked.map((url) => path.basename(url)))].filter((it) => it !== "favicon.ico").sort();
-    say("the files of the page", served.join() === ",kodliwe.js,module.js,old,page.js,style.css,worker.js" || served.join() === ",kodliwe.js,module.js,page.js,style.css,worker.js", served.join(" "));
+    const served = [...new Set(site.asked.map((url) => path.basename(url)))].filter((it) => it !== "icon.svg").sort();
+    say("the files of the page", served.join() === ",index.html,kodliwe.js,module.js,page.js,style.css,worker.js", served.join(" "));
   }
 }
