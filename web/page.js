@@ -646,7 +646,7 @@ stack backtrace:
     }
     hash.checked = kept();
     listen();
-    if (location.hash === "#example" && input.value === "") set(EXAMPLE, "The example"); else edited();
+    if (location.hash === "#try" && input.value === "") set(EXAMPLE, "The example"); else edited();
     document.body.dataset.ready = "";
   }
 

@@ -83,7 +83,7 @@ export async function testPage(kind, check, shots) {
     await browser.downloads(folder);
     await browser.look();
     for (const [name, url] of [["a server", site.url], ["a file", FILE]]) {
-      await visit(`${url}#example`);
+      await visit(`${url}#try`);
       say(`runs from ${name}`, (await output()).includes("std::panicking::begin_panic\n") && (await value("fault")) === "");
     }
     await typing();
@@ -167,7 +167,7 @@ export async function testPage(kind, check, shots) {
   }
 
   async function stepping() {
-    await visit(`${FILE}#example`);
+    await visit(`${FILE}#try`);
     await evaluate('document.getElementById("hash").focus(); 0');
     const order = [];
     for (let turn = 0; turn < 9; turn++) {
@@ -260,7 +260,7 @@ export async function testPage(kind, check, shots) {
   async function pictures() {
     for (const [name, look] of [["light", {}], ["dark", { dark: true }], ["narrow", { width: 420, height: 900 }]]) {
       await browser.look(look);
-      await visit(`${FILE}#example`);
+      await visit(`${FILE}#try`);
       const wide = await evaluate("document.documentElement.scrollWidth <= innerWidth");
       say(`${name}: nothing stands out of the page`, wide);
       await click("next");
