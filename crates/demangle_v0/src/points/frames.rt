@@ -83,7 +83,7 @@ fn unpack(packed: Packed) -> Frame
 }
 
 /// How many frames a first row holds, which is enough for all but deep symbols.
-pub const FEW: usize = 64;
+pub const FEW: usize = 48;
 
 /// How many frames a second row holds: eight thousand bytes, where the last takes eight times that.
 pub const MIDDLE: usize = 512;
