@@ -128,8 +128,10 @@ filtered_push h (t ∷ done) text = ap (λ l. filtered h t ++ l) (filtered_push 
 -- one reader was filtered whole
 pub filtering_step : (h : Bool) (all now : List (Option (List ℕ))) (first : Option (List ℕ)) (held : List (Option (List ℕ))) (old mid new : Option (List ℕ))
     → Filtering h all now old mid → now ≡ first ∷ held → IfSome first (λ text. Appends mid new (filtered h text)) → Filtering h all held old new
-filtering_step h all now first held old mid new inv e wrote = record { parts = λ texts is.
-    let p = inv.parts texts is in at texts p.0 p.1 p.2 (subst (λ l. AreHeld l p.1) e p.3) p.4 }
+filtering_step h all now first held old mid new inv e wrote = record {
+  parts = λ texts is.
+      let p = inv.parts texts is in at texts p.0 p.1 p.2 (subst (λ l. AreHeld l p.1) e p.3) p.4;
+}
   where
     at : (texts done rest : List (List ℕ)) → texts ≡ done ++ rest → AreHeld (first ∷ held) rest → Appends old mid (all_filtered h done)
         → (done : List (List ℕ)) × (rest : List (List ℕ)) × (texts ≡ done ++ rest) × AreHeld held rest × Appends old new (all_filtered h done)

@@ -162,14 +162,15 @@ fn a_writer_that_fails_at_any_call_is_told(rt: HostRuntime) -> Result<(), Fail> 
     let alloc = rt.alloc();
     let text: &[u8] = b"x _ZN1a1bE y\n_ZN3fooE\n";
     let wanted: &[u8] = b"x a::b y\nfoo\n";
-    let mut calls = 0;
-    loop {
+    // Two bytes a write, and a flush before each reading and at the end.
+    for calls in 0..100 {
         let mut output = CallsWriter::new(alloc, calls, ErrorKind::StorageFull, 2);
         let (ended, errors) = run_one(alloc, ChunkReader::new(text, 4), &mut output, false)?;
         assert!(rt; wanted.starts_with(output.held()), "at {calls}");
         if ended == Ended::Complete {
             assert_eq!(rt; output.held(), wanted);
-            break;
+            assert!(rt; calls > 13, "{calls}");
+            return Ok(());
         }
         assert_eq!(rt; ended, Ended::Unwritten, "at {calls}");
         assert_eq!(rt; ended.status(), 1);
@@ -177,13 +178,8 @@ fn a_writer_that_fails_at_any_call_is_told(rt: HostRuntime) -> Result<(), Fail> 
             errors.as_slice(),
             b"kodliwe: write failed: no space\n".as_slice()
         );
-        calls += 1;
-        if calls > 1000 {
-            break;
-        }
     }
-    // Two bytes a write, and a flush before each reading and at the end.
-    assert!(rt; calls > 13 && calls < 100, "{calls}");
+    assert!(rt; false, "it was never complete");
     Ok(())
 }
 
@@ -394,12 +390,10 @@ fn the_help_fits_a_terminal(rt: HostRuntime) -> Result<(), Fail> {
         b"kodliwe 0.1.0\n",
         b"",
     )?;
-    let mut lines = 0;
-    for line in text.lines() {
+    for (number, line) in text.lines().enumerate() {
         assert!(rt; line.len() <= 80, "{line}");
-        lines += 1;
+        assert!(rt; number < 24, "{line}");
     }
-    assert!(rt; lines <= 24);
     Ok(())
 }
 

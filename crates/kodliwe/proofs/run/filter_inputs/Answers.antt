@@ -27,7 +27,7 @@ returns-in-Err-clause-err g c =
     let at = c.loop-input in
     let held = ap (map (λ input. g.R.Read.remaining input.reader)) c.in-Some.ensures.steps.0 in
     filtering_err c.in-Err.fault c.args.include_hash _ _ (g.R.Read.remaining c.in-Some.input.reader) _ (g.W.Write.contents c.args.output.now) (g.W.Write.contents at.output)
-        (g.W.Write.contents c.filter_reader.new.output) at.invariant.0 held c.in-Err.ensures.err
+    (g.W.Write.contents c.filter_reader.new.output) at.invariant.0 held c.in-Err.ensures.err
 
 pub returns-in-Ok-flush-clause-ok : goal.returns-in-Ok-flush-clause-ok
 returns-in-Ok-flush-clause-ok g c =
