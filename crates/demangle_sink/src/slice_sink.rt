@@ -1,7 +1,8 @@
 //! A sink into memory of the caller's.
-ghost use Rattle.std.specs.Prelude.{◌≡◌, ◌-◌, Some, true, false, refl};
+ghost use Rattle.std.specs.Prelude.{◌≡◌, ◌-◌, [], length, Some, true, false, refl, IsOk, OnOk, OnErr};
 ghost use Rattle.std.proofs.Common.{◌∙◌};
 ghost use Rattle.std.below.core.specs.declared.int.usize.TheConstants.{MAX};
+ghost use Rattle.demangle_sink.specs.Sink.{IsWithin, room_after};
 ghost use Rattle.demangle_sink.specs.Slice.{overlay_from, Laid, Laid-nothing, Laid-joined};
 
 use crate::{SinkRefused, TextSink};
@@ -40,6 +41,29 @@ impl<'b> SliceSink<'b> {
     {
         self.len
     }
+
+    /// Takes bytes, which need not be UTF-8, as `put` takes a piece.
+    pub fn put_bytes(&mut self, bytes: &[u8]) -> Result<(), SinkRefused>
+        requires { ⟦<SliceSink<'b> as TextSink>⟧.failed self.old ≡ false }
+        ensures taken { OnOk result
+            (⟦<SliceSink<'b> as TextSink>⟧.took self.old bytes.now self.new) }
+        ensures alive { OnOk result (⟦<SliceSink<'b> as TextSink>⟧.failed self.new ≡ false) }
+        ensures refused { OnErr result (⟦<SliceSink<'b> as TextSink>⟧.failed self.new ≡ true) }
+        ensures kept { OnErr result (⟦<SliceSink<'b> as TextSink>⟧.took self.old [] self.new
+            × (⟦<SliceSink<'b> as TextSink>⟧.room self.new
+                ≡ ⟦<SliceSink<'b> as TextSink>⟧.room self.old)) }
+        ensures fits { IsWithin (length bytes.now) (⟦<SliceSink<'b> as TextSink>⟧.room self.old) →
+            IsOk result × (⟦<SliceSink<'b> as TextSink>⟧.room self.new
+                ≡ room_after (length bytes.now) (⟦<SliceSink<'b> as TextSink>⟧.room self.old)) }
+    {
+        if bytes.len() > usize::MAX - self.len {
+            self.failed = true;
+            return Err(SinkRefused);
+        }
+        lay(self.out, self.len, bytes);
+        self.len += bytes.len();
+        Ok(())
+    }
 }
 
 /// Lays bytes into memory from a place on, as far as it reaches.
@@ -63,13 +87,7 @@ impl<'b> TextSink for SliceSink<'b> {
     ghost keeps = { true };
 
     fn put(&mut self, s: &str) -> Result<(), SinkRefused> {
-        if s.len() > usize::MAX - self.len {
-            self.failed = true;
-            return Err(SinkRefused);
-        }
-        lay(self.out, self.len, s.as_bytes());
-        self.len += s.len();
-        Ok(())
+        self.put_bytes(s.as_bytes())
     }
 
     fn is_failed(&self) -> bool {

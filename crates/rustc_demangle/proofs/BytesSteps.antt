@@ -1,5 +1,5 @@
 -- A text of any bytes, part by part.
-use Rattle.std.proofs.Common.{◌≡◌, ℕ, zero, suc, ◌+◌, ◌-◌, ◌<◌, ◌≤◌, ◌⊎◌, inl, inr, ◌&&◌, ◌||◌, Bool, true, false, eqb, eqb-true, cond, List, [], ◌∷◌, ◌++◌, length, take, drop, get_or, None, Some, IfSome, refl, sym, ap, subst, ◌∙◌, arith, append_assoc, append-nil, length-drop, length-append, take_all, codes, nat_eq}
+use Rattle.std.proofs.Common.{◌≡◌, ℕ, zero, suc, ◌+◌, ◌-◌, ◌*◌, ◌<◌, ◌≤◌, ◌⊎◌, inl, inr, ◌&&◌, ◌||◌, Bool, true, false, eqb, eqb-true, cond, List, [], ◌∷◌, ◌++◌, length, take, drop, get_or, None, Some, IfSome, refl, sym, ap, subst, ◌∙◌, arith, append_assoc, append-nil, length-drop, length-append, take_all, codes, nat_eq}
 use Rattle.std.specs.List.{prefix_len, list_all, starts_with}
 use Rattle.std.specs.Cmp.Lexicographic.{pointwise}
 use Rattle.std.specs.Bool.{⊤}
@@ -19,7 +19,7 @@ use Rattle.std.proofs.lemmas.List.Folds.{list_all-append, prefix_len-append}
 use Rattle.std.proofs.lemmas.List.Sums.{prefix_len-le-length}
 use Rattle.std.proofs.lemmas.Bool.{true≢false}
 use Rattle.std.proofs.lemmas.Bool.Decides.{nat_tests}
-use Rattle.rustc_demangle.specs.Filtered.{is_run, begins_run, NoRunFirst, replacement, filtered_from, filtered}
+use Rattle.rustc_demangle.specs.Filtered.{is_run, begins_run, NoRunFirst, filtered_by}
 use Rattle.rustc_demangle.specs.Bytes.{CutsNoRun, IsOpen, Passed, StepTook, StepEnded, StepRefused, BytesStopped}
 use Rattle.rustc_demangle.specs.declared.stream.fault.StreamFault.{StreamFault}
 use Rattle.rustc_demangle.specs.declared.stream.fault.StreamFault.TheVariants.{Read, NotUtf8, Write, Memory}
@@ -147,37 +147,37 @@ tail : (c : ℕ) (a b : List ℕ) → CutsNoRun (c ∷ a) b → CutsNoRun a b
 tail c a b cut = λ before run e some all begins. cut (c ∷ before) run (ap (λ l. c ∷ l) e) some all begins
 
 -- a text that is filtered in two parts of which the first cuts no run
-split_from : (h : Bool) (a b : List ℕ) (k : ℕ) → k ≤ length a → CutsNoRun a b → filtered_from h k (a ++ b) ≡ filtered_from h k a ++ filtered h b
-unfolding filtered_from
-split_from h [] b zero le cut = refl
-split_from h [] b (suc k) le cut = absurd (omega (arith, le))
-split_from h (c ∷ a) b (suc k) le cut = split_from h a b k (omega (arith, le)) (tail c a b cut)
-split_from h (c ∷ a) b zero le cut = at (λ k le. split_from h a b k le (tail c a b cut)) (begins_run (c ∷ (a ++ b))) refl
+split_from : (f : List ℕ → List ℕ) (a b : List ℕ) (k : ℕ) → k ≤ length a → CutsNoRun a b → filtered_by f k (a ++ b) ≡ filtered_by f k a ++ filtered_by f zero b
+unfolding filtered_by
+split_from f [] b zero le cut = refl
+split_from f [] b (suc k) le cut = absurd (omega (arith, le))
+split_from f (c ∷ a) b (suc k) le cut = split_from f a b k (omega (arith, le)) (tail c a b cut)
+split_from f (c ∷ a) b zero le cut = at (λ k le. split_from f a b k le (tail c a b cut)) (begins_run (c ∷ (a ++ b))) refl
   where
-    at : ((k : ℕ) → k ≤ length a → filtered_from h k (a ++ b) ≡ filtered_from h k a ++ filtered h b) → (r : Bool) → begins_run (c ∷ (a ++ b)) ≡ r → turn h c (a ++ b) (begins_run (c ∷ (a ++ b))) ≡ turn h c a (begins_run (c ∷ a)) ++ filtered h b
+    at : ((k : ℕ) → k ≤ length a → filtered_by f k (a ++ b) ≡ filtered_by f k a ++ filtered_by f zero b) → (r : Bool) → begins_run (c ∷ (a ++ b)) ≡ r → turn f c (a ++ b) (begins_run (c ∷ (a ++ b))) ≡ turn f c a (begins_run (c ∷ a)) ++ filtered_by f zero b
     at ih true e =
         let m = prefix_len is_run a in
         let len : prefix_len is_run (a ++ b) ≡ m = same_len c a b cut e in
         let within : m ≤ length a = prefix_len-le-length is_run a in
         let shown : take (prefix_len is_run (a ++ b)) (a ++ b) ≡ take m a = ap (λ n. take n (a ++ b)) len ∙ take-append-le m a b within in
-        ap (turn h c (a ++ b)) e
-        ∙ ap (λ l. replacement h (c ∷ l) ++ filtered_from h (prefix_len is_run (a ++ b)) (a ++ b)) shown
-        ∙ ap (λ n. replacement h (c ∷ take m a) ++ filtered_from h n (a ++ b)) len
-        ∙ ap (λ l. replacement h (c ∷ take m a) ++ l) (ih m within)
-        ∙ sym (append_assoc (replacement h (c ∷ take m a)) (filtered_from h m a) (filtered h b))
-        ∙ sym (ap (λ t. turn h c a t ++ filtered h b) (same_begin c a b cut e))
+        ap (turn f c (a ++ b)) e
+        ∙ ap (λ l. f (c ∷ l) ++ filtered_by f (prefix_len is_run (a ++ b)) (a ++ b)) shown
+        ∙ ap (λ n. f (c ∷ take m a) ++ filtered_by f n (a ++ b)) len
+        ∙ ap (λ l. f (c ∷ take m a) ++ l) (ih m within)
+        ∙ sym (append_assoc (f (c ∷ take m a)) (filtered_by f m a) (filtered_by f zero b))
+        ∙ sym (ap (λ t. turn f c a t ++ filtered_by f zero b) (same_begin c a b cut e))
     at ih false e =
-        ap (turn h c (a ++ b)) e
+        ap (turn f c (a ++ b)) e
         ∙ ap (λ l. c ∷ l) (ih zero (omega arith))
-        ∙ sym (ap (λ t. turn h c a t ++ filtered h b) (begins_less (c ∷ a) b e))
+        ∙ sym (ap (λ t. turn f c a t ++ filtered_by f zero b) (begins_less (c ∷ a) b e))
 
-pub filtered_split : (h : Bool) (a b : List ℕ) → CutsNoRun a b → filtered h (a ++ b) ≡ filtered h a ++ filtered h b
-filtered_split h a b cut = split_from h a b zero (omega arith) cut
+pub filtered_split : (f : List ℕ → List ℕ) (a b : List ℕ) → CutsNoRun a b → filtered_by f zero (a ++ b) ≡ filtered_by f zero a ++ filtered_by f zero b
+filtered_split f a b cut = split_from f a b zero (omega arith) cut
 
 -- nothing was passed
-pub passed_none : (h : Bool) (held left : List ℕ) (old : Option (List ℕ)) → held ≡ left → Passed h held left old old
-unfolding filtered_from
-passed_none h held left old e = record {
+pub passed_none : (f : List ℕ → List ℕ) (held left : List ℕ) (old : Option (List ℕ)) → held ≡ left → Passed (filtered_by f zero) held left old old
+unfolding filtered_by
+passed_none f held left old e = record {
   front = [];
   whole = e;
   uncut = λ before run none some all begins. absurd (omega (arith, ap length none, length-append before run));
@@ -229,45 +229,45 @@ cuts_first : (a b left : List ℕ) → CutsNoRun a (b ++ left) → CutsNoRun a b
 cuts_first a b left cut = λ before run e some all begins.
     no_first b left (cut before run e some all (ap begins_run (sym (append_assoc run b left)) ∙ begins_more (run ++ b) left begins))
 
-pub passed_trans : (h : Bool) (held mid left : List ℕ) (old between new : Option (List ℕ)) → Passed h held mid old between → Passed h mid left between new → Passed h held left old new
-passed_trans h held mid left old between new p q =
+pub passed_trans : (f : List ℕ → List ℕ) (held mid left : List ℕ) (old between new : Option (List ℕ)) → Passed (filtered_by f zero) held mid old between → Passed (filtered_by f zero) mid left between new → Passed (filtered_by f zero) held left old new
+passed_trans f held mid left old between new p q =
     let cut = subst (CutsNoRun p.front) q.whole p.uncut in
     record {
       front = p.front ++ q.front;
       whole = p.whole ∙ ap (λ l. p.front ++ l) q.whole ∙ sym (append_assoc p.front q.front left);
       uncut = cuts_both p.front q.front left cut q.uncut;
-      wrote = subst (Appends old new) (sym (filtered_split h p.front q.front (cuts_first p.front q.front left cut)))
+      wrote = subst (Appends old new) (sym (filtered_split f p.front q.front (cuts_first p.front q.front left cut)))
           (Appends-trans old between new _ _ p.wrote q.wrote);
     }
 
 -- a text in which no run begins is kept
-pub passed_kept : (h : Bool) (held kept left : List ℕ) (old new : Option (List ℕ)) → held ≡ kept ++ left
-    → ((k : ℕ) → k < length kept → begins_run (drop k held) ≡ false) → Appends old new kept → Passed h held left old new
-passed_kept h held kept left old new e none wrote =
+pub passed_kept : (f : List ℕ → List ℕ) (held kept left : List ℕ) (old new : Option (List ℕ)) → held ≡ kept ++ left
+    → ((k : ℕ) → k < length kept → begins_run (drop k held) ≡ false) → Appends old new kept → Passed (filtered_by f zero) held left old new
+passed_kept f held kept left old new e none wrote =
     let none' = subst (λ l. (k : ℕ) → k < length kept → begins_run (drop k l) ≡ false) e none in
     let here : (k : ℕ) → k < length kept → begins_run (drop k kept) ≡ false = λ k lt. begins_less (drop k kept) left (ap begins_run (sym (drop-append-le k kept left (omega arith))) ∙ none' k lt) in
     record {
       front = kept;
       whole = e;
       uncut = cuts_kept kept left none';
-      wrote = subst (Appends old new) (sym (filtered_all h kept here)) wrote;
+      wrote = subst (Appends old new) (sym (filtered_all f kept here)) wrote;
     }
 
 -- a run is what stands for it
-pub filtered_whole : (h : Bool) (run : List ℕ) → begins_run run ≡ true → list_all is_run run ≡ true → filtered h run ≡ replacement h run
-unfolding filtered_from
-filtered_whole h run some all =
+pub filtered_whole : (f : List ℕ → List ℕ) (run : List ℕ) → begins_run run ≡ true → list_all is_run run ≡ true → filtered_by f zero run ≡ f run
+unfolding filtered_by
+filtered_whole f run some all =
     let n = prefix_len is_run run in
     let full : n ≡ length run = prefix_of_all run all in
-    filtered_run h run some
-    ∙ ap (λ l. replacement h l ++ filtered h (drop n run)) (take_all n run (omega (arith, full)))
-    ∙ ap (λ l. replacement h run ++ filtered h l) (drop_all n run (omega (arith, full)))
-    ∙ append-nil (replacement h run)
+    filtered_run f run some
+    ∙ ap (λ l. f l ++ filtered_by f zero (drop n run)) (take_all n run (omega (arith, full)))
+    ∙ ap (λ l. f run ++ filtered_by f zero l) (drop_all n run (omega (arith, full)))
+    ∙ append-nil (f run)
 
 -- a front behind which no run goes on is filtered
-pub passed_front : (h : Bool) (held front left : List ℕ) (old new : Option (List ℕ)) → held ≡ front ++ left → NoRunFirst left
-    → Appends old new (filtered h front) → Passed h held left old new
-passed_front h held front left old new e stop wrote = record {
+pub passed_front : (f : List ℕ → List ℕ) (held front left : List ℕ) (old new : Option (List ℕ)) → held ≡ front ++ left → NoRunFirst left
+    → Appends old new (filtered_by f zero front) → Passed (filtered_by f zero) held left old new
+passed_front f held front left old new e stop wrote = record {
   front = front;
   whole = e;
   uncut = λ before run same some all begins. stop;
@@ -281,15 +281,15 @@ open_run s (inr (inl e)) some = absurd (true≢false (sym some ∙ ap begins_run
 open_run s (inr (inr (inl e))) some = absurd (true≢false (sym some ∙ ap begins_run e))
 open_run s (inr (inr (inr run))) some = run.1
 
-pub finished_run : (h : Bool) (s : List ℕ) → IsOpen s → begins_run s ≡ true → replacement h s ≡ filtered h s
-finished_run h s is some = sym (filtered_whole h s some (open_run s is some))
+pub finished_run : (f : List ℕ → List ℕ) (s : List ℕ) → IsOpen s → begins_run s ≡ true → f s ≡ filtered_by f zero s
+finished_run f s is some = sym (filtered_whole f s some (open_run s is some))
 
-pub finished_kept : (h : Bool) (s : List ℕ) → IsOpen s → begins_run s ≡ false → s ≡ filtered h s
-unfolding filtered_from
-finished_kept h s (inl e) none = e ∙ sym (ap (filtered h) e)
-finished_kept h s (inr (inl e)) none = e ∙ sym (ap (filtered h) e)
-finished_kept h s (inr (inr (inl e))) none = e ∙ sym (ap (filtered h) e)
-finished_kept h s (inr (inr (inr run))) none = absurd (true≢false (sym run.0 ∙ none))
+pub finished_kept : (f : List ℕ → List ℕ) (s : List ℕ) → IsOpen s → begins_run s ≡ false → s ≡ filtered_by f zero s
+unfolding filtered_by
+finished_kept f s (inl e) none = e ∙ sym (ap (filtered_by f zero) e)
+finished_kept f s (inr (inl e)) none = e ∙ sym (ap (filtered_by f zero) e)
+finished_kept f s (inr (inr (inl e))) none = e ∙ sym (ap (filtered_by f zero) e)
+finished_kept f s (inr (inr (inr run))) none = absurd (true≢false (sym run.0 ∙ none))
 
 -- a run that goes on is one
 pub more_run : (a s : List ℕ) (n : ℕ) → begins_run a ≡ true → list_all is_run a ≡ true → n ≡ prefix_len is_run s → (b : List ℕ) → b ≡ a ++ take n s
@@ -307,11 +307,11 @@ moved a b shown more n e =
     ∙ ap (λ l. l ++ (drop n shown ++ more)) (sym e)
 
 -- a carried run that ends in the shown bytes
-pub run_ended : (h : Bool) (a b next shown : List ℕ) (n : ℕ) (old new : Option (List ℕ)) → b ≡ a ++ take n shown → n ≡ prefix_len is_run shown → n < length shown → next ≡ []
-    → Appends old new (filtered h b) → (more : List ℕ) → Passed h (a ++ (shown ++ more)) (next ++ (drop n shown ++ more)) old new
-run_ended h a b next shown n old new e count lt none wrote more =
+pub run_ended : (f : List ℕ → List ℕ) (a b next shown : List ℕ) (n : ℕ) (old new : Option (List ℕ)) → b ≡ a ++ take n shown → n ≡ prefix_len is_run shown → n < length shown → next ≡ []
+    → Appends old new (filtered_by f zero b) → (more : List ℕ) → Passed (filtered_by f zero) (a ++ (shown ++ more)) (next ++ (drop n shown ++ more)) old new
+run_ended f a b next shown n old new e count lt none wrote more =
     let stop : NoRunFirst (drop n shown ++ more) = subst (λ m. NoRunFirst (drop m shown ++ more)) (sym count) (behind_prefix shown more (omega (arith, count))) in
-    passed_front h _ b _ old new (moved a b shown more n e ∙ ap (λ l. b ++ (l ++ (drop n shown ++ more))) (sym none)) (subst (λ l. NoRunFirst (l ++ (drop n shown ++ more))) (sym none) stop) wrote
+    passed_front f _ b _ old new (moved a b shown more n e ∙ ap (λ l. b ++ (l ++ (drop n shown ++ more))) (sym none)) (subst (λ l. NoRunFirst (l ++ (drop n shown ++ more))) (sym none) stop) wrote
 
 -- the beginning of a run does not go on
 pub not_on : (a : List ℕ) (c : ℕ) (more : List ℕ) → (length a ≡ 1 → ⊥) → (a ≡ codes "_") ⊎ (a ≡ codes "_Z") → eqb c 78 ≡ false → CutsNoRun a (c ∷ more)
@@ -368,44 +368,44 @@ far shown start some none more k lt =
     (λ e. absurd (omega (arith, ap length e, len, here, two)))
 
 -- a text up to a place, in front of which no run begins
-front_kept : (h : Bool) (a shown kept left : List ℕ) (n : ℕ) (old new : Option (List ℕ)) → a ≡ [] → kept ≡ take n shown → n ≤ length shown
+front_kept : (f : List ℕ → List ℕ) (a shown kept left : List ℕ) (n : ℕ) (old new : Option (List ℕ)) → a ≡ [] → kept ≡ take n shown → n ≤ length shown
     → ((more : List ℕ) (k : ℕ) → k < n → begins_run (drop k shown ++ more) ≡ false) → Appends old new kept
-    → (more : List ℕ) → left ≡ drop n shown ++ more → Passed h (a ++ (shown ++ more)) left old new
-front_kept h a shown kept left n old new nil front le none wrote more behind =
+    → (more : List ℕ) → left ≡ drop n shown ++ more → Passed (filtered_by f zero) (a ++ (shown ++ more)) left old new
+front_kept f a shown kept left n old new nil front le none wrote more behind =
     let held : a ++ (shown ++ more) ≡ shown ++ more = ap (λ l. l ++ (shown ++ more)) nil in
     let len : length kept ≡ n = ap length front ∙ length-take-le n shown le in
-    passed_kept h _ kept left old new
+    passed_kept f _ kept left old new
     (held ∙ ap (λ l. l ++ more) (sym (take-append-drop n shown)) ∙ append_assoc (take n shown) (drop n shown) more ∙ ap (λ l. l ++ (drop n shown ++ more)) (sym front) ∙ ap (λ l. kept ++ l) (sym behind))
     (λ k lt. ap (λ l. begins_run (drop k l)) held ∙ ap begins_run (drop-append-le k shown more (omega (arith, len))) ∙ none more k (omega (arith, len)))
     wrote
 
 -- the same, where what is behind the place is carried
-pub text_kept : (h : Bool) (a shown kept beginning next : List ℕ) (n : ℕ) (old new : Option (List ℕ)) → a ≡ [] → kept ≡ take n shown → beginning ≡ drop n shown
+pub text_kept : (f : List ℕ → List ℕ) (a shown kept beginning next : List ℕ) (n : ℕ) (old new : Option (List ℕ)) → a ≡ [] → kept ≡ take n shown → beginning ≡ drop n shown
     → next ≡ a ++ beginning → n ≤ length shown → ((more : List ℕ) (k : ℕ) → k < n → begins_run (drop k shown ++ more) ≡ false) → Appends old new kept
-    → (more : List ℕ) → Passed h (a ++ (shown ++ more)) (next ++ (drop (length shown) shown ++ more)) old new
-text_kept h a shown kept beginning next n old new nil front back carried le none wrote more =
-    front_kept h a shown kept _ n old new nil front le none wrote more
+    → (more : List ℕ) → Passed (filtered_by f zero) (a ++ (shown ++ more)) (next ++ (drop (length shown) shown ++ more)) old new
+text_kept f a shown kept beginning next n old new nil front back carried le none wrote more =
+    front_kept f a shown kept _ n old new nil front le none wrote more
     (ap (λ l. next ++ (l ++ more)) (drop_all (length shown) shown (omega arith)) ∙ ap (λ l. l ++ more) (carried ∙ ap (λ l. l ++ beginning) nil ∙ back))
 
 -- a run that ends in the shown bytes, and the text in front of it
-pub text_run : (h : Bool) (a shown kept found run : List ℕ) (start len : ℕ) (old mid new : Option (List ℕ)) → a ≡ [] → kept ≡ take start shown → found ≡ drop start shown
+pub text_run : (f : List ℕ → List ℕ) (a shown kept found run : List ℕ) (start len : ℕ) (old mid new : Option (List ℕ)) → a ≡ [] → kept ≡ take start shown → found ≡ drop start shown
     → run ≡ take len found → len ≡ prefix_len is_run found → len < length found
     → (start < length shown) × (begins_run (drop start shown) ≡ true) × ((k : ℕ) → k < start → begins_run (drop k shown) ≡ false)
-    → Appends old mid kept → Appends mid new (replacement h run)
-    → (more : List ℕ) → Passed h (a ++ (shown ++ more)) (a ++ (drop (start + len) shown ++ more)) old new
-text_run h a shown kept found run start len old mid new nil front back is count lt at first second more =
-    let one : Passed h (a ++ (shown ++ more)) (found ++ more) old mid = front_kept h a shown kept _ start old mid nil front (omega (arith, at.0)) (far shown start at.1 at.2) first more (ap (λ l. l ++ more) back) in
+    → Appends old mid kept → Appends mid new (f run)
+    → (more : List ℕ) → Passed (filtered_by f zero) (a ++ (shown ++ more)) (a ++ (drop (start + len) shown ++ more)) old new
+text_run f a shown kept found run start len old mid new nil front back is count lt at first second more =
+    let one : Passed (filtered_by f zero) (a ++ (shown ++ more)) (found ++ more) old mid = front_kept f a shown kept _ start old mid nil front (omega (arith, at.0)) (far shown start at.1 at.2) first more (ap (λ l. l ++ more) back) in
     let some : begins_run found ≡ true = ap begins_run back ∙ at.1 in
     let all : list_all is_run run ≡ true = ap (list_all is_run) (is ∙ ap (λ n. take n found) count) ∙ all_prefix found in
     let begins : begins_run run ≡ true = ap begins_run is ∙ run_begins found some len count in
     let left : a ++ (drop (start + len) shown ++ more) ≡ drop len found ++ more =
     ap (λ l. l ++ (drop (start + len) shown ++ more)) nil ∙ ap (λ l. l ++ more) (sym (drop-drop len start shown) ∙ ap (drop len) (sym back)) in
     let stop : NoRunFirst (drop len found ++ more) = subst (λ m. NoRunFirst (drop m found ++ more)) (sym count) (behind_prefix found more (omega (arith, count))) in
-    passed_trans h _ (found ++ more) _ old mid new one
-    (passed_front h (found ++ more) run _ mid new
+    passed_trans f _ (found ++ more) _ old mid new one
+    (passed_front f (found ++ more) run _ mid new
     (ap (λ l. l ++ more) (sym (take-append-drop len found)) ∙ append_assoc (take len found) (drop len found) more ∙ ap (λ l. l ++ (drop len found ++ more)) (sym is) ∙ ap (λ l. run ++ l) (sym left))
     (subst NoRunFirst (sym left) stop)
-    (subst (Appends mid new) (sym (filtered_whole h run begins all)) second))
+    (subst (Appends mid new) (sym (filtered_whole f run begins all)) second))
   where
     run_begins : (s : List ℕ) → begins_run s ≡ true → (n : ℕ) → n ≡ prefix_len is_run s → begins_run (take n s) ≡ true
     run_begins s some n count =
@@ -426,17 +426,19 @@ found_open a found next rest len nil carried back some count full =
     inr (inr (inr (ap begins_run (same ∙ back) ∙ some, ap (list_all is_run) same ∙ all_of_prefix found (sym count ∙ full))))
 
 -- one step, by what the reader showed and what was taken of it
-pub step_took : (h : Bool) (a next shown : List ℕ) (n : ℕ) (left rest old new : Option (List ℕ)) → IfSome left (λ xs. StartsWith xs shown)
-    → Consumes left rest (take n shown) → ((more : List ℕ) → Passed h (a ++ (shown ++ more)) (next ++ (drop n shown ++ more)) old new)
-    → StepTook h a next left rest old new
-step_took h a next shown n None rest old new front took passed = tt
-step_took h a next shown n (Some xs) None old new front took passed = absurd took
-step_took h a next shown n (Some xs) (Some ys) old new front took passed =
+pub step_took : (f : List ℕ → List ℕ) (a next shown : List ℕ) (n : ℕ) (left rest old new : Option (List ℕ)) → n ≤ length shown → length next < length a + 2 * n → IfSome left (λ xs. StartsWith xs shown)
+    → Consumes left rest (take n shown) → ((more : List ℕ) → Passed (filtered_by f zero) (a ++ (shown ++ more)) (next ++ (drop n shown ++ more)) old new)
+    → StepTook (filtered_by f zero) a next left rest old new
+step_took f a next shown n None rest old new le less front took passed = tt
+step_took f a next shown n (Some xs) None old new le less front took passed = absurd took
+step_took f a next shown n (Some xs) (Some ys) old new le less front took passed =
     let more = drop (length shown) xs in
     let whole : xs ≡ shown ++ more = starts_with_rest xs shown front in
     let rest : ys ≡ drop n shown ++ more = append_cancel_left (take n shown) ys (drop n shown ++ more)
     (sym took ∙ whole ∙ ap (λ l. l ++ more) (sym (take-append-drop n shown)) ∙ append_assoc (take n shown) (drop n shown) more) in
-    (ys, refl, subst (λ l. Passed h (a ++ l) (next ++ ys) old new) (sym whole) (subst (λ l. Passed h (a ++ (shown ++ more)) (next ++ l) old new) (sym rest) (passed more)))
+    let progress : length next + 2 * length ys < length a + 2 * length xs =
+    omega (arith, le, less, ap length whole, ap length rest, length-append shown more, length-append (drop n shown) more, length-drop n shown) in
+    (ys, refl, subst (λ l. Passed (filtered_by f zero) (a ++ l) (next ++ ys) old new) (sym whole) (subst (λ l. Passed (filtered_by f zero) (a ++ (shown ++ more)) (next ++ l) old new) (sym rest) (passed more)), progress)
 
 -- a run is ASCII
 ascii : (s : List ℕ) → list_all is_run s ≡ true → (i : ℕ) → get_or s i 0 < 128
@@ -448,46 +450,46 @@ pub run_utf8 : (run : List ℕ) → list_all is_run run ≡ true → IsUtf8 run
 run_utf8 run all = IsUtf8-from_ascii run (ascii run all)
 
 -- what was passed of the text that the reader held, and what is carried and left of it
-abbrev pub Passing : Bool → Option (List ℕ) → List ℕ → Option (List ℕ) → Option (List ℕ) → Option (List ℕ) → Type 0
-Passing h held carried left old new = IfSome held (λ text. (rest : List ℕ) × (left ≡ Some rest) × Passed h text (carried ++ rest) old new)
+abbrev pub Passing : (List ℕ → List ℕ) → Option (List ℕ) → List ℕ → Option (List ℕ) → Option (List ℕ) → Option (List ℕ) → Type 0
+Passing f held carried left old new = IfSome held (λ text. (rest : List ℕ) × (left ≡ Some rest) × Passed (filtered_by f zero) text (carried ++ rest) old new)
 
-pub passing_init : (h : Bool) (held : Option (List ℕ)) (carried : List ℕ) (old : Option (List ℕ)) → carried ≡ [] → Passing h held carried held old old
-passing_init h None carried old none = tt
-passing_init h (Some text) carried old none = (text, refl, passed_none h text _ old (ap (λ l. l ++ text) (sym none)))
+pub passing_init : (f : List ℕ → List ℕ) (held : Option (List ℕ)) (carried : List ℕ) (old : Option (List ℕ)) → carried ≡ [] → Passing f held carried held old old
+passing_init f None carried old none = tt
+passing_init f (Some text) carried old none = (text, refl, passed_none f text _ old (ap (λ l. l ++ text) (sym none)))
 
-pub passing_step : (h : Bool) (held : Option (List ℕ)) (carried next : List ℕ) (left rest old mid new : Option (List ℕ)) → Passing h held carried left old mid
-    → StepTook h carried next left rest mid new → Passing h held next rest old new
-passing_step h None carried next left rest old mid new p took = tt
-passing_step h (Some text) carried next left rest old mid new p took =
-    let q = MatchOption-at_some ⊤ (λ xs. (ys : List ℕ) × (rest ≡ Some ys) × Passed h (carried ++ xs) (next ++ ys) mid new) p.0 p.1 took in
-    (q.0, q.1, passed_trans h text (carried ++ p.0) _ old mid new p.2 q.2)
+pub passing_step : (f : List ℕ → List ℕ) (held : Option (List ℕ)) (carried next : List ℕ) (left rest old mid new : Option (List ℕ)) → Passing f held carried left old mid
+    → StepTook (filtered_by f zero) carried next left rest mid new → Passing f held next rest old new
+passing_step f None carried next left rest old mid new p took = tt
+passing_step f (Some text) carried next left rest old mid new p took =
+    let q = MatchOption-at_some ⊤ (λ xs. (ys : List ℕ) × (rest ≡ Some ys) × Passed (filtered_by f zero) (carried ++ xs) (next ++ ys) mid new × (length next + 2 * length ys < length carried + 2 * length xs)) p.0 p.1 took in
+    (q.0, q.1, passed_trans f text (carried ++ p.0) _ old mid new p.2 q.2)
 
-pub passing_end : (h : Bool) (held : Option (List ℕ)) (carried next : List ℕ) (left rest old mid new : Option (List ℕ)) → Passing h held carried left old mid
-    → StepEnded h carried next left rest mid new → IfSome held (λ text. (rest ≡ Some []) × Appends old new (filtered h text))
-passing_end h None carried next left rest old mid new p ended = tt
-passing_end h (Some text) carried next left rest old mid new p ended =
+pub passing_end : (f : List ℕ → List ℕ) (held : Option (List ℕ)) (carried next : List ℕ) (left rest old mid new : Option (List ℕ)) → Passing f held carried left old mid
+    → StepEnded (filtered_by f zero) carried next left rest mid new → IfSome held (λ text. (rest ≡ Some []) × Appends old new (filtered_by f zero text))
+passing_end f None carried next left rest old mid new p ended = tt
+passing_end f (Some text) carried next left rest old mid new p ended =
     let none = MatchOption-at_some ⊤ (λ xs. (xs ≡ []) × (rest ≡ Some [])) p.0 p.1 ended.0 in
     let passed = p.2 in
     let last : carried ++ p.0 ≡ carried = ap (λ l. carried ++ l) none.0 ∙ append-nil carried in
-    let whole : filtered h text ≡ filtered h passed.front ++ filtered h carried =
-    ap (filtered h) passed.whole ∙ filtered_split h passed.front (carried ++ p.0) passed.uncut ∙ ap (λ l. filtered h passed.front ++ filtered h l) last in
+    let whole : filtered_by f zero text ≡ filtered_by f zero passed.front ++ filtered_by f zero carried =
+    ap (filtered_by f zero) passed.whole ∙ filtered_split f passed.front (carried ++ p.0) passed.uncut ∙ ap (λ l. filtered_by f zero passed.front ++ filtered_by f zero l) last in
     (none.1, subst (Appends old new) (sym whole) (Appends-trans old mid new _ _ passed.wrote ended.2))
 
-stopped : (h : Bool) (text carried : List ℕ) (left old mid new : Option (List ℕ)) → Passing h (Some text) carried left old mid → new ≡ mid
-    → (rest : List ℕ) × Passed h text rest old new
-stopped h text carried left old mid new p same = (carried ++ p.0, subst (Passed h text (carried ++ p.0) old) (sym same) p.2)
+stopped : (f : List ℕ → List ℕ) (text carried : List ℕ) (left old mid new : Option (List ℕ)) → Passing f (Some text) carried left old mid → new ≡ mid
+    → (rest : List ℕ) × Passed (filtered_by f zero) text rest old new
+stopped f text carried left old mid new p same = (carried ++ p.0, subst (Passed (filtered_by f zero) text (carried ++ p.0) old) (sym same) p.2)
 
-pub passing_err : (fault : StreamFault) (h : Bool) (held : Option (List ℕ)) (carried next : List ℕ) (left rest old mid new : Option (List ℕ)) → Passing h held carried left old mid
-    → StepRefused fault carried next left rest mid new → IfSome held (λ text. BytesStopped fault text h old new)
-passing_err fault h None carried next left rest old mid new p refused = tt
-passing_err (Read e) h (Some text) carried next left rest old mid new p refused = let w = stopped h text carried left old mid new p refused.3 in (refused.0, w.0, w.1)
-passing_err NotUtf8 h (Some text) carried next left rest old mid new p refused = absurd refused
-passing_err (Write e) h (Some text) carried next left rest old mid new p refused = tt
-passing_err Memory h (Some text) carried next left rest old mid new p refused = stopped h text carried left old mid new p refused.2
+pub passing_err : (fault : StreamFault) (f : List ℕ → List ℕ) (held : Option (List ℕ)) (carried next : List ℕ) (left rest old mid new : Option (List ℕ)) → Passing f held carried left old mid
+    → StepRefused fault carried next left rest mid new → IfSome held (λ text. BytesStopped (filtered_by f zero) fault text old new)
+passing_err fault f None carried next left rest old mid new p refused = tt
+passing_err (Read e) f (Some text) carried next left rest old mid new p refused = let w = stopped f text carried left old mid new p refused.3 in (refused.0, w.0, w.1)
+passing_err NotUtf8 f (Some text) carried next left rest old mid new p refused = absurd refused
+passing_err (Write e) f (Some text) carried next left rest old mid new p refused = tt
+passing_err Memory f (Some text) carried next left rest old mid new p refused = stopped f text carried left old mid new p refused.2
 
 -- where there are too many steps, at the writer that a join of branches has
-pub passing_full : {W : Type 0} (contents : W → Option (List ℕ)) (e : Error) (h : Bool) (held : Option (List ℕ)) (carried : List ℕ) (left : Option (List ℕ)) (old new next : W)
-    → Passing h held carried left (contents old) (contents new) → (error_kind e ≡ OutOfMemory → ⊥) → next ≡ new
-    → IfSome held (λ text. BytesStopped (Read e) text h (contents old) (contents next))
-passing_full contents e h None carried left old new next p kind same = tt
-passing_full contents e h (Some text) carried left old new next p kind same = let w = stopped h text carried left (contents old) (contents new) (contents next) p (ap contents same) in (kind, w.0, w.1)
+pub passing_full : {W : Type 0} (contents : W → Option (List ℕ)) (e : Error) (f : List ℕ → List ℕ) (held : Option (List ℕ)) (carried : List ℕ) (left : Option (List ℕ)) (old new next : W)
+    → Passing f held carried left (contents old) (contents new) → (error_kind e ≡ OutOfMemory → ⊥) → next ≡ new
+    → IfSome held (λ text. BytesStopped (filtered_by f zero) (Read e) text (contents old) (contents next))
+passing_full contents e f None carried left old new next p kind same = tt
+passing_full contents e f (Some text) carried left old new next p kind same = let w = stopped f text carried left (contents old) (contents new) (contents next) p (ap contents same) in (kind, w.0, w.1)

@@ -10,7 +10,7 @@ use Rattle.demangle_symbol.specs.Digits.{number}
 use lib.Utf8.{scalar as is_scalar}
 use Rattle.rustc_demangle.specs.Stripped.{stripped, is_thin_lto}
 use Rattle.rustc_demangle.specs.Symbols.{IsSymbol, pieces_of, handed, printed, most_bytes}
-use Rattle.rustc_demangle.specs.Filtered.{is_run, begins_run, replacement, filtered_from, filtered}
+use Rattle.rustc_demangle.specs.Filtered.{is_run, begins_run, replacement, filtered_by, filtered}
 use Rattle.rustc_demangle.specs.Stream.{output_of}
 use Rattle.rustc_demangle.proofs.FilterLaws.{run_all}
 use Rattle.rustc_demangle.proofs.LineDivision.{lines_join}
@@ -257,8 +257,8 @@ feeds-run (c ∷ run) all = at (feeds-run run) (is_run c) refl all
     at behind false is rest = absurd (true≢false (sym rest))
 
 -- a line keeps its line feeds
-feeds-filtered : (h : Bool) (skip : ℕ) (s : List ℕ) → feeds (filtered_from h skip s) ≡ feeds (drop skip s)
-unfolding filtered_from
+feeds-filtered : (h : Bool) (skip : ℕ) (s : List ℕ) → feeds (filtered_by (replacement h) skip s) ≡ feeds (drop skip s)
+unfolding filtered_by
 feeds-filtered h zero [] = refl
 feeds-filtered h (suc skip) [] = refl
 feeds-filtered h (suc skip) (c ∷ s) = feeds-filtered h skip s
@@ -268,8 +268,8 @@ feeds-filtered h zero (c ∷ s) = elim (cases (begins_run (c ∷ s))) [
       let n = prefix_len is_run s in
       let clean : feeds run ≡ 0 = feeds-run run (ap (λ b. b && list_all is_run (take_while is_run s)) (ap is_run (first_of_run (c ∷ s) some)) ∙ run_all s) in
       let whole : feeds (c ∷ s) ≡ feeds run + feeds (drop n s) = ap (λ l. feeds (c ∷ l)) (sym (take-append-drop n s)) ∙ feeds-append run (drop n s) in
-      ap (λ b. feeds (turn h c s b)) some ∙ feeds-append (replacement h run) (filtered_from h n s) ∙ omega (arith, whole, clean, feeds-replacement h run clean, feeds-filtered h n s)
-  | inr none ↦ ap (λ b. feeds (turn h c s b)) none ∙ omega (arith, feeds-filtered h zero s)
+      ap (λ b. feeds (turn (replacement h) c s b)) some ∙ feeds-append (replacement h run) (filtered_by (replacement h) n s) ∙ omega (arith, whole, clean, feeds-replacement h run clean, feeds-filtered h n s)
+  | inr none ↦ ap (λ b. feeds (turn (replacement h) c s b)) none ∙ omega (arith, feeds-filtered h zero s)
 ]
 
 -- and so do all lines

@@ -9,7 +9,7 @@ use Rattle.std.proofs.lemmas.Bool.{true≢false}
 use Rattle.rustc_demangle.specs.Stripped.{stripped}
 use Rattle.rustc_demangle.specs.Symbols.{IsSymbol, pieces_of, printed}
 use Rattle.rustc_demangle.proofs.SymbolSteps.{symbol-pieces, pieces-symbol}
-use Rattle.rustc_demangle.specs.Filtered.{is_run, begins_run, HasNoStart, NoRunFirst, IsRun, StandsFor, AreReplaced, IsFiltered, replacement, filtered_from, filtered}
+use Rattle.rustc_demangle.specs.Filtered.{is_run, begins_run, HasNoStart, NoRunFirst, IsRun, StandsFor, AreReplaced, IsFiltered, replacement, filtered_by, filtered}
 use Rattle.rustc_demangle.proofs.RunSteps.{turn, filtered_other, filtered_run, filtered_all, begins_with, first_of_run, replacement-symbol, replacement-no_symbol}
 
 cases : (b : Bool) → (b ≡ true) ⊎ (b ≡ false)
@@ -66,7 +66,7 @@ tail_no_start c p none = λ before rest e. none (c ∷ before) rest (ap (λ l. c
 filtered-kept : (h : Bool) (p rest : List ℕ) → HasNoStart p → Starts rest → filtered h (p ++ rest) ≡ p ++ filtered h rest
 filtered-kept h [] rest none starts = refl
 filtered-kept h (c ∷ p) rest none starts =
-    filtered_other h c (p ++ rest) (no_start_append c p rest (none [] (c ∷ p) refl) starts)
+    filtered_other (replacement h) c (p ++ rest) (no_start_append c p rest (none [] (c ∷ p) refl) starts)
     ∙ ap (λ l. c ∷ l) (filtered-kept h p rest (tail_no_start c p none) starts)
 
 -- the run in front
@@ -82,7 +82,7 @@ run_len (c ∷ run) behind all stop = elim (cases (is_run c)) [
 filtered-run : (h : Bool) (run behind : List ℕ) → IsRun run behind → filtered h (run ++ behind) ≡ replacement h run ++ filtered h behind
 filtered-run h run behind is =
     let n = run_len run behind is.all is.longest in
-    filtered_run h (run ++ behind) (begins_append run behind is.begins)
+    filtered_run (replacement h) (run ++ behind) (begins_append run behind is.begins)
     ∙ ap (λ k. replacement h (take k (run ++ behind)) ++ filtered h (drop k (run ++ behind))) n
     ∙ ap (λ l. replacement h l ++ filtered h (drop (length run) (run ++ behind))) (take-append_seam run behind)
     ∙ ap (λ l. replacement h run ++ filtered h l) (drop-append_seam run behind)
@@ -97,7 +97,7 @@ starts_of h ((run, kept) ∷ parts) line out is =
     inr (subst (λ l. begins_run l ≡ true) (sym is.3) (begins_append run (kept ++ is.0) is.5.begins))
 
 runs_only : (h : Bool) (parts : List (List ℕ × List ℕ)) (line out : List ℕ) → AreReplaced h parts line out → out ≡ filtered h line
-unfolding filtered_from
+unfolding filtered_by
 runs_only h [] line out is = is.1 ∙ sym (ap (filtered h) is.0)
 runs_only h ((run, kept) ∷ parts) line out is =
     let rest_is : is.2 ≡ filtered h is.0 = runs_only h parts is.0 is.2 is.8 in
@@ -208,14 +208,14 @@ replace h c s out some is = record {
       longest = subst NoRunFirst is.whole (run_stops s);
     }
 
-from : (h : Bool) (skip : ℕ) (s : List ℕ) → IsFiltered h (drop skip s) (filtered_from h skip s)
-unfolding filtered_from
+from : (h : Bool) (skip : ℕ) (s : List ℕ) → IsFiltered h (drop skip s) (filtered_by (replacement h) skip s)
+unfolding filtered_by
 from h zero [] = nothing h
 from h (suc skip) [] = nothing h
 from h (suc skip) (c ∷ s) = from h skip s
 from h zero (c ∷ s) = elim (cases (begins_run (c ∷ s))) [
-  | inl some ↦ subst (IsFiltered h (c ∷ s)) (sym (ap (turn h c s) some)) (replace h c s (filtered_from h (prefix_len is_run s) s) some (from h (prefix_len is_run s) s))
-  | inr none ↦ subst (IsFiltered h (c ∷ s)) (sym (ap (turn h c s) none)) (keep h c s (filtered_from h zero s) none (from h zero s))
+  | inl some ↦ subst (IsFiltered h (c ∷ s)) (sym (ap (turn (replacement h) c s) some)) (replace h c s (filtered_by (replacement h) (prefix_len is_run s) s) some (from h (prefix_len is_run s) s))
+  | inr none ↦ subst (IsFiltered h (c ∷ s)) (sym (ap (turn (replacement h) c s) none)) (keep h c s (filtered_by (replacement h) zero s) none (from h zero s))
 ]
 
 -- what is computed is what the division gives, and nothing else is
@@ -224,4 +224,4 @@ filtered_is h line out = (λ e. subst (IsFiltered h line) (sym e) (from h zero l
 
 -- a text without a run passes
 pub passes : (h : Bool) (line : List ℕ) → HasNoStart line → filtered h line ≡ line
-passes h line none = filtered_all h line (λ k lt. none (take k line) (drop k line) (sym (take-append-drop k line)))
+passes h line none = filtered_all (replacement h) line (λ k lt. none (take k line) (drop k line) (sym (take-append-drop k line)))

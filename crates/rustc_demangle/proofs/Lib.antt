@@ -5,10 +5,12 @@ pub mod FilterLaws
 pub mod ItemFeeds
 pub mod LineDivision
 pub mod LineLaws
+pub mod PieceSteps
 pub mod PrintingLaws
 pub mod SchemeLaws
 pub mod Searches
 pub mod RunSteps
+pub mod SliceSteps
 pub mod StreamSteps
 pub mod StripLaws
 pub mod Stripping
@@ -18,4 +20,5 @@ pub mod SymbolSteps
 pub mod TableFeeds
 pub mod TextRows
 pub mod V0Feeds
+pub mod WholeText
 pub mod WordFeeds

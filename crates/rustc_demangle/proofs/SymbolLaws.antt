@@ -74,7 +74,7 @@ symbols_ascii bytes is = stripped_ascii bytes (symbol_ascii (stripped bytes) is)
 pub symbols_utf8 : (bytes : List ℕ) → IsSymbol (stripped bytes) → IsUtf8 bytes
 symbols_utf8 bytes is = IsUtf8-from_ascii bytes (symbols_ascii bytes is)
 
-length-concat : (pieces : List (List ℕ)) → length (concat pieces) ≡ size pieces
+pub length-concat : (pieces : List (List ℕ)) → length (concat pieces) ≡ size pieces
 length-concat [] = refl
 length-concat (piece ∷ pieces) = omega (arith, length-append piece (concat pieces), length-concat pieces)
 

@@ -3,7 +3,7 @@
 use Rattle.std.specs.Prelude.{◌≡◌, ℕ, true, false, List, [], ◌∷◌, ◌++◌, map, codes, refl}
 use Rattle.std.specs.Char.{encode_utf8}
 use Rattle.demangle_symbol.specs.Digits.{number}
-use Rattle.rustc_demangle.specs.Filtered.{filtered_from, filtered}
+use Rattle.rustc_demangle.specs.Filtered.{filtered_by, filtered}
 use Rattle.demangle_legacy.specs.Legacy.{inner_of, element_of, parts_within, parts_of, legacy_of}
 use Rattle.rustc_demangle.specs.Lines.{lines}
 use Rattle.rustc_demangle.specs.Stripped.{stripped, is_allowed}
@@ -50,5 +50,5 @@ with_hash : map (filtered true) texts ≡
     codes "_Z _ZN_ _R" ∷
     codes "<foo::h05af221e174051e9>" ∷
     []
-unfolding filtered_from stripped number inner_of element_of parts_within parts_of legacy_of escape_of_digits escape_of leading_unit pieces_from unescaped shown_elements encode_utf8 v0_in v0_of
+unfolding filtered_by stripped number inner_of element_of parts_within parts_of legacy_of escape_of_digits escape_of leading_unit pieces_from unescaped shown_elements encode_utf8 v0_in v0_of
 with_hash = refl

@@ -1,11 +1,11 @@
--- What is known of a text of any bytes that is filtered part by part.
-use Rattle.std.specs.Prelude.{◌≡◌, ◌<◌, ◌⊎◌, ℕ, List, Bool, true, [], ◌++◌, codes, length, drop, Some, IfSome}
+-- What is known of a text of any bytes that a filter passes part by part.
+use Rattle.std.specs.Prelude.{◌≡◌, ◌+◌, ◌*◌, ◌<◌, ◌⊎◌, ℕ, List, true, [], ◌++◌, codes, length, drop, Some, IfSome}
 use Rattle.std.specs.List.{list_all}
 use Rattle.std.specs.declared.option.Option.{Option}
 use Rattle.std.specs.declared.io.ErrorKind.TheVariants.{OutOfMemory}
 use Rattle.std.specs.IoError.{error_kind}
 use Rattle.std.specs.Io.KnownBytes.{Appends, Keeps}
-use Rattle.rustc_demangle.specs.Filtered.{is_run, begins_run, NoRunFirst, filtered}
+use Rattle.rustc_demangle.specs.Filtered.{is_run, begins_run, NoRunFirst}
 use Rattle.rustc_demangle.specs.declared.stream.fault.StreamFault.{StreamFault}
 use Rattle.rustc_demangle.specs.declared.stream.fault.StreamFault.TheVariants.{Read, NotUtf8, Write, Memory}
 
@@ -18,17 +18,17 @@ CutsNoRun front rest = (before run : List ℕ) → front ≡ before ++ run → 0
 abbrev pub IsOpen : List ℕ → Type 0
 IsOpen text = (text ≡ []) ⊎ (text ≡ codes "_") ⊎ (text ≡ codes "_Z") ⊎ ((begins_run text ≡ true) × (list_all is_run text ≡ true))
 
--- `held` is a front that cuts no run, and then `left`; the writer's bytes grew by what the filter gives for that front, and by nothing else
-pub record Passed (hash : Bool) (held left : List ℕ) (old new : Option (List ℕ)) : Type 0 where
+-- `held` is a front that cuts no run, and then `left`; the writer's bytes grew by what `filter` gives for that front, and by nothing else
+pub record Passed (filter : List ℕ → List ℕ) (held left : List ℕ) (old new : Option (List ℕ)) : Type 0 where
   pub front : List ℕ
   pub whole : held ≡ front ++ left
   pub uncut : CutsNoRun front left
-  pub wrote : Appends old new (filtered hash front)
+  pub wrote : Appends old new (filter front)
 
 -- the same, whatever follows the bytes that a reader shows, of which the first n are taken
-abbrev pub PassedIn : Bool → List ℕ → List ℕ → List ℕ → ℕ → Option (List ℕ) → Option (List ℕ) → Type 0
-PassedIn hash carried shown next n old new =
-    (more : List ℕ) → Passed hash (carried ++ (shown ++ more)) (next ++ (drop n shown ++ more)) old new
+abbrev pub PassedIn : (List ℕ → List ℕ) → List ℕ → List ℕ → List ℕ → ℕ → Option (List ℕ) → Option (List ℕ) → Type 0
+PassedIn filter carried shown next n old new =
+    (more : List ℕ) → Passed filter (carried ++ (shown ++ more)) (next ++ (drop n shown ++ more)) old new
 
 -- it is a fault of the writer
 abbrev pub IsWriting : StreamFault → Type 0
@@ -51,17 +51,18 @@ StepRefused NotUtf8 carried next left rest old new = ⊥
 StepRefused (Write e) carried next left rest old new = Unit {0}
 StepRefused Memory carried next left rest old new = (next ≡ carried) × Keeps left rest × (new ≡ old)
 
--- a step took what the reader showed: of the carried text and the reader's bytes a front that cuts no run was filtered, and the rest is carried or left
-abbrev pub StepTook : Bool → List ℕ → List ℕ → Option (List ℕ) → Option (List ℕ) → Option (List ℕ) → Option (List ℕ) → Type 0
-StepTook hash carried next left rest old new = IfSome left (λ xs. (ys : List ℕ) × (rest ≡ Some ys) × Passed hash (carried ++ xs) (next ++ ys) old new)
+-- a step took what the reader showed: of the carried text and the reader's bytes a front that cuts no run was filtered, and the rest is carried or left; what is left of the reader, counted twice, and what is carried became less together, so steps end
+abbrev pub StepTook : (List ℕ → List ℕ) → List ℕ → List ℕ → Option (List ℕ) → Option (List ℕ) → Option (List ℕ) → Option (List ℕ) → Type 0
+StepTook filter carried next left rest old new = IfSome left (λ xs. (ys : List ℕ) × (rest ≡ Some ys) × Passed filter (carried ++ xs) (next ++ ys) old new
+    × (length next + 2 * length ys < length carried + 2 * length xs))
 
 -- nothing was left, and the carried text was filtered
-abbrev pub StepEnded : Bool → List ℕ → List ℕ → Option (List ℕ) → Option (List ℕ) → Option (List ℕ) → Option (List ℕ) → Type 0
-StepEnded hash carried next left rest old new = IfSome left (λ xs. (xs ≡ []) × (rest ≡ Some [])) × (next ≡ []) × Appends old new (filtered hash carried)
+abbrev pub StepEnded : (List ℕ → List ℕ) → List ℕ → List ℕ → Option (List ℕ) → Option (List ℕ) → Option (List ℕ) → Option (List ℕ) → Type 0
+StepEnded filter carried next left rest old new = IfSome left (λ xs. (xs ≡ []) × (rest ≡ Some [])) × (next ≡ []) × Appends old new (filter carried)
 
 -- what holds after a fault: the writer's bytes grew by what the filter gives for a front of the text that cuts no run
-abbrev pub BytesStopped : StreamFault → List ℕ → Bool → Option (List ℕ) → Option (List ℕ) → Type 0
-BytesStopped (Read e) text hash old new = (error_kind e ≡ OutOfMemory → ⊥) × (left : List ℕ) × Passed hash text left old new
-BytesStopped NotUtf8 text hash old new = ⊥
-BytesStopped (Write e) text hash old new = Unit {0}
-BytesStopped Memory text hash old new = (left : List ℕ) × Passed hash text left old new
+abbrev pub BytesStopped : (List ℕ → List ℕ) → StreamFault → List ℕ → Option (List ℕ) → Option (List ℕ) → Type 0
+BytesStopped filter (Read e) text old new = (error_kind e ≡ OutOfMemory → ⊥) × (left : List ℕ) × Passed filter text left old new
+BytesStopped filter NotUtf8 text old new = ⊥
+BytesStopped filter (Write e) text old new = Unit {0}
+BytesStopped filter Memory text old new = (left : List ℕ) × Passed filter text left old new

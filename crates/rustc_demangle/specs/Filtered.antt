@@ -1,10 +1,10 @@
 -- A line with its symbols demangled.
 use Rattle.std.specs.Prelude.{◌≡◌, ℕ, zero, suc, Bool, true, false, ◌||◌, ◌==◌, ◌⊎◌, nat_eq, List, [], ◌∷◌, ◌++◌, codes}
-use Rattle.std.specs.List.{starts_with, prefix_len, take_while, list_all}
+use Rattle.std.specs.List.{starts_with, prefix_len, take_while, list_all, concat}
 use Rattle.std.specs.Option.{option_map_or}
 use Rattle.std.specs.Char.{is_ascii_alphanumeric}
 use Rattle.rustc_demangle.specs.Stripped.{stripped}
-use Rattle.rustc_demangle.specs.Symbols.{IsSymbol, pieces_of, printed}
+use Rattle.rustc_demangle.specs.Symbols.{IsSymbol, pieces_of, handed, printed, most_bytes}
 
 -- `$`, `.`, `_`, an ASCII letter or an ASCII digit
 abbrev pub is_run : ℕ → Bool
@@ -52,19 +52,27 @@ pub record IsFiltered (hash : Bool) (line out : List ℕ) : Type 0 where
   pub no_start : HasNoStart kept
   pub runs : AreReplaced hash parts rest rest_out
 
--- what stands for a run, computed
-abbrev pub replacement : Bool → List ℕ → List ℕ
-replacement hash run = option_map_or (λ _. printed (stripped run) hash) (pieces_of hash (stripped run)) run
+-- what stands for a run, computed: what its symbol prints within the limit, if it is one, else the whole run
+abbrev pub replacement_within : Bool → ℕ → List ℕ → List ℕ
+replacement_within hash limit run = option_map_or (λ _. concat (handed (stripped run) hash limit)) (pieces_of hash (stripped run)) run
 
--- the line behind its first `skip` bytes, with what stands for each run
-unfoldable pub filtered_from : Bool → ℕ → List ℕ → List ℕ
-filtered_from hash skip [] = []
-filtered_from hash (suc skip) (c ∷ s) = filtered_from hash skip s
-filtered_from hash zero (c ∷ s) = elim (begins_run (c ∷ s)) [
-  | true ↦ replacement hash (c ∷ take_while is_run s) ++ filtered_from hash (prefix_len is_run s) s
-  | false ↦ c ∷ filtered_from hash zero s
+-- the same within the limit of every call that takes none
+abbrev pub replacement : Bool → List ℕ → List ℕ
+replacement hash run = replacement_within hash most_bytes run
+
+-- the line behind its first `skip` bytes, with what stands for each run by such a function
+unfoldable pub filtered_by : (List ℕ → List ℕ) → ℕ → List ℕ → List ℕ
+filtered_by stands skip [] = []
+filtered_by stands (suc skip) (c ∷ s) = filtered_by stands skip s
+filtered_by stands zero (c ∷ s) = elim (begins_run (c ∷ s)) [
+  | true ↦ stands (c ∷ take_while is_run s) ++ filtered_by stands (prefix_len is_run s) s
+  | false ↦ c ∷ filtered_by stands zero s
 ]
+
+-- any bytes with what stands for each run within a limit for each symbol
+abbrev pub filtered_within : Bool → ℕ → List ℕ → List ℕ
+filtered_within hash limit = filtered_by (replacement_within hash limit) zero
 
 -- the one `out` with `IsFiltered hash line out`
 abbrev pub filtered : Bool → List ℕ → List ℕ
-filtered hash line = filtered_from hash zero line
+filtered hash = filtered_within hash most_bytes

@@ -4,6 +4,7 @@ pub mod Symbols
 pub mod Hashes
 pub mod Lines
 pub mod Filtered
+pub mod Pieces
 pub mod Stream
 pub mod Bytes
 -- and of demangle_sink

@@ -7,16 +7,23 @@ ghost use Rattle.rustc_demangle.specs.Symbols.{IsSymbol};
 
 mod display;
 pub mod laws;
+mod runs;
 pub mod sink;
+mod slice;
 mod stream;
 mod strip;
+mod text;
 mod value;
 
 pub use demangle_symbol::cursor::Looks;
+pub use runs::{run_len, run_start};
+pub use slice::demangle_slice;
 pub use stream::{
-    BytesFilter, StreamFault, demangle_bytes, demangle_stream, demangle_stream_named,
+    BytesFilter, StreamFault, demangle_bytes, demangle_bytes_limited, demangle_stream,
+    demangle_stream_named,
 };
 use strip::without_thin_lto;
+pub use text::{demangle_text, demangle_text_limited};
 pub use value::Demangle;
 
 /// The refusal of a text that is no Rust symbol.

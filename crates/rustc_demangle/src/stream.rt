@@ -14,7 +14,7 @@ mod reading;
 #[cfg(test)]
 mod tests;
 
-pub use bytes::{BytesFilter, demangle_bytes};
+pub use bytes::{BytesFilter, demangle_bytes, demangle_bytes_limited};
 pub use fault::StreamFault;
 use line::demangle_line;
 use reading::read_line;

@@ -101,7 +101,7 @@ impl<'a> Demangle<'a> {
     }
 
     /// Prints into a sink, by what it was handed.
-    fn hand_over<S: TextSink>(
+    pub(crate) fn hand_over<S: TextSink>(
         &self,
         out: &mut S,
         include_hash: bool,

@@ -1,8 +1,9 @@
 //! What the lines of a text are, and what is written for them.
 ghost use Rattle.std.specs.Prelude.{◌≡◌, ◌↔◌, ◌++◌, ℕ, List, Bool, Some, OnOk, IfErr, IsUtf8};
 ghost use Rattle.std.specs.List.{concat};
-ghost use Rattle.rustc_demangle.specs.Filtered.{HasNoStart, IsFiltered, filtered};
+ghost use Rattle.rustc_demangle.specs.Filtered.{HasNoStart, IsFiltered, filtered, filtered_within};
 ghost use Rattle.rustc_demangle.specs.Lines.{lines, feeds, OnlyLines};
+ghost use Rattle.rustc_demangle.specs.Pieces.{filtered_pieces};
 ghost use Rattle.rustc_demangle.specs.Stream.{output_of, Stopped};
 ghost use Rattle.rustc_demangle.specs.Symbols.{handed};
 
@@ -20,6 +21,19 @@ pub fn lines_are_the_only_division()
 pub fn filtered_is_the_only_text()
     ensures { (hash : Bool) → (line out : List ℕ) →
         (out ≡ filtered hash line) ↔ IsFiltered hash line out }
+{}
+
+/// The pieces of a text, joined, are the text filtered under the limit.
+#[tactic(auto, using(crate::proofs::PieceSteps::pieces_join))]
+pub fn pieces_join_to_the_filtered_text()
+    ensures { (hash : Bool) → (limit : ℕ) → (text : List ℕ) →
+        concat (filtered_pieces hash limit text) ≡ filtered_within hash limit text }
+{}
+
+/// A text that is filtered whole is its lines, each filtered.
+#[tactic(auto, using(crate::proofs::WholeText::whole_is_lines))]
+pub fn text_is_filtered_by_lines()
+    ensures { (hash : Bool) → (text : List ℕ) → filtered hash text ≡ output_of hash (lines text) }
 {}
 
 /// A line without `_ZN` and `_R` passes unchanged.

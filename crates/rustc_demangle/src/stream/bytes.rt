@@ -1,11 +1,12 @@
 //! The demangling of any bytes that come from a reader.
 ghost use Rattle.std.specs.Prelude.{◌≡◌, List, ℕ, [], true, false, Ok, Some, IfSome, OnOk, IfErr};
 ghost use Rattle.std.specs.Io.KnownBytes.{Appends};
-ghost use Rattle.rustc_demangle.specs.Filtered.{filtered};
+ghost use Rattle.rustc_demangle.specs.Filtered.{filtered, filtered_within};
 ghost use Rattle.rustc_demangle.specs.Bytes.{IsOpen, StepTook, StepEnded, StepRefused, BytesStopped};
 
 use crate::stream::carrying::{finish, take_some};
 use crate::stream::fault::{StreamFault, read_fault};
+use crate::value::MAX_SIZE;
 use std::alloc::{Allocator, Global};
 use std::io;
 use std::io::{BufRead, Write};
@@ -35,21 +36,24 @@ impl<A: Allocator> BytesFilter<A> {
         }
     }
 
-    /// Takes some of the bytes that the reader shows and writes what is known, or answers `false`
-    /// at the end of the input, where it writes what stands for the carried run.
+    /// Takes some of the bytes that the reader shows and writes what is known of them, with each
+    /// symbol cut at `limit` bytes before its suffix; or answers `false` at the end of the input,
+    /// where it writes what stands for the carried run.
     ///
-    /// Nothing is taken and nothing written where the reader or the memory refuses it.
-    pub fn step<R: BufRead, W: Write>(
+    /// Where the reader or the memory refuses it, nothing is taken and nothing written: the same
+    /// step can be made again, as after a read that was interrupted.
+    pub fn step_limited<R: BufRead, W: Write>(
         &mut self,
         input: &mut R,
         output: &mut W,
         include_hash: bool,
+        limit: usize,
     ) -> Result<bool, StreamFault>
-        ensures took { result ≡ Ok true → StepTook include_hash self.old self.new
-            (R.remaining input.old) (R.remaining input.new)
+        ensures took { result ≡ Ok true → StepTook (filtered_within include_hash limit)
+            self.old self.new (R.remaining input.old) (R.remaining input.new)
             (W.contents output.old) (W.contents output.new) }
-        ensures ended { result ≡ Ok false → StepEnded include_hash self.old self.new
-            (R.remaining input.old) (R.remaining input.new)
+        ensures ended { result ≡ Ok false → StepEnded (filtered_within include_hash limit)
+            self.old self.new (R.remaining input.old) (R.remaining input.new)
             (W.contents output.old) (W.contents output.new) }
         ensures refused { IfErr result (λ fault. StepRefused fault self.old self.new
             (R.remaining input.old) (R.remaining input.new)
@@ -60,12 +64,32 @@ impl<A: Allocator> BytesFilter<A> {
             Err(error) => return Err(read_fault(error)),
         };
         if shown.is_empty() {
-            finish(&mut self.carried, output, include_hash)?;
+            finish(&mut self.carried, output, include_hash, limit)?;
             return Ok(false);
         }
-        let taken = take_some(&mut self.carried, shown, output, include_hash)?;
+        let taken = take_some(&mut self.carried, shown, output, include_hash, limit)?;
         input.consume(taken);
         Ok(true)
+    }
+
+    /// Takes a step as `step_limited` does, with each symbol cut at 1,000,000 bytes.
+    pub fn step<R: BufRead, W: Write>(
+        &mut self,
+        input: &mut R,
+        output: &mut W,
+        include_hash: bool,
+    ) -> Result<bool, StreamFault>
+        ensures took { result ≡ Ok true → StepTook (filtered include_hash) self.old self.new
+            (R.remaining input.old) (R.remaining input.new)
+            (W.contents output.old) (W.contents output.new) }
+        ensures ended { result ≡ Ok false → StepEnded (filtered include_hash) self.old self.new
+            (R.remaining input.old) (R.remaining input.new)
+            (W.contents output.old) (W.contents output.new) }
+        ensures refused { IfErr result (λ fault. StepRefused fault self.old self.new
+            (R.remaining input.old) (R.remaining input.new)
+            (W.contents output.old) (W.contents output.new)) }
+    {
+        self.step_limited(input, output, include_hash, MAX_SIZE)
     }
 }
 
@@ -75,37 +99,66 @@ fn take_steps<R: BufRead, W: Write, A: Allocator>(
     input: &mut R,
     output: &mut W,
     include_hash: bool,
+    limit: usize,
 ) -> Result<(), StreamFault>
     requires { filter.old ≡ [] }
-    ensures ok { OnOk result (IfSome (R.remaining input.old) (λ text. (R.remaining input.new ≡ Some [])
-        × Appends (W.contents output.old) (W.contents output.new) (filtered include_hash text))) }
+    ensures ok { OnOk result (IfSome (R.remaining input.old) (λ text.
+        (R.remaining input.new ≡ Some []) × Appends (W.contents output.old) (W.contents output.new)
+        (filtered_within include_hash limit text))) }
     ensures err { IfErr result (λ fault. IfSome (R.remaining input.old) (λ text.
-        BytesStopped fault text include_hash (W.contents output.old) (W.contents output.new))) }
+        BytesStopped (filtered_within include_hash limit) fault text
+        (W.contents output.old) (W.contents output.new))) }
 {
     for _ in 0..=u64::MAX {
-        if !filter.step(input, output, include_hash)? {
+        if !filter.step_limited(input, output, include_hash, limit)? {
             return Ok(());
         }
     }
     Err(StreamFault::Read(io::Error::other("too many steps")))
 }
 
-/// Writes the input, which may be any bytes, with each symbol of it demangled.
+/// Writes the input, which may be any bytes, with each symbol of it demangled and cut at `limit`
+/// bytes before its suffix.
 ///
 /// A symbol is looked for where `_ZN` or `_R` stands, up to the next byte that is no ASCII letter,
-/// no digit and none of `$`, `.` and `_`. What is no symbol is written as it was. Only a run that
-/// the bytes so far end with is kept.
+/// no digit and none of `$`, `.` and `_`. What is no symbol is written as it was. It reads by the
+/// reader's fillings and not by lines: what a filling has between two such runs is written as it
+/// lies there, and only a run that the bytes so far end with is kept in memory.
+///
+/// It is refused where the reader or the writer answers an error, and where the buffer of the run
+/// is refused memory, and never for want of UTF-8.
+pub fn demangle_bytes_limited<R: BufRead, W: Write>(
+    alloc: Global,
+    input: &mut R,
+    output: &mut W,
+    include_hash: bool,
+    limit: usize,
+) -> Result<(), StreamFault>
+    ensures ok { OnOk result (IfSome (R.remaining input.old) (λ text.
+        (R.remaining input.new ≡ Some []) × Appends (W.contents output.old) (W.contents output.new)
+        (filtered_within include_hash limit text))) }
+    ensures err { IfErr result (λ fault. IfSome (R.remaining input.old) (λ text.
+        BytesStopped (filtered_within include_hash limit) fault text
+        (W.contents output.old) (W.contents output.new))) }
+{
+    let mut filter = BytesFilter::new(alloc);
+    take_steps(&mut filter, input, output, include_hash, limit)
+}
+
+/// Writes the input, which may be any bytes, with each symbol of it demangled, as
+/// `demangle_bytes_limited` does, and cut at 1,000,000 bytes.
 pub fn demangle_bytes<R: BufRead, W: Write>(
     alloc: Global,
     input: &mut R,
     output: &mut W,
     include_hash: bool,
 ) -> Result<(), StreamFault>
-    ensures ok { OnOk result (IfSome (R.remaining input.old) (λ text. (R.remaining input.new ≡ Some [])
-        × Appends (W.contents output.old) (W.contents output.new) (filtered include_hash text))) }
+    ensures ok { OnOk result (IfSome (R.remaining input.old) (λ text.
+        (R.remaining input.new ≡ Some []) × Appends (W.contents output.old) (W.contents output.new)
+        (filtered include_hash text))) }
     ensures err { IfErr result (λ fault. IfSome (R.remaining input.old) (λ text.
-        BytesStopped fault text include_hash (W.contents output.old) (W.contents output.new))) }
+        BytesStopped (filtered include_hash) fault text
+        (W.contents output.old) (W.contents output.new))) }
 {
-    let mut filter = BytesFilter::new(alloc);
-    take_steps(&mut filter, input, output, include_hash)
+    demangle_bytes_limited(alloc, input, output, include_hash, MAX_SIZE)
 }

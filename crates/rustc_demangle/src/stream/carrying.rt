@@ -1,15 +1,15 @@
-//! A text of any bytes, filtered part by part: what is known is written, an carried run is kept.
-ghost use Rattle.std.specs.Prelude.{◌≡◌, ◌∷◌, ◌++◌, ◌+◌, ◌-◌, ◌<◌, ◌≤◌, ◌⊎◌, ℕ, List, [], true, false, codes, drop, take, length, IsTrue, IfOk, OnOk, IfErr, OnErr};
+//! Any bytes, filtered part by part: what is known is written, and an open run is carried.
+ghost use Rattle.std.specs.Prelude.{◌≡◌, ◌∷◌, ◌++◌, ◌+◌, ◌-◌, ◌*◌, ◌<◌, ◌≤◌, ◌⊎◌, ℕ, List, [], true, false, codes, drop, take, length, IsTrue, IfOk, OnOk, IfErr, OnErr};
 ghost use Rattle.std.specs.List.{list_all};
 ghost use Rattle.std.specs.Io.KnownBytes.{Appends};
-ghost use Rattle.rustc_demangle.specs.Filtered.{is_run, begins_run, replacement, filtered};
+ghost use Rattle.rustc_demangle.specs.Filtered.{is_run, begins_run, replacement_within, filtered_within};
 ghost use Rattle.rustc_demangle.specs.Bytes.{CutsNoRun, IsOpen, PassedIn, IsWriting, TakeRefused};
 
+use crate::runs::{begins_run, run_len, run_start, run_text};
 use crate::stream::fault::StreamFault;
-use crate::stream::line::{begins_run, run_len, run_start, write_run};
+use crate::stream::line::write_run;
 use std::alloc::Allocator;
 use std::io::Write;
-use std::str;
 
 /// Writes bytes by one call of the writer, and none by none.
 fn keep_bytes<W: Write>(bytes: &[u8], output: &mut W) -> Result<(), StreamFault>
@@ -26,36 +26,38 @@ fn keep_bytes<W: Write>(bytes: &[u8], output: &mut W) -> Result<(), StreamFault>
 }
 
 /// Writes what stands for a run.
-fn pass_run<W: Write>(run: &[u8], output: &mut W, include_hash: bool) -> Result<(), StreamFault>
+fn pass_run<W: Write>(
+    run: &[u8],
+    output: &mut W,
+    include_hash: bool,
+    limit: usize,
+) -> Result<(), StreamFault>
     requires { list_all is_run run.now ≡ true }
-    ensures ok { OnOk result (Appends
-        (W.contents output.old) (W.contents output.new) (replacement include_hash run.now)) }
+    ensures ok { OnOk result (Appends (W.contents output.old) (W.contents output.new)
+        (replacement_within include_hash limit run.now)) }
     ensures named { IfErr result IsWriting }
 {
-    let Ok(text) = str::from_utf8(run) else {
-        // A run is ASCII.
-        return keep_bytes(run, output);
-    };
-    match write_run(text, output, include_hash) {
+    match write_run(run_text(run), output, include_hash, limit) {
         Ok(()) => Ok(()),
         Err(error) => Err(StreamFault::Write(error)),
     }
 }
 
-/// Writes what the filter gives for an carried text, to which nothing more comes.
+/// Writes what the filter gives for a carried text, to which nothing more comes.
 pub(super) fn finish<W: Write, A: Allocator>(
     carried: &mut Vec<u8, A>,
     output: &mut W,
     include_hash: bool,
+    limit: usize,
 ) -> Result<(), StreamFault>
     requires { IsOpen carried.old.items }
-    ensures ok { OnOk result (Appends
-        (W.contents output.old) (W.contents output.new) (filtered include_hash carried.old.items)) }
+    ensures ok { OnOk result (Appends (W.contents output.old) (W.contents output.new)
+        (filtered_within include_hash limit carried.old.items)) }
     ensures named { IfErr result IsWriting }
     ensures none { carried.new.items ≡ [] }
 {
     let written = if begins_run(carried.as_slice()) {
-        pass_run(carried.as_slice(), output, include_hash)
+        pass_run(carried.as_slice(), output, include_hash, limit)
     } else {
         keep_bytes(carried.as_slice(), output)
     };
@@ -111,12 +113,16 @@ fn take_byte<W: Write, A: Allocator>(
     shown: &[u8],
     output: &mut W,
     include_hash: bool,
+    limit: usize,
 ) -> Result<usize, StreamFault>
     requires some { 0 < length shown.now }
     requires beginning { (carried.old.items ≡ codes "_") ⊎ (carried.old.items ≡ codes "_Z") }
     ensures bound { IfOk result (λ n. n ≤ length shown.now) }
     ensures carried { IsOpen carried.new.items }
-    ensures ok { IfOk result (λ n. PassedIn include_hash carried.old.items shown.now carried.new.items n
+    ensures less { IfOk result (λ n.
+        length carried.new.items < length carried.old.items + 2 * n) }
+    ensures ok { IfOk result (λ n. PassedIn (filtered_within include_hash limit)
+        carried.old.items shown.now carried.new.items n
         (W.contents output.old) (W.contents output.new)) }
     ensures err { IfErr result (λ fault. TakeRefused fault carried.old.items carried.new.items
         (W.contents output.old) (W.contents output.new)) }
@@ -125,7 +131,7 @@ fn take_byte<W: Write, A: Allocator>(
         carry(carried, &shown[..1])?;
         return Ok(1);
     }
-    finish(carried, output, include_hash)?;
+    finish(carried, output, include_hash, limit)?;
     Ok(0)
 }
 
@@ -135,12 +141,17 @@ fn take_run<W: Write, A: Allocator>(
     shown: &[u8],
     output: &mut W,
     include_hash: bool,
+    limit: usize,
 ) -> Result<usize, StreamFault>
+    requires some { 0 < length shown.now }
     requires begun { begins_run carried.old.items ≡ true }
     requires all { list_all is_run carried.old.items ≡ true }
     ensures bound { IfOk result (λ n. n ≤ length shown.now) }
     ensures carried { IsOpen carried.new.items }
-    ensures ok { IfOk result (λ n. PassedIn include_hash carried.old.items shown.now carried.new.items n
+    ensures less { IfOk result (λ n.
+        length carried.new.items < length carried.old.items + 2 * n) }
+    ensures ok { IfOk result (λ n. PassedIn (filtered_within include_hash limit)
+        carried.old.items shown.now carried.new.items n
         (W.contents output.old) (W.contents output.new)) }
     ensures err { IfErr result (λ fault. TakeRefused fault carried.old.items carried.new.items
         (W.contents output.old) (W.contents output.new)) }
@@ -148,7 +159,7 @@ fn take_run<W: Write, A: Allocator>(
     let len = run_len(shown);
     carry(carried, &shown[..len])?;
     if len < shown.len() {
-        finish(carried, output, include_hash)?;
+        finish(carried, output, include_hash, limit)?;
     }
     Ok(len)
 }
@@ -159,11 +170,16 @@ fn take_text<W: Write, A: Allocator>(
     shown: &[u8],
     output: &mut W,
     include_hash: bool,
+    limit: usize,
 ) -> Result<usize, StreamFault>
-    requires { carried.old.items ≡ [] }
+    requires some { 0 < length shown.now }
+    requires none { carried.old.items ≡ [] }
     ensures bound { IfOk result (λ n. n ≤ length shown.now) }
     ensures carried { IsOpen carried.new.items }
-    ensures ok { IfOk result (λ n. PassedIn include_hash carried.old.items shown.now carried.new.items n
+    ensures less { IfOk result (λ n.
+        length carried.new.items < length carried.old.items + 2 * n) }
+    ensures ok { IfOk result (λ n. PassedIn (filtered_within include_hash limit)
+        carried.old.items shown.now carried.new.items n
         (W.contents output.old) (W.contents output.new)) }
     ensures err { IfErr result (λ fault. TakeRefused fault carried.old.items carried.new.items
         (W.contents output.old) (W.contents output.new)) }
@@ -182,7 +198,7 @@ fn take_text<W: Write, A: Allocator>(
         return Ok(shown.len());
     }
     keep_bytes(kept, output)?;
-    pass_run(&found[..len], output, include_hash)?;
+    pass_run(&found[..len], output, include_hash, limit)?;
     Ok(start + len)
 }
 
@@ -192,21 +208,25 @@ pub(super) fn take_some<W: Write, A: Allocator>(
     shown: &[u8],
     output: &mut W,
     include_hash: bool,
+    limit: usize,
 ) -> Result<usize, StreamFault>
     requires some { 0 < length shown.now }
     requires carried { IsOpen carried.old.items }
     ensures bound { IfOk result (λ n. n ≤ length shown.now) }
     ensures carried { IsOpen carried.new.items }
-    ensures ok { IfOk result (λ n. PassedIn include_hash carried.old.items shown.now carried.new.items n
+    ensures less { IfOk result (λ n.
+        length carried.new.items < length carried.old.items + 2 * n) }
+    ensures ok { IfOk result (λ n. PassedIn (filtered_within include_hash limit)
+        carried.old.items shown.now carried.new.items n
         (W.contents output.old) (W.contents output.new)) }
     ensures err { IfErr result (λ fault. TakeRefused fault carried.old.items carried.new.items
         (W.contents output.old) (W.contents output.new)) }
 {
     if carried.is_empty() {
-        return take_text(carried, shown, output, include_hash);
+        return take_text(carried, shown, output, include_hash, limit);
     }
     if begins_run(carried.as_slice()) {
-        return take_run(carried, shown, output, include_hash);
+        return take_run(carried, shown, output, include_hash, limit);
     }
-    take_byte(carried, shown, output, include_hash)
+    take_byte(carried, shown, output, include_hash, limit)
 }

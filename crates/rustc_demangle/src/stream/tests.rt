@@ -1,5 +1,5 @@
 //! The stream where memory is refused, and its faults as errors.
-use super::{StreamFault, copy_lines, demangle_stream};
+use super::{BytesFilter, StreamFault, copy_lines, demangle_stream};
 use linked_list_allocator::LocalHeap;
 use std::alloc::Global;
 use std::io;
@@ -171,6 +171,59 @@ fn each_request_for_memory_is_refused_once(rt: HostRuntime) -> Result<(), Fail> 
             assert!(rt; refusals.contains(request), "at {request}");
         }
     }
+    Ok(())
+}
+
+const RUNS: &[u8] = b"\xE9 _RC1a _ZN3fooE _ZN3foo3barE.a_long_suffix_that_wants_more \xE9";
+
+/// What is written of them in front of each run, and of all.
+const WRITTEN: [&[u8]; 4] = [
+    b"\xE9 ",
+    b"\xE9 a ",
+    b"\xE9 a foo ",
+    b"\xE9 a foo foo::bar.a_long_suffix_that_wants_more \xE9",
+];
+
+/// Which of these texts is written in a heap of this size, by fillings of a byte.
+fn written_in_heap(alloc: Global, size: usize) -> Result<usize, Fail> {
+    let heap = LocalHeap::new(alloc, size)?;
+    // As above, the first request is refused in the smallest heap.
+    let mut held = Vec::new(&heap);
+    held.push(0u8)?;
+    let mut filter = BytesFilter::new(&heap);
+    let mut input = WatchingReader::new(alloc, RUNS, &heap);
+    let mut output = Vec::new(alloc);
+    let mut is_whole = false;
+    for _ in 0..10_000u32 {
+        match filter.step(&mut input, &mut output, false) {
+            Ok(true) => {}
+            Ok(false) => {
+                is_whole = true;
+                break;
+            }
+            Err(StreamFault::Memory) => break,
+            Err(_) => return Err("it is another fault".into()),
+        }
+    }
+    for (at, text) in WRITTEN.iter().enumerate() {
+        if *text == output.as_slice() && is_whole == (at == 3) {
+            return Ok(at);
+        }
+    }
+    Err("it wrote something else".into())
+}
+
+#[test]
+fn memory_is_refused_to_an_open_run(rt: HostRuntime) -> Result<(), Fail> {
+    let mut is_written = [false; 4];
+    for units in 1..64usize {
+        let at = written_in_heap(rt.alloc(), units * 16)?;
+        if let Some(is_at) = is_written.get_mut(at) {
+            *is_at = true;
+        }
+    }
+    // The second run is no longer than the first, so it asks for no memory.
+    assert_eq!(rt; is_written, [true, false, true, true]);
     Ok(())
 }
 

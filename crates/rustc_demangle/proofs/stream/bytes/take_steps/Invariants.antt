@@ -1,6 +1,7 @@
+use Rattle.rustc_demangle.specs.Filtered.{replacement_within}
 use Rattle.rustc_demangle.proofs.BytesSteps.{Passing}
 use Rattle.rustc_demangle.proofs.stream.bytes.take_steps.Given as goal
 
 abbrev pub invariant-loop : goal.invariant-loop
-invariant-loop g l = Passing l.include_hash (g.R.Read.remaining l.initial.input) l.filter (g.R.Read.remaining l.input)
+invariant-loop g l = Passing (replacement_within l.include_hash l.limit) (g.R.Read.remaining l.initial.input) l.filter (g.R.Read.remaining l.input)
     (g.W.Write.contents l.initial.output) (g.W.Write.contents l.output)

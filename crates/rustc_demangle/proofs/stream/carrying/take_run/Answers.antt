@@ -1,4 +1,6 @@
-use Rattle.std.proofs.Common.{inr}
+use Rattle.std.proofs.Common.{inr, ap, arith, length, take}
+use Rattle.std.proofs.lemmas.List.{length-append, length-take}
+use Rattle.rustc_demangle.proofs.RunSteps.{run_some}
 use Rattle.rustc_demangle.proofs.BytesSteps.{more_run, run_ended, passed_none, moved}
 use Rattle.rustc_demangle.proofs.stream.carrying.take_run.Goals as goal
 
@@ -14,3 +16,10 @@ returns-else-len-shown-clause-carried g c = inr (inr (inr (more_run _ _ _ c.requ
 
 pub returns-else-len-shown-clause-ok : goal.returns-else-len-shown-clause-ok
 returns-else-len-shown-clause-ok g c = λ more. passed_none _ _ _ _ (moved _ _ _ more _ c.in_ok-carry.ensures.ok)
+
+pub returns-in_ok-finish-clause-less : goal.returns-in_ok-finish-clause-less
+returns-in_ok-finish-clause-less g c = omega (arith, ap length c.finish.ensures.none, (run_some c.args.carried.now.items c.requires.begun).0)
+
+pub returns-else-len-shown-clause-less : goal.returns-else-len-shown-clause-less
+returns-else-len-shown-clause-less g c =
+    omega (arith, c.requires.some, ap length c.in_ok-carry.ensures.ok, length-append c.args.carried.now.items (take c.run_len-len.result c.args.shown.now), length-take c.run_len-len.result c.args.shown.now)

@@ -1,6 +1,6 @@
 use Rattle.std.proofs.Common.{◌≡◌, ℕ, ◌-◌, ◌<◌, ◌≤◌, true, get_or, length}
 use Rattle.rustc_demangle.specs.Filtered.{is_run}
-use Rattle.rustc_demangle.proofs.stream.line.run_len.Given as goal
+use Rattle.rustc_demangle.proofs.runs.run_len.Given as goal
 
 abbrev pub invariant-loop-at : goal.invariant-loop-at
 invariant-loop-at l = (l.at ≤ length l.text) × ((k : ℕ) → k < l.at → is_run (get_or l.text k 0) ≡ true)

@@ -3,7 +3,7 @@ use Rattle.std.proofs.lemmas.List.{length-drop}
 use Rattle.memchr.specs.Find.{Nowhere, Passes, is_byte}
 use Rattle.rustc_demangle.specs.Filtered.{begins_run}
 use Rattle.rustc_demangle.proofs.Searches.{no_run_up_to, no_run_behind}
-use Rattle.rustc_demangle.proofs.stream.line.run_start.Goals as goal
+use Rattle.rustc_demangle.proofs.runs.run_start.Goals as goal
 
 -- what a slice from a place on holds
 rest_is : (text : List ℕ) (from : ℕ) → take (length text - from) (drop from text) ≡ drop from text

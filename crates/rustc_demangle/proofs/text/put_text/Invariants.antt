@@ -1,12 +1,12 @@
 use Rattle.std.proofs.Common.{length}
 use denote.Text.{Utf8}
 use denote.Shadow.{shadow}
-use Rattle.rustc_demangle.proofs.RunSteps.{Filtering}
-use Rattle.rustc_demangle.proofs.stream.line.demangle_line.Given as goal
+use Rattle.rustc_demangle.proofs.PieceSteps.{Feeding}
+use Rattle.rustc_demangle.proofs.text.put_text.Given as goal
 
 abbrev pub invariant-loop-start : goal.invariant-loop-start
 invariant-loop-start g l = shadow (Utf8 l.rest)
-    × Filtering l.include_hash l.line (g.W.Write.contents l.initial.output) (g.W.Write.contents l.output) l.rest
+    × Feeding g.S.TextSink l.include_hash l.limit l.text l.initial.out l.out l.rest
 
 abbrev pub decreases-loop-start : goal.decreases-loop-start
 decreases-loop-start g l = length l.rest

@@ -1,7 +1,7 @@
 use Rattle.std.proofs.Common.{arith, sym, ◌∙◌}
 use Rattle.std.proofs.lemmas.List.Sums.{prefix_len_is}
 use Rattle.rustc_demangle.specs.Filtered.{is_run}
-use Rattle.rustc_demangle.proofs.stream.line.run_len.Goals as goal
+use Rattle.rustc_demangle.proofs.runs.run_len.Goals as goal
 
 pub returns-else-is_run : goal.returns-else-is_run
 returns-else-is_run c =

@@ -1,6 +1,6 @@
 use Rattle.std.proofs.Common.{◌≡◌, ℕ, ◌-◌, ◌<◌, ◌≤◌, true, get_or, length}
 use Rattle.rustc_demangle.specs.Filtered.{is_run}
-use Rattle.rustc_demangle.proofs.stream.line.groups_end.Given as goal
+use Rattle.rustc_demangle.proofs.runs.groups_end.Given as goal
 
 abbrev pub invariant-loop-at : goal.invariant-loop-at
 invariant-loop-at g l = (l.from ≤ l.at) × (l.at ≤ length l.text)

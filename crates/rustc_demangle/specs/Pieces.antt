@@ -1,0 +1,25 @@
+-- The pieces of a text whose symbols are demangled, as they are handed to a sink.
+use Rattle.std.specs.Prelude.{ℕ, zero, suc, Bool, true, false, List, [], ◌∷◌, ◌++◌}
+use Rattle.std.specs.List.{prefix_len, take_while}
+use Rattle.std.specs.Option.{option_map_or}
+use Rattle.rustc_demangle.specs.Stripped.{stripped}
+use Rattle.rustc_demangle.specs.Symbols.{pieces_of, handed}
+use Rattle.rustc_demangle.specs.Lines.{onto_first}
+use Rattle.rustc_demangle.specs.Filtered.{is_run, begins_run}
+
+-- what stands for a run: the pieces of its symbol within the limit, if it is one, else the whole run
+abbrev pub run_pieces : Bool → ℕ → List ℕ → List (List ℕ)
+run_pieces hash limit run = option_map_or (λ _. handed (stripped run) hash limit) (pieces_of hash (stripped run)) (run ∷ [])
+
+-- of the text behind its first `skip` bytes: what is kept up to the next run, which may be nothing, what stands for the run, and so on
+unfoldable pub filtered_pieces_from : Bool → ℕ → ℕ → List ℕ → List (List ℕ)
+filtered_pieces_from hash limit skip [] = [] ∷ []
+filtered_pieces_from hash limit (suc skip) (c ∷ s) = filtered_pieces_from hash limit skip s
+filtered_pieces_from hash limit zero (c ∷ s) = elim (begins_run (c ∷ s)) [
+  | true ↦ [] ∷ (run_pieces hash limit (c ∷ take_while is_run s) ++ filtered_pieces_from hash limit (prefix_len is_run s) s)
+  | false ↦ onto_first c (filtered_pieces_from hash limit zero s)
+]
+
+-- the pieces of a text
+abbrev pub filtered_pieces : Bool → ℕ → List ℕ → List (List ℕ)
+filtered_pieces hash limit text = filtered_pieces_from hash limit zero text

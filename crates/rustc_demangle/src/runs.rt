@@ -1,0 +1,96 @@
+//! Where the runs of a text stand, which may be symbols.
+ghost use Rattle.std.specs.Prelude.{◌≡◌, ℕ, ◌+◌, ◌<◌, ◌≤◌, true, false, length, drop, slice_index, IfSome, IfNone, IsTrue};
+ghost use Rattle.std.specs.List.{prefix_len, list_all};
+ghost use Rattle.rustc_demangle.specs.Filtered.{is_run, begins_run};
+
+use memchr::memchr;
+use std::str;
+
+/// Whether a run begins here.
+pub(crate) fn begins_run(text: &[u8]) -> bool
+    ensures { result ≡ begins_run text.now }
+{
+    text.starts_with(b"_ZN") || text.starts_with(b"_R")
+}
+
+/// Where the next run begins: the first place where `_ZN` or `_R` stands.
+pub fn run_start(text: &[u8]) -> Option<usize>
+    ensures some { IfSome result (λ n. (n < length text.now) × (begins_run (drop n text.now) ≡ true)
+        × ((k : ℕ) → k < n → begins_run (drop k text.now) ≡ false)) }
+    ensures none { IfNone result
+        ((k : ℕ) → k < length text.now → begins_run (drop k text.now) ≡ false) }
+{
+    let mut from = 0;
+    while let Some(ahead) = memchr(b'_', &text[from..]) {
+        let at = from + ahead;
+        if begins_run(&text[at..]) {
+            return Some(at);
+        }
+        from = at + 1;
+    }
+    None
+}
+
+/// Whether a run may have this byte.
+#[inline(always)]
+fn is_run(byte: u8) -> bool
+    ensures { result ≡ is_run byte }
+{
+    (byte == b'$') | (byte == b'.') | (byte == b'_') | byte.is_ascii_alphanumeric()
+}
+
+/// Whether a run may have each byte of the group that begins here.
+#[inline(always)]
+fn is_run_group<const N: usize>(text: &[u8], from: usize) -> bool
+    requires { from + N ≤ length text.now }
+    ensures { IsTrue result → (k : ℕ) → from ≤ k → k < from + N →
+        is_run (slice_index text.now k) ≡ true }
+{
+    let mut all = true;
+    for k in 0..N {
+        all &= is_run(text[from + k]);
+    }
+    all
+}
+
+/// Where the whole groups of a run end, from a place on.
+#[inline(always)]
+fn groups_end<const N: usize>(text: &[u8], from: usize) -> usize
+    requires size { 0 < N }
+    requires within { from ≤ length text.now }
+    ensures forward { from ≤ result }
+    ensures within { result ≤ length text.now }
+    ensures all { (k : ℕ) → from ≤ k → k < result → is_run (slice_index text.now k) ≡ true }
+{
+    let mut at = from;
+    while text.len() - at >= N && is_run_group::<N>(text, at) {
+        at += N;
+    }
+    at
+}
+
+/// How long a run is that begins here: up to the first byte that is no ASCII letter, no digit and
+/// none of `$`, `.` and `_`.
+pub fn run_len(text: &[u8]) -> usize
+    ensures { result ≡ prefix_len is_run text.now }
+{
+    // Groups of these sizes the compiler tests by vectors: at most seven bytes of a run are left.
+    let mut at = groups_end::<32>(text, 0);
+    at = groups_end::<16>(text, at);
+    at = groups_end::<8>(text, at);
+    while at < text.len() && is_run(text[at]) {
+        at += 1;
+    }
+    at
+}
+
+/// The text of a run, which is ASCII.
+pub(crate) fn run_text(run: &[u8]) -> &str
+    requires { list_all is_run run.now ≡ true }
+    ensures { result.now ≡ run.now }
+{
+    match str::from_utf8(run) {
+        Ok(text) => text,
+        Err(_) => unreachable!(),
+    }
+}
