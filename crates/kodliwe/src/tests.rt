@@ -44,7 +44,7 @@ fn run_one<R: Read + Drop, W: Write>(
         reader,
     })?;
     let mut errors = Vec::new(alloc);
-    let ended = run(alloc, inputs, output, &mut errors, include_hash);
+    let ended = run(alloc, inputs, output, &mut errors, include_hash, 1_000_000);
     Ok((ended, errors))
 }
 
@@ -106,7 +106,7 @@ fn inputs_are_filtered_each_by_itself(rt: HostRuntime) -> Result<(), Fail> {
     }
     let mut output = Vec::new(alloc);
     let mut errors = Vec::new(alloc);
-    let ended = run(alloc, inputs, &mut output, &mut errors, false);
+    let ended = run(alloc, inputs, &mut output, &mut errors, false, 1_000_000);
     assert_eq!(rt; ended, Ended::Complete);
     assert_eq!(rt; output.as_slice(), b"x _ZN3fooE\nfoobar\n".as_slice());
     Ok(())
@@ -318,6 +318,28 @@ fn words_that_are_no_option_are_refused(rt: HostRuntime) -> Result<(), Fail> {
         )?;
     }
     Ok(())
+}
+
+#[test]
+fn each_path_is_cut_at_the_limit(rt: HostRuntime) -> Result<(), Fail> {
+    let symbol = "_ZN6x$u5d$31__$XX$barbar$u7b$$u00000000041$17hc6d3e347656472b8E";
+    let cases: [&[&str]; 4] = [
+        &["-l", "1", symbol],
+        &["-l1", symbol],
+        &["--limit", "1", symbol],
+        &["--limit=1", symbol],
+    ];
+    for words in cases {
+        let cut: &[u8] = b"x{size limit reached}\n";
+        assert_program(&rt, rt.alloc(), rt.stdin(), words, 0, cut, b"")?;
+    }
+    let words = ["-l", "x"];
+    let line: &[u8] = b"kodliwe: option '-l' needs a number of BYTES; try 'kodliwe --help'\n";
+    assert_program(&rt, rt.alloc(), rt.stdin(), &words, 2, b"", line)?;
+    assert_program(&rt, rt.alloc(), rt.stdin(), &["-l"], 2, b"", line)?;
+    let line: &[u8] =
+        b"kodliwe: option '--limit=-1' needs a number of BYTES; try 'kodliwe --help'\n";
+    assert_program(&rt, rt.alloc(), rt.stdin(), &["--limit=-1"], 2, b"", line)
 }
 
 #[test]
