@@ -32,7 +32,7 @@ import hostile
 from common import CORPUS, KODLIWE, OURS, ROOT, need_filter, need_kodliwe
 
 FOO = '_ZN3foo17h05af221e174051e9E'
-OPTIONS = ['-i', '--input', '-o', '--output', '--hash', '-h', '--help', '-V', '--version']
+OPTIONS = ['-i', '--input', '-o', '--output', '--hash', '-l', '--limit', '-h', '--help', '-V', '--version']
 
 
 class Lacking(Exception):

@@ -14,8 +14,11 @@ _kodliwe() {
             return
             ;;
     esac
+    if [[ $before == -l || $before == --limit ]]; then
+        return
+    fi
     if [[ $word == -* ]]; then
-        mapfile -t COMPREPLY < <(compgen -W '-i --input -o --output --hash -h --help -V --version' -- "$word")
+        mapfile -t COMPREPLY < <(compgen -W '-i --input -o --output --hash -l --limit -h --help -V --version' -- "$word")
     fi
 }
 complete -F _kodliwe kodliwe

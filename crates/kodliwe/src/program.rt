@@ -29,6 +29,10 @@ fn refuse_words<E: Write>(alloc: Global, errors: &mut E, fault: WordsFault<'_>) 
         WordsFault::NoFile(word) => {
             format!(in alloc; "kodliwe: option '{word}' needs a FILE; try 'kodliwe --help'\n")
         }
+        WordsFault::NoNumber(word) => {
+            let needs = "needs a number of BYTES";
+            format!(in alloc; "kodliwe: option '{word}' {needs}; try 'kodliwe --help'\n")
+        }
         WordsFault::Memory => return tell(errors, OUT_OF_MEMORY, 1),
     };
     match line {
@@ -78,6 +82,7 @@ fn filter_into<'a, F: Files, E: Write>(
     path: &str,
     errors: &mut E,
     include_hash: bool,
+    limit: usize,
 ) -> u8 {
     let (file, replacement) = match open_output(alloc, files, path) {
         Ok(opened) => opened,
@@ -92,7 +97,7 @@ fn filter_into<'a, F: Files, E: Write>(
         }
         return tell(errors, OUT_OF_MEMORY, 1);
     };
-    let ended = run(alloc, inputs, &mut output, errors, include_hash);
+    let ended = run(alloc, inputs, &mut output, errors, include_hash, limit);
     let Some(replacement) = replacement else {
         return ended.status();
     };
@@ -123,21 +128,17 @@ fn filter<F: Files, W: Write + Drop, E: Write>(
     errors: &mut E,
     request: Request<'_>,
 ) -> u8 {
-    let Request {
-        sources,
-        output,
-        include_hash,
-    } = request;
-    let Ok(inputs) = open_inputs(alloc, files, stdin, sources) else {
+    let (include_hash, limit) = (request.include_hash, request.limit);
+    let Ok(inputs) = open_inputs(alloc, files, stdin, request.sources) else {
         return tell(errors, OUT_OF_MEMORY, 1);
     };
-    if let Some(path) = output {
-        return filter_into(alloc, files, inputs, path, errors, include_hash);
+    if let Some(path) = request.output {
+        return filter_into(alloc, files, inputs, path, errors, include_hash, limit);
     }
     let Ok(mut output) = BufWriter::with_capacity(alloc, BUFFER, stdout) else {
         return tell(errors, OUT_OF_MEMORY, 1);
     };
-    run(alloc, inputs, &mut output, errors, include_hash).status()
+    run(alloc, inputs, &mut output, errors, include_hash, limit).status()
 }
 
 /// Runs the program on the words behind its name, and answers the exit status.

@@ -43,8 +43,8 @@ fn create_beside<F: Files>(
     Err(io::Error::from(ErrorKind::AlreadyExists))
 }
 
-/// Opens a file to be written. One that is there, and is no device and no pipe, is replaced once the
-/// new one is whole, which has its permissions.
+/// Opens a file to be written. One that is there, and is no device and no pipe, is replaced once
+/// the new one is whole, which has its permissions.
 pub fn open_output<F: Files>(
     alloc: Global,
     files: &F,

@@ -2,9 +2,9 @@
 ghost use Rattle.std.specs.Prelude.{◌≡◌, ◌++◌, [], true, false, Ok, IfSome, OnOk, IfErr, map};
 ghost use Rattle.std.specs.Io.KnownBytes.{Appends, Keeps};
 ghost use Rattle.std.specs.Io.Buffered.{reader_remaining};
-ghost use Rattle.rustc_demangle.specs.Filtered.{filtered};
-ghost use Rattle.rustc_demangle.specs.Bytes.{IsWriting, StepTook, StepEnded, StepRefused, BytesStopped};
-ghost use Rattle.kodliwe.specs.Run.{WroteAll, WroteFront, RunStopped};
+ghost use Rattle.rustc_demangle.specs.Filtered.{filtered_within};
+ghost use Rattle.rustc_demangle.specs.Bytes.{IsWriting, StepEnded, StepRefused, BytesStopped};
+ghost use Rattle.kodliwe.specs.Run.{TurnTook, WroteAll, WroteFront, RunStopped};
 
 use crate::fault::{InputFault, report};
 use rustc_demangle::{BytesFilter, StreamFault};
@@ -81,23 +81,25 @@ fn pause<R: Read, W: Write, B: Allocator>(
 }
 
 /// A step, which takes nothing where a signal interrupted the reader.
+#[tactic(auto, using(crate::proofs::RunLemmas::step_turn))]
 fn step<R: BufRead, W: Write, A: Allocator>(
     filter: &mut BytesFilter<A>,
     input: &mut R,
     output: &mut W,
     include_hash: bool,
+    limit: usize,
 ) -> Result<bool, StreamFault>
-    ensures took { result ≡ Ok true → StepTook include_hash filter.old filter.new
-        (R.remaining input.old) (R.remaining input.new)
+    ensures took { result ≡ Ok true → TurnTook (filtered_within include_hash limit)
+        filter.old filter.new (R.remaining input.old) (R.remaining input.new)
         (W.contents output.old) (W.contents output.new) }
-    ensures ended { result ≡ Ok false → StepEnded include_hash filter.old filter.new
-        (R.remaining input.old) (R.remaining input.new)
+    ensures ended { result ≡ Ok false → StepEnded (filtered_within include_hash limit)
+        filter.old filter.new (R.remaining input.old) (R.remaining input.new)
         (W.contents output.old) (W.contents output.new) }
     ensures refused { IfErr result (λ fault. StepRefused fault filter.old filter.new
         (R.remaining input.old) (R.remaining input.new)
         (W.contents output.old) (W.contents output.new)) }
 {
-    match filter.step(input, output, include_hash) {
+    match filter.step_limited(input, output, include_hash, limit) {
         Err(StreamFault::Read(error)) if error.kind() == ErrorKind::Interrupted => Ok(true),
         stepped => stepped,
     }
@@ -109,19 +111,22 @@ fn turn<R: Read, W: Write, A: Allocator, B: Allocator>(
     input: &mut BufReader<R, B>,
     output: &mut W,
     include_hash: bool,
+    limit: usize,
 ) -> Result<bool, StreamFault>
-    ensures took { result ≡ Ok true → StepTook include_hash filter.old filter.new
+    ensures took { result ≡ Ok true → TurnTook (filtered_within include_hash limit)
+        filter.old filter.new
         (reader_remaining R.remaining input.old) (reader_remaining R.remaining input.new)
         (W.contents output.old) (W.contents output.new) }
-    ensures ended { result ≡ Ok false → StepEnded include_hash filter.old filter.new
+    ensures ended { result ≡ Ok false → StepEnded (filtered_within include_hash limit)
+        filter.old filter.new
         (reader_remaining R.remaining input.old) (reader_remaining R.remaining input.new)
         (W.contents output.old) (W.contents output.new) }
-    ensures refused { IfErr result (λ fault. IfSome (reader_remaining R.remaining input.old) (λ text.
-        BytesStopped fault (filter.old ++ text) include_hash
+    ensures refused { IfErr result (λ fault. IfSome (reader_remaining R.remaining input.old)
+        (λ text. BytesStopped (filtered_within include_hash limit) fault (filter.old ++ text)
         (W.contents output.old) (W.contents output.new))) }
 {
     pause(input, output)?;
-    step(filter, input, output, include_hash)
+    step(filter, input, output, include_hash, limit)
 }
 
 /// Filters what a reader holds, up to its end. The output is flushed before each reading.
@@ -130,15 +135,18 @@ fn filter_steps<R: Read, W: Write, A: Allocator, B: Allocator>(
     input: &mut BufReader<R, B>,
     output: &mut W,
     include_hash: bool,
+    limit: usize,
 ) -> Result<(), StreamFault>
     requires { filter.old ≡ [] }
     ensures ok { OnOk result (IfSome (reader_remaining R.remaining input.old) (λ text.
-        Appends (W.contents output.old) (W.contents output.new) (filtered include_hash text))) }
+        Appends (W.contents output.old) (W.contents output.new)
+        (filtered_within include_hash limit text))) }
     ensures err { IfErr result (λ fault. IfSome (reader_remaining R.remaining input.old) (λ text.
-        BytesStopped fault text include_hash (W.contents output.old) (W.contents output.new))) }
+        BytesStopped (filtered_within include_hash limit) fault text
+        (W.contents output.old) (W.contents output.new))) }
 {
     for _ in 0..=u64::MAX {
-        if !turn(filter, input, output, include_hash)? {
+        if !turn(filter, input, output, include_hash, limit)? {
             return Ok(());
         }
     }
@@ -151,17 +159,20 @@ fn filter_reader<R: Read + Drop, W: Write>(
     reader: R,
     output: &mut W,
     include_hash: bool,
+    limit: usize,
 ) -> Result<(), StreamFault>
     ensures ok { OnOk result (IfSome (R.remaining reader) (λ text.
-        Appends (W.contents output.old) (W.contents output.new) (filtered include_hash text))) }
+        Appends (W.contents output.old) (W.contents output.new)
+        (filtered_within include_hash limit text))) }
     ensures err { IfErr result (λ fault. IfSome (R.remaining reader) (λ text.
-        BytesStopped fault text include_hash (W.contents output.old) (W.contents output.new))) }
+        BytesStopped (filtered_within include_hash limit) fault text
+        (W.contents output.old) (W.contents output.new))) }
 {
     let Ok(mut input) = BufReader::with_capacity(alloc, BUFFER, reader) else {
         return Err(StreamFault::Memory);
     };
     let mut filter = BytesFilter::new(alloc);
-    filter_steps(&mut filter, &mut input, output, include_hash)
+    filter_steps(&mut filter, &mut input, output, include_hash, limit)
 }
 
 /// Filters what each reader holds, in order, and flushes the output.
@@ -170,17 +181,18 @@ fn filter_inputs<'a, R: Read + Drop, W: Write>(
     inputs: Vec<Input<'a, R>>,
     output: &mut W,
     include_hash: bool,
+    limit: usize,
 ) -> Result<(), InputFault<'a>>
-    ensures ok { OnOk result (WroteAll include_hash
+    ensures ok { OnOk result (WroteAll (filtered_within include_hash limit)
         (map (λ input. R.remaining input.reader) inputs.entry.items)
         (W.contents output.old) (W.contents output.new)) }
-    ensures err { IfErr result (λ stop. RunStopped stop.fault include_hash
+    ensures err { IfErr result (λ stop. RunStopped stop.fault (filtered_within include_hash limit)
         (map (λ input. R.remaining input.reader) inputs.entry.items)
         (W.contents output.old) (W.contents output.new)) }
 {
     for input in inputs {
         let Input { name, reader } = input;
-        match filter_reader(alloc, reader, output, include_hash) {
+        match filter_reader(alloc, reader, output, include_hash, limit) {
             Ok(()) => {}
             Err(fault) => return Err(InputFault { name, fault }),
         }
@@ -208,8 +220,8 @@ fn end_of(fault: &StreamFault) -> Ended
     }
 }
 
-/// Filters the inputs in order, each by itself, and writes a line where an input can't be read, the
-/// output can't be written, or memory is refused.
+/// Filters the inputs in order, each by itself and each path cut at `limit` bytes, and writes a
+/// line where an input can't be read, the output can't be written, or memory is refused.
 ///
 /// `Complete`: the bytes that the writer tells grew by what the filter gives for all that the
 /// readers still held. `Unread`: by what it gives for the inputs in front of one and for a front of
@@ -221,15 +233,16 @@ pub fn run<R: Read + Drop, W: Write, E: Write>(
     output: &mut W,
     errors: &mut E,
     include_hash: bool,
+    limit: usize,
 ) -> Ended
-    ensures complete { result ≡ Ended.Complete → WroteAll include_hash
+    ensures complete { result ≡ Ended.Complete → WroteAll (filtered_within include_hash limit)
         (map (λ input. R.remaining input.reader) inputs.entry.items)
         (W.contents output.old) (W.contents output.new) }
-    ensures unread { result ≡ Ended.Unread → WroteFront include_hash
+    ensures unread { result ≡ Ended.Unread → WroteFront (filtered_within include_hash limit)
         (map (λ input. R.remaining input.reader) inputs.entry.items)
         (W.contents output.old) (W.contents output.new) }
 {
-    let Err(stop) = filter_inputs(alloc, inputs, output, include_hash) else {
+    let Err(stop) = filter_inputs(alloc, inputs, output, include_hash, limit) else {
         return Ended::Complete;
     };
     let ended = end_of(&stop.fault);

@@ -44,7 +44,7 @@ fn run_one<R: Read + Drop, W: Write>(
         reader,
     })?;
     let mut errors = Vec::new(alloc);
-    let ended = run(alloc, inputs, output, &mut errors, include_hash);
+    let ended = run(alloc, inputs, output, &mut errors, include_hash, 1_000_000);
     Ok((ended, errors))
 }
 
@@ -106,7 +106,7 @@ fn inputs_are_filtered_each_by_itself(rt: HostRuntime) -> Result<(), Fail> {
     }
     let mut output = Vec::new(alloc);
     let mut errors = Vec::new(alloc);
-    let ended = run(alloc, inputs, &mut output, &mut errors, false);
+    let ended = run(alloc, inputs, &mut output, &mut errors, false, 1_000_000);
     assert_eq!(rt; ended, Ended::Complete);
     assert_eq!(rt; output.as_slice(), b"x _ZN3fooE\nfoobar\n".as_slice());
     Ok(())
@@ -162,14 +162,15 @@ fn a_writer_that_fails_at_any_call_is_told(rt: HostRuntime) -> Result<(), Fail> 
     let alloc = rt.alloc();
     let text: &[u8] = b"x _ZN1a1bE y\n_ZN3fooE\n";
     let wanted: &[u8] = b"x a::b y\nfoo\n";
-    let mut calls = 0;
-    loop {
+    // Two bytes a write, and a flush before each reading and at the end.
+    for calls in 0..100 {
         let mut output = CallsWriter::new(alloc, calls, ErrorKind::StorageFull, 2);
         let (ended, errors) = run_one(alloc, ChunkReader::new(text, 4), &mut output, false)?;
         assert!(rt; wanted.starts_with(output.held()), "at {calls}");
         if ended == Ended::Complete {
             assert_eq!(rt; output.held(), wanted);
-            break;
+            assert!(rt; calls > 13, "{calls}");
+            return Ok(());
         }
         assert_eq!(rt; ended, Ended::Unwritten, "at {calls}");
         assert_eq!(rt; ended.status(), 1);
@@ -177,13 +178,8 @@ fn a_writer_that_fails_at_any_call_is_told(rt: HostRuntime) -> Result<(), Fail> 
             errors.as_slice(),
             b"kodliwe: write failed: no space\n".as_slice()
         );
-        calls += 1;
-        if calls > 1000 {
-            break;
-        }
     }
-    // Two bytes a write, and a flush before each reading and at the end.
-    assert!(rt; calls > 13 && calls < 100, "{calls}");
+    assert!(rt; false, "it was never complete");
     Ok(())
 }
 
@@ -325,6 +321,28 @@ fn words_that_are_no_option_are_refused(rt: HostRuntime) -> Result<(), Fail> {
 }
 
 #[test]
+fn each_path_is_cut_at_the_limit(rt: HostRuntime) -> Result<(), Fail> {
+    let symbol = "_ZN6x$u5d$31__$XX$barbar$u7b$$u00000000041$17hc6d3e347656472b8E";
+    let cases: [&[&str]; 4] = [
+        &["-l", "1", symbol],
+        &["-l1", symbol],
+        &["--limit", "1", symbol],
+        &["--limit=1", symbol],
+    ];
+    for words in cases {
+        let cut: &[u8] = b"x{size limit reached}\n";
+        assert_program(&rt, rt.alloc(), rt.stdin(), words, 0, cut, b"")?;
+    }
+    let words = ["-l", "x"];
+    let line: &[u8] = b"kodliwe: option '-l' needs a number of BYTES; try 'kodliwe --help'\n";
+    assert_program(&rt, rt.alloc(), rt.stdin(), &words, 2, b"", line)?;
+    assert_program(&rt, rt.alloc(), rt.stdin(), &["-l"], 2, b"", line)?;
+    let line: &[u8] =
+        b"kodliwe: option '--limit=-1' needs a number of BYTES; try 'kodliwe --help'\n";
+    assert_program(&rt, rt.alloc(), rt.stdin(), &["--limit=-1"], 2, b"", line)
+}
+
+#[test]
 fn files_that_are_not_there_are_named(rt: HostRuntime) -> Result<(), Fail> {
     let line: &[u8] = b"kodliwe: none/log.txt: No such file or directory\n";
     let cases: [&[&str]; 4] = [
@@ -394,12 +412,10 @@ fn the_help_fits_a_terminal(rt: HostRuntime) -> Result<(), Fail> {
         b"kodliwe 0.1.0\n",
         b"",
     )?;
-    let mut lines = 0;
-    for line in text.lines() {
+    for (number, line) in text.lines().enumerate() {
         assert!(rt; line.len() <= 80, "{line}");
-        lines += 1;
+        assert!(rt; number < 24, "{line}");
     }
-    assert!(rt; lines <= 24);
     Ok(())
 }
 

@@ -16,6 +16,7 @@ Options:
   -i, --input FILE    Read FILE; - is standard input. May stand several times
   -o, --output FILE   Write FILE, which is replaced once all of it is written
       --hash          Keep the hashes of legacy symbols (foo::h05af221e174051e9)
+  -l, --limit BYTES   Cut each path at BYTES (1000000 if not given)
   -h, --help          Print this help
   -V, --version       Print the version
 

@@ -4,6 +4,9 @@ ghost use Rattle.std.specs.List.{starts_with};
 
 use std::alloc::{AllocError, Global};
 
+/// The most bytes of a path, where no word says another number.
+const LIMIT: usize = 1_000_000;
+
 /// Text to filter, in the place that the command line gives it.
 #[derive(Drop)]
 pub enum Source<'a> {
@@ -20,6 +23,8 @@ pub struct Request<'a> {
     pub sources: Vec<Source<'a>>,
     pub output: Option<&'a str>,
     pub include_hash: bool,
+    /// The most bytes of a path.
+    pub limit: usize,
 }
 
 /// What the words ask for.
@@ -37,6 +42,8 @@ pub enum WordsFault<'a> {
     Unknown(&'a str),
     /// The option that this word is has no FILE behind it.
     NoFile(&'a str),
+    /// The option that this word is has no number of bytes in it or behind it.
+    NoNumber(&'a str),
     Memory,
 }
 
@@ -55,6 +62,7 @@ enum Word<'a> {
     /// The option, with its value where the word has it.
     Input(Option<&'a str>),
     Output(Option<&'a str>),
+    Limit(Option<&'a str>),
     Hash,
     Help,
     Version,
@@ -111,6 +119,9 @@ fn read_word(word: &str) -> Word<'_>
     if let Some(value) = option_value(word, "-o", "--output") {
         return Word::Output(value);
     }
+    if let Some(value) = option_value(word, "-l", "--limit") {
+        return Word::Limit(value);
+    }
     Word::Unknown
 }
 
@@ -121,6 +132,7 @@ impl<'a> Request<'a> {
             sources: Vec::new(alloc),
             output: None,
             include_hash: false,
+            limit: LIMIT,
         }
     }
 
@@ -154,25 +166,32 @@ fn push_line(lines: &mut Vec<u8>, text: &str) -> Result<(), AllocError> {
     Ok(())
 }
 
-/// Whose FILE the next word is.
+/// Whose value the next word is.
 #[derive(Clone, Copy, Drop)]
 enum Awaited<'a> {
     Nothing,
     /// The word that awaits it.
     Input(&'a str),
     Output(&'a str),
+    Limit(&'a str),
 }
 
-/// Takes the FILE of an option.
-fn take_file<'a>(
+/// Takes the value of an option.
+fn take_value<'a>(
     request: &mut Request<'a>,
     awaited: Awaited<'a>,
-    file: &'a str,
-) -> Result<(), AllocError> {
+    value: &'a str,
+) -> Result<(), WordsFault<'a>> {
     match awaited {
         Awaited::Nothing => {}
-        Awaited::Input(_) => request.add_file(file)?,
-        Awaited::Output(_) => request.output = Some(file),
+        Awaited::Input(_) => request.add_file(value)?,
+        Awaited::Output(_) => request.output = Some(value),
+        Awaited::Limit(word) => {
+            let Ok(limit) = value.parse::<usize>() else {
+                return Err(WordsFault::NoNumber(word));
+            };
+            request.limit = limit;
+        }
     }
     Ok(())
 }
@@ -181,7 +200,8 @@ fn take_file<'a>(
 ///
 /// Options and symbols may stand in any order; behind `--` each word is a symbol. Of `--help` and
 /// `--version` the first holds, and no word behind it is read. It is refused at the first word that
-/// begins with `-` and is no option, at an option without its FILE, and where memory is refused.
+/// begins with `-` and is no option, at an option without its FILE or its number of BYTES, and
+/// where memory is refused.
 pub fn read_words<'a>(alloc: Global, words: &'a [String]) -> Result<Asked<'a>, WordsFault<'a>> {
     let mut request = Request::new(alloc);
     let mut awaited = Awaited::Nothing;
@@ -189,7 +209,7 @@ pub fn read_words<'a>(alloc: Global, words: &'a [String]) -> Result<Asked<'a>, W
     for word in words {
         let word = word.as_str();
         if !matches!(awaited, Awaited::Nothing) {
-            take_file(&mut request, awaited, word)?;
+            take_value(&mut request, awaited, word)?;
             awaited = Awaited::Nothing;
             continue;
         }
@@ -205,6 +225,10 @@ pub fn read_words<'a>(alloc: Global, words: &'a [String]) -> Result<Asked<'a>, W
             Word::Input(None) => awaited = Awaited::Input(word),
             Word::Output(Some(file)) => request.output = Some(file),
             Word::Output(None) => awaited = Awaited::Output(word),
+            Word::Limit(Some(value)) => {
+                take_value(&mut request, Awaited::Limit(word), value)?;
+            }
+            Word::Limit(None) => awaited = Awaited::Limit(word),
             Word::Hash => request.include_hash = true,
             Word::Help => return Ok(Asked::Help),
             Word::Version => return Ok(Asked::Version),
@@ -214,5 +238,6 @@ pub fn read_words<'a>(alloc: Global, words: &'a [String]) -> Result<Asked<'a>, W
     match awaited {
         Awaited::Nothing => Ok(Asked::Filter(request)),
         Awaited::Input(word) | Awaited::Output(word) => Err(WordsFault::NoFile(word)),
+        Awaited::Limit(word) => Err(WordsFault::NoNumber(word)),
     }
 }

@@ -1,5 +1,6 @@
 use Rattle.std.proofs.Common.{◌≡◌, ◌∷◌, [], map, length, sym, ap, ◌∙◌, arith}
 use Rattle.std.specs.Vec.Iter.{into_iter_items}
+use Rattle.rustc_demangle.specs.Filtered.{replacement_within}
 use Rattle.kodliwe.proofs.RunLemmas.{filtering_init, filtering_step, filtering_end, filtering_err, nothing_left}
 use Rattle.kodliwe.proofs.run.filter_inputs.Goals as goal
 
@@ -26,7 +27,7 @@ pub returns-in-Err-clause-err : goal.returns-in-Err-clause-err
 returns-in-Err-clause-err g c =
     let at = c.loop-input in
     let held = ap (map (λ input. g.R.Read.remaining input.reader)) c.in-Some.ensures.steps.0 in
-    filtering_err c.in-Err.fault c.args.include_hash _ _ (g.R.Read.remaining c.in-Some.input.reader) _ (g.W.Write.contents c.args.output.now) (g.W.Write.contents at.output)
+    filtering_err c.in-Err.fault (replacement_within c.args.include_hash c.args.limit) _ _ (g.R.Read.remaining c.in-Some.input.reader) _ (g.W.Write.contents c.args.output.now) (g.W.Write.contents at.output)
     (g.W.Write.contents c.filter_reader.new.output) at.invariant.0 held c.in-Err.ensures.err
 
 pub returns-in-Ok-flush-clause-ok : goal.returns-in-Ok-flush-clause-ok
@@ -35,4 +36,4 @@ returns-in-Ok-flush-clause-ok g c =
     let none = c.in-None.ensures.steps in
     let empty : into_iter_items at.input-iterator ≡ [] = nothing_left _ (sym at.invariant.1 ∙ none.0) in
     let held = ap (map (λ input. g.R.Read.remaining input.reader)) empty in
-    filtering_end c.args.include_hash _ _ (g.W.Write.contents c.args.output.now) (g.W.Write.contents at.output) (g.W.Write.contents c.flush.new.output) at.invariant.0 held c.flush.ensures.bytes
+    filtering_end (replacement_within c.args.include_hash c.args.limit) _ _ (g.W.Write.contents c.args.output.now) (g.W.Write.contents at.output) (g.W.Write.contents c.flush.new.output) at.invariant.0 held c.flush.ensures.bytes

@@ -1,7 +1,7 @@
 use Rattle.std.proofs.Common.{rules, ap, Ok}
 use Rattle.std.proofs.lemmas.Result.{err_from_is_err_and}
-use Rattle.rustc_demangle.proofs.BytesSteps.{passing_init, passing_step, passing_end, passing_full}
-use Rattle.kodliwe.proofs.RunLemmas.{turning_err, wrote_end}
+use Rattle.rustc_demangle.proofs.BytesSteps.{passing_init, passing_end, passing_full}
+use Rattle.kodliwe.proofs.RunLemmas.{turning_err, passing_turn, wrote_end}
 use Rattle.kodliwe.proofs.run.filter_steps.Goals.{else-loop-test, then-loop-test+in_ok-turn+else-not-branch+else-counter-lt18446744073709551615}
 use Rattle.kodliwe.proofs.run.filter_steps.Goals as goal
 
@@ -17,11 +17,11 @@ pub returns-then-not-branch-clause-ok : goal.returns-then-not-branch-clause-ok
 returns-then-not-branch-clause-ok g c = wrote_end _ _ _ _ _ (passing_end _ _ _ _ _ _ _ _ _ c.loop.invariant (c.in_ok-turn.ensures.ended (ap Ok c.if-not-branch.true)))
 
 pub loop-preserved : goal.loop-preserved
-loop-preserved g c = passing_step _ _ _ _ _ _ _ _ _ c.loop.invariant (c.in_ok-turn.ensures.took (ap Ok c.if-not-branch.false))
+loop-preserved g c = passing_turn _ _ _ _ _ _ _ _ _ c.loop.invariant (c.in_ok-turn.ensures.took (ap Ok c.if-not-branch.false))
 
 pub returns-clause-err : goal.returns-clause-err
 returns-clause-err g c = elim c.loop-test.branch [
   | else-loop-test w ↦ passing_full g.W.Write.contents c.other.result _ _ _ _ _ _ _ c.loop.invariant (search rules) w.output-is
   | then-loop-test+in_ok-turn+else-not-branch+else-counter-lt18446744073709551615 w ↦
-      passing_full g.W.Write.contents c.other.result _ _ _ _ _ _ _ (passing_step _ _ _ _ _ _ _ _ _ c.loop.invariant (w.in_ok-turn.ensures.took (ap Ok w.if-not-branch.false))) (search rules) w.output-is
+      passing_full g.W.Write.contents c.other.result _ _ _ _ _ _ _ (passing_turn _ _ _ _ _ _ _ _ _ c.loop.invariant (w.in_ok-turn.ensures.took (ap Ok w.if-not-branch.false))) (search rules) w.output-is
 ]
