@@ -14,9 +14,9 @@
  *   - They do not overlap, and no other thread writes to either, or reads out, during the call.
  *   - A size is at most PTRDIFF_MAX, as of every object in C.
  *   - The stack has room. 8 KiB suffice for every symbol that a compiler made: of 1,400 real ones none made a call touch
- *     more than 5.5 KB. A v0 symbol that is made to be deep makes it touch up to 72 KB, and need not be long: _RNvB_1a, of 8
- *     bytes, does, and _RIC7backrefSB9_E, of 17. So where symbols are a stranger's, see to 96 KiB, also for a handler on a stack
- *     of its own (sigaltstack; examples/backtrace.c).
+ *     more than 5.6 KB. A v0 symbol that is made to be deep makes it touch 14.4 KB, and need not be long (_RNvB_1a has 8
+ *     bytes), or up to 77.8 KB where it leaves over 512 units open at once. So where symbols are a stranger's, see to 96 KiB,
+ *     also for a handler on a stack of its own (sigaltstack; examples/backtrace.c).
  *   - Time grows with the limit, not with out_size: where symbols may be hostile or time counts, as in a handler, call
  *     kodliwe_demangle_limited with out_size as the limit.
  */
