@@ -6,6 +6,7 @@ use std::alloc::{AllocError, Global};
 use std::process::Abort;
 
 mod beginnings;
+mod bytes;
 mod calls;
 mod faults;
 mod formats;
@@ -15,6 +16,7 @@ mod limits;
 mod refused;
 mod sinks;
 mod stream;
+mod texts;
 mod v0_constants;
 mod v0_hostile;
 mod v0_limits;

@@ -6,6 +6,33 @@ use std::process::Abort;
 use std::test::Fail;
 use test_doubles::streams::{NotingWriter, PartsReader, RefusingWriter};
 
+/// Texts, and what the stream writes of them, with the hash and without it.
+pub(super) const ROWS: [(&[u8], &[u8]); 20] = [
+    (b"", b""),
+    (b"\n", b"\n"),
+    (b"__ZN3fooE", b"_foo"),
+    (b"_ZN3fooE.llvm.9D1C9369@@16", b"foo@@16"),
+    (b"_R_ZN3fooE", b"_R_ZN3fooE"),
+    (b"_ZNfooE.llvm.AB", b"_ZNfooE.llvm.AB"),
+    (
+        b"_ZN3fooE.llvm moocow _ZN3fooE.llvm",
+        b"foo.llvm moocow foo.llvm",
+    ),
+    (b"a_ZN3fooE", b"afoo"),
+    (b"\xC3\xA9_ZN3fooE\xC3\xA9", b"\xC3\xA9foo\xC3\xA9"),
+    (b"_ZN3fooEx", b"_ZN3fooEx"),
+    (b"_ZN3fooE\r\n", b"foo\r\n"),
+    (b"x _RCx _ZN3fooE", b"x _RCx foo"),
+    (b"_Z _ZN_ _R", b"_Z _ZN_ _R"),
+    (b"a\n\nb _ZN1aE\nc", b"a\n\nb a\nc"),
+    (b"_ZN3fooE,_RC1a", b"foo,a"),
+    (b"RC1a __RC1a _RC1aC1b", b"RC1a _a a"),
+    (b"_RMC0FG_RL0_hEu\n", b"<for<'a> fn(&'a u8)>\n"),
+    (b"_R_RC1a _RC1a_RC1b", b"_R_RC1a _RC1a_RC1b"),
+    (b"x _ZN8$RF$testE y", b"x &test y"),
+    (b"_ZN3fooE.a~ _ZN3fooE.llvm.AG", b"foo.a~ foo.llvm.AG"),
+];
+
 /// Asserts what the stream writes of a text, with the hash or without it.
 fn assert_writes(
     rt: &impl Abort,
@@ -24,32 +51,7 @@ fn assert_writes(
 
 #[test]
 fn symbols_are_replaced_in_lines(rt: HostRuntime) -> Result<(), Fail> {
-    let cases: [(&[u8], &[u8]); 20] = [
-        (b"", b""),
-        (b"\n", b"\n"),
-        (b"__ZN3fooE", b"_foo"),
-        (b"_ZN3fooE.llvm.9D1C9369@@16", b"foo@@16"),
-        (b"_R_ZN3fooE", b"_R_ZN3fooE"),
-        (b"_ZNfooE.llvm.AB", b"_ZNfooE.llvm.AB"),
-        (
-            b"_ZN3fooE.llvm moocow _ZN3fooE.llvm",
-            b"foo.llvm moocow foo.llvm",
-        ),
-        (b"a_ZN3fooE", b"afoo"),
-        ("é_ZN3fooEé".as_bytes(), "éfooé".as_bytes()),
-        (b"_ZN3fooEx", b"_ZN3fooEx"),
-        (b"_ZN3fooE\r\n", b"foo\r\n"),
-        (b"x _RCx _ZN3fooE", b"x _RCx foo"),
-        (b"_Z _ZN_ _R", b"_Z _ZN_ _R"),
-        (b"a\n\nb _ZN1aE\nc", b"a\n\nb a\nc"),
-        (b"_ZN3fooE,_RC1a", b"foo,a"),
-        (b"RC1a __RC1a _RC1aC1b", b"RC1a _a a"),
-        (b"_RMC0FG_RL0_hEu\n", b"<for<'a> fn(&'a u8)>\n"),
-        (b"_R_RC1a _RC1a_RC1b", b"_R_RC1a _RC1a_RC1b"),
-        (b"x _ZN8$RF$testE y", b"x &test y"),
-        (b"_ZN3fooE.a~ _ZN3fooE.llvm.AG", b"foo.a~ foo.llvm.AG"),
-    ];
-    for (text, wanted) in cases {
+    for (text, wanted) in ROWS {
         assert_writes(&rt, rt.alloc(), text, true, wanted)?;
         assert_writes(&rt, rt.alloc(), text, false, wanted)?;
     }
@@ -154,16 +156,16 @@ fn a_line_is_not_utf8(rt: HostRuntime) -> Result<(), Fail> {
 }
 
 /// A line of symbols of both schemes.
-const LINE: &[u8] = b"_ZN3fooE.llvm moocow \
+pub(super) const LINE: &[u8] = b"_ZN3fooE.llvm moocow \
     _RNvMNtNtNtNtCs8a2262Dv4r_3mio3sys4unix8selector5epollNtB2_8Selector6select _ZN3fooE.llvm";
 
 /// The writes of that line up to its disambiguator, which only the plain form shows, behind it, and
 /// of a line feed.
-const HEAD: [&[u8]; 5] = [b"foo", b".llvm", b" moocow ", b"<", b"mio"];
+pub(super) const HEAD: [&[u8]; 5] = [b"foo", b".llvm", b" moocow ", b"<", b"mio"];
 
-const DISAMBIGUATOR: [&[u8]; 3] = [b"[", b"1888792e1a78739", b"]"];
+pub(super) const DISAMBIGUATOR: [&[u8]; 3] = [b"[", b"1888792e1a78739", b"]"];
 
-const TAIL: [&[u8]; 17] = [
+pub(super) const TAIL: [&[u8]; 17] = [
     b"::",
     b"sys",
     b"::",
