@@ -8,8 +8,9 @@
  *
  * That stack has 16 KiB, which suffice for every symbol but those that are made to be deep: the handler was seen to touch
  * 8.9 KB of it, also with the real symbols that want most. A symbol that is made to be deep wants up to 78 KB, and need
- * not be long (`_RNvB_1a`, of 8 bytes, wants 14.4): more than that lies before the stack and cannot be touched, so that such a symbol ends the program
- * and overwrites nothing. A program that prints a stranger's symbols takes 96 KiB for the stack. */
+ * not be long (`_RNvB_1a`, of 8 bytes, wants 14.4): more than the stack has lies before it and cannot be touched, so that
+ * such a symbol ends the program and overwrites nothing. A program that prints a stranger's symbols takes 96 KiB for the
+ * stack. */
 #define _GNU_SOURCE
 #include "kodliwe.h"
 
