@@ -99,8 +99,8 @@ dist: $(DIST)/$(NAME).tar.gz $(DIST)/$(DEB)
 # A tree that can be unpacked anywhere: kodliwe.pc finds the rest from its own place.
 $(DIST)/$(NAME).tar.gz: all $(HEADERS) $(LICENCES) README.md
 	rm -rf $(DIST)/$(NAME)
-	$(MAKE) --no-print-directory install PREFIX= DESTDIR=$(abspath $(DIST)/$(NAME)) DOCDIR=/share/doc/kodliwe PC_PREFIX='$${pcfiledir}/../..'
-	cd $(DIST)/$(NAME) && find . -type f | LC_ALL=C sort | xargs sha256sum > share/doc/kodliwe/SHA256SUMS
+	$(MAKE) --no-print-directory install PREFIX= DESTDIR=$(abspath $(DIST)/$(NAME)) DOCDIR=/share/doc/kodliwe PC_PREFIX='$$$${pcfiledir}/../..'
+	cd $(DIST)/$(NAME) && find . -type f ! -name SHA256SUMS | LC_ALL=C sort | xargs sha256sum > share/doc/kodliwe/SHA256SUMS
 	tar -C $(DIST) --sort=name --owner=0 --group=0 --numeric-owner --mode=go=rX,u+rw --mtime=@$(SOURCE_DATE_EPOCH) -cf - $(NAME) | gzip -9n > $@
 
 $(DIST)/$(DEB): all $(HEADERS) $(LICENCES) README.md packaging/debian/build
