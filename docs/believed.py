@@ -40,7 +40,7 @@ def home(crate, name):
 def used(text):
     """What a module brings in by `pub use`: each name, and the path to it."""
     for path, many, one in re.findall(r'^\s*pub use ([\w:]*?)(?:\{([^}]*)\}|(\w+));', text, re.M):
-        for part in (many or one).split(','):
+        for part in filter(str.strip, (many or one).split(',')):
             yield part.split('::')[-1].strip(), [step for step in (path + part.strip()).split('::') if step]
 
 
