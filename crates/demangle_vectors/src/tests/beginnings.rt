@@ -1,10 +1,12 @@
 //! Symbols that are cut off.
 use super::printed_by;
 use super::vectors::texts;
-use rustc_demangle::{demangle, demangle_stream, try_demangle};
+use rustc_demangle::{demangle, demangle_bytes, demangle_stream, try_demangle};
 use std::alloc::Global;
+use std::io::ErrorKind;
 use std::process::Abort;
 use std::test::Fail;
+use test_doubles::streams::PartsReader;
 
 /// Asserts that a refused text prints itself, that an accepted one prints the same by both calls,
 /// and that what was stripped is not stripped again.
@@ -60,6 +62,22 @@ fn filter_text(alloc: Global, text: &str, include_hash: bool) -> Result<Vec<u8>,
     }
 }
 
+/// What the filter of bytes writes for a text, of which it reads so many bytes at a filling.
+fn filter_parts(
+    alloc: Global,
+    text: &str,
+    size: usize,
+    include_hash: bool,
+) -> Result<Vec<u8>, Fail> {
+    let parts: Vec<&[u8]> = text.as_bytes().chunks(size.max(1)).collect(alloc)?;
+    let mut input = PartsReader::new(parts.as_slice(), usize::MAX, ErrorKind::Other);
+    let mut output = Vec::new(alloc);
+    match demangle_bytes(alloc, &mut input, &mut output, include_hash) {
+        Ok(()) => Ok(output),
+        Err(fault) => Err(fault.into_io().into()),
+    }
+}
+
 #[test]
 fn each_beginning_of_a_symbol_is_taken(rt: HostRuntime) -> Result<(), Fail> {
     let alloc = rt.alloc();
@@ -89,6 +107,25 @@ fn the_stream_writes_for_each_beginning_what_the_crate_writes(rt: HostRuntime) -
             }
         }
         assert_eq!(rt; digest, wanted);
+    }
+    Ok(())
+}
+
+#[test]
+fn any_fillings_give_what_the_crate_writes(rt: HostRuntime) -> Result<(), Fail> {
+    let alloc = rt.alloc();
+    for ((include_hash, wanted), size) in WRITTEN.iter().zip([1, 3]) {
+        let mut digest = OF_NOTHING;
+        for text in texts(alloc)?.iter() {
+            let text = text.as_str();
+            for len in 0..=text.len() {
+                if let Some(beginning) = text.get(..len) {
+                    let output = filter_parts(alloc, beginning, size, *include_hash)?;
+                    digest = digest_of(digest_of(digest, output.as_slice()), b"\n");
+                }
+            }
+        }
+        assert_eq!(rt; digest, *wanted, "by fillings of {size}");
     }
     Ok(())
 }
