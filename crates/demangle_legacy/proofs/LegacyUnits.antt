@@ -160,10 +160,10 @@ pub unit_last_dot : (s : List ℕ) (next to : ℕ) → to ≤ next → leading_u
 unfolding dot_unit
 unit_last_dot s next to past = unit_of_dot (slice_range s next to) ∙ ap dot_unit (range_past s next to past)
 
-escape_unit : List ℕ → Option ℕ → Option (List ℕ × ℕ)
+unfoldable pub escape_unit : List ℕ → Option ℕ → Option (List ℕ × ℕ)
 escape_unit rest end = option_and_then (λ n. option_map (λ text. (text, n + 1)) (escape_of (take n rest))) end
 
-unit_of_dollar : (rest : List ℕ) → leading_unit 36 rest ≡ escape_unit rest (position is_dollar rest)
+pub unit_of_dollar : (rest : List ℕ) → leading_unit 36 rest ≡ escape_unit rest (position is_dollar rest)
 unfolding leading_unit escape_unit
 unit_of_dollar rest = refl
 
@@ -178,7 +178,7 @@ pub unit_open : (s : List ℕ) (next to : ℕ) → None ≡ position is_dollar (
 unfolding escape_unit
 unit_open s next to none = unit_of_dollar (slice_range s next to) ∙ ap (escape_unit (slice_range s next to)) (sym none)
 
-unit_of_run : (c : ℕ) (rest : List ℕ) → c ≢ 46 → c ≢ 36 → leading_unit c rest ≡ option_map (λ n. (c ∷ take n rest, n)) (position is_special rest)
+pub unit_of_run : (c : ℕ) (rest : List ℕ) → c ≢ 46 → c ≢ 36 → leading_unit c rest ≡ option_map (λ n. (c ∷ take n rest, n)) (position is_special rest)
 unfolding leading_unit
 unit_of_run c rest no_dot no_dollar =
     let a : eqb c 46 ≡ false = grind (arith, nat_tests) in
@@ -209,25 +209,25 @@ a_full_stop n e = ap (λ k. Some (encode_utf8 46, k)) e ∙ ap (λ t. Some (t, 0
 
 -- where the units of an element begin
 
-pieces_skip : (k : ℕ) (s : List ℕ) → pieces_from k s ≡ pieces_from 0 (drop k s)
+pub pieces_skip : (k : ℕ) (s : List ℕ) → pieces_from k s ≡ pieces_from 0 (drop k s)
 unfolding pieces_from
 pieces_skip zero s = refl
 pieces_skip (suc k) [] = refl
 pieces_skip (suc k) (c ∷ s) = pieces_skip k s
 
-begins_mark : List ℕ → Bool
+unfoldable pub begins_mark : List ℕ → Bool
 begins_mark e = starts_with nat_eq e (codes "_$")
 
-unescaped_is : (e : List ℕ) → unescaped e ≡ cond (begins_mark e) (pieces_from 1 e) (pieces_from 0 e)
+pub unescaped_is : (e : List ℕ) → unescaped e ≡ cond (begins_mark e) (pieces_from 1 e) (pieces_from 0 e)
 unfolding unescaped begins_mark
 unescaped_is e = refl
 
-mark_two : (c d : ℕ) (t : List ℕ) → (eqb c 95 ≡ false) ⊎ (eqb d 36 ≡ false) → begins_mark (c ∷ d ∷ t) ≡ false
+pub mark_two : (c d : ℕ) (t : List ℕ) → (eqb c 95 ≡ false) ⊎ (eqb d 36 ≡ false) → begins_mark (c ∷ d ∷ t) ≡ false
 unfolding begins_mark
 mark_two c d t (inl h) = grind (arith, nat_tests)
 mark_two c d t (inr h) = grind (arith, nat_tests)
 
-mark_short : (e : List ℕ) → length e < 2 → begins_mark e ≡ false
+pub mark_short : (e : List ℕ) → length e < 2 → begins_mark e ≡ false
 unfolding begins_mark
 mark_short [] h = refl
 mark_short (c ∷ []) h = elim (eqb 95 c) as (λ b. (b && false) ≡ false) [ true ↦ refl | false ↦ refl ]
@@ -241,7 +241,7 @@ first_behind s from to lt a b =
     ap unescaped (e ∙ ap (λ t. 95 ∷ t) f) ∙ unescaped_is (95 ∷ 36 ∷ slice_range s (from + 1 + 1) to)
     ∙ pieces_skip 1 (95 ∷ 36 ∷ slice_range s (from + 1 + 1) to) ∙ ap (pieces_from 0) (sym f)
 
-unmarked : (e : List ℕ) → begins_mark e ≡ false → unescaped e ≡ pieces_from 0 e
+pub unmarked : (e : List ℕ) → begins_mark e ≡ false → unescaped e ≡ pieces_from 0 e
 unmarked e h = unescaped_is e ∙ ap (λ b. cond b (pieces_from 1 e) (pieces_from 0 e)) h
 
 pub first_short : (s : List ℕ) (from to : ℕ) → to ≤ length s → to - from < 2 → unescaped (slice_range s from to) ≡ pieces_from 0 (slice_range s from to)

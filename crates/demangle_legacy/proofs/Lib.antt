@@ -3,4 +3,5 @@ pub mod LegacyLaws
 pub mod LegacyPrefix
 pub mod LegacyPrinting
 pub mod LegacyRows
+pub mod LegacyUnescaping
 pub mod LegacyUnits

@@ -26,6 +26,7 @@ pub use Rattle.demangle_symbol.specs.Literals
 -- and of demangle_legacy
 pub use Rattle.demangle_legacy.specs.Legacy
 pub use Rattle.demangle_legacy.specs.Unescaped
+pub use Rattle.demangle_legacy.specs.Unescaping
 -- and of demangle_grammar
 pub use Rattle.demangle_grammar.specs.Items
 pub use Rattle.demangle_grammar.specs.Table
