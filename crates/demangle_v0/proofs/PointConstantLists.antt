@@ -1,6 +1,6 @@
 -- The points of lists of constants.
 use Rattle.std.specs.Prelude.{◌*◌}
-use Rattle.std.proofs.Common.{◌≡◌, ℕ, ◌+◌, ◌≤◌, Bool, true, false, Option, Some, None, List, [], ◌∷◌, ◌++◌, Ok, refl, arith, sym, ap, ◌∙◌, length}
+use Rattle.std.proofs.Common.{◌≡◌, ℕ, ◌+◌, ◌≤◌, Bool, true, false, Option, Some, None, List, [], ◌∷◌, ◌++◌, Ok, Result, refl, arith, sym, ap, ◌∙◌, length}
 use Prim.Native.Char.{code}
 use Rattle.demangle_symbol.specs.Digits.{is_byte}
 use Rattle.demangle_grammar.specs.Items.{a_constant, Items, say, done, unit}
@@ -10,13 +10,14 @@ use Rattle.demangle_words.specs.Texts.{text}
 use Rattle.demangle_grammar.specs.Table.{says, more, at_end, constant_inside}
 use Rattle.demangle_grammar.specs.Reading.{Place, run, max_depth}
 use Rattle.demangle_v0.specs.ConstantLists.{first_point, second_point, next_point, element_point, list_element, close_of}
-use Rattle.demangle_v0.specs.Points.{frame_of, then_frame, share_at, none_open, mark_texts, way_weight, weight_at, height_at, Fits, is_inner, DidOn}
+use Rattle.demangle_v0.specs.Points.{frame_of, then_frame, share_at, none_open, mark_texts, way_weight, weight_at, height_at, Fits, is_inner, DidOn, Does, Env, PointDoes, Turn, part, share_of}
 use Rattle.demangle_words.specs.declared.texts.Mark.{Mark}
 use Rattle.demangle_words.specs.declared.texts.Mark.TheVariants as mark
 use Rattle.demangle_v0.specs.declared.points.Point.{Point}
 use Rattle.demangle_v0.specs.declared.points.Point.TheVariants as point
 use Rattle.demangle_v0.specs.declared.points.frames.Frame.{Frame}
 use Rattle.demangle_v0.specs.declared.points.State.{State}
+use Rattle.demangle_v0.specs.declared.points.Stop.{Stop}
 use Rattle.demangle_v0.specs.declared.points.constant_lists.ConstantList.{ConstantList}
 use Rattle.demangle_v0.specs.declared.points.constant_lists.ConstantList.TheVariants as list
 use Rattle.demangle_words.specs.declared.voice.Voice.{Ghosts}
@@ -201,3 +202,21 @@ module _ {V : Type 0} (voice : Ghosts V) (b : List ℕ) (plain : Bool) where
       (second_share list.Tuple v c left n (Some i) o ∙ (ap none_open (end_on plain voice.loud (around b voice.loud left n) (says "," (ending list.Tuple)) (more ", " constant_inside (ending list.Tuple)) i (sym e)) ∙ ap (with_looks (1 ∷ [])) (sym (next_share list.Tuple v c left n (Some i) o)))) (omega arith) (omega arith)
       (after voice b plain {words' = 1} (1 ∷ []) (omega arith) _ (next_at list.Tuple v c left n (Some i) o) 1 (8 * left + 2) 1 (8 * left + 2) row u u (Ok point.Constant) new now 0 made made refl (omega arith) (omega arith) (omega arith) (omega arith)
       (next_goes (omega arith) list.Tuple v c left n i o row now u new made e f x kv kc kl kn kp ko km r))
+
+-- Each list has the same words, weight and height.
+
+abbrev OfList : {V : Type 0} → Env V → Point → Turn V → Result Point Stop → Turn V → Type 0
+OfList e p t r u = Does e t (part 8 (share_of e.symbol e.plain e.voice.loud p t.state) 1 (8 * t.state.depth_left + 2)) r u
+
+module _ {V : Type 0} {e : Env V} {t u : Turn V} {r : Result Point Stop} where
+  pub first_whole : (l : ConstantList) → OfList e (first_point l) t r u → PointDoes e (first_point l) t r u
+  first_whole list.Array d = d
+  first_whole list.Tuple d = d
+  first_whole list.TupleVariant d = d
+  first_whole list.Fields d = d
+
+  pub next_whole : (l : ConstantList) → OfList e (next_point l) t r u → PointDoes e (next_point l) t r u
+  next_whole list.Array d = d
+  next_whole list.Tuple d = d
+  next_whole list.TupleVariant d = d
+  next_whole list.Fields d = d

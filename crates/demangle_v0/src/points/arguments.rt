@@ -3,7 +3,7 @@ ghost use Rattle.std.specs.Prelude.{◌≡◌, ℕ, ◌-◌, ◌+◌, ◌<◌, �
 ghost use Rattle.demangle_v0.specs.Arguments.{arguments_point, argument_point, argument_place, argument_costs};
 ghost use Rattle.demangle_grammar.specs.Totals.{total};
 ghost use Rattle.demangle_v0.specs.declared.points.frames.Frame.{Frame};
-ghost use Rattle.demangle_v0.specs.Points.{own_by, Did, Fits, PointDoes, env, turn};
+ghost use Rattle.demangle_v0.specs.Points.{Fits, MayRead, PointDoes, env, own_by, turn};
 
 use crate::points::frames::FrameStack;
 use crate::points::functions::separator;
@@ -35,12 +35,10 @@ pub(super) fn arguments<V: Voice, const N: usize>(
     row: &mut FrameStack<N>,
     looks: &mut Looks,
 ) -> Point
-    requires room { length row.old < N }
-    requires fits { Fits Point.NextArgument state.old.depth_left state.old.lifetimes }
-    ensures did { (plain : Bool) (v : V) → Did V.Voice symbol.now plain (arguments_point is_first)
-        state.old row.old v (Ok result) state.new row.new v (looks.new - looks.old) }
-    ensures grows { looks.old ≤ looks.new }
-    ensures own { looks.new ≤ looks.old + own_by 20 symbol.now state.old.place }
+    requires may { MayRead Point.NextArgument N state.old row.old }
+    ensures did { (plain : Bool) (v : V) → PointDoes (env V.Voice symbol.now plain) (arguments_point
+        is_first) (turn state.old row.old v looks.old) (Ok result) (turn state.new row.new v
+        looks.new) }
 {
     let Some(at) = state.place else {
         return close_arguments(state);

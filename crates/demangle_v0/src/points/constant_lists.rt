@@ -1,8 +1,7 @@
 //! The lists of constants.
-ghost use Rattle.std.specs.Prelude.{true, ◌≡◌, ◌*◌, ◌+◌, ◌-◌, ◌<◌, ◌≤◌, Some, None, Ok, length, Bool};
+ghost use Rattle.std.specs.Prelude.{◌≡◌, ◌+◌, ◌≤◌, Ok, Bool};
 ghost use Rattle.demangle_v0.specs.ConstantLists.{first_point, second_point, next_point, element_point, close_of};
-ghost use Rattle.demangle_v0.specs.Points.{own_by, DidOn, share_of, Fits, MayRead, PointDoes, env, turn};
-ghost use Rattle.demangle_grammar.specs.Table.{constant};
+ghost use Rattle.demangle_v0.specs.Points.{MayRead, PointDoes, env, turn};
 
 use crate::points::frames::FrameStack;
 use crate::points::{Point, State};
@@ -79,14 +78,9 @@ pub(super) fn first_constant<V: Voice, const N: usize>(
     row: &mut FrameStack<N>,
     looks: &mut Looks,
 ) -> Point
-    requires room { length row.old < N }
-    requires unmarked { state.old.mark ≡ None }
-    requires fits { Fits Point.Constant state.old.depth_left state.old.lifetimes }
-    ensures did { (plain : Bool) (v : V) → DidOn V.Voice symbol.now plain 8 (share_of symbol.now plain
-        V.loud (first_point list) state.old) 1 (8 * state.old.depth_left + 2) row.old v (Ok result)
-        state.new row.new v (looks.new - looks.old) }
-    ensures grows { looks.old ≤ looks.new }
-    ensures own { looks.new ≤ looks.old + own_by 20 symbol.now state.old.place }
+    requires may { MayRead Point.Constant N state.old row.old }
+    ensures did { (plain : Bool) (v : V) → PointDoes (env V.Voice symbol.now plain) (first_point list)
+        (turn state.old row.old v looks.old) (Ok result) (turn state.new row.new v looks.new) }
 {
     let Some(at) = state.place else {
         state.mark = Some(list.close());
@@ -113,14 +107,9 @@ pub(super) fn next_constant<V: Voice, const N: usize>(
     row: &mut FrameStack<N>,
     looks: &mut Looks,
 ) -> Point
-    requires room { length row.old < N }
-    requires unmarked { state.old.mark ≡ None }
-    requires fits { Fits Point.Constant state.old.depth_left state.old.lifetimes }
-    ensures did { (plain : Bool) (v : V) → DidOn V.Voice symbol.now plain 8 (share_of symbol.now plain
-        V.loud (next_point list) state.old) 1 (8 * state.old.depth_left + 2) row.old v (Ok result)
-        state.new row.new v (looks.new - looks.old) }
-    ensures grows { looks.old ≤ looks.new }
-    ensures own { looks.new ≤ looks.old + own_by 20 symbol.now state.old.place }
+    requires may { MayRead Point.Constant N state.old row.old }
+    ensures did { (plain : Bool) (v : V) → PointDoes (env V.Voice symbol.now plain) (next_point list)
+        (turn state.old row.old v looks.old) (Ok result) (turn state.new row.new v looks.new) }
 {
     let Some(at) = state.place else {
         state.mark = Some(list.close());

@@ -1,6 +1,6 @@
 //! The points of variants, and of their fields.
-ghost use Rattle.std.specs.Prelude.{true, ◌≡◌, ◌*◌, ℕ, ◌+◌, ◌-◌, ◌<◌, ◌≤◌, Some, None, Ok, Err, IsOk, length, IsAscii, List, Bool};
-ghost use Rattle.demangle_v0.specs.Points.{own_by, Did, DidOn, pushed_on, Fits, MayRead, PointDoes, env, turn};
+ghost use Rattle.std.specs.Prelude.{Bool, List, None, Ok, Some, length, ℕ, ◌*◌, ◌+◌, ◌<◌, ◌≡◌, ◌≤◌};
+ghost use Rattle.demangle_v0.specs.Points.{DidOn, Fits, MayRead, MaySpeak, PointDoes, env, pushed_on, turn};
 ghost use Rattle.demangle_v0.specs.PointContracts.{DidFree, brace_behind, heard_of};
 ghost use Rattle.demangle_words.specs.Tags.{variant_of};
 
@@ -87,16 +87,10 @@ pub(super) fn field<V: Voice>(
     voice: &mut V,
     looks: &mut Looks,
 ) -> Result<Point, Stop>
-    requires ascii { V.loud ≡ true → IsAscii symbol.now }
-    requires ready { V.ready voice.old }
-    requires unmarked { state.old.mark ≡ None }
+    requires may { MaySpeak (env V.Voice symbol.now plain) state.old voice.old }
     requires fits { Fits Point.Field state.old.depth_left state.old.lifetimes }
-    ensures did { (row : List Frame) → Did V.Voice symbol.now plain Point.Field state.old row
-        voice.old result state.new row voice.new (looks.new - looks.old) }
-    ensures ready { IsOk result → V.ready voice.new }
-    ensures sound { (m : Mark) → result ≡ Err (Stop.Fault m) → V.ready voice.new }
-    ensures grows { looks.old ≤ looks.new }
-    ensures own { looks.new ≤ looks.old + own_by 20 symbol.now state.old.place }
+    ensures did { (row : List Frame) → PointDoes (env V.Voice symbol.now plain) Point.Field (turn
+        state.old row voice.old looks.old) result (turn state.new row voice.new looks.new) }
 {
     match word_at(symbol, Word::FieldName, state, voice, looks) {
         WordRead::Goes(stretch, next) => {

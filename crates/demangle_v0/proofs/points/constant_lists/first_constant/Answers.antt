@@ -1,16 +1,23 @@
 use Rattle.std.proofs.Common.{Some, arith, refl, ap}
-use Rattle.demangle_v0.proofs.PointConstantLists.{first_failed, first_over, first_goes}
+use Rattle.demangle_v0.proofs.PointConstantLists.{first_failed, first_goes, first_over, first_whole}
+use Rattle.demangle_v0.proofs.PointTurns.{does}
 use Rattle.demangle_v0.proofs.points.constant_lists.first_constant.Goals as goal
 
-pub returns-in_default-clause-did : goal.returns-in_default-clause-did
-returns-in_default-clause-did g c = λ plain v. rw c.in_default.is
-    (first_failed g.V.Voice c.args.symbol.now plain c.args.list c.args.state.now.in_value c.args.state.now.letter c.args.state.now.depth_left c.args.state.now.lifetimes c.args.state.now.is_open _ v _ _ (omega arith) refl refl refl refl refl refl (ap Some c.close.ensures))
+pub returns-in_default : goal.returns-in_default
+returns-in_default g c = record {
+  did = λ plain v. first_whole c.args.list (rw c.in_default.is
+      (does (first_failed g.V.Voice c.args.symbol.now plain c.args.list c.args.state.now.in_value c.args.state.now.letter c.args.state.now.depth_left c.args.state.now.lifetimes c.args.state.now.is_open _ v _ _ (omega arith) refl refl refl refl refl refl (ap Some c.close.ensures)) (omega arith) (omega arith) (λ k _. k) (λ k _ _. k)));
+}
 
-pub returns-then-is_at-clause-did : goal.returns-then-is_at-clause-did
-returns-then-is_at-clause-did g c = λ plain v. rw c.in-Some.is
-    (first_over g.V.Voice c.args.symbol.now plain c.args.list c.args.state.now.in_value c.args.state.now.letter c.args.state.now.depth_left c.args.state.now.lifetimes c.in-Some.at c.args.state.now.is_open _ v _ _ c.if-is_at.ensures.there (omega (arith, c.is_at.ensures.look)) refl refl refl refl refl refl (ap Some c.close-then-is_at.ensures))
+pub returns-then-is_at : goal.returns-then-is_at
+returns-then-is_at g c = record {
+  did = λ plain v. first_whole c.args.list (rw c.in-Some.is
+      (does (first_over g.V.Voice c.args.symbol.now plain c.args.list c.args.state.now.in_value c.args.state.now.letter c.args.state.now.depth_left c.args.state.now.lifetimes c.in-Some.at c.args.state.now.is_open _ v _ _ c.if-is_at.ensures.there (omega (arith, c.is_at.ensures.look)) refl refl refl refl refl refl (ap Some c.close-then-is_at.ensures)) (omega (arith, c.is_at.ensures.look)) (omega (arith, c.is_at.ensures.look)) (λ k _. k) (λ k _ _. k)));
+}
 
-pub returns-clause-did : goal.returns-clause-did
-returns-clause-did g c = λ plain v. rw (c.element.ensures, c.in-Some.is)
-    (first_goes g.V.Voice c.args.symbol.now plain c.args.list c.args.state.now.in_value c.args.state.now.letter c.args.state.now.depth_left c.args.state.now.lifetimes c.in-Some.at c.args.state.now.is_open _ _ v _ _ c.if-is_at.ensures.there c.requires.fits (omega (arith, c.is_at.ensures.look)) refl refl refl refl refl refl c.requires.unmarked
-    (rw (c.frame.ensures, c.behind_first.ensures) at c.push.ensures.pushed (omega (arith, c.requires.fits))))
+pub returns : goal.returns
+returns g c = record {
+  did = λ plain v. first_whole c.args.list (rw (c.element.ensures, c.in-Some.is)
+      (does (first_goes g.V.Voice c.args.symbol.now plain c.args.list c.args.state.now.in_value c.args.state.now.letter c.args.state.now.depth_left c.args.state.now.lifetimes c.in-Some.at c.args.state.now.is_open _ _ v _ _ c.if-is_at.ensures.there c.requires.may.fits (omega (arith, c.is_at.ensures.look)) refl refl refl refl refl refl c.requires.may.unmarked
+      (rw (c.frame.ensures, c.behind_first.ensures) at c.push.ensures.pushed (omega (arith, c.requires.may.fits)))) (omega (arith, c.is_at.ensures.look)) (omega (arith, c.is_at.ensures.look)) (λ k _. k) (λ k _ _. k)));
+}

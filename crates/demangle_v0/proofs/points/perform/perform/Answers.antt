@@ -54,10 +54,16 @@ pub returns-in-Generic-clause-did : goal.returns-in-Generic-clause-did
 returns-in-Generic-clause-did g c = rw c.in-Generic.is (c.generic.ensures.did c.args.symbol.now c.args.plain c.args.voice.now c.args.row.now c.args.looks.now)
 
 pub returns-in-FirstArgument-clause-did : goal.returns-in-FirstArgument-clause-did
-returns-in-FirstArgument-clause-did g c = rw c.in-FirstArgument.is (does (c.arguments.ensures.did c.args.plain c.args.voice.now) c.arguments.ensures.grows c.arguments.ensures.own (λ k _. k) (λ k _ _. k))
+returns-in-FirstArgument-clause-did g c = rw c.in-FirstArgument.is (c.arguments.ensures.did c.args.plain c.args.voice.now)
+
+pub returns-in-FirstArgument-clause-least : goal.returns-in-FirstArgument-clause-least
+returns-in-FirstArgument-clause-least g c = rw c.in-FirstArgument.is (omega (arith, (c.arguments.ensures.did c.args.plain c.args.voice.now).grows))
 
 pub returns-in-NextArgument-clause-did : goal.returns-in-NextArgument-clause-did
-returns-in-NextArgument-clause-did g c = rw c.in-NextArgument.is (does (c.arguments-in-NextArgument.ensures.did c.args.plain c.args.voice.now) c.arguments-in-NextArgument.ensures.grows c.arguments-in-NextArgument.ensures.own (λ k _. k) (λ k _ _. k))
+returns-in-NextArgument-clause-did g c = rw c.in-NextArgument.is (c.arguments-in-NextArgument.ensures.did c.args.plain c.args.voice.now)
+
+pub returns-in-NextArgument-clause-least : goal.returns-in-NextArgument-clause-least
+returns-in-NextArgument-clause-least g c = rw c.in-NextArgument.is (omega (arith, (c.arguments-in-NextArgument.ensures.did c.args.plain c.args.voice.now).grows))
 
 pub returns-in-ArrayLength-clause-did : goal.returns-in-ArrayLength-clause-did
 returns-in-ArrayLength-clause-did g c = rw c.in-ArrayLength.is (c.array_length.ensures.did c.args.symbol.now c.args.plain c.args.voice.now c.args.looks.now)
@@ -177,28 +183,52 @@ pub returns-in-Literal-clause-did : goal.returns-in-Literal-clause-did
 returns-in-Literal-clause-did g c = rw c.in-Literal.is (does (c.literal.ensures.did c.args.row.now) c.literal.ensures.grows c.literal.ensures.own (λ _. c.literal.ensures.ready) (λ _. c.literal.ensures.sound))
 
 pub returns-in-FirstArrayConstant-clause-did : goal.returns-in-FirstArrayConstant-clause-did
-returns-in-FirstArrayConstant-clause-did g c = rw c.in-FirstArrayConstant.is (does (c.first_constant.ensures.did c.args.plain c.args.voice.now) c.first_constant.ensures.grows c.first_constant.ensures.own (λ k _. k) (λ k _ _. k))
+returns-in-FirstArrayConstant-clause-did g c = rw c.in-FirstArrayConstant.is (c.first_constant.ensures.did c.args.plain c.args.voice.now)
+
+pub returns-in-FirstArrayConstant-clause-least : goal.returns-in-FirstArrayConstant-clause-least
+returns-in-FirstArrayConstant-clause-least g c = rw c.in-FirstArrayConstant.is (omega (arith, (c.first_constant.ensures.did c.args.plain c.args.voice.now).grows))
 
 pub returns-in-NextArrayConstant-clause-did : goal.returns-in-NextArrayConstant-clause-did
-returns-in-NextArrayConstant-clause-did g c = rw c.in-NextArrayConstant.is (does (c.next_constant.ensures.did c.args.plain c.args.voice.now) c.next_constant.ensures.grows c.next_constant.ensures.own (λ k _. k) (λ k _ _. k))
+returns-in-NextArrayConstant-clause-did g c = rw c.in-NextArrayConstant.is (c.next_constant.ensures.did c.args.plain c.args.voice.now)
+
+pub returns-in-NextArrayConstant-clause-least : goal.returns-in-NextArrayConstant-clause-least
+returns-in-NextArrayConstant-clause-least g c = rw c.in-NextArrayConstant.is (omega (arith, (c.next_constant.ensures.did c.args.plain c.args.voice.now).grows))
 
 pub returns-in-FirstTupleConstant-clause-did : goal.returns-in-FirstTupleConstant-clause-did
-returns-in-FirstTupleConstant-clause-did g c = rw c.in-FirstTupleConstant.is (does (c.first_constant-in-FirstTupleConstant.ensures.did c.args.plain c.args.voice.now) c.first_constant-in-FirstTupleConstant.ensures.grows c.first_constant-in-FirstTupleConstant.ensures.own (λ k _. k) (λ k _ _. k))
+returns-in-FirstTupleConstant-clause-did g c = rw c.in-FirstTupleConstant.is (c.first_constant-in-FirstTupleConstant.ensures.did c.args.plain c.args.voice.now)
+
+pub returns-in-FirstTupleConstant-clause-least : goal.returns-in-FirstTupleConstant-clause-least
+returns-in-FirstTupleConstant-clause-least g c = rw c.in-FirstTupleConstant.is (omega (arith, (c.first_constant-in-FirstTupleConstant.ensures.did c.args.plain c.args.voice.now).grows))
 
 pub returns-in-NextTupleConstant-clause-did : goal.returns-in-NextTupleConstant-clause-did
-returns-in-NextTupleConstant-clause-did g c = rw c.in-NextTupleConstant.is (does (c.next_constant-in-NextTupleConstant.ensures.did c.args.plain c.args.voice.now) c.next_constant-in-NextTupleConstant.ensures.grows c.next_constant-in-NextTupleConstant.ensures.own (λ k _. k) (λ k _ _. k))
+returns-in-NextTupleConstant-clause-did g c = rw c.in-NextTupleConstant.is (c.next_constant-in-NextTupleConstant.ensures.did c.args.plain c.args.voice.now)
+
+pub returns-in-NextTupleConstant-clause-least : goal.returns-in-NextTupleConstant-clause-least
+returns-in-NextTupleConstant-clause-least g c = rw c.in-NextTupleConstant.is (omega (arith, (c.next_constant-in-NextTupleConstant.ensures.did c.args.plain c.args.voice.now).grows))
 
 pub returns-in-FirstVariantConstant-clause-did : goal.returns-in-FirstVariantConstant-clause-did
-returns-in-FirstVariantConstant-clause-did g c = rw c.in-FirstVariantConstant.is (does (c.first_constant-in-FirstVariantConstant.ensures.did c.args.plain c.args.voice.now) c.first_constant-in-FirstVariantConstant.ensures.grows c.first_constant-in-FirstVariantConstant.ensures.own (λ k _. k) (λ k _ _. k))
+returns-in-FirstVariantConstant-clause-did g c = rw c.in-FirstVariantConstant.is (c.first_constant-in-FirstVariantConstant.ensures.did c.args.plain c.args.voice.now)
+
+pub returns-in-FirstVariantConstant-clause-least : goal.returns-in-FirstVariantConstant-clause-least
+returns-in-FirstVariantConstant-clause-least g c = rw c.in-FirstVariantConstant.is (omega (arith, (c.first_constant-in-FirstVariantConstant.ensures.did c.args.plain c.args.voice.now).grows))
 
 pub returns-in-NextVariantConstant-clause-did : goal.returns-in-NextVariantConstant-clause-did
-returns-in-NextVariantConstant-clause-did g c = rw c.in-NextVariantConstant.is (does (c.next_constant-in-NextVariantConstant.ensures.did c.args.plain c.args.voice.now) c.next_constant-in-NextVariantConstant.ensures.grows c.next_constant-in-NextVariantConstant.ensures.own (λ k _. k) (λ k _ _. k))
+returns-in-NextVariantConstant-clause-did g c = rw c.in-NextVariantConstant.is (c.next_constant-in-NextVariantConstant.ensures.did c.args.plain c.args.voice.now)
+
+pub returns-in-NextVariantConstant-clause-least : goal.returns-in-NextVariantConstant-clause-least
+returns-in-NextVariantConstant-clause-least g c = rw c.in-NextVariantConstant.is (omega (arith, (c.next_constant-in-NextVariantConstant.ensures.did c.args.plain c.args.voice.now).grows))
 
 pub returns-in-FirstField-clause-did : goal.returns-in-FirstField-clause-did
-returns-in-FirstField-clause-did g c = rw c.in-FirstField.is (does (c.first_constant-in-FirstField.ensures.did c.args.plain c.args.voice.now) c.first_constant-in-FirstField.ensures.grows c.first_constant-in-FirstField.ensures.own (λ k _. k) (λ k _ _. k))
+returns-in-FirstField-clause-did g c = rw c.in-FirstField.is (c.first_constant-in-FirstField.ensures.did c.args.plain c.args.voice.now)
+
+pub returns-in-FirstField-clause-least : goal.returns-in-FirstField-clause-least
+returns-in-FirstField-clause-least g c = rw c.in-FirstField.is (omega (arith, (c.first_constant-in-FirstField.ensures.did c.args.plain c.args.voice.now).grows))
 
 pub returns-in-NextField-clause-did : goal.returns-in-NextField-clause-did
-returns-in-NextField-clause-did g c = rw c.in-NextField.is (does (c.next_constant-in-NextField.ensures.did c.args.plain c.args.voice.now) c.next_constant-in-NextField.ensures.grows c.next_constant-in-NextField.ensures.own (λ k _. k) (λ k _ _. k))
+returns-in-NextField-clause-did g c = rw c.in-NextField.is (c.next_constant-in-NextField.ensures.did c.args.plain c.args.voice.now)
+
+pub returns-in-NextField-clause-least : goal.returns-in-NextField-clause-least
+returns-in-NextField-clause-least g c = rw c.in-NextField.is (omega (arith, (c.next_constant-in-NextField.ensures.did c.args.plain c.args.voice.now).grows))
 
 pub returns-in-SecondTupleConstant-clause-did : goal.returns-in-SecondTupleConstant-clause-did
 returns-in-SecondTupleConstant-clause-did g c = rw c.in-SecondTupleConstant.is (c.second_tuple_constant.ensures.did c.args.plain c.args.voice.now)
@@ -213,7 +243,10 @@ pub returns-in-Variant-clause-least : goal.returns-in-Variant-clause-least
 returns-in-Variant-clause-least g c = rw c.in-Variant.is (omega (arith, (c.variant.ensures.did c.args.plain c.args.voice.now).grows))
 
 pub returns-in-Field-clause-did : goal.returns-in-Field-clause-did
-returns-in-Field-clause-did g c = rw c.in-Field.is (does (c.field.ensures.did c.args.row.now) c.field.ensures.grows c.field.ensures.own (λ _. c.field.ensures.ready) (λ _. c.field.ensures.sound))
+returns-in-Field-clause-did g c = rw c.in-Field.is (c.field.ensures.did c.args.row.now)
+
+pub returns-in-Field-clause-least : goal.returns-in-Field-clause-least
+returns-in-Field-clause-least g c = rw c.in-Field.is (omega (arith, (c.field.ensures.did c.args.row.now).grows))
 
 pub returns-in-Behind-clause-did : goal.returns-in-Behind-clause-did
 returns-in-Behind-clause-did g c = rw c.in-Behind.is (c.behind.ensures.did c.args.symbol.now c.args.plain c.args.voice.now c.args.row.now c.args.looks.now)
