@@ -1,6 +1,8 @@
 -- What a run over several texts writes.
 use Rattle.std.specs.Prelude.{◌≡◌, ℕ, List, [], ◌∷◌, ◌++◌, Some, IfSome}
 use Rattle.std.specs.declared.option.Option.{Option}
+use Rattle.std.specs.declared.io.ErrorKind.TheVariants.{BrokenPipe}
+use Rattle.std.specs.IoError.{error_kind}
 use Rattle.std.specs.Io.KnownBytes.{Appends}
 use Rattle.rustc_demangle.specs.Bytes.{CutsNoRun, Passed}
 use Rattle.rustc_demangle.specs.declared.stream.fault.StreamFault.{StreamFault}
@@ -42,6 +44,13 @@ RunStopped (Read e) filter readers old new = WroteFront filter readers old new
 RunStopped NotUtf8 filter readers old new = WroteFront filter readers old new
 RunStopped (Write e) filter readers old new = Unit {0}
 RunStopped Memory filter readers old new = WroteFront filter readers old new
+
+-- the fault is the writer's, and whoever reads has closed the pipe
+abbrev pub IsClosedPipe : StreamFault → Type 0
+IsClosedPipe (Read e) = ⊥
+IsClosedPipe NotUtf8 = ⊥
+IsClosedPipe (Write e) = error_kind e ≡ BrokenPipe
+IsClosedPipe Memory = ⊥
 
 -- a turn took some of what the reader held, or nothing: of the carried text and the reader's bytes a front that cuts no symbol was filtered, and the rest is carried or left
 abbrev pub TurnTook : (List ℕ → List ℕ) → List ℕ → List ℕ → Option (List ℕ) → Option (List ℕ) → Option (List ℕ) → Option (List ℕ) → Type 0

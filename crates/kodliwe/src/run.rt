@@ -4,7 +4,7 @@ ghost use Rattle.std.specs.Io.KnownBytes.{Appends, Keeps};
 ghost use Rattle.std.specs.Io.Buffered.{reader_remaining};
 ghost use Rattle.rustc_demangle.specs.Filtered.{filtered_within};
 ghost use Rattle.rustc_demangle.specs.Bytes.{IsWriting, StepEnded, StepRefused, BytesStopped};
-ghost use Rattle.kodliwe.specs.Run.{TurnTook, WroteAll, WroteFront, RunStopped};
+ghost use Rattle.kodliwe.specs.Run.{TurnTook, WroteAll, WroteFront, RunStopped, IsClosedPipe};
 
 use crate::fault::{InputFault, report};
 use rustc_demangle::{BytesFilter, StreamFault};
@@ -207,6 +207,9 @@ fn filter_inputs<'a, R: Read + Drop, W: Write>(
 fn end_of(fault: &StreamFault) -> Ended
     ensures stopped { (result ≡ Ended.Complete → ⊥) }
     ensures unread { result ≡ Ended.Unread → IsWriting fault.now → ⊥ }
+    ensures unwritten { result ≡ Ended.Unwritten → IsWriting fault.now }
+    ensures closed { result ≡ Ended.Closed → IsClosedPipe fault.now }
+    ensures told { IsClosedPipe fault.now → result ≡ Ended.Closed }
 {
     match fault {
         StreamFault::Write(error) => {

@@ -1,5 +1,5 @@
 //! The words of the command line.
-ghost use Rattle.std.specs.Prelude.{◌≡◌, codes, false, nat_eq};
+ghost use Rattle.std.specs.Prelude.{◌≡◌, ◌++◌, ◌∷◌, [], codes, true, false, nat_eq, None, Some, OnOk, OnErr};
 ghost use Rattle.std.specs.List.{starts_with};
 
 use std::alloc::{AllocError, Global};
@@ -71,7 +71,10 @@ enum Word<'a> {
 
 /// Whether a word is the option `short` or `long`, and the value that it has within itself, as
 /// `-iFILE` or `--input=FILE`.
-fn option_value<'a>(word: &'a str, short: &str, long: &str) -> Option<Option<&'a str>> {
+fn option_value<'a>(word: &'a str, short: &str, long: &str) -> Option<Option<&'a str>>
+    ensures short { word.now ≡ short.now → result ≡ Some None }
+    ensures long { word.now ≡ long.now → result ≡ Some None }
+{
     if word == short || word == long {
         return Some(None);
     }
@@ -94,6 +97,10 @@ fn read_word(word: &str) -> Word<'_>
     ensures hash { word.now ≡ codes "--hash" → result ≡ Word.Hash }
     ensures end { word.now ≡ codes "--" → result ≡ Word.End }
     ensures stdin { word.now ≡ codes "-" → result ≡ Word.Stdin }
+    ensures h { word.now ≡ codes "-h" → result ≡ Word.Help }
+    ensures help { word.now ≡ codes "--help" → result ≡ Word.Help }
+    ensures version { word.now ≡ codes "--version" → result ≡ Word.Version }
+    ensures input { word.now ≡ codes "--input" → result ≡ Word.Input None }
 {
     if !word.starts_with("-") {
         return Word::Symbol(word);
@@ -127,7 +134,12 @@ fn read_word(word: &str) -> Word<'_>
 
 impl<'a> Request<'a> {
     /// A request for which no word was read.
-    fn new(alloc: Global) -> Request<'a> {
+    fn new(alloc: Global) -> Request<'a>
+        ensures sources { result.sources.items ≡ [] }
+        ensures output { result.output ≡ None }
+        ensures hash { result.include_hash ≡ false }
+        ensures limit { result.limit ≡ 1000000 }
+    {
         Request {
             sources: Vec::new(alloc),
             output: None,
@@ -148,7 +160,13 @@ impl<'a> Request<'a> {
     }
 
     /// Adds a file, which is standard input where it is named `-`.
-    fn add_file(&mut self, file: &'a str) -> Result<(), AllocError> {
+    fn add_file(&mut self, file: &'a str) -> Result<(), AllocError>
+        ensures stdin { file.now ≡ codes "-" → OnOk result (self.new.sources.items
+            ≡ self.old.sources.items ++ Source.Stdin ∷ []) }
+        ensures hash { self.new.include_hash ≡ self.old.include_hash }
+        ensures limit { self.new.limit ≡ self.old.limit }
+        ensures output { self.new.output ≡ self.old.output }
+    {
         let source = if file == "-" {
             Source::Stdin
         } else {
@@ -160,7 +178,9 @@ impl<'a> Request<'a> {
 }
 
 /// Adds a text and a line feed.
-fn push_line(lines: &mut Vec<u8>, text: &str) -> Result<(), AllocError> {
+fn push_line(lines: &mut Vec<u8>, text: &str) -> Result<(), AllocError>
+    ensures { OnOk result (lines.new.items ≡ lines.old.items ++ (text.now ++ 10 ∷ [])) }
+{
     lines.extend_from_slice(text.as_bytes())?;
     lines.push(b'\n')?;
     Ok(())
