@@ -36,7 +36,7 @@ from common import CORPUS, ROOT, instructions
 HERE = os.path.join(ROOT, 'bench', 'c_library')
 ARCHIVE = os.path.join(ROOT, 'crates', 'demangle_c', 'out', 'libdemangle_c.a')
 CALLS = ['kodliwe_demangle', 'kodliwe_demangle_limited', 'kodliwe_demangle_part', 'kodliwe_demangle_text', 'kodliwe_is_symbol',
-         'kodliwe_symbol_len']
+         'kodliwe_path_len', 'kodliwe_print_part', 'kodliwe_symbol_len']
 WANTED = ['memcpy', 'memmove', 'memset']
 NO_LIMIT = 2**64 - 1
 # Texts that are no symbols, by what is wrong with them.

@@ -35,7 +35,7 @@ DIFFERENT = {
     'v0::tests::demangle_min_const_generics': ('"0xff00ff00ff00ff00ff"', '"%d"' % 0xff00ff00ff00ff00ff),
 }
 # The most instructions that a symbol may take, in those of the crate.
-MOST = 1.2
+MOST = 1.0
 CLIENTS = {
     'backtrace': 'librust-backtrace-dev librust-cpp-demangle-dev librust-libloading-dev librust-rustc-serialize-dev librust-winapi-dev',
     'addr2line': 'librust-addr2line-dev librust-backtrace-dev librust-clap-3-dev librust-cpp-demangle-dev librust-findshlibs-dev '

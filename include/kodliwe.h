@@ -67,6 +67,19 @@ size_t kodliwe_demangle_limited(const char *symbol, size_t symbol_len, char *out
 size_t kodliwe_demangle_part(const char *symbol, size_t symbol_len, char *out, size_t out_size, bool include_hash,
                              size_t limit, size_t start);
 
+/* How many bytes of the symbol stand in front of its suffix and of an ending of ThinLTO, and 0 where the bytes are no Rust
+ * symbol. Nothing is printed for it. */
+size_t kodliwe_path_len(const char *symbol, size_t symbol_len);
+
+/* Writes and returns what kodliwe_demangle_part does, and does not read again where the path ends: path_len is what
+ * kodliwe_path_len returned of the same bytes, and not 0. With it a v0 symbol is gone over once for each path that is
+ * printed, and not twice.
+ *
+ * With other bytes or another number it still returns, reads and writes nothing outside the two ranges, and returns at most
+ * limit + 21 + symbol_len; what out holds then is not said. */
+size_t kodliwe_print_part(const char *symbol, size_t symbol_len, size_t path_len, char *out, size_t out_size,
+                          bool include_hash, size_t limit, size_t start);
+
 /* Writes a text into out with each Rust symbol in it replaced by its path, as a C string: a line of a log, a backtrace or a
  * whole file, in a handler too. The text is any bytes; all but the symbols stays as it is.
  *

@@ -2,7 +2,8 @@
  *
  * A record of the input: 4 bytes of the symbol's length, 8 of the limit (all ones: none), the symbol. For each record, with the
  * hash and without it, the output has 4 bytes of what was returned, 4 of kodliwe_symbol_len, and the path. Each path is also read
- * in parts of several sizes. The symbol ends, and each output ends, where a
+ * in parts of several sizes, by the call that reads the symbol and by the one that is told how long its path is; the latter is
+ * told other lengths too. The symbol ends, and each output ends, where a
  * page begins that can be neither read nor written; guard bytes stand before the output, and in it behind the NUL.
  *
  * Status 1, with a line on standard error, where a call answers otherwise than kodliwe.h says. */
@@ -53,31 +54,50 @@ static void try_size(const char *symbol, size_t len, bool hash, size_t want, siz
         if (out[i] != MARK) fail("a byte behind the NUL is changed", symbol, len, size);
 }
 
-/* One part of the path, and that nothing else is written. */
-static void try_part(const char *symbol, size_t len, bool hash, size_t want, size_t size, size_t start) {
+/* What the answer of no call can be more than. */
+static size_t most(size_t len) { return (limit < 1000000 ? (size_t)limit : 1000000) + 21 + len; }
+
+/* The bytes in front of the output, and those of it from a place on, are as they were. */
+static void try_guards(const char *symbol, size_t len, const char *out, size_t size, size_t from) {
+    for (size_t i = 0; i < GUARD; i++)
+        if (out[(ptrdiff_t)i - GUARD] != MARK) fail("a part changes a byte before the output", symbol, len, size);
+    for (size_t i = from; i < size; i++)
+        if (out[i] != MARK) fail("a part changes a byte behind the NUL", symbol, len, size);
+}
+
+/* A part of what is printed where the path is said to have so many bytes; any other number harms nothing. */
+static void try_length(const char *symbol, size_t len, bool hash, size_t path_len, size_t size, size_t start) {
     char *out = out_end - size;
     memset(out - GUARD, MARK, size + GUARD);
-    if (kodliwe_demangle_part(symbol, len, out, size, hash, (size_t)limit, start) != want)
-        fail("a part returns another number", symbol, len, size);
+    size_t want = kodliwe_print_part(symbol, len, path_len, out, size, hash, (size_t)limit, start);
+    if (want > most(len)) fail("a printed part returns more than the limit allows", symbol, len, size);
+    size_t left = want == 0 ? 0 : start >= want ? 1 : want - start;
+    try_guards(symbol, len, out, size, left < size ? left : size);
+}
+
+/* One part of the path, and that nothing else is written. A path_len of 0: by the call that reads the symbol. */
+static void try_part(const char *symbol, size_t len, bool hash, size_t want, size_t path_len, size_t size, size_t start) {
+    char *out = out_end - size;
+    memset(out - GUARD, MARK, size + GUARD);
+    size_t told = path_len == 0 ? kodliwe_demangle_part(symbol, len, out, size, hash, (size_t)limit, start)
+                                : kodliwe_print_part(symbol, len, path_len, out, size, hash, (size_t)limit, start);
+    if (told != want) fail("a part returns another number", symbol, len, size);
     size_t left = want == 0 || start >= want ? 0 : want - 1 - start, room = size == 0 ? 0 : size - 1;
     size_t text = left < room ? left : room, kept = want == 0 || size == 0 ? 0 : text + 1;
     if (kept != 0 && memcmp(out, whole + (text ? start : 0), text) != 0) fail("a part has another text", symbol, len, size);
     if (kept != 0 && out[text] != 0) fail("a part has no NUL", symbol, len, size);
-    for (size_t i = 0; i < GUARD; i++)
-        if (out[(ptrdiff_t)i - GUARD] != MARK) fail("a part changes a byte before the output", symbol, len, size);
-    for (size_t i = kept; i < size; i++)
-        if (out[i] != MARK) fail("a part changes a byte behind the NUL", symbol, len, size);
+    try_guards(symbol, len, out, size, kept);
 }
 
 /* The whole path in parts, and parts at and past its end. */
-static void try_parts(const char *symbol, size_t len, bool hash, size_t want) {
+static void try_parts(const char *symbol, size_t len, bool hash, size_t want, size_t path_len) {
     const size_t sizes[] = {2, 8, 101, 70001}, starts[] = {want, want + 1, (size_t)PTRDIFF_MAX, SIZE_MAX - 1, SIZE_MAX};
     for (size_t i = 0; i < sizeof sizes / sizeof *sizes; i++) {
         if (want / sizes[i] > 100) continue;
-        for (size_t start = 0; start < want; start += sizes[i] - 1) try_part(symbol, len, hash, want, sizes[i], start);
+        for (size_t start = 0; start < want; start += sizes[i] - 1) try_part(symbol, len, hash, want, path_len, sizes[i], start);
     }
-    for (size_t i = 0; i < sizeof starts / sizeof *starts; i++) try_part(symbol, len, hash, want, 9, starts[i]);
-    for (size_t size = 0; size < 2; size++) try_part(symbol, len, hash, want, size, 1);
+    for (size_t i = 0; i < sizeof starts / sizeof *starts; i++) try_part(symbol, len, hash, want, path_len, 9, starts[i]);
+    for (size_t size = 0; size < 2; size++) try_part(symbol, len, hash, want, path_len, size, 1);
 }
 
 static void try_upstream(const char *symbol, size_t len, size_t want) {
@@ -108,7 +128,12 @@ int main(void) {
             uint32_t told = (uint32_t)want;
             size_t sizes[] = {0, 1, 2, 3, 7, 16, 40, 100, want > 1 ? want - 2 : 0, want ? want - 1 : 0, want, want + 1, want + 50};
             for (size_t i = 0; i < sizeof sizes / sizeof *sizes; i++) try_size(symbol, len, hash, want, sizes[i]);
-            try_parts(symbol, len, hash, want);
+            try_parts(symbol, len, hash, want, 0);
+            size_t path_len = kodliwe_path_len(symbol, len);
+            if ((path_len != 0) != (want != 0) || path_len > len) fail("kodliwe_path_len says otherwise", symbol, len, 0);
+            if (path_len != 0) try_parts(symbol, len, hash, want, path_len);
+            size_t lengths[] = {0, 1, path_len ? path_len - 1 : 0, path_len + 1, len, len + 1, (size_t)PTRDIFF_MAX, SIZE_MAX};
+            for (size_t i = 0; i < sizeof lengths / sizeof *lengths; i++) try_length(symbol, len, hash, lengths[i], 40, i);
             uint32_t symbol_len = (uint32_t)kodliwe_symbol_len(symbol, len);
             if ((symbol_len != 0) != (want != 0) || symbol_len > len) fail("kodliwe_symbol_len says otherwise", symbol, len, 0);
             if (kodliwe_is_symbol(symbol, len) != (want != 0)) fail("kodliwe_is_symbol says otherwise", symbol, len, 0);

@@ -37,6 +37,22 @@ static void ask(const text_t *text, bool hash) {
         size_t left = want - start < sizeof part ? want - start : sizeof part;
         if (want <= sizeof room && memcmp(part, room + start, left - 1) != 0) fail("a part differs", text);
     }
+    size_t path_len = kodliwe_path_len(text->bytes, len);
+    if ((path_len != 0) != (want != 0) || path_len > len) fail("path_len says otherwise", text);
+    for (size_t start = 0; path_len != 0 && start < want && start < 100; start += sizeof part - 1) {
+        if (kodliwe_print_part(text->bytes, len, path_len, part, sizeof part, hash, LIMIT, start) != want) fail("a printed part has another size", text);
+        size_t left = want - start < sizeof part ? want - start : sizeof part;
+        if (want <= sizeof room && memcmp(part, room + start, left - 1) != 0) fail("a printed part differs", text);
+    }
+    const size_t lengths[] = {0, path_len / 2, path_len + 1, len, len + 1, SIZE_MAX};
+    for (size_t i = 0; i < sizeof lengths / sizeof *lengths; i++) {
+        size_t told = kodliwe_print_part(text->bytes, len, lengths[i], part, sizeof part, hash, LIMIT, i);
+        if (told > LIMIT + 21 + len) fail("a printed part of another length is past the limit", text);
+        char *fit = (char *)malloc(told ? told : 1);
+        if (kodliwe_print_part(text->bytes, len, lengths[i], fit, told, hash, LIMIT, 0) != told) fail("a printed part of another length has another size", text);
+        if (told != 0 && fit[told - 1] != 0) fail("a printed part of another length has no NUL", text);
+        free(fit);
+    }
     char *exact = (char *)malloc(want ? want : 1);
     if (kodliwe_demangle_limited(text->bytes, len, exact, want, hash, LIMIT) != want) fail("another size", text);
     if (want != 0 && want <= sizeof room && memcmp(exact, room, want) != 0) fail("another path", text);

@@ -7,6 +7,7 @@ ghost use Prim.Native.Nat.{min};
 ghost use Rattle.std.specs.List.{concat};
 ghost use Rattle.rustc_demangle.specs.Cut.{size};
 ghost use Rattle.rustc_demangle.specs.Filtered.{filtered_within};
+ghost use Rattle.rustc_demangle.specs.PathEnds.{path_len_of, handed_with};
 ghost use Rattle.rustc_demangle.specs.Slice.{overlay};
 ghost use Rattle.rustc_demangle.specs.Stripped.{stripped};
 ghost use Rattle.rustc_demangle.specs.Symbols.{handed};
@@ -16,22 +17,30 @@ ghost use Rattle.demangle_c.specs.Naming.{NamesRust, path_named, path_within, c_
 mod tests;
 
 use rustc_demangle::sink::SliceSink;
-use rustc_demangle::{Demangle, demangle_slice, try_demangle};
+use rustc_demangle::{Demangle, demangle_slice, try_demangle, write_with_path_len};
 
 /// The most bytes that are printed of a symbol, before the marker and the suffix.
 const MAX_SIZE: usize = 1_000_000;
 
-/// The symbol that the bytes are.
+/// The text that the bytes are: none where they are not UTF-8, and so no symbol.
 #[tactic(auto, using(rustc_demangle::proofs::SymbolLaws::symbols_utf8))]
-fn symbol_of(bytes: &[u8]) -> Option<Demangle<'_>>
-    ensures symbol { OnSome result (NamesRust bytes.now) }
-    ensures text { IfSome result (λ d. d ≡ stripped bytes.now) }
+fn text_of(bytes: &[u8]) -> Option<&str>
+    ensures text { IfSome result (λ text. text.now ≡ bytes.now) }
     ensures none { IfNone result (NamesRust bytes.now → ⊥) }
 {
     let Ok(text) = str::from_utf8(bytes) else {
         return None;
     };
-    try_demangle(text).ok()
+    Some(text)
+}
+
+/// The symbol that the bytes are.
+fn symbol_of(bytes: &[u8]) -> Option<Demangle<'_>>
+    ensures symbol { OnSome result (NamesRust bytes.now) }
+    ensures text { IfSome result (λ d. d ≡ stripped bytes.now) }
+    ensures none { IfNone result (NamesRust bytes.now → ⊥) }
+{
+    try_demangle(text_of(bytes)?).ok()
 }
 
 /// Writes the path's bytes from `start` on into memory, as much as there is room for, and counts all
@@ -52,6 +61,30 @@ fn write_path(
     let mut sink = SliceSink::starting_at(out, start);
     match symbol.write_limited(&mut sink, include_hash, limit) {
         Ok(()) => sink.len(),
+        Err(_) => unreachable!(),
+    }
+}
+
+/// Writes the bytes from `start` on of a path that has `path_len` bytes in the text into memory, as
+/// much as there is room for, and counts all bytes of the path.
+#[tactic(auto, using(crate::proofs::Ending::laid_part))]
+fn write_path_with(
+    text: &str,
+    path_len: usize,
+    out: &mut [u8],
+    include_hash: bool,
+    limit: usize,
+    start: usize,
+) -> usize
+    requires { size (handed_with (stripped text.now) path_len include_hash limit) ≤ usize.MAX }
+    ensures len { result ≡
+        length (concat (handed_with (stripped text.now) path_len include_hash limit)) }
+    ensures bytes { out.new ≡ overlay out.old
+        (drop start (concat (handed_with (stripped text.now) path_len include_hash limit))) }
+{
+    let mut path = SliceSink::starting_at(out, start);
+    match write_with_path_len(text, path_len, &mut path, include_hash, limit) {
+        Ok(()) => path.len(),
         Err(_) => unreachable!(),
     }
 }
@@ -95,6 +128,24 @@ pub extern "C" fn kodliwe_symbol_len(symbol: &[u8]) -> usize
     }
 }
 
+/// How many bytes of a Rust symbol stand in front of its suffix and of an ending that ThinLTO
+/// appended; 0 where the bytes are no symbol.
+///
+/// `kodliwe_print_part` prints the symbol by it. It prints nothing, and takes no memory.
+#[unsafe(no_mangle)]
+#[tactic(auto, using(rustc_demangle::proofs::PathEndLaws::path_len_positive))]
+pub extern "C" fn kodliwe_path_len(symbol: &[u8]) -> usize
+    ensures none { (NamesRust symbol.now → ⊥) → result ≡ 0 }
+    ensures len { NamesRust symbol.now → result ≡ path_len_of (stripped symbol.now) }
+    ensures some { NamesRust symbol.now → 0 < result }
+{
+    if let Some(demangled) = symbol_of(symbol) {
+        demangled.path_len()
+    } else {
+        0
+    }
+}
+
 /// Writes the path that a Rust symbol names into memory from its byte `start` on, with a 0 behind
 /// it, and answers how many bytes the whole path and a 0 want.
 ///
@@ -127,6 +178,37 @@ pub extern "C" fn kodliwe_demangle_part(
     let len = write_path(&demangled, out, include_hash, most, start);
     put_end(out, len.saturating_sub(start));
     len + 1
+}
+
+/// Writes the path as `kodliwe_demangle_part` does, and answers the same, without reading again
+/// where it ends: `path_len` is what `kodliwe_path_len` answered of these bytes, and not 0.
+///
+/// Bytes or a number that are others do no harm: the call ends, changes no byte behind the memory,
+/// and answers no more than the limit, the marker, the symbol and the 0 have bytes. What the memory
+/// then holds is not said. It takes no memory of its own.
+#[unsafe(no_mangle)]
+pub extern "C" fn kodliwe_print_part(
+    symbol: &[u8],
+    path_len: usize,
+    out: &mut [u8],
+    include_hash: bool,
+    limit: usize,
+    start: usize,
+) -> usize
+    ensures size { NamesRust symbol.now → path_len ≡ path_len_of (stripped symbol.now) →
+        result ≡ length (path_within symbol.now include_hash (min limit MAX_SIZE)) + 1 }
+    ensures text { NamesRust symbol.now → path_len ≡ path_len_of (stripped symbol.now) →
+        let path = path_within symbol.now include_hash (min limit MAX_SIZE) in
+        out.new ≡ overlay out.old (c_string (length out.old) (drop start path)) }
+    ensures most { result ≤ min limit MAX_SIZE + 21 + length symbol.now }
+{
+    let Some(text) = text_of(symbol) else {
+        return 0;
+    };
+    let limit = limit.min(MAX_SIZE);
+    let wanted = write_path_with(text, path_len, out, include_hash, limit, start);
+    put_end(out, wanted.saturating_sub(start));
+    wanted + 1
 }
 
 /// Writes the path as `kodliwe_demangle_part` does, from its first byte on.

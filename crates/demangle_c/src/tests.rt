@@ -1,7 +1,7 @@
 //! The calls, once for each kind of answer and of size. The texts are the Rust crate's.
 use crate::{
     kodliwe_demangle, kodliwe_demangle_limited, kodliwe_demangle_part, kodliwe_demangle_text,
-    kodliwe_is_symbol, kodliwe_symbol_len,
+    kodliwe_is_symbol, kodliwe_path_len, kodliwe_print_part, kodliwe_symbol_len,
 };
 
 /// Its text doubles with each of 18 tuples, past every limit.
@@ -250,4 +250,54 @@ fn an_empty_text_is_its_end(rt: HostRuntime) {
     let mut out = [9; 2];
     assert_eq!(rt; kodliwe_demangle_text(b"", &mut out, true, 1000), 1);
     assert!(rt; out == *b"\0\x09");
+}
+
+#[test]
+fn a_path_ends_before_its_suffix(rt: HostRuntime) {
+    assert_eq!(rt; kodliwe_path_len(b"_ZN3foo17h05af221e174051e9E"), 27);
+    assert_eq!(rt; kodliwe_path_len(b"_RNvC3foo3bar.cold.7.llvm.9"), 13);
+    assert_eq!(rt; kodliwe_path_len(b"_ZN3foo3barE.llvm.Z"), 12);
+    assert_eq!(rt; kodliwe_path_len(b"main"), 0);
+    assert_eq!(rt; kodliwe_path_len(b"_ZN\xFF"), 0);
+}
+
+#[test]
+fn a_known_path_is_printed_in_parts(rt: HostRuntime) {
+    let symbol = b"_RNvC3foo3bar.cold.7.llvm.9";
+    let mut part = [9; 8];
+    assert_eq!(rt;
+        kodliwe_print_part(symbol, 13, &mut part, false, 1000, 0),
+        16
+    );
+    assert!(rt; part == *b"foo::ba\0");
+    assert_eq!(rt;
+        kodliwe_print_part(symbol, 13, &mut part, false, 1000, 7),
+        16
+    );
+    assert!(rt; part == *b"r.cold.\0");
+    let legacy = b"_ZN3foo17h05af221e174051e9E";
+    assert_eq!(rt;
+        kodliwe_print_part(legacy, 27, &mut part, false, 1000, 0),
+        4
+    );
+    assert!(rt; part.starts_with(b"foo\0"));
+}
+
+#[test]
+fn another_length_does_no_harm(rt: HostRuntime) {
+    let mut part = [9; 12];
+    let symbol = b"_RNvC3foo3bar.a";
+    for path_len in [0, 1, 14, 15, 16, usize::MAX] {
+        let want = kodliwe_print_part(symbol, path_len, &mut part[..10], false, 1000, 0);
+        assert!(rt; want >= 9 && want <= 1036);
+    }
+    assert_eq!(rt;
+        kodliwe_print_part(b"_RNv\xFF", 4, &mut part[..10], false, 1000, 0),
+        0
+    );
+    assert_eq!(rt;
+        kodliwe_print_part(b"_RNvC3fo", 8, &mut part[..10], true, 4, 0),
+        21
+    );
+    assert!(rt; part[10..] == [9; 2]);
 }

@@ -31,7 +31,7 @@ ascii_all (x ∷ xs) h = both (nat_lt x 128) (list_all (λ b. nat_lt b 128) xs) 
 
 -- each prefix is taken off
 
-inner_prefix : (s r : List ℕ) → v0_inner s ≡ Some r → (prefix : List ℕ) × (s ≡ prefix ++ r) × IsV0Prefix prefix
+pub inner_prefix : (s r : List ℕ) → v0_inner s ≡ Some r → (prefix : List ℕ) × (s ≡ prefix ++ r) × IsV0Prefix prefix
 inner_prefix s r h = go (behind_prefix (codes "_R") s) (behind_prefix (codes "R") s) (behind_prefix (codes "__R") s) refl refl refl h
   where
     go : (a b c : Option (List ℕ)) → behind_prefix (codes "_R") s ≡ a → behind_prefix (codes "R") s ≡ b → behind_prefix (codes "__R") s ≡ c →
@@ -40,7 +40,7 @@ inner_prefix s r h = go (behind_prefix (codes "_R") s) (behind_prefix (codes "R"
     go None (Some x) c p q w h = (codes "R", behind_is (codes "R") s r (q ∙ h), inr (inl refl))
     go None None c p q w h = (codes "__R", behind_is (codes "__R") s r (w ∙ h), inr (inr refl))
 
-prefix_inner : (prefix s r : List ℕ) → s ≡ prefix ++ r → IsV0Prefix prefix → v0_inner s ≡ Some r
+pub prefix_inner : (prefix s r : List ℕ) → s ≡ prefix ++ r → IsV0Prefix prefix → v0_inner s ≡ Some r
 prefix_inner prefix s r e h = subst (λ z. v0_inner z ≡ Some r) (sym e) (go h)
   where
     go : IsV0Prefix prefix → v0_inner (prefix ++ r) ≡ Some r

@@ -1,7 +1,7 @@
 //! v0 symbols (RFC 2603): behind a prefix one path or two, then a suffix.
 #![tactic(auto)]
 
-ghost use Rattle.std.specs.Prelude.{◌≡◌, ◌+◌, ◌-◌, ◌*◌, ◌≤◌, IfOk, IfSome, OnErr, Some, None, length, option_map};
+ghost use Rattle.std.specs.Prelude.{◌≡◌, ◌+◌, ◌-◌, ◌*◌, ◌≤◌, IfOk, IfSome, IfNone, OnErr, OnSome, Some, None, IsAscii, length, option_map};
 ghost use Rattle.demangle_grammar.specs.V0.{v0_inner, v0_of};
 
 use crate::accept::{begins_path, suffix_at};
@@ -32,6 +32,25 @@ fn inner_of(s: &str) -> Option<&str>
     }
     // On macOS, symbols have one underscore more.
     s.strip_prefix("__R")
+}
+
+/// The text as a symbol whose first path prints as far as it is spelled, where the text is ASCII
+/// and has a prefix of the v0 scheme. No path is read.
+pub fn ascii_symbol<'s>(s: &'s str, looks: &mut Looks) -> Option<Demangle<'s>>
+    ensures some { IfSome result (λ symbol. v0_inner s.now ≡ Some symbol) }
+    ensures ascii { OnSome result (IsAscii s.now) }
+    ensures none { IfNone result (IsAscii s.now → v0_inner s.now ≡ None) }
+    ensures grows { looks.old ≤ looks.new }
+    ensures most { looks.new ≤ looks.old + length s.now }
+{
+    let text = Symbol::new(s);
+    if !text.is_ascii(looks) {
+        return None;
+    }
+    match inner_of(s) {
+        Some(inner) => Some(Demangle::new(Symbol::new(inner))),
+        None => None,
+    }
 }
 
 /// Reads a v0 symbol: the symbol, and the suffix behind its paths.

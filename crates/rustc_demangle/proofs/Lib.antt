@@ -5,6 +5,7 @@ pub mod FilterLaws
 pub mod ItemFeeds
 pub mod LineDivision
 pub mod LineLaws
+pub mod PathEndLaws
 pub mod PieceSteps
 pub mod PrintingLaws
 pub mod SchemeLaws

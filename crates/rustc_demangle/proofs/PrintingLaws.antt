@@ -15,7 +15,7 @@ use Rattle.demangle_sink.proofs.PrintsLemmas.{cut-within, cut-past}
 use Rattle.demangle_legacy.proofs.LegacyLaws.{legacy_spelled}
 use Rattle.rustc_demangle.proofs.SymbolSteps.{symbol-pieces, pieces-legacy}
 
-handed-some_of : (text : List ℕ) (hash : Bool) (limit : ℕ) (read : List (List ℕ) × List ℕ) → pieces_of hash text ≡ Some read → handed text hash limit ≡ cut read.0 limit ++ read.1 ∷ []
+pub handed-some_of : (text : List ℕ) (hash : Bool) (limit : ℕ) (read : List (List ℕ) × List ℕ) → pieces_of hash text ≡ Some read → handed text hash limit ≡ cut read.0 limit ++ read.1 ∷ []
 handed-some_of text hash limit read e = ap (λ o. option_map_or (λ (r : List (List ℕ) × List ℕ). cut r.0 limit ++ r.1 ∷ []) o (text ∷ [])) e
 
 pub handed-no_symbol : (text : List ℕ) → (IsSymbol text → ⊥) → (hash : Bool) (limit : ℕ) → handed text hash limit ≡ text ∷ []
@@ -31,7 +31,7 @@ kept-no_symbol text none hash limit = go (pieces_of hash text) refl where
   go (Some read) e = absurd (none (symbol-pieces hash text read e))
 
 -- what is cut has the bytes of the limit and of the marker at most
-size-cut : (pieces : List (List ℕ)) (limit : ℕ) → size (cut pieces limit) ≤ limit + 20
+pub size-cut : (pieces : List (List ℕ)) (limit : ℕ) → size (cut pieces limit) ≤ limit + 20
 size-cut pieces limit = elim (leb_tells (size pieces) limit) [
   | inl e ↦ let within : size pieces ≤ limit = e.1 in omega (arith, ap size (cut-within pieces limit within))
   | inr e ↦ omega (arith, ap size (cut-past pieces limit e.1), size-append (front_within pieces limit) (marker ∷ []), fitting-within pieces limit)

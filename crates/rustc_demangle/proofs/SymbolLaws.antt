@@ -62,7 +62,7 @@ v0_prefix p (inl e) = subst IsAscii (sym e) (two 95 82 [] (omega arith) (omega a
 v0_prefix p (inr (inl e)) = subst IsAscii (sym e) (one 82 (omega arith))
 v0_prefix p (inr (inr e)) = subst IsAscii (sym e) (two 95 95 (82 ∷ []) (omega arith) (omega arith) (one 82 (omega arith)))
 
-symbol_ascii : (text : List ℕ) → IsSymbol text → IsAscii text
+pub symbol_ascii : (text : List ℕ) → IsSymbol text → IsAscii text
 symbol_ascii text (inl (elements, suffix, legacy, allowed)) =
     subst IsAscii (sym legacy.2) (IsAscii-append legacy.0 legacy.1 (legacy_prefix legacy.0 legacy.3) legacy.4)
 symbol_ascii text (inr (inner, suffix, v0, allowed)) =

@@ -175,7 +175,7 @@ unstyled_no_symbol None text suffix is e = no_symbol_unstyled text is
 unstyled_no_symbol (Some style) text suffix is e = absurd (true≢false e)
 
 -- what follows the elements is a part of the text
-elements-shorter : (elements : List (List ℕ)) (text suffix : List ℕ) → IsElements elements text suffix → length suffix ≤ length text
+pub elements-shorter : (elements : List (List ℕ)) (text suffix : List ℕ) → IsElements elements text suffix → length suffix ≤ length text
 elements-shorter [] text suffix is = omega (arith, ap length is)
 elements-shorter (element ∷ elements) text suffix is =
     let below : length suffix ≤ length is.1 = elements-shorter elements is.1 suffix is.5 in

@@ -1,6 +1,7 @@
 -- What a reader of the public contracts believes, in reading order.
 pub mod Stripped
 pub mod Symbols
+pub mod PathEnds
 pub mod Hashes
 pub mod Lines
 pub mod Filtered

@@ -24,7 +24,7 @@ pub use stream::{
 };
 use strip::without_thin_lto;
 pub use text::{demangle_text, demangle_text_limited};
-pub use value::Demangle;
+pub use value::{Demangle, write_with_path_len};
 
 /// The refusal of a text that is no Rust symbol.
 #[derive(Debug, Clone, Drop)]

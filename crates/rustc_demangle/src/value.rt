@@ -4,12 +4,14 @@ ghost use Rattle.demangle_sink.specs.Cut.{cut};
 ghost use Rattle.demangle_sink.specs.Hands.{Hands};
 ghost use Rattle.demangle_legacy.specs.Legacy.{legacy_of};
 ghost use Rattle.demangle_sink.specs.Limit.{Prints, Ready};
-ghost use Rattle.rustc_demangle.specs.Stripped.{is_allowed, is_graphic};
+ghost use Rattle.rustc_demangle.specs.PathEnds.{path_len_of, handed_with};
+ghost use Rattle.rustc_demangle.specs.Stripped.{is_allowed, is_graphic, stripped};
 ghost use Rattle.rustc_demangle.specs.Style.{style_pieces, style_len, style_looks, style_least, IsReadAs, HasNoStyle, HasStyle};
 ghost use Rattle.rustc_demangle.specs.Symbols.{handed, most_bytes, IsSymbol, PrintingLooks};
 ghost use Rattle.demangle_grammar.specs.V0.{v0_of};
 ghost use Rattle.demangle_sink.specs.Writes.{Writes};
 
+use crate::strip::without_thin_lto;
 use demangle_sink::{SinkRefused, SizeLimitedFmtAdapter, TextSink, put_piece};
 use demangle_symbol::cursor::{Looks, Symbol};
 use std::marker::Model;
@@ -98,6 +100,18 @@ impl<'a> Demangle<'a> {
         ensures { result.now ≡ self.now }
     {
         self.original
+    }
+
+    /// How many bytes of the symbol stand in front of its suffix; 0 where the text is no symbol.
+    ///
+    /// `write_with_path_len` prints the symbol by it without reading where its path ends.
+    pub fn path_len(&self) -> usize
+        ensures { result ≡ path_len_of self.now }
+    {
+        match &self.style {
+            Some(_) => self.original.len() - self.suffix.len(),
+            None => 0,
+        }
     }
 
     /// Prints into a sink, by what it was handed.
@@ -282,4 +296,49 @@ impl<'a> Demangle<'a> {
     {
         self.style.is_some()
     }
+}
+
+/// Prints a text into a sink, by what it was handed, where its path has `path_len` bytes.
+fn hand_over_with<S: TextSink>(
+    text: &str,
+    path_len: usize,
+    out: &mut S,
+    include_hash: bool,
+    limit: usize,
+) -> Result<(), SinkRefused>
+    requires { S.failed out.old ≡ false }
+    ensures { Hands S.TextSink out.old (handed_with text.now path_len include_hash limit)
+        result out.new }
+{
+    let mut looks = Looks::new();
+    let Some(symbol) = demangle_v0::ascii_symbol(text, &mut looks) else {
+        let read = Demangle::read(text, &mut looks);
+        return read.hand_over(out, include_hash, limit, &mut looks);
+    };
+    let suffix = &text[path_len.min(text.len())..];
+    let style = DemangleStyle::V0(symbol);
+    write_cut(&style, out, include_hash, limit, &mut looks)?;
+    put_piece(suffix, out)
+}
+
+/// Prints a symbol as `Demangle::write_limited` does, without reading again where its path ends:
+/// `path_len` is what `Demangle::path_len` answered of the same text.
+///
+/// An ending that ThinLTO appended is taken off first. Whatever the text and the number are, it
+/// ends, and hands over no more than the limit, the marker and the text have bytes: of an ASCII
+/// text with a v0 prefix the first path as far as it is spelled, and the text from `path_len` on; of
+/// any other text what `demangle` prints of it. It is refused exactly where the sink failed in this
+/// call, and takes no memory.
+pub fn write_with_path_len<S: TextSink>(
+    text: &str,
+    path_len: usize,
+    out: &mut S,
+    include_hash: bool,
+    limit: usize,
+) -> Result<(), SinkRefused>
+    requires { S.failed out.old ≡ false }
+    ensures { Writes S.TextSink out.old
+        (handed_with (stripped text.now) path_len include_hash limit) result out.new }
+{
+    hand_over_with(without_thin_lto(text), path_len, out, include_hash, limit)
 }

@@ -50,6 +50,25 @@ mod raw {
             limit: usize,
             start: usize,
         ) -> usize;
+        pub fn kodliwe_path_len(symbol: *const u8, symbol_len: usize) -> usize;
+        pub fn kodliwe_print_part(
+            symbol: *const u8,
+            symbol_len: usize,
+            path_len: usize,
+            out: *mut u8,
+            out_size: usize,
+            include_hash: bool,
+            limit: usize,
+            start: usize,
+        ) -> usize;
+        pub fn kodliwe_demangle_text(
+            text: *const u8,
+            text_len: usize,
+            out: *mut u8,
+            out_size: usize,
+            include_hash: bool,
+            limit: usize,
+        ) -> usize;
     }
 }
 
@@ -200,10 +219,93 @@ pub fn demangle_part<'b>(
     let out = unsafe { &mut *(out as *mut [u8] as *mut [MaybeUninit<u8>]) };
     let request = Request {
         symbol,
+        path_len: None,
         include_hash,
         limit,
     };
     request.part(out, start)
+}
+
+/// Writes a text into `out` with each Rust symbol in it replaced by its path, and a NUL behind it, or as much of it as there
+/// is room for. The text is any bytes; all but the symbols stays as it is.
+///
+/// A symbol begins with `_ZN` or `_R` and goes on as far as there are ASCII letters and digits, `_`, `.` and `$`; its path is
+/// cut at `limit` bytes. It is `None` where the whole text has more bytes than a `usize` counts, which wants a text of 10^13
+/// bytes; what `out` then holds is not said.
+pub fn demangle_text<'b>(
+    text: &[u8],
+    out: &'b mut [u8],
+    include_hash: bool,
+    limit: usize,
+) -> Option<Path<'b>> {
+    // SAFETY: the pointers and lengths are those of a `&[u8]` and a `&mut [u8]`, which do not overlap.
+    let wanted = unsafe {
+        raw::kodliwe_demangle_text(
+            text.as_ptr(),
+            text.len(),
+            out.as_mut_ptr(),
+            out.len(),
+            include_hash,
+            limit,
+        )
+    };
+    (wanted != usize::MAX).then(|| Path::new(out, wanted))
+}
+
+/// A Rust symbol that was read, to be printed without reading again where its path ends.
+///
+/// ```
+/// let symbol = kodliwe::Symbol::read(b"_RNvC3foo3bar.llvm.0AB").expect("a symbol");
+/// assert_eq!(symbol.path_len(), 13);
+/// let mut line = String::new();
+/// symbol.write_to(&mut line, false)?;
+/// assert_eq!(line, "foo::bar");
+/// # Ok::<(), std::fmt::Error>(())
+/// ```
+#[derive(Debug, Clone, Copy, PartialEq, Eq)]
+pub struct Symbol<'s> {
+    bytes: &'s [u8],
+    path_len: usize,
+}
+
+impl<'s> Symbol<'s> {
+    /// Reads the bytes as a Rust symbol; `None` where they are none.
+    pub fn read(bytes: &'s [u8]) -> Option<Self> {
+        // SAFETY: the pointer and the length are those of a slice, which nothing writes to during the call.
+        let path_len = unsafe { raw::kodliwe_path_len(bytes.as_ptr(), bytes.len()) };
+        (path_len != 0).then_some(Symbol { bytes, path_len })
+    }
+
+    /// The bytes that were read, with an ending of ThinLTO.
+    pub fn as_bytes(&self) -> &'s [u8] {
+        self.bytes
+    }
+
+    /// How many of the bytes stand in front of the suffix and of an ending of ThinLTO.
+    pub fn path_len(&self) -> usize {
+        self.path_len
+    }
+
+    /// Writes the path to `out`, in parts, without memory, cut at [`MAX_SIZE`] bytes. An error of `out` ends it.
+    pub fn write_to<W: fmt::Write + ?Sized>(&self, out: &mut W, include_hash: bool) -> fmt::Result {
+        self.write_limited(out, include_hash, MAX_SIZE)
+    }
+
+    /// Writes the path as [`Symbol::write_to`] does, cut at `limit` bytes.
+    pub fn write_limited<W: fmt::Write + ?Sized>(
+        &self,
+        out: &mut W,
+        include_hash: bool,
+        limit: usize,
+    ) -> fmt::Result {
+        let request = Request {
+            symbol: self.bytes,
+            path_len: Some(self.path_len),
+            include_hash,
+            limit,
+        };
+        request.write_to(out).map(|_| ())
+    }
 }
 
 /// Writes the path that a Rust symbol names to `out`, in parts, without memory.
@@ -230,28 +332,21 @@ pub fn write_limited<W: fmt::Write + ?Sized>(
 ) -> Result<bool, fmt::Error> {
     let request = Request {
         symbol,
+        path_len: None,
         include_hash,
         limit,
     };
-    let mut room = [MaybeUninit::uninit(); FEW];
-    let Some(part) = request.part(&mut room, 0) else {
-        return Ok(false);
-    };
-    let text = part.as_str();
-    out.write_str(text)?;
-    if !part.is_last() {
-        request.write_rest(text.len(), out)?;
-    }
-    Ok(true)
+    request.write_to(out)
 }
 
 /// The bytes on the stack for the first part of a path, and for each that follows.
 const FEW: usize = 4 * 1024;
 const MANY: usize = 64 * 1024;
 
-/// A symbol, and how its path is to be printed.
+/// A symbol, how many bytes its path has where that was read, and how its path is to be printed.
 struct Request<'s> {
     symbol: &'s [u8],
+    path_len: Option<usize>,
     include_hash: bool,
     limit: usize,
 }
@@ -259,18 +354,18 @@ struct Request<'s> {
 impl Request<'_> {
     /// The path's part from `start` on, which is put into `out`.
     fn part<'b>(&self, out: &'b mut [MaybeUninit<u8>], start: usize) -> Option<Part<'b>> {
+        let (symbol, len) = (self.symbol.as_ptr(), self.symbol.len());
+        let (room, room_len) = (out.as_mut_ptr().cast(), out.len());
+        let (hash, limit) = (self.include_hash, self.limit);
         // SAFETY: the pointers and lengths are those of two slices that do not overlap. The library writes to `out`, and
         // reads nothing of it.
         let counted = unsafe {
-            raw::kodliwe_demangle_part(
-                self.symbol.as_ptr(),
-                self.symbol.len(),
-                out.as_mut_ptr().cast(),
-                out.len(),
-                self.include_hash,
-                self.limit,
-                start,
-            )
+            match self.path_len {
+                Some(path_len) => raw::kodliwe_print_part(
+                    symbol, len, path_len, room, room_len, hash, limit, start,
+                ),
+                None => raw::kodliwe_demangle_part(symbol, len, room, room_len, hash, limit, start),
+            }
         };
         let size = counted.checked_sub(1)?;
         let held = size.saturating_sub(start).min(out.len().saturating_sub(1));
@@ -281,6 +376,20 @@ impl Request<'_> {
             end: start.saturating_add(held),
             size,
         })
+    }
+
+    /// Writes the path; whether there is one.
+    fn write_to<W: fmt::Write + ?Sized>(&self, out: &mut W) -> Result<bool, fmt::Error> {
+        let mut room = [MaybeUninit::uninit(); FEW];
+        let Some(part) = self.part(&mut room, 0) else {
+            return Ok(false);
+        };
+        let text = part.as_str();
+        out.write_str(text)?;
+        if !part.is_last() {
+            self.write_rest(text.len(), out)?;
+        }
+        Ok(true)
     }
 
     /// Writes what of the path stands from `start` on.

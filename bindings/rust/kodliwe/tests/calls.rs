@@ -1,5 +1,6 @@
 use kodliwe::{
-    demangle, demangle_limited, demangle_part, is_symbol, symbol_len, write_limited, write_to,
+    demangle, demangle_limited, demangle_part, demangle_text, is_symbol, symbol_len, write_limited,
+    write_to, Symbol,
 };
 use std::fmt;
 
@@ -204,4 +205,47 @@ fn an_error_of_the_writer_ends_it() {
     let mut writer = Takes(4, String::new());
     assert_eq!(write_to(symbol.as_bytes(), &mut writer, false), Ok(true));
     assert!(writer.1 == name);
+}
+
+#[test]
+fn a_text_keeps_all_but_its_symbols() {
+    let text = b"\xFF at _ZN3foo17h05af221e174051e9E: _RNvC3foo3bar.llvm.9\n";
+    let mut out = [9; 40];
+    let path = demangle_text(text, &mut out, false, 100).unwrap();
+    assert_eq!(path.as_bytes(), b"\xFF at foo: foo::bar\n");
+    assert_eq!((path.is_whole(), path.wanted()), (true, 20));
+    assert_eq!(
+        demangle_text(b"<_RNvC3foo3bar>", &mut out[..4], false, 100)
+            .unwrap()
+            .as_bytes(),
+        b"<fo"
+    );
+}
+
+#[test]
+fn a_symbol_that_was_read_prints_its_path() {
+    for (bytes, path_len, path) in [
+        (SYMBOL, 27, "foo"),
+        (b"_RNvC3foo3bar.cold.7", 13, "foo::bar.cold.7"),
+        (b"_ZN3fooE.llvm.0A@1", 8, "foo"),
+        (b"__RNvC3foo3bar", 14, "foo::bar"),
+    ] {
+        let symbol = Symbol::read(bytes).unwrap();
+        assert_eq!((symbol.as_bytes(), symbol.path_len()), (bytes, path_len));
+        let mut line = String::new();
+        symbol.write_to(&mut line, false).unwrap();
+        assert_eq!(line, path);
+    }
+    assert_eq!(Symbol::read(b"main"), None);
+    assert_eq!(Symbol::read(b"_RNvC3foo3bar\xFF"), None);
+}
+
+#[test]
+fn a_symbol_that_was_read_is_cut() {
+    let mut line = String::new();
+    Symbol::read(b"_ZN3foo3barE.cold.7")
+        .unwrap()
+        .write_limited(&mut line, false, 4)
+        .unwrap();
+    assert_eq!(line, "foo{size limit reached}.cold.7");
 }

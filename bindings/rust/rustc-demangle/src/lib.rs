@@ -44,7 +44,7 @@ use core::fmt;
 /// path is cut at 1,000,000 bytes; `{size limit reached}` and the symbol's suffix then follow.
 pub struct Demangle<'a> {
     original: &'a str,
-    is_symbol: bool,
+    symbol: Option<kodliwe::Symbol<'a>>,
 }
 
 impl<'a> Demangle<'a> {
@@ -56,11 +56,10 @@ impl<'a> Demangle<'a> {
 
 impl fmt::Display for Demangle<'_> {
     fn fmt(&self, f: &mut fmt::Formatter<'_>) -> fmt::Result {
-        let include_hash = !f.alternate();
-        if self.is_symbol && kodliwe::write_to(self.original.as_bytes(), f, include_hash)? {
-            return Ok(());
+        match &self.symbol {
+            Some(symbol) => symbol.write_to(f, !f.alternate()),
+            None => f.write_str(self.original),
         }
-        f.write_str(self.original)
     }
 }
 
@@ -89,7 +88,7 @@ pub struct TryDemangleError {
 pub fn demangle(s: &str) -> Demangle<'_> {
     try_demangle(s).unwrap_or(Demangle {
         original: without_thin_lto(s),
-        is_symbol: false,
+        symbol: None,
     })
 }
 
@@ -102,17 +101,22 @@ pub fn demangle(s: &str) -> Demangle<'_> {
 /// assert!(try_demangle("main").is_err());
 /// ```
 pub fn try_demangle(s: &str) -> Result<Demangle<'_>, TryDemangleError> {
-    match kodliwe::symbol_len(s.as_bytes()) {
-        Some(len) => Ok(Demangle {
-            original: &s[..len],
-            is_symbol: true,
-        }),
-        None => Err(TryDemangleError { _priv: () }),
-    }
+    let Some(symbol) = kodliwe::Symbol::read(s.as_bytes()) else {
+        return Err(TryDemangleError { _priv: () });
+    };
+    // Behind the path there may be nothing, and then no ending of ThinLTO either.
+    let original = if symbol.path_len() == s.len() {
+        s
+    } else {
+        without_thin_lto(s)
+    };
+    Ok(Demangle {
+        original,
+        symbol: Some(symbol),
+    })
 }
 
-/// A text that is no symbol without what would be an ending of ThinLTO: the first `.llvm.`, where only upper case
-/// hexadecimal digits and `@` follow.
+/// A text without an ending of ThinLTO: the first `.llvm.`, where only upper case hexadecimal digits and `@` follow.
 fn without_thin_lto(s: &str) -> &str {
     match s.split_once(".llvm.") {
         Some((front, hash))
