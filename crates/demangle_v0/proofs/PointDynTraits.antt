@@ -1,7 +1,7 @@
 -- The points of dyn types.
-use Rattle.demangle_v0.proofs.PointTurns.{list_words}
+use Rattle.demangle_v0.proofs.PointTurns.{list_words, behind}
 use Rattle.std.specs.Prelude.{◌*◌, if◌then◌else◌, codes}
-use Rattle.std.proofs.Common.{◌≡◌, ℕ, ◌+◌, ◌-◌, ◌≤◌, length, Bool, true, false, Option, Some, None, List, [], ◌∷◌, ◌++◌, Result, Ok, Err, refl, arith, sym, ap, ◌∙◌}
+use Rattle.std.proofs.Common.{◌≡◌, ℕ, ◌+◌, ◌-◌, ◌<◌, ◌≤◌, length, Bool, true, false, Option, Some, None, List, [], ◌∷◌, ◌++◌, Result, Ok, Err, refl, arith, sym, ap, ◌∙◌}
 use Rattle.std.proofs.lemmas.Bool.{false≢true}
 use Prim.Native.Char.{code}
 use Rattle.demangle_symbol.specs.Digits.{is_byte}
@@ -15,7 +15,7 @@ use Rattle.demangle_v0.specs.DynTraits.{dyn_type}
 use Rattle.demangle_grammar.specs.Events.{Heard, of, nothing_heard, and_then, with_looks, with_texts, around}
 use Rattle.demangle_words.specs.Texts.{word_items, text}
 use Rattle.demangle_grammar.specs.Reading.{Place, run, unit_outcome, max_depth}
-use Rattle.demangle_v0.specs.Points.{mark_texts, share_at, share, share_of, bindings_left, none_open, way_weight, weight_at, height_at, Fits, is_list_over, behind_list, list_costs, DidOn, words_at}
+use Rattle.demangle_v0.specs.Points.{mark_texts, share_at, share, share_of, bindings_left, none_open, way_weight, weight_at, height_at, Fits, is_list_over, behind_list, list_costs, DidOn, words_at, Turn, turn, Env, Part, part, Does, PointDoes}
 use Rattle.demangle_words.specs.declared.texts.Mark.{Mark}
 use Rattle.demangle_words.specs.declared.texts.Mark.TheVariants as mark
 use Rattle.demangle_words.specs.declared.texts.Word.TheVariants as word
@@ -92,7 +92,7 @@ told_fits true y left n f = f
 told_fits false true left n f = f
 told_fits false false left n f = f
 
-costs_most : (b : List ℕ) (i : ℕ) → total (argument_costs b i) ≤ 2
+pub costs_most : (b : List ℕ) (i : ℕ) → total (argument_costs b i) ≤ 2
 costs_most b i = go (is_byte b i (code "L"))
   where
     go : (x : Bool) → total (if x then 1 ∷ [] else 1 ∷ 1 ∷ []) ≤ 2
@@ -114,13 +114,13 @@ module _ {V : Type 0} (voice : Ghosts V) (b : List ℕ) (plain : Bool) where
   unfolding run share_at
   dyn_reads s = refl
 
-  pub dyn_type_did : (s : State) (row now : List Frame) (u : V) (new : State) → Fits point.DynBinder s.depth_left s.lifetimes
+  pub dyn_type_did : (s : State) (row now : List Frame) (u : V) (new : State) (made : ℕ) → made ≤ 0 → Fits point.DynBinder s.depth_left s.lifetimes
       → new.depth_left ≡ s.depth_left → new.lifetimes ≡ s.lifetimes → new.place ≡ s.place → new.mark ≡ Some mark.Dyn → now ≡ row ++ frame_at point.DynLifetime s ∷ []
-      → DidOn voice b plain 5 (heard voice b plain dyn_type s.depth_left s.lifetimes s.place) 4 (8 * s.depth_left + 5) row u (Ok point.DynBinder) new now u 0
+      → DidOn voice b plain 5 (heard voice b plain dyn_type s.depth_left s.lifetimes s.place) 4 (8 * s.depth_left + 5) row u (Ok point.DynBinder) new now u made
   unfolding share_at
-  dyn_type_did s row now u new f kl kn kp km w =
-      enters voice b plain point.DynBinder (Some mark.Dyn) [] [] (omega arith) (frame_at point.DynLifetime s) _ (heard voice b plain (in_binder first_traits) s.depth_left s.lifetimes s.place) 4 (8 * s.depth_left + 5) row now u new 0
-      (dyn_reads s) (rw (kl, kn, kp) refl) km w (omega arith) (omega arith) (omega arith) (omega arith) (omega (arith, kl)) (omega (arith, f)) (rw (kl, kn) f) refl
+  dyn_type_did s row now u new made l f kl kn kp km w =
+      enters voice b plain point.DynBinder (Some mark.Dyn) [] [] (omega arith) (frame_at point.DynLifetime s) _ (heard voice b plain (in_binder first_traits) s.depth_left s.lifetimes s.place) 4 (8 * s.depth_left + 5) row now u new made
+      (dyn_reads s) (rw (kl, kn, kp) refl) km w (omega (arith, l)) (omega (arith, l)) (omega arith) (omega arith) (omega (arith, kl)) (omega (arith, f)) (rw (kl, kn) f) refl
 
   -- Dyn traits.
 
@@ -196,13 +196,6 @@ module _ {V : Type 0} (voice : Ghosts V) (b : List ℕ) (plain : Bool) where
       → share_of b plain voice.loud point.TraitPath s ≡ with_looks (1 ∷ []) (of plain voice.loud (run (target a_trait_path false) (around b voice.loud s.depth_left s.lifetimes) (Some (i + 1))))
   unfolding share_at
   refers_reads s i p e = rw p (trait_path_reads plain voice.loud b s.depth_left s.lifetimes false i ∙ trait_path_refers plain voice.loud b s.depth_left s.lifetimes i e)
-
-  pub trait_refers : (s : State) (i : ℕ) (row now : List Frame) (u : V) (result : Result Point Stop) (new : State) (second made : ℕ) → s.place ≡ Some i → is_byte b i (code "B") ≡ true → made ≤ 1 + second
-      → DidOn voice b plain 1 (of plain voice.loud (run (target a_trait_path false) (around b voice.loud s.depth_left s.lifetimes) (Some (i + 1)))) 1 (8 * s.depth_left + 2) row u result new now u second
-      → DidOn voice b plain 8 (share_of b plain voice.loud point.TraitPath s) 1 (8 * s.depth_left + 2) row u result new now u made
-  trait_refers s i row now u result new second made p e l d =
-      after voice b plain (1 ∷ []) (omega arith) _ (of plain voice.loud (run (target a_trait_path false) (around b voice.loud s.depth_left s.lifetimes) (Some (i + 1)))) 1 (8 * s.depth_left + 2) 1 (8 * s.depth_left + 2) row u u result new now 1 second made
-      (refers_reads s i p e) (omega arith) l (omega arith) (omega arith) d
 
   generic_reads : (s : State) (i : ℕ) → s.place ≡ Some i → is_byte b i (code "B") ≡ false → is_byte b i (code "I") ≡ true
       → share_of b plain voice.loud point.TraitPath s
@@ -458,3 +451,12 @@ module _ {V : Type 0} (voice : Ghosts V) (b : List ℕ) (plain : Bool) where
       let g : Heard = of plain voice.loud (unit_outcome (around b voice.loud s.depth_left s.lifetimes) a_type false (Some i)) in
       enters voice b plain point.«Type» None (1 ∷ []) [] (omega arith) (frame_at point.OpenBindings s) _ (none_open g) 5 (8 * s.depth_left + 4) row now u new made
       (bound_reads s (Some i) (1 ∷ []) g p (bound_type plain voice.loud b s.depth_left s.lifetimes i e)) (rw (kl, kn, kp) refl) km w (omega (arith, l)) (omega (arith, l)) (omega arith) (omega arith) (omega (arith, kl)) f (rw (kl, kn) f) refl
+
+-- A dyn trait's path that refers to another.
+module _ {V : Type 0} {e : Env V} where
+  pub trait_refers : {t u : Turn V} {r : Result Point Stop} {n : ℕ} (i : ℕ) → t.state.place ≡ Some i → is_byte e.symbol i (code "B") ≡ true → n ≡ t.looks + 1 → i < length e.symbol
+      → Does e (turn (record t.state { place = Some (i + 1) }) t.row t.voice n) (part 1 (of e.plain e.voice.loud (run (target a_trait_path false) (around e.symbol e.voice.loud t.state.depth_left t.state.lifetimes) (Some (i + 1)))) 1 (8 * t.state.depth_left + 2)) r u
+      → PointDoes e point.TraitPath t r u
+  unfolding share_at
+  trait_refers {t} i at b l within d =
+      behind (1 ∷ []) (omega arith) (refers_reads e.voice e.symbol e.plain t.state i at b) (record { grows = omega (arith, l); within = omega (arith, l) }) (rw at (omega (arith, l, within))) (omega arith) (omega arith) d

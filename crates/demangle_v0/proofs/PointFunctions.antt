@@ -14,7 +14,7 @@ use Rattle.demangle_grammar.specs.Events.{Heard, of, nothing_heard, and_then, wi
 use Rattle.demangle_words.specs.Texts.{word_items, text}
 use Rattle.demangle_words.specs.Groups.{texts_of, word_group}
 use Rattle.demangle_grammar.specs.Reading.{Place, run, unit_outcome, max_depth}
-use Rattle.demangle_v0.specs.Points.{frame_of, mark_texts, then_frame, share_at, share, is_inner, weight_at, words_at, share_of, returns, none_open, way_weight, height_at, Fits, is_list_over, behind_list, list_costs, DidOn}
+use Rattle.demangle_v0.specs.Points.{frame_of, mark_texts, then_frame, share_at, share, is_inner, weight_at, words_at, share_of, returns, none_open, way_weight, height_at, Fits, is_list_over, behind_list, list_costs, DidOn, Turn, Env, Part, part, Does, Paid, own_looks}
 use Rattle.demangle_sink.specs.declared.SinkRefused.{SinkRefused}
 use Rattle.demangle_words.specs.declared.texts.Mark.{Mark}
 use Rattle.demangle_words.specs.declared.texts.Mark.TheVariants as mark
@@ -34,7 +34,7 @@ use Rattle.demangle_grammar.proofs.Elements.{type_element}
 use Rattle.demangle_grammar.proofs.ListReads.{child_followed, end_failed, end_over, more_failed, more_over, first_on, more_on}
 use Rattle.demangle_v0.proofs.PointSteps.{heard, child_last, refused, steps, after, faulty, faulty_after, put_goes, put_refused, group_so, group_goes, group_fails, group_refused, word_so}
 use Rattle.demangle_grammar.proofs.TypeReads.{binder_reads}
-use Rattle.demangle_v0.proofs.PointTurns.{list_words}
+use Rattle.demangle_v0.proofs.PointTurns.{list_words, unread, ends, behind_few, tells, halts}
 use Rattle.demangle_v0.proofs.WordLooks.{group_few}
 
 abbrev pub parameters : Items
@@ -112,46 +112,6 @@ module _ {V : Type 0} (voice : Ghosts V) (b : List ℕ) (plain : Bool) where
       → DidOn voice b plain words (heard voice b plain (word_items x c p) left n i) weight high row v (Err (Fault m)) new row v made
   word_fails few x c p left n i m weight high row v new made r l k y =
       group_fails voice b plain _ (word_group b x c voice.loud n i) (omega (arith, few, group_few b x c voice.loud n i)) (heard voice b plain p left n) m weight high row v new made (word_so voice b plain x c p left n i) r l k y
-
-  -- Binders.
-
-  pub binder_unread : {words : ℕ} (p : Items) (left n weight high : ℕ) (row : List Frame) (u : V) (new : State) (made : ℕ) → new.mark ≡ None → made ≤ 0 → 1 ≤ weight
-      → DidOn voice b plain words (heard voice b plain (in_binder p) left n None) weight high row u (Err (Fault mark.Unread)) new row u made
-  unfolding run
-  binder_unread p left n weight high row u new made k l x = faulty voice b plain mark.Unread _ weight high row u new made k refl l x
-
-  pub binder_stops : {words : ℕ} (few : 1 ≤ words) (p : Items) (left n i weight high : ℕ) (row : List Frame) (u : V) (new : State) (made : ℕ) → new.mark ≡ None → None ≡ optional_at (code "G") b i → made ≤ 4 * (length b - i + 1) → 1 ≤ weight
-      → DidOn voice b plain words (heard voice b plain (in_binder p) left n (Some i)) weight high row u (Err (Fault mark.Invalid)) new row u made
-  unfolding run
-  binder_stops few p left n i weight high row u new made k e l x = faulty_after voice b plain (4 * (length b - i + 1) ∷ []) (omega (arith, few)) mark.Invalid _ weight high row u new made k (rw (sym e) refl) (omega (arith, l)) x
-
-  binder_so : (p : Items) (left n i j m : ℕ) → Some (m, j) ≡ optional_at (code "G") b i
-      → heard voice b plain (in_binder p) left n (Some i) ≡ with_looks (4 * (j - i + 1) ∷ []) (with_texts voice.loud (binder_texts m n) (heard voice b plain p left (n + m) (Some j)))
-  binder_so p left n i j m e = ap none_open (binder_reads plain voice.loud b left n p i j m (sym e))
-
-  -- no lifetime
-  pub binder_none : {words words' : ℕ} (few : 1 + words' ≤ words) (p : Items) (left n i j m weight high weight' high' : ℕ) (row : List Frame) (v w : V) (result : Result Point Stop) (new : State) (now : List Frame) (first second made : ℕ)
-      → Some (m, j) ≡ optional_at (code "G") b i → m ≡ 0 → first ≤ 4 * (j - i + 1) → made ≤ first + second → weight' ≤ weight + 100 → high' ≤ high
-      → DidOn voice b plain words' (heard voice b plain p left n (Some j)) weight' high' row v result new now w second → DidOn voice b plain words (heard voice b plain (in_binder p) left n (Some i)) weight high row v result new now w made
-  unfolding binder_texts
-  binder_none few p left n i j m weight high weight' high' row v w result new now first second made e z k l x y d =
-      let add : n + 0 ≡ n = omega arith in
-      after voice b plain (4 * (j - i + 1) ∷ []) (omega (arith, few)) _ (heard voice b plain p left n (Some j)) weight high weight' high' row v w result new now first second made
-      (binder_so p left n i j m e ∙ rw (z, add) refl) (omega (arith, k)) l (omega arith) y d
-
-  pub binder_goes : {words : ℕ} (few : 1 ≤ words) (to : Point) (p : Items) (left n i j m weight high : ℕ) (row : List Frame) (v w : V) (new : State) (made : ℕ)
-      → Some (m, j) ≡ optional_at (code "G") b i → made ≤ 4 * (j - i + 1) → voice.prints v (binder_texts m n) (Ok tt) w → new.mark ≡ None
-      → heard voice b plain p left (n + m) (Some j) ≡ share_of b plain voice.loud to new → way_weight to ≤ weight + 99 → height_at to new.depth_left ≤ high → Fits to new.depth_left new.lifetimes
-      → DidOn voice b plain words (heard voice b plain (in_binder p) left n (Some i)) weight high row v (Ok to) new row w made
-  binder_goes few to p left n i j m weight high row v w new made e l q k h x y f =
-      put_goes voice b plain to (4 * (j - i + 1) ∷ []) (omega (arith, few)) (Binder n m) _ weight high row v w new made
-      (binder_so p left n i j m e ∙ ap (λ (h : Heard). with_looks (4 * (j - i + 1) ∷ []) (with_texts voice.loud (binder_texts m n) h)) h) q k (omega (arith, l)) (omega (arith, x)) y f
-
-  pub binder_refused : {words : ℕ} (few : 1 ≤ words) (p : Items) (left n i j m weight high : ℕ) (row : List Frame) (v w : V) (new : State) (r : SinkRefused) (made : ℕ)
-      → Some (m, j) ≡ optional_at (code "G") b i → made ≤ 4 * (j - i + 1) → voice.prints v (binder_texts m n) (Err r) w → (voice.loud ≡ false → IsOk (refused r))
-      → DidOn voice b plain words (heard voice b plain (in_binder p) left n (Some i)) weight high row v (Err Refused) new row w made
-  binder_refused few p left n i j m weight high row v w new r made e l q k =
-      put_refused voice b plain (4 * (j - i + 1) ∷ []) (omega (arith, few)) (Binder n m) _ (heard voice b plain p left (n + m) (Some j)) weight high row v w new r made (binder_so p left n i j m e) q (omega (arith, l)) (λ h. absurd (false≢true (k h)))
 
   abbrev parameter_did : Bool → State → List Frame → V → Point → State → List Frame → ℕ → Type 0
   parameter_did first s row u to new now made = let p = if first then point.FirstParameter else point.NextParameter in
@@ -240,3 +200,45 @@ module _ {V : Type 0} (voice : Ghosts V) (b : List ℕ) (plain : Bool) where
   unfolding run share_at
   returns_type s i row u new made p e l f kl kn kp km =
       moves point.«Type» (Some mark.Arrow) (1 ∷ []) (omega arith) _ (heard voice b plain type_inside s.depth_left s.lifetimes (Some i)) 2 (8 * s.depth_left + 2) row u new made (rw (p, e) refl) (type_share new s.depth_left s.lifetimes (Some i) kl kn kp) km (omega (arith, l)) (omega arith) (omega (arith, kl)) (rw (kl, kn) f)
+
+-- Binders.
+
+-- a part of a point that begins with a binder
+abbrev pub binder_part : {V : Type 0} → Env V → ℕ → Items → State → ℕ → ℕ → Part
+binder_part e words p s weight high = part words (heard e.voice e.symbol e.plain (in_binder p) s.depth_left s.lifetimes s.place) weight high
+
+binder_so : {V : Type 0} (e : Env V) (p : Items) (left n i j m : ℕ) → Some (m, j) ≡ optional_at (code "G") e.symbol i
+    → heard e.voice e.symbol e.plain (in_binder p) left n (Some i) ≡ with_looks (4 * (j - i + 1) ∷ []) (with_texts e.voice.loud (binder_texts m n) (heard e.voice e.symbol e.plain p left (n + m) (Some j)))
+binder_so e p left n i j m o = ap none_open (binder_reads e.plain e.voice.loud e.symbol left n p i j m (sym o))
+
+module _ {V : Type 0} {e : Env V} where
+  pub binder_unread : {t : Turn V} {words weight high : ℕ} (p : Items) → t.state.mark ≡ None → t.state.place ≡ None → 1 ≤ weight → Does e t (binder_part e words p t.state weight high) (Err (Fault mark.Unread)) t
+  unfolding run
+  binder_unread p k at x = unread k (rw at refl) x
+
+  pub binder_stops : {t : Turn V} {words weight high n : ℕ} → 1 ≤ words → (p : Items) (i : ℕ) → t.state.place ≡ Some i → t.state.mark ≡ None → None ≡ optional_at (code "G") e.symbol i → Paid t.looks (4 * (length e.symbol - i + 1) ∷ []) n → 1 ≤ weight
+      → Does e t (binder_part e words p t.state weight high) (Err (Fault mark.Invalid)) (record t { looks = n })
+  unfolding run
+  binder_stops few p i at k o l x = ends mark.Invalid (4 * (length e.symbol - i + 1) ∷ []) (omega (arith, few)) k (rw at (rw (sym o) refl)) l (rw at (omega (arith, l.within))) x
+
+  -- no lifetime
+  pub binder_none : {t u : Turn V} {r : Result Point Stop} {words words' weight high weight' high' : ℕ} {s : State} {n : ℕ} → 1 + words' ≤ words → (p : Items) (i j m : ℕ) → t.state.place ≡ Some i → Some (m, j) ≡ optional_at (code "G") e.symbol i → m ≡ 0 → Paid t.looks (4 * (j - i + 1) ∷ []) n
+      → u.looks ≤ t.looks + own_looks e.symbol t.state.place → weight' ≤ weight + 100 → high' ≤ high
+      → Does e (record t { state = s; looks = n }) (part words' (heard e.voice e.symbol e.plain p t.state.depth_left t.state.lifetimes (Some j)) weight' high') r u → Does e t (binder_part e words p t.state weight high) r u
+  unfolding binder_texts
+  binder_none {t} few p i j m at o z l short w x d =
+      let add : t.state.lifetimes + 0 ≡ t.state.lifetimes = omega arith in
+      behind_few (4 * (j - i + 1) ∷ []) (omega (arith, few)) (rw at (binder_so e p t.state.depth_left t.state.lifetimes i j m o ∙ rw (z, add) refl)) l short (omega (arith, w)) x d
+
+  pub binder_goes : {t : Turn V} {words weight high n : ℕ} {s : State} {v : V} → 1 ≤ words → (to : Point) (p : Items) (i j m : ℕ) → t.state.place ≡ Some i → Some (m, j) ≡ optional_at (code "G") e.symbol i → Paid t.looks (4 * (j - i + 1) ∷ []) n → n ≤ t.looks + own_looks e.symbol t.state.place
+      → e.voice.prints t.voice (binder_texts m t.state.lifetimes) (Ok tt) v → e.voice.ready v → s.mark ≡ None
+      → heard e.voice e.symbol e.plain p t.state.depth_left (t.state.lifetimes + m) (Some j) ≡ share_of e.symbol e.plain e.voice.loud to s → way_weight to ≤ weight + 99 → height_at to s.depth_left ≤ high → Fits to s.depth_left s.lifetimes
+      → Does e t (binder_part e words p t.state weight high) (Ok to) (record t { state = s; voice = v; looks = n })
+  binder_goes {t} few to p i j m at o l short q y k h w x f =
+      tells to (4 * (j - i + 1) ∷ []) (omega (arith, few)) (Binder t.state.lifetimes m)
+      (rw at (binder_so e p t.state.depth_left t.state.lifetimes i j m o ∙ ap (λ (g : Heard). with_looks (4 * (j - i + 1) ∷ []) (with_texts e.voice.loud (binder_texts m t.state.lifetimes) g)) h)) q y k l short (omega (arith, w)) x f
+
+  pub binder_refused : {t : Turn V} {words weight high n : ℕ} {s : State} {v : V} {f : SinkRefused} → 1 ≤ words → (p : Items) (i j m : ℕ) → t.state.place ≡ Some i → Some (m, j) ≡ optional_at (code "G") e.symbol i → Paid t.looks (4 * (j - i + 1) ∷ []) n → n ≤ t.looks + own_looks e.symbol t.state.place
+      → e.voice.prints t.voice (binder_texts m t.state.lifetimes) (Err f) v → (e.voice.loud ≡ false → IsOk (refused f)) → Does e t (binder_part e words p t.state weight high) (Err Refused) (record t { state = s; voice = v; looks = n })
+  binder_refused {t} few p i j m at o l short q k =
+      halts (4 * (j - i + 1) ∷ []) (omega (arith, few)) (Binder t.state.lifetimes m) (heard e.voice e.symbol e.plain p t.state.depth_left (t.state.lifetimes + m) (Some j)) (rw at (binder_so e p t.state.depth_left t.state.lifetimes i j m o)) q (λ z. absurd (false≢true (k z))) l short

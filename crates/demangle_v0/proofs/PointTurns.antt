@@ -20,7 +20,7 @@ use Rattle.demangle_v0.specs.declared.points.State.{State}
 use Rattle.demangle_v0.specs.declared.points.Stop.{Stop}
 use Rattle.demangle_v0.specs.declared.points.Stop.TheVariants.{Refused, Fault}
 use Rattle.demangle_words.specs.declared.voice.Voice.{Ghosts}
-use Rattle.demangle_v0.proofs.PointSteps.{looks_both, total_both, kept_none, refused, heard, child_last, group_then, group_so, last_word_so}
+use Rattle.demangle_v0.proofs.PointSteps.{looks_both, total_both, kept_none, refused, heard, child_last, group_then, group_so, word_so, last_word_so}
 use Rattle.demangle_v0.proofs.WordLooks.{group_short, group_few}
 use Rattle.demangle_words.specs.Texts.{word_items}
 use Rattle.demangle_grammar.specs.Items.{Kind, child, done}
@@ -160,10 +160,10 @@ module _ {V : Type 0} {e : Env V} where
     sound = λ _ m k. absurd (no_fault m k);
   }
 
-  -- Behind some looks.
-  pub behind : {t u : Turn V} {r : Result Point Stop} {h k : Heard} {words words' weight high weight' high' : ℕ} {s : State} {n : ℕ} (ks : List ℕ) → length ks + words' ≤ words → h ≡ with_looks ks k → Paid t.looks ks n → n + own_looks e.symbol s.place ≤ t.looks + own_looks e.symbol t.state.place
+  -- Behind some looks, where all that were made are few enough.
+  pub behind_few : {t u : Turn V} {r : Result Point Stop} {h k : Heard} {words words' weight high weight' high' : ℕ} {s : State} {n : ℕ} (ks : List ℕ) → length ks + words' ≤ words → h ≡ with_looks ks k → Paid t.looks ks n → u.looks ≤ t.looks + own_looks e.symbol t.state.place
       → weight' ≤ weight + 100 * total ks → high' ≤ high → Does e (record t { state = s; looks = n }) (part words' k weight' high') r u → Does e t (part words h weight high) r u
-  behind {r = Ok q} ks c o p short w x z = let d = z.comes in record {
+  behind_few {r = Ok q} ks c o p short w x z = let d = z.comes in record {
     comes = record {
       front = ks ++ d.front;
       said = d.said;
@@ -184,11 +184,11 @@ module _ {V : Type 0} {e : Env V} where
       quiet = d.quiet;
     };
     grows = omega (arith, p.grows, z.grows);
-    own = omega (arith, short, z.own);
+    own = short;
     ready = z.ready;
     sound = z.sound;
   }
-  behind {r = Err (Fault m)} ks c o p short w x z = let d = z.comes in record {
+  behind_few {r = Err (Fault m)} ks c o p short w x z = let d = z.comes in record {
     comes = record {
       front = ks ++ d.front;
       told = d.told;
@@ -200,11 +200,11 @@ module _ {V : Type 0} {e : Env V} where
       lighter = omega (arith, w, d.lighter, total_both ks d.front);
     };
     grows = omega (arith, p.grows, z.grows);
-    own = omega (arith, short, z.own);
+    own = short;
     ready = z.ready;
     sound = z.sound;
   }
-  behind {r = Err Refused} ks c o p short w x z = let d = z.comes.0 in record {
+  behind_few {r = Err Refused} ks c o p short w x z = let d = z.comes.0 in record {
     comes = (
       record {
         front = ks ++ d.front;
@@ -221,10 +221,15 @@ module _ {V : Type 0} {e : Env V} where
       z.comes.1,
     );
     grows = omega (arith, p.grows, z.grows);
-    own = omega (arith, short, z.own);
+    own = short;
     ready = z.ready;
     sound = z.sound;
   }
+
+  -- Behind some looks.
+  pub behind : {t u : Turn V} {r : Result Point Stop} {h k : Heard} {words words' weight high weight' high' : ℕ} {s : State} {n : ℕ} (ks : List ℕ) → length ks + words' ≤ words → h ≡ with_looks ks k → Paid t.looks ks n → n + own_looks e.symbol s.place ≤ t.looks + own_looks e.symbol t.state.place
+      → weight' ≤ weight + 100 * total ks → high' ≤ high → Does e (record t { state = s; looks = n }) (part words' k weight' high') r u → Does e t (part words h weight high) r u
+  behind ks c o p short w x z = behind_few ks c o p (omega (arith, short, z.own)) w x z
 
   -- the same heard in another way
   pub alike : {t u : Turn V} {r : Result Point Stop} {h k : Heard} {words words' weight high weight' high' : ℕ} → words' ≤ words → h ≡ k → weight' ≤ weight → high' ≤ high → Does e t (part words' k weight' high') r u → Does e t (part words h weight high) r u
@@ -336,6 +341,10 @@ does {r = Err Refused} z l short y x = let w = z.comes.0 in record {
 abbrev pub word_of : {V : Type 0} → Env V → Word → State → Group
 word_of e x s = word_group e.symbol x s.letter e.voice.loud s.lifetimes s.place
 
+-- a part of a point that begins with a word
+abbrev pub word_part : {V : Type 0} → Env V → ℕ → Word → Items → State → ℕ → ℕ → Part
+word_part e words x p s weight high = part words (heard e.voice e.symbol e.plain (word_items x s.letter p) s.depth_left s.lifetimes s.place) weight high
+
 -- What is read as a group.
 module _ {V : Type 0} {e : Env V} where
   pub group_tells : {t : Turn V} {h : Heard} {words weight high : ℕ} {s : State} {v : V} {n : ℕ} (to : Point) (g : Group) → length g.costs ≤ words → (k : Place → Heard) (y : Stretch) (j : Place) → h ≡ group_then e.voice e.symbol e.plain g k → reads.Goes y j ≡ g.reads → Paid t.looks g.costs n
@@ -371,3 +380,32 @@ module _ {V : Type 0} {e : Env V} where
   word_faults {t} x m r p k =
       group_faults (word_of e x t.state) (group_few e.symbol x t.state.letter e.voice.loud t.state.lifetimes t.state.place) ended m (last_word_so e.voice e.symbol e.plain x t.state.letter t.state.depth_left t.state.lifetimes t.state.place) r p
       (omega (arith, p.within, group_short e.symbol x t.state.letter e.voice.loud t.state.lifetimes t.state.place)) k (omega arith)
+
+  -- Words behind which the unit goes on.
+
+  pub word_goes : {t : Turn V} {words weight high : ℕ} {s : State} {v : V} {n : ℕ} → 4 ≤ words → (to : Point) (x : Word) (p : Items) (y : Stretch) (j : Place) → reads.Goes y j ≡ (word_of e x t.state).reads → Paid t.looks (word_of e x t.state).costs n → e.voice.prints t.voice (texts_of e.symbol e.plain y) (Ok tt) v → e.voice.ready v → s.mark ≡ None
+      → heard e.voice e.symbol e.plain p t.state.depth_left t.state.lifetimes j ≡ share_of e.symbol e.plain e.voice.loud to s → way_weight to + 1 ≤ weight → height_at to s.depth_left ≤ high → Fits to s.depth_left s.lifetimes
+      → Does e t (word_part e words x p t.state weight high) (Ok to) (record t { state = s; voice = v; looks = n })
+  word_goes {t} few to x p y j r q k z m o w l f =
+      group_tells to (word_of e x t.state) (omega (arith, few, group_few e.symbol x t.state.letter e.voice.loud t.state.lifetimes t.state.place)) (heard e.voice e.symbol e.plain p t.state.depth_left t.state.lifetimes) y j (word_so e.voice e.symbol e.plain x t.state.letter p t.state.depth_left t.state.lifetimes t.state.place) r q
+      (omega (arith, q.within, group_short e.symbol x t.state.letter e.voice.loud t.state.lifetimes t.state.place)) k z m o w l f
+
+  pub word_refuses : {t : Turn V} {words weight high : ℕ} {s : State} {v : V} {n : ℕ} {f : SinkRefused} → 4 ≤ words → (x : Word) (p : Items) (y : Stretch) (j : Place) → reads.Goes y j ≡ (word_of e x t.state).reads → Paid t.looks (word_of e x t.state).costs n → e.voice.prints t.voice (texts_of e.symbol e.plain y) (Err f) v → (e.voice.loud ≡ false → IsOk (refused f))
+      → Does e t (word_part e words x p t.state weight high) (Err Refused) (record t { state = s; voice = v; looks = n })
+  word_refuses {t} few x p y j r q k z =
+      group_halts (word_of e x t.state) (omega (arith, few, group_few e.symbol x t.state.letter e.voice.loud t.state.lifetimes t.state.place)) (heard e.voice e.symbol e.plain p t.state.depth_left t.state.lifetimes) y j (word_so e.voice e.symbol e.plain x t.state.letter p t.state.depth_left t.state.lifetimes t.state.place) r q
+      (omega (arith, q.within, group_short e.symbol x t.state.letter e.voice.loud t.state.lifetimes t.state.place)) k z
+
+  pub word_stops : {t : Turn V} {words weight high : ℕ} {n : ℕ} → 4 ≤ words → (x : Word) (p : Items) (m : Mark) → reads.Stops m ≡ (word_of e x t.state).reads → Paid t.looks (word_of e x t.state).costs n → t.state.mark ≡ None → 1 ≤ weight → Does e t (word_part e words x p t.state weight high) (Err (Fault m)) (record t { looks = n })
+  word_stops {t} few x p m r q k w =
+      group_faults (word_of e x t.state) (omega (arith, few, group_few e.symbol x t.state.letter e.voice.loud t.state.lifetimes t.state.place)) (heard e.voice e.symbol e.plain p t.state.depth_left t.state.lifetimes) m (word_so e.voice e.symbol e.plain x t.state.letter p t.state.depth_left t.state.lifetimes t.state.place) r q
+      (omega (arith, q.within, group_short e.symbol x t.state.letter e.voice.loud t.state.lifetimes t.state.place)) k w
+
+  -- one that hands nothing over
+  pub word_bare : {t u : Turn V} {r : Result Point Stop} {words words' weight high weight' high' : ℕ} {s : State} {n : ℕ} → 4 + words' ≤ words → (x : Word) (p : Items) (y : Stretch) (j : Place) → reads.Goes y j ≡ (word_of e x t.state).reads → texts_of e.symbol e.plain y ≡ [] → Paid t.looks (word_of e x t.state).costs n
+      → u.looks ≤ t.looks + own_looks e.symbol t.state.place → weight' ≤ weight → high' ≤ high → Does e (record t { state = s; looks = n }) (part words' (heard e.voice e.symbol e.plain p t.state.depth_left t.state.lifetimes j) weight' high') r u → Does e t (word_part e words x p t.state weight high) r u
+  word_bare {t} few x p y j r o q short w z d =
+      let g = word_of e x t.state in
+      let k : Place → Heard = heard e.voice e.symbol e.plain p t.state.depth_left t.state.lifetimes in
+      behind_few g.costs (omega (arith, few, group_few e.symbol x t.state.letter e.voice.loud t.state.lifetimes t.state.place))
+      (group_so e.voice e.symbol e.plain _ g k (reads.Goes y j) (word_so e.voice e.symbol e.plain x t.state.letter p t.state.depth_left t.state.lifetimes t.state.place) r ∙ ap (λ ts. with_looks g.costs (with_texts e.voice.loud ts (k j))) o) q short (omega (arith, w)) z d

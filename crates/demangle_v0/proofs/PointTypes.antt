@@ -14,7 +14,7 @@ use Rattle.demangle_words.specs.Texts.{text, found, basic_marks}
 use Rattle.demangle_grammar.specs.Table.{says_if, type_inside, type_rows, is_among, row_text, basic_types}
 use Rattle.demangle_words.specs.Tags.{type_kinds, type_of, reference_to, lifetime_before}
 use Rattle.demangle_grammar.specs.Reading.{Place, unit_outcome, run}
-use Rattle.demangle_v0.specs.Points.{Turn, Env, RestDoes, weight_at, words_at, frame_of, then_frame, share_at, none_open, mark_texts, pushed_on, way_weight, weight_of, height_at, height_of, count_of, Fits, FitsFrame, IsInner, DidOn, behind_reference, lifetime_point}
+use Rattle.demangle_v0.specs.Points.{Turn, turn, Env, RestDoes, PointDoes, own_looks, weight_at, words_at, frame_of, then_frame, share_at, none_open, mark_texts, pushed_on, way_weight, weight_of, height_at, height_of, count_of, Fits, FitsFrame, IsInner, DidOn, behind_reference, lifetime_point}
 use Rattle.demangle_words.specs.declared.texts.Mark.{Mark}
 use Rattle.demangle_words.specs.declared.texts.Mark.TheVariants as mark
 use Rattle.demangle_words.specs.declared.tags.TypeKind.{TypeKind}
@@ -28,7 +28,7 @@ use Rattle.demangle_v0.specs.declared.points.Stop.TheVariants.{Fault}
 use Rattle.demangle_words.specs.declared.voice.Voice.{Ghosts}
 use Rattle.demangle_words.proofs.TagRows.{rows_of, basic_found}
 use Rattle.demangle_v0.proofs.PointSteps.{heard, child_last, steps, after, faulty_after}
-use Rattle.demangle_v0.proofs.PointTurns.{marks, leaves}
+use Rattle.demangle_v0.proofs.PointTurns.{marks, leaves, behind, behind_few}
 use Rattle.demangle_grammar.proofs.TypeReads.{row_at, splat_reads, type_reads, tag_missing, basic_reads, type_deep, constructed_reads, path_type_reads, row_reads}
 
 -- the point of a type that is begun, or gone on with behind its `w`
@@ -161,7 +161,7 @@ module _ {V : Type 0} (voice : Ghosts V) (b : List ℕ) (plain : Bool) where
   no_tag v c left n i o row u new made e k l =
       faulty_after voice b plain (1 ∷ []) (omega arith) mark.Invalid _ 1 (8 * left + 1) row u new made k (ap none_open (tag_missing plain voice.loud b left n i (sym e))) l (omega arith)
 
-  basic_so : (t : ℕ) (m : Option Mark) → m ≡ found t basic_marks → row_text t basic_types ≡ then_if_some m (λ m. Some (text m))
+  pub basic_so : (t : ℕ) (m : Option Mark) → m ≡ found t basic_marks → row_text t basic_types ≡ then_if_some m (λ m. Some (text m))
   basic_so t m e = basic_found t ∙ ap (λ (o : Option Mark). then_if_some o (λ m. Some (text m))) (sym e)
 
   pub basic_ends : (v : Bool) (c left n i t : ℕ) (m : Mark) (o : Bool) (row : List Frame) (u : V) (new : State) (made : ℕ) → Some t ≡ slice_get b i → Some m ≡ found t basic_marks → made ≤ 1
@@ -179,7 +179,7 @@ module _ {V : Type 0} (voice : Ghosts V) (b : List ℕ) (plain : Bool) where
       faulty_after voice b plain (1 ∷ []) (omega arith) mark.Recursion _ 1 (8 * left + 1) row u new made k (ap none_open (type_deep plain voice.loud b left n i t (sym e) (basic_so t None f) z)) l (omega arith)
 
   -- the row of a tag
-  row_so : (t : ℕ) (k : Option TypeKind) → k ≡ found t (type_kinds t) → row_at t (type_rows t) ≡ then_if_some k (λ k. Some (type_of k))
+  pub row_so : (t : ℕ) (k : Option TypeKind) → k ≡ found t (type_kinds t) → row_at t (type_rows t) ≡ then_if_some k (λ k. Some (type_of k))
   row_so t k e = ap (row_at t) (kinds_so t) ∙ go (type_kinds t) ∙ ap (λ (o : Option TypeKind). then_if_some o (λ k. Some (type_of k))) (sym e)
     where
       go : (rs : List (String × TypeKind)) → row_at t (rows_of type_of rs) ≡ then_if_some (found t rs) (λ k. Some (type_of k))
@@ -199,15 +199,6 @@ module _ {V : Type 0} (voice : Ghosts V) (b : List ℕ) (plain : Bool) where
       enters _ point.Path (left - 1) n (Some i) None (1 ∷ []) [] (omega arith) None 1 (8 * left + 1) row row u new made
       (rw kv (ap none_open (constructed_reads plain voice.loud b left n i t (sym e) (basic_so t None f) z ∙ ap (with_looks (1 ∷ [])) (path_type_reads plain voice.loud b (left - 1) n (Some i) t (row_so t None g))))) kl kn kp km refl (omega (arith, l)) (omega (arith, l)) (omega arith) (omega arith) (omega (arith, z)) tt (omega (arith, w)) (λ _. tt)
 
-  pub tag_goes : (v : Bool) (c left n i t : ℕ) (o : Bool) (k : TypeKind) (row now : List Frame) (u w : V) (result : Result Point Stop) (new : State) (second made : ℕ) → Some t ≡ slice_get b i → None ≡ found t basic_marks → 0 < left → Some k ≡ found t (type_kinds t) → made ≤ 1 + second
-      → DidOn voice b plain 5 (heard voice b plain (type_of k) (left - 1) n (Some (i + 1))) 50 (8 * (left - 1) + 9) row u result new now w second
-      → DidOn voice b plain 7 (heard_at point.TaggedType v c left n (Some i) o) 1 (8 * left + 1) row u result new now w made
-  unfolding share_at
-  tag_goes v c left n i t o k row now u w result new second made e f z g l d =
-      after voice b plain (1 ∷ 4 * (i + 1 - i + 1) ∷ []) (omega arith) _ (heard voice b plain (type_of k) (left - 1) n (Some (i + 1))) 1 (8 * left + 1) 50 (8 * (left - 1) + 9) row u w result new now 1 second made
-      (ap none_open (constructed_reads plain voice.loud b left n i t (sym e) (basic_so t None f) z ∙ ap (with_looks (1 ∷ [])) (row_reads plain voice.loud b (left - 1) n i t (type_of k) (sym e) (row_so t (Some k) g))))
-      (omega arith) l (omega arith) (omega (arith, z)) d
-
   -- A type.
 
   pub type_splats : (v : Bool) (c left n i : ℕ) (o : Bool) (row : List Frame) (u : V) (new : State) (made : ℕ) → is_byte b i (code "w") ≡ true → made ≤ 1 → Fits point.TaggedType left n
@@ -217,29 +208,6 @@ module _ {V : Type 0} (voice : Ghosts V) (b : List ℕ) (plain : Bool) where
   type_splats v c left n i o row u new made e l f kl kn kp km =
       enters _ point.TaggedType left n (Some (i + 1)) (Some mark.Splat) (1 ∷ []) [] (omega arith) None 1 (8 * left + 1) row row u new made
       (ap none_open (splat_reads plain voice.loud b left n false i e)) kl kn kp km refl (omega (arith, l)) (omega (arith, l)) (omega arith) (omega arith) (omega arith) tt f (λ _. tt)
-
-  pub type_goes : (v : Bool) (c left n i : ℕ) (o : Bool) (row now : List Frame) (u w : V) (result : Result Point Stop) (new : State) (second made : ℕ) → is_byte b i (code "w") ≡ false → made ≤ 1 + second
-      → DidOn voice b plain 7 (heard_at point.TaggedType v c left n (Some i) o) 1 (8 * left + 1) row u result new now w second
-      → DidOn voice b plain 8 (heard_at point.«Type» v c left n (Some i) o) 1 (8 * left + 1) row u result new now w made
-  unfolding share_at
-  type_goes v c left n i o row now u w result new second made e l d =
-      after voice b plain (1 ∷ []) (omega arith) _ _ 1 (8 * left + 1) 1 (8 * left + 1) row u w result new now 1 second made
-      (ap none_open (type_reads plain voice.loud b left n false i e)) (omega arith) l (omega arith) (omega arith) d
-
-  -- a type that is begun, or gone on with behind its `w`
-  pub type_either : (q : Bool) (v : Bool) (c left n : ℕ) (i : Place) (o : Bool) (row now : List Frame) (u w : V) (result : Result Point Stop) (new : State) (made : ℕ)
-      → (q ≡ true → DidOn voice b plain 8 (heard_at point.«Type» v c left n i o) 1 (8 * left + 1) row u result new now w made)
-      → (q ≡ false → DidOn voice b plain 7 (heard_at point.TaggedType v c left n i o) 1 (8 * left + 1) row u result new now w made)
-      → DidOn voice b plain (words_at (if q then point.«Type» else point.TaggedType)) (heard_at (if q then point.«Type» else point.TaggedType) v c left n i o) (weight_at (if q then point.«Type» else point.TaggedType)) (height_at (if q then point.«Type» else point.TaggedType) left) row u result new now w made
-  type_either true v c left n i o row now u w result new made h k = h refl
-  type_either false v c left n i o row now u w result new made h k = k refl
-
-  -- behind looks that were not made
-  pub type_stays : (v : Bool) (c left n : ℕ) (i : Place) (o : Bool) (row now : List Frame) (u w : V) (result : Result Point Stop) (new : State) (second made : ℕ) → made ≤ second
-      → DidOn voice b plain 7 (heard_at point.TaggedType v c left n i o) 1 (8 * left + 1) row u result new now w second
-      → DidOn voice b plain 7 (heard_at point.TaggedType v c left n i o) 1 (8 * left + 1) row u result new now w made
-  type_stays v c left n i o row now u w result new second made l d =
-      after voice b plain [] (omega arith) (heard_at point.TaggedType v c left n i o) (heard_at point.TaggedType v c left n i o) 1 (8 * left + 1) 1 (8 * left + 1) row u w result new now 0 second made refl (omega arith) (omega (arith, l)) (omega arith) (omega arith) d
 
 -- References.
 module _ {V : Type 0} {e : Env V} where
@@ -265,3 +233,30 @@ module _ {V : Type 0} {e : Env V} where
       let s = t.state in
       leaves (lifetime_point q) [] (1 ∷ []) (omega arith) None (ap (λ (x : Place). heard e.voice e.symbol e.plain (reference_to q) s.depth_left s.lifetimes x) at ∙ rw b (ap (λ (h : Heard). with_texts e.voice.loud (text mark.Ampersand ∷ []) (with_looks (1 ∷ []) h)) (lifetime_so e.voice e.symbol e.plain q s.in_value s.letter s.depth_left s.lifetimes (Some (i + 1)) s.is_open))) refl
       (record { grows = omega arith; within = omega arith }) (omega arith) (rw at (omega (arith, l))) (omega (arith, lifetime_light e.voice e.symbol e.plain q)) (omega arith) (omega (arith, lifetime_low e.voice e.symbol e.plain q s.depth_left)) tt (lifetime_fits e.voice e.symbol e.plain q s.depth_left s.lifetimes f) (λ _. tt)
+
+-- A type, behind looks at its tag.
+module _ {V : Type 0} {e : Env V} where
+  pub tag_goes : {t u : Turn V} {r : Result Point Stop} {n : ℕ} (i x : ℕ) (k : TypeKind) → t.state.place ≡ Some i → Some x ≡ slice_get e.symbol i → None ≡ found x basic_marks → 0 < t.state.depth_left → Some k ≡ found x (type_kinds x) → n ≡ t.looks + 1 → u.looks ≤ t.looks + own_looks e.symbol t.state.place
+      → RestDoes e (type_of k) 5 50 9 (turn (record t.state { place = Some (i + 1); depth_left = t.state.depth_left - 1 }) t.row t.voice n) r u → PointDoes e point.TaggedType t r u
+  unfolding share_at
+  tag_goes {t} i x k at o m z g l short d =
+      let s = t.state in
+      behind_few (1 ∷ 4 * (i + 1 - i + 1) ∷ []) (omega arith)
+      (rw at (ap none_open (constructed_reads e.plain e.voice.loud e.symbol s.depth_left s.lifetimes i x (sym o) (basic_so e.voice e.symbol e.plain x None m) z ∙ ap (with_looks (1 ∷ [])) (row_reads e.plain e.voice.loud e.symbol (s.depth_left - 1) s.lifetimes i x (type_of k) (sym o) (row_so e.voice e.symbol e.plain x (Some k) g)))))
+      (record { grows = omega (arith, l); within = omega (arith, l) }) short (omega arith) (omega (arith, z)) d
+
+  pub type_goes : {t u : Turn V} {r : Result Point Stop} {n : ℕ} (i : ℕ) → t.state.place ≡ Some i → is_byte e.symbol i (code "w") ≡ false → t.looks ≤ n → n ≤ t.looks + 1 → u.looks ≤ t.looks + own_looks e.symbol t.state.place
+      → PointDoes e point.TaggedType (turn t.state t.row t.voice n) r u → PointDoes e point.«Type» t r u
+  unfolding share_at
+  type_goes {t} i at o l m short d =
+      let s = t.state in
+      behind_few (1 ∷ []) (omega arith) (rw at (ap none_open (type_reads e.plain e.voice.loud e.symbol s.depth_left s.lifetimes false i o))) (record { grows = l; within = omega (arith, m) }) short (omega arith) (omega arith) (rw at at d)
+
+  -- behind looks that were not made
+  pub type_stays : {t u : Turn V} {r : Result Point Stop} {n : ℕ} → t.looks ≤ n → n ≤ t.looks → PointDoes e point.TaggedType (turn t.state t.row t.voice n) r u → PointDoes e point.TaggedType t r u
+  type_stays l m d = behind [] (omega arith) refl (record { grows = l; within = omega (arith, m) }) (omega (arith, m)) (omega arith) (omega arith) d
+
+  -- a type that is begun, or gone on with behind its `w`
+  pub type_either : {t u : Turn V} {r : Result Point Stop} (q : Bool) → (q ≡ true → PointDoes e point.«Type» t r u) → (q ≡ false → PointDoes e point.TaggedType t r u) → PointDoes e (if q then point.«Type» else point.TaggedType) t r u
+  type_either true h k = h refl
+  type_either false h k = k refl

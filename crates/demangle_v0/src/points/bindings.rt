@@ -1,7 +1,6 @@
 //! The bindings of a dyn trait path.
-ghost use Rattle.std.specs.Prelude.{◌≡◌, ◌+◌, ◌-◌, ◌*◌, ◌<◌, ◌≤◌, List, Bool, Some, None, Ok, Err, IsOk, IsAscii, length, true, false, if◌then◌else◌};
-ghost use Rattle.demangle_v0.specs.PointContracts.{heard_of};
-ghost use Rattle.demangle_v0.specs.Points.{own_by, Did, DidOn, Fits, bindings_left, MayRead, PointDoes, env, turn};
+ghost use Rattle.std.specs.Prelude.{◌≡◌, List, Bool, Some, None, Ok, if◌then◌else◌};
+ghost use Rattle.demangle_v0.specs.Points.{Fits, bindings_left, MayRead, MaySpeak, PointDoes, RestDoes, env, turn};
 
 use crate::points::frames::{Frame, FrameStack};
 use crate::points::{Point, State, Stop, word_at};
@@ -35,11 +34,9 @@ fn binding<V: Voice>(
     looks: &mut Looks,
 ) -> Point
     requires fits { Fits Point.Bindings state.old.depth_left state.old.lifetimes }
-    ensures did { (plain : Bool) (v : V) (row : List Frame) → DidOn V.Voice symbol.now plain
-        8 (heard_of symbol.now plain V.loud (bindings_left is_open) state.old) 2 (8 *
-        state.old.depth_left + 4) row v (Ok result) state.new row v (looks.new - looks.old) }
-    ensures grows { looks.old ≤ looks.new }
-    ensures own { looks.new ≤ looks.old + own_by 20 symbol.now state.old.place }
+    ensures did { (plain : Bool) (v : V) (row : List Frame) → RestDoes (env V.Voice symbol.now
+        plain) (bindings_left is_open) 8 2 4 (turn state.old row v looks.old) (Ok result) (turn
+        state.new row v looks.new) }
 {
     let Some(at) = state.place else {
         state.mark = end_mark(is_open);
@@ -59,10 +56,9 @@ fn binding<V: Voice>(
 #[inline(always)]
 pub(super) fn bindings<V: Voice>(symbol: &Symbol<'_>, state: &mut State, looks: &mut Looks) -> Point
     requires fits { Fits Point.Bindings state.old.depth_left state.old.lifetimes }
-    ensures did { (plain : Bool) (v : V) (row : List Frame) → Did V.Voice symbol.now plain
-        Point.Bindings state.old row v (Ok result) state.new row v (looks.new - looks.old) }
-    ensures grows { looks.old ≤ looks.new }
-    ensures own { looks.new ≤ looks.old + own_by 20 symbol.now state.old.place }
+    ensures did { (plain : Bool) (v : V) (row : List Frame) → PointDoes (env V.Voice symbol.now
+        plain) Point.Bindings (turn state.old row v looks.old) (Ok result) (turn state.new row v
+        looks.new) }
 {
     binding::<V>(symbol, state.is_open, state, looks)
 }
@@ -75,10 +71,9 @@ pub(super) fn open_bindings<V: Voice>(
     looks: &mut Looks,
 ) -> Point
     requires fits { Fits Point.OpenBindings state.old.depth_left state.old.lifetimes }
-    ensures did { (plain : Bool) (v : V) (row : List Frame) → Did V.Voice symbol.now plain
-        Point.OpenBindings state.old row v (Ok result) state.new row v (looks.new - looks.old) }
-    ensures grows { looks.old ≤ looks.new }
-    ensures own { looks.new ≤ looks.old + own_by 20 symbol.now state.old.place }
+    ensures did { (plain : Bool) (v : V) (row : List Frame) → PointDoes (env V.Voice symbol.now
+        plain) Point.OpenBindings (turn state.old row v looks.old) (Ok result) (turn state.new row v
+        looks.new) }
 {
     binding::<V>(symbol, true, state, looks)
 }
@@ -92,16 +87,10 @@ pub(super) fn binding_name<V: Voice>(
     voice: &mut V,
     looks: &mut Looks,
 ) -> Result<Point, Stop>
-    requires ascii { V.loud ≡ true → IsAscii symbol.now }
-    requires ready { V.ready voice.old }
-    requires unmarked { state.old.mark ≡ None }
+    requires may { MaySpeak (env V.Voice symbol.now plain) state.old voice.old }
     requires fits { Fits Point.BindingName state.old.depth_left state.old.lifetimes }
-    ensures did { (row : List Frame) → Did V.Voice symbol.now plain Point.BindingName state.old row
-        voice.old result state.new row voice.new (looks.new - looks.old) }
-    ensures ready { IsOk result → V.ready voice.new }
-    ensures sound { (m : Mark) → result ≡ Err (Stop.Fault m) → V.ready voice.new }
-    ensures grows { looks.old ≤ looks.new }
-    ensures own { looks.new ≤ looks.old + own_by 20 symbol.now state.old.place }
+    ensures did { (row : List Frame) → PointDoes (env V.Voice symbol.now plain) Point.BindingName
+        (turn state.old row voice.old looks.old) result (turn state.new row voice.new looks.new) }
 {
     match word_at(symbol, Word::BindingName, state, voice, looks) {
         WordRead::Goes(name, next) => {

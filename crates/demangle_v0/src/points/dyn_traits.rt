@@ -1,7 +1,6 @@
 //! The points of dyn types.
 ghost use Rattle.std.specs.Prelude.{◌≡◌, ℕ, ◌+◌, ◌-◌, ◌*◌, ◌<◌, ◌≤◌, List, Bool, Some, None, Ok, Err, IsOk, IsAscii, length, true, false, if◌then◌else◌};
-ghost use Rattle.demangle_v0.specs.PointContracts.{heard_of};
-ghost use Rattle.demangle_v0.specs.Points.{own_by, MaySpeak, PointDoes, env, turn, Did, DidOn, Fits};
+ghost use Rattle.demangle_v0.specs.Points.{own_by, MayRead, MaySpeak, MayStep, PointDoes, RestDoes, env, turn, Fits};
 ghost use Rattle.demangle_v0.specs.DynTraits.{dyn_type};
 
 use crate::points::arguments::argument;
@@ -23,9 +22,8 @@ pub(super) fn dyn_type<V: Voice, const N: usize>(
 ) -> Point
     requires room { length row.old < N }
     requires fits { Fits Point.DynBinder state.old.depth_left state.old.lifetimes }
-    ensures did { (plain : Bool) (v : V) → DidOn V.Voice symbol.now plain 5 (heard_of symbol.now plain
-        V.loud dyn_type state.old) 4 (8 * state.old.depth_left + 5) row.old v (Ok result) state.new
-        row.new v 0 }
+    ensures did { (plain : Bool) (v : V) (n : ℕ) → RestDoes (env V.Voice symbol.now plain) dyn_type
+        5 4 5 (turn state.old row.old v n) (Ok result) (turn state.new row.new v n) }
 {
     row.push(state.frame(Point::DynLifetime));
     state.mark = Some(Mark::Dyn);
@@ -42,17 +40,10 @@ pub(super) fn dyn_binder<V: Voice, const N: usize>(
     voice: &mut V,
     looks: &mut Looks,
 ) -> Result<Point, Stop>
-    requires ascii { V.loud ≡ true → IsAscii symbol.now }
-    requires ready { V.ready voice.old }
-    requires unmarked { state.old.mark ≡ None }
-    requires room { length row.old < N }
-    requires fits { Fits Point.DynBinder state.old.depth_left state.old.lifetimes }
-    ensures did { Did V.Voice symbol.now plain Point.DynBinder state.old row.old voice.old result
-        state.new row.new voice.new (looks.new - looks.old) }
-    ensures ready { IsOk result → V.ready voice.new }
-    ensures sound { (m : Mark) → result ≡ Err (Stop.Fault m) → V.ready voice.new }
-    ensures grows { looks.old ≤ looks.new }
-    ensures own { looks.new ≤ looks.old + own_by 20 symbol.now state.old.place }
+    requires may { MayStep (env V.Voice symbol.now plain) Point.DynBinder N (turn state.old row.old
+        voice.old looks.old) }
+    ensures did { PointDoes (env V.Voice symbol.now plain) Point.DynBinder (turn state.old row.old
+        voice.old looks.old) result (turn state.new row.new voice.new looks.new) }
 {
     let Some(at) = state.place else {
         return Err(Stop::Fault(Mark::Unread));
@@ -79,13 +70,10 @@ pub(super) fn dyn_trait<V: Voice, const N: usize>(
     row: &mut FrameStack<N>,
     looks: &mut Looks,
 ) -> Point
-    requires unmarked { state.old.mark ≡ None }
-    requires room { length row.old < N }
-    requires fits { Fits Point.NextDynTrait state.old.depth_left state.old.lifetimes }
-    ensures did { (plain : Bool) (v : V) → Did V.Voice symbol.now plain (if is_first then
-        Point.FirstDynTrait else Point.NextDynTrait) state.old row.old v (Ok result) state.new
-        row.new v (looks.new - looks.old) }
-    ensures grows { looks.old ≤ looks.new }
+    requires may { MayRead Point.NextDynTrait N state.old row.old }
+    ensures did { (plain : Bool) (v : V) → PointDoes (env V.Voice symbol.now plain) (if is_first then
+        Point.FirstDynTrait else Point.NextDynTrait) (turn state.old row.old v looks.old) (Ok
+        result) (turn state.new row.new v looks.new) }
     ensures own { looks.new ≤ looks.old + own_by 16 symbol.now state.old.place }
 {
     if is_over(symbol, &mut state.place, looks) {
@@ -106,13 +94,9 @@ pub(super) fn trait_path<V: Voice, const N: usize>(
     voice: &V,
     looks: &mut Looks,
 ) -> Result<Point, Stop>
-    requires unmarked { state.old.mark ≡ None }
-    requires room { length row.old < N }
-    requires fits { Fits Point.TraitPath state.old.depth_left state.old.lifetimes }
-    ensures did { (plain : Bool) (v : V) → Did V.Voice symbol.now plain Point.TraitPath state.old
-        row.old v result state.new row.new v (looks.new - looks.old) }
-    ensures grows { looks.old ≤ looks.new }
-    ensures own { looks.new ≤ looks.old + own_by 20 symbol.now state.old.place }
+    requires may { MayRead Point.TraitPath N state.old row.old }
+    ensures did { (plain : Bool) (v : V) → PointDoes (env V.Voice symbol.now plain) Point.TraitPath
+        (turn state.old row.old v looks.old) result (turn state.new row.new v looks.new) }
 {
     let Some(at) = state.place else {
         return Err(Stop::Fault(Mark::Unread));
@@ -140,14 +124,10 @@ pub(super) fn open_argument<V: Voice, const N: usize>(
     row: &mut FrameStack<N>,
     looks: &mut Looks,
 ) -> Point
-    requires unmarked { state.old.mark ≡ None }
-    requires room { length row.old < N }
-    requires fits { Fits Point.NextOpenArgument state.old.depth_left state.old.lifetimes }
-    ensures did { (plain : Bool) (v : V) → Did V.Voice symbol.now plain (if is_first then
-        Point.FirstOpenArgument else Point.NextOpenArgument) state.old row.old v (Ok result)
-        state.new row.new v (looks.new - looks.old) }
-    ensures grows { looks.old ≤ looks.new }
-    ensures own { looks.new ≤ looks.old + own_by 20 symbol.now state.old.place }
+    requires may { MayRead Point.NextOpenArgument N state.old row.old }
+    ensures did { (plain : Bool) (v : V) → PointDoes (env V.Voice symbol.now plain) (if is_first then
+        Point.FirstOpenArgument else Point.NextOpenArgument) (turn state.old row.old v looks.old)
+        (Ok result) (turn state.new row.new v looks.new) }
 {
     let Some(at) = state.place else {
         state.is_open = true;

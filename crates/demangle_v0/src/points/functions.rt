@@ -3,7 +3,7 @@ ghost use Rattle.std.specs.Prelude.{◌≡◌, ℕ, ◌+◌, ◌-◌, ◌^◌, �
 ghost use Rattle.demangle_grammar.specs.Binders.{binder_texts};
 ghost use Rattle.demangle_grammar.specs.Events.{of};
 ghost use Rattle.demangle_words.specs.Groups.{texts_of};
-ghost use Rattle.demangle_v0.specs.Points.{own_by, Did, Fits, most_lifetimes, MayRead, PointDoes, env, turn};
+ghost use Rattle.demangle_v0.specs.Points.{own_by, Fits, most_lifetimes, MayRead, MaySpeak, PointDoes, env, turn};
 
 use crate::points::frames::{Frame, FrameStack};
 use crate::points::marks::leave;
@@ -50,15 +50,10 @@ pub(super) fn function_binder<V: Voice>(
     voice: &mut V,
     looks: &mut Looks,
 ) -> Result<Point, Stop>
-    requires ascii { V.loud ≡ true → IsAscii symbol.now }
-    requires ready { V.ready voice.old }
-    requires unmarked { state.old.mark ≡ None }
+    requires may { MaySpeak (env V.Voice symbol.now plain) state.old voice.old }
     requires fits { Fits Point.FunctionBinder state.old.depth_left state.old.lifetimes }
-    ensures did { (row : List Frame) → Did V.Voice symbol.now plain Point.FunctionBinder state.old
-        row voice.old result state.new row voice.new (looks.new - looks.old) }
-    ensures ready { IsOk result → V.ready voice.new }
-    ensures sound { (m : Mark) → result ≡ Err (Stop.Fault m) → V.ready voice.new }
-    ensures grows { looks.old ≤ looks.new }
+    ensures did { (row : List Frame) → PointDoes (env V.Voice symbol.now plain) Point.FunctionBinder
+        (turn state.old row voice.old looks.old) result (turn state.new row voice.new looks.new) }
     ensures own { looks.new ≤ looks.old + own_by 16 symbol.now state.old.place }
 {
     let Some(at) = state.place else {
@@ -94,15 +89,10 @@ pub(super) fn function_head<V: Voice>(
     voice: &mut V,
     looks: &mut Looks,
 ) -> Result<Point, Stop>
-    requires ascii { V.loud ≡ true → IsAscii symbol.now }
-    requires ready { V.ready voice.old }
-    requires unmarked { state.old.mark ≡ None }
+    requires may { MaySpeak (env V.Voice symbol.now plain) state.old voice.old }
     requires fits { Fits Point.FunctionHead state.old.depth_left state.old.lifetimes }
-    ensures did { (row : List Frame) → Did V.Voice symbol.now plain Point.FunctionHead state.old row
-        voice.old result state.new row voice.new (looks.new - looks.old) }
-    ensures ready { IsOk result → V.ready voice.new }
-    ensures sound { (m : Mark) → result ≡ Err (Stop.Fault m) → V.ready voice.new }
-    ensures grows { looks.old ≤ looks.new }
+    ensures did { (row : List Frame) → PointDoes (env V.Voice symbol.now plain) Point.FunctionHead
+        (turn state.old row voice.old looks.old) result (turn state.new row voice.new looks.new) }
     ensures own { looks.new ≤ looks.old + own_by 8 symbol.now state.old.place }
 {
     match word_at(symbol, Word::FunctionHead, state, voice, looks) {

@@ -2,8 +2,7 @@
 ghost use Rattle.std.specs.Prelude.{if◌then◌else◌, IsTrue, ◌≡◌, ℕ, ◌*◌, ◌+◌, ◌-◌, ◌<◌, ◌≤◌, List, Bool, Ok, Err, IsOk, length, IsAscii, true, false, ◌^◌, ◌++◌, [], ◌∷◌};
 ghost use Rattle.demangle_symbol.specs.Digits.{is_byte};
 ghost use Rattle.demangle_v0.specs.declared.points.frames.Frame.{Frame};
-ghost use Rattle.demangle_v0.specs.PointContracts.{heard_of};
-ghost use Rattle.demangle_v0.specs.Points.{own_by, Did, DidOn, Fits, frame_of, PointDoes, env, turn};
+ghost use Rattle.demangle_v0.specs.Points.{own_by, Fits, MayStep, frame_of, PointDoes, RestDoes, env, turn};
 ghost use Rattle.demangle_words.specs.Tags.{type_of};
 
 use crate::points::dyn_traits::dyn_type;
@@ -53,17 +52,11 @@ pub(super) fn type_<V: Voice, const N: usize>(
     voice: &mut V,
     looks: &mut Looks,
 ) -> Result<Point, Stop>
-    requires ascii { V.loud ≡ true → IsAscii symbol.now }
-    requires ready { V.ready voice.old }
-    requires unmarked { state.old.mark ≡ None }
-    requires room { length row.old < N }
-    requires fits { Fits Point.«Type» state.old.depth_left state.old.lifetimes }
-    ensures did { Did V.Voice symbol.now plain (if is_begun then Point.«Type» else Point.TaggedType)
-        state.old row.old voice.old result state.new row.new voice.new (looks.new - looks.old) }
-    ensures ready { IsOk result → V.ready voice.new }
-    ensures sound { (m : Mark) → result ≡ Err (Stop.Fault m) → V.ready voice.new }
-    ensures grows { looks.old ≤ looks.new }
-    ensures own { looks.new ≤ looks.old + own_by 20 symbol.now state.old.place }
+    requires may { MayStep (env V.Voice symbol.now plain) Point.«Type» N (turn state.old row.old
+        voice.old looks.old) }
+    ensures did { PointDoes (env V.Voice symbol.now plain) (if is_begun then Point.«Type» else
+        Point.TaggedType) (turn state.old row.old voice.old looks.old) result (turn state.new
+        row.new voice.new looks.new) }
 {
     let Some(at) = state.place else {
         return Err(Stop::Fault(Mark::Unread));
@@ -86,16 +79,10 @@ fn tagged_type<V: Voice, const N: usize>(
     voice: &mut V,
     looks: &mut Looks,
 ) -> Result<Point, Stop>
-    requires ascii { V.loud ≡ true → IsAscii symbol.now }
-    requires ready { V.ready voice.old }
-    requires unmarked { state.old.mark ≡ None }
-    requires room { length row.old < N }
-    requires fits { Fits Point.TaggedType state.old.depth_left state.old.lifetimes }
-    ensures did { Did V.Voice symbol.now plain Point.TaggedType state.old row.old voice.old result
-        state.new row.new voice.new (looks.new - looks.old) }
-    ensures ready { IsOk result → V.ready voice.new }
-    ensures sound { (m : Mark) → result ≡ Err (Stop.Fault m) → V.ready voice.new }
-    ensures grows { looks.old ≤ looks.new }
+    requires may { MayStep (env V.Voice symbol.now plain) Point.TaggedType N (turn state.old row.old
+        voice.old looks.old) }
+    ensures did { PointDoes (env V.Voice symbol.now plain) Point.TaggedType (turn state.old row.old
+        voice.old looks.old) result (turn state.new row.new voice.new looks.new) }
     ensures own { looks.new ≤ looks.old + own_by 18 symbol.now state.old.place }
 {
     let Some(at) = state.place else {
@@ -133,18 +120,10 @@ fn constructed_type<V: Voice, const N: usize>(
     voice: &mut V,
     looks: &mut Looks,
 ) -> Result<Point, Stop>
-    requires ascii { V.loud ≡ true → IsAscii symbol.now }
-    requires ready { V.ready voice.old }
-    requires unmarked { state.old.mark ≡ None }
-    requires room { length row.old < N }
-    requires fits { Fits Point.FunctionBinder state.old.depth_left state.old.lifetimes }
-    ensures did { DidOn V.Voice symbol.now plain 5 (heard_of symbol.now plain V.loud (type_of kind)
-        state.old) 50 (8 * state.old.depth_left + 9) row.old voice.old result state.new row.new
-        voice.new (looks.new - looks.old) }
-    ensures ready { IsOk result → V.ready voice.new }
-    ensures sound { (m : Mark) → result ≡ Err (Stop.Fault m) → V.ready voice.new }
-    ensures grows { looks.old ≤ looks.new }
-    ensures own { looks.new ≤ looks.old + own_by 20 symbol.now state.old.place }
+    requires may { MayStep (env V.Voice symbol.now plain) Point.FunctionBinder N (turn state.old
+        row.old voice.old looks.old) }
+    ensures did { RestDoes (env V.Voice symbol.now plain) (type_of kind) 5 50 9 (turn state.old
+        row.old voice.old looks.old) result (turn state.new row.new voice.new looks.new) }
 {
     match kind {
         TypeKind::SharedReference => Ok(reference::<V>(symbol, false, state, looks)),

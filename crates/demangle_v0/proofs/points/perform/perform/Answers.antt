@@ -1,4 +1,4 @@
-use Rattle.std.proofs.Common.{arith, refl, subst}
+use Rattle.std.proofs.Common.{arith, refl, subst, inl, inr}
 use Rattle.demangle_v0.specs.Points.{share_at, PointDoes, env, turn}
 use Rattle.demangle_v0.specs.declared.points.Point.{Point}
 use Rattle.demangle_v0.proofs.PointReferences.{stays_over}
@@ -27,7 +27,13 @@ pub returns-in-Type-clause-did : goal.returns-in-Type-clause-did
 returns-in-Type-clause-did g c =
     subst (λ (p : Point). PointDoes (env g.V.Voice c.args.symbol.now c.args.plain) p (turn c.args.state.now c.args.row.now c.args.voice.now c.args.looks.now) c.type_.result (turn c.type_.new.state c.type_.new.row c.type_.new.voice c.type_.new.looks))
     (type_point c.args.point c.is_begun.result c.in-Type.is c.is_begun.ensures.yes c.is_begun.ensures.no)
-    (does c.type_.ensures.did c.type_.ensures.grows c.type_.ensures.own (λ _. c.type_.ensures.ready) (λ _. c.type_.ensures.sound))
+    c.type_.ensures.did
+
+pub returns-in-Type-clause-least : goal.returns-in-Type-clause-least
+returns-in-Type-clause-least g c = elim c.in-Type.is [
+  | inl e ↦ rw e (omega (arith, c.type_.ensures.did.grows))
+  | inr e ↦ rw e (omega (arith, c.type_.ensures.did.grows))
+]
 
 pub returns-in-Nested-clause-did : goal.returns-in-Nested-clause-did
 returns-in-Nested-clause-did g c = rw c.in-Nested.is (c.nested_name.ensures.did c.args.row.now)
@@ -99,10 +105,16 @@ pub returns-in-MutReferenceLifetime-clause-least : goal.returns-in-MutReferenceL
 returns-in-MutReferenceLifetime-clause-least g c = rw c.in-MutReferenceLifetime.is (omega (arith, (c.reference_lifetime-in-MutReferenceLifetime.ensures.did c.args.row.now).grows))
 
 pub returns-in-FunctionBinder-clause-did : goal.returns-in-FunctionBinder-clause-did
-returns-in-FunctionBinder-clause-did g c = rw c.in-FunctionBinder.is (does (c.function_binder.ensures.did c.args.row.now) c.function_binder.ensures.grows (own_more _ 16 20 _ _ (omega arith) c.function_binder.ensures.own) (λ _. c.function_binder.ensures.ready) (λ _. c.function_binder.ensures.sound))
+returns-in-FunctionBinder-clause-did g c = rw c.in-FunctionBinder.is (c.function_binder.ensures.did c.args.row.now)
+
+pub returns-in-FunctionBinder-clause-least : goal.returns-in-FunctionBinder-clause-least
+returns-in-FunctionBinder-clause-least g c = rw c.in-FunctionBinder.is (omega (arith, (c.function_binder.ensures.did c.args.row.now).grows))
 
 pub returns-in-FunctionHead-clause-did : goal.returns-in-FunctionHead-clause-did
-returns-in-FunctionHead-clause-did g c = rw c.in-FunctionHead.is (does (c.function_head.ensures.did c.args.row.now) c.function_head.ensures.grows (own_more _ 8 20 _ _ (omega arith) c.function_head.ensures.own) (λ _. c.function_head.ensures.ready) (λ _. c.function_head.ensures.sound))
+returns-in-FunctionHead-clause-did g c = rw c.in-FunctionHead.is (c.function_head.ensures.did c.args.row.now)
+
+pub returns-in-FunctionHead-clause-least : goal.returns-in-FunctionHead-clause-least
+returns-in-FunctionHead-clause-least g c = rw c.in-FunctionHead.is (omega (arith, (c.function_head.ensures.did c.args.row.now).grows))
 
 pub returns-in-FirstParameter-clause-did : goal.returns-in-FirstParameter-clause-did
 returns-in-FirstParameter-clause-did g c = rw c.in-FirstParameter.is (c.parameter.ensures.did c.args.plain c.args.voice.now)
@@ -123,31 +135,58 @@ pub returns-in-Returns-clause-least : goal.returns-in-Returns-clause-least
 returns-in-Returns-clause-least g c = rw c.in-Returns.is (omega (arith, (c.returns.ensures.did c.args.plain c.args.voice.now c.args.row.now).grows))
 
 pub returns-in-DynBinder-clause-did : goal.returns-in-DynBinder-clause-did
-returns-in-DynBinder-clause-did g c = rw c.in-DynBinder.is (does (c.dyn_binder.ensures.did) c.dyn_binder.ensures.grows c.dyn_binder.ensures.own (λ _. c.dyn_binder.ensures.ready) (λ _. c.dyn_binder.ensures.sound))
+returns-in-DynBinder-clause-did g c = rw c.in-DynBinder.is (c.dyn_binder.ensures.did)
+
+pub returns-in-DynBinder-clause-least : goal.returns-in-DynBinder-clause-least
+returns-in-DynBinder-clause-least g c = rw c.in-DynBinder.is (omega (arith, (c.dyn_binder.ensures.did).grows))
 
 pub returns-in-FirstDynTrait-clause-did : goal.returns-in-FirstDynTrait-clause-did
-returns-in-FirstDynTrait-clause-did g c = rw c.in-FirstDynTrait.is (does (c.dyn_trait.ensures.did c.args.plain c.args.voice.now) c.dyn_trait.ensures.grows (own_more _ 16 20 _ _ (omega arith) c.dyn_trait.ensures.own) (λ k _. k) (λ k _ _. k))
+returns-in-FirstDynTrait-clause-did g c = rw c.in-FirstDynTrait.is (c.dyn_trait.ensures.did c.args.plain c.args.voice.now)
+
+pub returns-in-FirstDynTrait-clause-least : goal.returns-in-FirstDynTrait-clause-least
+returns-in-FirstDynTrait-clause-least g c = rw c.in-FirstDynTrait.is (omega (arith, (c.dyn_trait.ensures.did c.args.plain c.args.voice.now).grows))
 
 pub returns-in-NextDynTrait-clause-did : goal.returns-in-NextDynTrait-clause-did
-returns-in-NextDynTrait-clause-did g c = rw c.in-NextDynTrait.is (does (c.dyn_trait-in-NextDynTrait.ensures.did c.args.plain c.args.voice.now) c.dyn_trait-in-NextDynTrait.ensures.grows (own_more _ 16 20 _ _ (omega arith) c.dyn_trait-in-NextDynTrait.ensures.own) (λ k _. k) (λ k _ _. k))
+returns-in-NextDynTrait-clause-did g c = rw c.in-NextDynTrait.is (c.dyn_trait-in-NextDynTrait.ensures.did c.args.plain c.args.voice.now)
+
+pub returns-in-NextDynTrait-clause-least : goal.returns-in-NextDynTrait-clause-least
+returns-in-NextDynTrait-clause-least g c = rw c.in-NextDynTrait.is (omega (arith, (c.dyn_trait-in-NextDynTrait.ensures.did c.args.plain c.args.voice.now).grows))
 
 pub returns-in-TraitPath-clause-did : goal.returns-in-TraitPath-clause-did
-returns-in-TraitPath-clause-did g c = rw c.in-TraitPath.is (does (c.trait_path.ensures.did c.args.plain c.args.voice.now) c.trait_path.ensures.grows c.trait_path.ensures.own (λ k _. k) (λ k _ _. k))
+returns-in-TraitPath-clause-did g c = rw c.in-TraitPath.is (c.trait_path.ensures.did c.args.plain c.args.voice.now)
+
+pub returns-in-TraitPath-clause-least : goal.returns-in-TraitPath-clause-least
+returns-in-TraitPath-clause-least g c = rw c.in-TraitPath.is (omega (arith, (c.trait_path.ensures.did c.args.plain c.args.voice.now).grows))
 
 pub returns-in-FirstOpenArgument-clause-did : goal.returns-in-FirstOpenArgument-clause-did
-returns-in-FirstOpenArgument-clause-did g c = rw c.in-FirstOpenArgument.is (does (c.open_argument.ensures.did c.args.plain c.args.voice.now) c.open_argument.ensures.grows c.open_argument.ensures.own (λ k _. k) (λ k _ _. k))
+returns-in-FirstOpenArgument-clause-did g c = rw c.in-FirstOpenArgument.is (c.open_argument.ensures.did c.args.plain c.args.voice.now)
+
+pub returns-in-FirstOpenArgument-clause-least : goal.returns-in-FirstOpenArgument-clause-least
+returns-in-FirstOpenArgument-clause-least g c = rw c.in-FirstOpenArgument.is (omega (arith, (c.open_argument.ensures.did c.args.plain c.args.voice.now).grows))
 
 pub returns-in-NextOpenArgument-clause-did : goal.returns-in-NextOpenArgument-clause-did
-returns-in-NextOpenArgument-clause-did g c = rw c.in-NextOpenArgument.is (does (c.open_argument-in-NextOpenArgument.ensures.did c.args.plain c.args.voice.now) c.open_argument-in-NextOpenArgument.ensures.grows c.open_argument-in-NextOpenArgument.ensures.own (λ k _. k) (λ k _ _. k))
+returns-in-NextOpenArgument-clause-did g c = rw c.in-NextOpenArgument.is (c.open_argument-in-NextOpenArgument.ensures.did c.args.plain c.args.voice.now)
+
+pub returns-in-NextOpenArgument-clause-least : goal.returns-in-NextOpenArgument-clause-least
+returns-in-NextOpenArgument-clause-least g c = rw c.in-NextOpenArgument.is (omega (arith, (c.open_argument-in-NextOpenArgument.ensures.did c.args.plain c.args.voice.now).grows))
 
 pub returns-in-Bindings-clause-did : goal.returns-in-Bindings-clause-did
-returns-in-Bindings-clause-did g c = rw c.in-Bindings.is (does (c.bindings.ensures.did c.args.plain c.args.voice.now c.args.row.now) c.bindings.ensures.grows c.bindings.ensures.own (λ k _. k) (λ k _ _. k))
+returns-in-Bindings-clause-did g c = rw c.in-Bindings.is (c.bindings.ensures.did c.args.plain c.args.voice.now c.args.row.now)
+
+pub returns-in-Bindings-clause-least : goal.returns-in-Bindings-clause-least
+returns-in-Bindings-clause-least g c = rw c.in-Bindings.is (omega (arith, (c.bindings.ensures.did c.args.plain c.args.voice.now c.args.row.now).grows))
 
 pub returns-in-OpenBindings-clause-did : goal.returns-in-OpenBindings-clause-did
-returns-in-OpenBindings-clause-did g c = rw c.in-OpenBindings.is (does (c.open_bindings.ensures.did c.args.plain c.args.voice.now c.args.row.now) c.open_bindings.ensures.grows c.open_bindings.ensures.own (λ k _. k) (λ k _ _. k))
+returns-in-OpenBindings-clause-did g c = rw c.in-OpenBindings.is (c.open_bindings.ensures.did c.args.plain c.args.voice.now c.args.row.now)
+
+pub returns-in-OpenBindings-clause-least : goal.returns-in-OpenBindings-clause-least
+returns-in-OpenBindings-clause-least g c = rw c.in-OpenBindings.is (omega (arith, (c.open_bindings.ensures.did c.args.plain c.args.voice.now c.args.row.now).grows))
 
 pub returns-in-BindingName-clause-did : goal.returns-in-BindingName-clause-did
-returns-in-BindingName-clause-did g c = rw c.in-BindingName.is (does (c.binding_name.ensures.did c.args.row.now) c.binding_name.ensures.grows c.binding_name.ensures.own (λ _. c.binding_name.ensures.ready) (λ _. c.binding_name.ensures.sound))
+returns-in-BindingName-clause-did g c = rw c.in-BindingName.is (c.binding_name.ensures.did c.args.row.now)
+
+pub returns-in-BindingName-clause-least : goal.returns-in-BindingName-clause-least
+returns-in-BindingName-clause-least g c = rw c.in-BindingName.is (omega (arith, (c.binding_name.ensures.did c.args.row.now).grows))
 
 pub returns-in-Bound-clause-did : goal.returns-in-Bound-clause-did
 returns-in-Bound-clause-did g c = rw c.in-Bound.is (c.bound.ensures.did c.args.plain c.args.voice.now)
