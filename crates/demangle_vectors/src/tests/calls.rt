@@ -65,7 +65,12 @@ fn errors_are_values(rt: HostRuntime) -> Result<(), Fail> {
     let alloc = rt.alloc();
     let error = try_demangle("foo").err().ok_or("no error")?;
     let again = error.clone()?;
-    assert!(rt; !format!(in alloc; "{again:?}")?.is_empty());
+    for value in [&error, &again] {
+        assert_eq!(rt;
+            format!(in alloc; "{value:?}")?.as_str(),
+            "TryDemangleError { _priv: () }"
+        );
+    }
     let refused = SinkRefused;
     let copied = refused;
     let cloned = refused.clone()?;
@@ -150,13 +155,14 @@ fn faults_become_errors(rt: HostRuntime) -> Result<(), Fail> {
     let write = StreamFault::Write(io::Error::new(ErrorKind::BrokenPipe, "gone")).into_io();
     assert_eq!(rt; write.kind(), ErrorKind::BrokenPipe);
     assert_eq!(rt; format!(in alloc; "{write}")?.as_str(), "gone");
+    let bytes = StreamFault::NotUtf8.into_io();
+    assert_eq!(rt; bytes.kind(), ErrorKind::InvalidData);
     assert_eq!(rt;
-        StreamFault::NotUtf8.into_io().kind(),
-        ErrorKind::InvalidData
+        format!(in alloc; "{bytes}")?.as_str(),
+        "the stream is not UTF-8"
     );
-    assert_eq!(rt;
-        StreamFault::Memory.into_io().kind(),
-        ErrorKind::OutOfMemory
-    );
+    let memory = StreamFault::Memory.into_io();
+    assert_eq!(rt; memory.kind(), ErrorKind::OutOfMemory);
+    assert_eq!(rt; format!(in alloc; "{memory}")?.as_str(), "out of memory");
     Ok(())
 }
