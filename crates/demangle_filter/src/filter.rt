@@ -62,7 +62,8 @@ pub fn filter_run<R: BufRead, W: Write, E: Write>(
 ) -> u8
     ensures status { result ≤ 2 }
     ensures usage { 2 ≤ length words.now → result ≡ 2 }
-    ensures word { length words.now ≡ 1 → map string_bytes words.now ≢ codes "--no-hash" ∷ [] → result ≡ 2 }
+    ensures word { length words.now ≡ 1 → map string_bytes words.now ≢ codes "--no-hash" ∷ [] →
+        result ≡ 2 }
     ensures done { result ≡ 0 → IfSome (R.remaining input.old) (λ text.
         Finished text (length words.now == 0) (R.remaining input.new)
         (W.contents output.old) (W.contents output.new)) }

@@ -16,7 +16,9 @@ use demangle_words::voice::Voice;
 #[inline(always)]
 pub(super) fn generic<V: Voice>(state: &mut State) -> Point
     requires fits { Fits Point.Generic state.old.depth_left state.old.lifetimes }
-    ensures did { (b : List ℕ) (plain : Bool) (v : V) (row : List Frame) (n : ℕ) → PointDoes (env V.Voice b plain) Point.Generic (turn state.old row v n) (Ok result) (turn state.new row v n) }
+    ensures did { (b : List ℕ) (plain : Bool) (v : V) (row : List Frame) (n : ℕ) → PointDoes (env
+        V.Voice b plain) Point.Generic (turn state.old row v n) (Ok result) (turn state.new row v
+        n) }
 {
     if state.in_value {
         state.mark = Some(Mark::Colons);

@@ -113,7 +113,8 @@ pub(super) fn bound<V: Voice, const N: usize>(
     looks: &mut Looks,
 ) -> Point
     requires may { MayRead Point.Bound N state.old row.old }
-    ensures did { (plain : Bool) (v : V) → PointDoes (env V.Voice symbol.now plain) Point.Bound (turn state.old row.old v looks.old) (Ok result) (turn state.new row.new v looks.new) }
+    ensures did { (plain : Bool) (v : V) → PointDoes (env V.Voice symbol.now plain) Point.Bound
+        (turn state.old row.old v looks.old) (Ok result) (turn state.new row.new v looks.new) }
 {
     row.push(state.frame(Point::OpenBindings));
     state.in_value = false;

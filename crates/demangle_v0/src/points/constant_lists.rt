@@ -79,8 +79,9 @@ pub(super) fn first_constant<V: Voice, const N: usize>(
     looks: &mut Looks,
 ) -> Point
     requires may { MayRead Point.Constant N state.old row.old }
-    ensures did { (plain : Bool) (v : V) → PointDoes (env V.Voice symbol.now plain) (first_point list)
-        (turn state.old row.old v looks.old) (Ok result) (turn state.new row.new v looks.new) }
+    ensures did { (plain : Bool) (v : V) → PointDoes (env V.Voice symbol.now plain) (first_point
+        list) (turn state.old row.old v looks.old) (Ok result) (turn state.new row.new v
+        looks.new) }
 {
     let Some(at) = state.place else {
         state.mark = Some(list.close());
@@ -108,8 +109,9 @@ pub(super) fn next_constant<V: Voice, const N: usize>(
     looks: &mut Looks,
 ) -> Point
     requires may { MayRead Point.Constant N state.old row.old }
-    ensures did { (plain : Bool) (v : V) → PointDoes (env V.Voice symbol.now plain) (next_point list)
-        (turn state.old row.old v looks.old) (Ok result) (turn state.new row.new v looks.new) }
+    ensures did { (plain : Bool) (v : V) → PointDoes (env V.Voice symbol.now plain) (next_point
+        list) (turn state.old row.old v looks.old) (Ok result) (turn state.new row.new v
+        looks.new) }
 {
     let Some(at) = state.place else {
         state.mark = Some(list.close());
@@ -137,7 +139,9 @@ pub(super) fn second_tuple_constant<V: Voice, const N: usize>(
     looks: &mut Looks,
 ) -> Point
     requires may { MayRead Point.SecondTupleConstant N state.old row.old }
-    ensures did { (plain : Bool) (v : V) → PointDoes (env V.Voice symbol.now plain) Point.SecondTupleConstant (turn state.old row.old v looks.old) (Ok result) (turn state.new row.new v looks.new) }
+    ensures did { (plain : Bool) (v : V) → PointDoes (env V.Voice symbol.now plain)
+        Point.SecondTupleConstant (turn state.old row.old v looks.old) (Ok result) (turn state.new
+        row.new v looks.new) }
 {
     let Some(at) = state.place else {
         state.mark = Some(Mark::OneComma);

@@ -71,8 +71,8 @@ pub(super) fn dyn_trait<V: Voice, const N: usize>(
     looks: &mut Looks,
 ) -> Point
     requires may { MayRead Point.NextDynTrait N state.old row.old }
-    ensures did { (plain : Bool) (v : V) → PointDoes (env V.Voice symbol.now plain) (if is_first then
-        Point.FirstDynTrait else Point.NextDynTrait) (turn state.old row.old v looks.old) (Ok
+    ensures did { (plain : Bool) (v : V) → PointDoes (env V.Voice symbol.now plain) (if is_first
+        then Point.FirstDynTrait else Point.NextDynTrait) (turn state.old row.old v looks.old) (Ok
         result) (turn state.new row.new v looks.new) }
     ensures own { looks.new ≤ looks.old + own_by 16 symbol.now state.old.place }
 {
@@ -125,9 +125,9 @@ pub(super) fn open_argument<V: Voice, const N: usize>(
     looks: &mut Looks,
 ) -> Point
     requires may { MayRead Point.NextOpenArgument N state.old row.old }
-    ensures did { (plain : Bool) (v : V) → PointDoes (env V.Voice symbol.now plain) (if is_first then
-        Point.FirstOpenArgument else Point.NextOpenArgument) (turn state.old row.old v looks.old)
-        (Ok result) (turn state.new row.new v looks.new) }
+    ensures did { (plain : Bool) (v : V) → PointDoes (env V.Voice symbol.now plain) (if is_first
+        then Point.FirstOpenArgument else Point.NextOpenArgument) (turn state.old row.old v
+        looks.old) (Ok result) (turn state.new row.new v looks.new) }
 {
     let Some(at) = state.place else {
         state.is_open = true;
@@ -153,8 +153,8 @@ pub(super) fn dyn_lifetime<V: Voice>(
     looks: &mut Looks,
 ) -> Result<Point, Stop>
     requires may { MaySpeak (env V.Voice symbol.now plain) state.old voice.old }
-    ensures did { (row : List Frame) → PointDoes (env V.Voice symbol.now plain) Point.DynLifetime (turn
-        state.old row voice.old looks.old) result (turn state.new row voice.new looks.new) }
+    ensures did { (row : List Frame) → PointDoes (env V.Voice symbol.now plain) Point.DynLifetime
+        (turn state.old row voice.old looks.old) result (turn state.new row voice.new looks.new) }
 {
     last_word(symbol, Word::DynLifetime, plain, state, voice, looks)
 }

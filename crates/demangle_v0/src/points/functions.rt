@@ -128,7 +128,9 @@ pub(super) fn parameter<V: Voice, const N: usize>(
     looks: &mut Looks,
 ) -> Point
     requires may { MayRead Point.NextParameter N state.old row.old }
-    ensures did { (plain : Bool) (v : V) → PointDoes (env V.Voice symbol.now plain) (if is_first then Point.FirstParameter else Point.NextParameter) (turn state.old row.old v looks.old) (Ok result) (turn state.new row.new v looks.new) }
+    ensures did { (plain : Bool) (v : V) → PointDoes (env V.Voice symbol.now plain) (if is_first
+        then Point.FirstParameter else Point.NextParameter) (turn state.old row.old v looks.old) (Ok
+        result) (turn state.new row.new v looks.new) }
 {
     if is_over(symbol, &mut state.place, looks) {
         state.mark = Some(Mark::CloseParen);
@@ -144,7 +146,9 @@ pub(super) fn parameter<V: Voice, const N: usize>(
 pub(super) fn returns<V: Voice>(symbol: &Symbol<'_>, state: &mut State, looks: &mut Looks) -> Point
     requires unmarked { state.old.mark ≡ None }
     requires fits { Fits Point.Returns state.old.depth_left state.old.lifetimes }
-    ensures did { (plain : Bool) (v : V) (row : List Frame) → PointDoes (env V.Voice symbol.now plain) Point.Returns (turn state.old row v looks.old) (Ok result) (turn state.new row v looks.new) }
+    ensures did { (plain : Bool) (v : V) (row : List Frame) → PointDoes (env V.Voice symbol.now
+        plain) Point.Returns (turn state.old row v looks.old) (Ok result) (turn state.new row v
+        looks.new) }
 {
     let Some(at) = state.place else {
         state.mark = Some(Mark::Arrow);

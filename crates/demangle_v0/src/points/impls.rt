@@ -20,8 +20,8 @@ pub(super) fn impl_path<V: Voice>(
     requires unmarked { state.old.mark ≡ None }
     requires fits { Fits Point.Path state.old.depth_left state.old.lifetimes }
     ensures did { (plain : Bool) (v : V) (row : List Frame) → RestDoes (env V.Voice symbol.now
-        plain) (impl_items of_trait) 6 1 2 (turn state.old row v looks.old) result (turn state.new row
-        v looks.new) }
+        plain) (impl_items of_trait) 6 1 2 (turn state.old row v looks.old) result (turn state.new
+        row v looks.new) }
 {
     let Some(at) = state.place else {
         return Err(Stop::Fault(Mark::Unread));
@@ -45,7 +45,9 @@ pub(super) fn skipped_path<V: Voice, const N: usize>(
 ) -> Point
     requires silent { V.loud ≡ false }
     requires may { MayRead Point.Path N state.old row.old }
-    ensures did { (b : List ℕ) (plain : Bool) (v : V) (n : ℕ) → PointDoes (env V.Voice b plain) (skip_point of_trait) (turn state.old row.old v n) (Ok result) (turn state.new row.new v n) }
+    ensures did { (b : List ℕ) (plain : Bool) (v : V) (n : ℕ) → PointDoes (env V.Voice b plain)
+        (skip_point of_trait) (turn state.old row.old v n) (Ok result) (turn state.new row.new v
+        n) }
 {
     let frame = state.frame(Point::InherentType);
     state.in_value = false;
@@ -70,7 +72,8 @@ pub(super) fn self_type<V: Voice, const N: usize>(
     requires room { length row.old < N }
     requires fits { Fits Point.Path state.old.depth_left state.old.lifetimes }
     ensures did { (b : List ℕ) (plain : Bool) (v : V) (n : ℕ) → PointDoes (env V.Voice b plain)
-        (self_point of_trait) (turn state.old row.old v n) (Ok result) (turn state.new row.new v n) }
+        (self_point of_trait) (turn state.old row.old v n) (Ok result) (turn state.new row.new v
+        n) }
 {
     state.mark = Some(Mark::Less);
     if of_trait {
@@ -89,7 +92,8 @@ pub(super) fn as_trait<V: Voice, const N: usize>(
 ) -> Point
     requires room { length row.old < N }
     requires fits { Fits Point.Path state.old.depth_left state.old.lifetimes }
-    ensures did { (b : List ℕ) (plain : Bool) (v : V) (n : ℕ) → PointDoes (env V.Voice b plain) Point.As (turn state.old row.old v n) (Ok result) (turn state.new row.new v n) }
+    ensures did { (b : List ℕ) (plain : Bool) (v : V) (n : ℕ) → PointDoes (env V.Voice b plain)
+        Point.As (turn state.old row.old v n) (Ok result) (turn state.new row.new v n) }
 {
     row.push(state.frame(Point::CloseAngle));
     state.mark = Some(Mark::As);

@@ -19,7 +19,8 @@ pub(super) fn pattern<V: Voice, const N: usize>(
     looks: &mut Looks,
 ) -> Result<Point, Stop>
     requires may { MayRead Point.Pattern N state.old row.old }
-    ensures did { (plain : Bool) (v : V) → PointDoes (env V.Voice symbol.now plain) Point.Pattern (turn state.old row.old v looks.old) result (turn state.new row.new v looks.new) }
+    ensures did { (plain : Bool) (v : V) → PointDoes (env V.Voice symbol.now plain) Point.Pattern
+        (turn state.old row.old v looks.old) result (turn state.new row.new v looks.new) }
 {
     let Some(at) = state.place else {
         return Err(Stop::Fault(Mark::Unread));
@@ -62,7 +63,9 @@ pub(super) fn next_pattern<V: Voice, const N: usize>(
     looks: &mut Looks,
 ) -> Result<Point, Stop>
     requires may { MayRead Point.NextPattern N state.old row.old }
-    ensures did { (plain : Bool) (v : V) → PointDoes (env V.Voice symbol.now plain) Point.NextPattern (turn state.old row.old v looks.old) result (turn state.new row.new v looks.new) }
+    ensures did { (plain : Bool) (v : V) → PointDoes (env V.Voice symbol.now plain)
+        Point.NextPattern (turn state.old row.old v looks.old) result (turn state.new row.new v
+        looks.new) }
 {
     let Some(at) = state.place else {
         return Err(Stop::Fault(Mark::Invalid));

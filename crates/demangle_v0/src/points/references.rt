@@ -53,7 +53,8 @@ pub(super) fn behind<V: Voice>(state: &mut State) -> Point
     requires unmarked { state.old.mark ≡ None }
     requires fits { Fits Point.Behind state.old.depth_left state.old.lifetimes }
     ensures did { (b : List ℕ) (plain : Bool) (v : V) (row : List Frame) (n : ℕ) → PointDoes (env
-        V.Voice b plain) Point.Behind (turn state.old row v n) (Ok result) (turn state.new row v n) }
+        V.Voice b plain) Point.Behind (turn state.old row v n) (Ok result) (turn state.new row v
+        n) }
 {
     state.place = Some(state.lifetimes as usize);
     Point::End

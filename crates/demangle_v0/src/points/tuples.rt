@@ -36,8 +36,8 @@ pub(super) fn first_tuple_type<V: Voice, const N: usize>(
 ) -> Point
     requires may { MayRead Point.FirstTupleType N state.old row.old }
     ensures did { (plain : Bool) (v : V) → PointDoes (env V.Voice symbol.now plain)
-        Point.FirstTupleType (turn state.old row.old v looks.old) (Ok result) (turn state.new row.new v
-        looks.new) }
+        Point.FirstTupleType (turn state.old row.old v looks.old) (Ok result) (turn state.new
+        row.new v looks.new) }
 {
     if is_over(symbol, &mut state.place, looks) {
         state.mark = Some(Mark::CloseParen);
@@ -58,8 +58,8 @@ pub(super) fn second_tuple_type<V: Voice, const N: usize>(
 ) -> Point
     requires may { MayRead Point.SecondTupleType N state.old row.old }
     ensures did { (plain : Bool) (v : V) → PointDoes (env V.Voice symbol.now plain)
-        Point.SecondTupleType (turn state.old row.old v looks.old) (Ok result) (turn state.new row.new v
-        looks.new) }
+        Point.SecondTupleType (turn state.old row.old v looks.old) (Ok result) (turn state.new
+        row.new v looks.new) }
 {
     if is_over(symbol, &mut state.place, looks) {
         state.mark = Some(Mark::OneComma);
@@ -80,8 +80,8 @@ pub(super) fn next_tuple_type<V: Voice, const N: usize>(
 ) -> Point
     requires may { MayRead Point.NextTupleType N state.old row.old }
     ensures did { (plain : Bool) (v : V) → PointDoes (env V.Voice symbol.now plain)
-        Point.NextTupleType (turn state.old row.old v looks.old) (Ok result) (turn state.new row.new v
-        looks.new) }
+        Point.NextTupleType (turn state.old row.old v looks.old) (Ok result) (turn state.new row.new
+        v looks.new) }
 {
     if is_over(symbol, &mut state.place, looks) {
         state.mark = Some(Mark::CloseParen);

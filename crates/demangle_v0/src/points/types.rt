@@ -188,7 +188,8 @@ pub(super) fn array_length<V: Voice, const N: usize>(
 ) -> Point
     requires room { length row.old < N }
     requires fits { Fits Point.ArrayLength state.old.depth_left state.old.lifetimes }
-    ensures did { (b : List ℕ) (plain : Bool) (v : V) (n : ℕ) → PointDoes (env V.Voice b plain) Point.ArrayLength (turn state.old row.old v n) (Ok result) (turn state.new row.new v n) }
+    ensures did { (b : List ℕ) (plain : Bool) (v : V) (n : ℕ) → PointDoes (env V.Voice b plain)
+        Point.ArrayLength (turn state.old row.old v n) (Ok result) (turn state.new row.new v n) }
 {
     push_printing(Point::CloseBracket, state, row, voice);
     state.mark = Some(Mark::Semicolon);

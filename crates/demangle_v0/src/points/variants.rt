@@ -59,7 +59,8 @@ pub(super) fn variant<V: Voice, const N: usize>(
     looks: &mut Looks,
 ) -> Result<Point, Stop>
     requires may { MayRead Point.Variant N state.old row.old }
-    ensures did { (plain : Bool) (v : V) → PointDoes (env V.Voice symbol.now plain) Point.Variant (turn state.old row.old v looks.old) result (turn state.new row.new v looks.new) }
+    ensures did { (plain : Bool) (v : V) → PointDoes (env V.Voice symbol.now plain) Point.Variant
+        (turn state.old row.old v looks.old) result (turn state.new row.new v looks.new) }
 {
     let Some(at) = state.place else {
         return Err(Stop::Fault(Mark::Unread));
