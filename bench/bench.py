@@ -72,9 +72,12 @@ def print_rates(size, also):
                 file.write(part)
             file.flush()
             megabytes = os.path.getsize(file.name) / 1_000_000
-            rates = {program: megabytes / processor_seconds(command, file.name) for program, command in programs}
-        for program, rate in rates.items():
-            print('| %s | %s | %s | %.2f |' % (name, program, '{:,.0f}'.format(rate), rate / rates['demangle_filter']), flush=True)
+            took = {program: processor_seconds(command, file.name) for program, command in programs}
+        for program, seconds_taken in took.items():
+            # A text so short that a program's time can't be told has no rate.
+            rate = '{:,.0f}'.format(megabytes / seconds_taken) if seconds_taken else '-'
+            times = '%.2f' % (took['demangle_filter'] / seconds_taken) if seconds_taken else '-'
+            print('| %s | %s | %s | %s |' % (name, program, rate, times), flush=True)
 
 
 def main():

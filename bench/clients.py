@@ -301,7 +301,7 @@ def check_answers(work):
     real = {text for _, start, end in REAL for text in stored[start:end]}
     assert not differ & real, 'real symbols differ: %r' % sorted(differ & real)[:3]
     for hash_ in ('true', 'false'):
-        ours, theirs = parted(run([program, 'stream', hash_], input=''.join(made_lines(3)).encode()))
+        ours, theirs = parted(run([program, 'stream', hash_], input=''.join(made_lines(3, 'all')).encode()))
         assert ours == theirs and len(ours) > 100_000, 'a text is copied otherwise'
     few, many = (instructions([program, 'stream-ours'], b'_ZN1aE _Z _R ' * count) for count in (20_000, 80_000))
     assert many < 5 * few, '%d instructions for a line, %d for one of four times its length' % (few, many)

@@ -1,5 +1,5 @@
 """What the scripts of this folder share: paths, other programs, and a copy of the library's crates."""
-import argparse, os, re, shlex, shutil, subprocess, sys, time
+import argparse, os, re, resource, shlex, shutil, subprocess, sys, time
 
 ROOT = os.path.dirname(os.path.dirname(os.path.abspath(__file__)))
 OURS = os.path.join(ROOT, 'crates', 'demangle_filter', 'out', 'demangle_filter')
@@ -74,14 +74,14 @@ def seconds(command, text):
 
 
 def processor_seconds(command, path):
-    """The processor time that a program takes over a file, in it and in the system: the least of five runs."""
+    """The processor time that a program takes over a file, in it and in the system: the least of five runs, in steps of a microsecond."""
     best = None
     for _ in range(5):
-        before = os.times()
+        before = resource.getrusage(resource.RUSAGE_CHILDREN)
         with open(path, 'rb') as file:
             subprocess.run(command, stdin=file, stdout=subprocess.DEVNULL, stderr=subprocess.DEVNULL)
-        after = os.times()
-        took = after.children_user + after.children_system - before.children_user - before.children_system
+        after = resource.getrusage(resource.RUSAGE_CHILDREN)
+        took = after.ru_utime + after.ru_stime - before.ru_utime - before.ru_stime
         best = took if best is None else min(best, took)
     return best
 

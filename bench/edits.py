@@ -3,10 +3,11 @@
 
     rt ci > gate.txt; bench/edits.py gate.txt          (or rt must-fail CRATE > gate.txt)
 
-A line `clause: FUNCTION CLAUSE` of an edit names the function that the prover refuses first, and its clause: `ensures` where the
-function has one clause without a name, `loop` where it is the invariant of a loop, `call` where it is what a called function
-requires. The gate cuts what it says; where the clause is cut off, the function alone is compared. With --write an edit that has
-no such line is given what the gate said of it, to be judged by a reader. An edit that the gate did not try is a failure.
+A line `clause: FUNCTION CLAUSE` of an edit names the function that the prover refuses first, and its clause: `ensures` where
+the function has one clause without a name, `loop` where it is the invariant of a loop, `invariant` where it is that of a type
+whose value is made there, `call` where it is what a called function requires. The gate cuts what it says; where the clause is
+cut off, the function alone is compared. With --write an edit that has no such line is given what the gate said of it, to be
+judged by a reader. An edit that the gate did not try is a failure.
 The last line is 'N passed, N failed'.
 """
 import argparse, os, re, sys
@@ -61,6 +62,8 @@ def clause_of(goal):
     named = re.search(r'clause-([\w-]+?)(?:-\d+)?$', goal)
     if named:
         return named[1]
+    if goal.startswith('invariant_of'):
+        return 'invariant'
     if goal.startswith(('loop', 'invariant', 'decreases')):
         return 'loop'
     return 'ensures' if goal.startswith('returns') else 'call'

@@ -22,7 +22,7 @@ import sys
 import threading
 from typing import Any, AnyStr, Callable, List, NamedTuple, Optional, Tuple
 
-__all__ = ["MAX_SIZE", "demangle", "demangle_text", "is_symbol"]
+__all__ = ["MAX_SIZE", "demangle", "demangle_text", "is_symbol", "strip_thin_lto", "try_demangle"]
 __version__ = "0.1.0"
 
 #: The most bytes that are printed of a symbol, before ``{size limit reached}`` and its suffix.
@@ -35,6 +35,7 @@ _ROOM = 1 << 16
 
 class _Calls(NamedTuple):
     is_symbol: Callable[..., bool]
+    symbol_len: Callable[..., int]
     demangle: Callable[..., int]
     demangle_text: Callable[..., int]
 
@@ -68,10 +69,17 @@ def _calls() -> _Calls:
     size, text, flag = ctypes.c_size_t, ctypes.c_char_p, ctypes.c_bool
     library.kodliwe_is_symbol.argtypes = [text, size]
     library.kodliwe_is_symbol.restype = flag
+    library.kodliwe_symbol_len.argtypes = [text, size]
+    library.kodliwe_symbol_len.restype = size
     for call in (library.kodliwe_demangle_limited, library.kodliwe_demangle_text):
         call.argtypes = [text, size, ctypes.c_void_p, size, flag, size]
         call.restype = size
-    return _Calls(library.kodliwe_is_symbol, library.kodliwe_demangle_limited, library.kodliwe_demangle_text)
+    return _Calls(
+        library.kodliwe_is_symbol,
+        library.kodliwe_symbol_len,
+        library.kodliwe_demangle_limited,
+        library.kodliwe_demangle_text,
+    )
 
 
 class _Rooms(threading.local):
@@ -126,14 +134,30 @@ def is_symbol(text: AnyStr) -> bool:
     return _calls().is_symbol(symbol, len(symbol))
 
 
+def strip_thin_lto(text: AnyStr) -> Optional[AnyStr]:
+    """A Rust symbol without the ending (``.llvm.``) that ThinLTO appended to it, whole where there is none; None where the
+    text is no Rust symbol. It prints nothing.
+    """
+    symbol = _encoded(text)
+    size = _calls().symbol_len(symbol, len(symbol))
+    # A symbol and its ending are ASCII, so that its characters are its bytes.
+    return text[:size] if size else None
+
+
+def try_demangle(text: AnyStr, hash: bool = False, limit: int = MAX_SIZE) -> Optional[AnyStr]:
+    """The path that a Rust symbol names, as ``demangle`` prints it; None where the text is no Rust symbol."""
+    path = _written(_calls().demangle, _encoded(text), hash, _limit(limit))
+    return None if path is None else _as_given(text, path)
+
+
 def demangle(text: AnyStr, hash: bool = False, limit: int = MAX_SIZE) -> AnyStr:
     """The path that a Rust symbol names; any other text as it is.
 
     ``hash``: with the hash of a legacy symbol, and the disambiguators of v0. A path ends after at most ``limit`` bytes,
     and after a million of them at most; ``{size limit reached}`` and the symbol's suffix then follow.
     """
-    path = _written(_calls().demangle, _encoded(text), hash, _limit(limit))
-    return text if path is None else _as_given(text, path)
+    path = try_demangle(text, hash, limit)
+    return text if path is None else path
 
 
 def demangle_text(text: AnyStr, hash: bool = False, limit: int = MAX_SIZE) -> AnyStr:

@@ -76,7 +76,7 @@ class Demangle(unittest.TestCase):
         self.assertEqual(kodliwe.demangle(LEGACY), "foo")
 
     def test_a_type_that_is_no_text(self):
-        for call in (kodliwe.demangle, kodliwe.is_symbol, kodliwe.demangle_text):
+        for call in (kodliwe.demangle, kodliwe.try_demangle, kodliwe.is_symbol, kodliwe.strip_thin_lto, kodliwe.demangle_text):
             with self.assertRaises(TypeError):
                 call(7)
 
@@ -89,7 +89,35 @@ class Demangle(unittest.TestCase):
             self.assertTrue(kodliwe.is_symbol(symbol))
         for text in refused:
             self.assertIs(kodliwe.demangle(text), text)
+            self.assertIsNone(kodliwe.try_demangle(text))
+            self.assertIsNone(kodliwe.strip_thin_lto(text))
             self.assertFalse(kodliwe.is_symbol(text))
+
+
+class TryDemangle(unittest.TestCase):
+    def test_a_symbol_gives_its_path(self):
+        self.assertEqual(kodliwe.try_demangle(LEGACY), "foo")
+        self.assertEqual(kodliwe.try_demangle(LEGACY.encode(), hash=True), b"foo::h05af221e174051e9")
+        self.assertEqual(kodliwe.try_demangle("_ZN3foo3barE.cold.7", limit=4), "foo{size limit reached}.cold.7")
+        self.assertEqual(kodliwe.try_demangle("_ZN0E"), "")
+
+    def test_what_is_no_symbol_gives_none(self):
+        for text in ("main", "", "_ZN3foo", "ä", "\udcff", b"main", b"", b"\xff\xfe", b"_ZN3fo\xc3E"):
+            self.assertIsNone(kodliwe.try_demangle(text))
+
+
+class StripThinLto(unittest.TestCase):
+    def test_an_ending_is_taken_off(self):
+        self.assertEqual(kodliwe.strip_thin_lto("_RNvC3foo3bar.llvm.0AB@1"), "_RNvC3foo3bar")
+        self.assertEqual(kodliwe.strip_thin_lto(b"_ZN3foo3barE.cold.7.llvm.9"), b"_ZN3foo3barE.cold.7")
+
+    def test_a_symbol_without_one_is_whole(self):
+        for symbol in (LEGACY, "_ZN3foo3barE.cold.7", "_ZN3fooE.llvm.Z"):
+            self.assertEqual(kodliwe.strip_thin_lto(symbol), symbol)
+
+    def test_what_is_no_symbol_gives_none(self):
+        for text in ("main", "main.llvm.9", "", "ä.llvm.9", b"_ZN\xff"):
+            self.assertIsNone(kodliwe.strip_thin_lto(text))
 
 
 class IsSymbol(unittest.TestCase):

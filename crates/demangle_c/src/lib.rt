@@ -2,7 +2,7 @@
 //! include/kodliwe.h.
 #![tactic(auto)]
 
-ghost use Rattle.std.specs.Prelude.{◌≡◌, ◌+◌, ◌<◌, ◌≤◌, ◌↔◌, ℕ, List, length, take, drop, IsTrue, OnSome, IfSome, IfNone};
+ghost use Rattle.std.specs.Prelude.{◌≡◌, ◌+◌, ◌<◌, ◌≤◌, ◌↔◌, length, take, drop, IsTrue};
 ghost use Prim.Native.Nat.{min};
 ghost use Rattle.std.specs.List.{concat};
 ghost use Rattle.rustc_demangle.specs.Cut.{size};
@@ -10,64 +10,18 @@ ghost use Rattle.rustc_demangle.specs.Filtered.{filtered_within};
 ghost use Rattle.rustc_demangle.specs.PathEnds.{path_len_of, handed_with};
 ghost use Rattle.rustc_demangle.specs.Slice.{overlay};
 ghost use Rattle.rustc_demangle.specs.Stripped.{stripped};
-ghost use Rattle.rustc_demangle.specs.Symbols.{handed};
-ghost use Rattle.demangle_c.specs.Naming.{NamesRust, path_named, path_within, c_string};
+ghost use Rattle.demangle_path.specs.Naming.{NamesRust, path_named, path_within, c_string};
 
 #[cfg(test)]
 mod tests;
 
+use demangle_path::{MAX_SIZE, put_end, symbol_of, text_of, write_part, write_text};
 use rustc_demangle::sink::SliceSink;
-use rustc_demangle::{Demangle, demangle_slice, try_demangle, write_with_path_len};
-
-/// The most bytes that are printed of a symbol, before the marker and the suffix.
-const MAX_SIZE: usize = 1_000_000;
-
-/// The text that the bytes are: none where they are not UTF-8, and so no symbol.
-#[tactic(auto, using(rustc_demangle::proofs::SymbolLaws::symbols_utf8))]
-fn text_of(bytes: &[u8]) -> Option<&str>
-    ensures text { IfSome result (λ text. text.now ≡ bytes.now) }
-    ensures none { IfNone result (NamesRust bytes.now → ⊥) }
-{
-    let Ok(text) = str::from_utf8(bytes) else {
-        return None;
-    };
-    Some(text)
-}
-
-/// The symbol that the bytes are.
-fn symbol_of(bytes: &[u8]) -> Option<Demangle<'_>>
-    ensures symbol { OnSome result (NamesRust bytes.now) }
-    ensures text { IfSome result (λ d. d ≡ stripped bytes.now) }
-    ensures none { IfNone result (NamesRust bytes.now → ⊥) }
-{
-    try_demangle(text_of(bytes)?).ok()
-}
-
-/// Writes the path's bytes from `start` on into memory, as much as there is room for, and counts all
-/// bytes of the path.
-#[tactic(auto, using(crate::proofs::Ending::laid_part))]
-fn write_path(
-    symbol: &Demangle<'_>,
-    out: &mut [u8],
-    include_hash: bool,
-    limit: usize,
-    start: usize,
-) -> usize
-    requires { size (handed symbol.now include_hash limit) ≤ usize.MAX }
-    ensures len { result ≡ length (concat (handed symbol.now include_hash limit)) }
-    ensures bytes { out.new ≡
-        overlay out.old (drop start (concat (handed symbol.now include_hash limit))) }
-{
-    let mut sink = SliceSink::starting_at(out, start);
-    match symbol.write_limited(&mut sink, include_hash, limit) {
-        Ok(()) => sink.len(),
-        Err(_) => unreachable!(),
-    }
-}
+use rustc_demangle::write_with_path_len;
 
 /// Writes the bytes from `start` on of a path that has `path_len` bytes in the text into memory, as
 /// much as there is room for, and counts all bytes of the path.
-#[tactic(auto, using(crate::proofs::Ending::laid_part))]
+#[tactic(auto, using(demangle_path::proofs::Ending::laid_part))]
 fn write_path_with(
     text: &str,
     path_len: usize,
@@ -86,17 +40,6 @@ fn write_path_with(
     match write_with_path_len(text, path_len, &mut path, include_hash, limit) {
         Ok(()) => path.len(),
         Err(_) => unreachable!(),
-    }
-}
-
-/// Puts a 0 behind a text of this many bytes that was laid into memory, or at the memory's last byte.
-fn put_end(out: &mut [u8], len: usize)
-    ensures { (memory text : List ℕ) → out.old ≡ overlay memory text → length text ≡ len →
-        out.new ≡ overlay memory (c_string (length memory) text) }
-{
-    if !out.is_empty() {
-        let end = len.min(out.len() - 1);
-        out[end] = 0;
     }
 }
 
@@ -171,13 +114,7 @@ pub extern "C" fn kodliwe_demangle_part(
         let path = path_within symbol.now include_hash (min limit MAX_SIZE) in
         out.new ≡ overlay out.old (c_string (length out.old) (drop start path)) }
 {
-    let Some(demangled) = symbol_of(symbol) else {
-        return 0;
-    };
-    let most = limit.min(MAX_SIZE);
-    let len = write_path(&demangled, out, include_hash, most, start);
-    put_end(out, len.saturating_sub(start));
-    len + 1
+    write_part(symbol, out, include_hash, limit, start)
 }
 
 /// Writes the path as `kodliwe_demangle_part` does, and answers the same, without reading again
@@ -263,9 +200,5 @@ pub extern "C" fn kodliwe_demangle_text(
     ensures past { usize.MAX ≤ length (filtered_within include_hash (min limit MAX_SIZE) text.now) →
         result ≡ usize.MAX }
 {
-    let Some(len) = demangle_slice(text, out, include_hash, limit.min(MAX_SIZE)) else {
-        return usize::MAX;
-    };
-    put_end(out, len);
-    len.saturating_add(1)
+    write_text(text, out, include_hash, limit)
 }

@@ -2,7 +2,6 @@
 #![tactic(auto)]
 
 mod filter;
-mod held;
 mod pausing;
 #[cfg(test)]
 mod tests;

@@ -1,5 +1,5 @@
 //! An output that is flushed before its program waits for more input.
-use crate::held::Held;
+use held_bytes::Held;
 use std::cell::RefCell;
 use std::io;
 use std::io::{Read, Write};

@@ -1,14 +1,14 @@
 //! What is the program's own: its words, statuses and texts, and when it flushes. What the stream
 //! writes is tested with the library.
 use crate::filter::filter_run;
-use crate::held::CAPACITY;
 use crate::pausing::PausingOutput;
+use held_bytes::CAPACITY;
 use std::alloc::{AllocError, Global};
 use std::cell::Cell;
 use std::io::{BufRead, BufReader, ErrorKind, Read, Write};
 use std::process::Abort;
 use std::test::Fail;
-use streams::{WatchedWriter, WatchingReader};
+use streams::{CountingReader, CountingWriter, WatchedWriter, WatchingReader};
 use test_doubles::streams::{NotingWriter, PartsReader, RefusingWriter};
 
 mod outputs;
@@ -203,6 +203,24 @@ fn finished_lines_are_flushed_before_more_is_read(rt: HostRuntime) -> Result<(),
     assert_eq!(rt; ended.status, 0);
     assert_eq!(rt; output.held(), b"foo\nx\na\nb\nbar".as_slice());
     assert!(rt; !is_unflushed.get());
+    Ok(())
+}
+
+#[test]
+fn lines_are_written_before_more_is_read(rt: HostRuntime) -> Result<(), Fail> {
+    let alloc = rt.alloc();
+    let long = vec![in alloc; b'l'; CAPACITY + 5]?;
+    let mut text = Vec::from_slice(alloc, b"a\n")?;
+    text.extend_from_slice(long.as_slice())?;
+    text.extend_from_slice(b"\nb\nc\n")?;
+    let ends = [2, CAPACITY + 8, CAPACITY + 12];
+    let written = Cell::new(0);
+    let is_unflushed = Cell::new(false);
+    let input = CountingReader::new(text.as_slice(), &ends, &written, &is_unflushed);
+    let mut output = CountingWriter::new(&written, &is_unflushed);
+    let ended = run_pausing(alloc, input, &mut output)?;
+    assert_eq!(rt; ended.status, 0);
+    assert_eq!(rt; written.get(), text.len());
     Ok(())
 }
 

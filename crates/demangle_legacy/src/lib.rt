@@ -46,6 +46,7 @@ pub fn demangle<'s>(s: &'s str, looks: &mut Looks) -> Result<(Demangle<'s>, &'s 
         return Err(());
     };
     let symbol = Symbol::new(inner);
+    // A length counts bytes, so in other text an element could end within a character.
     if !symbol.is_ascii(looks) {
         return Err(());
     }

@@ -27,6 +27,8 @@ fn is_hash(symbol: &Symbol<'_>, element: Part, looks: &mut Looks) -> bool
         let Some(byte) = symbol.byte(at, looks) else {
             return false;
         };
+        // Of either case, and any count of them, as in the Rust crate: rustc writes 16 in lower
+        // case.
         if !byte.is_ascii_hexdigit() {
             return false;
         }
@@ -81,6 +83,8 @@ fn first_unit(symbol: &Symbol<'_>, element: Part, looks: &mut Looks) -> usize
     ensures grows { looks.old ≤ looks.new }
     ensures most { looks.new ≤ looks.old + 2 }
 {
+    // rustc sets a `_` before an element that would begin with an escape, which is no beginning of
+    // an identifier.
     if element.to - element.from >= 2
         && symbol.is_at(b'_', element.from, looks)
         && symbol.is_at(b'$', element.from + 1, looks)
@@ -109,6 +113,7 @@ pub(super) fn put_element<S: TextSink>(
 {
     let mut at = first_unit(symbol, element, looks);
     while at < element.to {
+        // From an escape that is none the rest of the element stands as it is, later escapes too.
         let Some((unit, next)) = unit_at(symbol, at, element.to, looks) else {
             break;
         };

@@ -76,6 +76,7 @@ fn escaped_code(code: u32) -> Option<char>
     ensures { option_map encode_utf8 result ≡ escape_of_code code }
 {
     match char::from_u32(code) {
+        // The Rust crate leaves the escape of a control character as it is spelled.
         Some(c) if !c.is_control() => Some(c),
         _ => None,
     }
@@ -97,6 +98,7 @@ fn escaped_char(symbol: &Symbol<'_>, digits: Part, looks: &mut Looks) -> Option<
     for at in digits.from..digits.to {
         let digit = lower_hex_of(symbol.byte(at, looks)?)?;
         code = code * 16 + u32::from(digit);
+        // Tested at each digit, so that no count of digits overflows.
         if code > 0x10_ffff {
             return None;
         }

@@ -1,6 +1,5 @@
 //! A sink into a formatter, and what prints through it.
-ghost use Rattle.std.specs.Prelude.{◌≡◌, Some, true, false, not, refl};
-ghost use Rattle.std.specs.List.{concat};
+ghost use Rattle.std.specs.Prelude.{◌≡◌, Some, false, refl};
 ghost use Rattle.std.proofs.Common.{◌∙◌};
 ghost use Rattle.demangle_sink.specs.Written.{FmtTook, FmtTook-nothing, FmtTook-joined};
 

@@ -4,7 +4,7 @@ use Rattle.std.specs.Prelude.{option_and_then, insert, slice_index}
 use lib.Utf8.{scalar}
 use Rattle.std.proofs.lemmas.Nat.{le-div}
 use Rattle.std.proofs.lemmas.Bool.Decides.{nat_tests}
-use Rattle.demangle_symbol.specs.declared.punycode.TheConstants.{MOST}
+use Rattle.demangle_symbol.specs.declared.punycode.TheConstants.{MAX_DELTA}
 use Rattle.demangle_symbol.specs.Punycode.{next_delta, deltas, insertions, puny, adapted_bias}
 
 pub not_scalar : (c : ℕ) → 0x11_0000 ≤ c → scalar c ≡ false
@@ -70,8 +70,8 @@ pub then_step : (n i : ℕ) (cs : List ℕ) (d : ℕ) (o : Option (List ℕ)) �
 then_step n i cs d None h l = refl
 then_step n i cs d (Some ds) h l = inserted_step n i cs d ds h l
 
--- a delta above MOST gives no character
-pub then_too_large : (n i : ℕ) (cs : List ℕ) (o : Option (List ℕ)) → length cs ≤ 128 → IfSome o (λ ds. MOST < slice_index ds 0) → option_and_then (insertions n i cs) o ≡ None
+-- a delta above MAX_DELTA gives no character
+pub then_too_large : (n i : ℕ) (cs : List ℕ) (o : Option (List ℕ)) → length cs ≤ 128 → IfSome o (λ ds. MAX_DELTA < slice_index ds 0) → option_and_then (insertions n i cs) o ≡ None
 then_too_large n i cs None l h = refl
 then_too_large n i cs (Some []) l h = absurd (omega arith)
 then_too_large n i cs (Some (d ∷ ds)) l h =

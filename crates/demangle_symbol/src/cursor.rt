@@ -1,5 +1,5 @@
 //! The bytes of a symbol, which only `byte` tells.
-ghost use Rattle.std.specs.Prelude.{◌≡◌, ℕ, [], ◌∷◌, ◌+◌, ◌-◌, ◌*◌, ◌<◌, ◌≤◌, length, slice_get, slice_range, ◌^◌, true, false, IfOk, OnErr, IfErr, IfSome, IfNone, MatchOption, SomeIff, IsTrue, ◌↔◌};
+ghost use Rattle.std.specs.Prelude.{◌≡◌, ℕ, [], ◌∷◌, ◌+◌, ◌-◌, ◌*◌, ◌<◌, ◌≤◌, length, slice_get, slice_range, ◌^◌, IfOk, OnErr, IfErr, IfSome, IfNone, SomeIff, IsTrue, ◌↔◌};
 ghost use Rattle.std.specs.Str.{IsAscii};
 ghost use Rattle.demangle_symbol.specs.Digits.{is_byte, run_end, Decimal, is_digit_10};
 ghost use Rattle.demangle_symbol.specs.Idents.{DigitsUpTo};
@@ -170,7 +170,7 @@ impl<'s> Symbol<'s> {
 
     /// The same of digits that begin at `start`, of which `number` was read in front of `from`.
     #[tactic(auto, using(crate::proofs::Digits::decimal_steps))]
-    #[inline(never)]
+    #[inline(always)]
     fn decimal_from(
         &self,
         number: u64,
@@ -196,6 +196,8 @@ impl<'s> Symbol<'s> {
                 }
                 return Ok((number as usize, at));
             };
+            // A number of 2^64 or more is refused, as the Rust crate refuses it, and never comes
+            // round to a small one.
             let Some(sum) = append_digit(number, 10, digit) else {
                 return Err(ParseError::Invalid);
             };

@@ -1,5 +1,5 @@
 //! Literals of characters and strings.
-ghost use Rattle.std.specs.Prelude.{◌≡◌, ◌+◌, ◌-◌, ◌*◌, ◌^◌, ◌<◌, ◌≤◌, [], ◌∷◌, ◌++◌, false, map, encode_utf8, codes};
+ghost use Rattle.std.specs.Prelude.{◌≡◌, ◌+◌, ◌<◌, [], ◌∷◌, ◌++◌, false, map, encode_utf8, codes};
 ghost use Rattle.std.specs.Fmt.{digits, digit_glyph};
 ghost use Rattle.demangle_sink.specs.Limit.{Prints, Ready};
 ghost use Rattle.demangle_symbol.specs.Literals.{is_hidden_category, is_shown, literal_escape, literal};
@@ -54,6 +54,8 @@ fn is_shown(c: char) -> bool
 fn literal_escape(quote: char, c: char) -> Escape
     ensures { escape_text result c ≡ literal_escape quote c }
 {
+    // Only the literal's own quote is escaped: `'` stands for itself in a string, and `"` as a
+    // character.
     if c == quote || c == '\\' {
         return Escape::Backslash(c);
     }

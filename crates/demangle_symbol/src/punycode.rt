@@ -1,5 +1,5 @@
 //! Punycode (RFC 3492), with `_` for `-` and lower case digits alone.
-ghost use Rattle.std.specs.Prelude.{◌≡◌, ℕ, ◌+◌, ◌-◌, ◌*◌, ◌^◌, ◌<◌, ◌≤◌, List, ◌∷◌, length, slice_index, slice_range, IfSome, IfNone, option_map, Bool, true, false};
+ghost use Rattle.std.specs.Prelude.{◌≡◌, ℕ, ◌+◌, ◌-◌, ◌<◌, ◌≤◌, ◌∷◌, length, slice_index, slice_range, IfSome, IfNone, option_map, Bool, false};
 ghost use Rattle.demangle_symbol.specs.Idents.{LiesWithin, name_size};
 ghost use Rattle.demangle_symbol.specs.Punycode.{digit_of, threshold, adapted_bias, next_delta, deltas, puny};
 
@@ -15,7 +15,7 @@ pub const SMALL_PUNYCODE_LEN: usize = 128;
 
 /// A delta above this gives no character, whatever stands before it: with at most 129 characters
 /// the number of the character rises by at least 0x110000.
-const MOST: u64 = 0x11_0000 * 129 - 1;
+const MAX_DELTA: u64 = 0x11_0000 * 129 - 1;
 
 /// The value of a digit of Punycode, or `None` at any other byte, an upper case letter too.
 fn digit_of(byte: u8) -> Option<u64>
@@ -46,15 +46,18 @@ fn threshold(place: u64, bias: u64) -> u64
     ensures low { 1 ≤ result }
     ensures high { result ≤ 26 }
 {
+    // Up to the bias RFC 3492 takes the least threshold, 1: there the difference ends at 0.
     place.saturating_sub(bias).max(1).min(26)
 }
 
 /// The bias behind a delta.
 fn adapt(delta: u64, count: u64, first: bool) -> u64
-    requires small { delta ≤ MOST }
+    requires small { delta ≤ MAX_DELTA }
     requires some { 0 < count }
     ensures { result ≡ adapted_bias delta count first }
 {
+    // The parameters of RFC 3492 (5): damping 700, skew 38, thresholds 1 to 26, base 36; so 35 is
+    // the base less the least threshold, and 455 half of 35 x 26.
     let damped = if first { delta / 700 } else { delta / 2 };
     let mut delta = damped + damped / count;
     let mut place = 0;
@@ -69,14 +72,15 @@ fn adapt(delta: u64, count: u64, first: bool) -> u64
 fn delta_at(symbol: &Symbol<'_>, digits: Part, bias: u64, looks: &mut Looks) -> Option<(u64, usize)>
     requires some { digits.from < digits.to }
     requires inside { digits.to ≤ length symbol.now }
-    ensures within { IfSome result (λ r. (r.0 ≤ MOST) × (digits.from < r.1) × (r.1 ≤ digits.to)) }
+    ensures within { IfSome result (λ r. (r.0 ≤ MAX_DELTA) × (digits.from < r.1) × (r.1 ≤
+        digits.to)) }
     ensures some { IfSome result (λ r. (count : ℕ) (first : Bool) →
         deltas (next_delta count first bias) (slice_range symbol.now digits.from digits.to)
         ≡ option_map (λ ds. r.0 ∷ ds) (deltas (next_delta (count + 1) false
         (adapted_bias r.0 (count + 1) first)) (slice_range symbol.now r.1 digits.to))) }
     ensures none { IfNone result ((count : ℕ) (first : Bool) →
         IfSome (deltas (next_delta count first bias)
-        (slice_range symbol.now digits.from digits.to)) (λ ds. MOST < slice_index ds 0)) }
+        (slice_range symbol.now digits.from digits.to)) (λ ds. MAX_DELTA < slice_index ds 0)) }
     ensures grows { looks.old ≤ looks.new }
     ensures some_looks { IfSome result (λ r. looks.new ≤ looks.old + (r.1 - digits.from)) }
     ensures none_looks { IfNone result (looks.new ≤ looks.old + (digits.to - digits.from)) }
@@ -90,12 +94,14 @@ fn delta_at(symbol: &Symbol<'_>, digits: Part, bias: u64, looks: &mut Looks) -> 
         };
         let last_below = threshold(place, bias);
         sum += digit * weight;
-        if sum > MOST {
+        if sum > MAX_DELTA {
             return None;
         }
         if digit < last_below {
             return Some((sum, at + 1));
         }
+        // No overflow: a digit that does not end the delta is at least 1, so the sum, which is
+        // within the limit, is at least the weight.
         weight *= 36 - last_below;
         place += 36;
     }
@@ -158,6 +164,7 @@ fn decode(
         let Some((delta, next)) = delta_at(symbol, digits, bias, looks) else {
             return None;
         };
+        // The Rust crate decodes into 128 characters, and prints a name of more of them undecoded.
         if characters.is_full() {
             return None;
         }

@@ -6,7 +6,7 @@ use Rattle.demangle_grammar.specs.Items.{a_type, a_constant, a_pattern}
 use Rattle.demangle_v0.specs.Marks.{left_at}
 use Rattle.demangle_grammar.specs.Reading.{run}
 use Rattle.demangle_grammar.specs.Table.{string}
-use Rattle.demangle_v0.specs.Points.{share_at, Fits, Turn, Env, PointDoes}
+use Rattle.demangle_v0.specs.Points.{unit_rest_at, Fits, Turn, Env, PointDoes}
 use Rattle.demangle_words.specs.declared.texts.Mark.TheVariants as mark
 use Rattle.demangle_v0.specs.declared.points.marks.Left.{Left}
 use Rattle.demangle_v0.specs.declared.points.Point.{Point}
@@ -24,14 +24,14 @@ module _ {V : Type 0} (e : Env V) (t : Turn V) where
   LeavesAt p (Some l) = Fits p t.state.depth_left t.state.lifetimes → PointDoes e p t (Ok l.next) (record t { state = left_by l t.state })
 
   each : (p : Point) → LeavesAt p (left_at p)
-  unfolding run share_at
+  unfolding run unit_rest_at
   each point.CloseParen = λ _. marks point.End refl (omega arith) (omega arith) tt
   each point.CloseAngle = λ _. marks point.End refl (omega arith) (omega arith) tt
-  each point.Mutable = λ f. marks_child point.«Type» a_type false refl refl (omega arith) (omega arith) f
-  each point.TextConstant = λ f. marks point.Literal (ap (with_texts e.voice.loud (text mark.Star ∷ [])) (last_unit e.voice e.symbol e.plain string _ _ _)) (omega arith) (omega arith) f
+  each point.Mut = λ f. marks_child point.«Type» a_type false refl refl (omega arith) (omega arith) f
+  each point.TextConstant = λ f. marks point.Literal (ap (with_texts e.output.is_printed (text mark.Star ∷ [])) (last_unit e.output e.symbol e.include_hash string _ _ _)) (omega arith) (omega arith) f
   each point.ReferenceConstant = λ f. marks_child point.Constant a_constant true refl refl (omega arith) (omega arith) f
   each point.OpenArguments = λ f. marks point.FirstArgument refl (omega arith) (omega arith) f
-  each point.Unchanging = λ f. marks_child point.«Type» a_type false refl refl (omega arith) (omega arith) f
+  each point.Const = λ f. marks_child point.«Type» a_type false refl refl (omega arith) (omega arith) f
   each point.PatternIs = λ f. marks_child point.Pattern a_pattern false refl refl (omega arith) (omega arith) f
   each point.OpenParameters = λ f. marks point.FirstParameter refl (omega arith) (omega arith) f
   each point.OpenTraitPath = λ f. marks point.FirstOpenArgument refl (omega arith) (omega arith) f

@@ -17,15 +17,15 @@ use Rattle.demangle_grammar.proofs.PrintingSteps.{shown_events, weighed, weighed
 use Rattle.demangle_grammar.proofs.StepsPaid.{pays_looks, pays_texts}
 use Rattle.demangle_v0.proofs.PointWholes.{owed_alone}
 use Rattle.demangle_grammar.specs.Totals.{total}
-use Rattle.demangle_words.specs.Groups.{texts_of}
+use Rattle.demangle_words.specs.WordReads.{texts_of}
 use Rattle.demangle_words.specs.declared.stretch.Stretch.{Stretch}
 use Rattle.demangle_grammar.specs.Events.{Event, Heard, and_then, with_texts, allowed_all, said_all, shown_in}
 use Rattle.demangle_sink.specs.Limit.{Prints, Ready}
 use Rattle.demangle_sink.specs.declared.TextSink.{Ghosts as Sinks}
 use Rattle.demangle_sink.specs.declared.SinkRefused.{SinkRefused}
 use Rattle.demangle_sink.specs.declared.limit.SizeLimitedFmtAdapter.{SizeLimitedFmtAdapter}
-use Rattle.demangle_v0.specs.Points.{most_frames, Bit, pays, puts, heard_bits, bits_looks, bits_texts, env, Told, pushed_on, share_at, share_of, row_owed, reading_owed}
-use Rattle.demangle_v0.specs.PointRuns.{Valid, Reads, Stepped, Resumes, Said, Ran, Broke, Skipped, RanOn, Passed, ValidLeft, Finishes, first_looks, Ended, first_state, silent_of, own_heard}
+use Rattle.demangle_v0.specs.Points.{most_frames, Bit, pays, puts, heard_bits, bits_looks, bits_texts, env, Emits, pushed_on, unit_rest_at, unit_rest_of, stack_rest, reading_rest}
+use Rattle.demangle_v0.specs.PointRuns.{Valid, Reads, Stepped, Resumes, Emitted, Ran, Broke, Skipped, RanOn, Passed, ValidLeft, Finishes, first_looks, Ended, first_state, silent_of, own_heard}
 use Rattle.demangle_v0.specs.declared.points.Point.{Point}
 use Rattle.demangle_v0.specs.declared.points.Point.TheVariants as point
 use Rattle.demangle_v0.specs.declared.points.frames.Frame.{Frame}
@@ -33,7 +33,7 @@ use Rattle.demangle_v0.specs.declared.points.State.{State}
 use Rattle.demangle_v0.specs.declared.points.read.Reading.{Reading}
 use Rattle.demangle_v0.specs.declared.printing.Left.{Left}
 use Rattle.demangle_v0.specs.declared.printing.Left.TheVariants as left
-use Rattle.demangle_words.specs.declared.voice.Voice.{Ghosts}
+use Rattle.demangle_words.specs.declared.output.Output.{Ghosts}
 use Rattle.demangle_grammar.proofs.Hearing.{handing_then}
 use Rattle.demangle_v0.proofs.PointSteps.{bits_append, looks_append}
 use Rattle.demangle_v0.proofs.PointRuns.{step_heard, bits_of, bits_total, bits_then, resumes_heard}
@@ -42,91 +42,91 @@ use Rattle.demangle_grammar.proofs.SkippedPaths.{allowances, total_allowances}
 use Rattle.demangle_v0.specs.Impls.{skip_point, is_skip}
 use Rattle.demangle_v0.proofs.PointWholes.{valid_length}
 
-pub said_append : {S : Type 0} (sink : Sinks S) (u v w : SizeLimitedFmtAdapter S) (xs ys : List Bit) → Said sink u xs v → Said sink v ys w → Said sink u (xs ++ ys) w
-said_append {S = S} sink u v w [] ys h k = subst (λ (z : SizeLimitedFmtAdapter S). Said sink z ys w) (sym h) k
+pub said_append : {S : Type 0} (sink : Sinks S) (u v w : SizeLimitedFmtAdapter S) (xs ys : List Bit) → Emitted sink u xs v → Emitted sink v ys w → Emitted sink u (xs ++ ys) w
+said_append {S = S} sink u v w [] ys h k = subst (λ (z : SizeLimitedFmtAdapter S). Emitted sink z ys w) (sym h) k
 said_append sink u v w (pays n ∷ xs) ys h k = said_append sink u v w xs ys h k
 said_append sink u v w (puts ts ∷ xs) ys h k = (h.0, h.1, said_append sink h.0 v w xs ys h.2 k)
 
-module _ {S : Type 0} (sink : Sinks S) (voice : Ghosts (SizeLimitedFmtAdapter S)) (b : List ℕ) (plain : Bool)
-    (same : (v w : SizeLimitedFmtAdapter S) (ts : List Text) (r : Result (Unit {0}) SinkRefused) → voice.prints v ts r w → Prints sink v ts r w) (loud : voice.loud ≡ true) where
-  said_told : (v w : SizeLimitedFmtAdapter S) (front back : List ℕ) (said : Option Stretch) → Told (env voice b plain) said v w → Said sink v (bits_of voice b plain front said back) w
+module _ {S : Type 0} (sink : Sinks S) (output : Ghosts (SizeLimitedFmtAdapter S)) (b : List ℕ) (include_hash : Bool)
+    (same : (v w : SizeLimitedFmtAdapter S) (ts : List Text) (r : Result (Unit {0}) SinkRefused) → output.prints v ts r w → Prints sink v ts r w) (is_printed : output.is_printed ≡ true) where
+  said_told : (v w : SizeLimitedFmtAdapter S) (front back : List ℕ) (emitted : Option Stretch) → Emits (env output b include_hash) emitted v w → Emitted sink v (bits_of output b include_hash front emitted back) w
   said_told v w front back None t = t
-  said_told v w front back (Some s) t = (w, same v w (texts_of b plain s) (Ok tt) t, refl)
+  said_told v w front back (Some s) t = (w, same v w (texts_of b include_hash s) (Ok tt) t, refl)
 
   -- one turn
-  pub ran_turn : (base : ℕ) (p0 p q u : Point) (s0 s t r : State) (row0 row mid now : List Frame) (v0 v w : SizeLimitedFmtAdapter S) (first second made : ℕ) → Ran sink b plain p0 s0 row0 v0 p s row v first
-      → Resumes base p s row q t mid → Stepped voice b plain q t mid v (Ok u) r now w second → made ≤ first + second → Ran sink b plain p0 s0 row0 v0 u r now w made
-  ran_turn base p0 p q u s0 s t r row0 row mid now v0 v w first second made x k z l =
+  pub ran_turn : (base : ℕ) (p0 p q u : Point) (s0 s t r : State) (first_stack stack mid now : List Frame) (v0 v w : SizeLimitedFmtAdapter S) (first second made : ℕ) → Ran sink b include_hash p0 s0 first_stack v0 p s stack v first
+      → Resumes base p s stack q t mid → Stepped output b include_hash q t mid v (Ok u) r now w second → made ≤ first + second → Ran sink b include_hash p0 s0 first_stack v0 u r now w made
+  ran_turn base p0 p q u s0 s t r first_stack stack mid now v0 v w first second made x k z l =
       let d = z.steps.0 in
-      let bits = bits_of voice b plain d.front d.said d.back in
-      let resumed = resumes_heard b plain true base p q s t row mid k in
-      let heard : reading_owed b plain true q t mid ≡ heard_bits true bits (reading_owed b plain true u r now) =
-      subst (λ (ys : List Frame). reading_owed b plain true q t mid ≡ heard_bits true bits (reading_owed b plain true u r ys)) (sym d.is_row)
-      (subst (λ (out : Bool). reading_owed b plain out q t mid ≡ heard_bits out bits (reading_owed b plain out u r (pushed_on mid d.pushed))) loud (step_heard voice b plain q u t r mid v w second now z mid)) in
+      let bits = bits_of output b include_hash d.front d.emitted d.back in
+      let resumed = resumes_heard b include_hash true base p q s t stack mid k in
+      let heard : reading_rest b include_hash true q t mid ≡ heard_bits true bits (reading_rest b include_hash true u r now) =
+      subst (λ (ys : List Frame). reading_rest b include_hash true q t mid ≡ heard_bits true bits (reading_rest b include_hash true u r ys)) (sym d.is_stack)
+      (subst (λ (out : Bool). reading_rest b include_hash out q t mid ≡ heard_bits out bits (reading_rest b include_hash out u r (pushed_on mid d.pushed))) is_printed (step_heard output b include_hash q u t r mid v w second now z mid)) in
       record {
         bits = x.bits ++ bits;
-        told = said_append sink v0 v w x.bits bits x.told (said_told v w d.front d.back d.said d.told);
-        reads = x.reads ∙ (ap (heard_bits true x.bits) (resumed ∙ heard) ∙ sym (bits_append true x.bits bits (reading_owed b plain true u r now)));
-        enough = omega (arith, l, x.enough, d.enough, looks_append x.bits bits, bits_total voice b plain d.front d.said d.back);
+        emits = said_append sink v0 v w x.bits bits x.emits (said_told v w d.front d.back d.emitted d.emits);
+        reads = x.reads ∙ (ap (heard_bits true x.bits) (resumed ∙ heard) ∙ sym (bits_append true x.bits bits (reading_rest b include_hash true u r now)));
+        enough = omega (arith, l, x.enough, d.enough, looks_append x.bits bits, bits_total output b include_hash d.front d.emitted d.back);
       }
 
   -- it was refused
-  ran_broke : (base : ℕ) (p0 p q : Point) (s0 s t r : State) (row0 row mid now : List Frame) (v0 v w : SizeLimitedFmtAdapter S) (first second made : ℕ) (e : SinkRefused) → Ran sink b plain p0 s0 row0 v0 p s row v first
-      → Resumes base p s row q t mid → Stepped voice b plain q t mid v (Err e) r now w second → made ≤ first + second → Broke sink b plain p0 s0 row0 v0 w made
-  ran_broke base p0 p q s0 s t r row0 row mid now v0 v w first second made e x k z l =
+  ran_broke : (base : ℕ) (p0 p q : Point) (s0 s t r : State) (first_stack stack mid now : List Frame) (v0 v w : SizeLimitedFmtAdapter S) (first second made : ℕ) (e : SinkRefused) → Ran sink b include_hash p0 s0 first_stack v0 p s stack v first
+      → Resumes base p s stack q t mid → Stepped output b include_hash q t mid v (Err e) r now w second → made ≤ first + second → Broke sink b include_hash p0 s0 first_stack v0 w made
+  ran_broke base p0 p q s0 s t r first_stack stack mid now v0 v w first second made e x k z l =
       let d = z.steps.0 in
-      let texts = texts_of b plain d.said in
-      let resumed = resumes_heard b plain true base p q s t row mid k in
-      let rest = and_then d.rest (row_owed b plain true mid) in
-      let heard : reading_owed b plain true q t mid ≡ heard_bits true (pays d.front ∷ []) (with_texts true texts rest) =
-      ap (λ (h : Heard). and_then h (row_owed b plain true mid)) (subst (λ (out : Bool). share_of b plain out q t ≡ heard_bits out (pays d.front ∷ []) (with_texts out texts d.rest)) loud d.reads)
-      ∙ (bits_then true (pays d.front ∷ []) (with_texts true texts d.rest) (row_owed b plain true mid) ∙ ap (heard_bits true (pays d.front ∷ [])) (handing_then true texts d.rest (row_owed b plain true mid))) in
+      let texts = texts_of b include_hash d.emitted in
+      let resumed = resumes_heard b include_hash true base p q s t stack mid k in
+      let rest = and_then d.rest (stack_rest b include_hash true mid) in
+      let heard : reading_rest b include_hash true q t mid ≡ heard_bits true (pays d.front ∷ []) (with_texts true texts rest) =
+      ap (λ (h : Heard). and_then h (stack_rest b include_hash true mid)) (subst (λ (out : Bool). unit_rest_of b include_hash out q t ≡ heard_bits out (pays d.front ∷ []) (with_texts out texts d.rest)) is_printed d.reads)
+      ∙ (bits_then true (pays d.front ∷ []) (with_texts true texts d.rest) (stack_rest b include_hash true mid) ∙ ap (heard_bits true (pays d.front ∷ [])) (handing_then true texts d.rest (stack_rest b include_hash true mid))) in
       record {
         front = x.bits ++ pays d.front ∷ [];
         texts = texts;
         rest = rest;
         mid = v;
-        told = said_append sink v0 v v x.bits (pays d.front ∷ []) x.told refl;
+        emits = said_append sink v0 v v x.bits (pays d.front ∷ []) x.emits refl;
         refusal = d.refusal;
         prints = same v w texts (Err d.refusal) d.prints;
         reads = x.reads ∙ (ap (heard_bits true x.bits) (resumed ∙ heard) ∙ sym (bits_append true x.bits (pays d.front ∷ []) (with_texts true texts rest)));
         enough = omega (arith, l, x.enough, d.enough, looks_append x.bits (pays d.front ∷ []));
       }
 
-  pub ran_fail : (base : ℕ) (p0 p q : Point) (s0 s t r : State) (row0 row mid now : List Frame) (v0 v w : SizeLimitedFmtAdapter S) (first second made : ℕ) (e : SinkRefused) (result : Result (Option Left) SinkRefused) (to : Reading) (end : List Frame)
-      → IsErr result → Ran sink b plain p0 s0 row0 v0 p s row v first → Resumes base p s row q t mid → Stepped voice b plain q t mid v (Err e) r now w second → made ≤ first + second → RanOn sink b plain p0 s0 row0 v0 result to end w made
-  ran_fail base p0 p q s0 s t r row0 row mid now v0 v w first second made e (Ok x) to end h a k z l = absurd (false≢true h)
-  ran_fail base p0 p q s0 s t r row0 row mid now v0 v w first second made e (Err f) to end h a k z l = record { ran = ran_broke base p0 p q s0 s t r row0 row mid now v0 v w first second made e a k z l }
+  pub ran_fail : (base : ℕ) (p0 p q : Point) (s0 s t r : State) (first_stack stack mid now : List Frame) (v0 v w : SizeLimitedFmtAdapter S) (first second made : ℕ) (e : SinkRefused) (result : Result (Option Left) SinkRefused) (to : Reading) (end : List Frame)
+      → IsErr result → Ran sink b include_hash p0 s0 first_stack v0 p s stack v first → Resumes base p s stack q t mid → Stepped output b include_hash q t mid v (Err e) r now w second → made ≤ first + second → RanOn sink b include_hash p0 s0 first_stack v0 result to end w made
+  ran_fail base p0 p q s0 s t r first_stack stack mid now v0 v w first second made e (Ok x) to end h a k z l = absurd (false≢true h)
+  ran_fail base p0 p q s0 s t r first_stack stack mid now v0 v w first second made e (Err f) to end h a k z l = record { ran = ran_broke base p0 p q s0 s t r first_stack stack mid now v0 v w first second made e a k z l }
 
 -- where it goes on behind a unit
-pub ran_resumes : {S : Type 0} (sink : Sinks S) (b : List ℕ) (plain : Bool) (base : ℕ) (p0 p q : Point) (s0 s t : State) (row0 row mid : List Frame) (v0 v : SizeLimitedFmtAdapter S) (made : ℕ) → Ran sink b plain p0 s0 row0 v0 p s row v made
-    → Resumes base p s row q t mid → Ran sink b plain p0 s0 row0 v0 q t mid v made
-ran_resumes sink b plain base p0 p q s0 s t row0 row mid v0 v made x k = record { bits = x.bits; told = x.told; reads = x.reads ∙ ap (heard_bits true x.bits) (resumes_heard b plain true base p q s t row mid k); enough = x.enough }
+pub ran_resumes : {S : Type 0} (sink : Sinks S) (b : List ℕ) (include_hash : Bool) (base : ℕ) (p0 p q : Point) (s0 s t : State) (first_stack stack mid : List Frame) (v0 v : SizeLimitedFmtAdapter S) (made : ℕ) → Ran sink b include_hash p0 s0 first_stack v0 p s stack v made
+    → Resumes base p s stack q t mid → Ran sink b include_hash p0 s0 first_stack v0 q t mid v made
+ran_resumes sink b include_hash base p0 p q s0 s t first_stack stack mid v0 v made x k = record { bits = x.bits; emits = x.emits; reads = x.reads ∙ ap (heard_bits true x.bits) (resumes_heard b include_hash true base p q s t stack mid k); enough = x.enough }
 
 -- an impl's own path was read
-pub ran_skips : {S : Type 0} (sink : Sinks S) (b : List ℕ) (plain q : Bool) (p0 p : Point) (s0 s t : State) (row0 below now : List Frame) (v0 v : SizeLimitedFmtAdapter S) (first second made : ℕ) → Ran sink b plain p0 s0 row0 v0 (skip_point q) s below v first
-    → Skipped b plain q s below p t now second → made ≤ first + second → Ran sink b plain p0 s0 row0 v0 p t now v made
-ran_skips sink b plain q p0 p s0 s t row0 below now v0 v first second made x k l =
-    let ks = allowances (own_heard b plain s).events in
+pub ran_skips : {S : Type 0} (sink : Sinks S) (b : List ℕ) (include_hash q : Bool) (p0 p : Point) (s0 s t : State) (first_stack below now : List Frame) (v0 v : SizeLimitedFmtAdapter S) (first second made : ℕ) → Ran sink b include_hash p0 s0 first_stack v0 (skip_point q) s below v first
+    → Skipped b include_hash q s below p t now second → made ≤ first + second → Ran sink b include_hash p0 s0 first_stack v0 p t now v made
+ran_skips sink b include_hash q p0 p s0 s t first_stack below now v0 v first second made x k l =
+    let ks = allowances (own_heard b include_hash s).events in
     record {
       bits = x.bits ++ pays ks ∷ [];
-      told = said_append sink v0 v v x.bits (pays ks ∷ []) x.told refl;
-      reads = x.reads ∙ (ap (heard_bits true x.bits) (skipped_owed q b plain p s t below now second k) ∙ sym (bits_append true x.bits (pays ks ∷ []) (reading_owed b plain true p t now)));
-      enough = omega (arith, l, x.enough, k.looks, total_allowances (own_heard b plain s).events, looks_append x.bits (pays ks ∷ []));
+      emits = said_append sink v0 v v x.bits (pays ks ∷ []) x.emits refl;
+      reads = x.reads ∙ (ap (heard_bits true x.bits) (skipped_owed q b include_hash p s t below now second k) ∙ sym (bits_append true x.bits (pays ks ∷ []) (reading_rest b include_hash true p t now)));
+      enough = omega (arith, l, x.enough, k.looks, total_allowances (own_heard b include_hash s).events, looks_append x.bits (pays ks ∷ []));
     }
 
 -- one turn that skips it
-pub turn_skips : {S : Type 0} (sink : Sinks S) (b : List ℕ) (plain : Bool) (base : ℕ) (p0 p q u : Point) (s0 s t r : State) (row0 row mid now : List Frame) (v0 v : SizeLimitedFmtAdapter S) (first second made : ℕ) (k : (x : Bool) × (q ≡ skip_point x))
-    → Ran sink b plain p0 s0 row0 v0 p s row v first → Resumes base p s row q t mid → Skipped b plain k.0 t mid u r now second → made ≤ first + second → Ran sink b plain p0 s0 row0 v0 u r now v made
-turn_skips sink b plain base p0 p q u s0 s t r row0 row mid now v0 v first second made k x y z l =
-    ran_skips sink b plain k.0 p0 u s0 t r row0 mid now v0 v first second made
-    (subst (λ (w : Point). Ran sink b plain p0 s0 row0 v0 w t mid v first) k.1 (ran_resumes sink b plain base p0 p q s0 s t row0 row mid v0 v first x y)) z l
+pub turn_skips : {S : Type 0} (sink : Sinks S) (b : List ℕ) (include_hash : Bool) (base : ℕ) (p0 p q u : Point) (s0 s t r : State) (first_stack stack mid now : List Frame) (v0 v : SizeLimitedFmtAdapter S) (first second made : ℕ) (k : (x : Bool) × (q ≡ skip_point x))
+    → Ran sink b include_hash p0 s0 first_stack v0 p s stack v first → Resumes base p s stack q t mid → Skipped b include_hash k.0 t mid u r now second → made ≤ first + second → Ran sink b include_hash p0 s0 first_stack v0 u r now v made
+turn_skips sink b include_hash base p0 p q u s0 s t r first_stack stack mid now v0 v first second made k x y z l =
+    ran_skips sink b include_hash k.0 p0 u s0 t r first_stack mid now v0 v first second made
+    (subst (λ (w : Point). Ran sink b include_hash p0 s0 first_stack v0 w t mid v first) k.1 (ran_resumes sink b include_hash base p0 p q s0 s t first_stack stack mid v0 v first x y)) z l
 
--- the row is full
-pub ran_midway : {S : Type 0} (sink : Sinks S) (b : List ℕ) (plain : Bool) (p0 p : Point) (s0 s : State) (row0 below now : List Frame) (v0 v : SizeLimitedFmtAdapter S) (base : ℕ) (inner r : Reading) (first second made : ℕ) → is_skip p ≡ true → r ≡ record { point = p; state = s }
-    → base ≡ length below → Valid p s below → Reads b plain below point.Path (silent_of s) [] inner.point inner.state now second → Ran sink b plain p0 s0 row0 v0 p s below v first → made ≤ first + second
-    → RanOn sink b plain p0 s0 row0 v0 (Ok (Some (left.Behind base inner))) r now v made
-ran_midway sink b plain p0 p s0 s row0 below now v0 v base inner r first second made e k h valid x ran l = let q = skip_is p e in rw k (record {
+-- the stack is full
+pub ran_midway : {S : Type 0} (sink : Sinks S) (b : List ℕ) (include_hash : Bool) (p0 p : Point) (s0 s : State) (first_stack below now : List Frame) (v0 v : SizeLimitedFmtAdapter S) (base : ℕ) (inner r : Reading) (first second made : ℕ) → is_skip p ≡ true → r ≡ record { point = p; state = s }
+    → base ≡ length below → Valid p s below → Reads b include_hash below point.Path (silent_of s) [] inner.point inner.state now second → Ran sink b include_hash p0 s0 first_stack v0 p s below v first → made ≤ first + second
+    → RanOn sink b include_hash p0 s0 first_stack v0 (Ok (Some (left.OwnPath base inner))) r now v made
+ran_midway sink b include_hash p0 p s0 s first_stack below now v0 v base inner r first second made e k h valid x ran l = let q = skip_is p e in rw k (record {
   ran = record {
     first = first;
     second = second;
@@ -138,32 +138,32 @@ ran_midway sink b plain p0 p s0 s row0 below now v0 v base inner r first second 
 
 -- How whole readings end.
 
--- a row for all that can ever stand there is never full
-pub none_left : (n : ℕ) (b : List ℕ) (plain : Bool) (r : Reading) (row : List Frame) (x : Option Left) → most_frames < n → ValidLeft b plain n (Ok x) r row → x ≡ None
-none_left n b plain r row None m v = refl
-none_left n b plain r row (Some left.Row) m v = absurd (omega (arith, m, v.1, valid_length r.point r.state row v.0))
-none_left n b plain r row (Some (left.Behind base inner)) m v = absurd (omega (arith, m, v.3, valid_length inner.point inner.state row v.2))
+-- a stack for all that can ever stand there is never full
+pub none_left : (n : ℕ) (b : List ℕ) (include_hash : Bool) (r : Reading) (stack : List Frame) (x : Option Left) → most_frames < n → ValidLeft b include_hash n (Ok x) r stack → x ≡ None
+none_left n b include_hash r stack None m v = refl
+none_left n b include_hash r stack (Some left.Stack) m v = absurd (omega (arith, m, v.1, valid_length r.point r.state stack v.0))
+none_left n b include_hash r stack (Some (left.OwnPath base inner)) m v = absurd (omega (arith, m, v.3, valid_length inner.point inner.state stack v.2))
 
-broke_then : {S : Type 0} (sink : Sinks S) (b : List ℕ) (plain : Bool) (p q : Point) (s t : State) (row now : List Frame) (v w x : SizeLimitedFmtAdapter S) (first second made : ℕ) → made ≤ first + second
-    → Ran sink b plain p s row v q t now w first → Broke sink b plain q t now w x second → Broke sink b plain p s row v x made
-broke_then sink b plain p q s t row now v w x first second made l a c = record {
+broke_then : {S : Type 0} (sink : Sinks S) (b : List ℕ) (include_hash : Bool) (p q : Point) (s t : State) (stack now : List Frame) (v w x : SizeLimitedFmtAdapter S) (first second made : ℕ) → made ≤ first + second
+    → Ran sink b include_hash p s stack v q t now w first → Broke sink b include_hash q t now w x second → Broke sink b include_hash p s stack v x made
+broke_then sink b include_hash p q s t stack now v w x first second made l a c = record {
   front = a.bits ++ c.front;
   texts = c.texts;
   rest = c.rest;
   mid = c.mid;
-  told = said_append sink v w c.mid a.bits c.front a.told c.told;
+  emits = said_append sink v w c.mid a.bits c.front a.emits c.emits;
   refusal = c.refusal;
   prints = c.prints;
   reads = a.reads ∙ (ap (heard_bits true a.bits) c.reads ∙ sym (bits_append true a.bits c.front (with_texts true c.texts c.rest)));
   enough = omega (arith, l, a.enough, c.enough, looks_append a.bits c.front);
 }
 
-ran_then : {S : Type 0} (sink : Sinks S) (b : List ℕ) (plain : Bool) (p q r : Point) (s t u : State) (row mid now : List Frame) (v w x : SizeLimitedFmtAdapter S) (first second made : ℕ) → made ≤ first + second
-    → Ran sink b plain p s row v q t mid w first → Ran sink b plain q t mid w r u now x second → Ran sink b plain p s row v r u now x made
-ran_then sink b plain p q r s t u row mid now v w x first second made l a c = record {
+ran_then : {S : Type 0} (sink : Sinks S) (b : List ℕ) (include_hash : Bool) (p q r : Point) (s t u : State) (stack mid now : List Frame) (v w x : SizeLimitedFmtAdapter S) (first second made : ℕ) → made ≤ first + second
+    → Ran sink b include_hash p s stack v q t mid w first → Ran sink b include_hash q t mid w r u now x second → Ran sink b include_hash p s stack v r u now x made
+ran_then sink b include_hash p q r s t u stack mid now v w x first second made l a c = record {
   bits = a.bits ++ c.bits;
-  told = said_append sink v w x a.bits c.bits a.told c.told;
-  reads = a.reads ∙ (ap (heard_bits true a.bits) c.reads ∙ sym (bits_append true a.bits c.bits (reading_owed b plain true r u now)));
+  emits = said_append sink v w x a.bits c.bits a.emits c.emits;
+  reads = a.reads ∙ (ap (heard_bits true a.bits) c.reads ∙ sym (bits_append true a.bits c.bits (reading_rest b include_hash true r u now)));
   enough = omega (arith, l, a.enough, c.enough, looks_append a.bits c.bits);
 }
 
@@ -175,25 +175,25 @@ if_none (Some r) e h = absurd (some_none r e)
     some_none r z = cc
 
 -- behind an impl's own path, if there is one
-pub passed_ran : {S : Type 0} (sink : Sinks S) (b : List ℕ) (plain : Bool) (p : Point) (s : State) (row few now : List Frame) (v w : SizeLimitedFmtAdapter S) (x : Left) (r to : Reading) (first second made : ℕ) → made ≤ first + second
-    → RanOn sink b plain p s row v (Ok (Some x)) r few w first → Passed b plain x r few to now second → Ran sink b plain p s row v to.point to.state now w made
-passed_ran sink b plain p s row few now v w left.Row r to first second made l a k = rw (k.0, k.1) (record { bits = a.ran.bits; told = a.ran.told; reads = a.ran.reads; enough = omega (arith, l, k.2, a.ran.enough) })
-passed_ran sink b plain p s row few now v w (left.Behind base inner) r to first second made l a k =
+pub passed_ran : {S : Type 0} (sink : Sinks S) (b : List ℕ) (include_hash : Bool) (p : Point) (s : State) (stack few now : List Frame) (v w : SizeLimitedFmtAdapter S) (x : Left) (r to : Reading) (first second made : ℕ) → made ≤ first + second
+    → RanOn sink b include_hash p s stack v (Ok (Some x)) r few w first → Passed b include_hash x r few to now second → Ran sink b include_hash p s stack v to.point to.state now w made
+passed_ran sink b include_hash p s stack few now v w left.Stack r to first second made l a k = rw (k.0, k.1) (record { bits = a.ran.bits; emits = a.ran.emits; reads = a.ran.reads; enough = omega (arith, l, k.2, a.ran.enough) })
+passed_ran sink b include_hash p s stack few now v w (left.OwnPath base inner) r to first second made l a k =
     let m = a.ran in
     let z = k m.skips.below m.skips.of_trait m.second m.skips.reads m.skips.height m.skips.at in
-    ran_skips sink b plain m.skips.of_trait p to.point s r.state to.state row m.skips.below now v w m.first (m.second + second) made (subst (λ (y : Point). Ran sink b plain p s row v y r.state m.skips.below w m.first) m.skips.at m.ran) z (omega (arith, l, m.enough))
+    ran_skips sink b include_hash m.skips.of_trait p to.point s r.state to.state stack m.skips.below now v w m.first (m.second + second) made (subst (λ (y : Point). Ran sink b include_hash p s stack v y r.state m.skips.below w m.first) m.skips.at m.ran) z (omega (arith, l, m.enough))
 
-pub passed_valid : (b : List ℕ) (plain : Bool) (few now : List Frame) (n : ℕ) (x : Left) (r to : Reading) (second : ℕ) → ValidLeft b plain n (Ok (Some x)) r few → Passed b plain x r few to now second → Valid to.point to.state now
-passed_valid b plain few now n left.Row r to second v k = rw (k.0, k.1) v.0
-passed_valid b plain few now n (left.Behind base inner) r to second v k =
+pub passed_valid : (b : List ℕ) (include_hash : Bool) (few now : List Frame) (n : ℕ) (x : Left) (r to : Reading) (second : ℕ) → ValidLeft b include_hash n (Ok (Some x)) r few → Passed b include_hash x r few to now second → Valid to.point to.state now
+passed_valid b include_hash few now n left.Stack r to second v k = rw (k.0, k.1) v.0
+passed_valid b include_hash few now n (left.OwnPath base inner) r to second v k =
     let s = v.1 in
-    skipped_valid s.of_trait b plain to.point r.state to.state s.below now (v.0 + second) (k s.below s.of_trait v.0 s.reads s.height s.at) (subst (λ (y : Point). Valid y r.state s.below) s.at s.valid)
+    skipped_valid s.of_trait b include_hash to.point r.state to.state s.below now (v.0 + second) (k s.below s.of_trait v.0 s.reads s.height s.at) (subst (λ (y : Point). Valid y r.state s.below) s.at s.valid)
 
 -- no tag was looked at where one is skipped
-pub passed_unread : (b : List ℕ) (plain : Bool) (few now : List Frame) (n : ℕ) (x : Left) (r to : Reading) (second : ℕ) → ValidLeft b plain n (Ok (Some x)) r few → Passed b plain x r few to now second
+pub passed_unread : (b : List ℕ) (include_hash : Bool) (few now : List Frame) (n : ℕ) (x : Left) (r to : Reading) (second : ℕ) → ValidLeft b include_hash n (Ok (Some x)) r few → Passed b include_hash x r few to now second
     → first_looks r.point r.state ≤ first_looks to.point to.state
-passed_unread b plain few now n left.Row r to second v k = rw k.0 (omega arith)
-passed_unread b plain few now n (left.Behind base inner) r to second v k = let s = v.1 in rw s.at (unread s.of_trait)
+passed_unread b include_hash few now n left.Stack r to second v k = rw k.0 (omega arith)
+passed_unread b include_hash few now n (left.OwnPath base inner) r to second v k = let s = v.1 in rw s.at (unread s.of_trait)
   where
     unread : (q : Bool) → first_looks (skip_point q) r.state ≤ first_looks to.point to.state
     unread true = omega arith
@@ -201,29 +201,29 @@ passed_unread b plain few now n (left.Behind base inner) r to second v k = let s
 
 -- A reading that goes on where another stopped.
 
-pub ran_joins : {S : Type 0} (sink : Sinks S) (b : List ℕ) (plain : Bool) (p q : Point) (s t : State) (row mid now : List Frame) (v w x : SizeLimitedFmtAdapter S) (first second made : ℕ) (result : Result (Option Left) SinkRefused) (r : Reading) → made ≤ first + second
-    → Ran sink b plain p s row v q t mid w first → RanOn sink b plain q t mid w result r now x second → RanOn sink b plain p s row v result r now x made
-ran_joins sink b plain p q s t row mid now v w x first second made (Ok None) r l a c = record { ran = ran_then sink b plain p q point.End s t r.state row mid [] v w x first second made l a c.ran }
-ran_joins sink b plain p q s t row mid now v w x first second made (Ok (Some left.Row)) r l a c = record { ran = ran_then sink b plain p q r.point s t r.state row mid now v w x first second made l a c.ran }
-ran_joins sink b plain p q s t row mid now v w x first second made (Ok (Some (left.Behind base inner))) r l a c =
+pub ran_joins : {S : Type 0} (sink : Sinks S) (b : List ℕ) (include_hash : Bool) (p q : Point) (s t : State) (stack mid now : List Frame) (v w x : SizeLimitedFmtAdapter S) (first second made : ℕ) (result : Result (Option Left) SinkRefused) (r : Reading) → made ≤ first + second
+    → Ran sink b include_hash p s stack v q t mid w first → RanOn sink b include_hash q t mid w result r now x second → RanOn sink b include_hash p s stack v result r now x made
+ran_joins sink b include_hash p q s t stack mid now v w x first second made (Ok None) r l a c = record { ran = ran_then sink b include_hash p q point.End s t r.state stack mid [] v w x first second made l a c.ran }
+ran_joins sink b include_hash p q s t stack mid now v w x first second made (Ok (Some left.Stack)) r l a c = record { ran = ran_then sink b include_hash p q r.point s t r.state stack mid now v w x first second made l a c.ran }
+ran_joins sink b include_hash p q s t stack mid now v w x first second made (Ok (Some (left.OwnPath base inner))) r l a c =
     let m = c.ran in
     record {
       ran = record {
         first = first + m.first;
         second = m.second;
         skips = m.skips;
-        ran = ran_then sink b plain p q r.point s t r.state row mid m.skips.below v w x first m.first (first + m.first) (omega arith) a m.ran;
+        ran = ran_then sink b include_hash p q r.point s t r.state stack mid m.skips.below v w x first m.first (first + m.first) (omega arith) a m.ran;
         enough = omega (arith, l, m.enough);
       };
     }
-ran_joins sink b plain p q s t row mid now v w x first second made (Err e) r l a c = record { ran = broke_then sink b plain p q s t row mid v w x first second made l a c.ran }
+ran_joins sink b include_hash p q s t stack mid now v w x first second made (Err e) r l a c = record { ran = broke_then sink b include_hash p q s t stack mid v w x first second made l a c.ran }
 
--- behind an impl's own path, or where the row is full before
-pub finished_ran : {S : Type 0} (sink : Sinks S) (b : List ℕ) (plain : Bool) (n : ℕ) (p : Point) (s : State) (row few now : List Frame) (v w : SizeLimitedFmtAdapter S) (x y : Left) (r to : Reading) (first second made : ℕ) → made ≤ first + second
-    → RanOn sink b plain p s row v (Ok (Some x)) r few w first → Finishes b plain n x r few (Some y) to now second → RanOn sink b plain p s row v (Ok (Some y)) to now w made
-finished_ran sink b plain n p s row few now v w left.Row y r to first second made l a k = absurd k
-finished_ran sink b plain n p s row few now v w (left.Behind base inner) left.Row r to first second made l a k = absurd k
-finished_ran sink b plain n p s row few now v w (left.Behind base inner) (left.Behind height more) r to first second made l a k =
+-- behind an impl's own path, or where the stack is full before
+pub finished_ran : {S : Type 0} (sink : Sinks S) (b : List ℕ) (include_hash : Bool) (n : ℕ) (p : Point) (s : State) (stack few now : List Frame) (v w : SizeLimitedFmtAdapter S) (x y : Left) (r to : Reading) (first second made : ℕ) → made ≤ first + second
+    → RanOn sink b include_hash p s stack v (Ok (Some x)) r few w first → Finishes b include_hash n x r few (Some y) to now second → RanOn sink b include_hash p s stack v (Ok (Some y)) to now w made
+finished_ran sink b include_hash n p s stack few now v w left.Stack y r to first second made l a k = absurd k
+finished_ran sink b include_hash n p s stack few now v w (left.OwnPath base inner) left.Stack r to first second made l a k = absurd k
+finished_ran sink b include_hash n p s stack few now v w (left.OwnPath base inner) (left.OwnPath height more) r to first second made l a k =
     let m = a.ran in
     let z = m.skips in
     rw (k.0, k.1) (record {
@@ -236,35 +236,35 @@ finished_ran sink b plain n p s row few now v w (left.Behind base inner) (left.B
       };
     })
 
-pub finished_valid : (b : List ℕ) (plain : Bool) (n m : ℕ) (few now : List Frame) (x y : Left) (r to : Reading) (second : ℕ) → ValidLeft b plain m (Ok (Some x)) r few → Finishes b plain n x r few (Some y) to now second → ValidLeft b plain n (Ok (Some y)) to now
-finished_valid b plain n m few now left.Row y r to second v k = absurd k
-finished_valid b plain n m few now (left.Behind base inner) left.Row r to second v k = absurd k
-finished_valid b plain n m few now (left.Behind base inner) (left.Behind height more) r to second v k =
+pub finished_valid : (b : List ℕ) (include_hash : Bool) (n m : ℕ) (few now : List Frame) (x y : Left) (r to : Reading) (second : ℕ) → ValidLeft b include_hash m (Ok (Some x)) r few → Finishes b include_hash n x r few (Some y) to now second → ValidLeft b include_hash n (Ok (Some y)) to now
+finished_valid b include_hash n m few now left.Stack y r to second v k = absurd k
+finished_valid b include_hash n m few now (left.OwnPath base inner) left.Stack r to second v k = absurd k
+finished_valid b include_hash n m few now (left.OwnPath base inner) (left.OwnPath height more) r to second v k =
     let z = v.1 in
     rw (k.0, k.1) (v.0 + second, record { below = z.below; height = z.height; of_trait = z.of_trait; at = z.at; valid = z.valid; reads = k.4 z.below v.0 z.reads z.height }, k.2, k.3)
 
-pub finished_same : (b : List ℕ) (plain : Bool) (n : ℕ) (few now : List Frame) (x y : Left) (r to : Reading) (second : ℕ) → Finishes b plain n x r few (Some y) to now second → to ≡ r
-finished_same b plain n few now left.Row y r to second k = absurd k
-finished_same b plain n few now (left.Behind base inner) left.Row r to second k = absurd k
-finished_same b plain n few now (left.Behind base inner) (left.Behind height more) r to second k = k.1
+pub finished_same : (b : List ℕ) (include_hash : Bool) (n : ℕ) (few now : List Frame) (x y : Left) (r to : Reading) (second : ℕ) → Finishes b include_hash n x r few (Some y) to now second → to ≡ r
+finished_same b include_hash n few now left.Stack y r to second k = absurd k
+finished_same b include_hash n few now (left.OwnPath base inner) left.Stack r to second k = absurd k
+finished_same b include_hash n few now (left.OwnPath base inner) (left.OwnPath height more) r to second k = k.1
 
 -- nothing is left
-pub ended_all : {S : Type 0} (sink : Sinks S) (b : List ℕ) (plain : Bool) (p : Point) (s : State) (row now : List Frame) (v x : SizeLimitedFmtAdapter S) (r : Reading) (made : ℕ) (answer : Option Left) → RanOn sink b plain p s row v (Ok answer) r now x made → answer ≡ None
-    → Ended sink b plain p s row v (Ok tt) x made
-ended_all sink b plain p s row now v x r made None c e = record { ended = (r.state, c.ran) }
-ended_all sink b plain p s row now v x r made (Some y) c e = absurd (some_none e)
+pub ended_all : {S : Type 0} (sink : Sinks S) (b : List ℕ) (include_hash : Bool) (p : Point) (s : State) (stack now : List Frame) (v x : SizeLimitedFmtAdapter S) (r : Reading) (made : ℕ) (answer : Option Left) → RanOn sink b include_hash p s stack v (Ok answer) r now x made → answer ≡ None
+    → Ended sink b include_hash p s stack v (Ok tt) x made
+ended_all sink b include_hash p s stack now v x r made None c e = record { ended = (r.state, c.ran) }
+ended_all sink b include_hash p s stack now v x r made (Some y) c e = absurd (some_none e)
   where
     some_none : Some y ≡ None → ⊥
     some_none z = cc
 
 -- it was refused
-pub ended_err : {S : Type 0} (sink : Sinks S) (b : List ℕ) (plain : Bool) (p : Point) (s : State) (row now : List Frame) (v x : SizeLimitedFmtAdapter S) (r : Reading) (made : ℕ) (e : SinkRefused) (result : Result (Unit {0}) SinkRefused) → IsErr result → RanOn sink b plain p s row v (Err e) r now x made
-    → Ended sink b plain p s row v result x made
-ended_err sink b plain p s row now v x r made e (Ok y) h c = absurd (false≢true h)
-ended_err sink b plain p s row now v x r made e (Err f) h c = record { ended = c.ran }
+pub ended_err : {S : Type 0} (sink : Sinks S) (b : List ℕ) (include_hash : Bool) (p : Point) (s : State) (stack now : List Frame) (v x : SizeLimitedFmtAdapter S) (r : Reading) (made : ℕ) (e : SinkRefused) (result : Result (Unit {0}) SinkRefused) → IsErr result → RanOn sink b include_hash p s stack v (Err e) r now x made
+    → Ended sink b include_hash p s stack v result x made
+ended_err sink b include_hash p s stack now v x r made e (Ok y) h c = absurd (false≢true h)
+ended_err sink b include_hash p s stack now v x r made e (Err f) h c = record { ended = c.ran }
 
-pub ran_begun : {S : Type 0} (sink : Sinks S) (b : List ℕ) (plain : Bool) (p : Point) (s : State) (row : List Frame) (v : SizeLimitedFmtAdapter S) → Ran sink b plain p s row v p s row v 0
-ran_begun sink b plain p s row v = record { bits = []; told = refl; reads = refl; enough = omega arith }
+pub ran_begun : {S : Type 0} (sink : Sinks S) (b : List ℕ) (include_hash : Bool) (p : Point) (s : State) (stack : List Frame) (v : SizeLimitedFmtAdapter S) → Ran sink b include_hash p s stack v p s stack v 0
+ran_begun sink b include_hash p s stack v = record { bits = []; emits = refl; reads = refl; enough = omega arith }
 
 -- What was printed.
 
@@ -281,42 +281,42 @@ shown_bits [] h = refl
 shown_bits (pays ks ∷ bits) h = shown_allowed ks (heard_bits true bits h).events ∙ shown_bits bits h
 shown_bits (puts ts ∷ bits) h = shown_said ts (heard_bits true bits h).events ∙ (ap (λ zs. ts ++ zs) (shown_bits bits h) ∙ sym (append_assoc ts (bits_texts bits) (shown_in h.events)))
 
-said_prints : {S : Type 0} (sink : Sinks S) (v w : SizeLimitedFmtAdapter S) (bits : List Bit) → Ready sink v → Said sink v bits w → Prints sink v (bits_texts bits) (Ok tt) w
+said_prints : {S : Type 0} (sink : Sinks S) (v w : SizeLimitedFmtAdapter S) (bits : List Bit) → Ready sink v → Emitted sink v bits w → Prints sink v (bits_texts bits) (Ok tt) w
 said_prints {S = S} sink v w [] r e = subst (λ (z : SizeLimitedFmtAdapter S). Prints sink v [] (Ok tt) z) e (prints_nothing sink v r)
 said_prints sink v w (pays ks ∷ bits) r t = said_prints sink v w bits r t
 said_prints sink v w (puts ts ∷ bits) r t =
     prints_then sink v t.0 w ts (bits_texts bits) (Ok tt) (Ok tt) t.1 refl (said_prints sink t.0 w bits (prints_ready sink v ts (Ok tt) t.0 t.1 refl) t.2)
 
-whole_shown : (b : List ℕ) (plain : Bool) → shown_in (reading_owed b plain true point.Path (first_state 0) []).events ≡ path_texts b plain
-unfolding share_at path_texts read_at
-whole_shown b plain = ap (λ (h : Heard). shown_in h.events) (owed_alone b plain true point.Path (first_state 0)) ∙ shown_events plain (level_of b (levels b max_depth) true a_path true 0 0).tree
+whole_shown : (b : List ℕ) (include_hash : Bool) → shown_in (reading_rest b include_hash true point.Path (first_state 0) []).events ≡ path_texts b include_hash
+unfolding unit_rest_at path_texts read_at
+whole_shown b include_hash = ap (λ (h : Heard). shown_in h.events) (owed_alone b include_hash true point.Path (first_state 0)) ∙ shown_events include_hash (level_of b (levels b max_depth) true a_path true 0 0).tree
 
-end_shown : (b : List ℕ) (plain : Bool) (t : State) → shown_in (reading_owed b plain true point.End t []).events ≡ []
-unfolding share_at row_owed
-end_shown b plain t = refl
+end_shown : (b : List ℕ) (include_hash : Bool) (t : State) → shown_in (reading_rest b include_hash true point.End t []).events ≡ []
+unfolding unit_rest_at stack_rest
+end_shown b include_hash t = refl
 
-all_shown : {S : Type 0} (sink : Sinks S) (b : List ℕ) (plain : Bool) (t : State) (v w : SizeLimitedFmtAdapter S) (made : ℕ) → (r : Ran sink b plain point.Path (first_state 0) [] v point.End t [] w made) → bits_texts r.bits ≡ path_texts b plain
-all_shown sink b plain t v w made r =
+all_shown : {S : Type 0} (sink : Sinks S) (b : List ℕ) (include_hash : Bool) (t : State) (v w : SizeLimitedFmtAdapter S) (made : ℕ) → (r : Ran sink b include_hash point.Path (first_state 0) [] v point.End t [] w made) → bits_texts r.bits ≡ path_texts b include_hash
+all_shown sink b include_hash t v w made r =
     sym (append-nil (bits_texts r.bits))
-    ∙ (ap (λ (ys : List Text). bits_texts r.bits ++ ys) (sym (end_shown b plain t))
-    ∙ (sym (shown_bits r.bits (reading_owed b plain true point.End t [])) ∙ (ap (λ (h : Heard). shown_in h.events) (sym r.reads) ∙ whole_shown b plain)))
+    ∙ (ap (λ (ys : List Text). bits_texts r.bits ++ ys) (sym (end_shown b include_hash t))
+    ∙ (sym (shown_bits r.bits (reading_rest b include_hash true point.End t [])) ∙ (ap (λ (h : Heard). shown_in h.events) (sym r.reads) ∙ whole_shown b include_hash)))
 
-front_shown : {S : Type 0} (sink : Sinks S) (b : List ℕ) (plain : Bool) (v w : SizeLimitedFmtAdapter S) (made : ℕ) → (d : Broke sink b plain point.Path (first_state 0) [] v w made)
-    → bits_texts d.front ++ (d.texts ++ shown_in d.rest.events) ≡ path_texts b plain
-front_shown sink b plain v w made d =
+front_shown : {S : Type 0} (sink : Sinks S) (b : List ℕ) (include_hash : Bool) (v w : SizeLimitedFmtAdapter S) (made : ℕ) → (d : Broke sink b include_hash point.Path (first_state 0) [] v w made)
+    → bits_texts d.front ++ (d.texts ++ shown_in d.rest.events) ≡ path_texts b include_hash
+front_shown sink b include_hash v w made d =
     ap (λ zs. bits_texts d.front ++ zs) (sym (shown_said d.texts d.rest.events))
-    ∙ (sym (shown_bits d.front (with_texts true d.texts d.rest)) ∙ (ap (λ (h : Heard). shown_in h.events) (sym d.reads) ∙ whole_shown b plain))
+    ∙ (sym (shown_bits d.front (with_texts true d.texts d.rest)) ∙ (ap (λ (h : Heard). shown_in h.events) (sym d.reads) ∙ whole_shown b include_hash))
 
-pub prints_all : {S : Type 0} (sink : Sinks S) (b : List ℕ) (plain : Bool) (v w : SizeLimitedFmtAdapter S) (made : ℕ) → Ready sink v → Ended sink b plain point.Path (first_state 0) [] v (Ok tt) w made → Prints sink v (path_texts b plain) (Ok tt) w
-prints_all sink b plain v w made ready z =
-    let r = z.ended.1 in subst (λ (ts : List Text). Prints sink v ts (Ok tt) w) (all_shown sink b plain z.ended.0 v w made r) (said_prints sink v w r.bits ready r.told)
+pub prints_all : {S : Type 0} (sink : Sinks S) (b : List ℕ) (include_hash : Bool) (v w : SizeLimitedFmtAdapter S) (made : ℕ) → Ready sink v → Ended sink b include_hash point.Path (first_state 0) [] v (Ok tt) w made → Prints sink v (path_texts b include_hash) (Ok tt) w
+prints_all sink b include_hash v w made ready z =
+    let r = z.ended.1 in subst (λ (ts : List Text). Prints sink v ts (Ok tt) w) (all_shown sink b include_hash z.ended.0 v w made r) (said_prints sink v w r.bits ready r.emits)
 
-pub prints_refused : {S : Type 0} (sink : Sinks S) (b : List ℕ) (plain : Bool) (v w : SizeLimitedFmtAdapter S) (made : ℕ) (e f : SinkRefused) → Ready sink v → Ended sink b plain point.Path (first_state 0) [] v (Err e) w made → Prints sink v (path_texts b plain) (Err f) w
-prints_refused sink b plain v w made e f ready z =
+pub prints_refused : {S : Type 0} (sink : Sinks S) (b : List ℕ) (include_hash : Bool) (v w : SizeLimitedFmtAdapter S) (made : ℕ) (e f : SinkRefused) → Ready sink v → Ended sink b include_hash point.Path (first_state 0) [] v (Err e) w made → Prints sink v (path_texts b include_hash) (Err f) w
+prints_refused sink b include_hash v w made e f ready z =
     let d = z.ended in
-    let front = said_prints sink v d.mid d.front ready d.told in
+    let front = said_prints sink v d.mid d.front ready d.emits in
     let both = prints_then sink v d.mid w (bits_texts d.front) d.texts (Ok tt) (Err d.refusal) front refl d.prints in
-    let all : (bits_texts d.front ++ d.texts) ++ shown_in d.rest.events ≡ path_texts b plain = append_assoc (bits_texts d.front) d.texts (shown_in d.rest.events) ∙ front_shown sink b plain v w made d in
+    let all : (bits_texts d.front ++ d.texts) ++ shown_in d.rest.events ≡ path_texts b include_hash = append_assoc (bits_texts d.front) d.texts (shown_in d.rest.events) ∙ front_shown sink b include_hash v w made d in
     subst (λ (ts : List Text). Prints sink v ts (Err f) w) all (prints_stop sink v w (bits_texts d.front ++ d.texts) (shown_in d.rest.events) (Err d.refusal) (Err f) both refl refl)
 
 -- The looks of a run are paid for by what it handed over.
@@ -333,34 +333,34 @@ bits_paid r a (puts ts ∷ bits) h p =
     let q = pays_texts r a 0 ts _ (subst (λ xs. Pays r a xs 0) (weighed_said ts (heard_bits true bits h).events) p) in
     more r a (size ts) (size (bits_texts bits)) _ _ (size-append ts (bits_texts bits)) (bits_paid r (a + r * size ts) bits h q)
 
-whole_paid : (b : List ℕ) (plain : Bool) → Pays (looks_a_byte (length b)) (looks_before (length b)) (weighed (reading_owed b plain true point.Path (first_state 0) []).events) 0
-unfolding share_at read_at
-whole_paid b plain =
-    subst (λ (h : Heard). Pays (looks_a_byte (length b)) (looks_before (length b)) (weighed h.events) 0) (sym (owed_alone b plain true point.Path (first_state 0)))
-    (pays_tree (looks_a_byte (length b)) (looks_before (length b)) 0 plain (level_of b (levels b max_depth) true a_path true 0 0).tree (printing_pays b plain))
+whole_paid : (b : List ℕ) (include_hash : Bool) → Pays (looks_a_byte (length b)) (looks_before (length b)) (weighed (reading_rest b include_hash true point.Path (first_state 0) []).events) 0
+unfolding unit_rest_at read_at
+whole_paid b include_hash =
+    subst (λ (h : Heard). Pays (looks_a_byte (length b)) (looks_before (length b)) (weighed h.events) 0) (sym (owed_alone b include_hash true point.Path (first_state 0)))
+    (pays_tree (looks_a_byte (length b)) (looks_before (length b)) 0 include_hash (level_of b (levels b max_depth) true a_path true 0 0).tree (printing_pays b include_hash))
 
 -- with two looks that came too early
 within : (n w room made : ℕ) → w ≤ room → made ≤ looks_before n + looks_a_byte n * w + 2 → made ≤ 100000 * (room + 1) * (n + 1)
 within n w room made l h = let e : looks_a_byte n * w ≤ looks_a_byte n * room = mul-le-mul_left (looks_a_byte n) l in omega (arith, h, e)
 
-bits_most : {S : Type 0} (sink : Sinks S) (b : List ℕ) (plain : Bool) (v w : SizeLimitedFmtAdapter S) (bits : List Bit) (h : Heard) (rest : List Text) (made : ℕ) → Ready sink v → Said sink v bits w
-    → reading_owed b plain true point.Path (first_state 0) [] ≡ heard_bits true bits h → bits_texts bits ++ rest ≡ path_texts b plain → made ≤ bits_looks bits + 2 → made ≤ 100000 * (kept (path_texts b plain) v.remaining + 1) * (length b + 1)
-bits_most sink b plain v w bits h rest made ready t e s l =
+bits_most : {S : Type 0} (sink : Sinks S) (b : List ℕ) (include_hash : Bool) (v w : SizeLimitedFmtAdapter S) (bits : List Bit) (h : Heard) (rest : List Text) (made : ℕ) → Ready sink v → Emitted sink v bits w
+    → reading_rest b include_hash true point.Path (first_state 0) [] ≡ heard_bits true bits h → bits_texts bits ++ rest ≡ path_texts b include_hash → made ≤ bits_looks bits + 2 → made ≤ 100000 * (kept (path_texts b include_hash) v.remaining + 1) * (length b + 1)
+bits_most sink b include_hash v w bits h rest made ready t e s l =
     let done = said_prints sink v w bits ready t in
-    let bytes : size (bits_texts bits) ≤ kept (path_texts b plain) v.remaining = kept_bytes sink v w (path_texts b plain) rest (size (bits_texts bits)) (record { front = bits_texts bits; done = done; is = s }) (omega (arith, done.within refl, done.left refl)) in
-    let paid = bits_paid (looks_a_byte (length b)) (looks_before (length b)) bits h (subst (λ (g : Heard). Pays (looks_a_byte (length b)) (looks_before (length b)) (weighed g.events) 0) e (whole_paid b plain)) in
-    within (length b) (size (bits_texts bits)) (kept (path_texts b plain) v.remaining) made bytes (omega (arith, l, paid))
+    let bytes : size (bits_texts bits) ≤ kept (path_texts b include_hash) v.remaining = kept_bytes sink v w (path_texts b include_hash) rest (size (bits_texts bits)) (record { front = bits_texts bits; done = done; is = s }) (omega (arith, done.within refl, done.left refl)) in
+    let paid = bits_paid (looks_a_byte (length b)) (looks_before (length b)) bits h (subst (λ (g : Heard). Pays (looks_a_byte (length b)) (looks_before (length b)) (weighed g.events) 0) e (whole_paid b include_hash)) in
+    within (length b) (size (bits_texts bits)) (kept (path_texts b include_hash) v.remaining) made bytes (omega (arith, l, paid))
 
-pub prints_most : {S : Type 0} (sink : Sinks S) (b : List ℕ) (plain : Bool) (v w : SizeLimitedFmtAdapter S) (made : ℕ) (result : Result (Unit {0}) SinkRefused) → Ready sink v → Ended sink b plain point.Path (first_state 0) [] v result w made
-    → made ≤ 100000 * (kept (path_texts b plain) v.remaining + 1) * (length b + 1)
-prints_most sink b plain v w made (Ok u) ready z =
+pub prints_most : {S : Type 0} (sink : Sinks S) (b : List ℕ) (include_hash : Bool) (v w : SizeLimitedFmtAdapter S) (made : ℕ) (result : Result (Unit {0}) SinkRefused) → Ready sink v → Ended sink b include_hash point.Path (first_state 0) [] v result w made
+    → made ≤ 100000 * (kept (path_texts b include_hash) v.remaining + 1) * (length b + 1)
+prints_most sink b include_hash v w made (Ok u) ready z =
     let r = z.ended.1 in
-    bits_most sink b plain v w r.bits (reading_owed b plain true point.End z.ended.0 []) [] made ready r.told r.reads (append-nil (bits_texts r.bits) ∙ all_shown sink b plain z.ended.0 v w made r) (omega (arith, r.enough))
-prints_most sink b plain v w made (Err e) ready z =
+    bits_most sink b include_hash v w r.bits (reading_rest b include_hash true point.End z.ended.0 []) [] made ready r.emits r.reads (append-nil (bits_texts r.bits) ∙ all_shown sink b include_hash z.ended.0 v w made r) (omega (arith, r.enough))
+prints_most sink b include_hash v w made (Err e) ready z =
     let d = z.ended in
-    bits_most sink b plain v d.mid d.front (with_texts true d.texts d.rest) (d.texts ++ shown_in d.rest.events) made ready d.told d.reads (front_shown sink b plain v w made d) d.enough
+    bits_most sink b include_hash v d.mid d.front (with_texts true d.texts d.rest) (d.texts ++ shown_in d.rest.events) made ready d.emits d.reads (front_shown sink b include_hash v w made d) d.enough
 
-pub prints_so : {S : Type 0} (sink : Sinks S) (b : List ℕ) (plain : Bool) (v w : SizeLimitedFmtAdapter S) (made : ℕ) (result : Result (Unit {0}) SinkRefused) → Ready sink v → Ended sink b plain point.Path (first_state 0) [] v result w made
-    → Prints sink v (path_texts b plain) result w
-prints_so sink b plain v w made (Ok u) ready z = prints_all sink b plain v w made ready z
-prints_so sink b plain v w made (Err e) ready z = prints_refused sink b plain v w made e e ready z
+pub prints_so : {S : Type 0} (sink : Sinks S) (b : List ℕ) (include_hash : Bool) (v w : SizeLimitedFmtAdapter S) (made : ℕ) (result : Result (Unit {0}) SinkRefused) → Ready sink v → Ended sink b include_hash point.Path (first_state 0) [] v result w made
+    → Prints sink v (path_texts b include_hash) result w
+prints_so sink b include_hash v w made (Ok u) ready z = prints_all sink b include_hash v w made ready z
+prints_so sink b include_hash v w made (Err e) ready z = prints_refused sink b include_hash v w made e e ready z

@@ -6,10 +6,10 @@ use Rattle.std.proofs.Common.{length, inl, inr, ◌≡◌, ℕ, ◌+◌, ◌-◌
 use Rattle.demangle_grammar.specs.Items.{Text, Items, Kind, say, child, done}
 use Rattle.demangle_grammar.specs.Totals.{total}
 use Rattle.demangle_grammar.specs.Events.{Event, allows, allowed_all, Heard, of, events, nothing_heard, with_looks, with_texts, around}
-use Rattle.demangle_words.specs.Groups.{Group, texts_of, word_group}
+use Rattle.demangle_words.specs.WordReads.{Group, texts_of, word_group}
 use Rattle.demangle_words.specs.Texts.{word_items, text}
 use Rattle.demangle_grammar.specs.Reading.{Place, run, unit_outcome}
-use Rattle.demangle_v0.specs.Points.{Bit, pays, puts, heard_bits, bits_looks, Env, env, Part, part, Turn, turn, mark_texts, then_frame, way_weight, weight_at, weight_of, height_of, count_of, FitsFrame, IsInner, Fits, height_at, pushed_on, share_at, share_of, none_open, Went, Faulted, Halted, Kept, DidOn}
+use Rattle.demangle_v0.specs.Points.{Bit, pays, puts, heard_bits, bits_looks, Env, env, Part, part, Turn, turn, mark_texts, then_frame, way_weight, weight_at, weight_of, height_of, count_of, FitsFrame, IsInner, Fits, height_at, pushed_on, unit_rest_at, unit_rest_of, none_open, Went, Faulted, Halted, Kept, DidOn}
 use Rattle.demangle_sink.specs.declared.SinkRefused.{SinkRefused}
 use Rattle.demangle_words.specs.declared.texts.Mark.{Mark}
 use Rattle.demangle_words.specs.declared.texts.Word.{Word}
@@ -22,7 +22,7 @@ use Rattle.demangle_v0.specs.declared.points.frames.Frame.{Frame}
 use Rattle.demangle_v0.specs.declared.points.State.{State}
 use Rattle.demangle_v0.specs.declared.points.Stop.{Stop}
 use Rattle.demangle_v0.specs.declared.points.Stop.TheVariants.{Refused, Fault}
-use Rattle.demangle_words.specs.declared.voice.Voice.{Ghosts}
+use Rattle.demangle_words.specs.declared.output.Output.{Ghosts}
 use Rattle.demangle_words.proofs.GroupReads.{word_then, grouped, word_read}
 
 pub bits_append : (out : Bool) (xs ys : List Bit) (h : Heard) → heard_bits out (xs ++ ys) h ≡ heard_bits out xs (heard_bits out ys h)
@@ -46,9 +46,9 @@ pub total_both : (ks ls : List ℕ) → total (ks ++ ls) ≡ total ks + total ls
 total_both [] ls = omega arith
 total_both (k ∷ ks) ls = omega (arith, total_both ks ls)
 
--- nothing was put on the row
-pub kept_none : (row : List Frame) → Kept row row
-kept_none row = ([], sym (append-nil row))
+-- nothing was put on the stack
+pub kept_none : (stack : List Frame) → Kept stack stack
+kept_none stack = ([], sym (append-nil stack))
 
 -- where the unit is over, nothing weighs
 pub way_light : (p : Point) → way_weight p ≤ weight_at p
@@ -58,23 +58,23 @@ way_light p = omega arith
 abbrev pub refused : SinkRefused → Result (Unit {0}) SinkRefused
 refused e = Err e
 
-module _ {V : Type 0} (voice : Ghosts V) (b : List ℕ) (plain : Bool) where
+module _ {V : Type 0} (output : Ghosts V) (b : List ℕ) (include_hash : Bool) where
   -- what a step does by these looks, before its mark and behind it, and by this frame
-  pub steps : {words : ℕ} (to : Point) (front back : List ℕ) → length front + length back ≤ words → (pushed : Option Frame) (h : Heard) (weight high : ℕ) (row now : List Frame) (v : V) (new : State) (made : ℕ)
-      → h ≡ with_looks front (with_texts voice.loud (mark_texts new.mark) (with_looks back (then_frame b plain voice.loud pushed (share_of b plain voice.loud to new))))
-      → now ≡ pushed_on row pushed → made ≤ total front + total back → made ≤ total front + 2
+  pub steps : {words : ℕ} (to : Point) (front back : List ℕ) → length front + length back ≤ words → (pushed : Option Frame) (h : Heard) (weight high : ℕ) (stack now : List Frame) (v : V) (new : State) (made : ℕ)
+      → h ≡ with_looks front (with_texts output.is_printed (mark_texts new.mark) (with_looks back (then_frame b include_hash output.is_printed pushed (unit_rest_of b include_hash output.is_printed to new))))
+      → now ≡ pushed_on stack pushed → made ≤ total front + total back → made ≤ total front + 2
       → way_weight to + weight_of pushed + 1 ≤ weight + 100 * (total front + total back)
-      → height_of pushed ≤ high → height_at to new.depth_left + count_of pushed ≤ high → FitsFrame pushed → Fits to new.depth_left new.lifetimes → (voice.loud ≡ false → IsInner pushed)
-      → Went (env voice b plain) (part words h weight high) (turn new row v 0) to (turn new now v made)
-  steps to front back c pushed h weight high row now v new made e r l m w x y f g q = record {
+      → height_of pushed ≤ high → height_at to new.depth_left + count_of pushed ≤ high → FitsFrame pushed → Fits to new.depth_left new.lifetimes → (output.is_printed ≡ false → IsInner pushed)
+      → Went (env output b include_hash) (part words h weight high) (turn new stack v 0) to (turn new now v made)
+  steps to front back c pushed h weight high stack now v new made e r l m w x y f g q = record {
     front = front;
-    said = None;
+    emitted = None;
     back = back;
     pushed = pushed;
-    told = refl;
+    emits = refl;
     one = inl refl;
     reads = e;
-    is_row = r;
+    is_stack = r;
     few = c;
     enough = omega (arith, l);
     late = omega (arith, m);
@@ -87,19 +87,19 @@ module _ {V : Type 0} (voice : Ghosts V) (b : List ℕ) (plain : Bool) where
   }
 
   -- a step behind some looks
-  pub after : {words words' : ℕ} (ks : List ℕ) → length ks + words' ≤ words → (h k : Heard) (weight high weight' high' : ℕ) (row : List Frame) (v w : V) (result : Result Point Stop) (new : State) (now : List Frame) (first second made : ℕ)
+  pub after : {words words' : ℕ} (ks : List ℕ) → length ks + words' ≤ words → (h k : Heard) (weight high weight' high' : ℕ) (stack : List Frame) (v w : V) (result : Result Point Stop) (new : State) (now : List Frame) (first second made : ℕ)
       → h ≡ with_looks ks k → first ≤ total ks → made ≤ first + second → weight' ≤ weight + 100 * total ks → high' ≤ high
-      → DidOn voice b plain words' k weight' high' row v result new now w second → DidOn voice b plain words h weight high row v result new now w made
-  after ks c h k weight high weight' high' row v w (Ok p) new now first second made e l m x y z = let d = z.comes in record {
+      → DidOn output b include_hash words' k weight' high' stack v result new now w second → DidOn output b include_hash words h weight high stack v result new now w made
+  after ks c h k weight high weight' high' stack v w (Ok p) new now first second made e l m x y z = let d = z.comes in record {
     comes = record {
       front = ks ++ d.front;
-      said = d.said;
+      emitted = d.emitted;
       back = d.back;
       pushed = d.pushed;
-      told = d.told;
+      emits = d.emits;
       one = d.one;
       reads = e ∙ (ap (with_looks ks) d.reads ∙ sym (looks_both ks d.front _));
-      is_row = d.is_row;
+      is_stack = d.is_stack;
       few = omega (arith, c, d.few, length-append ks d.front);
       enough = omega (arith, l, m, d.enough, total_both ks d.front);
       late = omega (arith, l, m, d.late, total_both ks d.front);
@@ -111,23 +111,23 @@ module _ {V : Type 0} (voice : Ghosts V) (b : List ℕ) (plain : Bool) where
       quiet = d.quiet;
     };
   }
-  after ks c h k weight high weight' high' row v w (Err (Fault f)) new now first second made e l m x y z = let d = z.comes in record {
+  after ks c h k weight high weight' high' stack v w (Err (Fault f)) new now first second made e l m x y z = let d = z.comes in record {
     comes = record {
       front = ks ++ d.front;
-      told = d.told;
+      emits = d.emits;
       unmarked = d.unmarked;
       reads = e ∙ (ap (with_looks ks) d.reads ∙ sym (looks_both ks d.front _));
-      is_row = d.is_row;
+      is_stack = d.is_stack;
       few = omega (arith, c, d.few, length-append ks d.front);
       enough = omega (arith, l, m, d.enough, total_both ks d.front);
       lighter = omega (arith, d.lighter, total_both ks d.front);
     };
   }
-  after ks c h k weight high weight' high' row v w (Err Refused) new now first second made e l m x y z = let d = z.comes.0 in record {
+  after ks c h k weight high weight' high' stack v w (Err Refused) new now first second made e l m x y z = let d = z.comes.0 in record {
     comes = (
       record {
         front = ks ++ d.front;
-        said = d.said;
+        emitted = d.emitted;
         rest = d.rest;
         refusal = d.refusal;
         prints = d.prints;
@@ -142,42 +142,42 @@ module _ {V : Type 0} (voice : Ghosts V) (b : List ℕ) (plain : Bool) where
   }
 
   -- the same heard in another way
-  pub same : {words words' : ℕ} → words' ≤ words → (h k : Heard) (weight high weight' high' : ℕ) (row : List Frame) (v w : V) (result : Result Point Stop) (new : State) (now : List Frame) (made : ℕ) → h ≡ k → weight' ≤ weight → high' ≤ high
-      → DidOn voice b plain words' k weight' high' row v result new now w made → DidOn voice b plain words h weight high row v result new now w made
-  same c h k weight high weight' high' row v w result new now made e x y d = after [] (omega (arith, c)) h k weight high weight' high' row v w result new now 0 made made e (omega arith) (omega arith) (omega arith) y d
+  pub same : {words words' : ℕ} → words' ≤ words → (h k : Heard) (weight high weight' high' : ℕ) (stack : List Frame) (v w : V) (result : Result Point Stop) (new : State) (now : List Frame) (made : ℕ) → h ≡ k → weight' ≤ weight → high' ≤ high
+      → DidOn output b include_hash words' k weight' high' stack v result new now w made → DidOn output b include_hash words h weight high stack v result new now w made
+  same c h k weight high weight' high' stack v w result new now made e x y d = after [] (omega (arith, c)) h k weight high weight' high' stack v w result new now 0 made made e (omega arith) (omega arith) (omega arith) y d
 
   -- Faults.
 
-  pub faulty : {words : ℕ} (m : Mark) (h : Heard) (weight high : ℕ) (row : List Frame) (v : V) (new : State) (made : ℕ) → new.mark ≡ None → h ≡ with_texts voice.loud (text m ∷ []) (nothing_heard None false) → made ≤ 0 → 1 ≤ weight
-      → DidOn voice b plain words h weight high row v (Err (Fault m)) new row v made
-  faulty m h weight high row v new made k e l x = record {
-    comes = record { front = []; told = refl; unmarked = k; reads = e; is_row = refl; few = omega arith; enough = omega (arith, l); lighter = omega (arith, x) };
+  pub faulty : {words : ℕ} (m : Mark) (h : Heard) (weight high : ℕ) (stack : List Frame) (v : V) (new : State) (made : ℕ) → new.mark ≡ None → h ≡ with_texts output.is_printed (text m ∷ []) (nothing_heard None false) → made ≤ 0 → 1 ≤ weight
+      → DidOn output b include_hash words h weight high stack v (Err (Fault m)) new stack v made
+  faulty m h weight high stack v new made k e l x = record {
+    comes = record { front = []; emits = refl; unmarked = k; reads = e; is_stack = refl; few = omega arith; enough = omega (arith, l); lighter = omega (arith, x) };
   }
 
   -- a fault behind some looks
-  pub faulty_after : {words : ℕ} (ks : List ℕ) → length ks ≤ words → (m : Mark) (h : Heard) (weight high : ℕ) (row : List Frame) (v : V) (new : State) (made : ℕ) → new.mark ≡ None → h ≡ with_looks ks (with_texts voice.loud (text m ∷ []) (nothing_heard None false)) → made ≤ total ks → 1 ≤ weight
-      → DidOn voice b plain words h weight high row v (Err (Fault m)) new row v made
-  faulty_after ks c m h weight high row v new made k e l x =
-      after {words' = 0} ks (omega (arith, c)) h (with_texts voice.loud (text m ∷ []) (nothing_heard None false)) weight high 1 0 row v v (Err (Fault m)) new row made 0 made e l (omega arith) (omega arith) (omega arith)
-      (faulty m (with_texts voice.loud (text m ∷ []) (nothing_heard None false)) 1 0 row v new 0 k refl (omega arith) (omega arith))
+  pub faulty_after : {words : ℕ} (ks : List ℕ) → length ks ≤ words → (m : Mark) (h : Heard) (weight high : ℕ) (stack : List Frame) (v : V) (new : State) (made : ℕ) → new.mark ≡ None → h ≡ with_looks ks (with_texts output.is_printed (text m ∷ []) (nothing_heard None false)) → made ≤ total ks → 1 ≤ weight
+      → DidOn output b include_hash words h weight high stack v (Err (Fault m)) new stack v made
+  faulty_after ks c m h weight high stack v new made k e l x =
+      after {words' = 0} ks (omega (arith, c)) h (with_texts output.is_printed (text m ∷ []) (nothing_heard None false)) weight high 1 0 stack v v (Err (Fault m)) new stack made 0 made e l (omega arith) (omega arith) (omega arith)
+      (faulty m (with_texts output.is_printed (text m ∷ []) (nothing_heard None false)) 1 0 stack v new 0 k refl (omega arith) (omega arith))
 
   -- Texts that are handed over behind some looks, and the point behind them.
 
-  pub put_goes : {words : ℕ} (to : Point) (front : List ℕ) → length front ≤ words → (s : Stretch) (h : Heard) (weight high : ℕ) (row : List Frame) (v w : V) (new : State) (made : ℕ)
-      → h ≡ with_looks front (with_texts voice.loud (texts_of b plain s) (share_of b plain voice.loud to new)) → voice.prints v (texts_of b plain s) (Ok tt) w → new.mark ≡ None → made ≤ total front
+  pub put_goes : {words : ℕ} (to : Point) (front : List ℕ) → length front ≤ words → (s : Stretch) (h : Heard) (weight high : ℕ) (stack : List Frame) (v w : V) (new : State) (made : ℕ)
+      → h ≡ with_looks front (with_texts output.is_printed (texts_of b include_hash s) (unit_rest_of b include_hash output.is_printed to new)) → output.prints v (texts_of b include_hash s) (Ok tt) w → new.mark ≡ None → made ≤ total front
       → way_weight to + 1 ≤ weight + 100 * total front → height_at to new.depth_left ≤ high → Fits to new.depth_left new.lifetimes
-      → DidOn voice b plain words h weight high row v (Ok to) new row w made
+      → DidOn output b include_hash words h weight high stack v (Ok to) new stack w made
   unfolding then_frame
-  put_goes to front c s h weight high row v w new made e p m l x y f = record {
+  put_goes to front c s h weight high stack v w new made e p m l x y f = record {
     comes = record {
       front = front;
-      said = Some s;
+      emitted = Some s;
       back = [];
       pushed = None;
-      told = p;
+      emits = p;
       one = inr m;
       reads = rw m e;
-      is_row = refl;
+      is_stack = refl;
       few = omega (arith, c);
       enough = omega (arith, l);
       late = omega (arith, l);
@@ -190,15 +190,15 @@ module _ {V : Type 0} (voice : Ghosts V) (b : List ℕ) (plain : Bool) where
     };
   }
 
-  -- the voice refused them
-  pub put_refused : {words : ℕ} (front : List ℕ) → length front ≤ words → (s : Stretch) (h rest : Heard) (weight high : ℕ) (row : List Frame) (v w : V) (new : State) (e : SinkRefused) (made : ℕ)
-      → h ≡ with_looks front (with_texts voice.loud (texts_of b plain s) rest) → voice.prints v (texts_of b plain s) (Err e) w → made ≤ total front → (voice.loud ≡ false → rest.place ≡ None)
-      → DidOn voice b plain words h weight high row v (Err Refused) new row w made
-  put_refused front c s h rest weight high row v w new e made r p l q = record {
+  -- the output refused them
+  pub put_refused : {words : ℕ} (front : List ℕ) → length front ≤ words → (s : Stretch) (h rest : Heard) (weight high : ℕ) (stack : List Frame) (v w : V) (new : State) (e : SinkRefused) (made : ℕ)
+      → h ≡ with_looks front (with_texts output.is_printed (texts_of b include_hash s) rest) → output.prints v (texts_of b include_hash s) (Err e) w → made ≤ total front → (output.is_printed ≡ false → rest.place ≡ None)
+      → DidOn output b include_hash words h weight high stack v (Err Refused) new stack w made
+  put_refused front c s h rest weight high stack v w new e made r p l q = record {
     comes = (
       record {
         front = front;
-        said = s;
+        emitted = s;
         rest = rest;
         refusal = e;
         prints = p;
@@ -208,7 +208,7 @@ module _ {V : Type 0} (voice : Ghosts V) (b : List ℕ) (plain : Bool) where
         exact = λ _. omega (arith, l);
         fails = q;
       },
-      kept_none row,
+      kept_none stack,
     );
   }
 
@@ -216,31 +216,31 @@ module _ {V : Type 0} (voice : Ghosts V) (b : List ℕ) (plain : Bool) where
 
   -- what is heard of a unit's rest
   abbrev pub heard : Items → ℕ → ℕ → Place → Heard
-  heard p left n i = none_open (of plain voice.loud (run p (around b voice.loud left n) i))
+  heard p left n i = none_open (of include_hash output.is_printed (run p (around b output.is_printed left n) i))
 
-  pub mark_goes : {words : ℕ} (to : Point) (m : Mark) (h : Heard) (weight high : ℕ) (row : List Frame) (u : V) (new : State) (made : ℕ)
-      → h ≡ with_texts voice.loud (text m ∷ []) (share_of b plain voice.loud to new) → new.mark ≡ Some m → made ≤ 0
+  pub mark_goes : {words : ℕ} (to : Point) (m : Mark) (h : Heard) (weight high : ℕ) (stack : List Frame) (u : V) (new : State) (made : ℕ)
+      → h ≡ with_texts output.is_printed (text m ∷ []) (unit_rest_of b include_hash output.is_printed to new) → new.mark ≡ Some m → made ≤ 0
       → way_weight to + 1 ≤ weight → height_at to new.depth_left ≤ high → Fits to new.depth_left new.lifetimes
-      → DidOn voice b plain words h weight high row u (Ok to) new row u made
+      → DidOn output b include_hash words h weight high stack u (Ok to) new stack u made
   unfolding then_frame
-  mark_goes to m h weight high row u new made e k l x y f = record {
+  mark_goes to m h weight high stack u new made e k l x y f = record {
     comes =
-        steps to [] [] (omega arith) None h weight high row row u new made (rw k e) refl (omega (arith, l)) (omega (arith, l)) (omega (arith, x)) (omega arith) (omega (arith, y)) tt f (λ _. tt);
+        steps to [] [] (omega arith) None h weight high stack stack u new made (rw k e) refl (omega (arith, l)) (omega (arith, l)) (omega (arith, x)) (omega arith) (omega (arith, y)) tt f (λ _. tt);
   }
 
   -- a child with which a unit ends
-  pub child_last : (k : Kind) (v : Bool) (left n : ℕ) (i : Place) → heard (child k v done) left n i ≡ none_open (of plain voice.loud (unit_outcome (around b voice.loud left n) k v i))
+  pub child_last : (k : Kind) (v : Bool) (left n : ℕ) (i : Place) → heard (child k v done) left n i ≡ none_open (of include_hash output.is_printed (unit_outcome (around b output.is_printed left n) k v i))
   unfolding run
-  child_last k v left n i = let o = unit_outcome (around b voice.loud left n) k v i in ap (λ xs. record { events = xs; place = o.place; is_open = false }) (append-nil (events plain voice.loud o.tree))
+  child_last k v left n i = let o = unit_outcome (around b output.is_printed left n) k v i in ap (λ xs. record { events = xs; place = o.place; is_open = false }) (append-nil (events include_hash output.is_printed o.tree))
 
-  pub child_goes : {words : ℕ} (to : Point) (k : Kind) (v : Bool) (m : Mark) (h : Heard) (weight high : ℕ) (row : List Frame) (u : V) (new : State) (made : ℕ)
+  pub child_goes : {words : ℕ} (to : Point) (k : Kind) (v : Bool) (m : Mark) (h : Heard) (weight high : ℕ) (stack : List Frame) (u : V) (new : State) (made : ℕ)
       → h ≡ heard (say (text m) (child k v done)) new.depth_left new.lifetimes new.place
-      → none_open (of plain voice.loud (unit_outcome (around b voice.loud new.depth_left new.lifetimes) k v new.place)) ≡ share_of b plain voice.loud to new → new.mark ≡ Some m → made ≤ 0
+      → none_open (of include_hash output.is_printed (unit_outcome (around b output.is_printed new.depth_left new.lifetimes) k v new.place)) ≡ unit_rest_of b include_hash output.is_printed to new → new.mark ≡ Some m → made ≤ 0
       → way_weight to + 1 ≤ weight → height_at to new.depth_left ≤ high → Fits to new.depth_left new.lifetimes
-      → DidOn voice b plain words h weight high row u (Ok to) new row u made
+      → DidOn output b include_hash words h weight high stack u (Ok to) new stack u made
   unfolding run
-  child_goes to k v m h weight high row u new made e r =
-      mark_goes to m h weight high row u new made (e ∙ ap (with_texts voice.loud (text m ∷ [])) (child_last k v new.depth_left new.lifetimes new.place ∙ r))
+  child_goes to k v m h weight high stack u new made e r =
+      mark_goes to m h weight high stack u new made (e ∙ ap (with_texts output.is_printed (text m ∷ [])) (child_last k v new.depth_left new.lifetimes new.place ∙ r))
 
   -- What is read as a group, and what stands behind it.
 
@@ -250,14 +250,14 @@ module _ {V : Type 0} (voice : Ghosts V) (b : List ℕ) (plain : Bool) where
 
   -- a group, and what is heard behind it
   abbrev pub group_then : Group → (Place → Heard) → Heard
-  group_then g k = grouped b plain voice.loud g k
+  group_then g k = grouped b include_hash output.is_printed g k
 
   -- a group with which the unit ends
   abbrev pub group_heard : Group → Heard
   group_heard g = group_then g ended
 
   -- no bracket is open behind a word, where none is behind the rest
-  word_shut : (ks : List ℕ) (r : WordRead) (k : Place → Heard) → none_open (with_looks ks (word_then b plain voice.loud r k)) ≡ with_looks ks (word_then b plain voice.loud r (λ j. none_open (k j)))
+  word_shut : (ks : List ℕ) (r : WordRead) (k : Place → Heard) → none_open (with_looks ks (word_then b include_hash output.is_printed r k)) ≡ with_looks ks (word_then b include_hash output.is_printed r (λ j. none_open (k j)))
   word_shut ks (reads.Goes x j) k = refl
   word_shut ks (reads.Stops m) k = refl
 
@@ -266,40 +266,40 @@ module _ {V : Type 0} (voice : Ghosts V) (b : List ℕ) (plain : Bool) where
   group_shut h g k e = ap none_open e ∙ word_shut g.costs g.reads k
 
   -- a word is read as its group
-  pub word_so : (x : Word) (c : ℕ) (p : Items) (left n : ℕ) (i : Place) → heard (word_items x c p) left n i ≡ group_then (word_group b x c voice.loud n i) (heard p left n)
-  word_so x c p left n i = group_shut _ (word_group b x c voice.loud n i) (λ j. of plain voice.loud (run p (around b voice.loud left n) j)) (word_read b plain left voice.loud n x c p i)
+  pub word_so : (x : Word) (c : ℕ) (p : Items) (left n : ℕ) (i : Place) → heard (word_items x c p) left n i ≡ group_then (word_group b x c output.is_printed n i) (heard p left n)
+  word_so x c p left n i = group_shut _ (word_group b x c output.is_printed n i) (λ j. of include_hash output.is_printed (run p (around b output.is_printed left n) j)) (word_read b include_hash left output.is_printed n x c p i)
 
   -- a word with which the unit ends
-  pub last_word_so : (x : Word) (c left n : ℕ) (i : Place) → heard (word_items x c done) left n i ≡ group_heard (word_group b x c voice.loud n i)
+  pub last_word_so : (x : Word) (c left n : ℕ) (i : Place) → heard (word_items x c done) left n i ≡ group_heard (word_group b x c output.is_printed n i)
   unfolding run
   last_word_so x c left n i = word_so x c done left n i
 
   -- what is heard of a group that was read so
-  pub group_so : (h : Heard) (g : Group) (k : Place → Heard) (r : WordRead) → h ≡ group_then g k → r ≡ g.reads → h ≡ with_looks g.costs (word_then b plain voice.loud r k)
-  group_so h g k r so e = so ∙ ap (λ (z : WordRead). with_looks g.costs (word_then b plain voice.loud z k)) (sym e)
+  pub group_so : (h : Heard) (g : Group) (k : Place → Heard) (r : WordRead) → h ≡ group_then g k → r ≡ g.reads → h ≡ with_looks g.costs (word_then b include_hash output.is_printed r k)
+  group_so h g k r so e = so ∙ ap (λ (z : WordRead). with_looks g.costs (word_then b include_hash output.is_printed z k)) (sym e)
 
-  pub group_goes : {words : ℕ} (to : Point) (h : Heard) (g : Group) → length g.costs ≤ words → (k : Place → Heard) (j : Place) (s : Stretch) (weight high : ℕ) (row : List Frame) (v w : V) (new : State) (made : ℕ) → h ≡ group_then g k → reads.Goes s j ≡ g.reads → made ≤ total g.costs
-      → voice.prints v (texts_of b plain s) (Ok tt) w → new.mark ≡ None → k j ≡ share_of b plain voice.loud to new
-      → way_weight to + 1 ≤ weight → height_at to new.depth_left ≤ high → Fits to new.depth_left new.lifetimes → DidOn voice b plain words h weight high row v (Ok to) new row w made
-  group_goes to h g c k j s weight high row v w new made so r l q m e x y f =
-      put_goes to g.costs c s h weight high row v w new made (group_so h g k (reads.Goes s j) so r ∙ ap (λ (z : Heard). with_looks g.costs (with_texts voice.loud (texts_of b plain s) z)) e) q m l (omega arith) y f
+  pub group_goes : {words : ℕ} (to : Point) (h : Heard) (g : Group) → length g.costs ≤ words → (k : Place → Heard) (j : Place) (s : Stretch) (weight high : ℕ) (stack : List Frame) (v w : V) (new : State) (made : ℕ) → h ≡ group_then g k → reads.Goes s j ≡ g.reads → made ≤ total g.costs
+      → output.prints v (texts_of b include_hash s) (Ok tt) w → new.mark ≡ None → k j ≡ unit_rest_of b include_hash output.is_printed to new
+      → way_weight to + 1 ≤ weight → height_at to new.depth_left ≤ high → Fits to new.depth_left new.lifetimes → DidOn output b include_hash words h weight high stack v (Ok to) new stack w made
+  group_goes to h g c k j s weight high stack v w new made so r l q m e x y f =
+      put_goes to g.costs c s h weight high stack v w new made (group_so h g k (reads.Goes s j) so r ∙ ap (λ (z : Heard). with_looks g.costs (with_texts output.is_printed (texts_of b include_hash s) z)) e) q m l (omega arith) y f
 
   -- the unit ends behind it
-  pub group_ends : {words : ℕ} (h : Heard) (g : Group) → length g.costs ≤ words → (j : Place) (s : Stretch) (weight high : ℕ) (row : List Frame) (v w : V) (new : State) (made : ℕ) → h ≡ group_heard g → reads.Goes s j ≡ g.reads → made ≤ total g.costs
-      → voice.prints v (texts_of b plain s) (Ok tt) w → new.mark ≡ None → new.place ≡ j → new.is_open ≡ false → 1 ≤ weight → DidOn voice b plain words h weight high row v (Ok point.End) new row w made
-  unfolding share_at
-  group_ends h g c j s weight high row v w new made so e l p m k o x = group_goes point.End h g c ended j s weight high row v w new made so e l p m (rw (k, o) refl) (omega (arith, x)) (omega arith) tt
+  pub group_ends : {words : ℕ} (h : Heard) (g : Group) → length g.costs ≤ words → (j : Place) (s : Stretch) (weight high : ℕ) (stack : List Frame) (v w : V) (new : State) (made : ℕ) → h ≡ group_heard g → reads.Goes s j ≡ g.reads → made ≤ total g.costs
+      → output.prints v (texts_of b include_hash s) (Ok tt) w → new.mark ≡ None → new.place ≡ j → new.is_open ≡ false → 1 ≤ weight → DidOn output b include_hash words h weight high stack v (Ok point.End) new stack w made
+  unfolding unit_rest_at
+  group_ends h g c j s weight high stack v w new made so e l p m k o x = group_goes point.End h g c ended j s weight high stack v w new made so e l p m (rw (k, o) refl) (omega (arith, x)) (omega arith) tt
 
   -- a fault
-  pub group_fails : {words : ℕ} (h : Heard) (g : Group) → length g.costs ≤ words → (k : Place → Heard) (m : Mark) (weight high : ℕ) (row : List Frame) (v : V) (new : State) (made : ℕ) → h ≡ group_then g k → reads.Stops m ≡ g.reads → made ≤ total g.costs → new.mark ≡ None → 1 ≤ weight
-      → DidOn voice b plain words h weight high row v (Err (Fault m)) new row v made
-  group_fails h g c k m weight high row v new made so e l n x = faulty_after g.costs c m h weight high row v new made n (group_so h g k (reads.Stops m) so e) l x
+  pub group_fails : {words : ℕ} (h : Heard) (g : Group) → length g.costs ≤ words → (k : Place → Heard) (m : Mark) (weight high : ℕ) (stack : List Frame) (v : V) (new : State) (made : ℕ) → h ≡ group_then g k → reads.Stops m ≡ g.reads → made ≤ total g.costs → new.mark ≡ None → 1 ≤ weight
+      → DidOn output b include_hash words h weight high stack v (Err (Fault m)) new stack v made
+  group_fails h g c k m weight high stack v new made so e l n x = faulty_after g.costs c m h weight high stack v new made n (group_so h g k (reads.Stops m) so e) l x
 
-  pub group_refused : {words : ℕ} (h : Heard) (g : Group) → length g.costs ≤ words → (k : Place → Heard) (j : Place) (s : Stretch) (weight high : ℕ) (row : List Frame) (v w : V) (new : State) (e : SinkRefused) (made : ℕ) → h ≡ group_then g k → reads.Goes s j ≡ g.reads → made ≤ total g.costs
-      → voice.prints v (texts_of b plain s) (Err e) w → (voice.loud ≡ false → IsOk (refused e)) → DidOn voice b plain words h weight high row v (Err Refused) new row w made
-  group_refused h g c k j s weight high row v w new e made so r l p q =
-      put_refused g.costs c s h (k j) weight high row v w new e made (group_so h g k (reads.Goes s j) so r) p l (λ z. absurd (false≢true (q z)))
+  pub group_refused : {words : ℕ} (h : Heard) (g : Group) → length g.costs ≤ words → (k : Place → Heard) (j : Place) (s : Stretch) (weight high : ℕ) (stack : List Frame) (v w : V) (new : State) (e : SinkRefused) (made : ℕ) → h ≡ group_then g k → reads.Goes s j ≡ g.reads → made ≤ total g.costs
+      → output.prints v (texts_of b include_hash s) (Err e) w → (output.is_printed ≡ false → IsOk (refused e)) → DidOn output b include_hash words h weight high stack v (Err Refused) new stack w made
+  group_refused h g c k j s weight high stack v w new e made so r l p q =
+      put_refused g.costs c s h (k j) weight high stack v w new e made (group_so h g k (reads.Goes s j) so r) p l (λ z. absurd (false≢true (q z)))
 
   -- no looks were made
-  pub zero_looks : {words : ℕ} (h : Heard) (weight high : ℕ) (row : List Frame) (v w : V) (result : Result Point Stop) (new : State) (now : List Frame) (l : ℕ) → DidOn voice b plain words h weight high row v result new now w 0 → DidOn voice b plain words h weight high row v result new now w (l - l)
-  zero_looks {words = words} h weight high row v w result new now l d = subst (λ (m : ℕ). DidOn voice b plain words h weight high row v result new now w m) (omega arith) d
+  pub zero_looks : {words : ℕ} (h : Heard) (weight high : ℕ) (stack : List Frame) (v w : V) (result : Result Point Stop) (new : State) (now : List Frame) (l : ℕ) → DidOn output b include_hash words h weight high stack v result new now w 0 → DidOn output b include_hash words h weight high stack v result new now w (l - l)
+  zero_looks {words = words} h weight high stack v w result new now l d = subst (λ (m : ℕ). DidOn output b include_hash words h weight high stack v result new now w m) (omega arith) d

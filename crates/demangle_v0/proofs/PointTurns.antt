@@ -6,10 +6,10 @@ use Rattle.std.proofs.Common.{inl, inr, ◌≡◌, ℕ, ◌+◌, ◌-◌, ◌≤
 use Rattle.demangle_grammar.specs.Items.{Items}
 use Rattle.demangle_grammar.specs.Totals.{total}
 use Rattle.demangle_grammar.specs.Events.{Heard, of, nothing_heard, with_looks, with_texts, around}
-use Rattle.demangle_words.specs.Groups.{texts_of}
+use Rattle.demangle_words.specs.WordReads.{texts_of}
 use Rattle.demangle_words.specs.Texts.{text}
 use Rattle.demangle_grammar.specs.Reading.{Place, unit_outcome}
-use Rattle.demangle_v0.specs.Points.{mark_texts, then_frame, way_weight, weight_of, height_of, count_of, FitsFrame, IsInner, Fits, height_at, pushed_on, share_of, Turn, turn, Env, env, Part, part, Went, DidOn, Does, Paid, own_looks, list_costs}
+use Rattle.demangle_v0.specs.Points.{mark_texts, then_frame, way_weight, weight_of, height_of, count_of, FitsFrame, IsInner, Fits, height_at, pushed_on, unit_rest_of, Turn, turn, Env, env, Part, part, Went, DidOn, Does, Paid, own_looks, list_costs}
 use Rattle.demangle_sink.specs.declared.SinkRefused.{SinkRefused}
 use Rattle.demangle_words.specs.declared.texts.Mark.{Mark}
 use Rattle.demangle_words.specs.declared.texts.Mark.TheVariants as mark
@@ -19,13 +19,13 @@ use Rattle.demangle_v0.specs.declared.points.frames.Frame.{Frame}
 use Rattle.demangle_v0.specs.declared.points.State.{State}
 use Rattle.demangle_v0.specs.declared.points.Stop.{Stop}
 use Rattle.demangle_v0.specs.declared.points.Stop.TheVariants.{Refused, Fault}
-use Rattle.demangle_words.specs.declared.voice.Voice.{Ghosts}
+use Rattle.demangle_words.specs.declared.output.Output.{Ghosts}
 use Rattle.demangle_v0.proofs.PointSteps.{looks_both, total_both, kept_none, refused, heard, child_last, group_then, group_so, word_so, last_word_so}
 use Rattle.demangle_v0.proofs.WordLooks.{group_short, group_few}
 use Rattle.demangle_words.specs.Texts.{word_items}
 use Rattle.demangle_grammar.specs.Items.{Kind, child, done}
-use Rattle.demangle_words.specs.Groups.{Group, word_group}
-use Rattle.demangle_v0.specs.Points.{share_at, RestDoes, none_open}
+use Rattle.demangle_words.specs.WordReads.{Group, word_group}
+use Rattle.demangle_v0.specs.Points.{unit_rest_at, RestDoes, none_open}
 use Rattle.demangle_words.specs.declared.texts.Word.{Word}
 use Rattle.demangle_words.specs.declared.read.WordRead.{WordRead}
 use Rattle.demangle_words.specs.declared.read.WordRead.TheVariants as reads
@@ -55,22 +55,22 @@ no_fault m k = cc
 
 module _ {V : Type 0} {e : Env V} where
   -- The point is left for another, by these looks before the mark and behind it, and with this frame.
-  pub leaves : {t : Turn V} {h : Heard} {words weight high : ℕ} (to : Point) (front back : List ℕ) → length front + length back ≤ words → (pushed : Option Frame) {s : State} {row : List Frame} {n : ℕ}
-      → h ≡ with_looks front (with_texts e.voice.loud (mark_texts s.mark) (with_looks back (then_frame e.symbol e.plain e.voice.loud pushed (share_of e.symbol e.plain e.voice.loud to s))))
-      → row ≡ pushed_on t.row pushed → Paid t.looks (front ++ back) n → total back ≤ 2 → n ≤ t.looks + own_looks e.symbol t.state.place
+  pub leaves : {t : Turn V} {h : Heard} {words weight high : ℕ} (to : Point) (front back : List ℕ) → length front + length back ≤ words → (pushed : Option Frame) {s : State} {stack : List Frame} {n : ℕ}
+      → h ≡ with_looks front (with_texts e.output.is_printed (mark_texts s.mark) (with_looks back (then_frame e.symbol e.include_hash e.output.is_printed pushed (unit_rest_of e.symbol e.include_hash e.output.is_printed to s))))
+      → stack ≡ pushed_on t.stack pushed → Paid t.looks (front ++ back) n → total back ≤ 2 → n ≤ t.looks + own_looks e.symbol t.state.place
       → way_weight to + weight_of pushed + 1 ≤ weight + 100 * (total front + total back)
-      → height_of pushed ≤ high → height_at to s.depth_left + count_of pushed ≤ high → FitsFrame pushed → Fits to s.depth_left s.lifetimes → (e.voice.loud ≡ false → IsInner pushed)
-      → Does e t (part words h weight high) (Ok to) (record t { state = s; row = row; looks = n })
+      → height_of pushed ≤ high → height_at to s.depth_left + count_of pushed ≤ high → FitsFrame pushed → Fits to s.depth_left s.lifetimes → (e.output.is_printed ≡ false → IsInner pushed)
+      → Does e t (part words h weight high) (Ok to) (record t { state = s; stack = stack; looks = n })
   leaves to front back c pushed r q p few short w x y f g i = let both = total_both front back in record {
     comes = record {
       front = front;
-      said = None;
+      emitted = None;
       back = back;
       pushed = pushed;
-      told = refl;
+      emits = refl;
       one = inl refl;
       reads = r;
-      is_row = q;
+      is_stack = q;
       few = c;
       enough = omega (arith, p.within, both);
       late = omega (arith, p.within, both, few);
@@ -88,23 +88,23 @@ module _ {V : Type 0} {e : Env V} where
   }
 
   -- by no looks and with no frame
-  pub marks : {t : Turn V} {h : Heard} {words weight high : ℕ} (to : Point) {s : State} → h ≡ with_texts e.voice.loud (mark_texts s.mark) (share_of e.symbol e.plain e.voice.loud to s)
+  pub marks : {t : Turn V} {h : Heard} {words weight high : ℕ} (to : Point) {s : State} → h ≡ with_texts e.output.is_printed (mark_texts s.mark) (unit_rest_of e.symbol e.include_hash e.output.is_printed to s)
       → way_weight to + 1 ≤ weight → height_at to s.depth_left ≤ high → Fits to s.depth_left s.lifetimes → Does e t (part words h weight high) (Ok to) (record t { state = s })
   unfolding then_frame
   marks to r w x f = leaves to [] [] (omega arith) None r refl (record { grows = omega arith; within = omega arith }) (omega arith) (omega arith) (omega (arith, w)) (omega arith) (omega (arith, x)) tt f (λ _. tt)
 
   -- a child, behind a mark
-  pub marks_child : {t : Turn V} {h : Heard} {words weight high : ℕ} (to : Point) (k : Kind) (v : Bool) {s : State} → h ≡ with_texts e.voice.loud (mark_texts s.mark) (heard e.voice e.symbol e.plain (child k v done) s.depth_left s.lifetimes s.place)
-      → none_open (of e.plain e.voice.loud (unit_outcome (around e.symbol e.voice.loud s.depth_left s.lifetimes) k v s.place)) ≡ share_of e.symbol e.plain e.voice.loud to s
+  pub marks_child : {t : Turn V} {h : Heard} {words weight high : ℕ} (to : Point) (k : Kind) (v : Bool) {s : State} → h ≡ with_texts e.output.is_printed (mark_texts s.mark) (heard e.output e.symbol e.include_hash (child k v done) s.depth_left s.lifetimes s.place)
+      → none_open (of e.include_hash e.output.is_printed (unit_outcome (around e.symbol e.output.is_printed s.depth_left s.lifetimes) k v s.place)) ≡ unit_rest_of e.symbol e.include_hash e.output.is_printed to s
       → way_weight to + 1 ≤ weight → height_at to s.depth_left ≤ high → Fits to s.depth_left s.lifetimes → Does e t (part words h weight high) (Ok to) (record t { state = s })
-  marks_child to k v {s} q r w x f = marks to (q ∙ ap (with_texts e.voice.loud (mark_texts s.mark)) (child_last e.voice e.symbol e.plain k v s.depth_left s.lifetimes s.place ∙ r)) w x f
+  marks_child to k v {s} q r w x f = marks to (q ∙ ap (with_texts e.output.is_printed (mark_texts s.mark)) (child_last e.output e.symbol e.include_hash k v s.depth_left s.lifetimes s.place ∙ r)) w x f
 
   -- The unit ends with a fault.
   pub ends : {t : Turn V} {h : Heard} {words weight high : ℕ} (m : Mark) (front : List ℕ) → length front ≤ words → {s : State} {n : ℕ} → s.mark ≡ None
-      → h ≡ with_looks front (with_texts e.voice.loud (text m ∷ []) (nothing_heard None false)) → Paid t.looks front n → n ≤ t.looks + own_looks e.symbol t.state.place → 1 ≤ weight
+      → h ≡ with_looks front (with_texts e.output.is_printed (text m ∷ []) (nothing_heard None false)) → Paid t.looks front n → n ≤ t.looks + own_looks e.symbol t.state.place → 1 ≤ weight
       → Does e t (part words h weight high) (Err (Fault m)) (record t { state = s; looks = n })
   ends m front c k r p short w = record {
-    comes = record { front = front; told = refl; unmarked = k; reads = r; is_row = refl; few = c; enough = p.within; lighter = omega (arith, w) };
+    comes = record { front = front; emits = refl; unmarked = k; reads = r; is_stack = refl; few = c; enough = p.within; lighter = omega (arith, w) };
     grows = p.grows;
     own = short;
     ready = λ y _. y;
@@ -112,25 +112,25 @@ module _ {V : Type 0} {e : Env V} where
   }
 
   -- The reading had failed before.
-  pub unread : {t : Turn V} {h : Heard} {words weight high : ℕ} → t.state.mark ≡ None → h ≡ with_texts e.voice.loud (text mark.Unread ∷ []) (nothing_heard None false) → 1 ≤ weight → Does e t (part words h weight high) (Err (Fault mark.Unread)) t
-  unread k r w = ends mark.Unread [] (omega arith) k r (record { grows = omega arith; within = omega arith }) (omega arith) w
+  pub unread : {t : Turn V} {h : Heard} {words weight high : ℕ} → t.state.mark ≡ None → h ≡ with_texts e.output.is_printed (text mark.AfterError ∷ []) (nothing_heard None false) → 1 ≤ weight → Does e t (part words h weight high) (Err (Fault mark.AfterError)) t
+  unread k r w = ends mark.AfterError [] (omega arith) k r (record { grows = omega arith; within = omega arith }) (omega arith) w
 
   -- A stretch is handed over.
   pub tells : {t : Turn V} {h : Heard} {words weight high : ℕ} (to : Point) (front : List ℕ) → length front ≤ words → (x : Stretch) {s : State} {v : V} {n : ℕ}
-      → h ≡ with_looks front (with_texts e.voice.loud (texts_of e.symbol e.plain x) (share_of e.symbol e.plain e.voice.loud to s)) → e.voice.prints t.voice (texts_of e.symbol e.plain x) (Ok tt) v → e.voice.ready v → s.mark ≡ None
+      → h ≡ with_looks front (with_texts e.output.is_printed (texts_of e.symbol e.include_hash x) (unit_rest_of e.symbol e.include_hash e.output.is_printed to s)) → e.output.prints t.output (texts_of e.symbol e.include_hash x) (Ok tt) v → e.output.ready v → s.mark ≡ None
       → Paid t.looks front n → n ≤ t.looks + own_looks e.symbol t.state.place → way_weight to + 1 ≤ weight + 100 * total front → height_at to s.depth_left ≤ high → Fits to s.depth_left s.lifetimes
-      → Does e t (part words h weight high) (Ok to) (record t { state = s; voice = v; looks = n })
+      → Does e t (part words h weight high) (Ok to) (record t { state = s; output = v; looks = n })
   unfolding then_frame
   tells to front c x r q y k p short w z f = record {
     comes = record {
       front = front;
-      said = Some x;
+      emitted = Some x;
       back = [];
       pushed = None;
-      told = q;
+      emits = q;
       one = inr k;
       reads = rw k r;
-      is_row = refl;
+      is_stack = refl;
       few = omega (arith, c);
       enough = omega (arith, p.within);
       late = omega (arith, p.within);
@@ -147,13 +147,13 @@ module _ {V : Type 0} {e : Env V} where
     sound = λ _ _ _. y;
   }
 
-  -- The voice refuses it.
+  -- The output refuses it.
   pub halts : {t : Turn V} {h : Heard} {words weight high : ℕ} (front : List ℕ) → length front ≤ words → (x : Stretch) (rest : Heard) {s : State} {v : V} {n : ℕ} {r : SinkRefused}
-      → h ≡ with_looks front (with_texts e.voice.loud (texts_of e.symbol e.plain x) rest) → e.voice.prints t.voice (texts_of e.symbol e.plain x) (Err r) v
-      → (e.voice.loud ≡ false → rest.place ≡ None) → Paid t.looks front n → n ≤ t.looks + own_looks e.symbol t.state.place
-      → Does e t (part words h weight high) (Err Refused) (record t { state = s; voice = v; looks = n })
+      → h ≡ with_looks front (with_texts e.output.is_printed (texts_of e.symbol e.include_hash x) rest) → e.output.prints t.output (texts_of e.symbol e.include_hash x) (Err r) v
+      → (e.output.is_printed ≡ false → rest.place ≡ None) → Paid t.looks front n → n ≤ t.looks + own_looks e.symbol t.state.place
+      → Does e t (part words h weight high) (Err Refused) (record t { state = s; output = v; looks = n })
   halts {t} front c x rest {r = f} r q i p short = record {
-    comes = (record { front = front; said = x; rest = rest; refusal = f; prints = q; reads = r; few = c; enough = omega (arith, p.within); exact = λ _. p.within; fails = i }, kept_none t.row);
+    comes = (record { front = front; emitted = x; rest = rest; refusal = f; prints = q; reads = r; few = c; enough = omega (arith, p.within); exact = λ _. p.within; fails = i }, kept_none t.stack);
     grows = p.grows;
     own = short;
     ready = λ _ k. absurd (false≢true k);
@@ -166,13 +166,13 @@ module _ {V : Type 0} {e : Env V} where
   behind_few {r = Ok q} ks c o p short w x z = let d = z.comes in record {
     comes = record {
       front = ks ++ d.front;
-      said = d.said;
+      emitted = d.emitted;
       back = d.back;
       pushed = d.pushed;
-      told = d.told;
+      emits = d.emits;
       one = d.one;
       reads = o ∙ (ap (with_looks ks) d.reads ∙ sym (looks_both ks d.front _));
-      is_row = d.is_row;
+      is_stack = d.is_stack;
       few = omega (arith, c, d.few, length-append ks d.front);
       enough = omega (arith, p.within, d.enough, total_both ks d.front);
       late = omega (arith, p.within, d.late, total_both ks d.front);
@@ -191,10 +191,10 @@ module _ {V : Type 0} {e : Env V} where
   behind_few {r = Err (Fault m)} ks c o p short w x z = let d = z.comes in record {
     comes = record {
       front = ks ++ d.front;
-      told = d.told;
+      emits = d.emits;
       unmarked = d.unmarked;
       reads = o ∙ (ap (with_looks ks) d.reads ∙ sym (looks_both ks d.front _));
-      is_row = d.is_row;
+      is_stack = d.is_stack;
       few = omega (arith, c, d.few, length-append ks d.front);
       enough = omega (arith, p.within, d.enough, total_both ks d.front);
       lighter = omega (arith, w, d.lighter, total_both ks d.front);
@@ -208,7 +208,7 @@ module _ {V : Type 0} {e : Env V} where
     comes = (
       record {
         front = ks ++ d.front;
-        said = d.said;
+        emitted = d.emitted;
         rest = d.rest;
         refusal = d.refusal;
         prints = d.prints;
@@ -236,18 +236,18 @@ module _ {V : Type 0} {e : Env V} where
   alike c o w x z = behind [] (omega (arith, c)) o (record { grows = omega arith; within = omega arith }) (omega arith) (omega (arith, w)) x z
 
 -- As the points that are not written so.
-pub did : {V : Type 0} {voice : Ghosts V} {b : List ℕ} {plain : Bool} {h : Heard} {words weight high : ℕ} {t u : Turn V} {r : Result Point Stop} → Does (env voice b plain) t (part words h weight high) r u
-    → DidOn voice b plain words h weight high t.row t.voice r u.state u.row u.voice (u.looks - t.looks)
+pub did : {V : Type 0} {output : Ghosts V} {b : List ℕ} {include_hash : Bool} {h : Heard} {words weight high : ℕ} {t u : Turn V} {r : Result Point Stop} → Does (env output b include_hash) t (part words h weight high) r u
+    → DidOn output b include_hash words h weight high t.stack t.output r u.state u.stack u.output (u.looks - t.looks)
 did {r = Ok p} d = let w = d.comes in record {
   comes = record {
     front = w.front;
-    said = w.said;
+    emitted = w.emitted;
     back = w.back;
     pushed = w.pushed;
-    told = w.told;
+    emits = w.emits;
     one = w.one;
     reads = w.reads;
-    is_row = w.is_row;
+    is_stack = w.is_stack;
     few = w.few;
     enough = omega (arith, w.enough);
     late = omega (arith, w.late);
@@ -260,13 +260,13 @@ did {r = Ok p} d = let w = d.comes in record {
   };
 }
 did {r = Err (Fault m)} d = let w = d.comes in record {
-  comes = record { front = w.front; told = w.told; unmarked = w.unmarked; reads = w.reads; is_row = w.is_row; few = w.few; enough = omega (arith, w.enough); lighter = w.lighter };
+  comes = record { front = w.front; emits = w.emits; unmarked = w.unmarked; reads = w.reads; is_stack = w.is_stack; few = w.few; enough = omega (arith, w.enough); lighter = w.lighter };
 }
 did {r = Err Refused} d = let w = d.comes.0 in record {
   comes = (
     record {
       front = w.front;
-      said = w.said;
+      emitted = w.emitted;
       rest = w.rest;
       refusal = w.refusal;
       prints = w.prints;
@@ -281,19 +281,19 @@ did {r = Err Refused} d = let w = d.comes.0 in record {
 }
 
 -- From them.
-pub does : {V : Type 0} {voice : Ghosts V} {b : List ℕ} {plain : Bool} {h : Heard} {words weight high : ℕ} {t u : Turn V} {r : Result Point Stop} → DidOn voice b plain words h weight high t.row t.voice r u.state u.row u.voice (u.looks - t.looks)
-    → t.looks ≤ u.looks → u.looks ≤ t.looks + own_looks b t.state.place → (voice.ready t.voice → IsOk r → voice.ready u.voice) → (voice.ready t.voice → (m : Mark) → r ≡ Err (Fault m) → voice.ready u.voice)
-    → Does (env voice b plain) t (part words h weight high) r u
+pub does : {V : Type 0} {output : Ghosts V} {b : List ℕ} {include_hash : Bool} {h : Heard} {words weight high : ℕ} {t u : Turn V} {r : Result Point Stop} → DidOn output b include_hash words h weight high t.stack t.output r u.state u.stack u.output (u.looks - t.looks)
+    → t.looks ≤ u.looks → u.looks ≤ t.looks + own_looks b t.state.place → (output.ready t.output → IsOk r → output.ready u.output) → (output.ready t.output → (m : Mark) → r ≡ Err (Fault m) → output.ready u.output)
+    → Does (env output b include_hash) t (part words h weight high) r u
 does {r = Ok q} z l short y x = let w = z.comes in record {
   comes = record {
     front = w.front;
-    said = w.said;
+    emitted = w.emitted;
     back = w.back;
     pushed = w.pushed;
-    told = w.told;
+    emits = w.emits;
     one = w.one;
     reads = w.reads;
-    is_row = w.is_row;
+    is_stack = w.is_stack;
     few = w.few;
     enough = omega (arith, w.enough, l);
     late = omega (arith, w.late, l);
@@ -310,7 +310,7 @@ does {r = Ok q} z l short y x = let w = z.comes in record {
   sound = x;
 }
 does {r = Err (Fault m)} z l short y x = let w = z.comes in record {
-  comes = record { front = w.front; told = w.told; unmarked = w.unmarked; reads = w.reads; is_row = w.is_row; few = w.few; enough = omega (arith, w.enough, l); lighter = w.lighter };
+  comes = record { front = w.front; emits = w.emits; unmarked = w.unmarked; reads = w.reads; is_stack = w.is_stack; few = w.few; enough = omega (arith, w.enough, l); lighter = w.lighter };
   grows = l;
   own = short;
   ready = y;
@@ -320,7 +320,7 @@ does {r = Err Refused} z l short y x = let w = z.comes.0 in record {
   comes = (
     record {
       front = w.front;
-      said = w.said;
+      emitted = w.emitted;
       rest = w.rest;
       refusal = w.refusal;
       prints = w.prints;
@@ -339,73 +339,73 @@ does {r = Err Refused} z l short y x = let w = z.comes.0 in record {
 }
 
 abbrev pub word_of : {V : Type 0} → Env V → Word → State → Group
-word_of e x s = word_group e.symbol x s.letter e.voice.loud s.lifetimes s.place
+word_of e x s = word_group e.symbol x s.letter e.output.is_printed s.lifetimes s.place
 
 -- a part of a point that begins with a word
 abbrev pub word_part : {V : Type 0} → Env V → ℕ → Word → Items → State → ℕ → ℕ → Part
-word_part e words x p s weight high = part words (heard e.voice e.symbol e.plain (word_items x s.letter p) s.depth_left s.lifetimes s.place) weight high
+word_part e words x p s weight high = part words (heard e.output e.symbol e.include_hash (word_items x s.letter p) s.depth_left s.lifetimes s.place) weight high
 
 -- What is read as a group.
 module _ {V : Type 0} {e : Env V} where
-  pub group_tells : {t : Turn V} {h : Heard} {words weight high : ℕ} {s : State} {v : V} {n : ℕ} (to : Point) (g : Group) → length g.costs ≤ words → (k : Place → Heard) (y : Stretch) (j : Place) → h ≡ group_then e.voice e.symbol e.plain g k → reads.Goes y j ≡ g.reads → Paid t.looks g.costs n
-      → n ≤ t.looks + own_looks e.symbol t.state.place → e.voice.prints t.voice (texts_of e.symbol e.plain y) (Ok tt) v → e.voice.ready v → s.mark ≡ None → k j ≡ share_of e.symbol e.plain e.voice.loud to s
-      → way_weight to + 1 ≤ weight → height_at to s.depth_left ≤ high → Fits to s.depth_left s.lifetimes → Does e t (part words h weight high) (Ok to) (record t { state = s; voice = v; looks = n })
+  pub group_tells : {t : Turn V} {h : Heard} {words weight high : ℕ} {s : State} {v : V} {n : ℕ} (to : Point) (g : Group) → length g.costs ≤ words → (k : Place → Heard) (y : Stretch) (j : Place) → h ≡ group_then e.output e.symbol e.include_hash g k → reads.Goes y j ≡ g.reads → Paid t.looks g.costs n
+      → n ≤ t.looks + own_looks e.symbol t.state.place → e.output.prints t.output (texts_of e.symbol e.include_hash y) (Ok tt) v → e.output.ready v → s.mark ≡ None → k j ≡ unit_rest_of e.symbol e.include_hash e.output.is_printed to s
+      → way_weight to + 1 ≤ weight → height_at to s.depth_left ≤ high → Fits to s.depth_left s.lifetimes → Does e t (part words h weight high) (Ok to) (record t { state = s; output = v; looks = n })
   group_tells to g c k y j so r p short q x m o w z f =
-      tells to g.costs c y (group_so e.voice e.symbol e.plain _ g k (reads.Goes y j) so r ∙ ap (λ (z : Heard). with_looks g.costs (with_texts e.voice.loud (texts_of e.symbol e.plain y) z)) o) q x m p short (omega (arith, w)) z f
+      tells to g.costs c y (group_so e.output e.symbol e.include_hash _ g k (reads.Goes y j) so r ∙ ap (λ (z : Heard). with_looks g.costs (with_texts e.output.is_printed (texts_of e.symbol e.include_hash y) z)) o) q x m p short (omega (arith, w)) z f
 
-  pub group_halts : {t : Turn V} {h : Heard} {words weight high : ℕ} {s : State} {v : V} {n : ℕ} {f : SinkRefused} (g : Group) → length g.costs ≤ words → (k : Place → Heard) (y : Stretch) (j : Place) → h ≡ group_then e.voice e.symbol e.plain g k → reads.Goes y j ≡ g.reads → Paid t.looks g.costs n
-      → n ≤ t.looks + own_looks e.symbol t.state.place → e.voice.prints t.voice (texts_of e.symbol e.plain y) (Err f) v → (e.voice.loud ≡ false → IsOk (refused f)) → Does e t (part words h weight high) (Err Refused) (record t { state = s; voice = v; looks = n })
-  group_halts g c k y j so r p short q x = halts g.costs c y (k j) (group_so e.voice e.symbol e.plain _ g k (reads.Goes y j) so r) q (λ z. absurd (false≢true (x z))) p short
+  pub group_halts : {t : Turn V} {h : Heard} {words weight high : ℕ} {s : State} {v : V} {n : ℕ} {f : SinkRefused} (g : Group) → length g.costs ≤ words → (k : Place → Heard) (y : Stretch) (j : Place) → h ≡ group_then e.output e.symbol e.include_hash g k → reads.Goes y j ≡ g.reads → Paid t.looks g.costs n
+      → n ≤ t.looks + own_looks e.symbol t.state.place → e.output.prints t.output (texts_of e.symbol e.include_hash y) (Err f) v → (e.output.is_printed ≡ false → IsOk (refused f)) → Does e t (part words h weight high) (Err Refused) (record t { state = s; output = v; looks = n })
+  group_halts g c k y j so r p short q x = halts g.costs c y (k j) (group_so e.output e.symbol e.include_hash _ g k (reads.Goes y j) so r) q (λ z. absurd (false≢true (x z))) p short
 
-  pub group_faults : {t : Turn V} {h : Heard} {words weight high : ℕ} {n : ℕ} (g : Group) → length g.costs ≤ words → (k : Place → Heard) (m : Mark) → h ≡ group_then e.voice e.symbol e.plain g k → reads.Stops m ≡ g.reads → Paid t.looks g.costs n
+  pub group_faults : {t : Turn V} {h : Heard} {words weight high : ℕ} {n : ℕ} (g : Group) → length g.costs ≤ words → (k : Place → Heard) (m : Mark) → h ≡ group_then e.output e.symbol e.include_hash g k → reads.Stops m ≡ g.reads → Paid t.looks g.costs n
       → n ≤ t.looks + own_looks e.symbol t.state.place → t.state.mark ≡ None → 1 ≤ weight → Does e t (part words h weight high) (Err (Fault m)) (record t { looks = n })
-  group_faults g c k m so r p short x w = ends m g.costs c x (group_so e.voice e.symbol e.plain _ g k (reads.Stops m) so r) p short w
+  group_faults g c k m so r p short x w = ends m g.costs c x (group_so e.output e.symbol e.include_hash _ g k (reads.Stops m) so r) p short w
 
   -- Words with which a unit ends.
 
-  pub word_ends : {t : Turn V} {v : V} {n : ℕ} (x : Word) (y : Stretch) (j : Place) → reads.Goes y j ≡ (word_of e x t.state).reads → Paid t.looks (word_of e x t.state).costs n → e.voice.prints t.voice (texts_of e.symbol e.plain y) (Ok tt) v → e.voice.ready v → t.state.mark ≡ None
-      → RestDoes e (word_items x t.state.letter done) 4 1 0 t (Ok point.End) (record t { state = record t.state { place = j; is_open = false }; voice = v; looks = n })
-  unfolding share_at
+  pub word_ends : {t : Turn V} {v : V} {n : ℕ} (x : Word) (y : Stretch) (j : Place) → reads.Goes y j ≡ (word_of e x t.state).reads → Paid t.looks (word_of e x t.state).costs n → e.output.prints t.output (texts_of e.symbol e.include_hash y) (Ok tt) v → e.output.ready v → t.state.mark ≡ None
+      → RestDoes e (word_items x t.state.letter done) 4 1 0 t (Ok point.End) (record t { state = record t.state { place = j; is_open = false }; output = v; looks = n })
+  unfolding unit_rest_at
   word_ends {t} x y j r p q k m =
-      group_tells point.End (word_of e x t.state) (group_few e.symbol x t.state.letter e.voice.loud t.state.lifetimes t.state.place) ended y j (last_word_so e.voice e.symbol e.plain x t.state.letter t.state.depth_left t.state.lifetimes t.state.place) r p
-      (omega (arith, p.within, group_short e.symbol x t.state.letter e.voice.loud t.state.lifetimes t.state.place)) q k m refl (omega arith) (omega arith) tt
+      group_tells point.End (word_of e x t.state) (group_few e.symbol x t.state.letter e.output.is_printed t.state.lifetimes t.state.place) ended y j (last_word_so e.output e.symbol e.include_hash x t.state.letter t.state.depth_left t.state.lifetimes t.state.place) r p
+      (omega (arith, p.within, group_short e.symbol x t.state.letter e.output.is_printed t.state.lifetimes t.state.place)) q k m refl (omega arith) (omega arith) tt
 
-  pub word_halts : {t : Turn V} {s : State} {v : V} {n : ℕ} {f : SinkRefused} (x : Word) (y : Stretch) (j : Place) → reads.Goes y j ≡ (word_of e x t.state).reads → Paid t.looks (word_of e x t.state).costs n → e.voice.prints t.voice (texts_of e.symbol e.plain y) (Err f) v → (e.voice.loud ≡ false → IsOk (refused f))
-      → RestDoes e (word_items x t.state.letter done) 4 1 0 t (Err Refused) (record t { state = s; voice = v; looks = n })
+  pub word_halts : {t : Turn V} {s : State} {v : V} {n : ℕ} {f : SinkRefused} (x : Word) (y : Stretch) (j : Place) → reads.Goes y j ≡ (word_of e x t.state).reads → Paid t.looks (word_of e x t.state).costs n → e.output.prints t.output (texts_of e.symbol e.include_hash y) (Err f) v → (e.output.is_printed ≡ false → IsOk (refused f))
+      → RestDoes e (word_items x t.state.letter done) 4 1 0 t (Err Refused) (record t { state = s; output = v; looks = n })
   word_halts {t} x y j r p q k =
-      group_halts (word_of e x t.state) (group_few e.symbol x t.state.letter e.voice.loud t.state.lifetimes t.state.place) ended y j (last_word_so e.voice e.symbol e.plain x t.state.letter t.state.depth_left t.state.lifetimes t.state.place) r p
-      (omega (arith, p.within, group_short e.symbol x t.state.letter e.voice.loud t.state.lifetimes t.state.place)) q k
+      group_halts (word_of e x t.state) (group_few e.symbol x t.state.letter e.output.is_printed t.state.lifetimes t.state.place) ended y j (last_word_so e.output e.symbol e.include_hash x t.state.letter t.state.depth_left t.state.lifetimes t.state.place) r p
+      (omega (arith, p.within, group_short e.symbol x t.state.letter e.output.is_printed t.state.lifetimes t.state.place)) q k
 
   pub word_faults : {t : Turn V} {n : ℕ} (x : Word) (m : Mark) → reads.Stops m ≡ (word_of e x t.state).reads → Paid t.looks (word_of e x t.state).costs n → t.state.mark ≡ None → RestDoes e (word_items x t.state.letter done) 4 1 0 t (Err (Fault m)) (record t { looks = n })
   word_faults {t} x m r p k =
-      group_faults (word_of e x t.state) (group_few e.symbol x t.state.letter e.voice.loud t.state.lifetimes t.state.place) ended m (last_word_so e.voice e.symbol e.plain x t.state.letter t.state.depth_left t.state.lifetimes t.state.place) r p
-      (omega (arith, p.within, group_short e.symbol x t.state.letter e.voice.loud t.state.lifetimes t.state.place)) k (omega arith)
+      group_faults (word_of e x t.state) (group_few e.symbol x t.state.letter e.output.is_printed t.state.lifetimes t.state.place) ended m (last_word_so e.output e.symbol e.include_hash x t.state.letter t.state.depth_left t.state.lifetimes t.state.place) r p
+      (omega (arith, p.within, group_short e.symbol x t.state.letter e.output.is_printed t.state.lifetimes t.state.place)) k (omega arith)
 
   -- Words behind which the unit goes on.
 
-  pub word_goes : {t : Turn V} {words weight high : ℕ} {s : State} {v : V} {n : ℕ} → 4 ≤ words → (to : Point) (x : Word) (p : Items) (y : Stretch) (j : Place) → reads.Goes y j ≡ (word_of e x t.state).reads → Paid t.looks (word_of e x t.state).costs n → e.voice.prints t.voice (texts_of e.symbol e.plain y) (Ok tt) v → e.voice.ready v → s.mark ≡ None
-      → heard e.voice e.symbol e.plain p t.state.depth_left t.state.lifetimes j ≡ share_of e.symbol e.plain e.voice.loud to s → way_weight to + 1 ≤ weight → height_at to s.depth_left ≤ high → Fits to s.depth_left s.lifetimes
-      → Does e t (word_part e words x p t.state weight high) (Ok to) (record t { state = s; voice = v; looks = n })
+  pub word_goes : {t : Turn V} {words weight high : ℕ} {s : State} {v : V} {n : ℕ} → 4 ≤ words → (to : Point) (x : Word) (p : Items) (y : Stretch) (j : Place) → reads.Goes y j ≡ (word_of e x t.state).reads → Paid t.looks (word_of e x t.state).costs n → e.output.prints t.output (texts_of e.symbol e.include_hash y) (Ok tt) v → e.output.ready v → s.mark ≡ None
+      → heard e.output e.symbol e.include_hash p t.state.depth_left t.state.lifetimes j ≡ unit_rest_of e.symbol e.include_hash e.output.is_printed to s → way_weight to + 1 ≤ weight → height_at to s.depth_left ≤ high → Fits to s.depth_left s.lifetimes
+      → Does e t (word_part e words x p t.state weight high) (Ok to) (record t { state = s; output = v; looks = n })
   word_goes {t} few to x p y j r q k z m o w l f =
-      group_tells to (word_of e x t.state) (omega (arith, few, group_few e.symbol x t.state.letter e.voice.loud t.state.lifetimes t.state.place)) (heard e.voice e.symbol e.plain p t.state.depth_left t.state.lifetimes) y j (word_so e.voice e.symbol e.plain x t.state.letter p t.state.depth_left t.state.lifetimes t.state.place) r q
-      (omega (arith, q.within, group_short e.symbol x t.state.letter e.voice.loud t.state.lifetimes t.state.place)) k z m o w l f
+      group_tells to (word_of e x t.state) (omega (arith, few, group_few e.symbol x t.state.letter e.output.is_printed t.state.lifetimes t.state.place)) (heard e.output e.symbol e.include_hash p t.state.depth_left t.state.lifetimes) y j (word_so e.output e.symbol e.include_hash x t.state.letter p t.state.depth_left t.state.lifetimes t.state.place) r q
+      (omega (arith, q.within, group_short e.symbol x t.state.letter e.output.is_printed t.state.lifetimes t.state.place)) k z m o w l f
 
-  pub word_refuses : {t : Turn V} {words weight high : ℕ} {s : State} {v : V} {n : ℕ} {f : SinkRefused} → 4 ≤ words → (x : Word) (p : Items) (y : Stretch) (j : Place) → reads.Goes y j ≡ (word_of e x t.state).reads → Paid t.looks (word_of e x t.state).costs n → e.voice.prints t.voice (texts_of e.symbol e.plain y) (Err f) v → (e.voice.loud ≡ false → IsOk (refused f))
-      → Does e t (word_part e words x p t.state weight high) (Err Refused) (record t { state = s; voice = v; looks = n })
+  pub word_refuses : {t : Turn V} {words weight high : ℕ} {s : State} {v : V} {n : ℕ} {f : SinkRefused} → 4 ≤ words → (x : Word) (p : Items) (y : Stretch) (j : Place) → reads.Goes y j ≡ (word_of e x t.state).reads → Paid t.looks (word_of e x t.state).costs n → e.output.prints t.output (texts_of e.symbol e.include_hash y) (Err f) v → (e.output.is_printed ≡ false → IsOk (refused f))
+      → Does e t (word_part e words x p t.state weight high) (Err Refused) (record t { state = s; output = v; looks = n })
   word_refuses {t} few x p y j r q k z =
-      group_halts (word_of e x t.state) (omega (arith, few, group_few e.symbol x t.state.letter e.voice.loud t.state.lifetimes t.state.place)) (heard e.voice e.symbol e.plain p t.state.depth_left t.state.lifetimes) y j (word_so e.voice e.symbol e.plain x t.state.letter p t.state.depth_left t.state.lifetimes t.state.place) r q
-      (omega (arith, q.within, group_short e.symbol x t.state.letter e.voice.loud t.state.lifetimes t.state.place)) k z
+      group_halts (word_of e x t.state) (omega (arith, few, group_few e.symbol x t.state.letter e.output.is_printed t.state.lifetimes t.state.place)) (heard e.output e.symbol e.include_hash p t.state.depth_left t.state.lifetimes) y j (word_so e.output e.symbol e.include_hash x t.state.letter p t.state.depth_left t.state.lifetimes t.state.place) r q
+      (omega (arith, q.within, group_short e.symbol x t.state.letter e.output.is_printed t.state.lifetimes t.state.place)) k z
 
   pub word_stops : {t : Turn V} {words weight high : ℕ} {n : ℕ} → 4 ≤ words → (x : Word) (p : Items) (m : Mark) → reads.Stops m ≡ (word_of e x t.state).reads → Paid t.looks (word_of e x t.state).costs n → t.state.mark ≡ None → 1 ≤ weight → Does e t (word_part e words x p t.state weight high) (Err (Fault m)) (record t { looks = n })
   word_stops {t} few x p m r q k w =
-      group_faults (word_of e x t.state) (omega (arith, few, group_few e.symbol x t.state.letter e.voice.loud t.state.lifetimes t.state.place)) (heard e.voice e.symbol e.plain p t.state.depth_left t.state.lifetimes) m (word_so e.voice e.symbol e.plain x t.state.letter p t.state.depth_left t.state.lifetimes t.state.place) r q
-      (omega (arith, q.within, group_short e.symbol x t.state.letter e.voice.loud t.state.lifetimes t.state.place)) k w
+      group_faults (word_of e x t.state) (omega (arith, few, group_few e.symbol x t.state.letter e.output.is_printed t.state.lifetimes t.state.place)) (heard e.output e.symbol e.include_hash p t.state.depth_left t.state.lifetimes) m (word_so e.output e.symbol e.include_hash x t.state.letter p t.state.depth_left t.state.lifetimes t.state.place) r q
+      (omega (arith, q.within, group_short e.symbol x t.state.letter e.output.is_printed t.state.lifetimes t.state.place)) k w
 
   -- one that hands nothing over
-  pub word_bare : {t u : Turn V} {r : Result Point Stop} {words words' weight high weight' high' : ℕ} {s : State} {n : ℕ} → 4 + words' ≤ words → (x : Word) (p : Items) (y : Stretch) (j : Place) → reads.Goes y j ≡ (word_of e x t.state).reads → texts_of e.symbol e.plain y ≡ [] → Paid t.looks (word_of e x t.state).costs n
-      → u.looks ≤ t.looks + own_looks e.symbol t.state.place → weight' ≤ weight → high' ≤ high → Does e (record t { state = s; looks = n }) (part words' (heard e.voice e.symbol e.plain p t.state.depth_left t.state.lifetimes j) weight' high') r u → Does e t (word_part e words x p t.state weight high) r u
+  pub word_bare : {t u : Turn V} {r : Result Point Stop} {words words' weight high weight' high' : ℕ} {s : State} {n : ℕ} → 4 + words' ≤ words → (x : Word) (p : Items) (y : Stretch) (j : Place) → reads.Goes y j ≡ (word_of e x t.state).reads → texts_of e.symbol e.include_hash y ≡ [] → Paid t.looks (word_of e x t.state).costs n
+      → u.looks ≤ t.looks + own_looks e.symbol t.state.place → weight' ≤ weight → high' ≤ high → Does e (record t { state = s; looks = n }) (part words' (heard e.output e.symbol e.include_hash p t.state.depth_left t.state.lifetimes j) weight' high') r u → Does e t (word_part e words x p t.state weight high) r u
   word_bare {t} few x p y j r o q short w z d =
       let g = word_of e x t.state in
-      let k : Place → Heard = heard e.voice e.symbol e.plain p t.state.depth_left t.state.lifetimes in
-      behind_few g.costs (omega (arith, few, group_few e.symbol x t.state.letter e.voice.loud t.state.lifetimes t.state.place))
-      (group_so e.voice e.symbol e.plain _ g k (reads.Goes y j) (word_so e.voice e.symbol e.plain x t.state.letter p t.state.depth_left t.state.lifetimes t.state.place) r ∙ ap (λ ts. with_looks g.costs (with_texts e.voice.loud ts (k j))) o) q short (omega (arith, w)) z d
+      let k : Place → Heard = heard e.output e.symbol e.include_hash p t.state.depth_left t.state.lifetimes in
+      behind_few g.costs (omega (arith, few, group_few e.symbol x t.state.letter e.output.is_printed t.state.lifetimes t.state.place))
+      (group_so e.output e.symbol e.include_hash _ g k (reads.Goes y j) (word_so e.output e.symbol e.include_hash x t.state.letter p t.state.depth_left t.state.lifetimes t.state.place) r ∙ ap (λ ts. with_looks g.costs (with_texts e.output.is_printed ts (k j))) o) q short (omega (arith, w)) z d

@@ -1,145 +1,107 @@
 -- The points of variants, and of their fields.
 use Rattle.std.specs.Prelude.{◌*◌, if◌then◌else◌}
-use Rattle.std.proofs.Common.{◌≡◌, ℕ, ◌+◌, ◌-◌, ◌≤◌, length, Bool, true, false, Option, Some, None, List, [], ◌∷◌, Result, Ok, Err, IsOk, refl, arith, sym, ap, ◌∙◌}
+use Rattle.std.proofs.Common.{◌≡◌, ℕ, ◌+◌, ◌-◌, ◌≤◌, length, Bool, true, false, Option, Some, None, List, [], ◌∷◌, Result, Ok, Err, refl, arith, sym, ap, ◌∙◌}
 use Rattle.demangle_symbol.specs.Words.{some_or, byte_at}
 use Rattle.demangle_grammar.specs.Items.{Items, invalid, done, say}
-use Rattle.demangle_grammar.specs.Totals.{total}
 use Rattle.demangle_grammar.specs.Events.{Heard, and_then, with_looks, with_texts, around}
 use Rattle.demangle_words.specs.Texts.{text, found}
-use Rattle.demangle_words.specs.Groups.{texts_of, word_group}
 use Rattle.demangle_grammar.specs.Table.{says, list, row_of, variant_rows, constant_inside, field}
 use Rattle.demangle_words.specs.Tags.{variant_kinds, variant_of, closes}
-use Rattle.demangle_grammar.specs.Reading.{Place, run}
-use Rattle.demangle_v0.specs.Points.{frame_of, then_frame, share_at, none_open, pushed_on, way_weight, height_at, Fits, DidOn}
-use Rattle.demangle_sink.specs.declared.SinkRefused.{SinkRefused}
+use Rattle.demangle_grammar.specs.Reading.{run}
+use Rattle.demangle_v0.specs.PointContracts.{brace_behind}
+use Rattle.demangle_v0.specs.Points.{Turn, Env, Does, RestDoes, PointDoes, own_looks, frame_of, then_frame, unit_rest_at, none_open, pushed_on, way_weight, height_at, Fits}
 use Rattle.demangle_words.specs.declared.texts.Mark.{Mark}
 use Rattle.demangle_words.specs.declared.texts.Mark.TheVariants as mark
-use Rattle.demangle_words.specs.declared.texts.Word.TheVariants as word
-use Rattle.demangle_words.specs.declared.stretch.Stretch.{Stretch}
-use Rattle.demangle_words.specs.declared.read.WordRead.TheVariants as reads
 use Rattle.demangle_v0.specs.declared.points.Point.{Point}
 use Rattle.demangle_v0.specs.declared.points.Point.TheVariants as point
 use Rattle.demangle_v0.specs.declared.points.frames.Frame.{Frame}
 use Rattle.demangle_v0.specs.declared.points.State.{State}
 use Rattle.demangle_v0.specs.declared.points.Stop.{Stop}
-use Rattle.demangle_v0.specs.declared.points.Stop.TheVariants.{Refused, Fault}
+use Rattle.demangle_v0.specs.declared.points.Stop.TheVariants.{Fault}
 use Rattle.demangle_words.specs.declared.tags.VariantKind.{VariantKind}
 use Rattle.demangle_words.specs.declared.tags.VariantKind.TheVariants as kind
-use Rattle.demangle_words.specs.declared.voice.Voice.{Ghosts}
 use Rattle.demangle_grammar.proofs.ConstantReads.{variant_failed, variant_missing, variant_reads}
 use Rattle.demangle_grammar.proofs.Extended.{extended, IsExtended, extended_reads}
 use Rattle.demangle_words.proofs.TagRows.{rows_of, row_found}
-use Rattle.demangle_v0.proofs.PointConstants.{moves}
-use Rattle.demangle_v0.proofs.PointFunctions.{word_on, word_on_refused, word_fails}
-use Rattle.demangle_v0.proofs.PointSteps.{heard, after, refused, faulty, faulty_after}
+use Rattle.demangle_v0.proofs.PointConstants.{items_of, Inside}
+use Rattle.demangle_v0.proofs.PointSteps.{heard}
+use Rattle.demangle_v0.proofs.PointTurns.{behind_few, ends, leaves, marks, unread}
+
+-- what stands behind a field's name
+abbrev pub behind_field : Items
+behind_field = says ": " constant_inside
 
 variants_so : (v : Bool) → variant_rows (closes v) ≡ rows_of (variant_of v) variant_kinds
 variants_so v = refl
 
-module _ {V : Type 0} (voice : Ghosts V) (b : List ℕ) (plain : Bool) where
-  abbrev variant_at : Bool → ℕ → ℕ → ℕ → Place → Bool → Heard
-  variant_at v c left n i o = share_at b plain voice.loud point.Variant v c left n i o
+-- behind its tag
+variant_so : {V : Type 0} (e : Env V) (s : State) (i c j : ℕ) (p : Option VariantKind) → Some (c, j) ≡ byte_at e.symbol i → p ≡ found c variant_kinds
+    → unit_rest_at e.symbol e.include_hash e.output.is_printed point.Variant s.in_value s.letter s.depth_left s.lifetimes (Some i) s.is_open ≡ with_looks (4 * (j - i + 1) ∷ []) (heard e.output e.symbol e.include_hash (some_or invalid p (variant_of s.in_value)) s.depth_left s.lifetimes (Some j))
+unfolding unit_rest_at
+variant_so e s i c j p o q =
+    ap none_open (variant_reads e.include_hash e.output.is_printed e.symbol s.depth_left s.lifetimes (closes s.in_value) i c j (sym o))
+    ∙ ap (λ (x : Items). with_looks (4 * (j - i + 1) ∷ []) (heard e.output e.symbol e.include_hash x s.depth_left s.lifetimes (Some j))) ((ap (λ rs. row_of c invalid rs) (variants_so s.in_value) ∙ row_found c invalid (variant_of s.in_value) variant_kinds) ∙ ap (λ (p : Option VariantKind). some_or invalid p (variant_of s.in_value)) (sym q))
 
-  pub variant_unread : (v : Bool) (c left n : ℕ) (o : Bool) (row : List Frame) (u : V) (new : State) (made : ℕ) → new.mark ≡ None → made ≤ 0
-      → DidOn voice b plain 8 (variant_at v c left n None o) 1 (8 * left + 3) row u (Err (Fault mark.Unread)) new row u made
-  unfolding share_at
-  variant_unread v c left n o row u new made k l = faulty voice b plain mark.Unread _ 1 (8 * left + 3) row u new made k (ap none_open (variant_failed plain voice.loud b left n (closes v))) l (omega arith)
+-- the state and the stack behind the mark of a variant that holds something
+abbrev pub Held : Mark → State → List Frame → State → List Frame → Type 0
+Held m s stack new now = (new ≡ record s { mark = Some m }) × (now ≡ pushed_on stack (brace_behind s))
 
-  pub variant_untagged : (v : Bool) (c left n i : ℕ) (o : Bool) (row : List Frame) (u : V) (new : State) (made : ℕ) → None ≡ byte_at b i → new.mark ≡ None → made ≤ 1
-      → DidOn voice b plain 8 (variant_at v c left n (Some i) o) 1 (8 * left + 3) row u (Err (Fault mark.Invalid)) new row u made
-  unfolding share_at
-  variant_untagged v c left n i o row u new made e k m =
-      faulty_after voice b plain (4 * (length b - i + 1) ∷ []) (omega arith) mark.Invalid (variant_at v c left n (Some i) o) 1 (8 * left + 3) row u new made k (ap none_open (variant_missing plain voice.loud b left n (closes v) i (sym e))) (omega (arith, m)) (omega arith)
+-- what it holds is read from this point on
+abbrev DidHold : {V : Type 0} → Env V → VariantKind → Point → Mark → Type 0
+DidHold {V = V} e k p m = (t : Turn V) (s : State) (stack : List Frame) → Fits point.Variant t.state.depth_left t.state.lifetimes → Held m t.state t.stack s stack → RestDoes e (variant_of t.state.in_value k) 3 5 3 t (Ok p) (record t { state = s; stack = stack })
 
-  -- behind its tag
-  variant_so : (v : Bool) (c left n i t j : ℕ) (o : Bool) (p : Option VariantKind) → Some (t, j) ≡ byte_at b i → p ≡ found t variant_kinds
-      → variant_at v c left n (Some i) o ≡ with_looks (4 * (j - i + 1) ∷ []) (heard voice b plain (some_or invalid p (variant_of v)) left n (Some j))
-  unfolding share_at
-  variant_so v c left n i t j o p e f =
-      ap none_open (variant_reads plain voice.loud b left n (closes v) i t j (sym e))
-      ∙ ap (λ (x : Items). with_looks (4 * (j - i + 1) ∷ []) (heard voice b plain x left n (Some j))) ((ap (λ rs. row_of t invalid rs) (variants_so v) ∙ row_found t invalid (variant_of v) variant_kinds) ∙ ap (λ (p : Option VariantKind). some_or invalid p (variant_of v)) (sym f))
+module _ {V : Type 0} {e : Env V} where
+  pub variant_unread : {t : Turn V} → t.state.place ≡ None → t.state.mark ≡ None → PointDoes e point.Variant t (Err (Fault mark.AfterError)) t
+  unfolding unit_rest_at
+  variant_unread {t} at k = let a = t.state in unread k (rw at (ap none_open (variant_failed e.include_hash e.output.is_printed e.symbol a.depth_left a.lifetimes (closes a.in_value)))) (omega arith)
 
-  pub variant_wrong : (v : Bool) (c left n i t j : ℕ) (o : Bool) (row : List Frame) (u : V) (new : State) (made : ℕ) → Some (t, j) ≡ byte_at b i → None ≡ found t variant_kinds → new.mark ≡ None → made ≤ 1
-      → DidOn voice b plain 8 (variant_at v c left n (Some i) o) 1 (8 * left + 3) row u (Err (Fault mark.Invalid)) new row u made
+  pub variant_untagged : {t : Turn V} {n : ℕ} (i : ℕ) → t.state.place ≡ Some i → None ≡ byte_at e.symbol i → n ≡ t.looks + 1 → t.state.mark ≡ None → PointDoes e point.Variant t (Err (Fault mark.Invalid)) (record t { looks = n })
+  unfolding unit_rest_at
+  variant_untagged {t} i at o l k =
+      let a = t.state in
+      ends mark.Invalid (4 * (length e.symbol - i + 1) ∷ []) (omega arith) k (rw at (ap none_open (variant_missing e.include_hash e.output.is_printed e.symbol a.depth_left a.lifetimes (closes a.in_value) i (sym o)))) (record { grows = omega (arith, l); within = omega (arith, l) }) (rw at (omega (arith, l))) (omega arith)
+
+  pub variant_wrong : {t : Turn V} {n : ℕ} (i c j : ℕ) → t.state.place ≡ Some i → Some (c, j) ≡ byte_at e.symbol i → None ≡ found c variant_kinds → n ≡ t.looks + 1 → t.state.mark ≡ None → PointDoes e point.Variant t (Err (Fault mark.Invalid)) (record t { looks = n })
   unfolding run
-  variant_wrong v c left n i t j o row u new made e f k m =
-      faulty_after voice b plain (4 * (j - i + 1) ∷ []) (omega arith) mark.Invalid (variant_at v c left n (Some i) o) 1 (8 * left + 3) row u new made k (variant_so v c left n i t j o None e f) (omega (arith, m)) (omega arith)
+  variant_wrong {t} i c j at o q l k =
+      ends mark.Invalid (4 * (j - i + 1) ∷ []) (omega arith) k (rw at (variant_so e t.state i c j None o q)) (record { grows = omega (arith, l); within = omega (arith, l) }) (rw at (omega (arith, l))) (omega arith)
 
-  pub variant_as : (v : Bool) (c left n i t j : ℕ) (o : Bool) (p : VariantKind) (row now : List Frame) (u w : V) (result : Result Point Stop) (new : State) (made : ℕ) → Some (t, j) ≡ byte_at b i → Some p ≡ found t variant_kinds → made ≤ 1
-      → DidOn voice b plain 3 (heard voice b plain (variant_of v p) left n (Some j)) 5 (8 * left + 3) row u result new now w 0 → DidOn voice b plain 8 (variant_at v c left n (Some i) o) 1 (8 * left + 3) row u result new now w made
-  variant_as v c left n i t j o p row now u w result new made e f l d =
-      after voice b plain (4 * (j - i + 1) ∷ []) (omega arith) (variant_at v c left n (Some i) o) (heard voice b plain (variant_of v p) left n (Some j)) 1 (8 * left + 3) 5 (8 * left + 3) row u w result new now 1 0 made
-      (variant_so v c left n i t j o (Some p) e f) (omega arith) (omega (arith, l)) (omega arith) (omega arith) d
+  pub variant_as : {t u : Turn V} {r : Result Point Stop} {n : ℕ} (i c j : ℕ) (k : VariantKind) → t.state.place ≡ Some i → Some (c, j) ≡ byte_at e.symbol i → Some k ≡ found c variant_kinds → n ≡ t.looks + 1 → u.looks ≤ t.looks + own_looks e.symbol t.state.place
+      → RestDoes e (variant_of t.state.in_value k) 3 5 3 (record t { state = record t.state { place = Some j }; looks = n }) r u → PointDoes e point.Variant t r u
+  variant_as {t} i c j k at o q l short d =
+      behind_few (4 * (j - i + 1) ∷ []) (omega arith) (rw at (variant_so e t.state i c j (Some k) o q)) (record { grows = omega (arith, l); within = omega (arith, l) }) short (omega arith) (omega arith) d
 
-  pub unit_ends : (v : Bool) (c left n : ℕ) (i : Place) (row : List Frame) (u : V) (new : State) (made : ℕ) → made ≤ 0
-      → new.in_value ≡ v → new.letter ≡ c → new.depth_left ≡ left → new.lifetimes ≡ n → new.place ≡ i → new.is_open ≡ false → new.mark ≡ (if v then None else Some mark.CloseBrace)
-      → DidOn voice b plain 3 (heard voice b plain (variant_of v kind.Unit) left n i) 5 (8 * left + 3) row u (Ok point.End) new row u made
-  unfolding run then_frame share_at
-  unit_ends true c left n i row u new made l kv kc kl kn kp ko km =
-      moves voice b plain [] (omega arith) point.End None None _ true c left n i false 5 (8 * left + 3) row row u new made kv kc kl kn kp ko km refl refl l (omega arith) (omega arith) (omega arith) tt tt (λ _. tt)
-  unit_ends false c left n i row u new made l kv kc kl kn kp ko km =
-      moves voice b plain [] (omega arith) point.End (Some mark.CloseBrace) None _ false c left n i false 5 (8 * left + 3) row row u new made kv kc kl kn kp ko km refl refl l (omega arith) (omega arith) (omega arith) tt tt (λ _. tt)
+  pub unit_ends : {t : Turn V} {s : State} (v : Bool) → t.state.in_value ≡ v → s ≡ record t.state { is_open = false; mark = if v then None else Some mark.CloseBrace } → RestDoes e (variant_of t.state.in_value kind.Unit) 3 5 3 t (Ok point.End) (record t { state = s })
+  unfolding run unit_rest_at
+  unit_ends true y o = rw o (marks point.End (rw y refl) (omega arith) (omega arith) tt)
+  unit_ends false y o = rw o (marks point.End (rw y refl) (omega arith) (omega arith) tt)
 
   -- What a variant holds.
 
-  held_goes : (p : Point) (m : Mark) (q : Items) (f : Bool → Items) (v : Bool) (c left n : ℕ) (i : Place) (o : Bool) (row now : List Frame) (u : V) (new : State) (made : ℕ)
-      → f true ≡ say (text m) q → f false ≡ say (text m) (extended (says "}" done) q) → IsExtended q
-      → share_at b plain voice.loud p v c left n i o ≡ heard voice b plain q left n i → way_weight p ≤ 1 → height_at p left ≤ 8 * left + 2 → Fits p left n → Fits point.Variant left n → made ≤ 0
-      → new.in_value ≡ v → new.letter ≡ c → new.depth_left ≡ left → new.lifetimes ≡ n → new.place ≡ i → new.is_open ≡ o → new.mark ≡ Some m → now ≡ pushed_on row (if v then None else Some (frame_of point.CloseBrace v c left n))
-      → DidOn voice b plain 3 (heard voice b plain (f v) left n i) 5 (8 * left + 3) row u (Ok p) new now u made
-  unfolding run then_frame share_at
-  held_goes p m q f true c left n i o row now u new made x z y e w h g k l kv kc kl kn kp ko km r =
-      moves voice b plain [] (omega arith) p (Some m) None _ true c left n i o 5 (8 * left + 3) row now u new made kv kc kl kn kp ko km
-      (ap (λ (x : Items). heard voice b plain x left n i) x ∙ ap (λ (h : Heard). with_texts voice.loud (text m ∷ []) h) (sym e)) r l (omega (arith, w)) (omega arith) (omega (arith, h)) tt g (λ _. tt)
-  held_goes p m q f false c left n i o row now u new made x z y e w h g k l kv kc kl kn kp ko km r =
-      moves voice b plain [] (omega arith) p (Some m) (Some (frame_of point.CloseBrace false c left n)) _ false c left n i o 5 (8 * left + 3) row now u new made kv kc kl kn kp ko km
-      (ap (λ (x : Items). heard voice b plain x left n i) z
-      ∙ (ap (λ (h : Heard). with_texts voice.loud (text m ∷ []) (none_open h)) (extended_reads plain voice.loud (says "}" done) (around b voice.loud left n) q y i)
-      ∙ ap (λ (h : Heard). with_texts voice.loud (text m ∷ []) (and_then h (λ j o. share_at b plain voice.loud point.CloseBrace false c left n j o))) (sym e)))
-      r l (omega (arith, w)) (omega arith) (omega (arith, h)) k g (λ _. refl)
+  holds : {t : Turn V} {s : State} {stack : List Frame} (p : Point) (m : Mark) (q : Items) (f : Bool → Items) → f true ≡ say (text m) q → f false ≡ say (text m) (extended (says "}" done) q) → IsExtended q → Inside e p q
+      → way_weight p ≤ 1 → ((left : ℕ) → height_at p left ≤ 8 * left + 2) → Fits p t.state.depth_left t.state.lifetimes → Fits point.Variant t.state.depth_left t.state.lifetimes → Held m t.state t.stack s stack
+      → RestDoes e (f t.state.in_value) 3 5 3 t (Ok p) (record t { state = s; stack = stack })
+  unfolding run then_frame unit_rest_at
+  holds {t} {s} {stack} p m q f x z y g w h fits k r = go t.state.in_value refl
+    where
+      a : State
+      a = t.state
 
-  abbrev Held : Mark → State → State → List Frame → List Frame → Type 0
-  Held m old new row now = (new ≡ record old { mark = Some m }) × (now ≡ pushed_on row (if old.in_value then None else Some (frame_of point.CloseBrace old.in_value old.letter old.depth_left old.lifetimes)))
+      go : (v : Bool) → t.state.in_value ≡ v → RestDoes e (f v) 3 5 3 t (Ok p) (record t { state = s; stack = stack })
+      go true i =
+          rw r.0 (leaves p [] [] (omega arith) None (rw i (ap (λ (x : Items). items_of e x a) x ∙ ap (λ (h : Heard). with_texts e.output.is_printed (text m ∷ []) h) (sym (g true a.letter a.depth_left a.lifetimes a.place a.is_open)))) (rw i at r.1)
+          (record { grows = omega arith; within = omega arith }) (omega arith) (omega arith) (omega (arith, w)) (omega arith) (omega (arith, h a.depth_left)) tt fits (λ _. tt))
+      go false i =
+          rw r.0 (leaves p [] [] (omega arith) (Some (frame_of point.CloseBrace false a.letter a.depth_left a.lifetimes))
+          (rw i (ap (λ (x : Items). items_of e x a) z
+          ∙ (ap (λ (h : Heard). with_texts e.output.is_printed (text m ∷ []) (none_open h)) (extended_reads e.include_hash e.output.is_printed (says "}" done) (around e.symbol e.output.is_printed a.depth_left a.lifetimes) q y a.place)
+          ∙ ap (λ (h : Heard). with_texts e.output.is_printed (text m ∷ []) (and_then h (λ j o. unit_rest_at e.symbol e.include_hash e.output.is_printed point.CloseBrace false a.letter a.depth_left a.lifetimes j o))) (sym (g false a.letter a.depth_left a.lifetimes a.place a.is_open)))))
+          (rw i at r.1) (record { grows = omega arith; within = omega arith }) (omega arith) (omega arith) (omega (arith, w)) (omega arith) (omega (arith, h a.depth_left)) k fits (λ _. refl))
 
-  abbrev DidHold : VariantKind → Point → Mark → Type 0
-  DidHold k p m = (old : State) (row now : List Frame) (u : V) (new : State) → Fits point.Variant old.depth_left old.lifetimes → Held m old new row now
-      → DidOn voice b plain 3 (heard voice b plain (variant_of old.in_value k) old.depth_left old.lifetimes old.place) 5 (8 * old.depth_left + 3) row u (Ok p) new now u 0
+  pub tuple_opens : DidHold e kind.Tuple point.FirstVariantConstant mark.OpenParen
+  unfolding unit_rest_at
+  tuple_opens t s stack f r = holds point.FirstVariantConstant mark.OpenParen (list ", " constant_inside (says ")" done)) (λ v. variant_of v kind.Tuple) refl refl (tt, (tt, tt)) (λ v c left n i o. refl) (omega arith) (λ left. omega arith) f f r
 
-  pub tuple_opens : DidHold kind.Tuple point.FirstVariantConstant mark.OpenParen
-  unfolding share_at
-  tuple_opens old row now u new f r =
-      held_goes point.FirstVariantConstant mark.OpenParen (list ", " constant_inside (says ")" done)) (λ v. variant_of v kind.Tuple) old.in_value old.letter old.depth_left old.lifetimes old.place old.is_open row now u new 0
-      refl refl (tt, (tt, tt)) refl (omega arith) (omega arith) f f (omega arith)
-      (ap (λ (s : State). s.in_value) r.0) (ap (λ (s : State). s.letter) r.0) (ap (λ (s : State). s.depth_left) r.0) (ap (λ (s : State). s.lifetimes) r.0) (ap (λ (s : State). s.place) r.0) (ap (λ (s : State). s.is_open) r.0) (ap (λ (s : State). s.mark) r.0) r.1
-
-  pub fields_open : DidHold kind.Fields point.FirstField mark.OpenFields
-  unfolding share_at
-  fields_open old row now u new f r =
-      held_goes point.FirstField mark.OpenFields (list ", " field (says " }" done)) (λ v. variant_of v kind.Fields) old.in_value old.letter old.depth_left old.lifetimes old.place old.is_open row now u new 0
-      refl refl (tt, (tt, tt)) refl (omega arith) (omega arith) f f (omega arith)
-      (ap (λ (s : State). s.in_value) r.0) (ap (λ (s : State). s.letter) r.0) (ap (λ (s : State). s.depth_left) r.0) (ap (λ (s : State). s.lifetimes) r.0) (ap (λ (s : State). s.place) r.0) (ap (λ (s : State). s.is_open) r.0) (ap (λ (s : State). s.mark) r.0) r.1
-
-  -- Fields.
-
-  abbrev group_of : ℕ → ℕ → Place → Rattle.demangle_words.specs.Groups.Group
-  group_of c n i = word_group b word.FieldName c voice.loud n i
-
-  abbrev field_at : Bool → ℕ → ℕ → ℕ → Place → Bool → Heard
-  field_at v c left n i o = share_at b plain voice.loud point.Field v c left n i o
-
-  pub field_goes : (v : Bool) (c left n : ℕ) (i j : Place) (o : Bool) (s : Stretch) (row : List Frame) (u w : V) (new : State) (made : ℕ) → reads.Goes s j ≡ (group_of c n i).reads → made ≤ total (group_of c n i).costs → Fits point.Field left n
-      → voice.prints u (texts_of b plain s) (Ok tt) w → new.depth_left ≡ left → new.lifetimes ≡ n → new.place ≡ j → new.mark ≡ None
-      → DidOn voice b plain 8 (field_at v c left n i o) 3 (8 * left + 1) row u (Ok point.FieldColon) new row w made
-  unfolding share_at
-  field_goes v c left n i j o s row u w new made e l f p kl kn kp km =
-      word_on voice b plain (omega arith) point.FieldColon word.FieldName c (says ": " constant_inside) left n i j s 3 (8 * left + 1) row u w new made e l p km (rw (kl, kn, kp) refl) (omega arith) (omega (arith, kl)) (rw (kl, kn) f)
-
-  pub field_fails : (v : Bool) (c left n : ℕ) (i : Place) (o : Bool) (m : Mark) (row : List Frame) (u : V) (new : State) (made : ℕ) → reads.Stops m ≡ (group_of c n i).reads → made ≤ total (group_of c n i).costs
-      → new.mark ≡ None → DidOn voice b plain 8 (field_at v c left n i o) 3 (8 * left + 1) row u (Err (Fault m)) new row u made
-  unfolding share_at
-  field_fails v c left n i o m row u new made e l k = word_fails voice b plain (omega arith) word.FieldName c (says ": " constant_inside) left n i m 3 (8 * left + 1) row u new made e l k (omega arith)
-
-  pub field_refused : (v : Bool) (c left n : ℕ) (i j : Place) (o : Bool) (s : Stretch) (row : List Frame) (u w : V) (new : State) (e : SinkRefused) (made : ℕ) → reads.Goes s j ≡ (group_of c n i).reads → made ≤ total (group_of c n i).costs
-      → voice.prints u (texts_of b plain s) (Err e) w → (voice.loud ≡ false → IsOk (refused e)) → DidOn voice b plain 8 (field_at v c left n i o) 3 (8 * left + 1) row u (Err Refused) new row w made
-  unfolding share_at
-  field_refused v c left n i j o s row u w new e made r l p q = word_on_refused voice b plain (omega arith) word.FieldName c (says ": " constant_inside) left n i j s 3 (8 * left + 1) row u w new e made r l p q
+  pub fields_open : DidHold e kind.Fields point.FirstField mark.OpenFields
+  unfolding unit_rest_at
+  fields_open t s stack f r = holds point.FirstField mark.OpenFields (list ", " field (says " }" done)) (λ v. variant_of v kind.Fields) refl refl (tt, (tt, tt)) (λ v c left n i o. refl) (omega arith) (λ left. omega arith) f f r

@@ -12,10 +12,10 @@ use Rattle.demangle_symbol.specs.Names.{is_empty}
 use Rattle.demangle_symbol.specs.Literals.{string_of}
 use Rattle.demangle_symbol.proofs.Counts.{Placed, integer_placed, optional_placed, backref_placed, nibbles_placed, identifier_placed}
 use Rattle.demangle_grammar.specs.Totals.{total}
-use Rattle.demangle_words.specs.Groups.{Group, goes, faulty, byte_group, dyn_group, head_group, bytes_in, behind_word, named_group, abi_named, abi_group, if_in_force, truth_stretch, character_stretch, literal_stretch, word_at, word_group}
+use Rattle.demangle_words.specs.WordReads.{Group, goes, faulty, byte_group, dyn_group, head_group, bytes_in, behind_word, named_group, abi_named, abi_group, if_in_force, bool_stretch, character_stretch, literal_stretch, word_at, word_group}
 use Rattle.demangle_v0.specs.Points.{own_by, own_looks}
 use Rattle.demangle_grammar.specs.Reading.{Place}
-use Rattle.demangle_words.specs.Serving.{refer, reference_read}
+use Rattle.demangle_words.specs.Backrefs.{refer, reference_read}
 use Rattle.demangle_symbol.specs.declared.cursor.Part.{Part}
 use Rattle.demangle_symbol.specs.declared.cursor.ident.Ident.{Ident}
 use Rattle.demangle_words.specs.declared.texts.Word.{Word}
@@ -90,7 +90,7 @@ force_free false true n k j x y z = go (nat_le k n)
     go true = refl
     go false = refl
 
-truth_free : (r : Option ℕ) (j : ℕ) → (truth_stretch r j).costs ≡ []
+truth_free : (r : Option ℕ) (j : ℕ) → (bool_stretch r j).costs ≡ []
 truth_free None j = refl
 truth_free (Some n) j = go (n == 0) (n == 1)
   where
@@ -149,7 +149,7 @@ word_short b word.LifetimeIndex c out n i =
 word_short b word.DynLifetime c out n i = dyn_short b out n i
 word_short b word.FunctionHead c out n i = head_short b i
 word_short b word.Number c out n i = omega (arith, one b i 0 (hex_at b i) (λ h j. goes (Number (number_of (bytes_in b h)) h c) (Some j)) (hex_placed b i) (λ h j. omega arith))
-word_short b word.Truth c out n i = omega (arith, one b i 0 (hex_at b i) (λ h j. truth_stretch (number_of (bytes_in b h)) j) (hex_placed b i) (λ h j. no_looks (truth_free (number_of (bytes_in b h)) j)))
+word_short b word.Bool c out n i = omega (arith, one b i 0 (hex_at b i) (λ h j. bool_stretch (number_of (bytes_in b h)) j) (hex_placed b i) (λ h j. no_looks (truth_free (number_of (bytes_in b h)) j)))
 word_short b word.Character c out n i = omega (arith, one b i 0 (hex_at b i) (λ h j. character_stretch (number_of (bytes_in b h)) j) (hex_placed b i) (λ h j. no_looks (character_free (number_of (bytes_in b h)) j)))
 word_short b word.Literal c out n i = omega (arith, one b i 0 (hex_at b i) (λ h j. literal_stretch (string_of (bytes_in b h)) h j) (hex_placed b i) (λ h j. no_looks (literal_free (string_of (bytes_in b h)) h j)))
 
@@ -185,7 +185,7 @@ word_few b word.LifetimeIndex c out n i =
 word_few b word.DynLifetime c out n i = omega (arith, dyn_few b out n i)
 word_few b word.FunctionHead c out n i = head_few b i
 word_few b word.Number c out n i = omega (arith, one_few (length b) i 0 (hex_at b i) (λ h j. goes (Number (number_of (bytes_in b h)) h c) (Some j)) (λ h j. omega arith))
-word_few b word.Truth c out n i = omega (arith, one_few (length b) i 0 (hex_at b i) (λ h j. truth_stretch (number_of (bytes_in b h)) j) (λ h j. no_words (truth_free (number_of (bytes_in b h)) j)))
+word_few b word.Bool c out n i = omega (arith, one_few (length b) i 0 (hex_at b i) (λ h j. bool_stretch (number_of (bytes_in b h)) j) (λ h j. no_words (truth_free (number_of (bytes_in b h)) j)))
 word_few b word.Character c out n i = omega (arith, one_few (length b) i 0 (hex_at b i) (λ h j. character_stretch (number_of (bytes_in b h)) j) (λ h j. no_words (character_free (number_of (bytes_in b h)) j)))
 word_few b word.Literal c out n i = omega (arith, one_few (length b) i 0 (hex_at b i) (λ h j. literal_stretch (string_of (bytes_in b h)) h j) (λ h j. no_words (literal_free (string_of (bytes_in b h)) h j)))
 

@@ -13,18 +13,18 @@ leaves m p v = Some (record { mark = m; next = p; in_value = v })
 abbrev pub left_at : Point → Option Left
 left_at point.CloseParen = leaves mark.CloseParen point.End false
 left_at point.CloseAngle = leaves mark.Greater point.End false
-left_at point.Mutable = leaves mark.Mutable point.«Type» false
+left_at point.Mut = leaves mark.Mut point.«Type» false
 left_at point.TextConstant = leaves mark.Star point.Literal false
 left_at point.ReferenceConstant = leaves mark.Ampersand point.Constant true
 left_at point.OpenArguments = leaves mark.Less point.FirstArgument false
-left_at point.Unchanging = leaves mark.Unchanging point.«Type» false
+left_at point.Const = leaves mark.Const point.«Type» false
 left_at point.PatternIs = leaves mark.Is point.Pattern false
 left_at point.OpenParameters = leaves mark.Function point.FirstParameter false
 left_at point.OpenTraitPath = leaves mark.Less point.FirstOpenArgument false
 left_at point.CloseBracket = leaves mark.CloseBracket point.End false
 left_at point.RangeEnd = leaves mark.Range point.Constant false
 left_at point.MutReferenceConstant = leaves mark.Ampersand point.MutableConstant false
-left_at point.MutableConstant = leaves mark.Mutable point.Constant true
+left_at point.MutableConstant = leaves mark.Mut point.Constant true
 left_at point.ArrayConstant = leaves mark.OpenBracket point.FirstArrayConstant false
 left_at point.TupleConstant = leaves mark.OpenParen point.FirstTupleConstant false
 left_at point.FieldColon = leaves mark.Colon point.Constant true

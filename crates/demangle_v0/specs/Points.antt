@@ -3,6 +3,7 @@
 use Rattle.std.specs.Prelude.{◌≡◌, ℕ, ◌+◌, ◌-◌, ◌*◌, ◌^◌, ◌<◌, ◌≤◌, ◌==◌, nat_le, ◌⊎◌, if◌then◌else◌, Bool, true, false, Option, Some, None, List, [], ◌∷◌, ◌++◌, length, IsOk, IsAscii, Result, Ok, Err}
 use Prim.Native.Char.{code}
 use Rattle.demangle_symbol.specs.Digits.{is_byte}
+use Rattle.demangle_symbol.specs.Words.{some_or}
 use Rattle.demangle_grammar.specs.Items.{Text, Items, a_path, a_type, a_constant, a_pattern, a_trait_path, done, invalid, byte, integer, next, sound, until_end, unit, child, skip, lifetime, opens, dyn_trait, bindings, identifier}
 use Rattle.demangle_grammar.specs.Table.{says, says_if, at_end, list, more, tuple, type_inside, constant_inside, argument, in_namespace, in_binder, function, binding_value, type_tagged, integer_constant, string, field, variant, says_name}
 use Rattle.demangle_grammar.specs.Reading.{Place, run, unit_outcome, max_depth}
@@ -10,7 +11,7 @@ use Rattle.demangle_grammar.specs.Totals.{total}
 use Rattle.demangle_grammar.specs.Running.{allowed_in}
 use Rattle.demangle_grammar.specs.Events.{Heard, of, around, nothing_heard, and_then, with_looks, with_texts}
 use Rattle.demangle_words.specs.Texts.{text}
-use Rattle.demangle_words.specs.Groups.{texts_of}
+use Rattle.demangle_words.specs.WordReads.{texts_of}
 use Rattle.demangle_words.specs.Tags.{lifetime_before}
 use Rattle.demangle_words.specs.declared.texts.Mark.{Mark}
 use Rattle.demangle_words.specs.declared.stretch.Stretch.{Stretch}
@@ -21,7 +22,7 @@ use Rattle.demangle_v0.specs.declared.points.frames.Frame.{Frame}
 use Rattle.demangle_v0.specs.declared.points.State.{State}
 use Rattle.demangle_v0.specs.declared.points.Stop.{Stop}
 use Rattle.demangle_v0.specs.declared.points.Stop.TheVariants.{Refused, Fault}
-use Rattle.demangle_words.specs.declared.voice.Voice.{Ghosts}
+use Rattle.demangle_words.specs.declared.output.Output.{Ghosts}
 use Rattle.demangle_sink.specs.declared.SinkRefused.{SinkRefused}
 
 -- What is still to be read.
@@ -34,77 +35,105 @@ returns = next (code "u") done (says " -> " type_inside)
 abbrev pub bindings_left : Bool → Items
 bindings_left o = unit (bindings o binding_value) (more " + " (dyn_trait binding_value) done)
 
--- the items that a point goes on with, in value position or not, by its letter
-abbrev pub rest_at : Point → Bool → ℕ → Items
+-- A step reads at most so many words.
+abbrev pub most_words : ℕ
+most_words = 8
+
+-- What a point stands for: the items that are left of its unit, or none where it is a whole unit, an end, or bindings whose
+-- bracket the state knows; how many words its step may read; its weight; and how much higher than its children it stands.
+pub record Entry : Type 0 where
+  pub items : Option Items
+  pub words : ℕ
+  pub weight : ℕ
+  pub above : ℕ
+
+abbrev pub of_unit : ℕ → ℕ → ℕ → Entry
+of_unit words weight above = record { items = None; words = words; weight = weight; above = above }
+
+abbrev pub of_rest : ℕ → ℕ → ℕ → Items → Entry
+of_rest words weight above items = record { items = Some items; words = words; weight = weight; above = above }
+
+-- in value position or not, by its letter; a point that may go on without a look is heavier than what it goes on to, and puts
+-- on the stack
+abbrev pub entry_at : Point → Bool → ℕ → Entry
+entry_at point.End v n = of_unit most_words 1 0
+entry_at point.Path v n = of_unit most_words 1 1
+entry_at point.«Type» v n = of_unit most_words 1 1
+entry_at point.TraitPath v n = of_unit most_words 1 2
+entry_at point.Bindings v n = of_unit most_words 2 4
+entry_at point.Pattern v n = of_unit most_words 1 2
+entry_at point.Constant v n = of_unit most_words 1 1
+entry_at point.AfterBackref v n = of_unit most_words 1 1
 -- paths
-rest_at point.Nested v n = sound (in_namespace n) (says "::" (in_namespace n))
-rest_at point.InherentPath v n = skip (says "<" (child a_type false (says ">" done)))
-rest_at point.ImplPath v n = skip (says "<" (child a_type false (says " as " (child a_path false (says ">" done)))))
-rest_at point.InherentType v n = says "<" (child a_type false (says ">" done))
-rest_at point.SelfType v n = says "<" (child a_type false (says " as " (child a_path false (says ">" done))))
-rest_at point.As v n = says " as " (child a_path false (says ">" done))
-rest_at point.CloseAngle v n = says ">" done
-rest_at point.Generic v n = says_if v "::" (says "<" (list ", " argument (says ">" done)))
-rest_at point.OpenArguments v n = says "<" (list ", " argument (says ">" done))
-rest_at point.FirstArgument v n = list ", " argument (says ">" done)
-rest_at point.NextArgument v n = more ", " argument (says ">" done)
-rest_at point.Lifetime v n = integer (λ k. lifetime k done)
+entry_at point.Nested v n = of_rest most_words 1 2 (sound (in_namespace n) (says "::" (in_namespace n)))
+entry_at point.InherentPath v n = of_rest most_words 7 2 (skip (says "<" (child a_type false (says ">" done))))
+entry_at point.ImplPath v n = of_rest most_words 10 2 (skip (says "<" (child a_type false (says " as " (child a_path false (says ">" done))))))
+entry_at point.InherentType v n = of_rest 0 4 2 (says "<" (child a_type false (says ">" done)))
+entry_at point.SelfType v n = of_rest 0 7 2 (says "<" (child a_type false (says " as " (child a_path false (says ">" done)))))
+entry_at point.As v n = of_rest most_words 4 2 (says " as " (child a_path false (says ">" done)))
+entry_at point.CloseAngle v n = of_rest most_words 1 2 (says ">" done)
+entry_at point.Generic v n = of_rest most_words 3 2 (says_if v "::" (says "<" (list ", " argument (says ">" done))))
+entry_at point.OpenArguments v n = of_rest most_words 2 2 (says "<" (list ", " argument (says ">" done)))
+entry_at point.FirstArgument v n = of_rest most_words 1 2 (list ", " argument (says ">" done))
+entry_at point.NextArgument v n = of_rest most_words 1 2 (more ", " argument (says ">" done))
+entry_at point.Lifetime v n = of_rest most_words 1 1 (integer (λ k. lifetime k done))
 -- types
-rest_at point.TaggedType v n = type_tagged
-rest_at point.ArrayLength v n = says "; " (child a_constant true (says "]" done))
-rest_at point.CloseBracket v n = says "]" done
-rest_at point.FirstTupleType v n = tuple type_inside (says ")" done)
-rest_at point.SecondTupleType v n = at_end (says "," (says ")" done)) (more ", " type_inside (says ")" done))
-rest_at point.NextTupleType v n = more ", " type_inside (says ")" done)
-rest_at point.CloseParen v n = says ")" done
-rest_at point.ReferenceLifetime v n = lifetime_before type_inside
-rest_at point.MutReferenceLifetime v n = lifetime_before (says "mut " type_inside)
-rest_at point.Mutable v n = says "mut " type_inside
-rest_at point.Unchanging v n = says "const " type_inside
-rest_at point.PatternIs v n = says " is " (child a_pattern false done)
-rest_at point.FunctionBinder v n = in_binder (next (code "U") (function true) (function false))
-rest_at point.FunctionHead v n = next (code "U") (function true) (function false)
-rest_at point.OpenParameters v n = says "fn(" (list ", " type_inside (says ")" returns))
-rest_at point.FirstParameter v n = list ", " type_inside (says ")" returns)
-rest_at point.NextParameter v n = more ", " type_inside (says ")" returns)
-rest_at point.Returns v n = returns
+entry_at point.TaggedType v n = of_rest 7 1 1 type_tagged
+entry_at point.ArrayLength v n = of_rest most_words 4 2 (says "; " (child a_constant true (says "]" done)))
+entry_at point.CloseBracket v n = of_rest most_words 1 2 (says "]" done)
+entry_at point.FirstTupleType v n = of_rest most_words 1 2 (tuple type_inside (says ")" done))
+entry_at point.SecondTupleType v n = of_rest most_words 2 2 (at_end (says "," (says ")" done)) (more ", " type_inside (says ")" done)))
+entry_at point.NextTupleType v n = of_rest most_words 1 2 (more ", " type_inside (says ")" done))
+entry_at point.CloseParen v n = of_rest most_words 1 2 (says ")" done)
+entry_at point.ReferenceLifetime v n = of_rest most_words 2 2 (lifetime_before type_inside)
+entry_at point.MutReferenceLifetime v n = of_rest most_words 3 2 (lifetime_before (says "mut " type_inside))
+entry_at point.Mut v n = of_rest most_words 2 2 (says "mut " type_inside)
+entry_at point.Const v n = of_rest most_words 2 2 (says "const " type_inside)
+entry_at point.PatternIs v n = of_rest most_words 2 2 (says " is " (child a_pattern false done))
+entry_at point.FunctionHead v n = of_rest 4 5 2 (next (code "U") (function true) (function false))
+entry_at point.OpenParameters v n = of_rest 0 4 2 (says "fn(" (list ", " type_inside (says ")" returns)))
+entry_at point.FirstParameter v n = of_rest most_words 3 2 (list ", " type_inside (says ")" returns))
+entry_at point.NextParameter v n = of_rest most_words 3 2 (more ", " type_inside (says ")" returns))
+entry_at point.Returns v n = of_rest most_words 2 2 returns
 -- dyn traits
-rest_at point.DynBinder v n = in_binder (list " + " (dyn_trait binding_value) done)
-rest_at point.FirstDynTrait v n = list " + " (dyn_trait binding_value) done
-rest_at point.NextDynTrait v n = more " + " (dyn_trait binding_value) done
-rest_at point.OpenTraitPath v n = says "<" (list ", " argument (opens done))
-rest_at point.FirstOpenArgument v n = list ", " argument (opens done)
-rest_at point.NextOpenArgument v n = more ", " argument (opens done)
-rest_at point.OpenBindings v n = bindings_left true
-rest_at point.BindingName v n = identifier (λ a. says_name a (says " = " (unit binding_value (bindings_left true))))
-rest_at point.Bound v n = unit binding_value (bindings_left true)
-rest_at point.DynLifetime v n = next (code "L") (integer (λ k. if k == 0 then done else says " + " (lifetime k done))) invalid
+entry_at point.DynBinder v n = of_rest most_words 1 4 (in_binder (list " + " (dyn_trait binding_value) done))
+entry_at point.FirstDynTrait v n = of_rest 1 1 4 (list " + " (dyn_trait binding_value) done)
+entry_at point.NextDynTrait v n = of_rest 1 1 4 (more " + " (dyn_trait binding_value) done)
+entry_at point.OpenTraitPath v n = of_rest most_words 2 2 (says "<" (list ", " argument (opens done)))
+entry_at point.FirstOpenArgument v n = of_rest most_words 1 2 (list ", " argument (opens done))
+entry_at point.NextOpenArgument v n = of_rest most_words 1 2 (more ", " argument (opens done))
+entry_at point.OpenBindings v n = of_rest most_words 2 4 (bindings_left true)
+entry_at point.BindingName v n = of_rest most_words 6 4 (identifier (λ a. says_name a (says " = " (unit binding_value (bindings_left true)))))
+entry_at point.Bound v n = of_rest most_words 5 4 (unit binding_value (bindings_left true))
+entry_at point.DynLifetime v n = of_rest most_words 1 2 (next (code "L") (integer (λ k. if k == 0 then done else says " + " (lifetime k done))) invalid)
 -- patterns
-rest_at point.RangeEnd v n = says "..=" (child a_constant false done)
-rest_at point.NextPattern v n = until_end (says " | " (child a_pattern false done)) (sound done invalid)
+entry_at point.RangeEnd v n = of_rest most_words 2 2 (says "..=" (child a_constant false done))
+entry_at point.NextPattern v n = of_rest most_words 1 3 (until_end (says " | " (child a_pattern false done)) (sound done invalid))
 -- constants
-rest_at point.Number v n = integer_constant n
-rest_at point.TextConstant v n = says "*" (unit string done)
-rest_at point.Literal v n = string
-rest_at point.ReferenceConstant v n = says "&" (child a_constant true done)
-rest_at point.MutReferenceConstant v n = says "&" (says "mut " (child a_constant true done))
-rest_at point.MutableConstant v n = says "mut " (child a_constant true done)
-rest_at point.ArrayConstant v n = says "[" (list ", " constant_inside (says "]" done))
-rest_at point.FirstArrayConstant v n = list ", " constant_inside (says "]" done)
-rest_at point.NextArrayConstant v n = more ", " constant_inside (says "]" done)
-rest_at point.TupleConstant v n = says "(" (tuple constant_inside (says ")" done))
-rest_at point.FirstTupleConstant v n = tuple constant_inside (says ")" done)
-rest_at point.SecondTupleConstant v n = at_end (says "," (says ")" done)) (more ", " constant_inside (says ")" done))
-rest_at point.NextTupleConstant v n = more ", " constant_inside (says ")" done)
-rest_at point.Variant v n = byte (variant (if v then done else says "}" done))
-rest_at point.FirstVariantConstant v n = list ", " constant_inside (says ")" done)
-rest_at point.NextVariantConstant v n = more ", " constant_inside (says ")" done)
-rest_at point.FirstField v n = list ", " field (says " }" done)
-rest_at point.NextField v n = more ", " field (says " }" done)
-rest_at point.Field v n = field
-rest_at point.FieldColon v n = says ": " constant_inside
-rest_at point.CloseBrace v n = says "}" done
-rest_at _ v n = done
+entry_at point.Number v n = of_rest 4 1 2 (integer_constant n)
+entry_at point.TextConstant v n = of_rest most_words 2 2 (says "*" (unit string done))
+entry_at point.Literal v n = of_rest 4 1 2 string
+entry_at point.ReferenceConstant v n = of_rest most_words 2 2 (says "&" (child a_constant true done))
+entry_at point.MutReferenceConstant v n = of_rest most_words 3 2 (says "&" (says "mut " (child a_constant true done)))
+entry_at point.MutableConstant v n = of_rest most_words 2 2 (says "mut " (child a_constant true done))
+entry_at point.ArrayConstant v n = of_rest most_words 2 2 (says "[" (list ", " constant_inside (says "]" done)))
+entry_at point.FirstArrayConstant v n = of_rest most_words 1 2 (list ", " constant_inside (says "]" done))
+entry_at point.NextArrayConstant v n = of_rest most_words 1 2 (more ", " constant_inside (says "]" done))
+entry_at point.TupleConstant v n = of_rest most_words 2 2 (says "(" (tuple constant_inside (says ")" done)))
+entry_at point.FirstTupleConstant v n = of_rest most_words 1 2 (tuple constant_inside (says ")" done))
+entry_at point.SecondTupleConstant v n = of_rest most_words 2 2 (at_end (says "," (says ")" done)) (more ", " constant_inside (says ")" done)))
+entry_at point.NextTupleConstant v n = of_rest most_words 1 2 (more ", " constant_inside (says ")" done))
+entry_at point.Variant v n = of_rest most_words 1 3 (byte (variant (if v then done else says "}" done)))
+entry_at point.FirstVariantConstant v n = of_rest most_words 1 2 (list ", " constant_inside (says ")" done))
+entry_at point.NextVariantConstant v n = of_rest most_words 1 2 (more ", " constant_inside (says ")" done))
+entry_at point.FirstField v n = of_rest most_words 1 2 (list ", " field (says " }" done))
+entry_at point.NextField v n = of_rest most_words 1 2 (more ", " field (says " }" done))
+entry_at point.Field v n = of_rest most_words 3 1 field
+entry_at point.FieldColon v n = of_rest most_words 2 1 (says ": " constant_inside)
+entry_at point.CloseBrace v n = of_rest most_words 1 2 (says "}" done)
+
+abbrev pub rest_at : Point → Bool → ℕ → Items
+rest_at p v n = some_or done (entry_at p v n).items (λ items. items)
 
 -- Lists are over at their `E`, which is read, or where the reading has failed.
 
@@ -125,7 +154,7 @@ abbrev pub lifetime_point : Bool → Point
 lifetime_point is_mut = if is_mut then point.MutReferenceLifetime else point.ReferenceLifetime
 
 abbrev pub behind_reference : Bool → Point
-behind_reference is_mut = if is_mut then point.Mutable else point.«Type»
+behind_reference is_mut = if is_mut then point.Mut else point.«Type»
 
 -- what the lifetime of an index above 0 hands over, and the place behind it
 abbrev pub spaced_lifetime : ℕ → ℕ → ℕ → Stretch × Place
@@ -136,34 +165,34 @@ abbrev pub none_open : Heard → Heard
 none_open h = record h { is_open = false }
 
 -- what a point still reads of its unit
-unfoldable pub share_at : List ℕ → Bool → Bool → Point → Bool → ℕ → ℕ → ℕ → Place → Bool → Heard
-share_at b plain out point.End v c left n i o = nothing_heard i o
-share_at b plain out point.Behind v c left n i o = nothing_heard (Some n) o
-share_at b plain out point.Path v c left n i o = none_open (of plain out (unit_outcome (around b out left n) a_path v i))
-share_at b plain out point.«Type» v c left n i o = none_open (of plain out (unit_outcome (around b out left n) a_type false i))
-share_at b plain out point.Constant v c left n i o = none_open (of plain out (unit_outcome (around b out left n) a_constant v i))
-share_at b plain out point.Pattern v c left n i o = none_open (of plain out (unit_outcome (around b out left n) a_pattern false i))
-share_at b plain out point.TraitPath v c left n i o = of plain out (unit_outcome (around b out left n) a_trait_path false i)
-share_at b plain out point.OpenTraitPath v c left n i o = of plain out (run (rest_at point.OpenTraitPath v c) (around b out left n) i)
-share_at b plain out point.FirstOpenArgument v c left n i o = of plain out (run (rest_at point.FirstOpenArgument v c) (around b out left n) i)
-share_at b plain out point.NextOpenArgument v c left n i o = of plain out (run (rest_at point.NextOpenArgument v c) (around b out left n) i)
-share_at b plain out point.Bindings v c left n i o = none_open (of plain out (run (bindings_left o) (around b out left n) i))
-share_at b plain out p v c left n i o = none_open (of plain out (run (rest_at p v c) (around b out left n) i))
+unfoldable pub unit_rest_at : List ℕ → Bool → Bool → Point → Bool → ℕ → ℕ → ℕ → Place → Bool → Heard
+unit_rest_at b include_hash out point.End v c left n i o = nothing_heard i o
+unit_rest_at b include_hash out point.AfterBackref v c left n i o = nothing_heard (Some n) o
+unit_rest_at b include_hash out point.Path v c left n i o = none_open (of include_hash out (unit_outcome (around b out left n) a_path v i))
+unit_rest_at b include_hash out point.«Type» v c left n i o = none_open (of include_hash out (unit_outcome (around b out left n) a_type false i))
+unit_rest_at b include_hash out point.Constant v c left n i o = none_open (of include_hash out (unit_outcome (around b out left n) a_constant v i))
+unit_rest_at b include_hash out point.Pattern v c left n i o = none_open (of include_hash out (unit_outcome (around b out left n) a_pattern false i))
+unit_rest_at b include_hash out point.TraitPath v c left n i o = of include_hash out (unit_outcome (around b out left n) a_trait_path false i)
+unit_rest_at b include_hash out point.OpenTraitPath v c left n i o = of include_hash out (run (rest_at point.OpenTraitPath v c) (around b out left n) i)
+unit_rest_at b include_hash out point.FirstOpenArgument v c left n i o = of include_hash out (run (rest_at point.FirstOpenArgument v c) (around b out left n) i)
+unit_rest_at b include_hash out point.NextOpenArgument v c left n i o = of include_hash out (run (rest_at point.NextOpenArgument v c) (around b out left n) i)
+unit_rest_at b include_hash out point.Bindings v c left n i o = none_open (of include_hash out (run (bindings_left o) (around b out left n) i))
+unit_rest_at b include_hash out p v c left n i o = none_open (of include_hash out (run (rest_at p v c) (around b out left n) i))
 
 -- what a reading that stands so still reads of its unit
-abbrev pub share_of : List ℕ → Bool → Bool → Point → State → Heard
-share_of b plain out p s = share_at b plain out p s.in_value s.letter s.depth_left s.lifetimes s.place s.is_open
+abbrev pub unit_rest_of : List ℕ → Bool → Bool → Point → State → Heard
+unit_rest_of b include_hash out p s = unit_rest_at b include_hash out p s.in_value s.letter s.depth_left s.lifetimes s.place s.is_open
 
-abbrev pub share : List ℕ → Bool → Bool → Frame → Place → Bool → Heard
-share b plain out f i o = share_at b plain out f.point f.in_value f.letter f.depth_left f.number i o
+abbrev pub unit_rest : List ℕ → Bool → Bool → Frame → Place → Bool → Heard
+unit_rest b include_hash out f i o = unit_rest_at b include_hash out f.point f.in_value f.letter f.depth_left f.number i o
 
--- what a row still reads; the last frame goes first
-unfoldable pub row_owed : List ℕ → Bool → Bool → List Frame → Place → Bool → Heard
-row_owed b plain out [] i o = nothing_heard i o
-row_owed b plain out (f ∷ above) i o = and_then (row_owed b plain out above i o) (share b plain out f)
+-- what a stack still reads; the last frame goes first
+unfoldable pub stack_rest : List ℕ → Bool → Bool → List Frame → Place → Bool → Heard
+stack_rest b include_hash out [] i o = nothing_heard i o
+stack_rest b include_hash out (f ∷ above) i o = and_then (stack_rest b include_hash out above i o) (unit_rest b include_hash out f)
 
-abbrev pub reading_owed : List ℕ → Bool → Bool → Point → State → List Frame → Heard
-reading_owed b plain out p s row = and_then (share_of b plain out p s) (row_owed b plain out row)
+abbrev pub reading_rest : List ℕ → Bool → Bool → Point → State → List Frame → Heard
+reading_rest b include_hash out p s stack = and_then (unit_rest_of b include_hash out p s) (stack_rest b include_hash out stack)
 
 abbrev pub frame_of : Point → Bool → ℕ → ℕ → ℕ → Frame
 frame_of p v c left n = record { point = p; in_value = v; letter = c; depth_left = left; number = n }
@@ -199,12 +228,12 @@ mark_texts None = []
 mark_texts (Some m) = text m ∷ []
 
 abbrev pub pushed_on : List Frame → Option Frame → List Frame
-pushed_on row None = row
-pushed_on row (Some f) = row ++ f ∷ []
+pushed_on stack None = stack
+pushed_on stack (Some f) = stack ++ f ∷ []
 
 -- no reference is followed
 abbrev pub is_inner : Point → Bool
-is_inner point.Behind = false
+is_inner point.AfterBackref = false
 is_inner _ = true
 
 abbrev pub IsInner : Option Frame → Type 0
@@ -216,48 +245,13 @@ AllInner [] = Unit {0}
 AllInner (f ∷ above) = (is_inner f.point ≡ true) × AllInner above
 
 unfoldable pub then_frame : List ℕ → Bool → Bool → Option Frame → Heard → Heard
-then_frame b plain out None h = h
-then_frame b plain out (Some f) h = and_then h (share b plain out f)
+then_frame b include_hash out None h = h
+then_frame b include_hash out (Some f) h = and_then h (unit_rest b include_hash out f)
 
 -- How much there is still to do, how high frames may stand, and how many lifetimes may be in force.
 
--- a point that may go on without a look is heavier than what it goes on to, and puts on the row
 abbrev pub weight_at : Point → ℕ
-weight_at point.InherentPath = 7
-weight_at point.ImplPath = 10
-weight_at point.InherentType = 4
-weight_at point.SelfType = 7
-weight_at point.As = 4
-weight_at point.Generic = 3
-weight_at point.OpenArguments = 2
-weight_at point.ArrayLength = 4
-weight_at point.SecondTupleType = 2
-weight_at point.ReferenceLifetime = 2
-weight_at point.MutReferenceLifetime = 3
-weight_at point.Mutable = 2
-weight_at point.Unchanging = 2
-weight_at point.PatternIs = 2
-weight_at point.FunctionHead = 5
-weight_at point.OpenParameters = 4
-weight_at point.FirstParameter = 3
-weight_at point.NextParameter = 3
-weight_at point.Returns = 2
-weight_at point.OpenTraitPath = 2
-weight_at point.Bindings = 2
-weight_at point.OpenBindings = 2
-weight_at point.BindingName = 6
-weight_at point.Bound = 5
-weight_at point.RangeEnd = 2
-weight_at point.TextConstant = 2
-weight_at point.ReferenceConstant = 2
-weight_at point.MutReferenceConstant = 3
-weight_at point.MutableConstant = 2
-weight_at point.ArrayConstant = 2
-weight_at point.TupleConstant = 2
-weight_at point.SecondTupleConstant = 2
-weight_at point.Field = 3
-weight_at point.FieldColon = 2
-weight_at _ = 1
+weight_at p = (entry_at p false 0).weight
 
 abbrev pub weight_of : Option Frame → ℕ
 weight_of None = 0
@@ -273,28 +267,12 @@ weights [] = 0
 weights (f ∷ above) = weight_at f.point + 1 + weights above
 
 abbrev pub measure : List ℕ → Bool → Bool → Point → State → List Frame → ℕ
-measure b plain out p s row = way_weight p + weights row + 100 * allowed_in (reading_owed b plain out p s row).events
+measure b include_hash out p s stack = way_weight p + weights stack + 100 * allowed_in (reading_rest b include_hash out p s stack).events
 
 abbrev pub height_at : Point → ℕ → ℕ
 height_at point.End left = 0
-height_at point.Behind left = 1
-height_at point.Path left = 8 * left + 1
-height_at point.«Type» left = 8 * left + 1
-height_at point.TaggedType left = 8 * left + 1
-height_at point.Lifetime left = 8 * left + 1
-height_at point.Constant left = 8 * left + 1
-height_at point.Field left = 8 * left + 1
-height_at point.FieldColon left = 8 * left + 1
-height_at point.Variant left = 8 * left + 3
-height_at point.NextPattern left = 8 * left + 3
-height_at point.DynBinder left = 8 * left + 4
-height_at point.FirstDynTrait left = 8 * left + 4
-height_at point.NextDynTrait left = 8 * left + 4
-height_at point.Bindings left = 8 * left + 4
-height_at point.OpenBindings left = 8 * left + 4
-height_at point.BindingName left = 8 * left + 4
-height_at point.Bound left = 8 * left + 4
-height_at _ left = 8 * left + 2
+height_at point.AfterBackref left = 1
+height_at p left = 8 * left + (entry_at p false 0).above
 
 abbrev pub height_of : Option Frame → ℕ
 height_of None = 0
@@ -308,27 +286,11 @@ count_of (Some f) = 1
 abbrev pub most_frames : ℕ
 most_frames = 8 * max_depth + 8
 
--- A step reads at most so many words.
-abbrev pub most_words : ℕ
-most_words = 8
-
--- a point with which another may go on at once reads fewer
 abbrev pub words_at : Point → ℕ
-words_at point.InherentType = 0
-words_at point.SelfType = 0
-words_at point.TaggedType = 7
-words_at point.FunctionBinder = 5
-words_at point.FunctionHead = 4
-words_at point.OpenParameters = 0
-words_at point.FirstDynTrait = 1
-words_at point.NextDynTrait = 1
-words_at point.Literal = 4
-words_at point.Number = 4
-words_at _ = most_words
+words_at p = (entry_at p false 0).words
 
 -- how many binders may still be met at the point's own depth
 abbrev pub binders_at : Point → ℕ
-binders_at point.FunctionBinder = 1
 binders_at point.DynBinder = 1
 binders_at _ = 0
 
@@ -338,7 +300,7 @@ most_lifetimes = 2 ^ 64 * max_depth
 -- each depth that is left may have a binder, of at most 2^64 - 1 lifetimes
 abbrev pub Fits : Point → ℕ → ℕ → Type 0
 Fits point.End left n = Unit {0}
-Fits point.Behind left n = n < 2 ^ 64
+Fits point.AfterBackref left n = n < 2 ^ 64
 Fits p left n = n + 2 ^ 64 * (left + binders_at p) ≤ most_lifetimes
 
 abbrev pub FitsFrame : Option Frame → Type 0
@@ -350,21 +312,21 @@ FitsFrame (Some f) = Fits f.point f.depth_left f.number
 -- what stands before a step, and behind it
 pub record Turn (V : Type 0) : Type 0 where
   pub state : State
-  pub row : List Frame
-  pub voice : V
+  pub stack : List Frame
+  pub output : V
   pub looks : ℕ
 
 abbrev pub turn : {V : Type 0} → State → List Frame → V → ℕ → Turn V
-turn s row v n = record { state = s; row = row; voice = v; looks = n }
+turn s stack v n = record { state = s; stack = stack; output = v; looks = n }
 
 -- what it is done in
 pub record Env (V : Type 0) : Type 1 where
-  pub voice : Ghosts V
+  pub output : Ghosts V
   pub symbol : List ℕ
-  pub plain : Bool
+  pub include_hash : Bool
 
 abbrev pub env : {V : Type 0} → Ghosts V → List ℕ → Bool → Env V
-env voice b plain = record { voice = voice; symbol = b; plain = plain }
+env output b include_hash = record { output = output; symbol = b; include_hash = include_hash }
 
 -- what is heard of a point, or of what is left of one, with how many words may be read of it, its weight and its height
 pub record Part : Type 0 where
@@ -376,27 +338,27 @@ pub record Part : Type 0 where
 abbrev pub part : ℕ → Heard → ℕ → ℕ → Part
 part words h weight height = record { words = words; heard = h; weight = weight; height = height }
 
--- a stretch, if the voice was handed one
-abbrev pub said_texts : {V : Type 0} → Env V → Option Stretch → List Text
-said_texts env None = []
-said_texts env (Some s) = texts_of env.symbol env.plain s
+-- a stretch, if the output was handed one
+abbrev pub emitted_texts : {V : Type 0} → Env V → Option Stretch → List Text
+emitted_texts env None = []
+emitted_texts env (Some s) = texts_of env.symbol env.include_hash s
 
-abbrev pub Told : {V : Type 0} → Env V → Option Stretch → V → V → Type 0
-Told env None v w = v ≡ w
-Told env (Some s) v w = env.voice.prints v (texts_of env.symbol env.plain s) (Ok tt) w
+abbrev pub Emits : {V : Type 0} → Env V → Option Stretch → V → V → Type 0
+Emits env None v w = v ≡ w
+Emits env (Some s) v w = env.output.prints v (texts_of env.symbol env.include_hash s) (Ok tt) w
 
--- The point was left for another, and a frame may have been put on the row. One stretch is handed over: to the voice, or as
+-- The point was left for another, and a frame may have been put on the stack. One stretch is handed over: to the output, or as
 -- the mark that is left.
 pub record Went {V : Type 0} (env : Env V) (part : Part) (before : Turn V) (to : Point) (after : Turn V) : Type 0 where
   pub front : List ℕ
-  pub said : Option Stretch
+  pub emitted : Option Stretch
   pub back : List ℕ
   pub pushed : Option Frame
-  pub told : Told env said before.voice after.voice
-  pub one : (said ≡ None) ⊎ (after.state.mark ≡ None)
+  pub emits : Emits env emitted before.output after.output
+  pub one : (emitted ≡ None) ⊎ (after.state.mark ≡ None)
   pub reads : part.heard
-      ≡ with_looks front (with_texts env.voice.loud (said_texts env said) (with_texts env.voice.loud (mark_texts after.state.mark) (with_looks back (then_frame env.symbol env.plain env.voice.loud pushed (share_of env.symbol env.plain env.voice.loud to after.state)))))
-  pub is_row : after.row ≡ pushed_on before.row pushed
+      ≡ with_looks front (with_texts env.output.is_printed (emitted_texts env emitted) (with_texts env.output.is_printed (mark_texts after.state.mark) (with_looks back (then_frame env.symbol env.include_hash env.output.is_printed pushed (unit_rest_of env.symbol env.include_hash env.output.is_printed to after.state)))))
+  pub is_stack : after.stack ≡ pushed_on before.stack pushed
   pub few : length front + length back ≤ part.words
   pub enough : after.looks ≤ before.looks + (total front + total back)
   pub late : after.looks ≤ before.looks + (total front + 2)
@@ -405,41 +367,41 @@ pub record Went {V : Type 0} (env : Env V) (part : Part) (before : Turn V) (to :
   pub inner_height : height_at to after.state.depth_left + count_of pushed ≤ part.height
   pub outer_fits : FitsFrame pushed
   pub inner_fits : Fits to after.state.depth_left after.state.lifetimes
-  pub quiet : env.voice.loud ≡ false → IsInner pushed
+  pub quiet : env.output.is_printed ≡ false → IsInner pushed
 
 -- The unit ends with this text, which is still to be handed over.
 pub record Faulted {V : Type 0} (env : Env V) (part : Part) (before : Turn V) (m : Mark) (after : Turn V) : Type 0 where
   pub front : List ℕ
-  pub told : before.voice ≡ after.voice
+  pub emits : before.output ≡ after.output
   pub unmarked : after.state.mark ≡ None
-  pub reads : part.heard ≡ with_looks front (with_texts env.voice.loud (text m ∷ []) (nothing_heard None false))
-  pub is_row : after.row ≡ before.row
+  pub reads : part.heard ≡ with_looks front (with_texts env.output.is_printed (text m ∷ []) (nothing_heard None false))
+  pub is_stack : after.stack ≡ before.stack
   pub few : length front ≤ part.words
   pub enough : after.looks ≤ before.looks + total front
   pub lighter : 1 ≤ part.weight + 100 * total front
 
--- The voice refused the stretch, or, where it does not speak, the reading failed. At most two looks were made too early, and
+-- The output refused the stretch, or, where it does not speak, the reading failed. At most two looks were made too early, and
 -- none where it does not speak.
 pub record Halted {V : Type 0} (env : Env V) (part : Part) (before after : Turn V) : Type 0 where
   pub front : List ℕ
-  pub said : Stretch
+  pub emitted : Stretch
   pub rest : Heard
   pub refusal : SinkRefused
-  pub prints : env.voice.prints before.voice (texts_of env.symbol env.plain said) (Err refusal) after.voice
-  pub reads : part.heard ≡ with_looks front (with_texts env.voice.loud (texts_of env.symbol env.plain said) rest)
+  pub prints : env.output.prints before.output (texts_of env.symbol env.include_hash emitted) (Err refusal) after.output
+  pub reads : part.heard ≡ with_looks front (with_texts env.output.is_printed (texts_of env.symbol env.include_hash emitted) rest)
   pub few : length front ≤ part.words
   pub enough : after.looks ≤ before.looks + (total front + 2)
-  pub exact : env.voice.loud ≡ false → after.looks ≤ before.looks + total front
-  pub fails : env.voice.loud ≡ false → rest.place ≡ None
+  pub exact : env.output.is_printed ≡ false → after.looks ≤ before.looks + total front
+  pub fails : env.output.is_printed ≡ false → rest.place ≡ None
 
--- frames may have been put on the row
+-- frames may have been put on the stack
 abbrev pub Kept : List Frame → List Frame → Type 0
-Kept row now = (more : List Frame) × (now ≡ row ++ more)
+Kept stack now = (more : List Frame) × (now ≡ stack ++ more)
 
 abbrev pub Comes : {V : Type 0} → Env V → Part → Turn V → Result Point Stop → Turn V → Type 0
 Comes env part before (Ok p) after = Went env part before p after
 Comes env part before (Err (Fault m)) after = Faulted env part before m after
-Comes env part before (Err Refused) after = Halted env part before after × Kept before.row after.row
+Comes env part before (Err Refused) after = Halted env part before after × Kept before.stack after.stack
 
 -- these looks were made, among those that are allowed
 pub record Paid (before : ℕ) (costs : List ℕ) (after : ℕ) : Type 0 where
@@ -459,16 +421,16 @@ pub record Does {V : Type 0} (env : Env V) (before : Turn V) (part : Part) (resu
   pub comes : Comes env part before result after
   pub grows : before.looks ≤ after.looks
   pub own : after.looks ≤ before.looks + own_looks env.symbol before.state.place
-  pub ready : env.voice.ready before.voice → IsOk result → env.voice.ready after.voice
-  pub sound : env.voice.ready before.voice → (m : Mark) → result ≡ Err (Fault m) → env.voice.ready after.voice
+  pub ready : env.output.ready before.output → IsOk result → env.output.ready after.output
+  pub sound : env.output.ready before.output → (m : Mark) → result ≡ Err (Fault m) → env.output.ready after.output
 
 -- a whole point
 abbrev pub whole : {V : Type 0} → Env V → Point → State → Part
-whole env p s = part (words_at p) (share_of env.symbol env.plain env.voice.loud p s) (weight_at p) (height_at p s.depth_left)
+whole env p s = part (words_at p) (unit_rest_of env.symbol env.include_hash env.output.is_printed p s) (weight_at p) (height_at p s.depth_left)
 
 -- these items, which are left of a unit, with how many words may be read of them, their weight, and how much higher than its children they stand
 abbrev pub rest : {V : Type 0} → Env V → Items → ℕ → ℕ → ℕ → State → Part
-rest env items words weight above s = part words (none_open (of env.plain env.voice.loud (run items (around env.symbol env.voice.loud s.depth_left s.lifetimes) s.place))) weight (8 * s.depth_left + above)
+rest env items words weight above s = part words (none_open (of env.include_hash env.output.is_printed (run items (around env.symbol env.output.is_printed s.depth_left s.lifetimes) s.place))) weight (8 * s.depth_left + above)
 
 -- What a point does.
 abbrev pub PointDoes : {V : Type 0} → Env V → Point → Turn V → Result Point Stop → Turn V → Type 0
@@ -479,32 +441,32 @@ abbrev pub RestDoes : {V : Type 0} → Env V → Items → ℕ → ℕ → ℕ �
 RestDoes env items words weight above before result after = Does env before (rest env items words weight above before.state) result after
 
 -- When a point may do it: there is room for a frame, and the lifetimes fit.
-pub record MayRead (p : Point) (most : ℕ) (s : State) (row : List Frame) : Type 0 where
+pub record MayRead (p : Point) (most : ℕ) (s : State) (stack : List Frame) : Type 0 where
   pub unmarked : s.mark ≡ None
-  pub room : length row < most
+  pub room : length stack < most
   pub fits : Fits p s.depth_left s.lifetimes
 
--- the same of one that has no frame to put on the row, and where no lifetimes have to fit
-pub record MaySpeak {V : Type 0} (env : Env V) (s : State) (v : V) : Type 0 where
-  pub ascii : env.voice.loud ≡ true → IsAscii env.symbol
-  pub ready : env.voice.ready v
+-- the same of one that has no frame to put on the stack, and where no lifetimes have to fit
+pub record MayEmit {V : Type 0} (env : Env V) (s : State) (v : V) : Type 0 where
+  pub ascii : env.output.is_printed ≡ true → IsAscii env.symbol
+  pub ready : env.output.ready v
   pub unmarked : s.mark ≡ None
 
 -- the same, where it may be heard
 pub record MayStep {V : Type 0} (env : Env V) (p : Point) (most : ℕ) (before : Turn V) : Type 0 where
-  pub ascii : env.voice.loud ≡ true → IsAscii env.symbol
-  pub ready : env.voice.ready before.voice
+  pub ascii : env.output.is_printed ≡ true → IsAscii env.symbol
+  pub ready : env.output.ready before.output
   pub unmarked : before.state.mark ≡ None
-  pub room : length before.row < most
+  pub room : length before.stack < most
   pub fits : Fits p before.state.depth_left before.state.lifetimes
 
 -- a record, so that a lemma finds its arguments
-pub record DidOn {V : Type 0} (voice : Ghosts V) (b : List ℕ) (plain : Bool) (words : ℕ) (h : Heard) (weight high : ℕ) (row : List Frame) (v : V) (result : Result Point Stop) (new : State) (now : List Frame) (w : V) (made : ℕ) : Type 0 where
-  pub comes : Comes (env voice b plain) (part words h weight high) (turn new row v 0) result (turn new now w made)
+pub record DidOn {V : Type 0} (output : Ghosts V) (b : List ℕ) (include_hash : Bool) (words : ℕ) (h : Heard) (weight high : ℕ) (stack : List Frame) (v : V) (result : Result Point Stop) (new : State) (now : List Frame) (w : V) (made : ℕ) : Type 0 where
+  pub comes : Comes (env output b include_hash) (part words h weight high) (turn new stack v 0) result (turn new now w made)
 
 -- what a point does
 abbrev pub Did : {V : Type 0} → Ghosts V → List ℕ → Bool → Point → State → List Frame → V → Result Point Stop → State → List Frame → V → ℕ → Type 0
-Did voice b plain p old row v result new now w made = DidOn voice b plain (words_at p) (share_of b plain voice.loud p old) (weight_at p) (height_at p old.depth_left) row v result new now w made
+Did output b include_hash p old stack v result new now w made = DidOn output b include_hash (words_at p) (unit_rest_of b include_hash output.is_printed p old) (weight_at p) (height_at p old.depth_left) stack v result new now w made
 
 -- where a frame goes on
 abbrev pub resumed_of : State → Frame → State

@@ -1,13 +1,13 @@
-//! Acceptance of v0 symbols: readings without a voice.
-ghost use Rattle.std.specs.Prelude.{◌≡◌, ◌+◌, ◌-◌, ◌≤◌, true, false};
+//! Acceptance of v0 symbols: readings without an output.
+ghost use Rattle.std.specs.Prelude.{◌≡◌, ◌+◌, ◌≤◌, true, false};
 ghost use Rattle.demangle_grammar.specs.Items.{a_path};
-ghost use Rattle.demangle_v0.specs.Points.{AllInner, reading_owed};
+ghost use Rattle.demangle_v0.specs.Points.{AllInner, reading_rest};
 ghost use Rattle.demangle_v0.specs.PointRuns.{Valid};
 ghost use Rattle.demangle_grammar.specs.Reading.{goes_on_at, unit_end, suffix_place, read_at};
 ghost use Rattle.demangle_grammar.specs.Running.{allowed_in};
 ghost use Rattle.demangle_grammar.specs.Accepting.{looks_in, suffix_looks, accepting_looks};
 
-use crate::points::frames::{FEW, FrameStack, MIDDLE, MOST};
+use crate::points::frames::{FULL_STACK, FrameStack, MIDDLE_STACK, SHORT_STACK};
 use crate::points::read::{Halt, Reading, read_on};
 use demangle_symbol::cursor::{Looks, Symbol};
 
@@ -15,50 +15,50 @@ use demangle_symbol::cursor::{Looks, Symbol};
 #[inline(never)]
 fn read_rest(
     symbol: &Symbol<'_>,
-    few: &FrameStack<MIDDLE>,
+    few: &FrameStack<MIDDLE_STACK>,
     from: &Reading,
     looks: &mut Looks,
 ) -> Option<usize>
     requires valid { Valid from.now.point from.now.state few.now }
     requires inner { AllInner few.now }
-    ensures value { result ≡ (reading_owed symbol.now true false from.now.point from.now.state
+    ensures value { result ≡ (reading_rest symbol.now true false from.now.point from.now.state
         few.now).place }
-    ensures looks { looks.new ≤ looks.old + allowed_in (reading_owed symbol.now true false
+    ensures looks { looks.new ≤ looks.old + allowed_in (reading_rest symbol.now true false
         from.now.point from.now.state few.now).events }
     ensures grows { looks.old ≤ looks.new }
 {
-    let mut row: FrameStack<MOST> = FrameStack::new();
-    row.append(few);
+    let mut stack: FrameStack<FULL_STACK> = FrameStack::new();
+    stack.append(few);
     let mut reading = *from;
-    match read_on(symbol, 0, true, &mut reading, &mut row, looks) {
+    match read_on(symbol, 0, true, &mut reading, &mut stack, looks) {
         Halt::Over => reading.place(),
-        // A row with room for every frame is never full.
+        // A stack with room for every frame is never full.
         Halt::Full | Halt::Failed => None,
     }
 }
 
-/// Reads the rest in a second row, and where that is full too, in the last: where it ends.
+/// Reads the rest in a second stack, and where that is full too, in the last: where it ends.
 #[inline(never)]
 fn read_more(
     symbol: &Symbol<'_>,
-    few: &FrameStack<FEW>,
+    few: &FrameStack<SHORT_STACK>,
     from: &Reading,
     looks: &mut Looks,
 ) -> Option<usize>
     requires valid { Valid from.now.point from.now.state few.now }
     requires inner { AllInner few.now }
-    ensures value { result ≡ (reading_owed symbol.now true false from.now.point from.now.state
+    ensures value { result ≡ (reading_rest symbol.now true false from.now.point from.now.state
         few.now).place }
-    ensures looks { looks.new ≤ looks.old + allowed_in (reading_owed symbol.now true false
+    ensures looks { looks.new ≤ looks.old + allowed_in (reading_rest symbol.now true false
         from.now.point from.now.state few.now).events }
     ensures grows { looks.old ≤ looks.new }
 {
-    let mut row: FrameStack<MIDDLE> = FrameStack::new();
-    row.append(few);
+    let mut stack: FrameStack<MIDDLE_STACK> = FrameStack::new();
+    stack.append(few);
     let mut reading = *from;
-    match read_on(symbol, 0, true, &mut reading, &mut row, looks) {
+    match read_on(symbol, 0, true, &mut reading, &mut stack, looks) {
         Halt::Over => reading.place(),
-        Halt::Full => read_rest(symbol, &row, &reading, looks),
+        Halt::Full => read_rest(symbol, &stack, &reading, looks),
         Halt::Failed => None,
     }
 }
@@ -70,11 +70,11 @@ pub fn path_end(symbol: &Symbol<'_>, place: usize, looks: &mut Looks) -> Option<
     ensures looks { looks.new ≤ looks.old + looks_in (read_at symbol.now false a_path place 0 0
         true) }
 {
-    let mut row: FrameStack<FEW> = FrameStack::new();
+    let mut stack: FrameStack<SHORT_STACK> = FrameStack::new();
     let mut reading = Reading::of_path(place);
-    match read_on(symbol, 0, true, &mut reading, &mut row, looks) {
+    match read_on(symbol, 0, true, &mut reading, &mut stack, looks) {
         Halt::Over => reading.place(),
-        Halt::Full => read_more(symbol, &row, &reading, looks),
+        Halt::Full => read_more(symbol, &stack, &reading, looks),
         Halt::Failed => None,
     }
 }
@@ -89,6 +89,8 @@ pub fn suffix_at(symbol: &Symbol<'_>, looks: &mut Looks) -> Option<usize>
     let Some(end) = path_end(symbol, 0, looks) else {
         return None;
     };
+    // A second path names the Rust crate that a generic was instantiated in. It is read, so that
+    // the suffix begins behind it, and never printed.
     if begins_path(symbol, end, looks) {
         return path_end(symbol, end, looks);
     }

@@ -1,24 +1,24 @@
 //! Reading by resume points: each reads up to its next child, puts what stands behind that on the
 //! frame stack, and answers where it goes on.
-ghost use Rattle.std.specs.Prelude.{true, ◌≡◌, ◌+◌, ◌-◌, ◌<◌, ◌≤◌, None, Ok, Err, IsOk, IsAscii, List};
-ghost use Rattle.demangle_v0.specs.Points.{MaySpeak, RestDoes, env, turn};
+ghost use Rattle.std.specs.Prelude.{◌≡◌, ◌+◌, ◌-◌, ◌<◌, ◌≤◌, None, Ok, Err, List};
+ghost use Rattle.demangle_v0.specs.Points.{own_by, MayEmit, RestDoes, env, turn};
 ghost use Rattle.demangle_grammar.specs.Totals.{total};
-ghost use Rattle.demangle_words.specs.Groups.{word_group, read_stretch, looks_later};
-ghost use Rattle.demangle_words.specs.Serving.{LiesIn};
-ghost use Rattle.demangle_grammar.specs.Table.{path};
+ghost use Rattle.demangle_words.specs.WordReads.{word_group, read_stretch, looks_later};
+ghost use Rattle.demangle_words.specs.Backrefs.{LiesIn};
 ghost use Rattle.demangle_grammar.specs.Items.{done};
 ghost use Rattle.demangle_words.specs.Texts.{word_items};
 
 use crate::points::frames::Frame;
 use demangle_symbol::cursor::{Looks, Symbol};
+use demangle_words::output::Output;
 use demangle_words::read::{WordRead, read_word};
 use demangle_words::texts::{Mark, Word};
-use demangle_words::voice::Voice;
 
 mod arguments;
 mod bindings;
 mod constant_lists;
 mod constants;
+mod dispatch;
 mod dyn_traits;
 pub mod frames;
 mod functions;
@@ -27,7 +27,6 @@ mod marks;
 mod names;
 mod paths;
 mod patterns;
-mod perform;
 pub mod read;
 mod references;
 pub mod skip;
@@ -67,11 +66,10 @@ pub enum Point {
     CloseParen,
     ReferenceLifetime,
     MutReferenceLifetime,
-    Mutable,
-    Unchanging,
+    Mut,
+    Const,
     PatternIs,
     // fn-sig
-    FunctionBinder,
     FunctionHead,
     OpenParameters,
     FirstParameter,
@@ -119,7 +117,7 @@ pub enum Point {
     FieldColon,
     CloseBrace,
     /// Behind the target of a reference.
-    Behind,
+    AfterBackref,
 }
 
 /// What a reading knows where it stands.
@@ -144,7 +142,7 @@ pub struct State {
 /// Why a step does not go on.
 #[derive(Clone, Copy)]
 pub enum Stop {
-    /// The voice refused.
+    /// The output refused.
     Refused,
     /// The unit ends with this text.
     Fault(Mark),
@@ -175,26 +173,26 @@ impl State {
 
 /// The word at a place, of what is printed or not.
 #[inline(always)]
-fn word_at<V: Voice>(
+fn word_at<V: Output>(
     symbol: &Symbol<'_>,
     word: Word,
     state: &State,
-    voice: &V,
+    output: &V,
     looks: &mut Looks,
 ) -> WordRead
-    ensures value { result ≡ (word_group symbol.now word state.now.letter V.loud state.now.lifetimes
-        state.now.place).reads }
+    ensures value { result ≡ (word_group symbol.now word state.now.letter V.is_printed
+        state.now.lifetimes state.now.place).reads }
     ensures grows { looks.old ≤ looks.new }
     ensures looks { looks.new + looks_later (read_stretch result) ≤ looks.old + total (word_group
-        symbol.now word state.now.letter V.loud state.now.lifetimes state.now.place).costs }
-    ensures lies { LiesIn symbol.now (read_stretch result) }
+        symbol.now word state.now.letter V.is_printed state.now.lifetimes state.now.place).costs }
+    ensures in_bounds { LiesIn symbol.now (read_stretch result) }
 {
-    let speaks = voice.speaks();
+    let is_printing = output.is_printing();
     read_word(
         symbol,
         word,
         state.letter,
-        speaks,
+        is_printing,
         state.lifetimes,
         state.place,
         looks,
@@ -203,24 +201,25 @@ fn word_at<V: Voice>(
 
 /// A word with which the unit ends.
 #[inline(always)]
-fn last_word<V: Voice>(
+fn last_word<V: Output>(
     symbol: &Symbol<'_>,
     word: Word,
-    plain: bool,
+    include_hash: bool,
     state: &mut State,
-    voice: &mut V,
+    output: &mut V,
     looks: &mut Looks,
 ) -> Result<Point, Stop>
-    requires may { MaySpeak (env V.Voice symbol.now plain) state.old voice.old }
-    ensures did { (row : List Frame) → RestDoes (env V.Voice symbol.now plain) (word_items word
-        state.old.letter done) 4 1 0 (turn state.old row voice.old looks.old) result (turn state.new
-        row voice.new looks.new) }
+    requires may { MayEmit (env V.Output symbol.now include_hash) state.old output.old }
+    ensures did { (stack : List Frame) → RestDoes (env V.Output symbol.now include_hash) (word_items
+        word state.old.letter done) 4 1 0 (turn state.old stack output.old looks.old) result (turn
+        state.new stack output.new looks.new) }
+    ensures own { looks.new ≤ looks.old + own_by 8 symbol.now state.old.place }
 {
-    match word_at(symbol, word, state, voice, looks) {
+    match word_at(symbol, word, state, output, looks) {
         WordRead::Goes(stretch, next) => {
             state.place = next;
             state.is_open = false;
-            let Ok(()) = voice.say(symbol, &stretch, plain, looks) else {
+            let Ok(()) = output.emit(symbol, &stretch, include_hash, looks) else {
                 return Err(Stop::Refused);
             };
             Ok(Point::End)

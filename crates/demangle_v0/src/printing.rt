@@ -4,7 +4,7 @@ ghost use Rattle.demangle_sink.specs.Limit.{Ready};
 ghost use Rattle.demangle_v0.specs.PointRuns.{Valid, RanOn, Ended, Finishes, ValidLeft, looks_left, first_looks};
 ghost use Rattle.demangle_v0.specs.declared.points.frames.Frame.{Frame};
 
-use crate::points::frames::{FEW, FrameStack, MIDDLE, MOST};
+use crate::points::frames::{FULL_STACK, FrameStack, MIDDLE_STACK, SHORT_STACK};
 use crate::points::read::Reading;
 use crate::points::skip::{is_skipped, skip};
 use crate::points::step::{resume, step};
@@ -12,16 +12,16 @@ use crate::points::{Point, State};
 use demangle_sink::{SinkRefused, SizeLimitedFmtAdapter, TextSink};
 use demangle_symbol::cursor::{Looks, Symbol};
 
-/// What is left to be printed, where the row is full.
+/// What is left to be printed, where the stack is full.
 #[derive(Clone, Copy)]
 pub enum Left {
-    /// What the row tells.
-    Row,
+    /// What the stack tells.
+    Stack,
     /// The same, behind the own path of an impl, which was read so far above so many frames.
-    Behind(usize, Reading),
+    OwnPath(usize, Reading),
 }
 
-/// Prints on, until nothing is left or the row is full.
+/// Prints on, until nothing is left or the stack is full.
 ///
 /// It ends at the piece that the limit or the sink refuses.
 #[inline(never)]
@@ -29,72 +29,73 @@ pub(crate) fn print_on<const N: usize, S: TextSink>(
     symbol: &Symbol<'_>,
     include_hash: bool,
     reading: &mut Reading,
-    row: &mut FrameStack<N>,
+    stack: &mut FrameStack<N>,
     out: &mut SizeLimitedFmtAdapter<'_, S>,
     looks: &mut Looks,
 ) -> Result<Option<Left>, SinkRefused>
     requires ascii { IsAscii symbol.now }
     requires ready { Ready S.TextSink out.old }
-    requires valid { Valid reading.old.point reading.old.state row.old }
+    requires valid { Valid reading.old.point reading.old.state stack.old }
     ensures ran { RanOn S.TextSink symbol.now include_hash reading.old.point reading.old.state
-        row.old out.old result reading.new row.new out.new (looks.new - looks.old) }
+        stack.old out.old result reading.new stack.new out.new (looks.new - looks.old) }
     ensures ready { IsOk result → Ready S.TextSink out.new }
-    ensures valid { ValidLeft symbol.now include_hash N result reading.new row.new }
+    ensures valid { ValidLeft symbol.now include_hash N result reading.new stack.new }
     ensures grows { looks.old ≤ looks.new }
     ensures least { looks.old + first_looks reading.old.point reading.old.state ≤ looks.new +
         looks_left result reading.new }
 {
     let mut point = reading.point;
     let mut state = reading.state;
-    'steps: while row.len() < N {
-        let Some(at) = resume(0, point, &mut state, row) else {
+    'steps: while stack.len() < N {
+        let Some(at) = resume(0, point, &mut state, stack) else {
             *reading = Reading {
                 point: Point::End,
                 state,
             };
             return Ok(None);
         };
+        // An impl's own path tells where the impl stands. It is read, and not printed.
         if is_skipped(at) {
             let mut here = Reading { point: at, state };
-            let base = row.len();
+            let base = stack.len();
             let own = here.own_path();
-            if let Some(inner) = skip(symbol, include_hash, base, own, &mut here, row, looks) {
+            if let Some(inner) = skip(symbol, include_hash, base, own, &mut here, stack, looks) {
                 *reading = here;
-                return Ok(Some(Left::Behind(base, inner)));
+                return Ok(Some(Left::OwnPath(base, inner)));
             }
             point = here.point;
             state = here.state;
         } else {
-            point = step(symbol, at, include_hash, &mut state, row, out, looks)?;
+            point = step(symbol, at, include_hash, &mut state, stack, out, looks)?;
         }
     }
     *reading = Reading { point, state };
-    Ok(Some(Left::Row))
+    Ok(Some(Left::Stack))
 }
 
 /// Goes behind the own path of an impl, if one was read so far, or answers what is left, where the
-/// row is full.
+/// stack is full.
 fn finish_skip<const N: usize>(
     symbol: &Symbol<'_>,
     include_hash: bool,
     left: Left,
     reading: &mut Reading,
-    row: &mut FrameStack<N>,
+    stack: &mut FrameStack<N>,
     looks: &mut Looks,
 ) -> Option<Left>
-    requires valid { ValidLeft symbol.now include_hash 0 (Ok (Some left)) reading.old row.old }
-    ensures finishes { Finishes symbol.now include_hash N left reading.old row.old result
-        reading.new row.new (looks.new - looks.old) }
+    requires valid { ValidLeft symbol.now include_hash 0 (Ok (Some left)) reading.old stack.old }
+    ensures finishes { Finishes symbol.now include_hash N left reading.old stack.old result
+        reading.new stack.new (looks.new - looks.old) }
     ensures grows { looks.old ≤ looks.new }
 {
-    let Left::Behind(base, inner) = left else {
+    let Left::OwnPath(base, inner) = left else {
         return None;
     };
-    let more = skip(symbol, include_hash, base, inner, reading, row, looks)?;
-    Some(Left::Behind(base, more))
+    let more = skip(symbol, include_hash, base, inner, reading, stack, looks)?;
+    Some(Left::OwnPath(base, more))
 }
 
-/// Prints what is left, until nothing is or the row is full.
+/// Prints what is left, until nothing is or the stack is full.
 ///
 /// It ends at the piece that the limit or the sink refuses.
 fn print_left<const N: usize, S: TextSink>(
@@ -102,27 +103,27 @@ fn print_left<const N: usize, S: TextSink>(
     include_hash: bool,
     left: Left,
     reading: &mut Reading,
-    row: &mut FrameStack<N>,
+    stack: &mut FrameStack<N>,
     out: &mut SizeLimitedFmtAdapter<'_, S>,
     looks: &mut Looks,
 ) -> Result<Option<Left>, SinkRefused>
     requires ascii { IsAscii symbol.now }
     requires ready { Ready S.TextSink out.old }
-    requires valid { ValidLeft symbol.now include_hash 0 (Ok (Some left)) reading.old row.old }
+    requires valid { ValidLeft symbol.now include_hash 0 (Ok (Some left)) reading.old stack.old }
     ensures ran { (p : Point) (s : State) (before : List Frame) (v : SizeLimitedFmtAdapter S) (first
         : ℕ) → RanOn S.TextSink symbol.now include_hash p s before v (Ok (Some left)) reading.old
-        row.old out.old first → RanOn S.TextSink symbol.now include_hash p s before v result
-        reading.new row.new out.new (first + (looks.new - looks.old)) }
+        stack.old out.old first → RanOn S.TextSink symbol.now include_hash p s before v result
+        reading.new stack.new out.new (first + (looks.new - looks.old)) }
     ensures ready { IsOk result → Ready S.TextSink out.new }
-    ensures valid { ValidLeft symbol.now include_hash N result reading.new row.new }
+    ensures valid { ValidLeft symbol.now include_hash N result reading.new stack.new }
     ensures grows { looks.old ≤ looks.new }
     ensures least { looks.old + first_looks reading.old.point reading.old.state ≤ looks.new +
         looks_left result reading.new }
 {
-    if let Some(more) = finish_skip(symbol, include_hash, left, reading, row, looks) {
+    if let Some(more) = finish_skip(symbol, include_hash, left, reading, stack, looks) {
         return Ok(Some(more));
     }
-    print_on(symbol, include_hash, reading, row, out, looks)
+    print_on(symbol, include_hash, reading, stack, out, looks)
 }
 
 /// Prints the rest, with room for every frame.
@@ -130,7 +131,7 @@ fn print_left<const N: usize, S: TextSink>(
 fn print_rest<S: TextSink>(
     symbol: &Symbol<'_>,
     include_hash: bool,
-    few: &FrameStack<MIDDLE>,
+    few: &FrameStack<MIDDLE_STACK>,
     from: &Reading,
     left: Left,
     out: &mut SizeLimitedFmtAdapter<'_, S>,
@@ -139,34 +140,34 @@ fn print_rest<S: TextSink>(
     requires ascii { IsAscii symbol.now }
     requires ready { Ready S.TextSink out.old }
     requires valid { ValidLeft symbol.now include_hash 0 (Ok (Some left)) from.now few.now }
-    ensures ended { (p : Point) (s : State) (row : List Frame) (v : SizeLimitedFmtAdapter S) (first
-        : ℕ) → RanOn S.TextSink symbol.now include_hash p s row v (Ok (Some left)) from.now few.now
-        out.old first → Ended S.TextSink symbol.now include_hash p s row v result out.new (first +
-        (looks.new - looks.old)) }
+    ensures ended { (p : Point) (s : State) (stack : List Frame) (v : SizeLimitedFmtAdapter S)
+        (first : ℕ) → RanOn S.TextSink symbol.now include_hash p s stack v (Ok (Some left)) from.now
+        few.now out.old first → Ended S.TextSink symbol.now include_hash p s stack v result out.new
+        (first + (looks.new - looks.old)) }
     ensures grows { looks.old ≤ looks.new }
     ensures least { looks.old + first_looks from.now.point from.now.state ≤ looks.new }
 {
-    let mut row: FrameStack<MOST> = FrameStack::new();
-    row.append(few);
+    let mut stack: FrameStack<FULL_STACK> = FrameStack::new();
+    stack.append(few);
     let mut reading = *from;
     print_left(
         symbol,
         include_hash,
         left,
         &mut reading,
-        &mut row,
+        &mut stack,
         out,
         looks,
     )?;
     Ok(())
 }
 
-/// Prints the rest in a second row, and where that is full too, in the last.
+/// Prints the rest in a second stack, and where that is full too, in the last.
 #[inline(never)]
 pub(crate) fn print_more<S: TextSink>(
     symbol: &Symbol<'_>,
     include_hash: bool,
-    few: &FrameStack<FEW>,
+    few: &FrameStack<SHORT_STACK>,
     from: &Reading,
     left: Left,
     out: &mut SizeLimitedFmtAdapter<'_, S>,
@@ -175,26 +176,26 @@ pub(crate) fn print_more<S: TextSink>(
     requires ascii { IsAscii symbol.now }
     requires ready { Ready S.TextSink out.old }
     requires valid { ValidLeft symbol.now include_hash 0 (Ok (Some left)) from.now few.now }
-    ensures ended { (p : Point) (s : State) (row : List Frame) (v : SizeLimitedFmtAdapter S) (first
-        : ℕ) → RanOn S.TextSink symbol.now include_hash p s row v (Ok (Some left)) from.now few.now
-        out.old first → Ended S.TextSink symbol.now include_hash p s row v result out.new (first +
-        (looks.new - looks.old)) }
+    ensures ended { (p : Point) (s : State) (stack : List Frame) (v : SizeLimitedFmtAdapter S)
+        (first : ℕ) → RanOn S.TextSink symbol.now include_hash p s stack v (Ok (Some left)) from.now
+        few.now out.old first → Ended S.TextSink symbol.now include_hash p s stack v result out.new
+        (first + (looks.new - looks.old)) }
     ensures grows { looks.old ≤ looks.new }
     ensures least { looks.old + first_looks from.now.point from.now.state ≤ looks.new }
 {
-    let mut row: FrameStack<MIDDLE> = FrameStack::new();
-    row.append(few);
+    let mut stack: FrameStack<MIDDLE_STACK> = FrameStack::new();
+    stack.append(few);
     let mut reading = *from;
     match print_left(
         symbol,
         include_hash,
         left,
         &mut reading,
-        &mut row,
+        &mut stack,
         out,
         looks,
     )? {
         None => Ok(()),
-        Some(left) => print_rest(symbol, include_hash, &row, &reading, left, out, looks),
+        Some(left) => print_rest(symbol, include_hash, &stack, &reading, left, out, looks),
     }
 }

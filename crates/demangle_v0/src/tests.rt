@@ -1,5 +1,5 @@
 //! What is handed over, step by step.
-ghost use Rattle.std.specs.Prelude.{◌≡◌, ◌-◌, [], ◌++◌, length, Some, true, false};
+ghost use Rattle.std.specs.Prelude.{◌≡◌, ◌-◌, ◌++◌, length, Some, true, false};
 ghost use Rattle.std.proofs.Common.{sym, ap, ◌∙◌};
 ghost use Rattle.std.proofs.lemmas.List.{append-nil, append_assoc};
 ghost use Rattle.std.specs.Str.{IsAscii};
@@ -7,15 +7,15 @@ ghost use Rattle.demangle_sink.specs.Array.{text_of};
 ghost use Rattle.demangle_sink.specs.Limit.{Prints, Ready};
 ghost use Rattle.demangle_v0.specs.PointRuns.{Valid};
 
-use crate::points::frames::{FrameStack, MOST};
+use crate::points::frames::{FULL_STACK, FrameStack};
 use crate::points::read::Reading;
 use crate::points::skip::{is_skipped, skip};
 use crate::points::step::{resume, step};
 use demangle_sink::{ArraySink, SinkRefused, SizeLimitedFmtAdapter, TextSink};
 use demangle_symbol::cursor::{Looks, Symbol};
+use demangle_words::output::Output;
 use demangle_words::stretch::Stretch;
 use demangle_words::texts::text;
-use demangle_words::voice::Voice;
 use std::test::Fail;
 
 mod rows;
@@ -83,37 +83,37 @@ impl<'s> CountingVoice<'s> {
     }
 }
 
-impl<'s> Voice for CountingVoice<'s> {
-    ghost loud = { true };
+impl<'s> Output for CountingVoice<'s> {
+    ghost is_printed = { true };
 
     ghost ready = { λ v. Ready ⟦<CountingSink as TextSink>⟧ v.out };
 
     ghost prints = { λ v texts result w. Prints ⟦<CountingSink as TextSink>⟧ v.out texts result w.out };
 
-    fn speaks(&self) -> bool {
+    fn is_printing(&self) -> bool {
         true
     }
 
-    fn say(
+    fn emit(
         &mut self,
         symbol: &Symbol<'_>,
         stretch: &Stretch,
-        plain: bool,
+        include_hash: bool,
         looks: &mut Looks,
     ) -> Result<(), SinkRefused> {
         self.count(stretch);
-        self.out.say(symbol, stretch, plain, looks)
+        self.out.emit(symbol, stretch, include_hash, looks)
     }
 
-    fn stop(
+    fn emit_fault(
         &mut self,
         symbol: &Symbol<'_>,
         stretch: &Stretch,
-        plain: bool,
+        include_hash: bool,
         looks: &mut Looks,
     ) -> Result<(), SinkRefused> {
         self.count(stretch);
-        self.out.stop(symbol, stretch, plain, looks)
+        self.out.emit_fault(symbol, stretch, include_hash, looks)
     }
 }
 
@@ -137,7 +137,7 @@ fn steps_print(inner: &str, include_hash: bool, wanted: &str) -> bool {
     if !symbol.is_ascii(&mut looks) {
         return false;
     }
-    let mut row: FrameStack<MOST> = FrameStack::new();
+    let mut stack: FrameStack<FULL_STACK> = FrameStack::new();
     let mut reading = Reading::of_path(0);
     let mut sink = CountingSink::new();
     for _ in 0..200_000 {
@@ -145,7 +145,7 @@ fn steps_print(inner: &str, include_hash: bool, wanted: &str) -> bool {
             &symbol,
             include_hash,
             &mut reading,
-            &mut row,
+            &mut stack,
             &mut sink,
             &mut looks,
         ) {
@@ -163,31 +163,31 @@ fn goes_on(
     symbol: &Symbol<'_>,
     include_hash: bool,
     reading: &mut Reading,
-    row: &mut FrameStack<MOST>,
+    stack: &mut FrameStack<FULL_STACK>,
     sink: &mut CountingSink,
     looks: &mut Looks,
 ) -> Option<bool>
     requires ascii { IsAscii symbol.now }
-    requires valid { Valid reading.old.point reading.old.state row.old }
-    ensures valid { result ≡ Some false → Valid reading.new.point reading.new.state row.new }
+    requires valid { Valid reading.old.point reading.old.state stack.old }
+    ensures valid { result ≡ Some false → Valid reading.new.point reading.new.state stack.new }
 {
-    if row.len() >= MOST || sink.is_failed() {
+    if stack.len() >= FULL_STACK || sink.is_failed() {
         return None;
     }
-    let Some(at) = resume(0, reading.point, &mut reading.state, row) else {
+    let Some(at) = resume(0, reading.point, &mut reading.state, stack) else {
         return Some(true);
     };
     reading.point = at;
     if is_skipped(at) {
-        let base = row.len();
+        let base = stack.len();
         let own = reading.own_path();
-        return match skip(symbol, include_hash, base, own, reading, row, looks) {
+        return match skip(symbol, include_hash, base, own, reading, stack, looks) {
             None => Some(false),
             Some(_) => None,
         };
     }
     let (from, pieces) = (sink.text.as_str().len(), sink.pieces);
-    let mut voice = CountingVoice {
+    let mut output = CountingVoice {
         out: SizeLimitedFmtAdapter::new(sink, 1_000_000),
         stretches: 0,
         last: Stretch::Nothing,
@@ -197,14 +197,14 @@ fn goes_on(
         at,
         include_hash,
         &mut reading.state,
-        row,
-        &mut voice,
+        stack,
+        &mut output,
         looks,
     ) else {
         return None;
     };
     reading.point = next;
-    let (stretches, last) = (voice.stretches, voice.last);
+    let (stretches, last) = (output.stretches, output.last);
     let added = sink.text.as_str().get(from..)?;
     if !is_of_one_step(stretches, last, added, sink.pieces.saturating_sub(pieces)) {
         return None;
@@ -214,8 +214,8 @@ fn goes_on(
 
 /// Whether the steps print each of these symbols so, in both forms.
 fn all_step(rows: &[(&str, &str, &str)]) -> bool {
-    for &(inner, plain, alt) in rows {
-        if !steps_print(inner, true, plain) || !steps_print(inner, false, alt) {
+    for &(inner, include_hash, alt) in rows {
+        if !steps_print(inner, true, include_hash) || !steps_print(inner, false, alt) {
             return false;
         }
     }

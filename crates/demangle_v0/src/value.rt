@@ -4,7 +4,7 @@ ghost use Rattle.demangle_sink.specs.Cut.{kept};
 ghost use Rattle.demangle_sink.specs.Limit.{Prints, Ready};
 ghost use Rattle.demangle_grammar.specs.Reading.{path_texts};
 
-use crate::points::frames::{FEW, FrameStack};
+use crate::points::frames::{FrameStack, SHORT_STACK};
 use crate::points::read::Reading;
 use crate::printing::{print_more, print_on};
 use demangle_sink::{SinkRefused, SizeLimitedFmtAdapter, TextSink};
@@ -53,18 +53,26 @@ impl<'s> Demangle<'s> {
             out.old.remaining + 1) * (length self.now + 1) }
         ensures least { looks.old + 1 ≤ looks.new }
     {
-        let mut row: FrameStack<FEW> = FrameStack::new();
+        let mut stack: FrameStack<SHORT_STACK> = FrameStack::new();
         let mut reading = Reading::of_path(0);
         match print_on(
             &self.inner,
             include_hash,
             &mut reading,
-            &mut row,
+            &mut stack,
             out,
             looks,
         )? {
             None => Ok(()),
-            Some(left) => print_more(&self.inner, include_hash, &row, &reading, left, out, looks),
+            Some(left) => print_more(
+                &self.inner,
+                include_hash,
+                &stack,
+                &reading,
+                left,
+                out,
+                looks,
+            ),
         }
     }
 }

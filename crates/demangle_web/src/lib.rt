@@ -2,62 +2,19 @@
 //! for C that a page needs, and two that find the symbols of a text.
 #![tactic(auto)]
 
-ghost use Rattle.std.specs.Prelude.{◌≡◌, ◌+◌, ◌<◌, ◌≤◌, ◌↔◌, ℕ, List, true, false, drop, length, IsTrue, OnSome, IfSome, IfNone};
+ghost use Rattle.std.specs.Prelude.{◌≡◌, ◌+◌, ◌<◌, ◌≤◌, ◌↔◌, ℕ, true, false, drop, length, IsTrue};
 ghost use Prim.Native.Nat.{min};
-ghost use Rattle.std.specs.List.{concat, prefix_len};
+ghost use Rattle.std.specs.List.{prefix_len};
 ghost use Rattle.rustc_demangle.specs.Cut.{size};
 ghost use Rattle.rustc_demangle.specs.Filtered.{is_run, begins_run, filtered_within};
 ghost use Rattle.rustc_demangle.specs.Slice.{overlay};
-ghost use Rattle.rustc_demangle.specs.Stripped.{stripped};
-ghost use Rattle.rustc_demangle.specs.Symbols.{handed};
-ghost use Rattle.demangle_web.specs.Naming.{NamesRust, path_within, c_string};
+ghost use Rattle.demangle_path.specs.Naming.{NamesRust, path_within, c_string};
 
 #[cfg(test)]
 mod tests;
 
-use rustc_demangle::sink::SliceSink;
-use rustc_demangle::{Demangle, demangle_slice, run_len, run_start, try_demangle};
-
-/// The most bytes that are printed of a symbol, before the marker and the suffix.
-const MAX_SIZE: usize = 1_000_000;
-
-/// The symbol that the bytes are.
-#[tactic(auto, using(rustc_demangle::proofs::SymbolLaws::symbols_utf8))]
-fn symbol_of(bytes: &[u8]) -> Option<Demangle<'_>>
-    ensures symbol { OnSome result (NamesRust bytes.now) }
-    ensures text { IfSome result (λ d. d ≡ stripped bytes.now) }
-    ensures none { IfNone result (NamesRust bytes.now → ⊥) }
-{
-    let Ok(text) = str::from_utf8(bytes) else {
-        return None;
-    };
-    try_demangle(text).ok()
-}
-
-/// Writes the path into memory, as much as there is room for, and counts its bytes.
-fn write_path(symbol: &Demangle<'_>, out: &mut [u8], include_hash: bool, limit: usize) -> usize
-    requires { size (handed symbol.now include_hash limit) ≤ usize.MAX }
-    ensures len { result ≡ length (concat (handed symbol.now include_hash limit)) }
-    ensures bytes { out.new ≡ overlay out.old (concat (handed symbol.now include_hash limit)) }
-{
-    let mut sink = SliceSink::new(out);
-    match symbol.write_limited(&mut sink, include_hash, limit) {
-        Ok(()) => sink.len(),
-        Err(_) => unreachable!(),
-    }
-}
-
-/// Puts a 0 behind a text of this many bytes that was laid into memory, or at the memory's last
-/// byte.
-fn put_end(out: &mut [u8], len: usize)
-    ensures { (memory text : List ℕ) → out.old ≡ overlay memory text → length text ≡ len →
-        out.new ≡ overlay memory (c_string (length memory) text) }
-{
-    if !out.is_empty() {
-        let end = len.min(out.len() - 1);
-        out[end] = 0;
-    }
-}
+use demangle_path::{MAX_SIZE, symbol_of, write_part, write_text};
+use rustc_demangle::{run_len, run_start};
 
 /// Whether the bytes are a Rust symbol, in the legacy scheme or in v0 (Rust RFC 2603), once an
 /// ending of ThinLTO is taken off.
@@ -93,13 +50,7 @@ pub extern "C" fn kodliwe_demangle_limited(
         let path = path_within symbol.now include_hash (min limit MAX_SIZE) in
         out.new ≡ overlay out.old (c_string (length out.old) path) }
 {
-    let Some(demangled) = symbol_of(symbol) else {
-        return 0;
-    };
-    let most = limit.min(MAX_SIZE);
-    let len = write_path(&demangled, out, include_hash, most);
-    put_end(out, len);
-    len + 1
+    write_part(symbol, out, include_hash, limit, 0)
 }
 
 /// Writes any bytes into memory with each Rust symbol in them replaced by its path, with a 0 behind
@@ -125,11 +76,7 @@ pub extern "C" fn kodliwe_demangle_text(
     ensures past { usize.MAX ≤ length (filtered_within include_hash (min limit MAX_SIZE) text.now) →
         result ≡ usize.MAX }
 {
-    let Some(len) = demangle_slice(text, out, include_hash, limit.min(MAX_SIZE)) else {
-        return usize::MAX;
-    };
-    put_end(out, len);
-    len.saturating_add(1)
+    write_text(text, out, include_hash, limit)
 }
 
 /// Where the next `_ZN` or `_R` stands in a text, or the text's size where there is none.

@@ -15,7 +15,7 @@ use Rattle.demangle_words.specs.Texts.{text, word_items, says_head, function_hea
 use Rattle.demangle_grammar.specs.Events.{Event, shows, allows, shown_if, events, Heard, of, nothing_heard, with_looks, with_texts, around}
 use Rattle.demangle_symbol.specs.Idents.{ident_parts, ident_at}
 use Rattle.demangle_symbol.specs.Nibbles.{hex_at}
-use Rattle.demangle_words.specs.Groups.{bytes_in, nested_texts, number_texts, if_plain, texts_of, Group, goes, faulty, behind_word, byte_group, if_in_force, abi_named, abi_group, truth_stretch, character_stretch, literal_stretch, crate_group, nested_group, word_group}
+use Rattle.demangle_words.specs.WordReads.{bytes_in, nested_texts, number_texts, if_plain, texts_of, Group, goes, faulty, behind_word, byte_group, if_in_force, abi_named, abi_group, bool_stretch, character_stretch, literal_stretch, crate_group, nested_group, word_group}
 use Rattle.demangle_symbol.specs.declared.cursor.Part.{Part}
 use Rattle.demangle_symbol.specs.declared.cursor.ident.Ident.{Ident}
 use Rattle.demangle_words.specs.declared.texts.Word.{Word}
@@ -29,11 +29,11 @@ use Rattle.demangle_grammar.proofs.Hearing.{handing_both, said_all_append, piece
 
 -- a word, and what follows it unless it ends the unit
 abbrev pub word_then : List ℕ → Bool → Bool → WordRead → (Place → Heard) → Heard
-word_then b plain out (Goes x j) k = with_texts out (texts_of b plain x) (k j)
-word_then b plain out (Stops m) k = with_texts out (text m ∷ []) (nothing_heard None false)
+word_then b include_hash out (Goes x j) k = with_texts out (texts_of b include_hash x) (k j)
+word_then b include_hash out (Stops m) k = with_texts out (text m ∷ []) (nothing_heard None false)
 
 abbrev pub grouped : List ℕ → Bool → Bool → Group → (Place → Heard) → Heard
-grouped b plain out g k = with_looks g.costs (word_then b plain out g.reads k)
+grouped b include_hash out g k = with_looks g.costs (word_then b include_hash out g.reads k)
 
 -- what is heard behind an allowance, and behind a text
 abbrev paying : ℕ → Heard → Heard
@@ -45,52 +45,52 @@ saying out t h = record { events = shown_if out t h.events; place = h.place; is_
 heard : List Event → Heard → Heard
 heard xs h = record { events = xs; place = h.place; is_open = h.is_open }
 
-pub says_all : (plain out : Bool) (ts : List Text) (p : Items) (s : Surroundings) (j : Place) → of plain out (run (say_all ts p) s j) ≡ with_texts out ts (of plain out (run p s j))
+pub says_all : (include_hash out : Bool) (ts : List Text) (p : Items) (s : Surroundings) (j : Place) → of include_hash out (run (say_all ts p) s j) ≡ with_texts out ts (of include_hash out (run p s j))
 unfolding run
-says_all plain out [] p s j = refl
-says_all plain out (t ∷ ts) p s j = ap (saying out t) (says_all plain out ts p s j)
+says_all include_hash out [] p s j = refl
+says_all include_hash out (t ∷ ts) p s j = ap (saying out t) (says_all include_hash out ts p s j)
 
 -- Words.
 
-word_reads : {A : Type 0} (b : List ℕ) (plain out : Bool) (n i : ℕ) (rest : A → Place → Outcome) (f : A → ℕ → Group) (k : Place → Heard) → ((a : A) (j : ℕ) → of plain out (rest a (Some j)) ≡ grouped b plain out (f a j) k) → (r : Read A)
-    → of plain out (word_outcome n i rest r) ≡ grouped b plain out (behind_word n i r f) k
-word_reads b plain out n i rest f k h None = refl
-word_reads b plain out n i rest f k h (Some r) = ap (paying (4 * (r.1 - i + 1))) (h r.0 r.1)
+word_reads : {A : Type 0} (b : List ℕ) (include_hash out : Bool) (n i : ℕ) (rest : A → Place → Outcome) (f : A → ℕ → Group) (k : Place → Heard) → ((a : A) (j : ℕ) → of include_hash out (rest a (Some j)) ≡ grouped b include_hash out (f a j) k) → (r : Read A)
+    → of include_hash out (word_outcome n i rest r) ≡ grouped b include_hash out (behind_word n i r f) k
+word_reads b include_hash out n i rest f k h None = refl
+word_reads b include_hash out n i rest f k h (Some r) = ap (paying (4 * (r.1 - i + 1))) (h r.0 r.1)
 
-pub name_reads : (b : List ℕ) (plain out : Bool) (n i : ℕ) (rest : Name → Place → Outcome) (f : Ident → ℕ → Group) (k : Place → Heard) → ((j : ℕ) → of plain out (rest (name_of b i j) (Some j)) ≡ grouped b plain out (f (ident_parts b i j) j) k)
-    → of plain out (word_outcome n i rest (identifier_at b i)) ≡ grouped b plain out (behind_word n i (ident_at b i) f) k
+pub name_reads : (b : List ℕ) (include_hash out : Bool) (n i : ℕ) (rest : Name → Place → Outcome) (f : Ident → ℕ → Group) (k : Place → Heard) → ((j : ℕ) → of include_hash out (rest (name_of b i j) (Some j)) ≡ grouped b include_hash out (f (ident_parts b i j) j) k)
+    → of include_hash out (word_outcome n i rest (identifier_at b i)) ≡ grouped b include_hash out (behind_word n i (ident_at b i) f) k
 unfolding identifier_at
-name_reads b plain out n i rest f k h = go _ (name_from b i + name_len b i)
+name_reads b include_hash out n i rest f k h = go _ (name_from b i + name_len b i)
   where
-    go : (c : Bool) (j : ℕ) → of plain out (word_outcome n i rest (only_if c (name_of b i j, j))) ≡ grouped b plain out (behind_word n i (option_map (λ (r : Name × ℕ). (ident_parts b i r.1, r.1)) (only_if c (name_of b i j, j))) f) k
+    go : (c : Bool) (j : ℕ) → of include_hash out (word_outcome n i rest (only_if c (name_of b i j, j))) ≡ grouped b include_hash out (behind_word n i (option_map (λ (r : Name × ℕ). (ident_parts b i r.1, r.1)) (only_if c (name_of b i j, j))) f) k
     go true j = ap (paying (4 * (j - i + 1))) (h j)
     go false j = refl
 
-hex_reads : (b : List ℕ) (plain out : Bool) (n i : ℕ) (rest : List ℕ → Place → Outcome) (f : Part → ℕ → Group) (k : Place → Heard) → ((end j : ℕ) → of plain out (rest (slice_range b i end) (Some j)) ≡ grouped b plain out (f (record { from = i; to = end }) j) k)
-    → of plain out (word_outcome n i rest (nibbles_at b i)) ≡ grouped b plain out (behind_word n i (hex_at b i) f) k
+hex_reads : (b : List ℕ) (include_hash out : Bool) (n i : ℕ) (rest : List ℕ → Place → Outcome) (f : Part → ℕ → Group) (k : Place → Heard) → ((end j : ℕ) → of include_hash out (rest (slice_range b i end) (Some j)) ≡ grouped b include_hash out (f (record { from = i; to = end }) j) k)
+    → of include_hash out (word_outcome n i rest (nibbles_at b i)) ≡ grouped b include_hash out (behind_word n i (hex_at b i) f) k
 unfolding nibbles_at
-hex_reads b plain out n i rest f k h = go _ (run_end is_nibble b i)
+hex_reads b include_hash out n i rest f k h = go _ (run_end is_nibble b i)
   where
-    go : (c : Bool) (end : ℕ) → of plain out (word_outcome n i rest (only_if c (slice_range b i end, end + 1))) ≡ grouped b plain out (behind_word n i (option_map (λ (r : List ℕ × ℕ). (record { from = i; to = r.1 - 1 }, r.1)) (only_if c (slice_range b i end, end + 1))) f) k
+    go : (c : Bool) (end : ℕ) → of include_hash out (word_outcome n i rest (only_if c (slice_range b i end, end + 1))) ≡ grouped b include_hash out (behind_word n i (option_map (λ (r : List ℕ × ℕ). (record { from = i; to = r.1 - 1 }, r.1)) (only_if c (slice_range b i end, end + 1))) f) k
     go true end =
         let e : end ≡ end + 1 - 1 = omega arith in
-        ap (paying (4 * (end + 1 - i + 1))) (subst (λ z. of plain out (rest (slice_range b i end) (Some (end + 1))) ≡ grouped b plain out (f (record { from = i; to = z }) (end + 1)) k) e (h end (end + 1)))
+        ap (paying (4 * (end + 1 - i + 1))) (subst (λ z. of include_hash out (rest (slice_range b i end) (Some (end + 1))) ≡ grouped b include_hash out (f (record { from = i; to = z }) (end + 1)) k) e (h end (end + 1)))
     go false end = refl
 
-ask_reads : (b : List ℕ) (plain out c : Bool) (f g : Place → Outcome) (x y : Group) (k : Place → Heard) (i : ℕ) → of plain out (f (Some (i + 1))) ≡ grouped b plain out x k → of plain out (g (Some i)) ≡ grouped b plain out y k
-    → of plain out (byte_choice c f g (Some i)) ≡ grouped b plain out (byte_group c x y) k
-ask_reads b plain out true f g x y k i p q = ap (paying 1) p
-ask_reads b plain out false f g x y k i p q = ap (paying 1) q
+ask_reads : (b : List ℕ) (include_hash out c : Bool) (f g : Place → Outcome) (x y : Group) (k : Place → Heard) (i : ℕ) → of include_hash out (f (Some (i + 1))) ≡ grouped b include_hash out x k → of include_hash out (g (Some i)) ≡ grouped b include_hash out y k
+    → of include_hash out (byte_choice c f g (Some i)) ≡ grouped b include_hash out (byte_group c x y) k
+ask_reads b include_hash out true f g x y k i p q = ap (paying 1) p
+ask_reads b include_hash out false f g x y k i p q = ap (paying 1) q
 
 -- Names.
 
-crate_read : (b : List ℕ) (plain out : Bool) (s : Surroundings) (a : Ident) (name : Name) (d : ℕ) (j : Place) → name ≡ Rattle.demangle_symbol.specs.Idents.name_in b a
-    → of plain out (run (says_name name (if d == 0 then done else say_plain (codes "[") (say_plain (digits 16 false d) (say_plain (codes "]") done)))) s j) ≡ with_texts out (texts_of b plain (CrateName a d)) (of plain out (run done s j))
+crate_read : (b : List ℕ) (include_hash out : Bool) (s : Surroundings) (a : Ident) (name : Name) (d : ℕ) (j : Place) → name ≡ Rattle.demangle_symbol.specs.Idents.name_in b a
+    → of include_hash out (run (says_name name (if d == 0 then done else say_plain (codes "[") (say_plain (digits 16 false d) (say_plain (codes "]") done)))) s j) ≡ with_texts out (texts_of b include_hash (CrateName a d)) (of include_hash out (run done s j))
 unfolding run
-crate_read b plain out s a name d j e =
-    rw e (says_all plain out (name_pieces (Rattle.demangle_symbol.specs.Idents.name_in b a)) (cond (d == 0) done more) s j
-    ∙ (ap (with_texts out (name_pieces (Rattle.demangle_symbol.specs.Idents.name_in b a))) (go plain (d == 0))
-    ∙ sym (handing_both out (name_pieces (Rattle.demangle_symbol.specs.Idents.name_in b a)) (cond (d == 0) [] (if_plain plain ts)) (of plain out (run done s j)))))
+crate_read b include_hash out s a name d j e =
+    rw e (says_all include_hash out (name_pieces (Rattle.demangle_symbol.specs.Idents.name_in b a)) (cond (d == 0) done more) s j
+    ∙ (ap (with_texts out (name_pieces (Rattle.demangle_symbol.specs.Idents.name_in b a))) (go include_hash (d == 0))
+    ∙ sym (handing_both out (name_pieces (Rattle.demangle_symbol.specs.Idents.name_in b a)) (cond (d == 0) [] (if_plain include_hash ts)) (of include_hash out (run done s j)))))
   where
     more : Items
     more = say_plain (codes "[") (say_plain (digits 16 false d) (say_plain (codes "]") done))
@@ -98,15 +98,15 @@ crate_read b plain out s a name d j e =
     ts : List Text
     ts = codes "[" ∷ digits 16 false d ∷ codes "]" ∷ []
 
-    go : (plain c : Bool) → of plain out (run (cond c done more) s j) ≡ with_texts out (cond c [] (if_plain plain ts)) (of plain out (run done s j))
-    go plain true = refl
+    go : (include_hash c : Bool) → of include_hash out (run (cond c done more) s j) ≡ with_texts out (cond c [] (if_plain include_hash ts)) (of include_hash out (run done s j))
+    go include_hash true = refl
     go true false = refl
     go false false = refl
 
-nested_read : (b : List ℕ) (plain out : Bool) (s : Surroundings) (a : Name) (n d : ℕ) (j : Place)
-    → of plain out (run (if is_upper n then in_special n d a else if is_nameless a then done else says "::" (says_name a done)) s j) ≡ with_texts out (nested_texts n d a) (of plain out (run done s j))
+nested_read : (b : List ℕ) (include_hash out : Bool) (s : Surroundings) (a : Name) (n d : ℕ) (j : Place)
+    → of include_hash out (run (if is_upper n then in_special n d a else if is_nameless a then done else says "::" (says_name a done)) s j) ≡ with_texts out (nested_texts n d a) (of include_hash out (run done s j))
 unfolding run
-nested_read b plain out s a n d j = go (is_upper n) (is_nameless a)
+nested_read b include_hash out s a n d j = go (is_upper n) (is_nameless a)
   where
     ending : Items
     ending = says "#" (say (decimal d) (says "}" done))
@@ -117,89 +117,89 @@ nested_read b plain out s a n d j = go (is_upper n) (is_nameless a)
     which : Text
     which = if n == code "C" then codes "closure" else if n == code "S" then codes "shim" else n ∷ []
 
-    go : (u e : Bool) → of plain out (run (cond u (says "::{" (say which (cond e ending (says ":" (says_name a ending))))) (cond e done (says "::" (says_name a done)))) s j)
-        ≡ with_texts out (cond u (codes "::{" ∷ which ∷ (cond e [] (codes ":" ∷ name_pieces a) ++ ends)) (cond e [] (codes "::" ∷ name_pieces a))) (of plain out (run done s j))
+    go : (u e : Bool) → of include_hash out (run (cond u (says "::{" (say which (cond e ending (says ":" (says_name a ending))))) (cond e done (says "::" (says_name a done)))) s j)
+        ≡ with_texts out (cond u (codes "::{" ∷ which ∷ (cond e [] (codes ":" ∷ name_pieces a) ++ ends)) (cond e [] (codes "::" ∷ name_pieces a))) (of include_hash out (run done s j))
     go true true = refl
     go true false =
         ap (λ (h : Heard). saying out (codes "::{") (saying out which (saying out (codes ":") h)))
-        (says_all plain out (name_pieces a) ending s j ∙ sym (handing_both out (name_pieces a) ends (of plain out (run done s j))))
+        (says_all include_hash out (name_pieces a) ending s j ∙ sym (handing_both out (name_pieces a) ends (of include_hash out (run done s j))))
     go false true = refl
-    go false false = ap (saying out (codes "::")) (says_all plain out (name_pieces a) done s j)
+    go false false = ap (saying out (codes "::")) (says_all include_hash out (name_pieces a) done s j)
 
 -- Lifetimes.
 
 abbrev lifetime_heard : Bool → Bool → ℕ → ℕ → ℕ → (Place → Outcome) → Heard
-lifetime_heard plain false n k j f = of plain false (f (Some j))
-lifetime_heard plain true n k j f =
-    if nat_le k n then with_texts true (codes "'" ∷ letter_of (n - k)) (of plain true (f (Some j)))
-    else with_texts true (codes "'" ∷ codes "{invalid syntax}" ∷ []) (of plain true (f None))
+lifetime_heard include_hash false n k j f = of include_hash false (f (Some j))
+lifetime_heard include_hash true n k j f =
+    if nat_le k n then with_texts true (codes "'" ∷ letter_of (n - k)) (of include_hash true (f (Some j)))
+    else with_texts true (codes "'" ∷ codes "{invalid syntax}" ∷ []) (of include_hash true (f None))
 
-lifetime_checked : (plain out : Bool) (n k j : ℕ) (f : Place → Outcome) → (k == 0) ≡ false → of plain out (followed_by (lifetime_at out n k (Some j)) f) ≡ lifetime_heard plain out n k j f
+lifetime_checked : (include_hash out : Bool) (n k j : ℕ) (f : Place → Outcome) → (k == 0) ≡ false → of include_hash out (followed_by (lifetime_at out n k (Some j)) f) ≡ lifetime_heard include_hash out n k j f
 unfolding heard
-lifetime_checked plain false n k j f e = refl
-lifetime_checked plain true n k j f e = rw e (go (nat_le k n))
+lifetime_checked include_hash false n k j f e = refl
+lifetime_checked include_hash true n k j f e = rw e (go (nat_le k n))
   where
-    go : (c : Bool) → of plain true (followed_by (behind (piece (codes "'")) (cond c (behind (all_pieces (letter_of (n - k))) (stands (Some j))) (fault invalid_syntax))) f)
-        ≡ cond c (with_texts true (codes "'" ∷ letter_of (n - k)) (of plain true (f (Some j)))) (with_texts true (codes "'" ∷ codes "{invalid syntax}" ∷ []) (of plain true (f None)))
+    go : (c : Bool) → of include_hash true (followed_by (behind (piece (codes "'")) (cond c (behind (all_pieces (letter_of (n - k))) (stands (Some j))) (fault invalid_syntax))) f)
+        ≡ cond c (with_texts true (codes "'" ∷ letter_of (n - k)) (of include_hash true (f (Some j)))) (with_texts true (codes "'" ∷ codes "{invalid syntax}" ∷ []) (of include_hash true (f None)))
     go true =
-        ap (λ xs. heard (shows (codes "'") ∷ (xs ++ events plain true (f (Some j)).tree)) (of plain true (f (Some j)))) (pieces_heard plain true (letter_of (n - k)) nothing)
-        ∙ ap (λ xs. heard (shows (codes "'") ∷ xs) (of plain true (f (Some j)))) (said_all_append true (letter_of (n - k)) [] (events plain true (f (Some j)).tree))
+        ap (λ xs. heard (shows (codes "'") ∷ (xs ++ events include_hash true (f (Some j)).tree)) (of include_hash true (f (Some j)))) (pieces_heard include_hash true (letter_of (n - k)) nothing)
+        ∙ ap (λ xs. heard (shows (codes "'") ∷ xs) (of include_hash true (f (Some j)))) (said_all_append true (letter_of (n - k)) [] (events include_hash true (f (Some j)).tree))
     go false = refl
 
-lifetime_read : (b : List ℕ) (plain out : Bool) (s : Surroundings) (n : ℕ) (p : Items) (k j : ℕ)
-    → of plain out (followed_by (lifetime_at out n k (Some j)) (run p s)) ≡ grouped b plain out (if k == 0 then goes (Lifetime None) (Some j) else if_in_force out n k j (Lifetime (Some (n - k))) LifetimeFault) (λ i. of plain out (run p s i))
-lifetime_read b plain out s n p k j = go (k == 0) refl
+lifetime_read : (b : List ℕ) (include_hash out : Bool) (s : Surroundings) (n : ℕ) (p : Items) (k j : ℕ)
+    → of include_hash out (followed_by (lifetime_at out n k (Some j)) (run p s)) ≡ grouped b include_hash out (if k == 0 then goes (Lifetime None) (Some j) else if_in_force out n k j (Lifetime (Some (n - k))) LifetimeFault) (λ i. of include_hash out (run p s i))
+lifetime_read b include_hash out s n p k j = go (k == 0) refl
   where
-    zeroth : (out : Bool) → (k == 0) ≡ true → of plain out (followed_by (lifetime_at out n k (Some j)) (run p s)) ≡ with_texts out (codes "'" ∷ codes "_" ∷ []) (of plain out (run p s (Some j)))
+    zeroth : (out : Bool) → (k == 0) ≡ true → of include_hash out (followed_by (lifetime_at out n k (Some j)) (run p s)) ≡ with_texts out (codes "'" ∷ codes "_" ∷ []) (of include_hash out (run p s (Some j)))
     zeroth true e = rw e refl
     zeroth false e = refl
 
-    last : (out d : Bool) → (nat_le k n) ≡ d → lifetime_heard plain out n k j (run p s) ≡ grouped b plain out (if_in_force out n k j (Lifetime (Some (n - k))) LifetimeFault) (λ i. of plain out (run p s i))
+    last : (out d : Bool) → (nat_le k n) ≡ d → lifetime_heard include_hash out n k j (run p s) ≡ grouped b include_hash out (if_in_force out n k j (Lifetime (Some (n - k))) LifetimeFault) (λ i. of include_hash out (run p s i))
     last false d e = refl
     last true true e = rw e refl
     last true false e = rw e refl
 
-    go : (c : Bool) → (k == 0) ≡ c → of plain out (followed_by (lifetime_at out n k (Some j)) (run p s)) ≡ grouped b plain out (cond c (goes (Lifetime None) (Some j)) (if_in_force out n k j (Lifetime (Some (n - k))) LifetimeFault)) (λ i. of plain out (run p s i))
+    go : (c : Bool) → (k == 0) ≡ c → of include_hash out (followed_by (lifetime_at out n k (Some j)) (run p s)) ≡ grouped b include_hash out (cond c (goes (Lifetime None) (Some j)) (if_in_force out n k j (Lifetime (Some (n - k))) LifetimeFault)) (λ i. of include_hash out (run p s i))
     go true e = zeroth out e
-    go false e = lifetime_checked plain out n k j (run p s) e ∙ last out (nat_le k n) refl
+    go false e = lifetime_checked include_hash out n k j (run p s) e ∙ last out (nat_le k n) refl
 
-plus_read : (b : List ℕ) (plain out : Bool) (s : Surroundings) (n : ℕ) (p : Items) (k j : ℕ) → (k == 0) ≡ false
-    → saying out (codes " + ") (of plain out (followed_by (lifetime_at out n k (Some j)) (run p s))) ≡ grouped b plain out (if_in_force out n k j (DynLifetime (n - k)) DynLifetimeFault) (λ i. of plain out (run p s i))
-plus_read b plain out s n p k j e = ap (saying out (codes " + ")) (lifetime_checked plain out n k j (run p s) e) ∙ last out (nat_le k n) refl
+plus_read : (b : List ℕ) (include_hash out : Bool) (s : Surroundings) (n : ℕ) (p : Items) (k j : ℕ) → (k == 0) ≡ false
+    → saying out (codes " + ") (of include_hash out (followed_by (lifetime_at out n k (Some j)) (run p s))) ≡ grouped b include_hash out (if_in_force out n k j (DynLifetime (n - k)) DynLifetimeFault) (λ i. of include_hash out (run p s i))
+plus_read b include_hash out s n p k j e = ap (saying out (codes " + ")) (lifetime_checked include_hash out n k j (run p s) e) ∙ last out (nat_le k n) refl
   where
-    last : (out d : Bool) → (nat_le k n) ≡ d → saying out (codes " + ") (lifetime_heard plain out n k j (run p s)) ≡ grouped b plain out (if_in_force out n k j (DynLifetime (n - k)) DynLifetimeFault) (λ i. of plain out (run p s i))
+    last : (out d : Bool) → (nat_le k n) ≡ d → saying out (codes " + ") (lifetime_heard include_hash out n k j (run p s)) ≡ grouped b include_hash out (if_in_force out n k j (DynLifetime (n - k)) DynLifetimeFault) (λ i. of include_hash out (run p s i))
     last false d e = refl
     last true true e = rw e refl
     last true false e = rw e refl
 
-plus_or : (b : List ℕ) (plain : Bool) (left : ℕ) (out : Bool) (n : ℕ) (p : Items) (k j : ℕ) (c : Bool) → (k == 0) ≡ c
-    → of plain out (run (if c then p else says " + " (lifetime k p)) (around b out left n) (Some j)) ≡ grouped b plain out (if c then goes Nothing (Some j) else if_in_force out n k j (DynLifetime (n - k)) DynLifetimeFault) (λ i. of plain out (run p (around b out left n) i))
+plus_or : (b : List ℕ) (include_hash : Bool) (left : ℕ) (out : Bool) (n : ℕ) (p : Items) (k j : ℕ) (c : Bool) → (k == 0) ≡ c
+    → of include_hash out (run (if c then p else says " + " (lifetime k p)) (around b out left n) (Some j)) ≡ grouped b include_hash out (if c then goes Nothing (Some j) else if_in_force out n k j (DynLifetime (n - k)) DynLifetimeFault) (λ i. of include_hash out (run p (around b out left n) i))
 unfolding run
-plus_or b plain left out n p k j true e = refl
-plus_or b plain left out n p k j false e = plus_read b plain out (around b out left n) n p k j e
+plus_or b include_hash left out n p k j true e = refl
+plus_or b include_hash left out n p k j false e = plus_read b include_hash out (around b out left n) n p k j e
 
 -- Functions.
 
-head_read : (b : List ℕ) (plain out unsafe : Bool) (ts : List Text) (p : Items) (s : Surroundings) (j : Place) → of plain out (run (says_head unsafe ts p) s j) ≡ with_texts out (if unsafe then codes "unsafe " ∷ ts else ts) (of plain out (run p s j))
+head_read : (b : List ℕ) (include_hash out unsafe : Bool) (ts : List Text) (p : Items) (s : Surroundings) (j : Place) → of include_hash out (run (says_head unsafe ts p) s j) ≡ with_texts out (if unsafe then codes "unsafe " ∷ ts else ts) (of include_hash out (run p s j))
 unfolding run
-head_read b plain out true ts p s j = ap (saying out (codes "unsafe ")) (says_all plain out ts p s j)
-head_read b plain out false ts p s j = says_all plain out ts p s j
+head_read b include_hash out true ts p s j = ap (saying out (codes "unsafe ")) (says_all include_hash out ts p s j)
+head_read b include_hash out false ts p s j = says_all include_hash out ts p s j
 
-named_read : (b : List ℕ) (plain out unsafe : Bool) (a : Ident) (p : Items) (s : Surroundings) (j : ℕ)
-    → of plain out (run (if is_empty (bytes_in b a.ascii) then invalid else if is_empty (bytes_in b a.punycode) then says_head unsafe (extern (bytes_in b a.ascii)) p else invalid) s (Some j))
-    ≡ grouped b plain out (abi_named unsafe a b j) (λ i. of plain out (run p s i))
+named_read : (b : List ℕ) (include_hash out unsafe : Bool) (a : Ident) (p : Items) (s : Surroundings) (j : ℕ)
+    → of include_hash out (run (if is_empty (bytes_in b a.ascii) then invalid else if is_empty (bytes_in b a.punycode) then says_head unsafe (extern (bytes_in b a.ascii)) p else invalid) s (Some j))
+    ≡ grouped b include_hash out (abi_named unsafe a b j) (λ i. of include_hash out (run p s i))
 unfolding run
-named_read b plain out unsafe a p s j = go (is_empty (bytes_in b a.ascii)) (is_empty (bytes_in b a.punycode))
+named_read b include_hash out unsafe a p s j = go (is_empty (bytes_in b a.ascii)) (is_empty (bytes_in b a.punycode))
   where
-    go : (x y : Bool) → of plain out (run (cond x invalid (cond y (says_head unsafe (extern (bytes_in b a.ascii)) p) invalid)) s (Some j))
-        ≡ grouped b plain out (cond x faulty (cond y (goes (FunctionHead unsafe (abi.Named a.ascii)) (Some j)) faulty)) (λ i. of plain out (run p s i))
+    go : (x y : Bool) → of include_hash out (run (cond x invalid (cond y (says_head unsafe (extern (bytes_in b a.ascii)) p) invalid)) s (Some j))
+        ≡ grouped b include_hash out (cond x faulty (cond y (goes (FunctionHead unsafe (abi.Named a.ascii)) (Some j)) faulty)) (λ i. of include_hash out (run p s i))
     go true y = refl
-    go false true = head_read b plain out unsafe (extern (bytes_in b a.ascii)) p s (Some j)
+    go false true = head_read b include_hash out unsafe (extern (bytes_in b a.ascii)) p s (Some j)
     go false false = refl
 
-abi_read : (plain out unsafe : Bool) (p : Items) (s : Surroundings) (i : ℕ) → of plain out (run (function_head unsafe p) s (Some i)) ≡ grouped s.symbol plain out (abi_group s.symbol unsafe i) (λ i. of plain out (run p s i))
+abi_read : (include_hash out unsafe : Bool) (p : Items) (s : Surroundings) (i : ℕ) → of include_hash out (run (function_head unsafe p) s (Some i)) ≡ grouped s.symbol include_hash out (abi_group s.symbol unsafe i) (λ i. of include_hash out (run p s i))
 unfolding run
-abi_read plain out unsafe p s i = go
+abi_read include_hash out unsafe p s i = go
   where
     c : List ℕ
     c = s.symbol
@@ -207,135 +207,135 @@ abi_read plain out unsafe p s i = go
     rest : Name → Place → Outcome
     rest a = run (if is_empty a.ascii then invalid else if is_empty a.punycode then says_head unsafe (extern a.ascii) p else invalid) s
 
-    go : of plain out (run (function_head unsafe p) s (Some i)) ≡ grouped c plain out (abi_group c unsafe i) (λ i. of plain out (run p s i))
-    go = ask_reads c plain out (is_byte c i (code "K")) (λ j. byte_choice (Rattle.demangle_grammar.specs.Reading.stands_at s (code "C") j) (run (says_head unsafe (extern (codes "C")) p) s) (run (identifier (λ a. if is_empty a.ascii then invalid else if is_empty a.punycode then says_head unsafe (extern a.ascii) p else invalid)) s) j)
-        (run (says_head unsafe [] p) s) _ _ (λ i. of plain out (run p s i)) i
-        (ask_reads c plain out (is_byte c (i + 1) (code "C")) (run (says_head unsafe (extern (codes "C")) p) s) (run (identifier (λ a. if is_empty a.ascii then invalid else if is_empty a.punycode then says_head unsafe (extern a.ascii) p else invalid)) s) _ _ (λ i. of plain out (run p s i)) (i + 1)
-        (head_read c plain out unsafe (extern (codes "C")) p s (Some (i + 1 + 1)))
-        (name_reads c plain out (length c) (i + 1) rest (λ a j. abi_named unsafe a c j) (λ i. of plain out (run p s i)) (λ j. named_read c plain out unsafe (ident_parts c (i + 1) j) p s j)))
-        (head_read c plain out unsafe [] p s (Some i))
+    go : of include_hash out (run (function_head unsafe p) s (Some i)) ≡ grouped c include_hash out (abi_group c unsafe i) (λ i. of include_hash out (run p s i))
+    go = ask_reads c include_hash out (is_byte c i (code "K")) (λ j. byte_choice (Rattle.demangle_grammar.specs.Reading.stands_at s (code "C") j) (run (says_head unsafe (extern (codes "C")) p) s) (run (identifier (λ a. if is_empty a.ascii then invalid else if is_empty a.punycode then says_head unsafe (extern a.ascii) p else invalid)) s) j)
+        (run (says_head unsafe [] p) s) _ _ (λ i. of include_hash out (run p s i)) i
+        (ask_reads c include_hash out (is_byte c (i + 1) (code "C")) (run (says_head unsafe (extern (codes "C")) p) s) (run (identifier (λ a. if is_empty a.ascii then invalid else if is_empty a.punycode then says_head unsafe (extern a.ascii) p else invalid)) s) _ _ (λ i. of include_hash out (run p s i)) (i + 1)
+        (head_read c include_hash out unsafe (extern (codes "C")) p s (Some (i + 1 + 1)))
+        (name_reads c include_hash out (length c) (i + 1) rest (λ a j. abi_named unsafe a c j) (λ i. of include_hash out (run p s i)) (λ j. named_read c include_hash out unsafe (ident_parts c (i + 1) j) p s j)))
+        (head_read c include_hash out unsafe [] p s (Some i))
 
 -- Numbers and literals.
 
-number_read : (b : List ℕ) (plain out : Bool) (note : ℕ) (h : Part) (p : Items) (s : Surroundings) (j : Place)
-    → of plain out (run (number_pieces (bytes_in b h) (some_or p (row_text note basic_types) (λ text. say_plain text p))) s j) ≡ with_texts out (texts_of b plain (Number (number_of (bytes_in b h)) h note)) (of plain out (run p s j))
+number_read : (b : List ℕ) (include_hash out : Bool) (note : ℕ) (h : Part) (p : Items) (s : Surroundings) (j : Place)
+    → of include_hash out (run (number_pieces (bytes_in b h) (some_or p (row_text note basic_types) (λ text. say_plain text p))) s j) ≡ with_texts out (texts_of b include_hash (Number (number_of (bytes_in b h)) h note)) (of include_hash out (run p s j))
 unfolding run
-number_read b plain out note h p s j = go (number_of (bytes_in b h)) (row_text note basic_types) plain
+number_read b include_hash out note h p s j = go (number_of (bytes_in b h)) (row_text note basic_types) include_hash
   where
-    go : (n : Option ℕ) (o : Option Text) (plain : Bool) → of plain out (run (some_or (says "0x" (say (bytes_in b h) (some_or p o (λ text. say_plain text p)))) n (λ n. say (decimal n) (some_or p o (λ text. say_plain text p)))) s j)
-        ≡ with_texts out (number_texts (bytes_in b h) n ++ some_or [] o (λ t. if_plain plain (t ∷ []))) (of plain out (run p s j))
-    go None None plain = refl
+    go : (n : Option ℕ) (o : Option Text) (include_hash : Bool) → of include_hash out (run (some_or (says "0x" (say (bytes_in b h) (some_or p o (λ text. say_plain text p)))) n (λ n. say (decimal n) (some_or p o (λ text. say_plain text p)))) s j)
+        ≡ with_texts out (number_texts (bytes_in b h) n ++ some_or [] o (λ t. if_plain include_hash (t ∷ []))) (of include_hash out (run p s j))
+    go None None include_hash = refl
     go None (Some t) true = refl
     go None (Some t) false = refl
-    go (Some n) None plain = refl
+    go (Some n) None include_hash = refl
     go (Some n) (Some t) true = refl
     go (Some n) (Some t) false = refl
 
-truth_read : (b : List ℕ) (plain out : Bool) (p : Items) (s : Surroundings) (j : ℕ) (o : Option ℕ) → of plain out (run (says_true p o) s (Some j)) ≡ grouped b plain out (truth_stretch o j) (λ i. of plain out (run p s i))
+truth_read : (b : List ℕ) (include_hash out : Bool) (p : Items) (s : Surroundings) (j : ℕ) (o : Option ℕ) → of include_hash out (run (says_true p o) s (Some j)) ≡ grouped b include_hash out (bool_stretch o j) (λ i. of include_hash out (run p s i))
 unfolding run
-truth_read b plain out p s j None = refl
-truth_read b plain out p s j (Some n) = go (n == 0) (n == 1)
+truth_read b include_hash out p s j None = refl
+truth_read b include_hash out p s j (Some n) = go (n == 0) (n == 1)
   where
-    go : (x y : Bool) → of plain out (run (cond x (says "false" p) (cond y (says "true" p) invalid)) s (Some j)) ≡ grouped b plain out (cond x (goes (Fixed mark.False) (Some j)) (cond y (goes (Fixed mark.True) (Some j)) faulty)) (λ i. of plain out (run p s i))
+    go : (x y : Bool) → of include_hash out (run (cond x (says "false" p) (cond y (says "true" p) invalid)) s (Some j)) ≡ grouped b include_hash out (cond x (goes (Fixed mark.False) (Some j)) (cond y (goes (Fixed mark.True) (Some j)) faulty)) (λ i. of include_hash out (run p s i))
     go true y = refl
     go false true = refl
     go false false = refl
 
-character_read : (b : List ℕ) (plain out : Bool) (p : Items) (s : Surroundings) (j : ℕ) (o : Option ℕ) → of plain out (run (says_char p o) s (Some j)) ≡ grouped b plain out (character_stretch o j) (λ i. of plain out (run p s i))
+character_read : (b : List ℕ) (include_hash out : Bool) (p : Items) (s : Surroundings) (j : ℕ) (o : Option ℕ) → of include_hash out (run (says_char p o) s (Some j)) ≡ grouped b include_hash out (character_stretch o j) (λ i. of include_hash out (run p s i))
 unfolding run
-character_read b plain out p s j None = refl
-character_read b plain out p s j (Some c) = go (scalar c)
+character_read b include_hash out p s j None = refl
+character_read b include_hash out p s j (Some c) = go (scalar c)
   where
-    go : (x : Bool) → of plain out (run (cond x (say_all (literal (code "'") (c ∷ [])) p) invalid) s (Some j)) ≡ grouped b plain out (cond x (goes (Character c) (Some j)) faulty) (λ i. of plain out (run p s i))
-    go true = says_all plain out (literal (code "'") (c ∷ [])) p s (Some j)
+    go : (x : Bool) → of include_hash out (run (cond x (say_all (literal (code "'") (c ∷ [])) p) invalid) s (Some j)) ≡ grouped b include_hash out (cond x (goes (Character c) (Some j)) faulty) (λ i. of include_hash out (run p s i))
+    go true = says_all include_hash out (literal (code "'") (c ∷ [])) p s (Some j)
     go false = refl
 
-literal_read : (b : List ℕ) (plain out : Bool) (p : Items) (s : Surroundings) (j : ℕ) (h : Part)
-    → of plain out (run (some_or invalid (string_of (bytes_in b h)) (λ cs. say_all (literal (code "\"") cs) p)) s (Some j)) ≡ grouped b plain out (literal_stretch (string_of (bytes_in b h)) h j) (λ i. of plain out (run p s i))
+literal_read : (b : List ℕ) (include_hash out : Bool) (p : Items) (s : Surroundings) (j : ℕ) (h : Part)
+    → of include_hash out (run (some_or invalid (string_of (bytes_in b h)) (λ cs. say_all (literal (code "\"") cs) p)) s (Some j)) ≡ grouped b include_hash out (literal_stretch (string_of (bytes_in b h)) h j) (λ i. of include_hash out (run p s i))
 unfolding run
-literal_read b plain out p s j h = go (string_of (bytes_in b h)) refl
+literal_read b include_hash out p s j h = go (string_of (bytes_in b h)) refl
   where
-    go : (o : Option (List ℕ)) → string_of (bytes_in b h) ≡ o → of plain out (run (some_or invalid o (λ cs. say_all (literal (code "\"") cs) p)) s (Some j)) ≡ grouped b plain out (literal_stretch o h j) (λ i. of plain out (run p s i))
+    go : (o : Option (List ℕ)) → string_of (bytes_in b h) ≡ o → of include_hash out (run (some_or invalid o (λ cs. say_all (literal (code "\"") cs) p)) s (Some j)) ≡ grouped b include_hash out (literal_stretch o h j) (λ i. of include_hash out (run p s i))
     go None e = refl
-    go (Some cs) e = rw e (says_all plain out (literal (code "\"") cs) p s (Some j))
+    go (Some cs) e = rw e (says_all include_hash out (literal (code "\"") cs) p s (Some j))
 
-binding_read : (b : List ℕ) (plain : Bool) (left : ℕ) (out : Bool) (n : ℕ) (p : Items) (a : Name) (j : Place)
-    → of plain out (run (says_name a (says " = " p)) (around b out left n) j) ≡ with_texts out (name_pieces a ++ codes " = " ∷ []) (of plain out (run p (around b out left n) j))
+binding_read : (b : List ℕ) (include_hash : Bool) (left : ℕ) (out : Bool) (n : ℕ) (p : Items) (a : Name) (j : Place)
+    → of include_hash out (run (says_name a (says " = " p)) (around b out left n) j) ≡ with_texts out (name_pieces a ++ codes " = " ∷ []) (of include_hash out (run p (around b out left n) j))
 unfolding run
-binding_read b plain left out n p a j =
-    says_all plain out (name_pieces a) (says " = " p) (around b out left n) j
-    ∙ sym (handing_both out (name_pieces a) (codes " = " ∷ []) (of plain out (run p (around b out left n) j)))
+binding_read b include_hash left out n p a j =
+    says_all include_hash out (name_pieces a) (says " = " p) (around b out left n) j
+    ∙ sym (handing_both out (name_pieces a) (codes " = " ∷ []) (of include_hash out (run p (around b out left n) j)))
 
-pub word_read : (b : List ℕ) (plain : Bool) (left : ℕ) (out : Bool) (n : ℕ) (w : Word) (note : ℕ) (p : Items) (i : Place)
-    → of plain out (run (word_items w note p) (around b out left n) i) ≡ grouped b plain out (word_group b w note out n i) (λ j. of plain out (run p (around b out left n) j))
+pub word_read : (b : List ℕ) (include_hash : Bool) (left : ℕ) (out : Bool) (n : ℕ) (w : Word) (note : ℕ) (p : Items) (i : Place)
+    → of include_hash out (run (word_items w note p) (around b out left n) i) ≡ grouped b include_hash out (word_group b w note out n i) (λ j. of include_hash out (run p (around b out left n) j))
 unfolding run
-word_read b plain left out n word.FieldName note p None = refl
-word_read b plain left out n word.BindingName note p None = refl
-word_read b plain left out n word.LifetimeIndex note p None = refl
-word_read b plain left out n word.DynLifetime note p None = refl
-word_read b plain left out n word.FunctionHead note p None = refl
-word_read b plain left out n word.Number note p None = refl
-word_read b plain left out n word.Truth note p None = refl
-word_read b plain left out n word.Character note p None = refl
-word_read b plain left out n word.Literal note p None = refl
-word_read b plain left out n word.FieldName note p (Some i) =
-    let s = around b out left n in let k : Place → Heard = λ j. of plain out (run p s j) in
-    word_reads b plain out (length b) i (λ d. run (identifier (λ a. says_name a p)) s) (λ d j. behind_word (length b) j (ident_at b j) (λ a m. goes (FieldName a) (Some m))) k
-    (λ d j. name_reads b plain out (length b) j (λ a. run (says_name a p) s) (λ a m. goes (FieldName a) (Some m)) k
-    (λ m. says_all plain out (name_pieces (name_of b j m)) p s (Some m)))
+word_read b include_hash left out n word.FieldName note p None = refl
+word_read b include_hash left out n word.BindingName note p None = refl
+word_read b include_hash left out n word.LifetimeIndex note p None = refl
+word_read b include_hash left out n word.DynLifetime note p None = refl
+word_read b include_hash left out n word.FunctionHead note p None = refl
+word_read b include_hash left out n word.Number note p None = refl
+word_read b include_hash left out n word.Bool note p None = refl
+word_read b include_hash left out n word.Character note p None = refl
+word_read b include_hash left out n word.Literal note p None = refl
+word_read b include_hash left out n word.FieldName note p (Some i) =
+    let s = around b out left n in let k : Place → Heard = λ j. of include_hash out (run p s j) in
+    word_reads b include_hash out (length b) i (λ d. run (identifier (λ a. says_name a p)) s) (λ d j. behind_word (length b) j (ident_at b j) (λ a m. goes (FieldName a) (Some m))) k
+    (λ d j. name_reads b include_hash out (length b) j (λ a. run (says_name a p) s) (λ a m. goes (FieldName a) (Some m)) k
+    (λ m. says_all include_hash out (name_pieces (name_of b j m)) p s (Some m)))
     (optional_at 115 b i)
-word_read b plain left out n word.BindingName note p (Some i) =
-    let s = around b out left n in let k : Place → Heard = λ j. of plain out (run p s j) in
-    name_reads b plain out (length b) i (λ a. run (says_name a (says " = " p)) s) (λ a m. goes (BindingName a) (Some m)) k
-    (λ m. binding_read b plain left out n p (name_of b i m) (Some m))
-word_read b plain left out n word.LifetimeIndex note p (Some i) =
-    let s = around b out left n in let k : Place → Heard = λ j. of plain out (run p s j) in
-    word_reads b plain out (length b) i (λ k. run (lifetime k p) s) (λ k j. if k == 0 then goes (Lifetime None) (Some j) else if_in_force out n k j (Lifetime (Some (n - k))) LifetimeFault) k
-    (λ k j. lifetime_read b plain out s n p k j) (integer_at b i)
-word_read b plain left out n word.DynLifetime note p (Some i) =
-    let s = around b out left n in let k : Place → Heard = λ j. of plain out (run p s j) in
-    ask_reads b plain out (is_byte b i (code "L")) (run (integer (λ k. if k == 0 then p else says " + " (lifetime k p))) s) (run invalid s) _ faulty k i
-    (word_reads b plain out (length b) (i + 1) (λ k. run (if k == 0 then p else says " + " (lifetime k p)) s) (λ k j. if k == 0 then goes Nothing (Some j) else if_in_force out n k j (DynLifetime (n - k)) DynLifetimeFault) k
-    (λ m j. plus_or b plain left out n p m j (m == 0) refl) (integer_at b (i + 1)))
+word_read b include_hash left out n word.BindingName note p (Some i) =
+    let s = around b out left n in let k : Place → Heard = λ j. of include_hash out (run p s j) in
+    name_reads b include_hash out (length b) i (λ a. run (says_name a (says " = " p)) s) (λ a m. goes (BindingName a) (Some m)) k
+    (λ m. binding_read b include_hash left out n p (name_of b i m) (Some m))
+word_read b include_hash left out n word.LifetimeIndex note p (Some i) =
+    let s = around b out left n in let k : Place → Heard = λ j. of include_hash out (run p s j) in
+    word_reads b include_hash out (length b) i (λ k. run (lifetime k p) s) (λ k j. if k == 0 then goes (Lifetime None) (Some j) else if_in_force out n k j (Lifetime (Some (n - k))) LifetimeFault) k
+    (λ k j. lifetime_read b include_hash out s n p k j) (integer_at b i)
+word_read b include_hash left out n word.DynLifetime note p (Some i) =
+    let s = around b out left n in let k : Place → Heard = λ j. of include_hash out (run p s j) in
+    ask_reads b include_hash out (is_byte b i (code "L")) (run (integer (λ k. if k == 0 then p else says " + " (lifetime k p))) s) (run invalid s) _ faulty k i
+    (word_reads b include_hash out (length b) (i + 1) (λ k. run (if k == 0 then p else says " + " (lifetime k p)) s) (λ k j. if k == 0 then goes Nothing (Some j) else if_in_force out n k j (DynLifetime (n - k)) DynLifetimeFault) k
+    (λ m j. plus_or b include_hash left out n p m j (m == 0) refl) (integer_at b (i + 1)))
     refl
-word_read b plain left out n word.FunctionHead note p (Some i) =
-    let s = around b out left n in let k : Place → Heard = λ j. of plain out (run p s j) in
-    ask_reads b plain out (is_byte b i (code "U")) (run (function_head true p) s) (run (function_head false p) s) _ _ k i (abi_read plain out true p s (i + 1)) (abi_read plain out false p s i)
-word_read b plain left out n word.Number note p (Some i) =
-    let s = around b out left n in let k : Place → Heard = λ j. of plain out (run p s j) in
-    hex_reads b plain out (length b) i (λ h. run (number_pieces h (some_or p (row_text note basic_types) (λ text. say_plain text p))) s) (λ h j. goes (Number (number_of (bytes_in b h)) h note) (Some j)) k
-    (λ end j. number_read b plain out note (record { from = i; to = end }) p s (Some j))
-word_read b plain left out n word.Truth note p (Some i) =
-    let s = around b out left n in let k : Place → Heard = λ j. of plain out (run p s j) in
-    hex_reads b plain out (length b) i (λ h. run (says_true p (number_of h)) s) (λ h j. truth_stretch (number_of (bytes_in b h)) j) k
-    (λ end j. truth_read b plain out p s j (number_of (slice_range b i end)))
-word_read b plain left out n word.Character note p (Some i) =
-    let s = around b out left n in let k : Place → Heard = λ j. of plain out (run p s j) in
-    hex_reads b plain out (length b) i (λ h. run (says_char p (number_of h)) s) (λ h j. character_stretch (number_of (bytes_in b h)) j) k
-    (λ end j. character_read b plain out p s j (number_of (slice_range b i end)))
-word_read b plain left out n word.Literal note p (Some i) =
-    let s = around b out left n in let k : Place → Heard = λ j. of plain out (run p s j) in
-    hex_reads b plain out (length b) i (λ h. run (some_or invalid (string_of h) (λ cs. say_all (literal (code "\"") cs) p)) s) (λ h j. literal_stretch (string_of (bytes_in b h)) h j) k
-    (λ end j. literal_read b plain out p s j (record { from = i; to = end }))
+word_read b include_hash left out n word.FunctionHead note p (Some i) =
+    let s = around b out left n in let k : Place → Heard = λ j. of include_hash out (run p s j) in
+    ask_reads b include_hash out (is_byte b i (code "U")) (run (function_head true p) s) (run (function_head false p) s) _ _ k i (abi_read include_hash out true p s (i + 1)) (abi_read include_hash out false p s i)
+word_read b include_hash left out n word.Number note p (Some i) =
+    let s = around b out left n in let k : Place → Heard = λ j. of include_hash out (run p s j) in
+    hex_reads b include_hash out (length b) i (λ h. run (number_pieces h (some_or p (row_text note basic_types) (λ text. say_plain text p))) s) (λ h j. goes (Number (number_of (bytes_in b h)) h note) (Some j)) k
+    (λ end j. number_read b include_hash out note (record { from = i; to = end }) p s (Some j))
+word_read b include_hash left out n word.Bool note p (Some i) =
+    let s = around b out left n in let k : Place → Heard = λ j. of include_hash out (run p s j) in
+    hex_reads b include_hash out (length b) i (λ h. run (says_true p (number_of h)) s) (λ h j. bool_stretch (number_of (bytes_in b h)) j) k
+    (λ end j. truth_read b include_hash out p s j (number_of (slice_range b i end)))
+word_read b include_hash left out n word.Character note p (Some i) =
+    let s = around b out left n in let k : Place → Heard = λ j. of include_hash out (run p s j) in
+    hex_reads b include_hash out (length b) i (λ h. run (says_char p (number_of h)) s) (λ h j. character_stretch (number_of (bytes_in b h)) j) k
+    (λ end j. character_read b include_hash out p s j (number_of (slice_range b i end)))
+word_read b include_hash left out n word.Literal note p (Some i) =
+    let s = around b out left n in let k : Place → Heard = λ j. of include_hash out (run p s j) in
+    hex_reads b include_hash out (length b) i (λ h. run (some_or invalid (string_of h) (λ cs. say_all (literal (code "\"") cs) p)) s) (λ h j. literal_stretch (string_of (bytes_in b h)) h j) k
+    (λ end j. literal_read b include_hash out p s j (record { from = i; to = end }))
 
 -- the names of paths, behind their tag
 
-pub crate_reads : (b : List ℕ) (plain : Bool) (left : ℕ) (out : Bool) (n : ℕ) (v : Bool) (i : ℕ)
-    → of plain out (run (path v 67) (around b out left n) (Some i)) ≡ grouped b plain out (crate_group b i) (λ j. of plain out (run done (around b out left n) j))
+pub crate_reads : (b : List ℕ) (include_hash : Bool) (left : ℕ) (out : Bool) (n : ℕ) (v : Bool) (i : ℕ)
+    → of include_hash out (run (path v 67) (around b out left n) (Some i)) ≡ grouped b include_hash out (crate_group b i) (λ j. of include_hash out (run done (around b out left n) j))
 unfolding run
-crate_reads b plain left out n v i =
-    let s = around b out left n in let k : Place → Heard = λ j. of plain out (run done s j) in
-    word_reads b plain out (length b) i (λ d. run (identifier (λ a. says_name a (if d == 0 then done else say_plain (codes "[") (say_plain (digits 16 false d) (say_plain (codes "]") done))))) s) (λ d j. behind_word (length b) j (ident_at b j) (λ a m. goes (CrateName a d) (Some m))) k
-    (λ d j. name_reads b plain out (length b) j (λ a. run (says_name a (if d == 0 then done else say_plain (codes "[") (say_plain (digits 16 false d) (say_plain (codes "]") done)))) s) (λ a m. goes (CrateName a d) (Some m)) k
-    (λ m. crate_read b plain out s (ident_parts b j m) (name_of b j m) d (Some m) refl))
+crate_reads b include_hash left out n v i =
+    let s = around b out left n in let k : Place → Heard = λ j. of include_hash out (run done s j) in
+    word_reads b include_hash out (length b) i (λ d. run (identifier (λ a. says_name a (if d == 0 then done else say_plain (codes "[") (say_plain (digits 16 false d) (say_plain (codes "]") done))))) s) (λ d j. behind_word (length b) j (ident_at b j) (λ a m. goes (CrateName a d) (Some m))) k
+    (λ d j. name_reads b include_hash out (length b) j (λ a. run (says_name a (if d == 0 then done else say_plain (codes "[") (say_plain (digits 16 false d) (say_plain (codes "]") done)))) s) (λ a m. goes (CrateName a d) (Some m)) k
+    (λ m. crate_read b include_hash out s (ident_parts b j m) (name_of b j m) d (Some m) refl))
     (optional_at 115 b i)
 
-pub nested_reads : (b : List ℕ) (plain : Bool) (left : ℕ) (out : Bool) (n c i : ℕ)
-    → of plain out (run (in_namespace c) (around b out left n) (Some i)) ≡ grouped b plain out (nested_group b c i) (λ j. of plain out (run done (around b out left n) j))
+pub nested_reads : (b : List ℕ) (include_hash : Bool) (left : ℕ) (out : Bool) (n c i : ℕ)
+    → of include_hash out (run (in_namespace c) (around b out left n) (Some i)) ≡ grouped b include_hash out (nested_group b c i) (λ j. of include_hash out (run done (around b out left n) j))
 unfolding run
-nested_reads b plain left out n c i =
-    let s = around b out left n in let k : Place → Heard = λ j. of plain out (run done s j) in
-    word_reads b plain out (length b) i (λ d. run (identifier (λ a. if is_upper c then in_special c d a else if is_nameless a then done else says "::" (says_name a done))) s) (λ d j. behind_word (length b) j (ident_at b j) (λ a m. goes (NestedName c d a) (Some m))) k
-    (λ d j. name_reads b plain out (length b) j (λ a. run (if is_upper c then in_special c d a else if is_nameless a then done else says "::" (says_name a done)) s) (λ a m. goes (NestedName c d a) (Some m)) k
-    (λ m. nested_read b plain out s (name_of b j m) c d (Some m)))
+nested_reads b include_hash left out n c i =
+    let s = around b out left n in let k : Place → Heard = λ j. of include_hash out (run done s j) in
+    word_reads b include_hash out (length b) i (λ d. run (identifier (λ a. if is_upper c then in_special c d a else if is_nameless a then done else says "::" (says_name a done))) s) (λ d j. behind_word (length b) j (ident_at b j) (λ a m. goes (NestedName c d a) (Some m))) k
+    (λ d j. name_reads b include_hash out (length b) j (λ a. run (if is_upper c then in_special c d a else if is_nameless a then done else says "::" (says_name a done)) s) (λ a m. goes (NestedName c d a) (Some m)) k
+    (λ m. nested_read b include_hash out s (name_of b j m) c d (Some m)))
     (optional_at 115 b i)

@@ -14,7 +14,7 @@ use Rattle.demangle_symbol.specs.Names.{is_empty, is_nameless, name_pieces}
 use Rattle.demangle_words.specs.Stretches.{head_texts, name_behind}
 use Rattle.demangle_words.specs.declared.stretch.Abi.{Abi}
 use Rattle.demangle_grammar.specs.Binders.{binder_texts, more_texts}
-use Rattle.demangle_words.specs.Groups.{abi_texts, if_plain}
+use Rattle.demangle_words.specs.WordReads.{abi_texts, if_plain}
 use Rattle.demangle_grammar.specs.Reading.{letter_of}
 use Rattle.demangle_grammar.specs.Table.{hyphenated_abi}
 use Rattle.demangle_sink.proofs.Parts.{part_first}
@@ -66,8 +66,8 @@ pub hyphen_end : (s : List ℕ) (from at to : ℕ) → at ≡ to → hyphenated_
 hyphen_end s from at to e = rw (e, between_none s to) refl
 
 -- a disambiguator in brackets
-pub brackets_some : (d : ℕ) (plain : Bool) → 0 < d → plain ≡ true → cond (eqb d 0) [] (if_plain plain (codes "[" ∷ digits 16 false d ∷ codes "]" ∷ [])) ≡ codes "[" ∷ digits 16 false d ∷ codes "]" ∷ []
-brackets_some d plain h e = let t : eqb d 0 ≡ false = grind (arith, nat_tests) in rw (t, e) refl
+pub brackets_some : (d : ℕ) (include_hash : Bool) → 0 < d → include_hash ≡ true → cond (eqb d 0) [] (if_plain include_hash (codes "[" ∷ digits 16 false d ∷ codes "]" ∷ [])) ≡ codes "[" ∷ digits 16 false d ∷ codes "]" ∷ []
+brackets_some d include_hash h e = let t : eqb d 0 ≡ false = grind (arith, nat_tests) in rw (t, e) refl
 
 -- hexadecimal digits are ASCII
 glyph_small : (d : ℕ) → d < 16 → digit_glyph false d < 128

@@ -1,6 +1,6 @@
 -- Internal.
-pub mod Groups
-pub mod Serving
+pub mod WordReads
+pub mod Backrefs
 pub mod Stretches
 pub mod Tags
 pub mod Texts

@@ -7,17 +7,17 @@ use Rattle.demangle_symbol.specs.Words.{Name, some_or}
 use Rattle.demangle_symbol.specs.Names.{is_nameless, name_pieces}
 use Rattle.demangle_grammar.specs.Items.{Text}
 use Rattle.demangle_grammar.specs.Table.{row_text, basic_types}
-use Rattle.demangle_words.specs.Groups.{bytes_in, abi_texts, number_texts, if_plain}
+use Rattle.demangle_words.specs.WordReads.{bytes_in, abi_texts, number_texts, if_plain}
 use Rattle.demangle_symbol.specs.declared.cursor.Part.{Part}
 use Rattle.demangle_words.specs.declared.stretch.Abi.{Abi}
 use Rattle.demangle_words.specs.declared.stretch.Abi.TheVariants.{Named}
 
 -- a disambiguator in brackets
 abbrev pub disambiguator_texts : Bool → ℕ → List Text
-disambiguator_texts plain d = if d == 0 then [] else if_plain plain (codes "[" ∷ digits 16 false d ∷ codes "]" ∷ [])
+disambiguator_texts include_hash d = if d == 0 then [] else if_plain include_hash (codes "[" ∷ digits 16 false d ∷ codes "]" ∷ [])
 
 abbrev pub crate_texts : Bool → Name → ℕ → List Text
-crate_texts plain a d = name_pieces a ++ disambiguator_texts plain d
+crate_texts include_hash a d = name_pieces a ++ disambiguator_texts include_hash d
 
 -- a name behind a text, if it is not empty
 abbrev pub name_behind : Text → Name → List Text
@@ -37,7 +37,7 @@ head_texts b unsafe a = if unsafe then codes "unsafe " ∷ abi_texts b a else ab
 
 -- the name of the basic type of a tag
 abbrev pub type_texts : Bool → ℕ → List Text
-type_texts plain tag = some_or [] (row_text tag basic_types) (λ t. if_plain plain (t ∷ []))
+type_texts include_hash tag = some_or [] (row_text tag basic_types) (λ t. if_plain include_hash (t ∷ []))
 
 abbrev pub constant_texts : List ℕ → Bool → Option ℕ → Part → ℕ → List Text
-constant_texts b plain n part tag = number_texts (bytes_in b part) n ++ type_texts plain tag
+constant_texts b include_hash n part tag = number_texts (bytes_in b part) n ++ type_texts include_hash tag

@@ -60,7 +60,7 @@ type_of type_kind.Pattern = child a_type false (says " is " (child a_pattern fal
 abbrev pub constant_kinds : List (String × ConstantKind)
 constant_kinds =
     ("p", constant_kind.Placeholder) ∷ ("htmyoj", constant_kind.Unsigned) ∷ ("aslxni", constant_kind.Signed) ∷ ("b", constant_kind.Bool) ∷ ("c", constant_kind.Char) ∷ ("e", constant_kind.Text)
-    ∷ ("R", constant_kind.Shared) ∷ ("Q", constant_kind.Mutable) ∷ ("A", constant_kind.Array) ∷ ("T", constant_kind.Tuple) ∷ ("V", constant_kind.Variant) ∷ ("B", constant_kind.Reference) ∷ []
+    ∷ ("R", constant_kind.Shared) ∷ ("Q", constant_kind.Mut) ∷ ("A", constant_kind.Array) ∷ ("T", constant_kind.Tuple) ∷ ("V", constant_kind.Variant) ∷ ("B", constant_kind.Reference) ∷ []
 
 -- the items behind the tag
 abbrev pub constant_of : Bool → ℕ → ConstantKind → Items
@@ -71,7 +71,7 @@ constant_of v tag constant_kind.Bool = constant v (code "b")
 constant_of v tag constant_kind.Char = constant v (code "c")
 constant_of v tag constant_kind.Text = constant v (code "e")
 constant_of v tag constant_kind.Shared = constant v (code "R")
-constant_of v tag constant_kind.Mutable = constant v (code "Q")
+constant_of v tag constant_kind.Mut = constant v (code "Q")
 constant_of v tag constant_kind.Array = constant v (code "A")
 constant_of v tag constant_kind.Tuple = constant v (code "T")
 constant_of v tag constant_kind.Variant = constant v (code "V")

@@ -17,7 +17,7 @@ use Rattle.demangle_words.specs.declared.texts.Word.TheVariants as word
 abbrev pub text : Mark → Text
 text mark.Invalid = codes "{invalid syntax}"
 text mark.Recursion = codes "{recursion limit reached}"
-text mark.Unread = codes "?"
+text mark.AfterError = codes "?"
 text mark.Bool = codes "bool"
 text mark.Char = codes "char"
 text mark.Str = codes "str"
@@ -47,9 +47,9 @@ text mark.OneComma = codes ","
 text mark.Colons = codes "::"
 text mark.As = codes " as "
 text mark.Ampersand = codes "&"
-text mark.Mutable = codes "mut "
+text mark.Mut = codes "mut "
 text mark.Star = codes "*"
-text mark.Unchanging = codes "const "
+text mark.Const = codes "const "
 text mark.OpenBracket = codes "["
 text mark.CloseBracket = codes "]"
 text mark.Semicolon = codes "; "
@@ -106,6 +106,6 @@ word_items word.LifetimeIndex tag p = integer (λ k. lifetime k p)
 word_items word.DynLifetime tag p = next (code "L") (integer (λ k. if k == 0 then p else says " + " (lifetime k p))) invalid
 word_items word.FunctionHead tag p = next (code "U") (function_head true p) (function_head false p)
 word_items word.Number tag p = nibbles (λ h. number_pieces h (some_or p (row_text tag basic_types) (λ text. say_plain text p)))
-word_items word.Truth tag p = nibbles (λ h. says_true p (number_of h))
+word_items word.Bool tag p = nibbles (λ h. says_true p (number_of h))
 word_items word.Character tag p = nibbles (λ h. says_char p (number_of h))
 word_items word.Literal tag p = nibbles (λ h. some_or invalid (string_of h) (λ cs. say_all (literal (code "\"") cs) p))

@@ -2,10 +2,10 @@
 //! reference leads, and how what was read is put into a sink.
 #![tactic(auto)]
 
+pub mod output;
 pub mod read;
 pub mod reference;
 pub mod render;
 pub mod stretch;
 pub mod tags;
 pub mod texts;
-pub mod voice;

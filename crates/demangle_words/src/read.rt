@@ -1,10 +1,10 @@
 //! The words of a v0 symbol that are read in one step, and what they hand over.
 ghost use Rattle.std.specs.Prelude.{◌≡◌, ℕ, ◌+◌, ◌≤◌, Some, List};
 ghost use Rattle.demangle_grammar.specs.Totals.{total};
-ghost use Rattle.demangle_words.specs.Serving.{LiesIn};
-ghost use Rattle.demangle_words.specs.Groups.{read_stretch, looks_later, word_group, word_failed};
+ghost use Rattle.demangle_words.specs.Backrefs.{LiesIn};
+ghost use Rattle.demangle_words.specs.WordReads.{read_stretch, looks_later, word_group, word_failed};
 
-use crate::read::constants::{read_character, read_literal, read_number, read_truth};
+use crate::read::constants::{read_bool, read_character, read_literal, read_number};
 use crate::read::functions::read_head;
 use crate::read::lifetimes::{read_dyn, read_lifetime};
 use crate::read::names::{read_binding, read_field};
@@ -32,16 +32,16 @@ pub fn read_word(
     symbol: &Symbol<'_>,
     word: Word,
     tag: u8,
-    output: bool,
+    printing: bool,
     lifetimes: u128,
     place: Option<usize>,
     looks: &mut Looks,
 ) -> WordRead
-    ensures value { result ≡ (word_group symbol.now word tag output lifetimes place).reads }
+    ensures value { result ≡ (word_group symbol.now word tag printing lifetimes place).reads }
     ensures grows { looks.old ≤ looks.new }
     ensures looks { looks.new + looks_later (read_stretch result) ≤ looks.old + total (word_group
-        symbol.now word tag output lifetimes place).costs }
-    ensures lies { LiesIn symbol.now (read_stretch result) }
+        symbol.now word tag printing lifetimes place).costs }
+    ensures in_bounds { LiesIn symbol.now (read_stretch result) }
 {
     let Some(at) = place else {
         return word_failed(word);
@@ -49,11 +49,11 @@ pub fn read_word(
     match word {
         Word::FieldName => read_field(symbol, at, looks),
         Word::BindingName => read_binding(symbol, at, looks),
-        Word::LifetimeIndex => read_lifetime(symbol, output, lifetimes, at, looks),
-        Word::DynLifetime => read_dyn(symbol, output, lifetimes, at, looks),
+        Word::LifetimeIndex => read_lifetime(symbol, printing, lifetimes, at, looks),
+        Word::DynLifetime => read_dyn(symbol, printing, lifetimes, at, looks),
         Word::FunctionHead => read_head(symbol, at, looks),
         Word::Number => read_number(symbol, tag, at, looks),
-        Word::Truth => read_truth(symbol, at, looks),
+        Word::Bool => read_bool(symbol, at, looks),
         Word::Character => read_character(symbol, at, looks),
         Word::Literal => read_literal(symbol, at, looks),
     }
@@ -64,12 +64,15 @@ pub fn read_word(
 fn word_failed(word: Word) -> WordRead
     ensures value { result ≡ word_failed word }
     ensures later { looks_later (read_stretch result) ≡ 0 }
-    ensures lies { (b : List ℕ) → LiesIn b (read_stretch result) }
+    ensures in_bounds { (b : List ℕ) → LiesIn b (read_stretch result) }
 {
     match word {
+        // A dyn type asks for its `L`: where the reading has failed that is not there, and its lack
+        // is a fault anew, as the Rust crate prints it.
         Word::DynLifetime => faulty(),
+        // `U` and `K` may be left out, and where the reading has failed they are not there.
         Word::FunctionHead => WordRead::Goes(Stretch::FunctionHead(false, Abi::Rust), None),
-        _ => WordRead::Stops(Mark::Unread),
+        _ => WordRead::Stops(Mark::AfterError),
     }
 }
 

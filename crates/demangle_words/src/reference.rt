@@ -1,7 +1,7 @@
 //! Back references.
 ghost use Rattle.std.specs.Prelude.{◌≡◌, ◌+◌, ◌≤◌};
 ghost use Rattle.demangle_grammar.specs.Totals.{total};
-ghost use Rattle.demangle_words.specs.Serving.{refer, IsDeep};
+ghost use Rattle.demangle_words.specs.Backrefs.{refer, IsDeep};
 
 use crate::texts::Mark;
 use demangle_symbol::cursor::{Looks, MAX_DEPTH, ParseError, Symbol};
@@ -24,12 +24,14 @@ pub fn refer(symbol: &Symbol<'_>, left: u16, place: Option<usize>, looks: &mut L
     ensures deep { IsDeep result left }
 {
     let Some(at) = place else {
-        return Reference::Faulty(Mark::Unread);
+        return Reference::Faulty(Mark::AfterError);
     };
     // No `B` stands in front of the symbol.
     if at == 0 {
         return Reference::Faulty(Mark::Invalid);
     }
+    // What is left of the depth is never more than all of it: the difference ends at 0 so that no
+    // caller has to show that.
     let depth = MAX_DEPTH.saturating_sub(u32::from(left));
     match symbol.backref(at, depth, looks) {
         Ok((target, behind)) => Reference::Target(target, behind),

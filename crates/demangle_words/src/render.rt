@@ -1,8 +1,8 @@
 //! How what a step hands over is put into a sink, piece by piece.
-ghost use Rattle.std.specs.Prelude.{◌≡◌, ◌+◌, ◌≤◌, IsAscii};
-ghost use Rattle.demangle_words.specs.Groups.{texts_of, looks_later};
+ghost use Rattle.std.specs.Prelude.{◌+◌, ◌≤◌, IsAscii};
+ghost use Rattle.demangle_words.specs.WordReads.{texts_of, looks_later};
 ghost use Rattle.demangle_sink.specs.Limit.{Prints, Ready};
-ghost use Rattle.demangle_words.specs.Serving.{LiesIn};
+ghost use Rattle.demangle_words.specs.Backrefs.{LiesIn};
 
 use crate::stretch::Stretch;
 use crate::texts::text;
@@ -25,14 +25,14 @@ use numbers::put_number_constant;
 pub fn render<S: TextSink>(
     symbol: &Symbol<'_>,
     stretch: &Stretch,
-    plain: bool,
+    include_hash: bool,
     out: &mut SizeLimitedFmtAdapter<'_, S>,
     looks: &mut Looks,
 ) -> Result<(), SinkRefused>
     requires ascii { IsAscii symbol.now }
-    requires lies { LiesIn symbol.now stretch.now }
+    requires in_bounds { LiesIn symbol.now stretch.now }
     requires ready { Ready S.TextSink out.old }
-    ensures prints { Prints S.TextSink out.old (texts_of symbol.now plain stretch.now) result
+    ensures prints { Prints S.TextSink out.old (texts_of symbol.now include_hash stretch.now) result
         out.new }
     ensures grows { looks.old ≤ looks.new }
     ensures most { looks.new ≤ looks.old + looks_later stretch.now }
@@ -41,13 +41,13 @@ pub fn render<S: TextSink>(
         Stretch::Nothing => Ok(()),
         Stretch::Fixed(mark) => out.put(text(*mark)),
         Stretch::CrateName(name, number) => {
-            put_crate_name(symbol, name, *number, plain, out, looks)
+            put_crate_name(symbol, name, *number, include_hash, out, looks)
         }
         Stretch::FieldName(name) => name.write_to(symbol, out, looks),
         Stretch::NestedName(namespace, number, name) => {
             put_nested_name(symbol, *namespace, *number, name, out, looks)
         }
-        Stretch::NestedUnread => put_each(&["::", "?"], out),
+        Stretch::NestedAfterError => put_each(&["::", "?"], out),
         Stretch::Lifetime(None) => put_each(&["'", "_"], out),
         Stretch::Lifetime(Some(number)) => put_lifetime(*number, out),
         Stretch::LifetimeFault => put_each(&["'", "{invalid syntax}"], out),
@@ -59,7 +59,7 @@ pub fn render<S: TextSink>(
             put_function_head(symbol, *is_unsafe, *abi, out, looks)
         }
         Stretch::Number(value, nibbles, tag) => {
-            put_number_constant(symbol, *value, *nibbles, *tag, plain, out)
+            put_number_constant(symbol, *value, *nibbles, *tag, include_hash, out)
         }
         Stretch::Character(c) => put_char_literal(*c, out),
         Stretch::Literal(nibbles) => put_string_literal(symbol, *nibbles, out, looks),

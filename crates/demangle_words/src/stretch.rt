@@ -20,7 +20,7 @@ pub enum Stretch {
     FieldName(Ident),
     /// A name in a namespace, and its disambiguator.
     NestedName(u8, u64, Ident),
-    NestedUnread,
+    NestedAfterError,
     /// The number of a lifetime, if it has one.
     Lifetime(Option<u128>),
     LifetimeFault,

@@ -2,6 +2,7 @@
 ghost use Rattle.std.specs.Prelude.{◌≡◌};
 
 use crate::fault::{OUT_OF_MEMORY, report_call};
+use crate::output::Output;
 use crate::replacing::open_output;
 use crate::run::{BUFFER, Ended, Input, run};
 use crate::streams::{SourceReader, source_name};
@@ -91,12 +92,13 @@ fn filter_into<'a, F: Files, E: Write>(
             return 1;
         }
     };
-    let Ok(mut output) = BufWriter::with_capacity(alloc, BUFFER, file) else {
+    let Ok(buffer) = BufWriter::with_capacity(alloc, BUFFER, file) else {
         if let Some(replacement) = &replacement {
             replacement.give_up(files);
         }
         return tell(errors, OUT_OF_MEMORY, 1);
     };
+    let mut output = Output::new(buffer);
     let ended = run(alloc, inputs, &mut output, errors, include_hash, limit);
     let Some(replacement) = replacement else {
         return ended.status();
@@ -135,9 +137,10 @@ fn filter<F: Files, W: Write + Drop, E: Write>(
     if let Some(path) = request.output {
         return filter_into(alloc, files, inputs, path, errors, include_hash, limit);
     }
-    let Ok(mut output) = BufWriter::with_capacity(alloc, BUFFER, stdout) else {
+    let Ok(buffer) = BufWriter::with_capacity(alloc, BUFFER, stdout) else {
         return tell(errors, OUT_OF_MEMORY, 1);
     };
+    let mut output = Output::new(buffer);
     run(alloc, inputs, &mut output, errors, include_hash, limit).status()
 }
 

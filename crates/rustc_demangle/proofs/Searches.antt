@@ -36,3 +36,10 @@ no_run_behind xs at k before here lt = elim (cases_lt k at) [
   | inl low ↦ before k low
   | inr high ↦ let same : k ≡ at = omega arith in ap (λ j. begins_run (drop j xs)) same ∙ here
 ]
+
+-- and of a search that goes on behind it
+pub no_run_on : (xs : List ℕ) (at end k : ℕ) → ((k : ℕ) → k < at + 1 → begins_run (drop k xs) ≡ false) → ((k : ℕ) → at + 1 ≤ k → k < end → begins_run (drop k xs) ≡ false) → k < end → begins_run (drop k xs) ≡ false
+no_run_on xs at end k before behind lt = elim (cases_lt k (at + 1)) [
+  | inl low ↦ before k low
+  | inr high ↦ behind k high lt
+]

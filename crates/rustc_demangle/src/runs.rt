@@ -1,5 +1,5 @@
 //! Where the runs of a text stand, which may be symbols.
-ghost use Rattle.std.specs.Prelude.{◌≡◌, ℕ, ◌+◌, ◌<◌, ◌≤◌, true, false, length, drop, slice_index, IfSome, IfNone, IsTrue};
+ghost use Rattle.std.specs.Prelude.{◌≡◌, ◌∷◌, ℕ, List, ◌+◌, ◌<◌, ◌≤◌, true, false, length, drop, slice_index, IfSome, IfNone, IsTrue};
 ghost use Rattle.std.specs.List.{prefix_len, list_all};
 ghost use Rattle.rustc_demangle.specs.Filtered.{is_run, begins_run};
 
@@ -13,6 +13,44 @@ pub(crate) fn begins_run(text: &[u8]) -> bool
     text.starts_with(b"_ZN") || text.starts_with(b"_R")
 }
 
+/// Whether a run may begin with these two bytes.
+#[inline(always)]
+fn is_mark(first: u8, second: u8) -> bool
+    ensures { result ≡ false → (more : List ℕ) → begins_run (first ∷ second ∷ more) ≡ false }
+{
+    (first == b'_') & ((second == b'R') | (second == b'Z'))
+}
+
+/// Whether a run may begin in the group that begins here.
+#[inline(always)]
+fn has_mark<const N: usize>(text: &[u8], from: usize) -> bool
+    requires { from + N < length text.now }
+    ensures { result ≡ false → (k : ℕ) → from ≤ k → k < from + N →
+        begins_run (drop k text.now) ≡ false }
+{
+    let mut any = false;
+    for k in 0..N {
+        any |= is_mark(text[from + k], text[from + k + 1]);
+    }
+    any
+}
+
+/// Where the whole groups end, from a place on, in which no run begins.
+#[inline(always)]
+fn unmarked_end<const N: usize>(text: &[u8], from: usize) -> usize
+    requires size { 0 < N }
+    requires within { from ≤ length text.now }
+    ensures forward { from ≤ result }
+    ensures within { result ≤ length text.now }
+    ensures none { (k : ℕ) → from ≤ k → k < result → begins_run (drop k text.now) ≡ false }
+{
+    let mut at = from;
+    while text.len() - at > N && !has_mark::<N>(text, at) {
+        at += N;
+    }
+    at
+}
+
 /// Where the next run begins: the first place where `_ZN` or `_R` stands.
 pub fn run_start(text: &[u8]) -> Option<usize>
     ensures some { IfSome result (λ n. (n < length text.now) × (begins_run (drop n text.now) ≡ true)
@@ -21,12 +59,14 @@ pub fn run_start(text: &[u8]) -> Option<usize>
         ((k : ℕ) → k < length text.now → begins_run (drop k text.now) ≡ false) }
 {
     let mut from = 0;
+    // Each beginning of a run has `_` in front, and a single byte is found many at a time.
     while let Some(ahead) = memchr(b'_', &text[from..]) {
         let at = from + ahead;
         if begins_run(&text[at..]) {
             return Some(at);
         }
-        from = at + 1;
+        // Of a text with many `_` whole groups are passed by vectors, and not each `_` by itself.
+        from = unmarked_end::<32>(text, at + 1);
     }
     None
 }
@@ -89,8 +129,6 @@ pub(crate) fn run_text(run: &[u8]) -> &str
     requires { list_all is_run run.now ≡ true }
     ensures { result.now ≡ run.now }
 {
-    match str::from_utf8(run) {
-        Ok(text) => text,
-        Err(_) => unreachable!(),
-    }
+    // SAFETY: a run is ASCII.
+    unsafe { str::from_utf8_unchecked(run) }
 }

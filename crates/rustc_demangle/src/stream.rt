@@ -1,5 +1,5 @@
 //! The demangling of a text that comes from a reader.
-ghost use Rattle.std.specs.Prelude.{◌≡◌, IfSome, OnOk, IfOk, IfErr, IsUtf8};
+ghost use Rattle.std.specs.Prelude.{IfSome, OnOk, IfErr};
 ghost use Rattle.rustc_demangle.specs.Stream.{LineCopied, Finished, Stopped};
 
 use std::alloc::{Allocator, Global};

@@ -87,6 +87,7 @@ fn write_cut<S: TextSink>(
 {
     let mut limited = SizeLimitedFmtAdapter::new(out, limit);
     let result = style.write_to(&mut limited, include_hash, looks);
+    // The limit and the sink stop the printing alike; only a sink that takes more gets the marker.
     if limited.is_over() {
         put_piece("{size limit reached}", out)
     } else {
@@ -242,6 +243,7 @@ fn read_style<'a>(text: &'a str, looks: &mut Looks) -> Option<(DemangleStyle<'a>
     ensures most { looks.new ≤ looks.old + 60 * (length text.now + 1) }
     ensures least { IfSome result (λ _. looks.old + (length text.now - 4) ≤ looks.new) }
 {
+    // No text has the prefixes of both schemes, so the order shows in nothing that is printed.
     if let Ok((symbol, suffix)) = demangle_legacy::demangle(text, looks) {
         return Some((DemangleStyle::Legacy(symbol), suffix));
     }
@@ -315,6 +317,7 @@ fn hand_over_with<S: TextSink>(
         let read = Demangle::read(text, &mut looks);
         return read.hand_over(out, include_hash, limit, &mut looks);
     };
+    // A caller may hand in any number.
     let suffix = &text[path_len.min(text.len())..];
     let style = DemangleStyle::V0(symbol);
     write_cut(&style, out, include_hash, limit, &mut looks)?;

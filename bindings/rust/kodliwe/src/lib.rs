@@ -189,18 +189,14 @@ pub fn demangle_limited<'b>(
     include_hash: bool,
     limit: usize,
 ) -> Option<Path<'b>> {
-    // SAFETY: the pointers and lengths are those of a `&[u8]` and a `&mut [u8]`, which do not overlap.
-    let wanted = unsafe {
-        raw::kodliwe_demangle_limited(
-            symbol.as_ptr(),
-            symbol.len(),
-            out.as_mut_ptr(),
-            out.len(),
-            include_hash,
-            limit,
-        )
-    };
-    (wanted != 0).then(|| Path::new(out, wanted))
+    path_by(
+        raw::kodliwe_demangle_limited,
+        0,
+        symbol,
+        out,
+        include_hash,
+        limit,
+    )
 }
 
 /// Writes the bytes of the path, cut at `limit` bytes, that stand from `start` on into `out`, with a NUL behind them, or as
@@ -238,18 +234,44 @@ pub fn demangle_text<'b>(
     include_hash: bool,
     limit: usize,
 ) -> Option<Path<'b>> {
-    // SAFETY: the pointers and lengths are those of a `&[u8]` and a `&mut [u8]`, which do not overlap.
+    path_by(
+        raw::kodliwe_demangle_text,
+        usize::MAX,
+        text,
+        out,
+        include_hash,
+        limit,
+    )
+}
+
+/// A call of the library that writes text into memory and answers how many bytes it wants: of the bytes and their number, the
+/// memory and its size, whether with the hash, and the limit.
+type WritingCall = unsafe extern "C" fn(*const u8, usize, *mut u8, usize, bool, usize) -> usize;
+
+/// What one of the library's calls of this shape writes into `out`; `None` where it answers `none`.
+#[inline]
+fn path_by<'b>(
+    call: WritingCall,
+    none: usize,
+    bytes: &[u8],
+    out: &'b mut [u8],
+    include_hash: bool,
+    limit: usize,
+) -> Option<Path<'b>> {
+    let (room, room_len) = (out.as_mut_ptr(), out.len());
+    // SAFETY: the pointers and lengths are those of a `&[u8]` and a `&mut [u8]`, which do not overlap, and that is all that
+    // either call of this shape asks for.
     let wanted = unsafe {
-        raw::kodliwe_demangle_text(
-            text.as_ptr(),
-            text.len(),
-            out.as_mut_ptr(),
-            out.len(),
+        call(
+            bytes.as_ptr(),
+            bytes.len(),
+            room,
+            room_len,
             include_hash,
             limit,
         )
     };
-    (wanted != usize::MAX).then(|| Path::new(out, wanted))
+    (wanted != none).then(|| Path::new(out, wanted))
 }
 
 /// A Rust symbol that was read, to be printed without reading again where its path ends.

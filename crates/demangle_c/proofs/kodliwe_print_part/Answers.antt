@@ -1,4 +1,4 @@
-use Rattle.std.proofs.Common.{◌≡◌, ℕ, ◌+◌, ◌-◌, List, Bool, length, drop, ap, ◌∙◌, arith}
+use Rattle.std.proofs.Common.{◌≡◌, ℕ, ◌+◌, List, Bool, length, drop, ap, ◌∙◌, arith}
 use Rattle.std.proofs.lemmas.List.{length-drop}
 use Rattle.std.specs.List.{concat}
 use Rattle.rustc_demangle.specs.PathEnds.{path_len_of, handed_with}
@@ -7,7 +7,7 @@ use Rattle.rustc_demangle.specs.Stripped.{stripped}
 use Rattle.rustc_demangle.proofs.PathEndLaws.{handed_with-symbol, size_handed_with}
 use Rattle.rustc_demangle.proofs.Stripping.{stripped-shorter}
 use Rattle.rustc_demangle.proofs.SymbolLaws.{length-concat}
-use Rattle.demangle_c.specs.Naming.{NamesRust, c_string, path_within}
+use Rattle.demangle_path.specs.Naming.{NamesRust, c_string, path_within}
 use Rattle.demangle_c.proofs.kodliwe_print_part.Goals as goal
 
 -- with the length of its path a symbol prints that path

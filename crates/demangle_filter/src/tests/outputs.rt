@@ -1,8 +1,8 @@
 //! What the output holds and when it is written, where its writer takes a part of what it is
 //! handed, or refuses once.
 use super::{WRITE_FAILED, assert_failed, run_pausing};
-use crate::held::CAPACITY;
 use crate::pausing::PausingOutput;
+use held_bytes::CAPACITY;
 use std::alloc::Global;
 use std::io;
 use std::io::{ErrorKind, Write};

@@ -1,4 +1,4 @@
-//! A reader and a writer that watch when the output is flushed.
+//! Readers and writers that watch when the output is written and flushed.
 use std::cell::Cell;
 use std::io;
 use std::io::{ErrorKind, Read, Write};
@@ -56,5 +56,80 @@ impl Read for WatchingReader<'_> {
             return Err(io::Error::from(ErrorKind::Other));
         }
         self.parts.read(buf)
+    }
+}
+
+/// Counts what is written, and tells its reader that, and whether it was flushed.
+#[derive(Drop)]
+pub struct CountingWriter<'a> {
+    written: &'a Cell<usize>,
+    is_unflushed: &'a Cell<bool>,
+}
+
+impl<'a> CountingWriter<'a> {
+    pub fn new(written: &'a Cell<usize>, is_unflushed: &'a Cell<bool>) -> CountingWriter<'a> {
+        CountingWriter {
+            written,
+            is_unflushed,
+        }
+    }
+}
+
+impl Write for CountingWriter<'_> {
+    fn write(&mut self, buf: &[u8]) -> io::Result<usize> {
+        self.written
+            .set(self.written.get().saturating_add(buf.len()));
+        self.is_unflushed.set(true);
+        Ok(buf.len())
+    }
+
+    fn flush(&mut self) -> io::Result<()> {
+        self.is_unflushed.set(false);
+        Ok(())
+    }
+}
+
+/// Hands out a text, at each read up to the next of its ends, and fails where it is read while the
+/// writer lacks some of what was handed out, or was not flushed since.
+#[derive(Drop)]
+pub struct CountingReader<'a> {
+    text: &'a [u8],
+    ends: &'a [usize],
+    read: usize,
+    written: &'a Cell<usize>,
+    is_unflushed: &'a Cell<bool>,
+}
+
+impl<'a> CountingReader<'a> {
+    pub fn new(
+        text: &'a [u8],
+        ends: &'a [usize],
+        written: &'a Cell<usize>,
+        is_unflushed: &'a Cell<bool>,
+    ) -> CountingReader<'a> {
+        CountingReader {
+            text,
+            ends,
+            read: 0,
+            written,
+            is_unflushed,
+        }
+    }
+}
+
+impl Read for CountingReader<'_> {
+    fn read(&mut self, buf: &mut [u8]) -> io::Result<usize> {
+        if self.written.get() != self.read || self.is_unflushed.get() {
+            return Err(io::Error::from(ErrorKind::Other));
+        }
+        let Some((end, later)) = self.ends.split_first() else {
+            return Ok(0);
+        };
+        self.ends = later;
+        let part = self.text.get(self.read..*end).unwrap_or(b"");
+        let count = part.len().min(buf.len());
+        buf[..count].copy_from_slice(&part[..count]);
+        self.read = self.read.saturating_add(count);
+        Ok(count)
     }
 }

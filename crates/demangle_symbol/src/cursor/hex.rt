@@ -1,9 +1,9 @@
 //! The hex words of a v0 symbol, and their numbers.
-ghost use Rattle.std.specs.Prelude.{◌≡◌, ℕ, ◌+◌, ◌-◌, ◌*◌, ◌<◌, ◌≤◌, length, true, false, slice_range, IfOk, OnErr, IfErr, MatchOption, option_map};
+ghost use Rattle.std.specs.Prelude.{◌≡◌, ℕ, ◌+◌, ◌-◌, ◌<◌, ◌≤◌, length, true, false, slice_range, IfOk, OnErr, IfErr, MatchOption, option_map};
 ghost use Rattle.std.specs.Result.{result_ok};
 ghost use Rattle.demangle_symbol.specs.Digits.{number};
 ghost use Rattle.demangle_symbol.specs.Nibbles.{hex_at};
-ghost use Rattle.demangle_symbol.specs.Words.{nibbles_at, number_of, hex_number, Hex, is_nibble, nibble, zeros};
+ghost use Rattle.demangle_symbol.specs.Words.{nibbles_at, number_of, Hex, is_nibble, nibble, zeros};
 
 use crate::cursor::{Looks, ParseError, Part, Symbol};
 
@@ -73,6 +73,7 @@ impl<'s> Symbol<'s> {
         ensures grows { looks.old ≤ looks.new }
         ensures looks { looks.new ≤ looks.old + (nibbles.to - nibbles.from + 1) }
     {
+        // Zeros in front carry no value, so a number may have any count of them.
         let start = self.behind_zeros(nibbles, looks);
         if nibbles.to - start > MAX_NIBBLES {
             return None;

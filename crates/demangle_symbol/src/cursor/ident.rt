@@ -27,6 +27,8 @@ impl<'s> Symbol<'s> {
         ensures err_looks { OnErr result (looks.new ≤ looks.old + (length self.now - place + 2)) }
         ensures within { IfOk result (λ r. (place < r.1) × (r.1 ≤ length self.now)) }
     {
+        // The grammar has no leading zeros: a first `0` is the whole length, and digits behind it
+        // are the name's.
         if self.is_at(b'0', place, looks) {
             return Ok((0, place + 1));
         }
@@ -143,9 +145,11 @@ impl<'s> Symbol<'s> {
         }
         let to = from + len;
         let tail = self.tail(from, to, looks);
+        // An empty Punycode part is no form of a name: that name is spelled without the `u`.
         if tail == to {
             return Err(ParseError::Invalid);
         }
+        // The `_` between the two parts stands for the `-` of RFC 3492, and belongs to neither.
         let ascii_end = if tail == from { from } else { tail - 1 };
         let name = Ident {
             ascii: Part {

@@ -31,6 +31,7 @@ impl<'s> Symbol<'s> {
             (looks.new ≤ looks.old + 4 * (length self.now - place + 1)) }
         ensures within { IfOk result (λ r. (place < r.1) × (r.1 ≤ length self.now)) }
     {
+        // `_` alone is 0, so what digits spell is one less than the integer.
         let Some(first) = self.integer_digit(place, looks)? else {
             return Ok((0, place + 1));
         };
@@ -77,13 +78,11 @@ impl<'s> Symbol<'s> {
         let Some(byte) = self.byte(place, looks) else {
             return Err(ParseError::Invalid);
         };
-        // The end goes first, since the compiler else tests for it at each digit as well.
-        if byte == b'_' {
-            return Ok(None);
-        }
+        // The digits go first: there are up to eleven, and one end behind them.
         match digit_62_of(byte) {
-            Some(digit) => Ok(Some(digit)),
-            None => Err(ParseError::Invalid),
+            digit @ 0..=61 => Ok(Some(u64::from(digit))),
+            END_62 => Ok(None),
+            _ => Err(ParseError::Invalid),
         }
     }
 
@@ -114,6 +113,7 @@ impl<'s> Symbol<'s> {
         let Ok((number, next)) = self.integer_62(place + 1, looks) else {
             return Err(ParseError::Invalid);
         };
+        // The tag left out is 0, so behind the tag an integer counts from 1 on.
         let Some(value) = number.checked_add(1) else {
             return Err(ParseError::Invalid);
         };
@@ -198,6 +198,9 @@ impl<'s> Symbol<'s> {
             (λ r. (place < r.1) × (r.1 ≤ length self.now) × (r.0 + 1 < place)) }
     {
         let (target, next) = self.integer_62(place, looks)?;
+        // Only what stands in front of its `B` may be referred to, so that references lead to no
+        // circle. The target is looked at before the depth: a bad one is Invalid however deep it
+        // lies.
         if target >= place as u64 - 1 {
             return Err(ParseError::Invalid);
         }
@@ -222,7 +225,10 @@ impl<'s> Symbol<'s> {
     }
 }
 
-/// The value of each digit in base 62, and 255 at each other byte.
+/// What stands in the table for the `_` that ends an integer.
+const END_62: u8 = 62;
+
+/// The value of each digit in base 62, `END_62` for `_`, and 255 at each other byte.
 #[rattlefmt::skip]
 static DIGITS_62: [u8; 256] = [
     255, 255, 255, 255, 255, 255, 255, 255, 255, 255, 255, 255, 255, 255, 255, 255,
@@ -230,7 +236,7 @@ static DIGITS_62: [u8; 256] = [
     255, 255, 255, 255, 255, 255, 255, 255, 255, 255, 255, 255, 255, 255, 255, 255,
     0, 1, 2, 3, 4, 5, 6, 7, 8, 9, 255, 255, 255, 255, 255, 255,
     255, 36, 37, 38, 39, 40, 41, 42, 43, 44, 45, 46, 47, 48, 49, 50,
-    51, 52, 53, 54, 55, 56, 57, 58, 59, 60, 61, 255, 255, 255, 255, 255,
+    51, 52, 53, 54, 55, 56, 57, 58, 59, 60, 61, 255, 255, 255, 255, END_62,
     255, 10, 11, 12, 13, 14, 15, 16, 17, 18, 19, 20, 21, 22, 23, 24,
     25, 26, 27, 28, 29, 30, 31, 32, 33, 34, 35, 255, 255, 255, 255, 255,
     255, 255, 255, 255, 255, 255, 255, 255, 255, 255, 255, 255, 255, 255, 255, 255,
@@ -243,16 +249,13 @@ static DIGITS_62: [u8; 256] = [
     255, 255, 255, 255, 255, 255, 255, 255, 255, 255, 255, 255, 255, 255, 255, 255,
 ];
 
-/// The value of a digit in base 62, or `None` at any other byte.
+/// The value of a digit in base 62, `END_62` for the `_` that ends an integer, and more at any other
+/// byte.
 #[inline(always)]
-fn digit_62_of(byte: u8) -> Option<u64>
-    ensures { MatchOption result
-        (is_digit_62 byte ≡ false) (λ d. (is_digit_62 byte ≡ true) × (d ≡ digit_62 byte)) }
+fn digit_62_of(byte: u8) -> u8
+    ensures digit { result < 62 → (is_digit_62 byte ≡ true) × (result ≡ digit_62 byte) }
+    ensures end { result ≡ 62 → byte ≡ 95 }
+    ensures other { 62 < result → (is_digit_62 byte ≡ false) × (byte ≡ 95 → ⊥) }
 {
-    let digit = DIGITS_62[usize::from(byte)];
-    if digit < 62 {
-        Some(u64::from(digit))
-    } else {
-        None
-    }
+    DIGITS_62[usize::from(byte)]
 }

@@ -1,5 +1,5 @@
 //! How names print.
-ghost use Rattle.std.specs.Prelude.{◌≡◌, ◌+◌, ◌-◌, ◌<◌, ◌≤◌, IsAscii};
+ghost use Rattle.std.specs.Prelude.{◌+◌, ◌<◌, ◌≤◌, IsAscii};
 ghost use Rattle.demangle_symbol.specs.Idents.{LiesWithin, ascii_front, name_in, name_size};
 ghost use Rattle.demangle_sink.specs.Limit.{Prints, Ready};
 ghost use Rattle.demangle_symbol.specs.Names.{name_pieces, fallback_pieces};

@@ -1,5 +1,5 @@
 //! The points of the arguments of a path.
-ghost use Rattle.std.specs.Prelude.{◌≡◌, ℕ, ◌-◌, ◌+◌, ◌<◌, ◌≤◌, List, Bool, false, Ok, Some, length};
+ghost use Rattle.std.specs.Prelude.{◌≡◌, ℕ, ◌+◌, ◌≤◌, List, Bool, false, Ok, Some};
 ghost use Rattle.demangle_v0.specs.Arguments.{arguments_point, argument_point, argument_place, argument_costs};
 ghost use Rattle.demangle_grammar.specs.Totals.{total};
 ghost use Rattle.demangle_v0.specs.declared.points.frames.Frame.{Frame};
@@ -9,16 +9,16 @@ use crate::points::frames::FrameStack;
 use crate::points::functions::separator;
 use crate::points::{Point, State};
 use demangle_symbol::cursor::{Looks, Symbol};
+use demangle_words::output::Output;
 use demangle_words::texts::Mark;
-use demangle_words::voice::Voice;
 
 /// The arguments of a path, behind it.
 #[inline(always)]
-pub(super) fn generic<V: Voice>(state: &mut State) -> Point
+pub(super) fn generic<V: Output>(state: &mut State) -> Point
     requires fits { Fits Point.Generic state.old.depth_left state.old.lifetimes }
-    ensures did { (b : List ℕ) (plain : Bool) (v : V) (row : List Frame) (n : ℕ) → PointDoes (env
-        V.Voice b plain) Point.Generic (turn state.old row v n) (Ok result) (turn state.new row v
-        n) }
+    ensures did { (b : List ℕ) (include_hash : Bool) (v : V) (stack : List Frame) (n : ℕ) →
+        PointDoes (env V.Output b include_hash) Point.Generic (turn state.old stack v n) (Ok result)
+        (turn state.new stack v n) }
 {
     if state.in_value {
         state.mark = Some(Mark::Colons);
@@ -30,17 +30,17 @@ pub(super) fn generic<V: Voice>(state: &mut State) -> Point
 
 /// An argument of a path, the first or a further one, or their end.
 #[inline(always)]
-pub(super) fn arguments<V: Voice, const N: usize>(
+pub(super) fn arguments<V: Output, const N: usize>(
     symbol: &Symbol<'_>,
     is_first: bool,
     state: &mut State,
-    row: &mut FrameStack<N>,
+    stack: &mut FrameStack<N>,
     looks: &mut Looks,
 ) -> Point
-    requires may { MayRead Point.NextArgument N state.old row.old }
-    ensures did { (plain : Bool) (v : V) → PointDoes (env V.Voice symbol.now plain) (arguments_point
-        is_first) (turn state.old row.old v looks.old) (Ok result) (turn state.new row.new v
-        looks.new) }
+    requires may { MayRead Point.NextArgument N state.old stack.old }
+    ensures did { (include_hash : Bool) (v : V) → PointDoes (env V.Output symbol.now include_hash)
+        (arguments_point is_first) (turn state.old stack.old v looks.old) (Ok result) (turn
+        state.new stack.new v looks.new) }
 {
     let Some(at) = state.place else {
         return close_arguments(state);
@@ -49,7 +49,7 @@ pub(super) fn arguments<V: Voice, const N: usize>(
         state.place = Some(at + 1);
         return close_arguments(state);
     }
-    row.push(state.frame(Point::NextArgument));
+    stack.push(state.frame(Point::NextArgument));
     state.mark = separator(is_first, Mark::Comma);
     argument(symbol, at, state, looks)
 }

@@ -1,13 +1,13 @@
 //! The bindings of a dyn trait path.
 ghost use Rattle.std.specs.Prelude.{◌≡◌, List, Bool, Some, None, Ok, if◌then◌else◌};
-ghost use Rattle.demangle_v0.specs.Points.{Fits, bindings_left, MayRead, MaySpeak, PointDoes, RestDoes, env, turn};
+ghost use Rattle.demangle_v0.specs.Points.{Fits, bindings_left, MayRead, MayEmit, PointDoes, RestDoes, env, turn};
 
 use crate::points::frames::{Frame, FrameStack};
 use crate::points::{Point, State, Stop, word_at};
 use demangle_symbol::cursor::{Looks, Symbol};
+use demangle_words::output::Output;
 use demangle_words::read::WordRead;
 use demangle_words::texts::{Mark, Word};
-use demangle_words::voice::Voice;
 
 /// What bindings print at their end.
 #[inline(always)]
@@ -27,16 +27,16 @@ fn first_mark(is_open: bool) -> Mark
 
 /// A binding, where the bracket is open or not, or their end.
 #[inline(always)]
-fn binding<V: Voice>(
+fn binding<V: Output>(
     symbol: &Symbol<'_>,
     is_open: bool,
     state: &mut State,
     looks: &mut Looks,
 ) -> Point
     requires fits { Fits Point.Bindings state.old.depth_left state.old.lifetimes }
-    ensures did { (plain : Bool) (v : V) (row : List Frame) → RestDoes (env V.Voice symbol.now
-        plain) (bindings_left is_open) 8 2 4 (turn state.old row v looks.old) (Ok result) (turn
-        state.new row v looks.new) }
+    ensures did { (include_hash : Bool) (v : V) (stack : List Frame) → RestDoes (env V.Output
+        symbol.now include_hash) (bindings_left is_open) 8 2 4 (turn state.old stack v looks.old)
+        (Ok result) (turn state.new stack v looks.new) }
 {
     let Some(at) = state.place else {
         state.mark = end_mark(is_open);
@@ -54,48 +54,53 @@ fn binding<V: Voice>(
 
 /// The bindings of a dyn trait path that was read.
 #[inline(always)]
-pub(super) fn bindings<V: Voice>(symbol: &Symbol<'_>, state: &mut State, looks: &mut Looks) -> Point
+pub(super) fn bindings<V: Output>(
+    symbol: &Symbol<'_>,
+    state: &mut State,
+    looks: &mut Looks,
+) -> Point
     requires fits { Fits Point.Bindings state.old.depth_left state.old.lifetimes }
-    ensures did { (plain : Bool) (v : V) (row : List Frame) → PointDoes (env V.Voice symbol.now
-        plain) Point.Bindings (turn state.old row v looks.old) (Ok result) (turn state.new row v
-        looks.new) }
+    ensures did { (include_hash : Bool) (v : V) (stack : List Frame) → PointDoes (env V.Output
+        symbol.now include_hash) Point.Bindings (turn state.old stack v looks.old) (Ok result) (turn
+        state.new stack v looks.new) }
 {
     binding::<V>(symbol, state.is_open, state, looks)
 }
 
 /// Further bindings, or their end.
 #[inline(always)]
-pub(super) fn open_bindings<V: Voice>(
+pub(super) fn open_bindings<V: Output>(
     symbol: &Symbol<'_>,
     state: &mut State,
     looks: &mut Looks,
 ) -> Point
     requires fits { Fits Point.OpenBindings state.old.depth_left state.old.lifetimes }
-    ensures did { (plain : Bool) (v : V) (row : List Frame) → PointDoes (env V.Voice symbol.now
-        plain) Point.OpenBindings (turn state.old row v looks.old) (Ok result) (turn state.new row v
-        looks.new) }
+    ensures did { (include_hash : Bool) (v : V) (stack : List Frame) → PointDoes (env V.Output
+        symbol.now include_hash) Point.OpenBindings (turn state.old stack v looks.old) (Ok result)
+        (turn state.new stack v looks.new) }
 {
     binding::<V>(symbol, true, state, looks)
 }
 
 /// The name of a binding.
 #[inline(never)]
-pub(super) fn binding_name<V: Voice>(
+pub(super) fn binding_name<V: Output>(
     symbol: &Symbol<'_>,
-    plain: bool,
+    include_hash: bool,
     state: &mut State,
-    voice: &mut V,
+    output: &mut V,
     looks: &mut Looks,
 ) -> Result<Point, Stop>
-    requires may { MaySpeak (env V.Voice symbol.now plain) state.old voice.old }
+    requires may { MayEmit (env V.Output symbol.now include_hash) state.old output.old }
     requires fits { Fits Point.BindingName state.old.depth_left state.old.lifetimes }
-    ensures did { (row : List Frame) → PointDoes (env V.Voice symbol.now plain) Point.BindingName
-        (turn state.old row voice.old looks.old) result (turn state.new row voice.new looks.new) }
+    ensures did { (stack : List Frame) → PointDoes (env V.Output symbol.now include_hash)
+        Point.BindingName (turn state.old stack output.old looks.old) result (turn state.new stack
+        output.new looks.new) }
 {
-    match word_at(symbol, Word::BindingName, state, voice, looks) {
+    match word_at(symbol, Word::BindingName, state, output, looks) {
         WordRead::Goes(name, next) => {
             state.place = next;
-            let Ok(()) = voice.say(symbol, &name, plain, looks) else {
+            let Ok(()) = output.emit(symbol, &name, include_hash, looks) else {
                 return Err(Stop::Refused);
             };
             Ok(Point::Bound)
@@ -106,17 +111,18 @@ pub(super) fn binding_name<V: Voice>(
 
 /// What a binding binds: a constant or a type.
 #[inline(always)]
-pub(super) fn bound<V: Voice, const N: usize>(
+pub(super) fn bound<V: Output, const N: usize>(
     symbol: &Symbol<'_>,
     state: &mut State,
-    row: &mut FrameStack<N>,
+    stack: &mut FrameStack<N>,
     looks: &mut Looks,
 ) -> Point
-    requires may { MayRead Point.Bound N state.old row.old }
-    ensures did { (plain : Bool) (v : V) → PointDoes (env V.Voice symbol.now plain) Point.Bound
-        (turn state.old row.old v looks.old) (Ok result) (turn state.new row.new v looks.new) }
+    requires may { MayRead Point.Bound N state.old stack.old }
+    ensures did { (include_hash : Bool) (v : V) → PointDoes (env V.Output symbol.now include_hash)
+        Point.Bound (turn state.old stack.old v looks.old) (Ok result) (turn state.new stack.new v
+        looks.new) }
 {
-    row.push(state.frame(Point::OpenBindings));
+    stack.push(state.frame(Point::OpenBindings));
     state.in_value = false;
     let Some(at) = state.place else {
         return Point::Type;

@@ -1,13 +1,13 @@
 //! The lists of constants.
-ghost use Rattle.std.specs.Prelude.{◌≡◌, ◌+◌, ◌≤◌, Ok, Bool};
+ghost use Rattle.std.specs.Prelude.{◌≡◌, Ok, Bool};
 ghost use Rattle.demangle_v0.specs.ConstantLists.{first_point, second_point, next_point, element_point, close_of};
 ghost use Rattle.demangle_v0.specs.Points.{MayRead, PointDoes, env, turn};
 
 use crate::points::frames::FrameStack;
 use crate::points::{Point, State};
 use demangle_symbol::cursor::{Looks, Symbol};
+use demangle_words::output::Output;
 use demangle_words::texts::Mark;
-use demangle_words::voice::Voice;
 
 /// What constants stand in, one behind the other.
 #[derive(Clone, Copy)]
@@ -71,17 +71,17 @@ impl ConstantList {
 
 /// The first constant of a list, or its end.
 #[inline(always)]
-pub(super) fn first_constant<V: Voice, const N: usize>(
+pub(super) fn first_constant<V: Output, const N: usize>(
     symbol: &Symbol<'_>,
     list: ConstantList,
     state: &mut State,
-    row: &mut FrameStack<N>,
+    stack: &mut FrameStack<N>,
     looks: &mut Looks,
 ) -> Point
-    requires may { MayRead Point.Constant N state.old row.old }
-    ensures did { (plain : Bool) (v : V) → PointDoes (env V.Voice symbol.now plain) (first_point
-        list) (turn state.old row.old v looks.old) (Ok result) (turn state.new row.new v
-        looks.new) }
+    requires may { MayRead Point.Constant N state.old stack.old }
+    ensures did { (include_hash : Bool) (v : V) → PointDoes (env V.Output symbol.now include_hash)
+        (first_point list) (turn state.old stack.old v looks.old) (Ok result) (turn state.new
+        stack.new v looks.new) }
 {
     let Some(at) = state.place else {
         state.mark = Some(list.close());
@@ -94,24 +94,24 @@ pub(super) fn first_constant<V: Voice, const N: usize>(
         state.is_open = false;
         return Point::End;
     }
-    row.push(state.frame(list.behind_first()));
+    stack.push(state.frame(list.behind_first()));
     state.in_value = true;
     list.element()
 }
 
 /// The next constant of a list, or its end.
 #[inline(always)]
-pub(super) fn next_constant<V: Voice, const N: usize>(
+pub(super) fn next_constant<V: Output, const N: usize>(
     symbol: &Symbol<'_>,
     list: ConstantList,
     state: &mut State,
-    row: &mut FrameStack<N>,
+    stack: &mut FrameStack<N>,
     looks: &mut Looks,
 ) -> Point
-    requires may { MayRead Point.Constant N state.old row.old }
-    ensures did { (plain : Bool) (v : V) → PointDoes (env V.Voice symbol.now plain) (next_point
-        list) (turn state.old row.old v looks.old) (Ok result) (turn state.new row.new v
-        looks.new) }
+    requires may { MayRead Point.Constant N state.old stack.old }
+    ensures did { (include_hash : Bool) (v : V) → PointDoes (env V.Output symbol.now include_hash)
+        (next_point list) (turn state.old stack.old v looks.old) (Ok result) (turn state.new
+        stack.new v looks.new) }
 {
     let Some(at) = state.place else {
         state.mark = Some(list.close());
@@ -124,7 +124,7 @@ pub(super) fn next_constant<V: Voice, const N: usize>(
         state.is_open = false;
         return Point::End;
     }
-    row.push(state.frame(list.behind_next()));
+    stack.push(state.frame(list.behind_next()));
     state.mark = Some(Mark::Comma);
     state.in_value = true;
     list.element()
@@ -132,16 +132,16 @@ pub(super) fn next_constant<V: Voice, const N: usize>(
 
 /// The second constant of a tuple, or its end behind the one comma.
 #[inline(always)]
-pub(super) fn second_tuple_constant<V: Voice, const N: usize>(
+pub(super) fn second_tuple_constant<V: Output, const N: usize>(
     symbol: &Symbol<'_>,
     state: &mut State,
-    row: &mut FrameStack<N>,
+    stack: &mut FrameStack<N>,
     looks: &mut Looks,
 ) -> Point
-    requires may { MayRead Point.SecondTupleConstant N state.old row.old }
-    ensures did { (plain : Bool) (v : V) → PointDoes (env V.Voice symbol.now plain)
-        Point.SecondTupleConstant (turn state.old row.old v looks.old) (Ok result) (turn state.new
-        row.new v looks.new) }
+    requires may { MayRead Point.SecondTupleConstant N state.old stack.old }
+    ensures did { (include_hash : Bool) (v : V) → PointDoes (env V.Output symbol.now include_hash)
+        Point.SecondTupleConstant (turn state.old stack.old v looks.old) (Ok result) (turn state.new
+        stack.new v looks.new) }
 {
     let Some(at) = state.place else {
         state.mark = Some(Mark::OneComma);
@@ -152,7 +152,7 @@ pub(super) fn second_tuple_constant<V: Voice, const N: usize>(
         state.mark = Some(Mark::OneComma);
         return Point::CloseParen;
     }
-    row.push(state.frame(Point::NextTupleConstant));
+    stack.push(state.frame(Point::NextTupleConstant));
     state.mark = Some(Mark::Comma);
     state.in_value = true;
     Point::Constant

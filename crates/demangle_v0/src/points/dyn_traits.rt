@@ -1,6 +1,6 @@
 //! The points of dyn types.
-ghost use Rattle.std.specs.Prelude.{◌≡◌, ℕ, ◌+◌, ◌-◌, ◌*◌, ◌<◌, ◌≤◌, List, Bool, Some, None, Ok, Err, IsOk, IsAscii, length, true, false, if◌then◌else◌};
-ghost use Rattle.demangle_v0.specs.Points.{own_by, MayRead, MaySpeak, MayStep, PointDoes, RestDoes, env, turn, Fits};
+ghost use Rattle.std.specs.Prelude.{ℕ, ◌+◌, ◌<◌, ◌≤◌, List, Bool, Ok, length, if◌then◌else◌};
+ghost use Rattle.demangle_v0.specs.Points.{own_by, MayRead, MayEmit, MayStep, PointDoes, RestDoes, env, turn, Fits};
 ghost use Rattle.demangle_v0.specs.DynTraits.{dyn_type};
 
 use crate::points::arguments::argument;
@@ -10,52 +10,55 @@ use crate::points::references::follow;
 use crate::points::tuples::is_over;
 use crate::points::{Point, State, Stop, last_word};
 use demangle_symbol::cursor::{Looks, Symbol};
+use demangle_words::output::Output;
 use demangle_words::texts::{Mark, Word};
-use demangle_words::voice::Voice;
 
 /// A dyn type, behind its tag.
 #[inline(always)]
-pub(super) fn dyn_type<V: Voice, const N: usize>(
+pub(super) fn dyn_type<V: Output, const N: usize>(
     symbol: &Symbol<'_>,
     state: &mut State,
-    row: &mut FrameStack<N>,
+    stack: &mut FrameStack<N>,
 ) -> Point
-    requires room { length row.old < N }
+    requires room { length stack.old < N }
     requires fits { Fits Point.DynBinder state.old.depth_left state.old.lifetimes }
-    ensures did { (plain : Bool) (v : V) (n : ℕ) → RestDoes (env V.Voice symbol.now plain) dyn_type
-        5 4 5 (turn state.old row.old v n) (Ok result) (turn state.new row.new v n) }
+    ensures did { (include_hash : Bool) (v : V) (n : ℕ) → RestDoes (env V.Output symbol.now
+        include_hash) dyn_type 5 4 5 (turn state.old stack.old v n) (Ok result) (turn state.new
+        stack.new v n) }
 {
-    row.push(state.frame(Point::DynLifetime));
+    // The lifetime stands behind the traits, outside their binder: the frame has the lifetimes in
+    // force without it.
+    stack.push(state.frame(Point::DynLifetime));
     state.mark = Some(Mark::Dyn);
     Point::DynBinder
 }
 
 /// The lifetimes of dyn traits, and the first of them.
 #[inline(never)]
-pub(super) fn dyn_binder<V: Voice, const N: usize>(
+pub(super) fn dyn_binder<V: Output, const N: usize>(
     symbol: &Symbol<'_>,
-    plain: bool,
+    include_hash: bool,
     state: &mut State,
-    row: &mut FrameStack<N>,
-    voice: &mut V,
+    stack: &mut FrameStack<N>,
+    output: &mut V,
     looks: &mut Looks,
 ) -> Result<Point, Stop>
-    requires may { MayStep (env V.Voice symbol.now plain) Point.DynBinder N (turn state.old row.old
-        voice.old looks.old) }
-    ensures did { PointDoes (env V.Voice symbol.now plain) Point.DynBinder (turn state.old row.old
-        voice.old looks.old) result (turn state.new row.new voice.new looks.new) }
+    requires may { MayStep (env V.Output symbol.now include_hash) Point.DynBinder N (turn state.old
+        stack.old output.old looks.old) }
+    ensures did { PointDoes (env V.Output symbol.now include_hash) Point.DynBinder (turn state.old
+        stack.old output.old looks.old) result (turn state.new stack.new output.new looks.new) }
 {
     let Some(at) = state.place else {
-        return Err(Stop::Fault(Mark::Unread));
+        return Err(Stop::Fault(Mark::AfterError));
     };
     let Ok((number, next)) = symbol.opt_integer_62(b'G', at, looks) else {
         return Err(Stop::Fault(Mark::Invalid));
     };
     state.place = Some(next);
     if number == 0 {
-        return Ok(dyn_trait::<V, N>(symbol, true, state, row, looks));
+        return Ok(dyn_trait::<V, N>(symbol, true, state, stack, looks));
     }
-    let Ok(()) = name_lifetimes(symbol, number, plain, state, voice, looks) else {
+    let Ok(()) = name_lifetimes(symbol, number, include_hash, state, output, looks) else {
         return Err(Stop::Refused);
     };
     Ok(Point::FirstDynTrait)
@@ -63,52 +66,53 @@ pub(super) fn dyn_binder<V: Voice, const N: usize>(
 
 /// A dyn trait, the first or a further one, or their end.
 #[inline(always)]
-pub(super) fn dyn_trait<V: Voice, const N: usize>(
+pub(super) fn dyn_trait<V: Output, const N: usize>(
     symbol: &Symbol<'_>,
     is_first: bool,
     state: &mut State,
-    row: &mut FrameStack<N>,
+    stack: &mut FrameStack<N>,
     looks: &mut Looks,
 ) -> Point
-    requires may { MayRead Point.NextDynTrait N state.old row.old }
-    ensures did { (plain : Bool) (v : V) → PointDoes (env V.Voice symbol.now plain) (if is_first
-        then Point.FirstDynTrait else Point.NextDynTrait) (turn state.old row.old v looks.old) (Ok
-        result) (turn state.new row.new v looks.new) }
+    requires may { MayRead Point.NextDynTrait N state.old stack.old }
+    ensures did { (include_hash : Bool) (v : V) → PointDoes (env V.Output symbol.now include_hash)
+        (if is_first then Point.FirstDynTrait else Point.NextDynTrait) (turn state.old stack.old v
+        looks.old) (Ok result) (turn state.new stack.new v looks.new) }
     ensures own { looks.new ≤ looks.old + own_by 16 symbol.now state.old.place }
 {
     if is_over(symbol, &mut state.place, looks) {
         state.is_open = false;
         return Point::End;
     }
-    row.push(state.frame(Point::Bindings));
+    stack.push(state.frame(Point::Bindings));
     state.mark = separator(is_first, Mark::Plus);
     Point::TraitPath
 }
 
 /// The path of a dyn trait: the bracket of its arguments stays open for the bindings.
 #[inline(always)]
-pub(super) fn trait_path<V: Voice, const N: usize>(
+pub(super) fn trait_path<V: Output, const N: usize>(
     symbol: &Symbol<'_>,
     state: &mut State,
-    row: &mut FrameStack<N>,
-    voice: &V,
+    stack: &mut FrameStack<N>,
+    output: &V,
     looks: &mut Looks,
 ) -> Result<Point, Stop>
-    requires may { MayRead Point.TraitPath N state.old row.old }
-    ensures did { (plain : Bool) (v : V) → PointDoes (env V.Voice symbol.now plain) Point.TraitPath
-        (turn state.old row.old v looks.old) result (turn state.new row.new v looks.new) }
+    requires may { MayRead Point.TraitPath N state.old stack.old }
+    ensures did { (include_hash : Bool) (v : V) → PointDoes (env V.Output symbol.now include_hash)
+        Point.TraitPath (turn state.old stack.old v looks.old) result (turn state.new stack.new v
+        looks.new) }
 {
     let Some(at) = state.place else {
-        return Err(Stop::Fault(Mark::Unread));
+        return Err(Stop::Fault(Mark::AfterError));
     };
     if symbol.is_at(b'B', at, looks) {
         state.place = Some(at + 1);
-        return follow(symbol, Point::TraitPath, state, row, voice, looks);
+        return follow(symbol, Point::TraitPath, state, stack, output, looks);
     }
     state.in_value = false;
     if symbol.is_at(b'I', at, looks) {
         state.place = Some(at + 1);
-        row.push(state.frame(Point::OpenTraitPath));
+        stack.push(state.frame(Point::OpenTraitPath));
         return Ok(Point::Path);
     }
     Ok(Point::Path)
@@ -117,17 +121,17 @@ pub(super) fn trait_path<V: Voice, const N: usize>(
 /// An argument of a dyn trait path, the first or a further one, or their end, behind which the
 /// bracket is open.
 #[inline(always)]
-pub(super) fn open_argument<V: Voice, const N: usize>(
+pub(super) fn open_argument<V: Output, const N: usize>(
     symbol: &Symbol<'_>,
     is_first: bool,
     state: &mut State,
-    row: &mut FrameStack<N>,
+    stack: &mut FrameStack<N>,
     looks: &mut Looks,
 ) -> Point
-    requires may { MayRead Point.NextOpenArgument N state.old row.old }
-    ensures did { (plain : Bool) (v : V) → PointDoes (env V.Voice symbol.now plain) (if is_first
-        then Point.FirstOpenArgument else Point.NextOpenArgument) (turn state.old row.old v
-        looks.old) (Ok result) (turn state.new row.new v looks.new) }
+    requires may { MayRead Point.NextOpenArgument N state.old stack.old }
+    ensures did { (include_hash : Bool) (v : V) → PointDoes (env V.Output symbol.now include_hash)
+        (if is_first then Point.FirstOpenArgument else Point.NextOpenArgument) (turn state.old
+        stack.old v looks.old) (Ok result) (turn state.new stack.new v looks.new) }
 {
     let Some(at) = state.place else {
         state.is_open = true;
@@ -138,23 +142,31 @@ pub(super) fn open_argument<V: Voice, const N: usize>(
         state.is_open = true;
         return Point::End;
     }
-    row.push(state.frame(Point::NextOpenArgument));
+    stack.push(state.frame(Point::NextOpenArgument));
     state.mark = separator(is_first, Mark::Comma);
     argument(symbol, at, state, looks)
 }
 
 /// The lifetime of a dyn type.
 #[inline(never)]
-pub(super) fn dyn_lifetime<V: Voice>(
+pub(super) fn dyn_lifetime<V: Output>(
     symbol: &Symbol<'_>,
-    plain: bool,
+    include_hash: bool,
     state: &mut State,
-    voice: &mut V,
+    output: &mut V,
     looks: &mut Looks,
 ) -> Result<Point, Stop>
-    requires may { MaySpeak (env V.Voice symbol.now plain) state.old voice.old }
-    ensures did { (row : List Frame) → PointDoes (env V.Voice symbol.now plain) Point.DynLifetime
-        (turn state.old row voice.old looks.old) result (turn state.new row voice.new looks.new) }
+    requires may { MayEmit (env V.Output symbol.now include_hash) state.old output.old }
+    ensures did { (stack : List Frame) → PointDoes (env V.Output symbol.now include_hash)
+        Point.DynLifetime (turn state.old stack output.old looks.old) result (turn state.new stack
+        output.new looks.new) }
 {
-    last_word(symbol, Word::DynLifetime, plain, state, voice, looks)
+    last_word(
+        symbol,
+        Word::DynLifetime,
+        include_hash,
+        state,
+        output,
+        looks,
+    )
 }

@@ -1,4 +1,4 @@
-//! The frames that stand behind a child, and their row.
+//! The frames that stand behind a child, and their stack.
 ghost use Rattle.std.specs.Prelude.{◌≡◌, ◌^◌, ◌+◌, ◌<◌, ◌≤◌, [], ◌∷◌, ◌++◌, length, take, IfSome, IfNone};
 ghost use Rattle.demangle_v0.specs.Packing.{packed_frame};
 
@@ -21,11 +21,11 @@ pub struct Frame {
     pub letter: u8,
     /// How often the depth may be raised.
     pub depth_left: u16,
-    /// The lifetimes in force; of `Behind` the place behind a reference.
+    /// The lifetimes in force; of `AfterBackref` the place behind a reference.
     pub number: u128,
 }
 
-/// A frame as it lies in the row: 16 bytes.
+/// A frame as it lies in the stack: 16 bytes.
 #[derive(Clone, Copy)]
 struct Packed {
     low: u64,
@@ -53,13 +53,14 @@ impl Default for Packed {
     }
 }
 
-/// The frame as it lies in the row.
+/// The frame as it lies in the stack.
 #[inline(always)]
 fn pack(frame: Frame) -> Packed
     ensures { frame.number < 2 ^ 80 → packed_frame result ≡ frame }
 {
     Packed {
         low: (frame.number % TWO_64) as u64,
+        // 80 bits hold all lifetimes that can be in force: fewer than 2^64 for each of 500 depths.
         high: (frame.number / TWO_64 % 0x10000) as u16,
         depth_left: frame.depth_left,
         point: frame.point,
@@ -68,7 +69,7 @@ fn pack(frame: Frame) -> Packed
     }
 }
 
-/// The frame that lies so in the row.
+/// The frame that lies so in the stack.
 #[inline(always)]
 fn unpack(packed: Packed) -> Frame
     ensures { result ≡ packed_frame packed }
@@ -82,14 +83,15 @@ fn unpack(packed: Packed) -> Frame
     }
 }
 
-/// How many frames a first row holds, which is enough for all but deep symbols.
-pub const FEW: usize = 48;
+/// How many frames a first stack holds, which is enough for all but deep symbols.
+pub const SHORT_STACK: usize = 48;
 
-/// How many frames a second row holds: eight thousand bytes, where the last takes eight times that.
-pub const MIDDLE: usize = 512;
+/// How many frames a second stack holds: eight thousand bytes, where the last takes eight times
+/// that.
+pub const MIDDLE_STACK: usize = 512;
 
-/// How many frames a row holds in which there is room for all that can ever stand there.
-pub const MOST: usize = 4096;
+/// How many frames a stack holds in which there is room for all that can ever stand there.
+pub const FULL_STACK: usize = 4096;
 
 /// The frames that stand, at most `N`, the topmost last.
 #[derive(Drop)]
@@ -104,13 +106,13 @@ impl<const N: usize> Model for FrameStack<N> {
 
     ghost Value = { List Frame };
 
-    ghost view = { λ row. map packed_frame row.frames.items };
+    ghost view = { λ stack. map packed_frame stack.frames.items };
 
-    ghost invariant = { λ row. length row.frames.items ≤ N };
+    ghost invariant = { λ stack. length stack.frames.items ≤ N };
 }
 
 impl<const N: usize> FrameStack<N> {
-    /// A row without frames.
+    /// A stack without frames.
     #[inline(always)]
     pub fn new() -> Self
         ensures { result ≡ [] }
@@ -138,7 +140,7 @@ impl<const N: usize> FrameStack<N> {
         self.frames.push(pack(frame));
     }
 
-    /// Puts all frames of another row on top.
+    /// Puts all frames of another stack on top.
     pub fn append<const M: usize>(&mut self, other: &FrameStack<M>)
         requires room { length self.old + M ≤ N }
         ensures { self.new ≡ self.old ++ other.now }

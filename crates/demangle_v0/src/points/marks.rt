@@ -5,8 +5,8 @@ ghost use Rattle.demangle_v0.specs.Points.{Fits, PointDoes, env, turn};
 ghost use Rattle.demangle_v0.specs.declared.points.frames.Frame.{Frame};
 
 use crate::points::{Point, State};
+use demangle_words::output::Output;
 use demangle_words::texts::Mark;
-use demangle_words::voice::Voice;
 
 /// The mark that a point leaves, where it goes on, and whether that stands in value position.
 #[derive(Clone, Copy)]
@@ -24,18 +24,18 @@ fn left_at(point: Point) -> Option<Left>
     let (mark, next, in_value) = match point {
         Point::CloseParen => (Mark::CloseParen, Point::End, false),
         Point::CloseAngle => (Mark::Greater, Point::End, false),
-        Point::Mutable => (Mark::Mutable, Point::Type, false),
+        Point::Mut => (Mark::Mut, Point::Type, false),
         Point::TextConstant => (Mark::Star, Point::Literal, false),
         Point::ReferenceConstant => (Mark::Ampersand, Point::Constant, true),
         Point::OpenArguments => (Mark::Less, Point::FirstArgument, false),
-        Point::Unchanging => (Mark::Unchanging, Point::Type, false),
+        Point::Const => (Mark::Const, Point::Type, false),
         Point::PatternIs => (Mark::Is, Point::Pattern, false),
         Point::OpenParameters => (Mark::Function, Point::FirstParameter, false),
         Point::OpenTraitPath => (Mark::Less, Point::FirstOpenArgument, false),
         Point::CloseBracket => (Mark::CloseBracket, Point::End, false),
         Point::RangeEnd => (Mark::Range, Point::Constant, false),
         Point::MutReferenceConstant => (Mark::Ampersand, Point::MutableConstant, false),
-        Point::MutableConstant => (Mark::Mutable, Point::Constant, true),
+        Point::MutableConstant => (Mark::Mut, Point::Constant, true),
         Point::ArrayConstant => (Mark::OpenBracket, Point::FirstArrayConstant, false),
         Point::TupleConstant => (Mark::OpenParen, Point::FirstTupleConstant, false),
         Point::FieldColon => (Mark::Colon, Point::Constant, true),
@@ -51,11 +51,12 @@ fn left_at(point: Point) -> Option<Left>
 
 /// Leaves the mark of a point that does no more.
 #[inline(always)]
-pub(super) fn leave<V: Voice>(point: Point, state: &mut State) -> Point
+pub(super) fn leave<V: Output>(point: Point, state: &mut State) -> Point
     requires listed { IsSome (left_at point) }
     requires fits { Fits point state.old.depth_left state.old.lifetimes }
-    ensures did { (b : List ℕ) (plain : Bool) (v : V) (row : List Frame) (n : ℕ) → PointDoes (env
-        V.Voice b plain) point (turn state.old row v n) (Ok result) (turn state.new row v n) }
+    ensures did { (b : List ℕ) (include_hash : Bool) (v : V) (stack : List Frame) (n : ℕ) →
+        PointDoes (env V.Output b include_hash) point (turn state.old stack v n) (Ok result) (turn
+        state.new stack v n) }
 {
     let Some(left) = left_at(point) else {
         return Point::End;

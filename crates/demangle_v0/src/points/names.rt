@@ -1,39 +1,44 @@
 //! The names of paths.
 ghost use Rattle.std.specs.Prelude.{◌≡◌, None, List};
-ghost use Rattle.demangle_v0.specs.Points.{MaySpeak, PointDoes, RestDoes, env, turn};
+ghost use Rattle.demangle_v0.specs.Points.{MayEmit, PointDoes, RestDoes, env, turn};
 ghost use Rattle.demangle_grammar.specs.Table.{path};
 ghost use Rattle.demangle_v0.specs.declared.points.frames.Frame.{Frame};
 
 use crate::points::{Point, State, Stop};
 use demangle_symbol::cursor::{Looks, Symbol};
+use demangle_words::output::Output;
 use demangle_words::read::names::numbered_name;
 use demangle_words::stretch::Stretch;
 use demangle_words::texts::Mark;
-use demangle_words::voice::Voice;
 
 /// The name of a crate, with which its path ends.
 #[inline(always)]
-pub(super) fn crate_name<V: Voice>(
+pub(super) fn crate_name<V: Output>(
     symbol: &Symbol<'_>,
-    plain: bool,
+    include_hash: bool,
     state: &mut State,
-    voice: &mut V,
+    output: &mut V,
     looks: &mut Looks,
 ) -> Result<Point, Stop>
-    requires may { MaySpeak (env V.Voice symbol.now plain) state.old voice.old }
-    ensures did { (row : List Frame) → RestDoes (env V.Voice symbol.now plain) (path
-        state.old.in_value 67) 6 1 0 (turn state.old row voice.old looks.old) result (turn state.new
-        row voice.new looks.new) }
+    requires may { MayEmit (env V.Output symbol.now include_hash) state.old output.old }
+    ensures did { (stack : List Frame) → RestDoes (env V.Output symbol.now include_hash) (path
+        state.old.in_value 67) 6 1 0 (turn state.old stack output.old looks.old) result (turn
+        state.new stack output.new looks.new) }
 {
     let Some(at) = state.place else {
-        return Err(Stop::Fault(Mark::Unread));
+        return Err(Stop::Fault(Mark::AfterError));
     };
     let Some((name, number, next)) = numbered_name(symbol, at, looks) else {
         return Err(Stop::Fault(Mark::Invalid));
     };
     state.place = Some(next);
     state.is_open = false;
-    let Ok(()) = voice.say(symbol, &Stretch::CrateName(name, number), plain, looks) else {
+    let Ok(()) = output.emit(
+        symbol,
+        &Stretch::CrateName(name, number),
+        include_hash,
+        looks,
+    ) else {
         return Err(Stop::Refused);
     };
     Ok(Point::End)
@@ -41,20 +46,21 @@ pub(super) fn crate_name<V: Voice>(
 
 /// A name behind a path that failed: its colons are printed, and that it was not read.
 #[inline(never)]
-fn unread_name<V: Voice>(
+fn unread_name<V: Output>(
     symbol: &Symbol<'_>,
-    plain: bool,
+    include_hash: bool,
     state: &mut State,
-    voice: &mut V,
+    output: &mut V,
     looks: &mut Looks,
 ) -> Result<Point, Stop>
-    requires may { MaySpeak (env V.Voice symbol.now plain) state.old voice.old }
+    requires may { MayEmit (env V.Output symbol.now include_hash) state.old output.old }
     requires failed { state.old.place ≡ None }
-    ensures did { (row : List Frame) → PointDoes (env V.Voice symbol.now plain) Point.Nested (turn
-        state.old row voice.old looks.old) result (turn state.new row voice.new looks.new) }
+    ensures did { (stack : List Frame) → PointDoes (env V.Output symbol.now include_hash)
+        Point.Nested (turn state.old stack output.old looks.old) result (turn state.new stack
+        output.new looks.new) }
 {
     state.is_open = false;
-    let Ok(()) = voice.stop(symbol, &Stretch::NestedUnread, plain, looks) else {
+    let Ok(()) = output.emit_fault(symbol, &Stretch::NestedAfterError, include_hash, looks) else {
         return Err(Stop::Refused);
     };
     Ok(Point::End)
@@ -62,19 +68,20 @@ fn unread_name<V: Voice>(
 
 /// The name behind the path that it lies in, with which its path ends.
 #[inline(always)]
-pub(super) fn nested_name<V: Voice>(
+pub(super) fn nested_name<V: Output>(
     symbol: &Symbol<'_>,
-    plain: bool,
+    include_hash: bool,
     state: &mut State,
-    voice: &mut V,
+    output: &mut V,
     looks: &mut Looks,
 ) -> Result<Point, Stop>
-    requires may { MaySpeak (env V.Voice symbol.now plain) state.old voice.old }
-    ensures did { (row : List Frame) → PointDoes (env V.Voice symbol.now plain) Point.Nested (turn
-        state.old row voice.old looks.old) result (turn state.new row voice.new looks.new) }
+    requires may { MayEmit (env V.Output symbol.now include_hash) state.old output.old }
+    ensures did { (stack : List Frame) → PointDoes (env V.Output symbol.now include_hash)
+        Point.Nested (turn state.old stack output.old looks.old) result (turn state.new stack
+        output.new looks.new) }
 {
     let Some(at) = state.place else {
-        return unread_name(symbol, plain, state, voice, looks);
+        return unread_name(symbol, include_hash, state, output, looks);
     };
     let Some((ident, number, next)) = numbered_name(symbol, at, looks) else {
         return Err(Stop::Fault(Mark::Invalid));
@@ -82,7 +89,7 @@ pub(super) fn nested_name<V: Voice>(
     state.place = Some(next);
     state.is_open = false;
     let name = Stretch::NestedName(state.letter, number, ident);
-    let Ok(()) = voice.say(symbol, &name, plain, looks) else {
+    let Ok(()) = output.emit(symbol, &name, include_hash, looks) else {
         return Err(Stop::Refused);
     };
     Ok(Point::End)

@@ -1,5 +1,5 @@
 //! The points of paths.
-ghost use Rattle.std.specs.Prelude.{◌≡◌, ℕ, ◌+◌, ◌≤◌, Ok, Bool, List};
+ghost use Rattle.std.specs.Prelude.{ℕ, ◌+◌, ◌≤◌, Ok, Bool, List};
 ghost use Rattle.demangle_v0.specs.Points.{MayRead, MayStep, PointDoes, RestDoes, env, turn};
 ghost use Rattle.demangle_v0.specs.PointRuns.{first_looks};
 ghost use Rattle.demangle_grammar.specs.Table.{path};
@@ -11,96 +11,99 @@ use crate::points::names::crate_name;
 use crate::points::references::follow;
 use crate::points::{Point, State, Stop};
 use demangle_symbol::cursor::{Looks, Symbol};
+use demangle_words::output::Output;
 use demangle_words::tags::{PathKind, path_kind};
 use demangle_words::texts::Mark;
-use demangle_words::voice::Voice;
 
 /// A path of names, behind its `N`.
 #[inline(always)]
-fn nested_path<V: Voice, const N: usize>(
+fn nested_path<V: Output, const N: usize>(
     symbol: &Symbol<'_>,
     state: &mut State,
-    row: &mut FrameStack<N>,
+    stack: &mut FrameStack<N>,
     looks: &mut Looks,
 ) -> Result<Point, Stop>
-    requires may { MayRead Point.Nested N state.old row.old }
-    ensures did { (plain : Bool) (v : V) → RestDoes (env V.Voice symbol.now plain) (path
-        state.old.in_value 78) 6 1 9 (turn state.old row.old v looks.old) result (turn state.new
-        row.new v looks.new) }
+    requires may { MayRead Point.Nested N state.old stack.old }
+    ensures did { (include_hash : Bool) (v : V) → RestDoes (env V.Output symbol.now include_hash)
+        (path state.old.in_value 78) 6 1 9 (turn state.old stack.old v looks.old) result (turn
+        state.new stack.new v looks.new) }
 {
     let Some(at) = state.place else {
-        return Err(Stop::Fault(Mark::Unread));
+        return Err(Stop::Fault(Mark::AfterError));
     };
     let Ok((letter, next)) = symbol.namespace(at, looks) else {
         return Err(Stop::Fault(Mark::Invalid));
     };
     let frame = state.frame(Point::Nested);
-    row.push(Frame { letter, ..frame });
+    stack.push(Frame { letter, ..frame });
     state.place = Some(next);
     Ok(Point::Path)
 }
 
 /// A path with arguments, behind its `I`.
 #[inline(always)]
-fn generic_path<V: Voice, const N: usize>(state: &State, row: &mut FrameStack<N>) -> Point
-    requires may { MayRead Point.Generic N state.now row.old }
-    ensures did { (b : List ℕ) (plain : Bool) (v : V) (n : ℕ) → RestDoes (env V.Voice b plain)
-        (path_of state.now.in_value PathKind.Generic) 6 7 9 (turn state.now row.old v n) (Ok result)
-        (turn state.now row.new v n) }
+fn generic_path<V: Output, const N: usize>(state: &State, stack: &mut FrameStack<N>) -> Point
+    requires may { MayRead Point.Generic N state.now stack.old }
+    ensures did { (b : List ℕ) (include_hash : Bool) (v : V) (n : ℕ) → RestDoes (env V.Output b
+        include_hash) (path_of state.now.in_value PathKind.Generic) 6 7 9 (turn state.now stack.old
+        v n) (Ok result) (turn state.now stack.new v n) }
 {
-    row.push(state.frame(Point::Generic));
+    stack.push(state.frame(Point::Generic));
     Point::Path
 }
 
 /// A path, behind its tag.
 #[inline(always)]
-fn tagged_path<V: Voice, const N: usize>(
+fn tagged_path<V: Output, const N: usize>(
     symbol: &Symbol<'_>,
     tag: u8,
-    plain: bool,
+    include_hash: bool,
     state: &mut State,
-    row: &mut FrameStack<N>,
-    voice: &mut V,
+    stack: &mut FrameStack<N>,
+    output: &mut V,
     looks: &mut Looks,
 ) -> Result<Point, Stop>
-    requires may { MayStep (env V.Voice symbol.now plain) Point.Path N (turn state.old row.old
-        voice.old looks.old) }
-    ensures did { RestDoes (env V.Voice symbol.now plain) (path state.old.in_value tag) 6 7 9 (turn
-        state.old row.old voice.old looks.old) result (turn state.new row.new voice.new looks.new) }
+    requires may { MayStep (env V.Output symbol.now include_hash) Point.Path N (turn state.old
+        stack.old output.old looks.old) }
+    ensures did { RestDoes (env V.Output symbol.now include_hash) (path state.old.in_value tag) 6 7
+        9 (turn state.old stack.old output.old looks.old) result (turn state.new stack.new
+        output.new looks.new) }
 {
     let Some(kind) = path_kind(tag) else {
         return Err(Stop::Fault(Mark::Invalid));
     };
     match kind {
-        PathKind::CrateRoot => crate_name(symbol, plain, state, voice, looks),
-        PathKind::Nested => nested_path::<V, N>(symbol, state, row, looks),
-        PathKind::Generic => Ok(generic_path::<V, N>(state, row)),
-        PathKind::Reference => follow(symbol, Point::Path, state, row, voice, looks),
+        PathKind::CrateRoot => crate_name(symbol, include_hash, state, output, looks),
+        PathKind::Nested => nested_path::<V, N>(symbol, state, stack, looks),
+        PathKind::Generic => Ok(generic_path::<V, N>(state, stack)),
+        PathKind::Reference => follow(symbol, Point::Path, state, stack, output, looks),
         PathKind::InherentImpl => impl_path::<V>(symbol, false, state, looks),
         PathKind::TraitImpl => impl_path::<V>(symbol, true, state, looks),
-        PathKind::TraitDefinition => Ok(self_type::<V, N>(true, state, row)),
+        PathKind::TraitDefinition => Ok(self_type::<V, N>(true, state, stack)),
     }
 }
 
 /// A path.
 #[inline(always)]
-pub(super) fn path<V: Voice, const N: usize>(
+pub(super) fn path<V: Output, const N: usize>(
     symbol: &Symbol<'_>,
-    plain: bool,
+    include_hash: bool,
     state: &mut State,
-    row: &mut FrameStack<N>,
-    voice: &mut V,
+    stack: &mut FrameStack<N>,
+    output: &mut V,
     looks: &mut Looks,
 ) -> Result<Point, Stop>
-    requires may { MayStep (env V.Voice symbol.now plain) Point.Path N (turn state.old row.old
-        voice.old looks.old) }
-    ensures did { PointDoes (env V.Voice symbol.now plain) Point.Path (turn state.old row.old
-        voice.old looks.old) result (turn state.new row.new voice.new looks.new) }
+    requires may { MayStep (env V.Output symbol.now include_hash) Point.Path N (turn state.old
+        stack.old output.old looks.old) }
+    ensures did { PointDoes (env V.Output symbol.now include_hash) Point.Path (turn state.old
+        stack.old output.old looks.old) result (turn state.new stack.new output.new looks.new) }
     ensures least { looks.old + first_looks Point.Path state.old ≤ looks.new }
 {
     let Some(at) = state.place else {
-        return Err(Stop::Fault(Mark::Unread));
+        return Err(Stop::Fault(Mark::AfterError));
     };
+    // Of a path the depth is tested before its tag is looked at, of a type or a constant behind it:
+    // in this order the Rust crate reports, where both fail.
     if state.depth_left == 0 {
         return Err(Stop::Fault(Mark::Recursion));
     }
@@ -109,5 +112,5 @@ pub(super) fn path<V: Voice, const N: usize>(
     };
     state.depth_left -= 1;
     state.place = Some(next);
-    tagged_path(symbol, tag, plain, state, row, voice, looks)
+    tagged_path(symbol, tag, include_hash, state, stack, output, looks)
 }

@@ -1,29 +1,29 @@
 //! The points of patterns.
-ghost use Rattle.std.specs.Prelude.{◌≡◌, ◌==◌, ◌+◌, ◌-◌, ◌<◌, ◌≤◌, Some, None, Ok, Err, length, Bool};
-ghost use Rattle.demangle_v0.specs.PointContracts.{DidFree};
+ghost use Rattle.std.specs.Prelude.{◌==◌, ◌+◌, ◌-◌, ◌<◌, Some, Ok, Err, Bool};
 ghost use Rattle.demangle_v0.specs.Points.{MayRead, PointDoes, env, turn};
 
 use crate::points::frames::FrameStack;
 use crate::points::{Point, State, Stop};
 use demangle_symbol::cursor::{Looks, Symbol};
+use demangle_words::output::Output;
 use demangle_words::tags::{PatternKind, pattern_kind};
 use demangle_words::texts::Mark;
-use demangle_words::voice::Voice;
 
 /// A pattern.
 #[inline(always)]
-pub(super) fn pattern<V: Voice, const N: usize>(
+pub(super) fn pattern<V: Output, const N: usize>(
     symbol: &Symbol<'_>,
     state: &mut State,
-    row: &mut FrameStack<N>,
+    stack: &mut FrameStack<N>,
     looks: &mut Looks,
 ) -> Result<Point, Stop>
-    requires may { MayRead Point.Pattern N state.old row.old }
-    ensures did { (plain : Bool) (v : V) → PointDoes (env V.Voice symbol.now plain) Point.Pattern
-        (turn state.old row.old v looks.old) result (turn state.new row.new v looks.new) }
+    requires may { MayRead Point.Pattern N state.old stack.old }
+    ensures did { (include_hash : Bool) (v : V) → PointDoes (env V.Output symbol.now include_hash)
+        Point.Pattern (turn state.old stack.old v looks.old) result (turn state.new stack.new v
+        looks.new) }
 {
     let Some(at) = state.place else {
-        return Err(Stop::Fault(Mark::Unread));
+        return Err(Stop::Fault(Mark::AfterError));
     };
     let Ok((tag, next)) = symbol.tag(at, looks) else {
         return Err(Stop::Fault(Mark::Invalid));
@@ -34,16 +34,17 @@ pub(super) fn pattern<V: Voice, const N: usize>(
     state.place = Some(next);
     match kind {
         PatternKind::Range => {
-            row.push(state.frame(Point::RangeEnd));
+            stack.push(state.frame(Point::RangeEnd));
             state.in_value = false;
             Ok(Point::Constant)
         }
         PatternKind::Or => {
+            // Only `O` holds patterns, so only there the Rust crate raises the depth.
             if state.depth_left == 0 {
                 return Err(Stop::Fault(Mark::Recursion));
             }
             state.depth_left -= 1;
-            row.push(state.frame(Point::NextPattern));
+            stack.push(state.frame(Point::NextPattern));
             Ok(Point::Pattern)
         }
         PatternKind::NotNull => {
@@ -56,15 +57,15 @@ pub(super) fn pattern<V: Voice, const N: usize>(
 
 /// Another pattern behind `|`, or the end. Where the reading has failed the end is a new fault.
 #[inline(always)]
-pub(super) fn next_pattern<V: Voice, const N: usize>(
+pub(super) fn next_pattern<V: Output, const N: usize>(
     symbol: &Symbol<'_>,
     state: &mut State,
-    row: &mut FrameStack<N>,
+    stack: &mut FrameStack<N>,
     looks: &mut Looks,
 ) -> Result<Point, Stop>
-    requires may { MayRead Point.NextPattern N state.old row.old }
-    ensures did { (plain : Bool) (v : V) → PointDoes (env V.Voice symbol.now plain)
-        Point.NextPattern (turn state.old row.old v looks.old) result (turn state.new row.new v
+    requires may { MayRead Point.NextPattern N state.old stack.old }
+    ensures did { (include_hash : Bool) (v : V) → PointDoes (env V.Output symbol.now include_hash)
+        Point.NextPattern (turn state.old stack.old v looks.old) result (turn state.new stack.new v
         looks.new) }
 {
     let Some(at) = state.place else {
@@ -75,7 +76,7 @@ pub(super) fn next_pattern<V: Voice, const N: usize>(
         state.is_open = false;
         return Ok(Point::End);
     }
-    row.push(state.frame(Point::NextPattern));
+    stack.push(state.frame(Point::NextPattern));
     state.mark = Some(Mark::Or);
     Ok(Point::Pattern)
 }

@@ -1,5 +1,5 @@
-//! Readings without a voice, above the frames that stand.
-ghost use Rattle.std.specs.Prelude.{◌≡◌, ◌+◌, ◌-◌, ◌<◌, ◌≤◌, ◌++◌, true, false, length, List};
+//! Readings without an output, above the frames that stand.
+ghost use Rattle.std.specs.Prelude.{◌≡◌, ◌+◌, ◌-◌, ◌≤◌, ◌++◌, length, List};
 ghost use Rattle.demangle_v0.specs.Points.{AllInner};
 ghost use Rattle.demangle_v0.specs.PointRuns.{Valid, ReadOn, first_state};
 ghost use Rattle.demangle_v0.specs.declared.points.frames.Frame.{Frame};
@@ -8,7 +8,7 @@ use crate::points::frames::FrameStack;
 use crate::points::step::{resume, step};
 use crate::points::{Point, State};
 use demangle_symbol::cursor::{Looks, MAX_DEPTH, Symbol};
-use demangle_words::voice::Silent;
+use demangle_words::output::Silent;
 
 /// Where a reading stands.
 #[derive(Clone, Copy)]
@@ -46,12 +46,12 @@ impl Reading {
     }
 }
 
-/// Why a reading without a voice went no further.
+/// Why a reading without an output went no further.
 #[derive(Clone, Copy)]
 pub enum Halt {
     /// Nothing is left.
     Over,
-    /// The row is full.
+    /// The stack is full.
     Full,
     /// No unit of the kind is spelled there.
     Failed,
@@ -61,30 +61,38 @@ pub enum Halt {
 pub fn read_on<const N: usize>(
     symbol: &Symbol<'_>,
     base: usize,
-    plain: bool,
+    include_hash: bool,
     reading: &mut Reading,
-    row: &mut FrameStack<N>,
+    stack: &mut FrameStack<N>,
     looks: &mut Looks,
 ) -> Halt
-    requires valid { Valid reading.old.point reading.old.state row.old }
-    ensures reads { (below above : List Frame) → row.old ≡ below ++ above → length below ≡ base →
-        AllInner above → ReadOn symbol.now plain below reading.old.point reading.old.state above
-        result reading.new.point reading.new.state row.new (looks.new - looks.old) }
-    ensures valid { result ≡ Halt.Full → Valid reading.new.point reading.new.state row.new }
-    ensures full { result ≡ Halt.Full → N ≤ length row.new }
+    requires valid { Valid reading.old.point reading.old.state stack.old }
+    ensures reads { (below above : List Frame) → stack.old ≡ below ++ above → length below ≡ base →
+        AllInner above → ReadOn symbol.now include_hash below reading.old.point reading.old.state
+        above result reading.new.point reading.new.state stack.new (looks.new - looks.old) }
+    ensures valid { result ≡ Halt.Full → Valid reading.new.point reading.new.state stack.new }
+    ensures full { result ≡ Halt.Full → N ≤ length stack.new }
     ensures grows { looks.old ≤ looks.new }
 {
     let mut point = reading.point;
     let mut state = reading.state;
-    'steps: while row.len() < N {
-        let Some(at) = resume(base, point, &mut state, row) else {
+    'steps: while stack.len() < N {
+        let Some(at) = resume(base, point, &mut state, stack) else {
             *reading = Reading {
                 point: Point::End,
                 state,
             };
             return Halt::Over;
         };
-        match step(symbol, at, plain, &mut state, row, &mut Silent, looks) {
+        match step(
+            symbol,
+            at,
+            include_hash,
+            &mut state,
+            stack,
+            &mut Silent,
+            looks,
+        ) {
             Ok(next) => point = next,
             Err(_) => return Halt::Failed,
         }

@@ -1,5 +1,5 @@
 //! The own path of an impl, which is read and not printed.
-ghost use Rattle.std.specs.Prelude.{◌≡◌, ℕ, ◌+◌, ◌-◌, ◌<◌, ◌≤◌, Bool, List, [], length, IfSome, IfNone};
+ghost use Rattle.std.specs.Prelude.{◌≡◌, ℕ, ◌+◌, ◌-◌, ◌≤◌, Bool, List, [], length, IfSome, IfNone};
 ghost use Rattle.demangle_v0.specs.Impls.{skip_point, self_point, is_skip};
 ghost use Rattle.demangle_v0.specs.PointRuns.{Valid, Reads, Skipped, own_path, state_at, silent_of};
 ghost use Rattle.demangle_v0.specs.declared.points.frames.Frame.{Frame};
@@ -68,41 +68,42 @@ impl Reading {
 }
 
 /// Reads on in the own path of the impl at which printing stands, above so many frames, and lets
-/// printing go on behind it: or answers how far it was read, where the row is full.
+/// printing go on behind it: or answers how far it was read, where the stack is full.
 #[inline(never)]
 pub fn skip<const N: usize>(
     symbol: &Symbol<'_>,
-    plain: bool,
+    include_hash: bool,
     base: usize,
     inner: Reading,
     printing: &mut Reading,
-    row: &mut FrameStack<N>,
+    stack: &mut FrameStack<N>,
     looks: &mut Looks,
 ) -> Option<Reading>
-    requires valid { Valid inner.point inner.state row.old }
+    requires valid { Valid inner.point inner.state stack.old }
     ensures behind { IfNone result ((below : List Frame) (q : Bool) (first : ℕ) → Reads symbol.now
-        plain below Point.Path (silent_of printing.old.state) [] inner.point inner.state row.old
-        first → length below ≡ base → printing.old.point ≡ skip_point q → Skipped symbol.now plain q
-        printing.old.state below printing.new.point printing.new.state row.new (first + (looks.new -
-        looks.old))) }
+        include_hash below Point.Path (silent_of printing.old.state) [] inner.point inner.state
+        stack.old first → length below ≡ base → printing.old.point ≡ skip_point q → Skipped
+        symbol.now include_hash q printing.old.state below printing.new.point printing.new.state
+        stack.new (first + (looks.new - looks.old))) }
     ensures midway { IfSome result (λ more. (below : List Frame) (first : ℕ) → Reads symbol.now
-        plain below Point.Path (silent_of printing.old.state) [] inner.point inner.state row.old
-        first → length below ≡ base → Reads symbol.now plain below Point.Path (silent_of
-        printing.old.state) [] more.point more.state row.new (first + (looks.new - looks.old))) }
-    ensures valid { IfSome result (λ more. Valid more.point more.state row.new) }
-    ensures full { IfSome result (λ more. N ≤ length row.new) }
+        include_hash below Point.Path (silent_of printing.old.state) [] inner.point inner.state
+        stack.old first → length below ≡ base → Reads symbol.now include_hash below Point.Path
+        (silent_of printing.old.state) [] more.point more.state stack.new (first + (looks.new -
+        looks.old))) }
+    ensures valid { IfSome result (λ more. Valid more.point more.state stack.new) }
+    ensures full { IfSome result (λ more. N ≤ length stack.new) }
     ensures same { IfSome result (λ more. printing.new ≡ printing.old) }
     ensures grows { looks.old ≤ looks.new }
 {
     let mut reading = inner;
-    match read_on(symbol, base, plain, &mut reading, row, looks) {
+    match read_on(symbol, base, include_hash, &mut reading, stack, looks) {
         Halt::Full => Some(reading),
         Halt::Over => {
             printing.go_behind(reading.place());
             None
         }
         Halt::Failed => {
-            row.truncate(base);
+            stack.truncate(base);
             printing.go_behind(None);
             None
         }

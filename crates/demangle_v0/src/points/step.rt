@@ -4,74 +4,74 @@ ghost use Rattle.demangle_v0.specs.Impls.{is_skip};
 ghost use Rattle.demangle_v0.specs.Points.{own_by, Fits, resumed_of};
 ghost use Rattle.demangle_v0.specs.PointRuns.{Puts, Stepped, Resumes, first_looks};
 
+use crate::points::dispatch::dispatch;
 use crate::points::frames::{Frame, FrameStack};
-use crate::points::perform::perform;
 use crate::points::{Point, State, Stop};
 use demangle_sink::SinkRefused;
 use demangle_symbol::cursor::{Looks, Symbol};
+use demangle_words::output::Output;
 use demangle_words::stretch::Stretch;
 use demangle_words::texts::Mark;
-use demangle_words::voice::Voice;
 
 /// Hands a mark over, if there is one.
 #[inline(always)]
-fn put_mark<V: Voice>(
+fn put_mark<V: Output>(
     symbol: &Symbol<'_>,
     mark: Option<Mark>,
-    plain: bool,
-    voice: &mut V,
+    include_hash: bool,
+    output: &mut V,
     looks: &mut Looks,
 ) -> Result<(), SinkRefused>
-    requires ascii { V.loud ≡ true → IsAscii symbol.now }
-    requires ready { V.ready voice.old }
-    ensures put { Puts V.Voice mark voice.old result voice.new }
-    ensures ready { OnOk result (V.ready voice.new) }
+    requires ascii { V.is_printed ≡ true → IsAscii symbol.now }
+    requires ready { V.ready output.old }
+    ensures put { Puts V.Output mark output.old result output.new }
+    ensures ready { OnOk result (V.ready output.new) }
     ensures grows { looks.old ≤ looks.new }
     ensures most { looks.new ≤ looks.old }
 {
     match mark {
         None => Ok(()),
-        Some(mark) => voice.say(symbol, &Stretch::Fixed(mark), plain, looks),
+        Some(mark) => output.emit(symbol, &Stretch::Fixed(mark), include_hash, looks),
     }
 }
 
 /// Does what a point does, and hands over the mark that it left.
 ///
-/// A voice that prints is never asked for the own path of an impl, which is not printed.
+/// An output that prints is never asked for the own path of an impl, which is not printed.
 #[inline(always)]
-pub(crate) fn step<V: Voice, const N: usize>(
+pub(crate) fn step<V: Output, const N: usize>(
     symbol: &Symbol<'_>,
     point: Point,
-    plain: bool,
+    include_hash: bool,
     state: &mut State,
-    row: &mut FrameStack<N>,
-    voice: &mut V,
+    stack: &mut FrameStack<N>,
+    output: &mut V,
     looks: &mut Looks,
 ) -> Result<Point, SinkRefused>
-    requires ascii { V.loud ≡ true → IsAscii symbol.now }
-    requires ready { V.ready voice.old }
+    requires ascii { V.is_printed ≡ true → IsAscii symbol.now }
+    requires ready { V.ready output.old }
     requires unmarked { state.old.mark ≡ None }
-    requires room { length row.old < N }
+    requires room { length stack.old < N }
     requires fits { Fits point state.old.depth_left state.old.lifetimes }
-    requires unskipped { V.loud ≡ true → is_skip point ≡ false }
-    ensures stepped { Stepped V.Voice symbol.now plain point state.old row.old voice.old result
-        state.new row.new voice.new (looks.new - looks.old) }
-    ensures ready { IsOk result → V.ready voice.new }
+    requires unskipped { V.is_printed ≡ true → is_skip point ≡ false }
+    ensures stepped { Stepped V.Output symbol.now include_hash point state.old stack.old output.old
+        result state.new stack.new output.new (looks.new - looks.old) }
+    ensures ready { IsOk result → V.ready output.new }
     ensures grows { looks.old ≤ looks.new }
     ensures own { looks.new ≤ looks.old + own_by 20 symbol.now state.old.place }
     ensures least { looks.old + first_looks point state.old ≤ looks.new }
 {
-    match perform(symbol, point, plain, state, row, voice, looks) {
+    match dispatch(symbol, point, include_hash, state, stack, output, looks) {
         Ok(next) => {
             let mark = state.mark;
             state.mark = None;
-            put_mark(symbol, mark, plain, voice, looks)?;
+            put_mark(symbol, mark, include_hash, output, looks)?;
             Ok(next)
         }
         Err(Stop::Fault(fault)) => {
             state.place = None;
             state.is_open = false;
-            voice.stop(symbol, &Stretch::Fixed(fault), plain, looks)?;
+            output.emit_fault(symbol, &Stretch::Fixed(fault), include_hash, looks)?;
             Ok(Point::End)
         }
         Err(Stop::Refused) => Err(SinkRefused),
@@ -98,19 +98,19 @@ pub(crate) fn resume<const N: usize>(
     base: usize,
     point: Point,
     state: &mut State,
-    row: &mut FrameStack<N>,
+    stack: &mut FrameStack<N>,
 ) -> Option<Point>
-    ensures some { IfSome result (λ next. Resumes base point state.old row.old next state.new
-        row.new) }
-    ensures none { IfNone result ((point ≡ Point.End) × (length row.old ≤ base) × (row.new ≡
-        row.old) × (state.new ≡ state.old)) }
+    ensures some { IfSome result (λ next. Resumes base point state.old stack.old next state.new
+        stack.new) }
+    ensures none { IfNone result ((point ≡ Point.End) × (length stack.old ≤ base) × (stack.new ≡
+        stack.old) × (state.new ≡ state.old)) }
 {
     match point {
         Point::End => {
-            if row.len() <= base {
+            if stack.len() <= base {
                 return None;
             }
-            let Some(frame) = row.pop() else {
+            let Some(frame) = stack.pop() else {
                 return None;
             };
             state.resume(frame);

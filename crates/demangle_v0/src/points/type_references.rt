@@ -1,28 +1,28 @@
 //! The points of types behind a mark: references and pointers.
-ghost use Rattle.std.specs.Prelude.{◌≡◌, ℕ, List, Bool, Ok};
+ghost use Rattle.std.specs.Prelude.{◌≡◌, List, Bool, Ok};
 ghost use Rattle.demangle_v0.specs.declared.points.frames.Frame.{Frame};
-ghost use Rattle.demangle_v0.specs.Points.{Fits, MaySpeak, PointDoes, RestDoes, env, turn, behind_reference, lifetime_point, spaced_lifetime};
-ghost use Rattle.demangle_words.specs.Groups.{looks_later};
+ghost use Rattle.demangle_v0.specs.Points.{Fits, MayEmit, PointDoes, RestDoes, env, turn, behind_reference, lifetime_point, spaced_lifetime};
+ghost use Rattle.demangle_words.specs.WordReads.{looks_later};
 ghost use Rattle.demangle_words.specs.Tags.{reference_to};
 
 use crate::points::{Point, State, Stop};
 use demangle_symbol::cursor::{Looks, Symbol};
+use demangle_words::output::Output;
 use demangle_words::stretch::Stretch;
 use demangle_words::texts::Mark;
-use demangle_words::voice::Voice;
 
 /// A reference, behind its tag.
 #[inline(always)]
-pub(super) fn reference<V: Voice>(
+pub(super) fn reference<V: Output>(
     symbol: &Symbol<'_>,
     is_mut: bool,
     state: &mut State,
     looks: &mut Looks,
 ) -> Point
     requires fits { Fits Point.«Type» state.old.depth_left state.old.lifetimes }
-    ensures did { (plain : Bool) (v : V) (row : List Frame) → RestDoes (env V.Voice symbol.now
-        plain) (reference_to is_mut) 5 50 9 (turn state.old row v looks.old) (Ok result) (turn
-        state.new row v looks.new) }
+    ensures did { (include_hash : Bool) (v : V) (stack : List Frame) → RestDoes (env V.Output
+        symbol.now include_hash) (reference_to is_mut) 5 50 9 (turn state.old stack v looks.old) (Ok
+        result) (turn state.new stack v looks.new) }
 {
     state.mark = Some(Mark::Ampersand);
     let Some(at) = state.place else {
@@ -44,38 +44,39 @@ pub(super) fn reference<V: Voice>(
 fn behind_reference(is_mut: bool) -> Point
     ensures { result ≡ behind_reference is_mut }
 {
-    if is_mut { Point::Mutable } else { Point::Type }
+    if is_mut { Point::Mut } else { Point::Type }
 }
 
 /// The lifetime of a reference, behind its `L`.
 #[inline(always)]
-pub(super) fn reference_lifetime<V: Voice>(
+pub(super) fn reference_lifetime<V: Output>(
     symbol: &Symbol<'_>,
     is_mut: bool,
-    plain: bool,
+    include_hash: bool,
     state: &mut State,
-    voice: &mut V,
+    output: &mut V,
     looks: &mut Looks,
 ) -> Result<Point, Stop>
-    requires may { MaySpeak (env V.Voice symbol.now plain) state.old voice.old }
+    requires may { MayEmit (env V.Output symbol.now include_hash) state.old output.old }
     requires fits { Fits Point.«Type» state.old.depth_left state.old.lifetimes }
-    ensures did { (row : List Frame) → PointDoes (env V.Voice symbol.now plain) (lifetime_point
-        is_mut) (turn state.old row voice.old looks.old) result (turn state.new row voice.new
-        looks.new) }
+    ensures did { (stack : List Frame) → PointDoes (env V.Output symbol.now include_hash)
+        (lifetime_point is_mut) (turn state.old stack output.old looks.old) result (turn state.new
+        stack output.new looks.new) }
 {
     let Some(at) = state.place else {
-        return Err(Stop::Fault(Mark::Unread));
+        return Err(Stop::Fault(Mark::AfterError));
     };
     let Ok((index, next)) = symbol.integer_62(at, looks) else {
         return Err(Stop::Fault(Mark::Invalid));
     };
     state.place = Some(next);
-    if index == 0 || !voice.speaks() {
+    // `&'_ T` is printed as `&T`; and a silent reading checks no lifetime.
+    if index == 0 || !output.is_printing() {
         return Ok(behind_reference(is_mut));
     }
     let (stretch, place) = spaced_lifetime(state.lifetimes, index, next);
     state.place = place;
-    let Ok(()) = voice.say(symbol, &stretch, plain, looks) else {
+    let Ok(()) = output.emit(symbol, &stretch, include_hash, looks) else {
         return Err(Stop::Refused);
     };
     Ok(behind_reference(is_mut))

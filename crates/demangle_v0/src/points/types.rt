@@ -1,7 +1,6 @@
 //! The points of types.
-ghost use Rattle.std.specs.Prelude.{if◌then◌else◌, IsTrue, ◌≡◌, ℕ, ◌*◌, ◌+◌, ◌-◌, ◌<◌, ◌≤◌, List, Bool, Ok, Err, IsOk, length, IsAscii, true, false, ◌^◌, ◌++◌, [], ◌∷◌};
+ghost use Rattle.std.specs.Prelude.{if◌then◌else◌, IsTrue, ◌≡◌, ℕ, ◌+◌, ◌-◌, ◌<◌, ◌≤◌, List, Bool, Ok, length, true, false, ◌^◌, ◌++◌, [], ◌∷◌};
 ghost use Rattle.demangle_symbol.specs.Digits.{is_byte};
-ghost use Rattle.demangle_v0.specs.declared.points.frames.Frame.{Frame};
 ghost use Rattle.demangle_v0.specs.Points.{own_by, Fits, MayStep, frame_of, PointDoes, RestDoes, env, turn};
 ghost use Rattle.demangle_words.specs.Tags.{type_of};
 
@@ -12,9 +11,9 @@ use crate::points::references::follow;
 use crate::points::type_references::reference;
 use crate::points::{Point, State, Stop};
 use demangle_symbol::cursor::{Looks, Symbol};
+use demangle_words::output::Output;
 use demangle_words::tags::{TypeKind, type_kind};
 use demangle_words::texts::{Mark, basic_mark};
-use demangle_words::voice::Voice;
 
 /// Whether a type is begun, and not only gone on with behind its `w`.
 #[inline(always)]
@@ -43,54 +42,55 @@ fn is_splat(symbol: &Symbol<'_>, is_begun: bool, at: usize, looks: &mut Looks) -
 
 /// A type, with the `w` before its tag where it is begun.
 #[inline(always)]
-pub(super) fn type_<V: Voice, const N: usize>(
+pub(super) fn type_<V: Output, const N: usize>(
     symbol: &Symbol<'_>,
     is_begun: bool,
-    plain: bool,
+    include_hash: bool,
     state: &mut State,
-    row: &mut FrameStack<N>,
-    voice: &mut V,
+    stack: &mut FrameStack<N>,
+    output: &mut V,
     looks: &mut Looks,
 ) -> Result<Point, Stop>
-    requires may { MayStep (env V.Voice symbol.now plain) Point.«Type» N (turn state.old row.old
-        voice.old looks.old) }
-    ensures did { PointDoes (env V.Voice symbol.now plain) (if is_begun then Point.«Type» else
-        Point.TaggedType) (turn state.old row.old voice.old looks.old) result (turn state.new
-        row.new voice.new looks.new) }
+    requires may { MayStep (env V.Output symbol.now include_hash) Point.«Type» N (turn state.old
+        stack.old output.old looks.old) }
+    ensures did { PointDoes (env V.Output symbol.now include_hash) (if is_begun then Point.«Type»
+        else Point.TaggedType) (turn state.old stack.old output.old looks.old) result (turn
+        state.new stack.new output.new looks.new) }
 {
     let Some(at) = state.place else {
-        return Err(Stop::Fault(Mark::Unread));
+        return Err(Stop::Fault(Mark::AfterError));
     };
     if is_splat(symbol, is_begun, at, looks) {
         state.place = Some(at + 1);
         state.mark = Some(Mark::Splat);
         return Ok(Point::TaggedType);
     }
-    tagged_type(symbol, plain, state, row, voice, looks)
+    tagged_type(symbol, include_hash, state, stack, output, looks)
 }
 
 /// A type, from its tag on.
 #[inline(always)]
-fn tagged_type<V: Voice, const N: usize>(
+fn tagged_type<V: Output, const N: usize>(
     symbol: &Symbol<'_>,
-    plain: bool,
+    include_hash: bool,
     state: &mut State,
-    row: &mut FrameStack<N>,
-    voice: &mut V,
+    stack: &mut FrameStack<N>,
+    output: &mut V,
     looks: &mut Looks,
 ) -> Result<Point, Stop>
-    requires may { MayStep (env V.Voice symbol.now plain) Point.TaggedType N (turn state.old row.old
-        voice.old looks.old) }
-    ensures did { PointDoes (env V.Voice symbol.now plain) Point.TaggedType (turn state.old row.old
-        voice.old looks.old) result (turn state.new row.new voice.new looks.new) }
+    requires may { MayStep (env V.Output symbol.now include_hash) Point.TaggedType N (turn state.old
+        stack.old output.old looks.old) }
+    ensures did { PointDoes (env V.Output symbol.now include_hash) Point.TaggedType (turn state.old
+        stack.old output.old looks.old) result (turn state.new stack.new output.new looks.new) }
     ensures own { looks.new ≤ looks.old + own_by 18 symbol.now state.old.place }
 {
     let Some(at) = state.place else {
-        return Err(Stop::Fault(Mark::Unread));
+        return Err(Stop::Fault(Mark::AfterError));
     };
     let Some(tag) = symbol.byte(at, looks) else {
         return Err(Stop::Fault(Mark::Invalid));
     };
+    // A basic type raises no depth, so it is read at the limit too.
     if let Some(mark) = basic_mark(tag) {
         state.place = Some(at + 1);
         state.mark = Some(mark);
@@ -101,48 +101,51 @@ fn tagged_type<V: Voice, const N: usize>(
         return Err(Stop::Fault(Mark::Recursion));
     }
     state.depth_left -= 1;
+    // Any other tag is a path's, which is read again from that tag on, and raises the depth once
+    // more.
     let Some(kind) = type_kind(tag) else {
         state.in_value = false;
         return Ok(Point::Path);
     };
     state.place = Some(at + 1);
-    constructed_type(symbol, kind, plain, state, row, voice, looks)
+    constructed_type(symbol, kind, include_hash, state, stack, output, looks)
 }
 
 /// A type that is made of others, behind its tag.
 #[inline(never)]
-fn constructed_type<V: Voice, const N: usize>(
+fn constructed_type<V: Output, const N: usize>(
     symbol: &Symbol<'_>,
     kind: TypeKind,
-    plain: bool,
+    include_hash: bool,
     state: &mut State,
-    row: &mut FrameStack<N>,
-    voice: &mut V,
+    stack: &mut FrameStack<N>,
+    output: &mut V,
     looks: &mut Looks,
 ) -> Result<Point, Stop>
-    requires may { MayStep (env V.Voice symbol.now plain) Point.FunctionBinder N (turn state.old
-        row.old voice.old looks.old) }
-    ensures did { RestDoes (env V.Voice symbol.now plain) (type_of kind) 5 50 9 (turn state.old
-        row.old voice.old looks.old) result (turn state.new row.new voice.new looks.new) }
+    requires may { MayStep (env V.Output symbol.now include_hash) Point.DynBinder N (turn state.old
+        stack.old output.old looks.old) }
+    ensures did { RestDoes (env V.Output symbol.now include_hash) (type_of kind) 5 50 9 (turn
+        state.old stack.old output.old looks.old) result (turn state.new stack.new output.new
+        looks.new) }
 {
     match kind {
         TypeKind::SharedReference => Ok(reference::<V>(symbol, false, state, looks)),
         TypeKind::MutReference => Ok(reference::<V>(symbol, true, state, looks)),
         TypeKind::ConstPointer => {
             state.mark = Some(Mark::Star);
-            Ok(Point::Unchanging)
+            Ok(Point::Const)
         }
         TypeKind::MutPointer => {
             state.mark = Some(Mark::Star);
-            Ok(Point::Mutable)
+            Ok(Point::Mut)
         }
         TypeKind::Array => {
-            row.push(state.frame(Point::ArrayLength));
+            stack.push(state.frame(Point::ArrayLength));
             state.mark = Some(Mark::OpenBracket);
             Ok(Point::Type)
         }
         TypeKind::Slice => {
-            push_printing(Point::CloseBracket, state, row, voice);
+            push_printing(Point::CloseBracket, state, stack, output);
             state.mark = Some(Mark::OpenBracket);
             Ok(Point::Type)
         }
@@ -150,48 +153,49 @@ fn constructed_type<V: Voice, const N: usize>(
             state.mark = Some(Mark::OpenParen);
             Ok(Point::FirstTupleType)
         }
-        TypeKind::Reference => follow(symbol, Point::Type, state, row, voice, looks),
+        TypeKind::Reference => follow(symbol, Point::Type, state, stack, output, looks),
         TypeKind::Pattern => {
-            row.push(state.frame(Point::PatternIs));
+            stack.push(state.frame(Point::PatternIs));
             Ok(Point::Type)
         }
-        TypeKind::Function => function_binder(symbol, plain, state, voice, looks),
-        TypeKind::Dyn => Ok(dyn_type::<V, N>(symbol, state, row)),
+        TypeKind::Function => function_binder(symbol, include_hash, state, output, looks),
+        TypeKind::Dyn => Ok(dyn_type::<V, N>(symbol, state, stack)),
     }
 }
 
-/// Puts a frame on the row that does nothing but print, where that is heard.
+/// Puts a frame on the stack that does nothing but print, where that is heard.
 #[inline(always)]
-pub(super) fn push_printing<V: Voice, const N: usize>(
+pub(super) fn push_printing<V: Output, const N: usize>(
     point: Point,
     state: &State,
-    row: &mut FrameStack<N>,
-    voice: &V,
+    stack: &mut FrameStack<N>,
+    output: &V,
 )
-    requires room { length row.old < N }
+    requires room { length stack.old < N }
     requires small { state.now.lifetimes < 2 ^ 80 }
-    ensures loud { V.loud ≡ true → row.new ≡ row.old ++ frame_of point state.now.in_value
-        state.now.letter state.now.depth_left state.now.lifetimes ∷ [] }
-    ensures silent { V.loud ≡ false → row.new ≡ row.old }
+    ensures is_printed { V.is_printed ≡ true → stack.new ≡ stack.old ++ frame_of point
+        state.now.in_value state.now.letter state.now.depth_left state.now.lifetimes ∷ [] }
+    ensures silent { V.is_printed ≡ false → stack.new ≡ stack.old }
 {
-    if voice.speaks() {
-        row.push(state.frame(point));
+    if output.is_printing() {
+        stack.push(state.frame(point));
     }
 }
 
 /// The length of an array, behind its type.
 #[inline(always)]
-pub(super) fn array_length<V: Voice, const N: usize>(
+pub(super) fn array_length<V: Output, const N: usize>(
     state: &mut State,
-    row: &mut FrameStack<N>,
-    voice: &V,
+    stack: &mut FrameStack<N>,
+    output: &V,
 ) -> Point
-    requires room { length row.old < N }
+    requires room { length stack.old < N }
     requires fits { Fits Point.ArrayLength state.old.depth_left state.old.lifetimes }
-    ensures did { (b : List ℕ) (plain : Bool) (v : V) (n : ℕ) → PointDoes (env V.Voice b plain)
-        Point.ArrayLength (turn state.old row.old v n) (Ok result) (turn state.new row.new v n) }
+    ensures did { (b : List ℕ) (include_hash : Bool) (v : V) (n : ℕ) → PointDoes (env V.Output b
+        include_hash) Point.ArrayLength (turn state.old stack.old v n) (Ok result) (turn state.new
+        stack.new v n) }
 {
-    push_printing(Point::CloseBracket, state, row, voice);
+    push_printing(Point::CloseBracket, state, stack, output);
     state.mark = Some(Mark::Semicolon);
     state.in_value = true;
     Point::Constant

@@ -1,9 +1,9 @@
 //! The values of constants.
-ghost use Rattle.std.specs.Prelude.{◌≡◌, ◌+◌, ◌-◌, ◌*◌, ◌≤◌, IfSome, Some};
+ghost use Rattle.std.specs.Prelude.{◌≡◌, ◌+◌, ◌-◌, ◌*◌, ◌≤◌, IfSome};
 ghost use Rattle.demangle_grammar.specs.Totals.{total};
-ghost use Rattle.demangle_words.specs.Serving.{LiesIn};
+ghost use Rattle.demangle_words.specs.Backrefs.{LiesIn};
 ghost use Rattle.demangle_symbol.specs.Nibbles.{hex_at};
-ghost use Rattle.demangle_words.specs.Groups.{read_stretch, looks_later, sign_group, number_group, truth_group, character_group, literal_group};
+ghost use Rattle.demangle_words.specs.WordReads.{read_stretch, looks_later, number_group, bool_group, character_group, literal_group};
 
 use crate::read::{WordRead, faulty, goes};
 use crate::stretch::Stretch;
@@ -20,7 +20,7 @@ pub(super) fn read_number(symbol: &Symbol<'_>, tag: u8, place: usize, looks: &mu
         symbol.now tag place).costs }
     ensures twice { IfSome (hex_at symbol.now place) (λ r. looks.new ≤ looks.old + 2 * (r.1 -
         place)) }
-    ensures lies { LiesIn symbol.now (read_stretch result) }
+    ensures in_bounds { LiesIn symbol.now (read_stretch result) }
 {
     let Ok((part, next)) = symbol.hex_nibbles(place, looks) else {
         return faulty();
@@ -31,14 +31,14 @@ pub(super) fn read_number(symbol: &Symbol<'_>, tag: u8, place: usize, looks: &mu
 
 /// `false` or `true`, by its nibbles.
 #[inline(always)]
-pub(super) fn read_truth(symbol: &Symbol<'_>, place: usize, looks: &mut Looks) -> WordRead
-    ensures value { result ≡ (truth_group symbol.now place).reads }
+pub(super) fn read_bool(symbol: &Symbol<'_>, place: usize, looks: &mut Looks) -> WordRead
+    ensures value { result ≡ (bool_group symbol.now place).reads }
     ensures grows { looks.old ≤ looks.new }
-    ensures looks { looks.new + looks_later (read_stretch result) ≤ looks.old + total (truth_group
+    ensures looks { looks.new + looks_later (read_stretch result) ≤ looks.old + total (bool_group
         symbol.now place).costs }
     ensures twice { IfSome (hex_at symbol.now place) (λ r. looks.new ≤ looks.old + 2 * (r.1 -
         place)) }
-    ensures lies { LiesIn symbol.now (read_stretch result) }
+    ensures in_bounds { LiesIn symbol.now (read_stretch result) }
 {
     let Ok((part, next)) = symbol.hex_nibbles(place, looks) else {
         return faulty();
@@ -59,7 +59,7 @@ pub(super) fn read_character(symbol: &Symbol<'_>, place: usize, looks: &mut Look
         (character_group symbol.now place).costs }
     ensures twice { IfSome (hex_at symbol.now place) (λ r. looks.new ≤ looks.old + 2 * (r.1 -
         place)) }
-    ensures lies { LiesIn symbol.now (read_stretch result) }
+    ensures in_bounds { LiesIn symbol.now (read_stretch result) }
 {
     let Ok((part, next)) = symbol.hex_nibbles(place, looks) else {
         return faulty();
@@ -79,7 +79,7 @@ pub(super) fn read_literal(symbol: &Symbol<'_>, place: usize, looks: &mut Looks)
         symbol.now place).costs }
     ensures twice { IfSome (hex_at symbol.now place) (λ r. looks.new ≤ looks.old + 2 * (r.1 -
         place)) }
-    ensures lies { LiesIn symbol.now (read_stretch result) }
+    ensures in_bounds { LiesIn symbol.now (read_stretch result) }
 {
     let Ok((part, next)) = symbol.hex_nibbles(place, looks) else {
         return faulty();

@@ -1,9 +1,9 @@
 //! What a function type begins with.
-ghost use Rattle.std.specs.Prelude.{◌≡◌, ◌+◌, ◌-◌, ◌≤◌, Some};
+ghost use Rattle.std.specs.Prelude.{◌≡◌, ◌+◌, ◌≤◌};
 ghost use Rattle.demangle_symbol.specs.Idents.{LiesWithin, name_size};
 ghost use Rattle.demangle_grammar.specs.Totals.{total};
-ghost use Rattle.demangle_words.specs.Serving.{LiesIn};
-ghost use Rattle.demangle_words.specs.Groups.{read_stretch, looks_later, abi_named, abi_group, head_group};
+ghost use Rattle.demangle_words.specs.Backrefs.{LiesIn};
+ghost use Rattle.demangle_words.specs.WordReads.{read_stretch, looks_later, abi_named, abi_group, head_group};
 
 use crate::read::{WordRead, faulty, goes};
 use crate::stretch::{Abi, Stretch};
@@ -14,8 +14,9 @@ fn abi_named(is_unsafe: bool, ident: Ident, symbol: &Symbol<'_>, next: usize) ->
     requires { LiesWithin symbol.now ident }
     ensures value { result ≡ (abi_named is_unsafe ident symbol.now next).reads }
     ensures later { looks_later (read_stretch result) ≤ name_size ident }
-    ensures lies { LiesIn symbol.now (read_stretch result) }
+    ensures in_bounds { LiesIn symbol.now (read_stretch result) }
 {
+    // The Rust crate refuses both: an ABI's name is ASCII, with `_` in place of its `-`.
     if ident.ascii.from == ident.ascii.to || ident.punycode.from < ident.punycode.to {
         return faulty();
     }
@@ -29,7 +30,7 @@ fn read_abi(symbol: &Symbol<'_>, is_unsafe: bool, place: usize, looks: &mut Look
     ensures grows { looks.old ≤ looks.new }
     ensures looks { looks.new + looks_later (read_stretch result) ≤ looks.old + total (abi_group
         symbol.now is_unsafe place).costs }
-    ensures lies { LiesIn symbol.now (read_stretch result) }
+    ensures in_bounds { LiesIn symbol.now (read_stretch result) }
 {
     if !symbol.is_at(b'K', place, looks) {
         return goes(Stretch::FunctionHead(is_unsafe, Abi::Rust), place);
@@ -50,7 +51,7 @@ pub(super) fn read_head(symbol: &Symbol<'_>, place: usize, looks: &mut Looks) ->
     ensures grows { looks.old ≤ looks.new }
     ensures looks { looks.new + looks_later (read_stretch result) ≤ looks.old + total (head_group
         symbol.now place).costs }
-    ensures lies { LiesIn symbol.now (read_stretch result) }
+    ensures in_bounds { LiesIn symbol.now (read_stretch result) }
 {
     if symbol.is_at(b'U', place, looks) {
         read_abi(symbol, true, place + 1, looks)

@@ -1,8 +1,8 @@
 //! Names, and disambiguators.
-ghost use Rattle.std.specs.Prelude.{◌≡◌, ℕ, ◌+◌, ◌-◌, ◌≤◌, Some, IfSome, IfNone, MatchOption};
+ghost use Rattle.std.specs.Prelude.{◌≡◌, ℕ, ◌+◌, ◌≤◌, Some, IfSome, IfNone, MatchOption};
 ghost use Rattle.demangle_grammar.specs.Totals.{total};
-ghost use Rattle.demangle_words.specs.Serving.{LiesIn};
-ghost use Rattle.demangle_words.specs.Groups.{read_stretch, looks_later, named_group, field_group, binding_group};
+ghost use Rattle.demangle_words.specs.Backrefs.{LiesIn};
+ghost use Rattle.demangle_words.specs.WordReads.{read_stretch, looks_later, named_group, field_group, binding_group};
 ghost use Rattle.demangle_symbol.specs.Idents.{LiesWithin, name_size};
 ghost use Rattle.demangle_words.specs.declared.read.WordRead.TheVariants.{Goes, Stops};
 ghost use Rattle.demangle_words.specs.declared.stretch.Stretch.{Stretch};
@@ -28,7 +28,7 @@ pub fn numbered_name(
     ensures looks { (f : Ident → ℕ → Stretch) → MatchOption result (looks.new ≤ looks.old + total
         (named_group symbol.now place f).costs) (λ r. looks.new + name_size r.0 ≤ looks.old + total
         (named_group symbol.now place f).costs) }
-    ensures lies { IfSome result (λ r. LiesWithin symbol.now r.0) }
+    ensures in_bounds { IfSome result (λ r. LiesWithin symbol.now r.0) }
 {
     let Ok((number, at)) = symbol.disambiguator(place, looks) else {
         return None;
@@ -46,7 +46,7 @@ pub(super) fn read_field(symbol: &Symbol<'_>, place: usize, looks: &mut Looks) -
     ensures grows { looks.old ≤ looks.new }
     ensures looks { looks.new + looks_later (read_stretch result) ≤ looks.old + total (field_group
         symbol.now place).costs }
-    ensures lies { LiesIn symbol.now (read_stretch result) }
+    ensures in_bounds { LiesIn symbol.now (read_stretch result) }
 {
     match numbered_name(symbol, place, looks) {
         Some((ident, _, next)) => goes(Stretch::FieldName(ident), next),
@@ -61,7 +61,7 @@ pub(super) fn read_binding(symbol: &Symbol<'_>, place: usize, looks: &mut Looks)
     ensures grows { looks.old ≤ looks.new }
     ensures looks { looks.new + looks_later (read_stretch result) ≤ looks.old + total (binding_group
         symbol.now place).costs }
-    ensures lies { LiesIn symbol.now (read_stretch result) }
+    ensures in_bounds { LiesIn symbol.now (read_stretch result) }
 {
     match symbol.ident(place, looks) {
         Ok((ident, next)) => goes(Stretch::BindingName(ident), next),

@@ -1,8 +1,8 @@
 //! What a function type begins with.
-ghost use Rattle.std.specs.Prelude.{◌≡◌, ◌+◌, ◌-◌, ◌≤◌, [], ◌∷◌, codes, IsAscii, slice_range};
-ghost use Rattle.demangle_words.specs.Groups.{abi_texts};
+ghost use Rattle.std.specs.Prelude.{◌+◌, ◌-◌, ◌≤◌, [], ◌∷◌, codes, IsAscii, slice_range};
+ghost use Rattle.demangle_words.specs.WordReads.{abi_texts};
 ghost use Rattle.demangle_sink.specs.Limit.{Prints, Ready};
-ghost use Rattle.demangle_words.specs.Serving.{AbiIn, PartIn};
+ghost use Rattle.demangle_words.specs.Backrefs.{AbiIn, PartIn};
 ghost use Rattle.demangle_words.specs.Stretches.{abi_looks, head_texts};
 ghost use Rattle.demangle_grammar.specs.Table.{extern, hyphenated_abi};
 

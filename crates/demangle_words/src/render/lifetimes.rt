@@ -18,6 +18,7 @@ fn put_letter<S: TextSink>(
     if number < 26 {
         return put_char(char::from(b'a' + number as u8), out);
     }
+    // Behind `'z` comes `'_26`: the number itself, and not how far it is past the letters.
     let mut buffer = Buffer::new();
     put_each(&["_", buffer.format(number)], out)
 }

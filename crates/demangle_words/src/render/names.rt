@@ -1,6 +1,6 @@
 //! Names, with what stands round them.
 ghost use Rattle.std.specs.Prelude.{◌≡◌, ◌+◌, ◌<◌, ◌≤◌, [], ◌∷◌, ◌++◌, IsAscii, codes, decimal};
-ghost use Rattle.demangle_words.specs.Groups.{nested_texts, special_texts};
+ghost use Rattle.demangle_words.specs.WordReads.{nested_texts, special_texts};
 ghost use Rattle.demangle_symbol.specs.Idents.{LiesWithin, name_in, name_size};
 ghost use Rattle.demangle_sink.specs.Limit.{Prints, Ready};
 ghost use Rattle.demangle_symbol.specs.Names.{is_nameless, name_pieces};
@@ -15,13 +15,13 @@ use demangle_symbol::cursor::{Ident, Looks, Part, Symbol};
 #[inline(never)]
 fn put_disambiguator<S: TextSink>(
     number: u64,
-    plain: bool,
+    include_hash: bool,
     out: &mut SizeLimitedFmtAdapter<'_, S>,
 ) -> Result<(), SinkRefused>
     requires { Ready S.TextSink out.old }
-    ensures { Prints S.TextSink out.old (disambiguator_texts plain number) result out.new }
+    ensures { Prints S.TextSink out.old (disambiguator_texts include_hash number) result out.new }
 {
-    if !plain {
+    if !include_hash {
         return Ok(());
     }
     if number == 0 {
@@ -39,20 +39,20 @@ pub(super) fn put_crate_name<S: TextSink>(
     symbol: &Symbol<'_>,
     name: &Ident,
     number: u64,
-    plain: bool,
+    include_hash: bool,
     out: &mut SizeLimitedFmtAdapter<'_, S>,
     looks: &mut Looks,
 ) -> Result<(), SinkRefused>
     requires parts { LiesWithin symbol.now name.now }
     requires ascii { IsAscii symbol.now }
     requires ready { Ready S.TextSink out.old }
-    ensures prints { Prints S.TextSink out.old (crate_texts plain (name_in symbol.now name.now)
-        number) result out.new }
+    ensures prints { Prints S.TextSink out.old (crate_texts include_hash (name_in symbol.now
+        name.now) number) result out.new }
     ensures grows { looks.old ≤ looks.new }
     ensures most { looks.new ≤ looks.old + name_size name.now }
 {
     name.write_to(symbol, out, looks)?;
-    put_disambiguator(number, plain, out)
+    put_disambiguator(number, include_hash, out)
 }
 
 /// Whether both parts of a name are empty.
@@ -87,6 +87,7 @@ fn put_name_behind<S: TextSink>(
     ensures grows { looks.old ≤ looks.new }
     ensures most { looks.new ≤ looks.old + name_size name.now }
 {
+    // A name may be empty, as a closure's is: then what would set it off goes too.
     if is_nameless(symbol, name) {
         return Ok(());
     }

@@ -1,9 +1,9 @@
 //! Numbers.
 ghost use Rattle.std.specs.Prelude.{◌≡◌, ◌≤◌, [], ◌∷◌, false, IsAscii, codes, decimal, drop, slice_range};
 ghost use Rattle.std.specs.Fmt.{digits};
-ghost use Rattle.demangle_words.specs.Groups.{number_texts};
+ghost use Rattle.demangle_words.specs.WordReads.{number_texts};
 ghost use Rattle.demangle_sink.specs.Limit.{Prints, Ready};
-ghost use Rattle.demangle_words.specs.Serving.{PartIn};
+ghost use Rattle.demangle_words.specs.Backrefs.{PartIn};
 ghost use Rattle.demangle_words.specs.Stretches.{constant_texts, type_texts};
 
 use crate::texts::{basic_mark, text};
@@ -48,6 +48,7 @@ fn write_hexadecimal(number: u64, text: &mut [u8; 16]) -> usize
         text[pairs * 2] = DIGIT_PAIRS_16[pair];
         rest /= 256;
     }
+    // 0 has one digit, so its lowest bit is set for the count.
     ((number | 1).leading_zeros() / 4) as usize
 }
 
@@ -79,6 +80,7 @@ fn put_nibbles<S: TextSink>(
     ensures { Prints S.TextSink out.old
         (codes "0x" ∷ slice_range symbol.now nibbles.from nibbles.to ∷ []) result out.new }
 {
+    // All the nibbles stand as they are spelled, zeros in front too.
     out.put("0x")?;
     symbol.span(nibbles).write_to(out)
 }
@@ -118,13 +120,13 @@ fn put_number<S: TextSink>(
 #[tactic(auto, using(demangle_sink::proofs::PrintsLemmas::prints_nothing, crate::proofs::TagRows::basic_found))]
 fn put_type_name<S: TextSink>(
     tag: u8,
-    plain: bool,
+    include_hash: bool,
     out: &mut SizeLimitedFmtAdapter<'_, S>,
 ) -> Result<(), SinkRefused>
     requires { Ready S.TextSink out.old }
-    ensures { Prints S.TextSink out.old (type_texts plain tag) result out.new }
+    ensures { Prints S.TextSink out.old (type_texts include_hash tag) result out.new }
 {
-    if !plain {
+    if !include_hash {
         return Ok(());
     }
     match basic_mark(tag) {
@@ -141,15 +143,15 @@ pub(super) fn put_number_constant<S: TextSink>(
     value: Option<u128>,
     nibbles: Part,
     tag: u8,
-    plain: bool,
+    include_hash: bool,
     out: &mut SizeLimitedFmtAdapter<'_, S>,
 ) -> Result<(), SinkRefused>
     requires ascii { IsAscii symbol.now }
     requires part { PartIn symbol.now nibbles }
     requires ready { Ready S.TextSink out.old }
-    ensures { Prints S.TextSink out.old (constant_texts symbol.now plain value nibbles tag) result
-        out.new }
+    ensures { Prints S.TextSink out.old (constant_texts symbol.now include_hash value nibbles tag)
+        result out.new }
 {
     put_number(symbol, value, nibbles, out)?;
-    put_type_name(tag, plain, out)
+    put_type_name(tag, include_hash, out)
 }

@@ -1,5 +1,5 @@
 //! What names decode to.
-ghost use Rattle.std.specs.Prelude.{◌≡◌, ℕ, ◌^◌, ◌<◌, ◌≤◌, Bool, true, false, List, length, All, Some};
+ghost use Rattle.std.specs.Prelude.{◌≡◌, ℕ, ◌^◌, ◌<◌, ◌≤◌, true, List, length, All, Some};
 ghost use Rattle.demangle_symbol.specs.Punycode.{next_delta, deltas, puny};
 
 /// The number of each delta of a name that can be decoded is below 2^28, and so fits machine

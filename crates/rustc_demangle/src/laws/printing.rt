@@ -1,5 +1,5 @@
 //! What texts print, with the hash or without it, and within a limit.
-ghost use Rattle.std.specs.Prelude.{◌≡◌, ◌⊎◌, ℕ, ◌+◌, ◌≤◌, Bool, true, false, IsAscii, List, [], ◌∷◌, ◌++◌, length, codes, Some, IsOk, OnOk, if◌then◌else◌};
+ghost use Rattle.std.specs.Prelude.{◌≡◌, ◌⊎◌, ℕ, ◌+◌, ◌≤◌, Bool, true, false, IsAscii, List, [], ◌∷◌, length, Some, IsOk, OnOk, if◌then◌else◌};
 ghost use Rattle.std.specs.List.{concat, list_all};
 ghost use Rattle.demangle_sink.specs.Array.{text_of};
 ghost use Rattle.demangle_sink.specs.Cut.{size};

@@ -1,10 +1,11 @@
 //! What a symbol of each scheme hands over.
-ghost use Rattle.std.specs.Prelude.{◌≡◌, ℕ, Bool, true, List, [], ◌∷◌, ◌++◌};
+ghost use Rattle.std.specs.Prelude.{◌≡◌, ◌⊎◌, ℕ, Bool, true, List, [], ◌∷◌, ◌++◌, codes};
 ghost use Rattle.demangle_sink.specs.Cut.{cut, kept};
 ghost use Rattle.demangle_legacy.specs.Legacy.{IsLegacy};
 ghost use Rattle.demangle_grammar.specs.Reading.{path_texts};
 ghost use Rattle.rustc_demangle.specs.Stripped.{is_allowed};
-ghost use Rattle.rustc_demangle.specs.Symbols.{handed, kept_of};
+ghost use Rattle.rustc_demangle.specs.Filtered.{begins_run};
+ghost use Rattle.rustc_demangle.specs.Symbols.{handed, kept_of, IsSymbol};
 ghost use Rattle.demangle_legacy.specs.Unescaped.{legacy_pieces};
 ghost use Rattle.demangle_grammar.specs.V0.{IsV0};
 
@@ -34,4 +35,12 @@ pub fn v0_symbol_prints_its_tree()
 pub fn no_symbol_is_of_both_schemes()
     ensures { (text : List ℕ) → (elements : List (List ℕ)) → (inner suffix other : List ℕ) →
         IsLegacy text elements suffix → IsV0 text inner other → ⊥ }
+{}
+
+/// A symbol that begins with an underscore begins a run there or behind it, as one of macOS does,
+/// which has an underscore more. So a stream looks at every symbol that begins with one, whatever
+/// its scheme.
+pub fn each_symbol_behind_an_underscore_begins_a_run()
+    ensures { (text : List ℕ) → IsSymbol (codes "_" ++ text) →
+        (begins_run (codes "_" ++ text) ≡ true) ⊎ (begins_run text ≡ true) }
 {}

@@ -1,10 +1,10 @@
 //! How many looks reading a v0 symbol takes.
-ghost use Rattle.std.specs.Prelude.{◌≡◌, ℕ, ◌+◌, ◌-◌, ◌*◌, ◌≤◌, Bool, true, false, List, length, take, None};
+ghost use Rattle.std.specs.Prelude.{◌≡◌, ℕ, ◌+◌, ◌-◌, ◌*◌, ◌≤◌, Bool, true, List, length, take, None};
 ghost use Rattle.demangle_grammar.specs.Accepting.{accepting_looks};
 ghost use Rattle.demangle_grammar.specs.Cost.{bytes_of, looks_of, Pays};
 ghost use Rattle.demangle_sink.specs.Cut.{size};
 ghost use Rattle.demangle_grammar.specs.Items.{Items, Kind, a_path};
-ghost use Rattle.demangle_grammar.specs.Reading.{Surroundings, max_depth, stretches, pieces, read_at, path_texts, run};
+ghost use Rattle.demangle_grammar.specs.Reading.{Surroundings, max_depth, stretches, read_at, path_texts, run};
 
 /// However large the tree of a symbol is, the looks up to a stretch, and for it, are bounded by the
 /// bytes that were handed over before it; and so for each unit, by the depths that are left to it.

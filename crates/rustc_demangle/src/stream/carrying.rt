@@ -1,5 +1,5 @@
 //! Any bytes, filtered part by part: what is known is written, and an open run is carried.
-ghost use Rattle.std.specs.Prelude.{◌≡◌, ◌∷◌, ◌++◌, ◌+◌, ◌-◌, ◌*◌, ◌<◌, ◌≤◌, ◌⊎◌, ℕ, List, [], true, false, codes, drop, take, length, IsTrue, IfOk, OnOk, IfErr, OnErr};
+ghost use Rattle.std.specs.Prelude.{◌≡◌, ◌∷◌, ◌++◌, ◌+◌, ◌-◌, ◌*◌, ◌<◌, ◌≤◌, ◌⊎◌, ℕ, List, [], true, false, codes, drop, length, IsTrue, IfOk, OnOk, IfErr};
 ghost use Rattle.std.specs.List.{list_all};
 ghost use Rattle.std.specs.Io.KnownBytes.{Appends};
 ghost use Rattle.rustc_demangle.specs.Filtered.{is_run, begins_run, replacement_within, filtered_within};
@@ -186,6 +186,8 @@ fn take_text<W: Write, A: Allocator>(
 {
     let Some(start) = run_start(shown) else {
         let (kept, beginning) = shown.split_at(shown.len() - beginning_len(shown));
+        // Carried before anything is written: where memory is refused, the same step can be made
+        // again.
         carry(carried, beginning)?;
         keep_bytes(kept, output)?;
         return Ok(shown.len());

@@ -2,7 +2,7 @@ use Rattle.std.proofs.Common.{◌≡◌, ℕ, ◌+◌, ◌-◌, ◌*◌, ◌<◌
 use Rattle.std.specs.List.{slice_range}
 use Rattle.std.specs.Prelude.{slice_index}
 use Rattle.std.proofs.Math.Nat.{mul-le-mul_left}
-use Rattle.demangle_symbol.specs.declared.punycode.TheConstants.{MOST}
+use Rattle.demangle_symbol.specs.declared.punycode.TheConstants.{MAX_DELTA}
 use Rattle.demangle_symbol.specs.Punycode.{Reading, deltas, next_delta, with_digit}
 use Rattle.demangle_symbol.proofs.Deltas.{deltas_bad, deltas_last, deltas_more, deltas_short, deltas_grow-digit, AtLeast}
 use Rattle.demangle_sink.proofs.Parts.{part_first, part_none}
@@ -12,12 +12,12 @@ abbrev here : ℕ → Bool → ℕ → ℕ → ℕ → ℕ → Reading
 here count first bias sum weight place = record { count = count; first = first; bias = bias; sum = sum; weight = weight; place = place }
 
 abbrev IsTooLarge : Option (List ℕ) → Type 0
-IsTooLarge o = IfSome o (λ ds. MOST < slice_index ds 0)
+IsTooLarge o = IfSome o (λ ds. MAX_DELTA < slice_index ds 0)
 
 none_too_large : (o : Option (List ℕ)) → o ≡ None → IsTooLarge o
 none_too_large o h = subst IsTooLarge (sym h) tt
 
-above : (n : ℕ) (o : Option (List ℕ)) → MOST < n → AtLeast n o → IsTooLarge o
+above : (n : ℕ) (o : Option (List ℕ)) → MAX_DELTA < n → AtLeast n o → IsTooLarge o
 above n None h k = tt
 above n (Some ds) h k = omega arith
 
@@ -31,8 +31,8 @@ returns-in_default-clause-none c =
     none_too_large (deltas (next_delta count first c.args.bias) (slice_range s c.args.digits.from to))
     (sym (l.invariant.rest count first) ∙ ap (deltas r) (part_first s l.at to (omega arith) (omega arith)) ∙ deltas_bad r (get_or s l.at 0) (slice_range s (l.at + 1) to) (sym c.in_default.ensures.digit))
 
-pub returns-then-sum-gt-MOST-clause-none : goal.returns-then-sum-gt-MOST-clause-none
-returns-then-sum-gt-MOST-clause-none c =
+pub returns-then-sum-gt-MAX_DELTA-clause-none : goal.returns-then-sum-gt-MAX_DELTA-clause-none
+returns-then-sum-gt-MAX_DELTA-clause-none c =
     let s = c.args.symbol.now in
     let to : ℕ = c.args.digits.to in
     let l = c.loop-at in

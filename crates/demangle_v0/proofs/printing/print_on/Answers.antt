@@ -10,7 +10,7 @@ skip-requires g c =
 
 pub returns-in-Some-skip-clause-valid : goal.returns-in-Some-skip-clause-valid
 returns-in-Some-skip-clause-valid g c =
-    let reads = c.in-Some-skip.ensures.midway c.resume.new.row 0 (own_reads c.args.symbol.now c.args.include_hash c.resume.new.state c.resume.new.row _ c.own_path-own.ensures) (sym c.len-base.ensures) in (
+    let reads = c.in-Some-skip.ensures.midway c.resume.new.stack 0 (own_reads c.args.symbol.now c.args.include_hash c.resume.new.state c.resume.new.stack _ c.own_path-own.ensures) (sym c.len-base.ensures) in (
       0 + (c.skip.new.looks - c.steps.looks),
       skipping c.args.symbol.now c.args.include_hash _ _ _ _ _ _ _ _ (sym c.is_skipped.ensures ∙ c.if-is_skipped.true) c.in-Some-skip.ensures.same c.len-base.ensures (valid_resumes _ _ _ _ _ _ _ c.steps.invariant.valid c.in-Some.ensures.some) reads,
       c.in-Some-skip.ensures.valid,
@@ -19,7 +19,7 @@ returns-in-Some-skip-clause-valid g c =
 
 pub returns-in-Some-skip-clause-ran : goal.returns-in-Some-skip-clause-ran
 returns-in-Some-skip-clause-ran g c =
-    let reads = c.in-Some-skip.ensures.midway c.resume.new.row 0 (own_reads c.args.symbol.now c.args.include_hash c.resume.new.state c.resume.new.row _ c.own_path-own.ensures) (sym c.len-base.ensures) in
+    let reads = c.in-Some-skip.ensures.midway c.resume.new.stack 0 (own_reads c.args.symbol.now c.args.include_hash c.resume.new.state c.resume.new.stack _ c.own_path-own.ensures) (sym c.len-base.ensures) in
     ran_midway g.S.TextSink c.args.symbol.now c.args.include_hash _ _ _ _ _ _ _ _ _ _ _ _ (c.steps.looks - c.args.looks.now) _ _ (sym c.is_skipped.ensures ∙ c.if-is_skipped.true) c.in-Some-skip.ensures.same c.len-base.ensures
     (valid_resumes _ _ _ _ _ _ _ c.steps.invariant.valid c.in-Some.ensures.some) reads
     (ran_resumes g.S.TextSink c.args.symbol.now c.args.include_hash _ _ _ _ _ _ _ _ _ _ _ _ _ c.steps.invariant.ran c.in-Some.ensures.some) (omega (arith, c.steps.invariant.grows, c.in-Some-skip.ensures.grows))
@@ -28,13 +28,13 @@ pub steps-smaller-then-is_skipped : goal.steps-smaller-then-is_skipped
 steps-smaller-then-is_skipped g c =
     let k = skip_is _ (sym c.is_skipped.ensures ∙ c.if-is_skipped.true) in
     turn_skipped c.args.symbol.now c.args.include_hash _ _ _ _ _ _ _ _ _ _ _ k c.in-Some.ensures.some
-    (c.in_default-skip.ensures.behind c.resume.new.row k.0 0 (own_reads c.args.symbol.now c.args.include_hash c.resume.new.state c.resume.new.row _ c.own_path-own.ensures) (sym c.len-base.ensures) k.1)
+    (c.in_default-skip.ensures.behind c.resume.new.stack k.0 0 (own_reads c.args.symbol.now c.args.include_hash c.resume.new.state c.resume.new.stack _ c.own_path-own.ensures) (sym c.len-base.ensures) k.1)
 
 pub steps-preserved-then-is_skipped : goal.steps-preserved-then-is_skipped
 steps-preserved-then-is_skipped g c =
     let skips = sym c.is_skipped.ensures ∙ c.if-is_skipped.true in
     let k = skip_is _ skips in
-    let z = c.in_default-skip.ensures.behind c.resume.new.row k.0 0 (own_reads c.args.symbol.now c.args.include_hash c.resume.new.state c.resume.new.row _ c.own_path-own.ensures) (sym c.len-base.ensures) k.1 in
+    let z = c.in_default-skip.ensures.behind c.resume.new.stack k.0 0 (own_reads c.args.symbol.now c.args.include_hash c.resume.new.state c.resume.new.stack _ c.own_path-own.ensures) (sym c.len-base.ensures) k.1 in
     record {
       ready = c.steps.invariant.ready;
       valid = skipped_stands c.args.symbol.now c.args.include_hash _ _ _ _ _ _ _ k z (valid_resumes _ _ _ _ _ _ _ c.steps.invariant.valid c.in-Some.ensures.some);

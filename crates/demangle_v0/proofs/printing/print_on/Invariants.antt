@@ -7,11 +7,11 @@ use Rattle.demangle_v0.proofs.printing.print_on.Given as goal
 abbrev pub invariant-steps : goal.invariant-steps
 invariant-steps g l = record {
   ready : Ready g.S.TextSink l.out;
-  valid : Valid l.point l.state l.row;
-  ran : Ran g.S.TextSink l.symbol l.include_hash l.initial.reading.point l.initial.reading.state l.initial.row l.initial.out l.point l.state l.row l.out (l.looks - l.initial.looks);
+  valid : Valid l.point l.state l.stack;
+  ran : Ran g.S.TextSink l.symbol l.include_hash l.initial.reading.point l.initial.reading.state l.initial.stack l.initial.out l.point l.state l.stack l.out (l.looks - l.initial.looks);
   grows : l.initial.looks ≤ l.looks;
   least : l.initial.looks + first_looks l.initial.reading.point l.initial.reading.state ≤ l.looks + first_looks l.point l.state;
 }
 
 abbrev pub decreases-steps : goal.decreases-steps
-decreases-steps g l = measure l.symbol l.include_hash true l.point l.state l.row
+decreases-steps g l = measure l.symbol l.include_hash true l.point l.state l.stack

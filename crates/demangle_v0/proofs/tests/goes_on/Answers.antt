@@ -10,14 +10,14 @@ skip-requires c =
 pub step-requires : goal.step-requires
 step-requires c =
     let v = valid_resumes _ _ _ _ _ _ _ c.requires.valid c.in-Some.ensures.some in
-    (omega arith, (λ z. c.requires.ascii, (record { alive = rw c.new.ensures.text (sym c.is_failed.ensures ∙ c.if-is_failed.false); fresh = c.new.ensures.open }, (v.unmarked, (omega (arith, resumes_length _ _ _ _ _ _ _ c.in-Some.ensures.some, c.if-len-ge-MOST.false, c.len.ensures), (v.fits, λ z. sym c.is_skipped.ensures ∙ c.if-is_skipped.false))))))
+    (omega arith, (λ z. c.requires.ascii, (record { alive = rw c.new.ensures.text (sym c.is_failed.ensures ∙ c.if-is_failed.false); fresh = c.new.ensures.open }, (v.unmarked, (omega (arith, resumes_length _ _ _ _ _ _ _ c.in-Some.ensures.some, c.if-len-ge-FULL_STACK.false, c.len.ensures), (v.fits, λ z. sym c.is_skipped.ensures ∙ c.if-is_skipped.false))))))
 
 pub returns-in-None : goal.returns-in-None
 returns-in-None c =
     let k = skip_is _ (sym c.is_skipped.ensures ∙ c.if-is_skipped.true) in
     record {
       valid = λ _. skipped_stands c.args.symbol.now c.args.include_hash _ _ _ _ _ _ _ k
-          (c.in-None.ensures.behind c.resume.new.row k.0 0 (own_reads c.args.symbol.now c.args.include_hash c.resume.new.state c.resume.new.row _ c.own_path-own.ensures) (sym c.len-base.ensures) k.1)
+          (c.in-None.ensures.behind c.resume.new.stack k.0 0 (own_reads c.args.symbol.now c.args.include_hash c.resume.new.state c.resume.new.stack _ c.own_path-own.ensures) (sym c.len-base.ensures) k.1)
           (valid_resumes _ _ _ _ _ _ _ c.requires.valid c.in-Some.ensures.some);
     }
 

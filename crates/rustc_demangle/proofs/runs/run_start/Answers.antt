@@ -2,7 +2,7 @@ use Rattle.std.proofs.Common.{◌≡◌, ℕ, List, ◌+◌, ◌-◌, ◌<◌, f
 use Rattle.std.proofs.lemmas.List.{length-drop}
 use Rattle.memchr.specs.Find.{Nowhere, Passes, is_byte}
 use Rattle.rustc_demangle.specs.Filtered.{begins_run}
-use Rattle.rustc_demangle.proofs.Searches.{no_run_up_to, no_run_behind}
+use Rattle.rustc_demangle.proofs.Searches.{no_run_up_to, no_run_behind, no_run_on}
 use Rattle.rustc_demangle.proofs.runs.run_start.Goals as goal
 
 -- what a slice from a place on holds
@@ -31,8 +31,11 @@ loop-ahead-preserved c =
     let text = c.args.text.now in
     let ahead = c.in-Some.ahead in
     let found = found_at text l.from ahead c.in-Some.ensures.0.high c.in-Some.ensures.0.before in
-    let here : begins_run (drop (l.from + ahead) text) ≡ false = sym (ap begins_run (rest_is text (l.from + ahead))) ∙ sym c.begins_run.ensures ∙ c.if-begins_run.false in
-    (omega (arith, found.0), λ k lt. no_run_behind text (l.from + ahead) k (no_run_up_to text l.from ahead (omega (arith, found.0)) l.invariant.1 found.1) here lt)
+    let here : begins_run (drop (l.from + ahead) text) ≡ false = sym (ap begins_run (rest_is text (l.from + ahead))) ∙ sym c.begins_run.ensures ∙ c.if-begins_run.false in (
+      c.unmarked_end-from.ensures.within,
+      λ k lt. no_run_on text (l.from + ahead) c.unmarked_end-from.result k
+          (λ j low. no_run_behind text (l.from + ahead) j (no_run_up_to text l.from ahead (omega (arith, found.0)) l.invariant.1 found.1) here low) c.unmarked_end-from.ensures.none lt,
+    )
 
 pub returns-clause-none : goal.returns-clause-none
 returns-clause-none c = λ k lt.

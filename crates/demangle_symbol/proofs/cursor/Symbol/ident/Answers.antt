@@ -1,6 +1,6 @@
-use Rattle.std.proofs.Common.{◌≡◌, ℕ, ◌+◌, Some, sym, rules}
+use Rattle.std.proofs.Common.{ℕ, ◌+◌, sym, rules}
 use Rattle.demangle_symbol.specs.declared.cursor.ident.Ident.{Ident}
-use Rattle.demangle_symbol.specs.Idents.{IsIdent, ident_at}
+use Rattle.demangle_symbol.specs.Idents.{IsIdent}
 use Rattle.demangle_symbol.proofs.Idents.{ident_read, ident_there}
 use Rattle.demangle_symbol.proofs.cursor.Symbol.ident.Goals as goal
 

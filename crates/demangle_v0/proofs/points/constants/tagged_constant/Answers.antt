@@ -1,102 +1,50 @@
-use Rattle.std.proofs.Common.{true, arith, refl, ◌*◌, ◌+◌}
-use Rattle.demangle_words.specs.declared.tags.ConstantKind.TheVariants as kind
-use Rattle.demangle_v0.proofs.PointTaggedConstants.{constant_wrong, constant_as, placeholder, unsigned_reads, text_braced, mutable_braced, array_braced, tuple_braced}
+use Rattle.std.proofs.Common.{true, arith, refl}
 use Rattle.demangle_grammar.specs.Items.{a_constant}
+use Rattle.demangle_grammar.specs.Reading.{run}
+use Rattle.demangle_v0.specs.Points.{unit_rest_at}
+use Rattle.demangle_v0.specs.declared.points.Point.TheVariants as point
+use Rattle.demangle_words.specs.declared.tags.ConstantKind.TheVariants as kind
 use Rattle.demangle_v0.proofs.PointReferences.{unit_constant}
-use Rattle.demangle_v0.proofs.PointTurns.{did}
-use Rattle.demangle_v0.proofs.WordLooks.{own_more}
+use Rattle.demangle_v0.proofs.PointTaggedConstants.{constant_wrong, constant_as, number_reads, text_braced, mutable_braced, array_braced, tuple_braced}
+use Rattle.demangle_v0.proofs.PointTurns.{marks}
 use Rattle.demangle_v0.proofs.points.constants.tagged_constant.Goals as goal
 
-pub returns-in_default-clause-did : goal.returns-in_default-clause-did
-returns-in_default-clause-did g c =
-    constant_wrong g.V.Voice c.args.symbol.now c.args.plain c.args.state.now.in_value c.args.state.now.depth_left c.args.state.now.lifetimes c.args.state.now.place c.args.tag _ _ _ _ c.in_default.ensures c.requires.unmarked (omega arith)
+pub returns-in_default : goal.returns-in_default
+returns-in_default g c = record { did = constant_wrong c.args.tag c.in_default.ensures c.requires.may.unmarked }
 
-pub returns-in-Placeholder-clause-did : goal.returns-in-Placeholder-clause-did
-returns-in-Placeholder-clause-did g c =
-    constant_as g.V.Voice c.args.symbol.now c.args.plain c.args.state.now.in_value c.args.state.now.depth_left c.args.state.now.lifetimes c.args.state.now.place c.args.tag kind.Placeholder (omega arith) 6 (8 * c.args.state.now.depth_left + 9) _ _ _ _ _ _ _ (rw c.in-Placeholder.is at c.in-Some.ensures) (omega arith) (omega arith)
-    (placeholder g.V.Voice c.args.symbol.now c.args.plain c.args.state.now.in_value c.args.state.now.letter c.args.state.now.depth_left c.args.state.now.lifetimes c.args.state.now.place _ _ _ _ (omega arith) refl refl refl refl refl refl refl)
+pub returns-in-Placeholder : goal.returns-in-Placeholder
+unfolding run unit_rest_at
+returns-in-Placeholder g c = record { did = constant_as c.args.tag kind.Placeholder (rw c.in-Placeholder.is at c.in-Some.ensures) (omega arith) (omega arith) (omega arith) (marks {words = 6} {weight = 6} {high = 0} point.End refl (omega arith) (omega arith) tt) }
 
-pub returns-in-Unsigned-clause-did : goal.returns-in-Unsigned-clause-did
-returns-in-Unsigned-clause-did g c =
-    constant_as g.V.Voice c.args.symbol.now c.args.plain c.args.state.now.in_value c.args.state.now.depth_left c.args.state.now.lifetimes c.args.state.now.place c.args.tag kind.Unsigned (omega arith) 1 (8 * c.args.state.now.depth_left + 2) _ _ _ _ _ _ _ (rw c.in-Unsigned.is at c.in-Some.ensures) (omega arith) (omega arith)
-    (unsigned_reads g.V.Voice c.args.symbol.now c.args.plain c.args.state.now.in_value c.args.tag c.args.state.now.depth_left c.args.state.now.lifetimes c.args.state.now.place c.args.state.now.is_open _ _ _ _ _ _ (c.number.ensures.did c.args.row.now))
+pub returns-in-Unsigned : goal.returns-in-Unsigned
+returns-in-Unsigned g c = record { did = constant_as c.args.tag kind.Unsigned (rw c.in-Unsigned.is at c.in-Some.ensures) (omega arith) (omega arith) (omega arith) (number_reads c.args.tag (c.number.ensures.did c.args.stack.now)) }
 
-pub returns-in-Signed-clause-did : goal.returns-in-Signed-clause-did
-returns-in-Signed-clause-did g c =
-    constant_as g.V.Voice c.args.symbol.now c.args.plain c.args.state.now.in_value c.args.state.now.depth_left c.args.state.now.lifetimes c.args.state.now.place c.args.tag kind.Signed (omega arith) 6 (8 * c.args.state.now.depth_left + 9) _ _ _ _ _ _ _ (rw c.in-Signed.is at c.in-Some.ensures) (omega arith) (omega arith)
-    (c.signed_number.ensures.did c.args.row.now)
+pub returns-in-Signed : goal.returns-in-Signed
+returns-in-Signed g c = record { did = constant_as c.args.tag kind.Signed (rw c.in-Signed.is at c.in-Some.ensures) (omega arith) (omega arith) (omega arith) (c.signed_number.ensures.did c.args.stack.now) }
 
-pub returns-in-Bool-clause-did : goal.returns-in-Bool-clause-did
-returns-in-Bool-clause-did g c =
-    constant_as g.V.Voice c.args.symbol.now c.args.plain c.args.state.now.in_value c.args.state.now.depth_left c.args.state.now.lifetimes c.args.state.now.place c.args.tag kind.Bool (omega arith) 1 (8 * c.args.state.now.depth_left + 0) _ _ _ _ _ _ _ (rw c.in-Bool.is at c.in-Some.ensures) (omega arith) (omega arith)
-    (did (c.last_word.ensures.did c.args.row.now))
+pub returns-in-Bool : goal.returns-in-Bool
+returns-in-Bool g c = record { did = constant_as c.args.tag kind.Bool (rw c.in-Bool.is at c.in-Some.ensures) (omega arith) (omega arith) (omega arith) (c.last_word.ensures.did c.args.stack.now) }
 
-pub returns-in-Char-clause-did : goal.returns-in-Char-clause-did
-returns-in-Char-clause-did g c =
-    constant_as g.V.Voice c.args.symbol.now c.args.plain c.args.state.now.in_value c.args.state.now.depth_left c.args.state.now.lifetimes c.args.state.now.place c.args.tag kind.Char (omega arith) 1 (8 * c.args.state.now.depth_left + 0) _ _ _ _ _ _ _ (rw c.in-Char.is at c.in-Some.ensures) (omega arith) (omega arith)
-    (did (c.last_word-in-Char.ensures.did c.args.row.now))
+pub returns-in-Char : goal.returns-in-Char
+returns-in-Char g c = record { did = constant_as c.args.tag kind.Char (rw c.in-Char.is at c.in-Some.ensures) (omega arith) (omega arith) (omega arith) (c.last_word-in-Char.ensures.did c.args.stack.now) }
 
-pub returns-in-Text-clause-did : goal.returns-in-Text-clause-did
-returns-in-Text-clause-did g c = rw c.in_braces.ensures.point
-    (constant_as g.V.Voice c.args.symbol.now c.args.plain c.args.state.now.in_value c.args.state.now.depth_left c.args.state.now.lifetimes c.args.state.now.place c.args.tag kind.Text (omega arith) 6 (8 * c.args.state.now.depth_left + 9) _ _ _ _ _ _ _ (rw c.in-Text.is at c.in-Some.ensures) (omega arith) (omega arith)
-    (text_braced g.V.Voice c.args.symbol.now c.args.plain c.args.state.now _ _ _ _ _ c.requires.fits (omega arith) (c.in_braces.ensures.state, c.in_braces.ensures.row)))
+pub returns-in-Text : goal.returns-in-Text
+returns-in-Text g c = record { did = rw c.in_braces.ensures.point (constant_as c.args.tag kind.Text (rw c.in-Text.is at c.in-Some.ensures) (omega arith) (omega arith) (omega arith) (text_braced _ _ _ c.requires.may.fits (c.in_braces.ensures.state, c.in_braces.ensures.stack))) }
 
-pub returns-in-Mutable-clause-did : goal.returns-in-Mutable-clause-did
-returns-in-Mutable-clause-did g c = rw c.in_braces-in-Mutable.ensures.point
-    (constant_as g.V.Voice c.args.symbol.now c.args.plain c.args.state.now.in_value c.args.state.now.depth_left c.args.state.now.lifetimes c.args.state.now.place c.args.tag kind.Mutable (omega arith) 6 (8 * c.args.state.now.depth_left + 9) _ _ _ _ _ _ _ (rw c.in-Mutable.is at c.in-Some.ensures) (omega arith) (omega arith)
-    (mutable_braced g.V.Voice c.args.symbol.now c.args.plain c.args.state.now _ _ _ _ _ c.requires.fits (omega arith) (c.in_braces-in-Mutable.ensures.state, c.in_braces-in-Mutable.ensures.row)))
+pub returns-in-Mut : goal.returns-in-Mut
+returns-in-Mut g c = record { did = rw c.in_braces-in-Mut.ensures.point (constant_as c.args.tag kind.Mut (rw c.in-Mut.is at c.in-Some.ensures) (omega arith) (omega arith) (omega arith) (mutable_braced _ _ _ c.requires.may.fits (c.in_braces-in-Mut.ensures.state, c.in_braces-in-Mut.ensures.stack))) }
 
-pub returns-in-Array-clause-did : goal.returns-in-Array-clause-did
-returns-in-Array-clause-did g c = rw c.in_braces-in-Array.ensures.point
-    (constant_as g.V.Voice c.args.symbol.now c.args.plain c.args.state.now.in_value c.args.state.now.depth_left c.args.state.now.lifetimes c.args.state.now.place c.args.tag kind.Array (omega arith) 6 (8 * c.args.state.now.depth_left + 9) _ _ _ _ _ _ _ (rw c.in-Array.is at c.in-Some.ensures) (omega arith) (omega arith)
-    (array_braced g.V.Voice c.args.symbol.now c.args.plain c.args.state.now _ _ _ _ _ c.requires.fits (omega arith) (c.in_braces-in-Array.ensures.state, c.in_braces-in-Array.ensures.row)))
+pub returns-in-Array : goal.returns-in-Array
+returns-in-Array g c = record { did = rw c.in_braces-in-Array.ensures.point (constant_as c.args.tag kind.Array (rw c.in-Array.is at c.in-Some.ensures) (omega arith) (omega arith) (omega arith) (array_braced _ _ _ c.requires.may.fits (c.in_braces-in-Array.ensures.state, c.in_braces-in-Array.ensures.stack))) }
 
-pub returns-in-Tuple-clause-did : goal.returns-in-Tuple-clause-did
-returns-in-Tuple-clause-did g c = rw c.in_braces-in-Tuple.ensures.point
-    (constant_as g.V.Voice c.args.symbol.now c.args.plain c.args.state.now.in_value c.args.state.now.depth_left c.args.state.now.lifetimes c.args.state.now.place c.args.tag kind.Tuple (omega arith) 6 (8 * c.args.state.now.depth_left + 9) _ _ _ _ _ _ _ (rw c.in-Tuple.is at c.in-Some.ensures) (omega arith) (omega arith)
-    (tuple_braced g.V.Voice c.args.symbol.now c.args.plain c.args.state.now _ _ _ _ _ c.requires.fits (omega arith) (c.in_braces-in-Tuple.ensures.state, c.in_braces-in-Tuple.ensures.row)))
+pub returns-in-Tuple : goal.returns-in-Tuple
+returns-in-Tuple g c = record { did = rw c.in_braces-in-Tuple.ensures.point (constant_as c.args.tag kind.Tuple (rw c.in-Tuple.is at c.in-Some.ensures) (omega arith) (omega arith) (omega arith) (tuple_braced _ _ _ c.requires.may.fits (c.in_braces-in-Tuple.ensures.state, c.in_braces-in-Tuple.ensures.stack))) }
 
-pub returns-in-Shared-clause-did : goal.returns-in-Shared-clause-did
-returns-in-Shared-clause-did g c =
-    constant_as g.V.Voice c.args.symbol.now c.args.plain c.args.state.now.in_value c.args.state.now.depth_left c.args.state.now.lifetimes c.args.state.now.place c.args.tag kind.Shared (omega arith) 6 (8 * c.args.state.now.depth_left + 9) _ _ _ _ _ _ _ (rw c.in-Shared.is at c.in-Some.ensures) (omega arith) (omega arith)
-    (c.shared_reference.ensures.did)
+pub returns-in-Shared : goal.returns-in-Shared
+returns-in-Shared g c = record { did = constant_as c.args.tag kind.Shared (rw c.in-Shared.is at c.in-Some.ensures) (omega arith) (omega arith) (omega arith) (c.shared_reference.ensures.did) }
 
-pub returns-in-Variant-clause-did : goal.returns-in-Variant-clause-did
-returns-in-Variant-clause-did g c =
-    constant_as g.V.Voice c.args.symbol.now c.args.plain c.args.state.now.in_value c.args.state.now.depth_left c.args.state.now.lifetimes c.args.state.now.place c.args.tag kind.Variant (omega arith) 6 (8 * c.args.state.now.depth_left + 9) _ _ _ _ _ _ _ (rw c.in-Variant.is at c.in-Some.ensures) (omega arith) (omega arith)
-    (c.variant_path.ensures.did c.args.symbol.now c.args.plain c.args.voice.now _ (omega arith))
+pub returns-in-Variant : goal.returns-in-Variant
+returns-in-Variant g c = record { did = constant_as c.args.tag kind.Variant (rw c.in-Variant.is at c.in-Some.ensures) (omega arith) (omega arith) (omega arith) (c.variant_path.ensures.did c.args.symbol.now c.args.include_hash c.args.output.now c.args.looks.now) }
 
-pub returns-in-Reference-clause-did : goal.returns-in-Reference-clause-did
-returns-in-Reference-clause-did g c =
-    constant_as g.V.Voice c.args.symbol.now c.args.plain c.args.state.now.in_value c.args.state.now.depth_left c.args.state.now.lifetimes c.args.state.now.place c.args.tag kind.Reference (omega arith) 1 (8 * c.args.state.now.depth_left + 2) _ _ _ _ _ _ _ (rw c.in-Reference.is at c.in-Some.ensures) (omega arith) (omega arith)
-    (did (c.follow.ensures.did c.args.plain c.args.voice.now true a_constant c.args.state.now.in_value (unit_constant c.args.symbol.now c.args.plain c.args.state.now.in_value c.args.state.now.letter c.args.state.now.lifetimes)))
-
-pub returns-in-Bool-clause-ready : goal.returns-in-Bool-clause-ready
-returns-in-Bool-clause-ready g c = (c.last_word.ensures.did c.args.row.now).ready c.requires.ready
-
-pub returns-in-Bool-clause-sound : goal.returns-in-Bool-clause-sound
-returns-in-Bool-clause-sound g c = (c.last_word.ensures.did c.args.row.now).sound c.requires.ready
-
-pub returns-in-Bool-clause-grows : goal.returns-in-Bool-clause-grows
-returns-in-Bool-clause-grows g c = (c.last_word.ensures.did c.args.row.now).grows
-
-pub returns-in-Char-clause-ready : goal.returns-in-Char-clause-ready
-returns-in-Char-clause-ready g c = (c.last_word-in-Char.ensures.did c.args.row.now).ready c.requires.ready
-
-pub returns-in-Char-clause-sound : goal.returns-in-Char-clause-sound
-returns-in-Char-clause-sound g c = (c.last_word-in-Char.ensures.did c.args.row.now).sound c.requires.ready
-
-pub returns-in-Char-clause-grows : goal.returns-in-Char-clause-grows
-returns-in-Char-clause-grows g c = (c.last_word-in-Char.ensures.did c.args.row.now).grows
-
-pub returns-in-Reference-clause-grows : goal.returns-in-Reference-clause-grows
-returns-in-Reference-clause-grows g c = (c.follow.ensures.did c.args.plain c.args.voice.now true a_constant c.args.state.now.in_value (unit_constant c.args.symbol.now c.args.plain c.args.state.now.in_value c.args.state.now.letter c.args.state.now.lifetimes)).grows
-
-pub returns-in-Bool-clause-own : goal.returns-in-Bool-clause-own
-returns-in-Bool-clause-own g c = own_more _ 20 21 _ _ (omega arith) (c.last_word.ensures.did c.args.row.now).own
-
-pub returns-in-Char-clause-own : goal.returns-in-Char-clause-own
-returns-in-Char-clause-own g c = own_more _ 20 21 _ _ (omega arith) (c.last_word-in-Char.ensures.did c.args.row.now).own
-
-pub returns-in-Reference-clause-own : goal.returns-in-Reference-clause-own
-returns-in-Reference-clause-own g c = own_more _ 20 21 _ _ (omega arith) (c.follow.ensures.did c.args.plain c.args.voice.now true a_constant c.args.state.now.in_value (unit_constant c.args.symbol.now c.args.plain c.args.state.now.in_value c.args.state.now.letter c.args.state.now.lifetimes)).own
+pub returns-in-Reference : goal.returns-in-Reference
+returns-in-Reference g c = record { did = constant_as c.args.tag kind.Reference (rw c.in-Reference.is at c.in-Some.ensures) (omega arith) (omega arith) (omega arith) (c.follow.ensures.did c.args.include_hash c.args.output.now true a_constant c.args.state.now.in_value (unit_constant c.args.symbol.now c.args.include_hash c.args.state.now.in_value c.args.state.now.letter c.args.state.now.lifetimes)) }

@@ -1,8 +1,8 @@
 use Rattle.std.proofs.Common.{arith, refl}
-use Rattle.demangle_v0.specs.Points.{share_at}
+use Rattle.demangle_v0.specs.Points.{unit_rest_at}
 use Rattle.demangle_v0.proofs.PointTurns.{alike}
 use Rattle.demangle_v0.proofs.points.dyn_traits.dyn_lifetime.Goals as goal
 
 pub returns : goal.returns
-unfolding share_at
-returns g c = record { did = λ row. alike (omega arith) refl (omega arith) (omega arith) (c.last_word.ensures.did row) }
+unfolding unit_rest_at
+returns g c = record { did = λ stack. alike (omega arith) refl (omega arith) (omega arith) (c.last_word.ensures.did stack) }

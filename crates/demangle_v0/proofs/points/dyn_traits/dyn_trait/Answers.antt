@@ -4,11 +4,11 @@ use Rattle.demangle_v0.proofs.PointTurns.{does, list_short}
 use Rattle.demangle_v0.proofs.points.dyn_traits.dyn_trait.Goals as goal
 
 pub returns-then-is_over-clause-did : goal.returns-then-is_over-clause-did
-returns-then-is_over-clause-did g c = λ plain v.
-    does (traits_over g.V.Voice c.args.symbol.now plain c.args.is_first c.args.state.now _ v _ _ (rw c.is_over.ensures.over at c.if-is_over.true) (omega (arith, c.is_over.ensures.paid.within)) c.is_over.ensures.place refl c.requires.may.unmarked)
+returns-then-is_over-clause-did g c = λ include_hash v.
+    does (traits_over g.V.Output c.args.symbol.now include_hash c.args.is_first c.args.state.now _ v _ _ (rw c.is_over.ensures.over at c.if-is_over.true) (omega (arith, c.is_over.ensures.paid.within)) c.is_over.ensures.place refl c.requires.may.unmarked)
     c.is_over.ensures.paid.grows (omega (arith, c.is_over.ensures.paid.within, list_short c.args.symbol.now c.args.state.now.place)) (λ k _. k) (λ k _ _. k)
 
 pub returns-clause-did : goal.returns-clause-did
-returns-clause-did g c = λ plain v.
-    does (trait_on g.V.Voice c.args.symbol.now plain c.args.is_first c.args.state.now _ _ v _ _ (rw c.is_over.ensures.over at c.if-is_over.false) (omega (arith, c.is_over.ensures.paid.within)) c.requires.may.fits refl refl c.is_over.ensures.place c.separator-state.ensures (rw c.frame.ensures at c.push.ensures.pushed (omega (arith, c.requires.may.fits))))
+returns-clause-did g c = λ include_hash v.
+    does (trait_on g.V.Output c.args.symbol.now include_hash c.args.is_first c.args.state.now _ _ v _ _ (rw c.is_over.ensures.over at c.if-is_over.false) (omega (arith, c.is_over.ensures.paid.within)) c.requires.may.fits refl refl c.is_over.ensures.place c.separator-state.ensures (rw c.frame.ensures at c.push.ensures.pushed (omega (arith, c.requires.may.fits))))
     c.is_over.ensures.paid.grows (omega (arith, c.is_over.ensures.paid.within, list_short c.args.symbol.now c.args.state.now.place)) (λ k _. k) (λ k _ _. k)

@@ -1,11 +1,11 @@
 use Rattle.std.proofs.Common.{arith, refl}
-use Rattle.demangle_v0.specs.Points.{share_at}
+use Rattle.demangle_v0.specs.Points.{unit_rest_at}
 use Rattle.demangle_v0.proofs.PointTurns.{unread}
 use Rattle.demangle_v0.proofs.PointPaths.{path_deep, path_untagged, path_tagged}
 use Rattle.demangle_v0.proofs.points.paths.path.Goals as goal
 
 pub returns-in_default-clause-did : goal.returns-in_default-clause-did
-unfolding share_at
+unfolding unit_rest_at
 returns-in_default-clause-did g c = unread c.requires.may.unmarked (rw c.in_default.is refl) (omega arith)
 
 pub returns-then-state-eq0-clause-did : goal.returns-then-state-eq0-clause-did

@@ -6,10 +6,10 @@ use Rattle.demangle_v0.proofs.points.read.read_on.Given as goal
 
 abbrev pub invariant-steps : goal.invariant-steps
 invariant-steps g l = record {
-  valid : Valid l.point l.state l.row;
-  reads : (below above : List Frame) → l.initial.row ≡ below ++ above → length below ≡ l.base → AllInner above → Reads l.symbol l.plain below l.initial.reading.point l.initial.reading.state above l.point l.state l.row (l.looks - l.initial.looks);
+  valid : Valid l.point l.state l.stack;
+  reads : (below above : List Frame) → l.initial.stack ≡ below ++ above → length below ≡ l.base → AllInner above → Reads l.symbol l.include_hash below l.initial.reading.point l.initial.reading.state above l.point l.state l.stack (l.looks - l.initial.looks);
   grows : l.initial.looks ≤ l.looks;
 }
 
 abbrev pub decreases-steps : goal.decreases-steps
-decreases-steps g l = measure l.symbol l.plain false l.point l.state l.row
+decreases-steps g l = measure l.symbol l.include_hash false l.point l.state l.stack

@@ -3,13 +3,13 @@ use Rattle.demangle_v0.proofs.PointReferences.{target_stops, target_hidden, targ
 use Rattle.demangle_v0.proofs.points.references.follow.Goals as goal
 
 pub returns-in-Faulty : goal.returns-in-Faulty
-returns-in-Faulty g c = record { did = λ plain v shut k value unit. target_stops shut k value _ c.in-Faulty.ensures.value (record { grows = omega arith; within = omega (arith, c.in-Faulty.ensures.looks) }) c.requires.may.unmarked }
+returns-in-Faulty g c = record { did = λ include_hash v shut k value unit. target_stops shut k value _ c.in-Faulty.ensures.value (record { grows = omega arith; within = omega (arith, c.in-Faulty.ensures.looks) }) c.requires.may.unmarked }
 
-pub returns-then-not-speaks : goal.returns-then-not-speaks
-returns-then-not-speaks g c = record { did = λ plain v shut k value unit. target_hidden shut k value _ _ c.in-Target.ensures.value (record { grows = omega arith; within = omega (arith, c.in-Target.ensures.looks) }) (sym c.speaks.ensures ∙ c.if-not-speaks.true) c.requires.may.unmarked }
+pub returns-then-not-is_printing : goal.returns-then-not-is_printing
+returns-then-not-is_printing g c = record { did = λ include_hash v shut k value unit. target_hidden shut k value _ _ c.in-Target.ensures.value (record { grows = omega arith; within = omega (arith, c.in-Target.ensures.looks) }) (sym c.is_printing.ensures ∙ c.if-not-is_printing.true) c.requires.may.unmarked }
 
-pub returns-else-not-speaks : goal.returns-else-not-speaks
-returns-else-not-speaks g c = record {
-  did = λ plain v shut k value unit. target_shown c.args.unit shut k value c.in-Target.target c.in-Target.behind unit c.in-Target.ensures.value (record { grows = omega arith; within = omega (arith, c.in-Target.ensures.looks) }) (sym c.speaks.ensures ∙ c.if-not-speaks.false) c.in-Target.ensures.deep (omega arith) c.requires.may
+pub returns-else-not-is_printing : goal.returns-else-not-is_printing
+returns-else-not-is_printing g c = record {
+  did = λ include_hash v shut k value unit. target_shown c.args.unit shut k value c.in-Target.target c.in-Target.behind unit c.in-Target.ensures.value (record { grows = omega arith; within = omega (arith, c.in-Target.ensures.looks) }) (sym c.is_printing.ensures ∙ c.if-not-is_printing.false) c.in-Target.ensures.deep (omega arith) c.requires.may
       (rw c.frame-frame.ensures at c.push.ensures.pushed (omega arith));
 }

@@ -3,7 +3,7 @@ use Rattle.demangle_v0.proofs.PointTuples.{second_closes, second_goes}
 use Rattle.demangle_v0.proofs.points.tuples.second_tuple_type.Goals as goal
 
 pub returns-then-is_over : goal.returns-then-is_over
-returns-then-is_over g c = record { did = λ plain v. second_closes (sym c.is_over.ensures.over ∙ c.if-is_over.true) c.is_over.ensures.place c.is_over.ensures.paid c.requires.may }
+returns-then-is_over g c = record { did = λ include_hash v. second_closes (sym c.is_over.ensures.over ∙ c.if-is_over.true) c.is_over.ensures.place c.is_over.ensures.paid c.requires.may }
 
 pub returns : goal.returns
-returns g c = record { did = λ plain v. second_goes (sym c.is_over.ensures.over ∙ c.if-is_over.false) c.is_over.ensures.place c.is_over.ensures.paid c.requires.may (rw c.frame.ensures at c.push.ensures.pushed (omega (arith, c.requires.may.fits))) }
+returns g c = record { did = λ include_hash v. second_goes (sym c.is_over.ensures.over ∙ c.if-is_over.false) c.is_over.ensures.place c.is_over.ensures.paid c.requires.may (rw c.frame.ensures at c.push.ensures.pushed (omega (arith, c.requires.may.fits))) }

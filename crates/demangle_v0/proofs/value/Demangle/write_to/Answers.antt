@@ -6,37 +6,37 @@ use Rattle.demangle_v0.proofs.PointPrints.{ended_all, ended_err, prints_so, prin
 use Rattle.demangle_v0.proofs.value.Demangle.write_to.Goals as goal
 
 pub print_on-requires : goal.print_on-requires
-print_on-requires g c = (omega arith, (c.self.invariant, (c.requires, rw (c.of_path-reading.ensures, c.new-row.ensures) (valid_first 0))))
+print_on-requires g c = (omega arith, (c.self.invariant, (c.requires, rw (c.of_path-reading.ensures, c.new-stack.ensures) (valid_first 0))))
 
 pub returns-in_err-print_on-clause-prints : goal.returns-in_err-print_on-clause-prints
 returns-in_err-print_on-clause-prints g c =
     rw (← c.self.view_is) (prints_so g.S.TextSink c.self.inside.inner c.args.include_hash _ _ _ _ c.requires
-    (ended_err g.S.TextSink c.self.inside.inner c.args.include_hash _ _ _ _ _ _ _ (c.print_on.new.looks - c.args.looks.now) _ _ c.from_residual.ensures.0 (rw (c.of_path-reading.ensures, c.new-row.ensures) at c.in_err-print_on.ensures.ran)))
+    (ended_err g.S.TextSink c.self.inside.inner c.args.include_hash _ _ _ _ _ _ _ (c.print_on.new.looks - c.args.looks.now) _ _ c.from_residual.ensures.0 (rw (c.of_path-reading.ensures, c.new-stack.ensures) at c.in_err-print_on.ensures.ran)))
 
 pub returns-in_err-print_on-clause-most : goal.returns-in_err-print_on-clause-most
 returns-in_err-print_on-clause-most g c =
     let m = prints_most g.S.TextSink c.self.inside.inner c.args.include_hash _ _ _ c.from_residual.result c.requires
-    (ended_err g.S.TextSink c.self.inside.inner c.args.include_hash _ _ _ _ _ _ _ (c.print_on.new.looks - c.args.looks.now) _ _ c.from_residual.ensures.0 (rw (c.of_path-reading.ensures, c.new-row.ensures) at c.in_err-print_on.ensures.ran)) in
+    (ended_err g.S.TextSink c.self.inside.inner c.args.include_hash _ _ _ _ _ _ _ (c.print_on.new.looks - c.args.looks.now) _ _ c.from_residual.ensures.0 (rw (c.of_path-reading.ensures, c.new-stack.ensures) at c.in_err-print_on.ensures.ran)) in
     rw (← c.self.view_is) (omega (arith, m, c.in_err-print_on.ensures.grows))
 
 pub returns-in-None-clause-prints : goal.returns-in-None-clause-prints
 returns-in-None-clause-prints g c =
     rw (← c.self.view_is) (prints_so g.S.TextSink c.self.inside.inner c.args.include_hash _ _ _ _ c.requires
-    (ended_all g.S.TextSink c.self.inside.inner c.args.include_hash _ _ _ _ _ _ _ (c.print_on.new.looks - c.args.looks.now) _ (rw (c.of_path-reading.ensures, c.new-row.ensures) at c.in_ok-print_on.ensures.ran) c.in-None.is))
+    (ended_all g.S.TextSink c.self.inside.inner c.args.include_hash _ _ _ _ _ _ _ (c.print_on.new.looks - c.args.looks.now) _ (rw (c.of_path-reading.ensures, c.new-stack.ensures) at c.in_ok-print_on.ensures.ran) c.in-None.is))
 
 pub returns-in-None-clause-most : goal.returns-in-None-clause-most
 returns-in-None-clause-most g c =
     let m = prints_most g.S.TextSink c.self.inside.inner c.args.include_hash _ _ _ _ c.requires
-    (ended_all g.S.TextSink c.self.inside.inner c.args.include_hash _ _ _ _ _ _ _ (c.print_on.new.looks - c.args.looks.now) _ (rw (c.of_path-reading.ensures, c.new-row.ensures) at c.in_ok-print_on.ensures.ran) c.in-None.is) in
+    (ended_all g.S.TextSink c.self.inside.inner c.args.include_hash _ _ _ _ _ _ _ (c.print_on.new.looks - c.args.looks.now) _ (rw (c.of_path-reading.ensures, c.new-stack.ensures) at c.in_ok-print_on.ensures.ran) c.in-None.is) in
     rw (← c.self.view_is) (omega (arith, m, c.in_ok-print_on.ensures.grows))
 
 pub returns-in-Some-clause-prints : goal.returns-in-Some-clause-prints
 returns-in-Some-clause-prints g c =
     rw (← c.self.view_is) (prints_so g.S.TextSink c.self.inside.inner c.args.include_hash _ _ _ _ c.requires
-    (c.print_more.ensures.ended point.Path (first_state 0) [] c.args.out.now (c.print_on.new.looks - c.args.looks.now) (rw (c.in-Some.is, c.of_path-reading.ensures, c.new-row.ensures) at c.in_ok-print_on.ensures.ran)))
+    (c.print_more.ensures.ended point.Path (first_state 0) [] c.args.out.now (c.print_on.new.looks - c.args.looks.now) (rw (c.in-Some.is, c.of_path-reading.ensures, c.new-stack.ensures) at c.in_ok-print_on.ensures.ran)))
 
 pub returns-in-Some-clause-most : goal.returns-in-Some-clause-most
 returns-in-Some-clause-most g c =
     let m = prints_most g.S.TextSink c.self.inside.inner c.args.include_hash _ _ _ _ c.requires
-    (c.print_more.ensures.ended point.Path (first_state 0) [] c.args.out.now (c.print_on.new.looks - c.args.looks.now) (rw (c.in-Some.is, c.of_path-reading.ensures, c.new-row.ensures) at c.in_ok-print_on.ensures.ran)) in
+    (c.print_more.ensures.ended point.Path (first_state 0) [] c.args.out.now (c.print_on.new.looks - c.args.looks.now) (rw (c.in-Some.is, c.of_path-reading.ensures, c.new-stack.ensures) at c.in_ok-print_on.ensures.ran)) in
     rw (← c.self.view_is) (omega (arith, m, c.in_ok-print_on.ensures.grows, c.print_more.ensures.grows))

@@ -1,0 +1,172 @@
+//! What each resume point does.
+ghost use Rattle.std.specs.Prelude.{◌≡◌, ◌+◌, ◌<◌, ◌≤◌, true, false, length, IsAscii};
+ghost use Rattle.demangle_v0.specs.Impls.{is_skip};
+ghost use Rattle.demangle_v0.specs.Points.{PointDoes, Fits, env, turn};
+ghost use Rattle.demangle_v0.specs.PointRuns.{first_looks};
+
+use crate::points::arguments::{arguments, generic};
+use crate::points::bindings::{binding_name, bindings, bound, open_bindings};
+use crate::points::constant_lists::{
+    ConstantList, first_constant, next_constant, second_tuple_constant,
+};
+use crate::points::constants::{constant, literal, number};
+use crate::points::dyn_traits::{dyn_binder, dyn_lifetime, dyn_trait, open_argument, trait_path};
+use crate::points::frames::FrameStack;
+use crate::points::functions::{function_head, parameter, returns};
+use crate::points::impls::{as_trait, self_type, skipped_path};
+use crate::points::marks::leave;
+use crate::points::names::nested_name;
+use crate::points::paths::path;
+use crate::points::patterns::{next_pattern, pattern};
+use crate::points::references::behind;
+use crate::points::tuples::{first_tuple_type, next_tuple_type, second_tuple_type};
+use crate::points::type_references::reference_lifetime;
+use crate::points::types::{array_length, is_begun, type_};
+use crate::points::variants::{field, variant};
+use crate::points::{Point, State, Stop, last_word};
+use demangle_symbol::cursor::{Looks, Symbol};
+use demangle_words::output::Output;
+use demangle_words::texts::{Mark, Word};
+
+/// What a point does.
+#[inline(always)]
+pub(super) fn dispatch<V: Output, const N: usize>(
+    symbol: &Symbol<'_>,
+    point: Point,
+    include_hash: bool,
+    state: &mut State,
+    stack: &mut FrameStack<N>,
+    output: &mut V,
+    looks: &mut Looks,
+) -> Result<Point, Stop>
+    requires ascii { V.is_printed ≡ true → IsAscii symbol.now }
+    requires ready { V.ready output.old }
+    requires unmarked { state.old.mark ≡ None }
+    requires room { length stack.old < N }
+    requires fits { Fits point state.old.depth_left state.old.lifetimes }
+    requires unskipped { V.is_printed ≡ true → is_skip point ≡ false }
+    ensures did { PointDoes (env V.Output symbol.now include_hash) point (turn state.old stack.old
+        output.old looks.old) result (turn state.new stack.new output.new looks.new) }
+    ensures least { looks.old + first_looks point state.old ≤ looks.new }
+{
+    match point {
+        Point::Path => path(symbol, include_hash, state, stack, output, looks),
+        Point::Nested => nested_name(symbol, include_hash, state, output, looks),
+        Point::InherentPath => Ok(skipped_path::<V, N>(false, state, stack)),
+        Point::ImplPath => Ok(skipped_path::<V, N>(true, state, stack)),
+        Point::InherentType => Ok(self_type::<V, N>(false, state, stack)),
+        Point::SelfType => Ok(self_type::<V, N>(true, state, stack)),
+        Point::As => Ok(as_trait::<V, N>(state, stack)),
+        Point::Generic => Ok(generic::<V>(state)),
+        Point::FirstArgument => Ok(arguments::<V, N>(symbol, true, state, stack, looks)),
+        Point::NextArgument => Ok(arguments::<V, N>(symbol, false, state, stack, looks)),
+        Point::Lifetime => last_word(
+            symbol,
+            Word::LifetimeIndex,
+            include_hash,
+            state,
+            output,
+            looks,
+        ),
+        Point::Type | Point::TaggedType => {
+            type_(
+                symbol,
+                is_begun(point),
+                include_hash,
+                state,
+                stack,
+                output,
+                looks,
+            )
+        }
+        Point::ArrayLength => Ok(array_length(state, stack, output)),
+        Point::FirstTupleType => Ok(first_tuple_type::<V, N>(symbol, state, stack, looks)),
+        Point::SecondTupleType => Ok(second_tuple_type::<V, N>(symbol, state, stack, looks)),
+        Point::NextTupleType => Ok(next_tuple_type::<V, N>(symbol, state, stack, looks)),
+        Point::ReferenceLifetime => reference_lifetime(
+            symbol,
+            false,
+            include_hash,
+            state,
+            output,
+            looks,
+        ),
+        Point::MutReferenceLifetime => reference_lifetime(
+            symbol,
+            true,
+            include_hash,
+            state,
+            output,
+            looks,
+        ),
+        Point::FunctionHead => function_head(symbol, include_hash, state, output, looks),
+        Point::FirstParameter => Ok(parameter::<V, N>(symbol, true, state, stack, looks)),
+        Point::NextParameter => Ok(parameter::<V, N>(symbol, false, state, stack, looks)),
+        Point::Returns => Ok(returns::<V>(symbol, state, looks)),
+        Point::DynBinder => dyn_binder(symbol, include_hash, state, stack, output, looks),
+        Point::FirstDynTrait => Ok(dyn_trait::<V, N>(symbol, true, state, stack, looks)),
+        Point::NextDynTrait => Ok(dyn_trait::<V, N>(symbol, false, state, stack, looks)),
+        Point::TraitPath => trait_path(symbol, state, stack, output, looks),
+        Point::FirstOpenArgument => Ok(open_argument::<V, N>(symbol, true, state, stack, looks)),
+        Point::NextOpenArgument => Ok(open_argument::<V, N>(symbol, false, state, stack, looks)),
+        Point::Bindings => Ok(bindings::<V>(symbol, state, looks)),
+        Point::OpenBindings => Ok(open_bindings::<V>(symbol, state, looks)),
+        Point::BindingName => binding_name(symbol, include_hash, state, output, looks),
+        Point::Bound => Ok(bound::<V, N>(symbol, state, stack, looks)),
+        Point::DynLifetime => dyn_lifetime(symbol, include_hash, state, output, looks),
+        Point::Pattern => pattern::<V, N>(symbol, state, stack, looks),
+        Point::NextPattern => next_pattern::<V, N>(symbol, state, stack, looks),
+        Point::Constant => constant(symbol, include_hash, state, stack, output, looks),
+        Point::Number => number(symbol, include_hash, state, output, looks),
+        Point::Literal => literal(symbol, include_hash, state, output, looks),
+        Point::FirstArrayConstant => {
+            Ok(first_constant::<V, N>(symbol, ConstantList::Array, state, stack, looks))
+        }
+        Point::NextArrayConstant => {
+            Ok(next_constant::<V, N>(symbol, ConstantList::Array, state, stack, looks))
+        }
+        Point::FirstTupleConstant => {
+            Ok(first_constant::<V, N>(symbol, ConstantList::Tuple, state, stack, looks))
+        }
+        Point::SecondTupleConstant => {
+            Ok(second_tuple_constant::<V, N>(symbol, state, stack, looks))
+        }
+        Point::NextTupleConstant => {
+            Ok(next_constant::<V, N>(symbol, ConstantList::Tuple, state, stack, looks))
+        }
+        Point::Variant => variant::<V, N>(symbol, state, stack, looks),
+        Point::FirstVariantConstant => {
+            Ok(first_constant::<V, N>(symbol, ConstantList::TupleVariant, state, stack, looks))
+        }
+        Point::NextVariantConstant => {
+            Ok(next_constant::<V, N>(symbol, ConstantList::TupleVariant, state, stack, looks))
+        }
+        Point::FirstField => {
+            Ok(first_constant::<V, N>(symbol, ConstantList::Fields, state, stack, looks))
+        }
+        Point::NextField => {
+            Ok(next_constant::<V, N>(symbol, ConstantList::Fields, state, stack, looks))
+        }
+        Point::Field => field(symbol, include_hash, state, output, looks),
+        Point::AfterBackref => Ok(behind::<V>(state)),
+        Point::CloseParen
+        | Point::CloseAngle
+        | Point::Mut
+        | Point::TextConstant
+        | Point::ReferenceConstant
+        | Point::OpenArguments
+        | Point::Const
+        | Point::PatternIs
+        | Point::OpenParameters
+        | Point::OpenTraitPath
+        | Point::CloseBracket
+        | Point::RangeEnd
+        | Point::MutReferenceConstant
+        | Point::MutableConstant
+        | Point::ArrayConstant
+        | Point::TupleConstant
+        | Point::FieldColon
+        | Point::CloseBrace => { Ok(leave::<V>(point, state)) }
+        Point::End => Ok(Point::End),
+    }
+}

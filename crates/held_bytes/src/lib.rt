@@ -1,0 +1,86 @@
+//! Bytes that a program holds for a writer, so that pieces of a few bytes cost little.
+#![tactic(auto)]
+
+ghost use Rattle.std.specs.Prelude.{◌≡◌, ◌+◌, ◌==◌, ◌≤◌, [], ◌++◌, drop, length, IsTrue, IsFalse};
+
+use std::marker::Model;
+
+/// How many bytes can be held. They lie on the stack.
+pub const CAPACITY: usize = 2048;
+
+/// At most `CAPACITY` bytes, in the order in which they came.
+#[derive(Drop)]
+pub struct Held {
+    bytes: [u8; CAPACITY],
+    len: usize,
+}
+
+impl Model for Held {
+    ghost use Rattle.std.specs.Prelude.{◌≡◌, ◌≤◌, ℕ, List, length, take};
+    ghost use Rattle.held_bytes.specs.declared.TheConstants.{CAPACITY};
+
+    ghost Value = { List ℕ };
+
+    ghost view = { λ held. take held.len held.bytes };
+
+    ghost invariant = { λ held. (held.len ≤ CAPACITY) × (length held.bytes ≡ CAPACITY) };
+}
+
+impl Held {
+    /// Holds no bytes.
+    pub fn new() -> Self
+        ensures { result ≡ [] }
+    {
+        Held {
+            bytes: [0; CAPACITY],
+            len: 0,
+        }
+    }
+
+    /// The bytes that are held.
+    pub fn as_slice(&self) -> &[u8]
+        ensures { result.now ≡ self.now }
+    {
+        &self.bytes[..self.len]
+    }
+
+    /// Whether no bytes are held.
+    pub fn is_empty(&self) -> bool
+        ensures { result ≡ (length self.now == 0) }
+    {
+        self.len == 0
+    }
+
+    /// Holds all of the piece, or answers `false` where there is no room for it.
+    #[inline(always)]
+    pub fn push(&mut self, piece: &[u8]) -> bool
+        ensures room { length self.old + length piece.now ≤ CAPACITY → IsTrue result }
+        ensures held { IsTrue result → self.new ≡ self.old ++ piece.now }
+        ensures kept { IsFalse result → self.new ≡ self.old }
+    {
+        let start = self.len;
+        let end = start + piece.len();
+        if end > CAPACITY {
+            return false;
+        }
+        self.len = end;
+        self.bytes[start..end].copy_from_slice(piece);
+        true
+    }
+
+    /// Lets go of the first `count` bytes.
+    pub fn remove_front(&mut self, count: usize)
+        requires { count ≤ length self.old }
+        ensures { self.new ≡ drop count self.old }
+    {
+        self.bytes.copy_within(count..self.len, 0);
+        self.len -= count;
+    }
+
+    /// Lets go of the bytes that are held.
+    pub fn clear(&mut self)
+        ensures { self.new ≡ [] }
+    {
+        self.len = 0;
+    }
+}

@@ -1,0 +1,117 @@
+//! An output that holds short pieces before it hands them on.
+ghost use Rattle.std.specs.Prelude.{◌≡◌, [], IsTrue, OnOk};
+ghost use Rattle.std.specs.Io.Buffered.{writer_inner};
+ghost use Rattle.std.specs.Io.KnownBytes.{Appends, Keeps};
+ghost use Rattle.kodliwe.specs.Output.{output_contents};
+
+use held_bytes::Held;
+use std::io;
+use std::io::{BufWriter, ErrorKind, Write};
+
+/// A buffered writer, and the bytes that are held for it. What is held is handed on where there is
+/// no room for the next piece, and by a flush.
+#[derive(Drop)]
+pub struct Output<W: Write + Drop> {
+    held: Held,
+    buffer: BufWriter<W>,
+    /// Why a piece was refused.
+    fault: Option<io::Error>,
+}
+
+impl<W: Write + Drop> Output<W> {
+    /// An output into this buffer, with nothing held.
+    pub fn new(buffer: BufWriter<W>) -> Self
+        ensures none { result.held ≡ [] }
+        ensures buffer { result.buffer ≡ buffer }
+    {
+        Output {
+            held: Held::new(),
+            buffer,
+            fault: None,
+        }
+    }
+
+    /// The writer below the buffer.
+    pub fn get_ref(&self) -> &W
+        ensures { result.now ≡ writer_inner self.now.buffer }
+    {
+        self.buffer.get_ref()
+    }
+
+    /// Hands on what is held. What the buffer refuses stays held.
+    fn hand_on(&mut self) -> io::Result<()>
+        ensures empty { OnOk result (self.new.held ≡ []) }
+        ensures bytes { Keeps (output_contents W.contents self.old)
+            (output_contents W.contents self.new) }
+    {
+        'handing: while !self.held.is_empty() {
+            match self.buffer.write(self.held.as_slice()) {
+                Ok(0) => return Err(io::Error::from(ErrorKind::WriteZero)),
+                Ok(taken) => self.held.remove_front(taken),
+                Err(error) => return Err(error),
+            }
+        }
+        Ok(())
+    }
+
+    /// Hands on what is held, and then holds the piece, or hands it on where it is too long.
+    fn hold(&mut self, piece: &[u8]) -> io::Result<()>
+        ensures { OnOk result (Appends (output_contents W.contents self.old)
+            (output_contents W.contents self.new) piece.now) }
+    {
+        self.hand_on()?;
+        if self.held.push(piece) {
+            return Ok(());
+        }
+        self.buffer.write_all(piece)
+    }
+
+    /// Writes a piece for which there is no room, and keeps the error where that fails: so no
+    /// caller makes room for an error at each piece.
+    #[cold]
+    #[inline(never)]
+    fn write_on(&mut self, piece: &[u8]) -> bool
+        ensures { IsTrue result → Appends (output_contents W.contents self.old)
+            (output_contents W.contents self.new) piece.now }
+    {
+        match self.hold(piece) {
+            Ok(()) => true,
+            Err(error) => {
+                self.fault = Some(error);
+                false
+            }
+        }
+    }
+
+    /// Why the last piece was refused.
+    #[cold]
+    #[inline(never)]
+    fn take_fault(&mut self) -> io::Error {
+        match self.fault.take() {
+            Some(error) => error,
+            None => io::Error::other("the output is broken"),
+        }
+    }
+}
+
+impl<W: Write + Drop> Write for Output<W> {
+    ghost contents = { output_contents W.contents };
+
+    fn write(&mut self, buf: &[u8]) -> io::Result<usize> {
+        self.hand_on()?;
+        self.buffer.write(buf)
+    }
+
+    fn flush(&mut self) -> io::Result<()> {
+        self.hand_on()?;
+        self.buffer.flush()
+    }
+
+    #[inline(always)]
+    fn write_all(&mut self, buf: &[u8]) -> io::Result<()> {
+        if self.held.push(buf) || self.write_on(buf) {
+            return Ok(());
+        }
+        Err(self.take_fault())
+    }
+}
