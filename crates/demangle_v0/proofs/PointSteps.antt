@@ -3,13 +3,13 @@ use Rattle.std.specs.Prelude.{◌*◌}
 use Rattle.std.proofs.lemmas.Bool.{false≢true}
 use Rattle.std.proofs.lemmas.List.{append-nil, length-append}
 use Rattle.std.proofs.Common.{length, inl, inr, ◌≡◌, ℕ, ◌+◌, ◌-◌, ◌≤◌, Bool, false, Option, Some, None, List, [], ◌∷◌, ◌++◌, Result, Ok, Err, IsOk, refl, arith, sym, ap, ◌∙◌, subst}
-use Rattle.demangle_grammar.specs.Items.{Text, Items, Kind, say, child, done}
+use Rattle.demangle_grammar.specs.Items.{Items, Kind, say, child, done}
 use Rattle.demangle_grammar.specs.Totals.{total}
 use Rattle.demangle_grammar.specs.Events.{Event, allows, allowed_all, Heard, of, events, nothing_heard, with_looks, with_texts, around}
 use Rattle.demangle_words.specs.WordReads.{Group, texts_of, word_group}
 use Rattle.demangle_words.specs.Texts.{word_items, text}
 use Rattle.demangle_grammar.specs.Reading.{Place, run, unit_outcome}
-use Rattle.demangle_v0.specs.Points.{Bit, pays, puts, heard_bits, bits_looks, Env, env, Part, part, Turn, turn, mark_texts, then_frame, way_weight, weight_at, weight_of, height_of, count_of, FitsFrame, IsInner, Fits, height_at, pushed_on, unit_rest_at, unit_rest_of, none_open, Went, Faulted, Halted, Kept, DidOn}
+use Rattle.demangle_v0.specs.Points.{Bit, pays, puts, heard_bits, bits_looks, env, part, turn, mark_texts, then_frame, way_weight, weight_at, weight_of, height_of, count_of, FitsFrame, IsInner, Fits, height_at, pushed_on, unit_rest_at, unit_rest_of, none_open, Went, Kept, DidOn}
 use Rattle.demangle_sink.specs.declared.SinkRefused.{SinkRefused}
 use Rattle.demangle_words.specs.declared.texts.Mark.{Mark}
 use Rattle.demangle_words.specs.declared.texts.Word.{Word}

@@ -1,10 +1,9 @@
--- The points of tuple types.
+-- Lists up to their `E`, and the points of tuple types.
 use Rattle.std.specs.Prelude.{◌*◌}
 use Rattle.std.proofs.Common.{◌≡◌, ℕ, ◌+◌, ◌≤◌, Bool, true, false, Option, Some, None, List, [], ◌∷◌, ◌++◌, Ok, refl, arith, sym, ap, ◌∙◌, length}
 use Prim.Native.Char.{code}
 use Prim.Native.String.{String}
 use Rattle.std.proofs.lemmas.Bool.{false≢true}
-use Rattle.std.proofs.lemmas.List.{append-nil}
 use Rattle.demangle_symbol.specs.Digits.{is_byte}
 use Rattle.demangle_words.specs.declared.texts.Mark.{Mark}
 use Rattle.demangle_v0.specs.declared.points.Point.{Point}
@@ -14,7 +13,7 @@ use Rattle.demangle_grammar.specs.Events.{Heard, of, and_then, with_looks, with_
 use Rattle.demangle_words.specs.Texts.{text}
 use Rattle.demangle_grammar.specs.Table.{at_end, more, type_inside, says}
 use Rattle.demangle_grammar.specs.Reading.{Place, run}
-use Rattle.demangle_v0.specs.Points.{mark_texts, frame_at, then_frame, unit_rest, unit_rest_at, unit_rest_of, none_open, weight_at, height_at, is_inner, Fits, Turn, Env, part, MayRead, Does, PointDoes, Paid, is_list_over, behind_list, list_costs}
+use Rattle.demangle_v0.specs.Points.{mark_texts, frame_at, then_frame, unit_rest, unit_rest_at, unit_rest_of, none_open, weight_at, way_weight, height_at, is_inner, Fits, Turn, Env, part, MayRead, Does, PointDoes, Paid, is_list_over, behind_list, list_costs}
 use Rattle.demangle_words.specs.declared.texts.Mark.TheVariants as mark
 use Rattle.demangle_v0.specs.declared.points.Point.TheVariants as point
 use Rattle.demangle_v0.specs.declared.points.frames.Frame.{Frame}
@@ -23,7 +22,7 @@ use Rattle.demangle_words.specs.declared.output.Output.{Ghosts}
 use Rattle.demangle_grammar.proofs.Elements.{type_element}
 use Rattle.demangle_grammar.proofs.ListReads.{second, child_followed, end_failed, end_over, more_failed, more_over, tuple_on, second_on, more_on}
 use Rattle.demangle_v0.proofs.PointSteps.{heard, total_both}
-use Rattle.demangle_v0.proofs.PointTurns.{list_short, list_few, list_words, leaves}
+use Rattle.demangle_v0.proofs.PointTurns.{list_short, list_few, list_words, leaves, moves}
 
 module _ {V : Type 0} (output : Ghosts V) (b : List ℕ) (include_hash : Bool) where
   -- A list that is over.
@@ -37,21 +36,23 @@ module _ {V : Type 0} (output : Ghosts V) (b : List ℕ) (include_hash : Bool) w
   rest_over left n text element p (Some i) e = rw e (ap none_open (more_over include_hash output.is_printed (around b output.is_printed left n) text element p i e))
 
 -- a list that is not over
-on : (b : List ℕ) (i : Place) → is_list_over b i ≡ false → (k : ℕ) × (i ≡ Some k) × (is_byte b k (code "E") ≡ false) × (behind_list b i ≡ Some k)
+pub on : (b : List ℕ) (i : Place) → is_list_over b i ≡ false → (k : ℕ) × (i ≡ Some k) × (is_byte b k (code "E") ≡ false) × (behind_list b i ≡ Some k)
 on b None h = absurd (false≢true (sym h))
 on b (Some k) h = (k, refl, h, rw h refl)
 
-abbrev closed : {V : Type 0} → Turn V → Place → ℕ → Turn V
+abbrev pub closed : {V : Type 0} → Turn V → Place → ℕ → Turn V
 closed t j n = record t { state = record t.state { place = j; mark = Some mark.CloseParen; is_open = false }; looks = n }
 
-abbrev entered : {V : Type 0} → Turn V → Place → Option Mark → List Frame → ℕ → Turn V
+-- a list is gone on with
+abbrev pub entered : {V : Type 0} → Turn V → Place → Option Mark → List Frame → ℕ → Turn V
 entered t j m stack n = record t { state = record t.state { place = j; mark = m }; stack = stack; looks = n }
 
-abbrev left_at : {V : Type 0} → Env V → Items → State → Place → Heard
+-- what is heard of these items from another place on
+abbrev pub left_at : {V : Type 0} → Env V → Items → State → Place → Heard
 left_at e p s i = heard e.output e.symbol e.include_hash p s.depth_left s.lifetimes i
 
 -- a type behind a mark, and what stands behind it
-abbrev type_then : {V : Type 0} → Env V → Option Mark → Point → State → ℕ → Heard
+abbrev pub type_then : {V : Type 0} → Env V → Option Mark → Point → State → ℕ → Heard
 type_then e m f s i = with_texts e.output.is_printed (mark_texts m) (and_then (unit_rest_of e.symbol e.include_hash e.output.is_printed point.«Type» (record s { place = Some i })) (unit_rest e.symbol e.include_hash e.output.is_printed (frame_at f s)))
 
 first_heard : {V : Type 0} (e : Env V) (s : State) (k : ℕ) → s.place ≡ Some k → is_byte e.symbol k (code "E") ≡ false → unit_rest_of e.symbol e.include_hash e.output.is_printed point.FirstTupleType s ≡ with_looks (1 ∷ []) (type_then e (None) point.SecondTupleType s k)
@@ -76,13 +77,19 @@ next_heard e s k at z f =
     ∙ ap (λ (h : Heard). with_looks (1 ∷ []) (with_texts e.output.is_printed (text mark.Comma ∷ []) h)) (child_followed e.include_hash e.output.is_printed a_type false a (Some k) (λ j. of e.include_hash e.output.is_printed (run (more ", " type_inside (says ")" done)) a j)))))
 
 module _ {V : Type 0} {e : Env V} where
+  -- The list is over.
+
+  pub list_ends : {t : Turn V} {h : Heard} {weight high n : ℕ} (to : Point) {s : State} → h ≡ with_looks (list_costs t.state.place) (with_texts e.output.is_printed (mark_texts s.mark) (unit_rest_of e.symbol e.include_hash e.output.is_printed to s)) → Paid t.looks (list_costs t.state.place) n
+      → way_weight to + 1 ≤ weight → height_at to s.depth_left ≤ high → Fits to s.depth_left s.lifetimes → Does e t (part 8 h weight high) (Ok to) (record t { state = s; looks = n })
+  list_ends {t} to r p w x f = moves to (list_costs t.state.place) (omega (arith, list_words t.state.place)) r p (omega (arith, p.within, list_short e.symbol t.state.place)) (omega (arith, w)) x f
+
   closes : {t : Turn V} {h : Heard} {high : ℕ} {j : Place} {n : ℕ} → h ≡ with_looks (list_costs t.state.place) (left_at e (says ")" done) t.state (behind_list e.symbol t.state.place)) → j ≡ behind_list e.symbol t.state.place → Paid t.looks (list_costs t.state.place) n
       → Does e t (part 8 h 1 high) (Ok point.End) (closed t j n)
-  unfolding run then_frame unit_rest_at
-  closes {t} r k p = let short = list_short e.symbol t.state.place in leaves point.End (list_costs t.state.place) [] (omega (arith, list_words t.state.place)) None (rw k r) refl (rw append-nil p) (omega arith) (omega (arith, p.within, short)) (omega arith) (omega arith) (omega arith) tt tt (λ _. tt)
+  unfolding run unit_rest_at
+  closes r k p = list_ends point.End (rw k r) p (omega arith) (omega arith) tt
 
   -- a type is entered, behind these looks and this mark
-  enters_type : {t : Turn V} {h : Heard} {weight high : ℕ} {j : Place} {m : Option Mark} {stack : List Frame} {n : ℕ} (i : ℕ) (ks : List ℕ) → length ks ≤ 8 → (f : Point) → t.state.place ≡ Some i
+  pub enters_type : {t : Turn V} {h : Heard} {weight high : ℕ} {j : Place} {m : Option Mark} {stack : List Frame} {n : ℕ} (i : ℕ) (ks : List ℕ) → length ks ≤ 8 → (f : Point) → t.state.place ≡ Some i
       → h ≡ with_looks ks (type_then e m f t.state i)
       → j ≡ Some i → Paid t.looks (list_costs t.state.place) n → stack ≡ t.stack ++ frame_at f t.state ∷ [] → 1 ≤ total ks → total ks ≤ 2 → weight_at f + 3 ≤ weight + 100 * total ks
       → height_at f t.state.depth_left ≤ high → 8 * t.state.depth_left + 2 ≤ high → Fits f t.state.depth_left t.state.lifetimes → Fits point.«Type» t.state.depth_left t.state.lifetimes → is_inner f ≡ true
@@ -104,11 +111,9 @@ module _ {V : Type 0} {e : Env V} where
   -- the second, or the comma behind one that stands alone
   pub second_closes : {t : Turn V} {j : Place} {n most : ℕ} → is_list_over e.symbol t.state.place ≡ true → j ≡ behind_list e.symbol t.state.place → Paid t.looks (list_costs t.state.place) n → MayRead point.SecondTupleType most t.state t.stack
       → PointDoes e point.SecondTupleType t (Ok point.CloseParen) (entered t j (Some mark.OneComma) t.stack n)
-  unfolding run then_frame unit_rest_at
+  unfolding run unit_rest_at
   second_closes {t} h k p may =
-      let short = list_short e.symbol t.state.place in
-      leaves point.CloseParen (list_costs t.state.place) [] (omega (arith, list_words t.state.place)) None (rw k (list_over e.output e.symbol e.include_hash t.state.depth_left t.state.lifetimes (says "," (says ")" done)) (more ", " type_inside (says ")" done)) t.state.place h)) refl
-      (rw append-nil p) (omega arith) (omega (arith, p.within, short)) (omega arith) (omega arith) (omega arith) tt may.fits (λ _. tt)
+      list_ends point.CloseParen (rw k (list_over e.output e.symbol e.include_hash t.state.depth_left t.state.lifetimes (says "," (says ")" done)) (more ", " type_inside (says ")" done)) t.state.place h)) p (omega arith) (omega arith) may.fits
 
   pub second_goes : {t : Turn V} {j : Place} {stack : List Frame} {n most : ℕ} → is_list_over e.symbol t.state.place ≡ false → j ≡ behind_list e.symbol t.state.place → Paid t.looks (list_costs t.state.place) n → MayRead point.SecondTupleType most t.state t.stack
       → stack ≡ t.stack ++ frame_at point.NextTupleType t.state ∷ [] → PointDoes e point.SecondTupleType t (Ok point.«Type») (entered t j (Some mark.Comma) stack n)

@@ -1,15 +1,15 @@
 -- What points do, from one turn to the next.
 use Rattle.std.specs.Prelude.{◌*◌}
 use Rattle.std.proofs.lemmas.Bool.{false≢true}
-use Rattle.std.proofs.lemmas.List.{length-append}
+use Rattle.std.proofs.lemmas.List.{append-nil, length-append}
 use Rattle.std.proofs.Common.{inl, inr, ◌≡◌, ℕ, ◌+◌, ◌-◌, ◌≤◌, length, Bool, true, false, Option, Some, None, List, [], ◌∷◌, ◌++◌, Result, Ok, Err, IsOk, refl, arith, sym, ap, ◌∙◌}
 use Rattle.demangle_grammar.specs.Items.{Items}
 use Rattle.demangle_grammar.specs.Totals.{total}
-use Rattle.demangle_grammar.specs.Events.{Heard, of, nothing_heard, with_looks, with_texts, around}
+use Rattle.demangle_grammar.specs.Events.{Heard, of, nothing_heard, and_then, with_looks, with_texts, around}
 use Rattle.demangle_words.specs.WordReads.{texts_of}
 use Rattle.demangle_words.specs.Texts.{text}
 use Rattle.demangle_grammar.specs.Reading.{Place, unit_outcome}
-use Rattle.demangle_v0.specs.Points.{mark_texts, then_frame, way_weight, weight_of, height_of, count_of, FitsFrame, IsInner, Fits, height_at, pushed_on, unit_rest_of, Turn, turn, Env, env, Part, part, Went, DidOn, Does, Paid, own_looks, list_costs}
+use Rattle.demangle_v0.specs.Points.{mark_texts, then_frame, way_weight, weight_at, weight_of, unit_rest, is_inner, height_of, count_of, FitsFrame, IsInner, Fits, height_at, pushed_on, unit_rest_of, Turn, Env, env, Part, part, DidOn, Does, Paid, own_looks, list_costs}
 use Rattle.demangle_sink.specs.declared.SinkRefused.{SinkRefused}
 use Rattle.demangle_words.specs.declared.texts.Mark.{Mark}
 use Rattle.demangle_words.specs.declared.texts.Mark.TheVariants as mark
@@ -27,7 +27,6 @@ use Rattle.demangle_grammar.specs.Items.{Kind, child, done}
 use Rattle.demangle_words.specs.WordReads.{Group, word_group}
 use Rattle.demangle_v0.specs.Points.{unit_rest_at, RestDoes, none_open}
 use Rattle.demangle_words.specs.declared.texts.Word.{Word}
-use Rattle.demangle_words.specs.declared.read.WordRead.{WordRead}
 use Rattle.demangle_words.specs.declared.read.WordRead.TheVariants as reads
 use Rattle.demangle_v0.specs.declared.points.Point.TheVariants as point
 
@@ -52,6 +51,9 @@ list_few (Some i) = omega arith
 
 no_fault : (m : Mark) → refusal ≡ Err (Fault m) → ⊥
 no_fault m k = cc
+
+pub paid_none : {n : ℕ} → Paid n [] n
+paid_none = record { grows = omega arith; within = omega arith }
 
 module _ {V : Type 0} {e : Env V} where
   -- The point is left for another, by these looks before the mark and behind it, and with this frame.
@@ -87,11 +89,25 @@ module _ {V : Type 0} {e : Env V} where
     sound = λ k _ _. k;
   }
 
+  -- with no frame
+  pub moves : {t : Turn V} {h : Heard} {words weight high n : ℕ} (to : Point) (ks : List ℕ) → length ks ≤ words → {s : State} → h ≡ with_looks ks (with_texts e.output.is_printed (mark_texts s.mark) (unit_rest_of e.symbol e.include_hash e.output.is_printed to s))
+      → Paid t.looks ks n → n ≤ t.looks + own_looks e.symbol t.state.place → way_weight to + 1 ≤ weight + 100 * total ks → height_at to s.depth_left ≤ high → Fits to s.depth_left s.lifetimes
+      → Does e t (part words h weight high) (Ok to) (record t { state = s; looks = n })
+  unfolding then_frame
+  moves to ks c r p short w x f = leaves to ks [] (omega (arith, c)) None r refl (rw append-nil p) (omega arith) short (omega (arith, w)) (omega arith) (omega (arith, x)) tt f (λ _. tt)
+
+  -- by no looks
+  pub enters : {t : Turn V} {h : Heard} {words weight high : ℕ} (to : Point) (f : Frame) {s : State} {stack : List Frame}
+      → h ≡ with_texts e.output.is_printed (mark_texts s.mark) (and_then (unit_rest_of e.symbol e.include_hash e.output.is_printed to s) (unit_rest e.symbol e.include_hash e.output.is_printed f)) → stack ≡ t.stack ++ f ∷ []
+      → way_weight to + weight_at f.point + 2 ≤ weight → height_at f.point f.depth_left ≤ high → height_at to s.depth_left + 1 ≤ high → Fits f.point f.depth_left f.number → Fits to s.depth_left s.lifetimes → is_inner f.point ≡ true
+      → Does e t (part words h weight high) (Ok to) (record t { state = s; stack = stack })
+  unfolding then_frame
+  enters to f r q w x y z g i = leaves to [] [] (omega arith) (Some f) r q paid_none (omega arith) (omega arith) (omega (arith, w)) (omega (arith, x)) (omega (arith, y)) z g (λ _. i)
+
   -- by no looks and with no frame
   pub marks : {t : Turn V} {h : Heard} {words weight high : ℕ} (to : Point) {s : State} → h ≡ with_texts e.output.is_printed (mark_texts s.mark) (unit_rest_of e.symbol e.include_hash e.output.is_printed to s)
       → way_weight to + 1 ≤ weight → height_at to s.depth_left ≤ high → Fits to s.depth_left s.lifetimes → Does e t (part words h weight high) (Ok to) (record t { state = s })
-  unfolding then_frame
-  marks to r w x f = leaves to [] [] (omega arith) None r refl (record { grows = omega arith; within = omega arith }) (omega arith) (omega arith) (omega (arith, w)) (omega arith) (omega (arith, x)) tt f (λ _. tt)
+  marks to r w x f = moves to [] (omega arith) r paid_none (omega arith) (omega (arith, w)) x f
 
   -- a child, behind a mark
   pub marks_child : {t : Turn V} {h : Heard} {words weight high : ℕ} (to : Point) (k : Kind) (v : Bool) {s : State} → h ≡ with_texts e.output.is_printed (mark_texts s.mark) (heard e.output e.symbol e.include_hash (child k v done) s.depth_left s.lifetimes s.place)
@@ -113,7 +129,7 @@ module _ {V : Type 0} {e : Env V} where
 
   -- The reading had failed before.
   pub unread : {t : Turn V} {h : Heard} {words weight high : ℕ} → t.state.mark ≡ None → h ≡ with_texts e.output.is_printed (text mark.AfterError ∷ []) (nothing_heard None false) → 1 ≤ weight → Does e t (part words h weight high) (Err (Fault mark.AfterError)) t
-  unread k r w = ends mark.AfterError [] (omega arith) k r (record { grows = omega arith; within = omega arith }) (omega arith) w
+  unread k r w = ends mark.AfterError [] (omega arith) k r paid_none (omega arith) w
 
   -- A stretch is handed over.
   pub tells : {t : Turn V} {h : Heard} {words weight high : ℕ} (to : Point) (front : List ℕ) → length front ≤ words → (x : Stretch) {s : State} {v : V} {n : ℕ}
@@ -233,7 +249,7 @@ module _ {V : Type 0} {e : Env V} where
 
   -- the same heard in another way
   pub alike : {t u : Turn V} {r : Result Point Stop} {h k : Heard} {words words' weight high weight' high' : ℕ} → words' ≤ words → h ≡ k → weight' ≤ weight → high' ≤ high → Does e t (part words' k weight' high') r u → Does e t (part words h weight high) r u
-  alike c o w x z = behind [] (omega (arith, c)) o (record { grows = omega arith; within = omega arith }) (omega arith) (omega (arith, w)) x z
+  alike c o w x z = behind [] (omega (arith, c)) o paid_none (omega arith) (omega (arith, w)) x z
 
 -- As the points that are not written so.
 pub did : {V : Type 0} {output : Ghosts V} {b : List ℕ} {include_hash : Bool} {h : Heard} {words weight high : ℕ} {t u : Turn V} {r : Result Point Stop} → Does (env output b include_hash) t (part words h weight high) r u

@@ -1,13 +1,18 @@
 -- Internal: no public contract cites this.
 -- What contracts of points say of a state.
-use Rattle.std.specs.Prelude.{Bool, if◌then◌else◌, Option, Some, None}
+use Rattle.std.specs.Prelude.{ℕ, Bool, if◌then◌else◌, Option, Some, None, List}
 use Prim.Native.Char.{code}
+use Rattle.demangle_symbol.specs.Digits.{is_byte}
 use Rattle.demangle_grammar.specs.Items.{Items}
 use Rattle.demangle_grammar.specs.Table.{constant}
 use Rattle.demangle_v0.specs.Points.{frame_of}
 use Rattle.demangle_v0.specs.declared.points.Point.TheVariants as point
 use Rattle.demangle_v0.specs.declared.points.frames.Frame.{Frame}
 use Rattle.demangle_v0.specs.declared.points.State.{State}
+
+-- the `w` before the tag of a type
+abbrev pub is_splat_at : List ℕ → ℕ → Bool
+is_splat_at b i = is_byte b i (code "w")
 
 -- what stands behind the `R` of a string or a reference, and behind the `V` of a variant
 abbrev pub shared_constant : Bool → Items

@@ -1,4 +1,4 @@
-use Rattle.std.proofs.Common.{length, ◌++◌, ap, subst, sym, refl, ◌∙◌}
+use Rattle.std.proofs.Common.{length, ◌++◌, subst, sym, refl}
 use Rattle.std.specs.Prelude.{IsAscii}
 use Rattle.std.proofs.Math.Seq.{drop-append_seam}
 use Rattle.std.proofs.lemmas.Str.{IsAscii-drop}

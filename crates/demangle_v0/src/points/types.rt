@@ -1,6 +1,6 @@
 //! The points of types.
 ghost use Rattle.std.specs.Prelude.{if◌then◌else◌, IsTrue, ◌≡◌, ℕ, ◌+◌, ◌-◌, ◌<◌, ◌≤◌, List, Bool, Ok, length, true, false, ◌^◌, ◌++◌, [], ◌∷◌};
-ghost use Rattle.demangle_symbol.specs.Digits.{is_byte};
+ghost use Rattle.demangle_v0.specs.PointContracts.{is_splat_at};
 ghost use Rattle.demangle_v0.specs.Points.{own_by, Fits, MayStep, frame_of, PointDoes, RestDoes, env, turn};
 ghost use Rattle.demangle_words.specs.Tags.{type_of};
 
@@ -30,8 +30,8 @@ pub(super) fn is_begun(point: Point) -> bool
 /// Whether a type that is begun at a place has a `w` before its tag.
 #[inline(always)]
 fn is_splat(symbol: &Symbol<'_>, is_begun: bool, at: usize, looks: &mut Looks) -> bool
-    ensures yes { result ≡ true → (is_begun ≡ true) × (is_byte symbol.now at 119 ≡ true) }
-    ensures no { result ≡ false → is_begun ≡ true → is_byte symbol.now at 119 ≡ false }
+    ensures yes { result ≡ true → (is_begun ≡ true) × (is_splat_at symbol.now at ≡ true) }
+    ensures no { result ≡ false → is_begun ≡ true → is_splat_at symbol.now at ≡ false }
     ensures grows { looks.old ≤ looks.new }
     ensures begun { is_begun ≡ true → looks.new ≤ looks.old + 1 }
     ensures further { is_begun ≡ false → looks.new ≤ looks.old }

@@ -1,19 +1,21 @@
-use Rattle.std.proofs.Common.{arith, refl}
-use Rattle.demangle_v0.proofs.PointFunctions.{returns_failed, returns_unit, returns_type}
-use Rattle.demangle_v0.proofs.PointTurns.{does}
+use Rattle.std.proofs.Common.{false, ◌∷◌, [], arith, refl}
+use Rattle.demangle_grammar.specs.Items.{a_type}
+use Rattle.demangle_grammar.specs.Reading.{run}
+use Rattle.demangle_v0.specs.Points.{unit_rest_at}
+use Rattle.demangle_v0.specs.declared.points.Point.TheVariants as point
+use Rattle.demangle_v0.proofs.PointFunctions.{returns_type}
+use Rattle.demangle_v0.proofs.PointTurns.{marks_child, moves}
 use Rattle.demangle_v0.proofs.points.functions.returns.Goals as goal
 
 pub returns-in_default : goal.returns-in_default
-returns-in_default g c = record { did = λ include_hash v stack. does (returns_failed g.V.Output c.args.symbol.now include_hash c.args.state.now stack v _ _ c.in_default.is (omega arith) c.requires.fits refl refl c.in_default.is refl) (omega arith) (omega arith) (λ k _. k) (λ k _ _. k) }
+unfolding run unit_rest_at
+returns-in_default g c = record { did = λ include_hash v stack. marks_child point.«Type» a_type false (rw c.in_default.is refl) refl (omega arith) (omega arith) c.requires.fits }
 
 pub returns-then-is_at : goal.returns-then-is_at
+unfolding run unit_rest_at
 returns-then-is_at g c = record {
-  did = λ include_hash v stack.
-      does (returns_unit g.V.Output c.args.symbol.now include_hash c.args.state.now c.in-Some.at stack v _ _ c.in-Some.is (rw c.is_at.ensures.there at c.if-is_at.true) (omega (arith, c.is_at.ensures.look)) refl refl c.requires.unmarked) (omega (arith, c.is_at.ensures.look)) (rw c.in-Some.is (omega (arith, c.is_at.ensures.look))) (λ k _. k) (λ k _ _. k);
+  did = λ include_hash v stack. moves point.End (1 ∷ []) (omega arith) (rw (c.in-Some.is, c.requires.unmarked, rw c.is_at.ensures.there at c.if-is_at.true) refl) (record { grows = omega (arith, c.is_at.ensures.look); within = omega (arith, c.is_at.ensures.look) }) (rw c.in-Some.is (omega (arith, c.is_at.ensures.look))) (omega arith) (omega arith) tt;
 }
 
 pub returns : goal.returns
-returns g c = record {
-  did = λ include_hash v stack.
-      does (returns_type g.V.Output c.args.symbol.now include_hash c.args.state.now c.in-Some.at stack v _ _ c.in-Some.is (rw c.is_at.ensures.there at c.if-is_at.false) (omega (arith, c.is_at.ensures.look)) c.requires.fits refl refl c.in-Some.is refl) (omega (arith, c.is_at.ensures.look)) (rw c.in-Some.is (omega (arith, c.is_at.ensures.look))) (λ k _. k) (λ k _ _. k);
-}
+returns g c = record { did = λ include_hash v stack. returns_type c.in-Some.at c.in-Some.is (rw c.is_at.ensures.there at c.if-is_at.false) c.is_at.ensures.look c.requires.fits }

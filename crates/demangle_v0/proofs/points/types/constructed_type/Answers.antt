@@ -1,11 +1,12 @@
 use Rattle.std.proofs.Common.{true, false, arith, refl}
-use Rattle.demangle_v0.proofs.PointTypes.{array_goes, slice_goes, pattern_type_goes}
+use Rattle.demangle_v0.proofs.PointTypes.{encloses}
 use Rattle.demangle_grammar.specs.Items.{a_type}
 use Rattle.demangle_v0.proofs.PointReferences.{unit_type}
 use Rattle.demangle_grammar.specs.Reading.{run}
-use Rattle.demangle_v0.specs.Points.{unit_rest_at}
+use Rattle.demangle_v0.specs.Points.{unit_rest_at, frame_at}
+use Rattle.demangle_words.specs.declared.texts.Mark.TheVariants as mark
 use Rattle.demangle_v0.specs.declared.points.Point.TheVariants as point
-use Rattle.demangle_v0.proofs.PointTurns.{alike, does, marks}
+use Rattle.demangle_v0.proofs.PointTurns.{alike, enters, marks}
 use Rattle.demangle_v0.proofs.points.types.constructed_type.Goals as goal
 
 pub returns-in-ConstPointer : goal.returns-in-ConstPointer
@@ -21,18 +22,21 @@ unfolding run unit_rest_at
 returns-in-Tuple g c = record { did = rw c.in-Tuple.is (marks point.FirstTupleType refl (omega arith) (omega arith) (omega (arith, c.requires.may.fits))) }
 
 pub returns-in-Array : goal.returns-in-Array
+unfolding run unit_rest_at
 returns-in-Array g c = record {
-  did = rw c.in-Array.is (does (array_goes g.V.Output c.args.symbol.now c.args.include_hash c.args.state.now.in_value c.args.state.now.letter c.args.state.now.depth_left c.args.state.now.lifetimes c.args.state.now.place _ _ _ _ _ (omega arith) (omega (arith, c.requires.may.fits)) refl refl refl refl (rw c.frame.ensures at c.push.ensures.pushed (omega (arith, c.requires.may.fits)))) (omega arith) (omega arith) (λ k _. k) (λ k _ _. k));
+  did = rw c.in-Array.is (enters point.«Type» (frame_at point.ArrayLength c.args.state.now) refl (rw c.frame.ensures at c.push.ensures.pushed (omega (arith, c.requires.may.fits))) (omega arith) (omega arith) (omega arith) (omega (arith, c.requires.may.fits)) (omega (arith, c.requires.may.fits)) refl);
 }
 
 pub returns-in-Slice : goal.returns-in-Slice
+unfolding run unit_rest_at
 returns-in-Slice g c = record {
-  did = rw c.in-Slice.is (does (slice_goes g.V.Output c.args.symbol.now c.args.include_hash c.args.state.now.in_value c.args.state.now.letter c.args.state.now.depth_left c.args.state.now.lifetimes c.args.state.now.place _ _ _ _ _ (omega arith) (omega (arith, c.requires.may.fits)) refl refl refl refl c.push_printing.ensures.is_printed c.push_printing.ensures.silent) (omega arith) (omega arith) (λ k _. k) (λ k _ _. k));
+  did = rw c.in-Slice.is (encloses point.«Type» a_type false c.args.state.now.in_value mark.OpenBracket refl refl (omega arith) (omega arith) (omega arith) (omega (arith, c.requires.may.fits)) (omega (arith, c.requires.may.fits)) c.push_printing.ensures.is_printed c.push_printing.ensures.silent);
 }
 
 pub returns-in-Pattern : goal.returns-in-Pattern
+unfolding run unit_rest_at
 returns-in-Pattern g c = record {
-  did = rw c.in-Pattern.is (does (pattern_type_goes g.V.Output c.args.symbol.now c.args.include_hash c.args.state.now.in_value c.args.state.now.letter c.args.state.now.depth_left c.args.state.now.lifetimes c.args.state.now.place _ _ _ _ _ (omega arith) (omega (arith, c.requires.may.fits)) refl refl refl c.requires.may.unmarked (rw c.frame-in-Pattern.ensures at c.push-in-Pattern.ensures.pushed (omega (arith, c.requires.may.fits)))) (omega arith) (omega arith) (λ k _. k) (λ k _ _. k));
+  did = rw c.in-Pattern.is (enters point.«Type» (frame_at point.PatternIs c.args.state.now) (rw c.requires.may.unmarked refl) (rw c.frame-in-Pattern.ensures at c.push-in-Pattern.ensures.pushed (omega (arith, c.requires.may.fits))) (omega arith) (omega arith) (omega arith) (omega (arith, c.requires.may.fits)) (omega (arith, c.requires.may.fits)) refl);
 }
 
 pub returns-in-Reference : goal.returns-in-Reference

@@ -1,7 +1,7 @@
 use Rattle.std.proofs.Common.{arith, refl, sym, ◌∙◌}
 use Rattle.demangle_grammar.specs.Reading.{run}
 use Rattle.demangle_v0.specs.Points.{unit_rest_at}
-use Rattle.demangle_v0.proofs.PointTurns.{does, unread}
+use Rattle.demangle_v0.proofs.PointTurns.{unread}
 use Rattle.std.proofs.lemmas.Bool.{false≢true}
 use Rattle.demangle_v0.proofs.PointTypes.{type_splats, type_goes, type_either, type_stays}
 use Rattle.demangle_v0.proofs.points.types.type_.Goals as goal
@@ -15,7 +15,7 @@ returns-in_default g c = record {
 pub returns-then-is_splat : goal.returns-then-is_splat
 returns-then-is_splat g c = let y = c.is_splat.ensures.yes c.if-is_splat.true in record {
   did = type_either c.args.is_begun
-      (λ e. does (rw c.in-Some.is (type_splats g.V.Output c.args.symbol.now c.args.include_hash c.args.state.now.in_value c.args.state.now.letter c.args.state.now.depth_left c.args.state.now.lifetimes c.in-Some.at c.args.state.now.is_open _ _ _ _ y.1 (omega (arith, c.is_splat.ensures.begun e)) c.requires.may.fits refl refl refl refl)) c.is_splat.ensures.grows (rw c.in-Some.is (omega (arith, c.is_splat.ensures.begun e))) (λ k _. k) (λ k _ _. k))
+      (λ e. type_splats c.in-Some.at c.in-Some.is y.1 (record { grows = c.is_splat.ensures.grows; within = omega (arith, c.is_splat.ensures.begun e) }) c.requires.may.fits)
       (λ e. absurd (false≢true (sym e ∙ y.0)));
 }
 
