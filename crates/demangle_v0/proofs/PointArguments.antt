@@ -9,7 +9,7 @@ use Rattle.demangle_grammar.specs.Events.{Heard, of, and_then, with_looks, with_
 use Rattle.demangle_grammar.specs.Table.{more, argument, says}
 use Rattle.demangle_grammar.specs.Reading.{Place, Surroundings, run}
 use Rattle.demangle_v0.specs.Arguments.{separator, arguments_point, argument_point, argument_place, argument_costs}
-use Rattle.demangle_v0.specs.Points.{Turn, Env, Paid, Does, PointDoes, part, frame_at, then_frame, unit_rest, unit_rest_at, unit_rest_of, none_open, mark_texts, way_weight, height_at, Fits, is_list_over, behind_list, list_costs}
+use Rattle.demangle_v0.specs.Points.{Turn, Env, Paid, Does, PointDoes, part, frame_at, then_frame, unit_rest, unit_rest_at, unit_rest_of, none_open, mark_texts, Fits, is_list_over, behind_list, list_costs}
 use Rattle.demangle_words.specs.declared.texts.Mark.TheVariants as mark
 use Rattle.demangle_v0.specs.declared.points.Point.{Point}
 use Rattle.demangle_v0.specs.declared.points.Point.TheVariants as point
@@ -18,24 +18,22 @@ use Rattle.demangle_v0.specs.declared.points.frames.Frame.{Frame}
 use Rattle.demangle_v0.specs.declared.points.State.{State}
 use Rattle.demangle_grammar.proofs.Elements.{argument_element}
 use Rattle.demangle_grammar.proofs.ListReads.{followed, first_on, more_on, argument_lifetime, argument_constant, argument_type}
-use Rattle.demangle_v0.proofs.PointTurns.{leaves}
+use Rattle.demangle_v0.proofs.PointTurns.{Within, leaves}
 use Rattle.demangle_v0.proofs.PointTuples.{left_at, list_over, rest_over, list_ends}
 
 -- what an argument at this place is
 record Told (b : List ℕ) (i : ℕ) : Type 0 where
   few : length (argument_costs b i) ≤ 2
   most : total (argument_costs b i) ≤ 2
-  light : way_weight (argument_point b i) ≤ 1
-  low : (left : ℕ) → height_at (argument_point b i) left ≡ 8 * left + 1
-  fits : (left n : ℕ) → Fits point.NextArgument left n → Fits (argument_point b i) left n
+  within : Within (argument_point b i) 1 1
 
 told : (b : List ℕ) (i : ℕ) → Told b i
 told b i = go (is_byte b i (code "L")) (is_byte b i (code "K")) refl refl
   where
     go : (x y : Bool) → is_byte b i (code "L") ≡ x → is_byte b i (code "K") ≡ y → Told b i
-    go true y p q = record { few = rw p (omega arith); most = rw p (omega arith); light = rw p (omega arith); low = λ left. rw p refl; fits = λ left n f. rw p f }
-    go false true p q = record { few = rw p (omega arith); most = rw p (omega arith); light = rw (p, q) (omega arith); low = λ left. rw (p, q) refl; fits = λ left n f. rw (p, q) f }
-    go false false p q = record { few = rw p (omega arith); most = rw p (omega arith); light = rw (p, q) (omega arith); low = λ left. rw (p, q) refl; fits = λ left n f. rw (p, q) f }
+    go true y p q = record { few = rw p (omega arith); most = rw p (omega arith); within = rw p (record { light = omega arith; low = λ left. omega arith; fits = λ left n f. f }) }
+    go false true p q = record { few = rw p (omega arith); most = rw p (omega arith); within = rw (p, q) (record { light = omega arith; low = λ left. omega arith; fits = λ left n f. f }) }
+    go false false p q = record { few = rw p (omega arith); most = rw p (omega arith); within = rw (p, q) (record { light = omega arith; low = λ left. omega arith; fits = λ left n f. f }) }
 
 module _ {V : Type 0} (e : Env V) (s : State) where
   abbrev about : Surroundings
@@ -92,4 +90,4 @@ module _ {V : Type 0} {e : Env V} where
       let w = told e.symbol i in
       as_arguments first (leaves (argument_point e.symbol i) (1 ∷ []) (argument_costs e.symbol i) (omega (arith, w.few)) (Some (frame_at point.NextArgument s))
       (on_so e s first i at z f ∙ ap (λ (h : Heard). with_looks (1 ∷ []) (with_texts e.output.is_printed (mark_texts (separator first mark.Comma)) h)) (argument_so e s i))
-      r p w.most (rw at (omega (arith, p.within, w.most))) (omega (arith, w.light)) (omega arith) (omega (arith, w.low s.depth_left)) f (w.fits s.depth_left s.lifetimes f) (λ _. refl))
+      r p w.most (rw at (omega (arith, p.within, w.most))) (omega (arith, w.within.light)) (omega arith) (omega (arith, w.within.low s.depth_left)) f (w.within.fits s.depth_left s.lifetimes f) (λ _. refl))

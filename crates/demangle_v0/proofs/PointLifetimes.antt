@@ -22,7 +22,7 @@ use Rattle.demangle_words.specs.declared.output.Output.{Ghosts}
 use Rattle.demangle_v0.proofs.PointSteps.{heard}
 use Rattle.demangle_v0.proofs.PointTurns.{leaves, ends, unread, tells, halts, alike}
 use Rattle.demangle_symbol.proofs.Counts.{placed, integer_placed}
-use Rattle.demangle_v0.proofs.PointTypes.{behind_so, behind_light, behind_low, behind_fits, lifetime_so}
+use Rattle.demangle_v0.proofs.PointTypes.{behind_so, behind_within, lifetime_so}
 use Rattle.demangle_grammar.proofs.TypeReads.{says_all, lifetime_named, lifetime_wrong}
 use Rattle.demangle_grammar.proofs.Hearing.{said_both}
 
@@ -100,9 +100,10 @@ module _ {V : Type 0} {e : Env V} where
   unfolding then_frame
   unsaid {t} {i} {k} {j} q x o =
       let s = t.state in
+      let w = behind_within q in
       as_lifetime q (leaves (behind_reference q) (4 * (j - i + 1) ∷ []) [] (omega arith) None
       (ap (λ (z : Place). named_heard e.output e.symbol e.include_hash q s.depth_left s.lifetimes z) x.at ∙ (o ∙ rw x.unmarked (ap (with_looks (4 * (j - i + 1) ∷ [])) (behind_so e.output e.symbol e.include_hash q s.in_value s.letter s.depth_left s.lifetimes (Some j) s.is_open)))) refl x.paid (omega arith) (short x)
-      (omega (arith, behind_light e.output e.symbol e.include_hash q)) (omega arith) (omega (arith, behind_low e.output e.symbol e.include_hash q s.depth_left)) tt (behind_fits e.output e.symbol e.include_hash q s.depth_left s.lifetimes x.fits) (λ _. tt))
+      (omega (arith, w.light)) (omega arith) (omega (arith, w.low s.depth_left)) tt (w.fits s.depth_left s.lifetimes x.fits) (λ _. tt))
 
   pub lifetime_unnamed : {t : Turn V} {n : ℕ} (q : Bool) (i k j : ℕ) → Indexed e t i k j n → k ≡ 0 → PointDoes e (lifetime_point q) t (Ok (behind_reference q)) (record t { state = record t.state { place = Some j }; looks = n })
   lifetime_unnamed {t} q i k j x z = unsaid q x (named_nothing e.output e.symbol e.include_hash q t.state.depth_left t.state.lifetimes i j (rw z at x.is))
@@ -119,11 +120,12 @@ module _ {V : Type 0} {e : Env V} where
 
   pub lifetime_tells : {t : Turn V} {v : V} {n : ℕ} (q : Bool) (i k j : ℕ) (y : Stretch) (x : Place) → Indexed e t i k j n → (k ≡ 0 → ⊥) → e.output.is_printed ≡ true → (y, x) ≡ spaced_lifetime t.state.lifetimes k j
       → e.output.prints t.output (texts_of e.symbol e.include_hash y) (Ok tt) v → e.output.ready v → PointDoes e (lifetime_point q) t (Ok (behind_reference q)) (record t { state = record t.state { place = x }; output = v; looks = n })
-  lifetime_tells {t} q i k j y x d z m g r w =
+  lifetime_tells {t} q i k j y x d z m g r ready =
       let s = t.state in
+      let w = behind_within q in
       as_lifetime q (tells (behind_reference q) (4 * (j - i + 1) ∷ []) (omega arith) y
       (emitted q y x d z m g ∙ ap (λ (h : Heard). with_looks (4 * (j - i + 1) ∷ []) (with_texts e.output.is_printed (texts_of e.symbol e.include_hash y) h)) (behind_so e.output e.symbol e.include_hash q s.in_value s.letter s.depth_left s.lifetimes x s.is_open))
-      r w d.unmarked d.paid (short d) (omega (arith, behind_light e.output e.symbol e.include_hash q)) (behind_low e.output e.symbol e.include_hash q s.depth_left) (behind_fits e.output e.symbol e.include_hash q s.depth_left s.lifetimes d.fits))
+      r ready d.unmarked d.paid (short d) (omega (arith, w.light)) (w.low s.depth_left) (w.fits s.depth_left s.lifetimes d.fits))
 
   pub lifetime_refused : {t : Turn V} {s : State} {v : V} {n : ℕ} {f : SinkRefused} (q : Bool) (i k j : ℕ) (y : Stretch) (x : Place) → Indexed e t i k j n → (k ≡ 0 → ⊥) → e.output.is_printed ≡ true → (y, x) ≡ spaced_lifetime t.state.lifetimes k j
       → e.output.prints t.output (texts_of e.symbol e.include_hash y) (Err f) v → PointDoes e (lifetime_point q) t (Err Refused) (record t { state = s; output = v; looks = n })

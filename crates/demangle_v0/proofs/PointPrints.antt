@@ -1,6 +1,6 @@
 -- Readings that print.
 use Rattle.std.specs.Prelude.{◌*◌}
-use Rattle.std.proofs.Common.{◌≡◌, ℕ, ◌+◌, ◌-◌, ◌<◌, ◌≤◌, Bool, true, false, Option, Some, None, List, [], ◌∷◌, ◌++◌, length, Result, Ok, Err, IsErr, IfNone, refl, arith, sym, ap, ◌∙◌, subst, append_assoc}
+use Rattle.std.proofs.Common.{◌≡◌, ℕ, ◌+◌, ◌-◌, ◌≤◌, Bool, true, Option, Some, None, List, [], ◌∷◌, ◌++◌, length, Result, Ok, Err, IsErr, refl, arith, sym, ap, ◌∙◌, subst, append_assoc}
 use Rattle.std.proofs.lemmas.Bool.{false≢true}
 use Rattle.std.proofs.lemmas.List.{append-nil}
 use Rattle.std.proofs.Math.Nat.{mul-le-mul_left}
@@ -24,8 +24,8 @@ use Rattle.demangle_sink.specs.Limit.{Prints, Ready}
 use Rattle.demangle_sink.specs.declared.TextSink.{Ghosts as Sinks}
 use Rattle.demangle_sink.specs.declared.SinkRefused.{SinkRefused}
 use Rattle.demangle_sink.specs.declared.limit.SizeLimitedFmtAdapter.{SizeLimitedFmtAdapter}
-use Rattle.demangle_v0.specs.Points.{most_frames, Bit, pays, puts, heard_bits, bits_looks, bits_texts, env, Emits, pushed_on, unit_rest_at, unit_rest_of, stack_rest, reading_rest}
-use Rattle.demangle_v0.specs.PointRuns.{Valid, Reads, Stepped, Resumes, Emitted, Ran, Broke, Skipped, RanOn, Passed, ValidLeft, Finishes, first_looks, Ended, first_state, silent_of, own_heard}
+use Rattle.demangle_v0.specs.Points.{Bit, pays, puts, heard_bits, bits_looks, bits_texts, env, Emits, pushed_on, unit_rest_at, unit_rest_of, stack_rest, reading_rest}
+use Rattle.demangle_v0.specs.PointRuns.{Valid, Reads, Stepped, Resumes, Emitted, Ran, Broke, Skipped, RanOn, Passed, ValidLeft, Finishes, Ended, first_state, silent_of, own_heard}
 use Rattle.demangle_v0.specs.declared.points.Point.{Point}
 use Rattle.demangle_v0.specs.declared.points.Point.TheVariants as point
 use Rattle.demangle_v0.specs.declared.points.frames.Frame.{Frame}
@@ -40,7 +40,6 @@ use Rattle.demangle_v0.proofs.PointRuns.{step_heard, bits_of, bits_total, bits_t
 use Rattle.demangle_v0.proofs.PointSkips.{skip_is, skipped_owed, skipped_valid}
 use Rattle.demangle_grammar.proofs.SkippedPaths.{allowances, total_allowances}
 use Rattle.demangle_v0.specs.Impls.{skip_point, is_skip}
-use Rattle.demangle_v0.proofs.PointWholes.{valid_length}
 
 pub said_append : {S : Type 0} (sink : Sinks S) (u v w : SizeLimitedFmtAdapter S) (xs ys : List Bit) → Emitted sink u xs v → Emitted sink v ys w → Emitted sink u (xs ++ ys) w
 said_append {S = S} sink u v w [] ys h k = subst (λ (z : SizeLimitedFmtAdapter S). Emitted sink z ys w) (sym h) k
@@ -138,12 +137,6 @@ ran_midway sink b include_hash p0 p s0 s first_stack below now v0 v base inner r
 
 -- How whole readings end.
 
--- a stack for all that can ever stand there is never full
-pub none_left : (n : ℕ) (b : List ℕ) (include_hash : Bool) (r : Reading) (stack : List Frame) (x : Option Left) → most_frames < n → ValidLeft b include_hash n (Ok x) r stack → x ≡ None
-none_left n b include_hash r stack None m v = refl
-none_left n b include_hash r stack (Some left.Stack) m v = absurd (omega (arith, m, v.1, valid_length r.point r.state stack v.0))
-none_left n b include_hash r stack (Some (left.OwnPath base inner)) m v = absurd (omega (arith, m, v.3, valid_length inner.point inner.state stack v.2))
-
 broke_then : {S : Type 0} (sink : Sinks S) (b : List ℕ) (include_hash : Bool) (p q : Point) (s t : State) (stack now : List Frame) (v w x : SizeLimitedFmtAdapter S) (first second made : ℕ) → made ≤ first + second
     → Ran sink b include_hash p s stack v q t now w first → Broke sink b include_hash q t now w x second → Broke sink b include_hash p s stack v x made
 broke_then sink b include_hash p q s t stack now v w x first second made l a c = record {
@@ -167,13 +160,6 @@ ran_then sink b include_hash p q r s t u stack mid now v w x first second made l
   enough = omega (arith, l, a.enough, c.enough, looks_append a.bits c.bits);
 }
 
-pub if_none : {A : Type 0} (x : Option Reading) → x ≡ None → IfNone x A → A
-if_none None e h = h
-if_none (Some r) e h = absurd (some_none r e)
-  where
-    some_none : (r : Reading) → Some r ≡ None → ⊥
-    some_none r z = cc
-
 -- behind an impl's own path, if there is one
 pub passed_ran : {S : Type 0} (sink : Sinks S) (b : List ℕ) (include_hash : Bool) (p : Point) (s : State) (stack few now : List Frame) (v w : SizeLimitedFmtAdapter S) (x : Left) (r to : Reading) (first second made : ℕ) → made ≤ first + second
     → RanOn sink b include_hash p s stack v (Ok (Some x)) r few w first → Passed b include_hash x r few to now second → Ran sink b include_hash p s stack v to.point to.state now w made
@@ -188,16 +174,6 @@ passed_valid b include_hash few now n left.Stack r to second v k = rw (k.0, k.1)
 passed_valid b include_hash few now n (left.OwnPath base inner) r to second v k =
     let s = v.1 in
     skipped_valid s.of_trait b include_hash to.point r.state to.state s.below now (v.0 + second) (k s.below s.of_trait v.0 s.reads s.height s.at) (subst (λ (y : Point). Valid y r.state s.below) s.at s.valid)
-
--- no tag was looked at where one is skipped
-pub passed_unread : (b : List ℕ) (include_hash : Bool) (few now : List Frame) (n : ℕ) (x : Left) (r to : Reading) (second : ℕ) → ValidLeft b include_hash n (Ok (Some x)) r few → Passed b include_hash x r few to now second
-    → first_looks r.point r.state ≤ first_looks to.point to.state
-passed_unread b include_hash few now n left.Stack r to second v k = rw k.0 (omega arith)
-passed_unread b include_hash few now n (left.OwnPath base inner) r to second v k = let s = v.1 in rw s.at (unread s.of_trait)
-  where
-    unread : (q : Bool) → first_looks (skip_point q) r.state ≤ first_looks to.point to.state
-    unread true = omega arith
-    unread false = omega arith
 
 -- A reading that goes on where another stopped.
 
@@ -243,11 +219,6 @@ finished_valid b include_hash n m few now (left.OwnPath base inner) (left.OwnPat
     let z = v.1 in
     rw (k.0, k.1) (v.0 + second, record { below = z.below; height = z.height; of_trait = z.of_trait; at = z.at; valid = z.valid; reads = k.4 z.below v.0 z.reads z.height }, k.2, k.3)
 
-pub finished_same : (b : List ℕ) (include_hash : Bool) (n : ℕ) (few now : List Frame) (x y : Left) (r to : Reading) (second : ℕ) → Finishes b include_hash n x r few (Some y) to now second → to ≡ r
-finished_same b include_hash n few now left.Stack y r to second k = absurd k
-finished_same b include_hash n few now (left.OwnPath base inner) left.Stack r to second k = absurd k
-finished_same b include_hash n few now (left.OwnPath base inner) (left.OwnPath height more) r to second k = k.1
-
 -- nothing is left
 pub ended_all : {S : Type 0} (sink : Sinks S) (b : List ℕ) (include_hash : Bool) (p : Point) (s : State) (stack now : List Frame) (v x : SizeLimitedFmtAdapter S) (r : Reading) (made : ℕ) (answer : Option Left) → RanOn sink b include_hash p s stack v (Ok answer) r now x made → answer ≡ None
     → Ended sink b include_hash p s stack v (Ok tt) x made
@@ -262,9 +233,6 @@ pub ended_err : {S : Type 0} (sink : Sinks S) (b : List ℕ) (include_hash : Boo
     → Ended sink b include_hash p s stack v result x made
 ended_err sink b include_hash p s stack now v x r made e (Ok y) h c = absurd (false≢true h)
 ended_err sink b include_hash p s stack now v x r made e (Err f) h c = record { ended = c.ran }
-
-pub ran_begun : {S : Type 0} (sink : Sinks S) (b : List ℕ) (include_hash : Bool) (p : Point) (s : State) (stack : List Frame) (v : SizeLimitedFmtAdapter S) → Ran sink b include_hash p s stack v p s stack v 0
-ran_begun sink b include_hash p s stack v = record { bits = []; emits = refl; reads = refl; enough = omega arith }
 
 -- What was printed.
 

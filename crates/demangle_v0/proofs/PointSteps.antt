@@ -1,19 +1,17 @@
 -- Steps of points, one behind another.
 use Rattle.std.specs.Prelude.{◌*◌}
-use Rattle.std.proofs.lemmas.Bool.{false≢true}
 use Rattle.std.proofs.lemmas.List.{append-nil, length-append}
-use Rattle.std.proofs.Common.{length, inl, inr, ◌≡◌, ℕ, ◌+◌, ◌-◌, ◌≤◌, Bool, false, Option, Some, None, List, [], ◌∷◌, ◌++◌, Result, Ok, Err, IsOk, refl, arith, sym, ap, ◌∙◌, subst}
-use Rattle.demangle_grammar.specs.Items.{Items, Kind, say, child, done}
+use Rattle.std.proofs.Common.{length, inl, ◌≡◌, ℕ, ◌+◌, ◌≤◌, Bool, false, Option, None, List, [], ◌∷◌, ◌++◌, Result, Ok, Err, refl, arith, sym, ap, ◌∙◌}
+use Rattle.demangle_grammar.specs.Items.{Items, Kind, child, done}
 use Rattle.demangle_grammar.specs.Totals.{total}
 use Rattle.demangle_grammar.specs.Events.{Event, allows, allowed_all, Heard, of, events, nothing_heard, with_looks, with_texts, around}
-use Rattle.demangle_words.specs.WordReads.{Group, texts_of, word_group}
+use Rattle.demangle_words.specs.WordReads.{Group, word_group}
 use Rattle.demangle_words.specs.Texts.{word_items, text}
 use Rattle.demangle_grammar.specs.Reading.{Place, run, unit_outcome}
-use Rattle.demangle_v0.specs.Points.{Bit, pays, puts, heard_bits, bits_looks, env, part, turn, mark_texts, then_frame, way_weight, weight_at, weight_of, height_of, count_of, FitsFrame, IsInner, Fits, height_at, pushed_on, unit_rest_at, unit_rest_of, none_open, Went, Kept, DidOn}
+use Rattle.demangle_v0.specs.Points.{Bit, pays, puts, heard_bits, bits_looks, env, part, turn, mark_texts, then_frame, way_weight, weight_at, weight_of, height_of, count_of, FitsFrame, IsInner, Fits, height_at, pushed_on, unit_rest_of, none_open, Went, Kept, DidOn}
 use Rattle.demangle_sink.specs.declared.SinkRefused.{SinkRefused}
 use Rattle.demangle_words.specs.declared.texts.Mark.{Mark}
 use Rattle.demangle_words.specs.declared.texts.Word.{Word}
-use Rattle.demangle_words.specs.declared.stretch.Stretch.{Stretch}
 use Rattle.demangle_words.specs.declared.read.WordRead.{WordRead}
 use Rattle.demangle_words.specs.declared.read.WordRead.TheVariants as reads
 use Rattle.demangle_v0.specs.declared.points.Point.{Point}
@@ -154,93 +152,14 @@ module _ {V : Type 0} (output : Ghosts V) (b : List ℕ) (include_hash : Bool) w
     comes = record { front = []; emits = refl; unmarked = k; reads = e; is_stack = refl; few = omega arith; enough = omega (arith, l); lighter = omega (arith, x) };
   }
 
-  -- a fault behind some looks
-  pub faulty_after : {words : ℕ} (ks : List ℕ) → length ks ≤ words → (m : Mark) (h : Heard) (weight high : ℕ) (stack : List Frame) (v : V) (new : State) (made : ℕ) → new.mark ≡ None → h ≡ with_looks ks (with_texts output.is_printed (text m ∷ []) (nothing_heard None false)) → made ≤ total ks → 1 ≤ weight
-      → DidOn output b include_hash words h weight high stack v (Err (Fault m)) new stack v made
-  faulty_after ks c m h weight high stack v new made k e l x =
-      after {words' = 0} ks (omega (arith, c)) h (with_texts output.is_printed (text m ∷ []) (nothing_heard None false)) weight high 1 0 stack v v (Err (Fault m)) new stack made 0 made e l (omega arith) (omega arith) (omega arith)
-      (faulty m (with_texts output.is_printed (text m ∷ []) (nothing_heard None false)) 1 0 stack v new 0 k refl (omega arith) (omega arith))
-
-  -- Texts that are handed over behind some looks, and the point behind them.
-
-  pub put_goes : {words : ℕ} (to : Point) (front : List ℕ) → length front ≤ words → (s : Stretch) (h : Heard) (weight high : ℕ) (stack : List Frame) (v w : V) (new : State) (made : ℕ)
-      → h ≡ with_looks front (with_texts output.is_printed (texts_of b include_hash s) (unit_rest_of b include_hash output.is_printed to new)) → output.prints v (texts_of b include_hash s) (Ok tt) w → new.mark ≡ None → made ≤ total front
-      → way_weight to + 1 ≤ weight + 100 * total front → height_at to new.depth_left ≤ high → Fits to new.depth_left new.lifetimes
-      → DidOn output b include_hash words h weight high stack v (Ok to) new stack w made
-  unfolding then_frame
-  put_goes to front c s h weight high stack v w new made e p m l x y f = record {
-    comes = record {
-      front = front;
-      emitted = Some s;
-      back = [];
-      pushed = None;
-      emits = p;
-      one = inr m;
-      reads = rw m e;
-      is_stack = refl;
-      few = omega (arith, c);
-      enough = omega (arith, l);
-      late = omega (arith, l);
-      lighter = omega (arith, x);
-      outer_height = omega arith;
-      inner_height = omega (arith, y);
-      outer_fits = tt;
-      inner_fits = f;
-      quiet = λ _. tt;
-    };
-  }
-
-  -- the output refused them
-  pub put_refused : {words : ℕ} (front : List ℕ) → length front ≤ words → (s : Stretch) (h rest : Heard) (weight high : ℕ) (stack : List Frame) (v w : V) (new : State) (e : SinkRefused) (made : ℕ)
-      → h ≡ with_looks front (with_texts output.is_printed (texts_of b include_hash s) rest) → output.prints v (texts_of b include_hash s) (Err e) w → made ≤ total front → (output.is_printed ≡ false → rest.place ≡ None)
-      → DidOn output b include_hash words h weight high stack v (Err Refused) new stack w made
-  put_refused front c s h rest weight high stack v w new e made r p l q = record {
-    comes = (
-      record {
-        front = front;
-        emitted = s;
-        rest = rest;
-        refusal = e;
-        prints = p;
-        reads = r;
-        few = c;
-        enough = omega (arith, l);
-        exact = λ _. omega (arith, l);
-        fails = q;
-      },
-      kept_none stack,
-    );
-  }
-
-  -- A mark that is left, and what stands behind it.
-
   -- what is heard of a unit's rest
   abbrev pub heard : Items → ℕ → ℕ → Place → Heard
   heard p left n i = none_open (of include_hash output.is_printed (run p (around b output.is_printed left n) i))
-
-  pub mark_goes : {words : ℕ} (to : Point) (m : Mark) (h : Heard) (weight high : ℕ) (stack : List Frame) (u : V) (new : State) (made : ℕ)
-      → h ≡ with_texts output.is_printed (text m ∷ []) (unit_rest_of b include_hash output.is_printed to new) → new.mark ≡ Some m → made ≤ 0
-      → way_weight to + 1 ≤ weight → height_at to new.depth_left ≤ high → Fits to new.depth_left new.lifetimes
-      → DidOn output b include_hash words h weight high stack u (Ok to) new stack u made
-  unfolding then_frame
-  mark_goes to m h weight high stack u new made e k l x y f = record {
-    comes =
-        steps to [] [] (omega arith) None h weight high stack stack u new made (rw k e) refl (omega (arith, l)) (omega (arith, l)) (omega (arith, x)) (omega arith) (omega (arith, y)) tt f (λ _. tt);
-  }
 
   -- a child with which a unit ends
   pub child_last : (k : Kind) (v : Bool) (left n : ℕ) (i : Place) → heard (child k v done) left n i ≡ none_open (of include_hash output.is_printed (unit_outcome (around b output.is_printed left n) k v i))
   unfolding run
   child_last k v left n i = let o = unit_outcome (around b output.is_printed left n) k v i in ap (λ xs. record { events = xs; place = o.place; is_open = false }) (append-nil (events include_hash output.is_printed o.tree))
-
-  pub child_goes : {words : ℕ} (to : Point) (k : Kind) (v : Bool) (m : Mark) (h : Heard) (weight high : ℕ) (stack : List Frame) (u : V) (new : State) (made : ℕ)
-      → h ≡ heard (say (text m) (child k v done)) new.depth_left new.lifetimes new.place
-      → none_open (of include_hash output.is_printed (unit_outcome (around b output.is_printed new.depth_left new.lifetimes) k v new.place)) ≡ unit_rest_of b include_hash output.is_printed to new → new.mark ≡ Some m → made ≤ 0
-      → way_weight to + 1 ≤ weight → height_at to new.depth_left ≤ high → Fits to new.depth_left new.lifetimes
-      → DidOn output b include_hash words h weight high stack u (Ok to) new stack u made
-  unfolding run
-  child_goes to k v m h weight high stack u new made e r =
-      mark_goes to m h weight high stack u new made (e ∙ ap (with_texts output.is_printed (text m ∷ [])) (child_last k v new.depth_left new.lifetimes new.place ∙ r))
 
   -- What is read as a group, and what stands behind it.
 
@@ -269,37 +188,6 @@ module _ {V : Type 0} (output : Ghosts V) (b : List ℕ) (include_hash : Bool) w
   pub word_so : (x : Word) (c : ℕ) (p : Items) (left n : ℕ) (i : Place) → heard (word_items x c p) left n i ≡ group_then (word_group b x c output.is_printed n i) (heard p left n)
   word_so x c p left n i = group_shut _ (word_group b x c output.is_printed n i) (λ j. of include_hash output.is_printed (run p (around b output.is_printed left n) j)) (word_read b include_hash left output.is_printed n x c p i)
 
-  -- a word with which the unit ends
-  pub last_word_so : (x : Word) (c left n : ℕ) (i : Place) → heard (word_items x c done) left n i ≡ group_heard (word_group b x c output.is_printed n i)
-  unfolding run
-  last_word_so x c left n i = word_so x c done left n i
-
   -- what is heard of a group that was read so
   pub group_so : (h : Heard) (g : Group) (k : Place → Heard) (r : WordRead) → h ≡ group_then g k → r ≡ g.reads → h ≡ with_looks g.costs (word_then b include_hash output.is_printed r k)
   group_so h g k r so e = so ∙ ap (λ (z : WordRead). with_looks g.costs (word_then b include_hash output.is_printed z k)) (sym e)
-
-  pub group_goes : {words : ℕ} (to : Point) (h : Heard) (g : Group) → length g.costs ≤ words → (k : Place → Heard) (j : Place) (s : Stretch) (weight high : ℕ) (stack : List Frame) (v w : V) (new : State) (made : ℕ) → h ≡ group_then g k → reads.Goes s j ≡ g.reads → made ≤ total g.costs
-      → output.prints v (texts_of b include_hash s) (Ok tt) w → new.mark ≡ None → k j ≡ unit_rest_of b include_hash output.is_printed to new
-      → way_weight to + 1 ≤ weight → height_at to new.depth_left ≤ high → Fits to new.depth_left new.lifetimes → DidOn output b include_hash words h weight high stack v (Ok to) new stack w made
-  group_goes to h g c k j s weight high stack v w new made so r l q m e x y f =
-      put_goes to g.costs c s h weight high stack v w new made (group_so h g k (reads.Goes s j) so r ∙ ap (λ (z : Heard). with_looks g.costs (with_texts output.is_printed (texts_of b include_hash s) z)) e) q m l (omega arith) y f
-
-  -- the unit ends behind it
-  pub group_ends : {words : ℕ} (h : Heard) (g : Group) → length g.costs ≤ words → (j : Place) (s : Stretch) (weight high : ℕ) (stack : List Frame) (v w : V) (new : State) (made : ℕ) → h ≡ group_heard g → reads.Goes s j ≡ g.reads → made ≤ total g.costs
-      → output.prints v (texts_of b include_hash s) (Ok tt) w → new.mark ≡ None → new.place ≡ j → new.is_open ≡ false → 1 ≤ weight → DidOn output b include_hash words h weight high stack v (Ok point.End) new stack w made
-  unfolding unit_rest_at
-  group_ends h g c j s weight high stack v w new made so e l p m k o x = group_goes point.End h g c ended j s weight high stack v w new made so e l p m (rw (k, o) refl) (omega (arith, x)) (omega arith) tt
-
-  -- a fault
-  pub group_fails : {words : ℕ} (h : Heard) (g : Group) → length g.costs ≤ words → (k : Place → Heard) (m : Mark) (weight high : ℕ) (stack : List Frame) (v : V) (new : State) (made : ℕ) → h ≡ group_then g k → reads.Stops m ≡ g.reads → made ≤ total g.costs → new.mark ≡ None → 1 ≤ weight
-      → DidOn output b include_hash words h weight high stack v (Err (Fault m)) new stack v made
-  group_fails h g c k m weight high stack v new made so e l n x = faulty_after g.costs c m h weight high stack v new made n (group_so h g k (reads.Stops m) so e) l x
-
-  pub group_refused : {words : ℕ} (h : Heard) (g : Group) → length g.costs ≤ words → (k : Place → Heard) (j : Place) (s : Stretch) (weight high : ℕ) (stack : List Frame) (v w : V) (new : State) (e : SinkRefused) (made : ℕ) → h ≡ group_then g k → reads.Goes s j ≡ g.reads → made ≤ total g.costs
-      → output.prints v (texts_of b include_hash s) (Err e) w → (output.is_printed ≡ false → IsOk (refused e)) → DidOn output b include_hash words h weight high stack v (Err Refused) new stack w made
-  group_refused h g c k j s weight high stack v w new e made so r l p q =
-      put_refused g.costs c s h (k j) weight high stack v w new e made (group_so h g k (reads.Goes s j) so r) p l (λ z. absurd (false≢true (q z)))
-
-  -- no looks were made
-  pub zero_looks : {words : ℕ} (h : Heard) (weight high : ℕ) (stack : List Frame) (v w : V) (result : Result Point Stop) (new : State) (now : List Frame) (l : ℕ) → DidOn output b include_hash words h weight high stack v result new now w 0 → DidOn output b include_hash words h weight high stack v result new now w (l - l)
-  zero_looks {words = words} h weight high stack v w result new now l d = subst (λ (m : ℕ). DidOn output b include_hash words h weight high stack v result new now w m) (omega arith) d

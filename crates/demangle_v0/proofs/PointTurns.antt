@@ -8,7 +8,7 @@ use Rattle.demangle_grammar.specs.Totals.{total}
 use Rattle.demangle_grammar.specs.Events.{Heard, of, nothing_heard, and_then, with_looks, with_texts, around}
 use Rattle.demangle_words.specs.WordReads.{texts_of}
 use Rattle.demangle_words.specs.Texts.{text}
-use Rattle.demangle_grammar.specs.Reading.{Place, unit_outcome}
+use Rattle.demangle_grammar.specs.Reading.{Place, unit_outcome, run}
 use Rattle.demangle_v0.specs.Points.{mark_texts, then_frame, way_weight, weight_at, weight_of, unit_rest, is_inner, height_of, count_of, FitsFrame, IsInner, Fits, height_at, pushed_on, unit_rest_of, Turn, Env, env, Part, part, DidOn, Does, Paid, own_looks, list_costs}
 use Rattle.demangle_sink.specs.declared.SinkRefused.{SinkRefused}
 use Rattle.demangle_words.specs.declared.texts.Mark.{Mark}
@@ -20,7 +20,7 @@ use Rattle.demangle_v0.specs.declared.points.State.{State}
 use Rattle.demangle_v0.specs.declared.points.Stop.{Stop}
 use Rattle.demangle_v0.specs.declared.points.Stop.TheVariants.{Refused, Fault}
 use Rattle.demangle_words.specs.declared.output.Output.{Ghosts}
-use Rattle.demangle_v0.proofs.PointSteps.{looks_both, total_both, kept_none, refused, heard, child_last, group_then, group_so, word_so, last_word_so}
+use Rattle.demangle_v0.proofs.PointSteps.{looks_both, total_both, kept_none, refused, heard, child_last, group_then, group_so, word_so}
 use Rattle.demangle_v0.proofs.WordLooks.{group_short, group_few}
 use Rattle.demangle_words.specs.Texts.{word_items}
 use Rattle.demangle_grammar.specs.Items.{Kind, child, done}
@@ -33,6 +33,12 @@ use Rattle.demangle_v0.specs.declared.points.Point.TheVariants as point
 -- the unit is over
 abbrev pub ended : Place → Heard
 ended j = nothing_heard j false
+
+-- a point is so light and so low, and its lifetimes fit where those of a type do
+pub record Within (p : Point) (weight above : ℕ) : Type 0 where
+  pub light : way_weight p ≤ weight
+  pub low : (left : ℕ) → height_at p left ≤ 8 * left + above
+  pub fits : (left n : ℕ) → Fits point.«Type» left n → Fits p left n
 
 abbrev refusal : Result Point Stop
 refusal = Err Refused
@@ -377,26 +383,6 @@ module _ {V : Type 0} {e : Env V} where
       → n ≤ t.looks + own_looks e.symbol t.state.place → t.state.mark ≡ None → 1 ≤ weight → Does e t (part words h weight high) (Err (Fault m)) (record t { looks = n })
   group_faults g c k m so r p short x w = ends m g.costs c x (group_so e.output e.symbol e.include_hash _ g k (reads.Stops m) so r) p short w
 
-  -- Words with which a unit ends.
-
-  pub word_ends : {t : Turn V} {v : V} {n : ℕ} (x : Word) (y : Stretch) (j : Place) → reads.Goes y j ≡ (word_of e x t.state).reads → Paid t.looks (word_of e x t.state).costs n → e.output.prints t.output (texts_of e.symbol e.include_hash y) (Ok tt) v → e.output.ready v → t.state.mark ≡ None
-      → RestDoes e (word_items x t.state.letter done) 4 1 0 t (Ok point.End) (record t { state = record t.state { place = j; is_open = false }; output = v; looks = n })
-  unfolding unit_rest_at
-  word_ends {t} x y j r p q k m =
-      group_tells point.End (word_of e x t.state) (group_few e.symbol x t.state.letter e.output.is_printed t.state.lifetimes t.state.place) ended y j (last_word_so e.output e.symbol e.include_hash x t.state.letter t.state.depth_left t.state.lifetimes t.state.place) r p
-      (omega (arith, p.within, group_short e.symbol x t.state.letter e.output.is_printed t.state.lifetimes t.state.place)) q k m refl (omega arith) (omega arith) tt
-
-  pub word_halts : {t : Turn V} {s : State} {v : V} {n : ℕ} {f : SinkRefused} (x : Word) (y : Stretch) (j : Place) → reads.Goes y j ≡ (word_of e x t.state).reads → Paid t.looks (word_of e x t.state).costs n → e.output.prints t.output (texts_of e.symbol e.include_hash y) (Err f) v → (e.output.is_printed ≡ false → IsOk (refused f))
-      → RestDoes e (word_items x t.state.letter done) 4 1 0 t (Err Refused) (record t { state = s; output = v; looks = n })
-  word_halts {t} x y j r p q k =
-      group_halts (word_of e x t.state) (group_few e.symbol x t.state.letter e.output.is_printed t.state.lifetimes t.state.place) ended y j (last_word_so e.output e.symbol e.include_hash x t.state.letter t.state.depth_left t.state.lifetimes t.state.place) r p
-      (omega (arith, p.within, group_short e.symbol x t.state.letter e.output.is_printed t.state.lifetimes t.state.place)) q k
-
-  pub word_faults : {t : Turn V} {n : ℕ} (x : Word) (m : Mark) → reads.Stops m ≡ (word_of e x t.state).reads → Paid t.looks (word_of e x t.state).costs n → t.state.mark ≡ None → RestDoes e (word_items x t.state.letter done) 4 1 0 t (Err (Fault m)) (record t { looks = n })
-  word_faults {t} x m r p k =
-      group_faults (word_of e x t.state) (group_few e.symbol x t.state.letter e.output.is_printed t.state.lifetimes t.state.place) ended m (last_word_so e.output e.symbol e.include_hash x t.state.letter t.state.depth_left t.state.lifetimes t.state.place) r p
-      (omega (arith, p.within, group_short e.symbol x t.state.letter e.output.is_printed t.state.lifetimes t.state.place)) k (omega arith)
-
   -- Words behind which the unit goes on.
 
   pub word_goes : {t : Turn V} {words weight high : ℕ} {s : State} {v : V} {n : ℕ} → 4 ≤ words → (to : Point) (x : Word) (p : Items) (y : Stretch) (j : Place) → reads.Goes y j ≡ (word_of e x t.state).reads → Paid t.looks (word_of e x t.state).costs n → e.output.prints t.output (texts_of e.symbol e.include_hash y) (Ok tt) v → e.output.ready v → s.mark ≡ None
@@ -416,6 +402,20 @@ module _ {V : Type 0} {e : Env V} where
   word_stops {t} few x p m r q k w =
       group_faults (word_of e x t.state) (omega (arith, few, group_few e.symbol x t.state.letter e.output.is_printed t.state.lifetimes t.state.place)) (heard e.output e.symbol e.include_hash p t.state.depth_left t.state.lifetimes) m (word_so e.output e.symbol e.include_hash x t.state.letter p t.state.depth_left t.state.lifetimes t.state.place) r q
       (omega (arith, q.within, group_short e.symbol x t.state.letter e.output.is_printed t.state.lifetimes t.state.place)) k w
+
+  -- Words with which a unit ends.
+
+  pub word_ends : {t : Turn V} {v : V} {n : ℕ} (x : Word) (y : Stretch) (j : Place) → reads.Goes y j ≡ (word_of e x t.state).reads → Paid t.looks (word_of e x t.state).costs n → e.output.prints t.output (texts_of e.symbol e.include_hash y) (Ok tt) v → e.output.ready v → t.state.mark ≡ None
+      → RestDoes e (word_items x t.state.letter done) 4 1 0 t (Ok point.End) (record t { state = record t.state { place = j; is_open = false }; output = v; looks = n })
+  unfolding run unit_rest_at
+  word_ends x y j r p q k m = word_goes (omega arith) point.End x done y j r p q k m refl (omega arith) (omega arith) tt
+
+  pub word_halts : {t : Turn V} {s : State} {v : V} {n : ℕ} {f : SinkRefused} (x : Word) (y : Stretch) (j : Place) → reads.Goes y j ≡ (word_of e x t.state).reads → Paid t.looks (word_of e x t.state).costs n → e.output.prints t.output (texts_of e.symbol e.include_hash y) (Err f) v → (e.output.is_printed ≡ false → IsOk (refused f))
+      → RestDoes e (word_items x t.state.letter done) 4 1 0 t (Err Refused) (record t { state = s; output = v; looks = n })
+  word_halts x = word_refuses (omega arith) x done
+
+  pub word_faults : {t : Turn V} {n : ℕ} (x : Word) (m : Mark) → reads.Stops m ≡ (word_of e x t.state).reads → Paid t.looks (word_of e x t.state).costs n → t.state.mark ≡ None → RestDoes e (word_items x t.state.letter done) 4 1 0 t (Err (Fault m)) (record t { looks = n })
+  word_faults x m r p k = word_stops (omega arith) x done m r p k (omega arith)
 
   -- one that hands nothing over
   pub word_bare : {t u : Turn V} {r : Result Point Stop} {words words' weight high weight' high' : ℕ} {s : State} {n : ℕ} → 4 + words' ≤ words → (x : Word) (p : Items) (y : Stretch) (j : Place) → reads.Goes y j ≡ (word_of e x t.state).reads → texts_of e.symbol e.include_hash y ≡ [] → Paid t.looks (word_of e x t.state).costs n

@@ -26,13 +26,21 @@ use Rattle.demangle_v0.specs.declared.points.Stop.TheVariants.{Fault}
 use Rattle.demangle_words.specs.declared.output.Output.{Ghosts}
 use Rattle.demangle_words.proofs.TagRows.{rows_of, basic_found}
 use Rattle.demangle_v0.proofs.PointSteps.{heard, child_last}
-use Rattle.demangle_v0.proofs.PointTurns.{ends, enters, marks, moves, leaves, behind, behind_few}
+use Rattle.demangle_v0.proofs.PointTurns.{Within, ends, enters, marks, moves, leaves, behind, behind_few}
 use Rattle.demangle_grammar.proofs.TypeReads.{row_at, splat_reads, type_reads, tag_missing, basic_reads, type_deep, constructed_reads, path_type_reads, row_reads}
 
 -- the point of a type that is begun, or gone on with behind its `w`
 pub type_point : (p : Point) (q : Bool) → (p ≡ point.«Type») ⊎ (p ≡ point.TaggedType) → (p ≡ point.«Type» → q ≡ true) → (p ≡ point.TaggedType → q ≡ false) → (if q then point.«Type» else point.TaggedType) ≡ p
 type_point p q (inl e) y n = rw (y e) (sym e)
 type_point p q (inr e) y n = rw (n e) (sym e)
+
+pub behind_within : (q : Bool) → Within (behind_reference q) 2 2
+behind_within true = record { light = omega arith; low = λ left. omega arith; fits = λ left n f. f }
+behind_within false = record { light = omega arith; low = λ left. omega arith; fits = λ left n f. f }
+
+lifetime_within : (q : Bool) → Within (lifetime_point q) 3 2
+lifetime_within true = record { light = omega arith; low = λ left. omega arith; fits = λ left n f. f }
+lifetime_within false = record { light = omega arith; low = λ left. omega arith; fits = λ left n f. f }
 
 module _ {V : Type 0} (output : Ghosts V) (b : List ℕ) (include_hash : Bool) where
   -- one whose text behind it is not printed
@@ -56,34 +64,10 @@ module _ {V : Type 0} (output : Ghosts V) (b : List ℕ) (include_hash : Bool) w
   behind_so true v c left n i o = refl
   behind_so false v c left n i o = child_last output b include_hash a_type false left n i
 
-  pub behind_light : (q : Bool) → way_weight ((behind_reference q)) ≤ 2
-  behind_light true = omega arith
-  behind_light false = omega arith
-
-  pub behind_low : (q : Bool) (left : ℕ) → height_at (behind_reference q) left ≤ 8 * left + 2
-  behind_low true left = omega arith
-  behind_low false left = omega arith
-
-  pub behind_fits : (q : Bool) (left n : ℕ) → Fits point.«Type» left n → Fits (behind_reference q) left n
-  behind_fits true left n f = f
-  behind_fits false left n f = f
-
   pub lifetime_so : (q : Bool) (v : Bool) (c left n : ℕ) (i : Place) (o : Bool) → heard output b include_hash (lifetime_before (says_if q "mut " type_inside)) left n i ≡ unit_rest_at b include_hash output.is_printed (lifetime_point q) v c left n i o
   unfolding unit_rest_at
   lifetime_so true v c left n i o = refl
   lifetime_so false v c left n i o = refl
-
-  pub lifetime_light : (q : Bool) → way_weight ((lifetime_point q)) ≤ 3
-  lifetime_light true = omega arith
-  lifetime_light false = omega arith
-
-  pub lifetime_low : (q : Bool) (left : ℕ) → height_at (lifetime_point q) left ≤ 8 * left + 2
-  lifetime_low true left = omega arith
-  lifetime_low false left = omega arith
-
-  pub lifetime_fits : (q : Bool) (left n : ℕ) → Fits point.«Type» left n → Fits (lifetime_point q) left n
-  lifetime_fits true left n f = f
-  lifetime_fits false left n f = f
 
   -- A type by its tag.
 
@@ -108,24 +92,27 @@ module _ {V : Type 0} {e : Env V} where
   unfolding run
   reference_failed {t} q at f =
       let s = t.state in
+      let w = behind_within q in
       marks (behind_reference q) (rw at (ap (with_texts e.output.is_printed (text mark.Ampersand ∷ [])) (behind_so e.output e.symbol e.include_hash q s.in_value s.letter s.depth_left s.lifetimes None s.is_open)))
-      (omega (arith, behind_light e.output e.symbol e.include_hash q)) (omega (arith, behind_low e.output e.symbol e.include_hash q s.depth_left)) (behind_fits e.output e.symbol e.include_hash q s.depth_left s.lifetimes f)
+      (omega (arith, w.light)) (omega (arith, w.low s.depth_left)) (w.fits s.depth_left s.lifetimes f)
 
   pub reference_goes : {t : Turn V} {n : ℕ} (q : Bool) (i : ℕ) → t.state.place ≡ Some i → is_byte e.symbol i (code "L") ≡ false → n ≡ t.looks + 1 → Fits point.«Type» t.state.depth_left t.state.lifetimes
       → RestDoes e (reference_to q) 5 50 9 t (Ok (behind_reference q)) (record t { state = record t.state { mark = Some mark.Ampersand }; looks = n })
   unfolding run then_frame
   reference_goes {t} q i at b l f =
       let s = t.state in
+      let w = behind_within q in
       leaves (behind_reference q) [] (1 ∷ []) (omega arith) None (ap (λ (x : Place). heard e.output e.symbol e.include_hash (reference_to q) s.depth_left s.lifetimes x) at ∙ rw (at, b) (ap (λ (h : Heard). with_texts e.output.is_printed (text mark.Ampersand ∷ []) (with_looks (1 ∷ []) h)) (behind_so e.output e.symbol e.include_hash q s.in_value s.letter s.depth_left s.lifetimes (Some i) s.is_open))) refl
-      (record { grows = omega arith; within = omega arith }) (omega arith) (rw at (omega (arith, l))) (omega (arith, behind_light e.output e.symbol e.include_hash q)) (omega arith) (omega (arith, behind_low e.output e.symbol e.include_hash q s.depth_left)) tt (behind_fits e.output e.symbol e.include_hash q s.depth_left s.lifetimes f) (λ _. tt)
+      (record { grows = omega arith; within = omega arith }) (omega arith) (rw at (omega (arith, l))) (omega (arith, w.light)) (omega arith) (omega (arith, w.low s.depth_left)) tt (w.fits s.depth_left s.lifetimes f) (λ _. tt)
 
   pub reference_named : {t : Turn V} {n : ℕ} (q : Bool) (i : ℕ) → t.state.place ≡ Some i → is_byte e.symbol i (code "L") ≡ true → n ≡ t.looks + 1 → Fits point.«Type» t.state.depth_left t.state.lifetimes
       → RestDoes e (reference_to q) 5 50 9 t (Ok (lifetime_point q)) (record t { state = record t.state { place = Some (i + 1); mark = Some mark.Ampersand }; looks = n })
   unfolding run then_frame
   reference_named {t} q i at b l f =
       let s = t.state in
+      let w = lifetime_within q in
       leaves (lifetime_point q) [] (1 ∷ []) (omega arith) None (ap (λ (x : Place). heard e.output e.symbol e.include_hash (reference_to q) s.depth_left s.lifetimes x) at ∙ rw b (ap (λ (h : Heard). with_texts e.output.is_printed (text mark.Ampersand ∷ []) (with_looks (1 ∷ []) h)) (lifetime_so e.output e.symbol e.include_hash q s.in_value s.letter s.depth_left s.lifetimes (Some (i + 1)) s.is_open))) refl
-      (record { grows = omega arith; within = omega arith }) (omega arith) (rw at (omega (arith, l))) (omega (arith, lifetime_light e.output e.symbol e.include_hash q)) (omega arith) (omega (arith, lifetime_low e.output e.symbol e.include_hash q s.depth_left)) tt (lifetime_fits e.output e.symbol e.include_hash q s.depth_left s.lifetimes f) (λ _. tt)
+      (record { grows = omega arith; within = omega arith }) (omega arith) (rw at (omega (arith, l))) (omega (arith, w.light)) (omega arith) (omega (arith, w.low s.depth_left)) tt (w.fits s.depth_left s.lifetimes f) (λ _. tt)
 
 -- Types.
 module _ {V : Type 0} {e : Env V} where
