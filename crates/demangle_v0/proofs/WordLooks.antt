@@ -12,7 +12,7 @@ use Rattle.demangle_symbol.specs.Names.{is_empty}
 use Rattle.demangle_symbol.specs.Literals.{string_of}
 use Rattle.demangle_symbol.proofs.Counts.{Placed, integer_placed, optional_placed, backref_placed, nibbles_placed, identifier_placed}
 use Rattle.demangle_grammar.specs.Totals.{total}
-use Rattle.demangle_words.specs.WordReads.{Group, goes, faulty, byte_group, dyn_group, head_group, bytes_in, behind_word, named_group, abi_named, abi_group, if_in_force, bool_stretch, character_stretch, literal_stretch, word_at, word_group}
+use Rattle.demangle_words.specs.WordReads.{Group, goes, faulty, byte_group, bytes_in, behind_word, named_group, abi_named, abi_group, if_in_force, bool_stretch, character_stretch, literal_stretch, word_at, word_group}
 use Rattle.demangle_v0.specs.Points.{own_by, own_looks}
 use Rattle.demangle_grammar.specs.Reading.{Place}
 use Rattle.demangle_words.specs.Backrefs.{refer, reference_read}
@@ -26,24 +26,29 @@ use Rattle.demangle_words.specs.declared.stretch.Abi.TheVariants as abi
 use Rattle.demangle_words.specs.declared.texts.Mark.TheVariants as mark
 use Rattle.demangle_grammar.proofs.Complete.{there_placed}
 
-no_looks : {m : ℕ} {ks : List ℕ} → ks ≡ [] → total ks ≤ m
-no_looks e = rw e (omega arith)
+-- from i on, a group makes at most four looks for each byte and so many more, and reads so many words
+record Brief (b : List ℕ) (i looks words : ℕ) (g : Group) : Type 0 where
+  short : total g.costs ≤ 4 * (length b - i) + looks
+  few : length g.costs ≤ words
 
-no_words : {m : ℕ} {ks : List ℕ} → ks ≡ [] → length ks ≤ m
-no_words e = rw e (omega arith)
+free : {b : List ℕ} {i : ℕ} {g : Group} → g.costs ≡ [] → Brief b i 0 0 g
+free e = record { short = rw e (omega arith); few = rw e (omega arith) }
+
+wide : {b : List ℕ} {i j k l m n : ℕ} {g : Group} → i ≤ j → k ≤ l → m ≤ n → Brief b j k m g → Brief b i l n g
+wide x y z g = record { short = omega (arith, x, y, g.short); few = omega (arith, z, g.few) }
 
 mapped : {A B : Type 0} (low : ℕ) (s : List ℕ) (r : Read A) (g : A × ℕ → B) → Placed low s r → Placed low s (option_map (λ r. (g r, r.1)) r)
 mapped low s None g h = tt
 mapped low s (Some r) g h = h
 
-one : {A : Type 0} (b : List ℕ) (i k : ℕ) (r : Read A) (f : A → ℕ → Group) → Placed (i + 1) b r → ((v : A) (j : ℕ) → total (f v j).costs ≤ 4 * (length b - j) + k) → total (behind_word (length b) i r f).costs ≤ 4 * (length b - i) + (k + 4)
-one b i k None f p h = omega arith
-one b i k (Some r) f p h = omega (arith, p.0, p.1, h r.0 r.1)
+-- behind a word, and behind a look at a byte
+one : {A : Type 0} {b : List ℕ} {k m : ℕ} (i : ℕ) (r : Read A) (f : A → ℕ → Group) → Placed (i + 1) b r → ((v : A) (j : ℕ) → Brief b j k m (f v j)) → Brief b i (k + 4) (m + 1) (behind_word (length b) i r f)
+one i None f p h = record { short = omega arith; few = omega arith }
+one i (Some r) f p h = let g = h r.0 r.1 in record { short = omega (arith, p.0, p.1, g.short); few = omega (arith, g.few) }
 
--- one word more
-one_few : {A : Type 0} (n i k : ℕ) (r : Read A) (f : A → ℕ → Group) → ((v : A) (j : ℕ) → length (f v j).costs ≤ k) → length (behind_word n i r f).costs ≤ k + 1
-one_few n i k None f h = omega arith
-one_few n i k (Some r) f h = omega (arith, h r.0 r.1)
+either : {b : List ℕ} {i k m : ℕ} {g h : Group} (c : Bool) → Brief b i k m g → Brief b i k m h → Brief b i (k + 1) (m + 1) (byte_group c g h)
+either true g h = record { short = omega (arith, g.short); few = omega (arith, g.few) }
+either false g h = record { short = omega (arith, h.short); few = omega (arith, h.few) }
 
 ident_placed : (b : List ℕ) (i : ℕ) → Placed (i + 1) b (ident_at b i)
 ident_placed b i = mapped (i + 1) b (identifier_at b i) _ (identifier_placed b i)
@@ -67,19 +72,18 @@ optional_there t b i v j e = go (is_byte b i t) refl
     go true h = within (omega (arith, there_placed b t i h))
     go false h = let q : i ≡ j = ap (place_of i) (rw h at e) in (omega arith, omega arith)
 
-pub named_short : (b : List ℕ) (i : ℕ) (f : Ident → ℕ → Stretch) → total (named_group b i f).costs ≤ 4 * (length b - i) + 8
-named_short b i f = go (optional_at 115 b i) refl
+named_brief : (b : List ℕ) (i : ℕ) (f : Ident → ℕ → Stretch) → Brief b i 8 2 (named_group b i f)
+named_brief b i f = go (optional_at 115 b i) refl
   where
-    go : (r : Read ℕ) → optional_at 115 b i ≡ r → total (behind_word (length b) i r (λ d j. behind_word (length b) j (ident_at b j) (λ a k. goes (f a d) (Some k)))).costs ≤ 4 * (length b - i) + 8
-    go None e = omega arith
+    go : (r : Read ℕ) → optional_at 115 b i ≡ r → Brief b i 8 2 (behind_word (length b) i r (λ d j. behind_word (length b) j (ident_at b j) (λ a k. goes (f a d) (Some k))))
+    go None e = record { short = omega arith; few = omega arith }
     go (Some r) e =
         let p = optional_there 115 b i r.0 r.1 e in
-        omega (arith, p.0, p.1, one b r.1 0 (ident_at b r.1) (λ a k. goes (f a r.0) (Some k)) (ident_placed b r.1) (λ a k. omega arith))
+        let g = one r.1 (ident_at b r.1) (λ a k. goes (f a r.0) (Some k)) (ident_placed b r.1) (λ a k. free refl) in
+        record { short = omega (arith, p.0, p.1, g.short); few = omega (arith, g.few) }
 
 pub named_few : (b : List ℕ) (i : ℕ) (f : Ident → ℕ → Stretch) → length (named_group b i f).costs ≤ 2
-named_few b i f =
-    one_few (length b) i 1 (optional_at 115 b i) (λ d j. behind_word (length b) j (ident_at b j) (λ a k. goes (f a d) (Some k)))
-    (λ d j. one_few (length b) j 0 (ident_at b j) (λ a k. goes (f a d) (Some k)) (λ a k. omega arith))
+named_few b i f = (named_brief b i f).few
 
 force_free : (q : Bool) (out : Bool) (n k j : ℕ) (x y z : Stretch) → (if q then goes z (Some j) else if_in_force out n k j x y).costs ≡ []
 force_free true out n k j x y z = refl
@@ -119,79 +123,32 @@ abi_free u a b j = go (is_empty (bytes_in b a.ascii)) (is_empty (bytes_in b a.pu
     go false true = refl
     go false false = refl
 
-abi_short : (b : List ℕ) (u : Bool) (i : ℕ) → total (abi_group b u i).costs ≤ 4 * (length b - i) + 6
-abi_short b u i = go (is_byte b i (code "K")) (is_byte b (i + 1) (code "C"))
-  where
-    go : (x y : Bool) → total (byte_group x (byte_group y (goes (FunctionHead u abi.C) (Some (i + 1 + 1))) (behind_word (length b) (i + 1) (ident_at b (i + 1)) (λ a j. abi_named u a b j))) (goes (FunctionHead u abi.Rust) (Some i))).costs ≤ 4 * (length b - i) + 6
-    go false y = omega arith
-    go true true = omega arith
-    go true false = omega (arith, one b (i + 1) 0 (ident_at b (i + 1)) (λ a j. abi_named u a b j) (ident_placed b (i + 1)) (λ a j. no_looks (abi_free u a b j)))
+abi_brief : (b : List ℕ) (u : Bool) (i : ℕ) → Brief b i 6 3 (abi_group b u i)
+abi_brief b u i =
+    either {k = 5} {m = 2} (is_byte b i (code "K"))
+    (wide (omega arith) (omega arith) (omega arith) (either {i = i + 1} {k = 4} {m = 1} (is_byte b (i + 1) (code "C")) (wide {j = i + 1} (omega arith) (omega arith) (omega arith) (free refl)) (one (i + 1) (ident_at b (i + 1)) (λ a j. abi_named u a b j) (ident_placed b (i + 1)) (λ a j. free (abi_free u a b j)))))
+    (wide {j = i} (omega arith) (omega arith) (omega arith) (free refl))
 
-head_short : (b : List ℕ) (i : ℕ) → total (head_group b i).costs ≤ 4 * (length b - i) + 8
-head_short b i = go (is_byte b i (code "U"))
-  where
-    go : (x : Bool) → total (byte_group x (abi_group b true (i + 1)) (abi_group b false i)).costs ≤ 4 * (length b - i) + 8
-    go true = omega (arith, abi_short b true (i + 1))
-    go false = omega (arith, abi_short b false i)
+-- the lifetime of an index, if it is in force
+force_brief : (b : List ℕ) (out : Bool) (n i : ℕ) (x : ℕ → Stretch) (y z : Stretch) → Brief b i 4 1 (behind_word (length b) i (integer_at b i) (λ k j. if k == 0 then goes z (Some j) else if_in_force out n k j (x k) y))
+force_brief b out n i x y z = one i (integer_at b i) (λ k j. if k == 0 then goes z (Some j) else if_in_force out n k j (x k) y) (integer_placed b i) (λ k j. free (force_free (k == 0) out n k j (x k) y z))
 
-dyn_short : (b : List ℕ) (out : Bool) (n i : ℕ) → total (dyn_group b out n i).costs ≤ 4 * (length b - i) + 8
-dyn_short b out n i = go (is_byte b i (code "L"))
-  where
-    go : (x : Bool) → total (byte_group x (behind_word (length b) (i + 1) (integer_at b (i + 1)) (λ k j. if k == 0 then goes Nothing (Some j) else if_in_force out n k j (DynLifetime (n - k)) DynLifetimeFault)) faulty).costs ≤ 4 * (length b - i) + 8
-    go true = omega (arith, one b (i + 1) 0 (integer_at b (i + 1)) (λ k j. if k == 0 then goes Nothing (Some j) else if_in_force out n k j (DynLifetime (n - k)) DynLifetimeFault) (integer_placed b (i + 1)) (λ k j. no_looks (force_free (k == 0) out n k j (DynLifetime (n - k)) DynLifetimeFault Nothing)))
-    go false = omega arith
-
-pub word_short : (b : List ℕ) (x : Word) (c : ℕ) (out : Bool) (n i : ℕ) → total (word_at b x c out n i).costs ≤ 4 * (length b - i) + 8
-word_short b word.FieldName c out n i = named_short b i (λ a d. FieldName a)
-word_short b word.BindingName c out n i = omega (arith, one b i 0 (ident_at b i) (λ a j. goes (BindingName a) (Some j)) (ident_placed b i) (λ a j. omega arith))
-word_short b word.LifetimeIndex c out n i =
-    omega (arith, one b i 0 (integer_at b i) (λ k j. if k == 0 then goes (Lifetime None) (Some j) else if_in_force out n k j (Lifetime (Some (n - k))) LifetimeFault) (integer_placed b i) (λ k j. no_looks (force_free (k == 0) out n k j (Lifetime (Some (n - k))) LifetimeFault (Lifetime None))))
-word_short b word.DynLifetime c out n i = dyn_short b out n i
-word_short b word.FunctionHead c out n i = head_short b i
-word_short b word.Number c out n i = omega (arith, one b i 0 (hex_at b i) (λ h j. goes (Number (number_of (bytes_in b h)) h c) (Some j)) (hex_placed b i) (λ h j. omega arith))
-word_short b word.Bool c out n i = omega (arith, one b i 0 (hex_at b i) (λ h j. bool_stretch (number_of (bytes_in b h)) j) (hex_placed b i) (λ h j. no_looks (truth_free (number_of (bytes_in b h)) j)))
-word_short b word.Character c out n i = omega (arith, one b i 0 (hex_at b i) (λ h j. character_stretch (number_of (bytes_in b h)) j) (hex_placed b i) (λ h j. no_looks (character_free (number_of (bytes_in b h)) j)))
-word_short b word.Literal c out n i = omega (arith, one b i 0 (hex_at b i) (λ h j. literal_stretch (string_of (bytes_in b h)) h j) (hex_placed b i) (λ h j. no_looks (literal_free (string_of (bytes_in b h)) h j)))
-
--- how many words they are
-
-abi_few : (b : List ℕ) (u : Bool) (i : ℕ) → length (abi_group b u i).costs ≤ 3
-abi_few b u i = go (is_byte b i (code "K")) (is_byte b (i + 1) (code "C"))
-  where
-    go : (x y : Bool) → length (byte_group x (byte_group y (goes (FunctionHead u abi.C) (Some (i + 1 + 1))) (behind_word (length b) (i + 1) (ident_at b (i + 1)) (λ a j. abi_named u a b j))) (goes (FunctionHead u abi.Rust) (Some i))).costs ≤ 3
-    go false y = omega arith
-    go true true = omega arith
-    go true false = omega (arith, one_few (length b) (i + 1) 0 (ident_at b (i + 1)) (λ a j. abi_named u a b j) (λ a j. no_words (abi_free u a b j)))
-
-head_few : (b : List ℕ) (i : ℕ) → length (head_group b i).costs ≤ 4
-head_few b i = go (is_byte b i (code "U"))
-  where
-    go : (x : Bool) → length (byte_group x (abi_group b true (i + 1)) (abi_group b false i)).costs ≤ 4
-    go true = omega (arith, abi_few b true (i + 1))
-    go false = omega (arith, abi_few b false i)
-
-dyn_few : (b : List ℕ) (out : Bool) (n i : ℕ) → length (dyn_group b out n i).costs ≤ 2
-dyn_few b out n i = go (is_byte b i (code "L"))
-  where
-    go : (x : Bool) → length (byte_group x (behind_word (length b) (i + 1) (integer_at b (i + 1)) (λ k j. if k == 0 then goes Nothing (Some j) else if_in_force out n k j (DynLifetime (n - k)) DynLifetimeFault)) faulty).costs ≤ 2
-    go true = omega (arith, one_few (length b) (i + 1) 0 (integer_at b (i + 1)) (λ k j. if k == 0 then goes Nothing (Some j) else if_in_force out n k j (DynLifetime (n - k)) DynLifetimeFault) (λ k j. no_words (force_free (k == 0) out n k j (DynLifetime (n - k)) DynLifetimeFault Nothing)))
-    go false = omega arith
-
-word_few : (b : List ℕ) (x : Word) (c : ℕ) (out : Bool) (n i : ℕ) → length (word_at b x c out n i).costs ≤ 4
-word_few b word.FieldName c out n i = omega (arith, named_few b i (λ a d. FieldName a))
-word_few b word.BindingName c out n i = omega (arith, one_few (length b) i 0 (ident_at b i) (λ a j. goes (BindingName a) (Some j)) (λ a j. omega arith))
-word_few b word.LifetimeIndex c out n i =
-    omega (arith, one_few (length b) i 0 (integer_at b i) (λ k j. if k == 0 then goes (Lifetime None) (Some j) else if_in_force out n k j (Lifetime (Some (n - k))) LifetimeFault) (λ k j. no_words (force_free (k == 0) out n k j (Lifetime (Some (n - k))) LifetimeFault (Lifetime None))))
-word_few b word.DynLifetime c out n i = omega (arith, dyn_few b out n i)
-word_few b word.FunctionHead c out n i = head_few b i
-word_few b word.Number c out n i = omega (arith, one_few (length b) i 0 (hex_at b i) (λ h j. goes (Number (number_of (bytes_in b h)) h c) (Some j)) (λ h j. omega arith))
-word_few b word.Bool c out n i = omega (arith, one_few (length b) i 0 (hex_at b i) (λ h j. bool_stretch (number_of (bytes_in b h)) j) (λ h j. no_words (truth_free (number_of (bytes_in b h)) j)))
-word_few b word.Character c out n i = omega (arith, one_few (length b) i 0 (hex_at b i) (λ h j. character_stretch (number_of (bytes_in b h)) j) (λ h j. no_words (character_free (number_of (bytes_in b h)) j)))
-word_few b word.Literal c out n i = omega (arith, one_few (length b) i 0 (hex_at b i) (λ h j. literal_stretch (string_of (bytes_in b h)) h j) (λ h j. no_words (literal_free (string_of (bytes_in b h)) h j)))
+word_brief : (b : List ℕ) (x : Word) (c : ℕ) (out : Bool) (n i : ℕ) → Brief b i 8 4 (word_at b x c out n i)
+word_brief b word.FieldName c out n i = wide (omega arith) (omega arith) (omega arith) (named_brief b i (λ a d. FieldName a))
+word_brief b word.BindingName c out n i = wide (omega arith) (omega arith) (omega arith) (one i (ident_at b i) (λ a j. goes (BindingName a) (Some j)) (ident_placed b i) (λ a j. free refl))
+word_brief b word.LifetimeIndex c out n i = wide (omega arith) (omega arith) (omega arith) (force_brief b out n i (λ k. Lifetime (Some (n - k))) LifetimeFault (Lifetime None))
+word_brief b word.DynLifetime c out n i =
+    wide (omega arith) (omega arith) (omega arith) (either {i = i} {k = 4} {m = 1} (is_byte b i (code "L")) (wide (omega arith) (omega arith) (omega arith) (force_brief b out n (i + 1) (λ k. DynLifetime (n - k)) DynLifetimeFault Nothing)) (wide {j = i} (omega arith) (omega arith) (omega arith) (free refl)))
+word_brief b word.FunctionHead c out n i =
+    wide (omega arith) (omega arith) (omega arith) (either {i = i} {k = 6} {m = 3} (is_byte b i (code "U")) (wide (omega arith) (omega arith) (omega arith) (abi_brief b true (i + 1))) (abi_brief b false i))
+word_brief b word.Number c out n i = wide (omega arith) (omega arith) (omega arith) (one i (hex_at b i) (λ h j. goes (Number (number_of (bytes_in b h)) h c) (Some j)) (hex_placed b i) (λ h j. free refl))
+word_brief b word.Bool c out n i = wide (omega arith) (omega arith) (omega arith) (one i (hex_at b i) (λ h j. bool_stretch (number_of (bytes_in b h)) j) (hex_placed b i) (λ h j. free (truth_free (number_of (bytes_in b h)) j)))
+word_brief b word.Character c out n i = wide (omega arith) (omega arith) (omega arith) (one i (hex_at b i) (λ h j. character_stretch (number_of (bytes_in b h)) j) (hex_placed b i) (λ h j. free (character_free (number_of (bytes_in b h)) j)))
+word_brief b word.Literal c out n i = wide (omega arith) (omega arith) (omega arith) (one i (hex_at b i) (λ h j. literal_stretch (string_of (bytes_in b h)) h j) (hex_placed b i) (λ h j. free (literal_free (string_of (bytes_in b h)) h j)))
 
 pub group_few : (b : List ℕ) (x : Word) (c : ℕ) (out : Bool) (n : ℕ) (i : Place) → length (word_group b x c out n i).costs ≤ 4
 group_few b x c out n None = omega arith
-group_few b x c out n (Some i) = word_few b x c out n i
+group_few b x c out n (Some i) = (word_brief b x c out n i).few
 
 pub refer_few : (b : List ℕ) (left : ℕ) (i : Place) → length (refer b left i).costs ≤ 1
 refer_few b left None = omega arith
@@ -202,15 +159,15 @@ refer_few b left (Some i) = go (backref_at b i)
     go (Some r) = omega arith
 
 pub named_at : {i : Place} {n : ℕ} (m : ℕ) (b : List ℕ) (at : ℕ) (f : Ident → ℕ → Stretch) → i ≡ Some at → n ≤ m + total (named_group b at f).costs → n ≤ m + own_looks b i
-named_at m b at f k l = rw k (omega (arith, l, named_short b at f))
+named_at m b at f k l = rw k (omega (arith, l, (named_brief b at f).short))
 
 pub group_short : (b : List ℕ) (x : Word) (c : ℕ) (out : Bool) (n : ℕ) (i : Place) → total (word_group b x c out n i).costs ≤ own_looks b i
 group_short b x c out n None = omega arith
-group_short b x c out n (Some i) = omega (arith, word_short b x c out n i)
+group_short b x c out n (Some i) = omega (arith, (word_brief b x c out n i).short)
 
 pub group_tight : (b : List ℕ) (x : Word) (c : ℕ) (out : Bool) (n : ℕ) (i : Place) → total (word_group b x c out n i).costs ≤ own_by 8 b i
 group_tight b x c out n None = omega arith
-group_tight b x c out n (Some i) = word_short b x c out n i
+group_tight b x c out n (Some i) = (word_brief b x c out n i).short
 
 pub refer_short : (b : List ℕ) (left : ℕ) (i : Place) → total (refer b left i).costs ≤ own_looks b i
 refer_short b left None = omega arith
