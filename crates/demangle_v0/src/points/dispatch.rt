@@ -47,7 +47,7 @@ pub(super) fn dispatch<V: Output, const N: usize>(
     requires unskipped { V.is_printed ≡ true → is_skip point ≡ false }
     ensures did { PointDoes (env V.Output symbol.now include_hash) point (turn state.old stack.old
         output.old looks.old) result (turn state.new stack.new output.new looks.new) }
-    ensures least { looks.old + first_looks point state.old ≤ looks.new }
+    ensures least { point ≡ Point.Path → looks.old + first_looks Point.Path state.old ≤ looks.new }
 {
     match point {
         Point::Path => path(symbol, include_hash, state, stack, output, looks),

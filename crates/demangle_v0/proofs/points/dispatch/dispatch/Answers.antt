@@ -13,9 +13,6 @@ pub returns-in-Lifetime-clause-did : goal.returns-in-Lifetime-clause-did
 unfolding unit_rest_at
 returns-in-Lifetime-clause-did g c = rw c.in-Lifetime.is (alike (omega arith) refl (omega arith) (omega arith) (c.last_word.ensures.did c.args.stack.now))
 
-pub returns-in-Lifetime-clause-least : goal.returns-in-Lifetime-clause-least
-returns-in-Lifetime-clause-least g c = rw c.in-Lifetime.is (omega (arith, (c.last_word.ensures.did c.args.stack.now).grows))
-
 pub returns-in-End-clause-did : goal.returns-in-End-clause-did
 returns-in-End-clause-did g c = rw c.in-End.is (stays_over c.requires.unmarked)
 
@@ -28,17 +25,8 @@ returns-in-Type-clause-did g c =
     (type_point c.args.point c.is_begun.result c.in-Type.is c.is_begun.ensures.yes c.is_begun.ensures.no)
     c.type_.ensures.did
 
-pub returns-in-Type-clause-least : goal.returns-in-Type-clause-least
-returns-in-Type-clause-least g c = elim c.in-Type.is [
-  | inl e ↦ rw e (omega (arith, c.type_.ensures.did.grows))
-  | inr e ↦ rw e (omega (arith, c.type_.ensures.did.grows))
-]
-
 pub returns-in-Nested-clause-did : goal.returns-in-Nested-clause-did
 returns-in-Nested-clause-did g c = rw c.in-Nested.is (c.nested_name.ensures.did c.args.stack.now)
-
-pub returns-in-Nested-clause-least : goal.returns-in-Nested-clause-least
-returns-in-Nested-clause-least g c = rw c.in-Nested.is (omega (arith, (c.nested_name.ensures.did c.args.stack.now).grows))
 
 pub returns-in-InherentPath-clause-did : goal.returns-in-InherentPath-clause-did
 returns-in-InherentPath-clause-did g c = rw c.in-InherentPath.is (c.skipped_path.ensures.did c.args.symbol.now c.args.include_hash c.args.output.now c.args.looks.now)
@@ -61,14 +49,8 @@ returns-in-Generic-clause-did g c = rw c.in-Generic.is (c.generic.ensures.did c.
 pub returns-in-FirstArgument-clause-did : goal.returns-in-FirstArgument-clause-did
 returns-in-FirstArgument-clause-did g c = rw c.in-FirstArgument.is (c.arguments.ensures.did c.args.include_hash c.args.output.now)
 
-pub returns-in-FirstArgument-clause-least : goal.returns-in-FirstArgument-clause-least
-returns-in-FirstArgument-clause-least g c = rw c.in-FirstArgument.is (omega (arith, (c.arguments.ensures.did c.args.include_hash c.args.output.now).grows))
-
 pub returns-in-NextArgument-clause-did : goal.returns-in-NextArgument-clause-did
 returns-in-NextArgument-clause-did g c = rw c.in-NextArgument.is (c.arguments-in-NextArgument.ensures.did c.args.include_hash c.args.output.now)
-
-pub returns-in-NextArgument-clause-least : goal.returns-in-NextArgument-clause-least
-returns-in-NextArgument-clause-least g c = rw c.in-NextArgument.is (omega (arith, (c.arguments-in-NextArgument.ensures.did c.args.include_hash c.args.output.now).grows))
 
 pub returns-in-ArrayLength-clause-did : goal.returns-in-ArrayLength-clause-did
 returns-in-ArrayLength-clause-did g c = rw c.in-ArrayLength.is (c.array_length.ensures.did c.args.symbol.now c.args.include_hash c.args.output.now c.args.looks.now)
@@ -76,218 +58,110 @@ returns-in-ArrayLength-clause-did g c = rw c.in-ArrayLength.is (c.array_length.e
 pub returns-in-FirstTupleType-clause-did : goal.returns-in-FirstTupleType-clause-did
 returns-in-FirstTupleType-clause-did g c = rw c.in-FirstTupleType.is (c.first_tuple_type.ensures.did c.args.include_hash c.args.output.now)
 
-pub returns-in-FirstTupleType-clause-least : goal.returns-in-FirstTupleType-clause-least
-returns-in-FirstTupleType-clause-least g c = rw c.in-FirstTupleType.is (omega (arith, (c.first_tuple_type.ensures.did c.args.include_hash c.args.output.now).grows))
-
 pub returns-in-SecondTupleType-clause-did : goal.returns-in-SecondTupleType-clause-did
 returns-in-SecondTupleType-clause-did g c = rw c.in-SecondTupleType.is (c.second_tuple_type.ensures.did c.args.include_hash c.args.output.now)
-
-pub returns-in-SecondTupleType-clause-least : goal.returns-in-SecondTupleType-clause-least
-returns-in-SecondTupleType-clause-least g c = rw c.in-SecondTupleType.is (omega (arith, (c.second_tuple_type.ensures.did c.args.include_hash c.args.output.now).grows))
 
 pub returns-in-NextTupleType-clause-did : goal.returns-in-NextTupleType-clause-did
 returns-in-NextTupleType-clause-did g c = rw c.in-NextTupleType.is (c.next_tuple_type.ensures.did c.args.include_hash c.args.output.now)
 
-pub returns-in-NextTupleType-clause-least : goal.returns-in-NextTupleType-clause-least
-returns-in-NextTupleType-clause-least g c = rw c.in-NextTupleType.is (omega (arith, (c.next_tuple_type.ensures.did c.args.include_hash c.args.output.now).grows))
-
 pub returns-in-ReferenceLifetime-clause-did : goal.returns-in-ReferenceLifetime-clause-did
 returns-in-ReferenceLifetime-clause-did g c = rw c.in-ReferenceLifetime.is (c.reference_lifetime.ensures.did c.args.stack.now)
-
-pub returns-in-ReferenceLifetime-clause-least : goal.returns-in-ReferenceLifetime-clause-least
-returns-in-ReferenceLifetime-clause-least g c = rw c.in-ReferenceLifetime.is (omega (arith, (c.reference_lifetime.ensures.did c.args.stack.now).grows))
 
 pub returns-in-MutReferenceLifetime-clause-did : goal.returns-in-MutReferenceLifetime-clause-did
 returns-in-MutReferenceLifetime-clause-did g c = rw c.in-MutReferenceLifetime.is (c.reference_lifetime-in-MutReferenceLifetime.ensures.did c.args.stack.now)
 
-pub returns-in-MutReferenceLifetime-clause-least : goal.returns-in-MutReferenceLifetime-clause-least
-returns-in-MutReferenceLifetime-clause-least g c = rw c.in-MutReferenceLifetime.is (omega (arith, (c.reference_lifetime-in-MutReferenceLifetime.ensures.did c.args.stack.now).grows))
-
 pub returns-in-FunctionHead-clause-did : goal.returns-in-FunctionHead-clause-did
 returns-in-FunctionHead-clause-did g c = rw c.in-FunctionHead.is (c.function_head.ensures.did c.args.stack.now)
-
-pub returns-in-FunctionHead-clause-least : goal.returns-in-FunctionHead-clause-least
-returns-in-FunctionHead-clause-least g c = rw c.in-FunctionHead.is (omega (arith, (c.function_head.ensures.did c.args.stack.now).grows))
 
 pub returns-in-FirstParameter-clause-did : goal.returns-in-FirstParameter-clause-did
 returns-in-FirstParameter-clause-did g c = rw c.in-FirstParameter.is (c.parameter.ensures.did c.args.include_hash c.args.output.now)
 
-pub returns-in-FirstParameter-clause-least : goal.returns-in-FirstParameter-clause-least
-returns-in-FirstParameter-clause-least g c = rw c.in-FirstParameter.is (omega (arith, (c.parameter.ensures.did c.args.include_hash c.args.output.now).grows))
-
 pub returns-in-NextParameter-clause-did : goal.returns-in-NextParameter-clause-did
 returns-in-NextParameter-clause-did g c = rw c.in-NextParameter.is (c.parameter-in-NextParameter.ensures.did c.args.include_hash c.args.output.now)
-
-pub returns-in-NextParameter-clause-least : goal.returns-in-NextParameter-clause-least
-returns-in-NextParameter-clause-least g c = rw c.in-NextParameter.is (omega (arith, (c.parameter-in-NextParameter.ensures.did c.args.include_hash c.args.output.now).grows))
 
 pub returns-in-Returns-clause-did : goal.returns-in-Returns-clause-did
 returns-in-Returns-clause-did g c = rw c.in-Returns.is (c.returns.ensures.did c.args.include_hash c.args.output.now c.args.stack.now)
 
-pub returns-in-Returns-clause-least : goal.returns-in-Returns-clause-least
-returns-in-Returns-clause-least g c = rw c.in-Returns.is (omega (arith, (c.returns.ensures.did c.args.include_hash c.args.output.now c.args.stack.now).grows))
-
 pub returns-in-DynBinder-clause-did : goal.returns-in-DynBinder-clause-did
 returns-in-DynBinder-clause-did g c = rw c.in-DynBinder.is (c.dyn_binder.ensures.did)
-
-pub returns-in-DynBinder-clause-least : goal.returns-in-DynBinder-clause-least
-returns-in-DynBinder-clause-least g c = rw c.in-DynBinder.is (omega (arith, (c.dyn_binder.ensures.did).grows))
 
 pub returns-in-FirstDynTrait-clause-did : goal.returns-in-FirstDynTrait-clause-did
 returns-in-FirstDynTrait-clause-did g c = rw c.in-FirstDynTrait.is (c.dyn_trait.ensures.did c.args.include_hash c.args.output.now)
 
-pub returns-in-FirstDynTrait-clause-least : goal.returns-in-FirstDynTrait-clause-least
-returns-in-FirstDynTrait-clause-least g c = rw c.in-FirstDynTrait.is (omega (arith, (c.dyn_trait.ensures.did c.args.include_hash c.args.output.now).grows))
-
 pub returns-in-NextDynTrait-clause-did : goal.returns-in-NextDynTrait-clause-did
 returns-in-NextDynTrait-clause-did g c = rw c.in-NextDynTrait.is (c.dyn_trait-in-NextDynTrait.ensures.did c.args.include_hash c.args.output.now)
-
-pub returns-in-NextDynTrait-clause-least : goal.returns-in-NextDynTrait-clause-least
-returns-in-NextDynTrait-clause-least g c = rw c.in-NextDynTrait.is (omega (arith, (c.dyn_trait-in-NextDynTrait.ensures.did c.args.include_hash c.args.output.now).grows))
 
 pub returns-in-TraitPath-clause-did : goal.returns-in-TraitPath-clause-did
 returns-in-TraitPath-clause-did g c = rw c.in-TraitPath.is (c.trait_path.ensures.did c.args.include_hash c.args.output.now)
 
-pub returns-in-TraitPath-clause-least : goal.returns-in-TraitPath-clause-least
-returns-in-TraitPath-clause-least g c = rw c.in-TraitPath.is (omega (arith, (c.trait_path.ensures.did c.args.include_hash c.args.output.now).grows))
-
 pub returns-in-FirstOpenArgument-clause-did : goal.returns-in-FirstOpenArgument-clause-did
 returns-in-FirstOpenArgument-clause-did g c = rw c.in-FirstOpenArgument.is (c.open_argument.ensures.did c.args.include_hash c.args.output.now)
-
-pub returns-in-FirstOpenArgument-clause-least : goal.returns-in-FirstOpenArgument-clause-least
-returns-in-FirstOpenArgument-clause-least g c = rw c.in-FirstOpenArgument.is (omega (arith, (c.open_argument.ensures.did c.args.include_hash c.args.output.now).grows))
 
 pub returns-in-NextOpenArgument-clause-did : goal.returns-in-NextOpenArgument-clause-did
 returns-in-NextOpenArgument-clause-did g c = rw c.in-NextOpenArgument.is (c.open_argument-in-NextOpenArgument.ensures.did c.args.include_hash c.args.output.now)
 
-pub returns-in-NextOpenArgument-clause-least : goal.returns-in-NextOpenArgument-clause-least
-returns-in-NextOpenArgument-clause-least g c = rw c.in-NextOpenArgument.is (omega (arith, (c.open_argument-in-NextOpenArgument.ensures.did c.args.include_hash c.args.output.now).grows))
-
 pub returns-in-Bindings-clause-did : goal.returns-in-Bindings-clause-did
 returns-in-Bindings-clause-did g c = rw c.in-Bindings.is (c.bindings.ensures.did c.args.include_hash c.args.output.now c.args.stack.now)
-
-pub returns-in-Bindings-clause-least : goal.returns-in-Bindings-clause-least
-returns-in-Bindings-clause-least g c = rw c.in-Bindings.is (omega (arith, (c.bindings.ensures.did c.args.include_hash c.args.output.now c.args.stack.now).grows))
 
 pub returns-in-OpenBindings-clause-did : goal.returns-in-OpenBindings-clause-did
 returns-in-OpenBindings-clause-did g c = rw c.in-OpenBindings.is (c.open_bindings.ensures.did c.args.include_hash c.args.output.now c.args.stack.now)
 
-pub returns-in-OpenBindings-clause-least : goal.returns-in-OpenBindings-clause-least
-returns-in-OpenBindings-clause-least g c = rw c.in-OpenBindings.is (omega (arith, (c.open_bindings.ensures.did c.args.include_hash c.args.output.now c.args.stack.now).grows))
-
 pub returns-in-BindingName-clause-did : goal.returns-in-BindingName-clause-did
 returns-in-BindingName-clause-did g c = rw c.in-BindingName.is (c.binding_name.ensures.did c.args.stack.now)
-
-pub returns-in-BindingName-clause-least : goal.returns-in-BindingName-clause-least
-returns-in-BindingName-clause-least g c = rw c.in-BindingName.is (omega (arith, (c.binding_name.ensures.did c.args.stack.now).grows))
 
 pub returns-in-Bound-clause-did : goal.returns-in-Bound-clause-did
 returns-in-Bound-clause-did g c = rw c.in-Bound.is (c.bound.ensures.did c.args.include_hash c.args.output.now)
 
-pub returns-in-Bound-clause-least : goal.returns-in-Bound-clause-least
-returns-in-Bound-clause-least g c = rw c.in-Bound.is (omega (arith, (c.bound.ensures.did c.args.include_hash c.args.output.now).grows))
-
 pub returns-in-DynLifetime-clause-did : goal.returns-in-DynLifetime-clause-did
 returns-in-DynLifetime-clause-did g c = rw c.in-DynLifetime.is (c.dyn_lifetime.ensures.did c.args.stack.now)
-
-pub returns-in-DynLifetime-clause-least : goal.returns-in-DynLifetime-clause-least
-returns-in-DynLifetime-clause-least g c = rw c.in-DynLifetime.is (omega (arith, (c.dyn_lifetime.ensures.did c.args.stack.now).grows))
 
 pub returns-in-Pattern-clause-did : goal.returns-in-Pattern-clause-did
 returns-in-Pattern-clause-did g c = rw c.in-Pattern.is (c.pattern.ensures.did c.args.include_hash c.args.output.now)
 
-pub returns-in-Pattern-clause-least : goal.returns-in-Pattern-clause-least
-returns-in-Pattern-clause-least g c = rw c.in-Pattern.is (omega (arith, (c.pattern.ensures.did c.args.include_hash c.args.output.now).grows))
-
 pub returns-in-NextPattern-clause-did : goal.returns-in-NextPattern-clause-did
 returns-in-NextPattern-clause-did g c = rw c.in-NextPattern.is (c.next_pattern.ensures.did c.args.include_hash c.args.output.now)
-
-pub returns-in-NextPattern-clause-least : goal.returns-in-NextPattern-clause-least
-returns-in-NextPattern-clause-least g c = rw c.in-NextPattern.is (omega (arith, (c.next_pattern.ensures.did c.args.include_hash c.args.output.now).grows))
 
 pub returns-in-Constant-clause-did : goal.returns-in-Constant-clause-did
 returns-in-Constant-clause-did g c = rw c.in-Constant.is c.constant.ensures.did
 
-pub returns-in-Constant-clause-least : goal.returns-in-Constant-clause-least
-returns-in-Constant-clause-least g c = rw c.in-Constant.is (omega (arith, c.constant.ensures.did.grows))
-
 pub returns-in-Number-clause-did : goal.returns-in-Number-clause-did
 returns-in-Number-clause-did g c = rw c.in-Number.is (c.number.ensures.did c.args.stack.now)
-
-pub returns-in-Number-clause-least : goal.returns-in-Number-clause-least
-returns-in-Number-clause-least g c = rw c.in-Number.is (omega (arith, (c.number.ensures.did c.args.stack.now).grows))
 
 pub returns-in-Literal-clause-did : goal.returns-in-Literal-clause-did
 returns-in-Literal-clause-did g c = rw c.in-Literal.is (c.literal.ensures.did c.args.stack.now)
 
-pub returns-in-Literal-clause-least : goal.returns-in-Literal-clause-least
-returns-in-Literal-clause-least g c = rw c.in-Literal.is (omega (arith, (c.literal.ensures.did c.args.stack.now).grows))
-
 pub returns-in-FirstArrayConstant-clause-did : goal.returns-in-FirstArrayConstant-clause-did
 returns-in-FirstArrayConstant-clause-did g c = rw c.in-FirstArrayConstant.is (c.first_constant.ensures.did c.args.include_hash c.args.output.now)
-
-pub returns-in-FirstArrayConstant-clause-least : goal.returns-in-FirstArrayConstant-clause-least
-returns-in-FirstArrayConstant-clause-least g c = rw c.in-FirstArrayConstant.is (omega (arith, (c.first_constant.ensures.did c.args.include_hash c.args.output.now).grows))
 
 pub returns-in-NextArrayConstant-clause-did : goal.returns-in-NextArrayConstant-clause-did
 returns-in-NextArrayConstant-clause-did g c = rw c.in-NextArrayConstant.is (c.next_constant.ensures.did c.args.include_hash c.args.output.now)
 
-pub returns-in-NextArrayConstant-clause-least : goal.returns-in-NextArrayConstant-clause-least
-returns-in-NextArrayConstant-clause-least g c = rw c.in-NextArrayConstant.is (omega (arith, (c.next_constant.ensures.did c.args.include_hash c.args.output.now).grows))
-
 pub returns-in-FirstTupleConstant-clause-did : goal.returns-in-FirstTupleConstant-clause-did
 returns-in-FirstTupleConstant-clause-did g c = rw c.in-FirstTupleConstant.is (c.first_constant-in-FirstTupleConstant.ensures.did c.args.include_hash c.args.output.now)
-
-pub returns-in-FirstTupleConstant-clause-least : goal.returns-in-FirstTupleConstant-clause-least
-returns-in-FirstTupleConstant-clause-least g c = rw c.in-FirstTupleConstant.is (omega (arith, (c.first_constant-in-FirstTupleConstant.ensures.did c.args.include_hash c.args.output.now).grows))
 
 pub returns-in-NextTupleConstant-clause-did : goal.returns-in-NextTupleConstant-clause-did
 returns-in-NextTupleConstant-clause-did g c = rw c.in-NextTupleConstant.is (c.next_constant-in-NextTupleConstant.ensures.did c.args.include_hash c.args.output.now)
 
-pub returns-in-NextTupleConstant-clause-least : goal.returns-in-NextTupleConstant-clause-least
-returns-in-NextTupleConstant-clause-least g c = rw c.in-NextTupleConstant.is (omega (arith, (c.next_constant-in-NextTupleConstant.ensures.did c.args.include_hash c.args.output.now).grows))
-
 pub returns-in-FirstVariantConstant-clause-did : goal.returns-in-FirstVariantConstant-clause-did
 returns-in-FirstVariantConstant-clause-did g c = rw c.in-FirstVariantConstant.is (c.first_constant-in-FirstVariantConstant.ensures.did c.args.include_hash c.args.output.now)
-
-pub returns-in-FirstVariantConstant-clause-least : goal.returns-in-FirstVariantConstant-clause-least
-returns-in-FirstVariantConstant-clause-least g c = rw c.in-FirstVariantConstant.is (omega (arith, (c.first_constant-in-FirstVariantConstant.ensures.did c.args.include_hash c.args.output.now).grows))
 
 pub returns-in-NextVariantConstant-clause-did : goal.returns-in-NextVariantConstant-clause-did
 returns-in-NextVariantConstant-clause-did g c = rw c.in-NextVariantConstant.is (c.next_constant-in-NextVariantConstant.ensures.did c.args.include_hash c.args.output.now)
 
-pub returns-in-NextVariantConstant-clause-least : goal.returns-in-NextVariantConstant-clause-least
-returns-in-NextVariantConstant-clause-least g c = rw c.in-NextVariantConstant.is (omega (arith, (c.next_constant-in-NextVariantConstant.ensures.did c.args.include_hash c.args.output.now).grows))
-
 pub returns-in-FirstField-clause-did : goal.returns-in-FirstField-clause-did
 returns-in-FirstField-clause-did g c = rw c.in-FirstField.is (c.first_constant-in-FirstField.ensures.did c.args.include_hash c.args.output.now)
-
-pub returns-in-FirstField-clause-least : goal.returns-in-FirstField-clause-least
-returns-in-FirstField-clause-least g c = rw c.in-FirstField.is (omega (arith, (c.first_constant-in-FirstField.ensures.did c.args.include_hash c.args.output.now).grows))
 
 pub returns-in-NextField-clause-did : goal.returns-in-NextField-clause-did
 returns-in-NextField-clause-did g c = rw c.in-NextField.is (c.next_constant-in-NextField.ensures.did c.args.include_hash c.args.output.now)
 
-pub returns-in-NextField-clause-least : goal.returns-in-NextField-clause-least
-returns-in-NextField-clause-least g c = rw c.in-NextField.is (omega (arith, (c.next_constant-in-NextField.ensures.did c.args.include_hash c.args.output.now).grows))
-
 pub returns-in-SecondTupleConstant-clause-did : goal.returns-in-SecondTupleConstant-clause-did
 returns-in-SecondTupleConstant-clause-did g c = rw c.in-SecondTupleConstant.is (c.second_tuple_constant.ensures.did c.args.include_hash c.args.output.now)
-
-pub returns-in-SecondTupleConstant-clause-least : goal.returns-in-SecondTupleConstant-clause-least
-returns-in-SecondTupleConstant-clause-least g c = rw c.in-SecondTupleConstant.is (omega (arith, (c.second_tuple_constant.ensures.did c.args.include_hash c.args.output.now).grows))
 
 pub returns-in-Variant-clause-did : goal.returns-in-Variant-clause-did
 returns-in-Variant-clause-did g c = rw c.in-Variant.is (c.variant.ensures.did c.args.include_hash c.args.output.now)
 
-pub returns-in-Variant-clause-least : goal.returns-in-Variant-clause-least
-returns-in-Variant-clause-least g c = rw c.in-Variant.is (omega (arith, (c.variant.ensures.did c.args.include_hash c.args.output.now).grows))
-
 pub returns-in-Field-clause-did : goal.returns-in-Field-clause-did
 returns-in-Field-clause-did g c = rw c.in-Field.is (c.field.ensures.did c.args.stack.now)
-
-pub returns-in-Field-clause-least : goal.returns-in-Field-clause-least
-returns-in-Field-clause-least g c = rw c.in-Field.is (omega (arith, (c.field.ensures.did c.args.stack.now).grows))
 
 pub returns-in-AfterBackref-clause-did : goal.returns-in-AfterBackref-clause-did
 returns-in-AfterBackref-clause-did g c = rw c.in-AfterBackref.is (c.behind.ensures.did c.args.symbol.now c.args.include_hash c.args.output.now c.args.stack.now c.args.looks.now)
