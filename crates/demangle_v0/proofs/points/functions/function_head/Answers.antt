@@ -7,33 +7,33 @@ use Rattle.demangle_v0.proofs.PointTurns.{word_goes, word_bare, word_refuses, wo
 use Rattle.demangle_v0.proofs.WordLooks.{group_tight, own_more}
 use Rattle.demangle_v0.proofs.points.functions.function_head.Goals as goal
 
-pub returns-then-is_bare-clause-did : goal.returns-then-is_bare-clause-did
+pub returns-then-is_bare : goal.returns-then-is_bare
 unfolding unit_rest_at
-returns-then-is_bare-clause-did g c = λ stack.
-    word_bare (omega arith) word.FunctionHead parameters _ _ c.in-Goes.ensures.value (c.is_bare.ensures c.if-is_bare.true c.args.symbol.now c.args.include_hash) (record { grows = omega arith; within = omega (arith, c.in-Goes.ensures.looks) })
-    (own_more _ 8 20 _ _ (omega arith) (omega (arith, c.in-Goes.ensures.looks, group_tight c.args.symbol.now word.FunctionHead c.args.state.now.letter g.V.Output.is_printed c.args.state.now.lifetimes c.args.state.now.place))) (omega arith) (omega arith)
-    (c.leave.ensures.did c.args.symbol.now c.args.include_hash c.args.output.now stack _)
+returns-then-is_bare g c = record {
+  did = λ stack.
+      word_bare (omega arith) word.FunctionHead parameters _ _ c.in-Goes.ensures.value (c.is_bare.ensures c.if-is_bare.true c.args.symbol.now c.args.include_hash) (record { grows = omega arith; within = omega (arith, c.in-Goes.ensures.looks) })
+      (own_more _ 8 20 _ _ (omega arith) (omega (arith, c.in-Goes.ensures.looks, group_tight c.args.symbol.now word.FunctionHead c.args.state.now.letter g.V.Output.is_printed c.args.state.now.lifetimes c.args.state.now.place))) (omega arith) (omega arith)
+      (c.leave.ensures.did c.args.symbol.now c.args.include_hash c.args.output.now stack _);
+  own = omega (arith, c.in-Goes.ensures.looks, group_tight c.args.symbol.now word.FunctionHead c.args.state.now.letter g.V.Output.is_printed c.args.state.now.lifetimes c.args.state.now.place);
+}
 
-pub returns-in_default-clause-did : goal.returns-in_default-clause-did
+pub returns-in_default : goal.returns-in_default
 unfolding unit_rest_at
-returns-in_default-clause-did g c = λ stack. word_refuses (omega arith) word.FunctionHead parameters _ _ c.in-Goes.ensures.value (record { grows = omega arith; within = omega (arith, c.in-Goes.ensures.looks, c.in_default.ensures.most) }) c.in_default.ensures.prints c.in_default.ensures.quiet
+returns-in_default g c = record {
+  did = λ stack. word_refuses (omega arith) word.FunctionHead parameters _ _ c.in-Goes.ensures.value (record { grows = omega arith; within = omega (arith, c.in-Goes.ensures.looks, c.in_default.ensures.most) }) c.in_default.ensures.prints c.in_default.ensures.quiet;
+  own = omega (arith, c.in-Goes.ensures.looks, c.in_default.ensures.most, group_tight c.args.symbol.now word.FunctionHead c.args.state.now.letter g.V.Output.is_printed c.args.state.now.lifetimes c.args.state.now.place);
+}
 
-pub returns-in-Ok-clause-did : goal.returns-in-Ok-clause-did
+pub returns-in-Ok : goal.returns-in-Ok
 unfolding unit_rest_at
-returns-in-Ok-clause-did g c = λ stack. word_goes (omega arith) point.OpenParameters word.FunctionHead parameters _ _ c.in-Goes.ensures.value (record { grows = omega arith; within = omega (arith, c.in-Goes.ensures.looks, c.in-Ok.ensures.most) }) c.in-Ok.ensures.prints c.in-Ok.ensures.ready c.requires.may.unmarked refl (omega arith) (omega arith) c.requires.fits
+returns-in-Ok g c = record {
+  did = λ stack. word_goes (omega arith) point.OpenParameters word.FunctionHead parameters _ _ c.in-Goes.ensures.value (record { grows = omega arith; within = omega (arith, c.in-Goes.ensures.looks, c.in-Ok.ensures.most) }) c.in-Ok.ensures.prints c.in-Ok.ensures.ready c.requires.may.unmarked refl (omega arith) (omega arith) c.requires.fits;
+  own = omega (arith, c.in-Goes.ensures.looks, c.in-Ok.ensures.most, group_tight c.args.symbol.now word.FunctionHead c.args.state.now.letter g.V.Output.is_printed c.args.state.now.lifetimes c.args.state.now.place);
+}
 
-pub returns-in-Stops-clause-did : goal.returns-in-Stops-clause-did
+pub returns-in-Stops : goal.returns-in-Stops
 unfolding unit_rest_at
-returns-in-Stops-clause-did g c = λ stack. word_stops (omega arith) word.FunctionHead parameters _ c.in-Stops.ensures.value (record { grows = omega arith; within = omega (arith, c.in-Stops.ensures.looks) }) c.requires.may.unmarked (omega arith)
-
-pub returns-then-is_bare-clause-own : goal.returns-then-is_bare-clause-own
-returns-then-is_bare-clause-own g c = omega (arith, c.in-Goes.ensures.looks, group_tight c.args.symbol.now word.FunctionHead c.args.state.now.letter g.V.Output.is_printed c.args.state.now.lifetimes c.args.state.now.place)
-
-pub returns-in_default-clause-own : goal.returns-in_default-clause-own
-returns-in_default-clause-own g c = omega (arith, c.in-Goes.ensures.looks, c.in_default.ensures.most, group_tight c.args.symbol.now word.FunctionHead c.args.state.now.letter g.V.Output.is_printed c.args.state.now.lifetimes c.args.state.now.place)
-
-pub returns-in-Ok-clause-own : goal.returns-in-Ok-clause-own
-returns-in-Ok-clause-own g c = omega (arith, c.in-Goes.ensures.looks, c.in-Ok.ensures.most, group_tight c.args.symbol.now word.FunctionHead c.args.state.now.letter g.V.Output.is_printed c.args.state.now.lifetimes c.args.state.now.place)
-
-pub returns-in-Stops-clause-own : goal.returns-in-Stops-clause-own
-returns-in-Stops-clause-own g c = omega (arith, c.in-Stops.ensures.looks, group_tight c.args.symbol.now word.FunctionHead c.args.state.now.letter g.V.Output.is_printed c.args.state.now.lifetimes c.args.state.now.place)
+returns-in-Stops g c = record {
+  did = λ stack. word_stops (omega arith) word.FunctionHead parameters _ c.in-Stops.ensures.value (record { grows = omega arith; within = omega (arith, c.in-Stops.ensures.looks) }) c.requires.may.unmarked (omega arith);
+  own = omega (arith, c.in-Stops.ensures.looks, group_tight c.args.symbol.now word.FunctionHead c.args.state.now.letter g.V.Output.is_printed c.args.state.now.lifetimes c.args.state.now.place);
+}
