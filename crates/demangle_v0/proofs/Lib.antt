@@ -7,6 +7,7 @@ pub mod PointDynTraits
 pub mod PointFunctions
 pub mod PointImpls
 pub mod PointLifetimes
+pub mod PointLists
 pub mod PointPaths
 pub mod PointPatterns
 pub mod PointPrints

@@ -1,21 +1,19 @@
 -- The points of dyn types.
-use Rattle.demangle_v0.proofs.PointTurns.{list_words, behind}
 use Rattle.std.specs.Prelude.{◌*◌, if◌then◌else◌, codes}
-use Rattle.std.proofs.Common.{◌≡◌, ℕ, ◌+◌, ◌-◌, ◌<◌, ◌≤◌, length, Bool, true, false, Option, Some, None, List, [], ◌∷◌, ◌++◌, Result, Ok, Err, refl, arith, sym, ap, ◌∙◌}
-use Rattle.std.proofs.lemmas.Bool.{false≢true}
+use Rattle.std.proofs.Common.{◌≡◌, ℕ, ◌+◌, ◌-◌, ◌<◌, ◌≤◌, length, Bool, true, false, Option, Some, None, List, [], ◌∷◌, ◌++◌, Result, Ok, refl, arith, sym, ap, ◌∙◌}
 use Prim.Native.Char.{code}
 use Rattle.demangle_symbol.specs.Digits.{is_byte}
 use Rattle.demangle_symbol.specs.Words.{Name, Read, identifier_at}
 use Rattle.demangle_symbol.specs.Names.{name_pieces}
-use Rattle.demangle_grammar.specs.Items.{Text, Items, a_path, a_type, a_constant, a_trait_path, done, unit, dyn_trait, bindings, opens, target}
-use Rattle.demangle_grammar.specs.Table.{says, type_inside, says_name, list, more, argument, in_binder, binding_value}
+use Rattle.demangle_grammar.specs.Items.{Text, Items, a_path, a_type, a_trait_path, done, unit, dyn_trait, bindings, opens, target}
+use Rattle.demangle_grammar.specs.Table.{says, says_name, list, more, argument, binding_value}
 use Rattle.demangle_grammar.specs.Totals.{total}
 use Rattle.demangle_v0.specs.Arguments.{separator, argument_point, argument_place, argument_costs}
 use Rattle.demangle_v0.specs.DynTraits.{dyn_type}
 use Rattle.demangle_grammar.specs.Events.{Heard, of, nothing_heard, and_then, with_looks, with_texts, around}
 use Rattle.demangle_words.specs.Texts.{word_items, text}
-use Rattle.demangle_grammar.specs.Reading.{Place, run, unit_outcome, max_depth}
-use Rattle.demangle_v0.specs.Points.{mark_texts, unit_rest_at, unit_rest, unit_rest_of, bindings_left, none_open, way_weight, weight_at, height_at, Fits, is_list_over, behind_list, list_costs, DidOn, words_at, Turn, turn, Env, Part, part, Does, PointDoes}
+use Rattle.demangle_grammar.specs.Reading.{Place, Surroundings, run, unit_outcome, max_depth}
+use Rattle.demangle_v0.specs.Points.{mark_texts, frame_at, then_frame, unit_rest_at, unit_rest, unit_rest_of, bindings_left, none_open, way_weight, height_at, Fits, is_list_over, behind_list, list_costs, own_looks, Turn, turn, Env, part, Does, Paid, RestDoes, PointDoes}
 use Rattle.demangle_words.specs.declared.texts.Mark.{Mark}
 use Rattle.demangle_words.specs.declared.texts.Mark.TheVariants as mark
 use Rattle.demangle_words.specs.declared.texts.Word.TheVariants as word
@@ -24,45 +22,45 @@ use Rattle.demangle_v0.specs.declared.points.Point.TheVariants as point
 use Rattle.demangle_v0.specs.declared.points.frames.Frame.{Frame}
 use Rattle.demangle_v0.specs.declared.points.State.{State}
 use Rattle.demangle_v0.specs.declared.points.Stop.{Stop}
-use Rattle.demangle_v0.specs.declared.points.Stop.TheVariants.{Fault}
-use Rattle.demangle_words.specs.declared.output.Output.{Ghosts}
 use Rattle.demangle_grammar.proofs.ClosedUnits.{last_child, unit_closed}
 use Rattle.demangle_grammar.proofs.Elements.{argument_element, dyn_trait_element}
 use Rattle.demangle_grammar.proofs.Hearing.{handing_both, and_then_assoc, handing_then, allowing_then}
-use Rattle.demangle_grammar.proofs.ListReads.{end_failed, end_over, more_failed, more_over, first_on, more_on, argument_lifetime, argument_constant, argument_type}
+use Rattle.demangle_grammar.proofs.ListReads.{followed, argument_lifetime, argument_constant, argument_type}
 use Rattle.demangle_grammar.proofs.PathReads.{trait_path_reads, trait_path_refers, trait_path_generic, trait_path_plain}
-use Rattle.demangle_v0.proofs.PointFunctions.{frame_at, moves, enters}
-use Rattle.demangle_v0.proofs.PointSteps.{heard, after, faulty}
 use Rattle.demangle_grammar.proofs.TypeReads.{if_so, says_all, bound_constant, bound_type, mark_of, bindings_failed, bindings_over, binding_stops, binding_reads}
+use Rattle.demangle_v0.proofs.PointLists.{left_of, open_at, shut_at, NotOver, one_look, paid_on, over_heard, on_heard, list_ends}
+use Rattle.demangle_v0.proofs.PointTurns.{behind, leaves, marks}
 
--- the state's frame
 abbrev pub first_traits : Items
 first_traits = list " + " (dyn_trait binding_value) done
 
-abbrev pub next_traits : Items
+abbrev next_traits : Items
 next_traits = more " + " (dyn_trait binding_value) done
 
-abbrev pub left_traits : Bool → Items
-left_traits first = if first then first_traits else next_traits
+abbrev left_traits : Bool → Items
+left_traits first = left_of first " + " (dyn_trait binding_value) done next_traits
 
-abbrev pub first_open : Items
-first_open = list ", " argument (opens done)
-
-abbrev pub next_open : Items
+abbrev next_open : Items
 next_open = more ", " argument (opens done)
 
-abbrev pub left_open : Bool → Items
-left_open first = if first then first_open else next_open
+abbrev left_open : Bool → Items
+left_open first = left_of first ", " argument (opens done) next_open
+
+abbrev traits_point : Bool → Point
+traits_point first = if first then point.FirstDynTrait else point.NextDynTrait
+
+abbrev open_point : Bool → Point
+open_point first = if first then point.FirstOpenArgument else point.NextOpenArgument
 
 -- behind the name of a binding
 abbrev pub behind_name : Items
 behind_name = unit binding_value (bindings_left true)
 
 -- what bindings print at their end, and each of them first
-abbrev pub end_mark : Bool → Option Mark
+abbrev end_mark : Bool → Option Mark
 end_mark o = if o then Some mark.Greater else None
 
-abbrev pub first_mark : Bool → Mark
+abbrev first_mark : Bool → Mark
 first_mark o = if o then mark.Comma else mark.Less
 
 end_text : (o : Bool) → if_so o ">" ≡ mark_texts (end_mark o)
@@ -73,390 +71,282 @@ first_text : (o : Bool) → mark_of o ≡ text (first_mark o)
 first_text true = refl
 first_text false = refl
 
--- where an argument goes on, told by its tag
-abbrev emits : Bool → Bool → Point
-emits x y = if x then point.Lifetime else if y then point.Constant else point.«Type»
+-- what an argument at this place is
+record Told (b : List ℕ) (i : ℕ) : Type 0 where
+  few : length (argument_costs b i) ≤ 2
+  most : total (argument_costs b i) ≤ 2
+  light : way_weight (argument_point b i) ≤ 1
+  low : (left : ℕ) → height_at (argument_point b i) left ≡ 8 * left + 1
+  fits : (left n : ℕ) → Fits point.NextOpenArgument left n → Fits (argument_point b i) left n
 
-told_light : (x y : Bool) → way_weight ((emits x y)) ≤ 1
-told_light true y = omega arith
-told_light false true = omega arith
-told_light false false = omega arith
-
-told_high : (x y : Bool) (left : ℕ) → height_at (emits x y) left ≡ 8 * left + 1
-told_high true y left = refl
-told_high false true left = refl
-told_high false false left = refl
-
-told_fits : (x y : Bool) (left n : ℕ) → Fits point.NextOpenArgument left n → Fits (emits x y) left n
-told_fits true y left n f = f
-told_fits false true left n f = f
-told_fits false false left n f = f
-
-pub costs_most : (b : List ℕ) (i : ℕ) → total (argument_costs b i) ≤ 2
-costs_most b i = go (is_byte b i (code "L"))
+told : (b : List ℕ) (i : ℕ) → Told b i
+told b i = go (is_byte b i (code "L")) (is_byte b i (code "K")) refl refl
   where
-    go : (x : Bool) → total (if x then 1 ∷ [] else 1 ∷ 1 ∷ []) ≤ 2
-    go true = omega arith
-    go false = omega arith
+    go : (x y : Bool) → is_byte b i (code "L") ≡ x → is_byte b i (code "K") ≡ y → Told b i
+    go true y p q = record { few = rw p (omega arith); most = rw p (omega arith); light = rw p (omega arith); low = λ left. rw p refl; fits = λ left n f. rw p f }
+    go false true p q = record { few = rw p (omega arith); most = rw p (omega arith); light = rw (p, q) (omega arith); low = λ left. rw (p, q) refl; fits = λ left n f. rw (p, q) f }
+    go false false p q = record { few = rw p (omega arith); most = rw p (omega arith); light = rw (p, q) (omega arith); low = λ left. rw (p, q) refl; fits = λ left n f. rw (p, q) f }
 
-pub costs_few : (b : List ℕ) (i : ℕ) → length (argument_costs b i) ≤ 2
-costs_few b i = go (is_byte b i (code "L"))
-  where
-    go : (x : Bool) → length {A = ℕ} (if x then 1 ∷ [] else 1 ∷ 1 ∷ []) ≤ 2
-    go true = omega arith
-    go false = omega arith
+module _ {V : Type 0} (e : Env V) (s : State) where
+  abbrev about : Surroundings
+  about = around e.symbol e.output.is_printed s.depth_left s.lifetimes
 
-module _ {V : Type 0} (output : Ghosts V) (b : List ℕ) (include_hash : Bool) where
-  -- A dyn type.
-
-  dyn_reads : (s : State) → heard output b include_hash dyn_type s.depth_left s.lifetimes s.place
-      ≡ with_texts output.is_printed (text mark.Dyn ∷ []) (and_then (heard output b include_hash (in_binder first_traits) s.depth_left s.lifetimes s.place) (unit_rest b include_hash output.is_printed (frame_at point.DynLifetime s)))
-  unfolding run unit_rest_at
-  dyn_reads s = refl
-
-  pub dyn_type_did : (s : State) (stack now : List Frame) (u : V) (new : State) (made : ℕ) → made ≤ 0 → Fits point.DynBinder s.depth_left s.lifetimes
-      → new.depth_left ≡ s.depth_left → new.lifetimes ≡ s.lifetimes → new.place ≡ s.place → new.mark ≡ Some mark.Dyn → now ≡ stack ++ frame_at point.DynLifetime s ∷ []
-      → DidOn output b include_hash 5 (heard output b include_hash dyn_type s.depth_left s.lifetimes s.place) 4 (8 * s.depth_left + 5) stack u (Ok point.DynBinder) new now u made
-  unfolding unit_rest_at
-  dyn_type_did s stack now u new made l f kl kn kp km w =
-      enters output b include_hash point.DynBinder (Some mark.Dyn) [] [] (omega arith) (frame_at point.DynLifetime s) _ (heard output b include_hash (in_binder first_traits) s.depth_left s.lifetimes s.place) 4 (8 * s.depth_left + 5) stack now u new made
-      (dyn_reads s) (rw (kl, kn, kp) refl) km w (omega (arith, l)) (omega (arith, l)) (omega arith) (omega arith) (omega (arith, kl)) (omega (arith, f)) (rw (kl, kn) f) refl
-
-  -- Dyn traits.
-
-  abbrev trait_did : Bool → State → List Frame → V → Point → State → List Frame → ℕ → Type 0
-  trait_did first s stack u to new now made = let p = if first then point.FirstDynTrait else point.NextDynTrait in
-      DidOn output b include_hash (words_at p) (unit_rest_of b include_hash output.is_printed p s) (weight_at p) (height_at p s.depth_left) stack u (Ok to) new now u made
-
-  trait_as : (first : Bool) (s : State) (stack : List Frame) (u : V) (to : Point) (new : State) (now : List Frame) (made : ℕ)
-      → DidOn output b include_hash 1 (heard output b include_hash (left_traits first) s.depth_left s.lifetimes s.place) 1 (8 * s.depth_left + 4) stack u (Ok to) new now u made → trait_did first s stack u to new now made
-  unfolding unit_rest_at
-  trait_as true s stack u to new now made d = d
-  trait_as false s stack u to new now made d = d
-
-  done_reads : (left n : ℕ) (i : Place) → heard output b include_hash done left n i ≡ nothing_heard i false
-  unfolding run
-  done_reads left n i = refl
-
-  traits_end : (first : Bool) (left n : ℕ) (i : Place) → is_list_over b i ≡ true → heard output b include_hash (left_traits first) left n i ≡ with_looks (list_costs i) (heard output b include_hash done left n (behind_list b i))
-  traits_end true left n None e = ap none_open (end_failed include_hash output.is_printed (around b output.is_printed left n) done (unit (dyn_trait binding_value) next_traits))
-  traits_end false left n None e = ap none_open (more_failed include_hash output.is_printed (around b output.is_printed left n) " + " (dyn_trait binding_value) done)
-  traits_end true left n (Some i) e = rw e (ap none_open (end_over include_hash output.is_printed (around b output.is_printed left n) done (unit (dyn_trait binding_value) next_traits) i e))
-  traits_end false left n (Some i) e = rw e (ap none_open (more_over include_hash output.is_printed (around b output.is_printed left n) " + " (dyn_trait binding_value) done i e))
-
-  pub traits_over : (first : Bool) (s : State) (stack : List Frame) (u : V) (new : State) (made : ℕ) → is_list_over b s.place ≡ true → made ≤ total (list_costs s.place)
-      → new.place ≡ behind_list b s.place → new.is_open ≡ false → new.mark ≡ None → trait_did first s stack u point.End new stack made
-  unfolding unit_rest_at
-  traits_over first s stack u new made e l kp ko km = trait_as first s stack u point.End new stack made
-      (moves output b include_hash point.End None (list_costs s.place) (omega (arith, list_words s.place)) _ (nothing_heard (behind_list b s.place) false) 1 (8 * s.depth_left + 4) stack u new made
-      (traits_end first s.depth_left s.lifetimes s.place e ∙ ap (with_looks (list_costs s.place)) (done_reads s.depth_left s.lifetimes (behind_list b s.place))) (rw (kp, ko) refl) km l (omega arith) (omega arith) tt)
+  -- a frame that the state leaves
+  abbrev frame_rest : Point → Place → Bool → Heard
+  frame_rest p = unit_rest e.symbol e.include_hash e.output.is_printed (frame_at p s)
 
   -- a dyn trait, and further ones
-  trait_then : (s : State) (i : ℕ)
-      → and_then (of include_hash output.is_printed (run (dyn_trait binding_value) (around b output.is_printed s.depth_left s.lifetimes) (Some i))) (λ j _. heard output b include_hash next_traits s.depth_left s.lifetimes j)
-      ≡ and_then (of include_hash output.is_printed (unit_outcome (around b output.is_printed s.depth_left s.lifetimes) a_trait_path false (Some i))) (unit_rest b include_hash output.is_printed (frame_at point.Bindings s))
+  trait_then : (i : ℕ) → followed (open_at e (dyn_trait binding_value) s (Some i)) (shut_at e next_traits s) ≡ and_then (of e.include_hash e.output.is_printed (unit_outcome about a_trait_path false (Some i))) (frame_rest point.Bindings)
   unfolding run unit_rest_at
-  trait_then s i =
-      let r = around b output.is_printed s.depth_left s.lifetimes in
-      and_then_assoc (of include_hash output.is_printed (unit_outcome r a_trait_path false (Some i))) (λ j o. of include_hash output.is_printed (run (bindings o binding_value) r j)) (λ j _. heard output b include_hash next_traits s.depth_left s.lifetimes j)
+  trait_then i = and_then_assoc (of e.include_hash e.output.is_printed (unit_outcome about a_trait_path false (Some i))) (λ j o. open_at e (bindings o binding_value) s j) (λ j _. shut_at e next_traits s j)
 
-  trait_reads : (first : Bool) (s : State) (i : ℕ) → s.depth_left ≤ max_depth → is_byte b i (code "E") ≡ false
-      → heard output b include_hash (left_traits first) s.depth_left s.lifetimes (Some i)
-      ≡ with_looks (1 ∷ []) (with_texts output.is_printed (mark_texts (separator first mark.Plus)) (with_looks [] (and_then (of include_hash output.is_printed (unit_outcome (around b output.is_printed s.depth_left s.lifetimes) a_trait_path false (Some i))) (unit_rest b include_hash output.is_printed (frame_at point.Bindings s)))))
-  trait_reads true s i l e =
-      ap none_open (first_on include_hash output.is_printed (around b output.is_printed s.depth_left s.lifetimes) " + " (dyn_trait binding_value) done i e) ∙ ap (with_looks (1 ∷ [])) (trait_then s i)
-  trait_reads false s i l e =
-      ap none_open (more_on include_hash output.is_printed b s.depth_left s.lifetimes " + " (dyn_trait binding_value) done i (dyn_trait_element b output.is_printed s.depth_left s.lifetimes l) e)
-      ∙ ap (λ (h : Heard). with_looks (1 ∷ []) (with_texts output.is_printed (codes " + " ∷ []) h)) (trait_then s i)
-
-  pub trait_on : (first : Bool) (s : State) (stack now : List Frame) (u : V) (new : State) (made : ℕ)
-      → is_list_over b s.place ≡ false → made ≤ total (list_costs s.place) → Fits point.NextDynTrait s.depth_left s.lifetimes
-      → new.depth_left ≡ s.depth_left → new.lifetimes ≡ s.lifetimes → new.place ≡ behind_list b s.place → new.mark ≡ separator first mark.Plus → now ≡ stack ++ frame_at point.Bindings s ∷ []
-      → trait_did first s stack u point.TraitPath new now made
-  unfolding unit_rest_at
-  trait_on first s stack now u new made e l f kl kn kp km w = go s.place refl
-    where
-      go : (x : Place) → s.place ≡ x → trait_did first s stack u point.TraitPath new now made
-      go None p = absurd (false≢true (sym (rw p at e)))
-      go (Some i) p =
-          let d : is_byte b i (code "E") ≡ false = rw p at e in
-          let q : new.place ≡ Some i = rw (p, d) at kp in
-          trait_as first s stack u point.TraitPath new now made
-          (enters output b include_hash point.TraitPath (separator first mark.Plus) (1 ∷ []) [] (omega arith) (frame_at point.Bindings s) _ (of include_hash output.is_printed (unit_outcome (around b output.is_printed s.depth_left s.lifetimes) a_trait_path false (Some i))) 1 (8 * s.depth_left + 4) stack now u new made
-          (rw p (trait_reads first s i (omega (arith, f)) d)) (rw (kl, kn, q) refl) km w (omega (arith, rw p at l)) (omega (arith, rw p at l)) (omega arith) (omega arith) (omega (arith, kl)) f (rw (kl, kn) f) refl)
+  trait_heard : (first : Bool) (i : ℕ) → Fits point.NextDynTrait s.depth_left s.lifetimes → is_byte e.symbol i (code "E") ≡ false → shut_at e (left_traits first) s (Some i)
+      ≡ with_looks (1 ∷ []) (with_texts e.output.is_printed (mark_texts (separator first mark.Plus)) (and_then (of e.include_hash e.output.is_printed (unit_outcome about a_trait_path false (Some i))) (frame_rest point.Bindings)))
+  trait_heard true i f h = ap none_open (on_heard e s true " + " mark.Plus refl (dyn_trait binding_value) done next_traits i (dyn_trait_element e.symbol e.output.is_printed s.depth_left s.lifetimes (omega (arith, f))) h) ∙ ap (with_looks (1 ∷ [])) (trait_then i)
+  trait_heard false i f h =
+      ap none_open (on_heard e s false " + " mark.Plus refl (dyn_trait binding_value) done next_traits i (dyn_trait_element e.symbol e.output.is_printed s.depth_left s.lifetimes (omega (arith, f))) h)
+      ∙ ap (λ (h : Heard). with_looks (1 ∷ []) (with_texts e.output.is_printed (text mark.Plus ∷ []) h)) (trait_then i)
 
   -- Paths of dyn traits.
 
-  pub trait_unread : (s : State) (stack : List Frame) (u : V) (new : State) (made : ℕ) → s.place ≡ None → new.mark ≡ None → made ≤ 0
-      → DidOn output b include_hash 8 (unit_rest_of b include_hash output.is_printed point.TraitPath s) 1 (8 * s.depth_left + 2) stack u (Err (Fault mark.AfterError)) new stack u made
+  refers_reads : (i : ℕ) → s.place ≡ Some i → is_byte e.symbol i (code "B") ≡ true → unit_rest_of e.symbol e.include_hash e.output.is_printed point.TraitPath s ≡ with_looks (1 ∷ []) (open_at e (target a_trait_path false) s (Some (i + 1)))
   unfolding unit_rest_at
-  trait_unread s stack u new made p k l = faulty output b include_hash mark.AfterError _ 1 (8 * s.depth_left + 2) stack u new made k (rw p refl) l (omega arith)
+  refers_reads i at h = rw at (trait_path_reads e.include_hash e.output.is_printed e.symbol s.depth_left s.lifetimes false i ∙ trait_path_refers e.include_hash e.output.is_printed e.symbol s.depth_left s.lifetimes i h)
 
-  refers_reads : (s : State) (i : ℕ) → s.place ≡ Some i → is_byte b i (code "B") ≡ true
-      → unit_rest_of b include_hash output.is_printed point.TraitPath s ≡ with_looks (1 ∷ []) (of include_hash output.is_printed (run (target a_trait_path false) (around b output.is_printed s.depth_left s.lifetimes) (Some (i + 1))))
+  generic_reads : (i : ℕ) → s.place ≡ Some i → is_byte e.symbol i (code "B") ≡ false → is_byte e.symbol i (code "I") ≡ true
+      → unit_rest_of e.symbol e.include_hash e.output.is_printed point.TraitPath s
+      ≡ with_looks (1 ∷ 1 ∷ []) (and_then (none_open (of e.include_hash e.output.is_printed (unit_outcome about a_path false (Some (i + 1))))) (unit_rest e.symbol e.include_hash e.output.is_printed (record (frame_at point.OpenTraitPath s) { in_value = false })))
   unfolding unit_rest_at
-  refers_reads s i p e = rw p (trait_path_reads include_hash output.is_printed b s.depth_left s.lifetimes false i ∙ trait_path_refers include_hash output.is_printed b s.depth_left s.lifetimes i e)
+  generic_reads i at h k = rw at (trait_path_reads e.include_hash e.output.is_printed e.symbol s.depth_left s.lifetimes false i ∙ trait_path_generic e.include_hash e.output.is_printed e.symbol s.depth_left s.lifetimes i h k)
 
-  generic_reads : (s : State) (i : ℕ) → s.place ≡ Some i → is_byte b i (code "B") ≡ false → is_byte b i (code "I") ≡ true
-      → unit_rest_of b include_hash output.is_printed point.TraitPath s
-      ≡ with_looks (1 ∷ 1 ∷ []) (and_then (none_open (of include_hash output.is_printed (unit_outcome (around b output.is_printed s.depth_left s.lifetimes) a_path false (Some (i + 1))))) (unit_rest b include_hash output.is_printed (record (frame_at point.OpenTraitPath s) { in_value = false })))
+  plain_reads : (i : ℕ) → s.place ≡ Some i → is_byte e.symbol i (code "B") ≡ false → is_byte e.symbol i (code "I") ≡ false
+      → unit_rest_of e.symbol e.include_hash e.output.is_printed point.TraitPath s ≡ with_looks (1 ∷ 1 ∷ []) (none_open (of e.include_hash e.output.is_printed (unit_outcome about a_path false (Some i))))
   unfolding unit_rest_at
-  generic_reads s i p e f = rw p (trait_path_reads include_hash output.is_printed b s.depth_left s.lifetimes false i ∙ trait_path_generic include_hash output.is_printed b s.depth_left s.lifetimes i e f)
-
-  pub generic_trait : (s : State) (i : ℕ) (stack now : List Frame) (u : V) (new : State) (made : ℕ) → s.place ≡ Some i → is_byte b i (code "B") ≡ false → is_byte b i (code "I") ≡ true → made ≤ 2 → Fits point.TraitPath s.depth_left s.lifetimes
-      → new.in_value ≡ false → new.depth_left ≡ s.depth_left → new.lifetimes ≡ s.lifetimes → new.place ≡ Some (i + 1) → new.mark ≡ None → now ≡ stack ++ record (frame_at point.OpenTraitPath s) { in_value = false } ∷ []
-      → DidOn output b include_hash 8 (unit_rest_of b include_hash output.is_printed point.TraitPath s) 1 (8 * s.depth_left + 2) stack u (Ok point.Path) new now u made
-  unfolding unit_rest_at
-  generic_trait s i stack now u new made p e g l f kv kl kn kp km w =
-      enters output b include_hash point.Path None [] (1 ∷ 1 ∷ []) (omega arith) (record (frame_at point.OpenTraitPath s) { in_value = false }) _ (none_open (of include_hash output.is_printed (unit_outcome (around b output.is_printed s.depth_left s.lifetimes) a_path false (Some (i + 1))))) 1 (8 * s.depth_left + 2) stack now u new made
-      (generic_reads s i p e g) (rw (kv, kl, kn, kp) refl) km w (omega (arith, l)) (omega (arith, l)) (omega arith) (omega arith) (omega (arith, kl)) f (rw (kl, kn) f) refl
-
-  shut_path : (left n i : ℕ) → of include_hash output.is_printed (unit_outcome (around b output.is_printed left n) a_path false (Some i)) ≡ none_open (of include_hash output.is_printed (unit_outcome (around b output.is_printed left n) a_path false (Some i)))
-  shut_path left n i =
-      let h = of include_hash output.is_printed (unit_outcome (around b output.is_printed left n) a_path false (Some i)) in
-      ap (λ (x : Bool). record { events = h.events; place = h.place; is_open = x }) (unit_closed b output.is_printed left n a_path false (Some i) tt)
-
-  plain_reads : (s : State) (i : ℕ) → s.place ≡ Some i → is_byte b i (code "B") ≡ false → is_byte b i (code "I") ≡ false
-      → unit_rest_of b include_hash output.is_printed point.TraitPath s ≡ with_looks (1 ∷ 1 ∷ []) (none_open (of include_hash output.is_printed (unit_outcome (around b output.is_printed s.depth_left s.lifetimes) a_path false (Some i))))
-  unfolding unit_rest_at
-  plain_reads s i p e f = rw p (trait_path_reads include_hash output.is_printed b s.depth_left s.lifetimes false i
-      ∙ (trait_path_plain include_hash output.is_printed b s.depth_left s.lifetimes i e f ∙ ap (with_looks (1 ∷ 1 ∷ [])) (shut_path s.depth_left s.lifetimes i)))
-
-  pub plain_trait : (s : State) (i : ℕ) (stack : List Frame) (u : V) (new : State) (made : ℕ) → s.place ≡ Some i → is_byte b i (code "B") ≡ false → is_byte b i (code "I") ≡ false → made ≤ 2 → Fits point.TraitPath s.depth_left s.lifetimes
-      → new.in_value ≡ false → new.depth_left ≡ s.depth_left → new.lifetimes ≡ s.lifetimes → new.place ≡ Some i → new.mark ≡ None
-      → DidOn output b include_hash 8 (unit_rest_of b include_hash output.is_printed point.TraitPath s) 1 (8 * s.depth_left + 2) stack u (Ok point.Path) new stack u made
-  unfolding unit_rest_at
-  plain_trait s i stack u new made p e g l f kv kl kn kp km =
-      moves output b include_hash point.Path None (1 ∷ 1 ∷ []) (omega arith) _ (none_open (of include_hash output.is_printed (unit_outcome (around b output.is_printed s.depth_left s.lifetimes) a_path false (Some i)))) 1 (8 * s.depth_left + 2) stack u new made
-      (plain_reads s i p e g) (rw (kv, kl, kn, kp) refl) km (omega (arith, l)) (omega arith) (omega (arith, kl)) (rw (kl, kn) f)
-
-  abbrev open_heard : Items → ℕ → ℕ → Place → Heard
-  open_heard p left n i = of include_hash output.is_printed (run p (around b output.is_printed left n) i)
-
-  opens_reads : (left n : ℕ) (i : Place) → open_heard (opens done) left n i ≡ nothing_heard i true
-  unfolding run
-  opens_reads left n i = refl
-
-  open_failed : (first : Bool) (left n : ℕ) → open_heard (left_open first) left n None ≡ nothing_heard None true
-  open_failed true left n = end_failed include_hash output.is_printed (around b output.is_printed left n) (opens done) (unit argument next_open) ∙ opens_reads left n None
-  open_failed false left n = more_failed include_hash output.is_printed (around b output.is_printed left n) ", " argument (opens done) ∙ opens_reads left n None
-
-  open_end : (first : Bool) (left n i : ℕ) → is_byte b i (code "E") ≡ true → open_heard (left_open first) left n (Some i) ≡ with_looks (1 ∷ []) (nothing_heard (Some (i + 1)) true)
-  open_end true left n i e = end_over include_hash output.is_printed (around b output.is_printed left n) (opens done) (unit argument next_open) i e ∙ ap (with_looks (1 ∷ [])) (opens_reads left n (Some (i + 1)))
-  open_end false left n i e = more_over include_hash output.is_printed (around b output.is_printed left n) ", " argument (opens done) i e ∙ ap (with_looks (1 ∷ [])) (opens_reads left n (Some (i + 1)))
-
-  abbrev open_did : Bool → State → List Frame → V → Point → State → List Frame → ℕ → Type 0
-  open_did first s stack u to new now made = let p = if first then point.FirstOpenArgument else point.NextOpenArgument in
-      DidOn output b include_hash (words_at p) (unit_rest_of b include_hash output.is_printed p s) (weight_at p) (height_at p s.depth_left) stack u (Ok to) new now u made
-
-  open_as : (first : Bool) (s : State) (stack : List Frame) (u : V) (to : Point) (new : State) (now : List Frame) (made : ℕ)
-      → DidOn output b include_hash 8 (open_heard (left_open first) s.depth_left s.lifetimes s.place) 1 (8 * s.depth_left + 2) stack u (Ok to) new now u made → open_did first s stack u to new now made
-  unfolding unit_rest_at
-  open_as true s stack u to new now made d = d
-  open_as false s stack u to new now made d = d
-
-  pub open_unread : (first : Bool) (s : State) (stack : List Frame) (u : V) (new : State) (made : ℕ) → s.place ≡ None → made ≤ 0 → new.place ≡ None → new.is_open ≡ true → new.mark ≡ None → open_did first s stack u point.End new stack made
-  unfolding unit_rest_at
-  open_unread first s stack u new made p l kp ko km = open_as first s stack u point.End new stack made
-      (moves output b include_hash point.End None [] (omega arith) _ (nothing_heard None true) 1 (8 * s.depth_left + 2) stack u new made (rw p (open_failed first s.depth_left s.lifetimes)) (rw (kp, ko) refl) km (omega (arith, l)) (omega arith) (omega arith) tt)
-
-  pub open_over : (first : Bool) (s : State) (i : ℕ) (stack : List Frame) (u : V) (new : State) (made : ℕ) → s.place ≡ Some i → is_byte b i (code "E") ≡ true → made ≤ 1
-      → new.place ≡ Some (i + 1) → new.is_open ≡ true → new.mark ≡ None → open_did first s stack u point.End new stack made
-  unfolding unit_rest_at
-  open_over first s i stack u new made p e l kp ko km = open_as first s stack u point.End new stack made
-      (moves output b include_hash point.End None (1 ∷ []) (omega arith) _ (nothing_heard (Some (i + 1)) true) 1 (8 * s.depth_left + 2) stack u new made (rw p (open_end first s.depth_left s.lifetimes i e)) (rw (kp, ko) refl) km (omega (arith, l)) (omega arith) (omega arith) tt)
+  plain_reads i at h k =
+      let g = of e.include_hash e.output.is_printed (unit_outcome about a_path false (Some i)) in
+      rw at (trait_path_reads e.include_hash e.output.is_printed e.symbol s.depth_left s.lifetimes false i
+      ∙ (trait_path_plain e.include_hash e.output.is_printed e.symbol s.depth_left s.lifetimes i h k
+      ∙ ap (λ (x : Bool). with_looks (1 ∷ 1 ∷ []) (record { events = g.events; place = g.place; is_open = x })) (unit_closed e.symbol e.output.is_printed s.depth_left s.lifetimes a_path false (Some i) tt)))
 
   -- an argument, and what follows
-  abbrev argument_share : State → ℕ → Heard
-  argument_share s i = unit_rest_at b include_hash output.is_printed (argument_point b i) false s.letter s.depth_left s.lifetimes (Some (argument_place b i)) s.is_open
-
-  argument_reads : (s : State) (i : ℕ) (k : Place → Heard)
-      → and_then (open_heard argument s.depth_left s.lifetimes (Some i)) (λ j _. k j) ≡ with_looks (argument_costs b i) (and_then (argument_share s i) (λ j _. k j))
+  argument_reads : (i : ℕ) (k : Place → Heard)
+      → followed (open_at e argument s (Some i)) k
+      ≡ with_looks (argument_costs e.symbol i) (followed (unit_rest_of e.symbol e.include_hash e.output.is_printed (argument_point e.symbol i) (record s { in_value = false; place = Some (argument_place e.symbol i) })) k)
   unfolding unit_rest_at
-  argument_reads s i k = go (is_byte b i (code "L")) (is_byte b i (code "K")) refl refl
+  argument_reads i k = go (is_byte e.symbol i (code "L")) (is_byte e.symbol i (code "K")) refl refl
     where
-      go : (x y : Bool) → is_byte b i (code "L") ≡ x → is_byte b i (code "K") ≡ y
-          → and_then (open_heard argument s.depth_left s.lifetimes (Some i)) (λ j _. k j) ≡ with_looks (argument_costs b i) (and_then (argument_share s i) (λ j _. k j))
-      go true y e f = rw e (ap (λ (h : Heard). and_then h (λ j _. k j)) (argument_lifetime include_hash output.is_printed (around b output.is_printed s.depth_left s.lifetimes) i e))
-      go false true e f = rw (e, f) (argument_constant include_hash output.is_printed (around b output.is_printed s.depth_left s.lifetimes) i k e f)
-      go false false e f = rw (e, f) (argument_type include_hash output.is_printed (around b output.is_printed s.depth_left s.lifetimes) i k e f)
+      go : (x y : Bool) → is_byte e.symbol i (code "L") ≡ x → is_byte e.symbol i (code "K") ≡ y → followed (open_at e argument s (Some i)) k
+          ≡ with_looks (argument_costs e.symbol i) (followed (unit_rest_of e.symbol e.include_hash e.output.is_printed (argument_point e.symbol i) (record s { in_value = false; place = Some (argument_place e.symbol i) })) k)
+      go true y p q = rw p (ap (λ (h : Heard). followed h k) (argument_lifetime e.include_hash e.output.is_printed about i p))
+      go false true p q = rw (p, q) (argument_constant e.include_hash e.output.is_printed about i k p q)
+      go false false p q = rw (p, q) (argument_type e.include_hash e.output.is_printed about i k p q)
 
-  open_reads : (first : Bool) (s : State) (i : ℕ) → s.depth_left ≤ max_depth → is_byte b i (code "E") ≡ false
-      → open_heard (left_open first) s.depth_left s.lifetimes (Some i)
-      ≡ with_looks (1 ∷ []) (with_texts output.is_printed (mark_texts (separator first mark.Comma)) (with_looks (argument_costs b i) (and_then (argument_share s i) (unit_rest b include_hash output.is_printed (frame_at point.NextOpenArgument s)))))
+  open_heard : (first : Bool) (i : ℕ) → Fits point.NextOpenArgument s.depth_left s.lifetimes → is_byte e.symbol i (code "E") ≡ false → open_at e (left_open first) s (Some i)
+      ≡ with_looks (1 ∷ []) (with_texts e.output.is_printed (mark_texts (separator first mark.Comma)) (with_looks (argument_costs e.symbol i)
+      (and_then (unit_rest_of e.symbol e.include_hash e.output.is_printed (argument_point e.symbol i) (record s { in_value = false; place = Some (argument_place e.symbol i) })) (frame_rest point.NextOpenArgument))))
   unfolding unit_rest_at
-  open_reads true s i l e =
-      first_on include_hash output.is_printed (around b output.is_printed s.depth_left s.lifetimes) ", " argument (opens done) i e
-      ∙ ap (with_looks (1 ∷ [])) (argument_reads s i (λ j. open_heard next_open s.depth_left s.lifetimes j))
-  open_reads false s i l e =
-      more_on include_hash output.is_printed b s.depth_left s.lifetimes ", " argument (opens done) i (argument_element b output.is_printed s.depth_left s.lifetimes l) e
-      ∙ ap (λ (h : Heard). with_looks (1 ∷ []) (with_texts output.is_printed (codes ", " ∷ []) h)) (argument_reads s i (λ j. open_heard next_open s.depth_left s.lifetimes j))
+  open_heard true i f h = on_heard e s true ", " mark.Comma refl argument (opens done) next_open i (argument_element e.symbol e.output.is_printed s.depth_left s.lifetimes (omega (arith, f))) h ∙ ap (with_looks (1 ∷ [])) (argument_reads i (open_at e next_open s))
+  open_heard false i f h =
+      on_heard e s false ", " mark.Comma refl argument (opens done) next_open i (argument_element e.symbol e.output.is_printed s.depth_left s.lifetimes (omega (arith, f))) h
+      ∙ ap (λ (h : Heard). with_looks (1 ∷ []) (with_texts e.output.is_printed (text mark.Comma ∷ []) h)) (argument_reads i (open_at e next_open s))
 
-  pub open_on : (first : Bool) (s : State) (i : ℕ) (stack now : List Frame) (u : V) (new : State) (made : ℕ)
-      → s.place ≡ Some i → is_byte b i (code "E") ≡ false → made ≤ 1 + total (argument_costs b i) → Fits point.NextOpenArgument s.depth_left s.lifetimes
-      → new.in_value ≡ false → new.letter ≡ s.letter → new.depth_left ≡ s.depth_left → new.lifetimes ≡ s.lifetimes → new.place ≡ Some (argument_place b i) → new.is_open ≡ s.is_open
-      → new.mark ≡ separator first mark.Comma → now ≡ stack ++ frame_at point.NextOpenArgument s ∷ []
-      → open_did first s stack u (argument_point b i) new now made
-  open_on first s i stack now u new made p e l f kv kc kl kn kp ko km w =
-      let x = is_byte b i (code "L") in let y = is_byte b i (code "K") in
-      let light : way_weight ((argument_point b i)) ≤ 1 = told_light x y in
-      let high : height_at (argument_point b i) s.depth_left ≡ 8 * s.depth_left + 1 = told_high x y s.depth_left in
-      open_as first s stack u (argument_point b i) new now made
-      (enters output b include_hash (argument_point b i) (separator first mark.Comma) (1 ∷ []) (argument_costs b i) (omega (arith, costs_few b i)) (frame_at point.NextOpenArgument s) _ (argument_share s i) 1 (8 * s.depth_left + 2) stack now u new made
-      (rw p (open_reads first s i (omega (arith, f)) e)) (rw (kv, kc, kl, kn, kp, ko) refl) km w (omega (arith, l)) (omega (arith, l, costs_most b i)) (omega (arith, light)) (omega arith) (rw kl (omega (arith, high))) f (rw (kl, kn) (told_fits x y s.depth_left s.lifetimes f)) refl)
+  -- Bindings, and the dyn traits behind them.
 
-  -- Bindings.
+  abbrev traits : Place → Bool → Heard
+  traits j o = shut_at e next_traits s j
 
-  -- bindings, and the dyn traits behind them
-  left_reads : (o : Bool) (left n : ℕ) (i : Place) → heard output b include_hash (bindings_left o) left n i ≡ and_then (open_heard (bindings o binding_value) left n i) (λ j _. heard output b include_hash next_traits left n j)
+  left_reads : (o : Bool) (i : Place) → shut_at e (bindings_left o) s i ≡ and_then (open_at e (bindings o binding_value) s i) traits
   unfolding run
-  left_reads o left n i = refl
+  left_reads o i = refl
 
-  traits_failed : (left n : ℕ) → heard output b include_hash next_traits left n None ≡ nothing_heard None false
-  traits_failed left n = traits_end false left n None refl ∙ done_reads left n None
+  traits_failed : traits None false ≡ nothing_heard None false
+  unfolding run
+  traits_failed = ap none_open (over_heard e s false " + " (dyn_trait binding_value) done done None refl)
 
-  failed_reads : (o : Bool) (left n : ℕ) → heard output b include_hash (bindings_left o) left n None ≡ with_texts output.is_printed (mark_texts (end_mark o)) (nothing_heard None false)
-  failed_reads o left n =
-      left_reads o left n None
-      ∙ (ap (λ (h : Heard). and_then h (λ j _. heard output b include_hash next_traits left n j)) (bindings_failed include_hash output.is_printed b left n o)
-      ∙ (handing_then output.is_printed (if_so o ">") (nothing_heard None false) (λ j _. heard output b include_hash next_traits left n j)
-      ∙ (ap (with_texts output.is_printed (if_so o ">")) (traits_failed left n) ∙ ap (λ ts. with_texts output.is_printed ts (nothing_heard None false)) (end_text o))))
+  failed_reads : (o : Bool) → shut_at e (bindings_left o) s None ≡ with_texts e.output.is_printed (mark_texts (end_mark o)) (nothing_heard None false)
+  failed_reads o =
+      left_reads o None
+      ∙ (ap (λ (h : Heard). and_then h traits) (bindings_failed e.include_hash e.output.is_printed e.symbol s.depth_left s.lifetimes o)
+      ∙ (handing_then e.output.is_printed (if_so o ">") (nothing_heard None false) traits
+      ∙ (ap (with_texts e.output.is_printed (if_so o ">")) traits_failed ∙ ap (λ ts. with_texts e.output.is_printed ts (nothing_heard None false)) (end_text o))))
 
-  over_reads : (o : Bool) (left n i : ℕ) → is_byte b i (code "p") ≡ false → heard output b include_hash (bindings_left o) left n (Some i) ≡ with_looks (1 ∷ []) (with_texts output.is_printed (mark_texts (end_mark o)) (heard output b include_hash next_traits left n (Some i)))
-  over_reads o left n i e =
-      let k : Place → Bool → Heard = λ j _. heard output b include_hash next_traits left n j in
-      left_reads o left n (Some i)
-      ∙ (ap (λ (h : Heard). and_then h k) (bindings_over include_hash output.is_printed b left n o i e)
-      ∙ (allowing_then (1 ∷ []) (with_texts output.is_printed (if_so o ">") (nothing_heard (Some i) false)) k
-      ∙ (ap (with_looks (1 ∷ [])) (handing_then output.is_printed (if_so o ">") (nothing_heard (Some i) false) k)
-      ∙ ap (λ ts. with_looks (1 ∷ []) (with_texts output.is_printed ts (k (Some i) false))) (end_text o))))
+  over_reads : (o : Bool) (i : ℕ) → is_byte e.symbol i (code "p") ≡ false → shut_at e (bindings_left o) s (Some i) ≡ with_looks (1 ∷ []) (with_texts e.output.is_printed (mark_texts (end_mark o)) (traits (Some i) false))
+  over_reads o i h =
+      left_reads o (Some i)
+      ∙ (ap (λ (h : Heard). and_then h traits) (bindings_over e.include_hash e.output.is_printed e.symbol s.depth_left s.lifetimes o i h)
+      ∙ (allowing_then (1 ∷ []) (with_texts e.output.is_printed (if_so o ">") (nothing_heard (Some i) false)) traits
+      ∙ (ap (with_looks (1 ∷ [])) (handing_then e.output.is_printed (if_so o ">") (nothing_heard (Some i) false) traits)
+      ∙ ap (λ ts. with_looks (1 ∷ []) (with_texts e.output.is_printed ts (traits (Some i) false))) (end_text o))))
 
-  abbrev binding_did : Bool → State → List Frame → V → Point → State → ℕ → Type 0
-  binding_did o s stack u to new made = DidOn output b include_hash 8 (heard output b include_hash (bindings_left o) s.depth_left s.lifetimes s.place) 2 (8 * s.depth_left + 4) stack u (Ok to) new stack u made
-
-  pub binding_unread : (o : Bool) (s : State) (stack : List Frame) (u : V) (new : State) (made : ℕ) → s.place ≡ None → made ≤ 0 → new.place ≡ None → new.is_open ≡ false → new.mark ≡ end_mark o → binding_did o s stack u point.End new made
-  unfolding unit_rest_at
-  binding_unread o s stack u new made p l kp ko km =
-      moves output b include_hash point.End (end_mark o) [] (omega arith) _ (nothing_heard None false) 2 (8 * s.depth_left + 4) stack u new made (rw p (failed_reads o s.depth_left s.lifetimes)) (rw (kp, ko) refl) km (omega (arith, l)) (omega arith) (omega arith) tt
-
-  pub binding_over : (o : Bool) (s : State) (i : ℕ) (stack : List Frame) (u : V) (new : State) (made : ℕ) → s.place ≡ Some i → is_byte b i (code "p") ≡ false → made ≤ 1 → Fits point.Bindings s.depth_left s.lifetimes
-      → new.depth_left ≡ s.depth_left → new.lifetimes ≡ s.lifetimes → new.place ≡ Some i → new.mark ≡ end_mark o → binding_did o s stack u point.NextDynTrait new made
-  unfolding unit_rest_at
-  binding_over o s i stack u new made p e l f kl kn kp km =
-      moves output b include_hash point.NextDynTrait (end_mark o) (1 ∷ []) (omega arith) _ (heard output b include_hash next_traits s.depth_left s.lifetimes (Some i)) 2 (8 * s.depth_left + 4) stack u new made (rw p (over_reads o s.depth_left s.lifetimes i e)) (rw (kl, kn, kp) refl) km (omega (arith, l)) (omega arith) (omega (arith, kl)) (rw (kl, kn) f)
-
-  abbrev name_heard : ℕ → ℕ → ℕ → Heard
-  name_heard left n i = heard output b include_hash (word_items word.BindingName 0 behind_name) left n (Some i)
+  abbrev name_heard : ℕ → Heard
+  name_heard i = shut_at e (word_items word.BindingName 0 behind_name) s (Some i)
 
   -- what is bound, and what stands behind it
-  behind_reads : (left n : ℕ) (i : Place) → heard output b include_hash behind_name left n i ≡ and_then (open_heard binding_value left n i) (λ x _. heard output b include_hash (bindings_left true) left n x)
+  behind_reads : (i : Place) → shut_at e behind_name s i ≡ followed (open_at e binding_value s i) (shut_at e (bindings_left true) s)
   unfolding run
-  behind_reads left n i = refl
+  behind_reads i = refl
 
-  no_name : (left n i : ℕ) → identifier_at b i ≡ None → name_heard left n i ≡ with_looks (4 * (length b - i + 1) ∷ []) (with_texts output.is_printed (codes "{invalid syntax}" ∷ []) (nothing_heard None false))
+  no_name : (i : ℕ) → identifier_at e.symbol i ≡ None → name_heard i ≡ with_looks (4 * (length e.symbol - i + 1) ∷ []) (with_texts e.output.is_printed (codes "{invalid syntax}" ∷ []) (nothing_heard None false))
   unfolding run
-  no_name left n i f = rw f refl
+  no_name i f = rw f refl
 
-  name_said : (left n : ℕ) (a : Name) (j : Place) → open_heard (says_name a (says " = " behind_name)) left n j ≡ with_texts output.is_printed (name_pieces a ++ codes " = " ∷ []) (open_heard behind_name left n j)
+  name_said : (a : Name) (j : Place) → open_at e (says_name a (says " = " behind_name)) s j ≡ with_texts e.output.is_printed (name_pieces a ++ codes " = " ∷ []) (open_at e behind_name s j)
   unfolding run
-  name_said left n a j =
-      says_all include_hash output.is_printed (name_pieces a) (says " = " behind_name) (around b output.is_printed left n) j
-      ∙ sym (handing_both output.is_printed (name_pieces a) (codes " = " ∷ []) (open_heard behind_name left n j))
+  name_said a j =
+      says_all e.include_hash e.output.is_printed (name_pieces a) (says " = " behind_name) about j
+      ∙ sym (handing_both e.output.is_printed (name_pieces a) (codes " = " ∷ []) (open_at e behind_name s j))
 
-  a_name : (left n i j : ℕ) (a : Name) → identifier_at b i ≡ Some (a, j)
-      → name_heard left n i ≡ with_looks (4 * (j - i + 1) ∷ []) (with_texts output.is_printed (name_pieces a ++ codes " = " ∷ []) (heard output b include_hash behind_name left n (Some j)))
+  a_name : (i j : ℕ) (a : Name) → identifier_at e.symbol i ≡ Some (a, j)
+      → name_heard i ≡ with_looks (4 * (j - i + 1) ∷ []) (with_texts e.output.is_printed (name_pieces a ++ codes " = " ∷ []) (shut_at e behind_name s (Some j)))
   unfolding run
-  a_name left n i j a f = rw f (ap (λ (h : Heard). with_looks (4 * (j - i + 1) ∷ []) (none_open h)) (name_said left n a (Some j)))
+  a_name i j a f = rw f (ap (λ (h : Heard). with_looks (4 * (j - i + 1) ∷ []) (none_open h)) (name_said a (Some j)))
 
-  further : (left n : ℕ) (i : Place) → and_then (open_heard binding_value left n i) (λ x _. and_then (open_heard (bindings true binding_value) left n x) (λ j _. heard output b include_hash next_traits left n j)) ≡ heard output b include_hash behind_name left n i
+  further : (i : Place) → followed (open_at e binding_value s i) (λ x. and_then (open_at e (bindings true binding_value) s x) traits) ≡ shut_at e behind_name s i
   unfolding run
-  further left n i = refl
+  further i = refl
 
-  on_reads : (o : Bool) (left n i : ℕ) → left ≤ max_depth → is_byte b i (code "p") ≡ true → heard output b include_hash (bindings_left o) left n (Some i) ≡ with_looks (1 ∷ []) (with_texts output.is_printed (mark_of o ∷ []) (name_heard left n (i + 1)))
-  on_reads o left n i l e = left_reads o left n (Some i) ∙ go (identifier_at b (i + 1)) refl
+  on_reads : (o : Bool) (i : ℕ) → s.depth_left ≤ max_depth → is_byte e.symbol i (code "p") ≡ true → shut_at e (bindings_left o) s (Some i) ≡ with_looks (1 ∷ []) (with_texts e.output.is_printed (mark_of o ∷ []) (name_heard (i + 1)))
+  on_reads o i l p = left_reads o (Some i) ∙ go (identifier_at e.symbol (i + 1)) refl
     where
-      k : Place → Bool → Heard
-      k = λ j _. heard output b include_hash next_traits left n j
-
       -- looks, and texts behind them
-      out_of : (x : ℕ) (ts : List Text) (h : Heard) → and_then (with_looks (x ∷ []) (with_texts output.is_printed ts h)) k ≡ with_looks (x ∷ []) (with_texts output.is_printed ts (and_then h k))
-      out_of x ts h = allowing_then (x ∷ []) (with_texts output.is_printed ts h) k ∙ ap (with_looks (x ∷ [])) (handing_then output.is_printed ts h k)
+      out_of : (x : ℕ) (ts : List Text) (h : Heard) → and_then (with_looks (x ∷ []) (with_texts e.output.is_printed ts h)) traits ≡ with_looks (x ∷ []) (with_texts e.output.is_printed ts (and_then h traits))
+      out_of x ts h = allowing_then (x ∷ []) (with_texts e.output.is_printed ts h) traits ∙ ap (with_looks (x ∷ [])) (handing_then e.output.is_printed ts h traits)
 
-      go : (r : Read Name) → identifier_at b (i + 1) ≡ r → and_then (open_heard (bindings o binding_value) left n (Some i)) k ≡ with_looks (1 ∷ []) (with_texts output.is_printed (mark_of o ∷ []) (name_heard left n (i + 1)))
+      -- behind the mark
+      marked : (x : ℕ) (ts : List Text) (h k : Heard) → open_at e (bindings o binding_value) s (Some i) ≡ with_looks (1 ∷ []) (with_texts e.output.is_printed (mark_of o ∷ []) (with_looks (x ∷ []) (with_texts e.output.is_printed ts h))) → and_then h traits ≡ k
+          → name_heard (i + 1) ≡ with_looks (x ∷ []) (with_texts e.output.is_printed ts k) → and_then (open_at e (bindings o binding_value) s (Some i)) traits ≡ with_looks (1 ∷ []) (with_texts e.output.is_printed (mark_of o ∷ []) (name_heard (i + 1)))
+      marked x ts h k y z w =
+          ap (λ (h : Heard). and_then h traits) y
+          ∙ (out_of 1 (mark_of o ∷ []) (with_looks (x ∷ []) (with_texts e.output.is_printed ts h))
+          ∙ ap (λ (h : Heard). with_looks (1 ∷ []) (with_texts e.output.is_printed (mark_of o ∷ []) h)) (out_of x ts h ∙ (ap (λ (h : Heard). with_looks (x ∷ []) (with_texts e.output.is_printed ts h)) z ∙ sym w)))
+
+      go : (r : Read Name) → identifier_at e.symbol (i + 1) ≡ r → and_then (open_at e (bindings o binding_value) s (Some i)) traits ≡ with_looks (1 ∷ []) (with_texts e.output.is_printed (mark_of o ∷ []) (name_heard (i + 1)))
       go None f =
-          let c = 4 * (length b - (i + 1) + 1) in
-          ap (λ (h : Heard). and_then h k) (binding_stops include_hash output.is_printed b left n o i e f)
-          ∙ (out_of 1 (mark_of o ∷ []) (with_looks (c ∷ []) (with_texts output.is_printed (codes "{invalid syntax}" ∷ []) (nothing_heard None false)))
-          ∙ ap (λ (h : Heard). with_looks (1 ∷ []) (with_texts output.is_printed (mark_of o ∷ []) h))
-          (out_of c (codes "{invalid syntax}" ∷ []) (nothing_heard None false)
-          ∙ (ap (λ (h : Heard). with_looks (c ∷ []) (with_texts output.is_printed (codes "{invalid syntax}" ∷ []) h)) (traits_failed left n) ∙ sym (no_name left n (i + 1) f))))
+          marked (4 * (length e.symbol - (i + 1) + 1)) (codes "{invalid syntax}" ∷ []) (nothing_heard None false) (nothing_heard None false) (binding_stops e.include_hash e.output.is_printed e.symbol s.depth_left s.lifetimes o i p f) traits_failed (no_name (i + 1) f)
       go (Some r) f =
-          let c = 4 * (r.1 - (i + 1) + 1) in
-          let ts = name_pieces r.0 ++ codes " = " ∷ [] in
-          let m : Place → Bool → Heard = λ x _. open_heard (bindings true binding_value) left n x in
-          let h : Heard = and_then (open_heard binding_value left n (Some r.1)) m in
-          ap (λ (h : Heard). and_then h k) (binding_reads include_hash output.is_printed b left n o i r.1 r.0 l e f)
-          ∙ (out_of 1 (mark_of o ∷ []) (with_looks (c ∷ []) (with_texts output.is_printed ts h))
-          ∙ ap (λ (h : Heard). with_looks (1 ∷ []) (with_texts output.is_printed (mark_of o ∷ []) h))
-          (out_of c ts h
-          ∙ (ap (λ (h : Heard). with_looks (c ∷ []) (with_texts output.is_printed ts h)) (and_then_assoc (open_heard binding_value left n (Some r.1)) m k ∙ further left n (Some r.1)) ∙ sym (a_name left n (i + 1) r.1 r.0 f))))
-
-  pub binding_on : (o : Bool) (s : State) (i : ℕ) (stack : List Frame) (u : V) (new : State) (made : ℕ) → s.place ≡ Some i → is_byte b i (code "p") ≡ true → made ≤ 1 → Fits point.Bindings s.depth_left s.lifetimes
-      → new.depth_left ≡ s.depth_left → new.lifetimes ≡ s.lifetimes → new.place ≡ Some (i + 1) → new.mark ≡ Some (first_mark o) → binding_did o s stack u point.BindingName new made
-  unfolding unit_rest_at
-  binding_on o s i stack u new made p e l f kl kn kp km =
-      moves output b include_hash point.BindingName (Some (first_mark o)) (1 ∷ []) (omega arith) _ (name_heard s.depth_left s.lifetimes (i + 1)) 2 (8 * s.depth_left + 4) stack u new made
-      (rw p (on_reads o s.depth_left s.lifetimes i (omega (arith, f)) e ∙ ap (λ (t : Text). with_looks (1 ∷ []) (with_texts output.is_printed (t ∷ []) (name_heard s.depth_left s.lifetimes (i + 1)))) (first_text o)))
-      (rw (kl, kn, kp) refl) km (omega (arith, l)) (omega arith) (omega (arith, kl)) (rw (kl, kn) f)
+          let m : Place → Bool → Heard = λ x _. open_at e (bindings true binding_value) s x in
+          marked (4 * (r.1 - (i + 1) + 1)) (name_pieces r.0 ++ codes " = " ∷ []) (and_then (open_at e binding_value s (Some r.1)) m) (shut_at e behind_name s (Some r.1)) (binding_reads e.include_hash e.output.is_printed e.symbol s.depth_left s.lifetimes o i r.1 r.0 l p f)
+          (and_then_assoc (open_at e binding_value s (Some r.1)) m traits ∙ further (Some r.1)) (a_name (i + 1) r.1 r.0 f)
 
   -- What is bound.
 
-  abbrev bound_did : State → List Frame → V → Point → State → List Frame → ℕ → Type 0
-  bound_did s stack u to new now made = DidOn output b include_hash 8 (unit_rest_of b include_hash output.is_printed point.Bound s) 5 (8 * s.depth_left + 4) stack u (Ok to) new now u made
-
-  bound_reads : (s : State) (i : Place) (front : List ℕ) (g : Heard) → s.place ≡ i → open_heard binding_value s.depth_left s.lifetimes i ≡ with_looks front g
-      → unit_rest_of b include_hash output.is_printed point.Bound s ≡ with_looks front (with_texts output.is_printed (mark_texts None) (with_looks [] (and_then (none_open g) (unit_rest b include_hash output.is_printed (frame_at point.OpenBindings s)))))
+  bound_reads : (i : Place) (front : List ℕ) (g : Heard) → s.place ≡ i → open_at e binding_value s i ≡ with_looks front g
+      → unit_rest_of e.symbol e.include_hash e.output.is_printed point.Bound s ≡ with_looks front (and_then (none_open g) (frame_rest point.OpenBindings))
   unfolding unit_rest_at
-  bound_reads s i front g p e = rw p
-      (behind_reads s.depth_left s.lifetimes i
-      ∙ (ap (λ (h : Heard). and_then h (λ x _. heard output b include_hash (bindings_left true) s.depth_left s.lifetimes x)) e ∙ allowing_then front g (λ x _. heard output b include_hash (bindings_left true) s.depth_left s.lifetimes x)))
+  bound_reads i front g at h = rw at
+      (behind_reads i ∙ (ap (λ (h : Heard). followed h (shut_at e (bindings_left true) s)) h ∙ allowing_then front g (λ x _. shut_at e (bindings_left true) s x)))
 
-  type_heard : (left n : ℕ) (i : Place) → open_heard type_inside left n i ≡ of include_hash output.is_printed (unit_outcome (around b output.is_printed left n) a_type false i)
-  type_heard left n i = last_child include_hash output.is_printed b left n a_type false i tt
-
-  no_bound : (left n : ℕ) → open_heard binding_value left n None ≡ open_heard type_inside left n None
+  no_bound : open_at e binding_value s None ≡ of e.include_hash e.output.is_printed (unit_outcome about a_type false None)
   unfolding run
-  no_bound left n = refl
+  no_bound = last_child e.include_hash e.output.is_printed e.symbol s.depth_left s.lifetimes a_type false None tt
 
-  pub bound_unread : (s : State) (stack now : List Frame) (u : V) (new : State) (made : ℕ) → s.place ≡ None → made ≤ 0 → Fits point.Bound s.depth_left s.lifetimes
-      → new.depth_left ≡ s.depth_left → new.lifetimes ≡ s.lifetimes → new.place ≡ None → new.mark ≡ None → now ≡ stack ++ frame_at point.OpenBindings s ∷ [] → bound_did s stack u point.«Type» new now made
-  unfolding unit_rest_at
-  bound_unread s stack now u new made p l f kl kn kp km w =
-      let g : Heard = of include_hash output.is_printed (unit_outcome (around b output.is_printed s.depth_left s.lifetimes) a_type false None) in
-      enters output b include_hash point.«Type» None [] [] (omega arith) (frame_at point.OpenBindings s) _ (none_open g) 5 (8 * s.depth_left + 4) stack now u new made
-      (bound_reads s None [] g p (no_bound s.depth_left s.lifetimes ∙ type_heard s.depth_left s.lifetimes None)) (rw (kl, kn, kp) refl) km w (omega (arith, l)) (omega (arith, l)) (omega arith) (omega arith) (omega (arith, kl)) f (rw (kl, kn) f) refl
-
-  pub bound_constant_on : (s : State) (i : ℕ) (stack now : List Frame) (u : V) (new : State) (made : ℕ) → s.place ≡ Some i → is_byte b i (code "K") ≡ true → made ≤ 1 → Fits point.Bound s.depth_left s.lifetimes
-      → new.in_value ≡ false → new.depth_left ≡ s.depth_left → new.lifetimes ≡ s.lifetimes → new.place ≡ Some (i + 1) → new.mark ≡ None → now ≡ stack ++ frame_at point.OpenBindings s ∷ [] → bound_did s stack u point.Constant new now made
-  unfolding unit_rest_at
-  bound_constant_on s i stack now u new made p e l f kv kl kn kp km w =
-      let g : Heard = of include_hash output.is_printed (unit_outcome (around b output.is_printed s.depth_left s.lifetimes) a_constant false (Some (i + 1))) in
-      enters output b include_hash point.Constant None (1 ∷ []) [] (omega arith) (frame_at point.OpenBindings s) _ (none_open g) 5 (8 * s.depth_left + 4) stack now u new made
-      (bound_reads s (Some i) (1 ∷ []) g p (bound_constant include_hash output.is_printed b s.depth_left s.lifetimes i e)) (rw (kv, kl, kn, kp) refl) km w (omega (arith, l)) (omega (arith, l)) (omega arith) (omega arith) (omega (arith, kl)) f (rw (kl, kn) f) refl
-
-  pub bound_type_on : (s : State) (i : ℕ) (stack now : List Frame) (u : V) (new : State) (made : ℕ) → s.place ≡ Some i → is_byte b i (code "K") ≡ false → made ≤ 1 → Fits point.Bound s.depth_left s.lifetimes
-      → new.depth_left ≡ s.depth_left → new.lifetimes ≡ s.lifetimes → new.place ≡ Some i → new.mark ≡ None → now ≡ stack ++ frame_at point.OpenBindings s ∷ [] → bound_did s stack u point.«Type» new now made
-  unfolding unit_rest_at
-  bound_type_on s i stack now u new made p e l f kl kn kp km w =
-      let g : Heard = of include_hash output.is_printed (unit_outcome (around b output.is_printed s.depth_left s.lifetimes) a_type false (Some i)) in
-      enters output b include_hash point.«Type» None (1 ∷ []) [] (omega arith) (frame_at point.OpenBindings s) _ (none_open g) 5 (8 * s.depth_left + 4) stack now u new made
-      (bound_reads s (Some i) (1 ∷ []) g p (bound_type include_hash output.is_printed b s.depth_left s.lifetimes i e)) (rw (kl, kn, kp) refl) km w (omega (arith, l)) (omega (arith, l)) (omega arith) (omega arith) (omega (arith, kl)) f (rw (kl, kn) f) refl
-
--- A dyn trait's path that refers to another.
 module _ {V : Type 0} {e : Env V} where
+  pub dyn_opens : {t : Turn V} {stack : List Frame} → Fits point.DynBinder t.state.depth_left t.state.lifetimes → stack ≡ t.stack ++ frame_at point.DynLifetime t.state ∷ []
+      → RestDoes e dyn_type 5 4 5 t (Ok point.DynBinder) (record t { state = record t.state { mark = Some mark.Dyn }; stack = stack })
+  unfolding run then_frame unit_rest_at
+  dyn_opens {t} f r =
+      leaves point.DynBinder [] [] (omega arith) (Some (frame_at point.DynLifetime t.state)) refl r (record { grows = omega arith; within = omega arith }) (omega arith) (omega arith) (omega arith) (omega arith) (omega arith) (omega (arith, f)) f (λ _. refl)
+
+  -- Dyn traits.
+
+  traits_as : {t u : Turn V} {r : Result Point Stop} (first : Bool) → RestDoes e (left_traits first) 1 1 4 t r u → PointDoes e (traits_point first) t r u
+  unfolding unit_rest_at
+  traits_as true d = d
+  traits_as false d = d
+
+  pub traits_over : {t : Turn V} {j : Place} {n : ℕ} (first : Bool) → is_list_over e.symbol t.state.place ≡ true → j ≡ behind_list e.symbol t.state.place → Paid t.looks (list_costs t.state.place) n → t.state.mark ≡ None
+      → PointDoes e (traits_point first) t (Ok point.End) (record t { state = record t.state { place = j; is_open = false }; looks = n })
+  unfolding run unit_rest_at
+  traits_over {t} first h k p m = traits_as first (list_ends point.End (omega arith) (rw (k, m) (ap none_open (over_heard e t.state first " + " (dyn_trait binding_value) done next_traits t.state.place h))) p (omega arith) (omega arith) tt)
+
+  pub trait_on : {t : Turn V} {j : Place} {m : Option Mark} {stack : List Frame} {n : ℕ} (first : Bool) → NotOver e.symbol t.state.place → j ≡ behind_list e.symbol t.state.place → Paid t.looks (list_costs t.state.place) n → m ≡ separator first mark.Plus
+      → Fits point.NextDynTrait t.state.depth_left t.state.lifetimes → stack ≡ t.stack ++ frame_at point.Bindings t.state ∷ [] → PointDoes e (traits_point first) t (Ok point.TraitPath) (record t { state = record t.state { place = j; mark = m }; stack = stack; looks = n })
+  unfolding then_frame unit_rest_at
+  trait_on {t} first i k p c f r =
+      let paid = paid_on t.state.place p in
+      traits_as first (leaves point.TraitPath (1 ∷ []) [] (omega arith) (Some (frame_at point.Bindings t.state)) (rw (k ∙ i.3, c, i.1) (trait_heard e t.state first i.0 f i.2)) r paid (omega arith) (rw i.1 (omega (arith, paid.within))) (omega arith) (omega arith) (omega arith) f f (λ _. refl))
+
+  -- Paths of dyn traits.
+
   pub trait_refers : {t u : Turn V} {r : Result Point Stop} {n : ℕ} (i : ℕ) → t.state.place ≡ Some i → is_byte e.symbol i (code "B") ≡ true → n ≡ t.looks + 1 → i < length e.symbol
-      → Does e (turn (record t.state { place = Some (i + 1) }) t.stack t.output n) (part 1 (of e.include_hash e.output.is_printed (run (target a_trait_path false) (around e.symbol e.output.is_printed t.state.depth_left t.state.lifetimes) (Some (i + 1)))) 1 (8 * t.state.depth_left + 2)) r u
+      → Does e (turn (record t.state { place = Some (i + 1) }) t.stack t.output n) (part 1 (open_at e (target a_trait_path false) t.state (Some (i + 1))) 1 (8 * t.state.depth_left + 2)) r u
       → PointDoes e point.TraitPath t r u
   unfolding unit_rest_at
-  trait_refers {t} i at b l within d =
-      behind (1 ∷ []) (omega arith) (refers_reads e.output e.symbol e.include_hash t.state i at b) (record { grows = omega (arith, l); within = omega (arith, l) }) (rw at (omega (arith, l, within))) (omega arith) (omega arith) d
+  trait_refers {t} i at b l within d = behind (1 ∷ []) (omega arith) (refers_reads e t.state i at b) (one_look l) (rw at (omega (arith, l, within))) (omega arith) (omega arith) d
+
+  pub generic_trait : {t : Turn V} {stack : List Frame} {n : ℕ} (i : ℕ) → t.state.place ≡ Some i → is_byte e.symbol i (code "B") ≡ false → is_byte e.symbol i (code "I") ≡ true → n ≡ t.looks + 2 → t.state.mark ≡ None → Fits point.TraitPath t.state.depth_left t.state.lifetimes
+      → stack ≡ t.stack ++ record (frame_at point.OpenTraitPath t.state) { in_value = false } ∷ [] → PointDoes e point.TraitPath t (Ok point.Path) (record t { state = record t.state { in_value = false; place = Some (i + 1) }; stack = stack; looks = n })
+  unfolding then_frame unit_rest_at
+  generic_trait {t} i at h k l m f r =
+      leaves point.Path [] (1 ∷ 1 ∷ []) (omega arith) (Some (record (frame_at point.OpenTraitPath t.state) { in_value = false })) (rw m (generic_reads e t.state i at h k)) r
+      (record { grows = omega (arith, l); within = omega (arith, l) }) (omega arith) (rw at (omega (arith, l))) (omega arith) (omega arith) (omega arith) f f (λ _. refl)
+
+  pub plain_trait : {t : Turn V} {n : ℕ} (i : ℕ) → t.state.place ≡ Some i → is_byte e.symbol i (code "B") ≡ false → is_byte e.symbol i (code "I") ≡ false → n ≡ t.looks + 2 → t.state.mark ≡ None → Fits point.TraitPath t.state.depth_left t.state.lifetimes
+      → PointDoes e point.TraitPath t (Ok point.Path) (record t { state = record t.state { in_value = false }; looks = n })
+  unfolding then_frame unit_rest_at
+  plain_trait {t} i at h k l m f =
+      leaves point.Path (1 ∷ 1 ∷ []) [] (omega arith) None (plain_reads e t.state i at h k ∙ ap (with_looks (1 ∷ 1 ∷ [])) (rw (m, at) refl)) refl (record { grows = omega (arith, l); within = omega (arith, l) }) (omega arith) (rw at (omega (arith, l))) (omega arith) (omega arith) (omega arith) tt f (λ _. tt)
+
+  -- The arguments of a dyn trait path.
+
+  open_as : {t u : Turn V} {r : Result Point Stop} (first : Bool) → Does e t (part 8 (open_at e (left_open first) t.state t.state.place) 1 (8 * t.state.depth_left + 2)) r u → PointDoes e (open_point first) t r u
+  unfolding unit_rest_at
+  open_as true d = d
+  open_as false d = d
+
+  pub open_over : {t : Turn V} {j : Place} {n : ℕ} (first : Bool) → is_list_over e.symbol t.state.place ≡ true → j ≡ behind_list e.symbol t.state.place → Paid t.looks (list_costs t.state.place) n → t.state.mark ≡ None
+      → PointDoes e (open_point first) t (Ok point.End) (record t { state = record t.state { place = j; is_open = true }; looks = n })
+  unfolding run unit_rest_at
+  open_over {t} first h k p m = open_as first (list_ends point.End (omega arith) (rw (k, m) (over_heard e t.state first ", " argument (opens done) next_open t.state.place h)) p (omega arith) (omega arith) tt)
+
+  pub open_on : {t : Turn V} {m : Option Mark} {stack : List Frame} {n : ℕ} (first : Bool) (i : ℕ) → t.state.place ≡ Some i → is_byte e.symbol i (code "E") ≡ false → Paid t.looks (1 ∷ argument_costs e.symbol i) n → m ≡ separator first mark.Comma
+      → Fits point.NextOpenArgument t.state.depth_left t.state.lifetimes → stack ≡ t.stack ++ frame_at point.NextOpenArgument t.state ∷ []
+      → PointDoes e (open_point first) t (Ok (argument_point e.symbol i)) (record t { state = record t.state { in_value = false; place = Some (argument_place e.symbol i); mark = m }; stack = stack; looks = n })
+  unfolding then_frame
+  open_on {t} first i at h p c f r =
+      let w = told e.symbol i in
+      open_as first (leaves (argument_point e.symbol i) (1 ∷ []) (argument_costs e.symbol i) (omega (arith, w.few)) (Some (frame_at point.NextOpenArgument t.state)) (rw (c, at) (open_heard e t.state first i f h)) r p w.most (rw at (omega (arith, p.within, w.most))) (omega (arith, w.light)) (omega arith) (omega (arith, w.low t.state.depth_left)) f (w.fits t.state.depth_left t.state.lifetimes f) (λ _. refl))
+
+  -- Bindings.
+
+  pub binding_unread : {t : Turn V} {m : Option Mark} (o : Bool) → t.state.place ≡ None → m ≡ end_mark o → RestDoes e (bindings_left o) 8 2 4 t (Ok point.End) (record t { state = record t.state { is_open = false; mark = m } })
+  unfolding unit_rest_at
+  binding_unread {t} o at m = marks point.End (rw (at, m) (failed_reads e t.state o)) (omega arith) (omega arith) tt
+
+  pub binding_over : {t : Turn V} {m : Option Mark} {n : ℕ} (o : Bool) (i : ℕ) → t.state.place ≡ Some i → is_byte e.symbol i (code "p") ≡ false → n ≡ t.looks + 1 → m ≡ end_mark o → Fits point.Bindings t.state.depth_left t.state.lifetimes
+      → RestDoes e (bindings_left o) 8 2 4 t (Ok point.NextDynTrait) (record t { state = record t.state { mark = m }; looks = n })
+  unfolding then_frame unit_rest_at
+  binding_over {t} o i at h l m f =
+      leaves point.NextDynTrait (1 ∷ []) [] (omega arith) None (rw (at, m) (over_reads e t.state o i h)) refl (one_look l) (omega arith) (rw at (omega (arith, l))) (omega arith) (omega arith) (omega arith) tt f (λ _. tt)
+
+  pub binding_on : {t : Turn V} {m : Mark} {n : ℕ} (o : Bool) (i : ℕ) → t.state.place ≡ Some i → is_byte e.symbol i (code "p") ≡ true → n ≡ t.looks + 1 → m ≡ first_mark o → Fits point.Bindings t.state.depth_left t.state.lifetimes
+      → RestDoes e (bindings_left o) 8 2 4 t (Ok point.BindingName) (record t { state = record t.state { place = Some (i + 1); mark = Some m }; looks = n })
+  unfolding then_frame unit_rest_at
+  binding_on {t} o i at h l m f =
+      leaves point.BindingName (1 ∷ []) [] (omega arith) None
+      (rw (at, m) (on_reads e t.state o i (omega (arith, f)) h ∙ ap (λ (x : Text). with_looks (1 ∷ []) (with_texts e.output.is_printed (x ∷ []) (name_heard e t.state (i + 1)))) (first_text o))) refl
+      (one_look l) (omega arith) (rw at (omega (arith, l))) (omega arith) (omega arith) (omega arith) tt f (λ _. tt)
+
+  -- What is bound.
+
+  binds : {t : Turn V} {stack : List Frame} {j : Place} {n : ℕ} (to : Point) (i : Place) (ks : List ℕ) (g : Heard) → length ks ≤ 8 → total ks ≤ 2 → t.state.place ≡ i → open_at e binding_value t.state i ≡ with_looks ks g → none_open g ≡ unit_rest_of e.symbol e.include_hash e.output.is_printed to (record t.state { in_value = false; place = j })
+      → Paid t.looks ks n → n ≤ t.looks + own_looks e.symbol t.state.place → t.state.mark ≡ None → way_weight to ≤ 1 → height_at to t.state.depth_left ≤ 8 * t.state.depth_left + 1 → Fits point.Bound t.state.depth_left t.state.lifetimes → Fits to t.state.depth_left t.state.lifetimes
+      → stack ≡ t.stack ++ frame_at point.OpenBindings t.state ∷ [] → PointDoes e point.Bound t (Ok to) (record t { state = record t.state { in_value = false; place = j }; stack = stack; looks = n })
+  unfolding then_frame
+  binds {t} to i ks g few most at h q p short m w x f y r =
+      leaves to [] ks (omega (arith, few)) (Some (frame_at point.OpenBindings t.state)) (rw (m, sym q) (bound_reads e t.state i ks g at h)) r p most short (omega (arith, w)) (omega arith) (omega (arith, x)) f y (λ _. refl)
+
+  pub bound_unread : {t : Turn V} {stack : List Frame} → t.state.place ≡ None → t.state.mark ≡ None → Fits point.Bound t.state.depth_left t.state.lifetimes → stack ≡ t.stack ++ frame_at point.OpenBindings t.state ∷ []
+      → PointDoes e point.Bound t (Ok point.«Type») (record t { state = record t.state { in_value = false }; stack = stack })
+  unfolding unit_rest_at
+  bound_unread {t} at m f r = binds point.«Type» None [] _ (omega arith) (omega arith) at (no_bound e t.state) (rw at refl) (record { grows = omega arith; within = omega arith }) (omega arith) m (omega arith) (omega arith) f f r
+
+  pub bound_constant_on : {t : Turn V} {stack : List Frame} {n : ℕ} (i : ℕ) → t.state.place ≡ Some i → is_byte e.symbol i (code "K") ≡ true → n ≡ t.looks + 1 → t.state.mark ≡ None → Fits point.Bound t.state.depth_left t.state.lifetimes → stack ≡ t.stack ++ frame_at point.OpenBindings t.state ∷ []
+      → PointDoes e point.Bound t (Ok point.Constant) (record t { state = record t.state { in_value = false; place = Some (i + 1) }; stack = stack; looks = n })
+  unfolding unit_rest_at
+  bound_constant_on {t} i at h l m f r = binds point.Constant (Some i) (1 ∷ []) _ (omega arith) (omega arith) at (bound_constant e.include_hash e.output.is_printed e.symbol t.state.depth_left t.state.lifetimes i h) refl (one_look l) (rw at (omega (arith, l))) m (omega arith) (omega arith) f f r
+
+  pub bound_type_on : {t : Turn V} {stack : List Frame} {n : ℕ} (i : ℕ) → t.state.place ≡ Some i → is_byte e.symbol i (code "K") ≡ false → n ≡ t.looks + 1 → t.state.mark ≡ None → Fits point.Bound t.state.depth_left t.state.lifetimes → stack ≡ t.stack ++ frame_at point.OpenBindings t.state ∷ []
+      → PointDoes e point.Bound t (Ok point.«Type») (record t { state = record t.state { in_value = false }; stack = stack; looks = n })
+  unfolding unit_rest_at
+  bound_type_on {t} i at h l m f r = binds point.«Type» (Some i) (1 ∷ []) _ (omega arith) (omega arith) at (bound_type e.include_hash e.output.is_printed e.symbol t.state.depth_left t.state.lifetimes i h) (rw at refl) (one_look l) (rw at (omega (arith, l))) m (omega arith) (omega arith) f f r

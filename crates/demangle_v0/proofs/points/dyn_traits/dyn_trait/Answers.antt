@@ -1,14 +1,11 @@
-use Rattle.std.proofs.Common.{arith, refl}
+use Rattle.std.proofs.Common.{arith, sym, ◌∙◌}
 use Rattle.demangle_v0.proofs.PointDynTraits.{traits_over, trait_on}
-use Rattle.demangle_v0.proofs.PointTurns.{does, list_short}
+use Rattle.demangle_v0.proofs.PointLists.{on}
 use Rattle.demangle_v0.proofs.points.dyn_traits.dyn_trait.Goals as goal
 
 pub returns-then-is_over-clause-did : goal.returns-then-is_over-clause-did
-returns-then-is_over-clause-did g c = λ include_hash v.
-    does (traits_over g.V.Output c.args.symbol.now include_hash c.args.is_first c.args.state.now _ v _ _ (rw c.is_over.ensures.over at c.if-is_over.true) (omega (arith, c.is_over.ensures.paid.within)) c.is_over.ensures.place refl c.requires.may.unmarked)
-    c.is_over.ensures.paid.grows (omega (arith, c.is_over.ensures.paid.within, list_short c.args.symbol.now c.args.state.now.place)) (λ k _. k) (λ k _ _. k)
+returns-then-is_over-clause-did g c = λ include_hash v. traits_over c.args.is_first (sym c.is_over.ensures.over ∙ c.if-is_over.true) c.is_over.ensures.place c.is_over.ensures.paid c.requires.may.unmarked
 
 pub returns-clause-did : goal.returns-clause-did
 returns-clause-did g c = λ include_hash v.
-    does (trait_on g.V.Output c.args.symbol.now include_hash c.args.is_first c.args.state.now _ _ v _ _ (rw c.is_over.ensures.over at c.if-is_over.false) (omega (arith, c.is_over.ensures.paid.within)) c.requires.may.fits refl refl c.is_over.ensures.place c.separator-state.ensures (rw c.frame.ensures at c.push.ensures.pushed (omega (arith, c.requires.may.fits))))
-    c.is_over.ensures.paid.grows (omega (arith, c.is_over.ensures.paid.within, list_short c.args.symbol.now c.args.state.now.place)) (λ k _. k) (λ k _ _. k)
+    trait_on c.args.is_first (on _ _ (sym c.is_over.ensures.over ∙ c.if-is_over.false)) c.is_over.ensures.place c.is_over.ensures.paid c.separator-state.ensures c.requires.may.fits (rw c.frame.ensures at c.push.ensures.pushed (omega (arith, c.requires.may.fits)))

@@ -1,21 +1,17 @@
-use Rattle.std.proofs.Common.{arith, refl}
-use Rattle.demangle_v0.proofs.PointDynTraits.{open_unread, open_over, open_on, costs_most}
-use Rattle.demangle_v0.proofs.PointTurns.{does}
+use Rattle.std.proofs.Common.{true, ◌≡◌, arith, refl, sym, ◌∙◌}
+use Rattle.demangle_v0.proofs.PointDynTraits.{open_over, open_on}
+use Rattle.demangle_v0.proofs.PointLists.{ends_at, one_look}
 use Rattle.demangle_v0.proofs.points.dyn_traits.open_argument.Goals as goal
 
 pub returns-in_default : goal.returns-in_default
-returns-in_default g c = record { did = λ include_hash v. does (open_unread g.V.Output c.args.symbol.now include_hash c.args.is_first c.args.state.now _ v _ _ c.in_default.is (omega arith) c.in_default.is refl c.requires.may.unmarked) (omega arith) (omega arith) (λ k _. k) (λ k _ _. k) }
+returns-in_default g c = record { did = λ include_hash v. open_over c.args.is_first (rw c.in_default.is refl) (rw c.in_default.is refl) (rw c.in_default.is (record { grows = omega arith; within = omega arith })) c.requires.may.unmarked }
 
 pub returns-then-is_at : goal.returns-then-is_at
-returns-then-is_at g c = record {
-  did = λ include_hash v.
-      does (open_over g.V.Output c.args.symbol.now include_hash c.args.is_first c.args.state.now c.in-Some.at _ v _ _ c.in-Some.is (rw c.is_at.ensures.there at c.if-is_at.true) (omega (arith, c.is_at.ensures.look)) refl refl c.requires.may.unmarked)
-      (omega (arith, c.is_at.ensures.look)) (rw c.in-Some.is (omega (arith, c.is_at.ensures.look))) (λ k _. k) (λ k _ _. k);
-}
+returns-then-is_at g c = let z = ends_at c.args.symbol.now _ c.in-Some.at c.in-Some.is (sym c.is_at.ensures.there ∙ c.if-is_at.true) in record { did = λ include_hash v. open_over c.args.is_first z.0 z.1 (rw c.in-Some.is (one_look c.is_at.ensures.look)) c.requires.may.unmarked }
 
 pub returns : goal.returns
 returns g c = record {
   did = λ include_hash v. rw (c.argument.ensures.point, c.argument.ensures.state)
-      (does (open_on g.V.Output c.args.symbol.now include_hash c.args.is_first c.args.state.now c.in-Some.at _ _ v _ _ c.in-Some.is (rw c.is_at.ensures.there at c.if-is_at.false) (omega (arith, c.is_at.ensures.look, c.argument.ensures.looks)) c.requires.may.fits refl refl refl refl refl refl c.separator-state.ensures
-      (rw c.frame.ensures at c.push.ensures.pushed (omega (arith, c.requires.may.fits)))) (omega (arith, c.is_at.ensures.look, c.argument.ensures.grows)) (rw c.in-Some.is (omega (arith, c.is_at.ensures.look, c.argument.ensures.looks, costs_most c.args.symbol.now c.in-Some.at))) (λ k _. k) (λ k _ _. k));
+      (open_on c.args.is_first c.in-Some.at c.in-Some.is (sym c.is_at.ensures.there ∙ c.if-is_at.false) (record { grows = omega (arith, c.is_at.ensures.look, c.argument.ensures.grows); within = omega (arith, c.is_at.ensures.look, c.argument.ensures.looks) }) c.separator-state.ensures
+      c.requires.may.fits (rw c.frame.ensures at c.push.ensures.pushed (omega (arith, c.requires.may.fits))));
 }
