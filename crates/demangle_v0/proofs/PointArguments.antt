@@ -3,7 +3,7 @@ use Rattle.std.specs.Prelude.{◌*◌}
 use Rattle.std.proofs.Common.{◌≡◌, ℕ, ◌+◌, ◌≤◌, Bool, true, false, Some, List, [], ◌∷◌, ◌++◌, Result, Ok, refl, arith, ap, ◌∙◌, length}
 use Prim.Native.Char.{code}
 use Rattle.demangle_symbol.specs.Digits.{is_byte}
-use Rattle.demangle_grammar.specs.Items.{done, unit}
+use Rattle.demangle_grammar.specs.Items.{Items, done}
 use Rattle.demangle_grammar.specs.Totals.{total}
 use Rattle.demangle_grammar.specs.Events.{Heard, of, and_then, with_looks, with_texts, around}
 use Rattle.demangle_grammar.specs.Table.{more, argument, says}
@@ -17,9 +17,9 @@ use Rattle.demangle_v0.specs.declared.points.Stop.{Stop}
 use Rattle.demangle_v0.specs.declared.points.frames.Frame.{Frame}
 use Rattle.demangle_v0.specs.declared.points.State.{State}
 use Rattle.demangle_grammar.proofs.Elements.{argument_element}
-use Rattle.demangle_grammar.proofs.ListReads.{followed, first_on, more_on, argument_lifetime, argument_constant, argument_type}
+use Rattle.demangle_grammar.proofs.ListReads.{followed, argument_lifetime, argument_constant, argument_type}
 use Rattle.demangle_v0.proofs.PointTurns.{Within, leaves}
-use Rattle.demangle_v0.proofs.PointTuples.{left_at, list_over, rest_over, list_ends}
+use Rattle.demangle_v0.proofs.PointLists.{left_of, then_of, open_at, shut_at, over_heard, on_heard, list_ends}
 
 -- what an argument at this place is
 record Told (b : List ℕ) (i : ℕ) : Type 0 where
@@ -39,14 +39,17 @@ module _ {V : Type 0} (e : Env V) (s : State) where
   abbrev about : Surroundings
   about = around e.symbol e.output.is_printed s.depth_left s.lifetimes
 
-  over_so : (first : Bool) → is_list_over e.symbol s.place ≡ true → unit_rest_of e.symbol e.include_hash e.output.is_printed (arguments_point first) s ≡ with_looks (list_costs s.place) (left_at e (says ">" done) s (behind_list e.symbol s.place))
+  abbrev next : Items
+  next = more ", " argument (says ">" done)
+
+  list_so : (first : Bool) (i : Place) → unit_rest_of e.symbol e.include_hash e.output.is_printed (arguments_point first) (record s { place = i }) ≡ shut_at e (left_of first ", " argument (says ">" done) next) s i
   unfolding unit_rest_at
-  over_so true h = list_over e.output e.symbol e.include_hash s.depth_left s.lifetimes (says ">" done) (unit argument (more ", " argument (says ">" done))) s.place h
-  over_so false h = rest_over e.output e.symbol e.include_hash s.depth_left s.lifetimes ", " argument (says ">" done) s.place h
+  list_so true i = refl
+  list_so false i = refl
 
   -- an argument, and those behind it
   abbrev argument_then : ℕ → Heard
-  argument_then i = none_open (followed (of e.include_hash e.output.is_printed (run argument about (Some i))) (λ j. of e.include_hash e.output.is_printed (run (more ", " argument (says ">" done)) about j)))
+  argument_then i = none_open (followed (of e.include_hash e.output.is_printed (run argument about (Some i))) (open_at e next s))
 
   abbrev ArgumentSo : ℕ → Type 0
   ArgumentSo i = argument_then i
@@ -57,19 +60,23 @@ module _ {V : Type 0} (e : Env V) (s : State) where
   unfolding unit_rest_at
   argument_so i = go (is_byte e.symbol i (code "L")) (is_byte e.symbol i (code "K")) refl refl
     where
-      next : Place → Heard
-      next j = of e.include_hash e.output.is_printed (run (more ", " argument (says ">" done)) about j)
-
       go : (x y : Bool) → is_byte e.symbol i (code "L") ≡ x → is_byte e.symbol i (code "K") ≡ y → ArgumentSo i
-      go true y p q = rw p (ap (λ (h : Heard). none_open (followed h next)) (argument_lifetime e.include_hash e.output.is_printed about i p))
-      go false true p q = rw (p, q) (ap none_open (argument_constant e.include_hash e.output.is_printed about i next p q))
-      go false false p q = rw (p, q) (ap none_open (argument_type e.include_hash e.output.is_printed about i next p q))
+      go true y p q = rw p (ap (λ (h : Heard). none_open (followed h (open_at e next s))) (argument_lifetime e.include_hash e.output.is_printed about i p))
+      go false true p q = rw (p, q) (ap none_open (argument_constant e.include_hash e.output.is_printed about i (open_at e next s) p q))
+      go false false p q = rw (p, q) (ap none_open (argument_type e.include_hash e.output.is_printed about i (open_at e next s) p q))
 
   on_so : (first : Bool) (i : ℕ) → s.place ≡ Some i → is_byte e.symbol i (code "E") ≡ false → Fits point.NextArgument s.depth_left s.lifetimes
       → unit_rest_of e.symbol e.include_hash e.output.is_printed (arguments_point first) s ≡ with_looks (1 ∷ []) (with_texts e.output.is_printed (mark_texts (separator first mark.Comma)) (argument_then i))
-  unfolding unit_rest_at
-  on_so true i at z f = rw at (ap none_open (first_on e.include_hash e.output.is_printed about ", " argument (says ">" done) i z))
-  on_so false i at z f = rw at (ap none_open (more_on e.include_hash e.output.is_printed e.symbol s.depth_left s.lifetimes ", " argument (says ">" done) i (argument_element e.symbol e.output.is_printed s.depth_left s.lifetimes (omega (arith, f))) z))
+  on_so first i at z f =
+      list_so first s.place ∙ (ap (λ (j : Place). shut_at e (left_of first ", " argument (says ">" done) next) s j) at
+      ∙ (ap none_open (on_heard e s first ", " mark.Comma refl argument (says ">" done) next i (argument_element e.symbol e.output.is_printed s.depth_left s.lifetimes (omega (arith, f))) z) ∙ go first))
+    where
+      said : Bool → Heard → Heard
+      said first h = with_looks (1 ∷ []) (with_texts e.output.is_printed (mark_texts (separator first mark.Comma)) h)
+
+      go : (first : Bool) → said first (none_open (followed (open_at e argument s (Some i)) (open_at e (then_of first ", " argument (says ">" done) next) s))) ≡ said first (argument_then i)
+      go true = refl
+      go false = refl
 
 module _ {V : Type 0} {e : Env V} where
   as_arguments : {t u : Turn V} {r : Result Point Stop} (first : Bool) → Does e t (part 8 (unit_rest_of e.symbol e.include_hash e.output.is_printed (arguments_point first) t.state) 1 (8 * t.state.depth_left + 2)) r u → PointDoes e (arguments_point first) t r u
@@ -79,7 +86,7 @@ module _ {V : Type 0} {e : Env V} where
   pub arguments_close : {t : Turn V} {j : Place} {n : ℕ} (first : Bool) → is_list_over e.symbol t.state.place ≡ true → j ≡ behind_list e.symbol t.state.place → Paid t.looks (list_costs t.state.place) n
       → PointDoes e (arguments_point first) t (Ok point.End) (record t { state = record t.state { place = j; mark = Some mark.Greater; is_open = false }; looks = n })
   unfolding run unit_rest_at
-  arguments_close {t} first h k p = as_arguments first (list_ends point.End (rw k (over_so e t.state first h)) p (omega arith) (omega arith) tt)
+  arguments_close {t} first h k p = as_arguments first (list_ends point.End (omega arith) (rw k (list_so e t.state first t.state.place ∙ ap none_open (over_heard e t.state first ", " argument (says ">" done) (more ", " argument (says ">" done)) t.state.place h))) p (omega arith) (omega arith) tt)
 
   pub argument_goes : {t : Turn V} {stack : List Frame} {n : ℕ} (first : Bool) (i : ℕ) → t.state.place ≡ Some i → is_byte e.symbol i (code "E") ≡ false → Paid t.looks (1 ∷ argument_costs e.symbol i) n → Fits point.NextArgument t.state.depth_left t.state.lifetimes
       → stack ≡ t.stack ++ frame_at point.NextArgument t.state ∷ []

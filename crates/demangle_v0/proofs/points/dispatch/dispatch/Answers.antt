@@ -1,4 +1,4 @@
-use Rattle.std.proofs.Common.{arith, refl, subst, inl, inr}
+use Rattle.std.proofs.Common.{arith, refl, subst}
 use Rattle.demangle_v0.specs.Points.{unit_rest_at, PointDoes, env, turn}
 use Rattle.demangle_v0.specs.declared.points.Point.{Point}
 use Rattle.demangle_v0.proofs.PointReferences.{stays_over}
