@@ -4,6 +4,7 @@ ghost use Rattle.demangle_v0.specs.ConstantLists.{first_point, second_point, nex
 ghost use Rattle.demangle_v0.specs.Points.{MayRead, PointDoes, env, turn};
 
 use crate::points::frames::FrameStack;
+use crate::points::tuples::is_over;
 use crate::points::{Point, State};
 use demangle_symbol::cursor::{Looks, Symbol};
 use demangle_words::output::Output;
@@ -83,13 +84,7 @@ pub(super) fn first_constant<V: Output, const N: usize>(
         (first_point list) (turn state.old stack.old v looks.old) (Ok result) (turn state.new
         stack.new v looks.new) }
 {
-    let Some(at) = state.place else {
-        state.mark = Some(list.close());
-        state.is_open = false;
-        return Point::End;
-    };
-    if symbol.is_at(b'E', at, looks) {
-        state.place = Some(at + 1);
+    if is_over(symbol, &mut state.place, looks) {
         state.mark = Some(list.close());
         state.is_open = false;
         return Point::End;
@@ -113,13 +108,7 @@ pub(super) fn next_constant<V: Output, const N: usize>(
         (next_point list) (turn state.old stack.old v looks.old) (Ok result) (turn state.new
         stack.new v looks.new) }
 {
-    let Some(at) = state.place else {
-        state.mark = Some(list.close());
-        state.is_open = false;
-        return Point::End;
-    };
-    if symbol.is_at(b'E', at, looks) {
-        state.place = Some(at + 1);
+    if is_over(symbol, &mut state.place, looks) {
         state.mark = Some(list.close());
         state.is_open = false;
         return Point::End;
@@ -143,12 +132,7 @@ pub(super) fn second_tuple_constant<V: Output, const N: usize>(
         Point.SecondTupleConstant (turn state.old stack.old v looks.old) (Ok result) (turn state.new
         stack.new v looks.new) }
 {
-    let Some(at) = state.place else {
-        state.mark = Some(Mark::OneComma);
-        return Point::CloseParen;
-    };
-    if symbol.is_at(b'E', at, looks) {
-        state.place = Some(at + 1);
+    if is_over(symbol, &mut state.place, looks) {
         state.mark = Some(Mark::OneComma);
         return Point::CloseParen;
     }

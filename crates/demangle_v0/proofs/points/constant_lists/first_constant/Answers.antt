@@ -1,23 +1,13 @@
-use Rattle.std.proofs.Common.{Some, arith, refl, ap}
-use Rattle.demangle_v0.proofs.PointConstantLists.{first_failed, first_goes, first_over, first_whole}
-use Rattle.demangle_v0.proofs.PointTurns.{does}
+use Rattle.std.proofs.Common.{true, arith, sym, ◌∙◌}
+use Rattle.demangle_v0.proofs.PointConstantLists.{constants_over, constants_on}
+use Rattle.demangle_v0.proofs.PointLists.{on}
 use Rattle.demangle_v0.proofs.points.constant_lists.first_constant.Goals as goal
 
-pub returns-in_default : goal.returns-in_default
-returns-in_default g c = record {
-  did = λ include_hash v. first_whole c.args.list (rw c.in_default.is
-      (does (first_failed g.V.Output c.args.symbol.now include_hash c.args.list c.args.state.now.in_value c.args.state.now.letter c.args.state.now.depth_left c.args.state.now.lifetimes c.args.state.now.is_open _ v _ _ (omega arith) refl refl refl refl refl refl (ap Some c.close.ensures)) (omega arith) (omega arith) (λ k _. k) (λ k _ _. k)));
-}
-
-pub returns-then-is_at : goal.returns-then-is_at
-returns-then-is_at g c = record {
-  did = λ include_hash v. first_whole c.args.list (rw c.in-Some.is
-      (does (first_over g.V.Output c.args.symbol.now include_hash c.args.list c.args.state.now.in_value c.args.state.now.letter c.args.state.now.depth_left c.args.state.now.lifetimes c.in-Some.at c.args.state.now.is_open _ v _ _ c.if-is_at.ensures.there (omega (arith, c.is_at.ensures.look)) refl refl refl refl refl refl (ap Some c.close-then-is_at.ensures)) (omega (arith, c.is_at.ensures.look)) (omega (arith, c.is_at.ensures.look)) (λ k _. k) (λ k _ _. k)));
-}
+pub returns-then-is_over : goal.returns-then-is_over
+returns-then-is_over g c = record { did = λ include_hash v. constants_over true c.args.list (sym c.is_over.ensures.over ∙ c.if-is_over.true) c.is_over.ensures.place c.is_over.ensures.paid c.close.ensures }
 
 pub returns : goal.returns
 returns g c = record {
-  did = λ include_hash v. first_whole c.args.list (rw (c.element.ensures, c.in-Some.is)
-      (does (first_goes g.V.Output c.args.symbol.now include_hash c.args.list c.args.state.now.in_value c.args.state.now.letter c.args.state.now.depth_left c.args.state.now.lifetimes c.in-Some.at c.args.state.now.is_open _ _ v _ _ c.if-is_at.ensures.there c.requires.may.fits (omega (arith, c.is_at.ensures.look)) refl refl refl refl refl refl c.requires.may.unmarked
-      (rw (c.frame.ensures, c.behind_first.ensures) at c.push.ensures.pushed (omega (arith, c.requires.may.fits)))) (omega (arith, c.is_at.ensures.look)) (omega (arith, c.is_at.ensures.look)) (λ k _. k) (λ k _ _. k)));
+  did = λ include_hash v. rw c.element.ensures
+      (constants_on true c.args.list (on _ _ (sym c.is_over.ensures.over ∙ c.if-is_over.false)) c.is_over.ensures.place c.is_over.ensures.paid c.requires.may.unmarked c.requires.may.fits (rw (c.frame.ensures, c.behind_first.ensures) at c.push.ensures.pushed (omega (arith, c.requires.may.fits))));
 }

@@ -1,4 +1,4 @@
-use Rattle.std.proofs.Common.{true, ◌≡◌, arith, refl, sym, ◌∙◌}
+use Rattle.std.proofs.Common.{arith, refl, sym, ◌∙◌}
 use Rattle.demangle_v0.proofs.PointDynTraits.{open_over, open_on}
 use Rattle.demangle_v0.proofs.PointLists.{ends_at, one_look}
 use Rattle.demangle_v0.proofs.points.dyn_traits.open_argument.Goals as goal
