@@ -22,12 +22,12 @@ use Rattle.demangle_v0.proofs.PointTurns.{Within, leaves}
 use Rattle.demangle_v0.proofs.PointLists.{left_of, then_of, open_at, shut_at, over_heard, on_heard, list_ends}
 
 -- what an argument at this place is
-record Told (b : List ℕ) (i : ℕ) : Type 0 where
-  few : length (argument_costs b i) ≤ 2
-  most : total (argument_costs b i) ≤ 2
-  within : Within (argument_point b i) 1 1
+pub record Told (b : List ℕ) (i : ℕ) : Type 0 where
+  pub few : length (argument_costs b i) ≤ 2
+  pub most : total (argument_costs b i) ≤ 2
+  pub within : Within (argument_point b i) 1 1
 
-told : (b : List ℕ) (i : ℕ) → Told b i
+pub told : (b : List ℕ) (i : ℕ) → Told b i
 told b i = go (is_byte b i (code "L")) (is_byte b i (code "K")) refl refl
   where
     go : (x y : Bool) → is_byte b i (code "L") ≡ x → is_byte b i (code "K") ≡ y → Told b i
@@ -47,36 +47,35 @@ module _ {V : Type 0} (e : Env V) (s : State) where
   list_so true i = refl
   list_so false i = refl
 
-  -- an argument, and those behind it
-  abbrev argument_then : ℕ → Heard
-  argument_then i = none_open (followed (of e.include_hash e.output.is_printed (run argument about (Some i))) (open_at e next s))
-
-  abbrev ArgumentSo : ℕ → Type 0
-  ArgumentSo i = argument_then i
-      ≡ with_looks (argument_costs e.symbol i)
-      (and_then (unit_rest_of e.symbol e.include_hash e.output.is_printed (argument_point e.symbol i) (record s { in_value = false; place = Some (argument_place e.symbol i) })) (unit_rest e.symbol e.include_hash e.output.is_printed (frame_at point.NextArgument s)))
-
-  argument_so : (i : ℕ) → ArgumentSo i
+  -- an argument, and what follows
+  pub argument_reads : (i : ℕ) (k : Place → Heard)
+      → followed (open_at e argument s (Some i)) k
+      ≡ with_looks (argument_costs e.symbol i) (followed (unit_rest_of e.symbol e.include_hash e.output.is_printed (argument_point e.symbol i) (record s { in_value = false; place = Some (argument_place e.symbol i) })) k)
   unfolding unit_rest_at
-  argument_so i = go (is_byte e.symbol i (code "L")) (is_byte e.symbol i (code "K")) refl refl
+  argument_reads i k = go (is_byte e.symbol i (code "L")) (is_byte e.symbol i (code "K")) refl refl
     where
-      go : (x y : Bool) → is_byte e.symbol i (code "L") ≡ x → is_byte e.symbol i (code "K") ≡ y → ArgumentSo i
-      go true y p q = rw p (ap (λ (h : Heard). none_open (followed h (open_at e next s))) (argument_lifetime e.include_hash e.output.is_printed about i p))
-      go false true p q = rw (p, q) (ap none_open (argument_constant e.include_hash e.output.is_printed about i (open_at e next s) p q))
-      go false false p q = rw (p, q) (ap none_open (argument_type e.include_hash e.output.is_printed about i (open_at e next s) p q))
+      go : (x y : Bool) → is_byte e.symbol i (code "L") ≡ x → is_byte e.symbol i (code "K") ≡ y → followed (open_at e argument s (Some i)) k
+          ≡ with_looks (argument_costs e.symbol i) (followed (unit_rest_of e.symbol e.include_hash e.output.is_printed (argument_point e.symbol i) (record s { in_value = false; place = Some (argument_place e.symbol i) })) k)
+      go true y p q = rw p (ap (λ (h : Heard). followed h k) (argument_lifetime e.include_hash e.output.is_printed about i p))
+      go false true p q = rw (p, q) (argument_constant e.include_hash e.output.is_printed about i k p q)
+      go false false p q = rw (p, q) (argument_type e.include_hash e.output.is_printed about i k p q)
 
   on_so : (first : Bool) (i : ℕ) → s.place ≡ Some i → is_byte e.symbol i (code "E") ≡ false → Fits point.NextArgument s.depth_left s.lifetimes
-      → unit_rest_of e.symbol e.include_hash e.output.is_printed (arguments_point first) s ≡ with_looks (1 ∷ []) (with_texts e.output.is_printed (mark_texts (separator first mark.Comma)) (argument_then i))
+      → unit_rest_of e.symbol e.include_hash e.output.is_printed (arguments_point first) s ≡ with_looks (1 ∷ []) (with_texts e.output.is_printed (mark_texts (separator first mark.Comma)) (with_looks (argument_costs e.symbol i) (and_then (unit_rest_of e.symbol e.include_hash e.output.is_printed (argument_point e.symbol i) (record s { in_value = false; place = Some (argument_place e.symbol i) })) (unit_rest e.symbol e.include_hash e.output.is_printed (frame_at point.NextArgument s)))))
+  unfolding unit_rest_at
   on_so first i at z f =
       list_so first s.place ∙ (ap (λ (j : Place). shut_at e (left_of first ", " argument (says ">" done) next) s j) at
       ∙ (ap none_open (on_heard e s first ", " mark.Comma refl argument (says ">" done) next i (argument_element e.symbol e.output.is_printed s.depth_left s.lifetimes (omega (arith, f))) z) ∙ go first))
     where
       said : Bool → Heard → Heard
-      said first h = with_looks (1 ∷ []) (with_texts e.output.is_printed (mark_texts (separator first mark.Comma)) h)
+      said first h = with_looks (1 ∷ []) (with_texts e.output.is_printed (mark_texts (separator first mark.Comma)) (none_open h))
 
-      go : (first : Bool) → said first (none_open (followed (open_at e argument s (Some i)) (open_at e (then_of first ", " argument (says ">" done) next) s))) ≡ said first (argument_then i)
-      go true = refl
-      go false = refl
+      reads : followed (open_at e argument s (Some i)) (open_at e next s) ≡ with_looks (argument_costs e.symbol i) (followed (unit_rest_of e.symbol e.include_hash e.output.is_printed (argument_point e.symbol i) (record s { in_value = false; place = Some (argument_place e.symbol i) })) (open_at e next s))
+      reads = argument_reads i (open_at e next s)
+
+      go : (first : Bool) → said first (followed (open_at e argument s (Some i)) (open_at e (then_of first ", " argument (says ">" done) next) s)) ≡ said first (with_looks (argument_costs e.symbol i) (followed (unit_rest_of e.symbol e.include_hash e.output.is_printed (argument_point e.symbol i) (record s { in_value = false; place = Some (argument_place e.symbol i) })) (open_at e next s)))
+      go true = ap (said true) reads
+      go false = ap (said false) reads
 
 module _ {V : Type 0} {e : Env V} where
   as_arguments : {t u : Turn V} {r : Result Point Stop} (first : Bool) → Does e t (part 8 (unit_rest_of e.symbol e.include_hash e.output.is_printed (arguments_point first) t.state) 1 (8 * t.state.depth_left + 2)) r u → PointDoes e (arguments_point first) t r u
@@ -96,5 +95,5 @@ module _ {V : Type 0} {e : Env V} where
       let s = t.state in
       let w = told e.symbol i in
       as_arguments first (leaves (argument_point e.symbol i) (1 ∷ []) (argument_costs e.symbol i) (omega (arith, w.few)) (Some (frame_at point.NextArgument s))
-      (on_so e s first i at z f ∙ ap (λ (h : Heard). with_looks (1 ∷ []) (with_texts e.output.is_printed (mark_texts (separator first mark.Comma)) h)) (argument_so e s i))
+      (on_so e s first i at z f)
       r p w.most (rw at (omega (arith, p.within, w.most))) (omega (arith, w.within.light)) (omega arith) (omega (arith, w.within.low s.depth_left)) f (w.within.fits s.depth_left s.lifetimes f) (λ _. refl))

@@ -28,6 +28,7 @@ use Rattle.demangle_grammar.proofs.Hearing.{handing_both, and_then_assoc, handin
 use Rattle.demangle_grammar.proofs.ListReads.{followed, argument_lifetime, argument_constant, argument_type}
 use Rattle.demangle_grammar.proofs.PathReads.{trait_path_reads, trait_path_refers, trait_path_generic, trait_path_plain}
 use Rattle.demangle_grammar.proofs.TypeReads.{if_so, says_all, bound_constant, bound_type, mark_of, bindings_failed, bindings_over, binding_stops, binding_reads}
+use Rattle.demangle_v0.proofs.PointArguments.{told, argument_reads}
 use Rattle.demangle_v0.proofs.PointLists.{left_of, open_at, shut_at, NotOver, one_look, paid_on, over_heard, on_heard, list_ends}
 use Rattle.demangle_v0.proofs.PointTurns.{behind, leaves, marks}
 
@@ -71,22 +72,6 @@ first_text : (o : Bool) → mark_of o ≡ text (first_mark o)
 first_text true = refl
 first_text false = refl
 
--- what an argument at this place is
-record Told (b : List ℕ) (i : ℕ) : Type 0 where
-  few : length (argument_costs b i) ≤ 2
-  most : total (argument_costs b i) ≤ 2
-  light : way_weight (argument_point b i) ≤ 1
-  low : (left : ℕ) → height_at (argument_point b i) left ≡ 8 * left + 1
-  fits : (left n : ℕ) → Fits point.NextOpenArgument left n → Fits (argument_point b i) left n
-
-told : (b : List ℕ) (i : ℕ) → Told b i
-told b i = go (is_byte b i (code "L")) (is_byte b i (code "K")) refl refl
-  where
-    go : (x y : Bool) → is_byte b i (code "L") ≡ x → is_byte b i (code "K") ≡ y → Told b i
-    go true y p q = record { few = rw p (omega arith); most = rw p (omega arith); light = rw p (omega arith); low = λ left. rw p refl; fits = λ left n f. rw p f }
-    go false true p q = record { few = rw p (omega arith); most = rw p (omega arith); light = rw (p, q) (omega arith); low = λ left. rw (p, q) refl; fits = λ left n f. rw (p, q) f }
-    go false false p q = record { few = rw p (omega arith); most = rw p (omega arith); light = rw (p, q) (omega arith); low = λ left. rw (p, q) refl; fits = λ left n f. rw (p, q) f }
-
 module _ {V : Type 0} (e : Env V) (s : State) where
   abbrev about : Surroundings
   about = around e.symbol e.output.is_printed s.depth_left s.lifetimes
@@ -128,27 +113,14 @@ module _ {V : Type 0} (e : Env V) (s : State) where
       ∙ (trait_path_plain e.include_hash e.output.is_printed e.symbol s.depth_left s.lifetimes i h k
       ∙ ap (λ (x : Bool). with_looks (1 ∷ 1 ∷ []) (record { events = g.events; place = g.place; is_open = x })) (unit_closed e.symbol e.output.is_printed s.depth_left s.lifetimes a_path false (Some i) tt)))
 
-  -- an argument, and what follows
-  argument_reads : (i : ℕ) (k : Place → Heard)
-      → followed (open_at e argument s (Some i)) k
-      ≡ with_looks (argument_costs e.symbol i) (followed (unit_rest_of e.symbol e.include_hash e.output.is_printed (argument_point e.symbol i) (record s { in_value = false; place = Some (argument_place e.symbol i) })) k)
-  unfolding unit_rest_at
-  argument_reads i k = go (is_byte e.symbol i (code "L")) (is_byte e.symbol i (code "K")) refl refl
-    where
-      go : (x y : Bool) → is_byte e.symbol i (code "L") ≡ x → is_byte e.symbol i (code "K") ≡ y → followed (open_at e argument s (Some i)) k
-          ≡ with_looks (argument_costs e.symbol i) (followed (unit_rest_of e.symbol e.include_hash e.output.is_printed (argument_point e.symbol i) (record s { in_value = false; place = Some (argument_place e.symbol i) })) k)
-      go true y p q = rw p (ap (λ (h : Heard). followed h k) (argument_lifetime e.include_hash e.output.is_printed about i p))
-      go false true p q = rw (p, q) (argument_constant e.include_hash e.output.is_printed about i k p q)
-      go false false p q = rw (p, q) (argument_type e.include_hash e.output.is_printed about i k p q)
-
   open_heard : (first : Bool) (i : ℕ) → Fits point.NextOpenArgument s.depth_left s.lifetimes → is_byte e.symbol i (code "E") ≡ false → open_at e (left_open first) s (Some i)
       ≡ with_looks (1 ∷ []) (with_texts e.output.is_printed (mark_texts (separator first mark.Comma)) (with_looks (argument_costs e.symbol i)
       (and_then (unit_rest_of e.symbol e.include_hash e.output.is_printed (argument_point e.symbol i) (record s { in_value = false; place = Some (argument_place e.symbol i) })) (frame_rest point.NextOpenArgument))))
   unfolding unit_rest_at
-  open_heard true i f h = on_heard e s true ", " mark.Comma refl argument (opens done) next_open i (argument_element e.symbol e.output.is_printed s.depth_left s.lifetimes (omega (arith, f))) h ∙ ap (with_looks (1 ∷ [])) (argument_reads i (open_at e next_open s))
+  open_heard true i f h = on_heard e s true ", " mark.Comma refl argument (opens done) next_open i (argument_element e.symbol e.output.is_printed s.depth_left s.lifetimes (omega (arith, f))) h ∙ ap (with_looks (1 ∷ [])) (argument_reads e s i (open_at e next_open s))
   open_heard false i f h =
       on_heard e s false ", " mark.Comma refl argument (opens done) next_open i (argument_element e.symbol e.output.is_printed s.depth_left s.lifetimes (omega (arith, f))) h
-      ∙ ap (λ (h : Heard). with_looks (1 ∷ []) (with_texts e.output.is_printed (text mark.Comma ∷ []) h)) (argument_reads i (open_at e next_open s))
+      ∙ ap (λ (h : Heard). with_looks (1 ∷ []) (with_texts e.output.is_printed (text mark.Comma ∷ []) h)) (argument_reads e s i (open_at e next_open s))
 
   -- Bindings, and the dyn traits behind them.
 
@@ -305,7 +277,7 @@ module _ {V : Type 0} {e : Env V} where
   unfolding then_frame
   open_on {t} first i at h p c f r =
       let w = told e.symbol i in
-      open_as first (leaves (argument_point e.symbol i) (1 ∷ []) (argument_costs e.symbol i) (omega (arith, w.few)) (Some (frame_at point.NextOpenArgument t.state)) (rw (c, at) (open_heard e t.state first i f h)) r p w.most (rw at (omega (arith, p.within, w.most))) (omega (arith, w.light)) (omega arith) (omega (arith, w.low t.state.depth_left)) f (w.fits t.state.depth_left t.state.lifetimes f) (λ _. refl))
+      open_as first (leaves (argument_point e.symbol i) (1 ∷ []) (argument_costs e.symbol i) (omega (arith, w.few)) (Some (frame_at point.NextOpenArgument t.state)) (rw (c, at) (open_heard e t.state first i f h)) r p w.most (rw at (omega (arith, p.within, w.most))) (omega (arith, w.within.light)) (omega arith) (omega (arith, w.within.low t.state.depth_left)) f (w.within.fits t.state.depth_left t.state.lifetimes f) (λ _. refl))
 
   -- Bindings.
 

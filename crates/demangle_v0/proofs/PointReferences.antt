@@ -20,7 +20,7 @@ use Rattle.demangle_v0.specs.declared.points.frames.Frame.{Frame}
 use Rattle.demangle_v0.specs.declared.points.State.{State}
 use Rattle.demangle_v0.specs.declared.points.Stop.TheVariants.{Fault}
 use Rattle.demangle_words.specs.declared.output.Output.{Ghosts}
-use Rattle.demangle_v0.proofs.PointSteps.{way_light, steps}
+use Rattle.demangle_v0.proofs.PointSteps.{way_light}
 use Rattle.demangle_v0.proofs.PointTurns.{leaves, ends}
 use Rattle.demangle_v0.proofs.WordLooks.{refer_short, refer_few}
 use Rattle.std.proofs.lemmas.List.{append-nil}

@@ -302,64 +302,6 @@ did {r = Err Refused} d = let w = d.comes.0 in record {
   );
 }
 
--- From them.
-pub does : {V : Type 0} {output : Ghosts V} {b : List ℕ} {include_hash : Bool} {h : Heard} {words weight high : ℕ} {t u : Turn V} {r : Result Point Stop} → DidOn output b include_hash words h weight high t.stack t.output r u.state u.stack u.output (u.looks - t.looks)
-    → t.looks ≤ u.looks → u.looks ≤ t.looks + own_looks b t.state.place → (output.ready t.output → IsOk r → output.ready u.output) → (output.ready t.output → (m : Mark) → r ≡ Err (Fault m) → output.ready u.output)
-    → Does (env output b include_hash) t (part words h weight high) r u
-does {r = Ok q} z l short y x = let w = z.comes in record {
-  comes = record {
-    front = w.front;
-    emitted = w.emitted;
-    back = w.back;
-    pushed = w.pushed;
-    emits = w.emits;
-    one = w.one;
-    reads = w.reads;
-    is_stack = w.is_stack;
-    few = w.few;
-    enough = omega (arith, w.enough, l);
-    late = omega (arith, w.late, l);
-    lighter = w.lighter;
-    outer_height = w.outer_height;
-    inner_height = w.inner_height;
-    outer_fits = w.outer_fits;
-    inner_fits = w.inner_fits;
-    quiet = w.quiet;
-  };
-  grows = l;
-  own = short;
-  ready = y;
-  sound = x;
-}
-does {r = Err (Fault m)} z l short y x = let w = z.comes in record {
-  comes = record { front = w.front; emits = w.emits; unmarked = w.unmarked; reads = w.reads; is_stack = w.is_stack; few = w.few; enough = omega (arith, w.enough, l); lighter = w.lighter };
-  grows = l;
-  own = short;
-  ready = y;
-  sound = x;
-}
-does {r = Err Refused} z l short y x = let w = z.comes.0 in record {
-  comes = (
-    record {
-      front = w.front;
-      emitted = w.emitted;
-      rest = w.rest;
-      refusal = w.refusal;
-      prints = w.prints;
-      reads = w.reads;
-      few = w.few;
-      enough = omega (arith, w.enough, l);
-      exact = λ q. omega (arith, w.exact q, l);
-      fails = w.fails;
-    },
-    z.comes.1,
-  );
-  grows = l;
-  own = short;
-  ready = y;
-  sound = x;
-}
-
 abbrev pub word_of : {V : Type 0} → Env V → Word → State → Group
 word_of e x s = word_group e.symbol x s.letter e.output.is_printed s.lifetimes s.place
 
