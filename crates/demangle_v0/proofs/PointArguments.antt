@@ -5,7 +5,7 @@ use Prim.Native.Char.{code}
 use Rattle.demangle_symbol.specs.Digits.{is_byte}
 use Rattle.demangle_grammar.specs.Items.{Items, done}
 use Rattle.demangle_grammar.specs.Totals.{total}
-use Rattle.demangle_grammar.specs.Events.{Heard, of, and_then, with_looks, with_texts, around}
+use Rattle.demangle_grammar.specs.Events.{Heard, and_then, with_looks, with_texts, around}
 use Rattle.demangle_grammar.specs.Table.{more, argument, says}
 use Rattle.demangle_grammar.specs.Reading.{Place, Surroundings, run}
 use Rattle.demangle_v0.specs.Arguments.{separator, arguments_point, argument_point, argument_place, argument_costs}

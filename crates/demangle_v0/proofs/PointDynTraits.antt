@@ -25,7 +25,7 @@ use Rattle.demangle_v0.specs.declared.points.Stop.{Stop}
 use Rattle.demangle_grammar.proofs.ClosedUnits.{last_child, unit_closed}
 use Rattle.demangle_grammar.proofs.Elements.{argument_element, dyn_trait_element}
 use Rattle.demangle_grammar.proofs.Hearing.{handing_both, and_then_assoc, handing_then, allowing_then}
-use Rattle.demangle_grammar.proofs.ListReads.{followed, argument_lifetime, argument_constant, argument_type}
+use Rattle.demangle_grammar.proofs.ListReads.{followed}
 use Rattle.demangle_grammar.proofs.PathReads.{trait_path_reads, trait_path_refers, trait_path_generic, trait_path_plain}
 use Rattle.demangle_grammar.proofs.TypeReads.{if_so, says_all, bound_constant, bound_type, mark_of, bindings_failed, bindings_over, binding_stops, binding_reads}
 use Rattle.demangle_v0.proofs.PointArguments.{told, argument_reads}

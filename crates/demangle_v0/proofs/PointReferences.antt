@@ -7,7 +7,7 @@ use Rattle.demangle_grammar.specs.Totals.{total}
 use Rattle.demangle_grammar.specs.Events.{Heard, of, nothing_heard, and_then, with_looks, with_texts, around}
 use Rattle.demangle_words.specs.Texts.{text}
 use Rattle.demangle_grammar.specs.Items.{Kind, a_path, a_type, a_constant, a_trait_path, target}
-use Rattle.demangle_v0.specs.Points.{Turn, Env, Paid, Does, PointDoes, MayRead, frame_of, then_frame, unit_rest_at, DidOn}
+use Rattle.demangle_v0.specs.Points.{Turn, Env, Paid, Does, PointDoes, MayRead, frame_of, then_frame, unit_rest_at}
 use Rattle.demangle_grammar.specs.Reading.{Place, run, word_outcome, level_of, levels, target_of, target_read}
 use Rattle.demangle_v0.specs.References.{IsUnit, none_open_if, target_part}
 use Rattle.demangle_words.specs.Backrefs.{refer, reference_read, leads}
@@ -17,7 +17,6 @@ use Rattle.demangle_words.specs.declared.reference.Reference.TheVariants.{Faulty
 use Rattle.demangle_v0.specs.declared.points.Point.{Point}
 use Rattle.demangle_v0.specs.declared.points.Point.TheVariants as point
 use Rattle.demangle_v0.specs.declared.points.frames.Frame.{Frame}
-use Rattle.demangle_v0.specs.declared.points.State.{State}
 use Rattle.demangle_v0.specs.declared.points.Stop.TheVariants.{Fault}
 use Rattle.demangle_words.specs.declared.output.Output.{Ghosts}
 use Rattle.demangle_v0.proofs.PointSteps.{way_light}

@@ -1,25 +1,20 @@
 -- Steps of points, one behind another.
-use Rattle.std.specs.Prelude.{◌*◌}
-use Rattle.std.proofs.lemmas.List.{append-nil, length-append}
-use Rattle.std.proofs.Common.{length, inl, ◌≡◌, ℕ, ◌+◌, ◌≤◌, Bool, false, Option, None, List, [], ◌∷◌, ◌++◌, Result, Ok, Err, refl, arith, sym, ap, ◌∙◌}
+use Rattle.std.proofs.lemmas.List.{append-nil}
+use Rattle.std.proofs.Common.{◌≡◌, ℕ, ◌+◌, ◌≤◌, Bool, false, List, [], ◌∷◌, ◌++◌, Result, Err, refl, arith, sym, ap, ◌∙◌}
 use Rattle.demangle_grammar.specs.Items.{Items, Kind, child, done}
 use Rattle.demangle_grammar.specs.Totals.{total}
 use Rattle.demangle_grammar.specs.Events.{Event, allows, allowed_all, Heard, of, events, nothing_heard, with_looks, with_texts, around}
 use Rattle.demangle_words.specs.WordReads.{Group, word_group}
-use Rattle.demangle_words.specs.Texts.{word_items, text}
+use Rattle.demangle_words.specs.Texts.{word_items}
 use Rattle.demangle_grammar.specs.Reading.{Place, run, unit_outcome}
-use Rattle.demangle_v0.specs.Points.{Bit, pays, puts, heard_bits, bits_looks, env, part, turn, mark_texts, then_frame, way_weight, weight_at, weight_of, height_of, count_of, FitsFrame, IsInner, Fits, height_at, pushed_on, unit_rest_of, none_open, Went, Kept, DidOn}
+use Rattle.demangle_v0.specs.Points.{Bit, pays, puts, heard_bits, bits_looks, way_weight, weight_at, none_open, Kept}
 use Rattle.demangle_sink.specs.declared.SinkRefused.{SinkRefused}
-use Rattle.demangle_words.specs.declared.texts.Mark.{Mark}
 use Rattle.demangle_words.specs.declared.texts.Word.{Word}
 use Rattle.demangle_words.specs.declared.read.WordRead.{WordRead}
 use Rattle.demangle_words.specs.declared.read.WordRead.TheVariants as reads
 use Rattle.demangle_v0.specs.declared.points.Point.{Point}
 use Rattle.demangle_v0.specs.declared.points.Point.TheVariants as point
 use Rattle.demangle_v0.specs.declared.points.frames.Frame.{Frame}
-use Rattle.demangle_v0.specs.declared.points.State.{State}
-use Rattle.demangle_v0.specs.declared.points.Stop.{Stop}
-use Rattle.demangle_v0.specs.declared.points.Stop.TheVariants.{Refused, Fault}
 use Rattle.demangle_words.specs.declared.output.Output.{Ghosts}
 use Rattle.demangle_words.proofs.GroupReads.{word_then, grouped, word_read}
 
@@ -57,35 +52,6 @@ abbrev pub refused : SinkRefused → Result (Unit {0}) SinkRefused
 refused e = Err e
 
 module _ {V : Type 0} (output : Ghosts V) (b : List ℕ) (include_hash : Bool) where
-  -- what a step does by these looks, before its mark and behind it, and by this frame
-  pub steps : {words : ℕ} (to : Point) (front back : List ℕ) → length front + length back ≤ words → (pushed : Option Frame) (h : Heard) (weight high : ℕ) (stack now : List Frame) (v : V) (new : State) (made : ℕ)
-      → h ≡ with_looks front (with_texts output.is_printed (mark_texts new.mark) (with_looks back (then_frame b include_hash output.is_printed pushed (unit_rest_of b include_hash output.is_printed to new))))
-      → now ≡ pushed_on stack pushed → made ≤ total front + total back → made ≤ total front + 2
-      → way_weight to + weight_of pushed + 1 ≤ weight + 100 * (total front + total back)
-      → height_of pushed ≤ high → height_at to new.depth_left + count_of pushed ≤ high → FitsFrame pushed → Fits to new.depth_left new.lifetimes → (output.is_printed ≡ false → IsInner pushed)
-      → Went (env output b include_hash) (part words h weight high) (turn new stack v 0) to (turn new now v made)
-  steps to front back c pushed h weight high stack now v new made e r l m w x y f g q = record {
-    front = front;
-    emitted = None;
-    back = back;
-    pushed = pushed;
-    emits = refl;
-    one = inl refl;
-    reads = e;
-    is_stack = r;
-    few = c;
-    enough = omega (arith, l);
-    late = omega (arith, m);
-    lighter = omega (arith, w);
-    outer_height = x;
-    inner_height = y;
-    outer_fits = f;
-    inner_fits = g;
-    quiet = q;
-  }
-
-  -- Faults.
-
   -- what is heard of a unit's rest
   abbrev pub heard : Items → ℕ → ℕ → Place → Heard
   heard p left n i = none_open (of include_hash output.is_printed (run p (around b output.is_printed left n) i))
