@@ -9,7 +9,7 @@ use Rattle.demangle_grammar.specs.Events.{Heard, of, nothing_heard, and_then, wi
 use Rattle.demangle_words.specs.WordReads.{texts_of}
 use Rattle.demangle_words.specs.Texts.{text}
 use Rattle.demangle_grammar.specs.Reading.{Place, unit_outcome, run}
-use Rattle.demangle_v0.specs.Points.{mark_texts, then_frame, way_weight, weight_at, weight_of, unit_rest, is_inner, height_of, count_of, FitsFrame, IsInner, Fits, height_at, pushed_on, unit_rest_of, Turn, Env, env, Part, part, DidOn, Does, Paid, own_looks, list_costs}
+use Rattle.demangle_v0.specs.Points.{mark_texts, then_frame, way_weight, weight_at, weight_of, unit_rest, is_inner, height_of, count_of, FitsFrame, IsInner, Fits, height_at, pushed_on, unit_rest_of, Turn, Env, env, Part, part, DidOn, Comes, Does, Paid, own_looks, list_costs}
 use Rattle.demangle_sink.specs.declared.SinkRefused.{SinkRefused}
 use Rattle.demangle_words.specs.declared.texts.Mark.{Mark}
 use Rattle.demangle_words.specs.declared.texts.Mark.TheVariants as mark
@@ -60,6 +60,54 @@ no_fault m k = cc
 
 pub paid_none : {n : ℕ} → Paid n [] n
 paid_none = record { grows = omega arith; within = omega arith }
+
+-- what comes behind some looks
+comes_behind : {V : Type 0} (e : Env V) (t u : Turn V) (h k : Heard) (words words' weight high weight' high' : ℕ) (s : State) (n : ℕ) (r : Result Point Stop) (ks : List ℕ) → length ks + words' ≤ words → h ≡ with_looks ks k → Paid t.looks ks n → weight' ≤ weight + 100 * total ks → high' ≤ high
+    → Comes e (part words' k weight' high') (record t { state = s; looks = n }) r u → Comes e (part words h weight high) t r u
+comes_behind e t u h k words words' weight high weight' high' s n (Ok q) ks c o p w x d = record {
+  front = ks ++ d.front;
+  emitted = d.emitted;
+  back = d.back;
+  pushed = d.pushed;
+  emits = d.emits;
+  one = d.one;
+  reads = o ∙ (ap (with_looks ks) d.reads ∙ sym (looks_both ks d.front _));
+  is_stack = d.is_stack;
+  few = omega (arith, c, d.few, length-append ks d.front);
+  enough = omega (arith, p.within, d.enough, total_both ks d.front);
+  late = omega (arith, p.within, d.late, total_both ks d.front);
+  lighter = omega (arith, w, d.lighter, total_both ks d.front);
+  outer_height = omega (arith, x, d.outer_height);
+  inner_height = omega (arith, x, d.inner_height);
+  outer_fits = d.outer_fits;
+  inner_fits = d.inner_fits;
+  quiet = d.quiet;
+}
+comes_behind e t u h k words words' weight high weight' high' s n (Err (Fault m)) ks c o p w x d = record {
+  front = ks ++ d.front;
+  emits = d.emits;
+  unmarked = d.unmarked;
+  reads = o ∙ (ap (with_looks ks) d.reads ∙ sym (looks_both ks d.front _));
+  is_stack = d.is_stack;
+  few = omega (arith, c, d.few, length-append ks d.front);
+  enough = omega (arith, p.within, d.enough, total_both ks d.front);
+  lighter = omega (arith, w, d.lighter, total_both ks d.front);
+}
+comes_behind e t u h k words words' weight high weight' high' s n (Err Refused) ks c o p w x (d, more) = (
+  record {
+    front = ks ++ d.front;
+    emitted = d.emitted;
+    rest = d.rest;
+    refusal = d.refusal;
+    prints = d.prints;
+    reads = o ∙ (ap (with_looks ks) d.reads ∙ sym (looks_both ks d.front _));
+    few = omega (arith, c, d.few, length-append ks d.front);
+    enough = omega (arith, p.within, d.enough, total_both ks d.front);
+    exact = λ q. omega (arith, p.within, d.exact q, total_both ks d.front);
+    fails = d.fails;
+  },
+  more,
+)
 
 module _ {V : Type 0} {e : Env V} where
   -- The point is left for another, by these looks before the mark and behind it, and with this frame.
@@ -182,71 +230,10 @@ module _ {V : Type 0} {e : Env V} where
     sound = λ _ m k. absurd (no_fault m k);
   }
 
-  -- Behind some looks, where all that were made are few enough.
+  -- Behind some looks, where all that were made are few enough
   pub behind_few : {t u : Turn V} {r : Result Point Stop} {h k : Heard} {words words' weight high weight' high' : ℕ} {s : State} {n : ℕ} (ks : List ℕ) → length ks + words' ≤ words → h ≡ with_looks ks k → Paid t.looks ks n → u.looks ≤ t.looks + own_looks e.symbol t.state.place
       → weight' ≤ weight + 100 * total ks → high' ≤ high → Does e (record t { state = s; looks = n }) (part words' k weight' high') r u → Does e t (part words h weight high) r u
-  behind_few {r = Ok q} ks c o p short w x z = let d = z.comes in record {
-    comes = record {
-      front = ks ++ d.front;
-      emitted = d.emitted;
-      back = d.back;
-      pushed = d.pushed;
-      emits = d.emits;
-      one = d.one;
-      reads = o ∙ (ap (with_looks ks) d.reads ∙ sym (looks_both ks d.front _));
-      is_stack = d.is_stack;
-      few = omega (arith, c, d.few, length-append ks d.front);
-      enough = omega (arith, p.within, d.enough, total_both ks d.front);
-      late = omega (arith, p.within, d.late, total_both ks d.front);
-      lighter = omega (arith, w, d.lighter, total_both ks d.front);
-      outer_height = omega (arith, x, d.outer_height);
-      inner_height = omega (arith, x, d.inner_height);
-      outer_fits = d.outer_fits;
-      inner_fits = d.inner_fits;
-      quiet = d.quiet;
-    };
-    grows = omega (arith, p.grows, z.grows);
-    own = short;
-    ready = z.ready;
-    sound = z.sound;
-  }
-  behind_few {r = Err (Fault m)} ks c o p short w x z = let d = z.comes in record {
-    comes = record {
-      front = ks ++ d.front;
-      emits = d.emits;
-      unmarked = d.unmarked;
-      reads = o ∙ (ap (with_looks ks) d.reads ∙ sym (looks_both ks d.front _));
-      is_stack = d.is_stack;
-      few = omega (arith, c, d.few, length-append ks d.front);
-      enough = omega (arith, p.within, d.enough, total_both ks d.front);
-      lighter = omega (arith, w, d.lighter, total_both ks d.front);
-    };
-    grows = omega (arith, p.grows, z.grows);
-    own = short;
-    ready = z.ready;
-    sound = z.sound;
-  }
-  behind_few {r = Err Refused} ks c o p short w x z = let d = z.comes.0 in record {
-    comes = (
-      record {
-        front = ks ++ d.front;
-        emitted = d.emitted;
-        rest = d.rest;
-        refusal = d.refusal;
-        prints = d.prints;
-        reads = o ∙ (ap (with_looks ks) d.reads ∙ sym (looks_both ks d.front _));
-        few = omega (arith, c, d.few, length-append ks d.front);
-        enough = omega (arith, p.within, d.enough, total_both ks d.front);
-        exact = λ q. omega (arith, p.within, d.exact q, total_both ks d.front);
-        fails = d.fails;
-      },
-      z.comes.1,
-    );
-    grows = omega (arith, p.grows, z.grows);
-    own = short;
-    ready = z.ready;
-    sound = z.sound;
-  }
+  behind_few {t} {u} {r} {h} {k} {words} {words'} {weight} {high} {weight'} {high'} {s} {n} ks c o p short w x z = record { comes = comes_behind e t u h k words words' weight high weight' high' s n r ks c o p w x z.comes; grows = omega (arith, p.grows, z.grows); own = short; ready = z.ready; sound = z.sound }
 
   -- Behind some looks.
   pub behind : {t u : Turn V} {r : Result Point Stop} {h k : Heard} {words words' weight high weight' high' : ℕ} {s : State} {n : ℕ} (ks : List ℕ) → length ks + words' ≤ words → h ≡ with_looks ks k → Paid t.looks ks n → n + own_looks e.symbol s.place ≤ t.looks + own_looks e.symbol t.state.place
