@@ -14,6 +14,7 @@ use Rattle.demangle_grammar.proofs.LooksLaw.{looks_a_byte, looks_before, printin
 use Rattle.demangle_grammar.proofs.PrintingLooks.{pays_tree}
 use Rattle.demangle_v0.proofs.Kept.{kept_bytes}
 use Rattle.demangle_grammar.proofs.PrintingSteps.{shown_events, weighed, weighed_said, weighed_allowed}
+use Rattle.demangle_v0.specs.Points.{turn}
 use Rattle.demangle_grammar.proofs.StepsPaid.{pays_looks, pays_texts}
 use Rattle.demangle_v0.proofs.PointWholes.{owed_alone}
 use Rattle.demangle_grammar.specs.Totals.{total}
@@ -53,15 +54,15 @@ module _ {S : Type 0} (sink : Sinks S) (output : Ghosts (SizeLimitedFmtAdapter S
   said_told v w front back (Some s) t = (w, same v w (texts_of b include_hash s) (Ok tt) t, refl)
 
   -- one turn
-  pub ran_turn : (base : ℕ) (p0 p q u : Point) (s0 s t r : State) (first_stack stack mid now : List Frame) (v0 v w : SizeLimitedFmtAdapter S) (first second made : ℕ) → Ran sink b include_hash p0 s0 first_stack v0 p s stack v first
-      → Resumes base p s stack q t mid → Stepped output b include_hash q t mid v (Ok u) r now w second → made ≤ first + second → Ran sink b include_hash p0 s0 first_stack v0 u r now w made
-  ran_turn base p0 p q u s0 s t r first_stack stack mid now v0 v w first second made x k z l =
+  pub ran_turn : (base : ℕ) (p0 p q u : Point) (s0 s t r : State) (first_stack stack mid now : List Frame) (v0 v w : SizeLimitedFmtAdapter S) (first m n made : ℕ) → Ran sink b include_hash p0 s0 first_stack v0 p s stack v first
+      → Resumes base p s stack q t mid → Stepped (env output b include_hash) q (turn t mid v m) (Ok u) (turn r now w n) → made ≤ first + (n - m) → Ran sink b include_hash p0 s0 first_stack v0 u r now w made
+  ran_turn base p0 p q u s0 s t r first_stack stack mid now v0 v w first m n made x k z l =
       let d = z.steps.0 in
       let bits = bits_of output b include_hash d.front d.emitted d.back in
       let resumed = resumes_heard b include_hash true base p q s t stack mid k in
       let heard : reading_rest b include_hash true q t mid ≡ heard_bits true bits (reading_rest b include_hash true u r now) =
       subst (λ (ys : List Frame). reading_rest b include_hash true q t mid ≡ heard_bits true bits (reading_rest b include_hash true u r ys)) (sym d.is_stack)
-      (subst (λ (out : Bool). reading_rest b include_hash out q t mid ≡ heard_bits out bits (reading_rest b include_hash out u r (pushed_on mid d.pushed))) is_printed (step_heard output b include_hash q u t r mid v w second now z mid)) in
+      (subst (λ (out : Bool). reading_rest b include_hash out q t mid ≡ heard_bits out bits (reading_rest b include_hash out u r (pushed_on mid d.pushed))) is_printed (step_heard output b include_hash q u t r mid v w m n now z mid)) in
       record {
         bits = x.bits ++ bits;
         emits = said_append sink v0 v w x.bits bits x.emits (said_told v w d.front d.back d.emitted d.emits);
@@ -70,9 +71,9 @@ module _ {S : Type 0} (sink : Sinks S) (output : Ghosts (SizeLimitedFmtAdapter S
       }
 
   -- it was refused
-  ran_broke : (base : ℕ) (p0 p q : Point) (s0 s t r : State) (first_stack stack mid now : List Frame) (v0 v w : SizeLimitedFmtAdapter S) (first second made : ℕ) (e : SinkRefused) → Ran sink b include_hash p0 s0 first_stack v0 p s stack v first
-      → Resumes base p s stack q t mid → Stepped output b include_hash q t mid v (Err e) r now w second → made ≤ first + second → Broke sink b include_hash p0 s0 first_stack v0 w made
-  ran_broke base p0 p q s0 s t r first_stack stack mid now v0 v w first second made e x k z l =
+  ran_broke : (base : ℕ) (p0 p q : Point) (s0 s t r : State) (first_stack stack mid now : List Frame) (v0 v w : SizeLimitedFmtAdapter S) (first m n made : ℕ) (e : SinkRefused) → Ran sink b include_hash p0 s0 first_stack v0 p s stack v first
+      → Resumes base p s stack q t mid → Stepped (env output b include_hash) q (turn t mid v m) (Err e) (turn r now w n) → made ≤ first + (n - m) → Broke sink b include_hash p0 s0 first_stack v0 w made
+  ran_broke base p0 p q s0 s t r first_stack stack mid now v0 v w first m n made e x k z l =
       let d = z.steps.0 in
       let texts = texts_of b include_hash d.emitted in
       let resumed = resumes_heard b include_hash true base p q s t stack mid k in
@@ -92,10 +93,10 @@ module _ {S : Type 0} (sink : Sinks S) (output : Ghosts (SizeLimitedFmtAdapter S
         enough = omega (arith, l, x.enough, d.enough, looks_append x.bits (pays d.front ∷ []));
       }
 
-  pub ran_fail : (base : ℕ) (p0 p q : Point) (s0 s t r : State) (first_stack stack mid now : List Frame) (v0 v w : SizeLimitedFmtAdapter S) (first second made : ℕ) (e : SinkRefused) (result : Result (Option Left) SinkRefused) (to : Reading) (end : List Frame)
-      → IsErr result → Ran sink b include_hash p0 s0 first_stack v0 p s stack v first → Resumes base p s stack q t mid → Stepped output b include_hash q t mid v (Err e) r now w second → made ≤ first + second → RanOn sink b include_hash p0 s0 first_stack v0 result to end w made
-  ran_fail base p0 p q s0 s t r first_stack stack mid now v0 v w first second made e (Ok x) to end h a k z l = absurd (false≢true h)
-  ran_fail base p0 p q s0 s t r first_stack stack mid now v0 v w first second made e (Err f) to end h a k z l = record { ran = ran_broke base p0 p q s0 s t r first_stack stack mid now v0 v w first second made e a k z l }
+  pub ran_fail : (base : ℕ) (p0 p q : Point) (s0 s t r : State) (first_stack stack mid now : List Frame) (v0 v w : SizeLimitedFmtAdapter S) (first m n made : ℕ) (e : SinkRefused) (result : Result (Option Left) SinkRefused) (to : Reading) (end : List Frame)
+      → IsErr result → Ran sink b include_hash p0 s0 first_stack v0 p s stack v first → Resumes base p s stack q t mid → Stepped (env output b include_hash) q (turn t mid v m) (Err e) (turn r now w n) → made ≤ first + (n - m) → RanOn sink b include_hash p0 s0 first_stack v0 result to end w made
+  ran_fail base p0 p q s0 s t r first_stack stack mid now v0 v w first m n made e (Ok x) to end h a k z l = absurd (false≢true h)
+  ran_fail base p0 p q s0 s t r first_stack stack mid now v0 v w first m n made e (Err f) to end h a k z l = record { ran = ran_broke base p0 p q s0 s t r first_stack stack mid now v0 v w first m n made e a k z l }
 
 -- where it goes on behind a unit
 pub ran_resumes : {S : Type 0} (sink : Sinks S) (b : List ℕ) (include_hash : Bool) (base : ℕ) (p0 p q : Point) (s0 s t : State) (first_stack stack mid : List Frame) (v0 v : SizeLimitedFmtAdapter S) (made : ℕ) → Ran sink b include_hash p0 s0 first_stack v0 p s stack v made

@@ -1,6 +1,7 @@
 -- Steps on a whole stack.
-use Rattle.std.proofs.Common.{inl, inr, ◌⊎◌, ◌≡◌, ℕ, ◌+◌, ◌≤◌, ◌<◌, Bool, true, false, Option, Some, None, List, [], ◌∷◌, ◌++◌, length, Result, Ok, Err, IsErr, refl, arith, sym, ap, ◌∙◌, subst, append_assoc, length-append}
+use Rattle.std.proofs.Common.{inl, inr, ◌⊎◌, ◌≡◌, ℕ, ◌+◌, ◌-◌, ◌≤◌, ◌<◌, Bool, true, false, Option, Some, None, List, [], ◌∷◌, ◌++◌, length, Result, Ok, Err, IsErr, refl, arith, sym, ap, ◌∙◌, subst, append_assoc, length-append}
 use Rattle.std.proofs.lemmas.Bool.{false≢true}
+use Rattle.std.proofs.lemmas.List.{append-nil}
 use Rattle.demangle_grammar.specs.Items.{Text}
 use Rattle.demangle_grammar.specs.Totals.{total}
 use Rattle.demangle_grammar.specs.Running.{allowed_in}
@@ -12,7 +13,7 @@ use Rattle.demangle_words.specs.declared.stretch.Stretch.TheVariants.{Fixed}
 use Rattle.demangle_v0.specs.Heights as heights
 use Rattle.demangle_grammar.specs.Reading.{Place}
 use Rattle.demangle_grammar.proofs.Failed.{failed}
-use Rattle.demangle_v0.specs.Points.{most_frames, Bit, pays, puts, heard_bits, bits_looks, Env, env, Part, part, Turn, turn, Emits, emitted_texts, mark_texts, pushed_on, then_frame, way_weight, weight_at, weight_of, weights, height_at, height_of, count_of, FitsFrame, Fits, rest_at, unit_rest, unit_rest_at, unit_rest_of, stack_rest, reading_rest, measure, is_inner, IsInner, AllInner, Went, Halted, Kept, DidOn, resumed_of, bindings_left, words_at, whole}
+use Rattle.demangle_v0.specs.Points.{most_frames, Bit, pays, puts, heard_bits, bits_looks, Env, env, Part, part, Turn, turn, Emits, emitted_texts, mark_texts, pushed_on, then_frame, way_weight, weight_at, weight_of, weights, height_at, height_of, count_of, FitsFrame, Fits, rest_at, unit_rest, unit_rest_at, unit_rest_of, stack_rest, reading_rest, measure, is_inner, IsInner, AllInner, Went, Halted, Kept, PointDoes, resumed_of, bindings_left, whole}
 use Rattle.demangle_v0.specs.PointRuns.{Puts, unmarked_of, Stepped, Resumes, stays, pops, frame_height, AllFit, Valid, Reads, ReadOn, first_looks}
 use Rattle.demangle_sink.specs.declared.SinkRefused.{SinkRefused}
 use Rattle.demangle_words.specs.declared.texts.Mark.{Mark}
@@ -20,7 +21,7 @@ use Rattle.demangle_v0.specs.declared.points.Point.{Point}
 use Rattle.demangle_v0.specs.declared.points.Point.TheVariants as point
 use Rattle.demangle_v0.specs.declared.points.frames.Frame.{Frame}
 use Rattle.demangle_v0.specs.declared.points.State.{State}
-use Rattle.demangle_v0.specs.declared.points.Stop.TheVariants.{Fault}
+use Rattle.demangle_v0.specs.declared.points.Stop.TheVariants.{Fault, Refused}
 use Rattle.demangle_words.specs.declared.output.Output.{Ghosts}
 use Rattle.demangle_v0.specs.declared.points.read.Halt.TheVariants as halt
 use Rattle.demangle_grammar.proofs.Hearing.{and_then_assoc, and_then_ended, handing_then, allowing_then}
@@ -64,19 +65,27 @@ module _ {V : Type 0} (output : Ghosts V) (b : List ℕ) (include_hash : Bool) w
   bits_total front None back = omega arith
   bits_total front (Some s) back = omega arith
 
-  put_way : (q : Point) (new : State) (words : ℕ) (h : Heard) (weight high : ℕ) (stack now : List Frame) (v w x : V) (first made : ℕ) (k : Option Mark) → k ≡ new.mark
-      → (d : Went (env output b include_hash) (part words h weight high) (turn new stack v 0) q (turn new now w first)) → (d.emitted ≡ None) ⊎ (new.mark ≡ None) → Puts output k w (Ok tt) x → made ≤ first
-      → Went (env output b include_hash) (part words h weight high) (turn (unmarked_of new) stack v 0) q (turn (unmarked_of new) now x made)
-  put_way q new words h weight high stack now v w x first made None c d o p l = record {
+-- what stands behind a step
+abbrev gone : {V : Type 0} → Env V → Option Frame → Point → State → Heard
+gone e f q s = then_frame e.symbol e.include_hash e.output.is_printed f (unit_rest_of e.symbol e.include_hash e.output.is_printed q s)
+
+kept_pushed : (stack now : List Frame) (p : Option Frame) → now ≡ pushed_on stack p → Kept stack now
+kept_pushed stack now None k = ([], k ∙ sym (append-nil stack))
+kept_pushed stack now (Some f) k = (f ∷ [], k)
+
+module _ {V : Type 0} {e : Env V} where
+  put_way : {t u : Turn V} {q : Point} {part : Part} {x : V} {n : ℕ} (k : Option Mark) → k ≡ u.state.mark → (d : Went e part t q u) → (d.emitted ≡ None) ⊎ (u.state.mark ≡ None) → Puts e.output k u.output (Ok tt) x → n ≤ u.looks
+      → Went e part t q (record u { state = unmarked_of u.state; output = x; looks = n })
+  put_way {t} {u} {q} {part} None c d o p l = record {
     front = d.front;
     emitted = d.emitted;
     back = d.back;
     pushed = d.pushed;
-    emits = subst (λ (z : V). Emits (env output b include_hash) d.emitted v z) (sym p.1) d.emits;
+    emits = subst (λ (z : V). Emits e d.emitted t.output z) (sym p.1) d.emits;
     one = inr refl;
-    reads = subst (λ (z : Option Mark). h ≡ taken d.front d.emitted z d.back (then_frame b include_hash output.is_printed d.pushed (unit_rest_of b include_hash output.is_printed q new))) (sym c) d.reads;
+    reads = subst (λ (z : Option Mark). part.heard ≡ taken e.output e.symbol e.include_hash d.front d.emitted z d.back (gone e d.pushed q u.state)) (sym c) d.reads;
     is_stack = d.is_stack;
-    few = omega (arith, d.few);
+    few = d.few;
     enough = omega (arith, l, d.enough);
     late = omega (arith, l, d.late);
     lighter = d.lighter;
@@ -86,20 +95,19 @@ module _ {V : Type 0} (output : Ghosts V) (b : List ℕ) (include_hash : Bool) w
     inner_fits = d.inner_fits;
     quiet = d.quiet;
   }
-  put_way q new words h weight high stack now v w x first made (Some m) c d (inr e) p l = absurd (some_none m (c ∙ e))
-  put_way q new words h weight high stack now v w x first made (Some m) c d (inl e) p l =
-      let t = then_frame b include_hash output.is_printed d.pushed (unit_rest_of b include_hash output.is_printed q new) in
-      let same : v ≡ w = subst (λ (z : Option Stretch). Emits (env output b include_hash) z v w) e d.emits in
+  put_way (Some m) c d (inr z) p l = absurd (some_none m (c ∙ z))
+  put_way {t} {u} {q} {part} {x} (Some m) c d (inl z) p l =
+      let same : t.output ≡ u.output = subst (λ (y : Option Stretch). Emits e y t.output u.output) z d.emits in
       record {
         front = d.front;
         emitted = Some (Fixed m);
         back = d.back;
         pushed = d.pushed;
-        emits = subst (λ (z : V). output.prints z (text m ∷ []) (Ok tt) x) (sym same) p.0;
+        emits = subst (λ (y : V). e.output.prints y (text m ∷ []) (Ok tt) x) (sym same) p.0;
         one = inr refl;
-        reads = d.reads ∙ (ap (λ (z : Option Stretch). taken d.front z new.mark d.back t) e ∙ ap (λ (z : Option Mark). taken d.front None z d.back t) (sym c));
+        reads = d.reads ∙ (ap (λ (y : Option Stretch). taken e.output e.symbol e.include_hash d.front y u.state.mark d.back (gone e d.pushed q u.state)) z ∙ ap (λ (y : Option Mark). taken e.output e.symbol e.include_hash d.front None y d.back (gone e d.pushed q u.state)) (sym c));
         is_stack = d.is_stack;
-        few = omega (arith, d.few);
+        few = d.few;
         enough = omega (arith, l, d.enough);
         late = omega (arith, l, d.late);
         lighter = d.lighter;
@@ -111,71 +119,51 @@ module _ {V : Type 0} (output : Ghosts V) (b : List ℕ) (include_hash : Bool) w
       }
 
   -- the step went on
-  pub step_goes : (p q : Point) (s new : State) (stack now : List Frame) (v w x : V) (first made : ℕ)
-      → DidOn output b include_hash (words_at p) (unit_rest_of b include_hash output.is_printed p s) (weight_at p) (height_at p s.depth_left) stack v (Ok q) new now w first → Puts output new.mark w (Ok tt) x → made ≤ first
-      → Stepped output b include_hash p s stack v (Ok q) (unmarked_of new) now x made
-  step_goes p q s new stack now v w x first made d k l = record {
-    steps = (put_way q new _ _ _ _ stack now v w x first made new.mark refl d.comes d.comes.one k l, refl);
-  }
+  pub step_goes : {t u : Turn V} {p q : Point} {x : V} {n : ℕ} → PointDoes e p t (Ok q) u → Puts e.output u.state.mark u.output (Ok tt) x → n ≤ u.looks → Stepped e p t (Ok q) (record u { state = unmarked_of u.state; output = x; looks = n })
+  step_goes {u = u} d k l = record { steps = (put_way u.state.mark refl d.comes d.comes.one k l, refl) }
 
   -- the mark was refused
-  mark_refused : (q : Point) (new t : State) (words : ℕ) (h : Heard) (weight high : ℕ) (stack now : List Frame) (v w x : V) (e : SinkRefused) (first made : ℕ) (k : Option Mark) → k ≡ new.mark
-      → (d : Went (env output b include_hash) (part words h weight high) (turn new stack v 0) q (turn new now w first)) → (d.emitted ≡ None) ⊎ (new.mark ≡ None) → Puts output k w (Err e) x → made ≤ first
-      → Halted (env output b include_hash) (part words h weight high) (turn t stack v 0) (turn t now x made)
-  mark_refused q new t words h weight high stack now v w x e first made None c d o p l = absurd (err_ok e p.0)
-  mark_refused q new t words h weight high stack now v w x e first made (Some m) c d (inr o) p l = absurd (some_none m (c ∙ o))
-  mark_refused q new t words h weight high stack now v w x e first made (Some m) c d (inl o) p l =
-      let u = then_frame b include_hash output.is_printed d.pushed (unit_rest_of b include_hash output.is_printed q new) in
-      let same : v ≡ w = subst (λ (z : Option Stretch). Emits (env output b include_hash) z v w) o d.emits in
+  mark_refused : {t u : Turn V} {q : Point} {part : Part} {s : State} {x : V} {n : ℕ} {f : SinkRefused} (k : Option Mark) → k ≡ u.state.mark → (d : Went e part t q u) → (d.emitted ≡ None) ⊎ (u.state.mark ≡ None) → Puts e.output k u.output (Err f) x → n ≤ u.looks
+      → Halted e part t (record u { state = s; output = x; looks = n })
+  mark_refused {f = f} None c d o p l = absurd (err_ok f p.0)
+  mark_refused (Some m) c d (inr o) p l = absurd (some_none m (c ∙ o))
+  mark_refused {t} {u} {q} {x = x} {f = f} (Some m) c d (inl o) p l =
+      let same : t.output ≡ u.output = subst (λ (y : Option Stretch). Emits e y t.output u.output) o d.emits in
       record {
         front = d.front;
         emitted = Fixed m;
-        rest = with_looks d.back u;
-        refusal = e;
-        prints = subst (λ (z : V). output.prints z (text m ∷ []) (Err e) x) (sym same) p.0;
-        reads = d.reads ∙ (ap (λ (z : Option Stretch). taken d.front z new.mark d.back u) o ∙ ap (λ (z : Option Mark). taken d.front None z d.back u) (sym c));
+        rest = with_looks d.back (gone e d.pushed q u.state);
+        refusal = f;
+        prints = subst (λ (y : V). e.output.prints y (text m ∷ []) (Err f) x) (sym same) p.0;
+        reads = d.reads ∙ (ap (λ (y : Option Stretch). taken e.output e.symbol e.include_hash d.front y u.state.mark d.back (gone e d.pushed q u.state)) o ∙ ap (λ (y : Option Mark). taken e.output e.symbol e.include_hash d.front None y d.back (gone e d.pushed q u.state)) (sym c));
         few = omega (arith, d.few);
         enough = omega (arith, l, d.late);
-        exact = λ q. absurd (false≢true (p.1 q));
-        fails = λ q. absurd (false≢true (p.1 q));
+        exact = λ z. absurd (false≢true (p.1 z));
+        fails = λ z. absurd (false≢true (p.1 z));
       }
 
-  kept_pushed : (stack now : List Frame) (p : Option Frame) → now ≡ pushed_on stack p → Kept stack now
-  kept_pushed stack now None e = ([], e ∙ sym (Rattle.std.proofs.lemmas.List.append-nil stack))
-  kept_pushed stack now (Some f) e = (f ∷ [], e)
-
-  pub step_refused : (p q : Point) (s new : State) (t : State) (stack now : List Frame) (v w x : V) (e : SinkRefused) (first made : ℕ)
-      → DidOn output b include_hash (words_at p) (unit_rest_of b include_hash output.is_printed p s) (weight_at p) (height_at p s.depth_left) stack v (Ok q) new now w first → Puts output new.mark w (Err e) x → made ≤ first
-      → Stepped output b include_hash p s stack v (Err e) t now x made
-  step_refused p q s new t stack now v w x e first made d k l = record {
-    steps = (mark_refused q new t _ _ _ _ stack now v w x e first made new.mark refl d.comes d.comes.one k l, kept_pushed stack now d.comes.pushed d.comes.is_stack);
-  }
+  pub step_refused : {t u : Turn V} {p q : Point} {s : State} {x : V} {n : ℕ} {f : SinkRefused} → PointDoes e p t (Ok q) u → Puts e.output u.state.mark u.output (Err f) x → n ≤ u.looks → Stepped e p t (Err f) (record u { state = s; output = x; looks = n })
+  step_refused {t} {u} d k l = record { steps = (mark_refused u.state.mark refl d.comes d.comes.one k l, kept_pushed t.stack u.stack d.comes.pushed d.comes.is_stack) }
 
   -- which error is answered makes no difference
-  pub stepped_err : (p : Point) (s t : State) (stack now : List Frame) (v w : V) (made : ℕ) (e : SinkRefused) (r : Result Point SinkRefused) → IsErr r → Stepped output b include_hash p s stack v (Err e) t now w made → Stepped output b include_hash p s stack v r t now w made
-  stepped_err p s t stack now v w made e (Ok q) h d = absurd (false≢true h)
-  stepped_err p s t stack now v w made e (Err f) h d = record { steps = d.steps }
-
-  -- a fault comes with no mark, so that one stretch is handed over
-  pub fault_unmarked : (words : ℕ) (h : Heard) (weight high : ℕ) (stack : List Frame) (v : V) (f : Mark) (new : State) (now : List Frame) (w : V) (made : ℕ) → DidOn output b include_hash words h weight high stack v (Err (Fault f)) new now w made → new.mark ≡ None
-  fault_unmarked words h weight high stack v f new now w made z = z.comes.unmarked
+  pub stepped_err : {t u : Turn V} {p : Point} {f : SinkRefused} {r : Result Point SinkRefused} → IsErr r → Stepped e p t (Err f) u → Stepped e p t r u
+  stepped_err {r = Ok q} h d = absurd (false≢true h)
+  stepped_err {r = Err f} h d = record { steps = d.steps }
 
   -- the text of the fault was handed over
-  pub fault_goes : (p : Point) (f : Mark) (s new t : State) (stack now : List Frame) (v x y : V) (first made : ℕ)
-      → DidOn output b include_hash (words_at p) (unit_rest_of b include_hash output.is_printed p s) (weight_at p) (height_at p s.depth_left) stack v (Err (Fault f)) new now x first → output.prints x (text f ∷ []) (Ok tt) y
-      → t.mark ≡ None → t.place ≡ None → t.is_open ≡ false → made ≤ first
-      → Stepped output b include_hash p s stack v (Ok point.End) t now y made
+  pub fault_goes : {t u : Turn V} {p : Point} {f : Mark} {x : V} {n : ℕ} → PointDoes e p t (Err (Fault f)) u → e.output.prints u.output (text f ∷ []) (Ok tt) x → n ≤ u.looks
+      → Stepped e p t (Ok point.End) (record u { state = record u.state { place = None; is_open = false }; output = x; looks = n })
   unfolding unit_rest_at then_frame
-  fault_goes p f s new t stack now v x y first made z u c i o l = let d = z.comes in record {
+  fault_goes {t} {u} {f = f} {x = x} z put l = let d = z.comes in record {
     steps = (
       record {
         front = d.front;
         emitted = Some (Fixed f);
         back = [];
         pushed = None;
-        emits = subst (λ (z : V). output.prints z (text f ∷ []) (Ok tt) y) (sym d.emits) u;
-        one = inr c;
-        reads = rw (c, i, o) d.reads;
+        emits = subst (λ (y : V). e.output.prints y (text f ∷ []) (Ok tt) x) (sym d.emits) put;
+        one = inr d.unmarked;
+        reads = rw d.unmarked d.reads;
         is_stack = d.is_stack;
         few = omega (arith, d.few);
         enough = omega (arith, l, d.enough);
@@ -187,32 +175,33 @@ module _ {V : Type 0} (output : Ghosts V) (b : List ℕ) (include_hash : Bool) w
         inner_fits = tt;
         quiet = λ _. tt;
       },
-      c,
+      d.unmarked,
     );
   }
 
   -- or refused
-  pub fault_refused : (p : Point) (f : Mark) (s new t : State) (stack now : List Frame) (v x y : V) (e : SinkRefused) (first made : ℕ)
-      → DidOn output b include_hash (words_at p) (unit_rest_of b include_hash output.is_printed p s) (weight_at p) (height_at p s.depth_left) stack v (Err (Fault f)) new now x first → output.prints x (text f ∷ []) (Err e) y
-      → made ≤ first
-      → Stepped output b include_hash p s stack v (Err e) t now y made
-  fault_refused p f s new t stack now v x y e first made z u l = let d = z.comes in record {
+  pub fault_refused : {t u : Turn V} {p : Point} {m : Mark} {s : State} {x : V} {n : ℕ} {f : SinkRefused} → PointDoes e p t (Err (Fault m)) u → e.output.prints u.output (text m ∷ []) (Err f) x → n ≤ u.looks → Stepped e p t (Err f) (record u { state = s; output = x; looks = n })
+  fault_refused {t} {u} {m = m} {x = x} {f = f} z put l = let d = z.comes in record {
     steps = (
       record {
         front = d.front;
-        emitted = Fixed f;
+        emitted = Fixed m;
         rest = nothing_heard None false;
-        refusal = e;
-        prints = subst (λ (z : V). output.prints z (text f ∷ []) (Err e) y) (sym d.emits) u;
+        refusal = f;
+        prints = subst (λ (y : V). e.output.prints y (text m ∷ []) (Err f) x) (sym d.emits) put;
         reads = d.reads;
         few = d.few;
         enough = omega (arith, l, d.enough);
-        exact = λ q. omega (arith, l, d.enough);
-        fails = λ q. refl;
+        exact = λ _. omega (arith, l, d.enough);
+        fails = λ _. refl;
       },
-      kept_pushed stack now None d.is_stack,
+      kept_pushed t.stack u.stack None d.is_stack,
     );
   }
+
+  -- or what the point put was refused
+  pub stop_refused : {t u : Turn V} {p : Point} {f : SinkRefused} → PointDoes e p t (Err Refused) u → Stepped e p t (Err f) u
+  stop_refused d = record { steps = d.comes }
 
 -- What a stack still reads.
 
@@ -340,14 +329,14 @@ resume_light base p q s t stack now (stays other e k r) = rw (e, r) (omega (arit
 resume_light base p q s t stack now (pops f e l r d k) = rw (r, d) (omega (arith, weights_push now f))
 
 module _ {V : Type 0} (output : Ghosts V) (b : List ℕ) (include_hash : Bool) where
-  pub valid_steps : (p q : Point) (s t : State) (stack now : List Frame) (v w : V) (made : ℕ) → Valid p s stack → Stepped output b include_hash p s stack v (Ok q) t now w made → Valid q t now
-  valid_steps p q s t stack now v w made l z =
+  pub valid_steps : (p q : Point) (s t : State) (stack now : List Frame) (v w : V) (m n : ℕ) → Valid p s stack → Stepped (env output b include_hash) p (turn s stack v m) (Ok q) (turn t now w n) → Valid q t now
+  valid_steps p q s t stack now v w m n l z =
       let d = z.steps.0 in subst (Valid q t) (sym d.is_stack) (valid_push p q s t stack d.pushed l d.outer_height d.inner_height d.outer_fits d.inner_fits z.steps.1)
 
   -- what a step does over more frames
-  pub step_heard : (p q : Point) (s t : State) (stack : List Frame) (v w : V) (made : ℕ) (now : List Frame) (z : Stepped output b include_hash p s stack v (Ok q) t now w made) → (above : List Frame)
+  pub step_heard : (p q : Point) (s t : State) (stack : List Frame) (v w : V) (m n : ℕ) (now : List Frame) (z : Stepped (env output b include_hash) p (turn s stack v m) (Ok q) (turn t now w n)) → (above : List Frame)
       → reading_rest b include_hash output.is_printed p s above ≡ heard_bits output.is_printed (bits_of output b include_hash z.steps.0.front z.steps.0.emitted z.steps.0.back) (reading_rest b include_hash output.is_printed q t (pushed_on above z.steps.0.pushed))
-  step_heard p q s t stack v w made now z above =
+  step_heard p q s t stack v w m n now z above =
       let d = z.steps.0 in
       let x = then_frame b include_hash output.is_printed d.pushed (unit_rest_of b include_hash output.is_printed q t) in
       let bits = bits_of output b include_hash d.front d.emitted d.back in
@@ -358,11 +347,11 @@ module _ {V : Type 0} (output : Ghosts V) (b : List ℕ) (include_hash : Bool) w
       ∙ ap (heard_bits output.is_printed bits) (followed_stack b include_hash output.is_printed above d.pushed (unit_rest_of b include_hash output.is_printed q t)))
 
   -- one turn of a reading
-  pub turn_less : (base : ℕ) (p q u : Point) (s t r : State) (stack mid now : List Frame) (v w : V) (made : ℕ) → Resumes base p s stack q t mid → Stepped output b include_hash q t mid v (Ok u) r now w made
+  pub turn_less : (base : ℕ) (p q u : Point) (s t r : State) (stack mid now : List Frame) (v w : V) (m n : ℕ) → Resumes base p s stack q t mid → Stepped (env output b include_hash) q (turn t mid v m) (Ok u) (turn r now w n)
       → measure b include_hash output.is_printed u r now < measure b include_hash output.is_printed p s stack
-  turn_less base p q u s t r stack mid now v w made x z =
+  turn_less base p q u s t r stack mid now v w m n x z =
       let d = z.steps.0 in
-      let k = ap (λ (h : Heard). allowed_in h.events) (step_heard q u t r mid v w made now z mid) in
+      let k = ap (λ (h : Heard). allowed_in h.events) (step_heard q u t r mid v w m n now z mid) in
       omega (
         arith,
         resume_light base p q s t stack mid x,
@@ -403,13 +392,13 @@ module _ {V : Type 0} (output : Ghosts V) (b : List ℕ) (include_hash : Bool) (
         quiet = record { place = ap (λ (h : Heard). h.place) same ∙ x.quiet.place; looks = omega (arith, ap (λ (h : Heard). allowed_in h.events) same, x.quiet.looks) };
       }
 
-  reads_step : (below above : List Frame) (p0 q u : Point) (s0 t r : State) (mid now : List Frame) (v w : V) (first second made : ℕ) → Reads b include_hash below p0 s0 above q t mid first
-      → Stepped output b include_hash q t mid v (Ok u) r now w second → made ≤ first + second → Reads b include_hash below p0 s0 above u r now made
-  reads_step below above p0 q u s0 t r mid now v w first second made x z l =
+  reads_step : (below above : List Frame) (p0 q u : Point) (s0 t r : State) (mid now : List Frame) (v w : V) (first m n made : ℕ) → Reads b include_hash below p0 s0 above q t mid first
+      → Stepped (env output b include_hash) q (turn t mid v m) (Ok u) (turn r now w n) → made ≤ first + (n - m) → Reads b include_hash below p0 s0 above u r now made
+  reads_step below above p0 q u s0 t r mid now v w first m n made x z l =
       let d = z.steps.0 in
       let bits = bits_of output b include_hash d.front d.emitted d.back in
       let heard : reading_rest b include_hash false q t x.frames ≡ heard_bits false bits (reading_rest b include_hash false u r (pushed_on x.frames d.pushed)) =
-      subst (λ (out : Bool). reading_rest b include_hash out q t x.frames ≡ heard_bits out bits (reading_rest b include_hash out u r (pushed_on x.frames d.pushed))) silent (step_heard output b include_hash q u t r mid v w second now z x.frames) in
+      subst (λ (out : Bool). reading_rest b include_hash out q t x.frames ≡ heard_bits out bits (reading_rest b include_hash out u r (pushed_on x.frames d.pushed))) silent (step_heard output b include_hash q u t r mid v w m n now z x.frames) in
       record {
         frames = pushed_on x.frames d.pushed;
         is_stack = d.is_stack ∙ (ap (λ (ys : List Frame). pushed_on ys d.pushed) x.is_stack ∙ pushed_above below x.frames d.pushed);
@@ -429,14 +418,14 @@ module _ {V : Type 0} (output : Ghosts V) (b : List ℕ) (include_hash : Bool) (
       }
 
   -- one turn
-  pub reads_turn : (base : ℕ) (below above : List Frame) (p0 p q u : Point) (s0 s t r : State) (stack mid now : List Frame) (v w : V) (first second made : ℕ) → Reads b include_hash below p0 s0 above p s stack first → length below ≡ base
-      → Resumes base p s stack q t mid → Stepped output b include_hash q t mid v (Ok u) r now w second → made ≤ first + second → Reads b include_hash below p0 s0 above u r now made
-  reads_turn base below above p0 p q u s0 s t r stack mid now v w first second made x l k z m =
-      reads_step below above p0 q u s0 t r mid now v w first second made (reads_resume base below above p0 p q s0 s t stack mid first x l k) z m
+  pub reads_turn : (base : ℕ) (below above : List Frame) (p0 p q u : Point) (s0 s t r : State) (stack mid now : List Frame) (v w : V) (first m n made : ℕ) → Reads b include_hash below p0 s0 above p s stack first → length below ≡ base
+      → Resumes base p s stack q t mid → Stepped (env output b include_hash) q (turn t mid v m) (Ok u) (turn r now w n) → made ≤ first + (n - m) → Reads b include_hash below p0 s0 above u r now made
+  reads_turn base below above p0 p q u s0 s t r stack mid now v w first m n made x l k z h =
+      reads_step below above p0 q u s0 t r mid now v w first m n made (reads_resume base below above p0 p q s0 s t stack mid first x l k) z h
 
-  stop_quiet : (q : Point) (t r : State) (frames stack now : List Frame) (v w : V) (made : ℕ) → AllInner frames → Halted (env output b include_hash) (whole (env output b include_hash) q t) (turn r stack v 0) (turn r now w made)
-      → ((reading_rest b include_hash false q t frames).place ≡ None) × (made ≤ allowed_in (reading_rest b include_hash false q t frames).events)
-  stop_quiet q t r frames stack now v w made i d =
+  stop_quiet : (q : Point) (t r : State) (frames stack now : List Frame) (v w : V) (m n : ℕ) → AllInner frames → Halted (env output b include_hash) (whole (env output b include_hash) q t) (turn t stack v m) (turn r now w n)
+      → ((reading_rest b include_hash false q t frames).place ≡ None) × (n - m ≤ allowed_in (reading_rest b include_hash false q t frames).events)
+  stop_quiet q t r frames stack now v w m n i d =
       let texts = texts_of b include_hash d.emitted in
       let rest = and_then (with_texts false texts d.rest) (stack_rest b include_hash false frames) in
       let heard : reading_rest b include_hash false q t frames ≡ heard_bits false (pays d.front ∷ []) rest =
@@ -447,11 +436,11 @@ module _ {V : Type 0} (output : Ghosts V) (b : List ℕ) (include_hash : Bool) (
       )
 
   -- it failed
-  pub reads_fail : (base : ℕ) (below above : List Frame) (p0 p q end : Point) (s0 s t r u : State) (stack mid now : List Frame) (v w : V) (first second made : ℕ) (e : SinkRefused) → Reads b include_hash below p0 s0 above p s stack first → length below ≡ base
-      → Resumes base p s stack q t mid → Stepped output b include_hash q t mid v (Err e) r now w second → made ≤ first + second → ReadOn b include_hash below p0 s0 above halt.Failed end u now made
-  reads_fail base below above p0 p q end s0 s t r u stack mid now v w first second made e x l k z h =
+  pub reads_fail : (base : ℕ) (below above : List Frame) (p0 p q end : Point) (s0 s t r u : State) (stack mid now : List Frame) (v w : V) (first m n made : ℕ) (e : SinkRefused) → Reads b include_hash below p0 s0 above p s stack first → length below ≡ base
+      → Resumes base p s stack q t mid → Stepped (env output b include_hash) q (turn t mid v m) (Err e) (turn r now w n) → made ≤ first + (n - m) → ReadOn b include_hash below p0 s0 above halt.Failed end u now made
+  reads_fail base below above p0 p q end s0 s t r u stack mid now v w first m n made e x l k z h =
       let y = reads_resume base below above p0 p q s0 s t stack mid first x l k in
-      let f = stop_quiet q t r y.frames mid now v w second y.inner z.steps.0 in
+      let f = stop_quiet q t r y.frames mid now v w m n y.inner z.steps.0 in
       record {
         reads = (
           record { place = sym y.quiet.place ∙ f.0; looks = omega (arith, h, f.1, y.quiet.looks) },

@@ -7,7 +7,7 @@ use Rattle.demangle_v0.specs.Heights as heights
 use Rattle.demangle_v0.specs.Impls.{skip_point, self_point}
 use Rattle.demangle_words.specs.declared.texts.Mark.{Mark}
 use Rattle.demangle_sink.specs.declared.SinkRefused.{SinkRefused}
-use Rattle.demangle_v0.specs.Points.{Bit, pays, puts, heard_bits, bits_looks, env, whole, turn, Went, Halted, Kept, AllInner, Fits, unit_rest_of, reading_rest, weight_at, height_at, most_frames, resumed_of}
+use Rattle.demangle_v0.specs.Points.{Bit, pays, puts, heard_bits, bits_looks, Env, whole, Turn, Went, Halted, Kept, AllInner, Fits, unit_rest_of, reading_rest, weight_at, height_at, most_frames, resumed_of}
 use Rattle.demangle_grammar.specs.Running.{allowed_in}
 use Rattle.demangle_grammar.specs.Reading.{Place, max_depth}
 use Rattle.demangle_grammar.specs.Items.{Text}
@@ -34,13 +34,13 @@ Puts output (Some m) v result w = output.prints v (text m ∷ []) result w × (o
 abbrev pub unmarked_of : State → State
 unmarked_of s = record s { mark = None }
 
-abbrev pub Steps : {V : Type 0} → Ghosts V → List ℕ → Bool → Point → State → List Frame → V → Result Point SinkRefused → State → List Frame → V → ℕ → Type 0
-Steps output b include_hash p s stack v (Ok q) t now w made = Went (env output b include_hash) (whole (env output b include_hash) p s) (turn t stack v 0) q (turn t now w made) × (t.mark ≡ None)
-Steps output b include_hash p s stack v (Err e) t now w made = Halted (env output b include_hash) (whole (env output b include_hash) p s) (turn t stack v 0) (turn t now w made) × Kept stack now
+abbrev pub Steps : {V : Type 0} → Env V → Point → Turn V → Result Point SinkRefused → Turn V → Type 0
+Steps env p before (Ok q) after = Went env (whole env p before.state) before q after × (after.state.mark ≡ None)
+Steps env p before (Err e) after = Halted env (whole env p before.state) before after × Kept before.stack after.stack
 
 -- a record, so that a lemma finds its arguments
-pub record Stepped {V : Type 0} (output : Ghosts V) (b : List ℕ) (include_hash : Bool) (p : Point) (s : State) (stack : List Frame) (v : V) (result : Result Point SinkRefused) (t : State) (now : List Frame) (w : V) (made : ℕ) : Type 0 where
-  pub steps : Steps output b include_hash p s stack v result t now w made
+pub record Stepped {V : Type 0} (env : Env V) (p : Point) (before : Turn V) (result : Result Point SinkRefused) (after : Turn V) : Type 0 where
+  pub steps : Steps env p before result after
 
 -- Where a unit is over, the frame on top goes on, if there is one above so many.
 pub data Resumes (base : ℕ) (p : Point) (s : State) (stack : List Frame) (q : Point) (t : State) (now : List Frame) : Type 0 where

@@ -1,7 +1,7 @@
 //! Steps: what a point does and the mark that it leaves, and where a unit that is over goes on.
 ghost use Rattle.std.specs.Prelude.{◌≡◌, ◌+◌, ◌-◌, ◌<◌, ◌≤◌, true, false, IfSome, IfNone, IsOk, OnOk, length, IsAscii};
 ghost use Rattle.demangle_v0.specs.Impls.{is_skip};
-ghost use Rattle.demangle_v0.specs.Points.{own_by, Fits, resumed_of};
+ghost use Rattle.demangle_v0.specs.Points.{own_by, Fits, env, turn, resumed_of};
 ghost use Rattle.demangle_v0.specs.PointRuns.{Puts, Stepped, Resumes, first_looks};
 
 use crate::points::dispatch::dispatch;
@@ -54,8 +54,8 @@ pub(crate) fn step<V: Output, const N: usize>(
     requires room { length stack.old < N }
     requires fits { Fits point state.old.depth_left state.old.lifetimes }
     requires unskipped { V.is_printed ≡ true → is_skip point ≡ false }
-    ensures stepped { Stepped V.Output symbol.now include_hash point state.old stack.old output.old
-        result state.new stack.new output.new (looks.new - looks.old) }
+    ensures stepped { Stepped (env V.Output symbol.now include_hash) point (turn state.old stack.old
+        output.old looks.old) result (turn state.new stack.new output.new looks.new) }
     ensures ready { IsOk result → V.ready output.new }
     ensures grows { looks.old ≤ looks.new }
     ensures own { looks.new ≤ looks.old + own_by 20 symbol.now state.old.place }

@@ -50,17 +50,17 @@ step-requires g c =
 
 pub returns-in_err-point-clause-ran : goal.returns-in_err-point-clause-ran
 returns-in_err-point-clause-ran g c =
-    ran_fail g.S.TextSink _ c.args.symbol.now c.args.include_hash (λ v w ts r p. p) refl _ _ _ _ _ _ _ _ _ _ _ _ _ _ _ (c.steps.looks - c.args.looks.now) (c.step.new.looks - c.steps.looks) _ _ _ _ _ c.from_residual.ensures.0 c.steps.invariant.ran c.in-Some.ensures.some c.in_err-point.ensures.stepped
+    ran_fail g.S.TextSink _ c.args.symbol.now c.args.include_hash (λ v w ts r p. p) refl _ _ _ _ _ _ _ _ _ _ _ _ _ _ _ (c.steps.looks - c.args.looks.now) _ _ _ _ _ _ _ c.from_residual.ensures.0 c.steps.invariant.ran c.in-Some.ensures.some c.in_err-point.ensures.stepped
     (omega (arith, c.steps.invariant.grows, c.in_err-point.ensures.grows))
 
 pub steps-smaller : goal.steps-smaller
-steps-smaller g c = turn_less _ c.args.symbol.now c.args.include_hash _ _ _ _ _ _ _ _ _ _ _ _ _ c.in-Some.ensures.some c.in_ok-point.ensures.stepped
+steps-smaller g c = turn_less _ c.args.symbol.now c.args.include_hash _ _ _ _ _ _ _ _ _ _ _ _ _ _ c.in-Some.ensures.some c.in_ok-point.ensures.stepped
 
 pub steps-preserved : goal.steps-preserved
 steps-preserved g c = record {
   ready = c.in_ok-point.ensures.ready refl;
-  valid = valid_steps _ c.args.symbol.now c.args.include_hash _ _ _ _ _ _ _ _ _ (valid_resumes _ _ _ _ _ _ _ c.steps.invariant.valid c.in-Some.ensures.some) c.in_ok-point.ensures.stepped;
-  ran = ran_turn g.S.TextSink _ c.args.symbol.now c.args.include_hash (λ v w ts r p. p) refl _ _ _ _ _ _ _ _ _ _ _ _ _ _ _ _ (c.steps.looks - c.args.looks.now) (c.step.new.looks - c.steps.looks) _ c.steps.invariant.ran c.in-Some.ensures.some c.in_ok-point.ensures.stepped
+  valid = valid_steps _ c.args.symbol.now c.args.include_hash _ _ _ _ _ _ _ _ _ _ (valid_resumes _ _ _ _ _ _ _ c.steps.invariant.valid c.in-Some.ensures.some) c.in_ok-point.ensures.stepped;
+  ran = ran_turn g.S.TextSink _ c.args.symbol.now c.args.include_hash (λ v w ts r p. p) refl _ _ _ _ _ _ _ _ _ _ _ _ _ _ _ _ (c.steps.looks - c.args.looks.now) _ _ _ c.steps.invariant.ran c.in-Some.ensures.some c.in_ok-point.ensures.stepped
       (omega (arith, c.steps.invariant.grows, c.in_ok-point.ensures.grows));
   grows = omega (arith, c.steps.invariant.grows, c.in_ok-point.ensures.grows);
   least = omega (arith, c.steps.invariant.least, c.in_ok-point.ensures.least, first_resumes _ _ _ _ _ _ _ c.in-Some.ensures.some);

@@ -22,4 +22,4 @@ returns-in-None c =
     }
 
 pub returns : goal.returns
-returns c = record { valid = λ _. valid_steps _ c.args.symbol.now c.args.include_hash _ _ _ _ _ _ _ _ _ (valid_resumes _ _ _ _ _ _ _ c.requires.valid c.in-Some.ensures.some) c.in-Ok.ensures.stepped }
+returns c = record { valid = λ _. valid_steps _ c.args.symbol.now c.args.include_hash _ _ _ _ _ _ _ _ _ _ (valid_resumes _ _ _ _ _ _ _ c.requires.valid c.in-Some.ensures.some) c.in-Ok.ensures.stepped }

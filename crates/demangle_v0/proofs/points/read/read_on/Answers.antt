@@ -9,18 +9,18 @@ step-requires g c =
     (omega arith, (λ z. absurd (false≢true z), (tt, (v.unmarked, (omega (arith, resumes_length _ _ _ _ _ _ _ c.in-Some.ensures.some, c.steps-test.true, c.len.ensures), (v.fits, λ z. absurd (false≢true z)))))))
 
 pub steps-smaller : goal.steps-smaller
-steps-smaller g c = turn_less _ c.args.symbol.now c.args.include_hash _ _ _ _ _ _ _ _ _ _ _ _ _ c.in-Some.ensures.some c.in-Ok.ensures.stepped
+steps-smaller g c = turn_less _ c.args.symbol.now c.args.include_hash _ _ _ _ _ _ _ _ _ _ _ _ _ _ c.in-Some.ensures.some c.in-Ok.ensures.stepped
 
 pub steps-preserved : goal.steps-preserved
 steps-preserved g c = record {
-  valid = valid_steps _ c.args.symbol.now c.args.include_hash _ _ _ _ _ _ _ _ _ (valid_resumes _ _ _ _ _ _ _ c.steps.invariant.valid c.in-Some.ensures.some) c.in-Ok.ensures.stepped;
+  valid = valid_steps _ c.args.symbol.now c.args.include_hash _ _ _ _ _ _ _ _ _ _ (valid_resumes _ _ _ _ _ _ _ c.steps.invariant.valid c.in-Some.ensures.some) c.in-Ok.ensures.stepped;
   reads = λ below above e l i.
-      reads_turn _ c.args.symbol.now c.args.include_hash refl _ below above _ _ _ _ _ _ _ _ _ _ _ _ _ (c.steps.looks - c.args.looks.now) (c.step.new.looks - c.steps.looks) _ (c.steps.invariant.reads below above e l i) l c.in-Some.ensures.some c.in-Ok.ensures.stepped
+      reads_turn _ c.args.symbol.now c.args.include_hash refl _ below above _ _ _ _ _ _ _ _ _ _ _ _ _ (c.steps.looks - c.args.looks.now) _ _ _ (c.steps.invariant.reads below above e l i) l c.in-Some.ensures.some c.in-Ok.ensures.stepped
       (omega (arith, c.steps.invariant.grows, c.in-Ok.ensures.grows));
   grows = omega (arith, c.steps.invariant.grows, c.in-Ok.ensures.grows);
 }
 
 pub returns-in-Err-clause-reads : goal.returns-in-Err-clause-reads
 returns-in-Err-clause-reads g c = λ below above e l i.
-    reads_fail _ c.args.symbol.now c.args.include_hash refl _ below above _ _ _ _ _ _ _ _ _ _ _ _ _ _ (c.steps.looks - c.args.looks.now) (c.step.new.looks - c.steps.looks) _ _ (c.steps.invariant.reads below above e l i) l c.in-Some.ensures.some c.in-Err.ensures.stepped
+    reads_fail _ c.args.symbol.now c.args.include_hash refl _ below above _ _ _ _ _ _ _ _ _ _ _ _ _ _ (c.steps.looks - c.args.looks.now) _ _ _ _ (c.steps.invariant.reads below above e l i) l c.in-Some.ensures.some c.in-Err.ensures.stepped
     (omega (arith, c.steps.invariant.grows, c.in-Err.ensures.grows))
