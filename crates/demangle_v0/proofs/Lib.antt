@@ -1,3 +1,4 @@
+pub mod Faults
 pub mod Heights
 pub mod Kept
 pub mod PointArguments

@@ -1,4 +1,5 @@
 -- The points of paths.
+use Prim.Native.Char.{code}
 use Rattle.std.specs.Prelude.{◌*◌}
 use Rattle.std.proofs.Common.{◌≡◌, ℕ, zero, suc, sub-one, ◌+◌, ◌-◌, ◌<◌, ◌≤◌, length, Bool, false, Option, Some, None, List, [], ◌∷◌, ◌++◌, Result, Ok, Err, refl, arith, sym, ap, ◌∙◌}
 use Rattle.demangle_grammar.specs.Items.{Items, invalid, byte}
@@ -56,7 +57,7 @@ module _ {V : Type 0} (output : Ghosts V) (b : List ℕ) (include_hash : Bool) w
 
   -- Names.
 
-  pub crate_so : (v : Bool) (left n i : ℕ) → path_heard v left n (Some i) 67 ≡ group_heard output b include_hash (crate_group b i)
+  pub crate_so : (v : Bool) (left n i : ℕ) → path_heard v left n (Some i) (code "C") ≡ group_heard output b include_hash (crate_group b i)
   unfolding run
   crate_so v left n i = group_shut output b include_hash _ (crate_group b i) _ (crate_reads b include_hash left output.is_printed n v i)
 
@@ -72,7 +73,7 @@ opened : {V : Type 0} (e : Env V) (s : State) (i : ℕ) → s.place ≡ Some i �
 opened e s i at d = rw at (path_opens e.output e.symbol e.include_hash s.in_value s.letter s.depth_left s.lifetimes i s.is_open d)
 
 -- A crate's name.
-pub crate_heard : {V : Type 0} (e : Env V) (s : State) (i : ℕ) → s.place ≡ Some i → path_heard e.output e.symbol e.include_hash s.in_value s.depth_left s.lifetimes s.place 67 ≡ group_then e.output e.symbol e.include_hash (crate_group e.symbol i) ended
+pub crate_heard : {V : Type 0} (e : Env V) (s : State) (i : ℕ) → s.place ≡ Some i → path_heard e.output e.symbol e.include_hash s.in_value s.depth_left s.lifetimes s.place (code "C") ≡ group_then e.output e.symbol e.include_hash (crate_group e.symbol i) ended
 crate_heard e s i at = rw at (crate_so e.output e.symbol e.include_hash s.in_value s.depth_left s.lifetimes i)
 
 -- A name behind its path.
@@ -80,12 +81,12 @@ pub nested_heard : {V : Type 0} (e : Env V) (s : State) (i : ℕ) → s.place �
 nested_heard e s i at = rw at (nested_so e.output e.symbol e.include_hash s.in_value s.letter s.depth_left s.lifetimes i s.is_open)
 
 module _ {V : Type 0} {e : Env V} where
-  pub nested_stops : {t : Turn V} {n : ℕ} (i : ℕ) → t.state.place ≡ Some i → None ≡ namespace_at e.symbol i → n ≡ t.looks + 1 → t.state.mark ≡ None → RestDoes e (path t.state.in_value 78) 6 1 9 t (Err (Fault mark.Invalid)) (record t { looks = n })
+  pub nested_stops : {t : Turn V} {n : ℕ} (i : ℕ) → t.state.place ≡ Some i → None ≡ namespace_at e.symbol i → n ≡ t.looks + 1 → t.state.mark ≡ None → RestDoes e (path t.state.in_value (code "N")) 6 1 9 t (Err (Fault mark.Invalid)) (record t { looks = n })
   unfolding run
   nested_stops i at r l k = ends mark.Invalid (4 * (length e.symbol - i + 1) ∷ []) (omega arith) k (rw (at, sym r) refl) (record { grows = omega arith; within = omega arith }) (rw at (omega (arith, l))) (omega arith)
 
   pub nested_goes : {t : Turn V} {stack : List Frame} {n most : ℕ} (i letter j : ℕ) → t.state.place ≡ Some i → Some (letter, j) ≡ namespace_at e.symbol i → n ≡ t.looks + 1 → MayRead point.Nested most t.state t.stack
-      → stack ≡ t.stack ++ frame_of point.Nested t.state.in_value letter t.state.depth_left t.state.lifetimes ∷ [] → RestDoes e (path t.state.in_value 78) 6 1 9 t (Ok point.Path) (record t { state = record t.state { place = Some j }; stack = stack; looks = n })
+      → stack ≡ t.stack ++ frame_of point.Nested t.state.in_value letter t.state.depth_left t.state.lifetimes ∷ [] → RestDoes e (path t.state.in_value (code "N")) 6 1 9 t (Ok point.Path) (record t { state = record t.state { place = Some j }; stack = stack; looks = n })
   unfolding run then_frame unit_rest_at
   nested_goes {t} i letter j at r l may q =
       leaves point.Path (4 * (j - i + 1) ∷ []) [] (omega arith) (Some (frame_of point.Nested t.state.in_value letter t.state.depth_left t.state.lifetimes)) (rw (at, may.unmarked, sym r) refl) q

@@ -2,6 +2,7 @@
 pub mod Arguments
 pub mod ConstantLists
 pub mod DynTraits
+pub mod Faults
 pub mod Heights
 pub mod Impls
 pub mod Marks

@@ -4,7 +4,7 @@ use Rattle.std.specs.Prelude.{ℕ, Bool, if◌then◌else◌, Option, Some, None
 use Prim.Native.Char.{code}
 use Rattle.demangle_symbol.specs.Digits.{is_byte}
 use Rattle.demangle_grammar.specs.Items.{Items}
-use Rattle.demangle_grammar.specs.Table.{constant}
+use Rattle.demangle_grammar.specs.Table.{constant, path}
 use Rattle.demangle_v0.specs.Points.{frame_of}
 use Rattle.demangle_v0.specs.declared.points.Point.TheVariants as point
 use Rattle.demangle_v0.specs.declared.points.frames.Frame.{Frame}
@@ -13,6 +13,13 @@ use Rattle.demangle_v0.specs.declared.points.State.{State}
 -- the `w` before the tag of a type
 abbrev pub is_splat_at : List ℕ → ℕ → Bool
 is_splat_at b i = is_byte b i (code "w")
+
+-- what stands behind the `C` of a crate's path, and behind the `N` of a path of names
+abbrev pub crate_path : Bool → Items
+crate_path v = path v (code "C")
+
+abbrev pub nested_path : Bool → Items
+nested_path v = path v (code "N")
 
 -- what stands behind the `R` of a string or a reference, and behind the `V` of a variant
 abbrev pub shared_constant : Bool → Items

@@ -20,6 +20,7 @@ mod constant_lists;
 mod constants;
 mod dispatch;
 mod dyn_traits;
+mod faults;
 pub mod frames;
 mod functions;
 mod impls;
@@ -219,9 +220,7 @@ fn last_word<V: Output>(
         WordRead::Goes(stretch, next) => {
             state.place = next;
             state.is_open = false;
-            let Ok(()) = output.emit(symbol, &stretch, include_hash, looks) else {
-                return Err(Stop::Refused);
-            };
+            output.emit(symbol, &stretch, include_hash, looks)?;
             Ok(Point::End)
         }
         WordRead::Stops(mark) => Err(Stop::Fault(mark)),

@@ -84,9 +84,7 @@ fn signed_number<V: Output>(
         (constant_of state.old.in_value tag ConstantKind.Signed) 6 6 9 (turn state.old stack
         output.old looks.old) result (turn state.new stack output.new looks.new) }
 {
-    let Some(at) = state.place else {
-        return Err(Stop::Fault(Mark::AfterError));
-    };
+    let at = state.at()?;
     state.letter = tag;
     if symbol.is_at(b'n', at, looks) {
         state.place = Some(at + 1);
@@ -157,9 +155,7 @@ fn tagged_constant<V: Output, const N: usize>(
         6 6 9 (turn state.old stack.old output.old looks.old) result (turn state.new stack.new
         output.new looks.new) }
 {
-    let Some(kind) = constant_kind(tag) else {
-        return Err(Stop::Fault(Mark::Invalid));
-    };
+    let kind = constant_kind(tag).ok_or(Stop::Fault(Mark::Invalid))?;
     match kind {
         ConstantKind::Placeholder => {
             state.mark = Some(Mark::Placeholder);
@@ -205,17 +201,10 @@ pub(super) fn constant<V: Output, const N: usize>(
     ensures did { PointDoes (env V.Output symbol.now include_hash) Point.Constant (turn state.old
         stack.old output.old looks.old) result (turn state.new stack.new output.new looks.new) }
 {
-    let Some(at) = state.place else {
-        return Err(Stop::Fault(Mark::AfterError));
-    };
-    let Ok((tag, next)) = symbol.tag(at, looks) else {
-        return Err(Stop::Fault(Mark::Invalid));
-    };
+    let at = state.at()?;
+    let (tag, next) = symbol.tag(at, looks)?;
     // Unlike a basic type, every constant raises the depth, a number and a placeholder too.
-    if state.depth_left == 0 {
-        return Err(Stop::Fault(Mark::Recursion));
-    }
-    state.depth_left -= 1;
+    state.depth_left = state.inner_depth()?;
     state.place = Some(next);
     tagged_constant(symbol, tag, include_hash, state, stack, output, looks)
 }

@@ -1,7 +1,7 @@
 //! The names of paths.
 ghost use Rattle.std.specs.Prelude.{◌≡◌, None, List};
 ghost use Rattle.demangle_v0.specs.Points.{MayEmit, PointDoes, RestDoes, env, turn};
-ghost use Rattle.demangle_grammar.specs.Table.{path};
+ghost use Rattle.demangle_v0.specs.PointContracts.{crate_path};
 ghost use Rattle.demangle_v0.specs.declared.points.frames.Frame.{Frame};
 
 use crate::points::{Point, State, Stop};
@@ -21,26 +21,17 @@ pub(super) fn crate_name<V: Output>(
     looks: &mut Looks,
 ) -> Result<Point, Stop>
     requires may { MayEmit (env V.Output symbol.now include_hash) state.old output.old }
-    ensures did { (stack : List Frame) → RestDoes (env V.Output symbol.now include_hash) (path
-        state.old.in_value 67) 6 1 0 (turn state.old stack output.old looks.old) result (turn
+    ensures did { (stack : List Frame) → RestDoes (env V.Output symbol.now include_hash) (crate_path
+        state.old.in_value) 6 1 0 (turn state.old stack output.old looks.old) result (turn
         state.new stack output.new looks.new) }
 {
-    let Some(at) = state.place else {
-        return Err(Stop::Fault(Mark::AfterError));
-    };
-    let Some((name, number, next)) = numbered_name(symbol, at, looks) else {
-        return Err(Stop::Fault(Mark::Invalid));
-    };
+    let at = state.at()?;
+    let named = numbered_name(symbol, at, looks);
+    let (name, number, next) = named.ok_or(Stop::Fault(Mark::Invalid))?;
     state.place = Some(next);
     state.is_open = false;
-    let Ok(()) = output.emit(
-        symbol,
-        &Stretch::CrateName(name, number),
-        include_hash,
-        looks,
-    ) else {
-        return Err(Stop::Refused);
-    };
+    let name = Stretch::CrateName(name, number);
+    output.emit(symbol, &name, include_hash, looks)?;
     Ok(Point::End)
 }
 
@@ -60,9 +51,7 @@ fn unread_name<V: Output>(
         output.new looks.new) }
 {
     state.is_open = false;
-    let Ok(()) = output.emit_fault(symbol, &Stretch::NestedAfterError, include_hash, looks) else {
-        return Err(Stop::Refused);
-    };
+    output.emit_fault(symbol, &Stretch::NestedAfterError, include_hash, looks)?;
     Ok(Point::End)
 }
 
@@ -83,14 +72,11 @@ pub(super) fn nested_name<V: Output>(
     let Some(at) = state.place else {
         return unread_name(symbol, include_hash, state, output, looks);
     };
-    let Some((ident, number, next)) = numbered_name(symbol, at, looks) else {
-        return Err(Stop::Fault(Mark::Invalid));
-    };
+    let named = numbered_name(symbol, at, looks);
+    let (ident, number, next) = named.ok_or(Stop::Fault(Mark::Invalid))?;
     state.place = Some(next);
     state.is_open = false;
     let name = Stretch::NestedName(state.letter, number, ident);
-    let Ok(()) = output.emit(symbol, &name, include_hash, looks) else {
-        return Err(Stop::Refused);
-    };
+    output.emit(symbol, &name, include_hash, looks)?;
     Ok(Point::End)
 }

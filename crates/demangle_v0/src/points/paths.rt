@@ -1,6 +1,7 @@
 //! The points of paths.
 ghost use Rattle.std.specs.Prelude.{ℕ, ◌+◌, ◌≤◌, Ok, Bool, List};
 ghost use Rattle.demangle_v0.specs.Points.{MayRead, MayStep, PointDoes, RestDoes, env, turn};
+ghost use Rattle.demangle_v0.specs.PointContracts.{nested_path};
 ghost use Rattle.demangle_v0.specs.PointRuns.{first_looks};
 ghost use Rattle.demangle_grammar.specs.Table.{path};
 ghost use Rattle.demangle_words.specs.Tags.{path_of};
@@ -25,15 +26,11 @@ fn nested_path<V: Output, const N: usize>(
 ) -> Result<Point, Stop>
     requires may { MayRead Point.Nested N state.old stack.old }
     ensures did { (include_hash : Bool) (v : V) → RestDoes (env V.Output symbol.now include_hash)
-        (path state.old.in_value 78) 6 1 9 (turn state.old stack.old v looks.old) result (turn
+        (nested_path state.old.in_value) 6 1 9 (turn state.old stack.old v looks.old) result (turn
         state.new stack.new v looks.new) }
 {
-    let Some(at) = state.place else {
-        return Err(Stop::Fault(Mark::AfterError));
-    };
-    let Ok((letter, next)) = symbol.namespace(at, looks) else {
-        return Err(Stop::Fault(Mark::Invalid));
-    };
+    let at = state.at()?;
+    let (letter, next) = symbol.namespace(at, looks)?;
     let frame = state.frame(Point::Nested);
     stack.push(Frame { letter, ..frame });
     state.place = Some(next);
@@ -69,9 +66,7 @@ fn tagged_path<V: Output, const N: usize>(
         9 (turn state.old stack.old output.old looks.old) result (turn state.new stack.new
         output.new looks.new) }
 {
-    let Some(kind) = path_kind(tag) else {
-        return Err(Stop::Fault(Mark::Invalid));
-    };
+    let kind = path_kind(tag).ok_or(Stop::Fault(Mark::Invalid))?;
     match kind {
         PathKind::CrateRoot => crate_name(symbol, include_hash, state, output, looks),
         PathKind::Nested => nested_path::<V, N>(symbol, state, stack, looks),
@@ -99,18 +94,12 @@ pub(super) fn path<V: Output, const N: usize>(
         stack.old output.old looks.old) result (turn state.new stack.new output.new looks.new) }
     ensures least { looks.old + first_looks Point.Path state.old ≤ looks.new }
 {
-    let Some(at) = state.place else {
-        return Err(Stop::Fault(Mark::AfterError));
-    };
+    let at = state.at()?;
     // Of a path the depth is tested before its tag is looked at, of a type or a constant behind it:
     // in this order the Rust crate reports, where both fail.
-    if state.depth_left == 0 {
-        return Err(Stop::Fault(Mark::Recursion));
-    }
-    let Ok((tag, next)) = symbol.tag(at, looks) else {
-        return Err(Stop::Fault(Mark::Invalid));
-    };
-    state.depth_left -= 1;
+    let inner_depth = state.inner_depth()?;
+    let (tag, next) = symbol.tag(at, looks)?;
+    state.depth_left = inner_depth;
     state.place = Some(next);
     tagged_path(symbol, tag, include_hash, state, stack, output, looks)
 }

@@ -22,15 +22,9 @@ pub(super) fn pattern<V: Output, const N: usize>(
         Point.Pattern (turn state.old stack.old v looks.old) result (turn state.new stack.new v
         looks.new) }
 {
-    let Some(at) = state.place else {
-        return Err(Stop::Fault(Mark::AfterError));
-    };
-    let Ok((tag, next)) = symbol.tag(at, looks) else {
-        return Err(Stop::Fault(Mark::Invalid));
-    };
-    let Some(kind) = pattern_kind(tag) else {
-        return Err(Stop::Fault(Mark::Invalid));
-    };
+    let at = state.at()?;
+    let (tag, next) = symbol.tag(at, looks)?;
+    let kind = pattern_kind(tag).ok_or(Stop::Fault(Mark::Invalid))?;
     state.place = Some(next);
     match kind {
         PatternKind::Range => {
@@ -40,10 +34,7 @@ pub(super) fn pattern<V: Output, const N: usize>(
         }
         PatternKind::Or => {
             // Only `O` holds patterns, so only there the Rust crate raises the depth.
-            if state.depth_left == 0 {
-                return Err(Stop::Fault(Mark::Recursion));
-            }
-            state.depth_left -= 1;
+            state.depth_left = state.inner_depth()?;
             stack.push(state.frame(Point::NextPattern));
             Ok(Point::Pattern)
         }
@@ -68,9 +59,7 @@ pub(super) fn next_pattern<V: Output, const N: usize>(
         Point.NextPattern (turn state.old stack.old v looks.old) result (turn state.new stack.new v
         looks.new) }
 {
-    let Some(at) = state.place else {
-        return Err(Stop::Fault(Mark::Invalid));
-    };
+    let at = state.place.ok_or(Stop::Fault(Mark::Invalid))?;
     if symbol.is_at(b'E', at, looks) {
         state.place = Some(at + 1);
         state.is_open = false;

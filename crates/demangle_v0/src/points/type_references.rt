@@ -63,12 +63,8 @@ pub(super) fn reference_lifetime<V: Output>(
         (lifetime_point is_mut) (turn state.old stack output.old looks.old) result (turn state.new
         stack output.new looks.new) }
 {
-    let Some(at) = state.place else {
-        return Err(Stop::Fault(Mark::AfterError));
-    };
-    let Ok((index, next)) = symbol.integer_62(at, looks) else {
-        return Err(Stop::Fault(Mark::Invalid));
-    };
+    let at = state.at()?;
+    let (index, next) = symbol.integer_62(at, looks)?;
     state.place = Some(next);
     // `&'_ T` is printed as `&T`; and a silent reading checks no lifetime.
     if index == 0 || !output.is_printing() {
@@ -76,9 +72,7 @@ pub(super) fn reference_lifetime<V: Output>(
     }
     let (stretch, place) = spaced_lifetime(state.lifetimes, index, next);
     state.place = place;
-    let Ok(()) = output.emit(symbol, &stretch, include_hash, looks) else {
-        return Err(Stop::Refused);
-    };
+    output.emit(symbol, &stretch, include_hash, looks)?;
     Ok(behind_reference(is_mut))
 }
 

@@ -62,15 +62,9 @@ pub(super) fn variant<V: Output, const N: usize>(
         Point.Variant (turn state.old stack.old v looks.old) result (turn state.new stack.new v
         looks.new) }
 {
-    let Some(at) = state.place else {
-        return Err(Stop::Fault(Mark::AfterError));
-    };
-    let Ok((tag, next)) = symbol.tag(at, looks) else {
-        return Err(Stop::Fault(Mark::Invalid));
-    };
-    let Some(kind) = variant_kind(tag) else {
-        return Err(Stop::Fault(Mark::Invalid));
-    };
+    let at = state.at()?;
+    let (tag, next) = symbol.tag(at, looks)?;
+    let kind = variant_kind(tag).ok_or(Stop::Fault(Mark::Invalid))?;
     state.place = Some(next);
     match kind {
         VariantKind::Unit => Ok(unit_variant::<V>(state)),
@@ -99,9 +93,7 @@ pub(super) fn field<V: Output>(
     match word_at(symbol, Word::FieldName, state, output, looks) {
         WordRead::Goes(stretch, next) => {
             state.place = next;
-            let Ok(()) = output.emit(symbol, &stretch, include_hash, looks) else {
-                return Err(Stop::Refused);
-            };
+            output.emit(symbol, &stretch, include_hash, looks)?;
             Ok(Point::FieldColon)
         }
         WordRead::Stops(mark) => Err(Stop::Fault(mark)),

@@ -1,18 +1,19 @@
 use Rattle.std.proofs.Common.{arith, refl}
 use Rattle.demangle_v0.specs.Points.{unit_rest_at}
+use Rattle.demangle_v0.proofs.Faults.{stops, stops_invalid}
 use Rattle.demangle_v0.proofs.PointTurns.{unread}
 use Rattle.demangle_v0.proofs.PointTaggedConstants.{constant_untagged, constant_too_deep, constant_tagged}
 use Rattle.demangle_v0.proofs.points.constants.constant.Goals as goal
 
-pub returns-in_default : goal.returns-in_default
+pub returns-in_err-at : goal.returns-in_err-at
 unfolding unit_rest_at
-returns-in_default g c = record { did = unread c.requires.may.unmarked (rw c.in_default.is refl) (omega arith) }
+returns-in_err-at g c = record { did = rw (stops c.from_residual.result c.from_residual.ensures.1 c.in_err-at.ensures.failed.1) (unread c.requires.may.unmarked (rw c.in_err-at.ensures.failed.0 refl) (omega arith)) }
 
-pub returns-in_default-tag : goal.returns-in_default-tag
-returns-in_default-tag g c = record { did = constant_untagged c.in-Some.at c.in-Some.is c.in_default-tag.ensures.read c.tag.ensures.look c.requires.may.unmarked }
+pub returns-in_err-tag : goal.returns-in_err-tag
+returns-in_err-tag g c = record { did = rw (stops_invalid c.from_residual-in_err-tag.result c.from_residual-in_err-tag.ensures.1 c.in_err-tag.ensures.fault) (constant_untagged c.in_ok-at.at c.in_ok-at.ensures.ok c.in_err-tag.ensures.read c.tag.ensures.look c.requires.may.unmarked) }
 
-pub returns-then-state-eq0 : goal.returns-then-state-eq0
-returns-then-state-eq0 g c = record { did = constant_too_deep c.in-Some.at c.in-Ok.tag c.in-Ok.next c.in-Some.is c.if-state-eq0.true c.in-Ok.ensures.read c.tag.ensures.look c.requires.may.unmarked }
+pub returns-in_err-state : goal.returns-in_err-state
+returns-in_err-state g c = record { did = rw (stops c.from_residual-in_err-state.result c.from_residual-in_err-state.ensures.1 c.in_err-state.ensures.deep.1) (constant_too_deep c.in_ok-at.at c.in_ok-tag.tag c.in_ok-tag.next c.in_ok-at.ensures.ok c.in_err-state.ensures.deep.0 c.in_ok-tag.ensures.read c.tag.ensures.look c.requires.may.unmarked) }
 
 pub returns : goal.returns
-returns g c = record { did = constant_tagged c.in-Some.at c.in-Ok.tag c.in-Ok.next c.in-Some.is (omega arith) c.in-Ok.ensures.read c.tag.ensures.look (rw c.in-Some.is (omega (arith, c.tag.ensures.look, c.in-Ok.ensures.within, c.tagged_constant.ensures.did.own))) c.tagged_constant.ensures.did }
+returns g c = record { did = constant_tagged c.in_ok-at.at c.in_ok-tag.tag c.in_ok-tag.next c.in_ok-at.ensures.ok c.in_ok-state.ensures.ok.0 c.in_ok-tag.ensures.read c.tag.ensures.look (rw c.in_ok-at.ensures.ok (omega (arith, c.tag.ensures.look, c.in_ok-tag.ensures.within, c.tagged_constant.ensures.did.own))) (rw c.in_ok-state.ensures.ok.1 at c.tagged_constant.ensures.did) }

@@ -4,47 +4,48 @@ use Rattle.demangle_grammar.specs.Reading.{run}
 use Rattle.demangle_v0.specs.Points.{unit_rest_at}
 use Rattle.demangle_v0.specs.declared.points.Point.TheVariants as point
 use Rattle.demangle_words.specs.declared.tags.ConstantKind.TheVariants as kind
+use Rattle.demangle_v0.proofs.Faults.{stops_none}
 use Rattle.demangle_v0.proofs.PointReferences.{unit_constant}
 use Rattle.demangle_v0.proofs.PointTaggedConstants.{constant_wrong, constant_as, number_reads, text_braced, mutable_braced, array_braced, tuple_braced}
 use Rattle.demangle_v0.proofs.PointTurns.{marks}
 use Rattle.demangle_v0.proofs.points.constants.tagged_constant.Goals as goal
 
-pub returns-in_default : goal.returns-in_default
-returns-in_default g c = record { did = constant_wrong c.args.tag c.in_default.ensures c.requires.may.unmarked }
+pub returns-in_err-kind : goal.returns-in_err-kind
+returns-in_err-kind g c = record { did = rw (stops_none c.from_residual.result c.from_residual.ensures.1 c.in_err-kind.ensures.value c.in_err-kind.ensures.ok_part) (constant_wrong c.args.tag (rw c.in_err-kind.ensures.ok_part at c.constant_kind.ensures) c.requires.may.unmarked) }
 
 pub returns-in-Placeholder : goal.returns-in-Placeholder
 unfolding run unit_rest_at
-returns-in-Placeholder g c = record { did = constant_as c.args.tag kind.Placeholder (rw c.in-Placeholder.is at c.in-Some.ensures) (omega arith) (omega arith) (omega arith) (marks {words = 6} {weight = 6} {high = 0} point.End refl (omega arith) (omega arith) tt) }
+returns-in-Placeholder g c = record { did = constant_as c.args.tag kind.Placeholder (rw (c.in_ok-kind.ensures.ok_part, c.in-Placeholder.is) at c.constant_kind.ensures) (omega arith) (omega arith) (omega arith) (marks {words = 6} {weight = 6} {high = 0} point.End refl (omega arith) (omega arith) tt) }
 
 pub returns-in-Unsigned : goal.returns-in-Unsigned
-returns-in-Unsigned g c = record { did = constant_as c.args.tag kind.Unsigned (rw c.in-Unsigned.is at c.in-Some.ensures) (omega arith) (omega arith) (omega arith) (number_reads c.args.tag (c.number.ensures.did c.args.stack.now)) }
+returns-in-Unsigned g c = record { did = constant_as c.args.tag kind.Unsigned (rw (c.in_ok-kind.ensures.ok_part, c.in-Unsigned.is) at c.constant_kind.ensures) (omega arith) (omega arith) (omega arith) (number_reads c.args.tag (c.number.ensures.did c.args.stack.now)) }
 
 pub returns-in-Signed : goal.returns-in-Signed
-returns-in-Signed g c = record { did = constant_as c.args.tag kind.Signed (rw c.in-Signed.is at c.in-Some.ensures) (omega arith) (omega arith) (omega arith) (c.signed_number.ensures.did c.args.stack.now) }
+returns-in-Signed g c = record { did = constant_as c.args.tag kind.Signed (rw (c.in_ok-kind.ensures.ok_part, c.in-Signed.is) at c.constant_kind.ensures) (omega arith) (omega arith) (omega arith) (c.signed_number.ensures.did c.args.stack.now) }
 
 pub returns-in-Bool : goal.returns-in-Bool
-returns-in-Bool g c = record { did = constant_as c.args.tag kind.Bool (rw c.in-Bool.is at c.in-Some.ensures) (omega arith) (omega arith) (omega arith) (c.last_word.ensures.did c.args.stack.now) }
+returns-in-Bool g c = record { did = constant_as c.args.tag kind.Bool (rw (c.in_ok-kind.ensures.ok_part, c.in-Bool.is) at c.constant_kind.ensures) (omega arith) (omega arith) (omega arith) (c.last_word.ensures.did c.args.stack.now) }
 
 pub returns-in-Char : goal.returns-in-Char
-returns-in-Char g c = record { did = constant_as c.args.tag kind.Char (rw c.in-Char.is at c.in-Some.ensures) (omega arith) (omega arith) (omega arith) (c.last_word-in-Char.ensures.did c.args.stack.now) }
+returns-in-Char g c = record { did = constant_as c.args.tag kind.Char (rw (c.in_ok-kind.ensures.ok_part, c.in-Char.is) at c.constant_kind.ensures) (omega arith) (omega arith) (omega arith) (c.last_word-in-Char.ensures.did c.args.stack.now) }
 
 pub returns-in-Text : goal.returns-in-Text
-returns-in-Text g c = record { did = rw c.in_braces.ensures.point (constant_as c.args.tag kind.Text (rw c.in-Text.is at c.in-Some.ensures) (omega arith) (omega arith) (omega arith) (text_braced _ _ _ c.requires.may.fits (c.in_braces.ensures.state, c.in_braces.ensures.stack))) }
+returns-in-Text g c = record { did = rw c.in_braces.ensures.point (constant_as c.args.tag kind.Text (rw (c.in_ok-kind.ensures.ok_part, c.in-Text.is) at c.constant_kind.ensures) (omega arith) (omega arith) (omega arith) (text_braced _ _ _ c.requires.may.fits (c.in_braces.ensures.state, c.in_braces.ensures.stack))) }
 
 pub returns-in-Mut : goal.returns-in-Mut
-returns-in-Mut g c = record { did = rw c.in_braces-in-Mut.ensures.point (constant_as c.args.tag kind.Mut (rw c.in-Mut.is at c.in-Some.ensures) (omega arith) (omega arith) (omega arith) (mutable_braced _ _ _ c.requires.may.fits (c.in_braces-in-Mut.ensures.state, c.in_braces-in-Mut.ensures.stack))) }
+returns-in-Mut g c = record { did = rw c.in_braces-in-Mut.ensures.point (constant_as c.args.tag kind.Mut (rw (c.in_ok-kind.ensures.ok_part, c.in-Mut.is) at c.constant_kind.ensures) (omega arith) (omega arith) (omega arith) (mutable_braced _ _ _ c.requires.may.fits (c.in_braces-in-Mut.ensures.state, c.in_braces-in-Mut.ensures.stack))) }
 
 pub returns-in-Array : goal.returns-in-Array
-returns-in-Array g c = record { did = rw c.in_braces-in-Array.ensures.point (constant_as c.args.tag kind.Array (rw c.in-Array.is at c.in-Some.ensures) (omega arith) (omega arith) (omega arith) (array_braced _ _ _ c.requires.may.fits (c.in_braces-in-Array.ensures.state, c.in_braces-in-Array.ensures.stack))) }
+returns-in-Array g c = record { did = rw c.in_braces-in-Array.ensures.point (constant_as c.args.tag kind.Array (rw (c.in_ok-kind.ensures.ok_part, c.in-Array.is) at c.constant_kind.ensures) (omega arith) (omega arith) (omega arith) (array_braced _ _ _ c.requires.may.fits (c.in_braces-in-Array.ensures.state, c.in_braces-in-Array.ensures.stack))) }
 
 pub returns-in-Tuple : goal.returns-in-Tuple
-returns-in-Tuple g c = record { did = rw c.in_braces-in-Tuple.ensures.point (constant_as c.args.tag kind.Tuple (rw c.in-Tuple.is at c.in-Some.ensures) (omega arith) (omega arith) (omega arith) (tuple_braced _ _ _ c.requires.may.fits (c.in_braces-in-Tuple.ensures.state, c.in_braces-in-Tuple.ensures.stack))) }
+returns-in-Tuple g c = record { did = rw c.in_braces-in-Tuple.ensures.point (constant_as c.args.tag kind.Tuple (rw (c.in_ok-kind.ensures.ok_part, c.in-Tuple.is) at c.constant_kind.ensures) (omega arith) (omega arith) (omega arith) (tuple_braced _ _ _ c.requires.may.fits (c.in_braces-in-Tuple.ensures.state, c.in_braces-in-Tuple.ensures.stack))) }
 
 pub returns-in-Shared : goal.returns-in-Shared
-returns-in-Shared g c = record { did = constant_as c.args.tag kind.Shared (rw c.in-Shared.is at c.in-Some.ensures) (omega arith) (omega arith) (omega arith) (c.shared_reference.ensures.did) }
+returns-in-Shared g c = record { did = constant_as c.args.tag kind.Shared (rw (c.in_ok-kind.ensures.ok_part, c.in-Shared.is) at c.constant_kind.ensures) (omega arith) (omega arith) (omega arith) (c.shared_reference.ensures.did) }
 
 pub returns-in-Variant : goal.returns-in-Variant
-returns-in-Variant g c = record { did = constant_as c.args.tag kind.Variant (rw c.in-Variant.is at c.in-Some.ensures) (omega arith) (omega arith) (omega arith) (c.variant_path.ensures.did c.args.symbol.now c.args.include_hash c.args.output.now c.args.looks.now) }
+returns-in-Variant g c = record { did = constant_as c.args.tag kind.Variant (rw (c.in_ok-kind.ensures.ok_part, c.in-Variant.is) at c.constant_kind.ensures) (omega arith) (omega arith) (omega arith) (c.variant_path.ensures.did c.args.symbol.now c.args.include_hash c.args.output.now c.args.looks.now) }
 
 pub returns-in-Reference : goal.returns-in-Reference
-returns-in-Reference g c = record { did = constant_as c.args.tag kind.Reference (rw c.in-Reference.is at c.in-Some.ensures) (omega arith) (omega arith) (omega arith) (c.follow.ensures.did c.args.include_hash c.args.output.now true a_constant c.args.state.now.in_value (unit_constant c.args.symbol.now c.args.include_hash c.args.state.now.in_value c.args.state.now.letter c.args.state.now.lifetimes)) }
+returns-in-Reference g c = record { did = constant_as c.args.tag kind.Reference (rw (c.in_ok-kind.ensures.ok_part, c.in-Reference.is) at c.constant_kind.ensures) (omega arith) (omega arith) (omega arith) (c.follow.ensures.did c.args.include_hash c.args.output.now true a_constant c.args.state.now.in_value (unit_constant c.args.symbol.now c.args.include_hash c.args.state.now.in_value c.args.state.now.letter c.args.state.now.lifetimes)) }

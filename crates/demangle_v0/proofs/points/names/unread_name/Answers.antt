@@ -1,9 +1,10 @@
-use Rattle.std.proofs.Common.{arith}
+use Rattle.std.proofs.Common.{arith, refl}
+use Rattle.demangle_v0.proofs.Faults.{stops}
 use Rattle.demangle_v0.proofs.PointPaths.{name_unread, name_unread_refused}
 use Rattle.demangle_v0.proofs.points.names.unread_name.Goals as goal
 
-pub returns-in_default : goal.returns-in_default
-returns-in_default g c = record { did = λ stack. name_unread_refused c.requires.failed (record { grows = omega arith; within = omega (arith, c.in_default.ensures.most) }) c.in_default.ensures.prints }
+pub returns-in_err-emit_fault : goal.returns-in_err-emit_fault
+returns-in_err-emit_fault g c = record { did = λ stack. rw (stops c.from_residual.result c.from_residual.ensures.1 refl) (name_unread_refused c.requires.failed (record { grows = omega arith; within = omega (arith, c.in_err-emit_fault.ensures.most) }) c.in_err-emit_fault.ensures.prints) }
 
 pub returns : goal.returns
-returns g c = record { did = λ stack. name_unread c.requires.failed (record { grows = omega arith; within = omega (arith, c.in-Ok.ensures.most) }) c.in-Ok.ensures.prints c.in-Ok.ensures.ready c.requires.may.unmarked }
+returns g c = record { did = λ stack. name_unread c.requires.failed (record { grows = omega arith; within = omega (arith, c.in_ok-emit_fault.ensures.most) }) c.in_ok-emit_fault.ensures.prints c.in_ok-emit_fault.ensures.ready c.requires.may.unmarked }

@@ -1,15 +1,16 @@
 use Rattle.std.proofs.Common.{arith, refl}
 use Rattle.demangle_grammar.specs.Reading.{run}
+use Rattle.demangle_v0.proofs.Faults.{stops, stops_invalid}
 use Rattle.demangle_v0.proofs.PointTurns.{unread}
 use Rattle.demangle_v0.proofs.PointPaths.{nested_stops, nested_goes}
 use Rattle.demangle_v0.proofs.points.paths.nested_path.Goals as goal
 
-pub returns-in_default : goal.returns-in_default
+pub returns-in_err-at : goal.returns-in_err-at
 unfolding run
-returns-in_default g c = record { did = λ include_hash v. unread c.requires.may.unmarked (rw c.in_default.is refl) (omega arith) }
+returns-in_err-at g c = record { did = λ include_hash v. rw (stops c.from_residual.result c.from_residual.ensures.1 c.in_err-at.ensures.failed.1) (unread c.requires.may.unmarked (rw c.in_err-at.ensures.failed.0 refl) (omega arith)) }
 
-pub returns-in_default-namespace : goal.returns-in_default-namespace
-returns-in_default-namespace g c = record { did = λ include_hash v. nested_stops c.in-Some.at c.in-Some.is c.in_default-namespace.ensures.read c.namespace.ensures.look c.requires.may.unmarked }
+pub returns-in_err-letter : goal.returns-in_err-letter
+returns-in_err-letter g c = record { did = λ include_hash v. rw (stops_invalid c.from_residual-in_err-letter.result c.from_residual-in_err-letter.ensures.1 c.in_err-letter.ensures.fault) (nested_stops c.in_ok-at.at c.in_ok-at.ensures.ok c.in_err-letter.ensures.read c.namespace.ensures.look c.requires.may.unmarked) }
 
 pub returns : goal.returns
-returns g c = record { did = λ include_hash v. nested_goes c.in-Some.at c.in-Ok.letter c.in-Ok.next c.in-Some.is c.in-Ok.ensures.read c.namespace.ensures.look c.requires.may (rw c.frame-frame.ensures at c.push.ensures.pushed (omega (arith, c.requires.may.fits))) }
+returns g c = record { did = λ include_hash v. nested_goes c.in_ok-at.at c.in_ok-letter.letter c.in_ok-letter.next c.in_ok-at.ensures.ok c.in_ok-letter.ensures.read c.namespace.ensures.look c.requires.may (rw c.frame-frame.ensures at c.push.ensures.pushed (omega (arith, c.requires.may.fits))) }

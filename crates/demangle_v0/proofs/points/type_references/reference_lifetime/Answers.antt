@@ -1,35 +1,38 @@
-use Rattle.std.proofs.Common.{arith, sym, ◌∙◌}
+use Rattle.std.proofs.Common.{arith, refl, sym, ◌∙◌}
+use Rattle.demangle_v0.proofs.Faults.{stops, stops_invalid}
 use Rattle.demangle_v0.proofs.PointLifetimes.{lifetime_unread, lifetime_stops, lifetime_unnamed, lifetime_unheard, lifetime_tells, lifetime_refused}
 use Rattle.demangle_v0.proofs.points.type_references.reference_lifetime.Goals.{then-index-eq0-via-then-index-eq0, then-index-eq0-via-else-index-eq0+then-not-is_printing}
 use Rattle.demangle_v0.proofs.points.type_references.reference_lifetime.Goals as goal
 
-pub returns-in_default : goal.returns-in_default
-returns-in_default g c = record { did = λ stack. lifetime_unread c.args.is_mut c.in_default.is c.requires.may.unmarked }
+pub returns-in_err-at : goal.returns-in_err-at
+returns-in_err-at g c = record { did = λ stack. rw (stops c.from_residual.result c.from_residual.ensures.1 c.in_err-at.ensures.failed.1) (lifetime_unread c.args.is_mut c.in_err-at.ensures.failed.0 c.requires.may.unmarked) }
 
-pub returns-in_default-integer_62 : goal.returns-in_default-integer_62
-returns-in_default-integer_62 g c = record {
-  did = λ stack. lifetime_stops c.args.is_mut c.in-Some.at c.in-Some.is c.in_default-integer_62.ensures.read (record { grows = omega arith; within = omega (arith, c.in_default-integer_62.ensures.err_looks) }) c.requires.may.unmarked;
+pub returns-in_err-index : goal.returns-in_err-index
+returns-in_err-index g c = record {
+  did = λ stack. rw (stops_invalid c.from_residual-in_err-index.result c.from_residual-in_err-index.ensures.1 c.in_err-index.ensures.fault)
+      (lifetime_stops c.args.is_mut c.in_ok-at.at c.in_ok-at.ensures.ok c.in_err-index.ensures.read (record { grows = omega arith; within = omega (arith, c.in_err-index.ensures.err_looks) }) c.requires.may.unmarked);
 }
 
 pub returns-then-index-eq0 : goal.returns-then-index-eq0
 returns-then-index-eq0 g c = record {
   did = λ stack. rw c.behind_reference.ensures
       (elim c.then-index-eq0.branch [
-        | then-index-eq0-via-then-index-eq0 w ↦ lifetime_unnamed c.args.is_mut c.in-Some.at c.in-Ok.index c.in-Ok.next (record { at = c.in-Some.is; is = c.in-Ok.ensures.read; paid = record { grows = omega arith; within = omega (arith, c.in-Ok.ensures.ok_looks) }; unmarked = c.requires.may.unmarked; fits = c.requires.fits }) w.if-index-eq0.true
-        | then-index-eq0-via-else-index-eq0+then-not-is_printing w ↦ lifetime_unheard c.args.is_mut c.in-Some.at c.in-Ok.index c.in-Ok.next (record { at = c.in-Some.is; is = c.in-Ok.ensures.read; paid = record { grows = omega arith; within = omega (arith, c.in-Ok.ensures.ok_looks) }; unmarked = c.requires.may.unmarked; fits = c.requires.fits }) w.if-index-eq0.false (sym w.is_printing.ensures ∙ w.if-not-is_printing.true)
+        | then-index-eq0-via-then-index-eq0 w ↦ lifetime_unnamed c.args.is_mut c.in_ok-at.at c.in_ok-index.index c.in_ok-index.next (record { at = c.in_ok-at.ensures.ok; is = c.in_ok-index.ensures.read; paid = record { grows = omega arith; within = omega (arith, c.in_ok-index.ensures.ok_looks) }; unmarked = c.requires.may.unmarked; fits = c.requires.fits }) w.if-index-eq0.true
+        | then-index-eq0-via-else-index-eq0+then-not-is_printing w ↦ lifetime_unheard c.args.is_mut c.in_ok-at.at c.in_ok-index.index c.in_ok-index.next (record { at = c.in_ok-at.ensures.ok; is = c.in_ok-index.ensures.read; paid = record { grows = omega arith; within = omega (arith, c.in_ok-index.ensures.ok_looks) }; unmarked = c.requires.may.unmarked; fits = c.requires.fits }) w.if-index-eq0.false (sym w.is_printing.ensures ∙ w.if-not-is_printing.true)
       ]);
 }
 
-pub returns-in_default-emit : goal.returns-in_default-emit
-returns-in_default-emit g c = record {
-  did = λ stack. lifetime_refused c.args.is_mut c.in-Some.at c.in-Ok.index c.in-Ok.next _ _
-      (record { at = c.in-Some.is; is = c.in-Ok.ensures.read; paid = record { grows = omega arith; within = omega (arith, c.in-Ok.ensures.ok_looks, c.in_default-emit.ensures.most, c.spaced_lifetime-stretch.ensures.later) }; unmarked = c.requires.may.unmarked; fits = c.requires.fits })
-      c.if-index-eq0.false (sym c.is_printing.ensures ∙ c.if-not-is_printing.false) c.spaced_lifetime-stretch.ensures.value c.in_default-emit.ensures.prints;
+pub returns-in_err-emit : goal.returns-in_err-emit
+returns-in_err-emit g c = record {
+  did = λ stack. rw (stops c.from_residual-in_err-emit.result c.from_residual-in_err-emit.ensures.1 refl)
+      (lifetime_refused c.args.is_mut c.in_ok-at.at c.in_ok-index.index c.in_ok-index.next _ _
+      (record { at = c.in_ok-at.ensures.ok; is = c.in_ok-index.ensures.read; paid = record { grows = omega arith; within = omega (arith, c.in_ok-index.ensures.ok_looks, c.in_err-emit.ensures.most, c.spaced_lifetime-stretch.ensures.later) }; unmarked = c.requires.may.unmarked; fits = c.requires.fits })
+      c.if-index-eq0.false (sym c.is_printing.ensures ∙ c.if-not-is_printing.false) c.spaced_lifetime-stretch.ensures.value c.in_err-emit.ensures.prints);
 }
 
 pub returns : goal.returns
 returns g c = record {
-  did = λ stack. rw c.behind_reference-2.ensures (lifetime_tells c.args.is_mut c.in-Some.at c.in-Ok.index c.in-Ok.next _ _
-      (record { at = c.in-Some.is; is = c.in-Ok.ensures.read; paid = record { grows = omega arith; within = omega (arith, c.in-Ok.ensures.ok_looks, c.in-Ok-emit.ensures.most, c.spaced_lifetime-stretch.ensures.later) }; unmarked = c.requires.may.unmarked; fits = c.requires.fits })
-      c.if-index-eq0.false (sym c.is_printing.ensures ∙ c.if-not-is_printing.false) c.spaced_lifetime-stretch.ensures.value c.in-Ok-emit.ensures.prints c.in-Ok-emit.ensures.ready);
+  did = λ stack. rw c.behind_reference-2.ensures (lifetime_tells c.args.is_mut c.in_ok-at.at c.in_ok-index.index c.in_ok-index.next _ _
+      (record { at = c.in_ok-at.ensures.ok; is = c.in_ok-index.ensures.read; paid = record { grows = omega arith; within = omega (arith, c.in_ok-index.ensures.ok_looks, c.in_ok-emit.ensures.most, c.spaced_lifetime-stretch.ensures.later) }; unmarked = c.requires.may.unmarked; fits = c.requires.fits })
+      c.if-index-eq0.false (sym c.is_printing.ensures ∙ c.if-not-is_printing.false) c.spaced_lifetime-stretch.ensures.value c.in_ok-emit.ensures.prints c.in_ok-emit.ensures.ready);
 }
