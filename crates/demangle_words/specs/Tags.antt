@@ -9,6 +9,8 @@ use Rattle.demangle_words.specs.declared.tags.PathKind.{PathKind}
 use Rattle.demangle_words.specs.declared.tags.PathKind.TheVariants as kind
 use Rattle.demangle_words.specs.declared.tags.TypeKind.{TypeKind}
 use Rattle.demangle_words.specs.declared.tags.TypeKind.TheVariants as type_kind
+use Rattle.demangle_words.specs.declared.tags.ConstructedType.{ConstructedType}
+use Rattle.demangle_words.specs.declared.tags.ConstructedType.TheVariants as constructed
 use Rattle.demangle_words.specs.declared.tags.ConstantKind.{ConstantKind}
 use Rattle.demangle_words.specs.declared.tags.ConstantKind.TheVariants as constant_kind
 use Rattle.demangle_words.specs.declared.tags.VariantKind.{VariantKind}
@@ -29,11 +31,14 @@ path_of v kind.TraitDefinition = path v (code "Y")
 path_of v kind.Generic = path v (code "I")
 path_of v kind.Reference = path v (code "B")
 
+abbrev pub constructed_types : List (String × TypeKind)
+constructed_types =
+    ("P", type_kind.Constructed constructed.ConstPointer) ∷ ("O", type_kind.Constructed constructed.MutPointer) ∷ ("A", type_kind.Constructed constructed.Array)
+    ∷ ("S", type_kind.Constructed constructed.Slice) ∷ ("T", type_kind.Constructed constructed.Tuple) ∷ ("F", type_kind.Constructed constructed.Function)
+    ∷ ("D", type_kind.Constructed constructed.Dyn) ∷ ("B", type_kind.Constructed constructed.Backref) ∷ ("W", type_kind.Constructed constructed.Pattern) ∷ []
+
 abbrev pub type_kinds : ℕ → List (String × TypeKind)
-type_kinds tag =
-    ("RQ", (if tag == code "Q" then type_kind.MutReference else type_kind.SharedReference)) ∷ ("P", type_kind.ConstPointer) ∷ ("O", type_kind.MutPointer)
-    ∷ ("A", type_kind.Array) ∷ ("S", type_kind.Slice) ∷ ("T", type_kind.Tuple) ∷ ("F", type_kind.Function) ∷ ("D", type_kind.Dyn)
-    ∷ ("B", type_kind.Reference) ∷ ("W", type_kind.Pattern) ∷ []
+type_kinds tag = ("RQ", (if tag == code "Q" then type_kind.MutReference else type_kind.SharedReference)) ∷ constructed_types
 
 -- the lifetime of a reference, whose `L` was read, and what stands behind it
 abbrev pub lifetime_before : Items → Items
@@ -43,19 +48,23 @@ lifetime_before rest = integer (λ k. if k == 0 then rest else lifetime k (says 
 abbrev pub reference_to : Bool → Items
 reference_to is_mut = let rest = says_if is_mut "mut " type_inside in says "&" (next (code "L") (lifetime_before rest) rest)
 
+-- the items behind the tag
+abbrev pub constructed_of : ConstructedType → Items
+constructed_of constructed.ConstPointer = says "*" (says "const " type_inside)
+constructed_of constructed.MutPointer = says "*" (says "mut " type_inside)
+constructed_of constructed.Array = says "[" (child a_type false (says "; " (child a_constant true (says "]" done))))
+constructed_of constructed.Slice = says "[" (child a_type false (says "]" done))
+constructed_of constructed.Tuple = says "(" (tuple type_inside (says ")" done))
+constructed_of constructed.Function = in_binder (next (code "U") (function true) (function false))
+constructed_of constructed.Dyn = says "dyn " (unit (in_binder (list " + " (dyn_trait binding_value) done))
+    (next (code "L") (integer (λ k. if k == 0 then done else says " + " (lifetime k done))) invalid))
+constructed_of constructed.Backref = target a_type false
+constructed_of constructed.Pattern = child a_type false (says " is " (child a_pattern false done))
+
 abbrev pub type_of : TypeKind → Items
 type_of type_kind.SharedReference = reference_to false
 type_of type_kind.MutReference = reference_to true
-type_of type_kind.ConstPointer = says "*" (says "const " type_inside)
-type_of type_kind.MutPointer = says "*" (says "mut " type_inside)
-type_of type_kind.Array = says "[" (child a_type false (says "; " (child a_constant true (says "]" done))))
-type_of type_kind.Slice = says "[" (child a_type false (says "]" done))
-type_of type_kind.Tuple = says "(" (tuple type_inside (says ")" done))
-type_of type_kind.Function = in_binder (next (code "U") (function true) (function false))
-type_of type_kind.Dyn = says "dyn " (unit (in_binder (list " + " (dyn_trait binding_value) done))
-    (next (code "L") (integer (λ k. if k == 0 then done else says " + " (lifetime k done))) invalid))
-type_of type_kind.Reference = target a_type false
-type_of type_kind.Pattern = child a_type false (says " is " (child a_pattern false done))
+type_of (type_kind.Constructed k) = constructed_of k
 
 abbrev pub constant_kinds : List (String × ConstantKind)
 constant_kinds =

@@ -37,6 +37,12 @@ pub fn path_kind(tag: u8) -> Option<PathKind>
 pub enum TypeKind {
     SharedReference,
     MutReference,
+    Constructed(ConstructedType),
+}
+
+/// A type that is made of others, and no reference.
+#[derive(Clone, Copy)]
+pub enum ConstructedType {
     ConstPointer,
     MutPointer,
     Array,
@@ -44,7 +50,7 @@ pub enum TypeKind {
     Tuple,
     Function,
     Dyn,
-    Reference,
+    Backref,
     Pattern,
 }
 
@@ -53,20 +59,21 @@ pub enum TypeKind {
 pub fn type_kind(tag: u8) -> Option<TypeKind>
     ensures { result ≡ found tag (type_kinds tag) }
 {
-    match tag {
-        b'R' => Some(TypeKind::SharedReference),
-        b'Q' => Some(TypeKind::MutReference),
-        b'P' => Some(TypeKind::ConstPointer),
-        b'O' => Some(TypeKind::MutPointer),
-        b'A' => Some(TypeKind::Array),
-        b'S' => Some(TypeKind::Slice),
-        b'T' => Some(TypeKind::Tuple),
-        b'F' => Some(TypeKind::Function),
-        b'D' => Some(TypeKind::Dyn),
-        b'B' => Some(TypeKind::Reference),
-        b'W' => Some(TypeKind::Pattern),
-        _ => None,
-    }
+    let constructed = match tag {
+        b'R' => return Some(TypeKind::SharedReference),
+        b'Q' => return Some(TypeKind::MutReference),
+        b'P' => ConstructedType::ConstPointer,
+        b'O' => ConstructedType::MutPointer,
+        b'A' => ConstructedType::Array,
+        b'S' => ConstructedType::Slice,
+        b'T' => ConstructedType::Tuple,
+        b'F' => ConstructedType::Function,
+        b'D' => ConstructedType::Dyn,
+        b'B' => ConstructedType::Backref,
+        b'W' => ConstructedType::Pattern,
+        _ => return None,
+    };
+    Some(TypeKind::Constructed(constructed))
 }
 
 /// What begins with the tag of a constant.

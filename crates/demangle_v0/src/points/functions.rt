@@ -3,8 +3,8 @@ ghost use Rattle.std.specs.Prelude.{◌≡◌, ℕ, ◌+◌, ◌^◌, ◌<◌, �
 ghost use Rattle.demangle_grammar.specs.Binders.{binder_texts};
 ghost use Rattle.demangle_words.specs.WordReads.{texts_of};
 ghost use Rattle.demangle_v0.specs.Points.{own_by, Fits, most_lifetimes, MayRead, MayEmit, PointDoes, RestDoes, env, turn};
-ghost use Rattle.demangle_words.specs.Tags.{type_of};
-ghost use Rattle.demangle_words.specs.declared.tags.TypeKind.TheVariants as TypeKind;
+ghost use Rattle.demangle_words.specs.Tags.{constructed_of};
+ghost use Rattle.demangle_words.specs.declared.tags.ConstructedType.TheVariants as ConstructedType;
 
 use crate::points::frames::{Frame, FrameStack};
 use crate::points::marks::leave;
@@ -55,7 +55,7 @@ pub(super) fn function_binder<V: Output>(
     requires may { MayEmit (env V.Output symbol.now include_hash) state.old output.old }
     requires fits { Fits Point.DynBinder state.old.depth_left state.old.lifetimes }
     ensures did { (stack : List Frame) → RestDoes (env V.Output symbol.now include_hash)
-        (type_of TypeKind.Function) 5 1 2 (turn state.old stack output.old looks.old) result
+        (constructed_of ConstructedType.Function) 5 1 2 (turn state.old stack output.old looks.old) result
         (turn state.new stack output.new looks.new) }
     ensures own { looks.new ≤ looks.old + own_by 16 symbol.now state.old.place }
 {

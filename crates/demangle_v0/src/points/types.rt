@@ -2,7 +2,7 @@
 ghost use Rattle.std.specs.Prelude.{if◌then◌else◌, IsTrue, ◌≡◌, ℕ, ◌+◌, ◌-◌, ◌<◌, ◌≤◌, List, Bool, Ok, length, true, false, ◌^◌, ◌++◌, [], ◌∷◌};
 ghost use Rattle.demangle_v0.specs.PointContracts.{is_splat_at};
 ghost use Rattle.demangle_v0.specs.Points.{own_by, Fits, MayStep, frame_of, PointDoes, RestDoes, env, turn};
-ghost use Rattle.demangle_words.specs.Tags.{type_of};
+ghost use Rattle.demangle_words.specs.Tags.{constructed_of, type_of};
 
 use crate::points::dyn_traits::dyn_type;
 use crate::points::frames::FrameStack;
@@ -12,7 +12,7 @@ use crate::points::type_references::reference;
 use crate::points::{Point, State, Stop};
 use demangle_symbol::cursor::{Looks, Symbol};
 use demangle_words::output::Output;
-use demangle_words::tags::{TypeKind, type_kind};
+use demangle_words::tags::{ConstructedType, TypeKind, type_kind};
 use demangle_words::texts::{Mark, basic_mark};
 
 /// Whether a type is begun, and not only gone on with behind its `w`.
@@ -108,12 +108,13 @@ fn tagged_type<V: Output, const N: usize>(
         return Ok(Point::Path);
     };
     state.place = Some(at + 1);
-    constructed_type(symbol, kind, include_hash, state, stack, output, looks)
+    type_behind_tag(symbol, kind, include_hash, state, stack, output, looks)
 }
 
-/// A type that is made of others, behind its tag.
-#[inline(never)]
-fn constructed_type<V: Output, const N: usize>(
+/// A type that is no basic one, behind its tag.
+// References are the commonest, and lie deepest in one another: theirs alone is no call.
+#[inline(always)]
+fn type_behind_tag<V: Output, const N: usize>(
     symbol: &Symbol<'_>,
     kind: TypeKind,
     include_hash: bool,
@@ -131,35 +132,59 @@ fn constructed_type<V: Output, const N: usize>(
     match kind {
         TypeKind::SharedReference => Ok(reference::<V>(symbol, false, state, looks)),
         TypeKind::MutReference => Ok(reference::<V>(symbol, true, state, looks)),
-        TypeKind::ConstPointer => {
+        TypeKind::Constructed(kind) => {
+            constructed_type(symbol, kind, include_hash, state, stack, output, looks)
+        }
+    }
+}
+
+/// A type that is made of others and no reference, behind its tag.
+#[inline(never)]
+fn constructed_type<V: Output, const N: usize>(
+    symbol: &Symbol<'_>,
+    kind: ConstructedType,
+    include_hash: bool,
+    state: &mut State,
+    stack: &mut FrameStack<N>,
+    output: &mut V,
+    looks: &mut Looks,
+) -> Result<Point, Stop>
+    requires may { MayStep (env V.Output symbol.now include_hash) Point.DynBinder N (turn state.old
+        stack.old output.old looks.old) }
+    ensures did { RestDoes (env V.Output symbol.now include_hash) (constructed_of kind) 5 50 9 (turn
+        state.old stack.old output.old looks.old) result (turn state.new stack.new output.new
+        looks.new) }
+{
+    match kind {
+        ConstructedType::ConstPointer => {
             state.mark = Some(Mark::Star);
             Ok(Point::Const)
         }
-        TypeKind::MutPointer => {
+        ConstructedType::MutPointer => {
             state.mark = Some(Mark::Star);
             Ok(Point::Mut)
         }
-        TypeKind::Array => {
+        ConstructedType::Array => {
             stack.push(state.frame(Point::ArrayLength));
             state.mark = Some(Mark::OpenBracket);
             Ok(Point::Type)
         }
-        TypeKind::Slice => {
+        ConstructedType::Slice => {
             push_printing(Point::CloseBracket, state, stack, output);
             state.mark = Some(Mark::OpenBracket);
             Ok(Point::Type)
         }
-        TypeKind::Tuple => {
+        ConstructedType::Tuple => {
             state.mark = Some(Mark::OpenParen);
             Ok(Point::FirstTupleType)
         }
-        TypeKind::Reference => follow(symbol, Point::Type, state, stack, output, looks),
-        TypeKind::Pattern => {
+        ConstructedType::Backref => follow(symbol, Point::Type, state, stack, output, looks),
+        ConstructedType::Pattern => {
             stack.push(state.frame(Point::PatternIs));
             Ok(Point::Type)
         }
-        TypeKind::Function => function_binder(symbol, include_hash, state, output, looks),
-        TypeKind::Dyn => Ok(dyn_type::<V, N>(symbol, state, stack)),
+        ConstructedType::Function => function_binder(symbol, include_hash, state, output, looks),
+        ConstructedType::Dyn => Ok(dyn_type::<V, N>(symbol, state, stack)),
     }
 }
 

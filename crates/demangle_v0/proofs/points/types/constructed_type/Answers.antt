@@ -39,9 +39,9 @@ returns-in-Pattern g c = record {
   did = rw c.in-Pattern.is (enters point.«Type» (frame_at point.PatternIs c.args.state.now) (rw c.requires.may.unmarked refl) (rw c.frame-in-Pattern.ensures at c.push-in-Pattern.ensures.pushed (omega (arith, c.requires.may.fits))) (omega arith) (omega arith) (omega arith) (omega (arith, c.requires.may.fits)) (omega (arith, c.requires.may.fits)) refl);
 }
 
-pub returns-in-Reference : goal.returns-in-Reference
-returns-in-Reference g c = record {
-  did = rw c.in-Reference.is (alike (omega arith) refl (omega arith) (omega arith) (c.follow.ensures.did c.args.include_hash c.args.output.now true a_type false (unit_type c.args.symbol.now c.args.include_hash c.args.state.now.in_value c.args.state.now.letter c.args.state.now.lifetimes)));
+pub returns-in-Backref : goal.returns-in-Backref
+returns-in-Backref g c = record {
+  did = rw c.in-Backref.is (alike (omega arith) refl (omega arith) (omega arith) (c.follow.ensures.did c.args.include_hash c.args.output.now true a_type false (unit_type c.args.symbol.now c.args.include_hash c.args.state.now.in_value c.args.state.now.letter c.args.state.now.lifetimes)));
 }
 
 pub returns-in-Function : goal.returns-in-Function
@@ -50,9 +50,3 @@ returns-in-Function g c = record { did = rw c.in-Function.is (alike (omega arith
 
 pub returns-in-Dyn : goal.returns-in-Dyn
 returns-in-Dyn g c = record { did = rw c.in-Dyn.is (alike (omega arith) refl (omega arith) (omega arith) (c.dyn_type.ensures.did c.args.include_hash c.args.output.now c.args.looks.now)) }
-
-pub returns-in-SharedReference : goal.returns-in-SharedReference
-returns-in-SharedReference g c = record { did = rw c.in-SharedReference.is (c.reference.ensures.did c.args.include_hash c.args.output.now c.args.stack.now) }
-
-pub returns-in-MutReference : goal.returns-in-MutReference
-returns-in-MutReference g c = record { did = rw c.in-MutReference.is (c.reference-in-MutReference.ensures.did c.args.include_hash c.args.output.now c.args.stack.now) }

@@ -22,7 +22,7 @@ pub returns-in_default-type_kind-clause-did : goal.returns-in_default-type_kind-
 returns-in_default-type_kind-clause-did g c = path_follows c.in-Some.at c.in-Some-byte.tag c.in-Some.is c.in-Some-byte.ensures.byte c.in_default-basic_mark.ensures (omega arith) c.in_default-type_kind.ensures c.byte.ensures.look c.requires.may.unmarked c.requires.may.fits
 
 pub returns-clause-did : goal.returns-clause-did
-returns-clause-did g c = tag_goes c.in-Some.at c.in-Some-byte.tag c.in-Some-type_kind.kind c.in-Some.is c.in-Some-byte.ensures.byte c.in_default-basic_mark.ensures (omega arith) c.in-Some-type_kind.ensures c.byte.ensures.look (rw c.in-Some.is (omega (arith, c.byte.ensures.look, c.in-Some-byte.ensures.within, c.constructed_type.ensures.did.own))) c.constructed_type.ensures.did
+returns-clause-did g c = tag_goes c.in-Some.at c.in-Some-byte.tag c.in-Some-type_kind.kind c.in-Some.is c.in-Some-byte.ensures.byte c.in_default-basic_mark.ensures (omega arith) c.in-Some-type_kind.ensures c.byte.ensures.look (rw c.in-Some.is (omega (arith, c.byte.ensures.look, c.in-Some-byte.ensures.within, c.type_behind_tag.ensures.did.own))) c.type_behind_tag.ensures.did
 
 pub returns-clause-own : goal.returns-clause-own
-returns-clause-own g c = rw c.in-Some.is (omega (arith, c.byte.ensures.look, c.in-Some-byte.ensures.within, c.constructed_type.ensures.did.own))
+returns-clause-own g c = rw c.in-Some.is (omega (arith, c.byte.ensures.look, c.in-Some-byte.ensures.within, c.type_behind_tag.ensures.did.own))
