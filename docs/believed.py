@@ -9,8 +9,8 @@ import argparse, os, re, sys
 
 ROOT = os.path.dirname(os.path.dirname(os.path.abspath(__file__)))
 CRATES = os.path.join(ROOT, 'crates')
-# The crates that others call: the library, the calls for C and for pages over it; and the module of the program that has its run.
-CALLED = {'rustc_demangle': 'lib', 'demangle_c': 'lib', 'demangle_web': 'lib', 'kodliwe': 'run'}
+# The crates that others call: the library, the calls for C and for pages over it; and the modules of the program that have its run and its words.
+CALLED = {'rustc_demangle': ['lib'], 'demangle_c': ['lib'], 'demangle_web': ['lib'], 'kodliwe': ['run', 'words']}
 PAGE = os.path.join(ROOT, 'docs', 'GUARANTEES.md')
 SPEC = re.compile(r'Rattle\.(\w+)\.specs\.(\w+)')
 ITEM = re.compile(r'^(?:pub )?(?:extern "C" )?(?:fn|struct|enum|trait|impl|const)\b.*?(?=^(?:pub |//|#\[|fn|struct|enum|trait|impl|const|use|ghost|mod)|\Z)', re.M | re.S)
@@ -128,7 +128,7 @@ def with_impls(crates, places):
 def main():
     argparse.ArgumentParser(description=__doc__, formatter_class=argparse.RawDescriptionHelpFormatter).parse_args()
     crates = used_crates()
-    places = {place for name in CALLED if name in crates for place in exported(os.path.join(CRATES, name, 'src'), CALLED[name])}
+    places = {place for name in CALLED if name in crates for module in CALLED[name] for place in exported(os.path.join(CRATES, name, 'src'), module)}
     files = with_impls(crates, places)
     believed = set()
     todo = {home(*place) for file in files for place in cited(file, files[file]) if place[0] in crates}

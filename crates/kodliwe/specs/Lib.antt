@@ -1,4 +1,5 @@
 -- What a reader of the program's contracts believes.
 pub mod Run
+pub mod CommandLine
 -- Internal: no public contract cites this.
 pub mod Output

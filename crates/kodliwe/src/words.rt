@@ -1,6 +1,12 @@
 //! The words of the command line.
-ghost use Rattle.std.specs.Prelude.{◌≡◌, ◌++◌, ◌∷◌, [], codes, true, false, nat_eq, None, Some, OnOk, OnErr};
+ghost use Rattle.std.specs.Prelude.{◌≡◌, ◌++◌, ◌∷◌, [], codes, true, false, nat_eq, map};
+ghost use Rattle.std.specs.Prelude.{None, Some, OnOk, IfOk, IfErr, IfSome, IfNone};
 ghost use Rattle.std.specs.List.{starts_with};
+ghost use Rattle.std.specs.String.{string_bytes};
+ghost use Rattle.kodliwe.specs.CommandLine.{IsAlone, HasValue, IsNoOption, IsWord, Sets, IsRefused};
+ghost use Rattle.kodliwe.specs.CommandLine.{Asks, anything, defaults, with_line, Takes, Refuses};
+ghost use Rattle.kodliwe.specs.CommandLine.{options_of, asked_of, place_of};
+ghost use Rattle.kodliwe.specs.CommandLine.{refusal_of, lacking_value};
 
 use std::alloc::{AllocError, Global};
 
@@ -48,30 +54,62 @@ pub enum WordsFault<'a> {
 }
 
 impl From<AllocError> for WordsFault<'_> {
+    ghost use Rattle.std.specs.Prelude.{◌≡◌};
+    ghost use Rattle.kodliwe.specs.declared.words.WordsFault.TheVariants.{Memory};
+
+    ghost from_gives = { λ _ fault. fault ≡ Memory };
+
     fn from(_error: AllocError) -> Self {
         WordsFault::Memory
     }
 }
 
+/// The options that have a value.
+#[derive(Clone, Copy, Drop)]
+pub enum ValuedOption {
+    Input,
+    Output,
+    Limit,
+}
+
 /// What one word is, in front of `--`.
 #[derive(Clone, Copy, Drop)]
-enum Word<'a> {
-    Symbol(&'a str),
+pub enum Word<'a> {
+    Symbol,
     Stdin,
     End,
-    /// The option, with its value where the word has it.
-    Input(Option<&'a str>),
-    Output(Option<&'a str>),
-    Limit(Option<&'a str>),
+    /// An option, with its value where the word has it.
+    Valued(ValuedOption, Option<&'a str>),
     Hash,
     Help,
     Version,
     Unknown,
 }
 
+/// What the next word is taken for.
+#[derive(Clone, Copy, Drop)]
+pub enum Next<'a> {
+    Anything,
+    /// The value of the option that this word was.
+    Value(ValuedOption, &'a str),
+    Symbol,
+}
+
+/// What a word that was taken leaves to do.
+#[derive(Clone, Copy, Drop)]
+pub enum Taken<'a> {
+    Next(Next<'a>),
+    Help,
+    Version,
+}
+
 /// Whether a word is the option `short` or `long`, and the value that it has within itself, as
 /// `-iFILE` or `--input=FILE`.
 fn option_value<'a>(word: &'a str, short: &str, long: &str) -> Option<Option<&'a str>>
+    ensures none { IfNone result (IsNoOption short.now long.now word.now) }
+    ensures alone { result ≡ Some None → IsAlone short.now long.now word.now }
+    ensures value { IfSome result (λ within. IfSome within (λ value.
+        HasValue short.now long.now word.now value.now)) }
     ensures short { word.now ≡ short.now → result ≡ Some None }
     ensures long { word.now ≡ long.now → result ≡ Some None }
 {
@@ -79,10 +117,9 @@ fn option_value<'a>(word: &'a str, short: &str, long: &str) -> Option<Option<&'a
         return Some(None);
     }
     if let Some(rest) = word.strip_prefix(long) {
-        return match rest.strip_prefix("=") {
-            Some(value) => Some(Some(value)),
-            None => None,
-        };
+        if let Some(value) = rest.strip_prefix("=") {
+            return Some(Some(value));
+        }
     }
     match word.strip_prefix(short) {
         Some(value) => Some(Some(value)),
@@ -92,18 +129,18 @@ fn option_value<'a>(word: &'a str, short: &str, long: &str) -> Option<Option<&'a
 
 /// Reads one word, in front of `--`.
 fn read_word(word: &str) -> Word<'_>
-    ensures symbol { starts_with nat_eq word.now (codes "-") ≡ false →
-        result ≡ Word.Symbol word.entry }
+    ensures is { IsWord word.now result }
+    ensures symbol { starts_with nat_eq word.now (codes "-") ≡ false → result ≡ Word.Symbol }
     ensures hash { word.now ≡ codes "--hash" → result ≡ Word.Hash }
     ensures end { word.now ≡ codes "--" → result ≡ Word.End }
     ensures stdin { word.now ≡ codes "-" → result ≡ Word.Stdin }
     ensures h { word.now ≡ codes "-h" → result ≡ Word.Help }
     ensures help { word.now ≡ codes "--help" → result ≡ Word.Help }
     ensures version { word.now ≡ codes "--version" → result ≡ Word.Version }
-    ensures input { word.now ≡ codes "--input" → result ≡ Word.Input None }
+    ensures input { word.now ≡ codes "--input" → result ≡ Word.Valued ValuedOption.Input None }
 {
     if !word.starts_with("-") {
-        return Word::Symbol(word);
+        return Word::Symbol;
     }
     if word == "-" {
         return Word::Stdin;
@@ -121,13 +158,13 @@ fn read_word(word: &str) -> Word<'_>
         return Word::Version;
     }
     if let Some(value) = option_value(word, "-i", "--input") {
-        return Word::Input(value);
+        return Word::Valued(ValuedOption::Input, value);
     }
     if let Some(value) = option_value(word, "-o", "--output") {
-        return Word::Output(value);
+        return Word::Valued(ValuedOption::Output, value);
     }
     if let Some(value) = option_value(word, "-l", "--limit") {
-        return Word::Limit(value);
+        return Word::Valued(ValuedOption::Limit, value);
     }
     Word::Unknown
 }
@@ -149,11 +186,19 @@ impl<'a> Request<'a> {
     }
 
     /// Adds a symbol, as a line of its own.
-    fn add_symbol(&mut self, alloc: Global, symbol: &str) -> Result<(), AllocError> {
-        if let Some(Source::Symbols(lines)) = self.sources.last_mut() {
-            return push_line(lines, symbol);
-        }
-        let mut lines = Vec::new(alloc);
+    fn add_symbol(&mut self, alloc: Global, symbol: &str) -> Result<(), AllocError>
+        ensures { OnOk result (options_of self.new ≡ record (options_of self.old) {
+          parts = with_line symbol.now (options_of self.old).parts;
+        }) }
+    {
+        let mut lines = match self.sources.pop() {
+            Some(Source::Symbols(lines)) => lines,
+            Some(source) => {
+                self.sources.push(source)?;
+                Vec::new(alloc)
+            }
+            None => Vec::new(alloc),
+        };
         push_line(&mut lines, symbol)?;
         self.sources.push(Source::Symbols(lines))?;
         Ok(())
@@ -161,6 +206,8 @@ impl<'a> Request<'a> {
 
     /// Adds a file, which is standard input where it is named `-`.
     fn add_file(&mut self, file: &'a str) -> Result<(), AllocError>
+        ensures sets { OnOk result (Sets ValuedOption.Input file.now
+            (options_of self.old) (options_of self.new)) }
         ensures stdin { file.now ≡ codes "-" → OnOk result (self.new.sources.items
             ≡ self.old.sources.items ++ Source.Stdin ∷ []) }
         ensures hash { self.new.include_hash ≡ self.old.include_hash }
@@ -175,6 +222,96 @@ impl<'a> Request<'a> {
         self.sources.push(source)?;
         Ok(())
     }
+
+    /// Takes the value of an option, which `word` was.
+    fn take_value(
+        &mut self,
+        option: ValuedOption,
+        word: &'a str,
+        value: &'a str,
+    ) -> Result<(), WordsFault<'a>>
+        ensures sets { OnOk result (Sets option value.now
+            (options_of self.old) (options_of self.new)) }
+        ensures refused { IfErr result (λ fault. IfSome (refusal_of fault) (λ answer.
+            IsRefused option word.now value.now answer)) }
+    {
+        match option {
+            ValuedOption::Input => self.add_file(value)?,
+            ValuedOption::Output => self.output = Some(value),
+            ValuedOption::Limit => {
+                let Ok(limit) = value.parse::<usize>() else {
+                    return Err(WordsFault::NoNumber(word));
+                };
+                self.limit = limit;
+            }
+        }
+        Ok(())
+    }
+
+    /// Takes a word that is an option, with its value where the word has it.
+    fn take_option(
+        &mut self,
+        option: ValuedOption,
+        word: &'a str,
+        within: Option<&'a str>,
+    ) -> Result<Taken<'a>, WordsFault<'a>>
+        ensures takes { IsWord word.now (Word.Valued option within.entry) → IfOk result (λ taken.
+            Takes anything (options_of self.old) word.now (options_of self.new) taken) }
+        ensures refused { IsWord word.now (Word.Valued option within.entry) → IfErr result (λ fault.
+            IfSome (refusal_of fault) (λ answer. Refuses anything (options_of self.old) word.now
+            answer)) }
+    {
+        let Some(value) = within else {
+            return Ok(Taken::Next(Next::Value(option, word)));
+        };
+        self.take_value(option, word, value)?;
+        Ok(Taken::Next(Next::Anything))
+    }
+
+    /// Takes a word in front of `--` that is no option's value.
+    fn take_first(&mut self, alloc: Global, word: &'a str) -> Result<Taken<'a>, WordsFault<'a>>
+        ensures takes { IfOk result (λ taken. Takes anything (options_of self.old) word.now
+            (options_of self.new) taken) }
+        ensures refused { IfErr result (λ fault. IfSome (refusal_of fault) (λ answer.
+            Refuses anything (options_of self.old) word.now answer)) }
+    {
+        match read_word(word) {
+            Word::Symbol => self.add_symbol(alloc, word)?,
+            Word::Stdin => self.add_file("-")?,
+            Word::End => return Ok(Taken::Next(Next::Symbol)),
+            Word::Valued(option, within) => return self.take_option(option, word, within),
+            Word::Hash => self.include_hash = true,
+            Word::Help => return Ok(Taken::Help),
+            Word::Version => return Ok(Taken::Version),
+            Word::Unknown => return Err(WordsFault::Unknown(word)),
+        }
+        Ok(Taken::Next(Next::Anything))
+    }
+
+    /// Takes one word.
+    fn take_word(
+        &mut self,
+        alloc: Global,
+        next: Next<'a>,
+        word: &'a str,
+    ) -> Result<Taken<'a>, WordsFault<'a>>
+        ensures takes { IfOk result (λ taken. Takes (place_of next.entry) (options_of self.old)
+            word.now (options_of self.new) taken) }
+        ensures refused { IfErr result (λ fault. IfSome (refusal_of fault) (λ answer.
+            Refuses (place_of next.entry) (options_of self.old) word.now answer)) }
+    {
+        match next {
+            Next::Anything => self.take_first(alloc, word),
+            Next::Value(option, name) => {
+                self.take_value(option, name, word)?;
+                Ok(Taken::Next(Next::Anything))
+            }
+            Next::Symbol => {
+                self.add_symbol(alloc, word)?;
+                Ok(Taken::Next(Next::Symbol))
+            }
+        }
+    }
 }
 
 /// Adds a text and a line feed.
@@ -186,34 +323,14 @@ fn push_line(lines: &mut Vec<u8>, text: &str) -> Result<(), AllocError>
     Ok(())
 }
 
-/// Whose value the next word is.
-#[derive(Clone, Copy, Drop)]
-enum Awaited<'a> {
-    Nothing,
-    /// The word that awaits it.
-    Input(&'a str),
-    Output(&'a str),
-    Limit(&'a str),
-}
-
-/// Takes the value of an option.
-fn take_value<'a>(
-    request: &mut Request<'a>,
-    awaited: Awaited<'a>,
-    value: &'a str,
-) -> Result<(), WordsFault<'a>> {
-    match awaited {
-        Awaited::Nothing => {}
-        Awaited::Input(_) => request.add_file(value)?,
-        Awaited::Output(_) => request.output = Some(value),
-        Awaited::Limit(word) => {
-            let Ok(limit) = value.parse::<usize>() else {
-                return Err(WordsFault::NoNumber(word));
-            };
-            request.limit = limit;
-        }
+/// The refusal of an option behind which no word stands.
+fn lacking(option: ValuedOption, word: &str) -> WordsFault<'_>
+    ensures { refusal_of result ≡ Some (lacking_value option word.now) }
+{
+    match option {
+        ValuedOption::Input | ValuedOption::Output => WordsFault::NoFile(word),
+        ValuedOption::Limit => WordsFault::NoNumber(word),
     }
-    Ok(())
 }
 
 /// Reads the words behind the program's name.
@@ -222,42 +339,23 @@ fn take_value<'a>(
 /// `--version` the first holds, and no word behind it is read. It is refused at the first word that
 /// begins with `-` and is no option, at an option without its FILE or its number of BYTES, and
 /// where memory is refused.
-pub fn read_words<'a>(alloc: Global, words: &'a [String]) -> Result<Asked<'a>, WordsFault<'a>> {
+pub fn read_words<'a>(alloc: Global, words: &'a [String]) -> Result<Asked<'a>, WordsFault<'a>>
+    ensures asked { IfOk result (λ asked. Asks anything defaults
+        (map string_bytes words.now) (asked_of asked)) }
+    ensures refused { IfErr result (λ fault. IfSome (refusal_of fault) (λ answer.
+        Asks anything defaults (map string_bytes words.now) answer)) }
+{
     let mut request = Request::new(alloc);
-    let mut awaited = Awaited::Nothing;
-    let mut is_over = false;
+    let mut next = Next::Anything;
     for word in words {
-        let word = word.as_str();
-        if !matches!(awaited, Awaited::Nothing) {
-            take_value(&mut request, awaited, word)?;
-            awaited = Awaited::Nothing;
-            continue;
-        }
-        if is_over {
-            request.add_symbol(alloc, word)?;
-            continue;
-        }
-        match read_word(word) {
-            Word::Symbol(symbol) => request.add_symbol(alloc, symbol)?,
-            Word::Stdin => request.add_file("-")?,
-            Word::End => is_over = true,
-            Word::Input(Some(file)) => request.add_file(file)?,
-            Word::Input(None) => awaited = Awaited::Input(word),
-            Word::Output(Some(file)) => request.output = Some(file),
-            Word::Output(None) => awaited = Awaited::Output(word),
-            Word::Limit(Some(value)) => {
-                take_value(&mut request, Awaited::Limit(word), value)?;
-            }
-            Word::Limit(None) => awaited = Awaited::Limit(word),
-            Word::Hash => request.include_hash = true,
-            Word::Help => return Ok(Asked::Help),
-            Word::Version => return Ok(Asked::Version),
-            Word::Unknown => return Err(WordsFault::Unknown(word)),
+        match request.take_word(alloc, next, word.as_str())? {
+            Taken::Next(behind) => next = behind,
+            Taken::Help => return Ok(Asked::Help),
+            Taken::Version => return Ok(Asked::Version),
         }
     }
-    match awaited {
-        Awaited::Nothing => Ok(Asked::Filter(request)),
-        Awaited::Input(word) | Awaited::Output(word) => Err(WordsFault::NoFile(word)),
-        Awaited::Limit(word) => Err(WordsFault::NoNumber(word)),
+    match next {
+        Next::Anything | Next::Symbol => Ok(Asked::Filter(request)),
+        Next::Value(option, word) => Err(lacking(option, word)),
     }
 }

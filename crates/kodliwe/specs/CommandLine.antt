@@ -1,0 +1,202 @@
+-- What the words of the command line ask for.
+use Rattle.std.specs.Prelude.{◌≡◌, ◌≢◌, ◌<◌, ◌^◌, ℕ, Bool, true, false, nat_eq, List, [], ◌∷◌, ◌++◌, map, reverse, codes, Some, None, ◌⊎◌}
+use Rattle.std.specs.declared.option.Option.{Option}
+use Rattle.std.specs.Option.{option_map}
+use Rattle.std.specs.List.{starts_with}
+use Rattle.std.specs.Str.Parse.{IsNumeral, digits_value, without_leading_plus}
+use Rattle.kodliwe.specs.declared.words.Source.{Source}
+use Rattle.kodliwe.specs.declared.words.Source.TheVariants.{Stdin, File, Symbols}
+use Rattle.kodliwe.specs.declared.words.Request.{Request}
+use Rattle.kodliwe.specs.declared.words.Asked.{Asked}
+use Rattle.kodliwe.specs.declared.words.Asked.TheVariants.{Help, Version, Filter}
+use Rattle.kodliwe.specs.declared.words.WordsFault.{WordsFault}
+use Rattle.kodliwe.specs.declared.words.WordsFault.TheVariants.{Unknown, NoFile, NoNumber, Memory}
+use Rattle.kodliwe.specs.declared.words.ValuedOption.{ValuedOption}
+use Rattle.kodliwe.specs.declared.words.ValuedOption.TheVariants.{Input, Output, Limit}
+use Rattle.kodliwe.specs.declared.words.Word.{Word}
+use Rattle.kodliwe.specs.declared.words.Word.TheVariants as kind
+use Rattle.kodliwe.specs.declared.words.Next.{Next}
+use Rattle.kodliwe.specs.declared.words.Next.TheVariants as next
+use Rattle.kodliwe.specs.declared.words.Taken.{Taken}
+use Rattle.kodliwe.specs.declared.words.Taken.TheVariants as taken
+
+-- a text to filter: standard input, a file, or the lines of symbols
+pub data Part : Type 0 where
+  stdin : Part
+  file : List ℕ → Part
+  symbols : List ℕ → Part
+
+-- what the words said so far; the last part stands first
+pub record Options : Type 0 where
+  pub parts : List Part
+  pub output : Option (List ℕ)
+  pub keeps_hash : Bool
+  pub limit : ℕ
+
+-- what is said where no word says more
+abbrev pub defaults : Options
+defaults = record { parts = []; output = None; keeps_hash = false; limit = 1000000 }
+
+-- what words ask for, or why they are refused: by which word
+pub data Answer : Type 0 where
+  help version : Answer
+  filter : Options → Answer
+  unknown no_file no_number : List ℕ → Answer
+
+-- what the next word is taken for: anything, the value of the option that this word was, or a symbol
+pub data Place : Type 0 where
+  anything : Place
+  a_value : ValuedOption → List ℕ → Place
+  a_symbol : Place
+
+-- a symbol is a line, which joins those of the symbols right in front of it
+abbrev pub with_line : List ℕ → List Part → List Part
+with_line word [] = symbols (word ++ 10 ∷ []) ∷ []
+with_line word (stdin ∷ parts) = symbols (word ++ 10 ∷ []) ∷ stdin ∷ parts
+with_line word (file path ∷ parts) = symbols (word ++ 10 ∷ []) ∷ file path ∷ parts
+with_line word (symbols lines ∷ parts) = symbols (lines ++ (word ++ 10 ∷ [])) ∷ parts
+
+-- - as a file is standard input
+abbrev pub IsPart : List ℕ → Part → Type 0
+IsPart path stdin = path ≡ codes "-"
+IsPart path (file name) = (path ≢ codes "-") × (name ≡ path)
+IsPart path (symbols lines) = ⊥
+
+abbrev pub short_name : ValuedOption → List ℕ
+short_name Input = codes "-i"
+short_name Output = codes "-o"
+short_name Limit = codes "-l"
+
+abbrev pub long_name : ValuedOption → List ℕ
+long_name Input = codes "--input"
+long_name Output = codes "--output"
+long_name Limit = codes "--limit"
+
+-- a word that is an option alone, as -i and --input; and with its value in it, as -iFILE and --input=FILE
+abbrev pub IsAlone : List ℕ → List ℕ → List ℕ → Type 0
+IsAlone short long word = (word ≡ short) ⊎ (word ≡ long)
+
+abbrev pub HasValue : List ℕ → List ℕ → List ℕ → List ℕ → Type 0
+HasValue short long word value = (word ≡ long ++ 61 ∷ value) ⊎ ((word ≡ short ++ value) × (value ≢ []))
+
+abbrev pub IsNoOption : List ℕ → List ℕ → List ℕ → Type 0
+IsNoOption short long word = (IsAlone short long word → ⊥) × ((value : List ℕ) → HasValue short long word value → ⊥)
+
+-- decimal digits, with or without a plus in front, of a number that a usize holds
+abbrev pub IsNumber : List ℕ → Type 0
+IsNumber text = IsNumeral 10 (without_leading_plus text) × (digits_value 10 (without_leading_plus text) < 2 ^ 64)
+
+-- what an option's value makes of the options
+abbrev pub Sets : ValuedOption → List ℕ → Options → Options → Type 0
+Sets Input value old new = (part : Part) × IsPart value part × (new ≡ record old { parts = part ∷ old.parts })
+Sets Output value old new = new ≡ record old { output = Some value }
+Sets Limit value old new = IsNumber value × (new ≡ record old { limit = digits_value 10 (without_leading_plus value) })
+
+-- a value that is refused
+abbrev pub IsRefused : ValuedOption → List ℕ → List ℕ → Answer → Type 0
+IsRefused Input word value answer = ⊥
+IsRefused Output word value answer = ⊥
+IsRefused Limit word value answer = (IsNumber value → ⊥) × (answer ≡ no_number word)
+
+-- the refusal of an option behind which no word stands
+abbrev pub lacking_value : ValuedOption → List ℕ → Answer
+lacking_value Input word = no_file word
+lacking_value Output word = no_file word
+lacking_value Limit word = no_number word
+
+-- a word that begins with - and is none of the others
+pub record IsUnknown (word : List ℕ) : Type 0 where
+  pub begins : starts_with nat_eq word (codes "-") ≡ true
+  pub no_stdin : word ≢ codes "-"
+  pub no_end : word ≢ codes "--"
+  pub no_hash : word ≢ codes "--hash"
+  pub no_help : IsAlone (codes "-h") (codes "--help") word → ⊥
+  pub no_version : IsAlone (codes "-V") (codes "--version") word → ⊥
+  pub no_input : IsNoOption (codes "-i") (codes "--input") word
+  pub no_output : IsNoOption (codes "-o") (codes "--output") word
+  pub no_limit : IsNoOption (codes "-l") (codes "--limit") word
+
+-- what a word is, in front of --
+abbrev pub IsWord : List ℕ → Word → Type 0
+IsWord word kind.Symbol = starts_with nat_eq word (codes "-") ≡ false
+IsWord word kind.Stdin = word ≡ codes "-"
+IsWord word kind.End = word ≡ codes "--"
+IsWord word (kind.Valued option None) = IsAlone (short_name option) (long_name option) word
+IsWord word (kind.Valued option (Some value)) = HasValue (short_name option) (long_name option) word value.now
+IsWord word kind.Hash = word ≡ codes "--hash"
+IsWord word kind.Help = IsAlone (codes "-h") (codes "--help") word
+IsWord word kind.Version = IsAlone (codes "-V") (codes "--version") word
+IsWord word kind.Unknown = IsUnknown word
+
+-- What words ask for, from a place on, with what was said in front of it.
+pub data Asks : Place → Options → List (List ℕ) → Answer → Type 0 where
+  ends : {o : Options} → Asks anything o [] (filter o)
+  takes_symbol : {o : Options} {w : List ℕ} {ws : List (List ℕ)} {a : Answer} → starts_with nat_eq w (codes "-") ≡ false
+      → Asks anything (record o { parts = with_line w o.parts }) ws a → Asks anything o (w ∷ ws) a
+  takes_stdin : {o : Options} {w : List ℕ} {ws : List (List ℕ)} {a : Answer} → w ≡ codes "-"
+      → Asks anything (record o { parts = stdin ∷ o.parts }) ws a → Asks anything o (w ∷ ws) a
+  takes_hash : {o : Options} {w : List ℕ} {ws : List (List ℕ)} {a : Answer} → w ≡ codes "--hash"
+      → Asks anything (record o { keeps_hash = true }) ws a → Asks anything o (w ∷ ws) a
+  takes_help : {o : Options} {w : List ℕ} {ws : List (List ℕ)} → IsAlone (codes "-h") (codes "--help") w → Asks anything o (w ∷ ws) help
+  takes_version : {o : Options} {w : List ℕ} {ws : List (List ℕ)} → IsAlone (codes "-V") (codes "--version") w → Asks anything o (w ∷ ws) version
+  is_unknown : {o : Options} {w : List ℕ} {ws : List (List ℕ)} → IsUnknown w → Asks anything o (w ∷ ws) (unknown w)
+  -- behind -- each word is a symbol
+  takes_end : {o : Options} {w : List ℕ} {ws : List (List ℕ)} {a : Answer} → w ≡ codes "--" → Asks a_symbol o ws a → Asks anything o (w ∷ ws) a
+  is_symbol : {o : Options} {w : List ℕ} {ws : List (List ℕ)} {a : Answer}
+      → Asks a_symbol (record o { parts = with_line w o.parts }) ws a → Asks a_symbol o (w ∷ ws) a
+  ends_symbols : {o : Options} → Asks a_symbol o [] (filter o)
+  -- an option with its value in its word
+  has_value : {o p : Options} {w : List ℕ} {ws : List (List ℕ)} {a : Answer} (v : ValuedOption) (value : List ℕ)
+      → HasValue (short_name v) (long_name v) w value → Sets v value o p → Asks anything p ws a → Asks anything o (w ∷ ws) a
+  has_refused : {o : Options} {w : List ℕ} {ws : List (List ℕ)} {a : Answer} (v : ValuedOption) (value : List ℕ)
+      → HasValue (short_name v) (long_name v) w value → IsRefused v w value a → Asks anything o (w ∷ ws) a
+  -- an option alone: its value is the next word
+  is_alone : {o : Options} {w : List ℕ} {ws : List (List ℕ)} {a : Answer} (v : ValuedOption)
+      → IsAlone (short_name v) (long_name v) w → Asks (a_value v w) o ws a → Asks anything o (w ∷ ws) a
+  is_value : {o p : Options} {v : ValuedOption} {w value : List ℕ} {ws : List (List ℕ)} {a : Answer}
+      → Sets v value o p → Asks anything p ws a → Asks (a_value v w) o (value ∷ ws) a
+  is_refused : {o : Options} {v : ValuedOption} {w value : List ℕ} {ws : List (List ℕ)} {a : Answer}
+      → IsRefused v w value a → Asks (a_value v w) o (value ∷ ws) a
+  lacks_value : {o : Options} {v : ValuedOption} {w : List ℕ} → Asks (a_value v w) o [] (lacking_value v w)
+
+-- the parts and options that a request has
+abbrev pub part_of : Source → Part
+part_of Stdin = stdin
+part_of (File path) = file path.now
+part_of (Symbols lines) = symbols lines.items
+
+abbrev pub options_of : Request → Options
+options_of request = record {
+  parts = reverse (map part_of request.sources.items);
+  output = option_map (λ path. path.now) request.output;
+  keeps_hash = request.include_hash;
+  limit = request.limit;
+}
+
+-- the answer that is given; none is where memory was refused
+abbrev pub asked_of : Asked → Answer
+asked_of Help = help
+asked_of Version = version
+asked_of (Filter request) = filter (options_of request)
+
+abbrev pub refusal_of : WordsFault → Option Answer
+refusal_of (Unknown word) = Some (unknown word.now)
+refusal_of (NoFile word) = Some (no_file word.now)
+refusal_of (NoNumber word) = Some (no_number word.now)
+refusal_of Memory = None
+
+-- the place that a word leaves
+abbrev pub place_of : Next → Place
+place_of next.Anything = anything
+place_of (next.Value option word) = a_value option word.now
+place_of next.Symbol = a_symbol
+
+-- what one word does: it changes the options and leaves a place for the next, or is an answer, whatever stands behind it
+abbrev pub Takes : Place → Options → List ℕ → Options → Taken → Type 0
+Takes place old word new (taken.Next place_behind) = (words : List (List ℕ)) (answer : Answer)
+    → Asks (place_of place_behind) new words answer → Asks place old (word ∷ words) answer
+Takes place old word new taken.Help = (words : List (List ℕ)) → Asks place old (word ∷ words) help
+Takes place old word new taken.Version = (words : List (List ℕ)) → Asks place old (word ∷ words) version
+
+abbrev pub Refuses : Place → Options → List ℕ → Answer → Type 0
+Refuses place old word answer = (words : List (List ℕ)) → Asks place old (word ∷ words) answer
