@@ -102,7 +102,11 @@ impl<W: Write + Drop> Write for Output<W> {
         self.buffer.write(buf)
     }
 
-    fn flush(&mut self) -> io::Result<()> {
+    fn flush(&mut self) -> io::Result<()>
+        ensures bytes { Keeps (output_contents W.contents self.old)
+            (output_contents W.contents self.new) }
+        ensures empty { OnOk result (self.new.held ≡ []) }
+    {
         self.hand_on()?;
         self.buffer.flush()
     }

@@ -1,5 +1,5 @@
 //! The program, over any file system and standard streams.
-ghost use Rattle.std.specs.Prelude.{◌≡◌};
+ghost use Rattle.std.specs.Prelude.{◌≡◌, ◌<◌, length, IfOk};
 
 use crate::fault::{OUT_OF_MEMORY, report_call};
 use crate::output::Output;
@@ -60,7 +60,12 @@ fn open_inputs<'a, F: Files>(
     files: &'a F,
     stdin: Stdin,
     sources: Vec<Source<'a>>,
-) -> Result<Vec<Input<'a, SourceReader<'a, F>>>, AllocError> {
+) -> Result<Vec<Input<'a, SourceReader<'a, F>>>, AllocError>
+    ensures each { 0 < length sources.entry.items → IfOk result (λ inputs.
+        length inputs.items ≡ length sources.entry.items) }
+    ensures none { length sources.entry.items ≡ 0 → IfOk result (λ inputs.
+        length inputs.items ≡ 1) }
+{
     let mut inputs = Vec::new(alloc);
     for source in sources {
         let name = source_name(&source);
