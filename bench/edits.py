@@ -2,12 +2,13 @@
 """Checks which clause refused each must-fail edit, from what the gate said.
 
     rt ci > gate.txt; bench/edits.py gate.txt          (or rt must-fail CRATE > gate.txt)
+    bench/edits.py                                     (only lists the edits that have no line `clause:`, or more than one)
 
 A line `clause: FUNCTION CLAUSE` of an edit names the function that the prover refuses first, and its clause: `ensures` where
 the function has one clause without a name, `loop` where it is the invariant of a loop, `invariant` where it is that of a type
 whose value is made there, `call` where it is what a called function requires. The gate cuts what it says; where the clause is
 cut off, the function alone is compared. With --write an edit that has no such line is given what the gate said of it, to be
-judged by a reader. An edit that the gate did not try is a failure.
+judged by a reader. An edit that the gate did not try is a failure, and so is one that has no such line.
 The last line is 'N passed, N failed'.
 """
 import argparse, os, re, sys
@@ -81,6 +82,18 @@ def refused_by(crate, lines, said):
     return function_at(edited(crate, lines, source[1]), int(source[2])), clause_of(goal[1]) if goal else None
 
 
+def clauses(lines):
+    """The function and the clause of each line `clause:`."""
+    return [line[len('clause: '):].split() for line in lines if line.startswith('clause: ')]
+
+
+def lineless(lines):
+    """What is wrong with the line of an edit by itself, or None."""
+    if [len(words) for words in clauses(lines)] == [2]:
+        return None
+    return 'it has no line `clause: FUNCTION CLAUSE`, or more than one'
+
+
 def check(crate, name, lines, said, write):
     """What is wrong with an edit, or None."""
     refused = REFUSED.match(said)
@@ -89,7 +102,7 @@ def check(crate, name, lines, said, write):
     found = refused_by(crate, lines, refused[1])
     if not found or not found[0]:
         return 'no function in: ' + refused[1]
-    wanted = [line[len('clause: '):].split() for line in lines if line.startswith('clause: ')]
+    wanted = clauses(lines)
     if not wanted:
         if write and found[1]:
             with open(os.path.join(CRATES, crate, 'must-fail', name + '.edit'), 'a', encoding='utf-8') as file:
@@ -102,15 +115,20 @@ def check(crate, name, lines, said, write):
 
 def main():
     parser = argparse.ArgumentParser(description=__doc__, formatter_class=argparse.RawDescriptionHelpFormatter)
-    parser.add_argument('gate', help='what the gate said, or rt must-fail')
+    parser.add_argument('gate', nargs='?', help='what the gate said, or rt must-fail; without it only the lines are looked at')
     parser.add_argument('--crate', action='append', help='only the edits of this crate')
     parser.add_argument('--write', action='store_true', help='write the missing lines')
     options = parser.parse_args()
-    with open(options.gate, encoding='utf-8', errors='replace') as file:
-        said = {(found[1], found[2]): found[3] for found in map(SAID.search, file.read().splitlines()) if found}
+    said = {}
+    if options.gate:
+        with open(options.gate, encoding='utf-8', errors='replace') as file:
+            said = {(found[1], found[2]): found[3] for found in map(SAID.search, file.read().splitlines()) if found}
     passed = failed = 0
     for crate, name, lines in edits(options.crate):
-        wrong = check(crate, name, lines, said.get((crate, name), 'the gate did not try it'), options.write)
+        if options.gate:
+            wrong = check(crate, name, lines, said.get((crate, name), 'the gate did not try it'), options.write)
+        else:
+            wrong = lineless(lines)
         if wrong:
             print('%s/%s: %s' % (crate, name, wrong))
         passed, failed = passed + (not wrong), failed + bool(wrong)
