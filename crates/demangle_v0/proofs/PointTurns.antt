@@ -9,7 +9,7 @@ use Rattle.demangle_grammar.specs.Events.{Heard, of, nothing_heard, and_then, wi
 use Rattle.demangle_words.specs.WordReads.{texts_of}
 use Rattle.demangle_words.specs.Texts.{text}
 use Rattle.demangle_grammar.specs.Reading.{Place, unit_outcome, run}
-use Rattle.demangle_v0.specs.Points.{mark_texts, then_frame, way_weight, weight_at, weight_of, unit_rest, is_inner, height_of, count_of, FitsFrame, IsInner, Fits, height_at, pushed_on, unit_rest_of, Turn, Env, env, Part, part, DidOn, Comes, Does, Paid, own_looks, list_costs}
+use Rattle.demangle_v0.specs.Points.{mark_texts, then_frame, way_weight, weight_at, weight_of, unit_rest, is_inner, height_of, count_of, FitsFrame, IsInner, Fits, height_at, pushed_on, unit_rest_of, Turn, Env, env, Part, part, Comes, Does, Paid, own_looks, list_costs}
 use Rattle.demangle_sink.specs.declared.SinkRefused.{SinkRefused}
 use Rattle.demangle_words.specs.declared.texts.Mark.{Mark}
 use Rattle.demangle_words.specs.declared.texts.Mark.TheVariants as mark
@@ -243,51 +243,6 @@ module _ {V : Type 0} {e : Env V} where
   -- the same heard in another way
   pub alike : {t u : Turn V} {r : Result Point Stop} {h k : Heard} {words words' weight high weight' high' : ℕ} → words' ≤ words → h ≡ k → weight' ≤ weight → high' ≤ high → Does e t (part words' k weight' high') r u → Does e t (part words h weight high) r u
   alike c o w x z = behind [] (omega (arith, c)) o paid_none (omega arith) (omega (arith, w)) x z
-
--- As the points that are not written so.
-pub did : {V : Type 0} {output : Ghosts V} {b : List ℕ} {include_hash : Bool} {h : Heard} {words weight high : ℕ} {t u : Turn V} {r : Result Point Stop} → Does (env output b include_hash) t (part words h weight high) r u
-    → DidOn output b include_hash words h weight high t.stack t.output r u.state u.stack u.output (u.looks - t.looks)
-did {r = Ok p} d = let w = d.comes in record {
-  comes = record {
-    front = w.front;
-    emitted = w.emitted;
-    back = w.back;
-    pushed = w.pushed;
-    emits = w.emits;
-    one = w.one;
-    reads = w.reads;
-    is_stack = w.is_stack;
-    few = w.few;
-    enough = omega (arith, w.enough);
-    late = omega (arith, w.late);
-    lighter = w.lighter;
-    outer_height = w.outer_height;
-    inner_height = w.inner_height;
-    outer_fits = w.outer_fits;
-    inner_fits = w.inner_fits;
-    quiet = w.quiet;
-  };
-}
-did {r = Err (Fault m)} d = let w = d.comes in record {
-  comes = record { front = w.front; emits = w.emits; unmarked = w.unmarked; reads = w.reads; is_stack = w.is_stack; few = w.few; enough = omega (arith, w.enough); lighter = w.lighter };
-}
-did {r = Err Refused} d = let w = d.comes.0 in record {
-  comes = (
-    record {
-      front = w.front;
-      emitted = w.emitted;
-      rest = w.rest;
-      refusal = w.refusal;
-      prints = w.prints;
-      reads = w.reads;
-      few = w.few;
-      enough = omega (arith, w.enough);
-      exact = λ q. omega (arith, w.exact q);
-      fails = w.fails;
-    },
-    d.comes.1,
-  );
-}
 
 abbrev pub word_of : {V : Type 0} → Env V → Word → State → Group
 word_of e x s = word_group e.symbol x s.letter e.output.is_printed s.lifetimes s.place

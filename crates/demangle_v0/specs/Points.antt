@@ -460,14 +460,6 @@ pub record MayStep {V : Type 0} (env : Env V) (p : Point) (most : ℕ) (before :
   pub room : length before.stack < most
   pub fits : Fits p before.state.depth_left before.state.lifetimes
 
--- a record, so that a lemma finds its arguments
-pub record DidOn {V : Type 0} (output : Ghosts V) (b : List ℕ) (include_hash : Bool) (words : ℕ) (h : Heard) (weight high : ℕ) (stack : List Frame) (v : V) (result : Result Point Stop) (new : State) (now : List Frame) (w : V) (made : ℕ) : Type 0 where
-  pub comes : Comes (env output b include_hash) (part words h weight high) (turn new stack v 0) result (turn new now w made)
-
--- what a point does
-abbrev pub Did : {V : Type 0} → Ghosts V → List ℕ → Bool → Point → State → List Frame → V → Result Point Stop → State → List Frame → V → ℕ → Type 0
-Did output b include_hash p old stack v result new now w made = DidOn output b include_hash (words_at p) (unit_rest_of b include_hash output.is_printed p old) (weight_at p) (height_at p old.depth_left) stack v result new now w made
-
 -- where a frame goes on
 abbrev pub resumed_of : State → Frame → State
 resumed_of s f = record s { in_value = f.in_value; letter = f.letter; depth_left = f.depth_left; lifetimes = f.number }
