@@ -1,7 +1,7 @@
 //! What each resume point does.
 ghost use Rattle.std.specs.Prelude.{◌≡◌, ◌+◌, ◌<◌, ◌≤◌, true, false, length, IsAscii};
 ghost use Rattle.demangle_v0.specs.Impls.{is_skip};
-ghost use Rattle.demangle_v0.specs.Points.{PointDoes, Fits, env, turn};
+ghost use Rattle.demangle_v0.specs.Points.{MayStep, PointDoes, env, turn};
 ghost use Rattle.demangle_v0.specs.PointRuns.{first_looks};
 
 use crate::points::arguments::{arguments, generic};
@@ -39,11 +39,8 @@ pub(super) fn dispatch<V: Output, const N: usize>(
     output: &mut V,
     looks: &mut Looks,
 ) -> Result<Point, Stop>
-    requires ascii { V.is_printed ≡ true → IsAscii symbol.now }
-    requires ready { V.ready output.old }
-    requires unmarked { state.old.mark ≡ None }
-    requires room { length stack.old < N }
-    requires fits { Fits point state.old.depth_left state.old.lifetimes }
+    requires may { MayStep (env V.Output symbol.now include_hash) point N (turn state.old stack.old
+        output.old looks.old) }
     requires unskipped { V.is_printed ≡ true → is_skip point ≡ false }
     ensures did { PointDoes (env V.Output symbol.now include_hash) point (turn state.old stack.old
         output.old looks.old) result (turn state.new stack.new output.new looks.new) }

@@ -1,7 +1,7 @@
 //! Steps: what a point does and the mark that it leaves, and where a unit that is over goes on.
 ghost use Rattle.std.specs.Prelude.{◌≡◌, ◌+◌, ◌-◌, ◌<◌, ◌≤◌, true, false, IfSome, IfNone, IsOk, OnOk, length, IsAscii};
 ghost use Rattle.demangle_v0.specs.Impls.{is_skip};
-ghost use Rattle.demangle_v0.specs.Points.{own_by, Fits, env, turn, resumed_of};
+ghost use Rattle.demangle_v0.specs.Points.{own_by, MayStep, env, turn, resumed_of};
 ghost use Rattle.demangle_v0.specs.PointRuns.{Puts, Stepped, Resumes, first_looks};
 
 use crate::points::dispatch::dispatch;
@@ -48,11 +48,8 @@ pub(crate) fn step<V: Output, const N: usize>(
     output: &mut V,
     looks: &mut Looks,
 ) -> Result<Point, SinkRefused>
-    requires ascii { V.is_printed ≡ true → IsAscii symbol.now }
-    requires ready { V.ready output.old }
-    requires unmarked { state.old.mark ≡ None }
-    requires room { length stack.old < N }
-    requires fits { Fits point state.old.depth_left state.old.lifetimes }
+    requires may { MayStep (env V.Output symbol.now include_hash) point N (turn state.old stack.old
+        output.old looks.old) }
     requires unskipped { V.is_printed ≡ true → is_skip point ≡ false }
     ensures stepped { Stepped (env V.Output symbol.now include_hash) point (turn state.old stack.old
         output.old looks.old) result (turn state.new stack.new output.new looks.new) }

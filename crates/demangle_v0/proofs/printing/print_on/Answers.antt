@@ -46,7 +46,7 @@ steps-preserved-then-is_skipped g c =
 pub step-requires : goal.step-requires
 step-requires g c =
     let v = valid_resumes _ _ _ _ _ _ _ c.steps.invariant.valid c.in-Some.ensures.some in
-    (omega arith, (λ z. c.requires.ascii, (c.steps.invariant.ready, (v.unmarked, (omega (arith, resumes_length _ _ _ _ _ _ _ c.in-Some.ensures.some, c.steps-test.true, c.len.ensures), (v.fits, λ z. sym c.is_skipped.ensures ∙ c.if-is_skipped.false))))))
+    (omega arith, (record { ascii = λ _. c.requires.ascii; ready = c.steps.invariant.ready; unmarked = v.unmarked; room = omega (arith, resumes_length _ _ _ _ _ _ _ c.in-Some.ensures.some, c.steps-test.true, c.len.ensures); fits = v.fits }, λ z. sym c.is_skipped.ensures ∙ c.if-is_skipped.false))
 
 pub returns-in_err-point-clause-ran : goal.returns-in_err-point-clause-ran
 returns-in_err-point-clause-ran g c =

@@ -14,7 +14,7 @@ unfolding unit_rest_at
 returns-in-Lifetime-clause-did g c = rw c.in-Lifetime.is (alike (omega arith) refl (omega arith) (omega arith) (c.last_word.ensures.did c.args.stack.now))
 
 pub returns-in-End-clause-did : goal.returns-in-End-clause-did
-returns-in-End-clause-did g c = rw c.in-End.is (stays_over c.requires.unmarked)
+returns-in-End-clause-did g c = rw c.in-End.is (stays_over c.requires.may.unmarked)
 
 pub returns-in-CloseParen-clause-did : goal.returns-in-CloseParen-clause-did
 returns-in-CloseParen-clause-did g c = c.leave.ensures.did c.args.symbol.now c.args.include_hash c.args.output.now c.args.stack.now c.args.looks.now

@@ -6,7 +6,7 @@ use Rattle.demangle_v0.proofs.points.read.read_on.Goals as goal
 pub step-requires : goal.step-requires
 step-requires g c =
     let v = valid_resumes _ _ _ _ _ _ _ c.steps.invariant.valid c.in-Some.ensures.some in
-    (omega arith, (λ z. absurd (false≢true z), (tt, (v.unmarked, (omega (arith, resumes_length _ _ _ _ _ _ _ c.in-Some.ensures.some, c.steps-test.true, c.len.ensures), (v.fits, λ z. absurd (false≢true z)))))))
+    (omega arith, (record { ascii = λ z. absurd (false≢true z); ready = tt; unmarked = v.unmarked; room = omega (arith, resumes_length _ _ _ _ _ _ _ c.in-Some.ensures.some, c.steps-test.true, c.len.ensures); fits = v.fits }, λ z. absurd (false≢true z)))
 
 pub steps-smaller : goal.steps-smaller
 steps-smaller g c = turn_less _ c.args.symbol.now c.args.include_hash _ _ _ _ _ _ _ _ _ _ _ _ _ _ c.in-Some.ensures.some c.in-Ok.ensures.stepped
