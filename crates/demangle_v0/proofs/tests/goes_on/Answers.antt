@@ -9,17 +9,8 @@ skip-requires c =
 
 pub step-requires : goal.step-requires
 step-requires c =
-    let v = valid_resumes _ _ _ _ _ _ _ c.requires.valid c.in-Some.ensures.some in (
-      omega arith,
-      record {
-        ascii = λ _. c.requires.ascii;
-        ready = record { alive = rw c.new.ensures.text (sym c.is_failed.ensures ∙ c.if-is_failed.false); fresh = c.new.ensures.open };
-        unmarked = v.unmarked;
-        room = omega (arith, resumes_length _ _ _ _ _ _ _ c.in-Some.ensures.some, c.if-len-ge-FULL_STACK.false, c.len.ensures);
-        fits = v.fits;
-      },
-      λ z. sym c.is_skipped.ensures ∙ c.if-is_skipped.false,
-    )
+    let v = valid_resumes _ _ _ _ _ _ _ c.requires.valid c.in-Some.ensures.some in
+    (omega arith, (record { ascii = λ _. c.requires.ascii; ready = record { alive = rw c.new.ensures.text (sym c.is_failed.ensures ∙ c.if-is_failed.false); fresh = c.new.ensures.open }; unmarked = v.unmarked; room = omega (arith, resumes_length _ _ _ _ _ _ _ c.in-Some.ensures.some, c.if-len-ge-FULL_STACK.false, c.len.ensures); fits = v.fits }, λ z. sym c.is_skipped.ensures ∙ c.if-is_skipped.false))
 
 pub returns-in-None : goal.returns-in-None
 returns-in-None c =
