@@ -5,8 +5,8 @@ It makes a copy of the library's crates outside the repository, with their folde
 one call as many times as it is told, and builds that by `rt run`. Each call stands in a function that is not inlined, and is
 given one of two equal texts in turn, so that no turn can be left out. It needs the Rattle kit and valgrind.
 
-Nanoseconds: the program runs with k turns and with 10 k, and the difference of the seconds (each the best of five runs) is
-divided by 9 k; what turns without a call take is taken off. Printing has the making of its empty sink in it. The symbols are the
+Nanoseconds: the program runs with k turns and with 10 k, and the difference of the seconds (each the best of nine runs, between
+which those of the other calls stand) is divided by 9 k; what turns without a call take is taken off. Printing has the making of its empty sink in it. The symbols are the
 legacy one and the v0 one of middle length of those that crates/demangle_corpus/stdin has from libraries and programs, and a
 v0 one that is deep: 490 references in one another, and a back reference. With --rust-crate the same loop runs over the Rust crate
 rustc-demangle: its `try_demangle`, and its `Display` into an array of 1,024 bytes, built by cargo outside the repository.
@@ -18,10 +18,10 @@ handed (the text, the value, the sink) is not counted. The calls are made below 
 before, to make the value that is printed, does not count. 60 tuples in one another are the symbol that fills the short row of
 frames, so that the long one is made.
 """
-import argparse, os, re, subprocess, sys, tempfile
+import argparse, os, re, subprocess, sys, tempfile, time
 
 import hostile
-from common import CORPUS, build, copy_library, instructions, need_kit, need_rust_crate, need_valgrind, seconds
+from common import CORPUS, build, copy_library, instructions, need_kit, need_rust_crate, need_valgrind
 
 TIMED = ['try_demangle', 'write_to, ArraySink<1024>']
 CALLS = ['nothing', 'try_demangle', 'demangle', 'demangle_counted', 'write_to, ArraySink<1024>', 'write_counted, ArraySink<1024>',
@@ -30,8 +30,9 @@ CALLS = ['nothing', 'try_demangle', 'demangle', 'demangle_counted', 'write_to, A
 RUST_TIMED = ['try_demangle', 'Display into an array']
 # Each tuple leaves a frame while the one in it is read.
 TUPLES = '_RMC0' + 60 * 'T' + 'u' + 60 * 'E'
-# At least so many seconds for the longer run.
+# At least so many seconds for the longer run, and so many runs of each, of which the best counts.
 LONG = 0.5
+ROUNDS = 9
 
 PROGRAM = '''//! Makes a call of the library, as often as it is told.
 #![tactic(auto)]
@@ -294,21 +295,50 @@ def typical():
     return middle('_ZN', lines[:500]), middle('_R', lines[800:1700])
 
 
-def nanoseconds(program, call, symbol):
-    """What a turn takes, with its loop."""
-    text = (symbol + '\n').encode() * 2
+def run_seconds(program, call, turns, text):
+    began = time.perf_counter()
+    subprocess.run([program, str(call), str(turns)], input=text, stdout=subprocess.DEVNULL, check=True)
+    return time.perf_counter() - began
+
+
+def turns_of(program, call, text):
+    """So many turns that ten times as many take at least LONG."""
     turns = 100
-    while seconds([program, str(call), str(10 * turns)], text) < LONG:
+    while run_seconds(program, call, 10 * turns, text) < LONG:
         turns *= 3
-    few, many = (seconds([program, str(call), str(count)], text) for count in (turns, 10 * turns))
-    return (many - few) / (9 * turns) * 1e9
+    return turns
 
 
-def turn_instructions(program, call, symbol):
-    """What a turn takes, with its loop."""
+def nanoseconds(calls, symbol):
+    """What a turn of each call takes, with its loop. The calls run one after another in each of ROUNDS rounds."""
     text = (symbol + '\n').encode() * 2
-    few, many = (instructions([program, str(call), turns], text) for turns in ('100', '600'))
-    return (many - few) // 500
+    turns = [turns_of(program, call, text) for program, call in calls]
+    runs = [(program, call, count) for (program, call), few in zip(calls, turns) for count in (few, 10 * few)]
+    rounds = [[run_seconds(*words, text) for words in runs] for _ in range(ROUNDS)]
+    best = [min(times) for times in zip(*rounds)]
+    return [(many - few) / (9 * count) * 1e9 for few, many, count in zip(best[::2], best[1::2], turns)]
+
+
+def turn_instructions(calls, symbol):
+    """What a turn of each call takes, with its loop."""
+    text = (symbol + '\n').encode() * 2
+    counted = [[instructions([program, str(call), turns], text) for turns in ('100', '600')] for program, call in calls]
+    return [(many - few) // 500 for few, many in counted]
+
+
+def print_table(title, measured, rows, symbols):
+    """A line for each row (a name, a program, a call), less what a turn without a call takes."""
+    programs = list(dict.fromkeys(program for _, program, _ in rows))
+    calls = [(program, 0) for program in programs] + [(program, call) for _, program, call in rows]
+    columns = []
+    for symbol in symbols:
+        taken = measured(calls, symbol)
+        empty = dict(zip(programs, taken))
+        columns.append([took - empty[program] for (_, program, _), took in zip(rows, taken[len(programs):])])
+    print('| %s | legacy | v0 | deep v0 |\n| --- | ---: | ---: | ---: |' % title)
+    for (name, _, _), used in zip(rows, zip(*columns)):
+        print('| %s | ' % name + ' | '.join('{:,.0f}'.format(count) for count in used) + ' |')
+    print(flush=True)
 
 
 def stack(program, call, symbol):
@@ -321,28 +351,25 @@ def stack(program, call, symbol):
 def main():
     words = argparse.ArgumentParser(description=__doc__, formatter_class=argparse.RawDescriptionHelpFormatter)
     words.add_argument('--keep', metavar='FOLDER', help='make the copy in this folder, which is not there before and stays (default: a temporary one)')
+    words.add_argument('--program', metavar='PATH', help='measure this program, which --keep left in FOLDER/crates/calls/out, and build none')
     words.add_argument('--jobs', type=int, metavar='N', help='how many jobs `rt run` takes')
     words.add_argument('--rust-crate', metavar='FOLDER', help='the folder of the Rust crate rustc-demangle: measured beside this library')
     given = words.parse_args()
-    need_kit()
+    if not given.program:
+        need_kit()
     need_valgrind()
     if given.rust_crate:
         need_rust_crate(given.rust_crate)
     legacy, v0 = typical()
     with tempfile.TemporaryDirectory() as temporary:
-        program = built(given.keep or temporary, given.jobs)
+        program = given.program or built(given.keep or temporary, given.jobs)
         rows = [(call, program, CALLS.index(call)) for call in TIMED]
         if given.rust_crate:
             rust = built_rust(temporary, given.rust_crate)
             rows += [('%s of rustc-demangle' % call, rust, at) for at, call in enumerate(RUST_TIMED, 1)]
         print('legacy: `%s`\n\nv0: `%s`\n' % (legacy, v0))
-        for name, measured in (('nanoseconds', nanoseconds), ('instructions', turn_instructions)):
-            print('| %s | legacy | v0 | deep v0 |\n| --- | ---: | ---: | ---: |' % name)
-            empty = {made: measured(made, 0, legacy) for made in {row[1] for row in rows}}
-            for call, made, number in rows:
-                used = (measured(made, number, symbol) - empty[made] for symbol in (legacy, v0, hostile.chained(1)))
-                print('| %s | ' % call + ' | '.join('{:,.0f}'.format(count) for count in used) + ' |', flush=True)
-            print()
+        for title, measured in (('nanoseconds', nanoseconds), ('instructions', turn_instructions)):
+            print_table(title, measured, rows, (legacy, v0, hostile.chained(1)))
         symbols = (legacy, v0, hostile.doubling(17), hostile.chained(1), TUPLES)
         without = [stack(program, 'nothing', symbol) for symbol in symbols]
         print('| bytes of stack | legacy | v0 | doubling, 17 tuples | deep v0 | 60 tuples |\n| --- | ---: | ---: | ---: | ---: | ---: |')
