@@ -9,6 +9,7 @@ use Rattle.demangle_grammar.specs.Spelling.{freely, named, Spells, IsPath, IsPat
 use Rattle.demangle_grammar.proofs.Rules.{named_freely}
 use Rattle.demangle_grammar.proofs.Spelled.{read_spelt}
 use Rattle.demangle_grammar.proofs.Unique.{unique}
+use Rattle.demangle_grammar.proofs.TableCost.{fits}
 use Rattle.demangle_grammar.proofs.Complete.{spells_read, grows}
 
 spelled_path : (symbol : List ℕ) (i j : ℕ) → unit_end symbol a_path i 0 ≡ Some j → IsPath symbol i j
@@ -46,7 +47,7 @@ accepted symbol k e = go (unit_end symbol a_path 0 0) refl e
 
 pub all_accepted : (symbol : List ℕ) (k : ℕ) → IsPaths symbol k → suffix_place symbol ≡ Some k
 unfolding suffix_place second
-all_accepted symbol k (j, p, q) = subst (λ o. then_if_some o (second symbol) ≡ Some k) (sym (path_spelled symbol 0 j (omega arith) p)) (to_second symbol j k (grows p (omega arith)).1 q)
+all_accepted symbol k (j, p, q) = subst (λ o. then_if_some o (second symbol) ≡ Some k) (sym (path_spelled symbol 0 j (omega arith) p)) (to_second symbol j k (grows true 0 8 0 true (fits a_path true) p (omega arith)).1 q)
 
 -- the suffix begins at one place at most
 pub one_suffix : (symbol : List ℕ) (j k : ℕ) → IsPaths symbol j → IsPaths symbol k → j ≡ k

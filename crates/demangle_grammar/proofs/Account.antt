@@ -1,5 +1,5 @@
 -- What a reading pays for its looks: the account of each item.
-use Rattle.std.specs.Prelude.{ℕ, zero, suc, ◌≤◌, ◌*◌, ◌||◌, ◌==◌, nat_le, IsTrue, codes}
+use Rattle.std.specs.Prelude.{ℕ, zero, suc, ◌≤◌, ◌*◌, ◌||◌, ◌&&◌, not, ◌==◌, nat_le, nat_lt, IsTrue, codes}
 use Rattle.std.proofs.Common.{◌≡◌, Bool, true, false, cond, List, [], ◌∷◌, length, Some, None, refl, sym, ◌+◌, ◌-◌, subst, arith}
 use Rattle.demangle_symbol.specs.Words.{Name}
 use Rattle.demangle_grammar.specs.Items.{Text, Kind, a_path, a_type, a_constant, a_pattern, a_trait_path, Items, done, invalid, say, say_plain, byte, namespace, integer, optional, identifier, nibbles, peek, next, sound, until_end, raise, unit, child, skip, target, lifetime, binder, opens, dyn_trait, bindings}
@@ -19,33 +19,54 @@ abbrev pub is_some_text : Text → Bool
 is_some_text [] = false
 is_some_text (b ∷ bs) = true
 
+-- 1 for what begins units at its own depth
+abbrev pub rank : Kind → ℕ
+rank a_path = 0
+rank a_type = 0
+rank a_constant = 0
+rank a_pattern = 1
+rank a_trait_path = 1
+
+-- units of a rank below r
+abbrev pub is_below : ℕ → Kind → Bool
+is_below zero kind = false
+is_below (suc r) a_pattern = nat_lt 0 r
+is_below (suc r) a_trait_path = nat_lt 0 r
+is_below (suc r) kind = true
+
+-- any unit but a dyn trait path
+abbrev pub is_closed : Kind → Bool
+is_closed a_trait_path = false
+is_closed kind = true
+
 -- The items may run from k looks of credit and end with e. Each byte that is read gives 32, and a word costs 4 for
--- each byte and 4 more. `g` says that a child may come now: at least a byte was handed over since the one before.
-abbrev pub Cheap : ℕ → ℕ → Bool → Items → Type 0
-Cheap e k g done = e ≤ k
-Cheap e k g invalid = Unit {0}
-Cheap e k g (say t p) = Cheap e k (g || is_some_text t) p
-Cheap e k g (say_plain t p) = Cheap e k g p
-Cheap e k g (byte f) = (v : ℕ) → Cheap e (k + 24) g (f v)
-Cheap e k g (namespace f) = (v : ℕ) → Cheap e (k + 24) g (f v)
-Cheap e k g (integer f) = (v : ℕ) → Cheap e (k + 24) g (f v)
-Cheap e k g (optional tag f) = (4 ≤ k) × ((v : ℕ) → Cheap e (k - 4) g (f v))
-Cheap e k g (identifier f) = (v : Name) → Cheap e (k + 24) g (f v)
-Cheap e k g (nibbles f) = (v : List ℕ) → Cheap e (k + 24) g (f v)
-Cheap e k g (peek f) = (1 ≤ k) × ((v : ℕ) → Cheap e (k - 1) g (f v))
-Cheap e k g (next b p q) = (1 ≤ k) × Cheap e (k + 31) g p × Cheap e (k - 1) g q
-Cheap e k g (sound p q) = Cheap e k g p
-Cheap e k g (until_end p q) = (c : ℕ) × (c ≤ k) × (1 ≤ c) × Cheap c (c - 1) false p × Cheap e (c + 31) false q
-Cheap e k g (raise p) = Cheap e k g p
-Cheap e k g (unit p q) = (c : ℕ) × Cheap c k g p × Cheap e c false q
-Cheap e k g (child kind value p) = (start kind ≤ k) × IsTrue g × Cheap e 8 false p
-Cheap e k g (skip p) = Cheap e 8 g p
-Cheap e k g (target kind value) = IsTrue g × (e ≤ k + 24)
-Cheap e k g (lifetime n p) = Cheap e k g p
-Cheap e k g (binder n p) = Cheap e k g p
-Cheap e k g (opens p) = Cheap e k g p
-Cheap e k g (dyn_trait p) = (start a_trait_path ≤ k) × IsTrue g × ((c : ℕ) × (c ≤ 8) × (1 ≤ c) × Cheap c (c + 55) true p × (e ≤ c - 1))
-Cheap e k g (bindings o p) = (c : ℕ) × (c ≤ k) × (1 ≤ c) × Cheap c (c + 55) true p × (e ≤ c - 1)
+-- each byte and 4 more. `g` says that a child may come now: at least a byte was handed over since the one before. The
+-- units begun before the depth is raised are of a rank below r. Where c, none leaves a `<` open at the end.
+abbrev pub Fits : (c : Bool) (r e k : ℕ) (g : Bool) → Items → Type 0
+Fits c r e k g done = e ≤ k
+Fits c r e k g invalid = Unit {0}
+Fits c r e k g (say t p) = Fits c r e k (g || is_some_text t) p
+Fits c r e k g (say_plain t p) = Fits c r e k g p
+Fits c r e k g (byte f) = (v : ℕ) → Fits c r e (k + 24) g (f v)
+Fits c r e k g (namespace f) = (v : ℕ) → Fits c r e (k + 24) g (f v)
+Fits c r e k g (integer f) = (v : ℕ) → Fits c r e (k + 24) g (f v)
+Fits c r e k g (optional tag f) = (4 ≤ k) × ((v : ℕ) → Fits c r e (k - 4) g (f v))
+Fits c r e k g (identifier f) = (v : Name) → Fits c r e (k + 24) g (f v)
+Fits c r e k g (nibbles f) = (v : List ℕ) → Fits c r e (k + 24) g (f v)
+Fits c r e k g (peek f) = (1 ≤ k) × ((v : ℕ) → Fits c r e (k - 1) g (f v))
+Fits c r e k g (next b p q) = (1 ≤ k) × Fits c r e (k + 31) g p × Fits c r e (k - 1) g q
+Fits c r e k g (sound p q) = (l : ℕ) × (h : Bool) × Fits c r e k g p × Fits c r e l h q
+Fits c r e k g (until_end p q) = (l : ℕ) × (l ≤ k) × (1 ≤ l) × Fits c r l (l - 1) false p × Fits c r e (l + 31) false q
+Fits c r e k g (raise p) = Fits c 2 e k g p
+Fits c r e k g (unit p q) = (l : ℕ) × Fits c r l k g p × Fits c r e l false q
+Fits c r e k g (child kind value p) = (start kind ≤ k) × IsTrue (is_below r kind && g) × Fits c r e 8 false p
+Fits c r e k g (skip p) = IsTrue (is_below r a_path) × Fits c r e 8 g p
+Fits c r e k g (target kind value) = IsTrue ((is_closed kind || not c) && g) × (e ≤ k + 24)
+Fits c r e k g (lifetime n p) = Fits c r e k g p
+Fits c r e k g (binder n p) = Fits c r e k g p
+Fits c r e k g (opens p) = (c ≡ false) × Fits c r e k g p
+Fits c r e k g (dyn_trait p) = (start a_trait_path ≤ k) × IsTrue (is_below r a_trait_path && g) × ((l : ℕ) × (l ≤ 8) × (1 ≤ l) × Fits c r l (l + 55) true p × (e ≤ l - 1))
+Fits c r e k g (bindings o p) = (l : ℕ) × (l ≤ k) × (1 ≤ l) × Fits c r l (l + 55) true p × (e ≤ l - 1)
 
 -- From place i on, of n bytes, the stretches are paid for by the bytes that were read and `from`, and `to` is left.
 abbrev pub Ends : (n r i from to : ℕ) → List StretchCost → Place → Type 0

@@ -1,5 +1,5 @@
 -- Elements of lists: behind the last byte of the symbol none is read, and before it each moves on.
-use Rattle.std.specs.Prelude.{ℕ, suc, ◌≤◌, nat_le, slice_get}
+use Rattle.std.specs.Prelude.{ℕ, suc, ◌<◌, ◌≤◌, nat_le, slice_get}
 use Rattle.std.proofs.Common.{◌≡◌, Bool, true, false, List, [], ◌∷◌, length, Option, Some, None, refl, sym, ap, ◌+◌, ◌-◌, subst, arith}
 use Rattle.std.proofs.lemmas.Option.{slice_get_past}
 use Rattle.std.proofs.lemmas.Bool.{leb-true, leb-false}
@@ -10,7 +10,9 @@ use Rattle.demangle_grammar.specs.Items.{Text, Kind, a_path, a_type, a_constant,
 use Rattle.demangle_grammar.specs.Table.{items, path, constant, pattern_of, binding_value, type_inside, argument, field, constant_inside, says, says_name}
 use Rattle.demangle_grammar.specs.Reading.{looked, node, Place, Outcome, Level, Surroundings, run, turns, stands, behind, followed_by, byte_choice, peek_outcome, word_outcome, one_depth_on, bound_by, level_of, levels, max_depth}
 use Rattle.demangle_symbol.proofs.Counts.{Placed, byte_placed, identifier_placed}
-use Rattle.demangle_grammar.proofs.Complete.{there_placed, Moves}
+use Rattle.demangle_grammar.proofs.Account.{Fits}
+use Rattle.demangle_grammar.proofs.Complete.{there_placed}
+use Rattle.demangle_grammar.proofs.TableCost.{typed_cheap, inside_cheap, argument_fits, field_cheap, trait_cheap}
 use Rattle.demangle_grammar.proofs.Failed.{bound_failed}
 use Rattle.demangle_grammar.specs.Events.{around}
 use Rattle.demangle_grammar.proofs.Spelled.{level_spelt, levels_spelt}
@@ -86,36 +88,36 @@ pub record Element (b : List ℕ) (out : Bool) (left n : ℕ) (p : Items) : Type
   pub advances : Advances b (run p (around b out left n))
   pub beyond : (i : ℕ) → length b ≤ i → (run p (around b out left n) (Some i)).place ≡ None
 
-moving : (b : List ℕ) (out : Bool) (left n : ℕ) (p : Items) → Moves p → left ≤ max_depth → Advances b (run p (around b out left n))
-moving b out left n p m l =
-    advances p (around b out left n) (max_depth - left) m
+moving : (b : List ℕ) (out : Bool) (left n : ℕ) (p : Items) (c : Bool) (r e k : ℕ) (g : Bool) → Fits c r e k g p → k < e → left ≤ max_depth → Advances b (run p (around b out left n))
+moving b out left n p c r e k g f m l =
+    advances p (around b out left n) (max_depth - left) c r e k g f m
     (level_spelt b (max_depth - left) (levels b left) (levels_spelt b left (max_depth - left) (omega arith)))
     (levels_spelt b left (max_depth - left) (omega arith))
 
 module _ (b : List ℕ) (out : Bool) (left n : ℕ) (l : left ≤ max_depth) where
   pub type_element : Element b out left n type_inside
   unfolding run
-  type_element = record { advances = moving b out left n type_inside tt l; beyond = λ i h. no_unit b (levels b left) a_type out false n i h }
+  type_element = record { advances = moving b out left n type_inside true 2 8 2 true (typed_cheap 8 2 (omega arith) (omega arith)) (omega arith) l; beyond = λ i h. no_unit b (levels b left) a_type out false n i h }
 
   pub constant_element : Element b out left n constant_inside
   unfolding run
-  constant_element = record { advances = moving b out left n constant_inside tt l; beyond = λ i h. no_unit b (levels b left) a_constant out true n i h }
+  constant_element = record { advances = moving b out left n constant_inside true 2 8 0 true (inside_cheap 8 0 (omega arith)) (omega arith) l; beyond = λ i h. no_unit b (levels b left) a_constant out true n i h }
 
   pub pattern_element : Element b out left n (child a_pattern false done)
   unfolding run
-  pattern_element = record { advances = moving b out left n (child a_pattern false done) tt l; beyond = λ i h. no_unit b (levels b left) a_pattern out false n i h }
+  pattern_element = record { advances = moving b out left n (child a_pattern false done) true 2 8 0 true (omega arith, refl, omega arith) (omega arith) l; beyond = λ i h. no_unit b (levels b left) a_pattern out false n i h }
 
   pub argument_element : Element b out left n argument
   unfolding run
   argument_element = record {
-    advances = moving b out left n argument tt l;
+    advances = moving b out left n argument true 1 7 6 true (argument_fits true 0) (omega arith) l;
     beyond = λ i h. no_fork (is_byte b i (code "L")) _ _ i (no_byte b i (code "L") h)
         (no_fork (is_byte b i (code "K")) _ _ i (no_byte b i (code "K") h) (no_unit b (levels b left) a_type out false n i h));
   }
 
   pub field_element : Element b out left n field
   unfolding run
-  field_element = record { advances = moving b out left n field (λ _. tt) l; beyond = past }
+  field_element = record { advances = moving b out left n field true 2 7 6 true field_cheap (omega arith) l; beyond = past }
     where
       past : (i : ℕ) → length b ≤ i → (run field (around b out left n) (Some i)).place ≡ None
       past i h =
@@ -126,7 +128,7 @@ module _ (b : List ℕ) (out : Bool) (left n : ℕ) (l : left ≤ max_depth) whe
 
   pub dyn_trait_element : Element b out left n (dyn_trait binding_value)
   unfolding run
-  dyn_trait_element = record { advances = moving b out left n (dyn_trait binding_value) tt l; beyond = past }
+  dyn_trait_element = record { advances = moving b out left n (dyn_trait binding_value) true 2 7 6 true trait_cheap (omega arith) l; beyond = past }
     where
       past : (i : ℕ) → length b ≤ i → (run (dyn_trait binding_value) (around b out left n) (Some i)).place ≡ None
       past i h =
@@ -136,7 +138,7 @@ module _ (b : List ℕ) (out : Bool) (left n : ℕ) (l : left ≤ max_depth) whe
 
   -- what a binding is bound to
   pub bound_keeps : Keeps b (run binding_value (around b out left n))
-  bound_keeps i h = within_later b i (i + 1) (run binding_value (around b out left n) (Some i)).place (omega arith) (moving b out left n binding_value tt l i h)
+  bound_keeps i h = within_later b i (i + 1) (run binding_value (around b out left n) (Some i)).place (omega arith) (moving b out left n binding_value true 1 7 5 true (argument_fits true 0).2 (omega arith) l i h)
 
 all_end : (b : List ℕ) (f : Place → Outcome) (x : Place) → x ≡ None → turns (length b) b f x ≡ all_turns b f x
 unfolding turns

@@ -9,7 +9,6 @@ use Rattle.demangle_grammar.specs.Accepting.{looks_in, suffix_looks, second_look
 use Rattle.demangle_grammar.proofs.PaysRules.{Pays-more, Pays-bound, Pays-whole}
 use Rattle.demangle_grammar.proofs.Account.{Ends, Idle, start, idle}
 use Rattle.demangle_grammar.proofs.Paid.{money, read_paid, spelling_paid, small}
-use Rattle.demangle_grammar.proofs.TableCost.{cheap}
 
 abbrev pub path_stretches : List ℕ → Bool → List StretchCost
 path_stretches symbol plain = stretches plain (read_at symbol true a_path 0 0 0 true).tree
@@ -23,7 +22,7 @@ looks_before n = 34 * (max_depth + 1) * (n + 1)
 
 pub printing_pays : (symbol : List ℕ) (plain : Bool) → Pays (looks_a_byte (length symbol)) (looks_before (length symbol)) (path_stretches symbol plain) 0
 printing_pays symbol plain = go (read_at symbol true a_path 0 0 0 true).tree (read_at symbol true a_path 0 0 0 true).place
-    (read_paid plain (looks_a_byte (length symbol)) symbol a_path 0 0 0 true (omega arith) cheap (omega arith))
+    (read_paid plain (looks_a_byte (length symbol)) symbol a_path 0 0 0 true (omega arith) (omega arith))
   where
     go : (t : Tree) (x : Place) → Ends (length symbol) (looks_a_byte (length symbol)) 0 (0 + money (length symbol) (max_depth - 0)) 8 (stretches plain t) x → Pays (looks_a_byte (length symbol)) (looks_before (length symbol)) (stretches plain t) 0
     go t None h = Pays-more (looks_a_byte (length symbol)) (32 * (length symbol + 1 - 0) + (0 + money (length symbol) (max_depth - 0))) (looks_before (length symbol)) 0 0 0 (stretches plain t) (omega arith) (omega arith) h
@@ -43,7 +42,7 @@ Costs n i c None = c ≤ 32 * (n + 1 - i)
 Costs n i c (Some j) = (i ≤ j) × (j ≤ n) × (c + 8 ≤ 32 * (j - i))
 
 costs : (symbol : List ℕ) (i : ℕ) → i ≤ length symbol → Costs (length symbol) i (looks_in (read_at symbol false a_path i 0 0 true)) (read_at symbol false a_path i 0 0 true).place
-costs symbol i l = go (read_at symbol false a_path i 0 0 true).tree (read_at symbol false a_path i 0 0 true).place (spelling_paid true symbol a_path i 0 0 true cheap l)
+costs symbol i l = go (read_at symbol false a_path i 0 0 true).tree (read_at symbol false a_path i 0 0 true).place (spelling_paid true symbol a_path i 0 0 true l)
   where
     go : (t : Tree) (x : Place) → Ends (length symbol) 0 i (0 + 0) 8 (stretches true t) x → Costs (length symbol) i (looks_of (stretches true t)) x
     go t None h = let w : looks_of (stretches true t) + 0 ≤ 32 * (length symbol + 1 - i) + (0 + 0) + 0 * bytes_of (stretches true t) = Pays-whole 0 (32 * (length symbol + 1 - i) + (0 + 0)) 0 (stretches true t) h in omega (arith, w)
@@ -74,7 +73,7 @@ accepting_costs symbol = both_cost symbol (looks_in (read_at symbol false a_path
 pub unit_looks : (symbol : List ℕ) (plain : Bool) (kind : Kind) (i d m : ℕ) (value : Bool) (k : ℕ) → i ≤ length symbol → d ≤ max_depth →
     looks_of (take (suc k) (stretches plain (read_at symbol true kind i d m value).tree)) ≤ 34 * (length symbol + 1) * (max_depth + 1 - d) * (bytes_of (take k (stretches plain (read_at symbol true kind i d m value).tree)) + 1)
 unit_looks symbol plain kind i d m value k l b = go (read_at symbol true kind i d m value).tree (read_at symbol true kind i d m value).place
-    (read_paid plain (34 * (length symbol + 1) * (max_depth - d)) symbol kind i d m value (rate (length symbol) (max_depth - d)) cheap l)
+    (read_paid plain (34 * (length symbol + 1) * (max_depth - d)) symbol kind i d m value (rate (length symbol) (max_depth - d)) l)
   where
     rate : (n e : ℕ) → money n e ≤ 34 * (n + 1) * e
     rate n e = omega arith

@@ -1,5 +1,5 @@
 -- Each item pays for its looks.
-use Rattle.std.specs.Prelude.{ℕ, zero, suc, ◌≤◌, ◌<◌, ◌*◌, ◌||◌, ◌==◌, nat_lt, nat_le, IsTrue, codes, slice_get}
+use Rattle.std.specs.Prelude.{ℕ, zero, suc, ◌≤◌, ◌<◌, ◌*◌, ◌||◌, ◌&&◌, not, ◌==◌, nat_lt, nat_le, IsTrue, codes, slice_get}
 use Rattle.std.proofs.Common.{◌≡◌, Bool, true, false, cond, List, [], ◌∷◌, ◌++◌, length, Option, Some, None, refl, sym, ◌+◌, ◌-◌, subst, arith}
 use Rattle.std.proofs.Math.Nat.{le-mul_of_pos_right}
 use Rattle.std.proofs.lemmas.Bool.{ltb-true}
@@ -14,7 +14,8 @@ use Rattle.demangle_grammar.specs.Reading.{Tree, nothing, piece, plain_piece, no
 use Rattle.demangle_grammar.proofs.PaysRules.{Pays-more, Pays-append}
 use Rattle.demangle_symbol.proofs.Counts.{Placed, byte_placed, namespace_placed, integer_placed, optional_placed, backref_placed, identifier_placed, nibbles_placed}
 use Rattle.demangle_grammar.proofs.Complete.{there_placed}
-use Rattle.demangle_grammar.proofs.Account.{start, is_some_text, Cheap, Ends, Paid, Idle, idle, idle_closed, paid_hands, paid_binder, paid_pieces}
+use Rattle.demangle_grammar.proofs.TableCost.{fits}
+use Rattle.demangle_grammar.proofs.Account.{start, is_below, is_closed, is_some_text, Fits, Ends, Paid, Idle, idle, idle_closed, paid_hands, paid_binder, paid_pieces}
 
 -- The rules for a place and its stretches.
 
@@ -265,9 +266,10 @@ raised_paid plain n r R k e i fl g (x ∷ xs) f d h = more n r i (k + purse g R)
     less true = omega (arith, d.1)
     less false = omega arith
 
-purse_true : (g : Bool) (R : ℕ) → IsTrue g → R ≤ purse g R
-purse_true true R h = omega arith
-purse_true false R h = absurd (cc h)
+purse_true : (x g : Bool) (R : ℕ) → IsTrue (x && g) → R ≤ purse g R
+purse_true x true R h = omega arith
+purse_true true false R h = absurd (cc h)
+purse_true false false R h = absurd (cc h)
 
 pub record Holds (plain : Bool) (r R : ℕ) (s : Surroundings) : Type 0 where
   pub enough : R ≤ r
@@ -275,87 +277,87 @@ pub record Holds (plain : Bool) (r R : ℕ) (s : Surroundings) : Type 0 where
   pub hidden : LevelPays plain (length s.symbol) 0 0 false s.here
   pub deeper : Deeper plain (length s.symbol) r s.printed R s.deeper
 
-pub paid : (plain : Bool) (r R : ℕ) (p : Items) (s : Surroundings) (e k : ℕ) (g : Bool) → Cheap e k g p → Holds plain r R s →
+pub paid : (plain : Bool) (r R : ℕ) (p : Items) (s : Surroundings) (c : Bool) (b e k : ℕ) (g : Bool) → Fits c b e k g p → Holds plain r R s →
     (i : ℕ) → i ≤ length s.symbol → Paid plain (length s.symbol) r i (k + purse g R) e (run p s (Some i))
 unfolding run bound_by
-paid plain r R done s e k g a m i l = (omega arith, l, omega (arith, a))
-paid plain r R invalid s e k g a m i l = fault_ends plain (length s.symbol) r i (k + purse g R) e
-paid plain r R (say t p) s e k g a m i l = says plain (length s.symbol) r i (k + purse g R) (k + purse (g || is_some_text t) R) e t (run p s (Some i)).tree (run p s (Some i)).place
-    (refilled r R k g t m.enough) (paid plain r R p s e k (g || is_some_text t) a m i l)
-paid plain r R (say_plain t p) s e k g a m i l = says_plain plain (length s.symbol) r i (k + purse g R) e t (run p s (Some i)).tree (run p s (Some i)).place (paid plain r R p s e k g a m i l)
-paid plain r R (byte f) s e k g a m i l = word_paid plain (length s.symbol) r i (k + purse g R) (k + 24 + purse g R) e 1 s.symbol (byte_at s.symbol i) (λ v. run (f v) s) refl l (byte_placed s.symbol i) (omega arith)
-    (λ v j _ _ b. paid plain r R (f v) s e (k + 24) g (a v) m j b)
-paid plain r R (namespace f) s e k g a m i l = word_paid plain (length s.symbol) r i (k + purse g R) (k + 24 + purse g R) e 1 s.symbol (namespace_at s.symbol i) (λ v. run (f v) s) refl l (namespace_placed s.symbol i) (omega arith)
-    (λ v j _ _ b. paid plain r R (f v) s e (k + 24) g (a v) m j b)
-paid plain r R (integer f) s e k g a m i l = word_paid plain (length s.symbol) r i (k + purse g R) (k + 24 + purse g R) e 1 s.symbol (integer_at s.symbol i) (λ v. run (f v) s) refl l (integer_placed s.symbol i) (omega arith)
-    (λ v j _ _ b. paid plain r R (f v) s e (k + 24) g (a v) m j b)
-paid plain r R (optional tag f) s e k g a m i l = word_paid plain (length s.symbol) r i (k + purse g R) (k - 4 + purse g R) e 0 s.symbol (optional_at tag s.symbol i) (λ v. run (f v) s) refl l (subst (λ z. Placed z s.symbol (optional_at tag s.symbol i)) plus (optional_placed tag s.symbol i l)) (omega (arith, a.0))
-    (λ v j _ _ b. paid plain r R (f v) s e (k - 4) g (a.1 v) m j b)
+paid plain r R done s c z e k g a m i l = (omega arith, l, omega (arith, a))
+paid plain r R invalid s c z e k g a m i l = fault_ends plain (length s.symbol) r i (k + purse g R) e
+paid plain r R (say t p) s c z e k g a m i l = says plain (length s.symbol) r i (k + purse g R) (k + purse (g || is_some_text t) R) e t (run p s (Some i)).tree (run p s (Some i)).place
+    (refilled r R k g t m.enough) (paid plain r R p s c z e k (g || is_some_text t) a m i l)
+paid plain r R (say_plain t p) s c z e k g a m i l = says_plain plain (length s.symbol) r i (k + purse g R) e t (run p s (Some i)).tree (run p s (Some i)).place (paid plain r R p s c z e k g a m i l)
+paid plain r R (byte f) s c z e k g a m i l = word_paid plain (length s.symbol) r i (k + purse g R) (k + 24 + purse g R) e 1 s.symbol (byte_at s.symbol i) (λ v. run (f v) s) refl l (byte_placed s.symbol i) (omega arith)
+    (λ v j _ _ b. paid plain r R (f v) s c z e (k + 24) g (a v) m j b)
+paid plain r R (namespace f) s c z e k g a m i l = word_paid plain (length s.symbol) r i (k + purse g R) (k + 24 + purse g R) e 1 s.symbol (namespace_at s.symbol i) (λ v. run (f v) s) refl l (namespace_placed s.symbol i) (omega arith)
+    (λ v j _ _ b. paid plain r R (f v) s c z e (k + 24) g (a v) m j b)
+paid plain r R (integer f) s c z e k g a m i l = word_paid plain (length s.symbol) r i (k + purse g R) (k + 24 + purse g R) e 1 s.symbol (integer_at s.symbol i) (λ v. run (f v) s) refl l (integer_placed s.symbol i) (omega arith)
+    (λ v j _ _ b. paid plain r R (f v) s c z e (k + 24) g (a v) m j b)
+paid plain r R (optional tag f) s c z e k g a m i l = word_paid plain (length s.symbol) r i (k + purse g R) (k - 4 + purse g R) e 0 s.symbol (optional_at tag s.symbol i) (λ v. run (f v) s) refl l (subst (λ z. Placed z s.symbol (optional_at tag s.symbol i)) plus (optional_placed tag s.symbol i l)) (omega (arith, a.0))
+    (λ v j _ _ b. paid plain r R (f v) s c z e (k - 4) g (a.1 v) m j b)
   where
     plus : i ≡ i + 0
     plus = omega arith
-paid plain r R (identifier f) s e k g a m i l = word_paid plain (length s.symbol) r i (k + purse g R) (k + 24 + purse g R) e 1 s.symbol (identifier_at s.symbol i) (λ v. run (f v) s) refl l (identifier_placed s.symbol i) (omega arith)
-    (λ v j _ _ b. paid plain r R (f v) s e (k + 24) g (a v) m j b)
-paid plain r R (nibbles f) s e k g a m i l = word_paid plain (length s.symbol) r i (k + purse g R) (k + 24 + purse g R) e 1 s.symbol (nibbles_at s.symbol i) (λ v. run (f v) s) refl l (nibbles_placed s.symbol i) (omega arith)
-    (λ v j _ _ b. paid plain r R (f v) s e (k + 24) g (a v) m j b)
-paid plain r R (peek f) s e k g a m i l = peek_paid plain (length s.symbol) r i (k + purse g R) (k - 1 + purse g R) e (slice_get s.symbol i) (λ v. run (f v) s (Some i)) l (omega (arith, a.0))
-    (λ v. paid plain r R (f v) s e (k - 1) g (a.1 v) m i l)
-paid plain r R (next b p q) s e k g a m i l = fork_paid plain (length s.symbol) r i (k + purse g R) (k + 31 + purse g R) (k - 1 + purse g R) e (is_byte s.symbol i b) (run p s) (run q s) l
+paid plain r R (identifier f) s c z e k g a m i l = word_paid plain (length s.symbol) r i (k + purse g R) (k + 24 + purse g R) e 1 s.symbol (identifier_at s.symbol i) (λ v. run (f v) s) refl l (identifier_placed s.symbol i) (omega arith)
+    (λ v j _ _ b. paid plain r R (f v) s c z e (k + 24) g (a v) m j b)
+paid plain r R (nibbles f) s c z e k g a m i l = word_paid plain (length s.symbol) r i (k + purse g R) (k + 24 + purse g R) e 1 s.symbol (nibbles_at s.symbol i) (λ v. run (f v) s) refl l (nibbles_placed s.symbol i) (omega arith)
+    (λ v j _ _ b. paid plain r R (f v) s c z e (k + 24) g (a v) m j b)
+paid plain r R (peek f) s c z e k g a m i l = peek_paid plain (length s.symbol) r i (k + purse g R) (k - 1 + purse g R) e (slice_get s.symbol i) (λ v. run (f v) s (Some i)) l (omega (arith, a.0))
+    (λ v. paid plain r R (f v) s c z e (k - 1) g (a.1 v) m i l)
+paid plain r R (next b p q) s c z e k g a m i l = fork_paid plain (length s.symbol) r i (k + purse g R) (k + 31 + purse g R) (k - 1 + purse g R) e (is_byte s.symbol i b) (run p s) (run q s) l
     (there_placed s.symbol b i) (omega arith) (omega (arith, a.0))
-    (λ y. paid plain r R p s e (k + 31) g a.1 m (i + 1) y) (paid plain r R q s e (k - 1) g a.2 m i l)
-paid plain r R (sound p q) s e k g a m i l = paid plain r R p s e k g a m i l
-paid plain r R (until_end p q) s e k g a m i l = then_paid plain (length s.symbol) r i (k + purse g R) (a.0 + 31) e (turns (suc (length s.symbol)) s.symbol (run p s) (Some i)) (run q s)
+    (λ y. paid plain r R p s c z e (k + 31) g a.1 m (i + 1) y) (paid plain r R q s c z e (k - 1) g a.2 m i l)
+paid plain r R (sound p q) s c z e k g a m i l = paid plain r R p s c z e k g a.2 m i l
+paid plain r R (until_end p q) s c z e k g a m i l = then_paid plain (length s.symbol) r i (k + purse g R) (a.0 + 31) e (turns (suc (length s.symbol)) s.symbol (run p s) (Some i)) (run q s)
     (more (length s.symbol) r i (k + purse g R) a.0 (a.0 + 31) (a.0 + 31) (stretches plain (turns (suc (length s.symbol)) s.symbol (run p s) (Some i)).tree) (turns (suc (length s.symbol)) s.symbol (run p s) (Some i)).place (omega (arith, a.1)) (omega arith)
     (turns_paid plain (length s.symbol) r a.0 (suc (length s.symbol)) s.symbol (run p s) refl a.2
-    (λ j b. more (length s.symbol) r j (a.0 - 1) (a.0 - 1 + 0) a.0 a.0 (stretches plain (run p s (Some j)).tree) (run p s (Some j)).place (omega arith) (omega arith) (paid plain r R p s a.0 (a.0 - 1) false a.3 m j b)) i l))
-    (λ j _ b. more (length s.symbol) r j (a.0 + 31) (a.0 + 31 + 0) e e (stretches plain (run q s (Some j)).tree) (run q s (Some j)).place (omega arith) (omega arith) (paid plain r R q s e (a.0 + 31) false a.4 m j b)) (idle plain r q s)
-paid plain r R (raise p) s e k g a m i l = raised_paid plain (length s.symbol) r R k e i s.printed g s.deeper (λ x xs. run p (record s { here = x; deeper = xs })) m.deeper
-    (λ S x xs b y z w. paid plain r S p (record s { here = x; deeper = xs }) e k g a
+    (λ j b. more (length s.symbol) r j (a.0 - 1) (a.0 - 1 + 0) a.0 a.0 (stretches plain (run p s (Some j)).tree) (run p s (Some j)).place (omega arith) (omega arith) (paid plain r R p s c z a.0 (a.0 - 1) false a.3 m j b)) i l))
+    (λ j _ b. more (length s.symbol) r j (a.0 + 31) (a.0 + 31 + 0) e e (stretches plain (run q s (Some j)).tree) (run q s (Some j)).place (omega arith) (omega arith) (paid plain r R q s c z e (a.0 + 31) false a.4 m j b)) (idle plain r q s)
+paid plain r R (raise p) s c z e k g a m i l = raised_paid plain (length s.symbol) r R k e i s.printed g s.deeper (λ x xs. run p (record s { here = x; deeper = xs })) m.deeper
+    (λ S x xs b y z w. paid plain r S p (record s { here = x; deeper = xs }) c 2 e k g a
     (record { enough = omega (arith, m.enough, b); here = y; hidden = z; deeper = w }) i l)
-paid plain r R (unit p q) s e k g a m i l = then_paid plain (length s.symbol) r i (k + purse g R) a.0 e (run p s (Some i)) (run q s)
-    (paid plain r R p s a.0 k g a.1 m i l)
-    (λ j _ b. more (length s.symbol) r j a.0 (a.0 + 0) e e (stretches plain (run q s (Some j)).tree) (run q s (Some j)).place (omega arith) (omega arith) (paid plain r R q s e a.0 false a.2 m j b)) (idle plain r q s)
-paid plain r R (child kind value p) s e k g a m i l = then_paid plain (length s.symbol) r i (k + purse g R) 8 e (unit_outcome s kind value (Some i)) (run p s)
-    (more (length s.symbol) r i (k + purse g R) (start kind + R) 8 8 (stretches plain (unit_outcome s kind value (Some i)).tree) (unit_outcome s kind value (Some i)).place (let y : R ≤ purse g R = purse_true g R a.1 in omega (arith, a.0, y)) (omega arith) (m.here kind value s.lifetimes i l))
-    (λ j _ b. paid plain r R p s e 8 false a.2 m j b) (idle plain r p s)
-paid plain r R (skip p) s e k g a m i l = hushed_paid plain (length s.symbol) r i (k + purse g R) (purse g R) e (s.here false a_path false s.lifetimes i) (run p s) (m.hidden a_path false s.lifetimes i l)
-    (λ j _ b. paid plain r R p s e 8 g a m j b) (idle plain r p s) (omega arith)
-paid plain r R (target kind value) s e k g a m i l =
+paid plain r R (unit p q) s c z e k g a m i l = then_paid plain (length s.symbol) r i (k + purse g R) a.0 e (run p s (Some i)) (run q s)
+    (paid plain r R p s c z a.0 k g a.1 m i l)
+    (λ j _ b. more (length s.symbol) r j a.0 (a.0 + 0) e e (stretches plain (run q s (Some j)).tree) (run q s (Some j)).place (omega arith) (omega arith) (paid plain r R q s c z e a.0 false a.2 m j b)) (idle plain r q s)
+paid plain r R (child kind value p) s c z e k g a m i l = then_paid plain (length s.symbol) r i (k + purse g R) 8 e (unit_outcome s kind value (Some i)) (run p s)
+    (more (length s.symbol) r i (k + purse g R) (start kind + R) 8 8 (stretches plain (unit_outcome s kind value (Some i)).tree) (unit_outcome s kind value (Some i)).place (let y : R ≤ purse g R = purse_true (is_below z kind) g R a.1 in omega (arith, a.0, y)) (omega arith) (m.here kind value s.lifetimes i l))
+    (λ j _ b. paid plain r R p s c z e 8 false a.2 m j b) (idle plain r p s)
+paid plain r R (skip p) s c z e k g a m i l = hushed_paid plain (length s.symbol) r i (k + purse g R) (purse g R) e (s.here false a_path false s.lifetimes i) (run p s) (m.hidden a_path false s.lifetimes i l)
+    (λ j _ b. paid plain r R p s c z e 8 g a.1 m j b) (idle plain r p s) (omega arith)
+paid plain r R (target kind value) s c z e k g a m i l =
     word_paid plain (length s.symbol) r i (k + purse g R) (k + 24 + R) e 1 s.symbol (backref_at s.symbol i)
     (λ t j. target_of s.deeper (λ level. target_read s.printed (level true kind value s.lifetimes) t j)) refl l (backref_placed s.symbol i)
-    (let y : R ≤ purse g R = purse_true g R a.0 in omega (arith, y))
+    (let y : R ≤ purse g R = purse_true (is_closed kind || not c) g R a.0 in omega (arith, y))
     (λ t j w _ b. target_of_paid plain (length s.symbol) r R j s.lifetimes t (k + 24) e kind value s.printed s.deeper m.deeper (target_within s.symbol i t j (length s.symbol) l w) b a.1)
-paid plain r R (lifetime x p) s e k g a m i l = then_paid plain (length s.symbol) r i (k + purse g R) (k + purse g R) e (lifetime_at s.printed s.lifetimes x (Some i)) (run p s)
-    (lifetime_paid plain (length s.symbol) r i (k + purse g R) s.printed s.lifetimes x l) (λ j _ b. paid plain r R p s e k g a m j b) (idle plain r p s)
-paid plain r R (binder x p) s e k g a m i l = let y = record s { lifetimes = s.lifetimes + x } in
-    binder_paid plain (length s.symbol) r i (k + purse g R) e s.printed x s.lifetimes (run p y (Some i)).tree (run p y (Some i)).place (paid plain r R p y e k g a (record { enough = m.enough; here = m.here; hidden = m.hidden; deeper = m.deeper }) i l)
-paid plain r R (opens p) s e k g a m i l = paid plain r R p s e k g a m i l
-paid plain r R (dyn_trait p) s e k g a m i l =
+paid plain r R (lifetime x p) s c z e k g a m i l = then_paid plain (length s.symbol) r i (k + purse g R) (k + purse g R) e (lifetime_at s.printed s.lifetimes x (Some i)) (run p s)
+    (lifetime_paid plain (length s.symbol) r i (k + purse g R) s.printed s.lifetimes x l) (λ j _ b. paid plain r R p s c z e k g a m j b) (idle plain r p s)
+paid plain r R (binder x p) s c z e k g a m i l = let y = record s { lifetimes = s.lifetimes + x } in
+    binder_paid plain (length s.symbol) r i (k + purse g R) e s.printed x s.lifetimes (run p y (Some i)).tree (run p y (Some i)).place (paid plain r R p y c z e k g a (record { enough = m.enough; here = m.here; hidden = m.hidden; deeper = m.deeper }) i l)
+paid plain r R (opens p) s c z e k g a m i l = paid plain r R p s c z e k g a.1 m i l
+paid plain r R (dyn_trait p) s c z e k g a m i l =
     let path : Outcome = unit_outcome s a_trait_path false (Some i) in
     then_paid plain (length s.symbol) r i (k + purse g R) 8 e path (bound_by (suc (length s.symbol)) s (run p s) path.is_open)
-    (more (length s.symbol) r i (k + purse g R) (start a_trait_path + R) 8 8 (stretches plain path.tree) path.place (let y : R ≤ purse g R = purse_true g R a.1 in omega (arith, a.0, y)) (omega arith) (m.here a_trait_path false s.lifetimes i l))
+    (more (length s.symbol) r i (k + purse g R) (start a_trait_path + R) 8 8 (stretches plain path.tree) path.place (let y : R ≤ purse g R = purse_true (is_below z a_trait_path) g R a.1 in omega (arith, a.0, y)) (omega arith) (m.here a_trait_path false s.lifetimes i l))
     (λ j _ b. let all : Outcome = bound_by (suc (length s.symbol)) s (run p s) path.is_open (Some j) in
     more (length s.symbol) r j 8 a.2.0 e e (stretches plain all.tree) all.place (omega (arith, a.2.1)) (omega arith)
-    (bound_paid plain (length s.symbol) r R a.2.0 e (suc (length s.symbol)) s (run p s) refl m.enough a.2.2 a.2.4 (λ z x. paid plain r R p s a.2.0 (a.2.0 + 55) true a.2.3 m z x) path.is_open j b)) (idle_closed plain r path.is_open)
-paid plain r R (bindings o p) s e k g a m i l =
+    (bound_paid plain (length s.symbol) r R a.2.0 e (suc (length s.symbol)) s (run p s) refl m.enough a.2.2 a.2.4 (λ v x. paid plain r R p s c z a.2.0 (a.2.0 + 55) true a.2.3 m v x) path.is_open j b)) (idle_closed plain r path.is_open)
+paid plain r R (bindings o p) s c z e k g a m i l =
     let all : Outcome = bound_by (suc (length s.symbol)) s (run p s) o (Some i) in
     more (length s.symbol) r i (k + purse g R) a.0 e e (stretches plain all.tree) all.place (omega (arith, a.1)) (omega arith)
-    (bound_paid plain (length s.symbol) r R a.0 e (suc (length s.symbol)) s (run p s) refl m.enough a.2 a.4 (λ z x. paid plain r R p s a.0 (a.0 + 55) true a.3 m z x) o i l)
+    (bound_paid plain (length s.symbol) r R a.0 e (suc (length s.symbol)) s (run p s) refl m.enough a.2 a.4 (λ v x. paid plain r R p s c z a.0 (a.0 + 55) true a.3 m v x) o i l)
 
 -- The levels.
 
-level_paid : (plain : Bool) (r R : ℕ) (symbol : List ℕ) (ls : List Level) (fl : Bool) → R ≤ r → ((kind : Kind) (value : Bool) → Cheap 8 (start kind) true (items kind value)) →
+level_paid : (plain : Bool) (r R : ℕ) (symbol : List ℕ) (ls : List Level) (fl : Bool) → R ≤ r →
     Deeper plain (length symbol) r fl R ls → Deeper plain (length symbol) 0 false 0 ls → LevelPays plain (length symbol) r R fl (level_of symbol ls)
 unfolding run level_of
-level_paid plain r R symbol ls fl b a d e kind value m i l =
+level_paid plain r R symbol ls fl b d e kind value m i l =
     let at : Level → Bool → ℕ → Surroundings = λ here f k. record { symbol = symbol; printed = f; here = here; deeper = ls; lifetimes = k } in
     let inner : Level = λ f k v o j. run (items k v) (at nowhere f o) (Some j) in
-    paid plain r R (items kind value) (at inner fl m) 8 (start kind) true (a kind value)
+    paid plain r R (items kind value) (at inner fl m) _ _ 8 (start kind) true (fits kind value)
     (record {
       enough = b;
-      here = λ k v o j q. paid plain r R (items k v) (at nowhere fl o) 8 (start k) true (a k v)
+      here = λ k v o j q. paid plain r R (items k v) (at nowhere fl o) _ _ 8 (start k) true (fits k v)
           (record { enough = b; here = λ k' v' o' j' q'. fault_ends plain (length symbol) r j' (start k' + R) 8; hidden = λ k' v' o' j' q'. fault_ends plain (length symbol) 0 j' (start k' + 0) 8; deeper = d }) j q;
-      hidden = λ k v o j q. paid plain 0 0 (items k v) (at nowhere false o) 8 (start k) true (a k v)
+      hidden = λ k v o j q. paid plain 0 0 (items k v) (at nowhere false o) _ _ 8 (start k) true (fits k v)
           (record { enough = omega arith; here = λ k' v' o' j' q'. fault_ends plain (length symbol) 0 j' (start k' + 0) 8; hidden = λ k' v' o' j' q'. fault_ends plain (length symbol) 0 j' (start k' + 0) 8; deeper = e }) j q;
       deeper = d;
     }) i l
@@ -364,39 +366,39 @@ level_paid plain r R symbol ls fl b a d e kind value m i l =
 abbrev pub money : ℕ → ℕ → ℕ
 money n m = (32 * (n + 1) + 2) * m
 
-levels_hidden : (plain : Bool) (symbol : List ℕ) (m : ℕ) → ((kind : Kind) (value : Bool) → Cheap 8 (start kind) true (items kind value)) → Deeper plain (length symbol) 0 false 0 (levels symbol m)
+levels_hidden : (plain : Bool) (symbol : List ℕ) (m : ℕ) → Deeper plain (length symbol) 0 false 0 (levels symbol m)
 unfolding levels
-levels_hidden plain symbol zero a = tt
-levels_hidden plain symbol (suc m) a =
-    let q : Deeper plain (length symbol) 0 false 0 (levels symbol m) = levels_hidden plain symbol m a in
-    let w : LevelPays plain (length symbol) 0 0 false (level_of symbol (levels symbol m)) = level_paid plain 0 0 symbol (levels symbol m) false (omega arith) a q q in
+levels_hidden plain symbol zero = tt
+levels_hidden plain symbol (suc m) =
+    let q : Deeper plain (length symbol) 0 false 0 (levels symbol m) = levels_hidden plain symbol m in
+    let w : LevelPays plain (length symbol) 0 0 false (level_of symbol (levels symbol m)) = level_paid plain 0 0 symbol (levels symbol m) false (omega arith) q q in
     (0, omega arith, (λ f. cc f), w, w, q)
 
-levels_paid : (plain : Bool) (r : ℕ) (symbol : List ℕ) (m : ℕ) → money (length symbol) m ≤ r → ((kind : Kind) (value : Bool) → Cheap 8 (start kind) true (items kind value)) → Deeper plain (length symbol) r true (money (length symbol) m) (levels symbol m)
+levels_paid : (plain : Bool) (r : ℕ) (symbol : List ℕ) (m : ℕ) → money (length symbol) m ≤ r → Deeper plain (length symbol) r true (money (length symbol) m) (levels symbol m)
 unfolding levels
-levels_paid plain r symbol zero b a = tt
-levels_paid plain r symbol (suc m) b a =
+levels_paid plain r symbol zero b = tt
+levels_paid plain r symbol (suc m) b =
     let c : money (length symbol) m ≤ r = omega (arith, b) in
-    let q : Deeper plain (length symbol) r true (money (length symbol) m) (levels symbol m) = levels_paid plain r symbol m c a in
-    let z : Deeper plain (length symbol) 0 false 0 (levels symbol m) = levels_hidden plain symbol m a in (
+    let q : Deeper plain (length symbol) r true (money (length symbol) m) (levels symbol m) = levels_paid plain r symbol m c in
+    let z : Deeper plain (length symbol) 0 false 0 (levels symbol m) = levels_hidden plain symbol m in (
       money (length symbol) m,
       omega arith,
       (λ _. omega arith),
-      level_paid plain r (money (length symbol) m) symbol (levels symbol m) true c a q z,
-      level_paid plain 0 0 symbol (levels symbol m) false (omega arith) a z z,
+      level_paid plain r (money (length symbol) m) symbol (levels symbol m) true c q z,
+      level_paid plain 0 0 symbol (levels symbol m) false (omega arith) z z,
       q,
     )
 
 -- to be printed
-pub read_paid : (plain : Bool) (r : ℕ) (symbol : List ℕ) (kind : Kind) (i d m : ℕ) (value : Bool) → money (length symbol) (max_depth - d) ≤ r → ((kind : Kind) (value : Bool) → Cheap 8 (start kind) true (items kind value)) → i ≤ length symbol →
+pub read_paid : (plain : Bool) (r : ℕ) (symbol : List ℕ) (kind : Kind) (i d m : ℕ) (value : Bool) → money (length symbol) (max_depth - d) ≤ r → i ≤ length symbol →
     Paid plain (length symbol) r i (start kind + money (length symbol) (max_depth - d)) 8 (read_at symbol true kind i d m value)
 unfolding read_at
-read_paid plain r symbol kind i d m value b a l =
-    level_paid plain r (money (length symbol) (max_depth - d)) symbol (levels symbol (max_depth - d)) true b a (levels_paid plain r symbol (max_depth - d) b a) (levels_hidden plain symbol (max_depth - d) a) kind value m i l
+read_paid plain r symbol kind i d m value b l =
+    level_paid plain r (money (length symbol) (max_depth - d)) symbol (levels symbol (max_depth - d)) true b (levels_paid plain r symbol (max_depth - d) b) (levels_hidden plain symbol (max_depth - d)) kind value m i l
 
 -- not to be printed
-pub spelling_paid : (plain : Bool) (symbol : List ℕ) (kind : Kind) (i d m : ℕ) (value : Bool) → ((kind : Kind) (value : Bool) → Cheap 8 (start kind) true (items kind value)) → i ≤ length symbol →
+pub spelling_paid : (plain : Bool) (symbol : List ℕ) (kind : Kind) (i d m : ℕ) (value : Bool) → i ≤ length symbol →
     Paid plain (length symbol) 0 i (start kind + 0) 8 (read_at symbol false kind i d m value)
 unfolding read_at
-spelling_paid plain symbol kind i d m value a l = let q : Deeper plain (length symbol) 0 false 0 (levels symbol (max_depth - d)) = levels_hidden plain symbol (max_depth - d) a in
-    level_paid plain 0 0 symbol (levels symbol (max_depth - d)) false (omega arith) a q q kind value m i l
+spelling_paid plain symbol kind i d m value l = let q : Deeper plain (length symbol) 0 false 0 (levels symbol (max_depth - d)) = levels_hidden plain symbol (max_depth - d) in
+    level_paid plain 0 0 symbol (levels symbol (max_depth - d)) false (omega arith) q q kind value m i l

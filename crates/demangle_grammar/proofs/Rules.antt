@@ -37,8 +37,14 @@ relaxed s h (dyn_ a c) = dyn_ (relaxed s h a) (relaxed s h c)
 relaxed s h (past_ e) = past_ e
 relaxed s h (bound_ x e w a c) = bound_ x e w (relaxed s h a) (relaxed s h c)
 
+pub itself : (r : Rule) → IsLaxer r r
+itself r = record { names = λ m k h. h; refers = λ h. h }
+
+pub simply : IsLaxer simple named
+simply = record { names = λ m k h. omega (arith, h); refers = λ h. absurd h }
+
 pub named_freely : {symbol : List ℕ} {d m : ℕ} {p : Items} {i j : ℕ} → Spells symbol named d m p i j → Spells symbol freely d m p i j
 named_freely a = relaxed freely (record { names = λ m k h. tt; refers = λ h. tt }) a
 
 pub simply_named : {symbol : List ℕ} {d m : ℕ} {p : Items} {i j : ℕ} → Spells symbol simple d m p i j → Spells symbol named d m p i j
-simply_named a = relaxed named (record { names = λ m k h. omega (arith, h); refers = λ h. absurd h }) a
+simply_named a = relaxed named simply a

@@ -1,15 +1,15 @@
 -- The bound on turns has no effect, where each reads a byte.
-use Rattle.std.specs.Prelude.{ℕ, zero, suc, ◌≤◌}
+use Rattle.std.specs.Prelude.{ℕ, zero, suc, ◌<◌, ◌≤◌}
 use Rattle.std.proofs.Common.{◌≡◌, Bool, true, false, List, length, Some, None, refl, ap, ◌+◌, ◌-◌, ◌*◌, sym, subst, arith}
 use Prim.Native.Char.{code}
 use Rattle.demangle_symbol.specs.Digits.{is_byte}
 use Rattle.demangle_symbol.specs.Words.{Name, Read, identifier_at}
 use Rattle.demangle_grammar.specs.Items.{Items}
 use Rattle.demangle_grammar.specs.Reading.{looked, node, Place, Outcome, Surroundings, run, turns, stands, behind, word, word_outcome, byte_choice, followed_by, angle_if_open, binding_separator, name_equals, bound_by}
-use Rattle.demangle_grammar.specs.Spelling.{Rule, Spells}
-use Rattle.demangle_grammar.proofs.Spelled.{rule, SpeltAt, SpeltBelow, spelt}
+use Rattle.demangle_grammar.proofs.Spelled.{SpeltAt, SpeltBelow, spelt}
 use Rattle.demangle_symbol.proofs.Counts.{Placed, placed, identifier_placed}
-use Rattle.demangle_grammar.proofs.Complete.{Moves, gains, grows}
+use Rattle.demangle_grammar.proofs.Account.{Fits}
+use Rattle.demangle_grammar.proofs.Complete.{grows}
 
 abbrev pub Within : List ℕ → ℕ → Place → Type 0
 Within symbol low None = Unit {0}
@@ -55,13 +55,13 @@ turns_on symbol f i a l e =
     (ap (λ o. behind (looked 1) (behind (node (f (Some i)).tree) o)) (more_turns (length symbol) (suc (length symbol)) symbol f a (f (Some i)).place
     (covers_next symbol (length symbol) i (f (Some i)).place w (omega arith)) (covers_next symbol (suc (length symbol)) i (f (Some i)).place w (omega arith))))
 
-spelt_within : (symbol : List ℕ) (r : Rule) (d o i : ℕ) (p : Items) (x : Place) → Moves p → i ≤ length symbol → ((j : ℕ) → x ≡ Some j → Spells symbol r d o p i j) → Within symbol (i + 1) x
-spelt_within symbol r d o i p None m l h = tt
-spelt_within symbol r d o i p (Some j) m l h = (gains m l (h j refl), (grows (h j refl) l).1)
-
--- items that move do
-pub advances : (p : Items) (s : Surroundings) (d : ℕ) → Moves p → SpeltAt s.symbol d s.here → SpeltBelow s.symbol d s.deeper → Advances s.symbol (run p s)
-advances p s d m c e i l = spelt_within s.symbol (rule s.printed) d s.lifetimes i p (run p s (Some i)).place m l (λ j x. spelt p s d c e i j x)
+-- items that end with more credit than they began with move
+pub advances : (p : Items) (s : Surroundings) (d : ℕ) (c : Bool) (r e k : ℕ) (g : Bool) → Fits c r e k g p → k < e → SpeltAt s.symbol d s.here → SpeltBelow s.symbol d s.deeper → Advances s.symbol (run p s)
+advances p s d c r e k g f m h b i l = go (run p s (Some i)).place refl
+  where
+    go : (x : Place) → (run p s (Some i)).place ≡ x → Within s.symbol (i + 1) x
+    go None q = tt
+    go (Some j) q = let y = grows c r e k g f (spelt p s d h b i j q) l in (omega (arith, m, y.0, y.2), y.1)
 
 -- what a binding is bound to ends no earlier than it begins
 abbrev pub Keeps : List ℕ → (Place → Outcome) → Type 0
@@ -109,11 +109,3 @@ bindings_on s f o i k a keeps e w =
     (subst (λ r. behind (looked 1) (behind (binding_separator o) (word_outcome (length s.symbol) (i + 1) (λ b m. behind (name_equals b) (followed_by (f m) (bound_by (length s.symbol) s f true))) r))
     ≡ behind (looked 1) (behind (binding_separator o) (behind (looked (4 * (k - (i + 1) + 1))) (behind (name_equals a) (followed_by (f (Some k)) (all_bindings s f true)))))) (sym w)
     (ap (λ z. behind (looked 1) (behind (binding_separator o) (behind (looked (4 * (k - (i + 1) + 1))) (behind (name_equals a) (behind (node (f (Some k)).tree) z))))) same))
-
--- items end no earlier than they begin
-pub keeps : (p : Items) (s : Surroundings) (d : ℕ) → SpeltAt s.symbol d s.here → SpeltBelow s.symbol d s.deeper → Keeps s.symbol (run p s)
-keeps p s d c e i l = go (run p s (Some i)).place refl
-  where
-    go : (x : Place) → (run p s (Some i)).place ≡ x → Within s.symbol i x
-    go None h = tt
-    go (Some j) h = grows (spelt p s d c e i j h) l

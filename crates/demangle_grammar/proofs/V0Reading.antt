@@ -9,6 +9,8 @@ use Rattle.demangle_grammar.specs.Reading.{goes_on_at, suffix_place}
 use Rattle.demangle_grammar.specs.Spelling.{IsPaths}
 use Rattle.demangle_grammar.specs.V0.{IsV0Prefix, IsV0, v0_inner, v0_in, v0_of}
 use Rattle.demangle_grammar.proofs.Accepted.{accepted, all_accepted}
+use Rattle.demangle_grammar.proofs.TableCost.{fits}
+use Rattle.demangle_grammar.specs.Items.{a_path}
 use Rattle.demangle_grammar.proofs.Complete.{grows}
 use Rattle.demangle_symbol.proofs.Prefixes.{behind_is}
 
@@ -139,5 +141,5 @@ pub suffix_within : (inner : List ℕ) (k : ℕ) → Some k ≡ suffix_place inn
 suffix_within inner k e = within (accepted inner k (sym e))
   where
     within : IsPaths inner k → k ≤ length inner
-    within (j, p, inl q) = let r : j ≤ length inner = (grows p (omega arith)).1 in omega (arith, r, q.1)
-    within (j, p, inr q) = (grows q.1 ((grows p (omega arith)).1)).1
+    within (j, p, inl q) = let r : j ≤ length inner = (grows true 0 8 0 true (fits a_path true) p (omega arith)).1 in omega (arith, r, q.1)
+    within (j, p, inr q) = (grows true 0 8 0 true (fits a_path true) q.1 ((grows true 0 8 0 true (fits a_path true) p (omega arith)).1)).1
