@@ -1,5 +1,5 @@
 -- What a reading pays for its looks: the account of each item.
-use Rattle.std.specs.Prelude.{ℕ, zero, suc, ◌≤◌, ◌*◌, ◌||◌, ◌&&◌, not, ◌==◌, nat_le, nat_lt, IsTrue, codes}
+use Rattle.std.specs.Prelude.{ℕ, zero, suc, ◌≤◌, ◌*◌, ◌||◌, ◌&&◌, if◌then◌else◌, ◌==◌, nat_le, nat_lt, IsTrue, codes}
 use Rattle.std.proofs.Common.{◌≡◌, Bool, true, false, cond, List, [], ◌∷◌, length, Some, None, refl, sym, ◌+◌, ◌-◌, subst, arith}
 use Rattle.demangle_symbol.specs.Words.{Name}
 use Rattle.demangle_grammar.specs.Items.{Text, Kind, a_path, a_type, a_constant, a_pattern, a_trait_path, Items, done, invalid, say, say_plain, byte, namespace, integer, optional, identifier, nibbles, peek, next, sound, until_end, raise, unit, child, skip, target, lifetime, binder, opens, dyn_trait, bindings}
@@ -61,12 +61,16 @@ Fits c r e k g (raise p) = Fits c 2 e k g p
 Fits c r e k g (unit p q) = (l : ℕ) × Fits c r l k g p × Fits c r e l false q
 Fits c r e k g (child kind value p) = (start kind ≤ k) × IsTrue (is_below r kind && g) × Fits c r e 8 false p
 Fits c r e k g (skip p) = IsTrue (is_below r a_path) × Fits c r e 8 g p
-Fits c r e k g (target kind value) = IsTrue ((is_closed kind || not c) && g) × (e ≤ k + 24)
+Fits c r e k g (target kind value) = IsTrue ((if c then is_closed kind else true) && g) × (e ≤ k + 24)
 Fits c r e k g (lifetime n p) = Fits c r e k g p
 Fits c r e k g (binder n p) = Fits c r e k g p
 Fits c r e k g (opens p) = (c ≡ false) × Fits c r e k g p
 Fits c r e k g (dyn_trait p) = (start a_trait_path ≤ k) × IsTrue (is_below r a_trait_path && g) × ((l : ℕ) × (l ≤ 8) × (1 ≤ l) × Fits c r l (l + 55) true p × (e ≤ l - 1))
 Fits c r e k g (bindings o p) = (l : ℕ) × (l ≤ k) × (1 ≤ l) × Fits c r l (l + 55) true p × (e ≤ l - 1)
+
+pub first : (a b : Bool) → IsTrue (a && b) → IsTrue a
+first true b h = refl
+first false b h = h
 
 -- From place i on, of n bytes, the stretches are paid for by the bytes that were read and `from`, and `to` is left.
 abbrev pub Ends : (n r i from to : ℕ) → List StretchCost → Place → Type 0

@@ -1,5 +1,5 @@
 -- What is spelled so is read; and what is spelled without a reference, printed or not, hands over no stop.
-use Rattle.std.specs.Prelude.{ℕ, ◌&&◌, IsTrue, ◌*◌, zero, suc, ◌<◌, ◌≤◌, ◌==◌, nat_le, codes}
+use Rattle.std.specs.Prelude.{ℕ, IsTrue, ◌*◌, zero, suc, ◌<◌, ◌≤◌, ◌==◌, nat_le, codes}
 use Prim.Native.Char.{code}
 use Rattle.std.proofs.Common.{◌≡◌, Bool, true, false, cond, List, [], ◌∷◌, length, Option, Some, refl, sym, ◌+◌, ◌-◌, subst, arith}
 use Rattle.std.proofs.lemmas.Bool.{le-leb, ltb-true}
@@ -12,7 +12,7 @@ use Rattle.demangle_grammar.specs.Reading.{Tree, nothing, IsWhole, binder_at, ne
 use Rattle.demangle_grammar.specs.Spelling.{Rule, freely, MayName, MayRefer, Spells, end_, say_, plain_, byte_, namespace_, integer_, optional_, identifier_, nibbles_, peek_, there, other, sound_, over_, turn_, raise_, unit_, child_, skip_, target_, lifetime_, binder_, opens_, dyn_, past_, bound_}
 use Rattle.demangle_grammar.proofs.Spelled.{rule}
 use Rattle.demangle_grammar.proofs.Rules.{IsLaxer, itself}
-use Rattle.demangle_grammar.proofs.Account.{rank, is_below, Fits}
+use Rattle.demangle_grammar.proofs.Account.{rank, is_below, Fits, first}
 use Rattle.demangle_grammar.proofs.TableCost.{fits}
 use Rattle.demangle_symbol.proofs.Digits.{is_byte_within}
 use Rattle.demangle_symbol.proofs.Counts.{Placed, placed, byte_placed, namespace_placed, integer_placed, optional_placed, backref_placed, identifier_placed, nibbles_placed}
@@ -121,8 +121,8 @@ module _ (w : Rule) (x : Bool) where
   raised_reads symbol d (y ∷ ls) f i j m l h = h y ls m.0 m.1
 
   -- the turns end, and it goes on from there
-  turns_read : (n : ℕ) (symbol : List ℕ) (d m : ℕ) (p q : Items) (f : Place → Outcome) (c : Bool) (r l : ℕ) → 1 ≤ l → Fits c r l (l - 1) false p → IsRead symbol w x d m p (λ i. f (Some i)) → (i j : ℕ) → suc (length symbol) ≤ n + i → i ≤ length symbol → Spells symbol w d m (until_end p q) i j
-      → (k : ℕ) × Reads w x k (turns n symbol f (Some i)) × (k ≤ length symbol) × Spells symbol w d m q k j
+  turns_read : (n : ℕ) (symbol : List ℕ) (d m : ℕ) (p q : Items) (f : Place → Outcome) (c : Bool) (r l : ℕ) → 1 ≤ l → Fits c r l (l - 1) false p → IsRead symbol w x d m p (λ i. f (Some i)) → (i j : ℕ) → suc (length symbol) ≤ n + i → i ≤ length symbol
+      → Spells symbol w d m (until_end p q) i j → (k : ℕ) × Reads w x k (turns n symbol f (Some i)) × (k ≤ length symbol) × Spells symbol w d m q k j
   unfolding turns
   turns_read zero symbol d m p q f c r l o u h i j z b a = absurd (omega (arith, z, b))
   turns_read (suc n) symbol d m p q f c r l o u h i j z b (over_ e a) = (i + 1, there_reads (is_byte symbol i (code "E")) stands (λ k. followed_by (f k) (turns n symbol f)) i (i + 1) e (refl, λ _. tt), there_placed symbol (code "E") i e, a)
@@ -160,10 +160,6 @@ lifetime_reads w true m k i h = go (k == 0) (nat_le k m) (le-leb k m h)
     go false true p = (refl, λ _. pieces_whole (letter_of (m - k)) nothing tt)
     go false false p = cc p
 
-begun : (a g : Bool) → IsTrue (a && g) → IsTrue a
-begun true g h = refl
-begun false g h = h
-
 pub reads : {w : Rule} (p : Items) {r : ℕ} (s : Surroundings) (d : ℕ) (c : Bool) (e k : ℕ) (g : Bool) → Fits c r e k g p → Knows w r s d → (i j : ℕ) → i ≤ length s.symbol → Spells s.symbol w d s.lifetimes p i j → Reads w s.printed j (run p s (Some i))
 unfolding run
 reads done s d c e k g a n i j z end_ = (refl, λ _. tt)
@@ -188,7 +184,7 @@ reads {w} (raise p) s d c e k g a n i j z (raise_ u x) = raised_reads w s.printe
 reads {w} (unit p q) s d c e k g a n i j z (unit_ {k = l} y x) =
     goes_on w s.printed (run q s) (run p s (Some i)) l j (reads p s d _ _ _ _ a.1 n i l z y) (reads q s d _ _ _ _ a.2 n l j (grows _ _ _ _ _ a.1 y z).1 x)
 reads {w} (child kind value p) {r} s d c e k g a n i j z (child_ {k = l} y x) =
-    goes_on w s.printed (run p s) (unit_outcome s kind value (Some i)) l j (n.here w s.printed n.laxer kind value s.lifetimes (begun (is_below r kind) g a.1) i l z y) (reads p s d _ _ _ _ a.2 n l j (grows _ _ _ _ _ (fits kind value) y z).1 x)
+    goes_on w s.printed (run p s) (unit_outcome s kind value (Some i)) l j (n.here w s.printed n.laxer kind value s.lifetimes (first (is_below r kind) g a.1) i l z y) (reads p s d _ _ _ _ a.2 n l j (grows _ _ _ _ _ (fits kind value) y z).1 x)
 reads {w} (skip p) s d c e k g a n i j z (skip_ {k = l} y x) =
     subst (λ v. Reads w s.printed j (run p s v)) (sym (n.here freely false (itself freely) a_path false s.lifetimes a.0 i l z y).0) (reads p s d _ _ _ _ a.1 n l j (grows true 0 8 0 true (fits a_path false) y z).1 x)
 reads {w} (target kind value) s d c e k g a n i j z (target_ v u y l) = word_reads w s.printed s.symbol (i + 1) i _ (λ t k. target_of s.deeper (λ level. target_read s.printed (level true kind value s.lifetimes) t k)) _ (backref_placed s.symbol i) v _ y
@@ -199,7 +195,7 @@ reads (binder t p) s d c e k g a n i j z (binder_ x) =
 reads (opens p) s d c e k g a n i j z (opens_ x) = reads p s d _ _ _ _ a.1 n i j z x
 reads {w} (dyn_trait p) {r} s d c e k g a n i j z (dyn_ {k = l} y x) =
     let path : Outcome = unit_outcome s a_trait_path false (Some i) in
-    goes_on w s.printed (bound_by (suc (length s.symbol)) s (run p s) path.is_open) path l j (n.here w s.printed n.laxer a_trait_path false s.lifetimes (begun (is_below r a_trait_path) g a.1) i l z y)
+    goes_on w s.printed (bound_by (suc (length s.symbol)) s (run p s) path.is_open) path l j (n.here w s.printed n.laxer a_trait_path false s.lifetimes (first (is_below r a_trait_path) g a.1) i l z y)
     (bound_read w s.printed (suc (length s.symbol)) s d s.lifetimes p (run p s) _ _ _ _ _ a.2.3 (reads p s d _ _ _ _ a.2.3 n) path.is_open false l j (omega arith) (grows false 1 8 2 true (fits a_trait_path false) y z).1 x)
 reads {w} (bindings o p) s d c e k g a n i j z x = bound_read w s.printed (suc (length s.symbol)) s d s.lifetimes p (run p s) _ _ _ _ _ a.3 (reads p s d _ _ _ _ a.3 n) o o i j (omega arith) z x
 

@@ -1,5 +1,5 @@
 -- Each item pays for its looks.
-use Rattle.std.specs.Prelude.{ℕ, zero, suc, ◌≤◌, ◌<◌, ◌*◌, ◌||◌, ◌&&◌, not, ◌==◌, nat_lt, nat_le, IsTrue, codes, slice_get}
+use Rattle.std.specs.Prelude.{ℕ, zero, suc, ◌≤◌, ◌<◌, ◌*◌, ◌||◌, ◌&&◌, ◌==◌, nat_lt, nat_le, IsTrue, codes, slice_get}
 use Rattle.std.proofs.Common.{◌≡◌, Bool, true, false, cond, List, [], ◌∷◌, ◌++◌, length, Option, Some, None, refl, sym, ◌+◌, ◌-◌, subst, arith}
 use Rattle.std.proofs.Math.Nat.{le-mul_of_pos_right}
 use Rattle.std.proofs.lemmas.Bool.{ltb-true}
@@ -325,7 +325,7 @@ paid plain r R (skip p) s c z e k g a m i l = hushed_paid plain (length s.symbol
 paid plain r R (target kind value) s c z e k g a m i l =
     word_paid plain (length s.symbol) r i (k + purse g R) (k + 24 + R) e 1 s.symbol (backref_at s.symbol i)
     (λ t j. target_of s.deeper (λ level. target_read s.printed (level true kind value s.lifetimes) t j)) refl l (backref_placed s.symbol i)
-    (let y : R ≤ purse g R = purse_true (is_closed kind || not c) g R a.0 in omega (arith, y))
+    (let y : R ≤ purse g R = purse_true (cond c (is_closed kind) true) g R a.0 in omega (arith, y))
     (λ t j w _ b. target_of_paid plain (length s.symbol) r R j s.lifetimes t (k + 24) e kind value s.printed s.deeper m.deeper (target_within s.symbol i t j (length s.symbol) l w) b a.1)
 paid plain r R (lifetime x p) s c z e k g a m i l = then_paid plain (length s.symbol) r i (k + purse g R) (k + purse g R) e (lifetime_at s.printed s.lifetimes x (Some i)) (run p s)
     (lifetime_paid plain (length s.symbol) r i (k + purse g R) s.printed s.lifetimes x l) (λ j _ b. paid plain r R p s c z e k g a m j b) (idle plain r p s)

@@ -1,5 +1,5 @@
 -- Each row of the table pays for its looks.
-use Rattle.std.specs.Prelude.{ℕ, suc, not, ◌&&◌, ◌≤◌, ◌||◌, ◌==◌, IsTrue, codes}
+use Rattle.std.specs.Prelude.{ℕ, suc, ◌&&◌, ◌≤◌, ◌||◌, ◌==◌, IsTrue, codes}
 use Rattle.std.proofs.Common.{◌≡◌, Bool, true, false, cond, List, [], ◌∷◌, Option, Some, None, refl, ◌+◌, ◌-◌, arith}
 use Prim.Native.Char.{code}
 use Prim.Native.String.{String}
@@ -45,7 +45,7 @@ cheaper z r (raise p) e e' k k' g g' b c d x = cheaper z 2 p e e' k k' g g' b c 
 cheaper z r (unit p q) e e' k k' g g' b c d x = (x.0, cheaper z r p x.0 x.0 k k' g g' (omega arith) c d x.1, cheaper z r q e e' x.0 x.0 false false b (omega arith) (λ z. z) x.2)
 cheaper z r (child kind value p) e e' k k' g g' b c d x = (omega (arith, c, x.0), and_true (is_below r kind) g g' d x.1, cheaper z r p e e' 8 8 false false b (omega arith) (λ z. z) x.2)
 cheaper z r (skip p) e e' k k' g g' b c d x = (x.0, cheaper z r p e e' 8 8 g g' b (omega arith) d x.1)
-cheaper z r (target kind value) e e' k k' g g' b c d x = (and_true (is_closed kind || not z) g g' d x.0, omega (arith, b, c, x.1))
+cheaper z r (target kind value) e e' k k' g g' b c d x = (and_true (cond z (is_closed kind) true) g g' d x.0, omega (arith, b, c, x.1))
 cheaper z r (lifetime n p) e e' k k' g g' b c d x = cheaper z r p e e' k k' g g' b c d x
 cheaper z r (binder n p) e e' k k' g g' b c d x = cheaper z r p e e' k k' g g' b c d x
 cheaper z r (opens p) e e' k k' g g' b c d x = (x.0, cheaper z r p e e' k k' g g' b c d x.1)
