@@ -66,7 +66,7 @@ Fits c r e k g (lifetime n p) = Fits c r e k g p
 Fits c r e k g (binder n p) = Fits c r e k g p
 Fits c r e k g (opens p) = (c ≡ false) × Fits c r e k g p
 Fits c r e k g (dyn_trait p) = (start a_trait_path ≤ k) × IsTrue (is_below r a_trait_path && g) × ((l : ℕ) × (l ≤ 8) × (1 ≤ l) × Fits c r l (l + 55) true p × (e ≤ l - 1))
-Fits c r e k g (bindings o p) = (l : ℕ) × (l ≤ k) × (1 ≤ l) × Fits c r l (l + 55) true p × (e ≤ l - 1)
+Fits c r e k g (bindings o p) = IsTrue (is_below r a_trait_path) × (l : ℕ) × (l ≤ k) × (1 ≤ l) × Fits c r l (l + 55) true p × (e ≤ l - 1)
 
 pub first : (a b : Bool) → IsTrue (a && b) → IsTrue a
 first true b h = refl

@@ -52,10 +52,10 @@ grows {symbol} {i = i} c r e k g f (target_ v u w l) b = after_word symbol i _ _
 grows c r e k g f (lifetime_ u a) b = grows _ _ _ _ _ f a b
 grows c r e k g f (binder_ a) b = grows _ _ _ _ _ f a b
 grows c r e k g f (opens_ a) b = grows _ _ _ _ _ f.1 a b
-grows c r e k g f (dyn_ a n) b = let x = grows false 1 8 2 true (fits a_trait_path false) a b in let y = grows c r e 8 g f.2 n x.1 in (omega (arith, x.0, y.0), y.1, omega (arith, f.0, x.0, x.2, y.0, y.2))
-grows c r e k g f (past_ u) b = (omega arith, b, omega (arith, f.1, f.4))
+grows c r e k g f (dyn_ a n) b = let x = grows false 1 8 2 true (fits a_trait_path false) a b in let y = grows c r e 8 g (first (is_below r a_trait_path) g f.1, f.2.0, f.2.1, f.2.2, f.2.3, f.2.4) n x.1 in (omega (arith, x.0, y.0), y.1, omega (arith, f.0, x.0, x.2, y.0, y.2))
+grows c r e k g f (past_ u) b = (omega arith, b, omega (arith, f.2, f.5))
 grows {symbol} {i = i} c r e k g f (bound_ {k = n} x u w a o) b = let q : (i + 1 + 1 ≤ n) × (n ≤ length symbol) = placed (i + 1 + 1) symbol (identifier_at symbol (i + 1)) (identifier_placed symbol (i + 1)) x n w in
-    let y = grows _ _ _ _ _ f.3 a q.1 in let z = grows c r e k g f o y.1 in (omega (arith, q.0, y.0, z.0), z.1, omega (arith, q.0, y.0, z.0, z.2))
+    let y = grows _ _ _ _ _ f.4 a q.1 in let z = grows c r e k g f o y.1 in (omega (arith, q.0, y.0, z.0), z.1, omega (arith, q.0, y.0, z.0, z.2))
 
 -- The reading ends at j, and hands over no stop where no reference is followed.
 abbrev pub Reads : Rule → Bool → ℕ → Outcome → Type 0
@@ -197,18 +197,18 @@ reads {w} (dyn_trait p) {r} s d c e k g a n i j z (dyn_ {k = l} y x) =
     let path : Outcome = unit_outcome s a_trait_path false (Some i) in
     goes_on w s.printed (bound_by (suc (length s.symbol)) s (run p s) path.is_open) path l j (n.here w s.printed n.laxer a_trait_path false s.lifetimes (first (is_below r a_trait_path) g a.1) i l z y)
     (bound_read w s.printed (suc (length s.symbol)) s d s.lifetimes p (run p s) _ _ _ _ _ a.2.3 (reads p s d _ _ _ _ a.2.3 n) path.is_open false l j (omega arith) (grows false 1 8 2 true (fits a_trait_path false) y z).1 x)
-reads {w} (bindings o p) s d c e k g a n i j z x = bound_read w s.printed (suc (length s.symbol)) s d s.lifetimes p (run p s) _ _ _ _ _ a.3 (reads p s d _ _ _ _ a.3 n) o o i j (omega arith) z x
+reads {w} (bindings o p) s d c e k g a n i j z x = bound_read w s.printed (suc (length s.symbol)) s d s.lifetimes p (run p s) _ _ _ _ _ a.4 (reads p s d _ _ _ _ a.4 n) o o i j (omega arith) z x
 
 -- A pattern and a dyn trait path alone begin units before the depth is raised, and neither begins one of these two.
 
-all_below : (kind : Kind) → IsTrue (is_below 2 kind)
+pub all_below : (kind : Kind) → IsTrue (is_below 2 kind)
 all_below a_path = refl
 all_below a_type = refl
 all_below a_constant = refl
 all_below a_pattern = refl
 all_below a_trait_path = refl
 
-below_rank : (r : ℕ) (kind : Kind) → IsTrue (is_below r kind) → rank kind < r
+pub below_rank : (r : ℕ) (kind : Kind) → IsTrue (is_below r kind) → rank kind < r
 below_rank zero kind h = absurd (cc h)
 below_rank (suc r) a_path h = omega arith
 below_rank (suc r) a_type h = omega arith
@@ -216,7 +216,7 @@ below_rank (suc r) a_constant h = omega arith
 below_rank (suc r) a_pattern h = let l : 0 < r = ltb-true 0 r h in omega (arith, l)
 below_rank (suc r) a_trait_path h = let l : 0 < r = ltb-true 0 r h in omega (arith, l)
 
-lowest : (kind k l : Kind) → IsTrue (is_below (rank kind) k) → IsTrue (is_below (rank k) l) → ⊥
+pub lowest : (kind k l : Kind) → IsTrue (is_below (rank kind) k) → IsTrue (is_below (rank k) l) → ⊥
 lowest kind k l h e = let x = below_rank (rank kind) k h in let y = below_rank (rank k) l e in let z = below_rank 2 kind (all_below kind) in omega (arith, x, y, z)
 
 level_reads : (symbol : List ℕ) (d : ℕ) (ls : List Level) → ReadBelow symbol d ls → ReadAt 2 symbol d (level_of symbol ls)

@@ -6,7 +6,7 @@ use Prim.Native.Char.{code}
 use Prim.Native.String.{String}
 use Rattle.demangle_symbol.specs.Digits.{is_byte}
 use Rattle.demangle_grammar.specs.Items.{Text, Kind, a_type, a_constant, Items, done, child, integer, lifetime}
-use Rattle.demangle_grammar.specs.Table.{at_end, more, list, tuple, says, argument}
+use Rattle.demangle_grammar.specs.Table.{at_end, more, says, argument}
 use Rattle.demangle_grammar.specs.Reading.{Place, Outcome, Surroundings, followed_by, unit_outcome, run, turns}
 use Rattle.demangle_grammar.specs.Events.{Event, allows, shown_if, events, Heard, of, and_then, with_looks, with_texts, around}
 use Rattle.demangle_grammar.proofs.Elements.{Element, element_on}
@@ -53,22 +53,6 @@ module _ (plain out : Bool) (s : Surroundings) where
   pub more_over : (text : String) (element p : Items) (i : ℕ) → is_byte s.symbol i (code "E") ≡ true → of plain out (run (more text element p) s (Some i)) ≡ with_looks (1 ∷ []) (of plain out (run p s (Some (i + 1))))
   unfolding run turns
   more_over text element p i e = rw e refl
-
-  -- one element of a list, and what follows
-  pub first_on : (text : String) (element p : Items) (i : ℕ) → is_byte s.symbol i (code "E") ≡ false
-      → of plain out (run (list text element p) s (Some i)) ≡ with_looks (1 ∷ []) (followed (of plain out (run element s (Some i))) (λ j. of plain out (run (more text element p) s j)))
-  unfolding run
-  first_on text element p i e = rw e refl
-
-  -- of a tuple
-  pub tuple_on : (element p : Items) (i : ℕ) → is_byte s.symbol i (code "E") ≡ false
-      → of plain out (run (tuple element p) s (Some i)) ≡ with_looks (1 ∷ []) (followed (of plain out (run element s (Some i))) (λ j. of plain out (run (second element p) s j)))
-  unfolding run
-  tuple_on element p i e = rw e refl
-
-  pub second_over : (element p : Items) (i : ℕ) → is_byte s.symbol i (code "E") ≡ true → of plain out (run (second element p) s (Some i)) ≡ with_looks (1 ∷ []) (with_texts out (codes "," ∷ []) (of plain out (run p s (Some (i + 1)))))
-  unfolding run
-  second_over element p i e = rw e refl
 
   -- Arguments.
 

@@ -341,8 +341,8 @@ paid plain r R (dyn_trait p) s c z e k g a m i l =
     (bound_paid plain (length s.symbol) r R a.2.0 e (suc (length s.symbol)) s (run p s) refl m.enough a.2.2 a.2.4 (λ v x. paid plain r R p s c z a.2.0 (a.2.0 + 55) true a.2.3 m v x) path.is_open j b)) (idle_closed plain r path.is_open)
 paid plain r R (bindings o p) s c z e k g a m i l =
     let all : Outcome = bound_by (suc (length s.symbol)) s (run p s) o (Some i) in
-    more (length s.symbol) r i (k + purse g R) a.0 e e (stretches plain all.tree) all.place (omega (arith, a.1)) (omega arith)
-    (bound_paid plain (length s.symbol) r R a.0 e (suc (length s.symbol)) s (run p s) refl m.enough a.2 a.4 (λ v x. paid plain r R p s c z a.0 (a.0 + 55) true a.3 m v x) o i l)
+    more (length s.symbol) r i (k + purse g R) a.1 e e (stretches plain all.tree) all.place (omega (arith, a.2)) (omega arith)
+    (bound_paid plain (length s.symbol) r R a.1 e (suc (length s.symbol)) s (run p s) refl m.enough a.3 a.5 (λ v x. paid plain r R p s c z a.1 (a.1 + 55) true a.4 m v x) o i l)
 
 -- The levels.
 

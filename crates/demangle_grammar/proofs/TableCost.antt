@@ -50,7 +50,7 @@ cheaper z r (lifetime n p) e e' k k' g g' b c d x = cheaper z r p e e' k k' g g'
 cheaper z r (binder n p) e e' k k' g g' b c d x = cheaper z r p e e' k k' g g' b c d x
 cheaper z r (opens p) e e' k k' g g' b c d x = (x.0, cheaper z r p e e' k k' g g' b c d x.1)
 cheaper z r (dyn_trait p) e e' k k' g g' b c d x = (omega (arith, c, x.0), and_true (is_below r a_trait_path) g g' d x.1, (x.2.0, x.2.1, x.2.2, x.2.3, omega (arith, b, x.2.4)))
-cheaper z r (bindings o p) e e' k k' g g' b c d x = (x.0, omega (arith, c, x.1), x.2, x.3, omega (arith, b, x.4))
+cheaper z r (bindings o p) e e' k k' g g' b c d x = (x.0, x.1, omega (arith, c, x.2), x.3, x.4, omega (arith, b, x.5))
 
 -- Choices.
 
