@@ -96,10 +96,10 @@ module _ (plain : Bool) where
   alike_opened true x = refl
   alike_opened false x = refl
 
-  alike_name : (b : List ℕ) (here : Level) (deeper : List Level) (m n : ℕ) (f g : Name → Place → Outcome) → ((a : Name) (x : Place) → Alike plain (f a x) (g a x)) → (j : Place)
-      → Alike plain (word (silent b here deeper m) j identifier_at f) (word (silent b here deeper n) j identifier_at g)
-  alike_name b here deeper m n f g h None = refl
-  alike_name b here deeper m n f g h (Some j) = alike_resumed (length b) j f g (identifier_at b j) (λ a x. h a (Some x))
+  alike_word : {A : Type 0} (b : List ℕ) (here : Level) (deeper : List Level) (m n : ℕ) (reads : List ℕ → ℕ → Read A) (f g : A → Place → Outcome) → ((v : A) (x : Place) → Alike plain (f v x) (g v x)) → (j : Place)
+      → Alike plain (word (silent b here deeper m) j reads f) (word (silent b here deeper n) j reads g)
+  alike_word b here deeper m n reads f g h None = refl
+  alike_word b here deeper m n reads f g h (Some j) = alike_resumed (length b) j f g (reads b j) (λ v x. h v (Some x))
 
   alike_bound : (k : ℕ) (b : List ℕ) (here : Level) (deeper : List Level) (m n : ℕ) (f g : Place → Outcome) → ((x : Place) → Alike plain (f x) (g x)) → (o : Bool) (i : Place) → Alike plain (bound_by k (silent b here deeper m) f o i) (bound_by k (silent b here deeper n) g o i)
   unfolding bound_by
@@ -113,7 +113,7 @@ module _ (plain : Bool) where
       alike_forked (is_byte b i (code "p"))
       (λ j. behind (binding_separator o) (word s j identifier_at one)) (λ j. behind (binding_separator o) (word t j identifier_at other)) (angle_if_open o) (angle_if_open o) (Some i)
       (λ j. alike_opened o (word s j identifier_at one)
-      ∙ (alike_name b here deeper m n one other
+      ∙ (alike_word b here deeper m n identifier_at one other
       (λ a x. alike_named a (followed_by (f x) (bound_by k s f true))
       ∙ (alike_followed (f x) (g x) (bound_by k s f true) (bound_by k t g true) (h x) (alike_bound k b here deeper m n f g h true)
       ∙ sym (alike_named a (followed_by (g x) (bound_by k t g true))))) j
@@ -131,18 +131,12 @@ module _ (plain : Bool) where
   muted invalid b here deeper m n h a i = refl
   muted (say t p) b here deeper m n h a i = muted p b here deeper m n h a i
   muted (say_plain t p) b here deeper m n h a i = let o = run p (silent b here deeper m) i in ap (λ xs. record { events = xs; place = o.place; is_open = o.is_open }) (said_plain plain t (events plain false o.tree)) ∙ muted p b here deeper m n h a i
-  muted (byte f) b here deeper m n h a None = refl
-  muted (byte f) b here deeper m n h a (Some i) = alike_resumed (length b) i (λ v. run (f v) (silent b here deeper m)) (λ v. run (mute (f v)) (silent b here deeper n)) (byte_at b i) (λ v j. muted (f v) b here deeper m n h a (Some j))
-  muted (namespace f) b here deeper m n h a None = refl
-  muted (namespace f) b here deeper m n h a (Some i) = alike_resumed (length b) i (λ v. run (f v) (silent b here deeper m)) (λ v. run (mute (f v)) (silent b here deeper n)) (namespace_at b i) (λ v j. muted (f v) b here deeper m n h a (Some j))
-  muted (integer f) b here deeper m n h a None = refl
-  muted (integer f) b here deeper m n h a (Some i) = alike_resumed (length b) i (λ v. run (f v) (silent b here deeper m)) (λ v. run (mute (f v)) (silent b here deeper n)) (integer_at b i) (λ v j. muted (f v) b here deeper m n h a (Some j))
-  muted (optional tag f) b here deeper m n h a None = refl
-  muted (optional tag f) b here deeper m n h a (Some i) = alike_resumed (length b) i (λ v. run (f v) (silent b here deeper m)) (λ v. run (mute (f v)) (silent b here deeper n)) (optional_at tag b i) (λ v j. muted (f v) b here deeper m n h a (Some j))
-  muted (identifier f) b here deeper m n h a None = refl
-  muted (identifier f) b here deeper m n h a (Some i) = alike_resumed (length b) i (λ v. run (f v) (silent b here deeper m)) (λ v. run (mute (f v)) (silent b here deeper n)) (identifier_at b i) (λ v j. muted (f v) b here deeper m n h a (Some j))
-  muted (nibbles f) b here deeper m n h a None = refl
-  muted (nibbles f) b here deeper m n h a (Some i) = alike_resumed (length b) i (λ v. run (f v) (silent b here deeper m)) (λ v. run (mute (f v)) (silent b here deeper n)) (nibbles_at b i) (λ v j. muted (f v) b here deeper m n h a (Some j))
+  muted (byte f) b here deeper m n h a i = alike_word b here deeper m n byte_at (λ v. run (f v) (silent b here deeper m)) (λ v. run (mute (f v)) (silent b here deeper n)) (λ v. muted (f v) b here deeper m n h a) i
+  muted (namespace f) b here deeper m n h a i = alike_word b here deeper m n namespace_at (λ v. run (f v) (silent b here deeper m)) (λ v. run (mute (f v)) (silent b here deeper n)) (λ v. muted (f v) b here deeper m n h a) i
+  muted (integer f) b here deeper m n h a i = alike_word b here deeper m n integer_at (λ v. run (f v) (silent b here deeper m)) (λ v. run (mute (f v)) (silent b here deeper n)) (λ v. muted (f v) b here deeper m n h a) i
+  muted (optional tag f) b here deeper m n h a i = alike_word b here deeper m n (optional_at tag) (λ v. run (f v) (silent b here deeper m)) (λ v. run (mute (f v)) (silent b here deeper n)) (λ v. muted (f v) b here deeper m n h a) i
+  muted (identifier f) b here deeper m n h a i = alike_word b here deeper m n identifier_at (λ v. run (f v) (silent b here deeper m)) (λ v. run (mute (f v)) (silent b here deeper n)) (λ v. muted (f v) b here deeper m n h a) i
+  muted (nibbles f) b here deeper m n h a i = alike_word b here deeper m n nibbles_at (λ v. run (f v) (silent b here deeper m)) (λ v. run (mute (f v)) (silent b here deeper n)) (λ v. muted (f v) b here deeper m n h a) i
   muted (peek f) b here deeper m n h a None = refl
   muted (peek f) b here deeper m n h a (Some i) = alike_peeked (λ v. run (f v) (silent b here deeper m) (Some i)) (λ v. run (mute (f v)) (silent b here deeper n) (Some i)) (slice_get b i) (λ v. muted (f v) b here deeper m n h a (Some i))
   muted (next c p q) b here deeper m n h a None = muted q b here deeper m n h a None
