@@ -13,7 +13,7 @@ use Rattle.demangle_words.specs.declared.stretch.Stretch.TheVariants.{Fixed}
 use Rattle.demangle_v0.specs.Heights as heights
 use Rattle.demangle_grammar.specs.Reading.{Place}
 use Rattle.demangle_grammar.proofs.Failed.{failed}
-use Rattle.demangle_v0.specs.Points.{most_frames, Bit, pays, puts, heard_bits, bits_looks, Env, env, Part, part, Turn, turn, Emits, emitted_texts, mark_texts, pushed_on, then_frame, way_weight, weight_at, weight_of, weights, height_at, height_of, count_of, FitsFrame, Fits, rest_at, unit_rest, unit_rest_at, unit_rest_of, stack_rest, reading_rest, measure, is_inner, IsInner, AllInner, Went, Halted, Kept, PointDoes, resumed_of, bindings_left, whole}
+use Rattle.demangle_v0.specs.Points.{most_frames, Bit, pays, puts, heard_bits, bits_looks, Env, env, Part, Turn, turn, Emits, emitted_texts, mark_texts, pushed_on, then_frame, way_weight, weight_at, weight_of, weights, height_at, height_of, count_of, FitsFrame, Fits, rest_at, unit_rest, unit_rest_at, unit_rest_of, stack_rest, reading_rest, measure, is_inner, IsInner, AllInner, Went, Halted, Kept, PointDoes, resumed_of, bindings_left, whole}
 use Rattle.demangle_v0.specs.PointRuns.{Puts, unmarked_of, Stepped, Resumes, stays, pops, frame_height, AllFit, Valid, Reads, ReadOn, first_looks}
 use Rattle.demangle_sink.specs.declared.SinkRefused.{SinkRefused}
 use Rattle.demangle_words.specs.declared.texts.Mark.{Mark}

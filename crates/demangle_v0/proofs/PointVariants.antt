@@ -9,7 +9,7 @@ use Rattle.demangle_grammar.specs.Table.{says, list, row_of, variant_rows, const
 use Rattle.demangle_words.specs.Tags.{variant_kinds, variant_of, closes}
 use Rattle.demangle_grammar.specs.Reading.{run}
 use Rattle.demangle_v0.specs.PointContracts.{brace_behind}
-use Rattle.demangle_v0.specs.Points.{Turn, Env, Does, RestDoes, PointDoes, own_looks, frame_of, then_frame, unit_rest_at, none_open, pushed_on, way_weight, height_at, Fits}
+use Rattle.demangle_v0.specs.Points.{Turn, Env, RestDoes, PointDoes, own_looks, frame_of, then_frame, unit_rest_at, none_open, pushed_on, way_weight, height_at, Fits}
 use Rattle.demangle_words.specs.declared.texts.Mark.{Mark}
 use Rattle.demangle_words.specs.declared.texts.Mark.TheVariants as mark
 use Rattle.demangle_v0.specs.declared.points.Point.{Point}

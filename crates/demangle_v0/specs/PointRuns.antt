@@ -7,7 +7,7 @@ use Rattle.demangle_v0.specs.Heights as heights
 use Rattle.demangle_v0.specs.Impls.{skip_point, self_point}
 use Rattle.demangle_words.specs.declared.texts.Mark.{Mark}
 use Rattle.demangle_sink.specs.declared.SinkRefused.{SinkRefused}
-use Rattle.demangle_v0.specs.Points.{Bit, pays, puts, heard_bits, bits_looks, Env, whole, Turn, Went, Halted, Kept, AllInner, Fits, unit_rest_of, reading_rest, weight_at, height_at, most_frames, resumed_of}
+use Rattle.demangle_v0.specs.Points.{Bit, pays, puts, heard_bits, bits_looks, Env, whole, Turn, Went, Halted, Kept, AllInner, Fits, reading_rest, height_at, most_frames, resumed_of}
 use Rattle.demangle_grammar.specs.Running.{allowed_in}
 use Rattle.demangle_grammar.specs.Reading.{Place, max_depth}
 use Rattle.demangle_grammar.specs.Items.{Text}

@@ -1,4 +1,4 @@
-use Rattle.std.proofs.Common.{arith, sym, ◌∙◌, false}
+use Rattle.std.proofs.Common.{arith, sym, ◌∙◌}
 use Rattle.demangle_v0.proofs.PointRuns.{valid_resumes, resumes_length, valid_steps}
 use Rattle.demangle_v0.proofs.PointSkips.{skip_is, own_stands, own_reads, skipped_stands}
 use Rattle.demangle_v0.proofs.tests.goes_on.Goals as goal
