@@ -1,5 +1,5 @@
 -- Steps on a whole stack.
-use Rattle.std.proofs.Common.{inl, inr, ◌⊎◌, ◌≡◌, ℕ, ◌+◌, ◌-◌, ◌≤◌, ◌<◌, Bool, true, false, Option, Some, None, List, [], ◌∷◌, ◌++◌, length, Result, Ok, Err, IsErr, refl, arith, sym, ap, ◌∙◌, subst, append_assoc, length-append}
+use Rattle.std.proofs.Common.{inl, inr, ◌⊎◌, ◌≡◌, ℕ, ◌+◌, ◌≤◌, ◌<◌, Bool, true, false, Option, Some, None, List, [], ◌∷◌, ◌++◌, length, Result, Ok, Err, IsErr, refl, arith, sym, ap, ◌∙◌, subst, append_assoc, length-append}
 use Rattle.std.proofs.lemmas.Bool.{false≢true}
 use Rattle.std.proofs.lemmas.List.{append-nil}
 use Rattle.demangle_grammar.specs.Items.{Text}
@@ -13,8 +13,8 @@ use Rattle.demangle_words.specs.declared.stretch.Stretch.TheVariants.{Fixed}
 use Rattle.demangle_v0.specs.Heights as heights
 use Rattle.demangle_grammar.specs.Reading.{Place}
 use Rattle.demangle_grammar.proofs.Failed.{failed}
-use Rattle.demangle_v0.specs.Points.{most_frames, Bit, pays, puts, heard_bits, bits_looks, Env, env, Part, Turn, turn, Emits, emitted_texts, mark_texts, pushed_on, then_frame, way_weight, weight_at, weight_of, weights, height_at, height_of, count_of, FitsFrame, Fits, rest_at, unit_rest, unit_rest_at, unit_rest_of, stack_rest, reading_rest, measure, is_inner, IsInner, AllInner, Went, Halted, Kept, PointDoes, resumed_of, bindings_left, whole}
-use Rattle.demangle_v0.specs.PointRuns.{Puts, unmarked_of, Stepped, Resumes, stays, pops, frame_height, AllFit, Valid, Reads, ReadOn, first_looks}
+use Rattle.demangle_v0.specs.Points.{most_frames, Bit, pays, puts, heard_bits, bits_looks, Env, Part, Turn, Emits, emitted_texts, mark_texts, pushed_on, then_frame, way_weight, weight_at, weight_of, weights, height_at, height_of, count_of, FitsFrame, Fits, rest_at, unit_rest, unit_rest_at, unit_rest_of, stack_rest, reading_rest, measure, is_inner, IsInner, AllInner, Went, Halted, Kept, PointDoes, bindings_left}
+use Rattle.demangle_v0.specs.PointRuns.{Puts, unmarked_of, Stepped, Resumes, stays, pops, frame_height, AllFit, Valid, Emitted, left_of, Ran, Broke, Reads, ReadOn, first_looks}
 use Rattle.demangle_sink.specs.declared.SinkRefused.{SinkRefused}
 use Rattle.demangle_words.specs.declared.texts.Mark.{Mark}
 use Rattle.demangle_v0.specs.declared.points.Point.{Point}
@@ -22,11 +22,10 @@ use Rattle.demangle_v0.specs.declared.points.Point.TheVariants as point
 use Rattle.demangle_v0.specs.declared.points.frames.Frame.{Frame}
 use Rattle.demangle_v0.specs.declared.points.State.{State}
 use Rattle.demangle_v0.specs.declared.points.Stop.TheVariants.{Fault, Refused}
-use Rattle.demangle_words.specs.declared.output.Output.{Ghosts}
 use Rattle.demangle_v0.specs.declared.points.read.Halt.TheVariants as halt
 use Rattle.demangle_grammar.proofs.Hearing.{and_then_assoc, and_then_ended, handing_then, allowing_then}
 use Rattle.demangle_v0.proofs.Standing.{above_pop}
-use Rattle.demangle_v0.proofs.PointSteps.{refused}
+use Rattle.demangle_v0.proofs.PointSteps.{refused, bits_append, looks_append}
 
 pub unit_rest_failed : (b : List ℕ) (include_hash out : Bool) (p : Point) (v : Bool) (c left n : ℕ) (o : Bool) → is_inner p ≡ true → (unit_rest_at b include_hash out p v c left n None o).place ≡ None
 unfolding unit_rest_at
@@ -48,22 +47,31 @@ err_ok e z = cc
 some_none : (m : Mark) → Some m ≡ None → ⊥
 some_none m z = cc
 
-module _ {V : Type 0} (output : Ghosts V) (b : List ℕ) (include_hash : Bool) where
+module _ {V : Type 0} (e : Env V) where
   -- what a step took, in turn
-  abbrev pub bits_of : List ℕ → Option Stretch → List ℕ → List Bit
+  abbrev bits_of : List ℕ → Option Stretch → List ℕ → List Bit
   bits_of front None back = pays front ∷ pays back ∷ []
-  bits_of front (Some s) back = pays front ∷ puts (texts_of b include_hash s) ∷ pays back ∷ []
+  bits_of front (Some s) back = pays front ∷ puts (texts_of e.symbol e.include_hash s) ∷ pays back ∷ []
 
   abbrev taken : List ℕ → Option Stretch → Option Mark → List ℕ → Heard → Heard
-  taken front emitted m back h = with_looks front (with_texts output.is_printed (emitted_texts (env output b include_hash) emitted) (with_texts output.is_printed (mark_texts m) (with_looks back h)))
+  taken front emitted m back h = with_looks front (with_texts e.output.is_printed (emitted_texts e emitted) (with_texts e.output.is_printed (mark_texts m) (with_looks back h)))
 
-  bits_heard : (front : List ℕ) (emitted : Option Stretch) (back : List ℕ) (h : Heard) → heard_bits output.is_printed (bits_of front emitted back) h ≡ taken front emitted None back h
+  bits_heard : (front : List ℕ) (emitted : Option Stretch) (back : List ℕ) (h : Heard) → heard_bits e.output.is_printed (bits_of front emitted back) h ≡ taken front emitted None back h
   bits_heard front None back h = refl
   bits_heard front (Some s) back h = refl
 
-  pub bits_total : (front : List ℕ) (emitted : Option Stretch) (back : List ℕ) → bits_looks (bits_of front emitted back) ≡ total front + total back
+  bits_total : (front : List ℕ) (emitted : Option Stretch) (back : List ℕ) → bits_looks (bits_of front emitted back) ≡ total front + total back
   bits_total front None back = omega arith
   bits_total front (Some s) back = omega arith
+
+  bits_emitted : (v w : V) (front : List ℕ) (emitted : Option Stretch) (back : List ℕ) → Emits e emitted v w → Emitted e (bits_of front emitted back) v w
+  bits_emitted v w front None back t = t
+  bits_emitted v w front (Some s) back t = (w, t, refl)
+
+  emitted_append : (u v w : V) (xs ys : List Bit) → Emitted e xs u v → Emitted e ys v w → Emitted e (xs ++ ys) u w
+  emitted_append u v w [] ys h k = subst (λ (z : V). Emitted e ys z w) (sym h) k
+  emitted_append u v w (pays n ∷ xs) ys h k = emitted_append u v w xs ys h k
+  emitted_append u v w (puts ts ∷ xs) ys h k = (h.0, h.1, emitted_append h.0 v w xs ys h.2 k)
 
 -- what stands behind a step
 abbrev gone : {V : Type 0} → Env V → Option Frame → Point → State → Heard
@@ -83,7 +91,7 @@ module _ {V : Type 0} {e : Env V} where
     pushed = d.pushed;
     emits = subst (λ (z : V). Emits e d.emitted t.output z) (sym p.1) d.emits;
     one = inr refl;
-    reads = subst (λ (z : Option Mark). part.heard ≡ taken e.output e.symbol e.include_hash d.front d.emitted z d.back (gone e d.pushed q u.state)) (sym c) d.reads;
+    reads = subst (λ (z : Option Mark). part.heard ≡ taken e d.front d.emitted z d.back (gone e d.pushed q u.state)) (sym c) d.reads;
     is_stack = d.is_stack;
     few = d.few;
     enough = omega (arith, l, d.enough);
@@ -105,7 +113,7 @@ module _ {V : Type 0} {e : Env V} where
         pushed = d.pushed;
         emits = subst (λ (y : V). e.output.prints y (text m ∷ []) (Ok tt) x) (sym same) p.0;
         one = inr refl;
-        reads = d.reads ∙ (ap (λ (y : Option Stretch). taken e.output e.symbol e.include_hash d.front y u.state.mark d.back (gone e d.pushed q u.state)) z ∙ ap (λ (y : Option Mark). taken e.output e.symbol e.include_hash d.front None y d.back (gone e d.pushed q u.state)) (sym c));
+        reads = d.reads ∙ (ap (λ (y : Option Stretch). taken e d.front y u.state.mark d.back (gone e d.pushed q u.state)) z ∙ ap (λ (y : Option Mark). taken e d.front None y d.back (gone e d.pushed q u.state)) (sym c));
         is_stack = d.is_stack;
         few = d.few;
         enough = omega (arith, l, d.enough);
@@ -135,7 +143,7 @@ module _ {V : Type 0} {e : Env V} where
         rest = with_looks d.back (gone e d.pushed q u.state);
         refusal = f;
         prints = subst (λ (y : V). e.output.prints y (text m ∷ []) (Err f) x) (sym same) p.0;
-        reads = d.reads ∙ (ap (λ (y : Option Stretch). taken e.output e.symbol e.include_hash d.front y u.state.mark d.back (gone e d.pushed q u.state)) o ∙ ap (λ (y : Option Mark). taken e.output e.symbol e.include_hash d.front None y d.back (gone e d.pushed q u.state)) (sym c));
+        reads = d.reads ∙ (ap (λ (y : Option Stretch). taken e d.front y u.state.mark d.back (gone e d.pushed q u.state)) o ∙ ap (λ (y : Option Mark). taken e d.front None y d.back (gone e d.pushed q u.state)) (sym c));
         few = omega (arith, d.few);
         enough = omega (arith, l, d.late);
         exact = λ z. absurd (false≢true (p.1 z));
@@ -293,9 +301,9 @@ valid_push p q s t stack (Some f) v x y g h k = record {
   unmarked = k;
 }
 
-pub valid_resumes : (base : ℕ) (p q : Point) (s t : State) (stack now : List Frame) → Valid p s stack → Resumes base p s stack q t now → Valid q t now
-valid_resumes base p q s t stack now v (stays other e k r) = rw (e, k, r) v
-valid_resumes base p q s t stack now v (pops f e l r d k) =
+pub valid_resumes : {base : ℕ} {p q : Point} {s t : State} {stack now : List Frame} → Valid p s stack → Resumes base p s stack q t now → Valid q t now
+valid_resumes v (stays other e k r) = rw (e, k, r) v
+valid_resumes {p = p} {s = s} {now = now} v (pops f e l r d k) =
     let fit = fit_below now f (subst AllFit r v.all_fit) in
     rw (d, k) record {
       stands = Rattle.demangle_v0.proofs.Heights.stands_resumed frame_height most_frames (height_at p s.depth_left) (frame_height f) now f (subst (λ (z : List Frame). heights.Stands frame_height most_frames (height_at p s.depth_left) z) r v.stands) (omega arith);
@@ -304,146 +312,191 @@ valid_resumes base p q s t stack now v (pops f e l r d k) =
       unmarked = v.unmarked;
     }
 
-pub resumes_length : (base : ℕ) (p q : Point) (s t : State) (stack now : List Frame) → Resumes base p s stack q t now → length now ≤ length stack
-resumes_length base p q s t stack now (stays other e k r) = rw r (omega arith)
-resumes_length base p q s t stack now (pops f e l r d k) = rw r (omega (arith, length-append {A = Frame} now (f ∷ [])))
+pub resumes_length : {base : ℕ} {p q : Point} {s t : State} {stack now : List Frame} → Resumes base p s stack q t now → length now ≤ length stack
+resumes_length (stays other e k r) = rw r (omega arith)
+resumes_length {now = now} (pops f e l r d k) = rw r (omega (arith, length-append {A = Frame} now (f ∷ [])))
 
 -- what stood on the stack looked at no tag yet
-pub first_resumes : (base : ℕ) (p q : Point) (s t : State) (stack now : List Frame) → Resumes base p s stack q t now → first_looks p s ≤ first_looks q t
-first_resumes base p q s t stack now (stays other e k r) = rw (e, k) (omega arith)
-first_resumes base p q s t stack now (pops f e l r d k) = rw e (omega arith)
+pub first_resumes : {base : ℕ} {p q : Point} {s t : State} {stack now : List Frame} → Resumes base p s stack q t now → first_looks p s ≤ first_looks q t
+first_resumes (stays other e k r) = rw (e, k) (omega arith)
+first_resumes (pops f e l r d k) = rw e (omega arith)
 
 -- Where a unit is over and another goes on.
 
-pub resumes_heard : (b : List ℕ) (include_hash out : Bool) (base : ℕ) (p q : Point) (s t : State) (stack now : List Frame) → Resumes base p s stack q t now → reading_rest b include_hash out p s stack ≡ reading_rest b include_hash out q t now
+pub resumes_heard : (b : List ℕ) (include_hash out : Bool) {base : ℕ} {p q : Point} {s t : State} {stack now : List Frame} → Resumes base p s stack q t now → reading_rest b include_hash out p s stack ≡ reading_rest b include_hash out q t now
 unfolding unit_rest_at
-resumes_heard b include_hash out base p q s t stack now (stays other e k r) = rw (e, k, r) refl
-resumes_heard b include_hash out base p q s t stack now (pops f e l r d k) = rw (e, r, d, k) (stack_rest_push b include_hash out now f s.place s.is_open)
+resumes_heard b include_hash out (stays other e k r) = rw (e, k, r) refl
+resumes_heard b include_hash out {s = s} {now = now} (pops f e l r d k) = rw (e, r, d, k) (stack_rest_push b include_hash out now f s.place s.is_open)
 
 light : (p : Point) → (p ≡ point.End → ⊥) → way_weight p ≡ weight_at p
 light point.End h = absurd (h refl)
 light p h = refl
 
-pub resume_light : (base : ℕ) (p q : Point) (s t : State) (stack now : List Frame) → Resumes base p s stack q t now → weight_at q + weights now ≤ way_weight p + weights stack
-resume_light base p q s t stack now (stays other e k r) = rw (e, r) (omega (arith, light p other))
-resume_light base p q s t stack now (pops f e l r d k) = rw (r, d) (omega (arith, weights_push now f))
+pub resume_light : {base : ℕ} {p q : Point} {s t : State} {stack now : List Frame} → Resumes base p s stack q t now → weight_at q + weights now ≤ way_weight p + weights stack
+resume_light {p = p} (stays other e k r) = rw (e, r) (omega (arith, light p other))
+resume_light {now = now} (pops f e l r d k) = rw (r, d) (omega (arith, weights_push now f))
 
-module _ {V : Type 0} (output : Ghosts V) (b : List ℕ) (include_hash : Bool) where
-  pub valid_steps : (p q : Point) (s t : State) (stack now : List Frame) (v w : V) (m n : ℕ) → Valid p s stack → Stepped (env output b include_hash) p (turn s stack v m) (Ok q) (turn t now w n) → Valid q t now
-  valid_steps p q s t stack now v w m n l z =
-      let d = z.steps.0 in subst (Valid q t) (sym d.is_stack) (valid_push p q s t stack d.pushed l d.outer_height d.inner_height d.outer_fits d.inner_fits z.steps.1)
+-- Steps, one behind another.
+
+module _ {V : Type 0} {e : Env V} where
+  pub ran_none : {p : Point} {t : Turn V} → Ran e p t p t
+  ran_none = record { bits = []; emits = refl; reads = refl; enough = omega arith }
+
+  pub ran_then : {p q r : Point} {t u w : Turn V} → Ran e p t q u → Ran e q u r w → Ran e p t r w
+  ran_then {r = r} {w = w} x y = record {
+    bits = x.bits ++ y.bits;
+    emits = emitted_append e _ _ _ x.bits y.bits x.emits y.emits;
+    reads = x.reads ∙ (ap (heard_bits e.output.is_printed x.bits) y.reads ∙ sym (bits_append e.output.is_printed x.bits y.bits (left_of e r w)));
+    enough = omega (arith, x.enough, y.enough, looks_append x.bits y.bits);
+  }
+
+  -- where a unit is over and another goes on
+  pub ran_resumes : {base : ℕ} {p q : Point} {t : Turn V} {s : State} {mid : List Frame} → Resumes base p t.state t.stack q s mid → Ran e p t q (record t { state = s; stack = mid })
+  ran_resumes k = record { bits = []; emits = refl; reads = resumes_heard e.symbol e.include_hash e.output.is_printed k; enough = omega arith }
 
   -- what a step does over more frames
-  pub step_heard : (p q : Point) (s t : State) (stack : List Frame) (v w : V) (m n : ℕ) (now : List Frame) (z : Stepped (env output b include_hash) p (turn s stack v m) (Ok q) (turn t now w n)) → (above : List Frame)
-      → reading_rest b include_hash output.is_printed p s above ≡ heard_bits output.is_printed (bits_of output b include_hash z.steps.0.front z.steps.0.emitted z.steps.0.back) (reading_rest b include_hash output.is_printed q t (pushed_on above z.steps.0.pushed))
-  step_heard p q s t stack v w m n now z above =
+  step_heard : {p q : Point} {t u : Turn V} (z : Stepped e p t (Ok q) u) (above : List Frame)
+      → left_of e p (record t { stack = above }) ≡ heard_bits e.output.is_printed (bits_of e z.steps.0.front z.steps.0.emitted z.steps.0.back) (left_of e q (record u { stack = pushed_on above z.steps.0.pushed }))
+  step_heard {p} {q} {t} {u} z above =
       let d = z.steps.0 in
-      let x = then_frame b include_hash output.is_printed d.pushed (unit_rest_of b include_hash output.is_printed q t) in
-      let bits = bits_of output b include_hash d.front d.emitted d.back in
-      let one : unit_rest_of b include_hash output.is_printed p s ≡ heard_bits output.is_printed bits x =
-      subst (λ (m : Option Mark). unit_rest_of b include_hash output.is_printed p s ≡ taken output b include_hash d.front d.emitted m d.back x) z.steps.1 d.reads ∙ sym (bits_heard output b include_hash d.front d.emitted d.back x) in
-      ap (λ (h : Heard). and_then h (stack_rest b include_hash output.is_printed above)) one
-      ∙ (bits_then output.is_printed bits x (stack_rest b include_hash output.is_printed above)
-      ∙ ap (heard_bits output.is_printed bits) (followed_stack b include_hash output.is_printed above d.pushed (unit_rest_of b include_hash output.is_printed q t)))
+      let out = e.output.is_printed in
+      let x = gone e d.pushed q u.state in
+      let bits = bits_of e d.front d.emitted d.back in
+      let one : unit_rest_of e.symbol e.include_hash out p t.state ≡ heard_bits out bits x =
+      subst (λ (m : Option Mark). unit_rest_of e.symbol e.include_hash out p t.state ≡ taken e d.front d.emitted m d.back x) z.steps.1 d.reads ∙ sym (bits_heard e d.front d.emitted d.back x) in
+      ap (λ (h : Heard). and_then h (stack_rest e.symbol e.include_hash out above)) one
+      ∙ (bits_then out bits x (stack_rest e.symbol e.include_hash out above) ∙ ap (heard_bits out bits) (followed_stack e.symbol e.include_hash out above d.pushed (unit_rest_of e.symbol e.include_hash out q u.state)))
 
-  -- one turn of a reading
-  pub turn_less : (base : ℕ) (p q u : Point) (s t r : State) (stack mid now : List Frame) (v w : V) (m n : ℕ) → Resumes base p s stack q t mid → Stepped (env output b include_hash) q (turn t mid v m) (Ok u) (turn r now w n)
-      → measure b include_hash output.is_printed u r now < measure b include_hash output.is_printed p s stack
-  turn_less base p q u s t r stack mid now v w m n x z =
-      let d = z.steps.0 in
-      let k = ap (λ (h : Heard). allowed_in h.events) (step_heard q u t r mid v w m n now z mid) in
-      omega (
-        arith,
-        resume_light base p q s t stack mid x,
-        ap (λ (h : Heard). allowed_in h.events) (resumes_heard b include_hash output.is_printed base p q s t stack mid x),
-        k,
-        allowed_bits output.is_printed (bits_of output b include_hash d.front d.emitted d.back) (reading_rest b include_hash output.is_printed u r (pushed_on mid d.pushed)),
-        ap (λ (ys : List Frame). allowed_in (reading_rest b include_hash output.is_printed u r ys).events) d.is_stack,
-        ap weights d.is_stack,
-        weights_pushed mid d.pushed,
-        d.lighter,
-        bits_total output b include_hash d.front d.emitted d.back,
+  ran_step : {p q : Point} {t u : Turn V} (z : Stepped e p t (Ok q) u) (above : List Frame) → Ran e p (record t { stack = above }) q (record u { stack = pushed_on above z.steps.0.pushed })
+  ran_step z above = let d = z.steps.0 in record {
+    bits = bits_of e d.front d.emitted d.back;
+    emits = bits_emitted e _ _ d.front d.emitted d.back d.emits;
+    reads = step_heard z above;
+    enough = omega (arith, d.enough, bits_total e d.front d.emitted d.back);
+  }
+
+  ran_stepped : {p q : Point} {t u : Turn V} → Stepped e p t (Ok q) u → Ran e p t q u
+  ran_stepped {p} {q} {t} {u} z = subst (λ (ys : List Frame). Ran e p t q (record u { stack = ys })) (sym z.steps.0.is_stack) (ran_step z t.stack)
+
+  -- one turn
+  pub ran_turn : {base : ℕ} {o p q r : Point} {first t w : Turn V} {s : State} {mid : List Frame} → Ran e o first p t → Resumes base p t.state t.stack q s mid → Stepped e q (record t { state = s; stack = mid }) (Ok r) w → Ran e o first r w
+  ran_turn x k z = ran_then x (ran_then (ran_resumes k) (ran_stepped z))
+
+  -- it was refused
+  pub ran_broke : {base : ℕ} {o p q : Point} {first t w : Turn V} {s : State} {mid : List Frame} {f : SinkRefused} → Ran e o first p t → Resumes base p t.state t.stack q s mid → Stepped e q (record t { state = s; stack = mid }) (Err f) w → Broke e o first w.output w.looks
+  ran_broke {q = q} {t = t} {w = w} {s = s} {mid = mid} x k z = record { at = q; mid = record t { state = s; stack = mid }; stack = mid; end = w; ran = ran_then x (ran_resumes k); halts = z.steps.0; same_output = refl; same_looks = refl }
+
+  -- it goes on to the same place, and makes no more looks than are allowed
+  pub ran_place : {p q : Point} {t u : Turn V} → Ran e p t q u → (left_of e q u).place ≡ (left_of e p t).place
+  ran_place {q = q} {u = u} x = sym (place_bits e.output.is_printed x.bits (left_of e q u)) ∙ ap (λ (h : Heard). h.place) (sym x.reads)
+
+  pub ran_looks : {p q : Point} {t u : Turn V} → Ran e p t q u → u.looks + allowed_in (left_of e q u).events ≤ t.looks + allowed_in (left_of e p t).events
+  ran_looks {q = q} {u = u} x = omega (arith, x.enough, ap (λ (h : Heard). allowed_in h.events) x.reads, allowed_bits e.output.is_printed x.bits (left_of e q u))
+
+  -- what stands behind a refused stretch
+  abbrev pub behind_broke : {p : Point} {t : Turn V} {v : V} {n : ℕ} → Broke e p t v n → Heard
+  behind_broke d = and_then d.halts.rest (stack_rest e.symbol e.include_hash e.output.is_printed d.stack)
+
+  abbrev pub front_of : {p : Point} {t : Turn V} {v : V} {n : ℕ} → Broke e p t v n → List Bit
+  front_of d = d.ran.bits ++ pays d.halts.front ∷ []
+
+  pub broke_heard : {p : Point} {t : Turn V} {v : V} {n : ℕ} (d : Broke e p t v n) → left_of e p t ≡ heard_bits e.output.is_printed (front_of d) (with_texts e.output.is_printed (texts_of e.symbol e.include_hash d.halts.emitted) (behind_broke d))
+  broke_heard d =
+      let out = e.output.is_printed in
+      let texts = texts_of e.symbol e.include_hash d.halts.emitted in
+      let above = stack_rest e.symbol e.include_hash out d.stack in
+      let front = pays d.halts.front ∷ [] in
+      d.ran.reads
+      ∙ (ap (heard_bits out d.ran.bits) (ap (λ (h : Heard). and_then h above) d.halts.reads ∙ (bits_then out front (with_texts out texts d.halts.rest) above ∙ ap (heard_bits out front) (handing_then out texts d.halts.rest above)))
+      ∙ sym (bits_append out d.ran.bits front (with_texts out texts (behind_broke d))))
+
+  pub broke_emits : {p : Point} {t : Turn V} {v : V} {n : ℕ} (d : Broke e p t v n) → Emitted e (front_of d) t.output d.mid.output
+  broke_emits d = emitted_append e _ _ _ d.ran.bits (pays d.halts.front ∷ []) d.ran.emits refl
+
+  pub broke_enough : {p : Point} {t : Turn V} {v : V} {n : ℕ} (d : Broke e p t v n) → n ≤ t.looks + (bits_looks (front_of d) + 2)
+  broke_enough d = omega (arith, d.same_looks, d.halts.enough, d.ran.enough, looks_append d.ran.bits (pays d.halts.front ∷ []))
+
+  -- a silent reading failed
+  pub broke_fails : {p : Point} {t : Turn V} {v : V} {n : ℕ} → e.output.is_printed ≡ false → (d : Broke e p t v n) → AllInner d.stack → ((left_of e p t).place ≡ None) × (n ≤ t.looks + allowed_in (left_of e p t).events)
+  broke_fails silent d i =
+      let out = e.output.is_printed in
+      let texts = texts_of e.symbol e.include_hash d.halts.emitted in
+      let rest = with_texts out texts (behind_broke d) in (
+        ap (λ (h : Heard). h.place) (broke_heard d) ∙ (place_bits out (front_of d) rest ∙ stack_rest_failed e.symbol e.include_hash out d.stack d.halts.rest.place d.halts.rest.is_open i (d.halts.fails silent)),
+        omega (
+          arith,
+          d.same_looks,
+          d.halts.exact silent,
+          d.ran.enough,
+          looks_append d.ran.bits (pays d.halts.front ∷ []),
+          ap (λ (h : Heard). allowed_in h.events) (broke_heard d),
+          allowed_bits out (front_of d) rest,
+        ),
       )
 
--- Readings without an output, above other frames.
+  pub valid_steps : {p q : Point} {t u : Turn V} → Valid p t.state t.stack → Stepped e p t (Ok q) u → Valid q u.state u.stack
+  valid_steps {p} {q} {t} {u} l z = let d = z.steps.0 in subst (Valid q u.state) (sym d.is_stack) (valid_push p q t.state u.state t.stack d.pushed l d.outer_height d.inner_height d.outer_fits d.inner_fits z.steps.1)
+
+  -- one turn of a reading is less work
+  pub turn_less : {base : ℕ} {p q r : Point} {s : State} {stack : List Frame} {t u : Turn V} → Resumes base p s stack q t.state t.stack → Stepped e q t (Ok r) u
+      → measure e.symbol e.include_hash e.output.is_printed r u.state u.stack < measure e.symbol e.include_hash e.output.is_printed p s stack
+  turn_less {r = r} {t = t} {u = u} x z =
+      let d = z.steps.0 in
+      omega (
+        arith,
+        resume_light x,
+        ap (λ (h : Heard). allowed_in h.events) (resumes_heard e.symbol e.include_hash e.output.is_printed x),
+        ap (λ (h : Heard). allowed_in h.events) (step_heard z t.stack),
+        allowed_bits e.output.is_printed (bits_of e d.front d.emitted d.back) (left_of e r (record u { stack = pushed_on t.stack d.pushed })),
+        ap (λ (ys : List Frame). allowed_in (left_of e r (record u { stack = ys })).events) d.is_stack,
+        ap weights d.is_stack,
+        weights_pushed t.stack d.pushed,
+        d.lighter,
+        bits_total e d.front d.emitted d.back,
+      )
+
+-- Above other frames.
 
 pushed_above : (below frames : List Frame) (f : Option Frame) → pushed_on (below ++ frames) f ≡ below ++ pushed_on frames f
 pushed_above below frames None = refl
 pushed_above below frames (Some f) = append_assoc below frames (f ∷ [])
 
-pub reads_none : (b : List ℕ) (include_hash : Bool) (below : List Frame) (p : Point) (s : State) (above stack : List Frame) → stack ≡ below ++ above → AllInner above → (made : ℕ) → made ≤ 0 → Reads b include_hash below p s above p s stack made
-reads_none b include_hash below p s above stack e i made l = record { frames = above; is_stack = e; inner = i; quiet = record { place = refl; looks = omega (arith, l) } }
+module _ {V : Type 0} {e : Env V} where
+  pub reads_none : {below above : List Frame} {p : Point} {t : Turn V} → t.stack ≡ below ++ above → AllInner above → Reads e below p (record t { stack = above }) p t
+  reads_none {above = above} k i = record { frames = above; is_stack = k; inner = i; ran = ran_none }
 
-module _ {V : Type 0} (output : Ghosts V) (b : List ℕ) (include_hash : Bool) (silent : output.is_printed ≡ false) where
-  pop_quiet : (p q : Point) (s t : State) (frames rest : List Frame) (f : Frame) → p ≡ point.End → frames ≡ rest ++ f ∷ [] → q ≡ f.point → t ≡ resumed_of s f → reading_rest b include_hash false q t rest ≡ reading_rest b include_hash false p s frames
-  unfolding unit_rest_at
-  pop_quiet p q s t frames rest f e r d k = rw (e, r, d, k) (sym (stack_rest_push b include_hash false rest f s.place s.is_open))
-
-  reads_resume : (base : ℕ) (below above : List Frame) (p0 p q : Point) (s0 s t : State) (stack mid : List Frame) (made : ℕ) → Reads b include_hash below p0 s0 above p s stack made → length below ≡ base → Resumes base p s stack q t mid
-      → Reads b include_hash below p0 s0 above q t mid made
-  reads_resume base below above p0 p q s0 s t stack mid made x l (stays other e k r) = rw (e, k, r) x
-  reads_resume base below above p0 p q s0 s t stack mid made x l (pops f e h r d k) =
+  reads_resume : {base : ℕ} {below : List Frame} {o p q : Point} {first t : Turn V} {s : State} {mid : List Frame} → Reads e below o first p t → length below ≡ base → Resumes base p t.state t.stack q s mid → Reads e below o first q (record t { state = s; stack = mid })
+  reads_resume x l (stays other k r m) = rw (k, r, m) x
+  reads_resume {below = below} {p = p} {q = q} {t = t} {s = s} {mid = mid} x l (pops f k h r d m) =
       let split = above_pop below x.frames mid f (sym r ∙ x.is_stack) (omega (arith, l, h, ap length r, length-append {A = Frame} mid (f ∷ []))) in
-      let same = pop_quiet p q s t x.frames split.0 f e split.1 d k in
+      let over : Resumes 0 p t.state x.frames q s split.0 = pops f k (omega (arith, ap length split.1, length-append {A = Frame} split.0 (f ∷ []))) split.1 d m in
       record {
         frames = split.0;
         is_stack = split.2;
         inner = inner_below split.0 f (subst AllInner split.1 x.inner);
-        quiet = record { place = ap (λ (h : Heard). h.place) same ∙ x.quiet.place; looks = omega (arith, ap (λ (h : Heard). allowed_in h.events) same, x.quiet.looks) };
-      }
-
-  reads_step : (below above : List Frame) (p0 q u : Point) (s0 t r : State) (mid now : List Frame) (v w : V) (first m n made : ℕ) → Reads b include_hash below p0 s0 above q t mid first
-      → Stepped (env output b include_hash) q (turn t mid v m) (Ok u) (turn r now w n) → made ≤ first + (n - m) → Reads b include_hash below p0 s0 above u r now made
-  reads_step below above p0 q u s0 t r mid now v w first m n made x z l =
-      let d = z.steps.0 in
-      let bits = bits_of output b include_hash d.front d.emitted d.back in
-      let heard : reading_rest b include_hash false q t x.frames ≡ heard_bits false bits (reading_rest b include_hash false u r (pushed_on x.frames d.pushed)) =
-      subst (λ (out : Bool). reading_rest b include_hash out q t x.frames ≡ heard_bits out bits (reading_rest b include_hash out u r (pushed_on x.frames d.pushed))) silent (step_heard output b include_hash q u t r mid v w m n now z x.frames) in
-      record {
-        frames = pushed_on x.frames d.pushed;
-        is_stack = d.is_stack ∙ (ap (λ (ys : List Frame). pushed_on ys d.pushed) x.is_stack ∙ pushed_above below x.frames d.pushed);
-        inner = inner_pushed x.frames d.pushed x.inner (d.quiet silent);
-        quiet = record {
-          place = sym (place_bits false bits (reading_rest b include_hash false u r (pushed_on x.frames d.pushed))) ∙ (ap (λ (h : Heard). h.place) (sym heard) ∙ x.quiet.place);
-          looks = omega (
-            arith,
-            l,
-            d.enough,
-            x.quiet.looks,
-            bits_total output b include_hash d.front d.emitted d.back,
-            ap (λ (h : Heard). allowed_in h.events) heard,
-            allowed_bits false bits (reading_rest b include_hash false u r (pushed_on x.frames d.pushed)),
-          );
-        };
+        ran = ran_then x.ran (ran_resumes over);
       }
 
   -- one turn
-  pub reads_turn : (base : ℕ) (below above : List Frame) (p0 p q u : Point) (s0 s t r : State) (stack mid now : List Frame) (v w : V) (first m n made : ℕ) → Reads b include_hash below p0 s0 above p s stack first → length below ≡ base
-      → Resumes base p s stack q t mid → Stepped (env output b include_hash) q (turn t mid v m) (Ok u) (turn r now w n) → made ≤ first + (n - m) → Reads b include_hash below p0 s0 above u r now made
-  reads_turn base below above p0 p q u s0 s t r stack mid now v w first m n made x l k z h =
-      reads_step below above p0 q u s0 t r mid now v w first m n made (reads_resume base below above p0 p q s0 s t stack mid first x l k) z h
-
-  stop_quiet : (q : Point) (t r : State) (frames stack now : List Frame) (v w : V) (m n : ℕ) → AllInner frames → Halted (env output b include_hash) (whole (env output b include_hash) q t) (turn t stack v m) (turn r now w n)
-      → ((reading_rest b include_hash false q t frames).place ≡ None) × (n - m ≤ allowed_in (reading_rest b include_hash false q t frames).events)
-  stop_quiet q t r frames stack now v w m n i d =
-      let texts = texts_of b include_hash d.emitted in
-      let rest = and_then (with_texts false texts d.rest) (stack_rest b include_hash false frames) in
-      let heard : reading_rest b include_hash false q t frames ≡ heard_bits false (pays d.front ∷ []) rest =
-      ap (λ (h : Heard). and_then h (stack_rest b include_hash false frames)) (subst (λ (out : Bool). unit_rest_of b include_hash out q t ≡ heard_bits out (pays d.front ∷ []) (with_texts out texts d.rest)) silent d.reads)
-      ∙ bits_then false (pays d.front ∷ []) (with_texts false texts d.rest) (stack_rest b include_hash false frames) in (
-        ap (λ (h : Heard). h.place) heard ∙ (place_bits false (pays d.front ∷ []) rest ∙ stack_rest_failed b include_hash false frames d.rest.place d.rest.is_open i (d.fails silent)),
-        omega (arith, d.exact silent, ap (λ (h : Heard). allowed_in h.events) heard, allowed_bits false (pays d.front ∷ []) rest),
-      )
+  pub reads_turn : {base : ℕ} {below : List Frame} {o p q r : Point} {first t w : Turn V} {s : State} {mid : List Frame} → e.output.is_printed ≡ false → Reads e below o first p t → length below ≡ base → Resumes base p t.state t.stack q s mid
+      → Stepped e q (record t { state = s; stack = mid }) (Ok r) w → Reads e below o first r w
+  reads_turn {below = below} silent x l k z =
+      let d = z.steps.0 in
+      let y = reads_resume x l k in
+      record {
+        frames = pushed_on y.frames d.pushed;
+        is_stack = d.is_stack ∙ (ap (λ (ys : List Frame). pushed_on ys d.pushed) y.is_stack ∙ pushed_above below y.frames d.pushed);
+        inner = inner_pushed y.frames d.pushed y.inner (d.quiet silent);
+        ran = ran_then y.ran (ran_step z y.frames);
+      }
 
   -- it failed
-  pub reads_fail : (base : ℕ) (below above : List Frame) (p0 p q end : Point) (s0 s t r u : State) (stack mid now : List Frame) (v w : V) (first m n made : ℕ) (e : SinkRefused) → Reads b include_hash below p0 s0 above p s stack first → length below ≡ base
-      → Resumes base p s stack q t mid → Stepped (env output b include_hash) q (turn t mid v m) (Err e) (turn r now w n) → made ≤ first + (n - m) → ReadOn b include_hash below p0 s0 above halt.Failed end u now made
-  reads_fail base below above p0 p q end s0 s t r u stack mid now v w first m n made e x l k z h =
-      let y = reads_resume base below above p0 p q s0 s t stack mid first x l k in
-      let f = stop_quiet q t r y.frames mid now v w m n y.inner z.steps.0 in
-      record {
-        reads = (
-          record { place = sym y.quiet.place ∙ f.0; looks = omega (arith, h, f.1, y.quiet.looks) },
-          (y.frames ++ z.steps.1.0, z.steps.1.1 ∙ (ap (λ (ys : List Frame). ys ++ z.steps.1.0) y.is_stack ∙ append_assoc below y.frames z.steps.1.0)),
-        );
-      }
+  pub reads_fail : {base : ℕ} {below : List Frame} {o p q end : Point} {first t w : Turn V} {s u : State} {mid : List Frame} {f : SinkRefused} → Reads e below o first p t → length below ≡ base → Resumes base p t.state t.stack q s mid
+      → Stepped e q (record t { state = s; stack = mid }) (Err f) w → ReadOn e below o first halt.Failed end (record w { state = u })
+  reads_fail {below = below} {q = q} {t = t} {w = w} {s = s} {mid = mid} x l k z = let y = reads_resume x l k in let d = z.steps in record {
+    reads = (
+      record { at = q; mid = record t { state = s; stack = mid }; stack = y.frames; end = w; ran = y.ran; halts = d.0; same_output = refl; same_looks = refl },
+      y.inner,
+      (y.frames ++ d.1.0, d.1.1 ∙ (ap (λ (ys : List Frame). ys ++ d.1.0) y.is_stack ∙ append_assoc below y.frames d.1.0)),
+    );
+  }

@@ -10,8 +10,9 @@ use Rattle.demangle_grammar.specs.Items.{Items, a_path, a_type, done, child}
 use Rattle.demangle_grammar.specs.Table.{says}
 use Rattle.demangle_grammar.specs.Reading.{Place, unit_outcome, run}
 use Rattle.demangle_grammar.specs.Running.{allowed_in}
-use Rattle.demangle_v0.specs.Points.{most_frames, pays, heard_bits, way_weight, weights, measure, unit_rest_at, unit_rest_of, stack_rest, reading_rest, none_open}
-use Rattle.demangle_v0.specs.PointRuns.{Resumes, Valid, frame_height, Quiet, Reads, ReadOn, Skipped, Skipping, silent_of, own_path, own_heard, state_at, first_looks}
+use Rattle.demangle_v0.specs.Points.{most_frames, Turn, pays, heard_bits, way_weight, weights, measure, unit_rest_at, unit_rest_of, stack_rest, reading_rest, none_open}
+use Rattle.demangle_v0.specs.PointRuns.{Resumes, Valid, frame_height, Reads, ReadOn, silently, silent_turn, Skipped, ReadsOwn, Skipping, silent_of, own_path, own_heard, state_at, first_looks}
+use Rattle.demangle_words.specs.declared.output.Silent.{Silent}
 use Rattle.demangle_v0.specs.declared.points.Point.{Point}
 use Rattle.demangle_v0.specs.declared.points.Point.TheVariants as point
 use Rattle.demangle_v0.specs.declared.points.frames.Frame.{Frame}
@@ -20,7 +21,7 @@ use Rattle.demangle_v0.specs.declared.points.read.Halt.TheVariants as halt
 use Rattle.demangle_v0.specs.declared.points.read.Reading.{Reading}
 use Rattle.demangle_grammar.proofs.Hearing.{allowing_then}
 use Rattle.demangle_v0.proofs.Heights.{stands_on}
-use Rattle.demangle_v0.proofs.PointRuns.{allowed_bits, reads_none, resumes_heard, resume_light}
+use Rattle.demangle_v0.proofs.PointRuns.{allowed_bits, reads_none, resumes_heard, resume_light, ran_then, ran_place, ran_looks, broke_fails}
 use Rattle.demangle_v0.proofs.PointWholes.{owed_alone, over_place}
 use Rattle.demangle_grammar.proofs.SkippedPaths.{allowances, skip_reads, skip_failed}
 use Rattle.demangle_v0.proofs.PointSteps.{way_light}
@@ -38,13 +39,8 @@ skip_unread point.InherentPath s e = omega arith
 skip_unread point.ImplPath s e = omega arith
 skip_unread p s e = absurd (false≢true e)
 
--- Where a unit is over and another goes on.
-
-resumes_weight : (base : ℕ) (p q : Point) (s t : State) (stack now : List Frame) → Resumes base p s stack q t now → way_weight q + weights now ≤ way_weight p + weights stack
-resumes_weight base p q s t stack now x = omega (arith, resume_light base p q s t stack now x, way_light q)
-
-resumes_less : (b : List ℕ) (include_hash out : Bool) (base : ℕ) (p q : Point) (s t : State) (stack now : List Frame) → Resumes base p s stack q t now → measure b include_hash out q t now ≤ measure b include_hash out p s stack
-resumes_less b include_hash out base p q s t stack now x = omega (arith, resumes_weight base p q s t stack now x, ap (λ (h : Heard). allowed_in h.events) (resumes_heard b include_hash out base p q s t stack now x))
+resumes_less : (b : List ℕ) (include_hash out : Bool) {base : ℕ} {p q : Point} {s t : State} {stack now : List Frame} → Resumes base p s stack q t now → measure b include_hash out q t now ≤ measure b include_hash out p s stack
+resumes_less b include_hash out {q = q} x = omega (arith, resume_light x, way_light q, ap (λ (h : Heard). allowed_in h.events) (resumes_heard b include_hash out x))
 
 -- What is heard of it.
 
@@ -67,18 +63,13 @@ unfolding unit_rest_at
 skip_at false b include_hash v c left n i o = skip_items b include_hash (says "<" (child a_type false (says ">" done))) left n i
 skip_at true b include_hash v c left n i o = skip_items b include_hash (says "<" (child a_type false (says " as " (child a_path false (says ">" done))))) left n i
 
-pub skip_owed : (q : Bool) (b : List ℕ) (include_hash : Bool) (s : State) (stack : List Frame)
+skip_owed : (q : Bool) (b : List ℕ) (include_hash : Bool) (s : State) (stack : List Frame)
     → reading_rest b include_hash true (skip_point q) s stack ≡ heard_bits true (pays (allowances (own_heard b include_hash s).events) ∷ []) (reading_rest b include_hash true (self_point q) (state_at s (own_heard b include_hash s).place) stack)
 skip_owed q b include_hash s stack =
     subst (λ (h : Heard). reading_rest b include_hash true (skip_point q) s stack ≡ with_looks (allowances h.events) (reading_rest b include_hash true (self_point q) (state_at s h.place) stack)) (sym (own_is b include_hash s))
     (ap (λ (h : Heard). and_then h (stack_rest b include_hash true stack)) (skip_at q b include_hash s.in_value s.letter s.depth_left s.lifetimes s.place s.is_open)
     ∙ allowing_then (allowances (read_own b include_hash s.depth_left s.lifetimes s.place).events)
     (unit_rest_of b include_hash true (self_point q) (state_at s (read_own b include_hash s.depth_left s.lifetimes s.place).place)) (stack_rest b include_hash true stack))
-
--- the same, by what was read
-pub skipped_owed : (q : Bool) (b : List ℕ) (include_hash : Bool) (p : Point) (s t : State) (below now : List Frame) (made : ℕ) → Skipped b include_hash q s below p t now made
-    → reading_rest b include_hash true (skip_point q) s below ≡ heard_bits true (pays (allowances (own_heard b include_hash s).events) ∷ []) (reading_rest b include_hash true p t now)
-skipped_owed q b include_hash p s t below now made k = rw (k.at, k.state, k.is_stack, sym k.ends) (skip_owed q b include_hash s below)
 
 -- Where a reading stands.
 
@@ -90,75 +81,70 @@ behind_valid : (q : Bool) (s : State) (i : Place) (stack : List Frame) → Valid
 behind_valid true s i stack v = record { stands = v.stands; fits = v.fits; all_fit = v.all_fit; unmarked = v.unmarked }
 behind_valid false s i stack v = record { stands = v.stands; fits = v.fits; all_fit = v.all_fit; unmarked = v.unmarked }
 
-pub skipped_valid : (q : Bool) (b : List ℕ) (include_hash : Bool) (p : Point) (s t : State) (below now : List Frame) (made : ℕ) → Skipped b include_hash q s below p t now made → Valid (skip_point q) s below → Valid p t now
-skipped_valid q b include_hash p s t below now made k v = rw (k.at, k.state, k.is_stack) (behind_valid q s k.place below v)
-
-weight_less : (q : Bool) → way_weight ((self_point q)) < way_weight ((skip_point q))
+weight_less : (q : Bool) → way_weight (self_point q) < way_weight (skip_point q)
 weight_less true = omega arith
 weight_less false = omega arith
 
-pub skipped_less : (q : Bool) (b : List ℕ) (include_hash : Bool) (p : Point) (s t : State) (below now : List Frame) (made : ℕ) → Skipped b include_hash q s below p t now made → measure b include_hash true p t now < measure b include_hash true (skip_point q) s below
-skipped_less q b include_hash p s t below now made k =
-    let ks = allowances (own_heard b include_hash s).events in
-    omega (
-      arith,
-      weight_less q,
-      ap (λ (z : Point). way_weight z) k.at,
-      ap weights k.is_stack,
-      ap (λ (h : Heard). allowed_in h.events) (skipped_owed q b include_hash p s t below now made k),
-      allowed_bits true (pays ks ∷ []) (reading_rest b include_hash true p t now),
-    )
+-- Printing goes on behind it.
 
-pub turn_skipped : (b : List ℕ) (include_hash : Bool) (base : ℕ) (p q u : Point) (s t r : State) (stack mid now : List Frame) (made : ℕ) (k : (x : Bool) × (q ≡ skip_point x)) → Resumes base p s stack q t mid → Skipped b include_hash k.0 t mid u r now made
-    → measure b include_hash true u r now < measure b include_hash true p s stack
-turn_skipped b include_hash base p q u s t r stack mid now made k x z =
-    omega (arith, resumes_less b include_hash true base p q s t stack mid x, skipped_less k.0 b include_hash u t r mid now made z, ap (λ (y : Point). measure b include_hash true y t mid) k.1)
+module _ {b : List ℕ} {include_hash : Bool} {p q : Point} {s t : State} {below now : List Frame} {began looks : ℕ} where
+  pub skipped_valid : (k : (x : Bool) × (p ≡ skip_point x)) → Skipped b include_hash k.0 s below began q t now looks → Valid p s below → Valid q t now
+  skipped_valid k z v = rw (z.at, z.state, z.is_stack) (behind_valid k.0 s z.place below (subst (λ (y : Point). Valid y s below) k.1 v))
 
-pub skipped_stands : (b : List ℕ) (include_hash : Bool) (p u : Point) (s t : State) (below now : List Frame) (made : ℕ) (k : (x : Bool) × (p ≡ skip_point x)) → Skipped b include_hash k.0 s below u t now made → Valid p s below → Valid u t now
-skipped_stands b include_hash p u s t below now made k z v = skipped_valid k.0 b include_hash u s t below now made z (subst (λ (y : Point). Valid y s below) k.1 v)
+  pub skipped_heard : (k : (x : Bool) × (p ≡ skip_point x)) → Skipped b include_hash k.0 s below began q t now looks
+      → reading_rest b include_hash true p s below ≡ heard_bits true (pays (allowances (own_heard b include_hash s).events) ∷ []) (reading_rest b include_hash true q t now)
+  skipped_heard k z = rw (k.1, z.at, z.state, z.is_stack, sym z.ends) (skip_owed k.0 b include_hash s below)
+
+  pub skipped_less : {base : ℕ} {o : Point} {r : State} {stack : List Frame} (k : (x : Bool) × (p ≡ skip_point x)) → Resumes base o r stack p s below → Skipped b include_hash k.0 s below began q t now looks → measure b include_hash true q t now < measure b include_hash true o r stack
+  skipped_less k x z =
+      let ks = allowances (own_heard b include_hash s).events in
+      omega (
+        arith,
+        resumes_less b include_hash true x,
+        weight_less k.0,
+        ap (λ (y : Point). way_weight y) k.1,
+        ap (λ (y : Point). way_weight y) z.at,
+        ap weights z.is_stack,
+        ap (λ (h : Heard). allowed_in h.events) (skipped_heard k z),
+        allowed_bits true (pays ks ∷ []) (reading_rest b include_hash true q t now),
+      )
 
 -- The reading of it, in one stack or two.
 
 -- where it is begun
-pub own_stands : (p : Point) (s : State) (stack : List Frame) (r : Reading) → is_skip p ≡ true → r ≡ own_path s → Valid p s stack → Valid r.point r.state stack
-own_stands p s stack r e k v = let q = skip_is p e in rw k (own_valid q.0 s stack (subst (λ (y : Point). Valid y s stack) q.1 v))
+pub own_stands : {p : Point} {s : State} {stack : List Frame} {r : Reading} → is_skip p ≡ true → r ≡ own_path s → Valid p s stack → Valid r.point r.state stack
+own_stands {p} {s} {stack} e k v = let q = skip_is p e in rw k (own_valid q.0 s stack (subst (λ (y : Point). Valid y s stack) q.1 v))
 
-pub own_reads : (b : List ℕ) (include_hash : Bool) (s : State) (stack : List Frame) (r : Reading) → r ≡ own_path s → Reads b include_hash stack point.Path (silent_of s) [] r.point r.state stack 0
-own_reads b include_hash s stack r k = rw k (reads_none b include_hash stack point.Path (silent_of s) [] stack (sym (append-nil stack)) tt 0 (omega arith))
+pub own_reads : (b : List ℕ) (include_hash : Bool) (n : ℕ) (s : State) {stack : List Frame} {r : Reading} → r ≡ own_path s → ReadsOwn b include_hash stack s n r stack n
+own_reads b include_hash n s {stack} k = rw k (reads_none {t = silent_turn (silent_of s) stack n} (sym (append-nil stack)) tt)
 
 -- where the stack is full
-pub skipping : (b : List ℕ) (include_hash : Bool) (p : Point) (s : State) (below now : List Frame) (base : ℕ) (inner r : Reading) (made : ℕ) → is_skip p ≡ true → r ≡ record { point = p; state = s } → base ≡ length below → Valid p s below
-    → Reads b include_hash below point.Path (silent_of s) [] inner.point inner.state now made → Skipping b include_hash base inner r now made
-skipping b include_hash p s below now base inner r made e k h v x = let q = skip_is p e in rw k (record { below = below; height = sym h; of_trait = q.0; at = q.1; valid = v; reads = x })
+pub skipping : {b : List ℕ} {include_hash : Bool} {p : Point} {s : State} {below now : List Frame} {base began looks : ℕ} {inner r : Reading} → is_skip p ≡ true → r ≡ record { point = p; state = s } → base ≡ length below → Valid p s below
+    → ReadsOwn b include_hash below s began inner now looks → Skipping b include_hash base began inner r now looks
+skipping {p = p} {below = below} e k h v x = let q = skip_is p e in rw k (record { below = below; height = sym h; of_trait = q.0; at = q.1; valid = v; reads = x })
 
-quiet_then : (b : List ℕ) (include_hash : Bool) (p q r : Point) (s t u : State) (xs ys zs : List Frame) (first second made : ℕ) → made ≤ first + second → Quiet b include_hash p s xs q t ys first → Quiet b include_hash q t ys r u zs second → Quiet b include_hash p s xs r u zs made
-quiet_then b include_hash p q r s t u xs ys zs first second made l x y = record { place = y.place ∙ x.place; looks = omega (arith, l, x.looks, y.looks) }
-
-module _ (b : List ℕ) (include_hash : Bool) (of_trait : Bool) (s : State) (below : List Frame) (p : Point) (t : State) (stack : List Frame) (first : ℕ) (r : Reads b include_hash below point.Path (silent_of s) [] p t stack first) where
+module _ {b : List ℕ} {include_hash : Bool} {below : List Frame} {began m : ℕ} {p q : Point} {t : State} {stack : List Frame} {u : Turn Silent} (of_trait : Bool) (s : State) (r : Reads (silently b include_hash) below point.Path (silent_turn (silent_of s) [] began) p (silent_turn t stack m)) where
   -- it came to its end
-  pub own_over : (q to : Point) (u new : State) (now : List Frame) (second made : ℕ) → ReadOn b include_hash below p t r.frames halt.Over q u now second → made ≤ first + second → to ≡ self_point of_trait → new ≡ state_at s u.place
-      → Skipped b include_hash of_trait s below to new now made
-  own_over q to u new now second made d l e k =
-      let whole = quiet_then b include_hash point.Path p point.End (silent_of s) t u [] r.frames [] first second made l r.quiet d.reads.1 in
-      record { at = e; place = u.place; ends = sym whole.place ∙ over_place b include_hash u; state = k; is_stack = d.reads.0; looks = omega (arith, whole.looks) }
+  pub own_over : {to : Point} {new : State} → ReadOn (silently b include_hash) below p (silent_turn t r.frames m) halt.Over q u → to ≡ self_point of_trait → new ≡ state_at s u.state.place → Skipped b include_hash of_trait s below began to new u.stack u.looks
+  own_over d e k =
+      let x = ran_then r.ran d.reads.1 in
+      record { at = e; place = u.state.place; ends = sym (ran_place x) ∙ over_place b include_hash u.state; state = k; is_stack = d.reads.0; enough = omega (arith, ran_looks x) }
 
   -- it failed
-  pub own_failed : (base : ℕ) (q to : Point) (u new : State) (mid now : List Frame) (second made : ℕ) → ReadOn b include_hash below p t r.frames halt.Failed q u mid second → made ≤ first + second → length below ≡ base → now ≡ take base mid
-      → to ≡ self_point of_trait → new ≡ state_at s None → Skipped b include_hash of_trait s below to new now made
-  own_failed base q to u new mid now second made d l h w e k = record {
-    at = e;
-    place = None;
-    ends = sym r.quiet.place ∙ d.reads.0.place;
-    state = k;
-    is_stack = w ∙ (ap (λ (z : ℕ). take z mid) (sym h) ∙ (ap (take (length below)) d.reads.1.1 ∙ take-append_seam below d.reads.1.0));
-    looks = omega (arith, l, r.quiet.looks, d.reads.0.looks);
-  }
+  pub own_failed : {base : ℕ} {to : Point} {new : State} {now : List Frame} → ReadOn (silently b include_hash) below p (silent_turn t r.frames m) halt.Failed q u → length below ≡ base → now ≡ take base u.stack → to ≡ self_point of_trait → new ≡ state_at s None
+      → Skipped b include_hash of_trait s below began to new now u.looks
+  own_failed d h w e k =
+      let z = broke_fails refl d.reads.0 d.reads.1 in
+      let kept = d.reads.2 in
+      record {
+        at = e;
+        place = None;
+        ends = sym (ran_place r.ran) ∙ z.0;
+        state = k;
+        is_stack = w ∙ (ap (λ (z : ℕ). take z u.stack) (sym h) ∙ (ap (take (length below)) kept.1 ∙ take-append_seam below kept.0));
+        enough = omega (arith, ran_looks r.ran, z.1);
+      }
 
   -- the stack is full
-  pub own_full : (q : Point) (u : State) (now : List Frame) (second made : ℕ) → ReadOn b include_hash below p t r.frames halt.Full q u now second → made ≤ first + second → Reads b include_hash below point.Path (silent_of s) [] q u now made
-  own_full q u now second made d l = record {
-    frames = d.reads.frames;
-    is_stack = d.reads.is_stack;
-    inner = d.reads.inner;
-    quiet = quiet_then b include_hash point.Path p q (silent_of s) t u [] r.frames d.reads.frames first second made l r.quiet d.reads.quiet;
-  }
+  pub own_full : ReadOn (silently b include_hash) below p (silent_turn t r.frames m) halt.Full q u → Reads (silently b include_hash) below point.Path (silent_turn (silent_of s) [] began) q u
+  own_full d = record { frames = d.reads.frames; is_stack = d.reads.is_stack; inner = d.reads.inner; ran = ran_then r.ran d.reads.ran }

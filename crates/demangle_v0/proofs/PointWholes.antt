@@ -1,21 +1,24 @@
 -- Readings of a whole path.
 use Rattle.std.specs.Prelude.{◌*◌}
-use Rattle.std.proofs.Common.{◌≡◌, ℕ, ◌+◌, ◌≤◌, Bool, true, false, None, List, [], length, refl, arith, sym, ap, ◌∙◌, subst}
+use Rattle.std.proofs.Common.{inl, inr, ◌⊎◌, ◌≡◌, ℕ, ◌+◌, ◌≤◌, Bool, true, false, None, List, [], length, refl, arith, sym, ap, ◌∙◌, subst}
 use Rattle.demangle_grammar.specs.Accepting.{looks_in}
 use Rattle.demangle_grammar.specs.Events.{Heard}
 use Rattle.demangle_grammar.specs.Items.{a_path}
 use Rattle.demangle_grammar.specs.Reading.{max_depth, unit_end, read_at, level_of, levels}
 use Rattle.demangle_grammar.specs.Running.{allowed_in}
-use Rattle.demangle_v0.specs.Points.{most_frames, AllInner, unit_rest_at, unit_rest_of, stack_rest, reading_rest}
-use Rattle.demangle_v0.specs.PointRuns.{Valid, frame_height, ReadOn, first_state}
+use Rattle.demangle_v0.specs.Points.{most_frames, Turn, AllInner, unit_rest_at, unit_rest_of, stack_rest, reading_rest}
+use Rattle.demangle_v0.specs.PointRuns.{Valid, frame_height, Ran, ReadOn, first_state, silently, silent_turn}
 use Rattle.demangle_v0.specs.declared.points.Point.{Point}
 use Rattle.demangle_v0.specs.declared.points.Point.TheVariants as point
 use Rattle.demangle_v0.specs.declared.points.frames.Frame.{Frame}
 use Rattle.demangle_v0.specs.declared.points.State.{State}
+use Rattle.demangle_v0.specs.declared.points.read.Halt.{Halt}
 use Rattle.demangle_v0.specs.declared.points.read.Halt.TheVariants as halt
 use Rattle.demangle_grammar.proofs.FailedRows.{allowed_looks}
 use Rattle.demangle_grammar.proofs.Hearing.{and_then_ended}
+use Rattle.demangle_words.specs.declared.output.Silent.{Silent}
 use Rattle.demangle_v0.proofs.Heights.{stands_first}
+use Rattle.demangle_v0.proofs.PointRuns.{ran_place, ran_looks, broke_fails}
 
 pub valid_first : (i : ℕ) → Valid point.Path (first_state i) []
 valid_first i = record { stands = stands_first frame_height most_frames (8 * max_depth + 1) (omega arith); fits = omega arith; all_fit = tt; unmarked = refl }
@@ -32,47 +35,44 @@ pub over_place : (b : List ℕ) (include_hash : Bool) (s : State) → (reading_r
 unfolding unit_rest_at stack_rest
 over_place b include_hash s = refl
 
--- it came to an end
-pub read_end : (b : List ℕ) (include_hash : Bool) (p q : Point) (s t : State) (stack now : List Frame) (made : ℕ) → ReadOn b include_hash [] p s stack halt.Over q t now made → t.place ≡ (reading_rest b include_hash false p s stack).place
-read_end b include_hash p q s t stack now made r = sym (over_place b include_hash t) ∙ r.reads.1.place
-
-first_place : (b : List ℕ) (i : ℕ) → (reading_rest b true false point.Path (first_state i) []).place ≡ unit_end b a_path i 0
+pub first_place : (b : List ℕ) (i : ℕ) → (reading_rest b true false point.Path (first_state i) []).place ≡ unit_end b a_path i 0
 unfolding unit_rest_at unit_end read_at
 first_place b i = ap (λ (h : Heard). h.place) (owed_alone b true false point.Path (first_state i))
 
-first_allowed : (b : List ℕ) (i : ℕ) → allowed_in (reading_rest b true false point.Path (first_state i) []).events ≡ looks_in (read_at b false a_path i 0 0 true)
+pub first_allowed : (b : List ℕ) (i : ℕ) → allowed_in (reading_rest b true false point.Path (first_state i) []).events ≡ looks_in (read_at b false a_path i 0 0 true)
 unfolding unit_rest_at read_at
 first_allowed b i = ap (λ (h : Heard). allowed_in h.events) (owed_alone b true false point.Path (first_state i)) ∙ allowed_looks true false (level_of b (levels b max_depth) false a_path true 0 i).tree
 
--- of a path that is accepted, in one stack
+-- What a silent reading tells of its place and its looks.
 
-pub path_ends : (b : List ℕ) (i made : ℕ) (q : Point) (t : State) (now : List Frame) → ReadOn b true [] point.Path (first_state i) [] halt.Over q t now made → t.place ≡ unit_end b a_path i 0
-path_ends b i made q t now r = read_end b true point.Path q (first_state i) t [] now made r ∙ first_place b i
+pub failed_of : {r : Halt} → (r ≡ halt.Full) ⊎ (r ≡ halt.Failed) → (r ≡ halt.Full → ⊥) → r ≡ halt.Failed
+failed_of (inl k) h = absurd (h k)
+failed_of (inr k) h = k
 
-pub path_looks : (b : List ℕ) (i made : ℕ) (q : Point) (t : State) (now : List Frame) → ReadOn b true [] point.Path (first_state i) [] halt.Over q t now made → made ≤ looks_in (read_at b false a_path i 0 0 true)
-path_looks b i made q t now r = omega (arith, r.reads.1.looks, first_allowed b i)
+module _ {b : List ℕ} {include_hash : Bool} {p q : Point} {s : State} {stack : List Frame} {m : ℕ} {u : Turn Silent} where
+  -- it came to an end
+  pub over_value : ReadOn (silently b include_hash) [] p (silent_turn s stack m) halt.Over q u → u.state.place ≡ (reading_rest b include_hash false p s stack).place
+  over_value r = sym (over_place b include_hash u.state) ∙ ran_place r.reads.1
 
-pub path_fails : (b : List ℕ) (i made : ℕ) (q : Point) (t : State) (now : List Frame) → ReadOn b true [] point.Path (first_state i) [] halt.Failed q t now made → None ≡ unit_end b a_path i 0
-path_fails b i made q t now r = sym r.reads.0.place ∙ first_place b i
+  pub over_looks : ReadOn (silently b include_hash) [] p (silent_turn s stack m) halt.Over q u → u.looks ≤ m + allowed_in (reading_rest b include_hash false p s stack).events
+  over_looks r = omega (arith, ran_looks r.reads.1)
 
-pub path_fails_looks : (b : List ℕ) (i made : ℕ) (q : Point) (t : State) (now : List Frame) → ReadOn b true [] point.Path (first_state i) [] halt.Failed q t now made → made ≤ looks_in (read_at b false a_path i 0 0 true)
-path_fails_looks b i made q t now r = omega (arith, r.reads.0.looks, first_allowed b i)
+  -- it failed
+  pub failed_value : ReadOn (silently b include_hash) [] p (silent_turn s stack m) halt.Failed q u → None ≡ (reading_rest b include_hash false p s stack).place
+  failed_value r = sym (broke_fails refl r.reads.0 r.reads.1).0
 
--- in more than one
+  pub failed_looks : ReadOn (silently b include_hash) [] p (silent_turn s stack m) halt.Failed q u → u.looks ≤ m + allowed_in (reading_rest b include_hash false p s stack).events
+  failed_looks r = (broke_fails refl r.reads.0 r.reads.1).1
 
-pub rest_inner : (b : List ℕ) (include_hash : Bool) (p q : Point) (s t : State) (stack now : List Frame) (made : ℕ) → ReadOn b include_hash [] p s stack halt.Full q t now made → AllInner now
-rest_inner b include_hash p q s t stack now made r = subst AllInner (sym r.reads.is_stack) r.reads.inner
+  -- the stack is full
+  pub full_inner : ReadOn (silently b include_hash) [] p (silent_turn s stack m) halt.Full q u → AllInner u.stack
+  full_inner r = subst AllInner (sym r.reads.is_stack) r.reads.inner
 
-pub full_place : (b : List ℕ) (include_hash : Bool) (p q : Point) (s t : State) (stack now : List Frame) (made : ℕ) → ReadOn b include_hash [] p s stack halt.Full q t now made → (reading_rest b include_hash false q t now).place ≡ (reading_rest b include_hash false p s stack).place
-full_place b include_hash p q s t stack now made r = ap (λ (ys : List Frame). (reading_rest b include_hash false q t ys).place) r.reads.is_stack ∙ r.reads.quiet.place
+  full_ran : ReadOn (silently b include_hash) [] p (silent_turn s stack m) halt.Full q u → Ran (silently b include_hash) p (silent_turn s stack m) q u
+  full_ran r = subst (λ (ys : List Frame). Ran (silently b include_hash) p (silent_turn s stack m) q (record u { stack = ys })) (sym r.reads.is_stack) r.reads.ran
 
-pub full_looks : (b : List ℕ) (include_hash : Bool) (p q : Point) (s t : State) (stack now : List Frame) (made : ℕ) → ReadOn b include_hash [] p s stack halt.Full q t now made
-    → made + allowed_in (reading_rest b include_hash false q t now).events ≤ allowed_in (reading_rest b include_hash false p s stack).events
-full_looks b include_hash p q s t stack now made r = omega (arith, r.reads.quiet.looks, ap (λ (ys : List Frame). allowed_in (reading_rest b include_hash false q t ys).events) r.reads.is_stack)
+  pub full_value : ReadOn (silently b include_hash) [] p (silent_turn s stack m) halt.Full q u → (reading_rest b include_hash false q u.state u.stack).place ≡ (reading_rest b include_hash false p s stack).place
+  full_value r = ran_place (full_ran r)
 
-pub rest_ends : (b : List ℕ) (i made : ℕ) (q : Point) (t : State) (now : List Frame) → ReadOn b true [] point.Path (first_state i) [] halt.Full q t now made → (reading_rest b true false q t now).place ≡ unit_end b a_path i 0
-rest_ends b i made q t now r = full_place b true point.Path q (first_state i) t [] now made r ∙ first_place b i
-
-pub rest_looks : (b : List ℕ) (i made : ℕ) (q : Point) (t : State) (now : List Frame) → ReadOn b true [] point.Path (first_state i) [] halt.Full q t now made
-    → made + allowed_in (reading_rest b true false q t now).events ≤ looks_in (read_at b false a_path i 0 0 true)
-rest_looks b i made q t now r = omega (arith, full_looks b true point.Path q (first_state i) t [] now made r, first_allowed b i)
+  pub full_looks : ReadOn (silently b include_hash) [] p (silent_turn s stack m) halt.Full q u → u.looks + allowed_in (reading_rest b include_hash false q u.state u.stack).events ≤ m + allowed_in (reading_rest b include_hash false p s stack).events
+  full_looks r = ran_looks (full_ran r)

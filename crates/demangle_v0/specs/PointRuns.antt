@@ -1,17 +1,16 @@
 -- Internal: no public contract cites this.
 -- Steps on a whole stack of frames.
 use Rattle.std.specs.Prelude.{◌≡◌, ℕ, ◌+◌, ◌≤◌, ◌<◌, min, Bool, true, false, Option, Some, None, List, [], ◌∷◌, ◌++◌, length, Result, Ok, Err, IsOk}
-use Rattle.demangle_grammar.specs.Events.{Heard, with_texts}
+use Rattle.demangle_grammar.specs.Events.{Heard}
 use Rattle.demangle_words.specs.Texts.{text}
 use Rattle.demangle_v0.specs.Heights as heights
 use Rattle.demangle_v0.specs.Impls.{skip_point, self_point}
 use Rattle.demangle_words.specs.declared.texts.Mark.{Mark}
 use Rattle.demangle_sink.specs.declared.SinkRefused.{SinkRefused}
-use Rattle.demangle_v0.specs.Points.{Bit, pays, puts, heard_bits, bits_looks, Env, whole, Turn, Went, Halted, Kept, AllInner, Fits, reading_rest, height_at, most_frames, resumed_of}
+use Rattle.demangle_v0.specs.Points.{Bit, pays, puts, heard_bits, bits_looks, Env, env, whole, Turn, turn, Went, Halted, Kept, AllInner, Fits, reading_rest, height_at, most_frames, resumed_of}
 use Rattle.demangle_grammar.specs.Running.{allowed_in}
 use Rattle.demangle_grammar.specs.Reading.{Place, max_depth}
-use Rattle.demangle_grammar.specs.Items.{Text}
-use Rattle.demangle_sink.specs.Limit.{Prints}
+use Rattle.demangle_sink.specs.Limit.{Prints, Ready}
 use Rattle.demangle_sink.specs.declared.TextSink.{Ghosts as Sinks}
 use Rattle.demangle_sink.specs.declared.limit.SizeLimitedFmtAdapter.{SizeLimitedFmtAdapter}
 use Rattle.demangle_v0.specs.declared.points.Point.{Point}
@@ -24,6 +23,7 @@ use Rattle.demangle_v0.specs.declared.points.read.Halt.TheVariants as halt
 use Rattle.demangle_v0.specs.declared.printing.Left.{Left}
 use Rattle.demangle_v0.specs.declared.printing.Left.TheVariants as left
 use Rattle.demangle_words.specs.declared.output.Output.{Ghosts}
+use Rattle.demangle_words.specs.declared.output.Silent.{Silent}
 
 -- A step, whose mark was handed over.
 
@@ -75,32 +75,58 @@ pub record Valid (p : Point) (s : State) (stack : List Frame) : Type 0 where
   pub all_fit : AllFit stack
   pub unmarked : s.mark ≡ None
 
--- What a reading does above other frames.
+-- Steps, one behind another.
 
--- without an output: it goes on to the same place, and makes no more looks than are allowed
-pub record Quiet (b : List ℕ) (include_hash : Bool) (p : Point) (s : State) (stack : List Frame) (q : Point) (t : State) (now : List Frame) (made : ℕ) : Type 0 where
-  pub place : (reading_rest b include_hash false q t now).place ≡ (reading_rest b include_hash false p s stack).place
-  pub looks : made + allowed_in (reading_rest b include_hash false q t now).events ≤ allowed_in (reading_rest b include_hash false p s stack).events
+-- what is left to be heard
+abbrev pub left_of : {V : Type 0} → Env V → Point → Turn V → Heard
+left_of env p t = reading_rest env.symbol env.include_hash env.output.is_printed p t.state t.stack
 
--- it failed
-pub record Fails (b : List ℕ) (include_hash : Bool) (p : Point) (s : State) (stack : List Frame) (made : ℕ) : Type 0 where
-  pub place : (reading_rest b include_hash false p s stack).place ≡ None
-  pub looks : made ≤ allowed_in (reading_rest b include_hash false p s stack).events
+-- an output was handed these texts in turn
+abbrev pub Emitted : {V : Type 0} → Env V → List Bit → V → V → Type 0
+Emitted env [] v w = v ≡ w
+Emitted env (pays k ∷ bits) v w = Emitted env bits v w
+Emitted {V = V} env (puts ts ∷ bits) v w = (mid : V) × env.output.prints v ts (Ok tt) mid × Emitted env bits mid w
 
--- a reading over these frames, above those below
-pub record Reads (b : List ℕ) (include_hash : Bool) (below : List Frame) (p : Point) (s : State) (above : List Frame) (q : Point) (t : State) (now : List Frame) (made : ℕ) : Type 0 where
+-- they went from one turn to the other
+pub record Ran {V : Type 0} (env : Env V) (p : Point) (before : Turn V) (q : Point) (after : Turn V) : Type 0 where
+  pub bits : List Bit
+  pub emits : Emitted env bits before.output after.output
+  pub reads : left_of env p before ≡ heard_bits env.output.is_printed bits (left_of env q after)
+  pub enough : after.looks ≤ before.looks + bits_looks bits
+
+-- and one more was refused, or failed
+pub record Broke {V : Type 0} (env : Env V) (p : Point) (before : Turn V) (output : V) (looks : ℕ) : Type 0 where
+  pub at : Point
+  pub mid : Turn V
+  pub stack : List Frame
+  pub end : Turn V
+  pub ran : Ran env p before at (record mid { stack = stack })
+  pub halts : Halted env (whole env at mid.state) mid end
+  pub same_output : end.output ≡ output
+  pub same_looks : end.looks ≡ looks
+
+-- A reading that prints nothing, above other frames.
+
+abbrev pub silently : List ℕ → Bool → Env Silent
+silently b include_hash = env (record { is_printed = false; ready = λ v. Unit {0}; prints = λ v texts result w. Unit {0} }) b include_hash
+
+abbrev pub silent_turn : State → List Frame → ℕ → Turn Silent
+silent_turn s stack n = turn s stack (record {}) n
+
+-- it has these frames, above those below
+pub record Reads {V : Type 0} (env : Env V) (below : List Frame) (p : Point) (before : Turn V) (q : Point) (after : Turn V) : Type 0 where
   pub frames : List Frame
-  pub is_stack : now ≡ below ++ frames
+  pub is_stack : after.stack ≡ below ++ frames
   pub inner : AllInner frames
-  pub quiet : Quiet b include_hash p s above q t frames made
+  pub ran : Ran env p before q (record after { stack = frames })
 
-abbrev pub ReadsOn : List ℕ → Bool → List Frame → Point → State → List Frame → Halt → Point → State → List Frame → ℕ → Type 0
-ReadsOn b include_hash below p s above halt.Over q t now made = (now ≡ below) × Quiet b include_hash p s above point.End t [] made
-ReadsOn b include_hash below p s above halt.Full q t now made = Reads b include_hash below p s above q t now made
-ReadsOn b include_hash below p s above halt.Failed q t now made = Fails b include_hash p s above made × Kept below now
+abbrev pub ReadsOn : {V : Type 0} → Env V → List Frame → Point → Turn V → Halt → Point → Turn V → Type 0
+ReadsOn env below p before halt.Over q after = (after.stack ≡ below) × Ran env p before point.End (record after { stack = [] })
+ReadsOn env below p before halt.Full q after = Reads env below p before q after
+ReadsOn env below p before halt.Failed q after = (d : Broke env p before after.output after.looks) × AllInner d.stack × Kept below after.stack
 
-pub record ReadOn (b : List ℕ) (include_hash : Bool) (below : List Frame) (p : Point) (s : State) (above : List Frame) (result : Halt) (q : Point) (t : State) (now : List Frame) (made : ℕ) : Type 0 where
-  pub reads : ReadsOn b include_hash below p s above result q t now made
+pub record ReadOn {V : Type 0} (env : Env V) (below : List Frame) (p : Point) (before : Turn V) (result : Halt) (q : Point) (after : Turn V) : Type 0 where
+  pub reads : ReadsOn env below p before result q after
 
 -- The own path of an impl, which is read and not printed.
 
@@ -118,85 +144,67 @@ own_heard b include_hash s = reading_rest b include_hash false point.Path (silen
 abbrev pub state_at : State → Place → State
 state_at s i = record s { place = i }
 
--- it was read, and printing goes on behind it
-pub record Skipped (b : List ℕ) (include_hash of_trait : Bool) (s : State) (below : List Frame) (p : Point) (t : State) (now : List Frame) (made : ℕ) : Type 0 where
+-- it was read from so many looks to so many, and printing goes on behind it
+pub record Skipped (b : List ℕ) (include_hash of_trait : Bool) (s : State) (below : List Frame) (began : ℕ) (p : Point) (t : State) (now : List Frame) (looks : ℕ) : Type 0 where
   pub at : p ≡ self_point of_trait
   pub place : Place
   pub ends : (own_heard b include_hash s).place ≡ place
   pub state : t ≡ state_at s place
   pub is_stack : now ≡ below
-  pub looks : made ≤ allowed_in (own_heard b include_hash s).events
+  pub enough : looks ≤ began + allowed_in (own_heard b include_hash s).events
 
--- An output that prints: it was handed these texts in turn.
-abbrev pub Emitted : {S : Type 0} → Sinks S → SizeLimitedFmtAdapter S → List Bit → SizeLimitedFmtAdapter S → Type 0
-Emitted sink v [] w = v ≡ w
-Emitted sink v (pays k ∷ bits) w = Emitted sink v bits w
-Emitted {S = S} sink v (puts ts ∷ bits) w = (mid : SizeLimitedFmtAdapter S) × Prints sink v ts (Ok tt) mid × Emitted sink mid bits w
+-- it was read so far, from so many looks on
+abbrev pub ReadsOwn : List ℕ → Bool → List Frame → State → ℕ → Reading → List Frame → ℕ → Type 0
+ReadsOwn b include_hash below s began inner now looks = Reads (silently b include_hash) below point.Path (silent_turn (silent_of s) [] began) inner.point (silent_turn inner.state now looks)
 
--- what was printed, and the looks that were allowed, on the way from one state to another
-pub record Ran {S : Type 0} (sink : Sinks S) (b : List ℕ) (include_hash : Bool) (p : Point) (s : State) (stack : List Frame) (v : SizeLimitedFmtAdapter S) (q : Point) (t : State) (now : List Frame) (w : SizeLimitedFmtAdapter S) (made : ℕ) : Type 0 where
-  pub bits : List Bit
-  pub emits : Emitted sink v bits w
-  pub reads : reading_rest b include_hash true p s stack ≡ heard_bits true bits (reading_rest b include_hash true q t now)
-  pub enough : made ≤ bits_looks bits
-
--- the sink or the limit refused
-pub record Broke {S : Type 0} (sink : Sinks S) (b : List ℕ) (include_hash : Bool) (p : Point) (s : State) (stack : List Frame) (v w : SizeLimitedFmtAdapter S) (made : ℕ) : Type 0 where
-  pub front : List Bit
-  pub texts : List Text
-  pub rest : Heard
-  pub mid : SizeLimitedFmtAdapter S
-  pub emits : Emitted sink v front mid
-  pub refusal : SinkRefused
-  pub prints : Prints sink mid texts (Err refusal) w
-  pub reads : reading_rest b include_hash true p s stack ≡ heard_bits true front (with_texts true texts rest)
-  pub enough : made ≤ bits_looks front + 2
-
--- an impl's own path was read so far, above so many frames
-pub record Skipping (b : List ℕ) (include_hash : Bool) (base : ℕ) (inner printing : Reading) (now : List Frame) (made : ℕ) : Type 0 where
+-- the same, above so many frames
+pub record Skipping (b : List ℕ) (include_hash : Bool) (base : ℕ) (began : ℕ) (inner printing : Reading) (now : List Frame) (looks : ℕ) : Type 0 where
   pub below : List Frame
   pub height : length below ≡ base
   pub of_trait : Bool
   pub at : printing.point ≡ skip_point of_trait
   pub valid : Valid printing.point printing.state below
-  pub reads : Reads b include_hash below point.Path (silent_of printing.state) [] inner.point inner.state now made
+  pub reads : ReadsOwn b include_hash below printing.state began inner now looks
 
-pub record Midway {S : Type 0} (sink : Sinks S) (b : List ℕ) (include_hash : Bool) (p : Point) (s : State) (stack : List Frame) (v : SizeLimitedFmtAdapter S) (base : ℕ) (inner printing : Reading) (now : List Frame) (w : SizeLimitedFmtAdapter S) (made : ℕ) : Type 0 where
-  pub first : ℕ
-  pub second : ℕ
-  pub skips : Skipping b include_hash base inner printing now second
-  pub ran : Ran sink b include_hash p s stack v printing.point printing.state skips.below w first
-  pub enough : made ≤ first + second
+-- A reading that prints.
 
-abbrev pub RansOn : {S : Type 0} → Sinks S → List ℕ → Bool → Point → State → List Frame → SizeLimitedFmtAdapter S → Result (Option Left) SinkRefused → Reading → List Frame → SizeLimitedFmtAdapter S → ℕ → Type 0
-RansOn sink b include_hash p s stack v (Ok None) r now w made = Ran sink b include_hash p s stack v point.End r.state [] w made
-RansOn sink b include_hash p s stack v (Ok (Some left.Stack)) r now w made = Ran sink b include_hash p s stack v r.point r.state now w made
-RansOn sink b include_hash p s stack v (Ok (Some (left.OwnPath base inner))) r now w made = Midway sink b include_hash p s stack v base inner r now w made
-RansOn sink b include_hash p s stack v (Err e) r now w made = Broke sink b include_hash p s stack v w made
+abbrev pub printing : {S : Type 0} → Sinks S → List ℕ → Bool → Env (SizeLimitedFmtAdapter S)
+printing sink b include_hash = env (record { is_printed = true; ready = λ v. Ready sink v; prints = λ v texts result w. Prints sink v texts result w }) b include_hash
 
-pub record RanOn {S : Type 0} (sink : Sinks S) (b : List ℕ) (include_hash : Bool) (p : Point) (s : State) (stack : List Frame) (v : SizeLimitedFmtAdapter S) (result : Result (Option Left) SinkRefused) (r : Reading) (now : List Frame) (w : SizeLimitedFmtAdapter S) (made : ℕ) : Type 0 where
-  pub ran : RansOn sink b include_hash p s stack v result r now w made
+pub record Midway {V : Type 0} (env : Env V) (p : Point) (before : Turn V) (base : ℕ) (inner r : Reading) (now : List Frame) (w : V) (looks : ℕ) : Type 0 where
+  pub began : ℕ
+  pub skips : Skipping env.symbol env.include_hash base began inner r now looks
+  pub ran : Ran env p before r.point (turn r.state skips.below w began)
+
+abbrev pub RansOn : {V : Type 0} → Env V → Point → Turn V → Result (Option Left) SinkRefused → Reading → List Frame → V → ℕ → Type 0
+RansOn env p before (Ok None) r now w looks = Ran env p before point.End (turn r.state [] w looks)
+RansOn env p before (Ok (Some left.Stack)) r now w looks = Ran env p before r.point (turn r.state now w looks)
+RansOn env p before (Ok (Some (left.OwnPath base inner))) r now w looks = Midway env p before base inner r now w looks
+RansOn env p before (Err e) r now w looks = Broke env p before w looks
+
+pub record RanOn {V : Type 0} (env : Env V) (p : Point) (before : Turn V) (result : Result (Option Left) SinkRefused) (r : Reading) (now : List Frame) (w : V) (looks : ℕ) : Type 0 where
+  pub ran : RansOn env p before result r now w looks
 
 -- what is left stands in a stack of at least so many frames
-abbrev pub ValidLeft : List ℕ → Bool → ℕ → Result (Option Left) SinkRefused → Reading → List Frame → Type 0
-ValidLeft b include_hash n (Ok None) r stack = Unit {0}
-ValidLeft b include_hash n (Ok (Some left.Stack)) r stack = Valid r.point r.state stack × (n ≤ length stack)
-ValidLeft b include_hash n (Ok (Some (left.OwnPath base inner))) r stack = (made : ℕ) × Skipping b include_hash base inner r stack made × Valid inner.point inner.state stack × (n ≤ length stack)
-ValidLeft b include_hash n (Err e) r stack = Unit {0}
+abbrev pub ValidLeft : List ℕ → Bool → ℕ → Result (Option Left) SinkRefused → Reading → List Frame → ℕ → Type 0
+ValidLeft b include_hash n (Ok None) r stack looks = Unit {0}
+ValidLeft b include_hash n (Ok (Some left.Stack)) r stack looks = Valid r.point r.state stack × (n ≤ length stack)
+ValidLeft b include_hash n (Ok (Some (left.OwnPath base inner))) r stack looks = (began : ℕ) × Skipping b include_hash base began inner r stack looks × Valid inner.point inner.state stack × (n ≤ length stack)
+ValidLeft b include_hash n (Err e) r stack looks = Unit {0}
 
 -- the own path of an impl that was read so far was read to its end, if there was one
-abbrev pub Passed : List ℕ → Bool → Left → Reading → List Frame → Reading → List Frame → ℕ → Type 0
-Passed b include_hash left.Stack r stack to now made = (to ≡ r) × (now ≡ stack) × (made ≤ 0)
-Passed b include_hash (left.OwnPath base inner) r stack to now made = (below : List Frame) (q : Bool) (first : ℕ) → Reads b include_hash below point.Path (silent_of r.state) [] inner.point inner.state stack first → length below ≡ base → r.point ≡ skip_point q
-    → Skipped b include_hash q r.state below to.point to.state now (first + made)
+abbrev pub Passed : List ℕ → Bool → Left → Reading → List Frame → ℕ → Reading → List Frame → ℕ → Type 0
+Passed b include_hash left.Stack r stack old to now new = (to ≡ r) × (now ≡ stack) × (new ≤ old)
+Passed b include_hash (left.OwnPath base inner) r stack old to now new = (below : List Frame) (q : Bool) (began : ℕ) → ReadsOwn b include_hash below r.state began inner stack old → length below ≡ base → r.point ≡ skip_point q
+    → Skipped b include_hash q r.state below began to.point to.state now new
 
 -- the same, where the stack of so many frames may be full before
-abbrev pub Finishes : List ℕ → Bool → ℕ → Left → Reading → List Frame → Option Left → Reading → List Frame → ℕ → Type 0
-Finishes b include_hash n x r stack None to now made = Passed b include_hash x r stack to now made
-Finishes b include_hash n left.Stack r stack (Some y) to now made = ⊥
-Finishes b include_hash n (left.OwnPath base inner) r stack (Some left.Stack) to now made = ⊥
-Finishes b include_hash n (left.OwnPath base inner) r stack (Some (left.OwnPath height more)) to now made = (height ≡ base) × (to ≡ r) × Valid more.point more.state now × (n ≤ length now)
-    × ((below : List Frame) (first : ℕ) → Reads b include_hash below point.Path (silent_of r.state) [] inner.point inner.state stack first → length below ≡ base → Reads b include_hash below point.Path (silent_of r.state) [] more.point more.state now (first + made))
+abbrev pub Finishes : List ℕ → Bool → ℕ → Left → Reading → List Frame → ℕ → Option Left → Reading → List Frame → ℕ → Type 0
+Finishes b include_hash n x r stack old None to now new = Passed b include_hash x r stack old to now new
+Finishes b include_hash n left.Stack r stack old (Some y) to now new = ⊥
+Finishes b include_hash n (left.OwnPath base inner) r stack old (Some left.Stack) to now new = ⊥
+Finishes b include_hash n (left.OwnPath base inner) r stack old (Some (left.OwnPath height more)) to now new = (height ≡ base) × (to ≡ r) × Valid more.point more.state now × (n ≤ length now)
+    × ((below : List Frame) (began : ℕ) → ReadsOwn b include_hash below r.state began inner stack old → length below ≡ base → ReadsOwn b include_hash below r.state began more now new)
 
 -- the looks that what is left makes for certain
 abbrev pub looks_left : Result (Option Left) SinkRefused → Reading → ℕ
@@ -204,10 +212,10 @@ looks_left (Ok None) r = 0
 looks_left (Ok (Some x)) r = first_looks r.point r.state
 looks_left (Err e) r = 0
 
--- how a reading that prints ended: all was printed, or it was refused
-abbrev pub EndedSo : {S : Type 0} → Sinks S → List ℕ → Bool → Point → State → List Frame → SizeLimitedFmtAdapter S → Result (Unit {0}) SinkRefused → SizeLimitedFmtAdapter S → ℕ → Type 0
-EndedSo sink b include_hash p s stack v (Ok u) w made = (t : State) × Ran sink b include_hash p s stack v point.End t [] w made
-EndedSo sink b include_hash p s stack v (Err e) w made = Broke sink b include_hash p s stack v w made
+-- how it ended: all was printed, or it was refused
+abbrev pub EndedSo : {V : Type 0} → Env V → Point → Turn V → Result (Unit {0}) SinkRefused → V → ℕ → Type 0
+EndedSo env p before (Ok u) w looks = (t : State) × Ran env p before point.End (turn t [] w looks)
+EndedSo env p before (Err e) w looks = Broke env p before w looks
 
-pub record Ended {S : Type 0} (sink : Sinks S) (b : List ℕ) (include_hash : Bool) (p : Point) (s : State) (stack : List Frame) (v : SizeLimitedFmtAdapter S) (result : Result (Unit {0}) SinkRefused) (w : SizeLimitedFmtAdapter S) (made : ℕ) : Type 0 where
-  pub ended : EndedSo sink b include_hash p s stack v result w made
+pub record Ended {V : Type 0} (env : Env V) (p : Point) (before : Turn V) (result : Result (Unit {0}) SinkRefused) (w : V) (looks : ℕ) : Type 0 where
+  pub ended : EndedSo env p before result w looks

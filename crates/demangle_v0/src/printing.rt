@@ -1,14 +1,14 @@
 //! How a v0 symbol prints: steps, of which each hands over what it reads as soon as it is known.
-ghost use Rattle.std.specs.Prelude.{ℕ, ◌+◌, ◌-◌, ◌≤◌, List, IsAscii, IsOk, Ok, Some};
+ghost use Rattle.std.specs.Prelude.{◌+◌, ◌≤◌, IsAscii, IsOk, Ok, Some};
 ghost use Rattle.demangle_sink.specs.Limit.{Ready};
-ghost use Rattle.demangle_v0.specs.PointRuns.{Valid, RanOn, Ended, Finishes, ValidLeft, looks_left, first_looks};
-ghost use Rattle.demangle_v0.specs.declared.points.frames.Frame.{Frame};
+ghost use Rattle.demangle_v0.specs.PointRuns.{Valid, RanOn, Ended, Finishes, ValidLeft, looks_left, first_looks, printing};
+ghost use Rattle.demangle_v0.specs.Points.{Turn, turn};
 
+use crate::points::Point;
 use crate::points::frames::{FULL_STACK, FrameStack, MIDDLE_STACK, SHORT_STACK};
 use crate::points::read::Reading;
 use crate::points::skip::{is_skipped, skip};
 use crate::points::step::{resume, step};
-use crate::points::{Point, State};
 use demangle_sink::{SinkRefused, SizeLimitedFmtAdapter, TextSink};
 use demangle_symbol::cursor::{Looks, Symbol};
 
@@ -36,10 +36,11 @@ pub(crate) fn print_on<const N: usize, S: TextSink>(
     requires ascii { IsAscii symbol.now }
     requires ready { Ready S.TextSink out.old }
     requires valid { Valid reading.old.point reading.old.state stack.old }
-    ensures ran { RanOn S.TextSink symbol.now include_hash reading.old.point reading.old.state
-        stack.old out.old result reading.new stack.new out.new (looks.new - looks.old) }
+    ensures ran { RanOn (printing S.TextSink symbol.now include_hash) reading.old.point (turn
+        reading.old.state stack.old out.old looks.old) result reading.new stack.new out.new
+        looks.new }
     ensures ready { IsOk result → Ready S.TextSink out.new }
-    ensures valid { ValidLeft symbol.now include_hash N result reading.new stack.new }
+    ensures valid { ValidLeft symbol.now include_hash N result reading.new stack.new looks.new }
     ensures grows { looks.old ≤ looks.new }
     ensures least { looks.old + first_looks reading.old.point reading.old.state ≤ looks.new +
         looks_left result reading.new }
@@ -83,9 +84,10 @@ fn finish_skip<const N: usize>(
     stack: &mut FrameStack<N>,
     looks: &mut Looks,
 ) -> Option<Left>
-    requires valid { ValidLeft symbol.now include_hash 0 (Ok (Some left)) reading.old stack.old }
-    ensures finishes { Finishes symbol.now include_hash N left reading.old stack.old result
-        reading.new stack.new (looks.new - looks.old) }
+    requires valid { ValidLeft symbol.now include_hash 0 (Ok (Some left)) reading.old stack.old
+        looks.old }
+    ensures finishes { Finishes symbol.now include_hash N left reading.old stack.old looks.old
+        result reading.new stack.new looks.new }
     ensures grows { looks.old ≤ looks.new }
 {
     let Left::OwnPath(base, inner) = left else {
@@ -109,13 +111,14 @@ fn print_left<const N: usize, S: TextSink>(
 ) -> Result<Option<Left>, SinkRefused>
     requires ascii { IsAscii symbol.now }
     requires ready { Ready S.TextSink out.old }
-    requires valid { ValidLeft symbol.now include_hash 0 (Ok (Some left)) reading.old stack.old }
-    ensures ran { (p : Point) (s : State) (before : List Frame) (v : SizeLimitedFmtAdapter S) (first
-        : ℕ) → RanOn S.TextSink symbol.now include_hash p s before v (Ok (Some left)) reading.old
-        stack.old out.old first → RanOn S.TextSink symbol.now include_hash p s before v result
-        reading.new stack.new out.new (first + (looks.new - looks.old)) }
+    requires valid { ValidLeft symbol.now include_hash 0 (Ok (Some left)) reading.old stack.old
+        looks.old }
+    ensures ran { (p : Point) (began : Turn (SizeLimitedFmtAdapter S)) → RanOn (printing S.TextSink
+        symbol.now include_hash) p began (Ok (Some left)) reading.old stack.old out.old looks.old →
+        RanOn (printing S.TextSink symbol.now include_hash) p began result reading.new stack.new
+        out.new looks.new }
     ensures ready { IsOk result → Ready S.TextSink out.new }
-    ensures valid { ValidLeft symbol.now include_hash N result reading.new stack.new }
+    ensures valid { ValidLeft symbol.now include_hash N result reading.new stack.new looks.new }
     ensures grows { looks.old ≤ looks.new }
     ensures least { looks.old + first_looks reading.old.point reading.old.state ≤ looks.new +
         looks_left result reading.new }
@@ -139,11 +142,11 @@ fn print_rest<S: TextSink>(
 ) -> Result<(), SinkRefused>
     requires ascii { IsAscii symbol.now }
     requires ready { Ready S.TextSink out.old }
-    requires valid { ValidLeft symbol.now include_hash 0 (Ok (Some left)) from.now few.now }
-    ensures ended { (p : Point) (s : State) (stack : List Frame) (v : SizeLimitedFmtAdapter S)
-        (first : ℕ) → RanOn S.TextSink symbol.now include_hash p s stack v (Ok (Some left)) from.now
-        few.now out.old first → Ended S.TextSink symbol.now include_hash p s stack v result out.new
-        (first + (looks.new - looks.old)) }
+    requires valid { ValidLeft symbol.now include_hash 0 (Ok (Some left)) from.now few.now looks.old }
+    ensures ended { (p : Point) (began : Turn (SizeLimitedFmtAdapter S)) → RanOn (printing
+        S.TextSink symbol.now include_hash) p began (Ok (Some left)) from.now few.now out.old
+        looks.old → Ended (printing S.TextSink symbol.now include_hash) p began result out.new
+        looks.new }
     ensures grows { looks.old ≤ looks.new }
     ensures least { looks.old + first_looks from.now.point from.now.state ≤ looks.new }
 {
@@ -175,11 +178,11 @@ pub(crate) fn print_more<S: TextSink>(
 ) -> Result<(), SinkRefused>
     requires ascii { IsAscii symbol.now }
     requires ready { Ready S.TextSink out.old }
-    requires valid { ValidLeft symbol.now include_hash 0 (Ok (Some left)) from.now few.now }
-    ensures ended { (p : Point) (s : State) (stack : List Frame) (v : SizeLimitedFmtAdapter S)
-        (first : ℕ) → RanOn S.TextSink symbol.now include_hash p s stack v (Ok (Some left)) from.now
-        few.now out.old first → Ended S.TextSink symbol.now include_hash p s stack v result out.new
-        (first + (looks.new - looks.old)) }
+    requires valid { ValidLeft symbol.now include_hash 0 (Ok (Some left)) from.now few.now looks.old }
+    ensures ended { (p : Point) (began : Turn (SizeLimitedFmtAdapter S)) → RanOn (printing
+        S.TextSink symbol.now include_hash) p began (Ok (Some left)) from.now few.now out.old
+        looks.old → Ended (printing S.TextSink symbol.now include_hash) p began result out.new
+        looks.new }
     ensures grows { looks.old ≤ looks.new }
     ensures least { looks.old + first_looks from.now.point from.now.state ≤ looks.new }
 {

@@ -1,7 +1,7 @@
 //! Readings without an output, above the frames that stand.
-ghost use Rattle.std.specs.Prelude.{◌≡◌, ◌+◌, ◌-◌, ◌≤◌, ◌++◌, length, List};
+ghost use Rattle.std.specs.Prelude.{◌≡◌, ◌≤◌, ◌++◌, length, List};
 ghost use Rattle.demangle_v0.specs.Points.{AllInner};
-ghost use Rattle.demangle_v0.specs.PointRuns.{Valid, ReadOn, first_state};
+ghost use Rattle.demangle_v0.specs.PointRuns.{Valid, ReadOn, first_state, silently, silent_turn};
 ghost use Rattle.demangle_v0.specs.declared.points.frames.Frame.{Frame};
 
 use crate::points::frames::FrameStack;
@@ -68,8 +68,9 @@ pub fn read_on<const N: usize>(
 ) -> Halt
     requires valid { Valid reading.old.point reading.old.state stack.old }
     ensures reads { (below above : List Frame) → stack.old ≡ below ++ above → length below ≡ base →
-        AllInner above → ReadOn symbol.now include_hash below reading.old.point reading.old.state
-        above result reading.new.point reading.new.state stack.new (looks.new - looks.old) }
+        AllInner above → ReadOn (silently symbol.now include_hash) below reading.old.point
+        (silent_turn reading.old.state above looks.old) result reading.new.point (silent_turn
+        reading.new.state stack.new looks.new) }
     ensures valid { result ≡ Halt.Full → Valid reading.new.point reading.new.state stack.new }
     ensures full { result ≡ Halt.Full → N ≤ length stack.new }
     ensures grows { looks.old ≤ looks.new }

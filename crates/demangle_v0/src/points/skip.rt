@@ -1,7 +1,7 @@
 //! The own path of an impl, which is read and not printed.
-ghost use Rattle.std.specs.Prelude.{◌≡◌, ℕ, ◌+◌, ◌-◌, ◌≤◌, Bool, List, [], length, IfSome, IfNone};
+ghost use Rattle.std.specs.Prelude.{◌≡◌, ℕ, ◌≤◌, Bool, List, length, IfSome, IfNone};
 ghost use Rattle.demangle_v0.specs.Impls.{skip_point, self_point, is_skip};
-ghost use Rattle.demangle_v0.specs.PointRuns.{Valid, Reads, Skipped, own_path, state_at, silent_of};
+ghost use Rattle.demangle_v0.specs.PointRuns.{Valid, ReadsOwn, Skipped, own_path, state_at, silent_of};
 ghost use Rattle.demangle_v0.specs.declared.points.frames.Frame.{Frame};
 
 use crate::points::frames::FrameStack;
@@ -80,16 +80,13 @@ pub fn skip<const N: usize>(
     looks: &mut Looks,
 ) -> Option<Reading>
     requires valid { Valid inner.point inner.state stack.old }
-    ensures behind { IfNone result ((below : List Frame) (q : Bool) (first : ℕ) → Reads symbol.now
-        include_hash below Point.Path (silent_of printing.old.state) [] inner.point inner.state
-        stack.old first → length below ≡ base → printing.old.point ≡ skip_point q → Skipped
-        symbol.now include_hash q printing.old.state below printing.new.point printing.new.state
-        stack.new (first + (looks.new - looks.old))) }
-    ensures midway { IfSome result (λ more. (below : List Frame) (first : ℕ) → Reads symbol.now
-        include_hash below Point.Path (silent_of printing.old.state) [] inner.point inner.state
-        stack.old first → length below ≡ base → Reads symbol.now include_hash below Point.Path
-        (silent_of printing.old.state) [] more.point more.state stack.new (first + (looks.new -
-        looks.old))) }
+    ensures behind { IfNone result ((below : List Frame) (q : Bool) (began : ℕ) → ReadsOwn symbol.now
+        include_hash below printing.old.state began inner stack.old looks.old → length below ≡ base
+        → printing.old.point ≡ skip_point q → Skipped symbol.now include_hash q printing.old.state
+        below began printing.new.point printing.new.state stack.new looks.new) }
+    ensures midway { IfSome result (λ more. (below : List Frame) (began : ℕ) → ReadsOwn symbol.now
+        include_hash below printing.old.state began inner stack.old looks.old → length below ≡ base
+        → ReadsOwn symbol.now include_hash below printing.old.state began more stack.new looks.new) }
     ensures valid { IfSome result (λ more. Valid more.point more.state stack.new) }
     ensures full { IfSome result (λ more. N ≤ length stack.new) }
     ensures same { IfSome result (λ more. printing.new ≡ printing.old) }

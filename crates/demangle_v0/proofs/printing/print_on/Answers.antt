@@ -1,67 +1,60 @@
-use Rattle.std.proofs.Common.{arith, refl, sym, ◌∙◌, ◌-◌, ◌+◌}
-use Rattle.demangle_v0.proofs.PointRuns.{valid_resumes, resumes_length, valid_steps, turn_less, first_resumes}
-use Rattle.demangle_v0.proofs.PointPrints.{ran_resumes, ran_turn, ran_fail, ran_midway, turn_skips}
-use Rattle.demangle_v0.proofs.PointSkips.{skip_is, skip_unread, own_stands, own_reads, skipped_stands, skipping, turn_skipped}
+use Rattle.std.proofs.Common.{arith, refl, sym, ◌∙◌}
+use Rattle.demangle_v0.proofs.PointRuns.{valid_resumes, resumes_length, valid_steps, turn_less, first_resumes, ran_then, ran_resumes, ran_turn, ran_broke}
+use Rattle.demangle_v0.proofs.PointPrints.{ran_fail, ran_midway, ran_skips}
+use Rattle.demangle_v0.proofs.PointSkips.{skip_is, skip_unread, own_stands, own_reads, skipped_valid, skipped_less, skipping}
 use Rattle.demangle_v0.proofs.printing.print_on.Goals as goal
 
 pub skip-requires : goal.skip-requires
-skip-requires g c =
-    (omega arith, own_stands _ _ _ _ (sym c.is_skipped.ensures ∙ c.if-is_skipped.true) c.own_path-own.ensures (valid_resumes _ _ _ _ _ _ _ c.steps.invariant.valid c.in-Some.ensures.some))
+skip-requires g c = (omega arith, own_stands (sym c.is_skipped.ensures ∙ c.if-is_skipped.true) c.own_path-own.ensures (valid_resumes c.steps.invariant.valid c.in-Some.ensures.some))
 
 pub returns-in-Some-skip-clause-valid : goal.returns-in-Some-skip-clause-valid
 returns-in-Some-skip-clause-valid g c =
-    let reads = c.in-Some-skip.ensures.midway c.resume.new.stack 0 (own_reads c.args.symbol.now c.args.include_hash c.resume.new.state c.resume.new.stack _ c.own_path-own.ensures) (sym c.len-base.ensures) in (
-      0 + (c.skip.new.looks - c.steps.looks),
-      skipping c.args.symbol.now c.args.include_hash _ _ _ _ _ _ _ _ (sym c.is_skipped.ensures ∙ c.if-is_skipped.true) c.in-Some-skip.ensures.same c.len-base.ensures (valid_resumes _ _ _ _ _ _ _ c.steps.invariant.valid c.in-Some.ensures.some) reads,
+    let reads = c.in-Some-skip.ensures.midway c.resume.new.stack c.steps.looks (own_reads c.args.symbol.now c.args.include_hash c.steps.looks c.resume.new.state c.own_path-own.ensures) (sym c.len-base.ensures) in (
+      c.steps.looks,
+      skipping (sym c.is_skipped.ensures ∙ c.if-is_skipped.true) c.in-Some-skip.ensures.same c.len-base.ensures (valid_resumes c.steps.invariant.valid c.in-Some.ensures.some) reads,
       c.in-Some-skip.ensures.valid,
       c.in-Some-skip.ensures.full,
     )
 
 pub returns-in-Some-skip-clause-ran : goal.returns-in-Some-skip-clause-ran
 returns-in-Some-skip-clause-ran g c =
-    let reads = c.in-Some-skip.ensures.midway c.resume.new.stack 0 (own_reads c.args.symbol.now c.args.include_hash c.resume.new.state c.resume.new.stack _ c.own_path-own.ensures) (sym c.len-base.ensures) in
-    ran_midway g.S.TextSink c.args.symbol.now c.args.include_hash _ _ _ _ _ _ _ _ _ _ _ _ (c.steps.looks - c.args.looks.now) _ _ (sym c.is_skipped.ensures ∙ c.if-is_skipped.true) c.in-Some-skip.ensures.same c.len-base.ensures
-    (valid_resumes _ _ _ _ _ _ _ c.steps.invariant.valid c.in-Some.ensures.some) reads
-    (ran_resumes g.S.TextSink c.args.symbol.now c.args.include_hash _ _ _ _ _ _ _ _ _ _ _ _ _ c.steps.invariant.ran c.in-Some.ensures.some) (omega (arith, c.steps.invariant.grows, c.in-Some-skip.ensures.grows))
+    let reads = c.in-Some-skip.ensures.midway c.resume.new.stack c.steps.looks (own_reads c.args.symbol.now c.args.include_hash c.steps.looks c.resume.new.state c.own_path-own.ensures) (sym c.len-base.ensures) in
+    ran_midway (sym c.is_skipped.ensures ∙ c.if-is_skipped.true) c.in-Some-skip.ensures.same c.len-base.ensures (valid_resumes c.steps.invariant.valid c.in-Some.ensures.some) reads (ran_then c.steps.invariant.ran (ran_resumes c.in-Some.ensures.some))
 
 pub steps-smaller-then-is_skipped : goal.steps-smaller-then-is_skipped
 steps-smaller-then-is_skipped g c =
     let k = skip_is _ (sym c.is_skipped.ensures ∙ c.if-is_skipped.true) in
-    turn_skipped c.args.symbol.now c.args.include_hash _ _ _ _ _ _ _ _ _ _ _ k c.in-Some.ensures.some
-    (c.in_default-skip.ensures.behind c.resume.new.stack k.0 0 (own_reads c.args.symbol.now c.args.include_hash c.resume.new.state c.resume.new.stack _ c.own_path-own.ensures) (sym c.len-base.ensures) k.1)
+    skipped_less k c.in-Some.ensures.some (c.in_default-skip.ensures.behind c.resume.new.stack k.0 c.steps.looks (own_reads c.args.symbol.now c.args.include_hash c.steps.looks c.resume.new.state c.own_path-own.ensures) (sym c.len-base.ensures) k.1)
 
 pub steps-preserved-then-is_skipped : goal.steps-preserved-then-is_skipped
 steps-preserved-then-is_skipped g c =
     let skips = sym c.is_skipped.ensures ∙ c.if-is_skipped.true in
     let k = skip_is _ skips in
-    let z = c.in_default-skip.ensures.behind c.resume.new.stack k.0 0 (own_reads c.args.symbol.now c.args.include_hash c.resume.new.state c.resume.new.stack _ c.own_path-own.ensures) (sym c.len-base.ensures) k.1 in
+    let z = c.in_default-skip.ensures.behind c.resume.new.stack k.0 c.steps.looks (own_reads c.args.symbol.now c.args.include_hash c.steps.looks c.resume.new.state c.own_path-own.ensures) (sym c.len-base.ensures) k.1 in
     record {
       ready = c.steps.invariant.ready;
-      valid = skipped_stands c.args.symbol.now c.args.include_hash _ _ _ _ _ _ _ k z (valid_resumes _ _ _ _ _ _ _ c.steps.invariant.valid c.in-Some.ensures.some);
-      ran = turn_skips g.S.TextSink c.args.symbol.now c.args.include_hash _ _ _ _ _ _ _ _ _ _ _ _ _ _ _ (c.steps.looks - c.args.looks.now) _ _ k c.steps.invariant.ran c.in-Some.ensures.some z (omega (arith, c.steps.invariant.grows, c.in_default-skip.ensures.grows));
+      valid = skipped_valid k z (valid_resumes c.steps.invariant.valid c.in-Some.ensures.some);
+      ran = ran_skips g.S.TextSink c.args.symbol.now c.args.include_hash k (ran_then c.steps.invariant.ran (ran_resumes c.in-Some.ensures.some)) z;
       grows = omega (arith, c.steps.invariant.grows, c.in_default-skip.ensures.grows);
-      least = omega (arith, c.steps.invariant.least, c.in_default-skip.ensures.grows, first_resumes _ _ _ _ _ _ _ c.in-Some.ensures.some, skip_unread _ c.resume.new.state skips);
+      least = omega (arith, c.steps.invariant.least, c.in_default-skip.ensures.grows, first_resumes c.in-Some.ensures.some, skip_unread _ c.resume.new.state skips);
     }
 
 pub step-requires : goal.step-requires
 step-requires g c =
-    let v = valid_resumes _ _ _ _ _ _ _ c.steps.invariant.valid c.in-Some.ensures.some in
-    (omega arith, (record { ascii = λ _. c.requires.ascii; ready = c.steps.invariant.ready; unmarked = v.unmarked; room = omega (arith, resumes_length _ _ _ _ _ _ _ c.in-Some.ensures.some, c.steps-test.true, c.len.ensures); fits = v.fits }, λ z. sym c.is_skipped.ensures ∙ c.if-is_skipped.false))
+    let v = valid_resumes c.steps.invariant.valid c.in-Some.ensures.some in
+    (omega arith, (record { ascii = λ _. c.requires.ascii; ready = c.steps.invariant.ready; unmarked = v.unmarked; room = omega (arith, resumes_length c.in-Some.ensures.some, c.steps-test.true, c.len.ensures); fits = v.fits }, λ z. sym c.is_skipped.ensures ∙ c.if-is_skipped.false))
 
 pub returns-in_err-point-clause-ran : goal.returns-in_err-point-clause-ran
-returns-in_err-point-clause-ran g c =
-    ran_fail g.S.TextSink _ c.args.symbol.now c.args.include_hash (λ v w ts r p. p) refl _ _ _ _ _ _ _ _ _ _ _ _ _ _ _ (c.steps.looks - c.args.looks.now) _ _ _ _ _ _ _ c.from_residual.ensures.0 c.steps.invariant.ran c.in-Some.ensures.some c.in_err-point.ensures.stepped
-    (omega (arith, c.steps.invariant.grows, c.in_err-point.ensures.grows))
+returns-in_err-point-clause-ran g c = ran_fail c.from_residual.ensures.0 (ran_broke c.steps.invariant.ran c.in-Some.ensures.some c.in_err-point.ensures.stepped)
 
 pub steps-smaller : goal.steps-smaller
-steps-smaller g c = turn_less _ c.args.symbol.now c.args.include_hash _ _ _ _ _ _ _ _ _ _ _ _ _ _ c.in-Some.ensures.some c.in_ok-point.ensures.stepped
+steps-smaller g c = turn_less c.in-Some.ensures.some c.in_ok-point.ensures.stepped
 
 pub steps-preserved : goal.steps-preserved
 steps-preserved g c = record {
   ready = c.in_ok-point.ensures.ready refl;
-  valid = valid_steps _ c.args.symbol.now c.args.include_hash _ _ _ _ _ _ _ _ _ _ (valid_resumes _ _ _ _ _ _ _ c.steps.invariant.valid c.in-Some.ensures.some) c.in_ok-point.ensures.stepped;
-  ran = ran_turn g.S.TextSink _ c.args.symbol.now c.args.include_hash (λ v w ts r p. p) refl _ _ _ _ _ _ _ _ _ _ _ _ _ _ _ _ (c.steps.looks - c.args.looks.now) _ _ _ c.steps.invariant.ran c.in-Some.ensures.some c.in_ok-point.ensures.stepped
-      (omega (arith, c.steps.invariant.grows, c.in_ok-point.ensures.grows));
+  valid = valid_steps (valid_resumes c.steps.invariant.valid c.in-Some.ensures.some) c.in_ok-point.ensures.stepped;
+  ran = ran_turn c.steps.invariant.ran c.in-Some.ensures.some c.in_ok-point.ensures.stepped;
   grows = omega (arith, c.steps.invariant.grows, c.in_ok-point.ensures.grows);
-  least = omega (arith, c.steps.invariant.least, c.in_ok-point.ensures.least, first_resumes _ _ _ _ _ _ _ c.in-Some.ensures.some);
+  least = omega (arith, c.steps.invariant.least, c.in_ok-point.ensures.least, first_resumes c.in-Some.ensures.some);
 }
