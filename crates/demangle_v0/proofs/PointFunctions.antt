@@ -7,27 +7,24 @@ use Rattle.demangle_symbol.specs.Digits.{is_byte}
 use Rattle.demangle_symbol.specs.Words.{optional_at}
 use Rattle.demangle_grammar.specs.Items.{Items, a_type}
 use Rattle.demangle_grammar.specs.Table.{says, list, more, type_inside, in_binder}
-use Rattle.demangle_v0.specs.Arguments.{separator}
 use Rattle.demangle_grammar.specs.Binders.{binder_texts}
 use Rattle.demangle_grammar.specs.Events.{Heard, with_looks, with_texts}
 use Rattle.demangle_words.specs.Texts.{word_items, text}
 use Rattle.demangle_grammar.specs.Reading.{Place, run}
-use Rattle.demangle_v0.specs.Points.{frame_at, unit_rest_at, unit_rest_of, returns, none_open, way_weight, height_at, Fits, is_list_over, behind_list, list_costs, Turn, Env, Part, part, Does, PointDoes, Paid, own_looks}
+use Rattle.demangle_v0.specs.Points.{unit_rest_at, unit_rest_of, returns, none_open, way_weight, height_at, Fits, is_list_over, behind_list, list_costs, Turn, Env, Part, part, Does, PointDoes, Paid, own_looks}
 use Rattle.demangle_sink.specs.declared.SinkRefused.{SinkRefused}
 use Rattle.demangle_words.specs.declared.texts.Mark.TheVariants as mark
 use Rattle.demangle_words.specs.declared.texts.Word.TheVariants as word
 use Rattle.demangle_words.specs.declared.stretch.Stretch.TheVariants.{Binder}
 use Rattle.demangle_v0.specs.declared.points.Point.{Point}
 use Rattle.demangle_v0.specs.declared.points.Point.TheVariants as point
-use Rattle.demangle_v0.specs.declared.points.frames.Frame.{Frame}
 use Rattle.demangle_v0.specs.declared.points.State.{State}
 use Rattle.demangle_v0.specs.declared.points.Stop.{Stop}
 use Rattle.demangle_v0.specs.declared.points.Stop.TheVariants.{Refused, Fault}
 use Rattle.demangle_v0.proofs.PointSteps.{heard, child_last, refused}
 use Rattle.demangle_grammar.proofs.TypeReads.{binder_reads}
 use Rattle.demangle_v0.proofs.PointTurns.{unread, ends, moves, behind_few, tells, halts}
-use Rattle.demangle_v0.proofs.PointLists.{list_ends}
-use Rattle.demangle_v0.proofs.PointTuples.{Types, types_over, types_go, entered}
+use Rattle.demangle_v0.proofs.PointLists.{Listed, of_types, list_closes}
 
 abbrev pub parameters : Items
 parameters = says "fn(" (list ", " type_inside (says ")" returns))
@@ -36,24 +33,20 @@ abbrev pub head : Items
 head = word_items word.FunctionHead 0 parameters
 
 -- the parameters
-parameter_types : {V : Type 0} (e : Env V) (first : Bool) → Types e (if first then point.FirstParameter else point.NextParameter) point.NextParameter first (says ")" returns) (more ", " type_inside (says ")" returns))
+abbrev parameters_point : Bool → Point
+parameters_point first = if first then point.FirstParameter else point.NextParameter
+
+pub parameter_types : {V : Type 0} (e : Env V) (first : Bool) → Listed e (parameters_point first) point.«Type» point.NextParameter (λ (s : State). s.in_value) first type_inside (says ")" returns) (more ", " type_inside (says ")" returns))
 unfolding unit_rest_at
-parameter_types e true = record { at_p = λ v c left n i o. refl; at_f = λ v c left n i o. refl; light = omega arith; low = λ left. omega arith; fits = λ left n f. f; inner = refl }
-parameter_types e false = record { at_p = λ v c left n i o. refl; at_f = λ v c left n i o. refl; light = omega arith; low = λ left. omega arith; fits = λ left n f. f; inner = refl }
+parameter_types e true = of_types (λ s. refl) (λ s j o. refl) refl (omega arith) (omega arith) (λ left. refl) (λ left. omega arith) (λ left n f. f) refl
+parameter_types e false = of_types (λ s. refl) (λ s j o. refl) refl (omega arith) (omega arith) (λ left. refl) (λ left. omega arith) (λ left n f. f) refl
 
 module _ {V : Type 0} {e : Env V} where
-  as_parameters : {t u : Turn V} {r : Result Point Stop} (first : Bool) → Does e t (part 8 (unit_rest_of e.symbol e.include_hash e.output.is_printed (if first then point.FirstParameter else point.NextParameter) t.state) 3 (8 * t.state.depth_left + 2)) r u → PointDoes e (if first then point.FirstParameter else point.NextParameter) t r u
-  as_parameters true d = d
-  as_parameters false d = d
-
   pub parameters_close : {t : Turn V} {j : Place} {n : ℕ} (first : Bool) → is_list_over e.symbol t.state.place ≡ true → j ≡ behind_list e.symbol t.state.place → Paid t.looks (list_costs t.state.place) n → Fits point.NextParameter t.state.depth_left t.state.lifetimes
-      → PointDoes e (if first then point.FirstParameter else point.NextParameter) t (Ok point.Returns) (entered t j (Some mark.CloseParen) t.stack n)
+      → PointDoes e (parameters_point first) t (Ok point.Returns) (record t { state = record t.state { place = j; mark = Some mark.CloseParen }; looks = n })
   unfolding run unit_rest_at
-  parameters_close {t} first h k p f = as_parameters first (list_ends point.Returns (omega arith) (rw k (types_over e t.state first (parameter_types e first) h)) p (omega arith) (omega arith) f)
-
-  pub parameter_goes : {t : Turn V} {j : Place} {stack : List Frame} {n : ℕ} (first : Bool) → is_list_over e.symbol t.state.place ≡ false → j ≡ behind_list e.symbol t.state.place → Paid t.looks (list_costs t.state.place) n → Fits point.NextParameter t.state.depth_left t.state.lifetimes
-      → stack ≡ t.stack ++ frame_at point.NextParameter t.state ∷ [] → PointDoes e (if first then point.FirstParameter else point.NextParameter) t (Ok point.«Type») (entered t j (separator first mark.Comma) stack n)
-  parameter_goes first h k p f r = as_parameters first (types_go first (parameter_types e first) (omega arith) refl h k p f r)
+  parameters_close true h k p f = list_closes (parameter_types e true) h k p refl (omega arith) (omega arith) f
+  parameters_close false h k p f = list_closes (parameter_types e false) h k p refl (omega arith) (omega arith) f
 
   -- What is returned.
   pub returns_type : {t : Turn V} {n : ℕ} (i : ℕ) → t.state.place ≡ Some i → is_byte e.symbol i (code "u") ≡ false → n ≡ t.looks + 1 → Fits point.Returns t.state.depth_left t.state.lifetimes

@@ -1,23 +1,28 @@
 -- What is heard of lists, up to their end or to an element, and how their points go on.
-use Rattle.std.specs.Prelude.{codes, if◌then◌else◌}
-use Rattle.std.proofs.Common.{◌≡◌, ℕ, ◌+◌, ◌≤◌, Bool, true, false, Some, None, List, [], ◌∷◌, Ok, refl, arith, sym}
+use Rattle.std.specs.Prelude.{codes, if◌then◌else◌, ◌*◌}
+use Rattle.std.proofs.Common.{◌≡◌, ℕ, ◌+◌, ◌≤◌, Bool, true, false, Option, Some, None, List, [], ◌∷◌, ◌++◌, Ok, refl, arith, sym, ap, ◌∙◌, length}
 use Rattle.std.proofs.lemmas.Bool.{false≢true}
 use Rattle.std.proofs.lemmas.List.{append-nil}
 use Prim.Native.Char.{code}
 use Prim.Native.String.{String}
 use Rattle.demangle_symbol.specs.Digits.{is_byte}
-use Rattle.demangle_grammar.specs.Items.{Items, unit}
-use Rattle.demangle_grammar.specs.Table.{at_end, more}
-use Rattle.demangle_grammar.specs.Events.{Heard, of, with_looks, with_texts, around}
-use Rattle.demangle_grammar.specs.Reading.{Place, run}
+use Rattle.demangle_grammar.specs.Items.{Items, a_type, a_constant, done, say, unit}
+use Rattle.demangle_grammar.specs.Totals.{total}
+use Rattle.demangle_grammar.specs.Table.{at_end, more, says, type_inside, constant_inside}
+use Rattle.demangle_grammar.specs.Events.{Heard, of, and_then, with_looks, with_texts, around}
+use Rattle.demangle_grammar.specs.Reading.{Place, run, max_depth}
 use Rattle.demangle_words.specs.Texts.{text}
 use Rattle.demangle_v0.specs.Arguments.{separator}
-use Rattle.demangle_v0.specs.Points.{mark_texts, then_frame, none_open, unit_rest_of, way_weight, height_at, Fits, Turn, Env, part, Does, Paid, is_list_over, behind_list, list_costs}
+use Rattle.demangle_v0.specs.Points.{mark_texts, frame_at, then_frame, none_open, unit_rest, unit_rest_at, unit_rest_of, way_weight, weight_at, words_at, height_at, is_inner, PointDoes, Fits, Turn, Env, part, Does, Paid, is_list_over, behind_list, list_costs}
 use Rattle.demangle_words.specs.declared.texts.Mark.{Mark}
+use Rattle.demangle_words.specs.declared.texts.Mark.TheVariants as mark
 use Rattle.demangle_v0.specs.declared.points.Point.{Point}
+use Rattle.demangle_v0.specs.declared.points.Point.TheVariants as point
+use Rattle.demangle_v0.specs.declared.points.frames.Frame.{Frame}
 use Rattle.demangle_v0.specs.declared.points.State.{State}
-use Rattle.demangle_grammar.proofs.Elements.{Element}
-use Rattle.demangle_grammar.proofs.ListReads.{followed, end_failed, end_over, end_on, more_failed, more_over, more_on}
+use Rattle.demangle_grammar.proofs.Elements.{Element, type_element, constant_element}
+use Rattle.demangle_grammar.proofs.ListReads.{followed, end_failed, end_over, end_on, more_failed, more_over, more_on, second_on}
+use Rattle.demangle_v0.proofs.PointSteps.{child_last}
 use Rattle.demangle_v0.proofs.PointTurns.{list_short, list_few, list_words, leaves}
 
 -- what is left of a list of x: all of it, whose first stands before these items, or what stands behind another; z stands behind it
@@ -84,3 +89,117 @@ module _ {V : Type 0} {e : Env V} where
   unfolding then_frame
   list_ends {t} to few r p w x f =
       leaves to (list_costs t.state.place) [] (omega (arith, few, list_words t.state.place)) None r refl (rw append-nil p) (omega arith) (omega (arith, p.within, list_short e.symbol t.state.place)) (omega (arith, w)) (omega arith) (omega (arith, x)) tt f (λ _. tt)
+
+-- a list of x before z, at these points: where one may begin, that of one, in value position or not, and that behind one
+pub record Listed {V : Type 0} (e : Env V) (p q f : Point) (v : State → Bool) (first : Bool) (x z rest : Items) : Type 0 where
+  pub at_p : (s : State) → unit_rest_of e.symbol e.include_hash e.output.is_printed p s ≡ shut_at e (left_of first ", " x z rest) s s.place
+  pub at_q : (s : State) (i : ℕ) (m : Option Mark) → shut_at e x s (Some i) ≡ unit_rest_of e.symbol e.include_hash e.output.is_printed q (record s { in_value = v s; place = Some i; mark = m })
+  pub at_f : (s : State) (j : Place) (o : Bool) → unit_rest e.symbol e.include_hash e.output.is_printed (frame_at f s) j o ≡ shut_at e (then_of first ", " x z rest) s j
+  pub element : (left n : ℕ) → left ≤ max_depth → Element e.symbol e.output.is_printed left n x
+  pub words : words_at p ≡ 8
+  pub weight : 1 ≤ weight_at p
+  pub light : way_weight q + weight_at f ≤ 6
+  pub high : (left : ℕ) → height_at p left ≡ 8 * left + 2
+  pub low_q : (left : ℕ) → height_at q left ≤ 8 * left + 1
+  pub low_f : (left : ℕ) → height_at f left ≤ 8 * left + 2
+  pub fits : (left n : ℕ) → Fits point.«Type» left n → Fits q left n × Fits f left n
+  pub inner : is_inner f ≡ true
+
+-- what is read of types, and of constants
+pub of_types : {V : Type 0} {e : Env V} {p f : Point} {first : Bool} {z rest : Items} → ((s : State) → unit_rest_of e.symbol e.include_hash e.output.is_printed p s ≡ shut_at e (left_of first ", " type_inside z rest) s s.place)
+    → ((s : State) (j : Place) (o : Bool) → unit_rest e.symbol e.include_hash e.output.is_printed (frame_at f s) j o ≡ shut_at e (then_of first ", " type_inside z rest) s j) → words_at p ≡ 8 → 1 ≤ weight_at p → weight_at f ≤ 5 → ((left : ℕ) → height_at p left ≡ 8 * left + 2)
+    → ((left : ℕ) → height_at f left ≤ 8 * left + 2) → ((left n : ℕ) → Fits point.«Type» left n → Fits f left n) → is_inner f ≡ true → Listed e p point.«Type» f (λ s. s.in_value) first type_inside z rest
+unfolding unit_rest_at
+of_types {e = e} a f k w l h g x i = record {
+  at_p = a;
+  at_q = λ s i m. child_last e.output e.symbol e.include_hash a_type false s.depth_left s.lifetimes (Some i);
+  at_f = f;
+  element = λ left n. type_element e.symbol e.output.is_printed left n;
+  words = k;
+  weight = w;
+  light = omega (arith, l);
+  high = h;
+  low_q = λ left. omega arith;
+  low_f = g;
+  fits = λ left n y. (y, x left n y);
+  inner = i;
+}
+
+pub of_constants : {V : Type 0} {e : Env V} {p f : Point} {first : Bool} {z rest : Items} → ((s : State) → unit_rest_of e.symbol e.include_hash e.output.is_printed p s ≡ shut_at e (left_of first ", " constant_inside z rest) s s.place)
+    → ((s : State) (j : Place) (o : Bool) → unit_rest e.symbol e.include_hash e.output.is_printed (frame_at f s) j o ≡ shut_at e (then_of first ", " constant_inside z rest) s j) → words_at p ≡ 8 → 1 ≤ weight_at p → weight_at f ≤ 5 → ((left : ℕ) → height_at p left ≡ 8 * left + 2)
+    → ((left : ℕ) → height_at f left ≤ 8 * left + 2) → ((left n : ℕ) → Fits point.«Type» left n → Fits f left n) → is_inner f ≡ true → Listed e p point.Constant f (λ _. true) first constant_inside z rest
+unfolding unit_rest_at
+of_constants {e = e} a f k w l h g x i = record {
+  at_p = a;
+  at_q = λ s i m. child_last e.output e.symbol e.include_hash a_constant true s.depth_left s.lifetimes (Some i);
+  at_f = f;
+  element = λ left n. constant_element e.symbol e.output.is_printed left n;
+  words = k;
+  weight = w;
+  light = omega (arith, l);
+  high = h;
+  low_q = λ left. omega arith;
+  low_f = g;
+  fits = λ left n y. (y, x left n y);
+  inner = i;
+}
+
+module _ {V : Type 0} {e : Env V} {p q f : Point} {v : State → Bool} {first : Bool} {x z rest : Items} (l : Listed e p q f v first x z rest) where
+  -- an element, and what stands behind it
+  one_then : (s : State) (i : ℕ) (m : Option Mark) → none_open (followed (open_at e x s (Some i)) (open_at e (then_of first ", " x z rest) s)) ≡ and_then (unit_rest_of e.symbol e.include_hash e.output.is_printed q (record s { in_value = v s; place = Some i; mark = m })) (unit_rest e.symbol e.include_hash e.output.is_printed (frame_at f s))
+  one_then s i m =
+      let y = shut_at e x s (Some i) in
+      ap (λ (h : Heard). and_then y (λ _ _. h)) (sym (l.at_f s y.place y.is_open)) ∙ ap (λ (h : Heard). and_then h (unit_rest e.symbol e.include_hash e.output.is_printed (frame_at f s))) (l.at_q s i m)
+
+  -- One is entered, behind these looks and this mark.
+  pub list_enters : {t : Turn V} {h : Heard} {weight high : ℕ} {j : Place} {m : Option Mark} {stack : List Frame} {n : ℕ} (i : NotOver e.symbol t.state.place) (ks : List ℕ) → length ks ≤ 8 → 1 ≤ total ks
+      → h ≡ with_looks ks (with_texts e.output.is_printed (mark_texts m) (none_open (followed (open_at e x t.state (Some i.0)) (open_at e (then_of first ", " x z rest) t.state))))
+      → j ≡ behind_list e.symbol t.state.place → Paid t.looks (list_costs t.state.place) n → 8 * t.state.depth_left + 2 ≤ high → Fits point.«Type» t.state.depth_left t.state.lifetimes → stack ≡ t.stack ++ frame_at f t.state ∷ []
+      → Does e t (part 8 h weight high) (Ok q) (record t { state = record t.state { in_value = v t.state; place = j; mark = m }; stack = stack; looks = n })
+  unfolding then_frame
+  list_enters {t} {m = m} i ks few least w k p g y r =
+      let s = t.state in
+      let so = one_then s i.0 m in
+      let fit = l.fits s.depth_left s.lifetimes y in
+      leaves q ks [] (omega (arith, few)) (Some (frame_at f s)) (rw (k ∙ i.3) (w ∙ ap (λ (o : Heard). with_looks ks (with_texts e.output.is_printed (mark_texts m) o)) so)) r
+      (rw append-nil (record { grows = p.grows; within = omega (arith, p.within, list_few s.place, least) })) (omega arith) (omega (arith, p.within, list_short e.symbol s.place)) (omega (arith, least, l.light))
+      (omega (arith, g, l.low_f s.depth_left)) (omega (arith, g, l.low_q s.depth_left)) fit.1 fit.0 (λ _. l.inner)
+
+  pub list_goes : {t : Turn V} {j : Place} {m : Option Mark} {stack : List Frame} {n : ℕ} → is_list_over e.symbol t.state.place ≡ false → j ≡ behind_list e.symbol t.state.place → Paid t.looks (list_costs t.state.place) n → m ≡ separator first mark.Comma
+      → Fits point.«Type» t.state.depth_left t.state.lifetimes → stack ≡ t.stack ++ frame_at f t.state ∷ [] → PointDoes e p t (Ok q) (record t { state = record t.state { in_value = v t.state; place = j; mark = m }; stack = stack; looks = n })
+  list_goes {t} h k p c y r =
+      let s = t.state in
+      let i = on e.symbol s.place h in
+      let on_so = on_heard e s first ", " mark.Comma refl x z rest i.0 (l.element s.depth_left s.lifetimes (omega (arith, y))) i.2 in
+      rw (c, l.words) (list_enters i (1 ∷ []) (omega arith) (omega arith) (l.at_p s ∙ (ap (λ (o : Place). shut_at e (left_of first ", " x z rest) s o) i.1 ∙ ap none_open on_so)) k p (omega (arith, l.high s.depth_left)) y r)
+
+  -- The list is over, and another point goes on.
+  pub list_closes : {t : Turn V} {to : Point} {s : State} {j : Place} {n : ℕ} → is_list_over e.symbol t.state.place ≡ true → j ≡ behind_list e.symbol t.state.place → Paid t.looks (list_costs t.state.place) n
+      → shut_at e z t.state j ≡ with_texts e.output.is_printed (mark_texts s.mark) (unit_rest_of e.symbol e.include_hash e.output.is_printed to s) → way_weight to + 1 ≤ weight_at p → height_at to s.depth_left ≤ 8 * t.state.depth_left + 2 → Fits to s.depth_left s.lifetimes
+      → PointDoes e p t (Ok to) (record t { state = s; looks = n })
+  list_closes {t} {to} h k p c w y g =
+      let over = over_heard e t.state first ", " x z rest t.state.place h in
+      list_ends to (omega (arith, l.words)) (l.at_p t.state ∙ (ap none_open over ∙ ap (with_looks (list_costs t.state.place)) (ap (λ (o : Place). shut_at e z t.state o) (sym k) ∙ c))) p w (omega (arith, y, l.high t.state.depth_left)) g
+
+-- It is over, and with its closing mark the unit.
+pub list_shuts : {V : Type 0} {e : Env V} {p q f : Point} {v : State → Bool} {first : Bool} {x rest : Items} {m : Mark} → Listed e p q f v first x (say (text m) done) rest → {t : Turn V} {j : Place} {n : ℕ} → is_list_over e.symbol t.state.place ≡ true → j ≡ behind_list e.symbol t.state.place
+    → Paid t.looks (list_costs t.state.place) n → PointDoes e p t (Ok point.End) (record t { state = record t.state { place = j; mark = Some m; is_open = false }; looks = n })
+unfolding run unit_rest_at
+list_shuts l h k p = list_closes l h k p refl (omega (arith, l.weight)) (omega arith) tt
+
+-- The second of a tuple, or the comma behind one that stands alone.
+
+pub second_closes : {V : Type 0} {e : Env V} {t : Turn V} {h : Heard} {weight high : ℕ} {j : Place} {n : ℕ} (x : Items) → h ≡ shut_at e (at_end (says "," (says ")" done)) (more ", " x (says ")" done))) t.state t.state.place → is_list_over e.symbol t.state.place ≡ true
+    → j ≡ behind_list e.symbol t.state.place → Paid t.looks (list_costs t.state.place) n → 2 ≤ weight → 8 * t.state.depth_left + 2 ≤ high → Fits point.CloseParen t.state.depth_left t.state.lifetimes
+    → Does e t (part 8 h weight high) (Ok point.CloseParen) (record t { state = record t.state { place = j; mark = Some mark.OneComma }; looks = n })
+unfolding run unit_rest_at
+second_closes {e = e} {t = t} x c h k p w g f = list_ends point.CloseParen (omega arith) (rw k (c ∙ ap none_open (end_heard e t.state (says "," (says ")" done)) (more ", " x (says ")" done)) t.state.place h))) p (omega (arith, w)) (omega (arith, g)) f
+
+pub second_goes : {V : Type 0} {e : Env V} {p q f : Point} {v : State → Bool} {x rest : Items} → Listed e p q f v false x (says ")" done) rest → {t : Turn V} {h : Heard} {weight high : ℕ} {j : Place} {stack : List Frame} {n : ℕ} → h ≡ shut_at e (at_end (says "," (says ")" done)) (more ", " x (says ")" done))) t.state t.state.place
+    → is_list_over e.symbol t.state.place ≡ false → j ≡ behind_list e.symbol t.state.place → Paid t.looks (list_costs t.state.place) n → 8 * t.state.depth_left + 2 ≤ high → Fits point.«Type» t.state.depth_left t.state.lifetimes → stack ≡ t.stack ++ frame_at f t.state ∷ []
+    → Does e t (part 8 h weight high) (Ok q) (record t { state = record t.state { in_value = v t.state; place = j; mark = Some mark.Comma }; stack = stack; looks = n })
+second_goes {e = e} {x = x} l {t = t} c h k p g y r =
+    let s = t.state in
+    let i = on e.symbol s.place h in
+    let so = second_on e.include_hash e.output.is_printed e.symbol s.depth_left s.lifetimes x (says ")" done) i.0 (l.element s.depth_left s.lifetimes (omega (arith, y))) i.2 in
+    list_enters l i (1 ∷ 1 ∷ []) (omega arith) (omega arith) (c ∙ (ap (λ (o : Place). shut_at e (at_end (says "," (says ")" done)) (more ", " x (says ")" done))) s o) i.1 ∙ ap none_open so)) k p g y r

@@ -1,11 +1,10 @@
-use Rattle.std.proofs.Common.{true, arith, sym, ◌∙◌}
-use Rattle.demangle_v0.proofs.PointTuples.{first_type, tuple_closes, types_go}
+use Rattle.std.proofs.Common.{arith, sym, ◌∙◌}
+use Rattle.demangle_v0.proofs.PointLists.{list_goes, list_shuts}
+use Rattle.demangle_v0.proofs.PointTuples.{first_type}
 use Rattle.demangle_v0.proofs.points.tuples.first_tuple_type.Goals as goal
 
 pub returns-then-is_over : goal.returns-then-is_over
-returns-then-is_over g c = record { did = λ include_hash v. tuple_closes true (first_type _) (sym c.is_over.ensures.over ∙ c.if-is_over.true) c.is_over.ensures.place c.is_over.ensures.paid }
+returns-then-is_over g c = record { did = λ include_hash v. list_shuts (first_type _) (sym c.is_over.ensures.over ∙ c.if-is_over.true) c.is_over.ensures.place c.is_over.ensures.paid }
 
 pub returns : goal.returns
-returns g c = record {
-  did = λ include_hash v. types_go true (first_type _) (omega arith) c.requires.may.unmarked (sym c.is_over.ensures.over ∙ c.if-is_over.false) c.is_over.ensures.place c.is_over.ensures.paid c.requires.may.fits (rw c.frame.ensures at c.push.ensures.pushed (omega (arith, c.requires.may.fits)));
-}
+returns g c = record { did = λ include_hash v. list_goes (first_type _) (sym c.is_over.ensures.over ∙ c.if-is_over.false) c.is_over.ensures.place c.is_over.ensures.paid c.requires.may.unmarked c.requires.may.fits (rw c.frame.ensures at c.push.ensures.pushed (omega (arith, c.requires.may.fits))) }

@@ -1,9 +1,14 @@
-use Rattle.std.proofs.Common.{arith, sym, ◌∙◌}
-use Rattle.demangle_v0.proofs.PointTuples.{second_closes, second_goes}
+use Rattle.std.proofs.Common.{arith, refl, sym, ◌∙◌}
+use Rattle.demangle_grammar.specs.Table.{type_inside}
+use Rattle.demangle_v0.specs.Points.{unit_rest_at}
+use Rattle.demangle_v0.proofs.PointLists.{second_closes, second_goes}
+use Rattle.demangle_v0.proofs.PointTuples.{next_type}
 use Rattle.demangle_v0.proofs.points.tuples.second_tuple_type.Goals as goal
 
 pub returns-then-is_over : goal.returns-then-is_over
-returns-then-is_over g c = record { did = λ include_hash v. second_closes (sym c.is_over.ensures.over ∙ c.if-is_over.true) c.is_over.ensures.place c.is_over.ensures.paid c.requires.may }
+unfolding unit_rest_at
+returns-then-is_over g c = record { did = λ include_hash v. second_closes type_inside refl (sym c.is_over.ensures.over ∙ c.if-is_over.true) c.is_over.ensures.place c.is_over.ensures.paid (omega arith) (omega arith) c.requires.may.fits }
 
 pub returns : goal.returns
-returns g c = record { did = λ include_hash v. second_goes (sym c.is_over.ensures.over ∙ c.if-is_over.false) c.is_over.ensures.place c.is_over.ensures.paid c.requires.may (rw c.frame.ensures at c.push.ensures.pushed (omega (arith, c.requires.may.fits))) }
+unfolding unit_rest_at
+returns g c = record { did = λ include_hash v. second_goes (next_type _) refl (sym c.is_over.ensures.over ∙ c.if-is_over.false) c.is_over.ensures.place c.is_over.ensures.paid (omega arith) c.requires.may.fits (rw c.frame.ensures at c.push.ensures.pushed (omega (arith, c.requires.may.fits))) }
