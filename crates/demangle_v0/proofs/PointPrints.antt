@@ -18,14 +18,13 @@ use Rattle.demangle_grammar.proofs.StepsPaid.{pays_looks, pays_texts}
 use Rattle.demangle_v0.proofs.PointWholes.{owed_alone}
 use Rattle.demangle_grammar.specs.Totals.{total}
 use Rattle.demangle_words.specs.WordReads.{texts_of}
-use Rattle.demangle_words.specs.declared.stretch.Stretch.{Stretch}
-use Rattle.demangle_grammar.specs.Events.{Event, Heard, and_then, with_texts, allowed_all, said_all, shown_in}
+use Rattle.demangle_grammar.specs.Events.{Event, Heard, with_texts, allowed_all, said_all, shown_in}
 use Rattle.demangle_sink.specs.Limit.{Prints, Ready}
 use Rattle.demangle_sink.specs.declared.TextSink.{Ghosts as Sinks}
 use Rattle.demangle_sink.specs.declared.SinkRefused.{SinkRefused}
 use Rattle.demangle_sink.specs.declared.limit.SizeLimitedFmtAdapter.{SizeLimitedFmtAdapter}
 use Rattle.demangle_v0.specs.Points.{Bit, pays, puts, heard_bits, bits_looks, bits_texts, Env, Turn, turn, unit_rest_at, stack_rest, reading_rest}
-use Rattle.demangle_v0.specs.PointRuns.{Valid, Emitted, Ran, Broke, ReadsOwn, Skipped, Skipping, printing, RanOn, Passed, ValidLeft, Finishes, Ended, first_state, own_heard}
+use Rattle.demangle_v0.specs.PointRuns.{Valid, Emitted, Ran, Broke, ReadsOwn, Skipped, printing, RanOn, Passed, ValidLeft, Finishes, Ended, first_state, own_heard}
 use Rattle.demangle_v0.specs.declared.points.Point.{Point}
 use Rattle.demangle_v0.specs.declared.points.Point.TheVariants as point
 use Rattle.demangle_v0.specs.declared.points.frames.Frame.{Frame}
@@ -33,7 +32,6 @@ use Rattle.demangle_v0.specs.declared.points.State.{State}
 use Rattle.demangle_v0.specs.declared.points.read.Reading.{Reading}
 use Rattle.demangle_v0.specs.declared.printing.Left.{Left}
 use Rattle.demangle_v0.specs.declared.printing.Left.TheVariants as left
-use Rattle.demangle_words.specs.declared.output.Output.{Ghosts}
 use Rattle.demangle_v0.proofs.PointRuns.{ran_then, front_of, behind_broke, broke_heard, broke_emits, broke_enough}
 use Rattle.demangle_v0.proofs.PointSkips.{skip_is, skipped_heard, skipped_valid}
 use Rattle.demangle_grammar.proofs.SkippedPaths.{allowances, total_allowances}

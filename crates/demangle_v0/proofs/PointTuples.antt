@@ -1,6 +1,6 @@
 -- The points of tuple types.
 use Rattle.std.proofs.Common.{true, false, refl, arith}
-use Rattle.demangle_grammar.specs.Items.{Items, done}
+use Rattle.demangle_grammar.specs.Items.{done}
 use Rattle.demangle_grammar.specs.Table.{more, type_inside, says}
 use Rattle.demangle_grammar.proofs.ListReads.{second}
 use Rattle.demangle_v0.specs.Points.{unit_rest_at, Env}
