@@ -17,6 +17,8 @@ It prints a line for each of these, and at last how many passed:
   device        --output into a device and into a pipe writes in place
   interrupted   a signal that is caught interrupts reading and writing, and nothing is lost
   memory        a run under each limit of address space ends with all of the text or with one line and status 1
+  requests      each request of memory refused, alone or with all behind it, ends it with one line and status 1, what was written
+                begins the output, and the file of --output is as it was, with no other beside it
   long          a line of 1 GB without a line feed, within 8 MB of memory
   help          --help has at most 24 lines of 80 columns, and names every option
   manual        docs/kodliwe.1 has each option and is laid out without a warning
@@ -219,6 +221,81 @@ def memory():
     same(ended, {0, 1})
 
 
+# Refuses the requests of memory from FIRST to LAST, and writes into the file COUNT how many there were.
+REFUSING = r"""
+#define _GNU_SOURCE
+#include <dlfcn.h>
+#include <stdio.h>
+#include <stdlib.h>
+
+static unsigned long count, first, last;
+
+__attribute__((constructor)) static void begin(void) {
+    first = strtoul(getenv("FIRST"), NULL, 10);
+    last = strtoul(getenv("LAST"), NULL, 10);
+    count = 0;
+}
+
+static int is_refused(void) {
+    ++count;
+    return first <= count && count <= last;
+}
+
+void *malloc(size_t size) {
+    void *(*real)(size_t) = (void *(*)(size_t))dlsym(RTLD_NEXT, "malloc");
+    return is_refused() ? NULL : real(size);
+}
+
+void *realloc(void *old, size_t size) {
+    void *(*real)(void *, size_t) = (void *(*)(void *, size_t))dlsym(RTLD_NEXT, "realloc");
+    return is_refused() ? NULL : real(old, size);
+}
+
+__attribute__((destructor)) static void end(void) {
+    unsigned long made = count;
+    last = 0;
+    FILE *file = fopen(getenv("COUNT"), "w");
+    fprintf(file, "%lu", made);
+    fclose(file);
+}
+"""
+
+
+def run_refusing(first, last, words, text):
+    """What a run gave that was refused these requests of memory, with the files of its folder, and how many it made."""
+    shutil.rmtree('refusing', ignore_errors=True)
+    os.mkdir('refusing')
+    write('refusing/in', b'_ZN1bE\n')
+    write('refusing/out', b'old')
+    env = dict(LD_PRELOAD=os.path.abspath('refuse.so'), FIRST=str(first), LAST=str(last), COUNT='count')
+    found = run(*words, text=text, env=env)
+    return (*found, {name: read('refusing/' + name) for name in os.listdir('refusing')}), int(read('count'))
+
+
+def requests():
+    write('refuse.c', REFUSING.encode())
+    subprocess.run([tool('cc'), '-O1', '-shared', '-fPIC', 'refuse.c', '-o', 'refuse.so', '-ldl'], check=True)
+    long_symbol = b'x _ZN' + b'3foo' * 50000 + b'E'
+    cases = [([], b'_ZN3fooE\n'), ([], long_symbol), ([FOO, '_ZN1aE'], b''), (['-i', 'refusing/in', FOO, '-i', 'refusing/in'], b''),
+             (['-o', 'refusing/out', FOO], b''), (['-o', 'refusing/new', FOO, '-i', 'refusing/in'], b''), (['-o', '/dev/full', FOO], b''),
+             (['-i', 'refusing/none'], b''), (['-i', 'refusing'], b''), (['--frob'], b''), (['-l', 'x'], b''), (['--help'], b'')]
+    tried = 0
+    for words, text in cases:
+        whole, count = run_refusing(1, 0, words, text)
+        refused = {('kodliwe: %sout of memory\n' % name, 1) for name in ['', *(word + ': ' for word in words)]}
+        # The end of the words' memory that is not used is given back: where that is refused, nothing is lost.
+        for most, ends in [(0, lambda number: 10 ** 9), (1, lambda number: number)]:
+            unharmed = 0
+            for number in range(1, count + 1):
+                found, _ = run_refusing(number, ends(number), words, text)
+                unharmed += found == whole
+                assert found == whole or (whole[0].startswith(found[0]) and found[1:3] in refused
+                                          and found[3] == {'in': b'_ZN1bE\n', 'out': b'old'}), '%r, request %d: %.300r' % (words, number, found)
+            assert unharmed <= most, '%r: %d refused requests were not told' % (words, unharmed)
+            tried += count
+    return '%d runs' % tried
+
+
 def long():
     piece = b'x_ y' * 262144
     ran = subprocess.Popen([KODLIWE], stdin=subprocess.PIPE, stdout=subprocess.PIPE)
@@ -293,8 +370,8 @@ def filter_():
             assert found == (wanted, '', 0), 'the output differs, with %r' % ours
 
 
-CHECKS = [log, inputs, words, unknown, missing, full, closed, followed, replaced, kept, device, interrupted, memory, long, help_, manual,
-          completions, filter_]
+CHECKS = [log, inputs, words, unknown, missing, full, closed, followed, replaced, kept, device, interrupted, memory, requests, long,
+          help_, manual, completions, filter_]
 
 
 def main():
