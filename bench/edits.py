@@ -5,7 +5,7 @@
     bench/edits.py                                     (only lists the edits that have no line `clause:`, or more than one)
 
 A line `clause: FUNCTION CLAUSE` of an edit names the function that the prover refuses first, and its clause: `ensures` where
-the function has one clause without a name, `loop` where it is the invariant of a loop, `invariant` where it is that of a type
+that has no name or is the function's only one, `loop` where it is the invariant of a loop, `invariant` where it is that of a type
 whose value is made there, `call` where it is what a called function requires. The gate cuts what it says; where the clause is
 cut off, the function alone is compared. With --write an edit that has no such line is given what the gate said of it, to be
 judged by a reader. An edit that the gate did not try is a failure, and so is one that has no such line.

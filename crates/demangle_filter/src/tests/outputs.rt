@@ -5,7 +5,7 @@ use crate::pausing::PausingOutput;
 use held_bytes::CAPACITY;
 use std::alloc::Global;
 use std::io;
-use std::io::{ErrorKind, Write};
+use std::io::{ErrorKind, Read, Write};
 use std::test::Fail;
 use test_doubles::streams::{PartsReader, RefusingWriter};
 
@@ -164,5 +164,22 @@ fn a_part_follows_what_is_held(rt: HostRuntime) -> Result<(), Fail> {
     writer.flush()?;
     drop(output);
     assert_eq!(rt; held.as_slice(), b"ab".as_slice());
+    Ok(())
+}
+
+#[test]
+fn a_part_is_flushed_before_more_is_read(rt: HostRuntime) -> Result<(), Fail> {
+    let alloc = rt.alloc();
+    let mut taking = OnceRefusingWriter::new(alloc, 100, 100);
+    let output = PausingOutput::new(&mut taking);
+    assert_eq!(rt; output.writer().write(b"a")?, 1);
+    let parts: [&[u8]; 1] = [b"b"];
+    let mut input = output.reader(PartsReader::new(&parts, 100, ErrorKind::Other));
+    let mut read = [0; 1];
+    assert_eq!(rt; input.read(&mut read)?, 1);
+    drop(input);
+    drop(output);
+    assert_eq!(rt; taking.held.as_slice(), b"a".as_slice());
+    assert_eq!(rt; taking.flushed, 1);
     Ok(())
 }
