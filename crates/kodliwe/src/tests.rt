@@ -2,6 +2,7 @@
 //! tested with the library, by which this is compared.
 use crate::program::start;
 use crate::run::{Ended, Input, run};
+use crate::words::{Asked, read_words};
 use rustc_demangle::demangle_stream_named;
 use std::alloc::{AllocError, Global};
 use std::cell::Cell;
@@ -11,11 +12,16 @@ use std::process::Abort;
 use std::test::Fail;
 use streams::{CallsWriter, ChunkReader, WatchedWriter, WatchingReader};
 
+mod calls;
 mod streams;
 
 /// What a log may have: both schemes, what only begins as one, a byte of Latin-1, NUL, long runs.
 const LOG: &[u8] = b"a _ZN3foo17h05af221e174051e9E\r\n\n_ _Z _R _ZN __R \
     _RNvC5crate4main.llvm.0 _RCs_3foo \xE9t\xE9 \0_ZN3fooE\0 _ZN1a1bE._ZN1cE _Z_ZN1a1bE$x\n_ZN3barE";
+
+/// The log without hashes.
+const FILTERED_LOG: &[u8] = b"a foo\r\n\n_ _Z _R _ZN __R \
+    crate::main foo \xE9t\xE9 \0foo\0 a::b._ZN1cE _Z_ZN1a1bE$x\nbar";
 
 /// What the line filter writes of a text, which has to be UTF-8, with hashes or without.
 fn by_lines(
@@ -69,10 +75,8 @@ fn assert_writes(
 #[test]
 fn a_log_of_any_bytes_is_filtered_by_fillings_of_any_size(rt: HostRuntime) -> Result<(), Fail> {
     let alloc = rt.alloc();
-    let wanted: &[u8] = b"a foo\r\n\n_ _Z _R _ZN __R \
-        crate::main foo \xE9t\xE9 \0foo\0 a::b._ZN1cE _Z_ZN1a1bE$x\nbar";
     for most in 1..LOG.len() {
-        assert_writes(&rt, alloc, LOG, most, wanted, false)?;
+        assert_writes(&rt, alloc, LOG, most, FILTERED_LOG, false)?;
     }
     Ok(())
 }
@@ -113,77 +117,6 @@ fn inputs_are_filtered_each_by_itself(rt: HostRuntime) -> Result<(), Fail> {
 }
 
 #[test]
-fn a_reader_that_fails_is_told_by_its_name(rt: HostRuntime) -> Result<(), Fail> {
-    let alloc = rt.alloc();
-    let text: &[u8] = b"x _ZN3fooE\ny _ZN3barE";
-    let faults: [(ErrorKind, &[u8]); 2] = [
-        (
-            ErrorKind::IsADirectory,
-            b"kodliwe: log.txt: reset by the other side\n",
-        ),
-        (ErrorKind::OutOfMemory, b"kodliwe: out of memory\n"),
-    ];
-    for (kind, line) in faults {
-        // The run that the input so far ends with is not known, and so is not written.
-        for (reads, wanted) in [
-            (0, b"".as_slice()),
-            (1, b"x "),
-            (2, b"x foo\ny"),
-            (3, b"x foo\ny "),
-        ] {
-            let reader = ChunkReader::new(text, 6).failing(reads, kind);
-            let mut output = Vec::new(alloc);
-            let (ended, errors) = run_one(alloc, reader, &mut output, false)?;
-            assert_eq!(rt; ended, Ended::Unread, "at {reads}");
-            assert_eq!(rt; ended.status(), 1);
-            assert_eq!(rt; errors.as_slice(), line, "at {reads}");
-            assert_eq!(rt; output.as_slice(), wanted, "at {reads}");
-        }
-    }
-    Ok(())
-}
-
-#[test]
-fn interrupted_calls_are_made_again(rt: HostRuntime) -> Result<(), Fail> {
-    let alloc = rt.alloc();
-    let reader = ChunkReader::new(LOG, 5).interrupted();
-    let mut output = CallsWriter::new(alloc, usize::MAX, ErrorKind::Other, 3).interrupted();
-    let (ended, errors) = run_one(alloc, reader, &mut output, false)?;
-    assert_eq!(rt; ended, Ended::Complete);
-    assert!(rt; errors.is_empty());
-    let mut wanted = Vec::new(alloc);
-    let _ = run_one(alloc, ChunkReader::new(LOG, 1000), &mut wanted, false)?;
-    assert_eq!(rt; output.held(), wanted.as_slice());
-    Ok(())
-}
-
-#[test]
-fn a_writer_that_fails_at_any_call_is_told(rt: HostRuntime) -> Result<(), Fail> {
-    let alloc = rt.alloc();
-    let text: &[u8] = b"x _ZN1a1bE y\n_ZN3fooE\n";
-    let wanted: &[u8] = b"x a::b y\nfoo\n";
-    // Two bytes a write, and a flush before each reading and at the end.
-    for calls in 0..100 {
-        let mut output = CallsWriter::new(alloc, calls, ErrorKind::StorageFull, 2);
-        let (ended, errors) = run_one(alloc, ChunkReader::new(text, 4), &mut output, false)?;
-        assert!(rt; wanted.starts_with(output.held()), "at {calls}");
-        if ended == Ended::Complete {
-            assert_eq!(rt; output.held(), wanted);
-            assert!(rt; calls > 13, "{calls}");
-            return Ok(());
-        }
-        assert_eq!(rt; ended, Ended::Unwritten, "at {calls}");
-        assert_eq!(rt; ended.status(), 1);
-        assert_eq!(rt;
-            errors.as_slice(),
-            b"kodliwe: write failed: no space\n".as_slice()
-        );
-    }
-    assert!(rt; false, "it was never complete");
-    Ok(())
-}
-
-#[test]
 fn a_closed_pipe_ends_the_run_silently(rt: HostRuntime) -> Result<(), Fail> {
     let alloc = rt.alloc();
     for calls in 0..8 {
@@ -210,6 +143,15 @@ fn what_is_finished_is_flushed_before_more_is_read(rt: HostRuntime) -> Result<()
     Ok(())
 }
 
+/// The words, as the program gets them.
+fn owned_words(alloc: Global, words: &[&str]) -> Result<Vec<String>, AllocError> {
+    let mut owned = Vec::new(alloc);
+    for word in words.iter() {
+        owned.push(String::from_str(alloc, word)?)?;
+    }
+    Ok(owned)
+}
+
 /// Runs the program on these words, and asserts what it writes.
 fn assert_program<R: Abort + Files>(
     rt: &R,
@@ -220,10 +162,7 @@ fn assert_program<R: Abort + Files>(
     wanted: &[u8],
     line: &[u8],
 ) -> Result<(), Fail> {
-    let mut owned = Vec::new(alloc);
-    for word in words.iter() {
-        owned.push(String::from_str(alloc, word)?)?;
-    }
+    let owned = owned_words(alloc, words)?;
     let mut output = Vec::new(alloc);
     let mut errors = Vec::new(alloc);
     let ended = start(alloc, owned.as_slice(), rt, stdin, &mut output, &mut errors);
@@ -340,6 +279,102 @@ fn each_path_is_cut_at_the_limit(rt: HostRuntime) -> Result<(), Fail> {
     let line: &[u8] =
         b"kodliwe: option '--limit=-1' needs a number of BYTES; try 'kodliwe --help'\n";
     assert_program(&rt, rt.alloc(), rt.stdin(), &["--limit=-1"], 2, b"", line)
+}
+
+/// Asserts that these words ask for this output, with the hash kept and this limit.
+fn assert_request(
+    rt: &impl Abort,
+    alloc: Global,
+    words: &[&str],
+    output: Option<&str>,
+    limit: usize,
+) -> Result<(), Fail> {
+    let owned = owned_words(alloc, words)?;
+    match read_words(alloc, owned.as_slice()) {
+        Ok(Asked::Filter(request)) => {
+            assert_eq!(rt; request.output, output, "with {words:?}");
+            assert_eq!(rt; request.limit, limit, "with {words:?}");
+            assert!(rt; request.include_hash, "with {words:?}");
+        }
+        _ => assert!(rt; false, "with {words:?}"),
+    }
+    Ok(())
+}
+
+#[test]
+fn the_word_behind_an_option_is_its_value(rt: HostRuntime) -> Result<(), Fail> {
+    let alloc = rt.alloc();
+    assert_request(&rt, alloc, &["-o", "-h", "--hash"], Some("-h"), 1_000_000)?;
+    assert_request(
+        &rt,
+        alloc,
+        &["--output", "--", "--hash"],
+        Some("--"),
+        1_000_000,
+    )?;
+    assert_request(
+        &rt,
+        alloc,
+        &["-o", "-o", "-o-V", "--hash"],
+        Some("-V"),
+        1_000_000,
+    )?;
+    assert_request(
+        &rt,
+        alloc,
+        &["--output==x", "--limit=10", "--hash"],
+        Some("=x"),
+        10,
+    )?;
+    assert_request(
+        &rt,
+        alloc,
+        &["-l", "+7", "--hash", "--", "-o", "-l"],
+        None,
+        7,
+    )?;
+    let cases: [(&[&str], u8, &[u8], &[u8]); 6] = [
+        (
+            &["-i", "--", "_ZN1aE"],
+            1,
+            b"",
+            b"kodliwe: --: No such file or directory\n",
+        ),
+        (
+            &["_ZN1aE", "--input", "-h"],
+            1,
+            b"a\n",
+            b"kodliwe: -h: No such file or directory\n",
+        ),
+        (
+            &["-l", "--", FOO],
+            2,
+            b"",
+            b"kodliwe: option '-l' needs a number of BYTES; try 'kodliwe --help'\n",
+        ),
+        (
+            &[FOO, "--limit"],
+            2,
+            b"",
+            b"kodliwe: option '--limit' needs a number of BYTES; try 'kodliwe --help'\n",
+        ),
+        (
+            &["--limit=", FOO],
+            2,
+            b"",
+            b"kodliwe: option '--limit=' needs a number of BYTES; try 'kodliwe --help'\n",
+        ),
+        (
+            &["--limit=5", "--", "-_ZN3foo3barE", "-l"],
+            0,
+            b"-foo::{size limit reached}\n-l\n",
+            b"",
+        ),
+    ];
+    for (words, status, wanted, line) in cases {
+        assert_program(&rt, alloc, rt.stdin(), words, status, wanted, line)?;
+    }
+    Ok(())
 }
 
 #[test]

@@ -75,9 +75,12 @@ impl Read for ChunkReader<'_> {
 #[derive(Drop)]
 pub struct CallsWriter {
     held: Vec<u8>,
+    calls: usize,
     calls_left: usize,
     kind: ErrorKind,
     most: usize,
+    /// Whether it fails at one call, and takes those behind it.
+    fails_once: bool,
     interrupted: Option<bool>,
 }
 
@@ -86,27 +89,34 @@ impl CallsWriter {
     pub fn new(alloc: Global, calls: usize, kind: ErrorKind, most: usize) -> CallsWriter {
         CallsWriter {
             held: Vec::new(alloc),
+            calls: 0,
             calls_left: calls,
             kind,
             most,
+            fails_once: false,
             interrupted: None,
         }
     }
 
+    /// Has it take the calls behind the one at which it fails.
+    pub fn fail_once(&mut self) {
+        self.fails_once = true;
+    }
+
     /// The same, each second call of which is interrupted, from the first on.
-    pub fn interrupted(self) -> CallsWriter {
-        CallsWriter {
-            held: self.held,
-            calls_left: self.calls_left,
-            kind: self.kind,
-            most: self.most,
-            interrupted: Some(true),
-        }
+    pub fn interrupted(mut self) -> CallsWriter {
+        self.interrupted = Some(true);
+        self
     }
 
     /// What was written.
     pub fn held(&self) -> &[u8] {
         self.held.as_slice()
+    }
+
+    /// How many calls were taken.
+    pub fn calls(&self) -> usize {
+        self.calls
     }
 
     fn call(&mut self) -> io::Result<()> {
@@ -117,9 +127,13 @@ impl CallsWriter {
             }
         }
         if self.calls_left == 0 {
+            if self.fails_once {
+                self.calls_left = usize::MAX;
+            }
             return Err(io::Error::new(self.kind, "no space"));
         }
         self.calls_left -= 1;
+        self.calls = self.calls.saturating_add(1);
         Ok(())
     }
 }
