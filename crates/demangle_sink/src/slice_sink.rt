@@ -95,6 +95,7 @@ fn lay_behind(out: &mut [u8], before: usize, bytes: &[u8])
 }
 
 /// Lays bytes into memory from a place on, as far as it reaches.
+#[inline(always)]
 fn lay(out: &mut [u8], place: usize, bytes: &[u8])
     ensures { out.new ≡ overlay_from place out.old bytes.now }
 {
@@ -114,6 +115,7 @@ impl<'b> TextSink for SliceSink<'b> {
 
     ghost keeps = { true };
 
+    #[inline(always)]
     fn put(&mut self, s: &str) -> Result<(), SinkRefused> {
         self.put_bytes(s.as_bytes())
     }
