@@ -9,7 +9,8 @@ use Rattle.kodliwe.specs.declared.words.ValuedOption.{ValuedOption}
 use Rattle.kodliwe.specs.declared.words.ValuedOption.TheVariants.{Input}
 use Rattle.kodliwe.specs.declared.words.Next.{Next}
 use Rattle.kodliwe.specs.declared.words.Next.TheVariants as next
-use Rattle.kodliwe.specs.CommandLine.{Options, Answer, filter, Part, stdin, file, symbols, IsPart, part_of, IsAlone, HasValue, Sets, Asks, anything, a_value, a_symbol, ends, ends_symbols, lacks_value, lacking_value, refusal_of, place_of}
+use Rattle.kodliwe.specs.CommandLine.{Options, Answer, filter, Part, stdin, file, symbols, IsPart, part_of, IsAlone, HasValue, Sets, Asks, anything, a_value, a_symbol, ends, ends_symbols, lacks_value, lacking_value, refusal_of}
+use Rattle.kodliwe.specs.OneWord.{place_of}
 
 pub not_alone : (short long word : List ℕ) → (word ≡ short → ⊥) → (word ≡ long → ⊥) → IsAlone short long word → ⊥
 not_alone short long word no_short no_long (inl e) = no_short e

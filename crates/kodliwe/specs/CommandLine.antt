@@ -13,12 +13,6 @@ use Rattle.kodliwe.specs.declared.words.WordsFault.{WordsFault}
 use Rattle.kodliwe.specs.declared.words.WordsFault.TheVariants.{Unknown, NoFile, NoNumber, Memory}
 use Rattle.kodliwe.specs.declared.words.ValuedOption.{ValuedOption}
 use Rattle.kodliwe.specs.declared.words.ValuedOption.TheVariants.{Input, Output, Limit}
-use Rattle.kodliwe.specs.declared.words.Word.{Word}
-use Rattle.kodliwe.specs.declared.words.Word.TheVariants as kind
-use Rattle.kodliwe.specs.declared.words.Next.{Next}
-use Rattle.kodliwe.specs.declared.words.Next.TheVariants as next
-use Rattle.kodliwe.specs.declared.words.Taken.{Taken}
-use Rattle.kodliwe.specs.declared.words.Taken.TheVariants as taken
 
 -- a text to filter: standard input, a file, or the lines of symbols
 pub data Part : Type 0 where
@@ -116,18 +110,6 @@ pub record IsUnknown (word : List ℕ) : Type 0 where
   pub no_output : IsNoOption (codes "-o") (codes "--output") word
   pub no_limit : IsNoOption (codes "-l") (codes "--limit") word
 
--- what a word is, in front of --
-abbrev pub IsWord : List ℕ → Word → Type 0
-IsWord word kind.Symbol = starts_with nat_eq word (codes "-") ≡ false
-IsWord word kind.Stdin = word ≡ codes "-"
-IsWord word kind.End = word ≡ codes "--"
-IsWord word (kind.Valued option None) = IsAlone (short_name option) (long_name option) word
-IsWord word (kind.Valued option (Some value)) = HasValue (short_name option) (long_name option) word value.now
-IsWord word kind.Hash = word ≡ codes "--hash"
-IsWord word kind.Help = IsAlone (codes "-h") (codes "--help") word
-IsWord word kind.Version = IsAlone (codes "-V") (codes "--version") word
-IsWord word kind.Unknown = IsUnknown word
-
 -- What words ask for, from a place on, with what was said in front of it.
 pub data Asks : Place → Options → List (List ℕ) → Answer → Type 0 where
   ends : {o : Options} → Asks anything o [] (filter o)
@@ -184,19 +166,3 @@ refusal_of (Unknown word) = Some (unknown word.now)
 refusal_of (NoFile word) = Some (no_file word.now)
 refusal_of (NoNumber word) = Some (no_number word.now)
 refusal_of Memory = None
-
--- the place that a word leaves
-abbrev pub place_of : Next → Place
-place_of next.Anything = anything
-place_of (next.Value option word) = a_value option word.now
-place_of next.Symbol = a_symbol
-
--- what one word does: it changes the options and leaves a place for the next, or is an answer, whatever stands behind it
-abbrev pub Takes : Place → Options → List ℕ → Options → Taken → Type 0
-Takes place old word new (taken.Next place_behind) = (words : List (List ℕ)) (answer : Answer)
-    → Asks (place_of place_behind) new words answer → Asks place old (word ∷ words) answer
-Takes place old word new taken.Help = (words : List (List ℕ)) → Asks place old (word ∷ words) help
-Takes place old word new taken.Version = (words : List (List ℕ)) → Asks place old (word ∷ words) version
-
-abbrev pub Refuses : Place → Options → List ℕ → Answer → Type 0
-Refuses place old word answer = (words : List (List ℕ)) → Asks place old (word ∷ words) answer

@@ -1,5 +1,6 @@
 -- What a reader of the program's contracts believes.
 pub mod Run
 pub mod CommandLine
--- Internal: no public contract cites this.
+-- Internal: no public contract cites these.
 pub mod Output
+pub mod OneWord

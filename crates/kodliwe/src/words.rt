@@ -3,10 +3,10 @@ ghost use Rattle.std.specs.Prelude.{◌≡◌, ◌++◌, ◌∷◌, [], codes, t
 ghost use Rattle.std.specs.Prelude.{None, Some, OnOk, IfOk, IfErr, IfSome, IfNone};
 ghost use Rattle.std.specs.List.{starts_with};
 ghost use Rattle.std.specs.String.{string_bytes};
-ghost use Rattle.kodliwe.specs.CommandLine.{IsAlone, HasValue, IsNoOption, IsWord, Sets, IsRefused};
-ghost use Rattle.kodliwe.specs.CommandLine.{Asks, anything, defaults, with_line, Takes, Refuses};
-ghost use Rattle.kodliwe.specs.CommandLine.{options_of, asked_of, place_of};
-ghost use Rattle.kodliwe.specs.CommandLine.{refusal_of, lacking_value};
+ghost use Rattle.kodliwe.specs.CommandLine.{IsAlone, HasValue, IsNoOption, Sets, IsRefused};
+ghost use Rattle.kodliwe.specs.CommandLine.{Asks, anything, defaults, with_line};
+ghost use Rattle.kodliwe.specs.CommandLine.{options_of, asked_of, refusal_of, lacking_value};
+ghost use Rattle.kodliwe.specs.OneWord.{IsWord, Takes, Refuses, place_of};
 
 use std::alloc::{AllocError, Global};
 

@@ -1,6 +1,7 @@
 use Rattle.std.proofs.Common.{drop, map}
 use Rattle.std.specs.String.{string_bytes}
-use Rattle.kodliwe.specs.CommandLine.{Answer, Asks, anything, defaults, options_of, place_of}
+use Rattle.kodliwe.specs.CommandLine.{Answer, Asks, anything, defaults, options_of}
+use Rattle.kodliwe.specs.OneWord.{place_of}
 use Rattle.kodliwe.proofs.words.read_words.Given as goal
 
 abbrev pub invariant-loop-word : goal.invariant-loop-word

@@ -1,7 +1,8 @@
 use Rattle.std.proofs.Common.{subst}
 use Rattle.std.proofs.lemmas.Result.{err_from_is_err_and}
 use Rattle.kodliwe.specs.declared.words.Word.TheVariants as kind
-use Rattle.kodliwe.specs.CommandLine.{IsWord, IsRefused, Refuses, anything, options_of, has_value, has_refused, is_alone}
+use Rattle.kodliwe.specs.CommandLine.{IsRefused, anything, options_of, has_value, has_refused, is_alone}
+use Rattle.kodliwe.specs.OneWord.{IsWord, Refuses}
 use Rattle.kodliwe.proofs.WordLemmas.{refusal_then}
 use Rattle.kodliwe.proofs.words.Request.take_option.Goals as goal
 

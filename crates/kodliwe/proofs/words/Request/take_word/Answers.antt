@@ -1,6 +1,7 @@
 use Rattle.std.proofs.Common.{◌∷◌, subst, sym}
 use Rattle.std.proofs.lemmas.Result.{err_from_is_err_and}
-use Rattle.kodliwe.specs.CommandLine.{Asks, a_symbol, options_of, place_of, is_value, is_refused, is_symbol, Refuses}
+use Rattle.kodliwe.specs.CommandLine.{Asks, a_symbol, options_of, is_value, is_refused, is_symbol}
+use Rattle.kodliwe.specs.OneWord.{Refuses, place_of}
 use Rattle.kodliwe.proofs.WordLemmas.{refusal_then}
 use Rattle.kodliwe.proofs.words.Request.take_word.Goals as goal
 
