@@ -1,5 +1,5 @@
 -- Texts that are filtered in turn.
-use Rattle.std.proofs.Common.{◌≡◌, ℕ, zero, ◌++◌, Bool, true, false, cond, List, [], ◌∷◌, None, Some, IfSome, Ok, Err, IfErr, refl, sym, ap, subst, ◌∙◌, append_assoc, append-nil, length, arith}
+use Rattle.std.proofs.Common.{◌≡◌, ℕ, zero, ◌++◌, Bool, List, [], ◌∷◌, None, Some, IfSome, Ok, Err, IfErr, refl, sym, ap, subst, ◌∙◌, append_assoc, append-nil, length, arith}
 use Rattle.std.specs.declared.option.Option.{Option}
 use Rattle.std.specs.declared.result.Result.{Result}
 use Rattle.std.specs.declared.io.Error.{Error}
@@ -7,8 +7,8 @@ use Rattle.std.specs.Bool.{⊤}
 use Rattle.std.specs.Io.KnownBytes.{Appends, Keeps, prepend_known}
 use Rattle.std.proofs.KnownBytes.{Appends-trans, Appends-nil, Appends-kept}
 use Rattle.std.proofs.lemmas.Option.{MatchOption-at_some}
-use Rattle.rustc_demangle.specs.Filtered.{filtered_by, replacement_within}
-use Rattle.rustc_demangle.specs.Bytes.{CutsNoRun, Passed, IsWriting, StepTook, StepEnded, StepRefused, BytesStopped}
+use Rattle.rustc_demangle.specs.Filtered.{filtered_by}
+use Rattle.rustc_demangle.specs.Bytes.{Passed, IsWriting, StepTook, StepEnded, StepRefused, BytesStopped}
 use Rattle.rustc_demangle.specs.declared.stream.fault.StreamFault.{StreamFault}
 use Rattle.rustc_demangle.specs.declared.stream.fault.StreamFault.TheVariants.{Read, NotUtf8, Write, Memory}
 use Rattle.rustc_demangle.proofs.BytesSteps.{Passing, passed_none, passed_trans}

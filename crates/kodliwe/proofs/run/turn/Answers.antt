@@ -1,4 +1,3 @@
-use Rattle.std.proofs.Common.{rules}
 use Rattle.std.proofs.lemmas.Result.{err_from_is_err_and}
 use Rattle.kodliwe.proofs.RunLemmas.{took_later, ended_later, turn_refused, writing_stopped}
 use Rattle.kodliwe.proofs.run.turn.Goals as goal
