@@ -8,20 +8,21 @@ use Rattle.demangle_symbol.specs.Digits.{is_byte, run_end}
 use Rattle.demangle_symbol.specs.Words.{Read, Name, only_if, some_or, name_of, name_from, name_len, is_upper, is_nibble, integer_at, optional_at, identifier_at, nibbles_at, number_of}
 use Rattle.demangle_symbol.specs.Names.{name_pieces, is_nameless, is_empty}
 use Rattle.demangle_symbol.specs.Literals.{literal, string_of}
-use Rattle.demangle_grammar.specs.Items.{Text, Items, done, invalid, say, say_plain, integer, identifier, lifetime}
+use Rattle.demangle_grammar.specs.Items.{Text, Items, done, invalid, say, say_plain, integer, optional, identifier, lifetime}
 use Rattle.demangle_grammar.specs.Table.{says, say_all, says_name, in_special, in_namespace, path, extern, row_text, basic_types, number_pieces}
 use Rattle.demangle_grammar.specs.Reading.{Tree, nothing, piece, looked, invalid_syntax, Place, Outcome, Surroundings, fault, behind, stands, followed_by, run, word_outcome, byte_choice, letter_of, all_pieces, lifetime_at, lifetime_named}
 use Rattle.demangle_words.specs.Texts.{text, word_items, says_head, function_head, says_true, says_char}
 use Rattle.demangle_grammar.specs.Events.{Event, shows, allows, shown_if, events, Heard, of, nothing_heard, with_looks, with_texts, around}
 use Rattle.demangle_symbol.specs.Idents.{ident_parts, ident_at}
 use Rattle.demangle_symbol.specs.Nibbles.{hex_at}
-use Rattle.demangle_words.specs.WordReads.{bytes_in, nested_texts, number_texts, if_plain, texts_of, Group, goes, faulty, behind_word, byte_group, if_in_force, abi_named, abi_group, bool_stretch, character_stretch, literal_stretch, crate_group, nested_group, word_group}
+use Rattle.demangle_words.specs.WordReads.{bytes_in, nested_texts, number_texts, if_plain, texts_of, Group, goes, faulty, behind_word, byte_group, if_in_force, abi_named, abi_group, bool_stretch, character_stretch, literal_stretch, named_group, crate_group, nested_group, word_group}
 use Rattle.demangle_symbol.specs.declared.cursor.Part.{Part}
 use Rattle.demangle_symbol.specs.declared.cursor.ident.Ident.{Ident}
 use Rattle.demangle_words.specs.declared.texts.Word.{Word}
 use Rattle.demangle_words.specs.declared.texts.Word.TheVariants as word
 use Rattle.demangle_words.specs.declared.texts.Mark.TheVariants as mark
 use Rattle.demangle_words.specs.declared.stretch.Abi.TheVariants as abi
+use Rattle.demangle_words.specs.declared.stretch.Stretch.{Stretch}
 use Rattle.demangle_words.specs.declared.stretch.Stretch.TheVariants.{Nothing, Fixed, CrateName, FieldName, NestedName, Lifetime, LifetimeFault, DynLifetime, DynLifetimeFault, FunctionHead, Number, Character, BindingName}
 use Rattle.demangle_words.specs.declared.read.WordRead.{WordRead}
 use Rattle.demangle_words.specs.declared.read.WordRead.TheVariants.{Goes, Stops}
@@ -128,55 +129,38 @@ nested_read b include_hash out s a n d j = go (is_upper n) (is_nameless a)
 
 -- Lifetimes.
 
-abbrev lifetime_heard : Bool → Bool → ℕ → ℕ → ℕ → (Place → Outcome) → Heard
-lifetime_heard include_hash false n k j f = of include_hash false (f (Some j))
-lifetime_heard include_hash true n k j f =
-    if nat_le k n then with_texts true (codes "'" ∷ letter_of (n - k)) (of include_hash true (f (Some j)))
-    else with_texts true (codes "'" ∷ codes "{invalid syntax}" ∷ []) (of include_hash true (f None))
-
-lifetime_checked : (include_hash out : Bool) (n k j : ℕ) (f : Place → Outcome) → (k == 0) ≡ false → of include_hash out (followed_by (lifetime_at out n k (Some j)) f) ≡ lifetime_heard include_hash out n k j f
+-- a lifetime that is not `'_`, with ` + ` before it or not
+lifetime_checked : (b : List ℕ) (include_hash plus out : Bool) (n k j : ℕ) (f : Place → Outcome) → (k == 0) ≡ false
+    → with_texts out (if plus then codes " + " ∷ [] else []) (of include_hash out (followed_by (lifetime_at out n k (Some j)) f))
+    ≡ grouped b include_hash out (if_in_force out n k j (if plus then DynLifetime (n - k) else Lifetime (Some (n - k))) (if plus then DynLifetimeFault else LifetimeFault)) (λ i. of include_hash out (f i))
 unfolding heard
-lifetime_checked include_hash false n k j f e = refl
-lifetime_checked include_hash true n k j f e = rw e (go (nat_le k n))
+lifetime_checked b include_hash true false n k j f e = refl
+lifetime_checked b include_hash false false n k j f e = refl
+lifetime_checked b include_hash plus true n k j f e = rw e (go plus (nat_le k n))
   where
-    go : (c : Bool) → of include_hash true (followed_by (behind (piece (codes "'")) (cond c (behind (all_pieces (letter_of (n - k))) (stands (Some j))) (fault invalid_syntax))) f)
-        ≡ cond c (with_texts true (codes "'" ∷ letter_of (n - k)) (of include_hash true (f (Some j)))) (with_texts true (codes "'" ∷ codes "{invalid syntax}" ∷ []) (of include_hash true (f None)))
-    go true =
+    named : of include_hash true (followed_by (behind (piece (codes "'")) (behind (all_pieces (letter_of (n - k))) (stands (Some j)))) f) ≡ with_texts true (codes "'" ∷ letter_of (n - k)) (of include_hash true (f (Some j)))
+    named =
         ap (λ xs. heard (shows (codes "'") ∷ (xs ++ events include_hash true (f (Some j)).tree)) (of include_hash true (f (Some j)))) (pieces_heard include_hash true (letter_of (n - k)) nothing)
         ∙ ap (λ xs. heard (shows (codes "'") ∷ xs) (of include_hash true (f (Some j)))) (said_all_append true (letter_of (n - k)) [] (events include_hash true (f (Some j)).tree))
-    go false = refl
 
-lifetime_read : (b : List ℕ) (include_hash out : Bool) (s : Surroundings) (n : ℕ) (p : Items) (k j : ℕ)
-    → of include_hash out (followed_by (lifetime_at out n k (Some j)) (run p s)) ≡ grouped b include_hash out (if k == 0 then goes (Lifetime None) (Some j) else if_in_force out n k j (Lifetime (Some (n - k))) LifetimeFault) (λ i. of include_hash out (run p s i))
-lifetime_read b include_hash out s n p k j = go (k == 0) refl
-  where
-    zeroth : (out : Bool) → (k == 0) ≡ true → of include_hash out (followed_by (lifetime_at out n k (Some j)) (run p s)) ≡ with_texts out (codes "'" ∷ codes "_" ∷ []) (of include_hash out (run p s (Some j)))
-    zeroth true e = rw e refl
-    zeroth false e = refl
+    go : (plus c : Bool) → with_texts true (cond plus (codes " + " ∷ []) []) (of include_hash true (followed_by (behind (piece (codes "'")) (cond c (behind (all_pieces (letter_of (n - k))) (stands (Some j))) (fault invalid_syntax))) f))
+        ≡ grouped b include_hash true (cond c (goes (cond plus (DynLifetime (n - k)) (Lifetime (Some (n - k)))) (Some j)) (goes (cond plus DynLifetimeFault LifetimeFault) None)) (λ i. of include_hash true (f i))
+    go true true = ap (saying true (codes " + ")) named
+    go false true = named
+    go true false = refl
+    go false false = refl
 
-    last : (out d : Bool) → (nat_le k n) ≡ d → lifetime_heard include_hash out n k j (run p s) ≡ grouped b include_hash out (if_in_force out n k j (Lifetime (Some (n - k))) LifetimeFault) (λ i. of include_hash out (run p s i))
-    last false d e = refl
-    last true true e = rw e refl
-    last true false e = rw e refl
-
-    go : (c : Bool) → (k == 0) ≡ c → of include_hash out (followed_by (lifetime_at out n k (Some j)) (run p s)) ≡ grouped b include_hash out (cond c (goes (Lifetime None) (Some j)) (if_in_force out n k j (Lifetime (Some (n - k))) LifetimeFault)) (λ i. of include_hash out (run p s i))
-    go true e = zeroth out e
-    go false e = lifetime_checked include_hash out n k j (run p s) e ∙ last out (nat_le k n) refl
-
-plus_read : (b : List ℕ) (include_hash out : Bool) (s : Surroundings) (n : ℕ) (p : Items) (k j : ℕ) → (k == 0) ≡ false
-    → saying out (codes " + ") (of include_hash out (followed_by (lifetime_at out n k (Some j)) (run p s))) ≡ grouped b include_hash out (if_in_force out n k j (DynLifetime (n - k)) DynLifetimeFault) (λ i. of include_hash out (run p s i))
-plus_read b include_hash out s n p k j e = ap (saying out (codes " + ")) (lifetime_checked include_hash out n k j (run p s) e) ∙ last out (nat_le k n) refl
-  where
-    last : (out d : Bool) → (nat_le k n) ≡ d → saying out (codes " + ") (lifetime_heard include_hash out n k j (run p s)) ≡ grouped b include_hash out (if_in_force out n k j (DynLifetime (n - k)) DynLifetimeFault) (λ i. of include_hash out (run p s i))
-    last false d e = refl
-    last true true e = rw e refl
-    last true false e = rw e refl
+lifetime_read : (b : List ℕ) (include_hash out : Bool) (s : Surroundings) (n : ℕ) (p : Items) (k j : ℕ) (c : Bool) → (k == 0) ≡ c
+    → of include_hash out (followed_by (lifetime_at out n k (Some j)) (run p s)) ≡ grouped b include_hash out (if c then goes (Lifetime None) (Some j) else if_in_force out n k j (Lifetime (Some (n - k))) LifetimeFault) (λ i. of include_hash out (run p s i))
+lifetime_read b include_hash true s n p k j true e = rw e refl
+lifetime_read b include_hash false s n p k j true e = refl
+lifetime_read b include_hash out s n p k j false e = lifetime_checked b include_hash false out n k j (run p s) e
 
 plus_or : (b : List ℕ) (include_hash : Bool) (left : ℕ) (out : Bool) (n : ℕ) (p : Items) (k j : ℕ) (c : Bool) → (k == 0) ≡ c
     → of include_hash out (run (if c then p else says " + " (lifetime k p)) (around b out left n) (Some j)) ≡ grouped b include_hash out (if c then goes Nothing (Some j) else if_in_force out n k j (DynLifetime (n - k)) DynLifetimeFault) (λ i. of include_hash out (run p (around b out left n) i))
 unfolding run
 plus_or b include_hash left out n p k j true e = refl
-plus_or b include_hash left out n p k j false e = plus_read b include_hash out (around b out left n) n p k j e
+plus_or b include_hash left out n p k j false e = lifetime_checked b include_hash true out n k j (run p (around b out left n)) e
 
 -- Functions.
 
@@ -199,21 +183,15 @@ named_read b include_hash out unsafe a p s j = go (is_empty (bytes_in b a.ascii)
 
 abi_read : (include_hash out unsafe : Bool) (p : Items) (s : Surroundings) (i : ℕ) → of include_hash out (run (function_head unsafe p) s (Some i)) ≡ grouped s.symbol include_hash out (abi_group s.symbol unsafe i) (λ i. of include_hash out (run p s i))
 unfolding run
-abi_read include_hash out unsafe p s i = go
-  where
-    c : List ℕ
-    c = s.symbol
-
-    rest : Name → Place → Outcome
-    rest a = run (if is_empty a.ascii then invalid else if is_empty a.punycode then says_head unsafe (extern a.ascii) p else invalid) s
-
-    go : of include_hash out (run (function_head unsafe p) s (Some i)) ≡ grouped c include_hash out (abi_group c unsafe i) (λ i. of include_hash out (run p s i))
-    go = ask_reads c include_hash out (is_byte c i (code "K")) (λ j. byte_choice (Rattle.demangle_grammar.specs.Reading.stands_at s (code "C") j) (run (says_head unsafe (extern (codes "C")) p) s) (run (identifier (λ a. if is_empty a.ascii then invalid else if is_empty a.punycode then says_head unsafe (extern a.ascii) p else invalid)) s) j)
-        (run (says_head unsafe [] p) s) _ _ (λ i. of include_hash out (run p s i)) i
-        (ask_reads c include_hash out (is_byte c (i + 1) (code "C")) (run (says_head unsafe (extern (codes "C")) p) s) (run (identifier (λ a. if is_empty a.ascii then invalid else if is_empty a.punycode then says_head unsafe (extern a.ascii) p else invalid)) s) _ _ (λ i. of include_hash out (run p s i)) (i + 1)
-        (head_read c include_hash out unsafe (extern (codes "C")) p s (Some (i + 1 + 1)))
-        (name_reads c include_hash out (length c) (i + 1) rest (λ a j. abi_named unsafe a c j) (λ i. of include_hash out (run p s i)) (λ j. named_read c include_hash out unsafe (ident_parts c (i + 1) j) p s j)))
-        (head_read c include_hash out unsafe [] p s (Some i))
+abi_read include_hash out unsafe p s i =
+    let c = s.symbol in
+    let k : Place → Heard = λ j. of include_hash out (run p s j) in
+    let rest : Name → Items = λ a. if is_empty a.ascii then invalid else if is_empty a.punycode then says_head unsafe (extern a.ascii) p else invalid in
+    ask_reads c include_hash out (is_byte c i (code "K")) (λ j. byte_choice (Rattle.demangle_grammar.specs.Reading.stands_at s (code "C") j) (run (says_head unsafe (extern (codes "C")) p) s) (run (identifier rest) s) j) (run (says_head unsafe [] p) s) _ _ k i
+    (ask_reads c include_hash out (is_byte c (i + 1) (code "C")) (run (says_head unsafe (extern (codes "C")) p) s) (run (identifier rest) s) _ _ k (i + 1)
+    (head_read c include_hash out unsafe (extern (codes "C")) p s (Some (i + 1 + 1)))
+    (name_reads c include_hash out (length c) (i + 1) (λ a. run (rest a) s) (λ a j. abi_named unsafe a c j) k (λ j. named_read c include_hash out unsafe (ident_parts c (i + 1) j) p s j)))
+    (head_read c include_hash out unsafe [] p s (Some i))
 
 -- Numbers and literals.
 
@@ -250,92 +228,73 @@ character_read b include_hash out p s j (Some c) = go (scalar c)
     go true = says_all include_hash out (literal (code "'") (c ∷ [])) p s (Some j)
     go false = refl
 
-literal_read : (b : List ℕ) (include_hash out : Bool) (p : Items) (s : Surroundings) (j : ℕ) (h : Part)
-    → of include_hash out (run (some_or invalid (string_of (bytes_in b h)) (λ cs. say_all (literal (code "\"") cs) p)) s (Some j)) ≡ grouped b include_hash out (literal_stretch (string_of (bytes_in b h)) h j) (λ i. of include_hash out (run p s i))
+literal_read : (b : List ℕ) (include_hash out : Bool) (p : Items) (s : Surroundings) (j : ℕ) (h : Part) (o : Option (List ℕ)) → string_of (bytes_in b h) ≡ o
+    → of include_hash out (run (some_or invalid o (λ cs. say_all (literal (code "\"") cs) p)) s (Some j)) ≡ grouped b include_hash out (literal_stretch o h j) (λ i. of include_hash out (run p s i))
 unfolding run
-literal_read b include_hash out p s j h = go (string_of (bytes_in b h)) refl
-  where
-    go : (o : Option (List ℕ)) → string_of (bytes_in b h) ≡ o → of include_hash out (run (some_or invalid o (λ cs. say_all (literal (code "\"") cs) p)) s (Some j)) ≡ grouped b include_hash out (literal_stretch o h j) (λ i. of include_hash out (run p s i))
-    go None e = refl
-    go (Some cs) e = rw e (says_all include_hash out (literal (code "\"") cs) p s (Some j))
+literal_read b include_hash out p s j h None e = refl
+literal_read b include_hash out p s j h (Some cs) e = rw e (says_all include_hash out (literal (code "\"") cs) p s (Some j))
 
-binding_read : (b : List ℕ) (include_hash : Bool) (left : ℕ) (out : Bool) (n : ℕ) (p : Items) (a : Name) (j : Place)
-    → of include_hash out (run (says_name a (says " = " p)) (around b out left n) j) ≡ with_texts out (name_pieces a ++ codes " = " ∷ []) (of include_hash out (run p (around b out left n) j))
-unfolding run
-binding_read b include_hash left out n p a j =
-    says_all include_hash out (name_pieces a) (says " = " p) (around b out left n) j
-    ∙ sym (handing_both out (name_pieces a) (codes " = " ∷ []) (of include_hash out (run p (around b out left n) j)))
+-- What is read in these surroundings.
+module _ (b : List ℕ) (include_hash : Bool) (left : ℕ) (out : Bool) (n : ℕ) where
+  abbrev at : Surroundings
+  at = around b out left n
 
-pub word_read : (b : List ℕ) (include_hash : Bool) (left : ℕ) (out : Bool) (n : ℕ) (w : Word) (note : ℕ) (p : Items) (i : Place)
-    → of include_hash out (run (word_items w note p) (around b out left n) i) ≡ grouped b include_hash out (word_group b w note out n i) (λ j. of include_hash out (run p (around b out left n) j))
-unfolding run
-word_read b include_hash left out n word.FieldName note p None = refl
-word_read b include_hash left out n word.BindingName note p None = refl
-word_read b include_hash left out n word.LifetimeIndex note p None = refl
-word_read b include_hash left out n word.DynLifetime note p None = refl
-word_read b include_hash left out n word.FunctionHead note p None = refl
-word_read b include_hash left out n word.Number note p None = refl
-word_read b include_hash left out n word.Bool note p None = refl
-word_read b include_hash left out n word.Character note p None = refl
-word_read b include_hash left out n word.Literal note p None = refl
-word_read b include_hash left out n word.FieldName note p (Some i) =
-    let s = around b out left n in let k : Place → Heard = λ j. of include_hash out (run p s j) in
-    word_reads b include_hash out (length b) i (λ d. run (identifier (λ a. says_name a p)) s) (λ d j. behind_word (length b) j (ident_at b j) (λ a m. goes (FieldName a) (Some m))) k
-    (λ d j. name_reads b include_hash out (length b) j (λ a. run (says_name a p) s) (λ a m. goes (FieldName a) (Some m)) k
-    (λ m. says_all include_hash out (name_pieces (name_of b j m)) p s (Some m)))
-    (optional_at 115 b i)
-word_read b include_hash left out n word.BindingName note p (Some i) =
-    let s = around b out left n in let k : Place → Heard = λ j. of include_hash out (run p s j) in
-    name_reads b include_hash out (length b) i (λ a. run (says_name a (says " = " p)) s) (λ a m. goes (BindingName a) (Some m)) k
-    (λ m. binding_read b include_hash left out n p (name_of b i m) (Some m))
-word_read b include_hash left out n word.LifetimeIndex note p (Some i) =
-    let s = around b out left n in let k : Place → Heard = λ j. of include_hash out (run p s j) in
-    word_reads b include_hash out (length b) i (λ k. run (lifetime k p) s) (λ k j. if k == 0 then goes (Lifetime None) (Some j) else if_in_force out n k j (Lifetime (Some (n - k))) LifetimeFault) k
-    (λ k j. lifetime_read b include_hash out s n p k j) (integer_at b i)
-word_read b include_hash left out n word.DynLifetime note p (Some i) =
-    let s = around b out left n in let k : Place → Heard = λ j. of include_hash out (run p s j) in
-    ask_reads b include_hash out (is_byte b i (code "L")) (run (integer (λ k. if k == 0 then p else says " + " (lifetime k p))) s) (run invalid s) _ faulty k i
-    (word_reads b include_hash out (length b) (i + 1) (λ k. run (if k == 0 then p else says " + " (lifetime k p)) s) (λ k j. if k == 0 then goes Nothing (Some j) else if_in_force out n k j (DynLifetime (n - k)) DynLifetimeFault) k
-    (λ m j. plus_or b include_hash left out n p m j (m == 0) refl) (integer_at b (i + 1)))
-    refl
-word_read b include_hash left out n word.FunctionHead note p (Some i) =
-    let s = around b out left n in let k : Place → Heard = λ j. of include_hash out (run p s j) in
-    ask_reads b include_hash out (is_byte b i (code "U")) (run (function_head true p) s) (run (function_head false p) s) _ _ k i (abi_read include_hash out true p s (i + 1)) (abi_read include_hash out false p s i)
-word_read b include_hash left out n word.Number note p (Some i) =
-    let s = around b out left n in let k : Place → Heard = λ j. of include_hash out (run p s j) in
-    hex_reads b include_hash out (length b) i (λ h. run (number_pieces h (some_or p (row_text note basic_types) (λ text. say_plain text p))) s) (λ h j. goes (Number (number_of (bytes_in b h)) h note) (Some j)) k
-    (λ end j. number_read b include_hash out note (record { from = i; to = end }) p s (Some j))
-word_read b include_hash left out n word.Bool note p (Some i) =
-    let s = around b out left n in let k : Place → Heard = λ j. of include_hash out (run p s j) in
-    hex_reads b include_hash out (length b) i (λ h. run (says_true p (number_of h)) s) (λ h j. bool_stretch (number_of (bytes_in b h)) j) k
-    (λ end j. truth_read b include_hash out p s j (number_of (slice_range b i end)))
-word_read b include_hash left out n word.Character note p (Some i) =
-    let s = around b out left n in let k : Place → Heard = λ j. of include_hash out (run p s j) in
-    hex_reads b include_hash out (length b) i (λ h. run (says_char p (number_of h)) s) (λ h j. character_stretch (number_of (bytes_in b h)) j) k
-    (λ end j. character_read b include_hash out p s j (number_of (slice_range b i end)))
-word_read b include_hash left out n word.Literal note p (Some i) =
-    let s = around b out left n in let k : Place → Heard = λ j. of include_hash out (run p s j) in
-    hex_reads b include_hash out (length b) i (λ h. run (some_or invalid (string_of h) (λ cs. say_all (literal (code "\"") cs) p)) s) (λ h j. literal_stretch (string_of (bytes_in b h)) h j) k
-    (λ end j. literal_read b include_hash out p s j (record { from = i; to = end }))
+  abbrev then_heard : Items → Place → Heard
+  then_heard p j = of include_hash out (run p at j)
 
--- the names of paths, behind their tag
+  named_reads : (p : ℕ → Name → Items) (f : Ident → ℕ → Stretch) (k : Place → Heard) (i : ℕ) → ((d j m : ℕ) → of include_hash out (run (p d (name_of b j m)) at (Some m)) ≡ with_texts out (texts_of b include_hash (f (ident_parts b j m) d)) (k (Some m)))
+      → of include_hash out (run (optional 115 (λ d. identifier (p d))) at (Some i)) ≡ grouped b include_hash out (named_group b i f) k
+  unfolding run
+  named_reads p f k i h =
+      word_reads b include_hash out (length b) i (λ d. run (identifier (p d)) at) (λ d j. behind_word (length b) j (ident_at b j) (λ a m. goes (f a d) (Some m))) k
+      (λ d j. name_reads b include_hash out (length b) j (λ a. run (p d a) at) (λ a m. goes (f a d) (Some m)) k (h d j)) (optional_at 115 b i)
 
-pub crate_reads : (b : List ℕ) (include_hash : Bool) (left : ℕ) (out : Bool) (n : ℕ) (v : Bool) (i : ℕ)
-    → of include_hash out (run (path v 67) (around b out left n) (Some i)) ≡ grouped b include_hash out (crate_group b i) (λ j. of include_hash out (run done (around b out left n) j))
-unfolding run
-crate_reads b include_hash left out n v i =
-    let s = around b out left n in let k : Place → Heard = λ j. of include_hash out (run done s j) in
-    word_reads b include_hash out (length b) i (λ d. run (identifier (λ a. says_name a (if d == 0 then done else say_plain (codes "[") (say_plain (digits 16 false d) (say_plain (codes "]") done))))) s) (λ d j. behind_word (length b) j (ident_at b j) (λ a m. goes (CrateName a d) (Some m))) k
-    (λ d j. name_reads b include_hash out (length b) j (λ a. run (says_name a (if d == 0 then done else say_plain (codes "[") (say_plain (digits 16 false d) (say_plain (codes "]") done)))) s) (λ a m. goes (CrateName a d) (Some m)) k
-    (λ m. crate_read b include_hash out s (ident_parts b j m) (name_of b j m) d (Some m) refl))
-    (optional_at 115 b i)
+  pub word_read : (w : Word) (note : ℕ) (p : Items) (i : Place) → of include_hash out (run (word_items w note p) at i) ≡ grouped b include_hash out (word_group b w note out n i) (λ j. of include_hash out (run p at j))
+  unfolding run
+  word_read word.FieldName note p None = refl
+  word_read word.BindingName note p None = refl
+  word_read word.LifetimeIndex note p None = refl
+  word_read word.DynLifetime note p None = refl
+  word_read word.FunctionHead note p None = refl
+  word_read word.Number note p None = refl
+  word_read word.Bool note p None = refl
+  word_read word.Character note p None = refl
+  word_read word.Literal note p None = refl
+  word_read word.FieldName note p (Some i) = named_reads (λ _ a. says_name a p) (λ a _. FieldName a) (then_heard p) i (λ _ j m. says_all include_hash out (name_pieces (name_of b j m)) p at (Some m))
+  word_read word.BindingName note p (Some i) =
+      name_reads b include_hash out (length b) i (λ a. run (says_name a (says " = " p)) at) (λ a m. goes (BindingName a) (Some m)) (then_heard p)
+      (λ m. let ts = name_pieces (name_of b i m) in says_all include_hash out ts (says " = " p) at (Some m) ∙ sym (handing_both out ts (codes " = " ∷ []) (of include_hash out (run p at (Some m)))))
+  word_read word.LifetimeIndex note p (Some i) =
+      word_reads b include_hash out (length b) i (λ k. run (lifetime k p) at) (λ k j. if k == 0 then goes (Lifetime None) (Some j) else if_in_force out n k j (Lifetime (Some (n - k))) LifetimeFault) (then_heard p)
+      (λ k j. lifetime_read b include_hash out at n p k j (k == 0) refl) (integer_at b i)
+  word_read word.DynLifetime note p (Some i) =
+      ask_reads b include_hash out (is_byte b i (code "L")) (run (integer (λ k. if k == 0 then p else says " + " (lifetime k p))) at) (run invalid at) _ faulty (then_heard p) i
+      (word_reads b include_hash out (length b) (i + 1) (λ k. run (if k == 0 then p else says " + " (lifetime k p)) at) (λ k j. if k == 0 then goes Nothing (Some j) else if_in_force out n k j (DynLifetime (n - k)) DynLifetimeFault) (then_heard p)
+      (λ m j. plus_or b include_hash left out n p m j (m == 0) refl) (integer_at b (i + 1)))
+      refl
+  word_read word.FunctionHead note p (Some i) =
+      ask_reads b include_hash out (is_byte b i (code "U")) (run (function_head true p) at) (run (function_head false p) at) _ _ (then_heard p) i (abi_read include_hash out true p at (i + 1)) (abi_read include_hash out false p at i)
+  word_read word.Number note p (Some i) =
+      hex_reads b include_hash out (length b) i (λ h. run (number_pieces h (some_or p (row_text note basic_types) (λ text. say_plain text p))) at) (λ h j. goes (Number (number_of (bytes_in b h)) h note) (Some j)) (then_heard p)
+      (λ end j. number_read b include_hash out note (record { from = i; to = end }) p at (Some j))
+  word_read word.Bool note p (Some i) =
+      hex_reads b include_hash out (length b) i (λ h. run (says_true p (number_of h)) at) (λ h j. bool_stretch (number_of (bytes_in b h)) j) (then_heard p)
+      (λ end j. truth_read b include_hash out p at j (number_of (slice_range b i end)))
+  word_read word.Character note p (Some i) =
+      hex_reads b include_hash out (length b) i (λ h. run (says_char p (number_of h)) at) (λ h j. character_stretch (number_of (bytes_in b h)) j) (then_heard p)
+      (λ end j. character_read b include_hash out p at j (number_of (slice_range b i end)))
+  word_read word.Literal note p (Some i) =
+      hex_reads b include_hash out (length b) i (λ h. run (some_or invalid (string_of h) (λ cs. say_all (literal (code "\"") cs) p)) at) (λ h j. literal_stretch (string_of (bytes_in b h)) h j) (then_heard p)
+      (λ end j. let h : Part = record { from = i; to = end } in literal_read b include_hash out p at j h (string_of (bytes_in b h)) refl)
 
-pub nested_reads : (b : List ℕ) (include_hash : Bool) (left : ℕ) (out : Bool) (n c i : ℕ)
-    → of include_hash out (run (in_namespace c) (around b out left n) (Some i)) ≡ grouped b include_hash out (nested_group b c i) (λ j. of include_hash out (run done (around b out left n) j))
-unfolding run
-nested_reads b include_hash left out n c i =
-    let s = around b out left n in let k : Place → Heard = λ j. of include_hash out (run done s j) in
-    word_reads b include_hash out (length b) i (λ d. run (identifier (λ a. if is_upper c then in_special c d a else if is_nameless a then done else says "::" (says_name a done))) s) (λ d j. behind_word (length b) j (ident_at b j) (λ a m. goes (NestedName c d a) (Some m))) k
-    (λ d j. name_reads b include_hash out (length b) j (λ a. run (if is_upper c then in_special c d a else if is_nameless a then done else says "::" (says_name a done)) s) (λ a m. goes (NestedName c d a) (Some m)) k
-    (λ m. nested_read b include_hash out s (name_of b j m) c d (Some m)))
-    (optional_at 115 b i)
+  -- the names of paths, behind their tag
+
+  pub crate_reads : (v : Bool) (i : ℕ) → of include_hash out (run (path v 67) at (Some i)) ≡ grouped b include_hash out (crate_group b i) (λ j. of include_hash out (run done at j))
+  unfolding run
+  crate_reads v i = named_reads (λ d a. says_name a (if d == 0 then done else say_plain (codes "[") (say_plain (digits 16 false d) (say_plain (codes "]") done)))) CrateName (then_heard done) i
+      (λ d j m. crate_read b include_hash out at (ident_parts b j m) (name_of b j m) d (Some m) refl)
+
+  pub nested_reads : (c i : ℕ) → of include_hash out (run (in_namespace c) at (Some i)) ≡ grouped b include_hash out (nested_group b c i) (λ j. of include_hash out (run done at j))
+  unfolding run
+  nested_reads c i = named_reads (λ d a. if is_upper c then in_special c d a else if is_nameless a then done else says "::" (says_name a done)) (λ a d. NestedName c d a) (then_heard done) i
+      (λ d j m. nested_read b include_hash out at (name_of b j m) c d (Some m))
