@@ -4,11 +4,11 @@ use Rattle.std.proofs.Common.{◌≡◌, Bool, true, false, cond, List, [], ◌�
 use Rattle.demangle_grammar.specs.Items.{Text, Items, Kind, a_path}
 use Rattle.demangle_grammar.specs.Cost.{StretchCost, bytes_of, looks_of, Pays}
 use Rattle.demangle_sink.specs.Cut.{size}
-use Rattle.demangle_grammar.specs.Reading.{Tree, nothing, piece, plain_piece, node, looked, hidden, invalid_syntax, too_deep, unread, Place, Surroundings, max_depth, run, stretches, looks, pieces, looks_alone, goes_on_at, read_at, path_texts}
+use Rattle.demangle_grammar.specs.Reading.{Tree, nothing, piece, plain_piece, node, looked, hidden, invalid_syntax, too_deep, unread, Place, Outcome, Surroundings, max_depth, run, stretches, looks, pieces, looks_alone, goes_on_at, read_at, path_texts}
 use Rattle.demangle_grammar.specs.Accepting.{looks_in, suffix_looks, second_looks, accepting_looks}
 use Rattle.demangle_grammar.proofs.PaysRules.{Pays-more, Pays-bound, Pays-whole}
 use Rattle.demangle_grammar.proofs.Account.{Ends, Idle, start, idle}
-use Rattle.demangle_grammar.proofs.Paid.{money, read_paid, spelling_paid, small}
+use Rattle.demangle_grammar.proofs.Paid.{ends_pay, money, read_paid, spelling_paid, small}
 
 abbrev pub path_stretches : List ℕ → Bool → List StretchCost
 path_stretches symbol plain = stretches plain (read_at symbol true a_path 0 0 0 true).tree
@@ -21,20 +21,14 @@ abbrev pub looks_before : ℕ → ℕ
 looks_before n = 34 * (max_depth + 1) * (n + 1)
 
 pub printing_pays : (symbol : List ℕ) (plain : Bool) → Pays (looks_a_byte (length symbol)) (looks_before (length symbol)) (path_stretches symbol plain) 0
-printing_pays symbol plain = go (read_at symbol true a_path 0 0 0 true).tree (read_at symbol true a_path 0 0 0 true).place
+printing_pays symbol plain =
+    let o : Outcome = read_at symbol true a_path 0 0 0 true in
+    ends_pay (length symbol) (looks_a_byte (length symbol)) 0 (0 + money (length symbol) (max_depth - 0)) 8 (looks_before (length symbol)) 0 (stretches plain o.tree) o.place (omega arith)
     (read_paid plain (looks_a_byte (length symbol)) symbol a_path 0 0 0 true (omega arith) (omega arith))
-  where
-    go : (t : Tree) (x : Place) → Ends (length symbol) (looks_a_byte (length symbol)) 0 (0 + money (length symbol) (max_depth - 0)) 8 (stretches plain t) x → Pays (looks_a_byte (length symbol)) (looks_before (length symbol)) (stretches plain t) 0
-    go t None h = Pays-more (looks_a_byte (length symbol)) (32 * (length symbol + 1 - 0) + (0 + money (length symbol) (max_depth - 0))) (looks_before (length symbol)) 0 0 0 (stretches plain t) (omega arith) (omega arith) h
-    go t (Some j) h = Pays-more (looks_a_byte (length symbol)) (32 * (j - 0) + (0 + money (length symbol) (max_depth - 0))) (looks_before (length symbol)) 8 0 0 (stretches plain t) (omega (arith, h.1)) (omega arith) h.2
-
-in_all : (n w looks : ℕ) → looks ≤ looks_before n + looks_a_byte n * w → looks ≤ 100000 * (w + 1) * (n + 1)
-in_all n w looks h = omega (arith, h)
 
 pub printing_looks : (symbol : List ℕ) (plain : Bool) (k : ℕ) →
     looks_of (take (suc k) (path_stretches symbol plain)) ≤ 100000 * (bytes_of (take k (path_stretches symbol plain)) + 1) * (length symbol + 1)
-printing_looks symbol plain k = in_all (length symbol) (bytes_of (take k (path_stretches symbol plain))) (looks_of (take (suc k) (path_stretches symbol plain)))
-    (Pays-bound (looks_a_byte (length symbol)) (looks_before (length symbol)) 0 (path_stretches symbol plain) k (printing_pays symbol plain))
+printing_looks symbol plain k = omega (arith, Pays-bound (looks_a_byte (length symbol)) (looks_before (length symbol)) 0 (path_stretches symbol plain) k (printing_pays symbol plain))
 
 -- the looks of a reading without references, by where it ends
 abbrev pub Costs : ℕ → ℕ → ℕ → Place → Type 0
@@ -72,30 +66,22 @@ accepting_costs symbol = both_cost symbol (looks_in (read_at symbol false a_path
 -- any unit, at any depth
 pub unit_looks : (symbol : List ℕ) (plain : Bool) (kind : Kind) (i d m : ℕ) (value : Bool) (k : ℕ) → i ≤ length symbol → d ≤ max_depth →
     looks_of (take (suc k) (stretches plain (read_at symbol true kind i d m value).tree)) ≤ 34 * (length symbol + 1) * (max_depth + 1 - d) * (bytes_of (take k (stretches plain (read_at symbol true kind i d m value).tree)) + 1)
-unit_looks symbol plain kind i d m value k l b = go (read_at symbol true kind i d m value).tree (read_at symbol true kind i d m value).place
-    (read_paid plain (34 * (length symbol + 1) * (max_depth - d)) symbol kind i d m value (rate (length symbol) (max_depth - d)) l)
+unit_looks symbol plain kind i d m value k l b =
+    rw (levels_left d b) (sum (length symbol) (max_depth - d) _ _ (Pays-bound (34 * (length symbol + 1) * (max_depth - d)) (32 * (length symbol + 1) + (start kind + money (length symbol) (max_depth - d))) 0 (stretches plain o.tree) k
+    (ends_pay (length symbol) (34 * (length symbol + 1) * (max_depth - d)) i (start kind + money (length symbol) (max_depth - d)) 8 _ 0 (stretches plain o.tree) o.place (omega arith)
+    (read_paid plain (34 * (length symbol + 1) * (max_depth - d)) symbol kind i d m value (rate (length symbol) (max_depth - d)) l))))
   where
+    o : Outcome
+    o = read_at symbol true kind i d m value
+
     rate : (n e : ℕ) → money n e ≤ 34 * (n + 1) * e
     rate n e = omega arith
 
-    sum : (n c e w looks : ℕ) → c ≤ 34 * (n + 1) * (e + 1) → looks ≤ c + 34 * (n + 1) * e * w → looks ≤ 34 * (n + 1) * (e + 1) * (w + 1)
-    sum n c e w looks x y = omega (arith, x, y)
+    sum : (n e w looks : ℕ) → looks ≤ 32 * (n + 1) + (start kind + money n e) + 34 * (n + 1) * e * w → looks ≤ 34 * (n + 1) * (e + 1) * (w + 1)
+    sum n e w looks y = omega (arith, small kind, y)
 
     levels_left : (d : ℕ) → d ≤ max_depth → max_depth + 1 - d ≡ (max_depth - d) + 1
     levels_left d b = omega (arith, b)
-
-    start_money : (n e c : ℕ) → c ≤ 32 * (n + 1) → c + (start kind + money n e) ≤ 34 * (n + 1) * (e + 1)
-    start_money n e c x = omega (arith, x, small kind)
-
-    bound : (t : Tree) (c : ℕ) → c ≤ 32 * (length symbol + 1) → (z : ℕ) → Pays (34 * (length symbol + 1) * (max_depth - d)) (c + (start kind + money (length symbol) (max_depth - d))) (stretches plain t) z →
-        looks_of (take (suc k) (stretches plain t)) ≤ 34 * (length symbol + 1) * (max_depth + 1 - d) * (bytes_of (take k (stretches plain t)) + 1)
-    bound t c x z h = rw (levels_left d b) (sum (length symbol) (c + (start kind + money (length symbol) (max_depth - d))) (max_depth - d) (bytes_of (take k (stretches plain t))) (looks_of (take (suc k) (stretches plain t)))
-        (start_money (length symbol) (max_depth - d) c x) (Pays-bound (34 * (length symbol + 1) * (max_depth - d)) (c + (start kind + money (length symbol) (max_depth - d))) z (stretches plain t) k h))
-
-    go : (t : Tree) (x : Place) → Ends (length symbol) (34 * (length symbol + 1) * (max_depth - d)) i (start kind + money (length symbol) (max_depth - d)) 8 (stretches plain t) x →
-        looks_of (take (suc k) (stretches plain t)) ≤ 34 * (length symbol + 1) * (max_depth + 1 - d) * (bytes_of (take k (stretches plain t)) + 1)
-    go t None h = bound t (32 * (length symbol + 1 - i)) (omega arith) 0 h
-    go t (Some j) h = bound t (32 * (j - i)) (omega (arith, h.1)) 8 h.2
 
 -- while failed
 pub failed_looks : (p : Items) (s : Surroundings) (plain : Bool) → looks_of (stretches plain (run p s None).tree) ≡ 0

@@ -61,6 +61,11 @@ more : (n r i from mid to low : ℕ) (xs : List StretchCost) (x : Place) → mid
 more n r i from mid to low xs None e l h = Pays-more r (32 * (n + 1 - i) + mid) (32 * (n + 1 - i) + from) 0 0 0 xs (omega (arith, e)) (omega arith) h
 more n r i from mid to low xs (Some j) e l h = (h.0, h.1, Pays-more r (32 * (j - i) + mid) (32 * (j - i) + from) to low 0 xs (omega (arith, e)) (omega (arith, l)) h.2)
 
+-- wherever it ends, k is left of an account that has k more than reading all the bytes takes
+pub ends_pay : (n r i from to a k : ℕ) (xs : List StretchCost) (x : Place) → 32 * (n + 1 - i) + from + k ≤ a → Ends n r i from to xs x → Pays r a xs k
+ends_pay n r i from to a k xs None l h = Pays-more r (32 * (n + 1 - i) + from) a 0 k k xs (omega (arith, l)) (omega arith) h
+ends_pay n r i from to a k xs (Some j) l h = Pays-more r (32 * (j - i) + from) a to k k xs (omega (arith, l, h.0, h.1)) (omega arith) h.2
+
 fault_ends : (plain : Bool) (n r i from to : ℕ) → Ends n r i from to (stretches plain invalid_syntax) None
 fault_ends plain n r i from to = (omega arith, omega arith)
 
@@ -199,11 +204,9 @@ small a_trait_path = omega arith
 -- a target's tree, with the money for it
 target_paid : (plain : Bool) (n r S m t a k : ℕ) (kind : Kind) (value : Bool) (l : Level) → LevelPays plain n r S true l → t ≤ n → 32 * (n + 1) + 2 + S + k ≤ a →
     Pays r a (stretches plain (node (l true kind value m t).tree nothing)) k
-target_paid plain n r S m t a k kind value l h b c = go (l true kind value m t).tree (l true kind value m t).place (h kind value m t b)
-  where
-    go : (u : Tree) (x : Place) → Ends n r t (start kind + S) 8 (stretches plain u) x → Pays r a (stretches plain (node u nothing)) k
-    go u None h = Pays-append r a k k (stretches plain u) [] (Pays-more r (32 * (n + 1 - t) + (start kind + S)) a 0 k k (stretches plain u) (omega (arith, small kind, c)) (omega arith) h) (omega arith)
-    go u (Some j) h = Pays-append r a k k (stretches plain u) [] (Pays-more r (32 * (j - t) + (start kind + S)) a 8 k k (stretches plain u) (omega (arith, small kind, c, h.0, h.1)) (omega arith) h.2) (omega arith)
+target_paid plain n r S m t a k kind value l h b c =
+    let o : Outcome = l true kind value m t in
+    Pays-append r a k k (stretches plain o.tree) [] (ends_pay n r t (start kind + S) 8 a k (stretches plain o.tree) o.place (omega (arith, small kind, c)) (h kind value m t b)) (omega arith)
 
 target_of_paid : (plain : Bool) (n r R i m t k e : ℕ) (kind : Kind) (value fl : Bool) (ls : List Level) → Deeper plain n r fl R ls → t ≤ n → i ≤ n → e ≤ k →
     Paid plain n r i (k + R) e (target_of ls (λ level. target_read fl (level true kind value m) t (Some i)))

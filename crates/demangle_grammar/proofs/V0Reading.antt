@@ -90,16 +90,13 @@ read_is_v0 symbol inner suffix h = go (v0_inner symbol) refl h
         let p = inner_prefix symbol x e in
         (p.0, p.1 ∙ ap (λ z. p.0 ++ z) w.0, p.2, subst IsAscii w.0 w.1, subst (λ z. goes_on_at z 0 ≡ true) w.0 w.2, w.3)
 
-same_ending : {inner x y : List ℕ} → x ≡ y → paired inner x ≡ paired inner y
-same_ending {inner} e = ap (λ z. paired inner z) e
-
 pub v0_is_read : (symbol inner suffix : List ℕ) → IsV0 symbol inner suffix → v0_of symbol ≡ Some (inner, suffix)
 unfolding v0_of v0_in
 v0_is_read symbol inner suffix (prefix, whole, is, ascii, begins, (k, paths, ends)) =
     subst (λ o. then_if_some o v0_in ≡ Some (inner, suffix)) (sym (prefix_inner prefix symbol inner whole is))
     (subst (λ a. rest_of a (goes_on_at inner 0) inner ≡ Some (inner, suffix)) (sym (ascii_all inner ascii))
     (subst (λ b. rest_of true b inner ≡ Some (inner, suffix)) (sym begins)
-    (subst (λ o. then_if_some o (ending inner) ≡ Some (inner, suffix)) (sym (all_accepted inner k paths)) (same_ending (sym ends)))))
+    (subst (λ o. then_if_some o (ending inner) ≡ Some (inner, suffix)) (sym (all_accepted inner k paths)) (ap (paired inner) (sym ends)))))
 
 pub reading_is_v0 : (symbol inner suffix : List ℕ) → (v0_of symbol ≡ Some (inner, suffix)) ↔ IsV0 symbol inner suffix
 reading_is_v0 symbol inner suffix = (read_is_v0 symbol inner suffix, v0_is_read symbol inner suffix)
