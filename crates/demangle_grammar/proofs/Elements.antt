@@ -8,7 +8,7 @@ use Rattle.demangle_symbol.specs.Digits.{is_byte}
 use Rattle.demangle_symbol.specs.Words.{Read, byte_at, optional_at, identifier_at}
 use Rattle.demangle_grammar.specs.Items.{Text, Kind, a_path, a_type, a_constant, a_pattern, a_trait_path, Items, done, say, byte, raise, identifier, child, dyn_trait}
 use Rattle.demangle_grammar.specs.Table.{items, path, constant, pattern_of, binding_value, type_inside, argument, field, constant_inside, says, says_name}
-use Rattle.demangle_grammar.specs.Reading.{looked, node, Place, Outcome, Level, Surroundings, run, turns, stands, behind, followed_by, byte_choice, peek_outcome, word_outcome, one_depth_on, bound_by, level_of, levels, max_depth}
+use Rattle.demangle_grammar.specs.Reading.{looked, node, Place, Outcome, Level, Surroundings, run, turns, stands, behind, followed_by, byte_choice, peek_outcome, word_outcome, one_depth_on, bound_by, level_of, levels, max_depth, nowhere}
 use Rattle.demangle_symbol.proofs.Counts.{Placed, byte_placed, identifier_placed}
 use Rattle.demangle_grammar.proofs.Account.{Fits}
 use Rattle.demangle_grammar.proofs.Complete.{there_placed}
@@ -32,9 +32,6 @@ no_byte s i b h = go (is_byte s i b) refl
 no_word : {A : Type 0} (n i : ℕ) (f : A → Place → Outcome) (r : Read A) → r ≡ None → (word_outcome n i f r).place ≡ None
 no_word n i f r e = subst (λ r. (word_outcome n i f r).place ≡ None) (sym e) refl
 
-no_peek : (f : ℕ → Outcome) (r : Option ℕ) → r ≡ None → (peek_outcome f r).place ≡ None
-no_peek f r e = subst (λ r. (peek_outcome f r).place ≡ None) (sym e) refl
-
 no_fork : (c : Bool) (f g : Place → Outcome) (i : ℕ) → c ≡ false → (g (Some i)).place ≡ None → (byte_choice c f g (Some i)).place ≡ None
 no_fork c f g i e h = subst (λ c. (byte_choice c f g (Some i)).place ≡ None) (sym e) h
 
@@ -46,9 +43,6 @@ no_tag : (f : ℕ → Items) (s : Surroundings) (i : ℕ) → length s.symbol �
 unfolding run
 no_tag f s i h = no_word (length s.symbol) i (λ c. run (f c) s) (byte_at s.symbol i) (placed_none i s.symbol (byte_at s.symbol i) (byte_placed s.symbol i) h)
 
-abbrev NoUnit : Level → Kind → ℕ → Type 0
-NoUnit l kind i = (pr v : Bool) (n : ℕ) → (l pr kind v n i).place ≡ None
-
 no_tagged : (tag : ℕ) (s : List ℕ) (i : ℕ) → length s ≤ i → optional_at tag s i ≡ Some (0, i)
 unfolding optional_at
 no_tagged tag s i h = rw (no_byte s i tag h) refl
@@ -57,31 +51,16 @@ no_path : (s : Surroundings) (v : Bool) (i : ℕ) → length s.symbol ≤ i → 
 unfolding run
 no_path s v i h = no_raise s.deeper (λ l ls. run (byte (path v)) (record s { here = l; deeper = ls })) i (λ l ls. no_tag (path v) (record s { here = l; deeper = ls }) i h)
 
-no_type : (s : Surroundings) (v : Bool) (i : ℕ) → length s.symbol ≤ i → (run (items a_type v) s (Some i)).place ≡ None
-unfolding run
-no_type s v i h = no_fork (is_byte s.symbol i (code "w")) _ _ i (no_byte s.symbol i (code "w") h) (no_peek _ (slice_get s.symbol i) (slice_get_past s.symbol i h))
-
-no_constant : (s : Surroundings) (v : Bool) (i : ℕ) → length s.symbol ≤ i → (run (items a_constant v) s (Some i)).place ≡ None
-unfolding run
-no_constant s v i h = no_tag (λ tag. raise (constant v tag)) s i h
-
-no_pattern : (s : Surroundings) (v : Bool) (i : ℕ) → length s.symbol ≤ i → (run (items a_pattern v) s (Some i)).place ≡ None
-unfolding run
-no_pattern s v i h = no_tag pattern_of s i h
-
-no_trait_path : (s : Surroundings) (v : Bool) (i : ℕ) → length s.symbol ≤ i → NoUnit s.here a_path i → (run (items a_trait_path v) s (Some i)).place ≡ None
-unfolding run
-no_trait_path s v i h k =
-    no_fork (is_byte s.symbol i (code "B")) _ _ i (no_byte s.symbol i (code "B") h)
-    (no_fork (is_byte s.symbol i (code "I")) _ _ i (no_byte s.symbol i (code "I") h) (k s.printed false s.lifetimes))
+abbrev at : List ℕ → Bool → List Level → ℕ → Surroundings
+at b pr ls n = record { symbol = b; printed = pr; here = λ pr k v m j. run (items k v) (record { symbol = b; printed = pr; here = nowhere; deeper = ls; lifetimes = m }) (Some j); deeper = ls; lifetimes = n }
 
 no_unit : (b : List ℕ) (ls : List Level) (kind : Kind) (pr v : Bool) (n i : ℕ) → length b ≤ i → (level_of b ls pr kind v n i).place ≡ None
-unfolding level_of
-no_unit b ls a_path pr v n i h = no_path _ v i h
-no_unit b ls a_type pr v n i h = no_type _ v i h
-no_unit b ls a_constant pr v n i h = no_constant _ v i h
-no_unit b ls a_pattern pr v n i h = no_pattern _ v i h
-no_unit b ls a_trait_path pr v n i h = no_trait_path _ v i h (λ c w m. no_path _ w i h)
+unfolding run level_of
+no_unit b ls a_path pr v n i h = no_path (at b pr ls n) v i h
+no_unit b ls a_type pr v n i h = no_fork (is_byte b i (code "w")) _ _ i (no_byte b i (code "w") h) (rw (slice_get_past b i h) refl)
+no_unit b ls a_constant pr v n i h = no_tag (λ tag. raise (constant v tag)) (at b pr ls n) i h
+no_unit b ls a_pattern pr v n i h = no_tag pattern_of (at b pr ls n) i h
+no_unit b ls a_trait_path pr v n i h = no_fork (is_byte b i (code "B")) _ _ i (no_byte b i (code "B") h) (no_fork (is_byte b i (code "I")) _ _ i (no_byte b i (code "I") h) (no_path (at b pr ls n) false i h))
 
 -- what lists are of, with so many depths left and lifetimes in force
 pub record Element (b : List ℕ) (out : Bool) (left n : ℕ) (p : Items) : Type 0 where
@@ -140,10 +119,6 @@ module _ (b : List ℕ) (out : Bool) (left n : ℕ) (l : left ≤ max_depth) whe
   pub bound_keeps : Keeps b (run binding_value (around b out left n))
   bound_keeps i h = within_later b i (i + 1) (run binding_value (around b out left n) (Some i)).place (omega arith) (moving b out left n binding_value true 1 7 5 true (argument_fits true 0).2 (omega arith) l i h)
 
-all_end : (b : List ℕ) (f : Place → Outcome) (x : Place) → x ≡ None → turns (length b) b f x ≡ all_turns b f x
-unfolding turns
-all_end b f x e = subst (λ x. turns (length b) b f x ≡ all_turns b f x) (sym e) refl
-
 -- a turn of an element that stands behind a text, and all turns again
 pub element_on : (b : List ℕ) (out : Bool) (left n : ℕ) (p : Items) (text : Text) (i : ℕ) → Element b out left n p → is_byte b i (code "E") ≡ false →
     let f : Place → Outcome = run (say text p) (around b out left n) in
@@ -157,4 +132,4 @@ element_on b out left n p text i el e = go (nat_le i (length b)) refl
     go : (c : Bool) → nat_le i (length b) ≡ c → all_turns b f (Some i) ≡ behind (looked 1) (followed_by (f (Some i)) (all_turns b f))
     go true c = turns_on b f i el.advances (leb-true _ _ c) e
     go false c = subst (λ c. byte_choice c stands (λ j. followed_by (f j) (turns (length b) b f)) (Some i) ≡ behind (looked 1) (followed_by (f (Some i)) (all_turns b f))) (sym e)
-        (ap (λ o. behind (looked 1) (behind (node (f (Some i)).tree) o)) (all_end b f (f (Some i)).place (el.beyond i (omega (arith, leb-false _ _ c)))))
+        (ap (λ o. behind (looked 1) (behind (node (f (Some i)).tree) o)) (rw (el.beyond i (omega (arith, leb-false _ _ c))) refl))

@@ -8,7 +8,7 @@ use Rattle.demangle_symbol.specs.Words.{Name, number_of, is_upper, some_or}
 use Rattle.demangle_symbol.specs.Names.{name_pieces, is_empty, is_nameless}
 use Rattle.demangle_symbol.specs.Literals.{literal, string_of}
 use Rattle.demangle_grammar.specs.Items.{Text, Kind, a_path, a_type, a_constant, a_pattern, a_trait_path, Items, done, invalid, say, say_plain, byte, namespace, integer, optional, identifier, nibbles, peek, next, sound, until_end, raise, unit, child, skip, target, lifetime, binder, opens, dyn_trait, bindings}
-use Rattle.demangle_grammar.specs.Table.{variant, type_inside, constant_inside, says_if, extern, binding_value, type_tagged, braces, integer_constant, string, truth, character, argument, list, tuple, says, in_special, in_namespace, path_rows, pattern_rows, variant_rows, constant_rows, field, function, signature, items, type_rows, row_of, after_tag, row_text, basic_types, type_behind_tag, say_all, is_among}
+use Rattle.demangle_grammar.specs.Table.{variant, type_inside, constant_inside, says_if, extern, binding_value, at_end, more, type_tagged, braces, integer_constant, string, truth, character, argument, list, tuple, says, in_special, in_namespace, path_rows, pattern_rows, variant_rows, constant_rows, field, function, signature, items, type_rows, row_of, after_tag, row_text, basic_types, type_behind_tag, say_all, is_among}
 use Rattle.demangle_grammar.proofs.Account.{start, rank, is_below, is_closed, is_some_text, Fits}
 
 abbrev Cheap : ℕ → ℕ → Bool → Items → Type 0
@@ -87,58 +87,22 @@ if_cheap e k g c text p x y = cond_fits (Cheap e k g) c (says text p) p y x
 
 -- Lists. The credit is 7 at the head of a loop.
 
+at_end_fits : (c : Bool) (r e k : ℕ) (g : Bool) (p q : Items) → 1 ≤ k → Fits c r e 31 false p → Fits c r e (k - 1) g q → Fits c r e k g (at_end p q)
+at_end_fits c r e k g p q l x y = (omega (arith, l), cheaper c r p e e 31 (k + 31) false g (omega arith) (omega (arith, l)) (λ z. absurd (cc z)) x, (31, false, y, x))
+
+more_fits : (c : Bool) (r e k : ℕ) (t : String) (el p : Items) → is_some_text (codes t) ≡ true → 7 ≤ k → Fits c r 7 6 true el → Fits c r e 31 false p → Fits c r e k false (more t el p)
+more_fits c r e k t el p s l x y =
+    (7, l, omega arith, cheaper c r el 7 7 6 6 true (is_some_text (codes t)) (omega arith) (omega arith) (λ _. s) x, cheaper c r p e e 31 (7 + 31) false false (omega arith) (omega arith) (λ z. z) y)
+
 list_fits : (c : Bool) (r e k : ℕ) (t : String) (el p : Items) → is_some_text (codes t) ≡ true → 7 ≤ k → Fits c r 7 6 true el → Fits c r e 31 false p → Fits c r e k true (list t el p)
-list_fits c r e k t el p s l x y = (
-  omega (arith, l),
-  cheaper c r p e e 31 (k + 31) false true (omega arith) (omega (arith, l)) (λ _. refl) y,
-  (
-    31,
-    false,
-    (
-      7,
-      cheaper c r el 7 7 6 (k - 1) true true (omega arith) (omega (arith, l)) (λ z. z) x,
-      (
-        7,
-        omega arith,
-        omega arith,
-        cheaper c r el 7 7 6 6 true (is_some_text (codes t)) (omega arith) (omega arith) (λ _. s) x,
-        cheaper c r p e e 31 (7 + 31) false false (omega arith) (omega arith) (λ z. z) y,
-      ),
-    ),
-    y,
-  ),
-)
+list_fits c r e k t el p s l x y = at_end_fits c r e k true p (unit el (more t el p)) (omega (arith, l)) y
+    (7, cheaper c r el 7 7 6 (k - 1) true true (omega arith) (omega (arith, l)) (λ z. z) x, more_fits c r e 7 t el p s (omega arith) x y)
 
 tuple_cheap : (e k : ℕ) (el p : Items) → 7 ≤ k → Cheap 8 6 true el → Cheap e 31 false p → Cheap e k true (tuple el p)
-tuple_cheap e k el p l x y = (
-  omega (arith, l),
-  cheaper true 2 p e e 31 (k + 31) false true (omega arith) (omega (arith, l)) (λ _. refl) y,
-  (
-    31,
-    false,
-    (
-      8,
-      cheaper true 2 el 8 8 6 (k - 1) true true (omega arith) (omega (arith, l)) (λ z. z) x,
-      (
-        omega arith,
-        cheaper true 2 p e e 31 (8 + 31) false true (omega arith) (omega arith) (λ _. refl) y,
-        (
-          31,
-          false,
-          (
-            7,
-            omega arith,
-            omega arith,
-            cheaper true 2 el 8 7 6 6 true true (omega arith) (omega arith) (λ z. z) x,
-            cheaper true 2 p e e 31 (7 + 31) false false (omega arith) (omega arith) (λ z. z) y,
-          ),
-          cheaper true 2 p e e 31 31 false true (omega arith) (omega arith) (λ _. refl) y,
-        ),
-      ),
-    ),
-    y,
-  ),
-)
+tuple_cheap e k el p l x y =
+    let others = more_fits true 2 e 7 ", " el p refl (omega arith) (cheaper true 2 el 8 7 6 6 true true (omega arith) (omega arith) (λ z. z) x) y in
+    let behind = at_end_fits true 2 e 8 false (says "," p) (more ", " el p) (omega arith) (cheaper true 2 p e e 31 31 false true (omega arith) (omega arith) (λ _. refl) y) others in
+    at_end_fits true 2 e k true p (unit el (at_end (says "," p) (more ", " el p))) (omega (arith, l)) y (8, cheaper true 2 el 8 8 6 (k - 1) true true (omega arith) (omega (arith, l)) (λ z. z) x, behind)
 
 -- Elements.
 
