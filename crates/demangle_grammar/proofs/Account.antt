@@ -96,21 +96,9 @@ free_plain : (plain : Bool) (r : ℕ) (t : Text) (rest : Tree) → Free plain r 
 free_plain true r t rest h = free_piece true r t rest h
 free_plain false r t rest h = h
 
-free_node : (plain : Bool) (r : ℕ) (x y : Tree) → Free plain r x → Free plain r y → Free plain r (node x y)
-free_node plain r x y h k = Pays-append r 0 0 0 (stretches plain x) (stretches plain y) h k
-
 pub free_pieces : (plain : Bool) (r : ℕ) (ts : List Text) (rest : Tree) → Free plain r rest → Free plain r (all_pieces ts rest)
 free_pieces plain r [] rest h = h
 free_pieces plain r (t ∷ ts) rest h = free_piece plain r t (all_pieces ts rest) (free_pieces plain r ts rest h)
-
-pub free_stop : (plain : Bool) (r : ℕ) → Free plain r invalid_syntax
-free_stop plain r = (omega arith, omega arith)
-
-free_deep : (plain : Bool) (r : ℕ) → Free plain r too_deep
-free_deep plain r = (omega arith, omega arith)
-
-free_unread : (plain : Bool) (r : ℕ) → Free plain r unread
-free_unread plain r = (omega arith, omega arith)
 
 -- a text before the stretches
 pub paid_hands : (r a b : ℕ) (t : Text) (xs : List StretchCost) → Pays r a xs b → Pays r a (hands t ∷ xs) b
@@ -137,11 +125,8 @@ paid_binder plain r a b (suc m) n rest h =
 
 -- Once failed.
 
-pub idle_after : (plain : Bool) (r : ℕ) (f : Place → Outcome) (x : Place) → x ≡ None → Idle plain r (f None) → Idle plain r (f x)
-idle_after plain r f x e h = subst (λ z. Idle plain r (f z)) (sym e) h
-
 idle_followed : (plain : Bool) (r : ℕ) (o : Outcome) (f : Place → Outcome) → Idle plain r o → Idle plain r (f None) → Idle plain r (followed_by o f)
-idle_followed plain r o f h k = let q : Idle plain r (f o.place) = idle_after plain r f o.place h.0 k in (q.0, free_node plain r o.tree (f o.place).tree h.1 q.1)
+idle_followed plain r o f h k = let q : Idle plain r (f o.place) = subst (λ z. Idle plain r (f z)) (sym h.0) k in (q.0, Pays-append r 0 0 0 (stretches plain o.tree) (stretches plain (f o.place).tree) h.1 q.1)
 
 idle_choice : (plain : Bool) (r : ℕ) (b : Bool) (x y : Outcome) → Idle plain r x → Idle plain r y → Idle plain r (cond b x y)
 idle_choice plain r true x y p q = p
@@ -151,11 +136,11 @@ idle_lifetime : (plain : Bool) (r : ℕ) (b : Bool) (m k : ℕ) → Idle plain r
 idle_lifetime plain r false m k = (refl, omega arith)
 idle_lifetime plain r true m k =
     let inner : Idle plain r (lifetime_named m k None) =
-    idle_choice plain r (k == 0) _ _ (refl, free_piece plain r (codes "_") nothing (omega arith)) (idle_choice plain r (nat_le k m) _ _ (refl, free_pieces plain r (letter_of (m - k)) nothing (omega arith)) (refl, free_stop plain r)) in
+    idle_choice plain r (k == 0) _ _ (refl, free_piece plain r (codes "_") nothing (omega arith)) (idle_choice plain r (nat_le k m) _ _ (refl, free_pieces plain r (letter_of (m - k)) nothing (omega arith)) (refl, (omega arith, omega arith))) in
     (inner.0, free_piece plain r (codes "'") (lifetime_named m k None).tree inner.1)
 
 idle_raised : (plain : Bool) (r : ℕ) (ls : List Level) (f : Level → List Level → Place → Outcome) → ((l : Level) (ls : List Level) → Idle plain r (f l ls None)) → Idle plain r (one_depth_on ls f None)
-idle_raised plain r [] f h = (refl, free_deep plain r)
+idle_raised plain r [] f h = (refl, (omega arith, omega arith))
 idle_raised plain r (l ∷ ls) f h = h l ls
 
 free_binder : (plain : Bool) (r : ℕ) (c : Bool) (m n : ℕ) (t : Tree) → Free plain r t → Free plain r (binder_at c m n t)
@@ -169,26 +154,26 @@ idle_closed plain r false = (refl, omega arith)
 pub idle : (plain : Bool) (r : ℕ) (p : Items) (s : Surroundings) → Idle plain r (run p s None)
 unfolding run turns bound_by
 idle plain r done s = (refl, omega arith)
-idle plain r invalid s = (refl, free_stop plain r)
+idle plain r invalid s = (refl, (omega arith, omega arith))
 idle plain r (say t p) s = let q : Idle plain r (run p s None) = idle plain r p s in (q.0, free_piece plain r t (run p s None).tree q.1)
 idle plain r (say_plain t p) s = let q : Idle plain r (run p s None) = idle plain r p s in (q.0, free_plain plain r t (run p s None).tree q.1)
-idle plain r (byte f) s = (refl, free_unread plain r)
-idle plain r (namespace f) s = (refl, free_unread plain r)
-idle plain r (integer f) s = (refl, free_unread plain r)
-idle plain r (optional tag f) s = (refl, free_unread plain r)
-idle plain r (identifier f) s = (refl, free_unread plain r)
-idle plain r (nibbles f) s = (refl, free_unread plain r)
-idle plain r (peek f) s = (refl, free_unread plain r)
+idle plain r (byte f) s = (refl, (omega arith, omega arith))
+idle plain r (namespace f) s = (refl, (omega arith, omega arith))
+idle plain r (integer f) s = (refl, (omega arith, omega arith))
+idle plain r (optional tag f) s = (refl, (omega arith, omega arith))
+idle plain r (identifier f) s = (refl, (omega arith, omega arith))
+idle plain r (nibbles f) s = (refl, (omega arith, omega arith))
+idle plain r (peek f) s = (refl, (omega arith, omega arith))
 idle plain r (next b p q) s = idle plain r q s
 idle plain r (sound p q) s = idle plain r q s
 idle plain r (until_end p q) s = idle_followed plain r (turns (suc (length s.symbol)) s.symbol (run p s) None) (run q s) (refl, omega arith) (idle plain r q s)
 idle plain r (raise p) s = idle_raised plain r s.deeper (λ l ls. run p (record s { here = l; deeper = ls })) (λ l ls. idle plain r p (record s { here = l; deeper = ls }))
 idle plain r (unit p q) s = idle_followed plain r (run p s None) (run q s) (idle plain r p s) (idle plain r q s)
-idle plain r (child kind value p) s = idle_followed plain r (unit_outcome s kind value None) (run p s) (refl, free_unread plain r) (idle plain r p s)
+idle plain r (child kind value p) s = idle_followed plain r (unit_outcome s kind value None) (run p s) (refl, (omega arith, omega arith)) (idle plain r p s)
 idle plain r (skip p) s = idle plain r p s
-idle plain r (target kind value) s = (refl, free_unread plain r)
+idle plain r (target kind value) s = (refl, (omega arith, omega arith))
 idle plain r (lifetime k p) s = idle_followed plain r (lifetime_at s.printed s.lifetimes k None) (run p s) (idle_lifetime plain r s.printed s.lifetimes k) (idle plain r p s)
 idle plain r (binder m p) s = let q : Idle plain r (run p (record s { lifetimes = s.lifetimes + m }) None) = idle plain r p (record s { lifetimes = s.lifetimes + m }) in (q.0, free_binder plain r s.printed m s.lifetimes (run p (record s { lifetimes = s.lifetimes + m }) None).tree q.1)
 idle plain r (opens p) s = let q : Idle plain r (run p s None) = idle plain r p s in (q.0, q.1)
-idle plain r (dyn_trait p) s = idle_followed plain r (unit_outcome s a_trait_path false None) (bound_by (suc (length s.symbol)) s (run p s) false) (refl, free_unread plain r) (idle_closed plain r false)
+idle plain r (dyn_trait p) s = idle_followed plain r (unit_outcome s a_trait_path false None) (bound_by (suc (length s.symbol)) s (run p s) false) (refl, (omega arith, omega arith)) (idle_closed plain r false)
 idle plain r (bindings o p) s = idle_closed plain r o

@@ -4,6 +4,7 @@ use Rattle.std.proofs.Common.{◌≡◌, Bool, true, false, cond, List, [], ◌�
 use Rattle.demangle_grammar.specs.Items.{Text, Items, Kind, a_path}
 use Rattle.demangle_grammar.specs.Cost.{StretchCost, bytes_of, looks_of, Pays}
 use Rattle.demangle_sink.specs.Cut.{size}
+use Rattle.demangle_sink.proofs.CutLemmas.{size-append}
 use Rattle.demangle_grammar.specs.Reading.{Tree, nothing, piece, plain_piece, node, looked, hidden, invalid_syntax, too_deep, unread, Place, Outcome, Surroundings, max_depth, run, stretches, looks, pieces, looks_alone, goes_on_at, read_at, path_texts}
 use Rattle.demangle_grammar.specs.Accepting.{looks_in, suffix_looks, second_looks, accepting_looks}
 use Rattle.demangle_grammar.proofs.PaysRules.{Pays-more, Pays-bound, Pays-whole}
@@ -94,10 +95,6 @@ bytes_append : (xs ys : List StretchCost) → bytes_of (xs ++ ys) ≡ bytes_of x
 bytes_append [] ys = omega arith
 bytes_append (x ∷ xs) ys = omega (arith, bytes_append xs ys)
 
-size_append : (xs ys : List Text) → size (xs ++ ys) ≡ size xs + size ys
-size_append [] ys = omega arith
-size_append (x ∷ xs) ys = omega (arith, size_append xs ys)
-
 bytes_unheard : (xs : List StretchCost) → bytes_of (looks_alone xs) ≡ 0
 bytes_unheard [] = refl
 bytes_unheard (x ∷ xs) = omega (arith, bytes_unheard xs)
@@ -108,7 +105,7 @@ tree_bytes plain nothing = refl
 tree_bytes plain (piece t rest) = omega (arith, tree_bytes plain rest)
 tree_bytes true (plain_piece t rest) = omega (arith, tree_bytes true rest)
 tree_bytes false (plain_piece t rest) = tree_bytes false rest
-tree_bytes plain (node x y) = omega (arith, tree_bytes plain x, tree_bytes plain y, bytes_append (stretches plain x) (stretches plain y), size_append (pieces plain x) (pieces plain y))
+tree_bytes plain (node x y) = omega (arith, tree_bytes plain x, tree_bytes plain y, bytes_append (stretches plain x) (stretches plain y), size-append (pieces plain x) (pieces plain y))
 tree_bytes plain (looked k rest) = omega (arith, tree_bytes plain rest)
 tree_bytes plain (hidden x rest) = omega (arith, tree_bytes plain rest, bytes_unheard (stretches plain x), bytes_append (looks_alone (stretches plain x)) (stretches plain rest))
 tree_bytes plain invalid_syntax = omega arith

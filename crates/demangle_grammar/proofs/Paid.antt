@@ -66,9 +66,6 @@ pub ends_pay : (n r i from to a k : ℕ) (xs : List StretchCost) (x : Place) →
 ends_pay n r i from to a k xs None l h = Pays-more r (32 * (n + 1 - i) + from) a 0 k k xs (omega (arith, l)) (omega arith) h
 ends_pay n r i from to a k xs (Some j) l h = Pays-more r (32 * (j - i) + from) a to k k xs (omega (arith, l, h.0, h.1)) (omega arith) h.2
 
-fault_ends : (plain : Bool) (n r i from to : ℕ) → Ends n r i from to (stretches plain invalid_syntax) None
-fault_ends plain n r i from to = (omega arith, omega arith)
-
 -- one after another
 joined : (n r i j from mid to : ℕ) (xs ys : List StretchCost) (x : Place) → i ≤ j → j ≤ n →
     Pays r (32 * (j - i) + from) xs mid → Ends n r j mid to ys x → Ends n r i from to (xs ++ ys) x
@@ -176,7 +173,7 @@ lifetime_paid plain n r i from true m k l =
     let o : Outcome = lifetime_named m k (Some i) in
     let inner : Paid plain n r i from from o =
     choice_paid plain n r i from from (k == 0) _ _ (omega arith, l, paid_hands r (32 * (i - i) + from) from (codes "_") [] (omega arith))
-    (choice_paid plain n r i from from (nat_le k m) _ _ (omega arith, l, paid_pieces plain r (32 * (i - i) + from) from (letter_of (m - k)) nothing (omega arith)) (fault_ends plain n r i from from)) in
+    (choice_paid plain n r i from from (nat_le k m) _ _ (omega arith, l, paid_pieces plain r (32 * (i - i) + from) from (letter_of (m - k)) nothing (omega arith)) (omega arith, omega arith)) in
     says plain n r i from from from (codes "'") o.tree o.place (omega arith) inner
 
 -- a path that is skipped
@@ -236,7 +233,7 @@ target_within symbol i t j n l e = go (integer_at symbol i) e
 turns_paid : (plain : Bool) (n r c m : ℕ) (symbol : List ℕ) (f : Place → Outcome) → length symbol ≡ n → 1 ≤ c →
     ((i : ℕ) → i ≤ n → Paid plain n r i (c - 1) c (f (Some i))) → (i : ℕ) → i ≤ n → Paid plain n r i c (c + 31) (turns m symbol f (Some i))
 unfolding turns
-turns_paid plain n r c zero symbol f e o h i l = fault_ends plain n r i c (c + 31)
+turns_paid plain n r c zero symbol f e o h i l = (omega arith, omega arith)
 turns_paid plain n r c (suc m) symbol f e o h i l =
     fork_paid plain n r i c (c + 31) (c - 1) (c + 31) (is_byte symbol i (code "E")) stands (λ j. followed_by (f j) (turns m symbol f)) l (there_within n symbol (code "E") i e) (omega arith) (omega (arith, o))
     (λ y. (omega arith, y, omega arith))
@@ -246,7 +243,7 @@ turns_paid plain n r c (suc m) symbol f e o h i l =
 bound_paid : (plain : Bool) (n r R c e m : ℕ) (s : Surroundings) (f : Place → Outcome) → length s.symbol ≡ n → R ≤ r → 1 ≤ c → e ≤ c - 1 →
     ((i : ℕ) → i ≤ n → Paid plain n r i (c + 55 + R) c (f (Some i))) → (o : Bool) (i : ℕ) → i ≤ n → Paid plain n r i c e (bound_by m s f o (Some i))
 unfolding bound_by
-bound_paid plain n r R c e zero s f q w b a h o i l = fault_ends plain n r i c e
+bound_paid plain n r R c e zero s f q w b a h o i l = (omega arith, omega arith)
 bound_paid plain n r R c e (suc m) s f q w b low h o i l =
     fork_paid plain n r i c (c + 31) (c - 1) e (is_byte s.symbol i (code "p"))
     (λ j. behind (binding_separator o) (word s j identifier_at (λ a k. behind (name_equals a) (followed_by (f k) (bound_by m s f true))))) (angle_if_open o) l (there_within n s.symbol (code "p") i q) (omega arith) (omega (arith, b))
@@ -284,7 +281,7 @@ pub paid : (plain : Bool) (r R : ℕ) (p : Items) (s : Surroundings) (c : Bool) 
     (i : ℕ) → i ≤ length s.symbol → Paid plain (length s.symbol) r i (k + purse g R) e (run p s (Some i))
 unfolding run bound_by
 paid plain r R done s c z e k g a m i l = (omega arith, l, omega (arith, a))
-paid plain r R invalid s c z e k g a m i l = fault_ends plain (length s.symbol) r i (k + purse g R) e
+paid plain r R invalid s c z e k g a m i l = (omega arith, omega arith)
 paid plain r R (say t p) s c z e k g a m i l = says plain (length s.symbol) r i (k + purse g R) (k + purse (g || is_some_text t) R) e t (run p s (Some i)).tree (run p s (Some i)).place
     (refilled r R k g t m.enough) (paid plain r R p s c z e k (g || is_some_text t) a m i l)
 paid plain r R (say_plain t p) s c z e k g a m i l = says_plain plain (length s.symbol) r i (k + purse g R) e t (run p s (Some i)).tree (run p s (Some i)).place (paid plain r R p s c z e k g a m i l)
@@ -359,9 +356,9 @@ level_paid plain r R symbol ls fl b d e kind value m i l =
     (record {
       enough = b;
       here = λ k v o j q. paid plain r R (items k v) (at nowhere fl o) _ _ 8 (start k) true (fits k v)
-          (record { enough = b; here = λ k' v' o' j' q'. fault_ends plain (length symbol) r j' (start k' + R) 8; hidden = λ k' v' o' j' q'. fault_ends plain (length symbol) 0 j' (start k' + 0) 8; deeper = d }) j q;
+          (record { enough = b; here = λ k' v' o' j' q'. (omega arith, omega arith); hidden = λ k' v' o' j' q'. (omega arith, omega arith); deeper = d }) j q;
       hidden = λ k v o j q. paid plain 0 0 (items k v) (at nowhere false o) _ _ 8 (start k) true (fits k v)
-          (record { enough = omega arith; here = λ k' v' o' j' q'. fault_ends plain (length symbol) 0 j' (start k' + 0) 8; hidden = λ k' v' o' j' q'. fault_ends plain (length symbol) 0 j' (start k' + 0) 8; deeper = e }) j q;
+          (record { enough = omega arith; here = λ k' v' o' j' q'. (omega arith, omega arith); hidden = λ k' v' o' j' q'. (omega arith, omega arith); deeper = e }) j q;
       deeper = d;
     }) i l
 

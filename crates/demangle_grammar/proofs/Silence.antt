@@ -8,12 +8,44 @@ use Rattle.demangle_symbol.specs.Words.{Name, Read, byte_at, namespace_at, integ
 use Rattle.demangle_symbol.specs.Names.{name_pieces}
 use Rattle.demangle_grammar.specs.Items.{Text, Kind, a_path, a_type, a_constant, a_pattern, a_trait_path, Items, done, invalid, say, say_plain, byte, namespace, integer, optional, identifier, nibbles, peek, next, sound, until_end, raise, unit, child, skip, target, lifetime, binder, opens, dyn_trait, bindings}
 use Rattle.demangle_grammar.specs.Table.{items, is_among, row_of, path, path_rows, constant, constant_rows, variant, variant_rows, says}
-use Rattle.demangle_grammar.specs.Reading.{Tree, piece, Place, Outcome, Level, Surroundings, stands, fault, unread, run, turns, word_outcome, bound_by, followed_by, followed_open, behind, binding_separator, name_equals, angle_if_open, all_pieces, word, byte_choice, peek_outcome, level_of, levels, nowhere}
+use Rattle.demangle_grammar.specs.Reading.{Tree, looked, piece, Place, Outcome, Level, Surroundings, stands, fault, unread, run, turns, word_outcome, bound_by, followed_by, followed_open, behind, binding_separator, name_equals, angle_if_open, all_pieces, word, byte_choice, peek_outcome, level_of, levels, nowhere}
 use Rattle.demangle_grammar.specs.Events.{Event, shown_if, Heard, of, events, and_then, with_looks}
 
+abbrev pub at : List ℕ → Bool → Level → List Level → ℕ → Surroundings
+at b pr here deeper m = record { symbol = b; printed = pr; here = here; deeper = deeper; lifetimes = m }
+
 -- surroundings in which nothing is printed
-abbrev pub silent : List ℕ → Level → List Level → ℕ → Surroundings
-silent b here deeper m = record { symbol = b; printed = false; here = here; deeper = deeper; lifetimes = m }
+abbrev silent : List ℕ → Level → List Level → ℕ → Surroundings
+silent b here deeper m = at b false here deeper m
+
+-- What is told of readings is told alike of their words, choices and turns, if it is behind a look.
+module _ {X : Type 0} (tell : Outcome → X) (look : (k : ℕ) (o o' : Outcome) → tell o ≡ tell o' → tell (behind (looked k) o) ≡ tell (behind (looked k) o')) where
+  pub worded : {A : Type 0} (b : List ℕ) (pr : Bool) (l l' : Level) (ls : List Level) (m n : ℕ) (reads : List ℕ → ℕ → Read A) (f g : A → Place → Outcome) → ((v : A) (x : Place) → tell (f v x) ≡ tell (g v x)) → (j : Place)
+      → tell (word (at b pr l ls m) j reads f) ≡ tell (word (at b pr l' ls n) j reads g)
+  worded b pr l l' ls m n reads f g h None = refl
+  worded b pr l l' ls m n reads f g h (Some j) = go (reads b j)
+    where
+      go : (r : Read _) → tell (word_outcome (length b) j f r) ≡ tell (word_outcome (length b) j g r)
+      go None = refl
+      go (Some r) = look (4 * (r.1 - j + 1)) _ _ (h r.0 (Some r.1))
+
+  pub peeked : (f g : ℕ → Outcome) (r : Option ℕ) → ((v : ℕ) → tell (f v) ≡ tell (g v)) → tell (peek_outcome f r) ≡ tell (peek_outcome g r)
+  peeked f g None h = refl
+  peeked f g (Some v) h = look 1 (f v) (g v) (h v)
+
+  pub forked : (c : Bool) (f g f' g' : Place → Outcome) (i : Place) → ((x : Place) → tell (f x) ≡ tell (g x)) → ((x : Place) → tell (f' x) ≡ tell (g' x)) → tell (byte_choice c f f' i) ≡ tell (byte_choice c g g' i)
+  forked c f g f' g' None h k = k None
+  forked true f g f' g' (Some i) h k = look 1 (f (Some (i + 1))) (g (Some (i + 1))) (h (Some (i + 1)))
+  forked false f g f' g' (Some i) h k = look 1 (f' (Some i)) (g' (Some i)) (k (Some i))
+
+  pub turned : ((o o' : Outcome) (f g : Place → Outcome) → tell o ≡ tell o' → ((x : Place) → tell (f x) ≡ tell (g x)) → tell (followed_by o f) ≡ tell (followed_by o' g))
+      → (k : ℕ) (b : List ℕ) (f g : Place → Outcome) → ((x : Place) → tell (f x) ≡ tell (g x)) → (i : Place) → tell (turns k b f i) ≡ tell (turns k b g i)
+  unfolding turns
+  turned on k b f g h None = refl
+  turned on zero b f g h (Some i) = refl
+  turned on (suc k) b f g h (Some i) =
+      forked (is_byte b i (code "E")) stands stands (λ j. followed_by (f j) (turns k b f)) (λ j. followed_by (g j) (turns k b g)) (Some i) (λ x. refl)
+      (λ j. on (f j) (g j) (turns k b f) (turns k b g) (h j) (turned on k b f g h))
 
 -- items without the texts that they say, the lifetimes that they name and the value position
 abbrev mute : Items → Items
@@ -64,26 +96,8 @@ module _ (plain : Bool) where
       ap (λ (z : Heard). and_then z (λ x _. of plain false (f x))) e
       ∙ ap (λ (z : Heard). and_then (of plain false o') (λ _ _. z)) (h o'.place)
 
-  alike_resumed : {A : Type 0} (k i : ℕ) (f g : A → Place → Outcome) (r : Read A) → ((v : A) (j : ℕ) → Alike plain (f v (Some j)) (g v (Some j))) → Alike plain (word_outcome k i f r) (word_outcome k i g r)
-  alike_resumed k i f g None h = refl
-  alike_resumed k i f g (Some r) h = ap (with_looks (4 * (r.1 - i + 1) ∷ [])) (h r.0 r.1)
-
-  alike_peeked : (f g : ℕ → Outcome) (r : Option ℕ) → ((v : ℕ) → Alike plain (f v) (g v)) → Alike plain (peek_outcome f r) (peek_outcome g r)
-  alike_peeked f g None h = refl
-  alike_peeked f g (Some v) h = ap (with_looks (1 ∷ [])) (h v)
-
-  alike_forked : (c : Bool) (f g f' g' : Place → Outcome) (i : Place) → ((x : Place) → Alike plain (f x) (g x)) → ((x : Place) → Alike plain (f' x) (g' x)) → Alike plain (byte_choice c f f' i) (byte_choice c g g' i)
-  alike_forked c f g f' g' None h k = k None
-  alike_forked true f g f' g' (Some i) h k = ap (with_looks (1 ∷ [])) (h (Some (i + 1)))
-  alike_forked false f g f' g' (Some i) h k = ap (with_looks (1 ∷ [])) (k (Some i))
-
-  alike_turns : (k : ℕ) (b : List ℕ) (f g : Place → Outcome) → ((x : Place) → Alike plain (f x) (g x)) → (i : Place) → Alike plain (turns k b f i) (turns k b g i)
-  unfolding turns
-  alike_turns k b f g h None = refl
-  alike_turns zero b f g h (Some i) = refl
-  alike_turns (suc k) b f g h (Some i) =
-      alike_forked (is_byte b i (code "E")) stands stands (λ j. followed_by (f j) (turns k b f)) (λ j. followed_by (g j) (turns k b g)) (Some i) (λ x. refl)
-      (λ j. alike_followed (f j) (g j) (turns k b f) (turns k b g) (h j) (alike_turns k b f g h))
+  look : (k : ℕ) (o o' : Outcome) → Alike plain o o' → Alike plain (behind (looked k) o) (behind (looked k) o')
+  look k o o' e = ap (with_looks (k ∷ [])) e
 
   pieces_quiet : (ts : List Text) (t : Tree) → events plain false (all_pieces ts t) ≡ events plain false t
   pieces_quiet [] t = refl
@@ -96,11 +110,6 @@ module _ (plain : Bool) where
   alike_opened true x = refl
   alike_opened false x = refl
 
-  alike_word : {A : Type 0} (b : List ℕ) (here : Level) (deeper : List Level) (m n : ℕ) (reads : List ℕ → ℕ → Read A) (f g : A → Place → Outcome) → ((v : A) (x : Place) → Alike plain (f v x) (g v x)) → (j : Place)
-      → Alike plain (word (silent b here deeper m) j reads f) (word (silent b here deeper n) j reads g)
-  alike_word b here deeper m n reads f g h None = refl
-  alike_word b here deeper m n reads f g h (Some j) = alike_resumed (length b) j f g (reads b j) (λ v x. h v (Some x))
-
   alike_bound : (k : ℕ) (b : List ℕ) (here : Level) (deeper : List Level) (m n : ℕ) (f g : Place → Outcome) → ((x : Place) → Alike plain (f x) (g x)) → (o : Bool) (i : Place) → Alike plain (bound_by k (silent b here deeper m) f o i) (bound_by k (silent b here deeper n) g o i)
   unfolding bound_by
   alike_bound k b here deeper m n f g h o None = refl
@@ -110,10 +119,10 @@ module _ (plain : Bool) where
       let t = silent b here deeper n in
       let one : Name → Place → Outcome = λ a x. behind (name_equals a) (followed_by (f x) (bound_by k s f true)) in
       let other : Name → Place → Outcome = λ a x. behind (name_equals a) (followed_by (g x) (bound_by k t g true)) in
-      alike_forked (is_byte b i (code "p"))
+      forked (of plain false) look (is_byte b i (code "p"))
       (λ j. behind (binding_separator o) (word s j identifier_at one)) (λ j. behind (binding_separator o) (word t j identifier_at other)) (angle_if_open o) (angle_if_open o) (Some i)
       (λ j. alike_opened o (word s j identifier_at one)
-      ∙ (alike_word b here deeper m n identifier_at one other
+      ∙ (worded (of plain false) look b false here here deeper m n identifier_at one other
       (λ a x. alike_named a (followed_by (f x) (bound_by k s f true))
       ∙ (alike_followed (f x) (g x) (bound_by k s f true) (bound_by k t g true) (h x) (alike_bound k b here deeper m n f g h true)
       ∙ sym (alike_named a (followed_by (g x) (bound_by k t g true))))) j
@@ -131,20 +140,20 @@ module _ (plain : Bool) where
   muted invalid b here deeper m n h a i = refl
   muted (say t p) b here deeper m n h a i = muted p b here deeper m n h a i
   muted (say_plain t p) b here deeper m n h a i = let o = run p (silent b here deeper m) i in ap (λ xs. record { events = xs; place = o.place; is_open = o.is_open }) (said_plain plain t (events plain false o.tree)) ∙ muted p b here deeper m n h a i
-  muted (byte f) b here deeper m n h a i = alike_word b here deeper m n byte_at (λ v. run (f v) (silent b here deeper m)) (λ v. run (mute (f v)) (silent b here deeper n)) (λ v. muted (f v) b here deeper m n h a) i
-  muted (namespace f) b here deeper m n h a i = alike_word b here deeper m n namespace_at (λ v. run (f v) (silent b here deeper m)) (λ v. run (mute (f v)) (silent b here deeper n)) (λ v. muted (f v) b here deeper m n h a) i
-  muted (integer f) b here deeper m n h a i = alike_word b here deeper m n integer_at (λ v. run (f v) (silent b here deeper m)) (λ v. run (mute (f v)) (silent b here deeper n)) (λ v. muted (f v) b here deeper m n h a) i
-  muted (optional tag f) b here deeper m n h a i = alike_word b here deeper m n (optional_at tag) (λ v. run (f v) (silent b here deeper m)) (λ v. run (mute (f v)) (silent b here deeper n)) (λ v. muted (f v) b here deeper m n h a) i
-  muted (identifier f) b here deeper m n h a i = alike_word b here deeper m n identifier_at (λ v. run (f v) (silent b here deeper m)) (λ v. run (mute (f v)) (silent b here deeper n)) (λ v. muted (f v) b here deeper m n h a) i
-  muted (nibbles f) b here deeper m n h a i = alike_word b here deeper m n nibbles_at (λ v. run (f v) (silent b here deeper m)) (λ v. run (mute (f v)) (silent b here deeper n)) (λ v. muted (f v) b here deeper m n h a) i
+  muted (byte f) b here deeper m n h a i = worded (of plain false) look b false here here deeper m n byte_at (λ v. run (f v) (silent b here deeper m)) (λ v. run (mute (f v)) (silent b here deeper n)) (λ v. muted (f v) b here deeper m n h a) i
+  muted (namespace f) b here deeper m n h a i = worded (of plain false) look b false here here deeper m n namespace_at (λ v. run (f v) (silent b here deeper m)) (λ v. run (mute (f v)) (silent b here deeper n)) (λ v. muted (f v) b here deeper m n h a) i
+  muted (integer f) b here deeper m n h a i = worded (of plain false) look b false here here deeper m n integer_at (λ v. run (f v) (silent b here deeper m)) (λ v. run (mute (f v)) (silent b here deeper n)) (λ v. muted (f v) b here deeper m n h a) i
+  muted (optional tag f) b here deeper m n h a i = worded (of plain false) look b false here here deeper m n (optional_at tag) (λ v. run (f v) (silent b here deeper m)) (λ v. run (mute (f v)) (silent b here deeper n)) (λ v. muted (f v) b here deeper m n h a) i
+  muted (identifier f) b here deeper m n h a i = worded (of plain false) look b false here here deeper m n identifier_at (λ v. run (f v) (silent b here deeper m)) (λ v. run (mute (f v)) (silent b here deeper n)) (λ v. muted (f v) b here deeper m n h a) i
+  muted (nibbles f) b here deeper m n h a i = worded (of plain false) look b false here here deeper m n nibbles_at (λ v. run (f v) (silent b here deeper m)) (λ v. run (mute (f v)) (silent b here deeper n)) (λ v. muted (f v) b here deeper m n h a) i
   muted (peek f) b here deeper m n h a None = refl
-  muted (peek f) b here deeper m n h a (Some i) = alike_peeked (λ v. run (f v) (silent b here deeper m) (Some i)) (λ v. run (mute (f v)) (silent b here deeper n) (Some i)) (slice_get b i) (λ v. muted (f v) b here deeper m n h a (Some i))
+  muted (peek f) b here deeper m n h a (Some i) = peeked (of plain false) look (λ v. run (f v) (silent b here deeper m) (Some i)) (λ v. run (mute (f v)) (silent b here deeper n) (Some i)) (slice_get b i) (λ v. muted (f v) b here deeper m n h a (Some i))
   muted (next c p q) b here deeper m n h a None = muted q b here deeper m n h a None
-  muted (next c p q) b here deeper m n h a (Some i) = alike_forked (is_byte b i c) (run p (silent b here deeper m)) (run (mute p) (silent b here deeper n)) (run q (silent b here deeper m)) (run (mute q) (silent b here deeper n)) (Some i) (muted p b here deeper m n h a) (muted q b here deeper m n h a)
+  muted (next c p q) b here deeper m n h a (Some i) = forked (of plain false) look (is_byte b i c) (run p (silent b here deeper m)) (run (mute p) (silent b here deeper n)) (run q (silent b here deeper m)) (run (mute q) (silent b here deeper n)) (Some i) (muted p b here deeper m n h a) (muted q b here deeper m n h a)
   muted (sound p q) b here deeper m n h a None = muted q b here deeper m n h a None
   muted (sound p q) b here deeper m n h a (Some i) = muted p b here deeper m n h a (Some i)
   muted (until_end p q) b here deeper m n h a i = alike_followed (turns (suc (length b)) b (run p (silent b here deeper m)) i) (turns (suc (length b)) b (run (mute p) (silent b here deeper n)) i) (run q (silent b here deeper m)) (run (mute q) (silent b here deeper n))
-      (alike_turns (suc (length b)) b (run p (silent b here deeper m)) (run (mute p) (silent b here deeper n)) (muted p b here deeper m n h a) i) (muted q b here deeper m n h a)
+      (turned (of plain false) look alike_followed (suc (length b)) b (run p (silent b here deeper m)) (run (mute p) (silent b here deeper n)) (muted p b here deeper m n h a) i) (muted q b here deeper m n h a)
   muted (raise p) b here [] m n h a i = refl
   muted (raise p) b here (l ∷ ls) m n h a i = muted p b l ls m n a.0 a.1 i
   muted (unit p q) b here deeper m n h a i = alike_followed (run p (silent b here deeper m) i) (run (mute p) (silent b here deeper n) i) (run q (silent b here deeper m)) (run (mute q) (silent b here deeper n)) (muted p b here deeper m n h a i) (muted q b here deeper m n h a)

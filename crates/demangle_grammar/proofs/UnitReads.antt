@@ -9,6 +9,7 @@ use Rattle.demangle_grammar.specs.Table.{items}
 use Rattle.demangle_grammar.specs.Reading.{Tree, hidden, word, stands_at, binder_at, node, piece, plain_piece, looked, too_deep, unread, Place, Outcome, Level, Surroundings, fault, stands, behind, followed_by, unit_outcome, run, turns, word_outcome, peek_outcome, byte_choice, lifetime_at, level_of, levels, nowhere}
 use Rattle.demangle_grammar.specs.Events.{around}
 use Rattle.demangle_grammar.proofs.Account.{rank, is_below, Fits, first}
+use Rattle.demangle_grammar.proofs.Silence.{at, worded, peeked, forked, turned}
 use Rattle.demangle_grammar.proofs.TableCost.{fits}
 use Rattle.demangle_grammar.proofs.Complete.{all_below, below_rank, lowest}
 
@@ -16,40 +17,15 @@ use Rattle.demangle_grammar.proofs.Complete.{all_below, below_rank, lowest}
 abbrev Same : ℕ → Level → Level → Type 0
 Same r l l' = (pr : Bool) (kind : Kind) (v : Bool) (m i : ℕ) → IsTrue (is_below r kind) → l pr kind v m i ≡ l' pr kind v m i
 
-abbrev at : List ℕ → Bool → Level → List Level → ℕ → Surroundings
-at b pr here deeper m = record { symbol = b; printed = pr; here = here; deeper = deeper; lifetimes = m }
-
 -- f and g alike behind what n makes of a tree
 followed_same : (n : Tree → Tree → Tree) (o o' : Outcome) (f g : Place → Outcome) → o ≡ o' → ((x : Place) → f x ≡ g x) → behind (n o.tree) (f o.place) ≡ behind (n o'.tree) (g o'.place)
 followed_same n o o' f g e h = ap (λ (z : Outcome). behind (n z.tree) (f z.place)) e ∙ ap (λ (z : Outcome). behind (n o'.tree) z) (h o'.place)
 
-resumed_same : {A : Type 0} (k i : ℕ) (f g : A → Place → Outcome) (r : Read A) → ((v : A) (j : Place) → f v j ≡ g v j) → word_outcome k i f r ≡ word_outcome k i g r
-resumed_same k i f g None h = refl
-resumed_same k i f g (Some r) h = ap (λ (z : Outcome). behind (looked (4 * (r.1 - i + 1))) z) (h r.0 (Some r.1))
-
-peeked_same : (f g : ℕ → Outcome) (r : Option ℕ) → ((v : ℕ) → f v ≡ g v) → peek_outcome f r ≡ peek_outcome g r
-peeked_same f g None h = refl
-peeked_same f g (Some v) h = ap (λ (z : Outcome). behind (looked 1) z) (h v)
-
-forked_same : (c : Bool) (f g f' g' : Place → Outcome) (i : Place) → ((x : Place) → f x ≡ g x) → ((x : Place) → f' x ≡ g' x) → byte_choice c f f' i ≡ byte_choice c g g' i
-forked_same c f g f' g' None h k = k None
-forked_same true f g f' g' (Some i) h k = ap (λ (z : Outcome). behind (looked 1) z) (h (Some (i + 1)))
-forked_same false f g f' g' (Some i) h k = ap (λ (z : Outcome). behind (looked 1) z) (k (Some i))
-
-turns_same : (n : ℕ) (b : List ℕ) (f g : Place → Outcome) (i : Place) → ((x : Place) → f x ≡ g x) → turns n b f i ≡ turns n b g i
-unfolding turns
-turns_same n b f g None h = refl
-turns_same zero b f g (Some i) h = refl
-turns_same (suc n) b f g (Some i) h =
-    forked_same (is_byte b i (code "E")) stands stands (λ j. followed_by (f j) (turns n b f)) (λ j. followed_by (g j) (turns n b g)) (Some i) (λ x. refl)
-    (λ j. followed_same node (f j) (g j) (turns n b f) (turns n b g) (h j) (λ x. turns_same n b f g x h))
+look : (k : ℕ) (o o' : Outcome) → o ≡ o' → behind (looked k) o ≡ behind (looked k) o'
+look k o o' e = ap (λ (z : Outcome). behind (looked k) z) e
 
 -- items that begin such units alone read alike in both
 module _ (b : List ℕ) (pr : Bool) (l l' : Level) (ls : List Level) (r : ℕ) (low : r ≤ 1) (e : Same r l l') where
-  word_same : {A : Type 0} (m : ℕ) (i : Place) (reads : List ℕ → ℕ → Read A) (f g : A → Place → Outcome) → ((v : A) (j : Place) → f v j ≡ g v j) → word (at b pr l ls m) i reads f ≡ word (at b pr l' ls m) i reads g
-  word_same m None reads f g h = refl
-  word_same m (Some i) reads f g h = resumed_same (length b) i f g (reads b i) h
-
   abbrev Alike : Items → Type 0
   Alike p = (m : ℕ) (i : Place) → run p (at b pr l ls m) i ≡ run p (at b pr l' ls m) i
 
@@ -59,25 +35,25 @@ module _ (b : List ℕ) (pr : Bool) (l l' : Level) (ls : List Level) (r : ℕ) (
   same_here invalid c x k g h m i = refl
   same_here (say t p) c x k g h m i = ap (λ (z : Outcome). behind (piece t) z) (same_here p _ _ _ _ h m i)
   same_here (say_plain t p) c x k g h m i = ap (λ (z : Outcome). behind (plain_piece t) z) (same_here p _ _ _ _ h m i)
-  same_here (byte f) c x k g h m i = word_same m i byte_at _ _ (λ v. same_here (f v) _ _ _ _ (h v) m)
-  same_here (namespace f) c x k g h m i = word_same m i namespace_at _ _ (λ v. same_here (f v) _ _ _ _ (h v) m)
-  same_here (integer f) c x k g h m i = word_same m i integer_at _ _ (λ v. same_here (f v) _ _ _ _ (h v) m)
-  same_here (optional tag f) c x k g h m i = word_same m i (optional_at tag) _ _ (λ v. same_here (f v) _ _ _ _ (h.1 v) m)
-  same_here (identifier f) c x k g h m i = word_same m i identifier_at _ _ (λ v. same_here (f v) _ _ _ _ (h v) m)
-  same_here (nibbles f) c x k g h m i = word_same m i nibbles_at _ _ (λ v. same_here (f v) _ _ _ _ (h v) m)
+  same_here (byte f) c x k g h m i = worded (λ o. o) look b pr l l' ls m m byte_at _ _ (λ v. same_here (f v) _ _ _ _ (h v) m) i
+  same_here (namespace f) c x k g h m i = worded (λ o. o) look b pr l l' ls m m namespace_at _ _ (λ v. same_here (f v) _ _ _ _ (h v) m) i
+  same_here (integer f) c x k g h m i = worded (λ o. o) look b pr l l' ls m m integer_at _ _ (λ v. same_here (f v) _ _ _ _ (h v) m) i
+  same_here (optional tag f) c x k g h m i = worded (λ o. o) look b pr l l' ls m m (optional_at tag) _ _ (λ v. same_here (f v) _ _ _ _ (h.1 v) m) i
+  same_here (identifier f) c x k g h m i = worded (λ o. o) look b pr l l' ls m m identifier_at _ _ (λ v. same_here (f v) _ _ _ _ (h v) m) i
+  same_here (nibbles f) c x k g h m i = worded (λ o. o) look b pr l l' ls m m nibbles_at _ _ (λ v. same_here (f v) _ _ _ _ (h v) m) i
   same_here (peek f) c x k g h m None = refl
-  same_here (peek f) c x k g h m (Some i) = peeked_same _ _ (slice_get b i) (λ v. same_here (f v) _ _ _ _ (h.1 v) m (Some i))
-  same_here (next t p q) c x k g h m i = forked_same (stands_at (at b pr l ls m) t i) _ _ _ _ i (same_here p _ _ _ _ h.1 m) (same_here q _ _ _ _ h.2 m)
+  same_here (peek f) c x k g h m (Some i) = peeked (λ o. o) look _ _ (slice_get b i) (λ v. same_here (f v) _ _ _ _ (h.1 v) m (Some i))
+  same_here (next t p q) c x k g h m i = forked (λ o. o) look (stands_at (at b pr l ls m) t i) _ _ _ _ i (same_here p _ _ _ _ h.1 m) (same_here q _ _ _ _ h.2 m)
   same_here (sound p q) c x k g h m None = same_here q _ _ _ _ h.3 m None
   same_here (sound p q) c x k g h m (Some i) = same_here p _ _ _ _ h.2 m (Some i)
-  same_here (until_end p q) c x k g h m i = followed_same node _ _ _ _ (turns_same (suc (length b)) b _ _ i (same_here p _ _ _ _ h.3 m)) (same_here q _ _ _ _ h.4 m)
+  same_here (until_end p q) c x k g h m i = followed_same node _ _ _ _ (turned (λ o. o) look (followed_same node) (suc (length b)) b _ _ (same_here p _ _ _ _ h.3 m) i) (same_here q _ _ _ _ h.4 m)
   same_here (raise p) c x k g h m i = refl
   same_here (unit p q) c x k g h m i = followed_same node _ _ _ _ (same_here p _ _ _ _ h.1 m i) (same_here q _ _ _ _ h.2 m)
   same_here (child kind v p) c x k g h m None = ap (λ (z : Outcome). behind (node unread) z) (same_here p _ _ _ _ h.2 m None)
   same_here (child kind v p) c x k g h m (Some i) = followed_same node _ _ _ _ (e pr kind v m i (first (is_below r kind) g h.1)) (same_here p _ _ _ _ h.2 m)
   same_here (skip p) c x k g h m None = same_here p _ _ _ _ h.1 m None
   same_here (skip p) c x k g h m (Some i) = followed_same hidden _ _ _ _ (e false a_path false m i h.0) (same_here p _ _ _ _ h.1 m)
-  same_here (target kind v) c x k g h m i = word_same m i backref_at _ _ (λ t j. refl)
+  same_here (target kind v) c x k g h m i = worded (λ o. o) look b pr l l' ls m m backref_at _ _ (λ t j. refl) i
   same_here (lifetime n p) c x k g h m i = let o = lifetime_at pr m n i in ap (λ (z : Outcome). behind (node o.tree) z) (same_here p _ _ _ _ h m o.place)
   same_here (binder n p) c x k g h m i = ap (λ (z : Outcome). behind (binder_at pr n m) z) (same_here p _ _ _ _ h (m + n) i)
   same_here (opens p) c x k g h m i = ap (λ (z : Outcome). record z { is_open = true }) (same_here p _ _ _ _ h.1 m i)

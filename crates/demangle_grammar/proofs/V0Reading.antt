@@ -25,11 +25,7 @@ all_ascii (x ∷ xs) h i = go (nat_lt x 128) refl h (λ h i. all_ascii xs h i) i
 
 pub ascii_all : (xs : List ℕ) → IsAscii xs → list_all (λ b. nat_lt b 128) xs ≡ true
 ascii_all [] h = refl
-ascii_all (x ∷ xs) h = both (nat_lt x 128) (list_all (λ b. nat_lt b 128) xs) (lt-ltb x 128 (h zero)) (ascii_all xs (λ i. h (suc i)))
-  where
-    both : (a b : Bool) → a ≡ true → b ≡ true → a && b ≡ true
-    both true b p q = q
-    both false b p q = cc p
+ascii_all (x ∷ xs) h = rw (lt-ltb x 128 (h zero)) (ascii_all xs (λ i. h (suc i)))
 
 -- each prefix is taken off
 
@@ -43,20 +39,11 @@ inner_prefix s r h = go (behind_prefix (codes "_R") s) (behind_prefix (codes "R"
     go None None c p q w h = (codes "__R", behind_is (codes "__R") s r (w ∙ h), inr (inr refl))
 
 pub prefix_inner : (prefix s r : List ℕ) → s ≡ prefix ++ r → IsV0Prefix prefix → v0_inner s ≡ Some r
-prefix_inner prefix s r e h = subst (λ z. v0_inner z ≡ Some r) (sym e) (go h)
-  where
-    go : IsV0Prefix prefix → v0_inner (prefix ++ r) ≡ Some r
-    go (inl p) = subst (λ z. v0_inner (z ++ r) ≡ Some r) (sym p) refl
-    go (inr (inl p)) = subst (λ z. v0_inner (z ++ r) ≡ Some r) (sym p) refl
-    go (inr (inr p)) = subst (λ z. v0_inner (z ++ r) ≡ Some r) (sym p) refl
+prefix_inner prefix s r e (inl p) = rw (e, p) refl
+prefix_inner prefix s r e (inr (inl p)) = rw (e, p) refl
+prefix_inner prefix s r e (inr (inr p)) = rw (e, p) refl
 
 -- the rest behind the tests
-abbrev both : List ℕ → List ℕ → List ℕ × List ℕ
-both x y = (x, y)
-
-abbrev paired : List ℕ → List ℕ → Option (List ℕ × List ℕ)
-paired x y = Some (x, y)
-
 abbrev ending : List ℕ → ℕ → Option (List ℕ × List ℕ)
 ending inner k = Some (inner, drop k inner)
 
@@ -69,13 +56,9 @@ read_is_v0 symbol inner suffix h = go (v0_inner symbol) refl h
   where
     ends : (x : List ℕ) (o : Option ℕ) → suffix_place x ≡ o → then_if_some o (ending x) ≡ Some (inner, suffix) → (x ≡ inner) × ((k : ℕ) × IsPaths inner k × (suffix ≡ drop k inner))
     ends x None e h = cc h
-    ends x (Some k) e h = firsts (accepted x k e) h
-      where
-        firsts : {x : List ℕ} {k : ℕ} → IsPaths x k → ending x k ≡ Some (inner, suffix) → (x ≡ inner) × ((k : ℕ) × IsPaths inner k × (suffix ≡ drop k inner))
-        firsts {x} {k} p h =
-            let pair : both x (drop k x) ≡ both inner suffix = cc h in
-            let q : (x ≡ inner) × (drop k x ≡ suffix) = (ap (λ z. z.0) pair, ap (λ z. z.1) pair) in
-            (q.0, (k, subst (λ z. IsPaths z k) q.0 p, subst (λ z. suffix ≡ drop k z) q.0 (sym q.1)))
+    ends x (Some k) e h =
+        let q : (x ≡ inner) × (drop k x ≡ suffix) = (ap (λ (o : Option (List ℕ × List ℕ)). some_or [] o (λ z. z.0)) h, ap (λ (o : Option (List ℕ × List ℕ)). some_or [] o (λ z. z.1)) h) in
+        (q.0, (k, subst (λ z. IsPaths z k) q.0 (accepted x k e), subst (λ z. suffix ≡ drop k z) q.0 (sym q.1)))
 
     tests : (x : List ℕ) (a b : Bool) → list_all (λ b. nat_lt b 128) x ≡ a → goes_on_at x 0 ≡ b → rest_of a b x ≡ Some (inner, suffix) →
         (x ≡ inner) × IsAscii x × (goes_on_at x 0 ≡ true) × ((k : ℕ) × IsPaths inner k × (suffix ≡ drop k inner))
@@ -96,7 +79,7 @@ v0_is_read symbol inner suffix (prefix, whole, is, ascii, begins, (k, paths, end
     subst (λ o. then_if_some o v0_in ≡ Some (inner, suffix)) (sym (prefix_inner prefix symbol inner whole is))
     (subst (λ a. rest_of a (goes_on_at inner 0) inner ≡ Some (inner, suffix)) (sym (ascii_all inner ascii))
     (subst (λ b. rest_of true b inner ≡ Some (inner, suffix)) (sym begins)
-    (subst (λ o. then_if_some o (ending inner) ≡ Some (inner, suffix)) (sym (all_accepted inner k paths)) (ap (paired inner) (sym ends)))))
+    (subst (λ o. then_if_some o (ending inner) ≡ Some (inner, suffix)) (sym (all_accepted inner k paths)) (ap (λ z. Some (inner, z)) (sym ends)))))
 
 pub reading_is_v0 : (symbol inner suffix : List ℕ) → (v0_of symbol ≡ Some (inner, suffix)) ↔ IsV0 symbol inner suffix
 reading_is_v0 symbol inner suffix = (read_is_v0 symbol inner suffix, v0_is_read symbol inner suffix)
