@@ -71,11 +71,7 @@ brackets_some d include_hash h e = let t : eqb d 0 ≡ false = grind (arith, nat
 
 -- hexadecimal digits are ASCII
 glyph_small : (d : ℕ) → d < 16 → digit_glyph false d < 128
-glyph_small d h = go (nat_lt d 10) h
-  where
-    go : (c : Bool) → d < 16 → cond c (48 + d) (87 + d) < 128
-    go true h = omega arith
-    go false h = omega arith
+glyph_small d h = grind (arith, nat_tests)
 
 onto_ascii : (k n : ℕ) (text : List ℕ) → IsAscii text → IsAscii (digits_onto k 16 false n text)
 onto_ascii zero n text h = h
@@ -102,10 +98,3 @@ name_left [] (y ∷ ys) h = grind (arith, nat_tests)
 name_left (x ∷ xs) ys h = absurd (omega arith)
 
 pub ruleset name_steps = (name_there, name_left)
-
-pub behind_some : (before : List ℕ) (a : Name) → is_nameless a ≡ false → name_behind before a ≡ before ∷ name_pieces a
-behind_some before a e = rw e refl
-
--- a function that is not safe
-pub head_unsafe : (b : List ℕ) (unsafe : Bool) (a : Abi) → unsafe ≡ true → head_texts b unsafe a ≡ codes "unsafe " ∷ abi_texts b a
-head_unsafe b unsafe a e = rw e refl
