@@ -4,7 +4,7 @@ use Rattle.std.proofs.Common.{◌≡◌, Bool, true, false, cond, List, [], ◌�
 use Rattle.demangle_symbol.specs.Words.{Name}
 use Rattle.demangle_grammar.specs.Items.{Text, Kind, a_path, a_type, a_constant, a_pattern, a_trait_path, Items, done, invalid, say, say_plain, byte, namespace, integer, optional, identifier, nibbles, peek, next, sound, until_end, raise, unit, child, skip, target, lifetime, binder, opens, dyn_trait, bindings}
 use Rattle.demangle_grammar.specs.Cost.{StretchCost, Pays}
-use Rattle.demangle_grammar.specs.Reading.{Tree, nothing, piece, plain_piece, node, invalid_syntax, too_deep, unread, Place, Outcome, Level, Surroundings, followed_by, stretches, hands, run, one_depth_on, turns, angle_if_open, bound_by, unit_outcome, lifetime_at, lifetime_named, letter_of, all_pieces, new_lifetimes, binder_of, binder_at}
+use Rattle.demangle_grammar.specs.Reading.{Tree, nothing, piece, plain_piece, Place, Outcome, Level, Surroundings, followed_by, stretches, hands, run, one_depth_on, turns, angle_if_open, bound_by, unit_outcome, lifetime_at, lifetime_named, letter_of, all_pieces, new_lifetimes, binder_of, binder_at}
 use Rattle.demangle_grammar.proofs.PaysRules.{Pays-more, Pays-append}
 
 -- the credit that a unit is begun with, and the credit that it leaves

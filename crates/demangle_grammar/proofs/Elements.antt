@@ -1,6 +1,6 @@
 -- Elements of lists: behind the last byte of the symbol none is read, and before it each moves on.
-use Rattle.std.specs.Prelude.{ℕ, suc, ◌<◌, ◌≤◌, nat_le, slice_get}
-use Rattle.std.proofs.Common.{◌≡◌, Bool, true, false, List, [], ◌∷◌, length, Option, Some, None, refl, sym, ap, ◌+◌, ◌-◌, subst, arith}
+use Rattle.std.specs.Prelude.{ℕ, suc, ◌<◌, ◌≤◌, nat_le}
+use Rattle.std.proofs.Common.{◌≡◌, Bool, true, false, List, [], ◌∷◌, length, Some, None, refl, sym, ap, ◌+◌, ◌-◌, subst, arith}
 use Rattle.std.proofs.lemmas.Option.{slice_get_past}
 use Rattle.std.proofs.lemmas.Bool.{leb-true, leb-false}
 use Prim.Native.Char.{code}
@@ -8,7 +8,7 @@ use Rattle.demangle_symbol.specs.Digits.{is_byte}
 use Rattle.demangle_symbol.specs.Words.{Read, byte_at, optional_at, identifier_at}
 use Rattle.demangle_grammar.specs.Items.{Text, Kind, a_path, a_type, a_constant, a_pattern, a_trait_path, Items, done, say, byte, raise, identifier, child, dyn_trait}
 use Rattle.demangle_grammar.specs.Table.{items, path, constant, pattern_of, binding_value, type_inside, argument, field, constant_inside, says, says_name}
-use Rattle.demangle_grammar.specs.Reading.{looked, node, Place, Outcome, Level, Surroundings, run, turns, stands, behind, followed_by, byte_choice, peek_outcome, word_outcome, one_depth_on, bound_by, level_of, levels, max_depth, nowhere}
+use Rattle.demangle_grammar.specs.Reading.{looked, node, Place, Outcome, Level, Surroundings, run, turns, stands, behind, followed_by, byte_choice, word_outcome, one_depth_on, bound_by, level_of, levels, max_depth, nowhere}
 use Rattle.demangle_symbol.proofs.Counts.{Placed, byte_placed, identifier_placed}
 use Rattle.demangle_grammar.proofs.Account.{Fits}
 use Rattle.demangle_grammar.proofs.Complete.{there_placed}

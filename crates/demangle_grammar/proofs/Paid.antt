@@ -5,12 +5,12 @@ use Rattle.std.proofs.Math.Nat.{le-mul_of_pos_right}
 use Rattle.std.proofs.lemmas.Bool.{ltb-true}
 use Prim.Native.Char.{code}
 use Rattle.demangle_symbol.specs.Digits.{is_byte}
-use Rattle.demangle_symbol.specs.Words.{Name, Read, only_if, then_if_some, byte_at, namespace_at, integer_at, optional_at, backref_at, identifier_at, nibbles_at}
+use Rattle.demangle_symbol.specs.Words.{Read, only_if, then_if_some, byte_at, namespace_at, integer_at, optional_at, backref_at, identifier_at, nibbles_at}
 use Rattle.demangle_symbol.specs.Names.{name_pieces}
 use Rattle.demangle_grammar.specs.Items.{Text, Kind, a_path, a_type, a_constant, a_pattern, a_trait_path, Items, done, invalid, say, say_plain, byte, namespace, integer, optional, identifier, nibbles, peek, next, sound, until_end, raise, unit, child, skip, target, lifetime, binder, opens, dyn_trait, bindings}
 use Rattle.demangle_grammar.specs.Table.{items}
 use Rattle.demangle_grammar.specs.Cost.{StretchCost, Pays}
-use Rattle.demangle_grammar.specs.Reading.{Tree, nothing, piece, plain_piece, node, looked, invalid_syntax, looks_alone, Place, Outcome, Level, Surroundings, stands, behind, word, followed_by, stretches, run, word_outcome, peek_outcome, byte_choice, one_depth_on, max_depth, turns, angle_if_open, binding_separator, name_equals, bound_by, unit_outcome, behind_hidden, target_of, target_read, lifetime_at, lifetime_named, letter_of, all_pieces, binder_at, level_of, levels, nowhere, read_at}
+use Rattle.demangle_grammar.specs.Reading.{Tree, nothing, piece, plain_piece, node, looked, looks_alone, Place, Outcome, Level, Surroundings, stands, behind, word, followed_by, stretches, run, word_outcome, peek_outcome, byte_choice, one_depth_on, max_depth, turns, angle_if_open, binding_separator, name_equals, bound_by, unit_outcome, behind_hidden, target_of, target_read, lifetime_at, lifetime_named, letter_of, all_pieces, binder_at, level_of, levels, nowhere, read_at}
 use Rattle.demangle_grammar.proofs.PaysRules.{Pays-more, Pays-append}
 use Rattle.demangle_symbol.proofs.Counts.{Placed, byte_placed, namespace_placed, integer_placed, optional_placed, backref_placed, identifier_placed, nibbles_placed}
 use Rattle.demangle_grammar.proofs.Complete.{there_placed}
@@ -128,10 +128,6 @@ fork_paid : (plain : Bool) (n r i from there other to : ℕ) (c : Bool) (f g : P
 fork_paid plain n r i from there other to true f g l m a b h k = step plain n r i (i + 1) from there to 1 (f (Some (i + 1))).tree (f (Some (i + 1))).place (omega arith) (m refl) (omega (arith, a)) (h (m refl))
 fork_paid plain n r i from there other to false f g l m a b h k = step plain n r i i from other to 1 (g (Some i)).tree (g (Some i)).place (omega arith) l (omega (arith, b)) k
 
--- where the byte stands it is within the symbol
-there_within : (n : ℕ) (symbol : List ℕ) (b i : ℕ) → length symbol ≡ n → is_byte symbol i b ≡ true → i + 1 ≤ n
-there_within n symbol b i e h = subst (λ z. i + 1 ≤ z) e (there_placed symbol b i h)
-
 -- with the text the money is there again
 refilled : (r R k : ℕ) (g : Bool) (t : Text) → R ≤ r → k + purse (g || is_some_text t) R ≤ k + purse g R + r * length t
 refilled r R k true t l = omega arith
@@ -148,10 +144,6 @@ pieces_paid : (plain : Bool) (n r i from to : ℕ) (ts : List Text) (t : Tree) (
     Ends n r i from to (stretches plain t) x → Ends n r i from to (stretches plain (all_pieces ts t)) x
 pieces_paid plain n r i from to ts t None h = paid_pieces plain r (32 * (n + 1 - i) + from) 0 ts t h
 pieces_paid plain n r i from to ts t (Some j) h = (h.0, h.1, paid_pieces plain r (32 * (j - i) + from) to ts t h.2)
-
-named_paid : (plain : Bool) (n r i from to : ℕ) (a : Name) (t : Tree) (x : Place) →
-    Ends n r i from to (stretches plain t) x → Ends n r i from to (stretches plain (name_equals a t)) x
-named_paid plain n r i from to a t x h = pieces_paid plain n r i from to (name_pieces a) (piece (codes " = ") t) x (says plain n r i from from to (codes " = ") t x (omega arith) h)
 
 closed_paid : (plain : Bool) (n r i from to : ℕ) (o : Bool) → i ≤ n → to ≤ from → Paid plain n r i from to (angle_if_open o (Some i))
 closed_paid plain n r i from to true l e = says plain n r i from from to (codes ">") nothing (Some i) (omega arith) (omega arith, l, omega (arith, e))
@@ -235,7 +227,7 @@ turns_paid : (plain : Bool) (n r c m : ℕ) (symbol : List ℕ) (f : Place → O
 unfolding turns
 turns_paid plain n r c zero symbol f e o h i l = (omega arith, omega arith)
 turns_paid plain n r c (suc m) symbol f e o h i l =
-    fork_paid plain n r i c (c + 31) (c - 1) (c + 31) (is_byte symbol i (code "E")) stands (λ j. followed_by (f j) (turns m symbol f)) l (there_within n symbol (code "E") i e) (omega arith) (omega (arith, o))
+    fork_paid plain n r i c (c + 31) (c - 1) (c + 31) (is_byte symbol i (code "E")) stands (λ j. followed_by (f j) (turns m symbol f)) l (λ y. subst (λ z. i + 1 ≤ z) e (there_placed symbol (code "E") i y)) (omega arith) (omega (arith, o))
     (λ y. (omega arith, y, omega arith))
     (then_paid plain n r i (c - 1) c (c + 31) (f (Some i)) (turns m symbol f) (h i l) (λ j _ b. turns_paid plain n r c m symbol f e o h j b) (refl, omega arith))
 
@@ -246,14 +238,14 @@ unfolding bound_by
 bound_paid plain n r R c e zero s f q w b a h o i l = (omega arith, omega arith)
 bound_paid plain n r R c e (suc m) s f q w b low h o i l =
     fork_paid plain n r i c (c + 31) (c - 1) e (is_byte s.symbol i (code "p"))
-    (λ j. behind (binding_separator o) (word s j identifier_at (λ a k. behind (name_equals a) (followed_by (f k) (bound_by m s f true))))) (angle_if_open o) l (there_within n s.symbol (code "p") i q) (omega arith) (omega (arith, b))
+    (λ j. behind (binding_separator o) (word s j identifier_at (λ a k. behind (name_equals a) (followed_by (f k) (bound_by m s f true))))) (angle_if_open o) l (λ y. subst (λ z. i + 1 ≤ z) q (there_placed s.symbol (code "p") i y)) (omega arith) (omega (arith, b))
     (λ y. let inner : Outcome = word s (Some (i + 1)) identifier_at (λ a k. behind (name_equals a) (followed_by (f k) (bound_by m s f true))) in
     opened_paid plain n r R (i + 1) (c + 31) e o inner.tree inner.place w
     (subst (λ z. Paid plain n r (i + 1) (c + 31 + R) e (word_outcome z (i + 1) (λ a k. behind (name_equals a) (followed_by (f k) (bound_by m s f true))) (identifier_at s.symbol (i + 1)))) (sym q)
     (word_paid plain n r (i + 1) (c + 31 + R) (c + 55 + R) e 1 s.symbol (identifier_at s.symbol (i + 1)) (λ a k. behind (name_equals a) (followed_by (f k) (bound_by m s f true))) q y (identifier_placed s.symbol (i + 1)) (omega arith)
     (λ a j _ _ z. let all : Outcome = followed_by (f (Some j)) (bound_by m s f true) in
-    named_paid plain n r j (c + 55 + R) e a all.tree all.place
-    (then_paid plain n r j (c + 55 + R) c e (f (Some j)) (bound_by m s f true) (h j z) (λ k _ x. bound_paid plain n r R c e m s f q w b low h true k x) (idle_closed plain r true))))))
+    pieces_paid plain n r j (c + 55 + R) e (name_pieces a) (piece (codes " = ") all.tree) all.place (says plain n r j (c + 55 + R) (c + 55 + R) e (codes " = ") all.tree all.place (omega arith)
+    (then_paid plain n r j (c + 55 + R) c e (f (Some j)) (bound_by m s f true) (h j z) (λ k _ x. bound_paid plain n r R c e m s f q w b low h true k x) (idle_closed plain r true)))))))
     (closed_paid plain n r i (c - 1) e o l low)
 
 raised_paid : (plain : Bool) (n r R k e i : ℕ) (fl g : Bool) (ls : List Level) (f : Level → List Level → Place → Outcome) → Deeper plain n r fl R ls →

@@ -26,23 +26,20 @@ abbrev pub SpeltBelow : List ℕ → ℕ → List Level → Type 0
 SpeltBelow symbol d [] = Unit {0}
 SpeltBelow symbol d (l ∷ ls) = (d < max_depth) × SpeltAt symbol (d + 1) l × SpeltBelow symbol (d + 1) ls
 
-none_some : {A : Type 0} {B : Type 0} {x : A} → None ≡ Some x → B
-none_some e = cc e
-
 some_same : {x y : ℕ} → Some x ≡ Some y → x ≡ y
 some_same e = cc e
 
 -- what goes on from a place that was reached
 onward : {X : Type 0} (f : Place → Outcome) (x : Place) (j : ℕ) → (f None).place ≡ None → (f x).place ≡ Some j → ((k : ℕ) → x ≡ Some k → (f (Some k)).place ≡ Some j → X) → X
-onward f None j h e g = none_some (sym h ∙ e)
+onward f None j h e g = absurd (cc (sym h ∙ e))
 onward f (Some k) j h e g = g k refl e
 
 resumed_spelt : {A X : Type 0} (m i j : ℕ) (f : A → Place → Outcome) (r : Read A) → (word_outcome m i f r).place ≡ Some j → ((v : A) (k : ℕ) → r ≡ Some (v, k) → (f v (Some k)).place ≡ Some j → X) → X
-resumed_spelt m i j f None e g = none_some e
+resumed_spelt m i j f None e g = absurd (cc e)
 resumed_spelt m i j f (Some r) e g = g r.0 r.1 refl e
 
 peeked_spelt : {X : Type 0} (j : ℕ) (f : ℕ → Outcome) (r : Option ℕ) → (peek_outcome f r).place ≡ Some j → ((v : ℕ) → r ≡ Some v → (f v).place ≡ Some j → X) → X
-peeked_spelt j f None e g = none_some e
+peeked_spelt j f None e g = absurd (cc e)
 peeked_spelt j f (Some r) e g = g r refl e
 
 forked_spelt : {X : Type 0} (c : Bool) (f g : Place → Outcome) (i j : ℕ) → (byte_choice c f g (Some i)).place ≡ Some j → (c ≡ true → (f (Some (i + 1))).place ≡ Some j → X) → (c ≡ false → (g (Some i)).place ≡ Some j → X) → X
@@ -52,7 +49,7 @@ forked_spelt false f g i j e h k = k refl e
 -- where the turns end and it goes on, so they are spelled
 turns_spelt : (n : ℕ) (symbol : List ℕ) (c : Bool) (d m : ℕ) (p q : Items) (f : Place → Outcome) → Spelt symbol c d m p (λ i. f (Some i)) → (i k j : ℕ) → (turns n symbol f (Some i)).place ≡ Some k → Spells symbol (rule c) d m q k j → Spells symbol (rule c) d m (until_end p q) i j
 unfolding turns
-turns_spelt zero symbol c d m p q f h i k j e a = none_some e
+turns_spelt zero symbol c d m p q f h i k j e a = absurd (cc e)
 turns_spelt (suc n) symbol c d m p q f h i k j e a =
     forked_spelt (is_byte symbol i (code "E")) stands (λ x. followed_by (f x) (turns n symbol f)) i k e
     (λ u r. over_ u (subst (λ x. Spells symbol (rule c) d m q x j) (sym (some_same r)) a))
@@ -61,7 +58,7 @@ turns_spelt (suc n) symbol c d m p q f h i k j e a =
 -- where bindings end, so they are spelled
 bound_spelt : (n : ℕ) (s : Surroundings) (c : Bool) (d m : ℕ) (p : Items) (f : Place → Outcome) → Spelt s.symbol c d m p (λ i. f (Some i)) → (o x : Bool) (i j : ℕ) → (bound_by n s f o (Some i)).place ≡ Some j → Spells s.symbol (rule c) d m (bindings x p) i j
 unfolding bound_by
-bound_spelt zero s c d m p f h o x i j e = none_some e
+bound_spelt zero s c d m p f h o x i j e = absurd (cc e)
 bound_spelt (suc n) s c d m p f h o x i j e =
     forked_spelt (is_byte s.symbol i (code "p")) (λ k. behind (binding_separator o) (word s k identifier_at (λ a k. behind (name_equals a) (followed_by (f k) (bound_by n s f true))))) (angle_if_open o) i j e
     (λ u r. resumed_spelt (length s.symbol) (i + 1) j (λ a k. behind (name_equals a) (followed_by (f k) (bound_by n s f true))) (identifier_at s.symbol (i + 1)) r
@@ -69,11 +66,11 @@ bound_spelt (suc n) s c d m p f h o x i j e =
     (λ u r. subst (λ k. Spells s.symbol (rule c) d m (bindings x p) i k) (some_same (sym (closed_place o (Some i)) ∙ r)) (past_ u))
 
 raised_spelt : {X : Type 0} (symbol : List ℕ) (d : ℕ) (ls : List Level) (f : Level → List Level → Place → Outcome) (i j : ℕ) → SpeltBelow symbol d ls → (one_depth_on ls f (Some i)).place ≡ Some j → ((l : Level) (ls : List Level) → d < max_depth → SpeltAt symbol (d + 1) l → SpeltBelow symbol (d + 1) ls → (f l ls (Some i)).place ≡ Some j → X) → X
-raised_spelt symbol d [] f i j m e g = none_some e
+raised_spelt symbol d [] f i j m e g = absurd (cc e)
 raised_spelt symbol d (l ∷ ls) f i j m e g = g l ls m.0 m.1 m.2 e
 
 target_spelt : {X : Type 0} (symbol : List ℕ) (d : ℕ) (c : Bool) (ls : List Level) (f : Level → ℕ → Outcome) (t k j : ℕ) → SpeltBelow symbol d ls → (target_of ls (λ l. target_read c (f l) t (Some k))).place ≡ Some j → (d < max_depth → k ≡ j → X) → X
-target_spelt symbol d c [] f t k j m e g = none_some e
+target_spelt symbol d c [] f t k j m e g = absurd (cc e)
 target_spelt symbol d true (l ∷ ls) f t k j m e g = g m.0 (some_same e)
 target_spelt symbol d false (l ∷ ls) f t k j m e g = g m.0 (some_same e)
 
@@ -98,7 +95,7 @@ dyn_spelt n s f a j e g = onward (bound_by n s f a.is_open) a.place j (bound_fai
 pub spelt : (p : Items) (s : Surroundings) (d : ℕ) → SpeltAt s.symbol d s.here → SpeltBelow s.symbol d s.deeper → Spelt s.symbol s.printed d s.lifetimes p (λ i. run p s (Some i))
 unfolding run level_of levels read_at
 spelt done s d l m i j e = subst (λ x. Spells s.symbol (rule s.printed) d s.lifetimes done i x) (some_same e) end_
-spelt invalid s d l m i j e = none_some e
+spelt invalid s d l m i j e = absurd (cc e)
 spelt (say t p) s d l m i j e = say_ (spelt p s d l m i j e)
 spelt (say_plain t p) s d l m i j e = plain_ (spelt p s d l m i j e)
 spelt (byte f) s d l m i j e = resumed_spelt (length s.symbol) i j (λ v. run (f v) s) (byte_at s.symbol i) e (λ v k r x. byte_ v k r (spelt (f v) s d l m k j x))
@@ -126,7 +123,7 @@ spelt (target kind value) s d l m i j e = resumed_spelt (length s.symbol) i j (�
     (λ y z. subst (λ w. Spells s.symbol (rule s.printed) d s.lifetimes (target kind value) i w) z (target_ v (may_refer s.printed) r y)))
 spelt (lifetime k p) s d l m i j e = lifetime_spelt s.printed s.lifetimes k i (lifetime_at s.printed s.lifetimes k (Some i)).place refl
     (λ y z. lifetime_ y (spelt p s d l m i j (subst (λ w. (run p s w).place ≡ Some j) z e)))
-    (λ z. none_some (sym (subst (λ w. (run p s w).place ≡ None) (sym z) (failed p s)) ∙ e))
+    (λ z. absurd (cc (sym (subst (λ w. (run p s w).place ≡ None) (sym z) (failed p s)) ∙ e)))
 spelt (binder n p) s d l m i j e = binder_ (spelt p (record s { lifetimes = s.lifetimes + n }) d l m i j e)
 spelt (opens p) s d l m i j e = opens_ (spelt p s d l m i j e)
 spelt (dyn_trait p) s d l m i j e = dyn_spelt (suc (length s.symbol)) s (run p s) (unit_outcome s a_trait_path false (Some i)) j e
@@ -139,7 +136,7 @@ level_spelt symbol d ls m c kind value n =
     let at : Level → Bool → ℕ → Surroundings = λ here pr k. record { symbol = symbol; printed = pr; here = here; deeper = ls; lifetimes = k } in
     let inner : Level = λ pr k v o j. run (items k v) (at nowhere pr o) (Some j) in
     spelt (items kind value) (at inner c n) d
-    (λ b k v o. spelt (items k v) (at nowhere b o) d (λ _ _ _ _ i j e. none_some e) m) m
+    (λ b k v o. spelt (items k v) (at nowhere b o) d (λ _ _ _ _ i j e. absurd (cc e)) m) m
 
 pub levels_spelt : (symbol : List ℕ) (n d : ℕ) → n + d ≡ max_depth → SpeltBelow symbol d (levels symbol n)
 unfolding run level_of levels read_at

@@ -76,11 +76,7 @@ after_cheap (r ∷ rs) x = (λ _. x.0, after_cheap rs x.1)
 
 all_cheap : (e k : ℕ) (g : Bool) (ts : List Text) (p : Items) → Cheap e k g p → Cheap e k g (say_all ts p)
 all_cheap e k g [] p x = x
-all_cheap e k g (t ∷ ts) p x = all_cheap e k (g || is_some_text t) ts p (cheaper true 2 p e e k k g (g || is_some_text t) (omega arith) (omega arith) (more_true g) x)
-  where
-    more_true : (g : Bool) → IsTrue g → IsTrue (g || is_some_text t)
-    more_true true z = z
-    more_true false z = absurd (cc z)
+all_cheap e k g (t ∷ ts) p x = all_cheap e k (g || is_some_text t) ts p (cheaper true 2 p e e k k g (g || is_some_text t) (omega arith) (omega arith) (λ z. rw z refl) x)
 
 if_cheap : (e k : ℕ) (g c : Bool) (text : String) (p : Items) → Cheap e k g p → Cheap e k (g || is_some_text (codes text)) p → Cheap e k g (says_if c text p)
 if_cheap e k g c text p x y = cond_fits (Cheap e k g) c (says text p) p y x

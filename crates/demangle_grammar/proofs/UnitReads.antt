@@ -1,12 +1,10 @@
 -- A unit reads its items in the surroundings of its own depth.
 use Rattle.std.specs.Prelude.{IsTrue, ◌≤◌, ℕ, zero, suc, ◌<◌, slice_get}
-use Rattle.std.proofs.Common.{◌≡◌, Bool, true, false, List, length, Option, Some, None, refl, ap, ◌∙◌, ◌+◌, ◌-◌, ◌*◌, sub-one, arith}
-use Prim.Native.Char.{code}
-use Rattle.demangle_symbol.specs.Digits.{is_byte}
-use Rattle.demangle_symbol.specs.Words.{Read, byte_at, namespace_at, integer_at, optional_at, backref_at, identifier_at, nibbles_at}
+use Rattle.std.proofs.Common.{◌≡◌, Bool, true, false, List, length, Some, None, refl, ap, ◌∙◌, ◌+◌, ◌-◌, sub-one, arith}
+use Rattle.demangle_symbol.specs.Words.{byte_at, namespace_at, integer_at, optional_at, backref_at, identifier_at, nibbles_at}
 use Rattle.demangle_grammar.specs.Items.{Kind, a_path, a_trait_path, Items, done, invalid, say, say_plain, byte, namespace, integer, optional, identifier, nibbles, peek, next, sound, until_end, raise, unit, child, skip, target, lifetime, binder, opens, dyn_trait, bindings}
 use Rattle.demangle_grammar.specs.Table.{items}
-use Rattle.demangle_grammar.specs.Reading.{Tree, hidden, word, stands_at, binder_at, node, piece, plain_piece, looked, too_deep, unread, Place, Outcome, Level, Surroundings, fault, stands, behind, followed_by, unit_outcome, run, turns, word_outcome, peek_outcome, byte_choice, lifetime_at, level_of, levels, nowhere}
+use Rattle.demangle_grammar.specs.Reading.{Tree, hidden, stands_at, binder_at, node, piece, plain_piece, looked, too_deep, unread, Place, Outcome, Level, fault, behind, unit_outcome, run, lifetime_at, level_of, levels, nowhere}
 use Rattle.demangle_grammar.specs.Events.{around}
 use Rattle.demangle_grammar.proofs.Account.{rank, is_below, Fits, first}
 use Rattle.demangle_grammar.proofs.Silence.{at, worded, peeked, forked, turned}

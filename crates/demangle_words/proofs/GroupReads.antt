@@ -26,6 +26,7 @@ use Rattle.demangle_words.specs.declared.stretch.Stretch.{Stretch}
 use Rattle.demangle_words.specs.declared.stretch.Stretch.TheVariants.{Nothing, Fixed, CrateName, FieldName, NestedName, Lifetime, LifetimeFault, DynLifetime, DynLifetimeFault, FunctionHead, Number, Character, BindingName}
 use Rattle.demangle_words.specs.declared.read.WordRead.{WordRead}
 use Rattle.demangle_words.specs.declared.read.WordRead.TheVariants.{Goes, Stops}
+use Rattle.demangle_grammar.proofs.TypeReads.{says_all}
 use Rattle.demangle_grammar.proofs.Hearing.{handing_both, said_all_append, pieces_heard}
 
 -- a word, and what follows it unless it ends the unit
@@ -45,11 +46,6 @@ saying out t h = record { events = shown_if out t h.events; place = h.place; is_
 
 heard : List Event → Heard → Heard
 heard xs h = record { events = xs; place = h.place; is_open = h.is_open }
-
-pub says_all : (include_hash out : Bool) (ts : List Text) (p : Items) (s : Surroundings) (j : Place) → of include_hash out (run (say_all ts p) s j) ≡ with_texts out ts (of include_hash out (run p s j))
-unfolding run
-says_all include_hash out [] p s j = refl
-says_all include_hash out (t ∷ ts) p s j = ap (saying out t) (says_all include_hash out ts p s j)
 
 -- Words.
 

@@ -1,6 +1,6 @@
 -- The texts of binders, ABIs, names and numbers, in the order in which they are printed.
 use Rattle.std.proofs.Common.{◌≡◌, ℕ, zero, suc, ◌+◌, ◌/◌, ◌%◌, ◌<◌, ◌≤◌, Bool, true, false, cond, eqb, List, [], ◌∷◌, ◌++◌, length, get_or, refl, sym, ap, ◌∙◌, arith}
-use Rattle.std.specs.Prelude.{◌&&◌, codes, nat_lt}
+use Rattle.std.specs.Prelude.{◌&&◌, codes}
 use Rattle.std.specs.List.{slice_range}
 use Rattle.std.specs.Str.{IsAscii}
 use Rattle.std.specs.Fmt.{digits, digits_onto, digit_glyph}
@@ -9,12 +9,9 @@ use Rattle.std.proofs.lemmas.List.Edits.{between_more, between_none}
 use Rattle.std.proofs.lemmas.Option.{slice_get-get_or}
 use Rattle.std.proofs.lemmas.Str.Ascii.{IsAscii-cons, IsAscii-nil}
 use Rattle.demangle_symbol.specs.Digits.{is_byte, option_is}
-use Rattle.demangle_symbol.specs.Words.{Name}
-use Rattle.demangle_symbol.specs.Names.{is_empty, is_nameless, name_pieces}
-use Rattle.demangle_words.specs.Stretches.{head_texts, name_behind}
-use Rattle.demangle_words.specs.declared.stretch.Abi.{Abi}
+use Rattle.demangle_symbol.specs.Names.{is_empty}
 use Rattle.demangle_grammar.specs.Binders.{binder_texts, more_texts}
-use Rattle.demangle_words.specs.WordReads.{abi_texts, if_plain}
+use Rattle.demangle_words.specs.WordReads.{if_plain}
 use Rattle.demangle_grammar.specs.Reading.{letter_of}
 use Rattle.demangle_grammar.specs.Table.{hyphenated_abi}
 use Rattle.demangle_sink.proofs.Parts.{part_first}
