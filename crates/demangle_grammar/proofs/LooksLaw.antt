@@ -68,7 +68,8 @@ accepting_costs symbol = both_cost symbol (looks_in (read_at symbol false a_path
 pub unit_looks : (symbol : List ℕ) (plain : Bool) (kind : Kind) (i d m : ℕ) (value : Bool) (k : ℕ) → i ≤ length symbol → d ≤ max_depth →
     looks_of (take (suc k) (stretches plain (read_at symbol true kind i d m value).tree)) ≤ 34 * (length symbol + 1) * (max_depth + 1 - d) * (bytes_of (take k (stretches plain (read_at symbol true kind i d m value).tree)) + 1)
 unit_looks symbol plain kind i d m value k l b =
-    rw (levels_left d b) (sum (length symbol) (max_depth - d) _ _ (Pays-bound (34 * (length symbol + 1) * (max_depth - d)) (32 * (length symbol + 1) + (start kind + money (length symbol) (max_depth - d))) 0 (stretches plain o.tree) k
+    let deeper : max_depth + 1 - d ≡ (max_depth - d) + 1 = omega (arith, b) in
+    rw deeper (sum (length symbol) (max_depth - d) _ _ (Pays-bound (34 * (length symbol + 1) * (max_depth - d)) (32 * (length symbol + 1) + (start kind + money (length symbol) (max_depth - d))) 0 (stretches plain o.tree) k
     (ends_pay (length symbol) (34 * (length symbol + 1) * (max_depth - d)) i (start kind + money (length symbol) (max_depth - d)) 8 _ 0 (stretches plain o.tree) o.place (omega arith)
     (read_paid plain (34 * (length symbol + 1) * (max_depth - d)) symbol kind i d m value (rate (length symbol) (max_depth - d)) l))))
   where
@@ -80,9 +81,6 @@ unit_looks symbol plain kind i d m value k l b =
 
     sum : (n e w looks : ℕ) → looks ≤ 32 * (n + 1) + (start kind + money n e) + 34 * (n + 1) * e * w → looks ≤ 34 * (n + 1) * (e + 1) * (w + 1)
     sum n e w looks y = omega (arith, small kind, y)
-
-    levels_left : (d : ℕ) → d ≤ max_depth → max_depth + 1 - d ≡ (max_depth - d) + 1
-    levels_left d b = omega (arith, b)
 
 -- while failed
 pub failed_looks : (p : Items) (s : Surroundings) (plain : Bool) → looks_of (stretches plain (run p s None).tree) ≡ 0

@@ -12,7 +12,7 @@ use Rattle.demangle_grammar.specs.Items.{Text, Items, done, invalid, say, say_pl
 use Rattle.demangle_grammar.specs.Table.{says, say_all, says_name, in_special, in_namespace, path, extern, row_text, basic_types, number_pieces}
 use Rattle.demangle_grammar.specs.Reading.{Tree, nothing, piece, looked, invalid_syntax, Place, Outcome, Surroundings, fault, behind, stands, followed_by, run, word_outcome, byte_choice, letter_of, all_pieces, lifetime_at, lifetime_named}
 use Rattle.demangle_words.specs.Texts.{text, word_items, says_head, function_head, says_true, says_char}
-use Rattle.demangle_grammar.specs.Events.{Event, shows, allows, shown_if, events, Heard, of, nothing_heard, with_looks, with_texts, around}
+use Rattle.demangle_grammar.specs.Events.{shows, events, Heard, of, nothing_heard, with_looks, with_texts, around}
 use Rattle.demangle_symbol.specs.Idents.{ident_parts, ident_at}
 use Rattle.demangle_symbol.specs.Nibbles.{hex_at}
 use Rattle.demangle_words.specs.WordReads.{bytes_in, nested_texts, number_texts, if_plain, texts_of, Group, goes, faulty, behind_word, byte_group, if_in_force, abi_named, abi_group, bool_stretch, character_stretch, literal_stretch, named_group, crate_group, nested_group, word_group}
@@ -26,6 +26,7 @@ use Rattle.demangle_words.specs.declared.stretch.Stretch.{Stretch}
 use Rattle.demangle_words.specs.declared.stretch.Stretch.TheVariants.{Nothing, Fixed, CrateName, FieldName, NestedName, Lifetime, LifetimeFault, DynLifetime, DynLifetimeFault, FunctionHead, Number, Character, BindingName}
 use Rattle.demangle_words.specs.declared.read.WordRead.{WordRead}
 use Rattle.demangle_words.specs.declared.read.WordRead.TheVariants.{Goes, Stops}
+use Rattle.demangle_grammar.proofs.ListReads.{heard_as}
 use Rattle.demangle_grammar.proofs.TypeReads.{says_all}
 use Rattle.demangle_grammar.proofs.Hearing.{handing_both, said_all_append, pieces_heard}
 
@@ -37,22 +38,12 @@ word_then b include_hash out (Stops m) k = with_texts out (text m ∷ []) (nothi
 abbrev pub grouped : List ℕ → Bool → Bool → Group → (Place → Heard) → Heard
 grouped b include_hash out g k = with_looks g.costs (word_then b include_hash out g.reads k)
 
--- what is heard behind an allowance, and behind a text
-abbrev paying : ℕ → Heard → Heard
-paying k h = record { events = allows k ∷ h.events; place = h.place; is_open = h.is_open }
-
-abbrev saying : Bool → Text → Heard → Heard
-saying out t h = record { events = shown_if out t h.events; place = h.place; is_open = h.is_open }
-
-heard : List Event → Heard → Heard
-heard xs h = record { events = xs; place = h.place; is_open = h.is_open }
-
 -- Words.
 
 word_reads : {A : Type 0} (b : List ℕ) (include_hash out : Bool) (n i : ℕ) (rest : A → Place → Outcome) (f : A → ℕ → Group) (k : Place → Heard) → ((a : A) (j : ℕ) → of include_hash out (rest a (Some j)) ≡ grouped b include_hash out (f a j) k) → (r : Read A)
     → of include_hash out (word_outcome n i rest r) ≡ grouped b include_hash out (behind_word n i r f) k
 word_reads b include_hash out n i rest f k h None = refl
-word_reads b include_hash out n i rest f k h (Some r) = ap (paying (4 * (r.1 - i + 1))) (h r.0 r.1)
+word_reads b include_hash out n i rest f k h (Some r) = ap (with_looks (4 * (r.1 - i + 1) ∷ [])) (h r.0 r.1)
 
 pub name_reads : (b : List ℕ) (include_hash out : Bool) (n i : ℕ) (rest : Name → Place → Outcome) (f : Ident → ℕ → Group) (k : Place → Heard) → ((j : ℕ) → of include_hash out (rest (name_of b i j) (Some j)) ≡ grouped b include_hash out (f (ident_parts b i j) j) k)
     → of include_hash out (word_outcome n i rest (identifier_at b i)) ≡ grouped b include_hash out (behind_word n i (ident_at b i) f) k
@@ -60,7 +51,7 @@ unfolding identifier_at
 name_reads b include_hash out n i rest f k h = go _ (name_from b i + name_len b i)
   where
     go : (c : Bool) (j : ℕ) → of include_hash out (word_outcome n i rest (only_if c (name_of b i j, j))) ≡ grouped b include_hash out (behind_word n i (option_map (λ (r : Name × ℕ). (ident_parts b i r.1, r.1)) (only_if c (name_of b i j, j))) f) k
-    go true j = ap (paying (4 * (j - i + 1))) (h j)
+    go true j = ap (with_looks (4 * (j - i + 1) ∷ [])) (h j)
     go false j = refl
 
 hex_reads : (b : List ℕ) (include_hash out : Bool) (n i : ℕ) (rest : List ℕ → Place → Outcome) (f : Part → ℕ → Group) (k : Place → Heard) → ((end j : ℕ) → of include_hash out (rest (slice_range b i end) (Some j)) ≡ grouped b include_hash out (f (record { from = i; to = end }) j) k)
@@ -71,13 +62,13 @@ hex_reads b include_hash out n i rest f k h = go _ (run_end is_nibble b i)
     go : (c : Bool) (end : ℕ) → of include_hash out (word_outcome n i rest (only_if c (slice_range b i end, end + 1))) ≡ grouped b include_hash out (behind_word n i (option_map (λ (r : List ℕ × ℕ). (record { from = i; to = r.1 - 1 }, r.1)) (only_if c (slice_range b i end, end + 1))) f) k
     go true end =
         let e : end ≡ end + 1 - 1 = omega arith in
-        ap (paying (4 * (end + 1 - i + 1))) (subst (λ z. of include_hash out (rest (slice_range b i end) (Some (end + 1))) ≡ grouped b include_hash out (f (record { from = i; to = z }) (end + 1)) k) e (h end (end + 1)))
+        ap (with_looks (4 * (end + 1 - i + 1) ∷ [])) (subst (λ z. of include_hash out (rest (slice_range b i end) (Some (end + 1))) ≡ grouped b include_hash out (f (record { from = i; to = z }) (end + 1)) k) e (h end (end + 1)))
     go false end = refl
 
 ask_reads : (b : List ℕ) (include_hash out c : Bool) (f g : Place → Outcome) (x y : Group) (k : Place → Heard) (i : ℕ) → of include_hash out (f (Some (i + 1))) ≡ grouped b include_hash out x k → of include_hash out (g (Some i)) ≡ grouped b include_hash out y k
     → of include_hash out (byte_choice c f g (Some i)) ≡ grouped b include_hash out (byte_group c x y) k
-ask_reads b include_hash out true f g x y k i p q = ap (paying 1) p
-ask_reads b include_hash out false f g x y k i p q = ap (paying 1) q
+ask_reads b include_hash out true f g x y k i p q = ap (with_looks (1 ∷ [])) p
+ask_reads b include_hash out false f g x y k i p q = ap (with_looks (1 ∷ [])) q
 
 -- Names.
 
@@ -118,10 +109,10 @@ nested_read b include_hash out s a n d j = go (is_upper n) (is_nameless a)
         ≡ with_texts out (cond u (codes "::{" ∷ which ∷ (cond e [] (codes ":" ∷ name_pieces a) ++ ends)) (cond e [] (codes "::" ∷ name_pieces a))) (of include_hash out (run done s j))
     go true true = refl
     go true false =
-        ap (λ (h : Heard). saying out (codes "::{") (saying out which (saying out (codes ":") h)))
+        ap (λ (h : Heard). with_texts out (codes "::{" ∷ []) (with_texts out (which ∷ []) (with_texts out (codes ":" ∷ []) h)))
         (says_all include_hash out (name_pieces a) ending s j ∙ sym (handing_both out (name_pieces a) ends (of include_hash out (run done s j))))
     go false true = refl
-    go false false = ap (saying out (codes "::")) (says_all include_hash out (name_pieces a) done s j)
+    go false false = ap (with_texts out (codes "::" ∷ [])) (says_all include_hash out (name_pieces a) done s j)
 
 -- Lifetimes.
 
@@ -129,19 +120,18 @@ nested_read b include_hash out s a n d j = go (is_upper n) (is_nameless a)
 lifetime_checked : (b : List ℕ) (include_hash plus out : Bool) (n k j : ℕ) (f : Place → Outcome) → (k == 0) ≡ false
     → with_texts out (if plus then codes " + " ∷ [] else []) (of include_hash out (followed_by (lifetime_at out n k (Some j)) f))
     ≡ grouped b include_hash out (if_in_force out n k j (if plus then DynLifetime (n - k) else Lifetime (Some (n - k))) (if plus then DynLifetimeFault else LifetimeFault)) (λ i. of include_hash out (f i))
-unfolding heard
 lifetime_checked b include_hash true false n k j f e = refl
 lifetime_checked b include_hash false false n k j f e = refl
 lifetime_checked b include_hash plus true n k j f e = rw e (go plus (nat_le k n))
   where
     named : of include_hash true (followed_by (behind (piece (codes "'")) (behind (all_pieces (letter_of (n - k))) (stands (Some j)))) f) ≡ with_texts true (codes "'" ∷ letter_of (n - k)) (of include_hash true (f (Some j)))
     named =
-        ap (λ xs. heard (shows (codes "'") ∷ (xs ++ events include_hash true (f (Some j)).tree)) (of include_hash true (f (Some j)))) (pieces_heard include_hash true (letter_of (n - k)) nothing)
-        ∙ ap (λ xs. heard (shows (codes "'") ∷ xs) (of include_hash true (f (Some j)))) (said_all_append true (letter_of (n - k)) [] (events include_hash true (f (Some j)).tree))
+        ap (λ xs. heard_as (shows (codes "'") ∷ (xs ++ events include_hash true (f (Some j)).tree)) (of include_hash true (f (Some j)))) (pieces_heard include_hash true (letter_of (n - k)) nothing)
+        ∙ ap (λ xs. heard_as (shows (codes "'") ∷ xs) (of include_hash true (f (Some j)))) (said_all_append true (letter_of (n - k)) [] (events include_hash true (f (Some j)).tree))
 
     go : (plus c : Bool) → with_texts true (cond plus (codes " + " ∷ []) []) (of include_hash true (followed_by (behind (piece (codes "'")) (cond c (behind (all_pieces (letter_of (n - k))) (stands (Some j))) (fault invalid_syntax))) f))
         ≡ grouped b include_hash true (cond c (goes (cond plus (DynLifetime (n - k)) (Lifetime (Some (n - k)))) (Some j)) (goes (cond plus DynLifetimeFault LifetimeFault) None)) (λ i. of include_hash true (f i))
-    go true true = ap (saying true (codes " + ")) named
+    go true true = ap (with_texts true (codes " + " ∷ [])) named
     go false true = named
     go true false = refl
     go false false = refl
@@ -162,7 +152,7 @@ plus_or b include_hash left out n p k j false e = lifetime_checked b include_has
 
 head_read : (b : List ℕ) (include_hash out unsafe : Bool) (ts : List Text) (p : Items) (s : Surroundings) (j : Place) → of include_hash out (run (says_head unsafe ts p) s j) ≡ with_texts out (if unsafe then codes "unsafe " ∷ ts else ts) (of include_hash out (run p s j))
 unfolding run
-head_read b include_hash out true ts p s j = ap (saying out (codes "unsafe ")) (says_all include_hash out ts p s j)
+head_read b include_hash out true ts p s j = ap (with_texts out (codes "unsafe " ∷ [])) (says_all include_hash out ts p s j)
 head_read b include_hash out false ts p s j = says_all include_hash out ts p s j
 
 named_read : (b : List ℕ) (include_hash out unsafe : Bool) (a : Ident) (p : Items) (s : Surroundings) (j : ℕ)
