@@ -11,7 +11,8 @@ use Rattle.demangle_grammar.specs.Table.{says, list, tuple, row_of, string, cons
 use Rattle.demangle_words.specs.Tags.{constant_kinds, constant_of}
 use Rattle.demangle_grammar.specs.Reading.{run}
 use Rattle.demangle_v0.specs.PointContracts.{brace_behind, shared_constant, variant_constant}
-use Rattle.demangle_v0.specs.Points.{Turn, Env, Does, RestDoes, PointDoes, part, own_looks, frame_of, frame_at, then_frame, unit_rest_at, none_open, pushed_on, way_weight, height_at, Fits}
+use Rattle.demangle_v0.specs.Points.{mark_texts, Turn, Env, Does, RestDoes, PointDoes, part, own_looks, frame_of, frame_at, then_frame, unit_rest_at, none_open, pushed_on, way_weight, height_at, Fits}
+use Rattle.demangle_words.specs.declared.texts.Mark.{Mark}
 use Rattle.demangle_words.specs.declared.texts.Mark.TheVariants as mark
 use Rattle.demangle_v0.specs.declared.points.Point.{Point}
 use Rattle.demangle_v0.specs.declared.points.Point.TheVariants as point
@@ -38,13 +39,16 @@ constant_so e s c o q =
 abbrev in_braces : Bool → Items → Items
 in_braces v q = if v then q else says "{" (extended (says "}" done) q)
 
--- the state and the stack behind a brace, but in value position
-abbrev pub Braced : State → List Frame → State → List Frame → Type 0
-Braced s stack new now = (new ≡ record s { mark = if s.in_value then None else Some mark.OpenBrace }) × (now ≡ pushed_on stack (brace_behind s))
+-- the state and the stack behind a mark, with a brace to come but in value position
+abbrev pub Braced : (Bool → Option Mark) → State → List Frame → State → List Frame → Type 0
+Braced g s stack new now = (new ≡ record s { mark = g s.in_value }) × (now ≡ pushed_on stack (brace_behind s))
+
+abbrev open_mark : Bool → Option Mark
+open_mark v = if v then None else Some mark.OpenBrace
 
 -- a constant that is more than a literal goes on at this point
 abbrev DidBraced : {V : Type 0} → Env V → ConstantKind → Point → Type 0
-DidBraced {V = V} e k p = (t : Turn V) (s : State) (stack : List Frame) → Fits point.Constant t.state.depth_left t.state.lifetimes → Braced t.state t.stack s stack
+DidBraced {V = V} e k p = (t : Turn V) (s : State) (stack : List Frame) → Fits point.Constant t.state.depth_left t.state.lifetimes → Braced open_mark t.state t.stack s stack
     → Does e t (part 6 (items_of e (constant_of t.state.in_value 0 k) t.state) 6 (8 * t.state.depth_left + 9)) (Ok p) (record t { state = s; stack = stack })
 
 module _ {V : Type 0} {e : Env V} where
@@ -58,55 +62,55 @@ module _ {V : Type 0} {e : Env V} where
       → Does e t (part words (items_of e (constant_of t.state.in_value c k) t.state) weight high) r u → RestDoes e (constant t.state.in_value c) 6 6 9 t r u
   constant_as {t} c k o few w x d = alike few (constant_so e t.state c (Some k) o) w x d
 
-  -- Braces.
-
-  braced : {t : Turn V} {s : State} {stack : List Frame} {words : ℕ} (p : Point) (q : Items) → IsExtended q → Inside e p q → way_weight p ≤ 3 → ((left : ℕ) → height_at p left ≤ 8 * left + 2) → Fits p t.state.depth_left t.state.lifetimes → Fits point.Constant t.state.depth_left t.state.lifetimes
-      → Braced t.state t.stack s stack → Does e t (part words (items_of e (in_braces t.state.in_value q) t.state) 6 (8 * t.state.depth_left + 9)) (Ok p) (record t { state = s; stack = stack })
-  unfolding run then_frame unit_rest_at
-  braced {t} {s} {stack} {words} p q x g w h f k r = go t.state.in_value refl
+  -- Braces: of these items at the point, and a closing brace behind them outside value position.
+  pub braced : {t : Turn V} {s : State} {stack : List Frame} {words weight high : ℕ} (p : Point) (q : Items) (g : Bool → Option Mark) (x : Bool → Items) → items_of e (x true) t.state ≡ with_texts e.output.is_printed (mark_texts (g true)) (items_of e q t.state)
+      → items_of e (x false) t.state ≡ with_texts e.output.is_printed (mark_texts (g false)) (items_of e (extended (says "}" done) q) t.state) → IsExtended q → Inside e p q → way_weight p + 3 ≤ weight → 8 * t.state.depth_left + 3 ≤ high → ((left : ℕ) → height_at p left ≤ 8 * left + 2)
+      → Fits p t.state.depth_left t.state.lifetimes → Fits point.CloseBrace t.state.depth_left t.state.lifetimes → Braced g t.state t.stack s stack → Does e t (part words (items_of e (x t.state.in_value) t.state) weight high) (Ok p) (record t { state = s; stack = stack })
+  unfolding then_frame unit_rest_at run
+  braced {t} {s} {stack} {words} {weight} {high} p q g x inner outer y i w l h f k r = go t.state.in_value refl
     where
       a : State
       a = t.state
 
-      go : (v : Bool) → t.state.in_value ≡ v → Does e t (part words (items_of e (in_braces v q) t.state) 6 (8 * t.state.depth_left + 9)) (Ok p) (record t { state = s; stack = stack })
-      go true y =
-          rw r.0 (leaves p [] [] (omega arith) None (rw y (sym (g true a.letter a.depth_left a.lifetimes a.place a.is_open))) (rw y at r.1)
-          (record { grows = omega arith; within = omega arith }) (omega arith) (omega arith) (omega (arith, w)) (omega arith) (omega (arith, h a.depth_left)) tt f (λ _. tt))
-      go false y =
+      go : (v : Bool) → t.state.in_value ≡ v → Does e t (part words (items_of e (x v) t.state) weight high) (Ok p) (record t { state = s; stack = stack })
+      go true j =
+          rw r.0 (leaves p [] [] (omega arith) None (rw j (inner ∙ ap (with_texts e.output.is_printed (mark_texts (g true))) (sym (i true a.letter a.depth_left a.lifetimes a.place a.is_open)))) (rw j at r.1)
+          (record { grows = omega arith; within = omega arith }) (omega arith) (omega arith) (omega (arith, w)) (omega arith) (omega (arith, l, h a.depth_left)) tt f (λ _. tt))
+      go false j =
           rw r.0 (leaves p [] [] (omega arith) (Some (frame_of point.CloseBrace false a.letter a.depth_left a.lifetimes))
-          (rw y (ap (λ (h : Heard). with_texts e.output.is_printed (text mark.OpenBrace ∷ []) (none_open h)) (extended_reads e.include_hash e.output.is_printed (says "}" done) (around e.symbol e.output.is_printed a.depth_left a.lifetimes) q x a.place)
-          ∙ ap (λ (h : Heard). with_texts e.output.is_printed (text mark.OpenBrace ∷ []) (and_then h (λ j o. unit_rest_at e.symbol e.include_hash e.output.is_printed point.CloseBrace false a.letter a.depth_left a.lifetimes j o))) (sym (g false a.letter a.depth_left a.lifetimes a.place a.is_open))))
-          (rw y at r.1) (record { grows = omega arith; within = omega arith }) (omega arith) (omega arith) (omega (arith, w)) (omega arith) (omega (arith, h a.depth_left)) k f (λ _. refl))
+          (rw j (outer ∙ (ap (λ (h : Heard). with_texts e.output.is_printed (mark_texts (g false)) (none_open h)) (extended_reads e.include_hash e.output.is_printed (says "}" done) (around e.symbol e.output.is_printed a.depth_left a.lifetimes) q y a.place)
+          ∙ ap (λ (h : Heard). with_texts e.output.is_printed (mark_texts (g false)) (and_then h (λ j o. unit_rest_at e.symbol e.include_hash e.output.is_printed point.CloseBrace false a.letter a.depth_left a.lifetimes j o))) (sym (i false a.letter a.depth_left a.lifetimes a.place a.is_open)))))
+          (rw j at r.1) (record { grows = omega arith; within = omega arith }) (omega arith) (omega arith) (omega (arith, w)) (omega (arith, l)) (omega (arith, l, h a.depth_left)) k f (λ _. refl))
 
   pub text_braced : DidBraced e kind.Text point.TextConstant
-  unfolding unit_rest_at
-  text_braced t s stack f r = braced point.TextConstant (says "*" (unit string done)) tt (λ v c left n i o. refl) (omega arith) (λ left. omega arith) f f r
+  unfolding run unit_rest_at
+  text_braced t s stack f r = braced point.TextConstant (says "*" (unit string done)) open_mark (λ v. constant_of v 0 kind.Text) refl refl tt (λ v c left n i o. refl) (omega arith) (omega arith) (λ left. omega arith) f f r
 
   pub mutable_braced : DidBraced e kind.Mut point.MutReferenceConstant
-  unfolding unit_rest_at
-  mutable_braced t s stack f r = braced point.MutReferenceConstant (says "&" (says "mut " constant_inside)) tt (λ v c left n i o. refl) (omega arith) (λ left. omega arith) f f r
+  unfolding run unit_rest_at
+  mutable_braced t s stack f r = braced point.MutReferenceConstant (says "&" (says "mut " constant_inside)) open_mark (λ v. constant_of v 0 kind.Mut) refl refl tt (λ v c left n i o. refl) (omega arith) (omega arith) (λ left. omega arith) f f r
 
   pub array_braced : DidBraced e kind.Array point.ArrayConstant
-  unfolding unit_rest_at
-  array_braced t s stack f r = braced point.ArrayConstant (says "[" (list ", " constant_inside (says "]" done))) (tt, (tt, tt)) (λ v c left n i o. refl) (omega arith) (λ left. omega arith) f f r
+  unfolding run unit_rest_at
+  array_braced t s stack f r = braced point.ArrayConstant (says "[" (list ", " constant_inside (says "]" done))) open_mark (λ v. constant_of v 0 kind.Array) refl refl (tt, (tt, tt)) (λ v c left n i o. refl) (omega arith) (omega arith) (λ left. omega arith) f f r
 
   pub tuple_braced : DidBraced e kind.Tuple point.TupleConstant
-  unfolding unit_rest_at
-  tuple_braced t s stack f r = braced point.TupleConstant (says "(" (tuple constant_inside (says ")" done))) (tt, ((tt, (tt, tt)), tt)) (λ v c left n i o. refl) (omega arith) (λ left. omega arith) f f r
+  unfolding run unit_rest_at
+  tuple_braced t s stack f r = braced point.TupleConstant (says "(" (tuple constant_inside (says ")" done))) open_mark (λ v. constant_of v 0 kind.Tuple) refl refl (tt, ((tt, (tt, tt)), tt)) (λ v c left n i o. refl) (omega arith) (omega arith) (λ left. omega arith) f f r
 
-  referred_braced : {t : Turn V} {s : State} {stack : List Frame} {words : ℕ} → Fits point.Constant t.state.depth_left t.state.lifetimes → Braced t.state t.stack s stack
+  referred_braced : {t : Turn V} {s : State} {stack : List Frame} {words : ℕ} → Fits point.Constant t.state.depth_left t.state.lifetimes → Braced open_mark t.state t.stack s stack
       → Does e t (part words (items_of e (in_braces t.state.in_value (says "&" constant_inside)) t.state) 6 (8 * t.state.depth_left + 9)) (Ok point.ReferenceConstant) (record t { state = s; stack = stack })
-  unfolding unit_rest_at
-  referred_braced f r = braced point.ReferenceConstant (says "&" constant_inside) tt (λ v c left n i o. refl) (omega arith) (λ left. omega arith) f f r
+  unfolding run unit_rest_at
+  referred_braced f r = braced point.ReferenceConstant (says "&" constant_inside) open_mark (λ v. in_braces v (says "&" constant_inside)) refl refl tt (λ v c left n i o. refl) (omega arith) (omega arith) (λ left. omega arith) f f r
 
   -- Strings and references.
 
-  pub shared_failed : {t : Turn V} {s : State} {stack : List Frame} → t.state.place ≡ None → Fits point.Constant t.state.depth_left t.state.lifetimes → Braced t.state t.stack s stack
+  pub shared_failed : {t : Turn V} {s : State} {stack : List Frame} → t.state.place ≡ None → Fits point.Constant t.state.depth_left t.state.lifetimes → Braced open_mark t.state t.stack s stack
       → RestDoes e (shared_constant t.state.in_value) 6 6 9 t (Ok point.ReferenceConstant) (record t { state = s; stack = stack })
   unfolding run
   shared_failed at f r = alike {words' = 6} (omega arith) (rw at refl) (omega arith) (omega arith) (referred_braced f r)
 
-  pub shared_goes : {t : Turn V} {s : State} {stack : List Frame} {n : ℕ} (i : ℕ) → t.state.place ≡ Some i → false ≡ is_byte e.symbol i (code "e") → n ≡ t.looks + 1 → Fits point.Constant t.state.depth_left t.state.lifetimes → Braced t.state t.stack s stack
+  pub shared_goes : {t : Turn V} {s : State} {stack : List Frame} {n : ℕ} (i : ℕ) → t.state.place ≡ Some i → false ≡ is_byte e.symbol i (code "e") → n ≡ t.looks + 1 → Fits point.Constant t.state.depth_left t.state.lifetimes → Braced open_mark t.state t.stack s stack
       → RestDoes e (shared_constant t.state.in_value) 6 6 9 t (Ok point.ReferenceConstant) (record t { state = s; stack = stack; looks = n })
   shared_goes {t} i at c l f r =
       let a = t.state in

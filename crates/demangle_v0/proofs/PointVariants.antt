@@ -2,14 +2,13 @@
 use Rattle.std.specs.Prelude.{◌*◌, if◌then◌else◌}
 use Rattle.std.proofs.Common.{◌≡◌, ℕ, ◌+◌, ◌-◌, ◌≤◌, length, Bool, true, false, Option, Some, None, List, [], ◌∷◌, Result, Ok, Err, refl, arith, sym, ap, ◌∙◌}
 use Rattle.demangle_symbol.specs.Words.{some_or, byte_at}
-use Rattle.demangle_grammar.specs.Items.{Items, invalid, done, say}
-use Rattle.demangle_grammar.specs.Events.{Heard, and_then, with_looks, with_texts, around}
-use Rattle.demangle_words.specs.Texts.{text, found}
+use Rattle.demangle_grammar.specs.Items.{Items, invalid, done}
+use Rattle.demangle_grammar.specs.Events.{with_looks}
+use Rattle.demangle_words.specs.Texts.{found}
 use Rattle.demangle_grammar.specs.Table.{says, list, row_of, variant_rows, constant_inside, field}
 use Rattle.demangle_words.specs.Tags.{variant_kinds, variant_of, closes}
 use Rattle.demangle_grammar.specs.Reading.{run}
-use Rattle.demangle_v0.specs.PointContracts.{brace_behind}
-use Rattle.demangle_v0.specs.Points.{Turn, Env, RestDoes, PointDoes, own_looks, frame_of, then_frame, unit_rest_at, none_open, pushed_on, way_weight, height_at, Fits}
+use Rattle.demangle_v0.specs.Points.{Turn, Env, RestDoes, PointDoes, own_looks, unit_rest_at, none_open, Fits}
 use Rattle.demangle_words.specs.declared.texts.Mark.{Mark}
 use Rattle.demangle_words.specs.declared.texts.Mark.TheVariants as mark
 use Rattle.demangle_v0.specs.declared.points.Point.{Point}
@@ -21,11 +20,10 @@ use Rattle.demangle_v0.specs.declared.points.Stop.TheVariants.{Fault}
 use Rattle.demangle_words.specs.declared.tags.VariantKind.{VariantKind}
 use Rattle.demangle_words.specs.declared.tags.VariantKind.TheVariants as kind
 use Rattle.demangle_grammar.proofs.ConstantReads.{variant_failed, variant_missing, variant_reads}
-use Rattle.demangle_grammar.proofs.Extended.{extended, IsExtended, extended_reads}
 use Rattle.demangle_words.proofs.TagRows.{rows_of, row_found}
-use Rattle.demangle_v0.proofs.PointConstants.{items_of, Inside}
 use Rattle.demangle_v0.proofs.PointSteps.{heard}
-use Rattle.demangle_v0.proofs.PointTurns.{behind_few, ends, leaves, marks, unread}
+use Rattle.demangle_v0.proofs.PointTaggedConstants.{Braced, braced}
+use Rattle.demangle_v0.proofs.PointTurns.{behind_few, ends, marks, unread}
 
 -- what stands behind a field's name
 abbrev pub behind_field : Items
@@ -42,13 +40,9 @@ variant_so e s i c j p o q =
     ap none_open (variant_reads e.include_hash e.output.is_printed e.symbol s.depth_left s.lifetimes (closes s.in_value) i c j (sym o))
     ∙ ap (λ (x : Items). with_looks (4 * (j - i + 1) ∷ []) (heard e.output e.symbol e.include_hash x s.depth_left s.lifetimes (Some j))) ((ap (λ rs. row_of c invalid rs) (variants_so s.in_value) ∙ row_found c invalid (variant_of s.in_value) variant_kinds) ∙ ap (λ (p : Option VariantKind). some_or invalid p (variant_of s.in_value)) (sym q))
 
--- the state and the stack behind the mark of a variant that holds something
-abbrev pub Held : Mark → State → List Frame → State → List Frame → Type 0
-Held m s stack new now = (new ≡ record s { mark = Some m }) × (now ≡ pushed_on stack (brace_behind s))
-
 -- what it holds is read from this point on
 abbrev DidHold : {V : Type 0} → Env V → VariantKind → Point → Mark → Type 0
-DidHold {V = V} e k p m = (t : Turn V) (s : State) (stack : List Frame) → Fits point.Variant t.state.depth_left t.state.lifetimes → Held m t.state t.stack s stack → RestDoes e (variant_of t.state.in_value k) 3 5 3 t (Ok p) (record t { state = s; stack = stack })
+DidHold {V = V} e k p m = (t : Turn V) (s : State) (stack : List Frame) → Fits point.Variant t.state.depth_left t.state.lifetimes → Braced (λ _. Some m) t.state t.stack s stack → RestDoes e (variant_of t.state.in_value k) 3 5 3 t (Ok p) (record t { state = s; stack = stack })
 
 module _ {V : Type 0} {e : Env V} where
   pub variant_unread : {t : Turn V} → t.state.place ≡ None → t.state.mark ≡ None → PointDoes e point.Variant t (Err (Fault mark.AfterError)) t
@@ -78,30 +72,10 @@ module _ {V : Type 0} {e : Env V} where
 
   -- What a variant holds.
 
-  holds : {t : Turn V} {s : State} {stack : List Frame} (p : Point) (m : Mark) (q : Items) (f : Bool → Items) → f true ≡ say (text m) q → f false ≡ say (text m) (extended (says "}" done) q) → IsExtended q → Inside e p q
-      → way_weight p ≤ 1 → ((left : ℕ) → height_at p left ≤ 8 * left + 2) → Fits p t.state.depth_left t.state.lifetimes → Fits point.Variant t.state.depth_left t.state.lifetimes → Held m t.state t.stack s stack
-      → RestDoes e (f t.state.in_value) 3 5 3 t (Ok p) (record t { state = s; stack = stack })
-  unfolding run then_frame unit_rest_at
-  holds {t} {s} {stack} p m q f x z y g w h fits k r = go t.state.in_value refl
-    where
-      a : State
-      a = t.state
-
-      go : (v : Bool) → t.state.in_value ≡ v → RestDoes e (f v) 3 5 3 t (Ok p) (record t { state = s; stack = stack })
-      go true i =
-          rw r.0 (leaves p [] [] (omega arith) None (rw i (ap (λ (x : Items). items_of e x a) x ∙ ap (λ (h : Heard). with_texts e.output.is_printed (text m ∷ []) h) (sym (g true a.letter a.depth_left a.lifetimes a.place a.is_open)))) (rw i at r.1)
-          (record { grows = omega arith; within = omega arith }) (omega arith) (omega arith) (omega (arith, w)) (omega arith) (omega (arith, h a.depth_left)) tt fits (λ _. tt))
-      go false i =
-          rw r.0 (leaves p [] [] (omega arith) (Some (frame_of point.CloseBrace false a.letter a.depth_left a.lifetimes))
-          (rw i (ap (λ (x : Items). items_of e x a) z
-          ∙ (ap (λ (h : Heard). with_texts e.output.is_printed (text m ∷ []) (none_open h)) (extended_reads e.include_hash e.output.is_printed (says "}" done) (around e.symbol e.output.is_printed a.depth_left a.lifetimes) q y a.place)
-          ∙ ap (λ (h : Heard). with_texts e.output.is_printed (text m ∷ []) (and_then h (λ j o. unit_rest_at e.symbol e.include_hash e.output.is_printed point.CloseBrace false a.letter a.depth_left a.lifetimes j o))) (sym (g false a.letter a.depth_left a.lifetimes a.place a.is_open)))))
-          (rw i at r.1) (record { grows = omega arith; within = omega arith }) (omega arith) (omega arith) (omega (arith, w)) (omega arith) (omega (arith, h a.depth_left)) k fits (λ _. refl))
-
   pub tuple_opens : DidHold e kind.Tuple point.FirstVariantConstant mark.OpenParen
-  unfolding unit_rest_at
-  tuple_opens t s stack f r = holds point.FirstVariantConstant mark.OpenParen (list ", " constant_inside (says ")" done)) (λ v. variant_of v kind.Tuple) refl refl (tt, (tt, tt)) (λ v c left n i o. refl) (omega arith) (λ left. omega arith) f f r
+  unfolding run unit_rest_at
+  tuple_opens t s stack f r = braced point.FirstVariantConstant (list ", " constant_inside (says ")" done)) (λ _. Some mark.OpenParen) (λ v. variant_of v kind.Tuple) refl refl (tt, (tt, tt)) (λ v c left n i o. refl) (omega arith) (omega arith) (λ left. omega arith) f f r
 
   pub fields_open : DidHold e kind.Fields point.FirstField mark.OpenFields
-  unfolding unit_rest_at
-  fields_open t s stack f r = holds point.FirstField mark.OpenFields (list ", " field (says " }" done)) (λ v. variant_of v kind.Fields) refl refl (tt, (tt, tt)) (λ v c left n i o. refl) (omega arith) (λ left. omega arith) f f r
+  unfolding run unit_rest_at
+  fields_open t s stack f r = braced point.FirstField (list ", " field (says " }" done)) (λ _. Some mark.OpenFields) (λ v. variant_of v kind.Fields) refl refl (tt, (tt, tt)) (λ v c left n i o. refl) (omega arith) (omega arith) (λ left. omega arith) f f r
