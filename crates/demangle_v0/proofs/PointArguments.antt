@@ -8,6 +8,7 @@ use Rattle.demangle_grammar.specs.Totals.{total}
 use Rattle.demangle_grammar.specs.Events.{Heard, and_then, with_looks, with_texts, around}
 use Rattle.demangle_grammar.specs.Table.{more, argument, says}
 use Rattle.demangle_grammar.specs.Reading.{Place, Surroundings, run}
+use Rattle.demangle_words.specs.Texts.{text}
 use Rattle.demangle_v0.specs.Arguments.{separator, arguments_point, argument_point, argument_place, argument_costs}
 use Rattle.demangle_v0.specs.Points.{Turn, Env, Paid, Does, PointDoes, part, frame_at, then_frame, unit_rest, unit_rest_at, unit_rest_of, none_open, mark_texts, Fits, is_list_over, behind_list, list_costs}
 use Rattle.demangle_words.specs.declared.texts.Mark.TheVariants as mark
@@ -60,22 +61,14 @@ module _ {V : Type 0} (e : Env V) (s : State) where
       go false true p q = rw (p, q) (argument_constant e.include_hash e.output.is_printed about i k p q)
       go false false p q = rw (p, q) (argument_type e.include_hash e.output.is_printed about i k p q)
 
-  on_so : (first : Bool) (i : ℕ) → s.place ≡ Some i → is_byte e.symbol i (code "E") ≡ false → Fits point.NextArgument s.depth_left s.lifetimes
-      → unit_rest_of e.symbol e.include_hash e.output.is_printed (arguments_point first) s ≡ with_looks (1 ∷ []) (with_texts e.output.is_printed (mark_texts (separator first mark.Comma)) (with_looks (argument_costs e.symbol i) (and_then (unit_rest_of e.symbol e.include_hash e.output.is_printed (argument_point e.symbol i) (record s { in_value = false; place = Some (argument_place e.symbol i) })) (unit_rest e.symbol e.include_hash e.output.is_printed (frame_at point.NextArgument s)))))
-  unfolding unit_rest_at
-  on_so first i at z f =
-      list_so first s.place ∙ (ap (λ (j : Place). shut_at e (left_of first ", " argument (says ">" done) next) s j) at
-      ∙ (ap none_open (on_heard e s first ", " mark.Comma refl argument (says ">" done) next i (argument_element e.symbol e.output.is_printed s.depth_left s.lifetimes (omega (arith, f))) z) ∙ go first))
-    where
-      said : Bool → Heard → Heard
-      said first h = with_looks (1 ∷ []) (with_texts e.output.is_printed (mark_texts (separator first mark.Comma)) (none_open h))
-
-      reads : followed (open_at e argument s (Some i)) (open_at e next s) ≡ with_looks (argument_costs e.symbol i) (followed (unit_rest_of e.symbol e.include_hash e.output.is_printed (argument_point e.symbol i) (record s { in_value = false; place = Some (argument_place e.symbol i) })) (open_at e next s))
-      reads = argument_reads i (open_at e next s)
-
-      go : (first : Bool) → said first (followed (open_at e argument s (Some i)) (open_at e (then_of first ", " argument (says ">" done) next) s)) ≡ said first (with_looks (argument_costs e.symbol i) (followed (unit_rest_of e.symbol e.include_hash e.output.is_printed (argument_point e.symbol i) (record s { in_value = false; place = Some (argument_place e.symbol i) })) (open_at e next s)))
-      go true = ap (said true) reads
-      go false = ap (said false) reads
+  -- one of a list of them, behind the look at its end
+  pub arguments_heard : (first : Bool) (z : Items) (i : ℕ) → Fits point.NextArgument s.depth_left s.lifetimes → is_byte e.symbol i (code "E") ≡ false → open_at e (left_of first ", " argument z (more ", " argument z)) s (Some i)
+      ≡ with_looks (1 ∷ []) (with_texts e.output.is_printed (mark_texts (separator first mark.Comma)) (with_looks (argument_costs e.symbol i)
+      (followed (unit_rest_of e.symbol e.include_hash e.output.is_printed (argument_point e.symbol i) (record s { in_value = false; place = Some (argument_place e.symbol i) })) (open_at e (more ", " argument z) s))))
+  arguments_heard true z i f h = on_heard e s true ", " mark.Comma refl argument z (more ", " argument z) i (argument_element e.symbol e.output.is_printed s.depth_left s.lifetimes (omega (arith, f))) h ∙ ap (with_looks (1 ∷ [])) (argument_reads i (open_at e (more ", " argument z) s))
+  arguments_heard false z i f h =
+      on_heard e s false ", " mark.Comma refl argument z (more ", " argument z) i (argument_element e.symbol e.output.is_printed s.depth_left s.lifetimes (omega (arith, f))) h
+      ∙ ap (λ (h : Heard). with_looks (1 ∷ []) (with_texts e.output.is_printed (text mark.Comma ∷ []) h)) (argument_reads i (open_at e (more ", " argument z) s))
 
 module _ {V : Type 0} {e : Env V} where
   as_arguments : {t u : Turn V} {r : Result Point Stop} (first : Bool) → Does e t (part 8 (unit_rest_of e.symbol e.include_hash e.output.is_printed (arguments_point first) t.state) 1 (8 * t.state.depth_left + 2)) r u → PointDoes e (arguments_point first) t r u
@@ -90,10 +83,10 @@ module _ {V : Type 0} {e : Env V} where
   pub argument_goes : {t : Turn V} {stack : List Frame} {n : ℕ} (first : Bool) (i : ℕ) → t.state.place ≡ Some i → is_byte e.symbol i (code "E") ≡ false → Paid t.looks (1 ∷ argument_costs e.symbol i) n → Fits point.NextArgument t.state.depth_left t.state.lifetimes
       → stack ≡ t.stack ++ frame_at point.NextArgument t.state ∷ []
       → PointDoes e (arguments_point first) t (Ok (argument_point e.symbol i)) (record t { state = record t.state { in_value = false; place = Some (argument_place e.symbol i); mark = separator first mark.Comma }; stack = stack; looks = n })
-  unfolding then_frame
+  unfolding then_frame unit_rest_at
   argument_goes {t} first i at z p f r =
       let s = t.state in
       let w = told e.symbol i in
       as_arguments first (leaves (argument_point e.symbol i) (1 ∷ []) (argument_costs e.symbol i) (omega (arith, w.few)) (Some (frame_at point.NextArgument s))
-      (on_so e s first i at z f)
+      (list_so e s first s.place ∙ rw at (ap none_open (arguments_heard e s first (says ">" done) i f z)))
       r p w.most (rw at (omega (arith, p.within, w.most))) (omega (arith, w.within.light)) (omega arith) (omega (arith, w.within.low s.depth_left)) f (w.within.fits s.depth_left s.lifetimes f) (λ _. refl))

@@ -23,12 +23,12 @@ use Rattle.demangle_v0.specs.declared.points.frames.Frame.{Frame}
 use Rattle.demangle_v0.specs.declared.points.State.{State}
 use Rattle.demangle_v0.specs.declared.points.Stop.{Stop}
 use Rattle.demangle_grammar.proofs.ClosedUnits.{last_child, unit_closed}
-use Rattle.demangle_grammar.proofs.Elements.{argument_element, dyn_trait_element}
+use Rattle.demangle_grammar.proofs.Elements.{dyn_trait_element}
 use Rattle.demangle_grammar.proofs.Hearing.{handing_both, and_then_assoc, handing_then, allowing_then}
 use Rattle.demangle_grammar.proofs.ListReads.{followed}
 use Rattle.demangle_grammar.proofs.PathReads.{trait_path_reads, trait_path_refers, trait_path_generic, trait_path_plain}
 use Rattle.demangle_grammar.proofs.TypeReads.{if_so, says_all, bound_constant, bound_type, mark_of, bindings_failed, bindings_over, binding_stops, binding_reads}
-use Rattle.demangle_v0.proofs.PointArguments.{told, argument_reads}
+use Rattle.demangle_v0.proofs.PointArguments.{told, arguments_heard}
 use Rattle.demangle_v0.proofs.PointLists.{left_of, open_at, shut_at, NotOver, one_look, paid_on, over_heard, on_heard, list_ends}
 use Rattle.demangle_v0.proofs.PointTurns.{behind, leaves, marks}
 
@@ -112,15 +112,6 @@ module _ {V : Type 0} (e : Env V) (s : State) where
       rw at (trait_path_reads e.include_hash e.output.is_printed e.symbol s.depth_left s.lifetimes false i
       ∙ (trait_path_plain e.include_hash e.output.is_printed e.symbol s.depth_left s.lifetimes i h k
       ∙ ap (λ (x : Bool). with_looks (1 ∷ 1 ∷ []) (record { events = g.events; place = g.place; is_open = x })) (unit_closed e.symbol e.output.is_printed s.depth_left s.lifetimes a_path false (Some i) tt)))
-
-  open_heard : (first : Bool) (i : ℕ) → Fits point.NextOpenArgument s.depth_left s.lifetimes → is_byte e.symbol i (code "E") ≡ false → open_at e (left_open first) s (Some i)
-      ≡ with_looks (1 ∷ []) (with_texts e.output.is_printed (mark_texts (separator first mark.Comma)) (with_looks (argument_costs e.symbol i)
-      (and_then (unit_rest_of e.symbol e.include_hash e.output.is_printed (argument_point e.symbol i) (record s { in_value = false; place = Some (argument_place e.symbol i) })) (frame_rest point.NextOpenArgument))))
-  unfolding unit_rest_at
-  open_heard true i f h = on_heard e s true ", " mark.Comma refl argument (opens done) next_open i (argument_element e.symbol e.output.is_printed s.depth_left s.lifetimes (omega (arith, f))) h ∙ ap (with_looks (1 ∷ [])) (argument_reads e s i (open_at e next_open s))
-  open_heard false i f h =
-      on_heard e s false ", " mark.Comma refl argument (opens done) next_open i (argument_element e.symbol e.output.is_printed s.depth_left s.lifetimes (omega (arith, f))) h
-      ∙ ap (λ (h : Heard). with_looks (1 ∷ []) (with_texts e.output.is_printed (text mark.Comma ∷ []) h)) (argument_reads e s i (open_at e next_open s))
 
   -- Bindings, and the dyn traits behind them.
 
@@ -274,10 +265,10 @@ module _ {V : Type 0} {e : Env V} where
   pub open_on : {t : Turn V} {m : Option Mark} {stack : List Frame} {n : ℕ} (first : Bool) (i : ℕ) → t.state.place ≡ Some i → is_byte e.symbol i (code "E") ≡ false → Paid t.looks (1 ∷ argument_costs e.symbol i) n → m ≡ separator first mark.Comma
       → Fits point.NextOpenArgument t.state.depth_left t.state.lifetimes → stack ≡ t.stack ++ frame_at point.NextOpenArgument t.state ∷ []
       → PointDoes e (open_point first) t (Ok (argument_point e.symbol i)) (record t { state = record t.state { in_value = false; place = Some (argument_place e.symbol i); mark = m }; stack = stack; looks = n })
-  unfolding then_frame
+  unfolding then_frame unit_rest_at
   open_on {t} first i at h p c f r =
       let w = told e.symbol i in
-      open_as first (leaves (argument_point e.symbol i) (1 ∷ []) (argument_costs e.symbol i) (omega (arith, w.few)) (Some (frame_at point.NextOpenArgument t.state)) (rw (c, at) (open_heard e t.state first i f h)) r p w.most (rw at (omega (arith, p.within, w.most))) (omega (arith, w.within.light)) (omega arith) (omega (arith, w.within.low t.state.depth_left)) f (w.within.fits t.state.depth_left t.state.lifetimes f) (λ _. refl))
+      open_as first (leaves (argument_point e.symbol i) (1 ∷ []) (argument_costs e.symbol i) (omega (arith, w.few)) (Some (frame_at point.NextOpenArgument t.state)) (rw (c, at) (arguments_heard e t.state first (opens done) i f h)) r p w.most (rw at (omega (arith, p.within, w.most))) (omega (arith, w.within.light)) (omega arith) (omega (arith, w.within.low t.state.depth_left)) f (w.within.fits t.state.depth_left t.state.lifetimes f) (λ _. refl))
 
   -- Bindings.
 
