@@ -10,7 +10,7 @@ use Rattle.demangle_v0.specs.declared.points.Point.{Point}
 use Rattle.demangle_v0.specs.declared.points.constant_lists.ConstantList.{ConstantList}
 use Rattle.demangle_v0.specs.declared.points.constant_lists.ConstantList.TheVariants as list
 use Rattle.demangle_grammar.proofs.Elements.{field_element}
-use Rattle.demangle_v0.proofs.PointLists.{Listed, of_constants}
+use Rattle.demangle_v0.proofs.PointLists.{Units, Listed, constant_units, of_units}
 
 -- what a list ends with
 abbrev ending : ConstantList → Items
@@ -32,17 +32,17 @@ abbrev OfList : {V : Type 0} → Env V → Bool → ConstantList → Type 0
 OfList e first l = Listed e (list_point first l) (element_point l) (behind_point first l) (λ _. true) first (list_element l) (ending l) (behind_second l)
 
 module _ {V : Type 0} (e : Env V) where
-  fields : (first : Bool) → OfList e first list.Fields
+  field_units : Units e (element_point list.Fields) (λ _. true) (list_element list.Fields)
   unfolding unit_rest_at
-  fields true = record { at_p = λ s. refl; at_q = λ s i m. refl; at_f = λ s j o. refl; element = λ left n. field_element e.symbol e.output.is_printed left n; words = refl; weight = omega arith; light = omega arith; high = λ left. refl; low_q = λ left. omega arith; low_f = λ left. omega arith; fits = λ left n f. (f, f); inner = refl }
-  fields false = record { at_p = λ s. refl; at_q = λ s i m. refl; at_f = λ s j o. refl; element = λ left n. field_element e.symbol e.output.is_printed left n; words = refl; weight = omega arith; light = omega arith; high = λ left. refl; low_q = λ left. omega arith; low_f = λ left. omega arith; fits = λ left n f. (f, f); inner = refl }
+  field_units = record { at = λ s i m. refl; element = λ left n. field_element e.symbol e.output.is_printed left n; within = record { light = omega arith; low = λ left. omega arith; fits = λ left n f. f } }
 
   pub constants : (first : Bool) (l : ConstantList) → OfList e first l
   unfolding unit_rest_at
-  constants true list.Array = of_constants (λ s. refl) (λ s j o. refl) refl (omega arith) (omega arith) (λ left. refl) (λ left. omega arith) (λ left n f. f) refl
-  constants true list.Tuple = of_constants (λ s. refl) (λ s j o. refl) refl (omega arith) (omega arith) (λ left. refl) (λ left. omega arith) (λ left n f. f) refl
-  constants true list.TupleVariant = of_constants (λ s. refl) (λ s j o. refl) refl (omega arith) (omega arith) (λ left. refl) (λ left. omega arith) (λ left n f. f) refl
-  constants false list.Array = of_constants (λ s. refl) (λ s j o. refl) refl (omega arith) (omega arith) (λ left. refl) (λ left. omega arith) (λ left n f. f) refl
-  constants false list.Tuple = of_constants (λ s. refl) (λ s j o. refl) refl (omega arith) (omega arith) (λ left. refl) (λ left. omega arith) (λ left n f. f) refl
-  constants false list.TupleVariant = of_constants (λ s. refl) (λ s j o. refl) refl (omega arith) (omega arith) (λ left. refl) (λ left. omega arith) (λ left n f. f) refl
-  constants first list.Fields = fields first
+  constants true list.Array = of_units (constant_units e) (λ s. refl) (λ s j o. refl) refl (omega arith) (omega arith) (λ left. refl) (λ left. omega arith) (λ left n f. f) refl
+  constants true list.Tuple = of_units (constant_units e) (λ s. refl) (λ s j o. refl) refl (omega arith) (omega arith) (λ left. refl) (λ left. omega arith) (λ left n f. f) refl
+  constants true list.TupleVariant = of_units (constant_units e) (λ s. refl) (λ s j o. refl) refl (omega arith) (omega arith) (λ left. refl) (λ left. omega arith) (λ left n f. f) refl
+  constants false list.Array = of_units (constant_units e) (λ s. refl) (λ s j o. refl) refl (omega arith) (omega arith) (λ left. refl) (λ left. omega arith) (λ left n f. f) refl
+  constants false list.Tuple = of_units (constant_units e) (λ s. refl) (λ s j o. refl) refl (omega arith) (omega arith) (λ left. refl) (λ left. omega arith) (λ left n f. f) refl
+  constants false list.TupleVariant = of_units (constant_units e) (λ s. refl) (λ s j o. refl) refl (omega arith) (omega arith) (λ left. refl) (λ left. omega arith) (λ left n f. f) refl
+  constants true list.Fields = of_units field_units (λ s. refl) (λ s j o. refl) refl (omega arith) (omega arith) (λ left. refl) (λ left. omega arith) (λ left n f. f) refl
+  constants false list.Fields = of_units field_units (λ s. refl) (λ s j o. refl) refl (omega arith) (omega arith) (λ left. refl) (λ left. omega arith) (λ left n f. f) refl

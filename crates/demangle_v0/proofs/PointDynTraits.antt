@@ -234,7 +234,6 @@ module _ {V : Type 0} {e : Env V} where
   pub trait_refers : {t u : Turn V} {r : Result Point Stop} {n : ℕ} (i : ℕ) → t.state.place ≡ Some i → is_byte e.symbol i (code "B") ≡ true → n ≡ t.looks + 1 → i < length e.symbol
       → Does e (turn (record t.state { place = Some (i + 1) }) t.stack t.output n) (part 1 (open_at e (target a_trait_path false) t.state (Some (i + 1))) 1 (8 * t.state.depth_left + 2)) r u
       → PointDoes e point.TraitPath t r u
-  unfolding unit_rest_at
   trait_refers {t} i at b l within d = behind (1 ∷ []) (omega arith) (refers_reads e t.state i at b) (one_look l) (rw at (omega (arith, l, within))) (omega arith) (omega arith) d
 
   pub generic_trait : {t : Turn V} {stack : List Frame} {n : ℕ} (i : ℕ) → t.state.place ≡ Some i → is_byte e.symbol i (code "B") ≡ false → is_byte e.symbol i (code "I") ≡ true → n ≡ t.looks + 2 → t.state.mark ≡ None → Fits point.TraitPath t.state.depth_left t.state.lifetimes
@@ -268,7 +267,8 @@ module _ {V : Type 0} {e : Env V} where
   unfolding then_frame unit_rest_at
   open_on {t} first i at h p c f r =
       let w = told e.symbol i in
-      open_as first (leaves (argument_point e.symbol i) (1 ∷ []) (argument_costs e.symbol i) (omega (arith, w.few)) (Some (frame_at point.NextOpenArgument t.state)) (rw (c, at) (arguments_heard e t.state first (opens done) i f h)) r p w.most (rw at (omega (arith, p.within, w.most))) (omega (arith, w.within.light)) (omega arith) (omega (arith, w.within.low t.state.depth_left)) f (w.within.fits t.state.depth_left t.state.lifetimes f) (λ _. refl))
+      open_as first (leaves (argument_point e.symbol i) (1 ∷ []) (argument_costs e.symbol i) (omega (arith, w.few)) (Some (frame_at point.NextOpenArgument t.state)) (rw (c, at) (arguments_heard e t.state first (opens done) i f h))
+      r p w.most (rw at (omega (arith, p.within, w.most))) (omega (arith, w.within.light)) (omega arith) (omega (arith, w.within.low t.state.depth_left)) f (w.within.fits t.state.depth_left t.state.lifetimes f) (λ _. refl))
 
   -- Bindings.
 

@@ -24,7 +24,7 @@ use Rattle.demangle_v0.specs.declared.points.Stop.TheVariants.{Refused, Fault}
 use Rattle.demangle_v0.proofs.PointSteps.{heard, child_last, refused}
 use Rattle.demangle_grammar.proofs.TypeReads.{binder_reads}
 use Rattle.demangle_v0.proofs.PointTurns.{unread, ends, moves, behind_few, tells, halts}
-use Rattle.demangle_v0.proofs.PointLists.{Listed, of_types, list_closes}
+use Rattle.demangle_v0.proofs.PointLists.{Listed, type_units, of_units, list_closes}
 
 abbrev pub parameters : Items
 parameters = says "fn(" (list ", " type_inside (says ")" returns))
@@ -38,8 +38,8 @@ parameters_point first = if first then point.FirstParameter else point.NextParam
 
 pub parameter_types : {V : Type 0} (e : Env V) (first : Bool) → Listed e (parameters_point first) point.«Type» point.NextParameter (λ (s : State). s.in_value) first type_inside (says ")" returns) (more ", " type_inside (says ")" returns))
 unfolding unit_rest_at
-parameter_types e true = of_types (λ s. refl) (λ s j o. refl) refl (omega arith) (omega arith) (λ left. refl) (λ left. omega arith) (λ left n f. f) refl
-parameter_types e false = of_types (λ s. refl) (λ s j o. refl) refl (omega arith) (omega arith) (λ left. refl) (λ left. omega arith) (λ left n f. f) refl
+parameter_types e true = of_units (type_units e) (λ s. refl) (λ s j o. refl) refl (omega arith) (omega arith) (λ left. refl) (λ left. omega arith) (λ left n f. f) refl
+parameter_types e false = of_units (type_units e) (λ s. refl) (λ s j o. refl) refl (omega arith) (omega arith) (λ left. refl) (λ left. omega arith) (λ left n f. f) refl
 
 module _ {V : Type 0} {e : Env V} where
   pub parameters_close : {t : Turn V} {j : Place} {n : ℕ} (first : Bool) → is_list_over e.symbol t.state.place ≡ true → j ≡ behind_list e.symbol t.state.place → Paid t.looks (list_costs t.state.place) n → Fits point.NextParameter t.state.depth_left t.state.lifetimes

@@ -23,7 +23,7 @@ use Rattle.demangle_v0.specs.declared.points.State.{State}
 use Rattle.demangle_grammar.proofs.Elements.{Element, type_element, constant_element}
 use Rattle.demangle_grammar.proofs.ListReads.{followed, end_failed, end_over, end_on, more_failed, more_over, more_on, second_on}
 use Rattle.demangle_v0.proofs.PointSteps.{child_last}
-use Rattle.demangle_v0.proofs.PointTurns.{list_short, list_few, list_words, leaves}
+use Rattle.demangle_v0.proofs.PointTurns.{Within, list_short, list_few, list_words, leaves}
 
 -- what is left of a list of x: all of it, whose first stands before these items, or what stands behind another; z stands behind it
 abbrev pub left_of : Bool → String → Items → Items → Items → Items
@@ -90,66 +90,45 @@ module _ {V : Type 0} {e : Env V} where
   list_ends {t} to few r p w x f =
       leaves to (list_costs t.state.place) [] (omega (arith, few, list_words t.state.place)) None r refl (rw append-nil p) (omega arith) (omega (arith, p.within, list_short e.symbol t.state.place)) (omega (arith, w)) (omega arith) (omega (arith, x)) tt f (λ _. tt)
 
+-- x is a unit at this point, in value position or not
+pub record Units {V : Type 0} (e : Env V) (q : Point) (v : State → Bool) (x : Items) : Type 0 where
+  pub at : (s : State) (i : ℕ) (m : Option Mark) → shut_at e x s (Some i) ≡ unit_rest_of e.symbol e.include_hash e.output.is_printed q (record s { in_value = v s; place = Some i; mark = m })
+  pub element : (left n : ℕ) → left ≤ max_depth → Element e.symbol e.output.is_printed left n x
+  pub within : Within q 3 1
+
+module _ {V : Type 0} (e : Env V) where
+  pub type_units : Units e point.«Type» (λ s. s.in_value) type_inside
+  unfolding unit_rest_at
+  type_units = record { at = λ s i m. child_last e.output e.symbol e.include_hash a_type false s.depth_left s.lifetimes (Some i); element = λ left n. type_element e.symbol e.output.is_printed left n; within = record { light = omega arith; low = λ left. omega arith; fits = λ left n f. f } }
+
+  pub constant_units : Units e point.Constant (λ _. true) constant_inside
+  unfolding unit_rest_at
+  constant_units = record { at = λ s i m. child_last e.output e.symbol e.include_hash a_constant true s.depth_left s.lifetimes (Some i); element = λ left n. constant_element e.symbol e.output.is_printed left n; within = record { light = omega arith; low = λ left. omega arith; fits = λ left n f. f } }
+
 -- a list of x before z, at these points: where one may begin, that of one, in value position or not, and that behind one
 pub record Listed {V : Type 0} (e : Env V) (p q f : Point) (v : State → Bool) (first : Bool) (x z rest : Items) : Type 0 where
+  pub units : Units e q v x
   pub at_p : (s : State) → unit_rest_of e.symbol e.include_hash e.output.is_printed p s ≡ shut_at e (left_of first ", " x z rest) s s.place
-  pub at_q : (s : State) (i : ℕ) (m : Option Mark) → shut_at e x s (Some i) ≡ unit_rest_of e.symbol e.include_hash e.output.is_printed q (record s { in_value = v s; place = Some i; mark = m })
   pub at_f : (s : State) (j : Place) (o : Bool) → unit_rest e.symbol e.include_hash e.output.is_printed (frame_at f s) j o ≡ shut_at e (then_of first ", " x z rest) s j
-  pub element : (left n : ℕ) → left ≤ max_depth → Element e.symbol e.output.is_printed left n x
   pub words : words_at p ≡ 8
   pub weight : 1 ≤ weight_at p
-  pub light : way_weight q + weight_at f ≤ 6
+  pub light : weight_at f ≤ 3
   pub high : (left : ℕ) → height_at p left ≡ 8 * left + 2
-  pub low_q : (left : ℕ) → height_at q left ≤ 8 * left + 1
-  pub low_f : (left : ℕ) → height_at f left ≤ 8 * left + 2
-  pub fits : (left n : ℕ) → Fits point.«Type» left n → Fits q left n × Fits f left n
+  pub low : (left : ℕ) → height_at f left ≤ 8 * left + 2
+  pub fits : (left n : ℕ) → Fits point.«Type» left n → Fits f left n
   pub inner : is_inner f ≡ true
 
--- what is read of types, and of constants
-pub of_types : {V : Type 0} {e : Env V} {p f : Point} {first : Bool} {z rest : Items} → ((s : State) → unit_rest_of e.symbol e.include_hash e.output.is_printed p s ≡ shut_at e (left_of first ", " type_inside z rest) s s.place)
-    → ((s : State) (j : Place) (o : Bool) → unit_rest e.symbol e.include_hash e.output.is_printed (frame_at f s) j o ≡ shut_at e (then_of first ", " type_inside z rest) s j) → words_at p ≡ 8 → 1 ≤ weight_at p → weight_at f ≤ 5 → ((left : ℕ) → height_at p left ≡ 8 * left + 2)
-    → ((left : ℕ) → height_at f left ≤ 8 * left + 2) → ((left n : ℕ) → Fits point.«Type» left n → Fits f left n) → is_inner f ≡ true → Listed e p point.«Type» f (λ s. s.in_value) first type_inside z rest
-unfolding unit_rest_at
-of_types {e = e} a f k w l h g x i = record {
-  at_p = a;
-  at_q = λ s i m. child_last e.output e.symbol e.include_hash a_type false s.depth_left s.lifetimes (Some i);
-  at_f = f;
-  element = λ left n. type_element e.symbol e.output.is_printed left n;
-  words = k;
-  weight = w;
-  light = omega (arith, l);
-  high = h;
-  low_q = λ left. omega arith;
-  low_f = g;
-  fits = λ left n y. (y, x left n y);
-  inner = i;
-}
-
-pub of_constants : {V : Type 0} {e : Env V} {p f : Point} {first : Bool} {z rest : Items} → ((s : State) → unit_rest_of e.symbol e.include_hash e.output.is_printed p s ≡ shut_at e (left_of first ", " constant_inside z rest) s s.place)
-    → ((s : State) (j : Place) (o : Bool) → unit_rest e.symbol e.include_hash e.output.is_printed (frame_at f s) j o ≡ shut_at e (then_of first ", " constant_inside z rest) s j) → words_at p ≡ 8 → 1 ≤ weight_at p → weight_at f ≤ 5 → ((left : ℕ) → height_at p left ≡ 8 * left + 2)
-    → ((left : ℕ) → height_at f left ≤ 8 * left + 2) → ((left n : ℕ) → Fits point.«Type» left n → Fits f left n) → is_inner f ≡ true → Listed e p point.Constant f (λ _. true) first constant_inside z rest
-unfolding unit_rest_at
-of_constants {e = e} a f k w l h g x i = record {
-  at_p = a;
-  at_q = λ s i m. child_last e.output e.symbol e.include_hash a_constant true s.depth_left s.lifetimes (Some i);
-  at_f = f;
-  element = λ left n. constant_element e.symbol e.output.is_printed left n;
-  words = k;
-  weight = w;
-  light = omega (arith, l);
-  high = h;
-  low_q = λ left. omega arith;
-  low_f = g;
-  fits = λ left n y. (y, x left n y);
-  inner = i;
-}
+pub of_units : {V : Type 0} {e : Env V} {p q f : Point} {v : State → Bool} {first : Bool} {x z rest : Items} → Units e q v x → ((s : State) → unit_rest_of e.symbol e.include_hash e.output.is_printed p s ≡ shut_at e (left_of first ", " x z rest) s s.place)
+    → ((s : State) (j : Place) (o : Bool) → unit_rest e.symbol e.include_hash e.output.is_printed (frame_at f s) j o ≡ shut_at e (then_of first ", " x z rest) s j) → words_at p ≡ 8 → 1 ≤ weight_at p → weight_at f ≤ 3 → ((left : ℕ) → height_at p left ≡ 8 * left + 2)
+    → ((left : ℕ) → height_at f left ≤ 8 * left + 2) → ((left n : ℕ) → Fits point.«Type» left n → Fits f left n) → is_inner f ≡ true → Listed e p q f v first x z rest
+of_units u a f k w l h g y i = record { units = u; at_p = a; at_f = f; words = k; weight = w; light = l; high = h; low = g; fits = y; inner = i }
 
 module _ {V : Type 0} {e : Env V} {p q f : Point} {v : State → Bool} {first : Bool} {x z rest : Items} (l : Listed e p q f v first x z rest) where
   -- an element, and what stands behind it
   one_then : (s : State) (i : ℕ) (m : Option Mark) → none_open (followed (open_at e x s (Some i)) (open_at e (then_of first ", " x z rest) s)) ≡ and_then (unit_rest_of e.symbol e.include_hash e.output.is_printed q (record s { in_value = v s; place = Some i; mark = m })) (unit_rest e.symbol e.include_hash e.output.is_printed (frame_at f s))
   one_then s i m =
       let y = shut_at e x s (Some i) in
-      ap (λ (h : Heard). and_then y (λ _ _. h)) (sym (l.at_f s y.place y.is_open)) ∙ ap (λ (h : Heard). and_then h (unit_rest e.symbol e.include_hash e.output.is_printed (frame_at f s))) (l.at_q s i m)
+      ap (λ (h : Heard). and_then y (λ _ _. h)) (sym (l.at_f s y.place y.is_open)) ∙ ap (λ (h : Heard). and_then h (unit_rest e.symbol e.include_hash e.output.is_printed (frame_at f s))) (l.units.at s i m)
 
   -- One is entered, behind these looks and this mark.
   pub list_enters : {t : Turn V} {h : Heard} {weight high : ℕ} {j : Place} {m : Option Mark} {stack : List Frame} {n : ℕ} (i : NotOver e.symbol t.state.place) (ks : List ℕ) → length ks ≤ 8 → 1 ≤ total ks
@@ -160,17 +139,16 @@ module _ {V : Type 0} {e : Env V} {p q f : Point} {v : State → Bool} {first : 
   list_enters {t} {m = m} i ks few least w k p g y r =
       let s = t.state in
       let so = one_then s i.0 m in
-      let fit = l.fits s.depth_left s.lifetimes y in
       leaves q ks [] (omega (arith, few)) (Some (frame_at f s)) (rw (k ∙ i.3) (w ∙ ap (λ (o : Heard). with_looks ks (with_texts e.output.is_printed (mark_texts m) o)) so)) r
-      (rw append-nil (record { grows = p.grows; within = omega (arith, p.within, list_few s.place, least) })) (omega arith) (omega (arith, p.within, list_short e.symbol s.place)) (omega (arith, least, l.light))
-      (omega (arith, g, l.low_f s.depth_left)) (omega (arith, g, l.low_q s.depth_left)) fit.1 fit.0 (λ _. l.inner)
+      (rw append-nil (record { grows = p.grows; within = omega (arith, p.within, list_few s.place, least) })) (omega arith) (omega (arith, p.within, list_short e.symbol s.place)) (omega (arith, least, l.light, l.units.within.light))
+      (omega (arith, g, l.low s.depth_left)) (omega (arith, g, l.units.within.low s.depth_left)) (l.fits s.depth_left s.lifetimes y) (l.units.within.fits s.depth_left s.lifetimes y) (λ _. l.inner)
 
   pub list_goes : {t : Turn V} {j : Place} {m : Option Mark} {stack : List Frame} {n : ℕ} → is_list_over e.symbol t.state.place ≡ false → j ≡ behind_list e.symbol t.state.place → Paid t.looks (list_costs t.state.place) n → m ≡ separator first mark.Comma
       → Fits point.«Type» t.state.depth_left t.state.lifetimes → stack ≡ t.stack ++ frame_at f t.state ∷ [] → PointDoes e p t (Ok q) (record t { state = record t.state { in_value = v t.state; place = j; mark = m }; stack = stack; looks = n })
   list_goes {t} h k p c y r =
       let s = t.state in
       let i = on e.symbol s.place h in
-      let on_so = on_heard e s first ", " mark.Comma refl x z rest i.0 (l.element s.depth_left s.lifetimes (omega (arith, y))) i.2 in
+      let on_so = on_heard e s first ", " mark.Comma refl x z rest i.0 (l.units.element s.depth_left s.lifetimes (omega (arith, y))) i.2 in
       rw (c, l.words) (list_enters i (1 ∷ []) (omega arith) (omega arith) (l.at_p s ∙ (ap (λ (o : Place). shut_at e (left_of first ", " x z rest) s o) i.1 ∙ ap none_open on_so)) k p (omega (arith, l.high s.depth_left)) y r)
 
   -- The list is over, and another point goes on.
@@ -201,5 +179,5 @@ pub second_goes : {V : Type 0} {e : Env V} {p q f : Point} {v : State → Bool} 
 second_goes {e = e} {x = x} l {t = t} c h k p g y r =
     let s = t.state in
     let i = on e.symbol s.place h in
-    let so = second_on e.include_hash e.output.is_printed e.symbol s.depth_left s.lifetimes x (says ")" done) i.0 (l.element s.depth_left s.lifetimes (omega (arith, y))) i.2 in
+    let so = second_on e.include_hash e.output.is_printed e.symbol s.depth_left s.lifetimes x (says ")" done) i.0 (l.units.element s.depth_left s.lifetimes (omega (arith, y))) i.2 in
     list_enters l i (1 ∷ 1 ∷ []) (omega arith) (omega arith) (c ∙ (ap (λ (o : Place). shut_at e (at_end (says "," (says ")" done)) (more ", " x (says ")" done))) s o) i.1 ∙ ap none_open so)) k p g y r

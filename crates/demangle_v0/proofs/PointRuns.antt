@@ -26,6 +26,7 @@ use Rattle.demangle_v0.specs.declared.points.read.Halt.TheVariants as halt
 use Rattle.demangle_grammar.proofs.Hearing.{and_then_assoc, and_then_ended, handing_then, allowing_then}
 use Rattle.demangle_v0.proofs.Standing.{above_pop}
 use Rattle.demangle_v0.proofs.PointSteps.{refused, bits_append, looks_append}
+use Rattle.demangle_v0.proofs.PointTurns.{went_by}
 
 pub unit_rest_failed : (b : List ℕ) (include_hash out : Bool) (p : Point) (v : Bool) (c left n : ℕ) (o : Bool) → is_inner p ≡ true → (unit_rest_at b include_hash out p v c left n None o).place ≡ None
 unfolding unit_rest_at
@@ -162,30 +163,9 @@ module _ {V : Type 0} {e : Env V} where
   pub fault_goes : {t u : Turn V} {p : Point} {f : Mark} {x : V} {n : ℕ} → PointDoes e p t (Err (Fault f)) u → e.output.prints u.output (text f ∷ []) (Ok tt) x → n ≤ u.looks
       → Stepped e p t (Ok point.End) (record u { state = record u.state { place = None; is_open = false }; output = x; looks = n })
   unfolding unit_rest_at then_frame
-  fault_goes {t} {u} {f = f} {x = x} z put l = let d = z.comes in record {
-    steps = (
-      record {
-        front = d.front;
-        emitted = Some (Fixed f);
-        back = [];
-        pushed = None;
-        emits = subst (λ (y : V). e.output.prints y (text f ∷ []) (Ok tt) x) (sym d.emits) put;
-        one = inr d.unmarked;
-        reads = rw d.unmarked d.reads;
-        is_stack = d.is_stack;
-        few = omega (arith, d.few);
-        enough = omega (arith, l, d.enough);
-        late = omega (arith, l, d.enough);
-        lighter = omega (arith, d.lighter);
-        outer_height = omega arith;
-        inner_height = omega arith;
-        outer_fits = tt;
-        inner_fits = tt;
-        quiet = λ _. tt;
-      },
-      d.unmarked,
-    );
-  }
+  fault_goes {t} {u} {f = f} {x = x} z put l =
+      let d = z.comes in
+      record { steps = (rw d.is_stack (went_by point.End d.front d.few (Fixed f) d.reads (subst (λ (y : V). e.output.prints y (text f ∷ []) (Ok tt) x) (sym d.emits) put) d.unmarked (omega (arith, l, d.enough)) (omega (arith, d.lighter)) (omega arith) tt), d.unmarked) }
 
   -- or refused
   pub fault_refused : {t u : Turn V} {p : Point} {m : Mark} {s : State} {x : V} {n : ℕ} {f : SinkRefused} → PointDoes e p t (Err (Fault m)) u → e.output.prints u.output (text m ∷ []) (Err f) x → n ≤ u.looks → Stepped e p t (Err f) (record u { state = s; output = x; looks = n })

@@ -53,7 +53,6 @@ own_is b include_hash s = owed_alone b include_hash false point.Path (silent_of 
 
 skip_items : (b : List ℕ) (include_hash : Bool) (p : Items) (left n : ℕ) (i : Place)
     → none_open (of include_hash true (run (Rattle.demangle_grammar.specs.Items.skip p) (around b true left n) i)) ≡ with_looks (allowances (read_own b include_hash left n i).events) (none_open (of include_hash true (run p (around b true left n) (read_own b include_hash left n i).place)))
-unfolding run
 skip_items b include_hash p left n None = ap none_open (skip_failed include_hash true p (around b true left n))
 skip_items b include_hash p left n (Some i) = ap none_open (skip_reads include_hash true b left n false n p i)
 

@@ -3,13 +3,13 @@ use Rattle.std.specs.Prelude.{◌*◌}
 use Rattle.std.proofs.lemmas.Bool.{false≢true}
 use Rattle.std.proofs.lemmas.List.{append-nil, length-append}
 use Rattle.std.proofs.Common.{inl, inr, ◌≡◌, ℕ, ◌+◌, ◌≤◌, length, Bool, true, false, Option, Some, None, List, [], ◌∷◌, ◌++◌, Result, Ok, Err, IsOk, refl, arith, sym, ap, ◌∙◌}
-use Rattle.demangle_grammar.specs.Items.{Items}
+use Rattle.demangle_grammar.specs.Items.{Items, Kind, child, done}
 use Rattle.demangle_grammar.specs.Totals.{total}
 use Rattle.demangle_grammar.specs.Events.{Heard, of, nothing_heard, and_then, with_looks, with_texts, around}
-use Rattle.demangle_words.specs.WordReads.{texts_of}
-use Rattle.demangle_words.specs.Texts.{text}
+use Rattle.demangle_words.specs.WordReads.{texts_of, Group, word_group}
+use Rattle.demangle_words.specs.Texts.{text, word_items}
 use Rattle.demangle_grammar.specs.Reading.{Place, unit_outcome, run}
-use Rattle.demangle_v0.specs.Points.{mark_texts, then_frame, way_weight, weight_at, weight_of, unit_rest, is_inner, height_of, count_of, FitsFrame, IsInner, Fits, height_at, pushed_on, unit_rest_of, Turn, Env, Part, part, Comes, Does, Paid, own_looks, list_costs}
+use Rattle.demangle_v0.specs.Points.{mark_texts, then_frame, way_weight, weight_at, weight_of, unit_rest, is_inner, height_of, count_of, FitsFrame, IsInner, Fits, height_at, pushed_on, unit_rest_of, Turn, Env, Part, part, Comes, Went, Does, Paid, own_looks, list_costs, unit_rest_at, RestDoes, none_open}
 use Rattle.demangle_sink.specs.declared.SinkRefused.{SinkRefused}
 use Rattle.demangle_words.specs.declared.texts.Mark.{Mark}
 use Rattle.demangle_words.specs.declared.texts.Mark.TheVariants as mark
@@ -21,10 +21,6 @@ use Rattle.demangle_v0.specs.declared.points.Stop.{Stop}
 use Rattle.demangle_v0.specs.declared.points.Stop.TheVariants.{Refused, Fault}
 use Rattle.demangle_v0.proofs.PointSteps.{looks_both, total_both, kept_none, refused, heard, child_last, group_then, group_so, word_so}
 use Rattle.demangle_v0.proofs.WordLooks.{group_short, group_few}
-use Rattle.demangle_words.specs.Texts.{word_items}
-use Rattle.demangle_grammar.specs.Items.{Kind, child, done}
-use Rattle.demangle_words.specs.WordReads.{Group, word_group}
-use Rattle.demangle_v0.specs.Points.{unit_rest_at, RestDoes, none_open}
 use Rattle.demangle_words.specs.declared.texts.Word.{Word}
 use Rattle.demangle_words.specs.declared.read.WordRead.TheVariants as reads
 use Rattle.demangle_v0.specs.declared.points.Point.TheVariants as point
@@ -185,36 +181,35 @@ module _ {V : Type 0} {e : Env V} where
   unread k r w = ends mark.AfterError [] (omega arith) k r paid_none (omega arith) w
 
   -- A stretch is handed over.
+  pub went_by : {t : Turn V} {h : Heard} {words weight high : ℕ} (to : Point) (front : List ℕ) → length front ≤ words → (x : Stretch) {s : State} {v : V} {n : ℕ}
+      → h ≡ with_looks front (with_texts e.output.is_printed (texts_of e.symbol e.include_hash x) (unit_rest_of e.symbol e.include_hash e.output.is_printed to s)) → e.output.prints t.output (texts_of e.symbol e.include_hash x) (Ok tt) v → s.mark ≡ None
+      → n ≤ t.looks + total front → way_weight to + 1 ≤ weight + 100 * total front → height_at to s.depth_left ≤ high → Fits to s.depth_left s.lifetimes → Went e (part words h weight high) t to (record t { state = s; output = v; looks = n })
+  unfolding then_frame
+  went_by to front c x r q k p w z f = record {
+    front = front;
+    emitted = Some x;
+    back = [];
+    pushed = None;
+    emits = q;
+    one = inr k;
+    reads = rw k r;
+    is_stack = refl;
+    few = omega (arith, c);
+    enough = omega (arith, p);
+    late = omega (arith, p);
+    lighter = omega (arith, w);
+    outer_height = omega arith;
+    inner_height = omega (arith, z);
+    outer_fits = tt;
+    inner_fits = f;
+    quiet = λ _. tt;
+  }
+
   pub tells : {t : Turn V} {h : Heard} {words weight high : ℕ} (to : Point) (front : List ℕ) → length front ≤ words → (x : Stretch) {s : State} {v : V} {n : ℕ}
       → h ≡ with_looks front (with_texts e.output.is_printed (texts_of e.symbol e.include_hash x) (unit_rest_of e.symbol e.include_hash e.output.is_printed to s)) → e.output.prints t.output (texts_of e.symbol e.include_hash x) (Ok tt) v → e.output.ready v → s.mark ≡ None
       → Paid t.looks front n → n ≤ t.looks + own_looks e.symbol t.state.place → way_weight to + 1 ≤ weight + 100 * total front → height_at to s.depth_left ≤ high → Fits to s.depth_left s.lifetimes
       → Does e t (part words h weight high) (Ok to) (record t { state = s; output = v; looks = n })
-  unfolding then_frame
-  tells to front c x r q y k p short w z f = record {
-    comes = record {
-      front = front;
-      emitted = Some x;
-      back = [];
-      pushed = None;
-      emits = q;
-      one = inr k;
-      reads = rw k r;
-      is_stack = refl;
-      few = omega (arith, c);
-      enough = omega (arith, p.within);
-      late = omega (arith, p.within);
-      lighter = omega (arith, w);
-      outer_height = omega arith;
-      inner_height = omega (arith, z);
-      outer_fits = tt;
-      inner_fits = f;
-      quiet = λ _. tt;
-    };
-    grows = p.grows;
-    own = short;
-    ready = λ _ _. y;
-    sound = λ _ _ _. y;
-  }
+  tells to front c x r q y k p short w z f = record { comes = went_by to front c x r q k p.within w z f; grows = p.grows; own = short; ready = λ _ _. y; sound = λ _ _ _. y }
 
   -- The output refuses it.
   pub halts : {t : Turn V} {h : Heard} {words weight high : ℕ} (front : List ℕ) → length front ≤ words → (x : Stretch) (rest : Heard) {s : State} {v : V} {n : ℕ} {r : SinkRefused}

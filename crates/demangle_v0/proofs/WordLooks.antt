@@ -1,7 +1,6 @@
 -- How many looks the words of one step are.
-use Rattle.std.specs.Prelude.{◌*◌, ◌==◌, nat_le, if◌then◌else◌}
+use Rattle.std.specs.Prelude.{◌*◌, ◌==◌, nat_le, if◌then◌else◌, option_map}
 use Rattle.std.proofs.Common.{◌≡◌, ℕ, ◌+◌, ◌-◌, ◌≤◌, length, Bool, true, false, Option, Some, None, List, [], refl, ap, arith}
-use Rattle.std.specs.Prelude.{option_map}
 use Prim.Native.Char.{code}
 use lib.Utf8.{scalar}
 use Rattle.demangle_symbol.specs.Digits.{is_byte}

@@ -6,11 +6,9 @@ use Rattle.demangle_v0.proofs.WordLooks.{optional_there}
 use Rattle.demangle_v0.proofs.points.functions.function_binder.Goals as goal
 
 pub returns-in_default-clause-did : goal.returns-in_default-clause-did
-unfolding unit_rest_at
 returns-in_default-clause-did g c = λ stack. binder_unread head c.requires.may.unmarked c.in_default.is (omega arith)
 
 pub returns-in_default-opt_integer_62-clause-did : goal.returns-in_default-opt_integer_62-clause-did
-unfolding unit_rest_at
 returns-in_default-opt_integer_62-clause-did g c = λ stack. binder_stops (omega arith) head c.in-Some.at c.in-Some.is c.requires.may.unmarked c.in_default-opt_integer_62.ensures.read (record { grows = omega arith; within = omega (arith, c.in_default-opt_integer_62.ensures.err_looks) }) (omega arith)
 
 pub returns-then-number-eq0-clause-did : goal.returns-then-number-eq0-clause-did
@@ -18,7 +16,6 @@ unfolding unit_rest_at
 returns-then-number-eq0-clause-did g c = λ stack. binder_none (omega arith) head c.in-Some.at c.in-Ok.next c.in-Ok.number c.in-Some.is c.in-Ok.ensures.read c.if-number-eq0.true (record { grows = omega (arith, c.in-Ok.ensures.grows); within = omega (arith, c.in-Ok.ensures.ok_looks) }) (rw c.in-Some.is (omega (arith, (optional_there _ _ _ _ _ (sym c.in-Ok.ensures.read)).0, (optional_there _ _ _ _ _ (sym c.in-Ok.ensures.read)).1, c.in-Ok.ensures.ok_looks, c.in-Ok.ensures.grows, c.function_head.ensures.own))) (omega arith) (omega arith) (c.function_head.ensures.did stack)
 
 pub returns-in_default-name_lifetimes-clause-did : goal.returns-in_default-name_lifetimes-clause-did
-unfolding unit_rest_at
 returns-in_default-name_lifetimes-clause-did g c = λ stack. binder_refused (omega arith) head c.in-Some.at c.in-Ok.next c.in-Ok.number c.in-Some.is c.in-Ok.ensures.read (record { grows = omega (arith, c.in-Ok.ensures.grows, c.in_default-name_lifetimes.ensures.looks); within = omega (arith, c.in-Ok.ensures.ok_looks, c.in_default-name_lifetimes.ensures.looks) }) (rw c.in-Some.is (omega (arith, (optional_there _ _ _ _ _ (sym c.in-Ok.ensures.read)).0, (optional_there _ _ _ _ _ (sym c.in-Ok.ensures.read)).1, c.in-Ok.ensures.ok_looks, c.in-Ok.ensures.grows, c.in_default-name_lifetimes.ensures.looks))) c.in_default-name_lifetimes.ensures.prints c.in_default-name_lifetimes.ensures.quiet
 
 pub returns-clause-did : goal.returns-clause-did

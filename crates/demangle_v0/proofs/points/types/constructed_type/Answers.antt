@@ -45,7 +45,6 @@ returns-in-Backref g c = record {
 }
 
 pub returns-in-Function : goal.returns-in-Function
-unfolding unit_rest_at
 returns-in-Function g c = record { did = rw c.in-Function.is (alike (omega arith) refl (omega arith) (omega arith) (c.function_binder.ensures.did c.args.stack.now)) }
 
 pub returns-in-Dyn : goal.returns-in-Dyn
