@@ -5,7 +5,8 @@ use Rattle.demangle_grammar.specs.Items.{Items, Kind, a_path}
 use Rattle.demangle_grammar.specs.Cost.{StretchCost, bytes_of, looks_of, Pays}
 use Rattle.demangle_sink.specs.Cut.{size}
 use Rattle.demangle_sink.proofs.CutLemmas.{size-append}
-use Rattle.demangle_grammar.specs.Reading.{Tree, nothing, piece, plain_piece, node, looked, hidden, invalid_syntax, too_deep, unread, Place, Outcome, Surroundings, max_depth, run, stretches, looks, pieces, looks_alone, goes_on_at, read_at, path_texts}
+use Rattle.demangle_grammar.specs.Reading.{Outcome}
+use Rattle.demangle_grammar.specs.Reading.{Tree, nothing, piece, plain_piece, node, looked, hidden, invalid_syntax, too_deep, unread, Place, Surroundings, max_depth, run, stretches, looks, pieces, looks_alone, goes_on_at, read_at, path_texts}
 use Rattle.demangle_grammar.specs.Accepting.{looks_in, suffix_looks, second_looks, accepting_looks}
 use Rattle.demangle_grammar.proofs.PaysRules.{Pays-bound, Pays-whole}
 use Rattle.demangle_grammar.proofs.Account.{Ends, Idle, start, idle}

@@ -8,7 +8,8 @@ use Rattle.demangle_symbol.specs.Words.{Name, Read, byte_at, namespace_at, integ
 use Rattle.demangle_symbol.specs.Names.{name_pieces}
 use Rattle.demangle_grammar.specs.Items.{Text, Kind, a_path, a_type, a_constant, a_pattern, a_trait_path, Items, done, invalid, say, say_plain, byte, namespace, integer, optional, identifier, nibbles, peek, next, sound, until_end, raise, unit, child, skip, target, lifetime, binder, opens, dyn_trait, bindings}
 use Rattle.demangle_grammar.specs.Table.{items, is_among, row_of, path, path_rows, constant, constant_rows, variant, variant_rows, says}
-use Rattle.demangle_grammar.specs.Reading.{Tree, looked, piece, Place, Outcome, Level, Surroundings, stands, fault, unread, run, turns, word_outcome, bound_by, followed_by, followed_open, behind, binding_separator, name_equals, angle_if_open, all_pieces, word, byte_choice, peek_outcome, level_of, levels, nowhere}
+use Rattle.demangle_grammar.specs.Reading.{looked}
+use Rattle.demangle_grammar.specs.Reading.{Tree, piece, Place, Outcome, Level, Surroundings, stands, fault, unread, run, turns, word_outcome, bound_by, followed_by, followed_open, behind, binding_separator, name_equals, angle_if_open, all_pieces, word, byte_choice, peek_outcome, level_of, levels, nowhere}
 use Rattle.demangle_grammar.specs.Events.{Event, shown_if, Heard, of, events, and_then, with_looks}
 
 abbrev pub at : List ℕ → Bool → Level → List Level → ℕ → Surroundings
@@ -149,7 +150,8 @@ module _ (plain : Bool) where
   muted (peek f) b here deeper m n h a None = refl
   muted (peek f) b here deeper m n h a (Some i) = peeked (of plain false) look (λ v. run (f v) (silent b here deeper m) (Some i)) (λ v. run (mute (f v)) (silent b here deeper n) (Some i)) (slice_get b i) (λ v. muted (f v) b here deeper m n h a (Some i))
   muted (next c p q) b here deeper m n h a None = muted q b here deeper m n h a None
-  muted (next c p q) b here deeper m n h a (Some i) = forked (of plain false) look (is_byte b i c) (run p (silent b here deeper m)) (run (mute p) (silent b here deeper n)) (run q (silent b here deeper m)) (run (mute q) (silent b here deeper n)) (Some i) (muted p b here deeper m n h a) (muted q b here deeper m n h a)
+  muted (next c p q) b here deeper m n h a (Some i) = forked (of plain false) look (is_byte b i c) (run p (silent b here deeper m)) (run (mute p) (silent b here deeper n)) (run q (silent b here deeper m)) (run (mute q) (silent b here deeper n)) (Some i)
+      (muted p b here deeper m n h a) (muted q b here deeper m n h a)
   muted (sound p q) b here deeper m n h a None = muted q b here deeper m n h a None
   muted (sound p q) b here deeper m n h a (Some i) = muted p b here deeper m n h a (Some i)
   muted (until_end p q) b here deeper m n h a i = alike_followed (turns (suc (length b)) b (run p (silent b here deeper m)) i) (turns (suc (length b)) b (run (mute p) (silent b here deeper n)) i) (run q (silent b here deeper m)) (run (mute q) (silent b here deeper n))

@@ -8,7 +8,8 @@ use Rattle.demangle_symbol.specs.Words.{Name, number_of, is_upper, some_or}
 use Rattle.demangle_symbol.specs.Names.{name_pieces, is_empty, is_nameless}
 use Rattle.demangle_symbol.specs.Literals.{literal, string_of}
 use Rattle.demangle_grammar.specs.Items.{Text, Kind, a_path, a_type, a_constant, a_pattern, a_trait_path, Items, done, invalid, say, say_plain, byte, namespace, integer, optional, identifier, nibbles, peek, next, sound, until_end, raise, unit, child, skip, target, lifetime, binder, opens, dyn_trait, bindings}
-use Rattle.demangle_grammar.specs.Table.{variant, type_inside, constant_inside, says_if, extern, binding_value, at_end, more, type_tagged, braces, integer_constant, string, truth, character, argument, list, tuple, says, in_special, in_namespace, path_rows, pattern_rows, variant_rows, constant_rows, field, function, signature, items, type_rows, row_of, after_tag, row_text, basic_types, type_behind_tag, say_all, is_among}
+use Rattle.demangle_grammar.specs.Table.{at_end, more}
+use Rattle.demangle_grammar.specs.Table.{variant, type_inside, constant_inside, says_if, extern, binding_value, type_tagged, braces, integer_constant, string, truth, character, argument, list, tuple, says, in_special, in_namespace, path_rows, pattern_rows, variant_rows, constant_rows, field, function, signature, items, type_rows, row_of, after_tag, row_text, basic_types, type_behind_tag, say_all, is_among}
 use Rattle.demangle_grammar.proofs.Account.{start, rank, is_below, is_closed, is_some_text, Fits}
 
 abbrev Cheap : ℕ → ℕ → Bool → Items → Type 0
