@@ -3,17 +3,14 @@ use Rattle.std.specs.Prelude.{◌*◌}
 use Rattle.std.proofs.Common.{◌≡◌, ℕ, ◌+◌, ◌-◌, length, Bool, true, false, Some, None, List, [], ◌∷◌, ◌++◌, Ok, Err, refl, arith, sym}
 use Prim.Native.Char.{code}
 use Rattle.demangle_symbol.specs.Words.{optional_at}
-use Rattle.demangle_grammar.specs.Events.{of, and_then, with_texts, around}
-use Rattle.demangle_words.specs.Texts.{text}
+use Rattle.demangle_grammar.specs.Events.{of, and_then}
 use Rattle.demangle_v0.specs.Impls.{impl_items, skip_point, self_point}
-use Rattle.demangle_grammar.specs.Items.{Text, Kind, Items, a_type, say, child}
-use Rattle.demangle_v0.specs.Points.{frame_at, Turn, Env, Paid, RestDoes, PointDoes, frame_of, unit_rest, unit_rest_at, rest_at, none_open, Fits}
-use Rattle.demangle_grammar.specs.Reading.{Place, unit_outcome, run}
+use Rattle.demangle_v0.specs.Points.{frame_at, Turn, Env, Paid, RestDoes, PointDoes, frame_of, unit_rest, unit_rest_at, Fits}
+use Rattle.demangle_grammar.specs.Reading.{Place, run}
 use Rattle.demangle_words.specs.declared.texts.Mark.TheVariants as mark
 use Rattle.demangle_v0.specs.declared.points.Point.TheVariants as point
 use Rattle.demangle_v0.specs.declared.points.frames.Frame.{Frame}
 use Rattle.demangle_v0.specs.declared.points.Stop.TheVariants.{Fault}
-use Rattle.demangle_v0.proofs.PointSteps.{heard}
 use Rattle.demangle_v0.proofs.PointTurns.{unread, ends, enters, moves}
 use Rattle.demangle_v0.proofs.WordLooks.{optional_there}
 
@@ -25,13 +22,6 @@ skip_heard b include_hash true v c left n None o = refl
 skip_heard b include_hash true v c left n (Some i) o = refl
 skip_heard b include_hash false v c left n None o = refl
 skip_heard b include_hash false v c left n (Some i) o = refl
-
--- a text, a child, and what stands behind it
-child_said : {V : Type 0} (e : Env V) (t : Text) (k : Kind) (p : Items) (left n : ℕ) (i : Place)
-    → heard e.output e.symbol e.include_hash (say t (child k false p)) left n i
-    ≡ with_texts e.output.is_printed (t ∷ []) (and_then (none_open (of e.include_hash e.output.is_printed (unit_outcome (around e.symbol e.output.is_printed left n) k false i))) (λ j o. heard e.output e.symbol e.include_hash p left n j))
-unfolding run
-child_said e t k p left n i = refl
 
 module _ {V : Type 0} {e : Env V} where
   -- Behind the tag of an impl.
@@ -60,8 +50,8 @@ module _ {V : Type 0} {e : Env V} where
   -- Behind the impl's own path.
 
   pub self_goes : {t : Turn V} {stack : List Frame} → Fits point.Path t.state.depth_left t.state.lifetimes → stack ≡ t.stack ++ frame_at point.As t.state ∷ [] → PointDoes e point.SelfType t (Ok point.«Type») (record t { state = record t.state { mark = Some mark.Less }; stack = stack })
-  unfolding unit_rest_at
-  self_goes {t} f r = let s = t.state in enters point.«Type» (frame_at point.As s) (child_said e (text mark.Less) a_type (rest_at point.As s.in_value s.letter) s.depth_left s.lifetimes s.place) r (omega arith) (omega arith) (omega arith) f f refl
+  unfolding run unit_rest_at
+  self_goes {t} f r = enters point.«Type» (frame_at point.As t.state) refl r (omega arith) (omega arith) (omega arith) f f refl
 
   pub inherent_goes : {t : Turn V} {stack : List Frame} → Fits point.Path t.state.depth_left t.state.lifetimes → stack ≡ t.stack ++ frame_at point.CloseAngle t.state ∷ [] → PointDoes e point.InherentType t (Ok point.«Type») (record t { state = record t.state { mark = Some mark.Less }; stack = stack })
   unfolding run unit_rest_at

@@ -160,15 +160,11 @@ module _ {S : Type 0} (sink : Sinks S) (b : List ℕ) (include_hash : Bool) wher
   unfolding unit_rest_at path_texts read_at
   whole_shown = ap (λ (h : Heard). shown_in h.events) (owed_alone b include_hash true point.Path (first_state 0)) ∙ shown_events include_hash (level_of b (levels b max_depth) true a_path true 0 0).tree
 
-  end_shown : (t : State) → shown_in (reading_rest b include_hash true point.End t []).events ≡ []
-  unfolding unit_rest_at stack_rest
-  end_shown t = refl
-
   all_shown : {t : State} {v w : SizeLimitedFmtAdapter S} {m n : ℕ} (r : Ran (printing sink b include_hash) point.Path (begun v m) point.End (turn t [] w n)) → bits_texts r.bits ≡ path_texts b include_hash
+  unfolding unit_rest_at stack_rest
   all_shown {t} r =
       sym (append-nil (bits_texts r.bits))
-      ∙ (ap (λ (ys : List Text). bits_texts r.bits ++ ys) (sym (end_shown t))
-      ∙ (sym (shown_bits r.bits (reading_rest b include_hash true point.End t [])) ∙ (ap (λ (h : Heard). shown_in h.events) (sym r.reads) ∙ whole_shown)))
+      ∙ (sym (shown_bits r.bits (reading_rest b include_hash true point.End t [])) ∙ (ap (λ (h : Heard). shown_in h.events) (sym r.reads) ∙ whole_shown))
 
   front_shown : {v w : SizeLimitedFmtAdapter S} {m n : ℕ} (d : Broke (printing sink b include_hash) point.Path (begun v m) w n) → bits_texts (front_of d) ++ (texts_of b include_hash d.halts.emitted ++ shown_in (behind_broke d).events) ≡ path_texts b include_hash
   front_shown d =
