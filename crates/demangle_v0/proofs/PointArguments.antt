@@ -5,12 +5,12 @@ use Prim.Native.Char.{code}
 use Rattle.demangle_symbol.specs.Digits.{is_byte}
 use Rattle.demangle_grammar.specs.Items.{Items, done}
 use Rattle.demangle_grammar.specs.Totals.{total}
-use Rattle.demangle_grammar.specs.Events.{Heard, and_then, with_looks, with_texts, around}
+use Rattle.demangle_grammar.specs.Events.{Heard, with_looks, with_texts, around}
 use Rattle.demangle_grammar.specs.Table.{more, argument, says}
 use Rattle.demangle_grammar.specs.Reading.{Place, Surroundings, run}
 use Rattle.demangle_words.specs.Texts.{text}
 use Rattle.demangle_v0.specs.Arguments.{separator, arguments_point, argument_point, argument_place, argument_costs}
-use Rattle.demangle_v0.specs.Points.{Turn, Env, Paid, Does, PointDoes, part, frame_at, then_frame, unit_rest, unit_rest_at, unit_rest_of, none_open, mark_texts, Fits, is_list_over, behind_list, list_costs}
+use Rattle.demangle_v0.specs.Points.{Turn, Env, Paid, Does, PointDoes, part, frame_at, then_frame, unit_rest_at, unit_rest_of, none_open, mark_texts, Fits, is_list_over, behind_list, list_costs}
 use Rattle.demangle_words.specs.declared.texts.Mark.TheVariants as mark
 use Rattle.demangle_v0.specs.declared.points.Point.{Point}
 use Rattle.demangle_v0.specs.declared.points.Point.TheVariants as point
@@ -20,7 +20,7 @@ use Rattle.demangle_v0.specs.declared.points.State.{State}
 use Rattle.demangle_grammar.proofs.Elements.{argument_element}
 use Rattle.demangle_grammar.proofs.ListReads.{followed, argument_lifetime, argument_constant, argument_type}
 use Rattle.demangle_v0.proofs.PointTurns.{Within, leaves}
-use Rattle.demangle_v0.proofs.PointLists.{left_of, then_of, open_at, shut_at, over_heard, on_heard, list_ends}
+use Rattle.demangle_v0.proofs.PointLists.{left_of, open_at, shut_at, over_heard, on_heard, list_ends}
 
 -- what an argument at this place is
 pub record Told (b : List ℕ) (i : ℕ) : Type 0 where

@@ -10,7 +10,7 @@ use Rattle.demangle_words.specs.declared.stretch.Stretch.TheVariants.{NestedAfte
 use Rattle.demangle_words.proofs.GroupReads.{crate_reads, nested_reads}
 use Rattle.demangle_words.specs.Texts.{found}
 use Rattle.demangle_symbol.specs.Words.{some_or, namespace_at, byte_at}
-use Rattle.demangle_grammar.specs.Table.{path, path_rows}
+use Rattle.demangle_grammar.specs.Table.{path}
 use Rattle.demangle_words.specs.Tags.{path_kinds, path_of}
 use Rattle.demangle_grammar.specs.Reading.{Place, run, level_of, levels}
 use Rattle.demangle_v0.specs.Points.{frame_of, frame_at, then_frame, unit_rest_at, unit_rest_of, none_open, Turn, Env, MayRead, RestDoes, PointDoes, Paid}
@@ -24,7 +24,7 @@ use Rattle.demangle_v0.specs.declared.points.State.{State}
 use Rattle.demangle_v0.specs.declared.points.Stop.{Stop}
 use Rattle.demangle_v0.specs.declared.points.Stop.TheVariants.{Refused, Fault}
 use Rattle.demangle_words.specs.declared.output.Output.{Ghosts}
-use Rattle.demangle_words.proofs.TagRows.{rows_of, row_found}
+use Rattle.demangle_words.proofs.TagRows.{row_found}
 use Rattle.demangle_v0.proofs.PointSteps.{group_heard, group_then, group_shut}
 use Rattle.demangle_v0.proofs.PointTurns.{ended, leaves, ends, tells, halts, behind, alike}
 use Rattle.demangle_symbol.proofs.Counts.{placed, byte_placed}
@@ -37,12 +37,9 @@ module _ {V : Type 0} (output : Ghosts V) (b : List ℕ) (include_hash : Bool) w
 
   -- A path by its tag.
 
-  path_kinds_so : (v : Bool) → path_rows v ≡ rows_of (path_of v) path_kinds
-  path_kinds_so v = refl
-
   path_so : (v : Bool) (left n : ℕ) (i : Place) (c : ℕ) (o : Option PathKind) → o ≡ found c path_kinds → path_heard v left n i c ≡ none_open (of include_hash output.is_printed (run (some_or invalid o (path_of v)) (around b output.is_printed left n) i))
   path_so v left n i c o e =
-      ap (λ (p : Items). none_open (of include_hash output.is_printed (run p (around b output.is_printed left n) i))) (ap (λ rs. Rattle.demangle_grammar.specs.Table.row_of c invalid rs) (path_kinds_so v) ∙ row_found c invalid (path_of v) path_kinds)
+      ap (λ (p : Items). none_open (of include_hash output.is_printed (run p (around b output.is_printed left n) i))) (row_found c invalid (path_of v) path_kinds)
       ∙ ap (λ (o : Option PathKind). none_open (of include_hash output.is_printed (run (some_or invalid o (path_of v)) (around b output.is_printed left n) i))) (sym e)
 
   -- A path.

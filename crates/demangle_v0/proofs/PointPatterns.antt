@@ -7,7 +7,7 @@ use Rattle.demangle_symbol.specs.Words.{some_or, byte_at}
 use Rattle.demangle_grammar.specs.Items.{Items, a_pattern, invalid, done, sound, child}
 use Rattle.demangle_grammar.specs.Events.{Heard, of, with_looks, with_texts, around}
 use Rattle.demangle_words.specs.Texts.{text, found}
-use Rattle.demangle_grammar.specs.Table.{row_of, pattern_rows, more}
+use Rattle.demangle_grammar.specs.Table.{more}
 use Rattle.demangle_words.specs.Tags.{pattern_kinds, pattern_kind_of}
 use Rattle.demangle_grammar.specs.Reading.{run}
 use Rattle.demangle_v0.specs.Points.{Turn, Env, PointDoes, frame_of, frame_at, then_frame, unit_rest_at, none_open, Fits}
@@ -19,15 +19,12 @@ use Rattle.demangle_v0.specs.declared.points.Stop.TheVariants.{Fault}
 use Rattle.demangle_words.specs.declared.tags.PatternKind.{PatternKind}
 use Rattle.demangle_words.specs.declared.tags.PatternKind.TheVariants as kind
 use Rattle.demangle_grammar.proofs.Elements.{pattern_element}
-use Rattle.demangle_words.proofs.TagRows.{rows_of, row_found}
+use Rattle.demangle_words.proofs.TagRows.{row_found}
 use Rattle.demangle_grammar.proofs.ListReads.{child_followed, more_failed, more_over, more_on}
 use Rattle.demangle_grammar.proofs.PathReads.{pattern_missing, pattern_reads}
 use Rattle.demangle_v0.proofs.PointSteps.{heard}
 use Rattle.demangle_v0.proofs.PointTurns.{ends, leaves}
 use Rattle.demangle_grammar.proofs.UnitReads.{raise_deep, raise_on}
-
-patterns_so : pattern_rows ≡ rows_of pattern_kind_of pattern_kinds
-patterns_so = refl
 
 abbrev further : Items
 further = more " | " (child a_pattern false done) (sound done invalid)
@@ -38,7 +35,7 @@ pattern_so : {V : Type 0} (e : Env V) (s : State) (i c j : ℕ) (p : Option Patt
 unfolding unit_rest_at
 pattern_so e s i c j p o q =
     ap none_open (pattern_reads e.include_hash e.output.is_printed e.symbol s.depth_left s.lifetimes false i c j (sym o))
-    ∙ ap (λ (x : Items). with_looks (4 * (j - i + 1) ∷ []) (heard e.output e.symbol e.include_hash x s.depth_left s.lifetimes (Some j))) ((ap (λ rs. row_of c invalid rs) patterns_so ∙ row_found c invalid pattern_kind_of pattern_kinds) ∙ ap (λ (p : Option PatternKind). some_or invalid p pattern_kind_of) (sym q))
+    ∙ ap (λ (x : Items). with_looks (4 * (j - i + 1) ∷ []) (heard e.output e.symbol e.include_hash x s.depth_left s.lifetimes (Some j))) (row_found c invalid pattern_kind_of pattern_kinds ∙ ap (λ (p : Option PatternKind). some_or invalid p pattern_kind_of) (sym q))
 
 module _ {V : Type 0} {e : Env V} where
   pub pattern_untagged : {t : Turn V} {n : ℕ} (i : ℕ) → t.state.place ≡ Some i → None ≡ byte_at e.symbol i → n ≡ t.looks + 1 → t.state.mark ≡ None → PointDoes e point.Pattern t (Err (Fault mark.Invalid)) (record t { looks = n })

@@ -6,8 +6,8 @@ use Rattle.demangle_symbol.specs.Digits.{is_byte}
 use Rattle.demangle_symbol.specs.Words.{some_or, byte_at}
 use Rattle.demangle_grammar.specs.Items.{Items, invalid, done, unit}
 use Rattle.demangle_grammar.specs.Events.{Heard, and_then, with_texts, around}
-use Rattle.demangle_words.specs.Texts.{text, found}
-use Rattle.demangle_grammar.specs.Table.{says, list, tuple, row_of, string, constant, constant_inside, constant_rows}
+use Rattle.demangle_words.specs.Texts.{found}
+use Rattle.demangle_grammar.specs.Table.{says, list, tuple, string, constant, constant_inside}
 use Rattle.demangle_words.specs.Tags.{constant_kinds, constant_of}
 use Rattle.demangle_grammar.specs.Reading.{run}
 use Rattle.demangle_v0.specs.PointContracts.{brace_behind, shared_constant, variant_constant}
@@ -24,16 +24,13 @@ use Rattle.demangle_words.specs.declared.tags.ConstantKind.{ConstantKind}
 use Rattle.demangle_words.specs.declared.tags.ConstantKind.TheVariants as kind
 use Rattle.demangle_grammar.proofs.ConstantReads.{constant_missing, constant_deep, constant_reads, minus_reads, plus_reads, text_reads, reference_reads}
 use Rattle.demangle_grammar.proofs.Extended.{extended, IsExtended, extended_reads}
-use Rattle.demangle_words.proofs.TagRows.{rows_of, row_found}
+use Rattle.demangle_words.proofs.TagRows.{row_found}
 use Rattle.demangle_v0.proofs.PointConstants.{items_of, Inside}
 use Rattle.demangle_v0.proofs.PointTurns.{alike, behind, behind_few, ends, leaves}
 
-constants_so : (v : Bool) (tag : ℕ) → constant_rows v tag ≡ rows_of (constant_of v tag) constant_kinds
-constants_so v tag = refl
-
 constant_so : {V : Type 0} (e : Env V) (s : State) (c : ℕ) (o : Option ConstantKind) → o ≡ found c constant_kinds → items_of e (constant s.in_value c) s ≡ items_of e (some_or invalid o (constant_of s.in_value c)) s
 constant_so e s c o q =
-    ap (λ (p : Items). items_of e p s) (ap (λ rs. row_of c invalid rs) (constants_so s.in_value c) ∙ row_found c invalid (constant_of s.in_value c) constant_kinds)
+    ap (λ (p : Items). items_of e p s) (row_found c invalid (constant_of s.in_value c) constant_kinds)
     ∙ ap (λ (o : Option ConstantKind). items_of e (some_or invalid o (constant_of s.in_value c)) s) (sym q)
 
 abbrev in_braces : Bool → Items → Items

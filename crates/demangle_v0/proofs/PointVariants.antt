@@ -5,7 +5,7 @@ use Rattle.demangle_symbol.specs.Words.{some_or, byte_at}
 use Rattle.demangle_grammar.specs.Items.{Items, invalid, done}
 use Rattle.demangle_grammar.specs.Events.{with_looks}
 use Rattle.demangle_words.specs.Texts.{found}
-use Rattle.demangle_grammar.specs.Table.{says, list, row_of, variant_rows, constant_inside, field}
+use Rattle.demangle_grammar.specs.Table.{says, list, constant_inside, field}
 use Rattle.demangle_words.specs.Tags.{variant_kinds, variant_of, closes}
 use Rattle.demangle_grammar.specs.Reading.{run}
 use Rattle.demangle_v0.specs.Points.{Turn, Env, RestDoes, PointDoes, own_looks, unit_rest_at, none_open, Fits}
@@ -20,7 +20,7 @@ use Rattle.demangle_v0.specs.declared.points.Stop.TheVariants.{Fault}
 use Rattle.demangle_words.specs.declared.tags.VariantKind.{VariantKind}
 use Rattle.demangle_words.specs.declared.tags.VariantKind.TheVariants as kind
 use Rattle.demangle_grammar.proofs.ConstantReads.{variant_failed, variant_missing, variant_reads}
-use Rattle.demangle_words.proofs.TagRows.{rows_of, row_found}
+use Rattle.demangle_words.proofs.TagRows.{row_found}
 use Rattle.demangle_v0.proofs.PointSteps.{heard}
 use Rattle.demangle_v0.proofs.PointTaggedConstants.{Braced, braced}
 use Rattle.demangle_v0.proofs.PointTurns.{behind_few, ends, marks, unread}
@@ -29,16 +29,13 @@ use Rattle.demangle_v0.proofs.PointTurns.{behind_few, ends, marks, unread}
 abbrev pub behind_field : Items
 behind_field = says ": " constant_inside
 
-variants_so : (v : Bool) → variant_rows (closes v) ≡ rows_of (variant_of v) variant_kinds
-variants_so v = refl
-
 -- behind its tag
 variant_so : {V : Type 0} (e : Env V) (s : State) (i c j : ℕ) (p : Option VariantKind) → Some (c, j) ≡ byte_at e.symbol i → p ≡ found c variant_kinds
     → unit_rest_at e.symbol e.include_hash e.output.is_printed point.Variant s.in_value s.letter s.depth_left s.lifetimes (Some i) s.is_open ≡ with_looks (4 * (j - i + 1) ∷ []) (heard e.output e.symbol e.include_hash (some_or invalid p (variant_of s.in_value)) s.depth_left s.lifetimes (Some j))
 unfolding unit_rest_at
 variant_so e s i c j p o q =
     ap none_open (variant_reads e.include_hash e.output.is_printed e.symbol s.depth_left s.lifetimes (closes s.in_value) i c j (sym o))
-    ∙ ap (λ (x : Items). with_looks (4 * (j - i + 1) ∷ []) (heard e.output e.symbol e.include_hash x s.depth_left s.lifetimes (Some j))) ((ap (λ rs. row_of c invalid rs) (variants_so s.in_value) ∙ row_found c invalid (variant_of s.in_value) variant_kinds) ∙ ap (λ (p : Option VariantKind). some_or invalid p (variant_of s.in_value)) (sym q))
+    ∙ ap (λ (x : Items). with_looks (4 * (j - i + 1) ∷ []) (heard e.output e.symbol e.include_hash x s.depth_left s.lifetimes (Some j))) (row_found c invalid (variant_of s.in_value) variant_kinds ∙ ap (λ (p : Option VariantKind). some_or invalid p (variant_of s.in_value)) (sym q))
 
 -- what it holds is read from this point on
 abbrev DidHold : {V : Type 0} → Env V → VariantKind → Point → Mark → Type 0
