@@ -203,10 +203,7 @@ reads {w} (bindings o p) s d c e k g a n i j z x = bound_read w s.printed (suc (
 
 pub all_below : (kind : Kind) → IsTrue (is_below 2 kind)
 all_below a_path = refl
-all_below a_type = refl
-all_below a_constant = refl
-all_below a_pattern = refl
-all_below a_trait_path = refl
+all_below _ = refl
 
 pub below_rank : (r : ℕ) (kind : Kind) → IsTrue (is_below r kind) → rank kind < r
 below_rank zero kind h = absurd (cc h)

@@ -19,37 +19,23 @@ use Rattle.demangle_grammar.proofs.Account.{start, is_below, is_closed, is_some_
 
 -- The rules for a place and its stretches.
 
+-- further on, behind a stretch
+spent : (n r i k from mid to c w : ℕ) (xs : List StretchCost) (x : Place) → i ≤ k → k ≤ n → c ≤ 32 * (k - i) + from → mid + c ≤ 32 * (k - i) + from + r * w →
+    Ends n r k mid to xs x → Ends n r i from to (record { bytes = w; looks = c } ∷ xs) x
+spent n r i k from mid to c w xs None l m a e h = (omega (arith, l, m, a), Pays-more r (32 * (n + 1 - k) + mid) (32 * (n + 1 - i) + from - c + r * w) 0 0 0 xs (omega (arith, l, m, a, e)) (omega arith) h)
+spent n r i k from mid to c w xs (Some j) l m a e h =
+    (omega (arith, l, h.0), h.1, (omega (arith, l, h.0, a), Pays-more r (32 * (j - k) + mid) (32 * (j - i) + from - c + r * w) to to 0 xs (omega (arith, l, h.0, a, e)) (omega arith) h.2))
+
 -- further on, with the looks c between
 step : (plain : Bool) (n r i k from mid to c : ℕ) (t : Tree) (x : Place) → i ≤ k → k ≤ n → c + mid ≤ 32 * (k - i) + from →
     Ends n r k mid to (stretches plain t) x → Ends n r i from to (stretches plain (looked c t)) x
-step plain n r i k from mid to c t None l m e h = (
-  omega (arith, l, m, e),
-  Pays-more r (32 * (n + 1 - k) + mid) (32 * (n + 1 - i) + from - c + r * 0) 0 0 0 (stretches plain t) (omega (arith, l, m, e)) (omega arith) h,
-)
-step plain n r i k from mid to c t (Some j) l m e h = (
-  omega (arith, l, h.0),
-  h.1,
-  (
-    omega (arith, l, h.0, e),
-    Pays-more r (32 * (j - k) + mid) (32 * (j - i) + from - c + r * 0) to to 0 (stretches plain t) (omega (arith, l, h.0, e)) (omega arith) h.2,
-  ),
-)
+step plain n r i k from mid to c t x l m e h = spent n r i k from mid to c 0 (stretches plain t) x l m (omega (arith, e)) (omega (arith, e)) h
 
 -- a text at the place
 says : (plain : Bool) (n r i from mid to : ℕ) (text : Text) (t : Tree) (x : Place) → mid ≤ from + r * length text →
     Ends n r i mid to (stretches plain t) x → Ends n r i from to (stretches plain (piece text t)) x
-says plain n r i from mid to text t None e h = (
-  omega arith,
-  Pays-more r (32 * (n + 1 - i) + mid) (32 * (n + 1 - i) + from - 0 + r * length text) 0 0 0 (stretches plain t) (omega (arith, e)) (omega arith) h,
-)
-says plain n r i from mid to text t (Some j) e h = (
-  h.0,
-  h.1,
-  (
-    omega arith,
-    Pays-more r (32 * (j - i) + mid) (32 * (j - i) + from - 0 + r * length text) to to 0 (stretches plain t) (omega (arith, e)) (omega arith) h.2,
-  ),
-)
+says plain n r i from mid to text t None e h = (omega arith, Pays-more r (32 * (n + 1 - i) + mid) (32 * (n + 1 - i) + from - 0 + r * length text) 0 0 0 (stretches plain t) (omega (arith, e)) (omega arith) h)
+says plain n r i from mid to text t (Some j) e h = spent n r i i from mid to 0 (length text) (stretches plain t) (Some j) (omega arith) (omega (arith, h.0, h.1)) (omega arith) (omega (arith, e)) h
 
 says_plain : (plain : Bool) (n r i from to : ℕ) (text : Text) (t : Tree) (x : Place) →
     Ends n r i from to (stretches plain t) x → Ends n r i from to (stretches plain (plain_piece text t)) x

@@ -209,10 +209,8 @@ constant_same tag = same_row tag invalid (constant_rows true tag) (constant_rows
 
 items_same : (kind : Kind) → mute (items kind true) ≡ mute (items kind false)
 items_same a_path = ap (λ (f : ℕ → Items). raise (byte f)) (same_for_all path_same)
-items_same a_type = refl
 items_same a_constant = ap (λ (f : ℕ → Items). byte (λ tag. raise (f tag))) (same_for_all constant_same)
-items_same a_pattern = refl
-items_same a_trait_path = refl
+items_same _ = refl
 
 items_alike : (kind : Kind) (v w : Bool) → mute (items kind v) ≡ mute (items kind w)
 items_alike kind true true = refl
