@@ -9,11 +9,9 @@ use Rattle.demangle_grammar.proofs.PaysRules.{Pays-more, Pays-append}
 
 -- the credit that a unit is begun with, and the credit that it leaves
 abbrev pub start : Kind → ℕ
-start a_path = 0
 start a_type = 2
-start a_constant = 0
-start a_pattern = 0
 start a_trait_path = 2
+start _ = 0
 
 abbrev pub is_some_text : Text → Bool
 is_some_text [] = false
@@ -21,11 +19,9 @@ is_some_text (b ∷ bs) = true
 
 -- 1 for what begins units at its own depth
 abbrev pub rank : Kind → ℕ
-rank a_path = 0
-rank a_type = 0
-rank a_constant = 0
 rank a_pattern = 1
 rank a_trait_path = 1
+rank _ = 0
 
 -- units of a rank below r
 abbrev pub is_below : ℕ → Kind → Bool
@@ -154,16 +150,8 @@ idle_closed plain r false = (refl, omega arith)
 pub idle : (plain : Bool) (r : ℕ) (p : Items) (s : Surroundings) → Idle plain r (run p s None)
 unfolding run turns bound_by
 idle plain r done s = (refl, omega arith)
-idle plain r invalid s = (refl, (omega arith, omega arith))
 idle plain r (say t p) s = let q : Idle plain r (run p s None) = idle plain r p s in (q.0, free_piece plain r t (run p s None).tree q.1)
 idle plain r (say_plain t p) s = let q : Idle plain r (run p s None) = idle plain r p s in (q.0, free_plain plain r t (run p s None).tree q.1)
-idle plain r (byte f) s = (refl, (omega arith, omega arith))
-idle plain r (namespace f) s = (refl, (omega arith, omega arith))
-idle plain r (integer f) s = (refl, (omega arith, omega arith))
-idle plain r (optional tag f) s = (refl, (omega arith, omega arith))
-idle plain r (identifier f) s = (refl, (omega arith, omega arith))
-idle plain r (nibbles f) s = (refl, (omega arith, omega arith))
-idle plain r (peek f) s = (refl, (omega arith, omega arith))
 idle plain r (next b p q) s = idle plain r q s
 idle plain r (sound p q) s = idle plain r q s
 idle plain r (until_end p q) s = idle_followed plain r (turns (suc (length s.symbol)) s.symbol (run p s) None) (run q s) (refl, omega arith) (idle plain r q s)
@@ -171,9 +159,9 @@ idle plain r (raise p) s = idle_raised plain r s.deeper (λ l ls. run p (record 
 idle plain r (unit p q) s = idle_followed plain r (run p s None) (run q s) (idle plain r p s) (idle plain r q s)
 idle plain r (child kind value p) s = idle_followed plain r (unit_outcome s kind value None) (run p s) (refl, (omega arith, omega arith)) (idle plain r p s)
 idle plain r (skip p) s = idle plain r p s
-idle plain r (target kind value) s = (refl, (omega arith, omega arith))
 idle plain r (lifetime k p) s = idle_followed plain r (lifetime_at s.printed s.lifetimes k None) (run p s) (idle_lifetime plain r s.printed s.lifetimes k) (idle plain r p s)
 idle plain r (binder m p) s = let q : Idle plain r (run p (record s { lifetimes = s.lifetimes + m }) None) = idle plain r p (record s { lifetimes = s.lifetimes + m }) in (q.0, free_binder plain r s.printed m s.lifetimes (run p (record s { lifetimes = s.lifetimes + m }) None).tree q.1)
 idle plain r (opens p) s = let q : Idle plain r (run p s None) = idle plain r p s in (q.0, q.1)
 idle plain r (dyn_trait p) s = idle_followed plain r (unit_outcome s a_trait_path false None) (bound_by (suc (length s.symbol)) s (run p s) false) (refl, (omega arith, omega arith)) (idle_closed plain r false)
 idle plain r (bindings o p) s = idle_closed plain r o
+idle _ _ _ _ = (refl, (omega arith, omega arith))

@@ -65,8 +65,6 @@ target_closed false (l ∷ ls) kind value m t end c a = refl
 
 closes : (p : Items) (s : Surroundings) (r e k : ℕ) (g : Bool) → Fits true r e k g p → AllClosed s.deeper → (i : Place) → (run p s i).is_open ≡ false
 unfolding run
-closes done s r e k g c a i = refl
-closes invalid s r e k g c a i = refl
 closes (say t p) s r e k g c a i = closes p s _ _ _ _ c a i
 closes (say_plain t p) s r e k g c a i = closes p s _ _ _ _ c a i
 closes (byte f) s r e k g c a i = word_closed s i byte_at (λ v. run (f v) s) (λ v. closes (f v) s _ _ _ _ (c v) a)
@@ -75,7 +73,6 @@ closes (integer f) s r e k g c a i = word_closed s i integer_at (λ v. run (f v)
 closes (optional tag f) s r e k g c a i = word_closed s i (optional_at tag) (λ v. run (f v) s) (λ v. closes (f v) s _ _ _ _ (c.1 v) a)
 closes (identifier f) s r e k g c a i = word_closed s i identifier_at (λ v. run (f v) s) (λ v. closes (f v) s _ _ _ _ (c v) a)
 closes (nibbles f) s r e k g c a i = word_closed s i nibbles_at (λ v. run (f v) s) (λ v. closes (f v) s _ _ _ _ (c v) a)
-closes (peek f) s r e k g c a None = refl
 closes (peek f) s r e k g c a (Some i) = peek_closed (λ v. run (f v) s (Some i)) (slice_get s.symbol i) (λ v. closes (f v) s _ _ _ _ (c.1 v) a (Some i))
 closes (next b p q) s r e k g c a i = fork_closed (stands_at s b i) (run p s) (run q s) i (closes p s _ _ _ _ c.1 a) (closes q s _ _ _ _ c.2 a)
 closes (sound p q) s r e k g c a None = closes q s _ _ _ _ c.3 a None
@@ -92,6 +89,7 @@ closes (binder n p) s r e k g c a i = closes p (record s { lifetimes = s.lifetim
 closes (opens p) s r e k g c a i = cc c.0
 closes (dyn_trait p) s r e k g c a i = bound_closed (suc (length s.symbol)) s (run p s) (unit_outcome s a_trait_path false i).is_open (unit_outcome s a_trait_path false i).place
 closes (bindings o p) s r e k g c a i = bound_closed (suc (length s.symbol)) s (run p s) o i
+closes _ s r e k g c a i = refl
 
 -- The levels.
 

@@ -207,11 +207,9 @@ all_below _ = refl
 
 pub below_rank : (r : ℕ) (kind : Kind) → IsTrue (is_below r kind) → rank kind < r
 below_rank zero kind h = absurd (cc h)
-below_rank (suc r) a_path h = omega arith
-below_rank (suc r) a_type h = omega arith
-below_rank (suc r) a_constant h = omega arith
 below_rank (suc r) a_pattern h = let l : 0 < r = ltb-true 0 r h in omega (arith, l)
 below_rank (suc r) a_trait_path h = let l : 0 < r = ltb-true 0 r h in omega (arith, l)
+below_rank (suc r) _ h = omega arith
 
 pub lowest : (kind k l : Kind) → IsTrue (is_below (rank kind) k) → IsTrue (is_below (rank k) l) → ⊥
 lowest kind k l h e = let x = below_rank (rank kind) k h in let y = below_rank (rank k) l e in let z = below_rank 2 kind (all_below kind) in omega (arith, x, y, z)

@@ -34,8 +34,6 @@ allowed_looks plain out (node inside rest) = omega (arith, allowed_append (event
 allowed_looks plain out (looked k rest) = omega (arith, allowed_looks plain out rest)
 allowed_looks plain out (hidden inside rest) =
     omega (arith, allowed_append (events plain false inside) (events plain out rest), looks_append (looks_alone (stretches plain inside)) (stretches plain rest), looks_unheard (stretches plain inside), allowed_looks plain false inside, allowed_looks plain out rest)
-allowed_looks plain out invalid_syntax = allowed_said out _ []
-allowed_looks plain out too_deep = allowed_said out _ []
-allowed_looks plain out unread = allowed_said out _ []
+allowed_looks plain out _ = allowed_said out _ []
 
 -- A row of frames: what each still reads, and what the row does, whose last frame goes first.

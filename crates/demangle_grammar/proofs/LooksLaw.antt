@@ -107,9 +107,7 @@ tree_bytes false (plain_piece t rest) = tree_bytes false rest
 tree_bytes plain (node x y) = omega (arith, tree_bytes plain x, tree_bytes plain y, bytes_append (stretches plain x) (stretches plain y), size-append (pieces plain x) (pieces plain y))
 tree_bytes plain (looked k rest) = omega (arith, tree_bytes plain rest)
 tree_bytes plain (hidden x rest) = omega (arith, tree_bytes plain rest, bytes_unheard (stretches plain x), bytes_append (looks_alone (stretches plain x)) (stretches plain rest))
-tree_bytes plain invalid_syntax = omega arith
-tree_bytes plain too_deep = omega arith
-tree_bytes plain unread = omega arith
+tree_bytes plain _ = omega arith
 
 pub rendered_bytes : (symbol : List ℕ) (plain : Bool) → bytes_of (stretches plain (read_at symbol true a_path 0 0 0 true).tree) ≡ size (path_texts symbol plain)
 unfolding path_texts

@@ -171,10 +171,7 @@ hushed_paid plain n r i from mid to o f h k d l = go o.tree o.place h
 
 pub small : (kind : Kind) → start kind ≤ 2
 small a_path = omega arith
-small a_type = omega arith
-small a_constant = omega arith
-small a_pattern = omega arith
-small a_trait_path = omega arith
+small _ = omega arith
 
 -- a target's tree, with the money for it
 target_paid : (plain : Bool) (n r S m t a k : ℕ) (kind : Kind) (value : Bool) (l : Level) → LevelPays plain n r S true l → t ≤ n → 32 * (n + 1) + 2 + S + k ≤ a →

@@ -45,9 +45,7 @@ pays_quiet r c plain (hidden inside rest) ys zs f a h =
     joined r a c (events plain false inside) (events plain false rest) zs
     (pays_quiet r c plain inside (looks_alone (stretches plain rest) ++ ys) (weighed (events plain false rest) ++ zs) (λ a'. pays_quiet r c plain rest ys zs f a') a
     (split r a c (looks_alone (stretches plain inside)) (looks_alone (stretches plain rest)) ys _ (unheard_append (looks_alone (stretches plain inside)) (stretches plain rest) ∙ ap (λ ws. ws ++ looks_alone (stretches plain rest)) (unheard_twice (stretches plain inside))) h))
-pays_quiet r c plain invalid_syntax ys zs f a h = f a (free r a c ys h.1)
-pays_quiet r c plain too_deep ys zs f a h = f a (free r a c ys h.1)
-pays_quiet r c plain unread ys zs f a h = f a (free r a c ys h.1)
+pays_quiet r c plain _ ys zs f a h = f a (free r a c ys h.1)
 
 -- of what is printed
 pays_events : (r c : ℕ) (plain : Bool) (t : Tree) (ys zs : List StretchCost) → ((a : ℕ) → Pays r a ys c → Pays r a zs c) → (a : ℕ) → Pays r a (stretches plain t ++ ys) c → Pays r a (weighed (events plain true t) ++ zs) c
@@ -64,9 +62,7 @@ pays_events r c plain (hidden inside rest) ys zs f a h =
     joined r a c (events plain false inside) (events plain true rest) zs
     (pays_quiet r c plain inside (stretches plain rest ++ ys) (weighed (events plain true rest) ++ zs) (λ a'. pays_events r c plain rest ys zs f a') a
     (split r a c (looks_alone (stretches plain inside)) (stretches plain rest) ys _ refl h))
-pays_events r c plain invalid_syntax ys zs f a h = (h.0, f _ h.1)
-pays_events r c plain too_deep ys zs f a h = (h.0, f _ h.1)
-pays_events r c plain unread ys zs f a h = (h.0, f _ h.1)
+pays_events r c plain _ ys zs f a h = (h.0, f _ h.1)
 
 pub pays_tree : (r a c : ℕ) (plain : Bool) (t : Tree) → Pays r a (stretches plain t) c → Pays r a (weighed (events plain true t)) c
 pays_tree r a c plain t h =

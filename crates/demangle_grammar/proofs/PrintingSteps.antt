@@ -20,15 +20,12 @@ quiet_plain false t xs = refl
 
 -- what is only read hands nothing over
 pub quiet_events : (plain : Bool) (t : Tree) → shown_in (events plain false t) ≡ []
-quiet_events plain nothing = refl
 quiet_events plain (piece x rest) = quiet_events plain rest
 quiet_events plain (plain_piece x rest) = quiet_plain plain x (events plain false rest) ∙ quiet_events plain rest
 quiet_events plain (node inside rest) = shown_append (events plain false inside) (events plain false rest) ∙ both_empty _ _ (quiet_events plain inside) (quiet_events plain rest)
 quiet_events plain (looked k rest) = quiet_events plain rest
 quiet_events plain (hidden inside rest) = shown_append (events plain false inside) (events plain false rest) ∙ both_empty _ _ (quiet_events plain inside) (quiet_events plain rest)
-quiet_events plain invalid_syntax = refl
-quiet_events plain too_deep = refl
-quiet_events plain unread = refl
+quiet_events plain _ = refl
 
 shown_plain : (plain : Bool) (t : Text) (rest : Tree) (xs : List Event) → shown_in xs ≡ pieces plain rest → shown_in (shown_if (Rattle.std.specs.Prelude.◌&&◌ plain true) t xs) ≡ pieces plain (plain_piece t rest)
 shown_plain true t rest xs e = ap (λ (zs : List Text). t ∷ zs) e
@@ -36,15 +33,12 @@ shown_plain false t rest xs e = e
 
 -- what is printed hands over the tree's pieces
 pub shown_events : (plain : Bool) (t : Tree) → shown_in (events plain true t) ≡ pieces plain t
-shown_events plain nothing = refl
 shown_events plain (piece x rest) = ap (λ (zs : List Text). x ∷ zs) (shown_events plain rest)
 shown_events plain (plain_piece x rest) = shown_plain plain x rest (events plain true rest) (shown_events plain rest)
 shown_events plain (node inside rest) = shown_append (events plain true inside) (events plain true rest) ∙ (ap (λ xs. xs ++ shown_in (events plain true rest)) (shown_events plain inside) ∙ ap (λ ys. pieces plain inside ++ ys) (shown_events plain rest))
 shown_events plain (looked k rest) = shown_events plain rest
 shown_events plain (hidden inside rest) = shown_append (events plain false inside) (events plain true rest) ∙ (ap (λ xs. xs ++ shown_in (events plain true rest)) (quiet_events plain inside) ∙ shown_events plain rest)
-shown_events plain invalid_syntax = refl
-shown_events plain too_deep = refl
-shown_events plain unread = refl
+shown_events plain _ = refl
 
 -- the same as stretches
 abbrev pub weighed : List Event → List StretchCost

@@ -137,8 +137,6 @@ module _ (plain : Bool) where
 
   muted : (p : Items) (b : List ℕ) (here : Level) (deeper : List Level) (m n : ℕ) → Uniform plain here → AllUniform plain deeper → (i : Place) → Alike plain (run p (silent b here deeper m) i) (run (mute p) (silent b here deeper n) i)
   unfolding run
-  muted done b here deeper m n h a i = refl
-  muted invalid b here deeper m n h a i = refl
   muted (say t p) b here deeper m n h a i = muted p b here deeper m n h a i
   muted (say_plain t p) b here deeper m n h a i = let o = run p (silent b here deeper m) i in ap (λ xs. record { events = xs; place = o.place; is_open = o.is_open }) (said_plain plain t (events plain false o.tree)) ∙ muted p b here deeper m n h a i
   muted (byte f) b here deeper m n h a i = worded (of plain false) look b false here here deeper m n byte_at (λ v. run (f v) (silent b here deeper m)) (λ v. run (mute (f v)) (silent b here deeper n)) (λ v. muted (f v) b here deeper m n h a) i
@@ -147,7 +145,6 @@ module _ (plain : Bool) where
   muted (optional tag f) b here deeper m n h a i = worded (of plain false) look b false here here deeper m n (optional_at tag) (λ v. run (f v) (silent b here deeper m)) (λ v. run (mute (f v)) (silent b here deeper n)) (λ v. muted (f v) b here deeper m n h a) i
   muted (identifier f) b here deeper m n h a i = worded (of plain false) look b false here here deeper m n identifier_at (λ v. run (f v) (silent b here deeper m)) (λ v. run (mute (f v)) (silent b here deeper n)) (λ v. muted (f v) b here deeper m n h a) i
   muted (nibbles f) b here deeper m n h a i = worded (of plain false) look b false here here deeper m n nibbles_at (λ v. run (f v) (silent b here deeper m)) (λ v. run (mute (f v)) (silent b here deeper n)) (λ v. muted (f v) b here deeper m n h a) i
-  muted (peek f) b here deeper m n h a None = refl
   muted (peek f) b here deeper m n h a (Some i) = peeked (of plain false) look (λ v. run (f v) (silent b here deeper m) (Some i)) (λ v. run (mute (f v)) (silent b here deeper n) (Some i)) (slice_get b i) (λ v. muted (f v) b here deeper m n h a (Some i))
   muted (next c p q) b here deeper m n h a None = muted q b here deeper m n h a None
   muted (next c p q) b here deeper m n h a (Some i) = forked (of plain false) look (is_byte b i c) (run p (silent b here deeper m)) (run (mute p) (silent b here deeper n)) (run q (silent b here deeper m)) (run (mute q) (silent b here deeper n)) (Some i)
@@ -156,14 +153,12 @@ module _ (plain : Bool) where
   muted (sound p q) b here deeper m n h a (Some i) = muted p b here deeper m n h a (Some i)
   muted (until_end p q) b here deeper m n h a i = alike_followed (turns (suc (length b)) b (run p (silent b here deeper m)) i) (turns (suc (length b)) b (run (mute p) (silent b here deeper n)) i) (run q (silent b here deeper m)) (run (mute q) (silent b here deeper n))
       (turned (of plain false) look alike_followed (suc (length b)) b (run p (silent b here deeper m)) (run (mute p) (silent b here deeper n)) (muted p b here deeper m n h a) i) (muted q b here deeper m n h a)
-  muted (raise p) b here [] m n h a i = refl
   muted (raise p) b here (l ∷ ls) m n h a i = muted p b l ls m n a.0 a.1 i
   muted (unit p q) b here deeper m n h a i = alike_followed (run p (silent b here deeper m) i) (run (mute p) (silent b here deeper n) i) (run q (silent b here deeper m)) (run (mute q) (silent b here deeper n)) (muted p b here deeper m n h a i) (muted q b here deeper m n h a)
   muted (child kind value p) b here deeper m n h a None = alike_followed (fault unread) (fault unread) (run p (silent b here deeper m)) (run (mute p) (silent b here deeper n)) refl (muted p b here deeper m n h a)
   muted (child kind value p) b here deeper m n h a (Some i) = alike_followed (here false kind value m i) (here false kind false n i) (run p (silent b here deeper m)) (run (mute p) (silent b here deeper n)) (h kind value false m n i) (muted p b here deeper m n h a)
   muted (skip p) b here deeper m n h a None = muted p b here deeper m n h a None
   muted (skip p) b here deeper m n h a (Some i) = alike_followed (here false a_path false m i) (here false a_path false n i) (run p (silent b here deeper m)) (run (mute p) (silent b here deeper n)) (h a_path false false m n i) (muted p b here deeper m n h a)
-  muted (target kind value) b here deeper m n h a None = refl
   muted (target kind value) b here [] m n h a (Some i) = refl
   muted (target kind value) b here (l ∷ ls) m n h a (Some i) = refl
   muted (lifetime k p) b here deeper m n h a i = muted p b here deeper m n h a i
@@ -172,15 +167,15 @@ module _ (plain : Bool) where
   muted (dyn_trait p) b here deeper m n h a None = alike_open (suc (length b)) b here deeper m n (run p (silent b here deeper m)) (run (mute p) (silent b here deeper n)) (muted p b here deeper m n h a) (fault unread) (fault unread) refl
   muted (dyn_trait p) b here deeper m n h a (Some i) = alike_open (suc (length b)) b here deeper m n (run p (silent b here deeper m)) (run (mute p) (silent b here deeper n)) (muted p b here deeper m n h a) (here false a_trait_path false m i) (here false a_trait_path false n i) (h a_trait_path false false m n i)
   muted (bindings o p) b here deeper m n h a i = alike_bound (suc (length b)) b here deeper m n (run p (silent b here deeper m)) (run (mute p) (silent b here deeper n)) (muted p b here deeper m n h a) o i
+  muted _ b here deeper m n h a i = refl
 
 -- The table.
 
 -- the same rows, but for texts, lifetimes and the value position
 abbrev SameRows : List (String × Items) → List (String × Items) → Type 0
 SameRows [] [] = Unit {0}
-SameRows [] (s ∷ ss) = ⊥
-SameRows (r ∷ rs) [] = ⊥
 SameRows (r ∷ rs) (s ∷ ss) = (r.0 ≡ s.0) × (mute r.1 ≡ mute s.1) × SameRows rs ss
+SameRows _ _ = ⊥
 
 same_choice : (c : Bool) (p q p' q' : Items) → mute p ≡ mute q → mute p' ≡ mute q' → mute (cond c p p') ≡ mute (cond c q q')
 same_choice true p q p' q' e f = e
@@ -188,11 +183,10 @@ same_choice false p q p' q' e f = f
 
 same_row : (tag : ℕ) (p : Items) (rs ss : List (String × Items)) → SameRows rs ss → mute (row_of tag p rs) ≡ mute (row_of tag p ss)
 same_row tag p [] [] h = refl
-same_row tag p [] (s ∷ ss) h = absurd h
-same_row tag p (r ∷ rs) [] h = absurd h
 same_row tag p (r ∷ rs) (s ∷ ss) h =
     ap (λ (x : String). mute (cond (is_among tag (codes x)) r.1 (row_of tag p rs))) h.0
     ∙ same_choice (is_among tag (codes s.0)) r.1 s.1 (row_of tag p rs) (row_of tag p ss) h.1 (same_row tag p rs ss h.2)
+same_row tag p _ _ h = absurd h
 
 same_for_all : {A B : Type 0} {f g : A → B} → ((x : A) → f x ≡ g x) → f ≡ g
 same_for_all h = λ i x. h x i
@@ -213,10 +207,9 @@ items_same a_constant = ap (λ (f : ℕ → Items). byte (λ tag. raise (f tag))
 items_same _ = refl
 
 items_alike : (kind : Kind) (v w : Bool) → mute (items kind v) ≡ mute (items kind w)
-items_alike kind true true = refl
 items_alike kind true false = items_same kind
 items_alike kind false true = sym (items_same kind)
-items_alike kind false false = refl
+items_alike kind _ _ = refl
 
 -- The levels.
 

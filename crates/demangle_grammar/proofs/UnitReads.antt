@@ -29,8 +29,6 @@ module _ (b : List ℕ) (pr : Bool) (l l' : Level) (ls : List Level) (r : ℕ) (
 
   same_here : (p : Items) (c : Bool) (x k : ℕ) (g : Bool) → Fits c r x k g p → Alike p
   unfolding run
-  same_here done c x k g h m i = refl
-  same_here invalid c x k g h m i = refl
   same_here (say t p) c x k g h m i = ap (λ (z : Outcome). behind (piece t) z) (same_here p _ _ _ _ h m i)
   same_here (say_plain t p) c x k g h m i = ap (λ (z : Outcome). behind (plain_piece t) z) (same_here p _ _ _ _ h m i)
   same_here (byte f) c x k g h m i = worded (λ o. o) look b pr l l' ls m m byte_at _ _ (λ v. same_here (f v) _ _ _ _ (h v) m) i
@@ -39,13 +37,11 @@ module _ (b : List ℕ) (pr : Bool) (l l' : Level) (ls : List Level) (r : ℕ) (
   same_here (optional tag f) c x k g h m i = worded (λ o. o) look b pr l l' ls m m (optional_at tag) _ _ (λ v. same_here (f v) _ _ _ _ (h.1 v) m) i
   same_here (identifier f) c x k g h m i = worded (λ o. o) look b pr l l' ls m m identifier_at _ _ (λ v. same_here (f v) _ _ _ _ (h v) m) i
   same_here (nibbles f) c x k g h m i = worded (λ o. o) look b pr l l' ls m m nibbles_at _ _ (λ v. same_here (f v) _ _ _ _ (h v) m) i
-  same_here (peek f) c x k g h m None = refl
   same_here (peek f) c x k g h m (Some i) = peeked (λ o. o) look _ _ (slice_get b i) (λ v. same_here (f v) _ _ _ _ (h.1 v) m (Some i))
   same_here (next t p q) c x k g h m i = forked (λ o. o) look (stands_at (at b pr l ls m) t i) _ _ _ _ i (same_here p _ _ _ _ h.1 m) (same_here q _ _ _ _ h.2 m)
   same_here (sound p q) c x k g h m None = same_here q _ _ _ _ h.3 m None
   same_here (sound p q) c x k g h m (Some i) = same_here p _ _ _ _ h.2 m (Some i)
   same_here (until_end p q) c x k g h m i = followed_same node _ _ _ _ (turned (λ o. o) look (followed_same node) (suc (length b)) b _ _ (same_here p _ _ _ _ h.3 m) i) (same_here q _ _ _ _ h.4 m)
-  same_here (raise p) c x k g h m i = refl
   same_here (unit p q) c x k g h m i = followed_same node _ _ _ _ (same_here p _ _ _ _ h.1 m i) (same_here q _ _ _ _ h.2 m)
   same_here (child kind v p) c x k g h m None = ap (λ (z : Outcome). behind (node unread) z) (same_here p _ _ _ _ h.2 m None)
   same_here (child kind v p) c x k g h m (Some i) = followed_same node _ _ _ _ (e pr kind v m i (first (is_below r kind) g h.1)) (same_here p _ _ _ _ h.2 m)
@@ -57,6 +53,7 @@ module _ (b : List ℕ) (pr : Bool) (l l' : Level) (ls : List Level) (r : ℕ) (
   same_here (opens p) c x k g h m i = ap (λ (z : Outcome). record z { is_open = true }) (same_here p _ _ _ _ h.1 m i)
   same_here (dyn_trait p) c x k g h m i = absurd (omega (arith, low, below_rank r a_trait_path (first (is_below r a_trait_path) g h.1)))
   same_here (bindings o p) c x k g h m i = absurd (omega (arith, low, below_rank r a_trait_path h.0))
+  same_here _ c x k g h m i = refl
 
 -- The levels.
 

@@ -107,12 +107,11 @@ nested_read b include_hash out s a n d j = go (is_upper n) (is_nameless a)
 
     go : (u e : Bool) → of include_hash out (run (cond u (says "::{" (say which (cond e ending (says ":" (says_name a ending))))) (cond e done (says "::" (says_name a done)))) s j)
         ≡ with_texts out (cond u (codes "::{" ∷ which ∷ (cond e [] (codes ":" ∷ name_pieces a) ++ ends)) (cond e [] (codes "::" ∷ name_pieces a))) (of include_hash out (run done s j))
-    go true true = refl
     go true false =
         ap (λ (h : Heard). with_texts out (codes "::{" ∷ []) (with_texts out (which ∷ []) (with_texts out (codes ":" ∷ []) h)))
         (says_all include_hash out (name_pieces a) ending s j ∙ sym (handing_both out (name_pieces a) ends (of include_hash out (run done s j))))
-    go false true = refl
     go false false = ap (with_texts out (codes "::" ∷ [])) (says_all include_hash out (name_pieces a) done s j)
+    go _ _ = refl
 
 -- Lifetimes.
 
@@ -133,8 +132,7 @@ lifetime_checked b include_hash plus true n k j f e = rw e (go plus (nat_le k n)
         ≡ grouped b include_hash true (cond c (goes (cond plus (DynLifetime (n - k)) (Lifetime (Some (n - k)))) (Some j)) (goes (cond plus DynLifetimeFault LifetimeFault) None)) (λ i. of include_hash true (f i))
     go true true = ap (with_texts true (codes " + " ∷ [])) named
     go false true = named
-    go true false = refl
-    go false false = refl
+    go _ _ = refl
 
 lifetime_read : (b : List ℕ) (include_hash out : Bool) (s : Surroundings) (n : ℕ) (p : Items) (k j : ℕ) (c : Bool) → (k == 0) ≡ c
     → of include_hash out (followed_by (lifetime_at out n k (Some j)) (run p s)) ≡ grouped b include_hash out (if c then goes (Lifetime None) (Some j) else if_in_force out n k j (Lifetime (Some (n - k))) LifetimeFault) (λ i. of include_hash out (run p s i))
@@ -163,9 +161,8 @@ named_read b include_hash out unsafe a p s j = go (is_empty (bytes_in b a.ascii)
   where
     go : (x y : Bool) → of include_hash out (run (cond x invalid (cond y (says_head unsafe (extern (bytes_in b a.ascii)) p) invalid)) s (Some j))
         ≡ grouped b include_hash out (cond x faulty (cond y (goes (FunctionHead unsafe (abi.Named a.ascii)) (Some j)) faulty)) (λ i. of include_hash out (run p s i))
-    go true y = refl
     go false true = head_read b include_hash out unsafe (extern (bytes_in b a.ascii)) p s (Some j)
-    go false false = refl
+    go _ _ = refl
 
 abi_read : (include_hash out unsafe : Bool) (p : Items) (s : Surroundings) (i : ℕ) → of include_hash out (run (function_head unsafe p) s (Some i)) ≡ grouped s.symbol include_hash out (abi_group s.symbol unsafe i) (λ i. of include_hash out (run p s i))
 unfolding run
@@ -188,12 +185,9 @@ number_read b include_hash out note h p s j = go (number_of (bytes_in b h)) (row
   where
     go : (n : Option ℕ) (o : Option Text) (include_hash : Bool) → of include_hash out (run (some_or (says "0x" (say (bytes_in b h) (some_or p o (λ text. say_plain text p)))) n (λ n. say (decimal n) (some_or p o (λ text. say_plain text p)))) s j)
         ≡ with_texts out (number_texts (bytes_in b h) n ++ some_or [] o (λ t. if_plain include_hash (t ∷ []))) (of include_hash out (run p s j))
-    go None None include_hash = refl
     go None (Some t) true = refl
-    go None (Some t) false = refl
-    go (Some n) None include_hash = refl
     go (Some n) (Some t) true = refl
-    go (Some n) (Some t) false = refl
+    go _ _ _ = refl
 
 truth_read : (b : List ℕ) (include_hash out : Bool) (p : Items) (s : Surroundings) (j : ℕ) (o : Option ℕ) → of include_hash out (run (says_true p o) s (Some j)) ≡ grouped b include_hash out (bool_stretch o j) (λ i. of include_hash out (run p s i))
 unfolding run
@@ -201,9 +195,8 @@ truth_read b include_hash out p s j None = refl
 truth_read b include_hash out p s j (Some n) = go (n == 0) (n == 1)
   where
     go : (x y : Bool) → of include_hash out (run (cond x (says "false" p) (cond y (says "true" p) invalid)) s (Some j)) ≡ grouped b include_hash out (cond x (goes (Fixed mark.False) (Some j)) (cond y (goes (Fixed mark.True) (Some j)) faulty)) (λ i. of include_hash out (run p s i))
-    go true y = refl
     go false true = refl
-    go false false = refl
+    go _ _ = refl
 
 character_read : (b : List ℕ) (include_hash out : Bool) (p : Items) (s : Surroundings) (j : ℕ) (o : Option ℕ) → of include_hash out (run (says_char p o) s (Some j)) ≡ grouped b include_hash out (character_stretch o j) (λ i. of include_hash out (run p s i))
 unfolding run
@@ -237,15 +230,6 @@ module _ (b : List ℕ) (include_hash : Bool) (left : ℕ) (out : Bool) (n : ℕ
 
   pub word_read : (w : Word) (note : ℕ) (p : Items) (i : Place) → of include_hash out (run (word_items w note p) at i) ≡ grouped b include_hash out (word_group b w note out n i) (λ j. of include_hash out (run p at j))
   unfolding run
-  word_read word.FieldName note p None = refl
-  word_read word.BindingName note p None = refl
-  word_read word.LifetimeIndex note p None = refl
-  word_read word.DynLifetime note p None = refl
-  word_read word.FunctionHead note p None = refl
-  word_read word.Number note p None = refl
-  word_read word.Bool note p None = refl
-  word_read word.Character note p None = refl
-  word_read word.Literal note p None = refl
   word_read word.FieldName note p (Some i) = named_reads (λ _ a. says_name a p) (λ a _. FieldName a) (then_heard p) i (λ _ j m. says_all include_hash out (name_pieces (name_of b j m)) p at (Some m))
   word_read word.BindingName note p (Some i) =
       name_reads b include_hash out (length b) i (λ a. run (says_name a (says " = " p)) at) (λ a m. goes (BindingName a) (Some m)) (then_heard p)
@@ -272,6 +256,7 @@ module _ (b : List ℕ) (include_hash : Bool) (left : ℕ) (out : Bool) (n : ℕ
   word_read word.Literal note p (Some i) =
       hex_reads b include_hash out (length b) i (λ h. run (some_or invalid (string_of h) (λ cs. say_all (literal (code "\"") cs) p)) at) (λ h j. literal_stretch (string_of (bytes_in b h)) h j) (then_heard p)
       (λ end j. let h : Part = record { from = i; to = end } in literal_read b include_hash out p at j h (string_of (bytes_in b h)) refl)
+  word_read _ note p _ = refl
 
   -- the names of paths, behind their tag
 
