@@ -10,7 +10,7 @@ use Rattle.demangle_symbol.specs.Names.{name_pieces, is_nameless, is_empty}
 use Rattle.demangle_symbol.specs.Literals.{literal, string_of}
 use Rattle.demangle_grammar.specs.Items.{Text, Items, done, invalid, say, say_plain, integer, optional, identifier, lifetime}
 use Rattle.demangle_grammar.specs.Table.{says, say_all, says_name, in_special, in_namespace, path, extern, row_text, basic_types, number_pieces}
-use Rattle.demangle_grammar.specs.Reading.{Tree, nothing, piece, looked, invalid_syntax, Place, Outcome, Surroundings, fault, behind, stands, followed_by, run, word_outcome, byte_choice, letter_of, all_pieces, lifetime_at, lifetime_named}
+use Rattle.demangle_grammar.specs.Reading.{Tree, nothing, piece, looked, invalid_syntax, Place, Outcome, Surroundings, fault, behind, stands, followed_by, run, word_outcome, byte_choice, letter_of, all_pieces, lifetime_at}
 use Rattle.demangle_words.specs.Texts.{text, word_items, says_head, function_head, says_true, says_char}
 use Rattle.demangle_grammar.specs.Events.{shows, events, Heard, of, nothing_heard, with_looks, with_texts, around}
 use Rattle.demangle_symbol.specs.Idents.{ident_parts, ident_at}
@@ -26,8 +26,7 @@ use Rattle.demangle_words.specs.declared.stretch.Stretch.{Stretch}
 use Rattle.demangle_words.specs.declared.stretch.Stretch.TheVariants.{Nothing, Fixed, CrateName, FieldName, NestedName, Lifetime, LifetimeFault, DynLifetime, DynLifetimeFault, FunctionHead, Number, Character, BindingName}
 use Rattle.demangle_words.specs.declared.read.WordRead.{WordRead}
 use Rattle.demangle_words.specs.declared.read.WordRead.TheVariants.{Goes, Stops}
-use Rattle.demangle_grammar.proofs.ListReads.{heard_as}
-use Rattle.demangle_grammar.proofs.TypeReads.{says_all}
+use Rattle.demangle_grammar.proofs.TypeReads.{says_all, lifetime_named, lifetime_wrong}
 use Rattle.demangle_grammar.proofs.Hearing.{handing_both, said_all_append, pieces_heard}
 
 -- a word, and what follows it unless it ends the unit
@@ -116,35 +115,33 @@ nested_read b include_hash out s a n d j = go (is_upper n) (is_nameless a)
 -- Lifetimes.
 
 -- a lifetime that is not `'_`, with ` + ` before it or not
-lifetime_checked : (b : List ℕ) (include_hash plus out : Bool) (n k j : ℕ) (f : Place → Outcome) → (k == 0) ≡ false
-    → with_texts out (if plus then codes " + " ∷ [] else []) (of include_hash out (followed_by (lifetime_at out n k (Some j)) f))
-    ≡ grouped b include_hash out (if_in_force out n k j (if plus then DynLifetime (n - k) else Lifetime (Some (n - k))) (if plus then DynLifetimeFault else LifetimeFault)) (λ i. of include_hash out (f i))
-lifetime_checked b include_hash true false n k j f e = refl
-lifetime_checked b include_hash false false n k j f e = refl
-lifetime_checked b include_hash plus true n k j f e = rw e (go plus (nat_le k n))
+lifetime_checked : (b : List ℕ) (include_hash plus : Bool) (left : ℕ) (out : Bool) (n k j : ℕ) (p : Items) → (k == 0) ≡ false
+    → with_texts out (if plus then codes " + " ∷ [] else []) (of include_hash out (run (lifetime k p) (around b out left n) (Some j)))
+    ≡ grouped b include_hash out (if_in_force out n k j (if plus then DynLifetime (n - k) else Lifetime (Some (n - k))) (if plus then DynLifetimeFault else LifetimeFault)) (λ i. of include_hash out (run p (around b out left n) i))
+unfolding run
+lifetime_checked b include_hash true left false n k j p e = refl
+lifetime_checked b include_hash false left false n k j p e = refl
+lifetime_checked b include_hash plus left true n k j p e = go plus (nat_le k n) refl
   where
-    named : of include_hash true (followed_by (behind (piece (codes "'")) (behind (all_pieces (letter_of (n - k))) (stands (Some j)))) f) ≡ with_texts true (codes "'" ∷ letter_of (n - k)) (of include_hash true (f (Some j)))
-    named =
-        ap (λ xs. heard_as (shows (codes "'") ∷ (xs ++ events include_hash true (f (Some j)).tree)) (of include_hash true (f (Some j)))) (pieces_heard include_hash true (letter_of (n - k)) nothing)
-        ∙ ap (λ xs. heard_as (shows (codes "'") ∷ xs) (of include_hash true (f (Some j)))) (said_all_append true (letter_of (n - k)) [] (events include_hash true (f (Some j)).tree))
+    go : (plus c : Bool) → nat_le k n ≡ c → with_texts true (cond plus (codes " + " ∷ []) []) (of include_hash true (run (lifetime k p) (around b true left n) (Some j)))
+        ≡ grouped b include_hash true (cond c (goes (cond plus (DynLifetime (n - k)) (Lifetime (Some (n - k)))) (Some j)) (goes (cond plus DynLifetimeFault LifetimeFault) None)) (λ i. of include_hash true (run p (around b true left n) i))
+    go true true f = ap (with_texts true (codes " + " ∷ [])) (lifetime_named include_hash b left n p k j e f)
+    go false true f = lifetime_named include_hash b left n p k j e f
+    go true false f = ap (with_texts true (codes " + " ∷ [])) (lifetime_wrong include_hash b left n p k j e f)
+    go false false f = lifetime_wrong include_hash b left n p k j e f
 
-    go : (plus c : Bool) → with_texts true (cond plus (codes " + " ∷ []) []) (of include_hash true (followed_by (behind (piece (codes "'")) (cond c (behind (all_pieces (letter_of (n - k))) (stands (Some j))) (fault invalid_syntax))) f))
-        ≡ grouped b include_hash true (cond c (goes (cond plus (DynLifetime (n - k)) (Lifetime (Some (n - k)))) (Some j)) (goes (cond plus DynLifetimeFault LifetimeFault) None)) (λ i. of include_hash true (f i))
-    go true true = ap (with_texts true (codes " + " ∷ [])) named
-    go false true = named
-    go _ _ = refl
-
-lifetime_read : (b : List ℕ) (include_hash out : Bool) (s : Surroundings) (n : ℕ) (p : Items) (k j : ℕ) (c : Bool) → (k == 0) ≡ c
-    → of include_hash out (followed_by (lifetime_at out n k (Some j)) (run p s)) ≡ grouped b include_hash out (if c then goes (Lifetime None) (Some j) else if_in_force out n k j (Lifetime (Some (n - k))) LifetimeFault) (λ i. of include_hash out (run p s i))
-lifetime_read b include_hash true s n p k j true e = rw e refl
-lifetime_read b include_hash false s n p k j true e = refl
-lifetime_read b include_hash out s n p k j false e = lifetime_checked b include_hash false out n k j (run p s) e
+lifetime_read : (b : List ℕ) (include_hash : Bool) (left : ℕ) (out : Bool) (n : ℕ) (p : Items) (k j : ℕ) (c : Bool) → (k == 0) ≡ c
+    → of include_hash out (run (lifetime k p) (around b out left n) (Some j)) ≡ grouped b include_hash out (if c then goes (Lifetime None) (Some j) else if_in_force out n k j (Lifetime (Some (n - k))) LifetimeFault) (λ i. of include_hash out (run p (around b out left n) i))
+unfolding run
+lifetime_read b include_hash left true n p k j true e = rw e refl
+lifetime_read b include_hash left false n p k j true e = refl
+lifetime_read b include_hash left out n p k j false e = lifetime_checked b include_hash false left out n k j p e
 
 plus_or : (b : List ℕ) (include_hash : Bool) (left : ℕ) (out : Bool) (n : ℕ) (p : Items) (k j : ℕ) (c : Bool) → (k == 0) ≡ c
     → of include_hash out (run (if c then p else says " + " (lifetime k p)) (around b out left n) (Some j)) ≡ grouped b include_hash out (if c then goes Nothing (Some j) else if_in_force out n k j (DynLifetime (n - k)) DynLifetimeFault) (λ i. of include_hash out (run p (around b out left n) i))
 unfolding run
 plus_or b include_hash left out n p k j true e = refl
-plus_or b include_hash left out n p k j false e = lifetime_checked b include_hash true out n k j (run p (around b out left n)) e
+plus_or b include_hash left out n p k j false e = lifetime_checked b include_hash true left out n k j p e
 
 -- Functions.
 
@@ -236,7 +233,7 @@ module _ (b : List ℕ) (include_hash : Bool) (left : ℕ) (out : Bool) (n : ℕ
       (λ m. let ts = name_pieces (name_of b i m) in says_all include_hash out ts (says " = " p) at (Some m) ∙ sym (handing_both out ts (codes " = " ∷ []) (of include_hash out (run p at (Some m)))))
   word_read word.LifetimeIndex note p (Some i) =
       word_reads b include_hash out (length b) i (λ k. run (lifetime k p) at) (λ k j. if k == 0 then goes (Lifetime None) (Some j) else if_in_force out n k j (Lifetime (Some (n - k))) LifetimeFault) (then_heard p)
-      (λ k j. lifetime_read b include_hash out at n p k j (k == 0) refl) (integer_at b i)
+      (λ k j. lifetime_read b include_hash left out n p k j (k == 0) refl) (integer_at b i)
   word_read word.DynLifetime note p (Some i) =
       ask_reads b include_hash out (is_byte b i (code "L")) (run (integer (λ k. if k == 0 then p else says " + " (lifetime k p))) at) (run invalid at) _ faulty (then_heard p) i
       (word_reads b include_hash out (length b) (i + 1) (λ k. run (if k == 0 then p else says " + " (lifetime k p)) at) (λ k j. if k == 0 then goes Nothing (Some j) else if_in_force out n k j (DynLifetime (n - k)) DynLifetimeFault) (then_heard p)
