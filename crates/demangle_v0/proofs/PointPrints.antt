@@ -24,7 +24,7 @@ use Rattle.demangle_sink.specs.declared.TextSink.{Ghosts as Sinks}
 use Rattle.demangle_sink.specs.declared.SinkRefused.{SinkRefused}
 use Rattle.demangle_sink.specs.declared.limit.SizeLimitedFmtAdapter.{SizeLimitedFmtAdapter}
 use Rattle.demangle_v0.specs.Points.{Bit, pays, puts, heard_bits, bits_looks, bits_texts, Env, Turn, turn, unit_rest_at, stack_rest, reading_rest}
-use Rattle.demangle_v0.specs.PointRuns.{Valid, Emitted, Ran, Broke, ReadsOwn, Skipped, printing, RanOn, Passed, ValidLeft, Finishes, Ended, first_state, own_heard}
+use Rattle.demangle_v0.specs.PointRuns.{Valid, Emitted, Ran, Broke, ReadsOwn, Skipped, SkipsTo, printing, RanOn, Passed, ValidLeft, Finishes, Ended, first_state, own_heard}
 use Rattle.demangle_v0.specs.declared.points.Point.{Point}
 use Rattle.demangle_v0.specs.declared.points.Point.TheVariants as point
 use Rattle.demangle_v0.specs.declared.points.frames.Frame.{Frame}
@@ -49,6 +49,10 @@ module _ {V : Type 0} {e : Env V} where
   ran_midway {p = p} {below = below} {began = began} i k h valid x ran = let q = skip_is p i in rw k (record {
     ran = record { began = began; skips = record { below = below; height = sym h; of_trait = q.0; at = q.1; valid = valid; reads = x }; ran = ran };
   })
+
+  pub ran_left : {o : Point} {first : Turn V} {r to : Reading} {below now : List Frame} {w : V} {began k n : ℕ} {x : Left} → is_skip r.point ≡ true → Valid r.point r.state below → SkipsTo e.symbol e.include_hash r below began x k to now n
+      → Ran e o first r.point (turn r.state below w began) → RanOn e o first (Ok (Some x)) to now w n
+  ran_left i v k ran = rw k.is_left (ran_midway i k.same k.height v k.reads ran)
 
   -- A reading that goes on where another stopped.
 

@@ -1,6 +1,6 @@
 -- The own path of an impl, where something is printed: it is read above the frames that stand, and printing goes on behind it.
 use Rattle.std.specs.Prelude.{◌*◌, take}
-use Rattle.std.proofs.Common.{◌≡◌, ℕ, ◌+◌, ◌≤◌, ◌<◌, Bool, true, false, Some, None, List, [], ◌∷◌, length, refl, arith, sym, ap, ◌∙◌, subst}
+use Rattle.std.proofs.Common.{◌≡◌, ℕ, ◌+◌, ◌≤◌, ◌<◌, Bool, true, false, Some, None, Ok, List, [], ◌∷◌, length, refl, arith, sym, ap, ◌∙◌, subst}
 use Rattle.std.proofs.lemmas.Bool.{false≢true}
 use Rattle.std.proofs.lemmas.List.{append-nil}
 use Rattle.std.proofs.Math.Seq.{take-append_seam}
@@ -11,7 +11,7 @@ use Rattle.demangle_grammar.specs.Table.{says}
 use Rattle.demangle_grammar.specs.Reading.{Place, unit_outcome, run}
 use Rattle.demangle_grammar.specs.Running.{allowed_in}
 use Rattle.demangle_v0.specs.Points.{most_frames, Turn, pays, heard_bits, way_weight, weights, measure, unit_rest_at, unit_rest_of, stack_rest, reading_rest, none_open}
-use Rattle.demangle_v0.specs.PointRuns.{Resumes, Valid, frame_height, Reads, ReadOn, silently, silent_turn, Skipped, ReadsOwn, Skipping, silent_of, own_path, own_heard, state_at, first_looks}
+use Rattle.demangle_v0.specs.PointRuns.{Resumes, Valid, frame_height, Reads, ReadOn, silently, silent_turn, Skipped, SkipsTo, ReadsOwn, Skipping, ValidLeft, silent_of, own_path, own_heard, state_at, first_looks}
 use Rattle.demangle_words.specs.declared.output.Silent.{Silent}
 use Rattle.demangle_v0.specs.declared.points.Point.{Point}
 use Rattle.demangle_v0.specs.declared.points.Point.TheVariants as point
@@ -19,6 +19,7 @@ use Rattle.demangle_v0.specs.declared.points.frames.Frame.{Frame}
 use Rattle.demangle_v0.specs.declared.points.State.{State}
 use Rattle.demangle_v0.specs.declared.points.read.Halt.TheVariants as halt
 use Rattle.demangle_v0.specs.declared.points.read.Reading.{Reading}
+use Rattle.demangle_v0.specs.declared.printing.Left.{Left}
 use Rattle.demangle_grammar.proofs.Hearing.{allowing_then}
 use Rattle.demangle_v0.proofs.Heights.{stands_on}
 use Rattle.demangle_v0.proofs.PointRuns.{allowed_bits, reads_none, resumes_heard, resume_light, ran_then, ran_place, ran_looks, broke_fails}
@@ -121,6 +122,10 @@ own_reads b include_hash n s {stack} k = rw k (reads_none {t = silent_turn (sile
 pub skipping : {b : List ℕ} {include_hash : Bool} {p : Point} {s : State} {below now : List Frame} {base began looks : ℕ} {inner r : Reading} → is_skip p ≡ true → r ≡ record { point = p; state = s } → base ≡ length below → Valid p s below
     → ReadsOwn b include_hash below s began inner now looks → Skipping b include_hash base began inner r now looks
 skipping {p = p} {below = below} e k h v x = let q = skip_is p e in rw k (record { below = below; height = sym h; of_trait = q.0; at = q.1; valid = v; reads = x })
+
+pub skips_valid : {b : List ℕ} {include_hash : Bool} {r to : Reading} {below now : List Frame} {began n looks : ℕ} {x : Left} → is_skip r.point ≡ true → Valid r.point r.state below → SkipsTo b include_hash r below began x n to now looks
+    → ValidLeft b include_hash n (Ok (Some x)) to now looks
+skips_valid {began = began} e v k = rw k.is_left (began, skipping e k.same k.height v k.reads, k.valid, k.full)
 
 module _ {b : List ℕ} {include_hash : Bool} {below : List Frame} {began m : ℕ} {p q : Point} {t : State} {stack : List Frame} {u : Turn Silent} (of_trait : Bool) (s : State) (r : Reads (silently b include_hash) below point.Path (silent_turn (silent_of s) [] began) p (silent_turn t stack m)) where
   -- it came to its end

@@ -166,6 +166,17 @@ pub record Skipping (b : List ℕ) (include_hash : Bool) (base : ℕ) (began : �
   pub valid : Valid printing.point printing.state below
   pub reads : ReadsOwn b include_hash below printing.state began inner now looks
 
+-- it was read from where printing stands, until a stack of at least so many frames was full
+pub record SkipsTo (b : List ℕ) (include_hash : Bool) (r : Reading) (below : List Frame) (began : ℕ) (x : Left) (n : ℕ) (to : Reading) (now : List Frame) (looks : ℕ) : Type 0 where
+  pub base : ℕ
+  pub inner : Reading
+  pub is_left : x ≡ left.OwnPath base inner
+  pub same : to ≡ r
+  pub height : base ≡ length below
+  pub reads : ReadsOwn b include_hash below r.state began inner now looks
+  pub valid : Valid inner.point inner.state now
+  pub full : n ≤ length now
+
 -- A reading that prints.
 
 abbrev pub printing : {S : Type 0} → Sinks S → List ℕ → Bool → Env (SizeLimitedFmtAdapter S)

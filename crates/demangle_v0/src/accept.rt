@@ -1,5 +1,5 @@
 //! Acceptance of v0 symbols: readings without an output.
-ghost use Rattle.std.specs.Prelude.{◌≡◌, ◌+◌, ◌≤◌, true, false};
+ghost use Rattle.std.specs.Prelude.{◌≡◌, ◌+◌, ◌≤◌, [], true, false, IsSome};
 ghost use Rattle.demangle_grammar.specs.Items.{a_path};
 ghost use Rattle.demangle_v0.specs.Points.{AllInner, reading_rest};
 ghost use Rattle.demangle_v0.specs.PointRuns.{Valid};
@@ -63,18 +63,29 @@ fn read_more(
     }
 }
 
-/// Where the path at a place ends, if one is spelled there.
-pub fn path_end(symbol: &Symbol<'_>, place: usize, looks: &mut Looks) -> Option<usize>
+/// Where the path at a place ends, if one is spelled there. It is read above no frames, and leaves
+/// none.
+fn path_end(
+    symbol: &Symbol<'_>,
+    place: usize,
+    stack: &mut FrameStack<SHORT_STACK>,
+    looks: &mut Looks,
+) -> Option<usize>
+    requires { stack.old ≡ [] }
     ensures value { result ≡ unit_end symbol.now a_path place 0 }
+    ensures empty { IsSome result → stack.new ≡ [] }
     ensures grows { looks.old ≤ looks.new }
     ensures looks { looks.new ≤ looks.old + looks_in (read_at symbol.now false a_path place 0 0
         true) }
 {
-    let mut stack: FrameStack<SHORT_STACK> = FrameStack::new();
     let mut reading = Reading::of_path(place);
-    match read_on(symbol, 0, true, &mut reading, &mut stack, looks) {
+    match read_on(symbol, 0, true, &mut reading, stack, looks) {
         Halt::Over => reading.place(),
-        Halt::Full => read_more(symbol, &stack, &reading, looks),
+        Halt::Full => {
+            let end = read_more(symbol, stack, &reading, looks);
+            stack.truncate(0);
+            end
+        }
         Halt::Failed => None,
     }
 }
@@ -86,13 +97,14 @@ pub fn suffix_at(symbol: &Symbol<'_>, looks: &mut Looks) -> Option<usize>
     ensures looks { looks.new + suffix_looks symbol.now result ≤ looks.old + accepting_looks
         symbol.now }
 {
-    let Some(end) = path_end(symbol, 0, looks) else {
+    let mut stack: FrameStack<SHORT_STACK> = FrameStack::new();
+    let Some(end) = path_end(symbol, 0, &mut stack, looks) else {
         return None;
     };
     // A second path names the Rust crate that a generic was instantiated in. It is read, so that
     // the suffix begins behind it, and never printed.
     if begins_path(symbol, end, looks) {
-        return path_end(symbol, end, looks);
+        return path_end(symbol, end, &mut stack, looks);
     }
     Some(end)
 }

@@ -28,6 +28,7 @@ mod marks;
 mod names;
 mod paths;
 mod patterns;
+mod rare;
 pub mod read;
 mod references;
 pub mod skip;

@@ -1,7 +1,8 @@
 //! How a v0 symbol prints: steps, of which each hands over what it reads as soon as it is known.
-ghost use Rattle.std.specs.Prelude.{◌+◌, ◌≤◌, IsAscii, IsOk, Ok, Some};
+ghost use Rattle.std.specs.Prelude.{◌≡◌, ◌+◌, ◌≤◌, true, Bool, IsAscii, IsOk, Ok, Some, IfSome, IfNone};
 ghost use Rattle.demangle_sink.specs.Limit.{Ready};
-ghost use Rattle.demangle_v0.specs.PointRuns.{Valid, RanOn, Ended, Finishes, ValidLeft, looks_left, first_looks, printing};
+ghost use Rattle.demangle_v0.specs.PointRuns.{Valid, RanOn, Ended, Finishes, Skipped, SkipsTo, ValidLeft, looks_left, first_looks, printing};
+ghost use Rattle.demangle_v0.specs.Impls.{is_skip, skip_point};
 ghost use Rattle.demangle_v0.specs.Points.{Turn, turn};
 
 use crate::points::Point;
@@ -19,6 +20,34 @@ pub enum Left {
     Stack,
     /// The same, behind the own path of an impl, which was read so far above so many frames.
     OwnPath(usize, Reading),
+}
+
+/// Goes behind the own path of the impl at which printing stands, or answers what is left, where the
+/// stack is full.
+// What it writes for a call lies here, so that the loop of printing has none of it.
+#[inline(always)]
+fn skip_own<const N: usize>(
+    symbol: &Symbol<'_>,
+    include_hash: bool,
+    printing: &mut Reading,
+    stack: &mut FrameStack<N>,
+    looks: &mut Looks,
+) -> Option<Left>
+    requires skipped { is_skip printing.old.point ≡ true }
+    requires valid { Valid printing.old.point printing.old.state stack.old }
+    ensures behind { IfNone result ((q : Bool) → printing.old.point ≡ skip_point q → Skipped
+        symbol.now include_hash q printing.old.state stack.old looks.old printing.new.point
+        printing.new.state stack.new looks.new) }
+    ensures midway { IfSome result (λ left. SkipsTo symbol.now include_hash printing.old stack.old
+        looks.old left N printing.new stack.new looks.new) }
+    ensures grows { looks.old ≤ looks.new }
+{
+    let base = stack.len();
+    let own = printing.own_path();
+    let Some(inner) = skip(symbol, include_hash, base, own, printing, stack, looks) else {
+        return None;
+    };
+    Some(Left::OwnPath(base, inner))
 }
 
 /// Prints on, until nothing is left or the stack is full.
@@ -49,28 +78,26 @@ pub(crate) fn print_on<const N: usize, S: TextSink>(
     let mut state = reading.state;
     'steps: while stack.len() < N {
         let Some(at) = resume(0, point, &mut state, stack) else {
-            *reading = Reading {
-                point: Point::End,
-                state,
-            };
+            reading.point = Point::End;
+            reading.state = state;
             return Ok(None);
         };
         // An impl's own path tells where the impl stands. It is read, and not printed.
         if is_skipped(at) {
-            let mut here = Reading { point: at, state };
-            let base = stack.len();
-            let own = here.own_path();
-            if let Some(inner) = skip(symbol, include_hash, base, own, &mut here, stack, looks) {
-                *reading = here;
-                return Ok(Some(Left::OwnPath(base, inner)));
+            reading.point = at;
+            reading.state = state;
+            let skipped = skip_own(symbol, include_hash, reading, stack, looks);
+            if let Some(left) = skipped {
+                return Ok(Some(left));
             }
-            point = here.point;
-            state = here.state;
+            point = reading.point;
+            state = reading.state;
         } else {
             point = step(symbol, at, include_hash, &mut state, stack, out, looks)?;
         }
     }
-    *reading = Reading { point, state };
+    reading.point = point;
+    reading.state = state;
     Ok(Some(Left::Stack))
 }
 

@@ -5,24 +5,23 @@ ghost use Rattle.demangle_v0.specs.Points.{MayStep, PointDoes, env, turn};
 ghost use Rattle.demangle_v0.specs.PointRuns.{first_looks};
 
 use crate::points::arguments::{arguments, generic};
-use crate::points::bindings::{binding_name, bindings, bound, open_bindings};
+use crate::points::bindings::{bindings, bound, open_bindings};
 use crate::points::constant_lists::{
     ConstantList, first_constant, next_constant, second_tuple_constant,
 };
-use crate::points::constants::{constant, literal, number};
-use crate::points::dyn_traits::{dyn_binder, dyn_lifetime, dyn_trait, open_argument, trait_path};
+use crate::points::dyn_traits::{dyn_trait, open_argument, trait_path};
 use crate::points::frames::FrameStack;
-use crate::points::functions::{function_head, parameter, returns};
+use crate::points::functions::{parameter, returns};
 use crate::points::impls::{as_trait, self_type, skipped_path};
 use crate::points::marks::leave;
 use crate::points::names::nested_name;
 use crate::points::paths::path;
 use crate::points::patterns::{next_pattern, pattern};
+use crate::points::rare::{RarePoint, rare};
 use crate::points::references::behind;
 use crate::points::tuples::{first_tuple_type, next_tuple_type, second_tuple_type};
 use crate::points::type_references::reference_lifetime;
 use crate::points::types::{array_length, is_begun, type_};
-use crate::points::variants::{field, variant};
 use crate::points::{Point, State, Stop, last_word};
 use demangle_symbol::cursor::{Looks, Symbol};
 use demangle_words::output::Output;
@@ -96,11 +95,15 @@ pub(super) fn dispatch<V: Output, const N: usize>(
             output,
             looks,
         ),
-        Point::FunctionHead => function_head(symbol, include_hash, state, output, looks),
+        Point::FunctionHead => {
+            rare(symbol, RarePoint::FunctionHead, include_hash, state, stack, output, looks)
+        }
         Point::FirstParameter => Ok(parameter::<V, N>(symbol, true, state, stack, looks)),
         Point::NextParameter => Ok(parameter::<V, N>(symbol, false, state, stack, looks)),
         Point::Returns => Ok(returns::<V>(symbol, state, looks)),
-        Point::DynBinder => dyn_binder(symbol, include_hash, state, stack, output, looks),
+        Point::DynBinder => {
+            rare(symbol, RarePoint::DynBinder, include_hash, state, stack, output, looks)
+        }
         Point::FirstDynTrait => Ok(dyn_trait::<V, N>(symbol, true, state, stack, looks)),
         Point::NextDynTrait => Ok(dyn_trait::<V, N>(symbol, false, state, stack, looks)),
         Point::TraitPath => trait_path(symbol, state, stack, output, looks),
@@ -108,14 +111,24 @@ pub(super) fn dispatch<V: Output, const N: usize>(
         Point::NextOpenArgument => Ok(open_argument::<V, N>(symbol, false, state, stack, looks)),
         Point::Bindings => Ok(bindings::<V>(symbol, state, looks)),
         Point::OpenBindings => Ok(open_bindings::<V>(symbol, state, looks)),
-        Point::BindingName => binding_name(symbol, include_hash, state, output, looks),
+        Point::BindingName => {
+            rare(symbol, RarePoint::BindingName, include_hash, state, stack, output, looks)
+        }
         Point::Bound => Ok(bound::<V, N>(symbol, state, stack, looks)),
-        Point::DynLifetime => dyn_lifetime(symbol, include_hash, state, output, looks),
+        Point::DynLifetime => {
+            rare(symbol, RarePoint::DynLifetime, include_hash, state, stack, output, looks)
+        }
         Point::Pattern => pattern::<V, N>(symbol, state, stack, looks),
         Point::NextPattern => next_pattern::<V, N>(symbol, state, stack, looks),
-        Point::Constant => constant(symbol, include_hash, state, stack, output, looks),
-        Point::Number => number(symbol, include_hash, state, output, looks),
-        Point::Literal => literal(symbol, include_hash, state, output, looks),
+        Point::Constant => {
+            rare(symbol, RarePoint::Constant, include_hash, state, stack, output, looks)
+        }
+        Point::Number => {
+            rare(symbol, RarePoint::Number, include_hash, state, stack, output, looks)
+        }
+        Point::Literal => {
+            rare(symbol, RarePoint::Literal, include_hash, state, stack, output, looks)
+        }
         Point::FirstArrayConstant => {
             Ok(first_constant::<V, N>(symbol, ConstantList::Array, state, stack, looks))
         }
@@ -131,7 +144,9 @@ pub(super) fn dispatch<V: Output, const N: usize>(
         Point::NextTupleConstant => {
             Ok(next_constant::<V, N>(symbol, ConstantList::Tuple, state, stack, looks))
         }
-        Point::Variant => variant::<V, N>(symbol, state, stack, looks),
+        Point::Variant => {
+            rare(symbol, RarePoint::Variant, include_hash, state, stack, output, looks)
+        }
         Point::FirstVariantConstant => {
             Ok(first_constant::<V, N>(symbol, ConstantList::TupleVariant, state, stack, looks))
         }
@@ -144,7 +159,9 @@ pub(super) fn dispatch<V: Output, const N: usize>(
         Point::NextField => {
             Ok(next_constant::<V, N>(symbol, ConstantList::Fields, state, stack, looks))
         }
-        Point::Field => field(symbol, include_hash, state, output, looks),
+        Point::Field => {
+            rare(symbol, RarePoint::Field, include_hash, state, stack, output, looks)
+        }
         Point::AfterBackref => Ok(behind::<V>(state)),
         Point::CloseParen
         | Point::CloseAngle

@@ -36,7 +36,7 @@ pub(super) fn crate_name<V: Output>(
 }
 
 /// A name behind a path that failed: its colons are printed, and that it was not read.
-#[inline(never)]
+#[inline(always)]
 fn unread_name<V: Output>(
     symbol: &Symbol<'_>,
     include_hash: bool,

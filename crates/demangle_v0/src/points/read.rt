@@ -79,10 +79,8 @@ pub fn read_on<const N: usize>(
     let mut state = reading.state;
     'steps: while stack.len() < N {
         let Some(at) = resume(base, point, &mut state, stack) else {
-            *reading = Reading {
-                point: Point::End,
-                state,
-            };
+            reading.point = Point::End;
+            reading.state = state;
             return Halt::Over;
         };
         match step(
@@ -98,6 +96,7 @@ pub fn read_on<const N: usize>(
             Err(_) => return Halt::Failed,
         }
     }
-    *reading = Reading { point, state };
+    reading.point = point;
+    reading.state = state;
     Halt::Full
 }

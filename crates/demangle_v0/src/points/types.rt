@@ -133,7 +133,7 @@ fn type_behind_tag<V: Output, const N: usize>(
         TypeKind::SharedReference => Ok(reference::<V>(symbol, false, state, looks)),
         TypeKind::MutReference => Ok(reference::<V>(symbol, true, state, looks)),
         TypeKind::Constructed(kind) => {
-            constructed_type(symbol, kind, include_hash, state, stack, output, looks)
+            called_type(symbol, kind, include_hash, state, stack, output, looks)
         }
     }
 }
@@ -186,6 +186,28 @@ fn constructed_type<V: Output, const N: usize>(
         ConstructedType::Function => function_binder(symbol, include_hash, state, output, looks),
         ConstructedType::Dyn => Ok(dyn_type::<V, N>(symbol, state, stack)),
     }
+}
+
+/// The same by a call, whose answer is copied: what others answer need not lie where it writes its
+/// own.
+#[inline(always)]
+fn called_type<V: Output, const N: usize>(
+    symbol: &Symbol<'_>,
+    kind: ConstructedType,
+    include_hash: bool,
+    state: &mut State,
+    stack: &mut FrameStack<N>,
+    output: &mut V,
+    looks: &mut Looks,
+) -> Result<Point, Stop>
+    requires may { MayStep (env V.Output symbol.now include_hash) Point.DynBinder N (turn state.old
+        stack.old output.old looks.old) }
+    ensures did { RestDoes (env V.Output symbol.now include_hash) (constructed_of kind) 5 50 9 (turn
+        state.old stack.old output.old looks.old) result (turn state.new stack.new output.new
+        looks.new) }
+{
+    let next = constructed_type(symbol, kind, include_hash, state, stack, output, looks)?;
+    Ok(next)
 }
 
 /// Puts a frame on the stack that does nothing but print, where that is heard.

@@ -1,42 +1,35 @@
 use Rattle.std.proofs.Common.{arith, refl, sym, ◌∙◌}
 use Rattle.demangle_v0.proofs.PointRuns.{valid_resumes, resumes_length, valid_steps, turn_less, first_resumes, ran_then, ran_resumes, ran_turn, ran_broke}
-use Rattle.demangle_v0.proofs.PointPrints.{ran_fail, ran_midway, ran_skips}
-use Rattle.demangle_v0.proofs.PointSkips.{skip_is, skip_unread, own_stands, own_reads, skipped_valid, skipped_less, skipping}
+use Rattle.demangle_v0.proofs.PointPrints.{ran_fail, ran_left, ran_skips}
+use Rattle.demangle_v0.proofs.PointSkips.{skip_is, skip_unread, skipped_valid, skipped_less, skips_valid}
 use Rattle.demangle_v0.proofs.printing.print_on.Goals as goal
 
-pub skip-requires : goal.skip-requires
-skip-requires g c = (omega arith, own_stands (sym c.is_skipped.ensures ∙ c.if-is_skipped.true) c.own_path-own.ensures (valid_resumes c.steps.invariant.valid c.in-Some.ensures.some))
+pub skip_own-skipped-requires : goal.skip_own-skipped-requires
+skip_own-skipped-requires g c = (omega arith, (sym c.is_skipped.ensures ∙ c.if-is_skipped.true, valid_resumes c.steps.invariant.valid c.in-Some.ensures.some))
 
-pub returns-in-Some-skip-clause-valid : goal.returns-in-Some-skip-clause-valid
-returns-in-Some-skip-clause-valid g c =
-    let reads = c.in-Some-skip.ensures.midway c.resume.new.stack c.steps.looks (own_reads c.args.symbol.now c.args.include_hash c.steps.looks c.resume.new.state c.own_path-own.ensures) (sym c.len-base.ensures) in (
-      c.steps.looks,
-      skipping (sym c.is_skipped.ensures ∙ c.if-is_skipped.true) c.in-Some-skip.ensures.same c.len-base.ensures (valid_resumes c.steps.invariant.valid c.in-Some.ensures.some) reads,
-      c.in-Some-skip.ensures.valid,
-      c.in-Some-skip.ensures.full,
-    )
+pub returns-in-Some-skipped-clause-valid : goal.returns-in-Some-skipped-clause-valid
+returns-in-Some-skipped-clause-valid g c = skips_valid (sym c.is_skipped.ensures ∙ c.if-is_skipped.true) (valid_resumes c.steps.invariant.valid c.in-Some.ensures.some) c.in-Some-skipped.ensures.midway
 
-pub returns-in-Some-skip-clause-ran : goal.returns-in-Some-skip-clause-ran
-returns-in-Some-skip-clause-ran g c =
-    let reads = c.in-Some-skip.ensures.midway c.resume.new.stack c.steps.looks (own_reads c.args.symbol.now c.args.include_hash c.steps.looks c.resume.new.state c.own_path-own.ensures) (sym c.len-base.ensures) in
-    ran_midway (sym c.is_skipped.ensures ∙ c.if-is_skipped.true) c.in-Some-skip.ensures.same c.len-base.ensures (valid_resumes c.steps.invariant.valid c.in-Some.ensures.some) reads (ran_then c.steps.invariant.ran (ran_resumes c.in-Some.ensures.some))
+pub returns-in-Some-skipped-clause-ran : goal.returns-in-Some-skipped-clause-ran
+returns-in-Some-skipped-clause-ran g c =
+    ran_left (sym c.is_skipped.ensures ∙ c.if-is_skipped.true) (valid_resumes c.steps.invariant.valid c.in-Some.ensures.some) c.in-Some-skipped.ensures.midway (ran_then c.steps.invariant.ran (ran_resumes c.in-Some.ensures.some))
 
 pub steps-smaller-then-is_skipped : goal.steps-smaller-then-is_skipped
 steps-smaller-then-is_skipped g c =
     let k = skip_is _ (sym c.is_skipped.ensures ∙ c.if-is_skipped.true) in
-    skipped_less k c.in-Some.ensures.some (c.in_default-skip.ensures.behind c.resume.new.stack k.0 c.steps.looks (own_reads c.args.symbol.now c.args.include_hash c.steps.looks c.resume.new.state c.own_path-own.ensures) (sym c.len-base.ensures) k.1)
+    skipped_less k c.in-Some.ensures.some (c.in_default-skipped.ensures.behind k.0 k.1)
 
 pub steps-preserved-then-is_skipped : goal.steps-preserved-then-is_skipped
 steps-preserved-then-is_skipped g c =
     let skips = sym c.is_skipped.ensures ∙ c.if-is_skipped.true in
     let k = skip_is _ skips in
-    let z = c.in_default-skip.ensures.behind c.resume.new.stack k.0 c.steps.looks (own_reads c.args.symbol.now c.args.include_hash c.steps.looks c.resume.new.state c.own_path-own.ensures) (sym c.len-base.ensures) k.1 in
+    let z = c.in_default-skipped.ensures.behind k.0 k.1 in
     record {
       ready = c.steps.invariant.ready;
       valid = skipped_valid k z (valid_resumes c.steps.invariant.valid c.in-Some.ensures.some);
       ran = ran_skips g.S.TextSink c.args.symbol.now c.args.include_hash k (ran_then c.steps.invariant.ran (ran_resumes c.in-Some.ensures.some)) z;
-      grows = omega (arith, c.steps.invariant.grows, c.in_default-skip.ensures.grows);
-      least = omega (arith, c.steps.invariant.least, c.in_default-skip.ensures.grows, first_resumes c.in-Some.ensures.some, skip_unread _ c.resume.new.state skips);
+      grows = omega (arith, c.steps.invariant.grows, c.in_default-skipped.ensures.grows);
+      least = omega (arith, c.steps.invariant.least, c.in_default-skipped.ensures.grows, first_resumes c.in-Some.ensures.some, skip_unread _ c.resume.new.state skips);
     }
 
 pub step-requires : goal.step-requires

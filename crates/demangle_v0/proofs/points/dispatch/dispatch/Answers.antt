@@ -71,7 +71,7 @@ pub returns-in-MutReferenceLifetime-clause-did : goal.returns-in-MutReferenceLif
 returns-in-MutReferenceLifetime-clause-did g c = rw c.in-MutReferenceLifetime.is (c.reference_lifetime-in-MutReferenceLifetime.ensures.did c.args.stack.now)
 
 pub returns-in-FunctionHead-clause-did : goal.returns-in-FunctionHead-clause-did
-returns-in-FunctionHead-clause-did g c = rw c.in-FunctionHead.is (c.function_head.ensures.did c.args.stack.now)
+returns-in-FunctionHead-clause-did g c = rw c.in-FunctionHead.is c.rare.ensures.did
 
 pub returns-in-FirstParameter-clause-did : goal.returns-in-FirstParameter-clause-did
 returns-in-FirstParameter-clause-did g c = rw c.in-FirstParameter.is (c.parameter.ensures.did c.args.include_hash c.args.output.now)
@@ -83,7 +83,7 @@ pub returns-in-Returns-clause-did : goal.returns-in-Returns-clause-did
 returns-in-Returns-clause-did g c = rw c.in-Returns.is (c.returns.ensures.did c.args.include_hash c.args.output.now c.args.stack.now)
 
 pub returns-in-DynBinder-clause-did : goal.returns-in-DynBinder-clause-did
-returns-in-DynBinder-clause-did g c = rw c.in-DynBinder.is (c.dyn_binder.ensures.did)
+returns-in-DynBinder-clause-did g c = rw c.in-DynBinder.is c.rare-in-DynBinder.ensures.did
 
 pub returns-in-FirstDynTrait-clause-did : goal.returns-in-FirstDynTrait-clause-did
 returns-in-FirstDynTrait-clause-did g c = rw c.in-FirstDynTrait.is (c.dyn_trait.ensures.did c.args.include_hash c.args.output.now)
@@ -107,13 +107,13 @@ pub returns-in-OpenBindings-clause-did : goal.returns-in-OpenBindings-clause-did
 returns-in-OpenBindings-clause-did g c = rw c.in-OpenBindings.is (c.open_bindings.ensures.did c.args.include_hash c.args.output.now c.args.stack.now)
 
 pub returns-in-BindingName-clause-did : goal.returns-in-BindingName-clause-did
-returns-in-BindingName-clause-did g c = rw c.in-BindingName.is (c.binding_name.ensures.did c.args.stack.now)
+returns-in-BindingName-clause-did g c = rw c.in-BindingName.is c.rare-in-BindingName.ensures.did
 
 pub returns-in-Bound-clause-did : goal.returns-in-Bound-clause-did
 returns-in-Bound-clause-did g c = rw c.in-Bound.is (c.bound.ensures.did c.args.include_hash c.args.output.now)
 
 pub returns-in-DynLifetime-clause-did : goal.returns-in-DynLifetime-clause-did
-returns-in-DynLifetime-clause-did g c = rw c.in-DynLifetime.is (c.dyn_lifetime.ensures.did c.args.stack.now)
+returns-in-DynLifetime-clause-did g c = rw c.in-DynLifetime.is c.rare-in-DynLifetime.ensures.did
 
 pub returns-in-Pattern-clause-did : goal.returns-in-Pattern-clause-did
 returns-in-Pattern-clause-did g c = rw c.in-Pattern.is (c.pattern.ensures.did c.args.include_hash c.args.output.now)
@@ -122,13 +122,13 @@ pub returns-in-NextPattern-clause-did : goal.returns-in-NextPattern-clause-did
 returns-in-NextPattern-clause-did g c = rw c.in-NextPattern.is (c.next_pattern.ensures.did c.args.include_hash c.args.output.now)
 
 pub returns-in-Constant-clause-did : goal.returns-in-Constant-clause-did
-returns-in-Constant-clause-did g c = rw c.in-Constant.is c.constant.ensures.did
+returns-in-Constant-clause-did g c = rw c.in-Constant.is c.rare-in-Constant.ensures.did
 
 pub returns-in-Number-clause-did : goal.returns-in-Number-clause-did
-returns-in-Number-clause-did g c = rw c.in-Number.is (c.number.ensures.did c.args.stack.now)
+returns-in-Number-clause-did g c = rw c.in-Number.is c.rare-in-Number.ensures.did
 
 pub returns-in-Literal-clause-did : goal.returns-in-Literal-clause-did
-returns-in-Literal-clause-did g c = rw c.in-Literal.is (c.literal.ensures.did c.args.stack.now)
+returns-in-Literal-clause-did g c = rw c.in-Literal.is c.rare-in-Literal.ensures.did
 
 pub returns-in-FirstArrayConstant-clause-did : goal.returns-in-FirstArrayConstant-clause-did
 returns-in-FirstArrayConstant-clause-did g c = rw c.in-FirstArrayConstant.is (c.first_constant.ensures.did c.args.include_hash c.args.output.now)
@@ -158,10 +158,10 @@ pub returns-in-SecondTupleConstant-clause-did : goal.returns-in-SecondTupleConst
 returns-in-SecondTupleConstant-clause-did g c = rw c.in-SecondTupleConstant.is (c.second_tuple_constant.ensures.did c.args.include_hash c.args.output.now)
 
 pub returns-in-Variant-clause-did : goal.returns-in-Variant-clause-did
-returns-in-Variant-clause-did g c = rw c.in-Variant.is (c.variant.ensures.did c.args.include_hash c.args.output.now)
+returns-in-Variant-clause-did g c = rw c.in-Variant.is c.rare-in-Variant.ensures.did
 
 pub returns-in-Field-clause-did : goal.returns-in-Field-clause-did
-returns-in-Field-clause-did g c = rw c.in-Field.is (c.field.ensures.did c.args.stack.now)
+returns-in-Field-clause-did g c = rw c.in-Field.is c.rare-in-Field.ensures.did
 
 pub returns-in-AfterBackref-clause-did : goal.returns-in-AfterBackref-clause-did
 returns-in-AfterBackref-clause-did g c = rw c.in-AfterBackref.is (c.behind.ensures.did c.args.symbol.now c.args.include_hash c.args.output.now c.args.stack.now c.args.looks.now)
