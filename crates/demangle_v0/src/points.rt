@@ -41,13 +41,16 @@ mod variants;
 /// Where a unit begins, or goes on behind a part of it.
 #[derive(Clone, Copy)]
 pub enum Point {
+    // The points that the loops look for stand first, so that they are told by one comparison.
+    /// An impl's own path.
+    InherentPath,
+    /// The same of an impl of a trait.
+    ImplPath,
     /// The unit is over: the frame stack tells.
     End,
     // path
     Path,
     Nested,
-    InherentPath,
-    ImplPath,
     InherentType,
     SelfType,
     As,

@@ -46,7 +46,7 @@ impl Default for Packed {
             low: 0,
             high: 0,
             depth_left: 0,
-            point: Point::End,
+            point: Point::InherentPath,
             in_value: false,
             letter: 0,
         }

@@ -2,7 +2,7 @@
 ghost use Rattle.std.specs.Prelude.{◌≡◌, ◌+◌, ◌-◌, ◌<◌, ◌≤◌, true, false, IfSome, IfNone, IsOk, OnOk, length, IsAscii};
 ghost use Rattle.demangle_v0.specs.Impls.{is_skip};
 ghost use Rattle.demangle_v0.specs.Points.{own_by, MayStep, env, turn, resumed_of};
-ghost use Rattle.demangle_v0.specs.PointRuns.{Puts, Stepped, Resumes, first_looks};
+ghost use Rattle.demangle_v0.specs.PointRuns.{Puts, Stepped, Resumes, first_looks, unmarked_of};
 
 use crate::points::dispatch::dispatch;
 use crate::points::frames::{Frame, FrameStack};
@@ -13,26 +13,28 @@ use demangle_words::output::Output;
 use demangle_words::stretch::Stretch;
 use demangle_words::texts::Mark;
 
-/// Hands a mark over, if there is one.
+/// Hands over the mark that a point left, if there is one.
 #[inline(always)]
 fn put_mark<V: Output>(
     symbol: &Symbol<'_>,
-    mark: Option<Mark>,
     include_hash: bool,
+    state: &mut State,
     output: &mut V,
     looks: &mut Looks,
 ) -> Result<(), SinkRefused>
     requires ascii { V.is_printed ≡ true → IsAscii symbol.now }
     requires ready { V.ready output.old }
-    ensures put { Puts V.Output mark output.old result output.new }
+    ensures put { Puts V.Output state.old.mark output.old result output.new }
+    ensures state { state.new ≡ unmarked_of state.old }
     ensures ready { OnOk result (V.ready output.new) }
     ensures grows { looks.old ≤ looks.new }
     ensures most { looks.new ≤ looks.old }
 {
-    match mark {
-        None => Ok(()),
-        Some(mark) => output.emit(symbol, &Stretch::Fixed(mark), include_hash, looks),
-    }
+    let Some(mark) = state.mark else {
+        return Ok(());
+    };
+    state.mark = None;
+    output.emit(symbol, &Stretch::Fixed(mark), include_hash, looks)
 }
 
 /// Does what a point does, and hands over the mark that it left.
@@ -60,9 +62,7 @@ pub(crate) fn step<V: Output, const N: usize>(
 {
     match dispatch(symbol, point, include_hash, state, stack, output, looks) {
         Ok(next) => {
-            let mark = state.mark;
-            state.mark = None;
-            put_mark(symbol, mark, include_hash, output, looks)?;
+            put_mark(symbol, include_hash, state, output, looks)?;
             Ok(next)
         }
         Err(Stop::Fault(fault)) => {
