@@ -7,7 +7,6 @@ ghost use Rattle.demangle_symbol.specs.Idents.{backref_answer};
 ghost use Rattle.demangle_symbol.specs.Integers.{Digit62};
 
 use crate::cursor::{Looks, ParseError, Symbol, append_digit};
-use std::cmp;
 
 /// How deep the units of a symbol may lie in one another.
 pub const MAX_DEPTH: u32 = 500;
@@ -35,7 +34,7 @@ impl<'s> Symbol<'s> {
         let Some(first) = self.integer_digit(place, looks)? else {
             return Ok((0, place + 1));
         };
-        let end = cmp::min(self.len(), place + UNCHECKED_DIGITS);
+        let end = place + UNCHECKED_DIGITS;
         let mut number = first;
         for at in place + 1..end {
             let Some(digit) = self.integer_digit(at, looks)? else {

@@ -1,15 +1,6 @@
-use Rattle.std.proofs.Common.{◌≡◌, ℕ, ◌+◌, ◌-◌, ◌*◌, ◌^◌, ◌<◌, ◌≤◌, nat_cmp, sym, arith}
-use Rattle.std.specs.Ordering.{ord_min}
-use Rattle.std.proofs.lemmas.Bool.Decides.{nat_tests}
-use Rattle.std.proofs.lemmas.Grind.{common_steps}
+use Rattle.std.proofs.Common.{◌≡◌, ℕ, ◌+◌, ◌-◌, ◌*◌, ◌^◌, ◌<◌, ◌≤◌, sym, arith}
 use Rattle.demangle_symbol.proofs.Integers.{digits_more, digits_fit, digits_below, digits_integer, no_integer_large, no_integer_past, integer_read, integer_unread}
 use Rattle.demangle_symbol.proofs.cursor.Symbol.integer_62.Goals as goal
-
-min_below : (a b : ℕ) → ord_min nat_cmp a b ≤ b
-min_below a b = grind (arith, nat_tests, common_steps)
-
-min_above : (a b c : ℕ) → c ≤ a → c ≤ b → c ≤ ord_min nat_cmp a b
-min_above a b c p q = grind (arith, nat_tests, common_steps)
 
 -- a digit behind fewer than ten
 digit_fits : (n d k : ℕ) → n < 62 ^ k → d < 62 → k ≤ 9 → n * 62 + d < 2 ^ 64
@@ -17,15 +8,11 @@ digit_fits n d k small digit few = omega (arith, digits_below (n * 62 + d) (k + 
 
 pub overflow_add-result-in_default-2 : goal.overflow_add-result-in_default-2
 overflow_add-result-in_default-2 c =
-    let few = min_below c.len.result (c.args.place + 10) in
-    let count : c.loop-at.at - c.args.place ≤ 10 = omega (arith, few) in
-    omega (arith, digits_below c.loop-at.number (c.loop-at.at - c.args.place) c.loop-at.invariant.small count)
+    omega (arith, digits_below c.loop-at.number (c.loop-at.at - c.args.place) c.loop-at.invariant.small (omega arith))
 
 pub returns-in_default-2-clause-ok : goal.returns-in_default-2-clause-ok
 returns-in_default-2-clause-ok c =
-    let few = min_below c.len.result (c.args.place + 10) in
-    let count : c.loop-at.at - c.args.place ≤ 10 = omega (arith, few) in
-    let small = digits_below c.loop-at.number (c.loop-at.at - c.args.place) c.loop-at.invariant.small count in
+    let small = digits_below c.loop-at.number (c.loop-at.at - c.args.place) c.loop-at.invariant.small (omega arith) in
     let here = rw c.in_default-2.is at c.in_ok-digit.ensures.end in
     digits_integer _ _ _ _ c.loop-at.invariant.digits (omega arith) here (omega (arith, small))
 
@@ -34,15 +21,13 @@ returns-in_default-2-clause-read c = sym (integer_read _ _ _ _ (returns-in_defau
 
 pub overflow_mul-number : goal.overflow_mul-number
 overflow_mul-number c =
-    let few = min_below c.len.result (c.args.place + 10) in
     let below = rw c.in-Some-2.is at c.in_ok-digit.ensures.small in
-    omega (arith, digit_fits c.loop-at.number c.in-Some-2.digit (c.loop-at.at - c.args.place) c.loop-at.invariant.small below (omega (arith, few)))
+    omega (arith, digit_fits c.loop-at.number c.in-Some-2.digit (c.loop-at.at - c.args.place) c.loop-at.invariant.small below (omega arith))
 
 pub overflow_add-number : goal.overflow_add-number
 overflow_add-number c =
-    let few = min_below c.len.result (c.args.place + 10) in
     let below = rw c.in-Some-2.is at c.in_ok-digit.ensures.small in
-    omega (arith, digit_fits c.loop-at.number c.in-Some-2.digit (c.loop-at.at - c.args.place) c.loop-at.invariant.small below (omega (arith, few)))
+    omega (arith, digit_fits c.loop-at.number c.in-Some-2.digit (c.loop-at.at - c.args.place) c.loop-at.invariant.small below (omega arith))
 
 pub loop-at-preserved : goal.loop-at-preserved
 loop-at-preserved c =
@@ -52,14 +37,14 @@ loop-at-preserved c =
     record {
       digits = digits_more _ _ _ _ _ c.loop-at.invariant.digits digit;
       small = rw next (digits_fit c.loop-at.number c.in-Some-2.digit (c.loop-at.at - c.args.place) c.loop-at.invariant.small below);
+      within = omega (arith, c.in_ok-digit.ensures.within);
       looked = omega arith;
     }
 
 pub returns-in_default-3-clause-ok : goal.returns-in_default-3-clause-ok
 returns-in_default-3-clause-ok c =
     let here = rw c.in_default-3.is at c.in_ok-digit-2.ensures.end in
-    let some = min_above c.len.result (c.args.place + 10) (c.args.place + 1) (omega (arith, c.in_ok-first.ensures.within)) (omega arith) in
-    rw c.in-Some-checked_add.ensures.1 (digits_integer _ _ _ _ c.loop-at-2.invariant.digits (omega (arith, some)) here c.in-Some-checked_add.ensures.0)
+    rw c.in-Some-checked_add.ensures.1 (digits_integer _ _ _ _ c.loop-at-2.invariant.digits (omega arith) here c.in-Some-checked_add.ensures.0)
 
 pub returns-in_default-3-clause-read : goal.returns-in_default-3-clause-read
 returns-in_default-3-clause-read c = sym (integer_read _ _ _ _ (returns-in_default-3-clause-ok c))

@@ -1,4 +1,4 @@
-use Rattle.std.proofs.Common.{◌≡◌, ◌+◌, ◌-◌, ◌^◌, ◌<◌}
+use Rattle.std.proofs.Common.{◌≡◌, ◌+◌, ◌-◌, ◌^◌, ◌<◌, ◌≤◌, length}
 use Rattle.demangle_symbol.specs.Integers.{Digits62UpTo}
 use Rattle.demangle_symbol.proofs.cursor.Symbol.integer_62.Given as goal
 
@@ -6,11 +6,13 @@ abbrev pub invariant-loop-at : goal.invariant-loop-at
 invariant-loop-at l = record {
   digits : Digits62UpTo l.self l.place l.at l.number;
   small : l.number < 62 ^ (l.at - l.place);
+  within : l.at ≤ length l.self;
   looked : l.looks + l.place ≡ l.fn.looks + l.at;
 }
 
 abbrev pub invariant-loop-at-2 : goal.invariant-loop-at-2
 invariant-loop-at-2 l = record {
   digits : Digits62UpTo l.self l.place l.at l.number;
+  within : l.at ≤ length l.self;
   looked : l.looks + l.place ≡ l.fn.looks + l.at;
 }
