@@ -1,5 +1,5 @@
 -- How integers are read, a byte at a time.
-use Rattle.std.proofs.Common.{◌≡◌, ℕ, ◌+◌, ◌*◌, ◌^◌, ◌<◌, ◌≤◌, Bool, true, false, ltb, nat_lt, List, length, Some, None, sym, refl, ap, ◌∙◌, arith, rules, lit<}
+use Rattle.std.proofs.Common.{◌≡◌, ℕ, ◌+◌, ◌*◌, ◌^◌, ◌<◌, ◌≤◌, inl, inr, Bool, true, false, ltb, nat_lt, List, length, Some, None, sym, refl, ap, ◌∙◌, arith, rules, lit<}
 use Rattle.std.specs.Prelude.{◌&&◌}
 use Rattle.std.specs.List.{slice_get, slice_range}
 use Rattle.std.proofs.lemmas.Bool.{lt-ltb, ltb-true}
@@ -8,8 +8,8 @@ use Rattle.std.proofs.Math.Nat.{pow-le-pow_right}
 use Rattle.std.proofs.lemmas.Option.{slice_get_within}
 use Rattle.std.proofs.lemmas.Grind.{pow_more}
 use Rattle.demangle_symbol.specs.Digits.{run_end, number, is_byte}
-use Rattle.demangle_symbol.specs.Integers.{Digit62, Digits62UpTo}
-use Rattle.demangle_symbol.specs.Words.{only_if, is_digit_62, digit_62, integer_value, Integer, integer_at, optional_at}
+use Rattle.demangle_symbol.specs.Integers.{Digit62, Digits62UpTo, OneMore, one_more_at}
+use Rattle.demangle_symbol.specs.Words.{only_if, is_digit_62, digit_62, integer_value, Integer, OptInteger, integer_at, optional_at}
 use Rattle.demangle_symbol.proofs.Digits.{run_more, run_stops, run_none, run_past, number_none, number_more, number_part, is_byte_there}
 
 pub digit_there : (s : List ℕ) (i b d : ℕ) → slice_get s i ≡ Some b → is_digit_62 b ≡ true → d ≡ digit_62 b → Digit62 s i d
@@ -133,20 +133,27 @@ integer_unread s i none =
 
 pub ruleset integer_steps = (digits_none, digits_more, digits_first, digits_fit, digits_below, integer_empty, digits_integer, no_integer_other, no_integer_large, no_integer_last, no_integer_past, integer_read, integer_unread)
 
-pub optional_there : (tag : ℕ) (s : List ℕ) (i n j : ℕ) → is_byte s i tag ≡ true → Some (n, j) ≡ integer_at s (i + 1) → n + 1 < 2 ^ 64 → optional_at tag s i ≡ Some (n + 1, j)
-unfolding optional_at
-optional_there tag s i n j there here small = let fits : ltb (n + 1) (2 ^ 64) ≡ true = lt-ltb _ _ small in rw (there, ← here, fits) refl
+pub one_more : (s : List ℕ) (i n j : ℕ) → Some (n, j) ≡ integer_at s i → n + 1 < 2 ^ 64 → one_more_at s i ≡ Some (n + 1, j)
+one_more s i n j here small = let fits : ltb (n + 1) (2 ^ 64) ≡ true = lt-ltb _ _ small in rw (← here, fits) refl
 
-pub optional_large : (tag : ℕ) (s : List ℕ) (i n j : ℕ) → is_byte s i tag ≡ true → Some (n, j) ≡ integer_at s (i + 1) → 2 ^ 64 ≤ n + 1 → optional_at tag s i ≡ None
-unfolding optional_at
-optional_large tag s i n j there here large = let fits : ltb (n + 1) (2 ^ 64) ≡ false = grind (arith, nat_tests) in rw (there, ← here, fits) refl
+pub one_more_large : (s : List ℕ) (i n j : ℕ) → Some (n, j) ≡ integer_at s i → 2 ^ 64 ≤ n + 1 → one_more_at s i ≡ None
+one_more_large s i n j here large = let fits : ltb (n + 1) (2 ^ 64) ≡ false = grind (arith, nat_tests) in rw (← here, fits) refl
 
-pub optional_bad : (tag : ℕ) (s : List ℕ) (i : ℕ) → is_byte s i tag ≡ true → None ≡ integer_at s (i + 1) → optional_at tag s i ≡ None
+pub one_more_bad : (s : List ℕ) (i : ℕ) → None ≡ integer_at s i → one_more_at s i ≡ None
+one_more_bad s i here = rw (← here) refl
+
+pub ruleset one_more_reads = (one_more, one_more_large, one_more_bad)
+
+pub optional_there : (tag : ℕ) (s : List ℕ) (i : ℕ) → is_byte s i tag ≡ true → optional_at tag s i ≡ one_more_at s (i + 1)
 unfolding optional_at
-optional_bad tag s i there here = rw (there, ← here) refl
+optional_there tag s i there = rw there refl
 
 pub optional_absent : (tag : ℕ) (s : List ℕ) (i : ℕ) → is_byte s i tag ≡ false → optional_at tag s i ≡ Some (0, i)
 unfolding optional_at
 optional_absent tag s i other = rw other refl
 
-pub ruleset optional_reads = (optional_there, optional_large, optional_bad, optional_absent)
+pub not_optional : (tag : ℕ) (s : List ℕ) (i : ℕ) → true ≡ is_byte s i tag → ((j v : ℕ) → OneMore s (i + 1) j v → ⊥) → (j v : ℕ) → OptInteger tag s i j v → ⊥
+not_optional tag s i there none j v (inl h) = none j v h.1
+not_optional tag s i there none j v (inr h) = absurd (cc)
+
+pub ruleset optional_reads = (optional_there, optional_absent)

@@ -90,15 +90,7 @@ impl<'s> Symbol<'s> {
         ensures within { IfOk result (λ r. (place < r.1) × (r.1 ≤ length self.now)) }
     {
         if self.is_at(b'u', place, looks) {
-            let Ok((name, to)) = self.punycode_ident(place, looks) else {
-                return Err(ParseError::Invalid);
-            };
-            // A copy, so that other names need not lie where that call wrote its own.
-            let copy = Ident {
-                ascii: name.ascii,
-                punycode: name.punycode,
-            };
-            return Ok((copy, to));
+            return self.punycode_copy(place, looks);
         }
         let Ok((len, digits_end)) = self.length(place, looks) else {
             return Err(ParseError::Invalid);
@@ -113,6 +105,37 @@ impl<'s> Symbol<'s> {
             punycode: Part { from: to, to },
         };
         Ok((name, to))
+    }
+
+    /// A copy of the identifier at a place where a `u` stands, which was looked at before, and the
+    /// place behind it. It is Invalid where none is spelled there.
+    // A copy, so that other names need not lie where that call wrote its own; and apart, since
+    // memory for that is cleared where this begins.
+    #[inline(always)]
+    fn punycode_copy(&self, place: usize, looks: &mut Looks) -> Result<(Ident, usize), ParseError>
+        requires u { is_byte self.now place 117 ≡ true }
+        requires inside { place < length self.now }
+        requires fits { length self.now < 2 ^ 64 }
+        ensures ok { IfOk result (λ r. IsIdent self.now place r.1 r.0) }
+        ensures err { OnErr result ((j : ℕ) (ident : Ident) → IsIdent self.now place j ident → ⊥) }
+        ensures parts { IfOk result (λ r. LiesWithin self.now r.0) }
+        ensures fault { IfErr result (λ e. e ≡ ParseError.Invalid) }
+        ensures grows { looks.old ≤ looks.new }
+        ensures ok_looks { IfOk result
+            (λ r. looks.new + 1 + name_size r.0 ≤ looks.old + 4 * (r.1 - place + 1)) }
+        ensures err_looks { OnErr result
+            (looks.new + 1 ≤ looks.old + 4 * (length self.now - place + 1)) }
+        ensures once { IfOk result (λ r. looks.new + 1 ≤ looks.old + (r.1 - place) + 4) }
+        ensures within { IfOk result (λ r. (place < r.1) × (r.1 ≤ length self.now)) }
+    {
+        let Ok((name, to)) = self.punycode_ident(place, looks) else {
+            return Err(ParseError::Invalid);
+        };
+        let copy = Ident {
+            ascii: name.ascii,
+            punycode: name.punycode,
+        };
+        Ok((copy, to))
     }
 
     /// The identifier at a place where a `u` stands, which was looked at before, and the place

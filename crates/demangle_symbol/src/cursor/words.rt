@@ -4,7 +4,7 @@ ghost use Rattle.std.specs.Result.{result_ok};
 ghost use Rattle.demangle_symbol.specs.Words.{byte_at, integer_at, optional_at, namespace_at, backref_at, Integer, OptInteger, Namespace, Backref, behind_byte, is_digit_62, digit_62};
 ghost use Rattle.demangle_symbol.specs.Digits.{run_end};
 ghost use Rattle.demangle_symbol.specs.Idents.{backref_answer};
-ghost use Rattle.demangle_symbol.specs.Integers.{Digit62};
+ghost use Rattle.demangle_symbol.specs.Integers.{Digit62, OneMore, one_more_at};
 
 use crate::cursor::{Looks, ParseError, Symbol, append_digit};
 
@@ -109,7 +109,31 @@ impl<'s> Symbol<'s> {
         if !self.is_at(tag, place, looks) {
             return Ok((0, place));
         }
-        let Ok((number, next)) = self.integer_62(place + 1, looks) else {
+        self.integer_behind_tag(place + 1, looks)
+    }
+
+    /// The integer behind a tag, and one more. It is Invalid where none is spelled there, and where
+    /// the sum is not below 2^64.
+    // Apart, since memory for the call's answer is cleared where this begins, and most names have
+    // no tag.
+    #[tactic(auto, using(crate::proofs::Integers::one_more_reads))]
+    #[inline(always)]
+    fn integer_behind_tag(
+        &self,
+        place: usize,
+        looks: &mut Looks,
+    ) -> Result<(u64, usize), ParseError>
+        ensures ok { IfOk result (λ r. OneMore self.now place r.1 r.0) }
+        ensures err { OnErr result ((j v : ℕ) → OneMore self.now place j v → ⊥) }
+        ensures read { result_ok result ≡ one_more_at self.now place }
+        ensures fault { IfErr result (λ e. e ≡ ParseError.Invalid) }
+        ensures grows { looks.old ≤ looks.new }
+        ensures ok_looks { IfOk result (λ r. looks.new ≤ looks.old + 4 * (r.1 - place + 1)) }
+        ensures err_looks { OnErr result
+            (looks.new ≤ looks.old + 4 * (length self.now - place + 1)) }
+        ensures within { IfOk result (λ r. (place < r.1) × (r.1 ≤ length self.now)) }
+    {
+        let Ok((number, next)) = self.integer_62(place, looks) else {
             return Err(ParseError::Invalid);
         };
         // The tag left out is 0, so behind the tag an integer counts from 1 on.
