@@ -34,15 +34,17 @@ impl<'s> Symbol<'s> {
         let Some(first) = self.integer_digit(place, looks)? else {
             return Ok((0, place + 1));
         };
-        let end = place + UNCHECKED_DIGITS;
         let mut number = first;
-        for at in place + 1..end {
+        // As many turns at any place, so that they are unrolled: each digit tells where the symbol
+        // ends.
+        for step in 1..UNCHECKED_DIGITS {
+            let at = place + step;
             let Some(digit) = self.integer_digit(at, looks)? else {
                 return Ok((number + 1, at + 1));
             };
             number = number * 62 + digit;
         }
-        for at in end..self.len() {
+        for at in place + UNCHECKED_DIGITS..self.len() {
             let Some(digit) = self.integer_digit(at, looks)? else {
                 let Some(value) = number.checked_add(1) else {
                     return Err(ParseError::Invalid);
@@ -77,12 +79,16 @@ impl<'s> Symbol<'s> {
         let Some(byte) = self.byte(place, looks) else {
             return Err(ParseError::Invalid);
         };
-        // The digits go first: there are up to eleven, and one end behind them.
-        match digit_62_of(byte) {
-            digit @ 0..=61 => Ok(Some(u64::from(digit))),
-            END_62 => Ok(None),
-            _ => Err(ParseError::Invalid),
+        // The digits go first: there are up to eleven, and one end behind them. The end is told by
+        // its byte, since a test of the table for it would be made in front of the digits' test.
+        let digit = digit_62_of(byte);
+        if digit < 62 {
+            return Ok(Some(u64::from(digit)));
         }
+        if byte == b'_' {
+            return Ok(None);
+        }
+        Err(ParseError::Invalid)
     }
 
     /// The integer behind a tag and one more, or 0 where the tag is not there. It is Invalid where
@@ -248,10 +254,7 @@ impl<'s> Symbol<'s> {
     }
 }
 
-/// What stands in the table for the `_` that ends an integer.
-const END_62: u8 = 62;
-
-/// The value of each digit in base 62, `END_62` for `_`, and 255 at each other byte.
+/// The value of each digit in base 62, and 255 at each other byte.
 #[rattlefmt::skip]
 static DIGITS_62: [u8; 256] = [
     255, 255, 255, 255, 255, 255, 255, 255, 255, 255, 255, 255, 255, 255, 255, 255,
@@ -259,7 +262,7 @@ static DIGITS_62: [u8; 256] = [
     255, 255, 255, 255, 255, 255, 255, 255, 255, 255, 255, 255, 255, 255, 255, 255,
     0, 1, 2, 3, 4, 5, 6, 7, 8, 9, 255, 255, 255, 255, 255, 255,
     255, 36, 37, 38, 39, 40, 41, 42, 43, 44, 45, 46, 47, 48, 49, 50,
-    51, 52, 53, 54, 55, 56, 57, 58, 59, 60, 61, 255, 255, 255, 255, END_62,
+    51, 52, 53, 54, 55, 56, 57, 58, 59, 60, 61, 255, 255, 255, 255, 255,
     255, 10, 11, 12, 13, 14, 15, 16, 17, 18, 19, 20, 21, 22, 23, 24,
     25, 26, 27, 28, 29, 30, 31, 32, 33, 34, 35, 255, 255, 255, 255, 255,
     255, 255, 255, 255, 255, 255, 255, 255, 255, 255, 255, 255, 255, 255, 255, 255,
@@ -272,13 +275,11 @@ static DIGITS_62: [u8; 256] = [
     255, 255, 255, 255, 255, 255, 255, 255, 255, 255, 255, 255, 255, 255, 255, 255,
 ];
 
-/// The value of a digit in base 62, `END_62` for the `_` that ends an integer, and more at any other
-/// byte.
+/// The value of a digit in base 62, and more at any other byte.
 #[inline(always)]
 fn digit_62_of(byte: u8) -> u8
     ensures digit { result < 62 → (is_digit_62 byte ≡ true) × (result ≡ digit_62 byte) }
-    ensures end { result ≡ 62 → byte ≡ 95 }
-    ensures other { 62 < result → (is_digit_62 byte ≡ false) × (byte ≡ 95 → ⊥) }
+    ensures other { 62 ≤ result → is_digit_62 byte ≡ false }
 {
     DIGITS_62[usize::from(byte)]
 }
