@@ -30,11 +30,15 @@ fn put_mark<V: Output>(
     ensures grows { looks.old ≤ looks.new }
     ensures most { looks.new ≤ looks.old }
 {
-    let Some(mark) = state.mark else {
-        return Ok(());
-    };
-    state.mark = None;
-    output.emit(symbol, &Stretch::Fixed(mark), include_hash, looks)
+    let mark = state.mark;
+    // Most turns leave none. A silent reading clears it without asking, which costs it less.
+    if mark.is_some() || !output.is_printing() {
+        state.mark = None;
+    }
+    match mark {
+        None => Ok(()),
+        Some(mark) => output.emit(symbol, &Stretch::Fixed(mark), include_hash, looks),
+    }
 }
 
 /// Does what a point does, and hands over the mark that it left.
