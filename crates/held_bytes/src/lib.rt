@@ -8,6 +8,40 @@ use std::marker::Model;
 /// How many bytes can be held. They lie on the stack.
 pub const CAPACITY: usize = 2048;
 
+/// Copies a piece of `N` to `2 * N` bytes: its first `N`, and its last `N`, which may overlap.
+#[inline(always)]
+fn copy_ends<const N: usize>(piece: &[u8], room: &mut [u8])
+    requires least { N ≤ length piece.now }
+    requires most { length piece.now ≤ N + N }
+    requires same { length room.old ≡ length piece.now }
+    ensures { room.new ≡ piece.now }
+{
+    *room.first_chunk_mut::<N>().unwrap() = *piece.first_chunk::<N>().unwrap();
+    *room.last_chunk_mut::<N>().unwrap() = *piece.last_chunk::<N>().unwrap();
+}
+
+/// Copies a piece to the front of the room. A call of the C library costs more than the copying of
+/// the few bytes that most pieces have.
+#[inline]
+fn copy(piece: &[u8], room: &mut [u8])
+    requires { length piece.now ≤ length room.old }
+    ensures { room.new ≡ piece.now ++ drop (length piece.now) room.old }
+{
+    let room = &mut room[..piece.len()];
+    match piece.len() {
+        0..=1 => {
+            if let [byte] = piece {
+                room[0] = *byte;
+            }
+        }
+        2..=4 => copy_ends::<2>(piece, room),
+        5..=8 => copy_ends::<4>(piece, room),
+        9..=16 => copy_ends::<8>(piece, room),
+        17..=32 => copy_ends::<16>(piece, room),
+        _ => room.copy_from_slice(piece),
+    }
+}
+
 /// At most `CAPACITY` bytes, in the order in which they came.
 #[derive(Drop)]
 pub struct Held {
@@ -64,7 +98,7 @@ impl Held {
             return false;
         }
         self.len = end;
-        self.bytes[start..end].copy_from_slice(piece);
+        copy(piece, &mut self.bytes[start..]);
         true
     }
 
