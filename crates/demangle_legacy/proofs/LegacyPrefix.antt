@@ -1,7 +1,9 @@
 -- What stands behind the prefix of a legacy symbol.
-use Rattle.std.proofs.Common.{◌≡◌, ℕ, ◌⊎◌, inl, inr, List, ◌++◌, Option, Some, None, refl, ap}
-use Rattle.std.specs.Prelude.{codes}
+use Rattle.std.proofs.Common.{◌≡◌, ℕ, ◌⊎◌, inl, inr, List, ◌++◌, Option, Some, None, length, refl, ap, subst}
+use Rattle.std.specs.Prelude.{codes, IsAscii}
 use Rattle.std.specs.Option.{option_or}
+use Rattle.std.proofs.Math.Seq.{drop-append_seam}
+use Rattle.std.proofs.lemmas.Str.{IsAscii-drop}
 use Rattle.demangle_legacy.specs.Legacy.{IsLegacyPrefix, inner_of}
 use Rattle.demangle_symbol.specs.Prefix.{behind_prefix}
 use Rattle.demangle_symbol.proofs.Prefixes.{behind_is}
@@ -28,3 +30,9 @@ inner_is s x e = elim (first_is (behind_prefix (codes "_ZN") s) (option_or (behi
     | inr k ↦ (codes "__ZN", inr (inr refl), behind_is (codes "__ZN") s x k)
   ]
 ]
+
+-- it is ASCII where all of the text is
+pub inner_ascii : (s x : List ℕ) → inner_of s ≡ Some x → IsAscii s → IsAscii x
+inner_ascii s x e h =
+    let p = inner_is s x e in
+    subst IsAscii (drop-append_seam p.0 x) (IsAscii-drop (p.0 ++ x) (length p.0) (subst IsAscii p.2 h))

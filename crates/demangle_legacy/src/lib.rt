@@ -1,7 +1,7 @@
 //! Legacy symbols: `_ZN`, then elements behind their lengths, then `E`.
 #![tactic(auto)]
 
-ghost use Rattle.std.specs.Prelude.{◌≡◌, ◌+◌, ◌-◌, ◌*◌, ◌≤◌, IfOk, IfSome, OnErr, Some, None, length, option_map};
+ghost use Rattle.std.specs.Prelude.{◌≡◌, ◌+◌, ◌-◌, ◌*◌, ◌≤◌, IfOk, IfSome, IfNone, OnErr, Some, None, IsTrue, IsAscii, false, length, option_map};
 ghost use Rattle.demangle_legacy.specs.Legacy.{legacy_of, elements_of, inner_of};
 
 use demangle_symbol::cursor::{Looks, Symbol};
@@ -33,23 +33,52 @@ fn inner_of(s: &str) -> Option<&str>
     s.strip_prefix("__ZN")
 }
 
-/// Reads a legacy symbol: the symbol, and what follows its `E`.
-pub fn demangle<'s>(s: &'s str, looks: &mut Looks) -> Result<(Demangle<'s>, &'s str), ()>
+/// What stands behind the prefix of a legacy symbol, where it is ASCII. It is not tested where the
+/// text is known to be ASCII.
+fn ascii_inner_of<'s>(s: &'s str, is_ascii: bool, looks: &mut Looks) -> Option<&'s str>
+    requires { IsTrue is_ascii → IsAscii s.now }
+    ensures some { IfSome result (λ x. Some x.now ≡ inner_of s.now) }
+    ensures ascii { IfSome result (λ x. IsAscii x.now) }
+    ensures shorter { IfSome result (λ x. length x.now ≤ length s.now) }
+    ensures none { IfNone result (legacy_of s.now ≡ None) }
+    ensures grows { looks.old ≤ looks.new }
+    ensures most { looks.new ≤ looks.old + length s.now }
+    ensures least { is_ascii ≡ false →
+        IfSome result (λ _. looks.old + (length s.now - 4) ≤ looks.new) }
+{
+    let Some(inner) = inner_of(s) else {
+        return None;
+    };
+    if is_ascii {
+        return Some(inner);
+    }
+    if !Symbol::new(inner).is_ascii(looks) {
+        return None;
+    }
+    Some(inner)
+}
+
+/// Reads a legacy symbol: the symbol, and what follows its `E`. `is_ascii` says that the text is
+/// known to be ASCII.
+pub fn demangle<'s>(
+    s: &'s str,
+    is_ascii: bool,
+    looks: &mut Looks,
+) -> Result<(Demangle<'s>, &'s str), ()>
+    requires { IsTrue is_ascii → IsAscii s.now }
     ensures ok { IfOk result (λ r. legacy_of s.now ≡ Some (elements_of r.0, r.1.now)) }
     ensures err { OnErr result (legacy_of s.now ≡ None) }
     ensures inner { IfOk result (λ r. length r.0 ≤ length s.now) }
     ensures grows { looks.old ≤ looks.new }
     ensures most { looks.new ≤ looks.old + 8 * (length s.now + 1) }
-    ensures least { IfOk result (λ r. looks.old + (length s.now - 4) ≤ looks.new) }
+    ensures least { is_ascii ≡ false →
+        IfOk result (λ r. looks.old + (length s.now - 4) ≤ looks.new) }
 {
-    let Some(inner) = inner_of(s) else {
+    // A length counts bytes, so in other text an element could end within a character.
+    let Some(inner) = ascii_inner_of(s, is_ascii, looks) else {
         return Err(());
     };
     let symbol = Symbol::new(inner);
-    // A length counts bytes, so in other text an element could end within a character.
-    if !symbol.is_ascii(looks) {
-        return Err(());
-    }
     let Some(end) = elements::end_of(&symbol, looks) else {
         return Err(());
     };

@@ -6,7 +6,7 @@ use demangle_symbol::cursor::Looks;
 /// Whether a text is read as a symbol that prints so, and leaves this suffix.
 fn prints(symbol: &str, include_hash: bool, text: &str, suffix: &str) -> bool {
     let mut looks = Looks::new();
-    let Ok((read, left)) = demangle(symbol, &mut looks) else {
+    let Ok((read, left)) = demangle(symbol, false, &mut looks) else {
         return false;
     };
     let mut sink = ArraySink::<256>::new();
@@ -31,6 +31,6 @@ fn symbols_print_their_elements(rt: HostRuntime) {
 #[test]
 fn other_texts_are_refused(rt: HostRuntime) {
     for text in ["", "test", "_ZN", "_ZN4test", "_ZNfooE", "_RC3foo"] {
-        assert!(rt; demangle(text, &mut Looks::new()).is_err(), "{text}");
+        assert!(rt; demangle(text, false, &mut Looks::new()).is_err(), "{text}");
     }
 }

@@ -1,7 +1,7 @@
 //! v0 symbols (RFC 2603): behind a prefix one path or two, then a suffix.
 #![tactic(auto)]
 
-ghost use Rattle.std.specs.Prelude.{◌≡◌, ◌+◌, ◌-◌, ◌*◌, ◌≤◌, IfOk, IfSome, IfNone, OnErr, OnSome, Some, None, IsAscii, length, option_map};
+ghost use Rattle.std.specs.Prelude.{◌≡◌, ◌+◌, ◌-◌, ◌*◌, ◌≤◌, IfOk, IfSome, IfNone, OnErr, OnSome, Some, None, IsTrue, IsAscii, false, length, option_map};
 ghost use Rattle.demangle_grammar.specs.V0.{v0_inner, v0_of};
 
 use crate::accept::{begins_path, suffix_at};
@@ -53,22 +53,51 @@ pub fn ascii_symbol<'s>(s: &'s str, looks: &mut Looks) -> Option<Demangle<'s>>
     }
 }
 
-/// Reads a v0 symbol: the symbol, and the suffix behind its paths.
-pub fn demangle<'s>(s: &'s str, looks: &mut Looks) -> Result<(Demangle<'s>, &'s str), ParseError>
+/// What stands behind the prefix of a v0 symbol, where it is ASCII. It is not tested where the text
+/// is known to be ASCII.
+fn ascii_inner_of<'s>(s: &'s str, is_ascii: bool, looks: &mut Looks) -> Option<&'s str>
+    requires { IsTrue is_ascii → IsAscii s.now }
+    ensures some { IfSome result (λ x. Some x.now ≡ v0_inner s.now) }
+    ensures ascii { IfSome result (λ x. IsAscii x.now) }
+    ensures shorter { IfSome result (λ x. length x.now ≤ length s.now) }
+    ensures none { IfNone result (v0_of s.now ≡ None) }
+    ensures grows { looks.old ≤ looks.new }
+    ensures most { looks.new ≤ looks.old + length s.now }
+    ensures least { is_ascii ≡ false →
+        IfSome result (λ _. looks.old + (length s.now - 4) ≤ looks.new) }
+{
+    let Some(inner) = inner_of(s) else {
+        return None;
+    };
+    if is_ascii {
+        return Some(inner);
+    }
+    if !Symbol::new(inner).is_ascii(looks) {
+        return None;
+    }
+    Some(inner)
+}
+
+/// Reads a v0 symbol: the symbol, and the suffix behind its paths. `is_ascii` says that the text is
+/// known to be ASCII.
+pub fn demangle<'s>(
+    s: &'s str,
+    is_ascii: bool,
+    looks: &mut Looks,
+) -> Result<(Demangle<'s>, &'s str), ParseError>
+    requires { IsTrue is_ascii → IsAscii s.now }
     ensures ok { IfOk result (λ r. v0_of s.now ≡ Some (r.0, r.1.now)) }
     ensures err { OnErr result (v0_of s.now ≡ None) }
     ensures inner { IfOk result (λ r. length r.0 ≤ length s.now) }
     ensures grows { looks.old ≤ looks.new }
     ensures most { looks.new ≤ looks.old + 40 * (length s.now + 1) }
-    ensures least { IfOk result (λ r. looks.old + (length s.now - 4) ≤ looks.new) }
+    ensures least { is_ascii ≡ false →
+        IfOk result (λ r. looks.old + (length s.now - 4) ≤ looks.new) }
 {
-    let Some(inner) = inner_of(s) else {
+    let Some(inner) = ascii_inner_of(s, is_ascii, looks) else {
         return Err(ParseError::Invalid);
     };
     let symbol = Symbol::new(inner);
-    if !symbol.is_ascii(looks) {
-        return Err(ParseError::Invalid);
-    }
     if !begins_path(&symbol, 0, looks) {
         return Err(ParseError::Invalid);
     }

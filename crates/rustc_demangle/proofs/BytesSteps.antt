@@ -85,6 +85,10 @@ all_prefix (c ∷ s) = at (all_prefix s) (is_run c) refl
         ap (λ n. list_all is_run (take n (c ∷ s))) one ∙ ap (λ b. b && list_all is_run (take (prefix_len is_run s) s)) e ∙ ih
     at ih false e = refl
 
+-- what is cut off behind it is a run
+pub all_cut : (found bytes run : List ℕ) (n : ℕ) → bytes ≡ found → n ≡ prefix_len is_run bytes → run ≡ take n found → list_all is_run run ≡ true
+all_cut found bytes run n same len front = ap (list_all is_run) (front ∙ ap (λ k. take k found) (len ∙ ap (prefix_len is_run) same)) ∙ all_prefix found
+
 -- and what it is of a text of run characters alone
 prefix_of_all : (s : List ℕ) → list_all is_run s ≡ true → prefix_len is_run s ≡ length s
 prefix_of_all [] all = refl
@@ -441,13 +445,13 @@ step_took f a next shown n (Some xs) (Some ys) old new le less front took passed
     (ys, refl, subst (λ l. Passed (filtered_by f zero) (a ++ l) (next ++ ys) old new) (sym whole) (subst (λ l. Passed (filtered_by f zero) (a ++ (shown ++ more)) (next ++ l) old new) (sym rest) (passed more)), progress)
 
 -- a run is ASCII
-ascii : (s : List ℕ) → list_all is_run s ≡ true → (i : ℕ) → get_or s i 0 < 128
-ascii [] all i = let none : List ℕ = [] in let e : get_or none i 0 ≡ 0 = get_or_past none i 0 (omega arith) in omega (arith, e)
-ascii (c ∷ s) all zero = run_ascii c (and_left (is_run c) (list_all is_run s) all)
-ascii (c ∷ s) all (suc i) = ascii s (and_right (is_run c) (list_all is_run s) all) i
+pub all_ascii : (s : List ℕ) → list_all is_run s ≡ true → (i : ℕ) → get_or s i 0 < 128
+all_ascii [] all i = let none : List ℕ = [] in let e : get_or none i 0 ≡ 0 = get_or_past none i 0 (omega arith) in omega (arith, e)
+all_ascii (c ∷ s) all zero = run_ascii c (and_left (is_run c) (list_all is_run s) all)
+all_ascii (c ∷ s) all (suc i) = all_ascii s (and_right (is_run c) (list_all is_run s) all) i
 
 pub run_utf8 : (run : List ℕ) → list_all is_run run ≡ true → IsUtf8 run
-run_utf8 run all = IsUtf8-from_ascii run (ascii run all)
+run_utf8 run all = IsUtf8-from_ascii run (all_ascii run all)
 
 -- what was passed of the text that the reader held, and what is carried and left of it
 abbrev pub Passing : (List ℕ → List ℕ) → Option (List ℕ) → List ℕ → Option (List ℕ) → Option (List ℕ) → Option (List ℕ) → Type 0

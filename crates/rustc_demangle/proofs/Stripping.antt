@@ -1,10 +1,12 @@
 -- The first `.llvm.` of a text.
 use Rattle.std.proofs.Common.{◌≡◌, ℕ, zero, suc, ◌<◌, ◌≤◌, inl, inr, Bool, true, false, cond, List, [], ◌∷◌, ◌++◌, length, take, drop, refl, sym, ap, ◌∙◌, arith, subst, nat_eq, eqb, get_or}
-use Rattle.std.specs.Prelude.{codes}
+use Rattle.std.specs.Prelude.{codes, IsAscii}
 use Rattle.std.specs.List.{starts_with, list_all}
 use Rattle.std.specs.Cmp.Lexicographic.{bytes_decides}
 use Rattle.std.specs.Str.Pattern.{FindsText, SplitsAroundMatch}
 use Rattle.std.proofs.lemmas.List.{take-append-drop, append-nil, length-append, length-drop, get_or-drop}
+use Rattle.std.proofs.lemmas.Str.{IsAscii-drop}
+use Rattle.std.proofs.lemmas.Str.Ascii.{IsAscii-nil, IsAscii-cons}
 use Rattle.memchr.specs.Find.{Nowhere, Passes, is_byte}
 use Rattle.rustc_demangle.specs.Stripped.{stripped, is_thin_lto}
 use Rattle.std.proofs.lemmas.Bool.{cases_Bool, true≢false}
@@ -54,6 +56,16 @@ stripped_split s a b h =
     stripped_at h.0 s (drop h.1 s) h.2.0 split
     ∙ ap (λ r. cond (list_all is_thin_lto r) (take h.0 s) s) (sym h.4)
     ∙ ap (λ x. cond (list_all is_thin_lto b) x s) (sym h.3)
+
+-- an ASCII text stays so without its ending
+pub IsAscii-stripped : (s : List ℕ) → IsAscii s → IsAscii (stripped s)
+unfolding stripped
+IsAscii-stripped [] h = h
+IsAscii-stripped (c ∷ s) h = go (starts_with nat_eq (c ∷ s) (codes ".llvm.")) (list_all is_thin_lto (drop 5 s)) (IsAscii-stripped s (IsAscii-drop (c ∷ s) 1 h)) where
+  go : (b d : Bool) → IsAscii (stripped s) → IsAscii (cond b (cond d [] (c ∷ s)) (c ∷ stripped s))
+  go true true rest = IsAscii-nil
+  go true false rest = h
+  go false d rest = IsAscii-cons c (stripped s) (h 0) rest
 
 -- a longer text begins with it too
 begins-append : (t ys : List ℕ) → starts_with nat_eq t (codes ".llvm.") ≡ true → starts_with nat_eq (t ++ ys) (codes ".llvm.") ≡ true

@@ -44,7 +44,7 @@ pub fn demangle_counted<'a>(s: &'a str, looks: &mut Looks) -> Demangle<'a>
     ensures least { IsSymbol (stripped s.now) →
         looks.old + (length (stripped s.now) - 4) ≤ looks.new }
 {
-    Demangle::read(without_thin_lto(s), looks)
+    Demangle::read(without_thin_lto(s), false, looks)
 }
 
 /// Reads a text as a Rust symbol, in the legacy scheme or in v0 (Rust RFC 2603).

@@ -1,14 +1,14 @@
 //! A text in memory with its symbols demangled.
-ghost use Rattle.std.specs.Prelude.{◌≡◌, false, OnOk};
+ghost use Rattle.std.specs.Prelude.{◌≡◌, true, false, OnOk};
+ghost use Rattle.std.specs.List.{list_all};
 ghost use Rattle.demangle_sink.specs.Hands.{Hands};
 ghost use Rattle.demangle_sink.specs.Writes.{Writes};
-ghost use Rattle.rustc_demangle.specs.Filtered.{filtered};
+ghost use Rattle.rustc_demangle.specs.Filtered.{filtered, is_run};
 ghost use Rattle.rustc_demangle.specs.Pieces.{run_pieces, filtered_pieces};
 ghost use Rattle.rustc_demangle.specs.Symbols.{most_bytes};
 
 use crate::runs::{run_len, run_start};
-use crate::try_demangle;
-use crate::value::MAX_SIZE;
+use crate::value::{Demangle, MAX_SIZE};
 use demangle_sink::{SinkRefused, TextSink, put_piece};
 use demangle_symbol::cursor::Looks;
 
@@ -19,12 +19,15 @@ pub(crate) fn put_run<S: TextSink>(
     include_hash: bool,
     limit: usize,
 ) -> Result<(), SinkRefused>
-    requires { S.failed out.old ≡ false }
+    requires run { list_all is_run run.now ≡ true }
+    requires alive { S.failed out.old ≡ false }
     ensures { Hands S.TextSink out.old (run_pieces include_hash limit run.now) result out.new }
 {
-    match try_demangle(run) {
-        Ok(symbol) => symbol.hand_over(out, include_hash, limit, &mut Looks::new()),
-        Err(_) => put_piece(run, out),
+    let symbol = Demangle::read_run(run);
+    if symbol.has_style() {
+        symbol.hand_over(out, include_hash, limit, &mut Looks::new())
+    } else {
+        put_piece(run, out)
     }
 }
 

@@ -1,9 +1,11 @@
 //! A demangled symbol, and how it prints.
-ghost use Rattle.std.specs.Prelude.{◌≡◌, ◌+◌, ◌-◌, ◌*◌, ◌≤◌, length, false, IsTrue, IfSome, IfNone, None};
+ghost use Rattle.std.specs.Prelude.{◌≡◌, ◌+◌, ◌-◌, ◌*◌, ◌≤◌, length, true, false, IsTrue, IsAscii, IfSome, IfNone, None};
+ghost use Rattle.std.specs.List.{list_all};
 ghost use Rattle.demangle_sink.specs.Cut.{cut};
 ghost use Rattle.demangle_sink.specs.Hands.{Hands};
 ghost use Rattle.demangle_legacy.specs.Legacy.{legacy_of};
 ghost use Rattle.demangle_sink.specs.Limit.{Prints, Ready};
+ghost use Rattle.rustc_demangle.specs.Filtered.{is_run};
 ghost use Rattle.rustc_demangle.specs.PathEnds.{path_len_of, handed_with};
 ghost use Rattle.rustc_demangle.specs.Stripped.{is_allowed, is_graphic, stripped};
 ghost use Rattle.rustc_demangle.specs.Style.{style_pieces, style_len, style_looks, style_least, IsReadAs, HasNoStyle, HasStyle};
@@ -234,34 +236,47 @@ fn is_allowed(suffix: &str, looks: &mut Looks) -> bool
     true
 }
 
-/// What a scheme reads of a text, and what it leaves.
-fn read_style<'a>(text: &'a str, looks: &mut Looks) -> Option<(DemangleStyle<'a>, &'a str)>
+/// What a scheme reads of a text, and what it leaves. `is_ascii` says that the text is known to be
+/// ASCII.
+fn read_style<'a>(
+    text: &'a str,
+    is_ascii: bool,
+    looks: &mut Looks,
+) -> Option<(DemangleStyle<'a>, &'a str)>
+    requires { IsTrue is_ascii → IsAscii text.now }
     ensures some { IfSome result (λ r. IsReadAs text.now r.0 r.1.now) }
     ensures inner { IfSome result (λ r. style_len r.0 ≤ length text.now) }
     ensures none { IfNone result ((legacy_of text.now ≡ None) × (v0_of text.now ≡ None)) }
     ensures grows { looks.old ≤ looks.new }
     ensures most { looks.new ≤ looks.old + 60 * (length text.now + 1) }
-    ensures least { IfSome result (λ _. looks.old + (length text.now - 4) ≤ looks.new) }
+    ensures least { is_ascii ≡ false →
+        IfSome result (λ _. looks.old + (length text.now - 4) ≤ looks.new) }
 {
     // No text has the prefixes of both schemes, so the order shows in nothing that is printed.
-    if let Ok((symbol, suffix)) = demangle_legacy::demangle(text, looks) {
+    if let Ok((symbol, suffix)) = demangle_legacy::demangle(text, is_ascii, looks) {
         return Some((DemangleStyle::Legacy(symbol), suffix));
     }
-    match demangle_v0::demangle(text, looks) {
+    match demangle_v0::demangle(text, is_ascii, looks) {
         Ok((symbol, suffix)) => Some((DemangleStyle::V0(symbol), suffix)),
         Err(_) => None,
     }
 }
 
 /// The style of a text and its suffix, if it is a symbol.
-fn style_of<'a>(text: &'a str, looks: &mut Looks) -> Option<(DemangleStyle<'a>, &'a str)>
+fn style_of<'a>(
+    text: &'a str,
+    is_ascii: bool,
+    looks: &mut Looks,
+) -> Option<(DemangleStyle<'a>, &'a str)>
+    requires { IsTrue is_ascii → IsAscii text.now }
     ensures some { IfSome result (λ r. HasStyle text.now r.0 r.1.now) }
     ensures none { IfNone result (HasNoStyle text.now) }
     ensures grows { looks.old ≤ looks.new }
     ensures most { looks.new ≤ looks.old + 61 * (length text.now + 1) }
-    ensures least { IfSome result (λ _. looks.old + (length text.now - 4) ≤ looks.new) }
+    ensures least { is_ascii ≡ false →
+        IfSome result (λ _. looks.old + (length text.now - 4) ≤ looks.new) }
 {
-    let (style, suffix) = read_style(text, looks)?;
+    let (style, suffix) = read_style(text, is_ascii, looks)?;
     if is_allowed(suffix, looks) {
         Some((style, suffix))
     } else {
@@ -270,14 +285,16 @@ fn style_of<'a>(text: &'a str, looks: &mut Looks) -> Option<(DemangleStyle<'a>, 
 }
 
 impl<'a> Demangle<'a> {
-    /// The text, read as a symbol where it is one.
-    pub(crate) fn read(text: &'a str, looks: &mut Looks) -> Demangle<'a>
+    /// The text, read as a symbol where it is one. `is_ascii` says that it is known to be ASCII.
+    pub(crate) fn read(text: &'a str, is_ascii: bool, looks: &mut Looks) -> Demangle<'a>
+        requires { IsTrue is_ascii → IsAscii text.now }
         ensures text { result ≡ text.now }
         ensures grows { looks.old ≤ looks.new }
         ensures most { looks.new ≤ looks.old + 61 * (length text.now + 1) }
-        ensures least { IsSymbol text.now → looks.old + (length text.now - 4) ≤ looks.new }
+        ensures least { is_ascii ≡ false → IsSymbol text.now →
+            looks.old + (length text.now - 4) ≤ looks.new }
     {
-        match style_of(text, looks) {
+        match style_of(text, is_ascii, looks) {
             Some((style, suffix)) => Demangle {
                 style: Some(style),
                 original: text,
@@ -289,6 +306,14 @@ impl<'a> Demangle<'a> {
                 suffix: "",
             },
         }
+    }
+
+    /// The run, read as a symbol where it is one. A run is ASCII.
+    pub(crate) fn read_run(run: &'a str) -> Demangle<'a>
+        requires { list_all is_run run.now ≡ true }
+        ensures { result ≡ stripped run.now }
+    {
+        Demangle::read(without_thin_lto(run), true, &mut Looks::new())
     }
 
     /// Whether it is a symbol.
@@ -314,7 +339,7 @@ fn hand_over_with<S: TextSink>(
 {
     let mut looks = Looks::new();
     let Some(symbol) = demangle_v0::ascii_symbol(text, &mut looks) else {
-        let read = Demangle::read(text, &mut looks);
+        let read = Demangle::read(text, false, &mut looks);
         return read.hand_over(out, include_hash, limit, &mut looks);
     };
     // A caller may hand in any number.

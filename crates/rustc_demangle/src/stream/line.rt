@@ -1,12 +1,12 @@
 //! A line with its symbols demangled.
-ghost use Rattle.std.specs.Prelude.{OnOk};
+ghost use Rattle.std.specs.Prelude.{◌≡◌, true, OnOk};
 ghost use Rattle.std.specs.Io.KnownBytes.{Appends};
-ghost use Rattle.std.specs.List.{concat};
-ghost use Rattle.rustc_demangle.specs.Filtered.{filtered, replacement_within};
+ghost use Rattle.std.specs.List.{concat, list_all};
+ghost use Rattle.rustc_demangle.specs.Filtered.{filtered, is_run, replacement_within};
 ghost use Rattle.rustc_demangle.specs.Symbols.{handed};
 
 use crate::text::demangle_text;
-use crate::{Demangle, try_demangle};
+use crate::value::Demangle;
 use demangle_sink::WriteSink;
 use std::io;
 use std::io::Write;
@@ -44,12 +44,15 @@ pub(super) fn write_run<W: Write>(
     include_hash: bool,
     limit: usize,
 ) -> io::Result<()>
+    requires { list_all is_run run.now ≡ true }
     ensures { OnOk result (Appends (W.contents output.old) (W.contents output.new)
         (replacement_within include_hash limit run.now)) }
 {
-    match try_demangle(run) {
-        Ok(symbol) => write_symbol(&symbol, output, include_hash, limit),
-        Err(_) => write_kept(run, output),
+    let symbol = Demangle::read_run(run);
+    if symbol.has_style() {
+        write_symbol(&symbol, output, include_hash, limit)
+    } else {
+        write_kept(run, output)
     }
 }
 

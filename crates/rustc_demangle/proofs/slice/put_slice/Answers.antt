@@ -1,9 +1,9 @@
-use Rattle.std.proofs.Common.{◌≤◌, length, take, Ok, Err, refl, sym, ap, subst, ◌∙◌}
+use Rattle.std.proofs.Common.{◌≤◌, length, Ok, Err, refl, sym, ap, subst, ◌∙◌}
 use Rattle.std.specs.List.{list_all}
 use Rattle.std.proofs.lemmas.List.Sums.{prefix_len-le-length}
 use Rattle.demangle_sink.specs.contracts.slice_sink.SliceSinkTextSink.TheImpl.{ghosts}
 use Rattle.rustc_demangle.specs.Filtered.{is_run}
-use Rattle.rustc_demangle.proofs.BytesSteps.{all_prefix}
+use Rattle.rustc_demangle.proofs.BytesSteps.{all_cut}
 use Rattle.rustc_demangle.proofs.PieceSteps.{feeding_step, feeding_kept, feeding_run, feeding_end}
 use Rattle.rustc_demangle.proofs.SliceSteps.{slice_writes, slice_hands}
 use Rattle.rustc_demangle.proofs.slice.put_slice.Goals as goal
@@ -21,8 +21,10 @@ returns-in_err-put_bytes c =
     refl c.from_residual.ensures.0)
 
 pub run_text-requires : goal.run_text-requires
-run_text-requires c =
-    ap (list_all is_run) (c.split_at-in-Some.ensures.front ∙ ap (λ n. take n c.split_at.result.1.now) c.run_len.ensures) ∙ all_prefix c.split_at.result.1.now
+run_text-requires c = all_cut _ _ _ _ refl c.run_len.ensures c.split_at-in-Some.ensures.front
+
+pub put_run-requires-clause-run : goal.put_run-requires-clause-run
+put_run-requires-clause-run c = ap (list_all is_run) c.run_text.ensures ∙ all_cut _ _ _ _ refl c.run_len.ensures c.split_at-in-Some.ensures.front
 
 pub returns-in_err-put_run : goal.returns-in_err-put_run
 returns-in_err-put_run c =

@@ -1,4 +1,4 @@
-use Rattle.std.proofs.Common.{inl, inr, arith, ap}
+use Rattle.std.proofs.Common.{inl, inr, arith}
 use Rattle.std.proofs.lemmas.Bool.{cases_lt, false≢true}
 use Rattle.std.below.core.specs.declared.int.usize.TheConstants.{MAX}
 use Rattle.demangle_sink.specs.Cut.{size}

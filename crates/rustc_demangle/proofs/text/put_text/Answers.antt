@@ -1,4 +1,5 @@
 use Rattle.std.proofs.Common.{rules, refl}
+use Rattle.rustc_demangle.proofs.BytesSteps.{all_cut}
 use Rattle.rustc_demangle.proofs.RunSteps.{cut_at}
 use Rattle.rustc_demangle.proofs.PieceSteps.{feeding_init, feeding_step, feeding_kept, feeding_run, feeding_end}
 use Rattle.rustc_demangle.proofs.text.put_text.Goals as goal
@@ -9,6 +10,9 @@ loop-start-init g c = (search rules, feeding_init g.S.TextSink _ _ _ _ c.require
 pub split_at-requires-in-Some : goal.split_at-requires-in-Some
 split_at-requires-in-Some g c =
     cut_at _ _ _ _ _ _ c.as_bytes-in-Some.ensures.utf8 c.as_bytes.ensures.value c.in-Some.ensures.some.1 c.split_at.ensures.back c.as_bytes-in-Some.ensures.value c.run_len.ensures
+
+pub put_run-requires-clause-run : goal.put_run-requires-clause-run
+put_run-requires-clause-run g c = all_cut _ _ _ _ c.as_bytes-in-Some.ensures.value c.run_len.ensures c.split_at-in-Some.ensures.front
 
 pub returns-in_err-put_piece : goal.returns-in_err-put_piece
 returns-in_err-put_piece g c =
