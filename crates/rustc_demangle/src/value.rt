@@ -252,13 +252,14 @@ fn read_style<'a>(
     ensures least { is_ascii ≡ false →
         IfSome result (λ _. looks.old + (length text.now - 4) ≤ looks.new) }
 {
-    // No text has the prefixes of both schemes, so the order shows in nothing that is printed.
-    if let Ok((symbol, suffix)) = demangle_legacy::demangle(text, is_ascii, looks) {
-        return Some((DemangleStyle::Legacy(symbol), suffix));
+    // No text has the prefixes of both schemes, so the order shows in nothing that is printed; the
+    // prefixes of v0 are told by fewer bytes.
+    if let Ok((symbol, suffix)) = demangle_v0::demangle(text, is_ascii, looks) {
+        return Some((DemangleStyle::V0(symbol), suffix));
     }
-    match demangle_v0::demangle(text, is_ascii, looks) {
-        Ok((symbol, suffix)) => Some((DemangleStyle::V0(symbol), suffix)),
-        Err(_) => None,
+    match demangle_legacy::demangle(text, is_ascii, looks) {
+        Ok((symbol, suffix)) => Some((DemangleStyle::Legacy(symbol), suffix)),
+        Err(()) => None,
     }
 }
 
