@@ -1,10 +1,13 @@
 //! The names of paths.
-ghost use Rattle.std.specs.Prelude.{◌≡◌, None, List};
+ghost use Rattle.std.specs.Prelude.{◌≡◌, ◌≤◌, true, None, List, IsAscii, OnOk};
+ghost use Rattle.demangle_words.specs.WordReads.{texts_of};
+ghost use Rattle.demangle_words.specs.declared.stretch.Stretch.TheVariants as Stretch;
 ghost use Rattle.demangle_v0.specs.Points.{MayEmit, PointDoes, RestDoes, env, turn};
 ghost use Rattle.demangle_v0.specs.PointContracts.{crate_path};
 ghost use Rattle.demangle_v0.specs.declared.points.frames.Frame.{Frame};
 
 use crate::points::{Point, State, Stop};
+use demangle_sink::SinkRefused;
 use demangle_symbol::cursor::{Looks, Symbol};
 use demangle_words::output::Output;
 use demangle_words::read::names::numbered_name;
@@ -35,6 +38,25 @@ pub(super) fn crate_name<V: Output>(
     Ok(Point::End)
 }
 
+/// Hands over what stands for a name behind a path that failed.
+#[inline(never)]
+fn emit_unread<V: Output>(
+    symbol: &Symbol<'_>,
+    include_hash: bool,
+    output: &mut V,
+    looks: &mut Looks,
+) -> Result<(), SinkRefused>
+    requires ascii { V.is_printed ≡ true → IsAscii symbol.now }
+    requires ready { V.ready output.old }
+    ensures prints { V.prints output.old (texts_of symbol.now include_hash Stretch.NestedAfterError)
+        result output.new }
+    ensures ready { OnOk result (V.ready output.new) }
+    ensures grows { looks.old ≤ looks.new }
+    ensures most { looks.new ≤ looks.old }
+{
+    output.emit_fault(symbol, &Stretch::NestedAfterError, include_hash, looks)
+}
+
 /// A name behind a path that failed: its colons are printed, and that it was not read.
 #[inline(always)]
 fn unread_name<V: Output>(
@@ -51,7 +73,7 @@ fn unread_name<V: Output>(
         output.new looks.new) }
 {
     state.is_open = false;
-    output.emit_fault(symbol, &Stretch::NestedAfterError, include_hash, looks)?;
+    emit_unread(symbol, include_hash, output, looks)?;
     Ok(Point::End)
 }
 
