@@ -96,13 +96,29 @@ pub(super) fn dispatch<V: Output, const N: usize>(
             looks,
         ),
         Point::FunctionHead => {
-            rare(symbol, RarePoint::FunctionHead, include_hash, state, stack, output, looks)
+            rare(
+                symbol,
+                RarePoint::FunctionHead,
+                include_hash,
+                state,
+                stack,
+                output,
+                looks,
+            )
         }
         Point::FirstParameter => Ok(parameter::<V, N>(symbol, true, state, stack, looks)),
         Point::NextParameter => Ok(parameter::<V, N>(symbol, false, state, stack, looks)),
         Point::Returns => Ok(returns::<V>(symbol, state, looks)),
         Point::DynBinder => {
-            rare(symbol, RarePoint::DynBinder, include_hash, state, stack, output, looks)
+            rare(
+                symbol,
+                RarePoint::DynBinder,
+                include_hash,
+                state,
+                stack,
+                output,
+                looks,
+            )
         }
         Point::FirstDynTrait => Ok(dyn_trait::<V, N>(symbol, true, state, stack, looks)),
         Point::NextDynTrait => Ok(dyn_trait::<V, N>(symbol, false, state, stack, looks)),
@@ -112,22 +128,62 @@ pub(super) fn dispatch<V: Output, const N: usize>(
         Point::Bindings => Ok(bindings::<V>(symbol, state, looks)),
         Point::OpenBindings => Ok(open_bindings::<V>(symbol, state, looks)),
         Point::BindingName => {
-            rare(symbol, RarePoint::BindingName, include_hash, state, stack, output, looks)
+            rare(
+                symbol,
+                RarePoint::BindingName,
+                include_hash,
+                state,
+                stack,
+                output,
+                looks,
+            )
         }
         Point::Bound => Ok(bound::<V, N>(symbol, state, stack, looks)),
         Point::DynLifetime => {
-            rare(symbol, RarePoint::DynLifetime, include_hash, state, stack, output, looks)
+            rare(
+                symbol,
+                RarePoint::DynLifetime,
+                include_hash,
+                state,
+                stack,
+                output,
+                looks,
+            )
         }
         Point::Pattern => pattern::<V, N>(symbol, state, stack, looks),
         Point::NextPattern => next_pattern::<V, N>(symbol, state, stack, looks),
         Point::Constant => {
-            rare(symbol, RarePoint::Constant, include_hash, state, stack, output, looks)
+            rare(
+                symbol,
+                RarePoint::Constant,
+                include_hash,
+                state,
+                stack,
+                output,
+                looks,
+            )
         }
         Point::Number => {
-            rare(symbol, RarePoint::Number, include_hash, state, stack, output, looks)
+            rare(
+                symbol,
+                RarePoint::Number,
+                include_hash,
+                state,
+                stack,
+                output,
+                looks,
+            )
         }
         Point::Literal => {
-            rare(symbol, RarePoint::Literal, include_hash, state, stack, output, looks)
+            rare(
+                symbol,
+                RarePoint::Literal,
+                include_hash,
+                state,
+                stack,
+                output,
+                looks,
+            )
         }
         Point::FirstArrayConstant => {
             Ok(first_constant::<V, N>(symbol, ConstantList::Array, state, stack, looks))
@@ -145,7 +201,15 @@ pub(super) fn dispatch<V: Output, const N: usize>(
             Ok(next_constant::<V, N>(symbol, ConstantList::Tuple, state, stack, looks))
         }
         Point::Variant => {
-            rare(symbol, RarePoint::Variant, include_hash, state, stack, output, looks)
+            rare(
+                symbol,
+                RarePoint::Variant,
+                include_hash,
+                state,
+                stack,
+                output,
+                looks,
+            )
         }
         Point::FirstVariantConstant => {
             Ok(first_constant::<V, N>(symbol, ConstantList::TupleVariant, state, stack, looks))
@@ -160,7 +224,15 @@ pub(super) fn dispatch<V: Output, const N: usize>(
             Ok(next_constant::<V, N>(symbol, ConstantList::Fields, state, stack, looks))
         }
         Point::Field => {
-            rare(symbol, RarePoint::Field, include_hash, state, stack, output, looks)
+            rare(
+                symbol,
+                RarePoint::Field,
+                include_hash,
+                state,
+                stack,
+                output,
+                looks,
+            )
         }
         Point::AfterBackref => Ok(behind::<V>(state)),
         Point::CloseParen
