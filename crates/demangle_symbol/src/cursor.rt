@@ -1,5 +1,5 @@
 //! The bytes of a symbol, which only `byte` tells.
-ghost use Rattle.std.specs.Prelude.{◌≡◌, ℕ, [], ◌∷◌, ◌+◌, ◌-◌, ◌*◌, ◌<◌, ◌≤◌, length, slice_get, slice_range, ◌^◌, IfOk, OnErr, IfErr, IfSome, IfNone, SomeIff, IsTrue, ◌↔◌};
+ghost use Rattle.std.specs.Prelude.{◌≡◌, ℕ, [], ◌∷◌, ◌+◌, ◌-◌, ◌*◌, ◌<◌, ◌≤◌, length, slice_get, slice_range, ◌^◌, IsOk, IfOk, OnErr, IfErr, IfSome, IfNone, SomeIff, IsTrue, ◌↔◌};
 ghost use Rattle.std.specs.Str.{IsAscii};
 ghost use Rattle.demangle_symbol.specs.Digits.{is_byte, run_end, Decimal, is_digit_10};
 ghost use Rattle.demangle_symbol.specs.Idents.{DigitsUpTo};
@@ -194,7 +194,7 @@ impl<'s> Symbol<'s> {
                 if at == start {
                     return Err(ParseError::Invalid);
                 }
-                return Ok((number as usize, at));
+                return Ok((as_length(number)?, at));
             };
             // A number of 2^64 or more is refused, as the Rust crate refuses it, and never comes
             // round to a small one.
@@ -207,7 +207,7 @@ impl<'s> Symbol<'s> {
         if end <= start {
             return Err(ParseError::Invalid);
         }
-        Ok((number as usize, end))
+        Ok((as_length(number)?, end))
     }
 
     /// The decimal digit at a place, if one stands there.
@@ -226,6 +226,20 @@ impl<'s> Symbol<'s> {
             _ => None,
         }
     }
+}
+
+/// Returns a number as a `usize`.
+///
+/// # Errors
+///
+/// Fails with `ParseError::Invalid` if a `usize` cannot hold the number, which happens on targets
+/// with less than 64 bits alone.
+#[inline(always)]
+fn as_length(number: u64) -> Result<usize, ParseError>
+    ensures value { IfOk result (λ length. length ≡ number) }
+    ensures fits { IsOk result }
+{
+    usize::try_from(number).map_err(|_| ParseError::Invalid)
 }
 
 /// The number with this digit behind its own, in a base, if it fits 64 bits.

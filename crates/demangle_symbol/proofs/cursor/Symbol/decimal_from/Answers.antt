@@ -17,7 +17,7 @@ pub returns-clause-ok : goal.returns-clause-ok
 returns-clause-ok c =
     let inside = digits_inside _ _ _ _ c.loop-at.invariant.digits (omega (arith, c.if-end-start.false)) in
     let e : c.loop-at.at ≡ c.len-end.result = omega (arith, inside) in
-    rw e at (digits_decimal _ _ _ _ c.loop-at.invariant.digits (omega arith) (run_past _ _ _ (omega arith)))
+    rw (← c.in_ok-as_length-2.ensures.value, e) at (digits_decimal _ _ _ _ c.loop-at.invariant.digits (omega arith) (run_past _ _ _ (omega arith)))
 
 pub returns-clause-within : goal.returns-clause-within
 returns-clause-within c =
