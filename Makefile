@@ -1,13 +1,14 @@
 # Builds, installs and packs Kodliwe: the programs, the library for C, and what a user reads of them.
 #
-#   make                             into out/build
-#   make install PREFIX= DESTDIR=    PREFIX is /usr/local where it is not given
+#   make                             proves and builds into out/build, and runs the program once
+#   make test                        runs every test; ONLY=web,c runs some suites (tests/run says which there are)
+#   make install PREFIX= DESTDIR=    PREFIX is /usr/local if it is not given
 #   make uninstall PREFIX= DESTDIR=
 #   make dist                        out/dist: a tarball of the installed tree and a Debian package, with SHA256SUMS
-#   make check                       tries all of these, in folders of its own (packaging/check)
 #
-# `make` proves what it builds, and wants the Rattle kit (`rt`) and a C compiler. What it makes wants the C library alone.
-# FLAGS are handed to `rt`, as --cpu=x86-64-v3: docs/C.md has the choices.
+# `make` needs the Rattle kit (`rt`) and a C compiler. What it makes needs the C library alone. out/make.log has what the kit says.
+# FLAGS are given to `rt`, as --cpu=x86-64-v3: docs/C.md has the choices. FROM_GATE=1 takes the libraries and programs that
+# `rt ci`, just before, proved and built in this checkout (packaging/prove).
 
 VERSION := 0.1.0
 SONAME := libkodliwe.so.0
@@ -25,7 +26,7 @@ INCLUDEDIR ?= $(PREFIX)/include
 DATADIR ?= $(PREFIX)/share
 MANDIR ?= $(DATADIR)/man
 DOCDIR ?= $(DATADIR)/doc/kodliwe
-# Where kodliwe.pc says that the tree lies; a tree that is moved about says it by the file's own place.
+# The place of the tree that kodliwe.pc names. A tree that can be moved names it by the file's own place.
 PC_PREFIX ?= $(PREFIX)
 FLAGS ?=
 CC ?= cc
@@ -38,37 +39,45 @@ DIST := out/dist
 NAME := kodliwe-$(VERSION)-x86_64-linux
 DEB := kodliwe_$(VERSION)_amd64.deb
 SOURCES := crates.txt $(shell find crates -path '*/out' -prune -o -name '*.rt' -print -o -name '*.antt' -print)
-# Times in what is packed: those of the last commit, so that two builds of it are the same.
+# The times in what is packed are those of the last commit, so that two builds of it are the same.
 SOURCE_DATE_EPOCH ?= $(shell git log -1 --format=%ct 2>/dev/null || date +%s)
 export SOURCE_DATE_EPOCH
 
-.PHONY: all install uninstall dist check clean
+.PHONY: all libraries install uninstall dist test clean
 .DELETE_ON_ERROR:
+# The kit proves one crate at a time.
+.NOTPARALLEL:
 
-all: $(PROGRAMS:%=$(BUILD)/%) $(BUILD)/libkodliwe.a $(BUILD)/$(SHARED)
+all: libraries
+	@echo "echo 'worker 1: called _ZN3foo17h05af221e174051e9E' | $(BUILD)/kodliwe"
+	@echo 'worker 1: called _ZN3foo17h05af221e174051e9E' | $(BUILD)/kodliwe
+
+libraries: $(PROGRAMS:%=$(BUILD)/%) $(BUILD)/libkodliwe.a $(BUILD)/$(SHARED)
 
 $(BUILD):
 	mkdir -p $@
 
-# A program that was proved lies in its crate's out/ once it has run.
-$(PROGRAMS:%=$(BUILD)/%): $(BUILD)/%: $(SOURCES) | $(BUILD)
-	cd crates/$* && rt run $(FLAGS) < /dev/null > /dev/null
-	$(STRIP) -o $@ crates/$*/out/$*
+# One call proves all, so that a library below several of them is proved once.
+$(BUILD)/proved: $(SOURCES) packaging/prove | $(BUILD)
+	@packaging/prove $(PROGRAMS) demangle_c $(FLAGS)
+	@touch $@
+
+$(PROGRAMS:%=$(BUILD)/%): $(BUILD)/%: $(BUILD)/proved
+	@$(STRIP) -o $@ crates/$*/out/$*
 
 $(BUILD)/rustc_demangle.o: bindings/c/rustc_demangle.c $(HEADERS) | $(BUILD)
-	$(CC) -O2 -fPIC -I include $(CFLAGS) -c $< -o $@
+	@$(CC) -O2 -fPIC -I include $(CFLAGS) -c $< -o $@
 
-$(BUILD)/libkodliwe.a: $(SOURCES) $(BUILD)/rustc_demangle.o | $(BUILD)
-	cd crates/demangle_c && rt lib $(FLAGS)
-	$(STRIP) --enable-deterministic-archives --strip-debug -o $@ crates/demangle_c/out/libdemangle_c.a
-	$(AR) rD $@ $(BUILD)/rustc_demangle.o
+$(BUILD)/libkodliwe.a: $(BUILD)/proved $(BUILD)/rustc_demangle.o
+	@$(STRIP) --enable-deterministic-archives --strip-debug -o $@ crates/demangle_c/out/libdemangle_c.a
+	@$(AR) rD $@ $(BUILD)/rustc_demangle.o
 
 $(BUILD)/$(SHARED): $(BUILD)/libkodliwe.a packaging/libkodliwe.map
-	$(CC) -shared -Wl,-soname,$(SONAME) -Wl,--version-script=packaging/libkodliwe.map -Wl,-z,defs -Wl,-z,relro,-z,now \
+	@$(CC) -shared -Wl,-soname,$(SONAME) -Wl,--version-script=packaging/libkodliwe.map -Wl,-z,defs -Wl,-z,relro,-z,now \
 		-Wl,--gc-sections -Wl,--whole-archive $< -Wl,--no-whole-archive $(LDFLAGS) -o $@
-	$(STRIP) --strip-unneeded $@
+	@$(STRIP) --strip-unneeded $@
 
-install: all
+install: libraries
 	$(INSTALL) -d $(DESTDIR)$(BINDIR) $(DESTDIR)$(LIBDIR)/pkgconfig $(DESTDIR)$(INCLUDEDIR) $(DESTDIR)$(MANDIR)/man1 $(DESTDIR)$(DOCDIR) \
 		$(DESTDIR)$(DATADIR)/bash-completion/completions $(DESTDIR)$(DATADIR)/zsh/site-functions $(DESTDIR)$(DATADIR)/fish/vendor_completions.d
 	$(INSTALL) -m 755 $(PROGRAMS:%=$(BUILD)/%) $(DESTDIR)$(BINDIR)
@@ -97,17 +106,17 @@ dist: $(DIST)/$(NAME).tar.gz $(DIST)/$(DEB)
 	cd $(DIST) && sha256sum $(NAME).tar.gz $(DEB) > SHA256SUMS
 
 # A tree that can be unpacked anywhere: kodliwe.pc finds the rest from its own place.
-$(DIST)/$(NAME).tar.gz: all $(HEADERS) $(LICENCES) README.md
+$(DIST)/$(NAME).tar.gz: libraries $(HEADERS) $(LICENCES) README.md
 	rm -rf $(DIST)/$(NAME)
 	$(MAKE) --no-print-directory install PREFIX= DESTDIR=$(abspath $(DIST)/$(NAME)) DOCDIR=/share/doc/kodliwe PC_PREFIX='$$$${pcfiledir}/../..'
 	cd $(DIST)/$(NAME) && find . -type f ! -name SHA256SUMS | LC_ALL=C sort | xargs sha256sum > share/doc/kodliwe/SHA256SUMS
 	tar -C $(DIST) --sort=name --owner=0 --group=0 --numeric-owner --mode=go=rX,u+rw --mtime=@$(SOURCE_DATE_EPOCH) -cf - $(NAME) | gzip -9n > $@
 
-$(DIST)/$(DEB): all $(HEADERS) $(LICENCES) README.md packaging/debian/build
+$(DIST)/$(DEB): libraries $(HEADERS) $(LICENCES) README.md packaging/debian/build
 	packaging/debian/build $(VERSION) $(abspath $(DIST)/debian) $(abspath $@)
 
-check:
-	packaging/check
+test:
+	ONLY=$(ONLY) tests/run
 
 clean:
 	rm -rf out

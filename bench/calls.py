@@ -6,7 +6,8 @@ one call as many times as it is told, and builds that by `rt run`. Each call sta
 given one of two equal texts in turn, so that no turn can be left out. It needs the Rattle kit and valgrind.
 
 Nanoseconds: the program runs with k turns and with 10 k, and the difference of the seconds (each the best of nine runs, between
-which those of the other calls stand) is divided by 9 k; what turns without a call take is taken off. Printing has the making of its empty sink in it. The symbols are the
+which those of the other calls stand) is divided by 9 k; what turns without a call take is taken off. Printing has the making of its
+empty sink in it. The symbols are the
 legacy one and the v0 one of middle length of those that crates/demangle_corpus/stdin has from libraries and programs, and a
 v0 one that is deep: 490 references in one another, and a back reference. With --rust-crate the same loop runs over the Rust crate
 rustc-demangle: its `try_demangle`, and its `Display` into an array of 1,024 bytes, built by cargo outside the repository.
@@ -20,21 +21,33 @@ frames, so that the long one is made.
 """
 import argparse, os, re, subprocess, sys, tempfile, time
 
-import hostile
-from common import CORPUS, build, copy_library, instructions, need_kit, need_rust_crate, need_valgrind
+from measuring import CORPUS, build, copy_library, instructions, need_kit, need_rust_crate, need_valgrind
+from texts import chained, doubling
 
-TIMED = ['try_demangle', 'write_to, ArraySink<1024>']
-CALLS = ['nothing', 'try_demangle', 'demangle', 'demangle_counted', 'write_to, ArraySink<1024>', 'write_counted, ArraySink<1024>',
-         'write_limited, ArraySink<1024>', 'write_limited_counted, ArraySink<1024>', 'write_to, WriteSink', 'Display', 'Debug',
-         'demangle_stream', 'demangle_stream_named']
-RUST_TIMED = ['try_demangle', 'Display into an array']
+TIMED = ["try_demangle", "write_to, ArraySink<1024>"]
+CALLS = [
+    "nothing",
+    "try_demangle",
+    "demangle",
+    "demangle_counted",
+    "write_to, ArraySink<1024>",
+    "write_counted, ArraySink<1024>",
+    "write_limited, ArraySink<1024>",
+    "write_limited_counted, ArraySink<1024>",
+    "write_to, WriteSink",
+    "Display",
+    "Debug",
+    "demangle_stream",
+    "demangle_stream_named",
+]
+RUST_TIMED = ["try_demangle", "Display into an array"]
 # Each tuple leaves a frame while the one in it is read.
-TUPLES = '_RMC0' + 60 * 'T' + 'u' + 60 * 'E'
+TUPLES = "_RMC0" + 60 * "T" + "u" + 60 * "E"
 # At least so many seconds for the longer run, and so many runs of each, of which the best counts.
 LONG = 0.5
 ROUNDS = 9
 
-PROGRAM = '''//! Makes a call of the library, as often as it is told.
+PROGRAM = """//! Makes a call of the library, as often as it is told.
 #![tactic(auto)]
 
 ghost use Rattle.std.specs.Prelude.{◌≡◌, false, ◌<◌};
@@ -204,9 +217,9 @@ fn main(rt: HostRuntime) -> ExitCode {
         Err(_) => ExitCode::from(1),
     }
 }
-'''
+"""
 
-RUST_PROGRAM = '''//! Makes a call of rustc-demangle, as often as it is told.
+RUST_PROGRAM = """//! Makes a call of rustc-demangle, as often as it is told.
 use rustc_demangle::{try_demangle, Demangle};
 use std::fmt::{Result, Write};
 use std::hint::black_box;
@@ -255,44 +268,46 @@ fn main() {
     }
     println!("{done}");
 }
-'''
+"""
 
 
 def built_rust(folder, crate):
     """Makes the same program over the Rust crate, and answers its path."""
-    project = os.path.join(folder, 'rust_calls')
-    os.makedirs(os.path.join(project, 'src'))
-    with open(os.path.join(project, 'src', 'main.rs'), 'w') as file:
+    project = os.path.join(folder, "rust_calls")
+    os.makedirs(os.path.join(project, "src"))
+    with open(os.path.join(project, "src", "main.rs"), "w") as file:
         file.write(RUST_PROGRAM)
-    with open(os.path.join(project, 'Cargo.toml'), 'w') as file:
-        file.write('[package]\nname = "rust_calls"\nversion = "0.0.0"\nedition = "2021"\n\n[dependencies]\n'
-                   'rustc-demangle = { path = "%s" }\n\n[workspace]\n' % os.path.abspath(crate))
-    words = ['cargo', 'build', '--release', '--offline', '--quiet', '--manifest-path', os.path.join(project, 'Cargo.toml')]
-    subprocess.run(words, env=dict(os.environ, RUSTFLAGS='--cap-lints=allow'), check=True)
-    return os.path.join(project, 'target', 'release', 'rust_calls')
+    with open(os.path.join(project, "Cargo.toml"), "w") as file:
+        file.write(
+            '[package]\nname = "rust_calls"\nversion = "0.0.0"\nedition = "2021"\n\n[dependencies]\n'
+            'rustc-demangle = { path = "%s" }\n\n[workspace]\n' % os.path.abspath(crate)
+        )
+    words = ["cargo", "build", "--release", "--offline", "--quiet", "--manifest-path", os.path.join(project, "Cargo.toml")]
+    subprocess.run(words, env=dict(os.environ, RUSTFLAGS="--cap-lints=allow"), check=True)
+    return os.path.join(project, "target", "release", "rust_calls")
 
 
 def built(folder, jobs):
     """Makes the program, and answers its path."""
-    copy_library(folder, 'calls')
-    source = os.path.join(folder, 'crates', 'calls', 'src')
+    copy_library(folder, "calls")
+    source = os.path.join(folder, "crates", "calls", "src")
     os.makedirs(source)
-    with open(os.path.join(source, 'main.rt'), 'w') as file:
+    with open(os.path.join(source, "main.rt"), "w") as file:
         file.write(PROGRAM)
-    return build(folder, 'calls', jobs)
+    return build(folder, "calls", jobs)
 
 
 def middle(prefix, lines):
     """The accepted symbol of middle length of these lines of the corpus."""
-    fields = [line.split('\t') for line in lines]
-    found = sorted((field[0] for field in fields if field[1] == 'OK' and field[0].startswith(prefix)), key=len)
+    fields = [line.split("\t") for line in lines]
+    found = sorted((field[0] for field in fields if field[1] == "OK" and field[0].startswith(prefix)), key=len)
     return found[len(found) // 2]
 
 
 def typical():
-    with open(CORPUS, encoding='utf-8', newline='\n') as file:
-        lines = file.read().split('\n')
-    return middle('_ZN', lines[:500]), middle('_R', lines[800:1700])
+    with open(CORPUS, encoding="utf-8", newline="\n") as file:
+        lines = file.read().split("\n")
+    return middle("_ZN", lines[:500]), middle("_R", lines[800:1700])
 
 
 def run_seconds(program, call, turns, text):
@@ -311,7 +326,7 @@ def turns_of(program, call, text):
 
 def nanoseconds(calls, symbol):
     """What a turn of each call takes, with its loop. The calls run one after another in each of ROUNDS rounds."""
-    text = (symbol + '\n').encode() * 2
+    text = (symbol + "\n").encode() * 2
     turns = [turns_of(program, call, text) for program, call in calls]
     runs = [(program, call, count) for (program, call), few in zip(calls, turns) for count in (few, 10 * few)]
     rounds = [[run_seconds(*words, text) for words in runs] for _ in range(ROUNDS)]
@@ -321,8 +336,8 @@ def nanoseconds(calls, symbol):
 
 def turn_instructions(calls, symbol):
     """What a turn of each call takes, with its loop."""
-    text = (symbol + '\n').encode() * 2
-    counted = [[instructions([program, str(call), turns], text) for turns in ('100', '600')] for program, call in calls]
+    text = (symbol + "\n").encode() * 2
+    counted = [[instructions([program, str(call), turns], text) for turns in ("100", "600")] for program, call in calls]
     return [(many - few) // 500 for few, many in counted]
 
 
@@ -334,26 +349,30 @@ def print_table(title, measured, rows, symbols):
     for symbol in symbols:
         taken = measured(calls, symbol)
         empty = dict(zip(programs, taken))
-        columns.append([took - empty[program] for (_, program, _), took in zip(rows, taken[len(programs):])])
-    print('| %s | legacy | v0 | deep v0 |\n| --- | ---: | ---: | ---: |' % title)
+        columns.append([took - empty[program] for (_, program, _), took in zip(rows, taken[len(programs) :])])
+    print("| %s | legacy | v0 | deep v0 |\n| --- | ---: | ---: | ---: |" % title)
     for (name, _, _), used in zip(rows, zip(*columns)):
-        print('| %s | ' % name + ' | '.join('{:,.0f}'.format(count) for count in used) + ' |')
+        print("| %s | " % name + " | ".join("{:,.0f}".format(count) for count in used) + " |")
     print(flush=True)
 
 
 def stack(program, call, symbol):
-    text = (symbol + '\n').encode() * 2
-    words = ['valgrind', '--tool=drd', '--show-stack-usage=yes', program, str(CALLS.index(call)), '1']
+    text = (symbol + "\n").encode() * 2
+    words = ["valgrind", "--tool=drd", "--show-stack-usage=yes", program, str(CALLS.index(call)), "1"]
     run = subprocess.run(words, input=text, stdout=subprocess.DEVNULL, stderr=subprocess.PIPE, check=True)
-    return int(re.search(rb'thread 1 finished and used (\d+) bytes', run.stderr).group(1))
+    return int(re.search(rb"thread 1 finished and used (\d+) bytes", run.stderr).group(1))
 
 
 def main():
     words = argparse.ArgumentParser(description=__doc__, formatter_class=argparse.RawDescriptionHelpFormatter)
-    words.add_argument('--keep', metavar='FOLDER', help='make the copy in this folder, which is not there before and stays (default: a temporary one)')
-    words.add_argument('--program', metavar='PATH', help='measure this program, which --keep left in FOLDER/crates/calls/out, and build none')
-    words.add_argument('--jobs', type=int, metavar='N', help='how many jobs `rt run` takes')
-    words.add_argument('--rust-crate', metavar='FOLDER', help='the folder of the Rust crate rustc-demangle: measured beside this library')
+    words.add_argument(
+        "--keep", metavar="FOLDER", help="make the copy in this folder, which is not there before and stays (default: a temporary one)"
+    )
+    words.add_argument(
+        "--program", metavar="PATH", help="measure this program, which --keep left in FOLDER/crates/calls/out, and build none"
+    )
+    words.add_argument("--jobs", type=int, metavar="N", help="how many jobs `rt run` takes")
+    words.add_argument("--rust-crate", metavar="FOLDER", help="the folder of the Rust crate rustc-demangle: measured beside this library")
     given = words.parse_args()
     if not given.program:
         need_kit()
@@ -366,17 +385,17 @@ def main():
         rows = [(call, program, CALLS.index(call)) for call in TIMED]
         if given.rust_crate:
             rust = built_rust(temporary, given.rust_crate)
-            rows += [('%s of rustc-demangle' % call, rust, at) for at, call in enumerate(RUST_TIMED, 1)]
-        print('legacy: `%s`\n\nv0: `%s`\n' % (legacy, v0))
-        for title, measured in (('nanoseconds', nanoseconds), ('instructions', turn_instructions)):
-            print_table(title, measured, rows, (legacy, v0, hostile.chained(1)))
-        symbols = (legacy, v0, hostile.doubling(17), hostile.chained(1), TUPLES)
-        without = [stack(program, 'nothing', symbol) for symbol in symbols]
-        print('| bytes of stack | legacy | v0 | doubling, 17 tuples | deep v0 | 60 tuples |\n| --- | ---: | ---: | ---: | ---: | ---: |')
+            rows += [("%s of rustc-demangle" % call, rust, at) for at, call in enumerate(RUST_TIMED, 1)]
+        print("legacy: `%s`\n\nv0: `%s`\n" % (legacy, v0))
+        for title, measured in (("nanoseconds", nanoseconds), ("instructions", turn_instructions)):
+            print_table(title, measured, rows, (legacy, v0, chained(1)))
+        symbols = (legacy, v0, doubling(17), chained(1), TUPLES)
+        without = [stack(program, "nothing", symbol) for symbol in symbols]
+        print("| bytes of stack | legacy | v0 | doubling, 17 tuples | deep v0 | 60 tuples |\n| --- | ---: | ---: | ---: | ---: | ---: |")
         for call in CALLS[1:]:
             used = [stack(program, call, symbol) - base for symbol, base in zip(symbols, without)]
-            print('| %s | ' % call + ' | '.join('{:,}'.format(count) for count in used) + ' |', flush=True)
+            print("| %s | " % call + " | ".join("{:,}".format(count) for count in used) + " |", flush=True)
 
 
-if __name__ == '__main__':
+if __name__ == "__main__":
     sys.exit(main())

@@ -4,46 +4,12 @@
 Each symbol is one line of standard input. It prints a Markdown table with a row for each symbol; for each program it has
 the seconds from start to end, the peak memory of the process (its greatest resident set) and the bytes that it wrote,
 or how it ended where it did not end well. A program is killed after the timeout. demangle_filter runs again with its
-stack limited. Build it first, by `rt run </dev/null` in crates/demangle_filter.
+stack limited. `make` builds it.
 """
-import argparse, ctypes, os, signal, subprocess, sys, tempfile, threading, time
+import argparse, ctypes, os, signal, subprocess, tempfile, threading, time
 
-from common import OURS, further, need_filter, others
-
-DIGITS = '0123456789abcdefghijklmnopqrstuvwxyzABCDEFGHIJKLMNOPQRSTUVWXYZ'
-MANY = 1_000_000
-
-
-def doubling(k):
-    """k tuples in one another, each of which holds its first element twice, the second time by a back reference."""
-    references = ''.join('B%s_E' % DIGITS[d] for d in range(k + 2, 2, -1))
-    return '_RMC0' + 'T' * k + 'p' + references
-
-
-def chained(count):
-    """So many times 490 references in one another, the last to an i8 by a back reference."""
-    return '_RIC2aa' + ('R' * 490 + 'B3_') * count + 'E'
-
-
-def into_name(count):
-    """A name that reads as 100,000 references in one another, and so many back references into it."""
-    return '_RIC100000' + 'R' * 100_000 + 'B7_' * count + 'E'
-
-
-def cases():
-    for k in (6, 12, 17, 18, 30, 58):
-        yield 'doubling, %d tuples' % k, doubling(k)
-    for count in (1, 1_000):
-        yield '490 `R` and a back reference, {:,} x'.format(count), chained(count)
-    for count in (1, 1_000):
-        yield 'back reference into a name of 10^5 `R`, {:,} x'.format(count), into_name(count)
-    for tag in 'TSRPOA':
-        yield '`_RMC0` and 10^6 `%s`' % tag, '_RMC0' + tag * MANY
-    yield 'legacy, 10^6 elements', '_ZN' + '1a' * MANY + 'E'
-    for count in (10, 11):
-        yield '`_RMC0FG`, %d `Z`, `_Eu`' % count, '_RMC0FG' + 'Z' * count + '_Eu'
-    yield '10^6 times `_ZN1aE `', '_ZN1aE ' * MANY
-
+from measuring import FILTER, further, need_programs, others
+from texts import hostile
 
 # The shell ends, and leaves the program to this process as a child, which starts when the gate opens. A child that this
 # process forks itself would have the memory of Python up to its exec counted as its own.
@@ -58,13 +24,13 @@ class Run:
 
     def __init__(self, program, text, timeout, stack):
         with tempfile.TemporaryDirectory() as folder:
-            given, out, gate = (os.path.join(folder, name) for name in ('given', 'out', 'gate'))
+            given, out, gate = (os.path.join(folder, name) for name in ("given", "out", "gate"))
             os.mkfifo(gate)
-            with open(given, 'wb') as file:
+            with open(given, "wb") as file:
                 file.write(text)
-            words = ['sh', '-c', START, 'sh', str(stack)] + program
+            words = ["sh", "-c", START, "sh", str(stack)] + program
             pid = int(subprocess.run(words, cwd=folder, stdout=subprocess.PIPE, check=True).stdout)
-            open(gate, 'w').close()
+            open(gate, "w").close()
             began = time.perf_counter()
             watch = threading.Timer(timeout, os.kill, (pid, signal.SIGKILL))
             watch.start()
@@ -77,37 +43,46 @@ class Run:
 
     def ended(self, code, timeout):
         if code == 0:
-            return ''
+            return ""
         if code > 0:
-            return 'status %d' % code
+            return "status %d" % code
         if -code == signal.SIGKILL and self.seconds >= timeout:
-            return 'over %g s' % timeout
+            return "over %g s" % timeout
         return signal.Signals(-code).name
 
     def cell(self):
-        wrote = self.end or '{:,}'.format(self.written)
-        return '{:.2f} s, {:.1f} MB, {}'.format(self.seconds, self.kilobytes / 1024, wrote)
+        wrote = self.end or "{:,}".format(self.written)
+        return "{:.2f} s, {:.1f} MB, {}".format(self.seconds, self.kilobytes / 1024, wrote)
 
 
 def main():
     words = argparse.ArgumentParser(description=__doc__, formatter_class=argparse.RawDescriptionHelpFormatter)
-    words.add_argument('--timeout', type=float, default=10, metavar='SECONDS', help='kill a program after so many seconds (default 10)')
-    words.add_argument('--stack', type=int, default=100, metavar='KILOBYTES', help="demangle_filter's stack in its second run (default 100)")
-    words.add_argument('--also', type=further, action='append', default=[], metavar='NAME=COMMAND', help='a further program to run (may stand more than once)')
+    words.add_argument("--timeout", type=float, default=10, metavar="SECONDS", help="kill a program after so many seconds (default 10)")
+    words.add_argument(
+        "--stack", type=int, default=100, metavar="KILOBYTES", help="demangle_filter's stack in its second run (default 100)"
+    )
+    words.add_argument(
+        "--also",
+        type=further,
+        action="append",
+        default=[],
+        metavar="NAME=COMMAND",
+        help="a further program to run (may stand more than once)",
+    )
     given = words.parse_args()
-    need_filter()
+    need_programs()
     # A program whose parent ends becomes a child of this process.
     ctypes.CDLL(None, use_errno=True).prctl(PR_SET_CHILD_SUBREAPER, 1, 0, 0, 0)
-    programs = [('demangle_filter', [OURS], USUAL_STACK)]
-    programs.append(('demangle_filter, %d KB of stack' % given.stack, [OURS], given.stack))
+    programs = [("demangle_filter", [FILTER], USUAL_STACK)]
+    programs.append(("demangle_filter, %d KB of stack" % given.stack, [FILTER], given.stack))
     programs += [(name, program, USUAL_STACK) for name, program in list(others()) + given.also]
-    print('| symbol | ' + ' | '.join(name for name, _, _ in programs) + ' |')
-    print('| --- |' + ' ---: |' * len(programs))
-    for case, symbol in cases():
-        text = (symbol + '\n').encode()
+    print("| symbol | " + " | ".join(name for name, _, _ in programs) + " |")
+    print("| --- |" + " ---: |" * len(programs))
+    for case, symbol in hostile():
+        text = (symbol + "\n").encode()
         cells = [Run(program, text, given.timeout, stack).cell() for _, program, stack in programs]
-        print('| ' + ' | '.join([case] + cells) + ' |', flush=True)
+        print("| " + " | ".join([case] + cells) + " |", flush=True)
 
 
-if __name__ == '__main__':
+if __name__ == "__main__":
     main()

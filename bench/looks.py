@@ -8,7 +8,7 @@ builds it (it took 12 to 18 minutes with one job, on a loaded machine). That the
 stands in the text below, and is not proved. `rt try` needs no proof, but its checks make a costly symbol take over a minute.
 It needs the Rattle kit.
 
-The symbols are those of hostile.py, and 10^6 of each further production that nests. It prints a Markdown table with a row for
+The symbols are those of bench/hostile.py, and 10^6 of each further production that nests. It prints a Markdown table with a row for
 each: the bytes m that are handed in, the bytes n of the value, the looks of `demangle_counted` and their bound, 64 x (m + 1),
 the bytes w that are kept before the marker, the looks of `write_counted` with the hash and their bound: for a v0 symbol
 100,000 x (w + 1) x (n + 1), for a legacy one 16 x (n + 1), for a text that is no symbol 0. Of a line of many symbols each
@@ -17,24 +17,26 @@ Its status is 1 where a bound is passed.
 """
 import argparse, os, subprocess, sys, tempfile
 
-import hostile
-from common import build, copy_library, need_kit
+from measuring import build, copy_library, need_kit
+from texts import MANY, doubling, hostile
 
 MOST_TUPLES = 58
 
 # The file of `Looks`, in the crate that has it.
-LOOKS = os.path.join('src', 'cursor', 'looks.rt')
+LOOKS = os.path.join("src", "cursor", "looks.rt")
 # What is put into its text, behind a line of it or in place of one.
 EDITS = [
-    ('    count: Snapshot<Tally>,\n', '    count: Snapshot<Tally>,\n    number: u64,\n'),
-    ('            count: Snapshot::of(&Tally::Zero),\n', '            count: Snapshot::of(&Tally::Zero),\n            number: 0,\n'),
-    ('        self.count = Snapshot::of(&Tally::More(before));\n    }\n',
-     '        self.count = Snapshot::of(&Tally::More(before));\n        self.number = self.number.wrapping_add(1);\n    }\n\n'
-     '    /// How many there are.\n    pub fn number(&self) -> u64 {\n        self.number\n    }\n'),
-    ('\nconst _: () = prove!(mem::size_of::<Looks>() == 0);\n', ''),
+    ("    count: Snapshot<Tally>,\n", "    count: Snapshot<Tally>,\n    number: u64,\n"),
+    ("            count: Snapshot::of(&Tally::Zero),\n", "            count: Snapshot::of(&Tally::Zero),\n            number: 0,\n"),
+    (
+        "        self.count = Snapshot::of(&Tally::More(before));\n    }\n",
+        "        self.count = Snapshot::of(&Tally::More(before));\n        self.number = self.number.wrapping_add(1);\n    }\n\n"
+        "    /// How many there are.\n    pub fn number(&self) -> u64 {\n        self.number\n    }\n",
+    ),
+    ("\nconst _: () = prove!(mem::size_of::<Looks>() == 0);\n", ""),
 ]
 
-PROGRAM = '''//! Prints the looks of each line's symbols, and their bounds.
+PROGRAM = """//! Prints the looks of each line's symbols, and their bounds.
 #![tactic(auto)]
 
 use rustc_demangle::sink::WriteSink;
@@ -126,27 +128,27 @@ fn main(rt: HostRuntime) -> io::Result<()> {
     }
     Ok(())
 }
-'''
+"""
 
 
 def counted(folder, lines, jobs):
     """Makes the copy and the program over it, and answers the columns that it prints for each line."""
-    copy_library(folder, 'count_looks', [(LOOKS, old, new) for old, new in EDITS])
-    source = os.path.join(folder, 'crates', 'count_looks', 'src')
+    copy_library(folder, "count_looks", [(LOOKS, old, new) for old, new in EDITS])
+    source = os.path.join(folder, "crates", "count_looks", "src")
     os.makedirs(source)
-    with open(os.path.join(source, 'main.rt'), 'w') as file:
+    with open(os.path.join(source, "main.rt"), "w") as file:
         file.write(PROGRAM)
-    program = build(folder, 'count_looks', jobs)
-    text = ''.join(line + '\n' for line in lines)
-    run = subprocess.run([program], input=text, stdout=subprocess.PIPE, check=True, encoding='utf-8')
+    program = build(folder, "count_looks", jobs)
+    text = "".join(line + "\n" for line in lines)
+    run = subprocess.run([program], input=text, stdout=subprocess.PIPE, check=True, encoding="utf-8")
     return [[int(word) for word in line.split()] for line in run.stdout.splitlines()]
 
 
 def cases():
-    yield from hostile.cases()
-    for start, nested in (('_RMC0', ('Q', 'F', 'W', 'DIC0')), ('_R', ('M', 'X', 'Y', 'I', 'Nv')), ('_RIC0K', ('R', 'Q', 'A', 'T', 'VC0T'))):
+    yield from hostile()
+    for start, nested in (("_RMC0", ("Q", "F", "W", "DIC0")), ("_R", ("M", "X", "Y", "I", "Nv")), ("_RIC0K", ("R", "Q", "A", "T", "VC0T"))):
         for unit in nested:
-            yield '`%s` and 10^6 `%s`' % (start, unit), start + unit * hostile.MANY
+            yield "`%s` and 10^6 `%s`" % (start, unit), start + unit * MANY
 
 
 class Row:
@@ -157,10 +159,10 @@ class Row:
 
     def cells(self):
         columns = (self.handed, self.value, self.reading, self.reading_bound, self.kept, self.printing, self.printing_bound)
-        cells = ['{:,}'.format(column) for column in columns]
+        cells = ["{:,}".format(column) for column in columns]
         if self.printing_bound == 0:
             # No symbol: nothing is cut, so no bytes stand before a marker.
-            cells[4] = '-'
+            cells[4] = "-"
         return cells
 
     def holds(self):
@@ -170,29 +172,36 @@ class Row:
 def nearest(rows, looks, bound):
     """The row whose looks are the greatest part of their bound, and that part."""
     part, place = max((looks(row) / bound(row), place) for place, row in enumerate(rows))
-    return '%.2g of the bound (%d tuples)' % (part, place)
+    return "%.2g of the bound (%d tuples)" % (part, place)
 
 
 def main():
     words = argparse.ArgumentParser(description=__doc__, formatter_class=argparse.RawDescriptionHelpFormatter)
-    words.add_argument('--keep', metavar='FOLDER', help='make the copy in this folder, which is not there before and stays (default: a temporary one)')
-    words.add_argument('--jobs', type=int, metavar='N', help='how many jobs `rt run` takes')
+    words.add_argument(
+        "--keep", metavar="FOLDER", help="make the copy in this folder, which is not there before and stays (default: a temporary one)"
+    )
+    words.add_argument("--jobs", type=int, metavar="N", help="how many jobs `rt run` takes")
     given = words.parse_args()
     need_kit()
     names, lines = zip(*cases())
-    doublings = [hostile.doubling(tuples) for tuples in range(MOST_TUPLES + 1)]
+    doublings = [doubling(tuples) for tuples in range(MOST_TUPLES + 1)]
     with tempfile.TemporaryDirectory() as temporary:
         rows = [Row(columns) for columns in counted(given.keep or temporary, list(lines) + doublings, given.jobs)]
-    print('| symbol | m | n | looks of `demangle_counted` | bound | w | looks of `write_counted` | bound |')
-    print('| --- |' + ' ---: |' * 7)
+    print("| symbol | m | n | looks of `demangle_counted` | bound | w | looks of `write_counted` | bound |")
+    print("| --- |" + " ---: |" * 7)
     for name, row in zip(names, rows):
-        print('| ' + ' | '.join([name] + row.cells()) + ' |')
-    doubled = rows[len(names):]
-    print('\ndoubling, 0 to %d tuples: `demangle_counted` takes at most %s, `write_counted` at most %s' % (
-        MOST_TUPLES, nearest(doubled, lambda row: row.reading, lambda row: row.reading_bound),
-        nearest(doubled, lambda row: row.printing, lambda row: row.printing_bound)))
+        print("| " + " | ".join([name] + row.cells()) + " |")
+    doubled = rows[len(names) :]
+    print(
+        "\ndoubling, 0 to %d tuples: `demangle_counted` takes at most %s, `write_counted` at most %s"
+        % (
+            MOST_TUPLES,
+            nearest(doubled, lambda row: row.reading, lambda row: row.reading_bound),
+            nearest(doubled, lambda row: row.printing, lambda row: row.printing_bound),
+        )
+    )
     return 0 if all(row.holds() for row in rows) else 1
 
 
-if __name__ == '__main__':
+if __name__ == "__main__":
     sys.exit(main())

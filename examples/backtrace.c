@@ -86,7 +86,7 @@ int main(void) {
     struct sigaction action;
     memset(&action, 0, sizeof action);
     action.sa_handler = on_fault;
-    action.sa_flags = SA_ONSTACK | SA_RESETHAND;
+    action.sa_flags = (int)(SA_ONSTACK | SA_RESETHAND);
     backtrace(first, 1); /* its first call loads a library, which a handler must not do */
     if (stack.ss_sp == NULL || sigaltstack(&stack, NULL) != 0 || sigaction(SIGSEGV, &action, NULL) != 0) return 2;
     return fill(1);

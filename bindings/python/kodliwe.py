@@ -8,7 +8,7 @@
 
 These are calls of the proved library for C, through ctypes. The shared library ``libkodliwe.so`` is the one that
 ``KODLIWE_LIB`` names (the file, or its folder), else the one beside this module, else the one that the system's loader
-finds. It is loaded at the first call; where there is none, that call raises ``OSError``.
+finds. It is looked for once, at the first call. If there is none, each call raises ``OSError``.
 
 A text is ``str`` or ``bytes``, and the answer is of the same type; what is no symbol is kept as it is, be it UTF-8 or not. The
 calls may be made from any thread. ``python3 -m kodliwe SYMBOL..`` prints paths, and without a symbol it filters its input.
@@ -20,7 +20,7 @@ import functools
 import os
 import sys
 import threading
-from typing import Any, AnyStr, Callable, List, NamedTuple, Optional, Tuple
+from typing import Any, AnyStr, Callable, List, NamedTuple, Optional, Tuple, Union
 
 __all__ = ["MAX_SIZE", "demangle", "demangle_text", "is_symbol", "strip_thin_lto", "try_demangle"]
 __version__ = "0.1.0"
@@ -51,16 +51,28 @@ def _candidates() -> List[str]:
     return [path for path in beside if os.path.exists(path)] + ([found] if found else []) + list(_NAMES[:2])
 
 
+# What `_load` found: the library, or why there is none. It looks once, since `find_library` starts other programs.
+_found: List[Union[ctypes.CDLL, str]] = []
+
+
 def _load() -> ctypes.CDLL:
+    """Returns the library. Fails if there is none, each time with the same error."""
+    if not _found:
+        _found.append(_looked_for())
+    if isinstance(_found[0], str):
+        raise OSError(_found[0])
+    return _found[0]
+
+
+def _looked_for() -> Union[ctypes.CDLL, str]:
+    """Returns the library that is found first, or why there is none."""
     tried = []
     for path in _candidates():
         try:
             return ctypes.CDLL(path)
         except OSError as error:
             tried.append(str(error))
-    raise OSError(
-        "kodliwe finds no libkodliwe.so: build it as docs/C.md says, and let KODLIWE_LIB name it (%s)" % "; ".join(tried)
-    )
+    return "kodliwe finds no libkodliwe.so: build it as docs/C.md says, and let KODLIWE_LIB name it (%s)" % "; ".join(tried)
 
 
 @functools.lru_cache(maxsize=None)
@@ -97,6 +109,7 @@ def _written(call: Callable[..., int], text: bytes, include_hash: bool, limit: i
     """What a call writes for a text, without the NUL behind it; None where it answers 0."""
     free = _rooms.free
     buffer, size = free.pop() if free else (ctypes.create_string_buffer(_ROOM), _ROOM)
+    answer: Optional[bytes]
     want = call(text, len(text), buffer, size, include_hash, limit)
     if want > size:
         if want > sys.maxsize:

@@ -1,4 +1,4 @@
-"""Packs the one module as a wheel (PEP 517, PEP 427), with Python alone: `pip install` then wants no other package, and no network.
+"""Packs the one module as a wheel (PEP 517, PEP 427), with Python alone. So `pip install` needs no other package, and no network.
 
 The fields of METADATA are those of pyproject.toml's [project]; test_kodliwe.py compares them.
 """
@@ -9,6 +9,7 @@ import io
 import os
 import tarfile
 import zipfile
+from typing import Any, Optional
 
 NAME, VERSION = "kodliwe", "0.1.0"
 METADATA = """\
@@ -27,16 +28,17 @@ HERE = os.path.dirname(os.path.abspath(__file__))
 TIME = (1980, 1, 1, 0, 0, 0)
 
 
-def _read(name):
+def _read(name: str) -> bytes:
     with open(os.path.join(HERE, name), "rb") as file:
         return file.read()
 
 
-def _metadata():
+def _metadata() -> bytes:
     return METADATA.encode() + _read("README.md")
 
 
-def build_wheel(wheel_directory, config_settings=None, metadata_directory=None):
+def build_wheel(wheel_directory: str, config_settings: Any = None, metadata_directory: Optional[str] = None) -> str:
+    """Writes the wheel into a folder, and returns its name."""
     folder = "%s-%s.dist-info/" % (NAME, VERSION)
     files = [("kodliwe.py", _read("kodliwe.py")), (folder + "METADATA", _metadata()), (folder + "WHEEL", WHEEL.encode())]
     record = ""
@@ -53,7 +55,8 @@ def build_wheel(wheel_directory, config_settings=None, metadata_directory=None):
     return wheel
 
 
-def build_sdist(sdist_directory, config_settings=None):
+def build_sdist(sdist_directory: str, config_settings: Any = None) -> str:
+    """Writes the source package into a folder, and returns its name."""
     folder = "%s-%s" % (NAME, VERSION)
     names = ["kodliwe.py", "packing.py", "pyproject.toml", "README.md", "tests/test_kodliwe.py"]
     with tarfile.open(os.path.join(sdist_directory, folder + ".tar.gz"), "w:gz", format=tarfile.PAX_FORMAT) as packed:

@@ -47,6 +47,11 @@ def run(code, *arguments, given=b"", **environment):
     return subprocess.run([sys.executable, "-c", code, *arguments], input=given, stdout=subprocess.PIPE, stderr=subprocess.PIPE, env=env)
 
 
+def setUpModule():
+    """Fails once, with what `_load` says, if there is no library."""
+    kodliwe._load()
+
+
 class Demangle(unittest.TestCase):
     def test_a_symbol_gives_its_path(self):
         self.assertEqual(kodliwe.demangle(LEGACY), "foo")
@@ -139,9 +144,7 @@ class DemangleText(unittest.TestCase):
         self.assertEqual(kodliwe.demangle_text("\udcff\ud800_ZN3fooEä"), "\udcff\ud800fooä")
 
     def test_a_limit_is_each_symbols(self):
-        self.assertEqual(
-            kodliwe.demangle_text("_ZN3foo3barE _ZN1aE", limit=4), "foo{size limit reached} a"
-        )
+        self.assertEqual(kodliwe.demangle_text("_ZN3foo3barE _ZN1aE", limit=4), "foo{size limit reached} a")
 
     def test_a_long_text(self):
         count = 50_000
@@ -203,6 +206,19 @@ class Library(unittest.TestCase):
         ran = run(self.CODE, os.path.dirname(MODULE), KODLIWE_LIB=os.path.join(HERE, "none.so"))
         self.assertEqual(ran.returncode, 1)
         self.assertIn(b"OSError: kodliwe finds no libkodliwe.so: build it as docs/C.md says", ran.stderr.splitlines()[-1])
+
+    def test_it_is_looked_for_once(self):
+        code = (
+            "import sys; sys.path.insert(0, sys.argv[1]); import kodliwe\n"
+            "asked = []\n"
+            "kodliwe._candidates = lambda: asked.append(1) or ['/none.so']\n"
+            "for _ in range(3):\n"
+            "    try:\n"
+            "        kodliwe.demangle('_ZN3fooE')\n"
+            "    except OSError as error:\n"
+            "        print(str(error)[:31], len(asked))\n"
+        )
+        self.assertEqual(run(code, os.path.dirname(MODULE)).stdout, b"kodliwe finds no libkodliwe.so: 1\n" * 3)
 
     def test_the_package_says_the_same_everywhere(self):
         import packing

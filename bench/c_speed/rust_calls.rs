@@ -15,7 +15,10 @@ struct Bytes<'b> {
 
 impl Write for Bytes<'_> {
     fn write_str(&mut self, s: &str) -> std::fmt::Result {
-        let to = self.out.get_mut(self.len..self.len + s.len()).ok_or(std::fmt::Error)?;
+        let to = self
+            .out
+            .get_mut(self.len..self.len + s.len())
+            .ok_or(std::fmt::Error)?;
         to.copy_from_slice(s.as_bytes());
         self.len += s.len();
         Ok(())
@@ -32,7 +35,12 @@ fn by_crate(symbol: &[u8], out: &mut [u8], hash: bool) -> Option<usize> {
     let symbol = std::str::from_utf8(symbol).ok()?;
     let symbol = rustc_demangle::try_demangle(symbol).ok()?;
     let mut to = Bytes { out, len: 0 };
-    if hash { write!(to, "{symbol}\0") } else { write!(to, "{symbol:#}\0") }.ok()?;
+    if hash {
+        write!(to, "{symbol}\0")
+    } else {
+        write!(to, "{symbol:#}\0")
+    }
+    .ok()?;
     Some(to.len)
 }
 
@@ -53,12 +61,20 @@ fn main() {
         for symbol in &symbols {
             for hash in [true, false] {
                 match &which[..] {
-                    "kodliwe" if hash => drop(black_box(by_kodliwe(black_box(symbol), &mut ours, hash))),
-                    "crate" if hash => drop(black_box(by_crate(black_box(symbol), &mut ours, hash))),
+                    "kodliwe" if hash => {
+                        drop(black_box(by_kodliwe(black_box(symbol), &mut ours, hash)))
+                    }
+                    "crate" if hash => {
+                        drop(black_box(by_crate(black_box(symbol), &mut ours, hash)))
+                    }
                     "both" => {
-                        let (a, b) = (by_kodliwe(symbol, &mut ours, hash), by_crate(symbol, &mut theirs, hash));
+                        let (a, b) = (
+                            by_kodliwe(symbol, &mut ours, hash),
+                            by_crate(symbol, &mut theirs, hash),
+                        );
                         if a != b || a.is_some_and(|n| ours[..n] != theirs[..n]) {
-                            let hex: String = symbol.iter().map(|byte| format!("{byte:02x}")).collect();
+                            let hex: String =
+                                symbol.iter().map(|byte| format!("{byte:02x}")).collect();
                             println!("differs {hex}");
                         }
                     }

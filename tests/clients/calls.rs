@@ -61,12 +61,14 @@ fn put(to: &mut Vec<u8>, bytes: &[u8]) {
 
 fn answers(input: &[u8], to: &mut Vec<u8>) {
     let mut rest = input;
-    while let Some((len, behind)) = rest.split_first_chunk() {
-        let (text, behind) = behind.split_at(u32::from_le_bytes(*len) as usize);
+    while rest.len() >= 4 {
+        let (len, after) = rest.split_at(4);
+        let len = u32::from_le_bytes(len.try_into().expect("four bytes"));
+        let (text, after) = after.split_at(len as usize);
         let text = std::str::from_utf8(text).expect("text");
         answers_of!(ours, text, to);
         answers_of!(theirs, text, to);
-        rest = behind;
+        rest = after;
     }
 }
 
@@ -95,7 +97,9 @@ fn times(symbols: &[&str], rounds: usize, out: &mut String) {
 fn main() {
     let words: Vec<String> = std::env::args().skip(1).collect();
     let mut input = Vec::new();
-    std::io::stdin().read_to_end(&mut input).expect("standard input");
+    std::io::stdin()
+        .read_to_end(&mut input)
+        .expect("standard input");
     let mut to = Vec::new();
     let mut out = String::with_capacity(1 << 21);
     let symbols = || -> Vec<&str> { std::str::from_utf8(&input).expect("text").lines().collect() };
@@ -108,7 +112,10 @@ fn main() {
         ["stream-ours"] => put(&mut to, &streamed_by!(ours, &input[..], true)),
         ["time", rounds] => times(&symbols(), rounds.parse().expect("a number"), &mut out),
         ["count", which, rounds] => {
-            let (_, job) = JOBS.into_iter().find(|(name, _)| *name == which).expect("a job");
+            let (_, job) = JOBS
+                .into_iter()
+                .find(|(name, _)| *name == which)
+                .expect("a job");
             let symbols = symbols();
             for _ in 0..rounds.parse().expect("a number") {
                 run(job, &symbols, &mut out);

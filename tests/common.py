@@ -1,0 +1,98 @@
+"""What the tests and the measurements share: paths, tools, other programs' runs, and the tally of a suite."""
+import os
+import re
+import shutil
+import subprocess
+import sys
+import traceback
+
+ROOT = os.path.dirname(os.path.dirname(os.path.abspath(__file__)))
+CORPUS = os.path.join(ROOT, "crates", "demangle_corpus", "stdin")
+INCLUDE = os.path.join(ROOT, "include")
+# `make` builds these.
+BUILD = os.path.join(ROOT, "out", "build")
+KODLIWE = os.path.join(BUILD, "kodliwe")
+FILTER = os.path.join(BUILD, "demangle_filter")
+ARCHIVE = os.path.join(BUILD, "libkodliwe.a")
+SHARED = os.path.join(BUILD, "libkodliwe.so.0.1.0")
+# The workspace of Rust crates over the archive, and the crate that replaces rustc-demangle.
+RUST = os.path.join(ROOT, "bindings", "rust")
+RUST_KODLIWE = os.path.join(RUST, "kodliwe")
+DROP_IN = os.path.join(RUST, "rustc-demangle")
+
+
+class Lacking(Exception):
+    """Says that this machine lacks a tool, or that a file was not built."""
+
+
+def tool(name, package=""):
+    """Returns the path of a program, or fails and names the package that has it."""
+    found = shutil.which(name)
+    if found is None:
+        raise Lacking("no %s on this machine%s" % (name, ": the Debian package %s has it" % package if package else ""))
+    return found
+
+
+def built(path):
+    """Returns the path of a file that `make` builds, or fails if it is not there."""
+    if not os.path.exists(path):
+        raise Lacking("no %s: `make` builds it" % os.path.relpath(path, ROOT))
+    return path
+
+
+def run(command, **more):
+    """Returns what a command wrote. Fails with what the command said if its status is not 0."""
+    ran = subprocess.run(command, stdout=subprocess.PIPE, stderr=subprocess.PIPE, **more)
+    if ran.returncode != 0:
+        said = (ran.stdout[-1500:] + ran.stderr[-1500:]).decode(errors="replace")
+        raise AssertionError("%s: status %s\n%s" % (" ".join(map(str, command))[:300], ran.returncode, said))
+    return ran.stdout
+
+
+def instructions(command, text):
+    """Returns how many instructions a program takes over a text, from its start to its end."""
+    words = [tool("valgrind", "valgrind"), "--tool=callgrind", "--callgrind-out-file=/dev/null", *command]
+    ran = subprocess.run(words, input=text, stdout=subprocess.DEVNULL, stderr=subprocess.PIPE, check=True)
+    return int(re.search(rb"Collected : (\d+)", ran.stderr).group(1))
+
+
+def same(found, wanted):
+    """Fails if two values differ."""
+    assert found == wanted, "found %.300r, wanted %.300r" % (found, wanted)
+
+
+class Tally:
+    """Runs the parts of a suite, prints a line for each, and counts them."""
+
+    def __init__(self, only=()):
+        self.only = only
+        self.passed = self.failed = 0
+
+    def step(self, name, call, *arguments):
+        """Runs one part. Any exception is a failure of this part, a missing tool too."""
+        if self.only and not any(word in name for word in self.only):
+            return
+        try:
+            told = call(*arguments)
+        except Lacking as lacking:
+            self.count(name, False, str(lacking))
+        except (AssertionError, OSError, subprocess.SubprocessError) as error:
+            self.count(name, False, str(error) or traceback.format_exc())
+        except Exception:
+            self.count(name, False, traceback.format_exc())
+        else:
+            self.count(name, True, told)
+
+    def count(self, name, is_well, told=None):
+        """Counts one part and prints its line."""
+        self.passed += is_well
+        self.failed += not is_well
+        print("%s: %s%s" % (name, "ok" if is_well else "FAILED", ", %s" % told if told else ""), flush=True)
+
+    def end(self):
+        """Prints 'N passed, N failed' and returns the status. A suite that ran nothing fails."""
+        if not self.passed and not self.failed:
+            print("no part has this name", file=sys.stderr)
+            self.failed = 1
+        print("%d passed, %d failed" % (self.passed, self.failed), flush=True)
+        return 1 if self.failed else 0

@@ -1,0 +1,130 @@
+#!/usr/bin/env python3
+"""Reads the sources with the linters of their languages, and needs no build.
+
+It prints a line for each linter. pyproject.toml has the setting of black and flake8; flake8 does not read that file, so it is given
+the setting. The Rust crates with a manifest are read by tests/rust.py, and the package by tests/package.py.
+The last line is 'N passed, N failed'. A missing tool is a failure.
+"""
+import glob
+import os
+import re
+import subprocess
+import sys
+import tempfile
+
+from common import INCLUDE, ROOT, Tally, run, tool
+
+SHELL = r"^#!.*\b(?:ba)?sh$"
+PYTHON = r"^#!.*\bpython3$"
+C_FLAGS = ["-Wall", "-Wextra", "-Wconversion", "-Wshadow", "-Wpedantic", "-Werror", "-fsyntax-only", "-I", INCLUDE]
+
+
+def sources():
+    """Returns the files that git knows or would add, by their paths in the repository."""
+    listed = run(["git", "ls-files", "--cached", "--others", "--exclude-standard"], cwd=ROOT).decode().split("\n")
+    return sorted(path for path in listed if path and os.path.isfile(os.path.join(ROOT, path)))
+
+
+def scripts(ending, first_line):
+    """Returns the sources with this ending, and those without one that begin with such a line."""
+    found = []
+    for path in sources():
+        if path.endswith(ending):
+            found.append(path)
+        elif "." not in os.path.basename(path):
+            with open(os.path.join(ROOT, path), encoding="utf-8", errors="replace") as file:
+                found += [path] if re.match(first_line, file.readline().rstrip("\n")) else []
+    assert found, "no such file"
+    return found
+
+
+def setting(table, key):
+    """Returns a value of pyproject.toml, a number or the words of a list."""
+    with open(os.path.join(ROOT, "pyproject.toml"), encoding="utf-8") as file:
+        text = file.read()
+    part = re.search(r"^\[%s\]\n(.*?)(?=^\[|\Z)" % re.escape(table), text, re.M | re.S)[1]
+    value = re.search(r"^%s = (.*)$" % re.escape(key), part, re.M)[1]
+    return ",".join(re.findall(r"\w+", value))
+
+
+def check_rustfmt():
+    """Reads the files that belong to no crate with a manifest."""
+    paths = [path for path in sources() if re.match(r"(?:tests|bench)/.*\.rs$", path)]
+    run([tool("rustfmt", "rustfmt"), "--check", "--edition", "2021", *paths], cwd=ROOT)
+    return "%d files" % len(paths)
+
+
+def check_black():
+    run([tool("black", "black"), "--check", "--quiet", "--diff", *scripts(".py", PYTHON)], cwd=ROOT)
+
+
+def check_flake8():
+    flags = ["--isolated", "--max-line-length", setting("tool.black", "line-length"), "--ignore", setting("tool.flake8", "ignore")]
+    run([tool("flake8", "flake8"), *flags, *scripts(".py", PYTHON)], cwd=ROOT)
+
+
+def check_mypy():
+    with tempfile.TemporaryDirectory() as cache:
+        flags = ["--strict", "--no-error-summary", "--cache-dir", cache]
+        run([tool("mypy", "mypy"), *flags, "kodliwe.py", "packing.py"], cwd=os.path.join(ROOT, "bindings", "python"))
+
+
+def check_shell():
+    paths = scripts((".sh", ".bash"), SHELL)
+    run([tool("shellcheck", "shellcheck"), *paths], cwd=ROOT)
+    return "%d files" % len(paths)
+
+
+def check_node():
+    paths = [path for path in sources() if re.match(r"web/.*\.m?js$", path)]
+    for path in paths:
+        run([tool("node", "nodejs"), "--check", path], cwd=ROOT)
+    return "%d files" % len(paths)
+
+
+def check_man():
+    for path in sorted(glob.glob(os.path.join(ROOT, "docs", "*.1"))):
+        words = [tool("groff", "groff-base"), "-man", "-Tutf8", "-ww", "-z", path]
+        ran = subprocess.run(words, stdout=subprocess.PIPE, stderr=subprocess.PIPE, check=True)
+        assert not ran.stderr, ran.stderr.decode()
+        run([tool("mandoc", "mandoc"), "-T", "lint", path])
+
+
+def check_c():
+    headers, count = sorted(glob.glob(os.path.join(INCLUDE, "*.h"))), 0
+    for path in headers + sorted(glob.glob(os.path.join(ROOT, "examples", "*.c"))):
+        # A header is included, since a compiler warns of a header that is a main file.
+        text = b'#include "%s"\n' % os.path.relpath(path, INCLUDE).encode()
+        for compiler, language, standard in (("gcc", "c", "c11"), ("gcc", "c", "gnu17"), ("g++", "c++", "c++11"), ("g++", "c++", "c++20")):
+            run([tool(compiler, compiler), "-x", language, "-std=" + standard, *C_FLAGS, "-"], input=text, cwd=INCLUDE)
+            count += 1
+    return "%d runs" % count
+
+
+def check_believed():
+    """Compares the list of believed definitions in docs/GUARANTEES.md with the clauses."""
+    run([sys.executable, "docs/believed.py"], cwd=ROOT)
+
+
+def check_edits():
+    """Looks for must-fail edits that name no clause."""
+    return run([sys.executable, "tests/edits.py"], cwd=ROOT).decode().strip()
+
+
+def main():
+    tally = Tally(sys.argv[1:])
+    tally.step("rustfmt", check_rustfmt)
+    tally.step("black", check_black)
+    tally.step("flake8", check_flake8)
+    tally.step("mypy --strict", check_mypy)
+    tally.step("shellcheck", check_shell)
+    tally.step("node --check", check_node)
+    tally.step("manuals", check_man)
+    tally.step("gcc, g++", check_c)
+    tally.step("believed definitions", check_believed)
+    tally.step("clauses of edits", check_edits)
+    return tally.end()
+
+
+if __name__ == "__main__":
+    sys.exit(main())

@@ -1,0 +1,418 @@
+#!/usr/bin/env python3
+"""Tries the built program kodliwe where `rt ci` can't: with files, pipes, full disks and long lines.
+
+It prints a line for each of these, and at last how many passed:
+
+  log           a byte of Latin-1 and a NUL in a log stay, and the symbols around them are demangled
+  inputs        several inputs in the order of the words, one of them without its last line feed
+  words         -- and symbols that begin with -; 10,000 symbols as words
+  unknown       a word that is no option ends it with status 2 before anything is read
+  missing       an input that is not there, or is a directory, is named; what came before it stands
+  full          /dev/full is told, as the output and under --output
+  closed        a pipe that whoever read it has closed ends it silently with status 0
+  followed      what is finished is shown while the input is still open
+  replaced      --output replaces a file only once all is written, keeps its permissions, takes an input as its own output,
+                follows a link, and leaves no other file
+  kept          a fault leaves the file of --output as it was
+  device        --output into a device and into a pipe writes in place
+  interrupted   a signal that is caught interrupts reading and writing, and nothing is lost
+  memory        a run under each limit of address space ends with all of the text or with one line and status 1
+  requests      each request of memory refused, alone or with all behind it, ends it with one line and status 1, what was written
+                begins the output, and the file of --output is as it was, with no other beside it
+  long          a line of 1 GB without a line feed, within 8 MB of memory
+  help          --help has at most 24 lines of 80 columns, and names every option
+  manual        docs/kodliwe.1 has each option and is laid out without a warning
+  completions   bash, zsh and fish offer each option
+  filter        the output is that of demangle_filter over the stored corpus and hostile symbols
+
+`make` builds the programs. The last line is 'N passed, N failed'. A missing tool is a failure.
+"""
+import argparse, os, re, resource, shutil, signal, stat, subprocess, sys, tempfile, threading, time
+
+from common import CORPUS, FILTER, KODLIWE, ROOT, Tally, built, same, tool
+from texts import hostile
+
+FOO = "_ZN3foo17h05af221e174051e9E"
+OPTIONS = ["-i", "--input", "-o", "--output", "--hash", "-l", "--limit", "-h", "--help", "-V", "--version"]
+
+
+def run(*words, text=b"", **more):
+    """What a run wrote, what it told, and its status."""
+    ran = subprocess.run([KODLIWE, *words], input=text, stdout=subprocess.PIPE, stderr=subprocess.PIPE, timeout=120, **more)
+    return ran.stdout, ran.stderr.decode(), ran.returncode
+
+
+def write(name, text):
+    with open(name, "wb") as file:
+        file.write(text)
+    return name
+
+
+def read(name):
+    with open(name, "rb") as file:
+        return file.read()
+
+
+def log():
+    text = b"a %b\r\ncaf\xe9 \0 _RNvC5crate4main\0_ZN3barE\n\xff_ZN1aE" % FOO.encode()
+    wanted = b"a foo\r\ncaf\xe9 \0 crate::main\0bar\n\xffa"
+    same(run(text=text), (wanted, "", 0))
+    same(run("--hash", text=text), (wanted.replace(b"foo", b"foo::h05af221e174051e9"), "", 0))
+
+
+def inputs():
+    write("one", b"1 _ZN3foo")
+    write("two", b"E _ZN3fooE\n")
+    same(run("-i", "one", "--input=two", text=b"x"), (b"1 _ZN3fooE foo\n", "", 0))
+    same(run("-itwo", "x _ZN1aE", "-i", "-", "--input", "one", text=b"_ZN1bE\n"), (b"E foo\nx a\nb\n1 _ZN3foo", "", 0))
+    same(run("-i", "-", "-", text=b"_ZN1bE"), (b"b", "", 0))
+
+
+def words():
+    same(run("--", "--hash", "-" + FOO, text=b"x"), (b"--hash\n-foo\n", "", 0))
+    same(run(*[FOO] * 10000, text=b"x"), (b"foo\n" * 10000, "", 0))
+
+
+def unknown():
+    for word in ["--frob", "-x", "--hash=1"]:
+        before = run_from_file(["-i", "nothing", word], b"_ZN3fooE")
+        same(before, (b"", "kodliwe: unknown option '%s'; try 'kodliwe --help'\n" % word, 2, 0))
+    same(run("-i"), (b"", "kodliwe: option '-i' needs a FILE; try 'kodliwe --help'\n", 2))
+    same(run(b"\xff"), (b"", "kodliwe: a word is not UTF-8; try 'kodliwe --help'\n", 2))
+
+
+def run_from_file(words, text):
+    """The same over standard input from a file, and how much of that was read."""
+    with open(write("input", text), "rb") as file:
+        ran = subprocess.run([KODLIWE, *words], stdin=file, stdout=subprocess.PIPE, stderr=subprocess.PIPE, timeout=120)
+        return ran.stdout, ran.stderr.decode(), ran.returncode, os.lseek(file.fileno(), 0, os.SEEK_CUR)
+
+
+def missing():
+    same(run("_ZN1aE", "-i", "none.txt", "_ZN1bE"), (b"a\n", "kodliwe: none.txt: No such file or directory\n", 1))
+    os.mkdir("folder")
+    same(run("_ZN1aE", "-i", "folder"), (b"a\n", "kodliwe: folder: Is a directory\n", 1))
+    same(run("-o", "none/out", "_ZN1aE"), (b"", "kodliwe: none/out: No such file or directory\n", 1))
+    same(run("-o", "folder", "_ZN1aE"), (b"", "kodliwe: folder: Is a directory\n", 1))
+    with open("folder/../closed", "wb") as file:
+        ran = subprocess.run([KODLIWE], stdin=file, stdout=subprocess.PIPE, stderr=subprocess.PIPE, timeout=120)
+    same((ran.stdout, ran.stderr, ran.returncode), (b"", b"kodliwe: standard input: Bad file descriptor\n", 1))
+
+
+def full():
+    line = "kodliwe: write failed: No space left on device\n"
+    for words in [[FOO], ["--help"], ["--version"]]:
+        with open("/dev/full", "wb") as file:
+            ran = subprocess.run([KODLIWE, *words], stdout=file, stderr=subprocess.PIPE, timeout=120)
+        same((ran.stderr.decode(), ran.returncode), (line, 1))
+    same(run("-o", "/dev/full", FOO), (b"", line, 1))
+    assert stat.S_ISCHR(os.stat("/dev/full").st_mode)
+
+
+def closed():
+    text = write("log", (b"x %b y\n" % FOO.encode()) * 100000)
+    for words in [["-i", text], ["--help"]]:
+        reader, writer = os.pipe()
+        os.close(reader)
+        ran = subprocess.run([KODLIWE, *words], stdout=writer, stderr=subprocess.PIPE, timeout=120)
+        os.close(writer)
+        same((ran.stderr, ran.returncode), (b"", 0))
+    ran = subprocess.Popen([KODLIWE, "-i", text], stdout=subprocess.PIPE, stderr=subprocess.PIPE)
+    same(ran.stdout.readline(), b"x foo y\n")
+    ran.stdout.close()
+    same((ran.stderr.read(), ran.wait(120)), (b"", 0))
+    ran.stderr.close()
+
+
+def followed():
+    ran = subprocess.Popen([KODLIWE], stdin=subprocess.PIPE, stdout=subprocess.PIPE)
+    for text, wanted in [(b"_ZN3fooE\n", b"foo\n"), (b"x _ZN1", b"x "), (b"aE\n", b"a\n"), (b"caf\xe9 ", b"caf\xe9 ")]:
+        ran.stdin.write(text)
+        ran.stdin.flush()
+        same(os.read(ran.stdout.fileno(), 100), wanted)
+    ran.stdin.close()
+    same((ran.stdout.read(), ran.wait(120)), (b"", 0))
+    ran.stdout.close()
+
+
+def replaced():
+    os.mkdir("replaced")
+    name = write("replaced/out", b"old")
+    os.chmod(name, 0o640)
+    same(run("-o", name, FOO), (b"", "", 0))
+    same(read(name), b"foo\n")
+    same(stat.S_IMODE(os.stat(name).st_mode), 0o640)
+    write(name, b"_ZN3barE _ZN1aE\n")
+    same(run("-o", name, "-i", name), (b"", "", 0))
+    same(read(name), b"bar a\n")
+    os.symlink("out", "replaced/link")
+    same(run("-oreplaced/link", "_ZN1bE"), (b"", "", 0))
+    same(read(name), b"b\n")
+    assert os.path.islink("replaced/link")
+    write("replaced/new.kodliwe-0", b"of another run")
+    same(run("--output=replaced/new", "_ZN1bE"), (b"", "", 0))
+    same((read("replaced/new"), read("replaced/new.kodliwe-0")), (b"b\n", b"of another run"))
+    same(sorted(os.listdir("replaced")), ["link", "new", "new.kodliwe-0", "out"])
+
+
+def kept():
+    os.mkdir("kept")
+    name = write("kept/out", b"old")
+    same(run("-o", name, FOO, "-i", "kept/none"), (b"", "kodliwe: kept/none: No such file or directory\n", 1))
+    same(run("-o", name, FOO, "--frob")[2], 2)
+    text = write("long", b"x" * 300000)
+    # A file may have 200,000 bytes, and the signal that tells it is ignored: so writing fails in the middle.
+    small = lambda: (resource.setrlimit(resource.RLIMIT_FSIZE, (200000, 200000)), signal.signal(signal.SIGXFSZ, signal.SIG_IGN))
+    same(run("-o", name, "-i", text, preexec_fn=small), (b"", "kodliwe: write failed: File too large\n", 1))
+    same((read(name), os.listdir("kept")), (b"old", ["out"]))
+
+
+def device():
+    same(run("-o", "/dev/null", FOO), (b"", "", 0))
+    assert stat.S_ISCHR(os.stat("/dev/null").st_mode)
+    same(run("-o", "/dev/stdout", FOO), (b"foo\n", "", 0))
+    os.mkfifo("fifo")
+    ran = subprocess.Popen([KODLIWE, "-o", "fifo", FOO])
+    same(read("fifo"), b"foo\n")
+    same(ran.wait(120), 0)
+
+
+def interrupted():
+    # A program that catches a signal without SA_RESTART starts kodliwe's work as a child would: kodliwe itself catches none,
+    # so the signals are those that stop and continue it, at which a call on a pipe that waits is made again.
+    ran = subprocess.Popen([KODLIWE], stdin=subprocess.PIPE, stdout=subprocess.PIPE)
+    for _ in range(20):
+        os.kill(ran.pid, signal.SIGSTOP)
+        os.kill(ran.pid, signal.SIGCONT)
+        time.sleep(0.005)
+        ran.stdin.write(b"_ZN3fooE\n")
+        ran.stdin.flush()
+    out, _ = ran.communicate(timeout=120)
+    same((out, ran.returncode), (b"foo\n" * 20, 0))
+
+
+def memory():
+    text = b"x " + b"_ZN" + b"3foo" * 50000 + b"E\n"
+    wanted = b"x " + b"::".join([b"foo"] * 50000) + b"\n"
+    ended = set()
+    for pages in range(300, 900, 7):
+        limit = lambda: resource.setrlimit(resource.RLIMIT_AS, (pages * 4096, pages * 4096))
+        ran = subprocess.run([KODLIWE], input=text, stdout=subprocess.PIPE, stderr=subprocess.PIPE, timeout=120, preexec_fn=limit)
+        if ran.returncode in (127, -signal.SIGSEGV, -signal.SIGKILL):
+            continue  # the system could not start it
+        found = (ran.stdout, ran.stderr, ran.returncode)
+        assert found in [
+            (wanted, b"", 0),
+            (b"x ", b"kodliwe: out of memory\n", 1),
+            (b"", b"kodliwe: out of memory\n", 1),
+        ], "%d pages: %.200r" % (pages, found)
+        ended.add(found[2])
+    same(ended, {0, 1})
+
+
+# Refuses the requests of memory from FIRST to LAST, and writes into the file COUNT how many there were.
+REFUSING = r"""
+#define _GNU_SOURCE
+#include <dlfcn.h>
+#include <stdio.h>
+#include <stdlib.h>
+
+static unsigned long count, first, last;
+
+__attribute__((constructor)) static void begin(void) {
+    first = strtoul(getenv("FIRST"), NULL, 10);
+    last = strtoul(getenv("LAST"), NULL, 10);
+    count = 0;
+}
+
+static int is_refused(void) {
+    ++count;
+    return first <= count && count <= last;
+}
+
+void *malloc(size_t size) {
+    void *(*real)(size_t) = (void *(*)(size_t))dlsym(RTLD_NEXT, "malloc");
+    return is_refused() ? NULL : real(size);
+}
+
+void *realloc(void *old, size_t size) {
+    void *(*real)(void *, size_t) = (void *(*)(void *, size_t))dlsym(RTLD_NEXT, "realloc");
+    return is_refused() ? NULL : real(old, size);
+}
+
+__attribute__((destructor)) static void end(void) {
+    unsigned long made = count;
+    last = 0;
+    FILE *file = fopen(getenv("COUNT"), "w");
+    fprintf(file, "%lu", made);
+    fclose(file);
+}
+"""
+
+
+def run_refusing(first, last, words, text):
+    """What a run gave that was refused these requests of memory, with the files of its folder, and how many it made."""
+    shutil.rmtree("refusing", ignore_errors=True)
+    os.mkdir("refusing")
+    write("refusing/in", b"_ZN1bE\n")
+    write("refusing/out", b"old")
+    env = dict(LD_PRELOAD=os.path.abspath("refuse.so"), FIRST=str(first), LAST=str(last), COUNT="count")
+    found = run(*words, text=text, env=env)
+    return (*found, {name: read("refusing/" + name) for name in os.listdir("refusing")}), int(read("count"))
+
+
+def requests():
+    write("refuse.c", REFUSING.encode())
+    subprocess.run([tool("cc"), "-O1", "-shared", "-fPIC", "refuse.c", "-o", "refuse.so", "-ldl"], check=True)
+    long_symbol = b"x _ZN" + b"3foo" * 50000 + b"E"
+    cases = [
+        ([], b"_ZN3fooE\n"),
+        ([], long_symbol),
+        ([FOO, "_ZN1aE"], b""),
+        (["-i", "refusing/in", FOO, "-i", "refusing/in"], b""),
+        (["-o", "refusing/out", FOO], b""),
+        (["-o", "refusing/new", FOO, "-i", "refusing/in"], b""),
+        (["-o", "/dev/full", FOO], b""),
+        (["-i", "refusing/none"], b""),
+        (["-i", "refusing"], b""),
+        (["--frob"], b""),
+        (["-l", "x"], b""),
+        (["--help"], b""),
+    ]
+    tried = 0
+    for words, text in cases:
+        whole, count = run_refusing(1, 0, words, text)
+        refused = {("kodliwe: %sout of memory\n" % name, 1) for name in ["", *(word + ": " for word in words)]}
+        # The end of the words' memory that is not used is given back: where that is refused, nothing is lost.
+        for most, ends in [(0, lambda number: 10**9), (1, lambda number: number)]:
+            unharmed = 0
+            for number in range(1, count + 1):
+                found, _ = run_refusing(number, ends(number), words, text)
+                unharmed += found == whole
+                assert found == whole or (
+                    whole[0].startswith(found[0]) and found[1:3] in refused and found[3] == {"in": b"_ZN1bE\n", "out": b"old"}
+                ), "%r, request %d: %.300r" % (words, number, found)
+            assert unharmed <= most, "%r: %d refused requests were not told" % (words, unharmed)
+            tried += count
+    return "%d runs" % tried
+
+
+def long():
+    piece = b"x_ y" * 262144
+    ran = subprocess.Popen([KODLIWE], stdin=subprocess.PIPE, stdout=subprocess.PIPE)
+    counted = []
+
+    def count():
+        total = 0
+        while True:
+            part = ran.stdout.read(1 << 20)
+            if not part:
+                break
+            total += len(part)
+        counted.append(total)
+
+    counting = threading.Thread(target=count)
+    counting.start()
+    for _ in range(1024):
+        ran.stdin.write(piece)
+    with open("/proc/%d/status" % ran.pid) as file:
+        peak = int(re.search(r"VmHWM:\s+(\d+) kB", file.read()).group(1))
+    ran.stdin.close()
+    counting.join()
+    same((ran.wait(120), counted), (0, [1024 * len(piece)]))
+    assert peak <= 8192, "it took %d KB" % peak
+    return "%d KB" % peak
+
+
+def help_():
+    text, told, status = run("--help")
+    same((told, status), ("", 0))
+    lines = text.decode().splitlines()
+    assert len(lines) <= 24 and max(map(len, lines)) <= 80
+    for option in OPTIONS:
+        assert re.search(r"(^|\W)%s\b" % option, text.decode()), option
+
+
+def manual():
+    page = os.path.join(ROOT, "docs", "kodliwe.1")
+    tool("groff")
+    ran = subprocess.run(["groff", "-man", "-Tutf8", "-ww", page], stdout=subprocess.PIPE, stderr=subprocess.PIPE, check=True)
+    same(ran.stderr, b"")
+    text = re.sub("\x1b\\[[0-9;]*m|.\b", "", ran.stdout.decode()).replace("\u2010", "-").replace("\u2212", "-")
+    for option in OPTIONS:
+        assert option in text, option
+
+
+def completions():
+    folder = os.path.join(ROOT, "completions")
+    tool("bash"), tool("zsh"), tool("fish")
+    asked = 'source %s/kodliwe.bash; COMP_WORDS=(kodliwe -); COMP_CWORD=1; _kodliwe; echo "${COMPREPLY[@]}"' % folder
+    same(subprocess.check_output(["bash", "-c", asked]).decode().split(), OPTIONS)
+    subprocess.run(["zsh", "-n", folder + "/_kodliwe"], check=True)
+    with open(folder + "/_kodliwe") as file:
+        text = file.read()
+    for option in OPTIONS:
+        assert option in text, option
+    offered = ""
+    for front in ["-", "--"]:
+        asked = 'source %s/kodliwe.fish; complete -C "kodliwe %s"' % (folder, front)
+        offered += subprocess.check_output(["fish", "--no-config", "-c", asked], env=dict(os.environ, HOME=os.getcwd())).decode()
+    for option in OPTIONS:
+        assert re.search(r"^%s\t" % option, offered, re.M), option
+
+
+def filter_():
+    built(FILTER)
+    texts = [read(CORPUS), b"".join(symbol.encode() + b"\n" for _, symbol in hostile())]
+    for text in texts:
+        for ours, words in [(["--hash"], []), ([], ["--no-hash"])]:
+            wanted = subprocess.run([FILTER, *words], input=text, stdout=subprocess.PIPE, check=True, timeout=120).stdout
+            found = run(*ours, text=text)
+            assert found == (wanted, "", 0), "the output differs, with %r" % ours
+
+
+CHECKS = [
+    log,
+    inputs,
+    words,
+    unknown,
+    missing,
+    full,
+    closed,
+    followed,
+    replaced,
+    kept,
+    device,
+    interrupted,
+    memory,
+    requests,
+    long,
+    help_,
+    manual,
+    completions,
+    filter_,
+]
+
+
+def in_a_folder(check):
+    """Runs a check in a folder of its own."""
+    built(KODLIWE)
+    with tempfile.TemporaryDirectory() as folder:
+        os.chdir(folder)
+        try:
+            return check()
+        finally:
+            os.chdir(ROOT)
+
+
+def main():
+    parsed = argparse.ArgumentParser(description=__doc__, formatter_class=argparse.RawDescriptionHelpFormatter)
+    parsed.add_argument("only", nargs="*", metavar="NAME", help="run these alone")
+    tally = Tally(parsed.parse_args().only)
+    for check in CHECKS:
+        tally.step(check.__name__.rstrip("_"), in_a_folder, check)
+    return tally.end()
+
+
+if __name__ == "__main__":
+    sys.exit(main())
