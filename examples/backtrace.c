@@ -11,7 +11,9 @@
  * not be long (`_RNvB_1a`, of 8 bytes, wants 14.4): more than the stack has lies before it and cannot be touched, so that
  * such a symbol ends the program and overwrites nothing. A program that prints a stranger's symbols takes 96 KiB for the
  * stack. */
+#ifndef _GNU_SOURCE
 #define _GNU_SOURCE
+#endif
 #include "kodliwe.h"
 
 #include <dlfcn.h>
@@ -73,17 +75,20 @@ int fail(const volatile int *at) { return *at + 1; }
 int deep(int n) { return n == 0 ? fail(NULL) + 1 : deep(n - 1) + 1; }
 int fill(int n) { return deep(n) + 1; }
 
-/* The memory of the handler's stack, behind its fence. */
+/* Returns the memory of the handler's stack, after its fence. */
 static char *handler_stack(void) {
-    char *fence = mmap(NULL, FENCE + STACK, PROT_NONE, MAP_PRIVATE | MAP_ANONYMOUS, -1, 0);
+    char *fence = (char *)mmap(NULL, FENCE + STACK, PROT_NONE, MAP_PRIVATE | MAP_ANONYMOUS, -1, 0);
     if (fence == MAP_FAILED || mprotect(fence + FENCE, STACK, PROT_READ | PROT_WRITE) != 0) return NULL;
     return fence + FENCE;
 }
 
 int main(void) {
     void *first[1];
-    stack_t stack = {.ss_sp = handler_stack(), .ss_size = STACK};
+    stack_t stack;
     struct sigaction action;
+    memset(&stack, 0, sizeof stack);
+    stack.ss_sp = handler_stack();
+    stack.ss_size = STACK;
     memset(&action, 0, sizeof action);
     action.sa_handler = on_fault;
     action.sa_flags = (int)(SA_ONSTACK | SA_RESETHAND);

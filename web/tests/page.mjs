@@ -12,7 +12,9 @@ import { HOSTILE, HOSTILE_LINE, HOSTILE_LINES, LOG, LOG_LINE, ODD, ODD_RESULT } 
 const require = createRequire(import.meta.url);
 const WEB = fileURLToPath(new URL("../", import.meta.url));
 const FILE = `file://${WEB}index.html`;
-const PAUSE = 200; // milliseconds that a key may wait, until what it did is painted
+// Milliseconds that a key may wait, until what it did is painted, beyond what it waits over a short text.
+const PAUSE = 200;
+const SHORT = "_ZN3fooE\n";
 const TRIES = 4; // of these the best counts: other programs of the machine make pauses too
 
 const TYPES = { ".html": "text/html", ".js": "text/javascript", ".css": "text/css", ".svg": "image/svg+xml" };
@@ -86,13 +88,10 @@ export async function testPage(kind, check, shots) {
       await visit(`${url}#try`);
       say(`runs from ${name}`, (await output()).includes("std::panicking::begin_panic\n") && (await value("fault")) === "");
     }
-    await typing();
-    await switching();
-    await copying();
-    await stepping();
-    await files();
-    await staying();
-    await pictures();
+    for (const part of [typing, switching, copying, stepping, files, staying, pictures]) {
+      // what one part throws ends no other
+      await part().catch((error) => say(`the part ${part.name} ends`, false, error.stack));
+    }
     await visit(`${site.url}old/index.html`);
     say("without 64-bit memory it says so", /no 64-bit WebAssembly memory/.test(await value("fault")) && !(await value("fault", "hidden")));
     requests();
@@ -216,6 +215,27 @@ export async function testPage(kind, check, shots) {
     say("a path past 16,384 bytes says so", (await output()).endsWith("{size limit reached}") && (await value("cut")) === "1 path ends in {size limit reached}, past 16,384 bytes.", await value("cut"));
   }
 
+  // The milliseconds of the key that waits longest, of some that are pressed over a text.
+  async function longest(text) {
+    await visit(FILE);
+    await evaluate(PROBE);
+    await open("text.txt", text);
+    for (let turns = 0; turns < 15; turns++) {
+      await browser.key("x");
+      await sleep(60);
+    }
+    await done();
+    await evaluate('document.getElementById("hash").focus(); 0');
+    for (let turns = 0; turns < 6; turns++) {
+      await fresh();
+      await browser.key(" ");
+      await sleep(100);
+    }
+    await done();
+    await sleep(500);
+    return evaluate("Math.max(0, ...events)");
+  }
+
   async function staying() {
     const kodliwe = require("../kodliwe.js");
     const it = await kodliwe.load(await kodliwe.unpack(require("../module.js")));
@@ -225,25 +245,10 @@ export async function testPage(kind, check, shots) {
     for (const [name, text, isCompared] of texts) {
       let best = Infinity;
       for (let turn = 0; turn < TRIES && best > PAUSE; turn++) {
-        await visit(FILE);
-        await evaluate(PROBE);
-        await open("text.txt", text);
-        for (let turns = 0; turns < 15; turns++) {
-          await browser.key("x");
-          await sleep(60);
-        }
-        await done();
-        await evaluate('document.getElementById("hash").focus(); 0');
-        for (let turns = 0; turns < 6; turns++) {
-          await fresh();
-          await browser.key(" ");
-          await sleep(100);
-        }
-        await done();
-        await sleep(500);
-        best = Math.min(best, await evaluate("Math.max(0, ...events)"));
+        const usual = await longest(SHORT);
+        best = Math.min(best, await longest(text) - usual);
       }
-      say(`${name}: the longest key`, best <= PAUSE, `${best} ms or less`);
+      say(`${name}: the longest key`, best <= PAUSE, `${Math.max(0, best)} ms or less beyond a short text's`);
       if (isCompared) {
         const shown = await evaluate(`crypto.subtle.digest("SHA-256", new TextEncoder().encode(document.getElementById("output").textContent)).then((it) => [...new Uint8Array(it)].map((one) => one.toString(16).padStart(2, "0")).join(""))`);
         say(`${name}: shown as the module says`, shown === sum(it.demangleText(text)));
