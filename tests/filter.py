@@ -74,6 +74,12 @@ def one_run(program, words, text, output, errors, status):
     return run(program, words, text) == (output, errors, status)
 
 
+def over_many_lines(program):
+    """A text of 1,100,000 lines, and a line of 5 MB."""
+    lines = run(program, [], b"_ZN1aE\n" * 1_100_000) == (b"a\n" * 1_100_000, b"", 0)
+    return lines and run(program, [], b"l" * 5_000_000 + b" _ZN3fooE\n") == (b"l" * 5_000_000 + b" foo\n", b"", 0)
+
+
 def main():
     parser = argparse.ArgumentParser(description=__doc__, formatter_class=argparse.RawDescriptionHelpFormatter)
     parser.add_argument("--program", default=FILTER, help="the program, in place of the built one")
@@ -82,7 +88,7 @@ def main():
     tally.step("the program", built, program)
     for name, *wanted in RUNS:
         tally.step(name, check, program, one_run, *wanted)
-    for test in (in_two_parts, into_a_full_disk, into_a_closed_pipe):
+    for test in (in_two_parts, into_a_full_disk, into_a_closed_pipe, over_many_lines):
         tally.step(test.__name__.replace("_", " "), check, program, test)
     return tally.end()
 

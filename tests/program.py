@@ -19,6 +19,12 @@ It prints a line for each of these, and at last how many passed:
   memory        a run under each limit of address space ends with all of the text or with one line and status 1
   requests      each request of memory refused, alone or with all behind it, ends it with one line and status 1, what was written
                 begins the output, and the file of --output is as it was, with no other beside it
+  guarded       each of fsync, rename, fchmod and statx refused under --output: one line, status 1, the file is as it was, and no other
+                is beside it; the file is synchronized before it gets its name
+  names         99 names for the unfinished file are taken, and then a hundred
+  waiting       an input that would have to wait is told, and not read for ever
+  one call      each line of a fault is written by one call
+  large         300,000 symbols, runs of 3 MB, a line of 5 MB, a word of 130,000 bytes, a thousand files, a limit of 0
   long          a line of 1 GB without a line feed, within 8 MB of memory
   help          --help has at most 24 lines of 80 columns, and names every option
   manual        docs/kodliwe.1 has each option and is laid out without a warning
@@ -27,7 +33,7 @@ It prints a line for each of these, and at last how many passed:
 
 `make` builds the programs. The last line is 'N passed, N failed'. A missing tool is a failure.
 """
-import argparse, os, re, resource, shutil, signal, stat, subprocess, sys, tempfile, threading, time
+import argparse, os, re, resource, shutil, signal, socket, stat, subprocess, sys, tempfile, threading, time
 
 from common import CORPUS, FILTER, KODLIWE, ROOT, Tally, built, same, tool
 from texts import hostile
@@ -297,6 +303,140 @@ def requests():
     return "%d runs" % tried
 
 
+# Refuses the call that the variable REFUSED names, and adds a line to the file CALLS for each of these calls.
+GUARDED = r"""
+#define _GNU_SOURCE
+#include <dlfcn.h>
+#include <errno.h>
+#include <fcntl.h>
+#include <string.h>
+#include <stdio.h>
+#include <stdlib.h>
+#include <sys/stat.h>
+#include <unistd.h>
+
+static int is_refused(const char *call, int error) {
+    FILE *file = fopen(getenv("CALLS"), "a");
+    fprintf(file, "%s\n", call);
+    fclose(file);
+    errno = error;
+    return strcmp(getenv("REFUSED"), call) == 0;
+}
+
+int fsync(int file) {
+    int (*real)(int) = (int (*)(int))dlsym(RTLD_NEXT, "fsync");
+    return is_refused("fsync", EIO) ? -1 : real(file);
+}
+
+int rename(const char *from, const char *to) {
+    int (*real)(const char *, const char *) = (int (*)(const char *, const char *))dlsym(RTLD_NEXT, "rename");
+    return is_refused("rename", EACCES) ? -1 : real(from, to);
+}
+
+int fchmod(int file, mode_t mode) {
+    int (*real)(int, mode_t) = (int (*)(int, mode_t))dlsym(RTLD_NEXT, "fchmod");
+    return is_refused("fchmod", EPERM) ? -1 : real(file, mode);
+}
+
+int statx(int folder, const char *path, int flags, unsigned mask, struct statx *found) {
+    int (*real)(int, const char *, int, unsigned, struct statx *) =
+        (int (*)(int, const char *, int, unsigned, struct statx *))dlsym(RTLD_NEXT, "statx");
+    return is_refused("statx", EACCES) ? -1 : real(folder, path, flags, mask, found);
+}
+"""
+REASONS = {
+    "fsync": "Input/output error",
+    "rename": "Permission denied",
+    "fchmod": "Operation not permitted",
+    "statx": "Permission denied",
+}
+
+
+def run_guarded(refused):
+    """Returns what a run over a file gave whose call was refused, the files of its folder, and the calls in their order."""
+    shutil.rmtree("guarded", ignore_errors=True)
+    os.mkdir("guarded")
+    os.chmod(write("guarded/out", b"old"), 0o640)
+    write("calls", b"")
+    env = dict(LD_PRELOAD=os.path.abspath("guard.so"), REFUSED=refused, CALLS=os.path.abspath("calls"))
+    found = run("-o", "guarded/out", FOO, env=env)
+    return found, {name: read("guarded/" + name) for name in os.listdir("guarded")}, read("calls").decode().split()
+
+
+def guarded():
+    write("guard.c", GUARDED.encode())
+    subprocess.run([tool("cc", "gcc"), "-O1", "-shared", "-fPIC", "guard.c", "-o", "guard.so", "-ldl"], check=True)
+    found, files, calls = run_guarded("none")
+    same((found, files), ((b"", "", 0), {"out": b"foo\n"}))
+    same(stat.S_IMODE(os.stat("guarded/out").st_mode), 0o640)
+    same([call for call in calls if call != "statx"], ["fchmod", "fsync", "rename"])
+    assert "statx" in calls, calls
+    for refused, reason in REASONS.items():
+        found, files, calls = run_guarded(refused)
+        same(found, (b"", "kodliwe: guarded/out: %s\n" % reason, 1))
+        same(files, {"out": b"old"})
+        assert refused in calls, calls
+    return "%d calls refused" % len(REASONS)
+
+
+def names():
+    """Takes the first free name for the unfinished file, of a hundred."""
+    os.mkdir("names")
+    for number in range(99):
+        write("names/out.kodliwe-%d" % number, b"of another run")
+    same(run("-o", "names/out", FOO), (b"", "", 0))
+    same((read("names/out"), len(os.listdir("names"))), (b"foo\n", 100))
+    write("names/out.kodliwe-99", b"of another run")
+    same(run("-o", "names/out", "_ZN1aE"), (b"", "kodliwe: names/out: File exists\n", 1))
+    same((read("names/out"), len(os.listdir("names"))), (b"foo\n", 101))
+
+
+def waiting():
+    """Reads from a pipe that has nothing yet and does not wait: that is a fault, and no reason to try for ever."""
+    reader, writer = os.pipe()
+    os.set_blocking(reader, False)
+    os.write(writer, b"_ZN3fooE x")
+    ran = subprocess.run([KODLIWE], stdin=reader, stdout=subprocess.PIPE, stderr=subprocess.PIPE, timeout=20)
+    os.close(reader), os.close(writer)
+    line = b"kodliwe: standard input: Resource temporarily unavailable\n"
+    same((ran.stdout, ran.stderr, ran.returncode), (b"foo x", line, 1))
+
+
+def one_call():
+    """Writes each line of a fault by one call: a socket of datagrams keeps apart what two calls write."""
+    for words in [["-i", "none.txt"], ["--frob"], ["-l", "x"], ["-o", "none/out", FOO]]:
+        ours, its = socket.socketpair(socket.AF_UNIX, socket.SOCK_DGRAM)
+        subprocess.run([KODLIWE, *words], stdin=subprocess.DEVNULL, stdout=subprocess.DEVNULL, stderr=its, timeout=20)
+        its.close()
+        line = ours.recv(4096)
+        ours.setblocking(False)
+        try:
+            more = ours.recv(4096)
+        except (BlockingIOError, ConnectionResetError):
+            more = b""
+        ours.close()
+        assert line.startswith(b"kodliwe: ") and line.endswith(b"\n") and more == b"", "%r, and then %r" % (line, more)
+
+
+def large():
+    """Takes more of everything than a bound that was made up would allow."""
+    count = 300_000
+    same(run(text=b"_ZN1aE " * count), (b"a " * count, "", 0))
+    same(run(text=b"_ZN1aE\n" * count), (b"a\n" * count, "", 0))
+    # A run of 3 MB that is no symbol, one that is a symbol with a long suffix, and a line of 5 MB.
+    many = 3_000_000
+    same(run(text=b"x _ZNx" + b"y" * many + b" _ZN3fooE"), (b"x _ZNx" + b"y" * many + b" foo", "", 0))
+    same(run(text=b"x _ZN3fooE." + b"y" * many + b" _ZN3fooE"), (b"x foo." + b"y" * many + b" foo", "", 0))
+    same(run(text=b"l" * 5_000_000 + b" _ZN3fooE\n"), (b"l" * 5_000_000 + b" foo\n", "", 0))
+    # A word may have 131,071 bytes on Linux.
+    same(run("_ZN3fooE." + "y" * 130_000, "_ZN3fooE"), (b"foo." + b"y" * 130_000 + b"\nfoo\n", "", 0))
+    write("in", b"_ZN3fooE\n")
+    same(run(*["-i", "in"] * 1000), (b"foo\n" * 1000, "", 0))
+    # A limit of 0 prints the marker alone.
+    for words in (["-l", "0"], ["--limit=0"]):
+        same(run(*words, FOO), (b"{size limit reached}\n", "", 0))
+
+
 def long():
     piece = b"x_ y" * 262144
     ran = subprocess.Popen([KODLIWE], stdin=subprocess.PIPE, stdout=subprocess.PIPE)
@@ -386,6 +526,11 @@ CHECKS = [
     interrupted,
     memory,
     requests,
+    guarded,
+    names,
+    waiting,
+    one_call,
+    large,
     long,
     help_,
     manual,
@@ -410,7 +555,7 @@ def main():
     parsed.add_argument("only", nargs="*", metavar="NAME", help="run these alone")
     tally = Tally(parsed.parse_args().only)
     for check in CHECKS:
-        tally.step(check.__name__.rstrip("_"), in_a_folder, check)
+        tally.step(check.__name__.rstrip("_").replace("_", " "), in_a_folder, check)
     return tally.end()
 
 
