@@ -19,7 +19,7 @@ The crate is Debian's librust-rustc-demangle-dev, 0.1.21, which answers some tex
 """
 import argparse, glob, os, re, shutil, struct, subprocess, sys, tempfile
 
-from common import ARCHIVE, BUILD, DROP_IN, ROOT, RUST_KODLIWE, Lacking, Tally, built, instructions, run, tool
+from common import ARCHIVE, BUILD, DROP_IN, FILTER, ROOT, RUST_KODLIWE, Lacking, Tally, built, instructions, run, tool
 from texts import NO_LIMIT, REAL, column, made_lines, stored
 
 HERE = os.path.join(ROOT, "tests", "clients")
@@ -84,6 +84,15 @@ class Work:
         """Returns the release of the crate."""
         with open(os.path.join(self.crate(), "Cargo.toml")) as file:
             return re.search(r'^version = "(.*)"', file.read(), re.M)[1]
+
+    def has_std(self):
+        """Returns whether the crate has the feature std, under which the stream is. 0.1.21 has neither."""
+        with open(os.path.join(self.crate(), "Cargo.toml")) as file:
+            return re.search(r"^std\b", file.read(), re.M) is not None
+
+    def std(self):
+        """Returns the feature std of a package over either library, if the crate has it."""
+        return '[features]\nstd = ["rustc-demangle/std"]\n\n' if self.has_std() else ""
 
     def renamed_crate(self):
         """A copy of it under another name, for programs that have both."""
@@ -218,8 +227,8 @@ def test_folder(work, name, library):
     project = work.path(name)
     work.write(
         name + "/Cargo.toml",
-        '[package]\nname = "%s"\nversion = "0.0.0"\nedition = "2021"\n\n[features]\nstd = ["rustc-demangle/std"]\n\n'
-        '[dependencies]\nrustc-demangle = { path = "%s" }\n\n[workspace]\n' % (name, library),
+        '[package]\nname = "%s"\nversion = "0.0.0"\nedition = "2021"\n\n%s'
+        '[dependencies]\nrustc-demangle = { path = "%s" }\n\n[workspace]\n' % (name, work.std(), library),
     )
     work.write(name + "/src/lib.rs", "")
     shutil.copytree(os.path.join(DROP_IN, "tests"), os.path.join(project, "tests"), dirs_exist_ok=True)
@@ -250,8 +259,8 @@ def unit_folder(work, name, library, edits=()):
     shutil.rmtree(project, ignore_errors=True)
     work.write(
         name + "/Cargo.toml",
-        '[package]\nname = "%s"\nversion = "0.0.0"\n\n[features]\nstd = ["rustc-demangle/std"]\n\n'
-        '[dependencies]\nrustc-demangle = { path = "%s" }\n\n[workspace]\n' % (name, library),
+        '[package]\nname = "%s"\nversion = "0.0.0"\n\n%s'
+        '[dependencies]\nrustc-demangle = { path = "%s" }\n\n[workspace]\n' % (name, work.std(), library),
     )
     with open(os.path.join(HERE, "unit.rs")) as file:
         public = file.read()
@@ -298,10 +307,11 @@ def calls_program(work):
         "calls/Cargo.toml",
         '[package]\nname = "calls"\nversion = "0.0.0"\nedition = "2021"\n\n[[bin]]\nname = "calls"\npath = "%s"\n\n[dependencies]\n'
         'ours = { package = "rustc-demangle", path = "%s", features = ["std"] }\n'
-        'theirs = { package = "rustc-demangle-published", path = "%s", features = ["std"] }\n\n'
-        "[profile.release]\ndebug = 1\n\n[workspace]\n" % (os.path.join(HERE, "calls.rs"), DROP_IN, work.renamed_crate()),
+        'theirs = { package = "rustc-demangle-published", path = "%s" }\n\n[features]\nstream = [%s]\n\n'
+        "[profile.release]\ndebug = 1\n\n[workspace]\n"
+        % (os.path.join(HERE, "calls.rs"), DROP_IN, work.renamed_crate(), '"theirs/std"' if work.has_std() else ""),
     )
-    work.cargo(work.path("calls"), ["build", "--release"])
+    work.cargo(work.path("calls"), ["build", "--release"] + (["--features", "stream"] if work.has_std() else []))
     return work.path("target", "release", "calls")
 
 
@@ -330,14 +340,21 @@ def check_answers(work):
         ours, theirs = out[8 * at : 8 * at + 4], out[8 * at + 4 : 8 * at + 8]
         wrong += [text] if (ours[0] == b"\1") != (answer is not None) or answer and (*map(column, ours[2:]), len(ours[1])) != answer else []
         differ |= {text} if ours != theirs else set()
-        assert ours[:2] == theirs[:2], "%r is read otherwise: %r, and by the crate %r" % (text[:80], ours[:2], theirs[:2])
+        assert ours[:2] == theirs[:2] or not work.has_std(), "%r is read otherwise: %r, and by the crate %r" % (
+            text[:80],
+            ours[:2],
+            theirs[:2],
+        )
     assert not wrong, "%d answers are not the stored ones, as for %r" % (len(wrong), wrong[0][:80])
-    stored = [text for text, _ in known]
-    real = {text for _, start, end in REAL for text in stored[start:end]}
+    texts = [text for text, _ in known]
+    real = {text for _, start, end in REAL for text in texts[start:end]}
     assert not differ & real, "real symbols differ: %r" % sorted(differ & real)[:3]
-    for hash_ in ("true", "false"):
-        ours, theirs = parted(run([program, "stream", hash_], input="".join(made_lines(3, "all")).encode()))
-        assert ours == theirs and len(ours) > 100_000, "a text is copied otherwise"
+    log = "".join(made_lines(3, "all")).encode()
+    for hash_, words in (("true", []), ("false", ["--no-hash"])):
+        ours, *theirs = parted(run([program, "stream", hash_], input=log))
+        # A crate without a stream has none to compare with.
+        for other in [run([built(FILTER), *words], input=log), *theirs]:
+            assert ours == other and len(ours) > 100_000, "a text is copied otherwise"
     few, many = (instructions([program, "stream-ours"], b"_ZN1aE _Z _R " * count) for count in (20_000, 80_000))
     assert many < 5 * few, "%d instructions for a line, %d for one of four times its length" % (few, many)
     work.rows.append(
