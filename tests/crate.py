@@ -77,7 +77,10 @@ def check_tests(rust=RUST):
     erased = count_passed(said)
     check(wanted > 150 and erased == wanted, f"{erased} tests were run, the source has {wanted}")
     debug = count_passed(cargo(rust, "test", "--workspace", "--all-features", "--no-fail-fast"))
-    release = count_passed(cargo(rust, "test", "--workspace", "--all-features", "--release"))
+    # Without link-time optimization, which takes minutes for each of the test programs.
+    quick = {"CARGO_PROFILE_RELEASE_LTO": "off", "CARGO_PROFILE_RELEASE_CODEGEN_UNITS": "16"}
+    words = ["test", "--workspace", "--all-features", "--release"]
+    release = count_passed(cargo(rust, *words, target=os.path.join(OUT, "quick"), **quick))
     without = count_passed(cargo(rust, "test", "--workspace", "--no-default-features"))
     check(debug == release > erased and without > 20, f"{debug}, {release} and {without} tests")
     return (

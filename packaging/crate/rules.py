@@ -62,11 +62,11 @@ def end_of_ghost(tokens, at, out):
         COUNTS["ghost use ..;"] += 1
         return end_of(tokens, name, ";") + 1
     COUNTS["ghost member, field, law or clause"] += 1
-    drop_remarks(out)
     last = [t for t in out if not t.is_blank()][-1:]
     if last and last[0].is_name("pub"):
         while out.pop().text != "pub":
             pass
+    drop_remarks(out)
     mark = after(tokens, name)
     if not (name < len(tokens) and tokens[name].kind == "name"):
         raise SourceError(tokens[at].line, "no rule for this `ghost`: a name has to follow it")
