@@ -98,23 +98,29 @@ def check_lints(rust=RUST):
     return "cargo fmt, clippy and doc have nothing to say, with and without std"
 
 
-def check_corpus(rust=RUST):
+def compare_corpus(words):
+    """Compares a build of answers.rs with the stored rows, and returns how many there are."""
     rows = [row for row in common.rows() if common.is_utf8(row[1])]
     records = b"".join(common.record(symbol, limit) for _, symbol, limit, _ in rows)
-    fields = common.fields_of(run([common.answers_program(rust), "records"], input=records))
+    fields = common.fields_of(run([*words, "records"], input=records))
     check(len(fields) == 5 * len(rows) > 20_000, f"{len(fields)} fields for {len(rows)} rows")
     for at, (kind, symbol, limit, wanted) in enumerate(rows):
         status, as_str, plain, alt, pieces = fields[5 * at : 5 * at + 5]
         forms = [common.column(plain), common.column(alt)]
         if kind == "pieces":
             forms = [
-                b"|".join(map(common.escaped, form.split(b"\x1f"))) for form in pieces.split(b"\x1e")
+                b"\\|".join(map(common.escaped, form.split(b"\x1f"))) for form in pieces.split(b"\x1e")
             ]
         if kind == "answer":
             text = b"=" if as_str == symbol else common.escaped(as_str)
             forms = [status, text, *forms]
         check(forms == wanted, f"{kind} of {symbol[:80]!r} under {limit}: {forms!r:.300}")
-    return f"{len(rows)} stored rows: status, as_str, both forms, pieces and limits"
+    return len(rows)
+
+
+def check_corpus(rust=RUST):
+    rows = compare_corpus([common.answers_program(rust)])
+    return f"{rows} stored rows: status, as_str, both forms, pieces and limits"
 
 
 def check_damaged(rust=RUST):
