@@ -3,7 +3,8 @@
 #   make                             into out/build
 #   make install PREFIX= DESTDIR=    PREFIX is /usr/local where it is not given
 #   make uninstall PREFIX= DESTDIR=
-#   make dist                        out/dist: a tarball of the installed tree and a Debian package, with SHA256SUMS
+#   make dist                        out/dist: a tarball of the installed tree, a Debian package and two packages of cargo
+#   make crate                       writes rust/, the Rust crate, from the source (packaging/crate); it needs python3 and cargo
 #   make check                       tries all of these, in folders of its own (packaging/check)
 #
 # `make` proves what it builds, and wants the Rattle kit (`rt`) and a C compiler. What it makes wants the C library alone.
@@ -42,7 +43,10 @@ SOURCES := crates.txt $(shell find crates -path '*/out' -prune -o -name '*.rt' -
 SOURCE_DATE_EPOCH ?= $(shell git log -1 --format=%ct 2>/dev/null || date +%s)
 export SOURCE_DATE_EPOCH
 
-.PHONY: all install uninstall dist check clean
+# What cargo packs of rust/.
+CRATES := kodliwe-$(VERSION).crate rustc-demangle-0.1.28.crate
+
+.PHONY: all install uninstall dist crate crates check clean
 .DELETE_ON_ERROR:
 
 all: $(PROGRAMS:%=$(BUILD)/%) $(BUILD)/libkodliwe.a $(BUILD)/$(SHARED)
@@ -93,8 +97,15 @@ uninstall:
 		$(DESTDIR)$(DATADIR)/fish/vendor_completions.d/kodliwe.fish
 	rm -rf $(DESTDIR)$(DOCDIR)
 
-dist: $(DIST)/$(NAME).tar.gz $(DIST)/$(DEB)
-	cd $(DIST) && sha256sum $(NAME).tar.gz $(DEB) > SHA256SUMS
+dist: $(DIST)/$(NAME).tar.gz $(DIST)/$(DEB) crates
+	cd $(DIST) && sha256sum $(NAME).tar.gz $(DEB) $(CRATES) > SHA256SUMS
+
+crate:
+	python3 packaging/crate/erase.py . rust
+
+crates:
+	cargo package --offline --allow-dirty --workspace --manifest-path rust/Cargo.toml --target-dir out/crate/package
+	mkdir -p $(DIST) && cp $(CRATES:%=out/crate/package/package/%) $(DIST)
 
 # A tree that can be unpacked anywhere: kodliwe.pc finds the rest from its own place.
 $(DIST)/$(NAME).tar.gz: all $(HEADERS) $(LICENCES) README.md
