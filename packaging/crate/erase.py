@@ -37,7 +37,8 @@ TABLES = ("crates", "character_tables", "stdout")
 # What erased modules may have and hand-written ones may not: names that only clauses used, and
 # forms that the prover wants and Rust's style does not. Faults (clippy's other groups) are told.
 ALLOWED = (
-    "#[allow(unused_imports, unused_labels, unused_variables, clippy::complexity, clippy::style)]\n"
+    "#[allow(unused_imports, unused_labels, unused_variables)]\n"
+    "#[allow(clippy::complexity, clippy::style, clippy::manual_unwrap_or_default)]\n"
     "#[cfg_attr(test, allow(unused_assignments, clippy::suspicious))]\n"
 )
 

@@ -27,10 +27,14 @@ impl Write for Bytes<'_> {
 /// # Safety
 ///
 /// `symbol` and `out` point to as many bytes as the sizes behind them say.
-#[no_mangle]
+#[unsafe(no_mangle)]
 pub unsafe extern "C" fn path_of(symbol: *const u8, len: usize, out: *mut u8, size: usize) -> usize {
-    let symbol = core::str::from_utf8(core::slice::from_raw_parts(symbol, len)).unwrap_or("");
-    let mut to = Bytes { out: core::slice::from_raw_parts_mut(out, size), len: 0 };
+    // SAFETY: the caller keeps that the sizes are right.
+    let (symbol, out) = unsafe {
+        (core::slice::from_raw_parts(symbol, len), core::slice::from_raw_parts_mut(out, size))
+    };
+    let symbol = core::str::from_utf8(symbol).unwrap_or("");
+    let mut to = Bytes { out, len: 0 };
     match write!(to, "{:#}", rustc_demangle::demangle(symbol)) {
         Ok(()) => to.len,
         Err(fmt::Error) => 0,

@@ -28,16 +28,9 @@ fn has_mark<const N: usize>(text: &[u8], from: usize) -> bool
     ensures { result ≡ false → (k : ℕ) → from ≤ k → k < from + N →
         begins_run (drop k text.now) ≡ false }
 {
-    // Arrays have no check of bounds in the loop, so the compiler makes vectors of it.
-    let Some(firsts) = text[from..].first_chunk::<N>() else {
-        return true;
-    };
-    let Some(seconds) = text[from + 1..].first_chunk::<N>() else {
-        return true;
-    };
     let mut any = false;
     for k in 0..N {
-        any |= is_mark(firsts[k], seconds[k]);
+        any |= is_mark(text[from + k], text[from + k + 1]);
     }
     any
 }
@@ -93,6 +86,7 @@ fn is_run_group<const N: usize>(text: &[u8], from: usize) -> bool
     ensures { IsTrue result → (k : ℕ) → from ≤ k → k < from + N →
         is_run (slice_index text.now k) ≡ true }
 {
+    // An array has no check of bounds in the loop, so the compiler makes vectors of it.
     let Some(group) = text[from..].first_chunk::<N>() else {
         return false;
     };

@@ -32,95 +32,50 @@
 #![warn(missing_docs)]
 
 #[doc(hidden)]
-#[allow(
-    unused_imports,
-    unused_labels,
-    unused_variables,
-    clippy::complexity,
-    clippy::style
-)]
+#[allow(unused_imports, unused_labels, unused_variables)]
+#[allow(clippy::complexity, clippy::style, clippy::manual_unwrap_or_default)]
 #[cfg_attr(test, allow(unused_assignments, clippy::suspicious))]
 pub mod demangle_legacy;
 #[doc(hidden)]
-#[allow(
-    unused_imports,
-    unused_labels,
-    unused_variables,
-    clippy::complexity,
-    clippy::style
-)]
+#[allow(unused_imports, unused_labels, unused_variables)]
+#[allow(clippy::complexity, clippy::style, clippy::manual_unwrap_or_default)]
 #[cfg_attr(test, allow(unused_assignments, clippy::suspicious))]
 pub mod demangle_sink;
 #[doc(hidden)]
-#[allow(
-    unused_imports,
-    unused_labels,
-    unused_variables,
-    clippy::complexity,
-    clippy::style
-)]
+#[allow(unused_imports, unused_labels, unused_variables)]
+#[allow(clippy::complexity, clippy::style, clippy::manual_unwrap_or_default)]
 #[cfg_attr(test, allow(unused_assignments, clippy::suspicious))]
 pub mod demangle_symbol;
 #[doc(hidden)]
-#[allow(
-    unused_imports,
-    unused_labels,
-    unused_variables,
-    clippy::complexity,
-    clippy::style
-)]
+#[allow(unused_imports, unused_labels, unused_variables)]
+#[allow(clippy::complexity, clippy::style, clippy::manual_unwrap_or_default)]
 #[cfg_attr(test, allow(unused_assignments, clippy::suspicious))]
 pub mod demangle_v0;
 #[cfg(all(test, feature = "std"))]
 #[doc(hidden)]
-#[allow(
-    unused_imports,
-    unused_labels,
-    unused_variables,
-    clippy::complexity,
-    clippy::style
-)]
+#[allow(unused_imports, unused_labels, unused_variables)]
+#[allow(clippy::complexity, clippy::style, clippy::manual_unwrap_or_default)]
 #[cfg_attr(test, allow(unused_assignments, clippy::suspicious))]
 pub mod demangle_vectors;
 #[doc(hidden)]
-#[allow(
-    unused_imports,
-    unused_labels,
-    unused_variables,
-    clippy::complexity,
-    clippy::style
-)]
+#[allow(unused_imports, unused_labels, unused_variables)]
+#[allow(clippy::complexity, clippy::style, clippy::manual_unwrap_or_default)]
 #[cfg_attr(test, allow(unused_assignments, clippy::suspicious))]
 pub mod demangle_words;
 #[doc(hidden)]
-#[allow(
-    unused_imports,
-    unused_labels,
-    unused_variables,
-    clippy::complexity,
-    clippy::style
-)]
+#[allow(unused_imports, unused_labels, unused_variables)]
+#[allow(clippy::complexity, clippy::style, clippy::manual_unwrap_or_default)]
 #[cfg_attr(test, allow(unused_assignments, clippy::suspicious))]
 pub mod held_bytes;
 #[doc(hidden)]
-#[allow(
-    unused_imports,
-    unused_labels,
-    unused_variables,
-    clippy::complexity,
-    clippy::style
-)]
+#[allow(unused_imports, unused_labels, unused_variables)]
+#[allow(clippy::complexity, clippy::style, clippy::manual_unwrap_or_default)]
 #[cfg_attr(test, allow(unused_assignments, clippy::suspicious))]
 pub mod rustc_demangle;
 #[cfg(feature = "std")]
 #[doc(hidden)]
-#[allow(
-    unused_imports,
-    unused_labels,
-    unused_variables,
-    clippy::complexity,
-    clippy::style
-)]
+#[allow(unused_imports, unused_labels, unused_variables)]
+#[allow(clippy::complexity, clippy::style, clippy::manual_unwrap_or_default)]
 #[cfg_attr(test, allow(unused_assignments, clippy::suspicious))]
 pub mod test_doubles;
 // It has the interface of the kit's library.

@@ -59,9 +59,13 @@ fn is_run(byte: u8) -> bool {
 /// Whether a run may have each byte of the group that begins here.
 #[inline(always)]
 fn is_run_group<const N: usize>(text: &[u8], from: usize) -> bool {
+    // An array has no check of bounds in the loop, so the compiler makes vectors of it.
+    let Some(group) = text[from..].first_chunk::<N>() else {
+        return false;
+    };
     let mut all = true;
     for k in 0..N {
-        all &= is_run(text[from + k]);
+        all &= is_run(group[k]);
     }
     all
 }

@@ -1,12 +1,7 @@
 // Made from crates/kodliwe/src/main.rt by packaging/crate/erase.py: edit that file instead.
 //! Copies texts with each Rust symbol demangled.
-#![allow(
-    unused_imports,
-    unused_labels,
-    unused_variables,
-    clippy::complexity,
-    clippy::style
-)]
+#![allow(unused_imports, unused_labels, unused_variables)]
+#![allow(clippy::complexity, clippy::style, clippy::manual_unwrap_or_default)]
 #![cfg_attr(test, allow(unused_assignments, clippy::suspicious))]
 
 use kodliwe::support::rt::AllocGlobal;
