@@ -4,7 +4,9 @@
 #   make test                        runs every test; ONLY=web,c runs some suites (tests/run says which there are)
 #   make install PREFIX= DESTDIR=    PREFIX is /usr/local if it is not given
 #   make uninstall PREFIX= DESTDIR=
-#   make dist                        out/dist: a tarball of the installed tree and a Debian package, with SHA256SUMS
+#   make dist                        out/dist: a tarball of the installed tree, a Debian package and two packages of cargo,
+#                                    with SHA256SUMS
+#   make crate                       writes rust/, the Rust crate, from the source (packaging/crate); it needs python3 and cargo
 #
 # `make` needs the Rattle kit (`rt`) and a C compiler. What it makes needs the C library alone. out/make.log has what the kit says.
 # FLAGS are given to `rt`, as --cpu=x86-64-v3: docs/C.md has the choices. FROM_GATE=1 takes the libraries and programs that
@@ -43,7 +45,10 @@ SOURCES := crates.txt $(shell find crates -path '*/out' -prune -o -name '*.rt' -
 SOURCE_DATE_EPOCH ?= $(shell git log -1 --format=%ct 2>/dev/null || date +%s)
 export SOURCE_DATE_EPOCH
 
-.PHONY: all libraries install uninstall dist test clean
+# What cargo packs of rust/.
+CRATES := kodliwe-$(VERSION).crate rustc-demangle-0.1.28.crate
+
+.PHONY: all libraries install uninstall dist crate crates test clean
 .DELETE_ON_ERROR:
 # The kit proves one crate at a time.
 .NOTPARALLEL:
@@ -102,8 +107,15 @@ uninstall:
 		$(DESTDIR)$(DATADIR)/fish/vendor_completions.d/kodliwe.fish
 	rm -rf $(DESTDIR)$(DOCDIR)
 
-dist: $(DIST)/$(NAME).tar.gz $(DIST)/$(DEB)
-	cd $(DIST) && sha256sum $(NAME).tar.gz $(DEB) > SHA256SUMS
+dist: $(DIST)/$(NAME).tar.gz $(DIST)/$(DEB) crates
+	cd $(DIST) && sha256sum $(NAME).tar.gz $(DEB) $(CRATES) > SHA256SUMS
+
+crate:
+	python3 packaging/crate/erase.py . rust
+
+crates:
+	cargo package --offline --allow-dirty --workspace --manifest-path rust/Cargo.toml --target-dir out/crate/package
+	mkdir -p $(DIST) && cp $(CRATES:%=out/crate/package/package/%) $(DIST)
 
 # A tree that can be unpacked anywhere: kodliwe.pc finds the rest from its own place.
 $(DIST)/$(NAME).tar.gz: libraries $(HEADERS) $(LICENCES) README.md

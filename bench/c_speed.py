@@ -9,7 +9,7 @@ turns less one) for the real legacy and v0 symbols.
 import argparse, os, shutil, sys, tempfile
 
 from measuring import ROOT, instructions
-from common import ARCHIVE, BUILD, INCLUDE, RUST_KODLIWE, SHARED, built, run, tool
+from common import ARCHIVE, BUILD, INCLUDE, SHARED, built, run, tool
 from texts import NO_LIMIT, REAL, record, stored, trees
 
 HERE = os.path.join(ROOT, "bench", "c_speed")
@@ -49,10 +49,11 @@ def rust_program(folder, crate):
     with open(os.path.join(project, "Cargo.toml"), "w") as manifest:
         manifest.write(
             '[package]\nname = "rust_calls"\nversion = "0.0.0"\nedition = "2021"\n\n[dependencies]\n'
-            'kodliwe = { path = "%s" }\nrustc-demangle = { path = "%s" }\n\n[profile.release]\ndebug = 1\n\n[workspace]\n'
-            % (RUST_KODLIWE, os.path.abspath(crate))
+            'rustc-demangle = { path = "%s" }\n\n[profile.release]\ndebug = 1\n\n[workspace]\n' % os.path.abspath(crate)
         )
-    env = dict(os.environ, KODLIWE_LIB=BUILD, CARGO_TARGET_DIR=os.path.join(folder, "target"), CARGO_NET_OFFLINE="true")
+    built(ARCHIVE)
+    env = dict(os.environ, CARGO_TARGET_DIR=os.path.join(folder, "target"), CARGO_NET_OFFLINE="true")
+    env["RUSTFLAGS"] = "-L native=%s -l static=kodliwe" % BUILD
     run([tool("cargo"), "build", "--release", "--manifest-path", os.path.join(project, "Cargo.toml")], env=env)
     return os.path.join(folder, "target", "release", "rust_calls")
 

@@ -15,10 +15,8 @@ KODLIWE = os.path.join(BUILD, "kodliwe")
 FILTER = os.path.join(BUILD, "demangle_filter")
 ARCHIVE = os.path.join(BUILD, "libkodliwe.a")
 SHARED = os.path.join(BUILD, "libkodliwe.so.0.1.0")
-# The workspace of Rust crates over the archive, and the crate that replaces rustc-demangle.
-RUST = os.path.join(ROOT, "bindings", "rust")
-RUST_KODLIWE = os.path.join(RUST, "kodliwe")
-DROP_IN = os.path.join(RUST, "rustc-demangle")
+# The workspace of the Rust crates that packaging/crate makes.
+RUST = os.path.join(ROOT, "rust")
 
 
 class Lacking(Exception):

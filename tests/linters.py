@@ -2,7 +2,7 @@
 """Reads the sources with the linters of their languages, and needs no build.
 
 It prints a line for each linter. pyproject.toml has the setting of black and flake8; flake8 does not read that file, so it is given
-the setting. The Rust crates with a manifest are read by tests/rust.py, and the package by tests/package.py.
+the setting. The Rust crates with a manifest are read by tests/crate.py, and the package by tests/package.py.
 The last line is 'N passed, N failed'. A missing tool is a failure.
 """
 import glob

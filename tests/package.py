@@ -7,7 +7,7 @@ It takes what `make` built, and prints a line for each of these:
   exports     the shared library's name, and that it exports the calls of the headers alone
   c, static   examples/paths.c by `gcc $(pkg-config ..)`, over the shared library and over the archive
   loaded      rustc_demangle, found by its name in the loaded library
-  rust        a program over the Rust crate kodliwe, which finds the archive by pkg-config
+  rust        a Rust program that calls the archive, which pkg-config finds
   python      bindings/python over the installed library; and from `pip install`, in an environment of its own
   program     kodliwe and demangle_filter as installed
   manual      `man` shows each manual
@@ -25,7 +25,7 @@ The last line is 'N passed, N failed'. A missing tool is a failure.
 import argparse, glob, hashlib, os, re, shutil, sys, tempfile
 
 import common
-from common import ROOT, RUST, RUST_KODLIWE, Lacking, Tally, tool
+from common import ROOT, Lacking, Tally, tool
 
 DIST = os.path.join(ROOT, "out", "dist")
 SYMBOL, PATH = "_ZN3foo17h05af221e174051e9E", "foo"
@@ -50,6 +50,17 @@ int main(int count, char **words) {
     if (!call || call(words[2], path, sizeof path) != 1) return 1;
     puts(path);
     return count != 3;
+}
+"""
+
+
+CALLING = """
+unsafe extern "C" {
+    fn kodliwe_is_symbol(symbol: *const u8, symbol_len: usize) -> bool;
+}
+fn main() {
+    let symbol = b"%s";
+    println!("{}", unsafe { kodliwe_is_symbol(symbol.as_ptr(), symbol.len()) });
 }
 """
 
@@ -129,21 +140,14 @@ class Installed:
         equal(run([built, os.path.join(self.lib, "libkodliwe.so.0"), SYMBOL]), PATH + "\n")
 
     def rust(self):
-        """A new program that takes the binding by its path; the archive is found by pkg-config."""
-        program = os.path.join(self.work, "program")
-        os.makedirs(os.path.join(program, "src"), exist_ok=True)
-        copied = os.path.join(self.work, "workspace")
-        shutil.copytree(RUST, copied, ignore=shutil.ignore_patterns("target", "out"), dirs_exist_ok=True)
-        used = os.path.join(copied, os.path.relpath(RUST_KODLIWE, RUST))
-        with open(os.path.join(program, "Cargo.toml"), "w") as file:
-            file.write(
-                '[package]\nname = "program"\nversion = "0.1.0"\nedition = "2021"\n[dependencies]\nkodliwe = { path = "%s" }\n[workspace]\n'
-                % used
-            )
-        with open(os.path.join(program, "src", "main.rs"), "w") as file:
-            file.write('fn main() { println!("{}", kodliwe::is_symbol(b"%s")); }\n' % SYMBOL)
-        env = {name: value for name, value in self.env.items() if name != "KODLIWE_LIB"}
-        equal(run([tool("cargo"), "run", "--quiet", "--offline"], cwd=program, env=env), "true\n")
+        """A Rust program that declares a call of the header, and finds the archive by pkg-config."""
+        program = os.path.join(self.work, "program.rs")
+        with open(program, "w") as file:
+            file.write(CALLING % (SYMBOL))
+        folder = run([tool("pkg-config"), "--variable=libdir", "kodliwe"], env=self.env).strip()
+        built = os.path.join(self.work, "program")
+        run([tool("rustc"), "--edition", "2024", program, "-L", "native=" + folder, "-l", "static=kodliwe", "-o", built])
+        equal(run([built]), "true\n")
 
     def python(self):
         folder = os.path.join(ROOT, "bindings", "python")

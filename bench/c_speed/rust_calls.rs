@@ -25,9 +25,29 @@ impl Write for Bytes<'_> {
     }
 }
 
+unsafe extern "C" {
+    // As include/kodliwe.h declares it.
+    fn kodliwe_demangle(
+        symbol: *const u8,
+        symbol_len: usize,
+        path: *mut u8,
+        path_size: usize,
+        include_hash: bool,
+    ) -> usize;
+}
+
 #[inline(never)]
 fn by_kodliwe(symbol: &[u8], out: &mut [u8], hash: bool) -> Option<usize> {
-    kodliwe::demangle(symbol, out, hash).map(|path| path.wanted())
+    let len = unsafe {
+        kodliwe_demangle(
+            symbol.as_ptr(),
+            symbol.len(),
+            out.as_mut_ptr(),
+            out.len(),
+            hash,
+        )
+    };
+    (len != 0).then_some(len)
 }
 
 #[inline(never)]

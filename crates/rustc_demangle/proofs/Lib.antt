@@ -2,6 +2,7 @@ pub mod BytesSteps
 pub mod FeedLaws
 pub mod Feeds
 pub mod FilterLaws
+pub mod Groups
 pub mod ItemFeeds
 pub mod LineDivision
 pub mod LineLaws

@@ -86,9 +86,13 @@ fn is_run_group<const N: usize>(text: &[u8], from: usize) -> bool
     ensures { IsTrue result → (k : ℕ) → from ≤ k → k < from + N →
         is_run (slice_index text.now k) ≡ true }
 {
+    // An array has no check of bounds in the loop, so the compiler makes vectors of it.
+    let Some(group) = text[from..].first_chunk::<N>() else {
+        return false;
+    };
     let mut all = true;
     for k in 0..N {
-        all &= is_run(text[from + k]);
+        all &= is_run(group[k]);
     }
     all
 }

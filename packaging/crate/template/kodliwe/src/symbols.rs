@@ -1,0 +1,193 @@
+//! Symbols, and texts in memory.
+use crate::demangle_sink::{SinkRefused, TextSink};
+use crate::rustc_demangle;
+use core::fmt;
+
+/// A text, demangled if it is a Rust symbol.
+///
+/// [`Display`](fmt::Display) and [`Debug`](fmt::Debug) print the path that the symbol names. The
+/// alternate form (`{:#}`) leaves out the hash of a legacy symbol, and of a v0 symbol the
+/// disambiguators of crates and the types of numbers. A text that is not a symbol is printed as it
+/// is. Width, precision and other flags have no effect.
+///
+/// A path is cut at 1,000,000 bytes: `{size limit reached}` and the symbol's suffix follow.
+///
+/// ```
+/// let symbol = kodliwe::demangle("_RNvCs8a2262Dv4r_3mio4poll");
+/// assert_eq!(format!("{symbol}"), "mio[1888792e1a78739]::poll");
+/// assert_eq!(format!("{symbol:#}"), "mio::poll");
+/// ```
+pub struct Demangle<'a>(rustc_demangle::Demangle<'a>);
+
+impl<'a> Demangle<'a> {
+    /// Returns the text that was given, without an ending that ThinLTO added.
+    ///
+    /// ```
+    /// let symbol = kodliwe::demangle("_ZN3foo3barE.llvm.9D1C9369");
+    /// assert_eq!(symbol.as_str(), "_ZN3foo3barE");
+    /// ```
+    pub fn as_str(&self) -> &'a str {
+        self.0.as_str()
+    }
+
+    /// Writes the path to a sink, with the hash if `include_hash` is true.
+    ///
+    /// # Errors
+    ///
+    /// Fails if the sink refuses a piece. The sink is handed nothing after that.
+    ///
+    /// ```
+    /// let mut path = kodliwe::ArraySink::<32>::new();
+    /// kodliwe::demangle("_ZN3foo3barE").write_to(&mut path, false)?;
+    /// assert_eq!(path.as_str(), "foo::bar");
+    /// # Ok::<(), kodliwe::SinkRefused>(())
+    /// ```
+    pub fn write_to<S: TextSink>(
+        &self,
+        out: &mut S,
+        include_hash: bool,
+    ) -> Result<(), SinkRefused> {
+        self.0.write_to(out, include_hash)
+    }
+
+    /// Writes the path to a sink as [`write_to`](Demangle::write_to) does, cut at `limit` bytes.
+    ///
+    /// The first piece that would go past the limit ends the path. `{size limit reached}` and the
+    /// symbol's suffix then follow. A text that is not a symbol has no limit.
+    ///
+    /// # Errors
+    ///
+    /// Fails if the sink refuses a piece.
+    ///
+    /// ```
+    /// let mut path = kodliwe::ArraySink::<32>::new();
+    /// kodliwe::demangle("_ZN3foo3barE").write_limited(&mut path, false, 5)?;
+    /// assert_eq!(path.as_str(), "foo::{size limit reached}");
+    /// # Ok::<(), kodliwe::SinkRefused>(())
+    /// ```
+    pub fn write_limited<S: TextSink>(
+        &self,
+        out: &mut S,
+        include_hash: bool,
+        limit: usize,
+    ) -> Result<(), SinkRefused> {
+        self.0.write_limited(out, include_hash, limit)
+    }
+}
+
+impl fmt::Display for Demangle<'_> {
+    fn fmt(&self, f: &mut fmt::Formatter<'_>) -> fmt::Result {
+        fmt::Display::fmt(&self.0, f)
+    }
+}
+
+impl fmt::Debug for Demangle<'_> {
+    fn fmt(&self, f: &mut fmt::Formatter<'_>) -> fmt::Result {
+        fmt::Display::fmt(&self.0, f)
+    }
+}
+
+/// The error of [`try_demangle`]: the text is not a Rust symbol.
+#[derive(Debug, Clone)]
+pub struct TryDemangleError(());
+
+impl fmt::Display for TryDemangleError {
+    fn fmt(&self, f: &mut fmt::Formatter<'_>) -> fmt::Result {
+        f.write_str("the text is not a Rust symbol")
+    }
+}
+
+impl core::error::Error for TryDemangleError {}
+
+/// Reads a text as a Rust symbol. A text that is not one is kept as it is.
+///
+/// An ending that ThinLTO added is taken off first, also of a text that is not a symbol.
+///
+/// ```
+/// use kodliwe::demangle;
+///
+/// assert_eq!(demangle("_RNvC3foo3bar").to_string(), "foo::bar");
+/// assert_eq!(demangle("main").to_string(), "main");
+/// ```
+#[inline]
+pub fn demangle(symbol: &str) -> Demangle<'_> {
+    Demangle(rustc_demangle::demangle(symbol))
+}
+
+/// Reads a text as a Rust symbol.
+///
+/// # Errors
+///
+/// Fails if the text is not a Rust symbol.
+///
+/// ```
+/// use kodliwe::try_demangle;
+///
+/// assert!(try_demangle("_RNvC3foo3bar").is_ok());
+/// assert!(try_demangle("main").is_err());
+/// ```
+#[inline]
+pub fn try_demangle(symbol: &str) -> Result<Demangle<'_>, TryDemangleError> {
+    match rustc_demangle::try_demangle(symbol) {
+        Ok(read) => Ok(Demangle(read)),
+        Err(_) => Err(TryDemangleError(())),
+    }
+}
+
+/// Writes a text to a sink, with each Rust symbol in it demangled.
+///
+/// A symbol begins with `_ZN` or `_R`, and goes on as far as there are ASCII letters and digits,
+/// `_`, `.` and `$`. All other text is written as it is.
+///
+/// # Errors
+///
+/// Fails if the sink refuses a piece.
+///
+/// ```
+/// let mut text = kodliwe::ArraySink::<32>::new();
+/// kodliwe::demangle_text("at _ZN3foo3barE:7", &mut text, false)?;
+/// assert_eq!(text.as_str(), "at foo::bar:7");
+/// # Ok::<(), kodliwe::SinkRefused>(())
+/// ```
+pub fn demangle_text<S: TextSink>(
+    text: &str,
+    out: &mut S,
+    include_hash: bool,
+) -> Result<(), SinkRefused> {
+    rustc_demangle::demangle_text(text, out, include_hash)
+}
+
+/// Writes a text to a sink as [`demangle_text`] does, with each path cut at `limit` bytes.
+///
+/// # Errors
+///
+/// Fails if the sink refuses a piece.
+pub fn demangle_text_limited<S: TextSink>(
+    text: &str,
+    out: &mut S,
+    include_hash: bool,
+    limit: usize,
+) -> Result<(), SinkRefused> {
+    rustc_demangle::demangle_text_limited(text, out, include_hash, limit)
+}
+
+/// Writes bytes to `out` with each Rust symbol in them demangled, as far as there is room, and
+/// returns how many bytes the whole text has.
+///
+/// The bytes may be any. Symbols are found as by [`demangle_text`], and each path is cut at `limit`
+/// bytes. It returns `None` if the count would go past `usize::MAX`.
+///
+/// ```
+/// let mut out = [0; 8];
+/// let len = kodliwe::demangle_slice(b"at _ZN3foo3barE \xFF", &mut out, false, 1_000);
+/// assert_eq!(len, Some(13));
+/// assert_eq!(&out, b"at foo::");
+/// ```
+pub fn demangle_slice(
+    text: &[u8],
+    out: &mut [u8],
+    include_hash: bool,
+    limit: usize,
+) -> Option<usize> {
+    rustc_demangle::demangle_slice(text, out, include_hash, limit)
+}

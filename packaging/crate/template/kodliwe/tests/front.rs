@@ -1,0 +1,147 @@
+//! The front of the crate, as a user sees it.
+use kodliwe::{
+    ArraySink, Demangle, MAX_SIZE, SinkRefused, SliceSink, TextSink, TryDemangleError, demangle,
+    demangle_slice, demangle_text, demangle_text_limited, try_demangle,
+};
+use std::error::Error;
+use std::fmt::{Debug, Display};
+use std::panic::{RefUnwindSafe, UnwindSafe};
+
+const SYMBOL: &str = "_ZN3foo3bar17h05af221e174051e9E";
+
+fn has_auto_traits<T: Send + Sync + Unpin + UnwindSafe + RefUnwindSafe>() {}
+fn is_printed<T: Display + Debug>() {}
+fn is_error<T: Error + Send + Sync + 'static>() {}
+
+#[test]
+fn types_have_their_traits() {
+    has_auto_traits::<Demangle<'static>>();
+    has_auto_traits::<TryDemangleError>();
+    has_auto_traits::<SinkRefused>();
+    has_auto_traits::<ArraySink<8>>();
+    is_printed::<Demangle<'static>>();
+    is_error::<TryDemangleError>();
+    is_error::<SinkRefused>();
+}
+
+#[test]
+fn errors_say_what_is_wrong() {
+    let error = try_demangle("main").unwrap_err();
+    assert_eq!(error.to_string(), "the text is not a Rust symbol");
+    assert_eq!(SinkRefused.to_string(), "the sink refused a piece of text");
+}
+
+#[test]
+fn a_sink_takes_what_fits() {
+    let mut short = ArraySink::<5>::default();
+    assert!(demangle(SYMBOL).write_to(&mut short, false).is_err());
+    assert_eq!((short.as_str(), short.is_failed()), ("foo::", true));
+    let text = format!("{short:?}");
+    assert_eq!(text, "ArraySink { text: \"foo::\", is_failed: true }");
+}
+
+#[test]
+fn each_form_is_written() {
+    let mut path = ArraySink::<64>::new();
+    assert!(demangle(SYMBOL).write_to(&mut path, true).is_ok());
+    assert_eq!(path.as_str(), "foo::bar::h05af221e174051e9");
+    let mut cut = ArraySink::<64>::new();
+    assert!(demangle(SYMBOL).write_limited(&mut cut, true, 8).is_ok());
+    assert_eq!(cut.as_str(), "foo::bar{size limit reached}");
+}
+
+#[test]
+fn texts_are_demangled() {
+    let text = format!("at {SYMBOL}:7");
+    let mut whole = ArraySink::<64>::new();
+    assert!(demangle_text(&text, &mut whole, true).is_ok());
+    assert_eq!(whole.as_str(), "at foo::bar::h05af221e174051e9:7");
+    let mut cut = ArraySink::<64>::new();
+    assert!(demangle_text_limited(&text, &mut cut, false, 4).is_ok());
+    assert_eq!(cut.as_str(), "at foo{size limit reached}:7");
+    let mut out = [0; 64];
+    assert_eq!(demangle_slice(text.as_bytes(), &mut out, false, MAX_SIZE), Some(13));
+    assert_eq!(&out[..13], b"at foo::bar:7");
+}
+
+#[test]
+fn a_slice_counts_what_does_not_fit() {
+    let mut memory = [0; 4];
+    let mut sink = SliceSink::new(&mut memory);
+    assert!(demangle(SYMBOL).write_to(&mut sink, false).is_ok());
+    assert_eq!(sink.len(), 8);
+    assert_eq!(format!("{sink:?}"), "SliceSink { len: 8, is_failed: false, .. }");
+    assert_eq!(&memory, b"foo:");
+}
+
+#[cfg(feature = "std")]
+mod streams {
+    use super::{has_auto_traits, is_error};
+    use kodliwe::{
+        BytesFilter, StreamFault, WriteSink, demangle, demangle_bytes, demangle_bytes_limited,
+        demangle_stream, demangle_stream_named,
+    };
+    use std::io::{self, ErrorKind, Write};
+
+    const TEXT: &[u8] = b"at _ZN3foo3barE:7\n";
+
+    /// A writer that takes nothing.
+    struct Closed;
+
+    impl Write for Closed {
+        fn write(&mut self, _: &[u8]) -> io::Result<usize> {
+            Err(ErrorKind::BrokenPipe.into())
+        }
+
+        fn flush(&mut self) -> io::Result<()> {
+            Ok(())
+        }
+    }
+
+    #[test]
+    fn types_have_their_traits() {
+        fn is_sent<T: Send + Sync>() {}
+        is_error::<StreamFault>();
+        is_sent::<StreamFault>();
+        has_auto_traits::<BytesFilter>();
+    }
+
+    #[test]
+    fn each_call_copies_the_text() {
+        let mut outputs: [Vec<u8>; 4] = Default::default();
+        demangle_stream(&mut &TEXT[..], &mut outputs[0], false).unwrap();
+        demangle_stream_named(&mut &TEXT[..], &mut outputs[1], false).unwrap();
+        demangle_bytes(&mut &TEXT[..], &mut outputs[2], false).unwrap();
+        let (mut filter, mut input) = (BytesFilter::default(), TEXT);
+        while filter.step(&mut input, &mut outputs[3], false).unwrap() {}
+        for output in outputs {
+            assert_eq!(output, b"at foo::bar:7\n");
+        }
+        let mut output = Vec::new();
+        demangle_bytes_limited(&mut &TEXT[..], &mut output, false, 4).unwrap();
+        assert_eq!(output, b"at foo{size limit reached}:7\n");
+    }
+
+    #[test]
+    fn a_fault_tells_who_failed() {
+        let closed = demangle_stream_named(&mut &TEXT[..], &mut Closed, false).unwrap_err();
+        assert_eq!(closed.to_string(), "the output could not be written");
+        assert_eq!(io::Error::from(closed).kind(), ErrorKind::BrokenPipe);
+        let bytes = demangle_stream_named(&mut &b"\xFF"[..], &mut io::sink(), false).unwrap_err();
+        assert_eq!((bytes.to_string(), format!("{bytes:?}")), ("a line is not UTF-8".into(), "NotUtf8".into()));
+        assert_eq!(io::Error::from(bytes).kind(), ErrorKind::InvalidData);
+    }
+
+    #[test]
+    fn a_writer_is_a_sink() {
+        let mut output = Vec::new();
+        let mut sink = WriteSink::new(&mut output);
+        demangle("_ZN3foo3barE").write_to(&mut sink, false).unwrap();
+        assert!(sink.into_fault().is_none());
+        assert_eq!(output, b"foo::bar");
+        let mut closed = Closed;
+        let mut sink = WriteSink::new(&mut closed);
+        assert!(demangle("_ZN3foo3barE").write_to(&mut sink, false).is_err());
+        assert_eq!(sink.into_fault().map(|error| error.kind()), Some(ErrorKind::BrokenPipe));
+    }
+}

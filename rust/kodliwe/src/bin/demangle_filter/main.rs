@@ -1,0 +1,60 @@
+// Made from crates/demangle_filter/src/main.rt by packaging/crate/erase.py: edit that file instead.
+//! Copies standard input to standard output with each Rust symbol demangled.
+#![allow(unused_imports, unused_labels, unused_variables)]
+#![allow(clippy::complexity, clippy::style, clippy::manual_unwrap_or_default)]
+#![cfg_attr(test, allow(unused_assignments, clippy::suspicious))]
+
+use kodliwe::support::rt::AllocGlobal;
+use kodliwe::support::rt::HostRuntime;
+use kodliwe::support::string::String;
+use kodliwe::support::vec::CollectIn;
+use kodliwe::support::vec::Vec;
+mod filter;
+mod pausing;
+#[cfg(test)]
+mod tests;
+
+use filter::{OUT_OF_MEMORY, USAGE, filter_run, report};
+use kodliwe::support::env;
+use kodliwe::support::io::{BufReader, BufWriter};
+use kodliwe::support::rt::Env;
+use pausing::PausingOutput;
+use std::io;
+use std::io::ErrorKind;
+use std::process::ExitCode;
+
+/// The arguments behind the program's name.
+fn arguments(rt: &(impl Env + AllocGlobal)) -> io::Result<Vec<String>> {
+    let words = env::args(rt)?;
+    Ok(words.skip(1).collect_in::<Vec<String>>(rt.alloc())?)
+}
+
+fn main() -> ExitCode {
+    let rt = HostRuntime;
+    let alloc = rt.alloc();
+    let mut errors = rt.stderr().lock();
+    let words = match arguments(&rt) {
+        Ok(words) => words,
+        Err(error) => {
+            if error.kind() == ErrorKind::OutOfMemory {
+                return ExitCode::from(report(&mut errors, OUT_OF_MEMORY, 1));
+            }
+            return ExitCode::from(report(&mut errors, USAGE, 2));
+        }
+    };
+    let Ok(buffer) = BufWriter::new(alloc, rt.stdout().lock()) else {
+        return ExitCode::from(report(&mut errors, OUT_OF_MEMORY, 1));
+    };
+    let output = PausingOutput::new(buffer);
+    let Ok(mut input) = BufReader::new(alloc, output.reader(rt.stdin().lock())) else {
+        return ExitCode::from(report(&mut errors, OUT_OF_MEMORY, 1));
+    };
+    let status = filter_run(
+        alloc,
+        words.as_slice(),
+        &mut input,
+        &mut output.writer(),
+        &mut errors,
+    );
+    ExitCode::from(status)
+}

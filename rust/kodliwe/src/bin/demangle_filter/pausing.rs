@@ -1,0 +1,180 @@
+// Made from crates/demangle_filter/src/pausing.rt by packaging/crate/erase.py: edit that file instead.
+//! An output that is flushed before its program waits for more input.
+use core::cell::RefCell;
+use kodliwe::held_bytes::Held;
+use std::io;
+use std::io::{Read, Write};
+
+/// A writer, and the bytes that are held for it.
+struct Pending<W: Write> {
+    held: Held,
+    writer: W,
+    /// Whether the writer took something since it was last flushed.
+    is_unflushed: bool,
+    /// The writer's error that the next flush answers.
+    fault: Option<io::Error>,
+}
+
+impl<W: Write> Pending<W> {
+    /// Hands on what is held. Where the writer refuses it, it stays held.
+    fn hand_on(&mut self) -> io::Result<()> {
+        if !self.held.is_empty() {
+            self.is_unflushed = true;
+            self.writer.write_all(self.held.as_slice())?;
+            self.held.clear();
+        }
+        Ok(())
+    }
+
+    /// Hands on what is held, and then holds the piece, or hands it on where it is too long.
+    fn write_all(&mut self, piece: &[u8]) -> io::Result<()> {
+        self.hand_on()?;
+        if self.held.push(piece) {
+            return Ok(());
+        }
+        self.is_unflushed = true;
+        self.writer.write_all(piece)
+    }
+
+    /// Hands on what is held, and flushes the writer.
+    fn flush(&mut self) -> io::Result<()> {
+        self.hand_on()?;
+        self.is_unflushed = false;
+        self.writer.flush()
+    }
+}
+
+/// An output that a `PausingWriter` writes, and that a `PausingReader` flushes. What is written is
+/// held until there is no room for more.
+pub struct PausingOutput<W: Write> {
+    pending: RefCell<Pending<W>>,
+}
+
+impl<W: Write> PausingOutput<W> {
+    /// An output into this writer, with nothing held.
+    pub fn new(writer: W) -> Self {
+        PausingOutput {
+            pending: RefCell::new(Pending {
+                held: Held::new(),
+                writer,
+                is_unflushed: false,
+                fault: None,
+            }),
+        }
+    }
+
+    /// Writes into the output.
+    pub fn writer(&self) -> PausingWriter<'_, W> {
+        PausingWriter { output: self }
+    }
+
+    /// Reads from the input, and flushes the output before each read.
+    pub fn reader<R: Read>(&self, input: R) -> PausingReader<'_, R, W> {
+        PausingReader {
+            input,
+            output: self,
+        }
+    }
+
+    /// Holds the piece, unless there is no room for it.
+    #[inline(always)]
+    fn hold(&self, piece: &[u8]) -> bool {
+        match self.pending.try_borrow_mut() {
+            Ok(mut pending) => pending.held.push(piece),
+            Err(_) => false,
+        }
+    }
+
+    /// Writes a piece for which there is no room, and keeps the error where that fails.
+    #[cold]
+    #[inline(never)]
+    fn write_on(&self, piece: &[u8]) -> bool {
+        let Ok(mut pending) = self.pending.try_borrow_mut() else {
+            return false;
+        };
+        match pending.write_all(piece) {
+            Ok(()) => true,
+            Err(error) => {
+                pending.fault = Some(error);
+                false
+            }
+        }
+    }
+
+    /// Flushes what was written, and keeps the error where that fails.
+    fn pause(&self) -> io::Result<()> {
+        let Ok(mut pending) = self.pending.try_borrow_mut() else {
+            return Err(is_in_use());
+        };
+        if pending.held.is_empty() && !pending.is_unflushed {
+            return Ok(());
+        }
+        if let Err(error) = pending.flush() {
+            pending.fault = Some(error);
+            return Err(is_broken());
+        }
+        Ok(())
+    }
+}
+
+/// The error of an output whose writer has failed before.
+fn is_broken() -> io::Error {
+    io::Error::other("the output is broken")
+}
+
+/// The error of an output that is borrowed already.
+fn is_in_use() -> io::Error {
+    io::Error::other("the output is in use")
+}
+
+/// Writes into a `PausingOutput`.
+pub struct PausingWriter<'a, W: Write> {
+    output: &'a PausingOutput<W>,
+}
+
+impl<W: Write> Write for PausingWriter<'_, W> {
+    fn write(&mut self, buf: &[u8]) -> io::Result<usize> {
+        let Ok(mut pending) = self.output.pending.try_borrow_mut() else {
+            return Err(is_in_use());
+        };
+        pending.hand_on()?;
+        pending.is_unflushed = true;
+        pending.writer.write(buf)
+    }
+
+    /// Where the writer refuses it, the writer's own error is answered by the next flush.
+    #[inline(always)]
+    fn write_all(&mut self, buf: &[u8]) -> io::Result<()> {
+        if self.output.hold(buf) || self.output.write_on(buf) {
+            return Ok(());
+        }
+        Err(is_broken())
+    }
+
+    /// Flushes the output. An error that came while a piece was written, or while the input was
+    /// waited for, is answered here.
+    fn flush(&mut self) -> io::Result<()> {
+        let Ok(mut pending) = self.output.pending.try_borrow_mut() else {
+            return Err(is_in_use());
+        };
+        let flushed = pending.flush();
+        match pending.fault.take() {
+            Some(fault) => Err(fault),
+            None => flushed,
+        }
+    }
+}
+
+/// Put a buffer over it: then it is read only where the buffer is used up. Where the output can't
+/// be flushed, reading fails, and so does the next flush of the writer.
+pub struct PausingReader<'a, R: Read, W: Write> {
+    input: R,
+    output: &'a PausingOutput<W>,
+}
+
+impl<R: Read, W: Write> Read for PausingReader<'_, R, W> {
+    fn read(&mut self, buf: &mut [u8]) -> io::Result<usize> {
+        self.output.pause()?;
+        self.input.read(buf)
+    }
+}

@@ -1,0 +1,330 @@
+// Made from crates/demangle_filter/src/tests.rt by packaging/crate/erase.py: edit that file instead.
+//! What is the program's own: its words, statuses and texts, and when it flushes. What the stream
+//! writes is tested with the library.
+use crate::filter::filter_run;
+use crate::pausing::PausingOutput;
+use core::cell::Cell;
+use kodliwe::held_bytes::CAPACITY;
+use kodliwe::support::alloc::{AllocError, Global};
+use kodliwe::support::io::BufReader;
+use kodliwe::support::process::Abort;
+use kodliwe::support::rt::HostRuntime;
+use kodliwe::support::string::String;
+use kodliwe::support::test::Fail;
+use kodliwe::support::vec::Vec;
+use kodliwe::support::vec_in as vec;
+use kodliwe::test_doubles::streams::{NotingWriter, PartsReader, RefusingWriter};
+use std::io::{BufRead, ErrorKind, Read, Write};
+use streams::{CountingReader, CountingWriter, WatchedWriter, WatchingReader};
+
+mod outputs;
+mod streams;
+
+/// The status of a run, and what it wrote as errors.
+struct Ended {
+    status: u8,
+    errors: Vec<u8>,
+}
+
+fn run<R: BufRead, W: Write>(
+    alloc: Global,
+    words: &[&str],
+    input: &mut R,
+    output: &mut W,
+) -> Result<Ended, AllocError> {
+    let mut owned = Vec::new(alloc);
+    for word in words.iter() {
+        owned.push(String::from_str(alloc, word)?)?;
+    }
+    let mut errors = Vec::new(alloc);
+    let status = filter_run(alloc, owned.as_slice(), input, output, &mut errors);
+    Ok(Ended { status, errors })
+}
+
+/// Asserts what a run over a text writes, which succeeds.
+fn assert_writes(
+    rt: &impl Abort,
+    alloc: Global,
+    words: &[&str],
+    text: &[u8],
+    wanted: &[u8],
+) -> Result<(), AllocError> {
+    let mut input = text;
+    let mut output = Vec::new(alloc);
+    let ended = run(alloc, words, &mut input, &mut output)?;
+    assert_eq!(ended.status, 0, "of {text:?}");
+    assert_eq!(output.as_slice(), wanted, "of {text:?}");
+    assert!(ended.errors.is_empty(), "of {text:?}");
+    Ok(())
+}
+
+#[test]
+fn symbols_are_demangled_with_their_hash_or_without() -> Result<(), AllocError> {
+    let rt = HostRuntime;
+    let text = b"x _ZN3foo17h05af221e174051e9E\r\n\n_RCs_3foo";
+    let alloc = rt.alloc();
+    assert_writes(
+        &rt,
+        alloc,
+        &[],
+        text,
+        b"x foo::h05af221e174051e9\r\n\nfoo[1]",
+    )?;
+    assert_writes(&rt, alloc, &["--no-hash"], text, b"x foo\r\n\nfoo")?;
+    assert_writes(&rt, alloc, &[], b"", b"")
+}
+
+#[test]
+fn other_words_read_nothing() -> Result<(), Fail> {
+    let rt = HostRuntime;
+    let alloc = rt.alloc();
+    let cases: [&[&str]; 8] = [
+        &["--no-hash", "--no-hash"],
+        &["--hash"],
+        &["-n"],
+        &["--no-has"],
+        &["no-hash"],
+        &[""],
+        &["--no-hash", "x"],
+        &["--no-hash "],
+    ];
+    for words in cases {
+        let mut input: &[u8] = b"_ZN3fooE\n";
+        let mut output = Vec::new(alloc);
+        let ended = run(alloc, words, &mut input, &mut output)?;
+        assert_eq!(ended.status, 2, "with {words:?}");
+        assert_eq!(
+            ended.errors.as_slice(),
+            b"usage: demangle_filter [--no-hash]\n".as_slice()
+        );
+        assert!(output.is_empty(), "with {words:?}");
+        assert_eq!(input, b"_ZN3fooE\n".as_slice(), "with {words:?}");
+    }
+    Ok(())
+}
+
+/// Asserts that a run ended with status 1 and this line.
+fn assert_failed(rt: &impl Abort, ended: &Ended, line: &[u8]) {
+    assert_eq!(ended.status, 1);
+    assert_eq!(ended.errors.as_slice(), line);
+}
+
+#[test]
+fn a_reader_that_fails_is_told() -> Result<(), Fail> {
+    let rt = HostRuntime;
+    let alloc = rt.alloc();
+    let faults: [(ErrorKind, &[u8]); 2] = [
+        (ErrorKind::Other, b"demangle_filter: read failed\n"),
+        (ErrorKind::OutOfMemory, b"demangle_filter: out of memory\n"),
+    ];
+    for (fault, line) in faults {
+        let parts: [&[u8]; 1] = [b"x _ZN3fooE\n"];
+        let mut input = PartsReader::new(&parts, 1, fault);
+        let mut output = Vec::new(alloc);
+        let ended = run(alloc, &[], &mut input, &mut output)?;
+        assert_failed(&rt, &ended, line);
+        assert_eq!(output.as_slice(), b"x foo\n".as_slice());
+    }
+    Ok(())
+}
+
+#[test]
+fn a_line_that_is_not_utf8_is_told() -> Result<(), Fail> {
+    let rt = HostRuntime;
+    let alloc = rt.alloc();
+    let cases: [(&[u8], &[u8]); 3] = [
+        (b"x _ZN3fooE\n_ZN3fooE \xFF\n_ZN3fooE", b"x foo\n"),
+        (b"x _RCx _ZN3fooE\n\xFF", b"x _RCx foo\n"),
+        (b"x _RCx _ZN3fooE\xFF", b""),
+    ];
+    for (text, wanted) in cases {
+        let mut input = text;
+        let mut output = Vec::new(alloc);
+        let ended = run(alloc, &[], &mut input, &mut output)?;
+        assert_failed(&rt, &ended, b"demangle_filter: not UTF-8\n");
+        assert_eq!(output.as_slice(), wanted, "of {text:?}");
+    }
+    Ok(())
+}
+
+const WRITE_FAILED: &[u8] = b"demangle_filter: write failed\n";
+
+#[test]
+fn a_writer_that_fails_is_told() -> Result<(), Fail> {
+    let rt = HostRuntime;
+    let alloc = rt.alloc();
+    let mut input: &[u8] = b"x _ZN3fooE\n";
+    let mut output = RefusingWriter::new(alloc, b"old", 2, true)?;
+    let ended = run(alloc, &[], &mut input, &mut output)?;
+    assert_failed(&rt, &ended, WRITE_FAILED);
+    assert_eq!(output.held(), b"oldx foo".as_slice());
+    Ok(())
+}
+
+#[test]
+fn a_flush_fails() -> Result<(), Fail> {
+    let rt = HostRuntime;
+    let alloc = rt.alloc();
+    let texts: [(&[u8], &[u8]); 3] = [
+        (b"_ZN1a1bE\n", b"olda::b\n"),
+        (b"\xFF", b"old"),
+        (b"", b"old"),
+    ];
+    for (text, wanted) in texts {
+        let mut input = text;
+        let mut output = RefusingWriter::new(alloc, b"old", 100, false)?;
+        let ended = run(alloc, &[], &mut input, &mut output)?;
+        assert_failed(&rt, &ended, WRITE_FAILED);
+        assert_eq!(output.held(), wanted, "of {text:?}");
+    }
+    Ok(())
+}
+
+/// Runs with an output that is flushed before more is read.
+fn run_pausing<R: Read, W: Write>(alloc: Global, input: R, output: &mut W) -> Result<Ended, Fail> {
+    let output = PausingOutput::new(output);
+    let mut reader = BufReader::new(alloc, output.reader(input))?;
+    Ok(run(alloc, &[], &mut reader, &mut output.writer())?)
+}
+
+#[test]
+fn an_output_that_breaks_in_a_pause_ends_the_run() -> Result<(), Fail> {
+    let rt = HostRuntime;
+    let alloc = rt.alloc();
+    let parts: [&[u8]; 3] = [b"_ZN3fooE\n\xC3", b"\xA9\n", b"z\n"];
+    let input = PartsReader::new(&parts, 100, ErrorKind::Other);
+    let mut output = RefusingWriter::new(alloc, b"", 100, false)?;
+    let ended = run_pausing(alloc, input, &mut output)?;
+    assert_failed(&rt, &ended, WRITE_FAILED);
+    assert_eq!(output.held(), b"foo\n".as_slice());
+    Ok(())
+}
+
+#[test]
+fn finished_lines_are_flushed_before_more_is_read() -> Result<(), Fail> {
+    let rt = HostRuntime;
+    let alloc = rt.alloc();
+    let is_unflushed = Cell::new(false);
+    let parts: [&[u8]; 4] = [b"_ZN3fooE\nx", b"\n", b"a\nb\n", b"_ZN3barE"];
+    let input = WatchingReader::new(&parts, &is_unflushed);
+    let mut output = WatchedWriter::new(Vec::new(alloc), &is_unflushed);
+    let ended = run_pausing(alloc, input, &mut output)?;
+    assert_eq!(ended.status, 0);
+    assert_eq!(output.held(), b"foo\nx\na\nb\nbar".as_slice());
+    assert!(!is_unflushed.get());
+    Ok(())
+}
+
+#[test]
+fn lines_are_written_before_more_is_read() -> Result<(), Fail> {
+    let rt = HostRuntime;
+    let alloc = rt.alloc();
+    let long = vec![in alloc; b'l'; CAPACITY + 5]?;
+    let mut text = Vec::from_slice(alloc, b"a\n")?;
+    text.extend_from_slice(long.as_slice())?;
+    text.extend_from_slice(b"\nb\nc\n")?;
+    let ends = [2, CAPACITY + 8, CAPACITY + 12];
+    let written = Cell::new(0);
+    let is_unflushed = Cell::new(false);
+    let input = CountingReader::new(text.as_slice(), &ends, &written, &is_unflushed);
+    let mut output = CountingWriter::new(&written, &is_unflushed);
+    let ended = run_pausing(alloc, input, &mut output)?;
+    assert_eq!(ended.status, 0);
+    assert_eq!(written.get(), text.len());
+    Ok(())
+}
+
+#[test]
+fn a_fault_of_the_errors_is_ignored() -> Result<(), Fail> {
+    let rt = HostRuntime;
+    let alloc = rt.alloc();
+    let mut words = Vec::new(alloc);
+    for wanted in [1, 2] {
+        let mut input: &[u8] = b"_ZN3fooE\n\xFF";
+        let mut output = Vec::new(alloc);
+        let mut errors = RefusingWriter::new(alloc, b"", 0, false)?;
+        let status = filter_run(
+            alloc,
+            words.as_slice(),
+            &mut input,
+            &mut output,
+            &mut errors,
+        );
+        assert_eq!(status, wanted);
+        assert!(errors.held().is_empty());
+        words.push(String::from_str(alloc, "--hash")?)?;
+    }
+    Ok(())
+}
+
+/// Writes one part by `write`, and answers how much of it was taken.
+fn write_part<W: Write>(output: &mut W, part: &[u8]) -> Result<usize, ErrorKind> {
+    let output = PausingOutput::new(output);
+    output.writer().write(part).map_err(|error| error.kind())
+}
+
+#[test]
+fn a_part_goes_to_the_output_at_once() -> Result<(), Fail> {
+    let rt = HostRuntime;
+    let mut output = RefusingWriter::new(rt.alloc(), b"old", 1, true)?;
+    assert_eq!(write_part(&mut output, b"foo"), Ok(3));
+    assert_eq!(output.held(), b"oldfoo".as_slice());
+    assert_eq!(write_part(&mut output, b"bar"), Err(ErrorKind::BrokenPipe));
+    assert_eq!(output.held(), b"oldfoo".as_slice());
+    Ok(())
+}
+
+/// Asserts which parts the writer is handed, of what is written into an output of its own.
+fn assert_handed_on(
+    rt: &impl Abort,
+    alloc: Global,
+    parts: &[&[u8]],
+    wanted: &[&[u8]],
+) -> Result<(), Fail> {
+    let mut noting = NotingWriter::new(alloc);
+    let output = PausingOutput::new(&mut noting);
+    let mut writer = output.writer();
+    for part in parts {
+        writer.write_all(part)?;
+    }
+    writer.flush()?;
+    drop(output);
+    assert_eq!(noting.writes().len(), wanted.len());
+    for (written, wanted) in noting.writes().iter().zip(wanted) {
+        assert_eq!(written.as_slice(), *wanted);
+    }
+    Ok(())
+}
+
+#[test]
+fn pieces_are_handed_on_where_no_more_has_room() -> Result<(), Fail> {
+    let rt = HostRuntime;
+    let alloc = rt.alloc();
+    let full = vec![in alloc; b'f'; CAPACITY]?;
+    let full = full.as_slice();
+    let (front, back) = full.split_at(2000);
+    let long = vec![in alloc; b'l'; CAPACITY + 1]?;
+    let long = long.as_slice();
+    assert_handed_on(&rt, alloc, &[], &[])?;
+    assert_handed_on(&rt, alloc, &[front, back], &[full])?;
+    assert_handed_on(&rt, alloc, &[front, back, b"x", b"y"], &[full, b"xy"])?;
+    assert_handed_on(&rt, alloc, &[front, full, b"x"], &[front, full, b"x"])?;
+    assert_handed_on(&rt, alloc, &[b"a", long, b"b"], &[b"a", long, b"b"])
+}
+
+#[test]
+fn what_was_refused_is_told_by_the_flush() -> Result<(), Fail> {
+    let rt = HostRuntime;
+    let alloc = rt.alloc();
+    let full = vec![in alloc; b'f'; CAPACITY]?;
+    let mut refusing = RefusingWriter::new(alloc, b"old", 0, true)?;
+    let output = PausingOutput::new(&mut refusing);
+    let mut writer = output.writer();
+    assert!(writer.write_all(b"x").is_ok());
+    assert!(writer.write_all(full.as_slice()).is_err());
+    let told = writer.flush().map_err(|error| error.kind());
+    assert_eq!(told, Err(ErrorKind::BrokenPipe));
+    drop(output);
+    assert_eq!(refusing.held(), b"old".as_slice());
+    Ok(())
+}

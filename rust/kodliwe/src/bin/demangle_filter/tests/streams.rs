@@ -1,0 +1,133 @@
+// Made from crates/demangle_filter/src/tests/streams.rt by packaging/crate/erase.py: edit that file instead.
+//! Readers and writers that watch when the output is written and flushed.
+use core::cell::Cell;
+use kodliwe::support::vec::Vec;
+use kodliwe::test_doubles::streams::PartsReader;
+use std::io;
+use std::io::{ErrorKind, Read, Write};
+
+/// Holds what is written, and tells its reader whether that was flushed.
+pub struct WatchedWriter<'a> {
+    held: Vec<u8>,
+    is_unflushed: &'a Cell<bool>,
+}
+
+impl<'a> WatchedWriter<'a> {
+    pub fn new(held: Vec<u8>, is_unflushed: &'a Cell<bool>) -> WatchedWriter<'a> {
+        WatchedWriter { held, is_unflushed }
+    }
+
+    pub fn held(&self) -> &[u8] {
+        self.held.as_slice()
+    }
+}
+
+impl Write for WatchedWriter<'_> {
+    fn write(&mut self, buf: &[u8]) -> io::Result<usize> {
+        self.held.extend_from_slice(buf)?;
+        self.is_unflushed.set(true);
+        Ok(buf.len())
+    }
+
+    fn flush(&mut self) -> io::Result<()> {
+        self.is_unflushed.set(false);
+        Ok(())
+    }
+}
+
+/// Hands out its parts, and fails where it is read while something that was written is not flushed.
+pub struct WatchingReader<'a> {
+    parts: PartsReader<'a>,
+    is_unflushed: &'a Cell<bool>,
+}
+
+impl<'a> WatchingReader<'a> {
+    pub fn new(parts: &'a [&'a [u8]], is_unflushed: &'a Cell<bool>) -> WatchingReader<'a> {
+        WatchingReader {
+            parts: PartsReader::new(parts, 100, ErrorKind::Other),
+            is_unflushed,
+        }
+    }
+}
+
+impl Read for WatchingReader<'_> {
+    fn read(&mut self, buf: &mut [u8]) -> io::Result<usize> {
+        if self.is_unflushed.get() {
+            return Err(io::Error::from(ErrorKind::Other));
+        }
+        self.parts.read(buf)
+    }
+}
+
+/// Counts what is written, and tells its reader that, and whether it was flushed.
+pub struct CountingWriter<'a> {
+    written: &'a Cell<usize>,
+    is_unflushed: &'a Cell<bool>,
+}
+
+impl<'a> CountingWriter<'a> {
+    pub fn new(written: &'a Cell<usize>, is_unflushed: &'a Cell<bool>) -> CountingWriter<'a> {
+        CountingWriter {
+            written,
+            is_unflushed,
+        }
+    }
+}
+
+impl Write for CountingWriter<'_> {
+    fn write(&mut self, buf: &[u8]) -> io::Result<usize> {
+        self.written
+            .set(self.written.get().saturating_add(buf.len()));
+        self.is_unflushed.set(true);
+        Ok(buf.len())
+    }
+
+    fn flush(&mut self) -> io::Result<()> {
+        self.is_unflushed.set(false);
+        Ok(())
+    }
+}
+
+/// Hands out a text, at each read up to the next of its ends, and fails where it is read while the
+/// writer lacks some of what was handed out, or was not flushed since.
+pub struct CountingReader<'a> {
+    text: &'a [u8],
+    ends: &'a [usize],
+    read: usize,
+    written: &'a Cell<usize>,
+    is_unflushed: &'a Cell<bool>,
+}
+
+impl<'a> CountingReader<'a> {
+    pub fn new(
+        text: &'a [u8],
+        ends: &'a [usize],
+        written: &'a Cell<usize>,
+        is_unflushed: &'a Cell<bool>,
+    ) -> CountingReader<'a> {
+        CountingReader {
+            text,
+            ends,
+            read: 0,
+            written,
+            is_unflushed,
+        }
+    }
+}
+
+impl Read for CountingReader<'_> {
+    fn read(&mut self, buf: &mut [u8]) -> io::Result<usize> {
+        if self.written.get() != self.read || self.is_unflushed.get() {
+            return Err(io::Error::from(ErrorKind::Other));
+        }
+        let Some((end, later)) = self.ends.split_first() else {
+            return Ok(0);
+        };
+        self.ends = later;
+        let part = self.text.get(self.read..*end).unwrap_or(b"");
+        let count = part.len().min(buf.len());
+        buf[..count].copy_from_slice(&part[..count]);
+        self.read = self.read.saturating_add(count);
+        Ok(count)
+    }
+}

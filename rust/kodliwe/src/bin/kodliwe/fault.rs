@@ -1,0 +1,51 @@
+// Made from crates/kodliwe/src/fault.rt by packaging/crate/erase.py: edit that file instead.
+//! The lines that tell of faults.
+use kodliwe::rustc_demangle::StreamFault;
+use kodliwe::support::alloc::{AllocError, Global};
+use kodliwe::support::format;
+use kodliwe::support::string::String;
+use std::io;
+use std::io::Write;
+
+pub const OUT_OF_MEMORY: &str = "kodliwe: out of memory\n";
+
+/// A fault, and the name of the input that was read then.
+pub struct InputFault<'a> {
+    pub name: &'a str,
+    pub fault: StreamFault,
+}
+
+/// Why a call failed, without the number that `std` puts behind the system's text.
+fn reason(alloc: Global, error: &io::Error) -> Result<String, AllocError> {
+    let text = format!(in alloc; "{error}")?;
+    match text.as_str().split_once(" (os error ") {
+        Some((front, _)) => String::from_str(alloc, front),
+        None => Ok(text),
+    }
+}
+
+/// The line of a call on something that has a name.
+fn line_of(alloc: Global, name: &str, error: &io::Error) -> Result<String, AllocError> {
+    let reason = reason(alloc, error)?;
+    format!(in alloc; "kodliwe: {name}: {reason}\n")
+}
+
+/// Writes the line of a call that failed on something that has a name, by one call of the writer.
+/// A fault of `errors` is ignored.
+pub fn report_call<E: Write>(alloc: Global, errors: &mut E, name: &str, error: &io::Error) {
+    let _ = match line_of(alloc, name, error) {
+        Ok(line) => errors.write_all(line.as_bytes()),
+        Err(_) => errors.write_all(OUT_OF_MEMORY.as_bytes()),
+    };
+}
+
+/// Writes the line of a fault, as `report_call` does.
+pub fn report<E: Write>(alloc: Global, errors: &mut E, fault: &InputFault<'_>) {
+    match &fault.fault {
+        StreamFault::Read(error) => report_call(alloc, errors, fault.name, error),
+        StreamFault::Write(error) => report_call(alloc, errors, "write failed", error),
+        StreamFault::Memory | StreamFault::NotUtf8 => {
+            let _ = errors.write_all(OUT_OF_MEMORY.as_bytes());
+        }
+    }
+}

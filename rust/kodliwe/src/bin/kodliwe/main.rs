@@ -1,0 +1,58 @@
+// Made from crates/kodliwe/src/main.rt by packaging/crate/erase.py: edit that file instead.
+//! Copies texts with each Rust symbol demangled.
+#![allow(unused_imports, unused_labels, unused_variables)]
+#![allow(clippy::complexity, clippy::style, clippy::manual_unwrap_or_default)]
+#![cfg_attr(test, allow(unused_assignments, clippy::suspicious))]
+
+use kodliwe::support::rt::AllocGlobal;
+use kodliwe::support::rt::HostRuntime;
+use kodliwe::support::string::String;
+use kodliwe::support::vec::CollectIn;
+use kodliwe::support::vec::Vec;
+mod fault;
+mod output;
+mod program;
+mod replacing;
+mod run;
+mod streams;
+#[cfg(test)]
+mod tests;
+mod texts;
+mod words;
+
+use kodliwe::support::env;
+use kodliwe::support::rt::Env;
+use program::{start, words_fault};
+use std::io;
+use std::io::Write;
+use std::process::ExitCode;
+
+/// The words behind the program's name.
+fn arguments(rt: &(impl Env + AllocGlobal)) -> io::Result<Vec<String>> {
+    let words = env::args(rt)?;
+    Ok(words.skip(1).collect_in::<Vec<String>>(rt.alloc())?)
+}
+
+fn main() -> ExitCode {
+    let rt = HostRuntime;
+    let alloc = rt.alloc();
+    let mut errors = rt.stderr().lock();
+    let words = match arguments(&rt) {
+        Ok(words) => words,
+        Err(error) => {
+            let (line, status) = words_fault(&error);
+            let _ = errors.write_all(line.as_bytes());
+            return ExitCode::from(status);
+        }
+    };
+    let stdout = rt.stdout().lock();
+    let status = start(
+        alloc,
+        words.as_slice(),
+        &rt,
+        rt.stdin(),
+        stdout,
+        &mut errors,
+    );
+    ExitCode::from(status)
+}

@@ -1,0 +1,97 @@
+// Made from crates/kodliwe/src/output.rt by packaging/crate/erase.py: edit that file instead.
+//! An output that holds short pieces before it hands them on.
+
+use kodliwe::held_bytes::Held;
+use kodliwe::support::io::BufWriter;
+use std::io;
+use std::io::{ErrorKind, Write};
+
+/// A buffered writer, and the bytes that are held for it. What is held is handed on where there is
+/// no room for the next piece, and by a flush.
+pub struct Output<W: Write> {
+    held: Held,
+    buffer: BufWriter<W>,
+    /// Why a piece was refused.
+    fault: Option<io::Error>,
+}
+
+impl<W: Write> Output<W> {
+    /// An output into this buffer, with nothing held.
+    pub fn new(buffer: BufWriter<W>) -> Self {
+        Output {
+            held: Held::new(),
+            buffer,
+            fault: None,
+        }
+    }
+
+    /// The writer below the buffer.
+    pub fn get_ref(&self) -> &W {
+        self.buffer.get_ref()
+    }
+
+    /// Hands on what is held. What the buffer refuses stays held.
+    fn hand_on(&mut self) -> io::Result<()> {
+        'handing: while !self.held.is_empty() {
+            match self.buffer.write(self.held.as_slice()) {
+                Ok(0) => return Err(io::Error::from(ErrorKind::WriteZero)),
+                Ok(taken) => self.held.remove_front(taken),
+                Err(error) => return Err(error),
+            }
+        }
+        Ok(())
+    }
+
+    /// Hands on what is held, and then holds the piece, or hands it on where it is too long.
+    fn hold(&mut self, piece: &[u8]) -> io::Result<()> {
+        self.hand_on()?;
+        if self.held.push(piece) {
+            return Ok(());
+        }
+        self.buffer.write_all(piece)
+    }
+
+    /// Writes a piece for which there is no room, and keeps the error where that fails: so no
+    /// caller makes room for an error at each piece.
+    #[cold]
+    #[inline(never)]
+    fn write_on(&mut self, piece: &[u8]) -> bool {
+        match self.hold(piece) {
+            Ok(()) => true,
+            Err(error) => {
+                self.fault = Some(error);
+                false
+            }
+        }
+    }
+
+    /// Why the last piece was refused.
+    #[cold]
+    #[inline(never)]
+    fn take_fault(&mut self) -> io::Error {
+        match self.fault.take() {
+            Some(error) => error,
+            None => io::Error::other("the output is broken"),
+        }
+    }
+}
+
+impl<W: Write> Write for Output<W> {
+    fn write(&mut self, buf: &[u8]) -> io::Result<usize> {
+        self.hand_on()?;
+        self.buffer.write(buf)
+    }
+
+    fn flush(&mut self) -> io::Result<()> {
+        self.hand_on()?;
+        self.buffer.flush()
+    }
+
+    #[inline(always)]
+    fn write_all(&mut self, buf: &[u8]) -> io::Result<()> {
+        if self.held.push(buf) || self.write_on(buf) {
+            return Ok(());
+        }
+        Err(self.take_fault())
+    }
+}

@@ -1,0 +1,173 @@
+// Made from crates/kodliwe/src/program.rt by packaging/crate/erase.py: edit that file instead.
+//! The program, over any file system and standard streams.
+
+use crate::fault::{OUT_OF_MEMORY, report_call};
+use crate::output::Output;
+use crate::replacing::open_output;
+use crate::run::{BUFFER, Ended, Input, run};
+use crate::streams::{SourceReader, source_name};
+use crate::texts::{HELP, VERSION};
+use crate::words::{Asked, Request, Source, WordsFault, read_words};
+use kodliwe::support::alloc::{AllocError, Global};
+use kodliwe::support::format;
+use kodliwe::support::fs::{Files, OpenFile};
+use kodliwe::support::io::{BufWriter, Stdin};
+use kodliwe::support::string::String;
+use kodliwe::support::vec::Vec;
+use std::io;
+use std::io::{ErrorKind, Write};
+
+/// Writes a line to `errors`, and answers the status. A fault of `errors` is ignored.
+fn tell<E: Write>(errors: &mut E, line: &str, status: u8) -> u8 {
+    let _ = errors.write_all(line.as_bytes());
+    status
+}
+
+/// Tells of words that are refused.
+fn refuse_words<E: Write>(alloc: Global, errors: &mut E, fault: WordsFault<'_>) -> u8 {
+    let line = match fault {
+        WordsFault::Unknown(word) => {
+            format!(in alloc; "kodliwe: unknown option '{word}'; try 'kodliwe --help'\n")
+        }
+        WordsFault::NoFile(word) => {
+            format!(in alloc; "kodliwe: option '{word}' needs a FILE; try 'kodliwe --help'\n")
+        }
+        WordsFault::NoNumber(word) => {
+            let needs = "needs a number of BYTES";
+            format!(in alloc; "kodliwe: option '{word}' {needs}; try 'kodliwe --help'\n")
+        }
+        WordsFault::Memory => return tell(errors, OUT_OF_MEMORY, 1),
+    };
+    match line {
+        Ok(line) => tell(errors, line.as_str(), 2),
+        Err(_) => tell(errors, OUT_OF_MEMORY, 1),
+    }
+}
+
+/// Writes one text. Where whoever reads the output closed it, that is no fault.
+fn write_text<W: Write, E: Write>(alloc: Global, text: &str, output: &mut W, errors: &mut E) -> u8 {
+    match output.write_all(text.as_bytes()) {
+        Ok(()) => 0,
+        Err(error) if error.kind() == ErrorKind::BrokenPipe => 0,
+        Err(error) => {
+            report_call(alloc, errors, "write failed", &error);
+            1
+        }
+    }
+}
+
+/// The readers of the sources, in order; of standard input where there is none.
+fn open_inputs<'a, F: Files>(
+    alloc: Global,
+    files: &'a F,
+    stdin: Stdin,
+    sources: Vec<Source<'a>>,
+) -> Result<Vec<Input<'a, SourceReader<'a, F>>>, AllocError> {
+    let mut inputs = Vec::new(alloc);
+    for source in sources {
+        let name = source_name(&source);
+        let reader = SourceReader::new(files, stdin, source);
+        inputs.push(Input { name, reader })?;
+    }
+    if inputs.is_empty() {
+        let name = source_name(&Source::Stdin);
+        let reader = SourceReader::new(files, stdin, Source::Stdin);
+        inputs.push(Input { name, reader })?;
+    }
+    Ok(inputs)
+}
+
+/// Filters into a file, which takes the place of the one that has its name once it is whole.
+fn filter_into<'a, F: Files, E: Write>(
+    alloc: Global,
+    files: &'a F,
+    inputs: Vec<Input<'a, SourceReader<'a, F>>>,
+    path: &str,
+    errors: &mut E,
+    include_hash: bool,
+    limit: usize,
+) -> u8 {
+    let (file, replacement) = match open_output(alloc, files, path) {
+        Ok(opened) => opened,
+        Err(error) => {
+            report_call(alloc, errors, path, &error);
+            return 1;
+        }
+    };
+    let Ok(buffer) = BufWriter::with_capacity(alloc, BUFFER, file) else {
+        if let Some(replacement) = &replacement {
+            replacement.give_up(files);
+        }
+        return tell(errors, OUT_OF_MEMORY, 1);
+    };
+    let mut output = Output::new(buffer);
+    let ended = run(alloc, inputs, &mut output, errors, include_hash, limit);
+    let Some(replacement) = replacement else {
+        return ended.status();
+    };
+    if ended != Ended::Complete {
+        replacement.give_up(files);
+        return ended.status();
+    }
+    let finished = match output.get_ref().sync_all() {
+        Ok(()) => replacement.finish(files),
+        Err(error) => Err(error),
+    };
+    match finished {
+        Ok(()) => 0,
+        Err(error) => {
+            replacement.give_up(files);
+            report_call(alloc, errors, path, &error);
+            1
+        }
+    }
+}
+
+/// Filters what is asked for, and answers the status.
+fn filter<F: Files, W: Write, E: Write>(
+    alloc: Global,
+    files: &F,
+    stdin: Stdin,
+    stdout: W,
+    errors: &mut E,
+    request: Request<'_>,
+) -> u8 {
+    let (include_hash, limit) = (request.include_hash, request.limit);
+    let Ok(inputs) = open_inputs(alloc, files, stdin, request.sources) else {
+        return tell(errors, OUT_OF_MEMORY, 1);
+    };
+    if let Some(path) = request.output {
+        return filter_into(alloc, files, inputs, path, errors, include_hash, limit);
+    }
+    let Ok(buffer) = BufWriter::with_capacity(alloc, BUFFER, stdout) else {
+        return tell(errors, OUT_OF_MEMORY, 1);
+    };
+    let mut output = Output::new(buffer);
+    run(alloc, inputs, &mut output, errors, include_hash, limit).status()
+}
+
+/// Runs the program on the words behind its name, and answers the exit status.
+pub fn start<F: Files, W: Write, E: Write>(
+    alloc: Global,
+    words: &[String],
+    files: &F,
+    stdin: Stdin,
+    mut stdout: W,
+    errors: &mut E,
+) -> u8 {
+    match read_words(alloc, words) {
+        Ok(Asked::Help) => write_text(alloc, HELP, &mut stdout, errors),
+        Ok(Asked::Version) => write_text(alloc, VERSION, &mut stdout, errors),
+        Ok(Asked::Filter(request)) => filter(alloc, files, stdin, stdout, errors, request),
+        Err(fault) => refuse_words(alloc, errors, fault),
+    }
+}
+
+/// What is told where the words can't be had.
+pub fn words_fault(error: &io::Error) -> (&'static str, u8) {
+    if error.kind() == ErrorKind::OutOfMemory {
+        (OUT_OF_MEMORY, 1)
+    } else {
+        ("kodliwe: a word is not UTF-8; try 'kodliwe --help'\n", 2)
+    }
+}

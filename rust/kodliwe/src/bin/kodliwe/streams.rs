@@ -1,0 +1,84 @@
+// Made from crates/kodliwe/src/streams.rt by packaging/crate/erase.py: edit that file instead.
+//! What the program reads and writes: files and standard streams.
+use crate::words::Source;
+use kodliwe::support::fs;
+use kodliwe::support::fs::{File, Files};
+use kodliwe::support::io::Stdin;
+use kodliwe::support::vec::Vec;
+use std::io;
+use std::io::{Read, Write};
+
+/// A file that is opened where it is first read.
+pub struct LazyFile<'a, F: Files> {
+    files: &'a F,
+    path: &'a str,
+    file: Option<F::File>,
+}
+
+impl<F: Files> Read for LazyFile<'_, F> {
+    fn read(&mut self, buf: &mut [u8]) -> io::Result<usize> {
+        if self.file.is_none() {
+            self.file = Some(File::open(self.files, self.path)?);
+        }
+        match &mut self.file {
+            Some(file) => file.read(buf),
+            None => Ok(0),
+        }
+    }
+}
+
+/// What of a text in memory is not read yet.
+pub struct Text {
+    bytes: Vec<u8>,
+    taken: usize,
+}
+
+impl Read for Text {
+    fn read(&mut self, buf: &mut [u8]) -> io::Result<usize> {
+        let mut rest = self.bytes.as_slice().get(self.taken..).unwrap_or(b"");
+        let count = rest.read(buf)?;
+        self.taken = self.taken.saturating_add(count);
+        Ok(count)
+    }
+}
+
+/// A source, as a reader.
+pub enum SourceReader<'a, F: Files> {
+    Stdin(Stdin),
+    File(LazyFile<'a, F>),
+    Text(Text),
+}
+
+impl<'a, F: Files> SourceReader<'a, F> {
+    /// Reads this source.
+    pub fn new(files: &'a F, stdin: Stdin, source: Source<'a>) -> SourceReader<'a, F> {
+        match source {
+            Source::Stdin => SourceReader::Stdin(stdin),
+            Source::File(path) => SourceReader::File(LazyFile {
+                files,
+                path,
+                file: None,
+            }),
+            Source::Symbols(bytes) => SourceReader::Text(Text { bytes, taken: 0 }),
+        }
+    }
+}
+
+impl<F: Files> Read for SourceReader<'_, F> {
+    fn read(&mut self, buf: &mut [u8]) -> io::Result<usize> {
+        match self {
+            SourceReader::Stdin(stdin) => stdin.read(buf),
+            SourceReader::File(file) => file.read(buf),
+            SourceReader::Text(text) => text.read(buf),
+        }
+    }
+}
+
+/// What a source is called where it can't be read.
+pub fn source_name<'a>(source: &Source<'a>) -> &'a str {
+    match source {
+        Source::Stdin => "standard input",
+        Source::File(path) => path,
+        Source::Symbols(_) => "symbols",
+    }
+}

@@ -1,0 +1,493 @@
+// Made from crates/kodliwe/src/tests.rt by packaging/crate/erase.py: edit that file instead.
+//! The run over readers and writers that fail, and the words. What the filter gives for a text is
+//! tested with the library, by which this is compared.
+use crate::program::start;
+use crate::run::{Ended, Input, run};
+use crate::words::{Asked, read_words};
+use core::cell::Cell;
+use kodliwe::rustc_demangle::demangle_stream_named;
+use kodliwe::support::alloc::{AllocError, Global};
+use kodliwe::support::format;
+use kodliwe::support::fs::Files;
+use kodliwe::support::io::Stdin;
+use kodliwe::support::process::Abort;
+use kodliwe::support::rt::HostRuntime;
+use kodliwe::support::string::String;
+use kodliwe::support::test::Fail;
+use kodliwe::support::vec::Vec;
+use std::io::{ErrorKind, Read, Write};
+use streams::{CallsWriter, ChunkReader, WatchedWriter, WatchingReader};
+
+mod calls;
+mod streams;
+
+/// What a log may have: both schemes, what only begins as one, a byte of Latin-1, NUL, long runs.
+const LOG: &[u8] = b"a _ZN3foo17h05af221e174051e9E\r\n\n_ _Z _R _ZN __R \
+    _RNvC5crate4main.llvm.0 _RCs_3foo \xE9t\xE9 \0_ZN3fooE\0 _ZN1a1bE._ZN1cE _Z_ZN1a1bE$x\n_ZN3barE";
+
+/// The log without hashes.
+const FILTERED_LOG: &[u8] = b"a foo\r\n\n_ _Z _R _ZN __R \
+    crate::main foo \xE9t\xE9 \0foo\0 a::b._ZN1cE _Z_ZN1a1bE$x\nbar";
+
+/// What the line filter writes of a text, which has to be UTF-8, with hashes or without.
+fn by_lines(
+    rt: &impl Abort,
+    alloc: Global,
+    text: &[u8],
+    include_hash: bool,
+) -> Result<Vec<u8>, AllocError> {
+    let mut wanted = Vec::new(alloc);
+    let mut input = text;
+    let copied = demangle_stream_named(alloc, &mut input, &mut wanted, include_hash);
+    assert!(copied.is_ok(), "of {text:?}");
+    Ok(wanted)
+}
+
+/// Runs over one reader, and answers what it wrote as errors too.
+fn run_one<R: Read, W: Write>(
+    alloc: Global,
+    reader: R,
+    output: &mut W,
+    include_hash: bool,
+) -> Result<(Ended, Vec<u8>), AllocError> {
+    let mut inputs = Vec::new(alloc);
+    inputs.push(Input {
+        name: "log.txt",
+        reader,
+    })?;
+    let mut errors = Vec::new(alloc);
+    let ended = run(alloc, inputs, output, &mut errors, include_hash, 1_000_000);
+    Ok((ended, errors))
+}
+
+/// Asserts what a run over fillings of so many bytes writes.
+fn assert_writes(
+    rt: &impl Abort,
+    alloc: Global,
+    text: &[u8],
+    most: usize,
+    wanted: &[u8],
+    include_hash: bool,
+) -> Result<(), AllocError> {
+    let mut output = Vec::new(alloc);
+    let reader = ChunkReader::new(text, most);
+    let (ended, errors) = run_one(alloc, reader, &mut output, include_hash)?;
+    assert_eq!(ended, Ended::Complete, "of {text:?} by {most}");
+    assert_eq!(output.as_slice(), wanted, "of {text:?} by {most}");
+    assert!(errors.is_empty(), "of {text:?} by {most}");
+    Ok(())
+}
+
+#[test]
+fn a_log_of_any_bytes_is_filtered_by_fillings_of_any_size() -> Result<(), Fail> {
+    let rt = HostRuntime;
+    let alloc = rt.alloc();
+    for most in 1..LOG.len() {
+        assert_writes(&rt, alloc, LOG, most, FILTERED_LOG, false)?;
+    }
+    Ok(())
+}
+
+#[test]
+fn each_beginning_is_filtered_as_by_lines() -> Result<(), Fail> {
+    let rt = HostRuntime;
+    let alloc = rt.alloc();
+    let text: &[u8] = b"x _ZN3foo17h05af221e174051e9E\n_RNvC5crate4main _RCs_3foo _ZN1a1bE__RC1a";
+    for len in 0..=text.len() {
+        let front = &text[..len];
+        for include_hash in [false, true] {
+            let wanted = by_lines(&rt, alloc, front, include_hash)?;
+            for most in 1..4 {
+                assert_writes(&rt, alloc, front, most, wanted.as_slice(), include_hash)?;
+            }
+        }
+    }
+    Ok(())
+}
+
+#[test]
+fn inputs_are_filtered_each_by_itself() -> Result<(), Fail> {
+    let rt = HostRuntime;
+    let alloc = rt.alloc();
+    let mut inputs = Vec::new(alloc);
+    let texts: [&[u8]; 4] = [b"x _ZN3fo", b"oE\n_ZN3fooE", b"", b"_ZN3barE\n"];
+    for text in texts {
+        inputs.push(Input {
+            name: "log.txt",
+            reader: ChunkReader::new(text, 100),
+        })?;
+    }
+    let mut output = Vec::new(alloc);
+    let mut errors = Vec::new(alloc);
+    let ended = run(alloc, inputs, &mut output, &mut errors, false, 1_000_000);
+    assert_eq!(ended, Ended::Complete);
+    assert_eq!(output.as_slice(), b"x _ZN3fooE\nfoobar\n".as_slice());
+    Ok(())
+}
+
+#[test]
+fn a_closed_pipe_ends_the_run_silently() -> Result<(), Fail> {
+    let rt = HostRuntime;
+    let alloc = rt.alloc();
+    for calls in 0..8 {
+        let mut output = CallsWriter::new(alloc, calls, ErrorKind::BrokenPipe, 100);
+        let (ended, errors) = run_one(alloc, ChunkReader::new(LOG, 9), &mut output, false)?;
+        assert_eq!(ended, Ended::Closed, "at {calls}");
+        assert_eq!(ended.status(), 0);
+        assert!(errors.is_empty());
+    }
+    Ok(())
+}
+
+#[test]
+fn what_is_finished_is_flushed_before_more_is_read() -> Result<(), Fail> {
+    let rt = HostRuntime;
+    let alloc = rt.alloc();
+    let is_unflushed = Cell::new(false);
+    let text: &[u8] = b"_ZN3fooE\nx_ZN3barE\ny _ZN1aE";
+    let reader = WatchingReader::new(text, &is_unflushed);
+    let mut output = WatchedWriter::new(Vec::new(alloc), &is_unflushed);
+    let (ended, _) = run_one(alloc, reader, &mut output, false)?;
+    assert_eq!(ended, Ended::Complete);
+    assert_eq!(output.held(), b"foo\nxbar\ny a".as_slice());
+    assert!(!is_unflushed.get());
+    Ok(())
+}
+
+/// The words, as the program gets them.
+fn owned_words(alloc: Global, words: &[&str]) -> Result<Vec<String>, AllocError> {
+    let mut owned = Vec::new(alloc);
+    for word in words.iter() {
+        owned.push(String::from_str(alloc, word)?)?;
+    }
+    Ok(owned)
+}
+
+/// Runs the program on these words, and asserts what it writes.
+fn assert_program<R: Abort + Files>(
+    rt: &R,
+    alloc: Global,
+    stdin: Stdin,
+    words: &[&str],
+    status: u8,
+    wanted: &[u8],
+    line: &[u8],
+) -> Result<(), Fail> {
+    let owned = owned_words(alloc, words)?;
+    let mut output = Vec::new(alloc);
+    let mut errors = Vec::new(alloc);
+    let ended = start(alloc, owned.as_slice(), rt, stdin, &mut output, &mut errors);
+    assert_eq!(ended, status, "with {words:?}");
+    assert_eq!(output.as_slice(), wanted, "with {words:?}");
+    assert_eq!(errors.as_slice(), line, "with {words:?}");
+    Ok(())
+}
+
+const FOO: &str = "_ZN3foo17h05af221e174051e9E";
+
+#[test]
+fn symbols_are_words_in_any_place() -> Result<(), Fail> {
+    let rt = HostRuntime;
+    let kept = b"foo::h05af221e174051e9\nb\n";
+    assert_program(
+        &rt,
+        rt.alloc(),
+        rt.stdin(),
+        &[FOO, "x _ZN1aE"],
+        0,
+        b"foo\nx a\n",
+        b"",
+    )?;
+    assert_program(
+        &rt,
+        rt.alloc(),
+        rt.stdin(),
+        &["--hash", FOO, "_ZN1bE"],
+        0,
+        kept,
+        b"",
+    )?;
+    assert_program(
+        &rt,
+        rt.alloc(),
+        rt.stdin(),
+        &[FOO, "_ZN1bE", "--hash"],
+        0,
+        kept,
+        b"",
+    )?;
+    assert_program(
+        &rt,
+        rt.alloc(),
+        rt.stdin(),
+        &["_ZN1aE", "--", "--hash", "-_ZN1bE", "--", "-"],
+        0,
+        b"a\n--hash\n-b\n--\n-\n",
+        b"",
+    )?;
+    assert_program(
+        &rt,
+        rt.alloc(),
+        rt.stdin(),
+        &["", "_ZN1aE\n_ZN1bE"],
+        0,
+        b"\na\nb\n",
+        b"",
+    )
+}
+
+#[test]
+fn words_that_are_no_option_are_refused() -> Result<(), Fail> {
+    let rt = HostRuntime;
+    for word in [
+        "--frob", "-x", "--hashes", "--hash=1", "--help=1", "-hV", "--inputs", "-Vx",
+    ] {
+        let line = format!(in rt.alloc();
+            "kodliwe: unknown option '{word}'; try 'kodliwe --help'\n"
+        )?;
+        assert_program(
+            &rt,
+            rt.alloc(),
+            rt.stdin(),
+            &[FOO, word, "--help"],
+            2,
+            b"",
+            line.as_bytes(),
+        )?;
+    }
+    for word in ["-i", "--input", "-o", "--output"] {
+        let line = format!(in rt.alloc();
+            "kodliwe: option '{word}' needs a FILE; try 'kodliwe --help'\n"
+        )?;
+        assert_program(
+            &rt,
+            rt.alloc(),
+            rt.stdin(),
+            &[FOO, word],
+            2,
+            b"",
+            line.as_bytes(),
+        )?;
+    }
+    Ok(())
+}
+
+#[test]
+fn each_path_is_cut_at_the_limit() -> Result<(), Fail> {
+    let rt = HostRuntime;
+    let symbol = "_ZN6x$u5d$31__$XX$barbar$u7b$$u00000000041$17hc6d3e347656472b8E";
+    let cases: [&[&str]; 4] = [
+        &["-l", "1", symbol],
+        &["-l1", symbol],
+        &["--limit", "1", symbol],
+        &["--limit=1", symbol],
+    ];
+    for words in cases {
+        let cut: &[u8] = b"x{size limit reached}\n";
+        assert_program(&rt, rt.alloc(), rt.stdin(), words, 0, cut, b"")?;
+    }
+    let words = ["-l", "x"];
+    let line: &[u8] = b"kodliwe: option '-l' needs a number of BYTES; try 'kodliwe --help'\n";
+    assert_program(&rt, rt.alloc(), rt.stdin(), &words, 2, b"", line)?;
+    assert_program(&rt, rt.alloc(), rt.stdin(), &["-l"], 2, b"", line)?;
+    let line: &[u8] =
+        b"kodliwe: option '--limit=-1' needs a number of BYTES; try 'kodliwe --help'\n";
+    assert_program(&rt, rt.alloc(), rt.stdin(), &["--limit=-1"], 2, b"", line)
+}
+
+/// Asserts that these words ask for this output, with the hash kept and this limit.
+fn assert_request(
+    rt: &impl Abort,
+    alloc: Global,
+    words: &[&str],
+    output: Option<&str>,
+    limit: usize,
+) -> Result<(), Fail> {
+    let owned = owned_words(alloc, words)?;
+    match read_words(alloc, owned.as_slice()) {
+        Ok(Asked::Filter(request)) => {
+            assert_eq!(request.output, output, "with {words:?}");
+            assert_eq!(request.limit, limit, "with {words:?}");
+            assert!(request.include_hash, "with {words:?}");
+        }
+        _ => assert!(false, "with {words:?}"),
+    }
+    Ok(())
+}
+
+#[test]
+fn the_word_behind_an_option_is_its_value() -> Result<(), Fail> {
+    let rt = HostRuntime;
+    let alloc = rt.alloc();
+    assert_request(&rt, alloc, &["-o", "-h", "--hash"], Some("-h"), 1_000_000)?;
+    assert_request(
+        &rt,
+        alloc,
+        &["--output", "--", "--hash"],
+        Some("--"),
+        1_000_000,
+    )?;
+    assert_request(
+        &rt,
+        alloc,
+        &["-o", "-o", "-o-V", "--hash"],
+        Some("-V"),
+        1_000_000,
+    )?;
+    assert_request(
+        &rt,
+        alloc,
+        &["--output==x", "--limit=10", "--hash"],
+        Some("=x"),
+        10,
+    )?;
+    assert_request(
+        &rt,
+        alloc,
+        &["-l", "+7", "--hash", "--", "-o", "-l"],
+        None,
+        7,
+    )?;
+    let cases: [(&[&str], u8, &[u8], &[u8]); 6] = [
+        (
+            &["-i", "--", "_ZN1aE"],
+            1,
+            b"",
+            b"kodliwe: --: No such file or directory\n",
+        ),
+        (
+            &["_ZN1aE", "--input", "-h"],
+            1,
+            b"a\n",
+            b"kodliwe: -h: No such file or directory\n",
+        ),
+        (
+            &["-l", "--", FOO],
+            2,
+            b"",
+            b"kodliwe: option '-l' needs a number of BYTES; try 'kodliwe --help'\n",
+        ),
+        (
+            &[FOO, "--limit"],
+            2,
+            b"",
+            b"kodliwe: option '--limit' needs a number of BYTES; try 'kodliwe --help'\n",
+        ),
+        (
+            &["--limit=", FOO],
+            2,
+            b"",
+            b"kodliwe: option '--limit=' needs a number of BYTES; try 'kodliwe --help'\n",
+        ),
+        (
+            &["--limit=5", "--", "-_ZN3foo3barE", "-l"],
+            0,
+            b"-foo::{size limit reached}\n-l\n",
+            b"",
+        ),
+    ];
+    for (words, status, wanted, line) in cases {
+        assert_program(&rt, alloc, rt.stdin(), words, status, wanted, line)?;
+    }
+    Ok(())
+}
+
+#[test]
+fn files_that_are_not_there_are_named() -> Result<(), Fail> {
+    let rt = HostRuntime;
+    let line: &[u8] = b"kodliwe: none/log.txt: No such file or directory\n";
+    let cases: [&[&str]; 4] = [
+        &["_ZN1aE", "-i", "none/log.txt", "_ZN1bE"],
+        &["_ZN1aE", "-inone/log.txt"],
+        &["_ZN1aE", "--input", "none/log.txt"],
+        &["_ZN1aE", "--input=none/log.txt"],
+    ];
+    for words in cases {
+        assert_program(&rt, rt.alloc(), rt.stdin(), words, 1, b"a\n", line)?;
+    }
+    let cases: [&[&str]; 3] = [
+        &["-o", "none/log.txt", "_ZN1aE"],
+        &["_ZN1aE", "-onone/log.txt"],
+        &["--output=none/log.txt", "_ZN1aE"],
+    ];
+    for words in cases {
+        assert_program(
+            &rt,
+            rt.alloc(),
+            rt.stdin(),
+            words,
+            1,
+            b"",
+            b"kodliwe: none/log.txt: No such file or directory\n",
+        )?;
+    }
+    Ok(())
+}
+
+#[test]
+fn the_help_fits_a_terminal() -> Result<(), Fail> {
+    let rt = HostRuntime;
+    let text = crate::texts::HELP;
+    assert_program(
+        &rt,
+        rt.alloc(),
+        rt.stdin(),
+        &["-h"],
+        0,
+        text.as_bytes(),
+        b"",
+    )?;
+    assert_program(
+        &rt,
+        rt.alloc(),
+        rt.stdin(),
+        &["_ZN1aE", "--help", "--frob"],
+        0,
+        text.as_bytes(),
+        b"",
+    )?;
+    assert_program(
+        &rt,
+        rt.alloc(),
+        rt.stdin(),
+        &["-V"],
+        0,
+        b"kodliwe 0.1.0\n",
+        b"",
+    )?;
+    assert_program(
+        &rt,
+        rt.alloc(),
+        rt.stdin(),
+        &["--version", "-h"],
+        0,
+        b"kodliwe 0.1.0\n",
+        b"",
+    )?;
+    for (number, line) in text.lines().enumerate() {
+        assert!(line.len() <= 80, "{line}");
+        assert!(number < 24, "{line}");
+    }
+    Ok(())
+}
+
+#[test]
+fn ten_thousand_symbols_are_words() -> Result<(), Fail> {
+    let rt = HostRuntime;
+    let alloc = rt.alloc();
+    let mut words = Vec::new(alloc);
+    let mut wanted = Vec::new(alloc);
+    for _ in 0..10_000 {
+        words.push(FOO)?;
+        wanted.extend_from_slice(b"foo\n")?;
+    }
+    assert_program(
+        &rt,
+        rt.alloc(),
+        rt.stdin(),
+        words.as_slice(),
+        0,
+        wanted.as_slice(),
+        b"",
+    )
+}

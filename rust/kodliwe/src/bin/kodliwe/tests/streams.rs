@@ -1,0 +1,205 @@
+// Made from crates/kodliwe/src/tests/streams.rt by packaging/crate/erase.py: edit that file instead.
+//! Readers and writers that hand out little at a time, fail, or watch when the output is flushed.
+use core::cell::Cell;
+use kodliwe::support::alloc::Global;
+use kodliwe::support::vec::Vec;
+use std::io;
+use std::io::{ErrorKind, Read, Write};
+
+/// Hands out a text, at most so many bytes at a read, and fails at the read after so many.
+pub struct ChunkReader<'a> {
+    rest: &'a [u8],
+    most: usize,
+    reads_left: usize,
+    kind: ErrorKind,
+    /// Whether each second read is interrupted, and whether the next one is.
+    interrupted: Option<bool>,
+}
+
+impl<'a> ChunkReader<'a> {
+    /// Hands out at most so many bytes at a read.
+    pub fn new(text: &'a [u8], most: usize) -> ChunkReader<'a> {
+        ChunkReader {
+            rest: text,
+            most,
+            reads_left: usize::MAX,
+            kind: ErrorKind::Other,
+            interrupted: None,
+        }
+    }
+
+    /// The same, which fails at the read after so many.
+    pub fn failing(self, reads: usize, kind: ErrorKind) -> ChunkReader<'a> {
+        ChunkReader {
+            rest: self.rest,
+            most: self.most,
+            reads_left: reads,
+            kind,
+            interrupted: self.interrupted,
+        }
+    }
+
+    /// The same, each second read of which is interrupted, from the first on.
+    pub fn interrupted(self) -> ChunkReader<'a> {
+        ChunkReader {
+            rest: self.rest,
+            most: self.most,
+            reads_left: self.reads_left,
+            kind: self.kind,
+            interrupted: Some(true),
+        }
+    }
+}
+
+impl Read for ChunkReader<'_> {
+    fn read(&mut self, buf: &mut [u8]) -> io::Result<usize> {
+        if let Some(is_next) = self.interrupted {
+            self.interrupted = Some(!is_next);
+            if is_next {
+                return Err(io::Error::from(ErrorKind::Interrupted));
+            }
+        }
+        if self.reads_left == 0 {
+            return Err(io::Error::new(self.kind, "reset by the other side"));
+        }
+        self.reads_left -= 1;
+        let count = self.rest.len().min(self.most).min(buf.len());
+        let (front, behind) = self.rest.split_at(count);
+        buf[..count].copy_from_slice(front);
+        self.rest = behind;
+        Ok(count)
+    }
+}
+
+/// Holds what is written, at most so many bytes of a write, and fails from the call after so many
+/// on, writes and flushes counted.
+pub struct CallsWriter {
+    held: Vec<u8>,
+    calls: usize,
+    calls_left: usize,
+    kind: ErrorKind,
+    most: usize,
+    /// Whether it fails at one call, and takes those behind it.
+    fails_once: bool,
+    interrupted: Option<bool>,
+}
+
+impl CallsWriter {
+    /// Takes so many calls, and so many bytes of a write.
+    pub fn new(alloc: Global, calls: usize, kind: ErrorKind, most: usize) -> CallsWriter {
+        CallsWriter {
+            held: Vec::new(alloc),
+            calls: 0,
+            calls_left: calls,
+            kind,
+            most,
+            fails_once: false,
+            interrupted: None,
+        }
+    }
+
+    /// Has it take the calls behind the one at which it fails.
+    pub fn fail_once(&mut self) {
+        self.fails_once = true;
+    }
+
+    /// The same, each second call of which is interrupted, from the first on.
+    pub fn interrupted(mut self) -> CallsWriter {
+        self.interrupted = Some(true);
+        self
+    }
+
+    /// What was written.
+    pub fn held(&self) -> &[u8] {
+        self.held.as_slice()
+    }
+
+    /// How many calls were taken.
+    pub fn calls(&self) -> usize {
+        self.calls
+    }
+
+    fn call(&mut self) -> io::Result<()> {
+        if let Some(is_next) = self.interrupted {
+            self.interrupted = Some(!is_next);
+            if is_next {
+                return Err(io::Error::from(ErrorKind::Interrupted));
+            }
+        }
+        if self.calls_left == 0 {
+            if self.fails_once {
+                self.calls_left = usize::MAX;
+            }
+            return Err(io::Error::new(self.kind, "no space"));
+        }
+        self.calls_left -= 1;
+        self.calls = self.calls.saturating_add(1);
+        Ok(())
+    }
+}
+
+impl Write for CallsWriter {
+    fn write(&mut self, buf: &[u8]) -> io::Result<usize> {
+        self.call()?;
+        let count = buf.len().min(self.most);
+        self.held.extend_from_slice(&buf[..count])?;
+        Ok(count)
+    }
+
+    fn flush(&mut self) -> io::Result<()> {
+        self.call()
+    }
+}
+
+/// Holds what is written, and tells its reader whether that was flushed.
+pub struct WatchedWriter<'a> {
+    held: Vec<u8>,
+    is_unflushed: &'a Cell<bool>,
+}
+
+impl<'a> WatchedWriter<'a> {
+    pub fn new(held: Vec<u8>, is_unflushed: &'a Cell<bool>) -> WatchedWriter<'a> {
+        WatchedWriter { held, is_unflushed }
+    }
+
+    pub fn held(&self) -> &[u8] {
+        self.held.as_slice()
+    }
+}
+
+impl Write for WatchedWriter<'_> {
+    fn write(&mut self, buf: &[u8]) -> io::Result<usize> {
+        self.held.extend_from_slice(buf)?;
+        self.is_unflushed.set(true);
+        Ok(buf.len())
+    }
+
+    fn flush(&mut self) -> io::Result<()> {
+        self.is_unflushed.set(false);
+        Ok(())
+    }
+}
+
+/// Hands out a text by 12 bytes, and fails where it is read while something is not flushed.
+pub struct WatchingReader<'a> {
+    reader: ChunkReader<'a>,
+    is_unflushed: &'a Cell<bool>,
+}
+
+impl<'a> WatchingReader<'a> {
+    pub fn new(text: &'a [u8], is_unflushed: &'a Cell<bool>) -> WatchingReader<'a> {
+        WatchingReader {
+            reader: ChunkReader::new(text, 12),
+            is_unflushed,
+        }
+    }
+}
+
+impl Read for WatchingReader<'_> {
+    fn read(&mut self, buf: &mut [u8]) -> io::Result<usize> {
+        if self.is_unflushed.get() {
+            return Err(io::Error::other("not flushed"));
+        }
+        self.reader.read(buf)
+    }
+}

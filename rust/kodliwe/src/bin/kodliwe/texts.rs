@@ -1,0 +1,28 @@
+// Made from crates/kodliwe/src/texts.rt by packaging/crate/erase.py: edit that file instead.
+//! The texts of the program.
+
+pub const VERSION: &str = "kodliwe 0.1.0\n";
+
+pub const HELP: &str = "\
+Usage: kodliwe [OPTIONS] [SYMBOL]...
+
+Copies text with each Rust symbol in it demangled (legacy _ZN..E and v0 _R..).
+Each SYMBOL is a line of its own; without any, standard input is read. All that
+is no Rust symbol stays as it is, bytes that are not UTF-8 and C++ names too.
+
+  nm program | kodliwe
+  kodliwe _ZN3foo17h05af221e174051e9E
+
+Options:
+  -i, --input FILE    Read FILE; - is standard input. May stand several times
+  -o, --output FILE   Write FILE, which is replaced once all of it is written
+      --hash          Keep the hashes of legacy symbols (foo::h05af221e174051e9)
+  -l, --limit BYTES   Cut each path at BYTES (1000000 if not given)
+  -h, --help          Print this help
+  -V, --version       Print the version
+
+SYMBOLs and inputs are filtered in their order, each by itself. -- ends the
+options. The status is 0, also where whoever reads the output closes it; 1 where
+an input can't be read or the output can't be written; 2 where an option is
+unknown, and then nothing is read.
+";

@@ -1,0 +1,153 @@
+// Made from crates/demangle_symbol/src/literal.rt by packaging/crate/erase.py: edit that file instead.
+//! Literals of characters and strings.
+
+use crate::demangle_sink::{SinkRefused, SizeLimitedFmtAdapter, TextSink, put_char, put_chars};
+use crate::support::arrayvec::ArrayVec;
+use crate::support::unicode::properties::{GeneralCategory, is_grapheme_extend};
+
+mod strings;
+#[cfg(test)]
+mod tests;
+
+pub use strings::{is_string, put_string_literal};
+
+/// How a character is written in a literal.
+#[derive(Clone, Copy)]
+enum Escape {
+    /// As it stands.
+    Itself,
+    /// A backslash, and this character.
+    Backslash(char),
+    /// Its code in hexadecimal digits, between `\u{` and `}`.
+    Code,
+}
+
+/// Whether a character of this category, past ASCII, is written by its code.
+fn is_hidden_category(category: GeneralCategory) -> bool {
+    match category {
+        GeneralCategory::Control
+        | GeneralCategory::Format
+        | GeneralCategory::Surrogate
+        | GeneralCategory::PrivateUse
+        | GeneralCategory::Unassigned
+        | GeneralCategory::LineSeparator
+        | GeneralCategory::ParagraphSeparator
+        | GeneralCategory::SpaceSeparator => true,
+        _ => false,
+    }
+}
+
+/// Whether a character past ASCII stands for itself.
+fn is_shown(c: char) -> bool {
+    c >= '\u{80}' && !is_hidden_category(GeneralCategory::for_char(c)) && !is_grapheme_extend(c)
+}
+
+/// How a character is written in a literal with this quote.
+fn literal_escape(quote: char, c: char) -> Escape {
+    // Only the literal's own quote is escaped: `'` stands for itself in a string, and `"` as a
+    // character.
+    if c == quote || c == '\\' {
+        return Escape::Backslash(c);
+    }
+    match c {
+        '\0' => Escape::Backslash('0'),
+        '\t' => Escape::Backslash('t'),
+        '\n' => Escape::Backslash('n'),
+        '\r' => Escape::Backslash('r'),
+        ' '..='~' => Escape::Itself,
+        _ => {
+            if is_shown(c) {
+                Escape::Itself
+            } else {
+                Escape::Code
+            }
+        }
+    }
+}
+
+/// A hexadecimal digit.
+fn digit_byte(digit: u64) -> u8 {
+    if digit < 10 {
+        b'0' + digit as u8
+    } else {
+        b'a' + (digit as u8 - 10)
+    }
+}
+
+/// A hexadecimal digit, as a character.
+fn digit_char(digit: u64) -> char {
+    char::from(digit_byte(digit))
+}
+
+/// The hexadecimal digits of a number, the highest first.
+fn hexadecimal(number: u64) -> ArrayVec<char, 16> {
+    let mut text = ArrayVec::new();
+    let mut rest = number;
+    for _turn in 0..16_usize {
+        text.insert(0, digit_char(rest % 16));
+        rest /= 16;
+        if rest == 0 {
+            return text;
+        }
+    }
+    text
+}
+
+/// Puts the code of a character between `\u{` and `}`.
+fn put_code<S: TextSink>(
+    c: char,
+    out: &mut SizeLimitedFmtAdapter<'_, S>,
+) -> Result<(), SinkRefused> {
+    put_chars(&['\\', 'u', '{'], out)?;
+    put_chars(&hexadecimal(c as u64), out)?;
+    put_char('}', out)
+}
+
+/// Puts a backslash and a character.
+fn put_backslashed<S: TextSink>(
+    letter: char,
+    out: &mut SizeLimitedFmtAdapter<'_, S>,
+) -> Result<(), SinkRefused> {
+    put_char('\\', out)?;
+    put_char(letter, out)
+}
+
+/// Puts one character of a literal, each character that it is written with as one piece.
+fn put_escaped<S: TextSink>(
+    quote: char,
+    c: char,
+    out: &mut SizeLimitedFmtAdapter<'_, S>,
+) -> Result<(), SinkRefused> {
+    match literal_escape(quote, c) {
+        Escape::Itself => put_char(c, out),
+        Escape::Backslash(letter) => put_backslashed(letter, out),
+        Escape::Code => put_code(c, out),
+    }
+}
+
+/// Puts the literal of a character: its quote, the character, and its quote.
+#[inline(never)]
+pub fn put_char_literal<S: TextSink>(
+    c: char,
+    out: &mut SizeLimitedFmtAdapter<'_, S>,
+) -> Result<(), SinkRefused> {
+    put_char('\'', out)?;
+    put_escaped('\'', c, out)?;
+    put_char('\'', out)
+}
+
+/// The character of a char constant by the number of its hex word. There is none without a number,
+/// and where that is no Unicode scalar value.
+pub fn character_of(number: Option<u128>) -> Option<char> {
+    let code = u32::try_from(number?).ok()?;
+    char::from_u32(code)
+}
+
+/// The value of a bool constant by the number of its hex word: 0 or 1, and no other.
+pub fn truth_of(number: Option<u128>) -> Option<bool> {
+    match number {
+        Some(0) => Some(false),
+        Some(1) => Some(true),
+        _ => None,
+    }
+}

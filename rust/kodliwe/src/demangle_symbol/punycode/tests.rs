@@ -1,0 +1,50 @@
+// Made from crates/demangle_symbol/src/punycode/tests.rt by packaging/crate/erase.py: edit that file instead.
+//! Names of known symbols.
+use crate::demangle_sink::{ArraySink, SizeLimitedFmtAdapter};
+use crate::demangle_symbol::cursor::{Looks, Symbol};
+
+/// Whether the identifier at the front of a text prints so.
+fn prints(identifier: &str, text: &str) -> bool {
+    let symbol = Symbol::new(identifier);
+    let mut looks = Looks::new();
+    if !symbol.is_ascii(&mut looks) {
+        return false;
+    }
+    let Ok((name, _)) = symbol.ident(0, &mut looks) else {
+        return false;
+    };
+    let mut sink = ArraySink::<256>::new();
+    let mut out = SizeLimitedFmtAdapter::new(&mut sink, 1_000_000);
+    if name.write_to(&symbol, &mut out, &mut looks).is_err() {
+        return false;
+    }
+    sink.as_str() == text
+}
+
+#[test]
+fn decoded_names() {
+    assert!(prints("u9bcher_kva", "bücher"));
+    assert!(prints("u3tda", "ü"));
+    assert!(prints("3foo", "foo"));
+    assert!(prints("0", ""));
+}
+
+#[test]
+fn undecoded_names() {
+    assert!(prints("u3a_A", "punycode{a-A}"));
+    assert!(prints("u1t", "punycode{t}"));
+    assert!(prints("u14_99999999999999", "punycode{99999999999999}"));
+    assert!(prints("u14_9999999999999a", "punycode{9999999999999a}"));
+}
+
+#[test]
+fn names_of_128_characters() {
+    assert!(prints(
+        "u131aaaaaaaaaaaaaaaaaaaaaaaaaaaaaaaaaaaaaaaaaaaaaaaaaaaaaaaaaaaaaaaaaaaaaaaaaaaaaaaaaaaaaaaaaaaaaaaaaaaaaaaaaaaaaaaaaaaaaaaaaaaaaaa_ecn",
+        "aaaaaaaaaaaaaaaaaaaaaaaaaaaaaaaaaaaaaaaaaaaaaaaaaaaaaaaaaaaaaaaaaaaaaaaaaaaaaaaaaaaaaaaaaaaaaaaaaaaaaaaaaaaaaaaaaaaaaaaaaaaaaaaü"
+    ));
+    assert!(prints(
+        "u132aaaaaaaaaaaaaaaaaaaaaaaaaaaaaaaaaaaaaaaaaaaaaaaaaaaaaaaaaaaaaaaaaaaaaaaaaaaaaaaaaaaaaaaaaaaaaaaaaaaaaaaaaaaaaaaaaaaaaaaaaaaaaaaa_yfn",
+        "punycode{aaaaaaaaaaaaaaaaaaaaaaaaaaaaaaaaaaaaaaaaaaaaaaaaaaaaaaaaaaaaaaaaaaaaaaaaaaaaaaaaaaaaaaaaaaaaaaaaaaaaaaaaaaaaaaaaaaaaaaaaaaaaaaaa-yfn}"
+    ));
+}

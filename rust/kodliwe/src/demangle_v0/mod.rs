@@ -1,0 +1,76 @@
+// Made from crates/demangle_v0/src/lib.rt by packaging/crate/erase.py: edit that file instead.
+//! v0 symbols (RFC 2603): behind a prefix one path or two, then a suffix.
+
+use crate::demangle_symbol::cursor::{Looks, ParseError, Symbol};
+use crate::demangle_v0::accept::{begins_path, suffix_at};
+
+mod accept;
+mod points;
+mod printing;
+#[cfg(test)]
+#[cfg(feature = "std")]
+mod tests;
+mod value;
+
+pub use value::Demangle;
+
+/// What stands behind the prefix of a v0 symbol.
+fn inner_of(s: &str) -> Option<&str> {
+    if let Some(inner) = s.strip_prefix("_R") {
+        return Some(inner);
+    }
+    // On Windows, dbghelp strips the leading underscore.
+    if let Some(inner) = s.strip_prefix("R") {
+        return Some(inner);
+    }
+    // On macOS, symbols have one underscore more.
+    s.strip_prefix("__R")
+}
+
+/// The text as a symbol whose first path prints as far as it is spelled, where the text is ASCII
+/// and has a prefix of the v0 scheme. No path is read.
+pub fn ascii_symbol<'s>(s: &'s str, looks: &mut Looks) -> Option<Demangle<'s>> {
+    let text = Symbol::new(s);
+    if !text.is_ascii(looks) {
+        return None;
+    }
+    match inner_of(s) {
+        Some(inner) => Some(Demangle::new(Symbol::new(inner))),
+        None => None,
+    }
+}
+
+/// What stands behind the prefix of a v0 symbol, where it is ASCII. It is not tested where the text
+/// is known to be ASCII.
+fn ascii_inner_of<'s>(s: &'s str, is_ascii: bool, looks: &mut Looks) -> Option<&'s str> {
+    let Some(inner) = inner_of(s) else {
+        return None;
+    };
+    if is_ascii {
+        return Some(inner);
+    }
+    if !Symbol::new(inner).is_ascii(looks) {
+        return None;
+    }
+    Some(inner)
+}
+
+/// Reads a v0 symbol: the symbol, and the suffix behind its paths. `is_ascii` says that the text is
+/// known to be ASCII.
+pub fn demangle<'s>(
+    s: &'s str,
+    is_ascii: bool,
+    looks: &mut Looks,
+) -> Result<(Demangle<'s>, &'s str), ParseError> {
+    let Some(inner) = ascii_inner_of(s, is_ascii, looks) else {
+        return Err(ParseError::Invalid);
+    };
+    let symbol = Symbol::new(inner);
+    if !begins_path(&symbol, 0, looks) {
+        return Err(ParseError::Invalid);
+    }
+    let Some(end) = suffix_at(&symbol, looks) else {
+        return Err(ParseError::Invalid);
+    };
+    Ok((Demangle::new(symbol), &inner[end..]))
+}

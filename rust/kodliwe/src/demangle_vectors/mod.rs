@@ -1,0 +1,15 @@
+// Made from crates/demangle_vectors/src/lib.rt by packaging/crate/erase.py: edit that file instead.
+//! What symbols print, by vectors from the Rust crate, as tests of the library.
+
+#[cfg(test)]
+#[cfg(feature = "std")]
+mod tests;
+
+use crate::rustc_demangle::demangle;
+use crate::rustc_demangle::sink::ArraySink;
+
+/// Whether a text prints this, with the hash or without it, in at most 4,096 bytes.
+pub fn printed_is(symbol: &str, include_hash: bool, text: &str) -> bool {
+    let mut sink: ArraySink<4096> = ArraySink::new();
+    demangle(symbol).write_to(&mut sink, include_hash).is_ok() && sink.as_str() == text
+}

@@ -1,0 +1,94 @@
+// Made from crates/demangle_vectors/src/tests.rt by packaging/crate/erase.py: edit that file instead.
+//! Vectors of the Rust crate and of the legacy scheme.
+use crate::demangle_vectors::printed_is;
+use crate::rustc_demangle::sink::WriteSink;
+use crate::rustc_demangle::{Demangle, demangle, try_demangle};
+use crate::support::alloc::{AllocError, Global};
+use crate::support::format;
+use crate::support::process::Abort;
+use crate::support::string::RepeatIn;
+use crate::support::string::String;
+use crate::support::vec::Vec;
+
+mod beginnings;
+mod bytes;
+mod calls;
+mod faults;
+mod formats;
+mod hostile;
+mod legacy;
+mod limits;
+mod refused;
+mod sinks;
+mod stream;
+mod texts;
+mod v0_constants;
+mod v0_hostile;
+mod v0_limits;
+mod v0_literals;
+mod v0_paths;
+mod v0_references;
+mod v0_types;
+mod vectors;
+
+/// Asserts that a text is a symbol that prints these, with the hash and without it.
+fn assert_prints(rt: &impl Abort, symbol: &str, plain: &str, alt: &str) {
+    assert!(try_demangle(symbol).is_ok(), "{symbol} is a symbol");
+    assert!(printed_is(symbol, true, plain), "{symbol} with the hash");
+    assert!(printed_is(symbol, false, alt), "{symbol} without the hash");
+}
+
+/// Asserts that a text is no symbol, and prints this in both forms.
+fn assert_refused(rt: &impl Abort, text: &str, printed: &str) {
+    assert!(try_demangle(text).is_err(), "{text} is no symbol");
+    assert!(printed_is(text, true, printed), "{text} with the hash");
+    assert!(printed_is(text, false, printed), "{text} without the hash");
+}
+
+/// What a symbol prints, of any length.
+fn printed_by(
+    alloc: Global,
+    symbol: &Demangle<'_>,
+    include_hash: bool,
+) -> Result<Vec<u8>, AllocError> {
+    let mut text = Vec::new(alloc);
+    let mut sink = WriteSink::new(&mut text);
+    let _ = symbol.write_to(&mut sink, include_hash);
+    // A writer into memory fails for want of memory alone.
+    match sink.into_fault() {
+        Some(_) => Err(AllocError),
+        None => Ok(text),
+    }
+}
+
+/// What a text prints, of any length.
+fn print_symbol(alloc: Global, symbol: &str, include_hash: bool) -> Result<Vec<u8>, AllocError> {
+    printed_by(alloc, &demangle(symbol), include_hash)
+}
+
+/// Asserts that a text is a symbol that prints this in both forms, of any length.
+fn assert_prints_long(
+    rt: &impl Abort,
+    alloc: Global,
+    symbol: &str,
+    text: &str,
+) -> Result<(), AllocError> {
+    assert!(try_demangle(symbol).is_ok(), "it is a symbol");
+    for include_hash in [true, false] {
+        let printed = print_symbol(alloc, symbol, include_hash)?;
+        assert!(printed.as_slice() == text.as_bytes(), "it prints the text");
+    }
+    Ok(())
+}
+
+/// A text so many times over, between two others.
+fn repeat_between(
+    alloc: Global,
+    head: &str,
+    text: &str,
+    count: usize,
+    tail: &str,
+) -> Result<String, AllocError> {
+    let middle = text.repeat_in(alloc, count)?;
+    format!(in alloc; "{head}{middle}{tail}")
+}

@@ -1,0 +1,138 @@
+// Made from crates/demangle_vectors/src/tests/beginnings.rt by packaging/crate/erase.py: edit that file instead.
+//! Symbols that are cut off.
+use super::printed_by;
+use super::vectors::texts;
+use crate::rustc_demangle::{demangle, demangle_bytes, demangle_stream, try_demangle};
+use crate::support::alloc::Global;
+use crate::support::process::Abort;
+use crate::support::rt::HostRuntime;
+use crate::support::test::Fail;
+use crate::support::vec::CollectIn;
+use crate::support::vec::Vec;
+use crate::test_doubles::streams::PartsReader;
+use std::io::ErrorKind;
+
+/// Asserts that a refused text prints itself, that an accepted one prints the same by both calls,
+/// and that what was stripped is not stripped again.
+fn assert_printed(rt: &impl Abort, alloc: Global, text: &str) -> Result<(), Fail> {
+    let symbol = demangle(text);
+    let stripped = symbol.as_str();
+    // Where nothing was stripped, nothing is left to strip.
+    if stripped != text {
+        assert_eq!(demangle(stripped).as_str(), stripped);
+    }
+    let tried = try_demangle(text);
+    for include_hash in [true, false] {
+        let printed = printed_by(alloc, &symbol, include_hash)?;
+        match &tried {
+            Ok(tried) => {
+                let again = printed_by(alloc, tried, include_hash)?;
+                assert!(again.as_slice() == printed.as_slice(), "{text}");
+            }
+            Err(_) => assert!(printed.as_slice() == stripped.as_bytes(), "{text}"),
+        }
+    }
+    Ok(())
+}
+
+/// A digest of bytes (FNV-1a with 64 bits), over what was digested before.
+fn digest_of(before: u64, bytes: &[u8]) -> u64 {
+    let mut digest = before;
+    for byte in bytes {
+        digest = (digest ^ u64::from(*byte)).wrapping_mul(0x0100_0000_01B3);
+    }
+    digest
+}
+
+/// The digest of nothing.
+const OF_NOTHING: u64 = 0xCBF2_9CE4_8422_2325;
+
+/// The digests of what the Rust crate's stream writes for the beginnings, with a line feed behind
+/// each: with the hash and without it.
+const WRITTEN: [(bool, u64); 2] = [
+    (true, 0xA761_CF34_3FBD_2746),
+    (false, 0xC1DA_C274_FAC4_9C89),
+];
+
+/// What the stream writes for a text.
+fn filter_text(alloc: Global, text: &str, include_hash: bool) -> Result<Vec<u8>, Fail> {
+    let mut input = text.as_bytes();
+    let mut output = Vec::new(alloc);
+    demangle_stream(alloc, &mut input, &mut output, include_hash)?;
+    if input.is_empty() {
+        Ok(output)
+    } else {
+        Err("bytes of the input are left".into())
+    }
+}
+
+/// What the filter of bytes writes for a text, of which it reads so many bytes at a filling.
+fn filter_parts(
+    alloc: Global,
+    text: &str,
+    size: usize,
+    include_hash: bool,
+) -> Result<Vec<u8>, Fail> {
+    let parts: Vec<&[u8]> = text.as_bytes().chunks(size.max(1)).collect_in(alloc)?;
+    let mut input = PartsReader::new(parts.as_slice(), usize::MAX, ErrorKind::Other);
+    let mut output = Vec::new(alloc);
+    match demangle_bytes(alloc, &mut input, &mut output, include_hash) {
+        Ok(()) => Ok(output),
+        Err(fault) => Err(fault.into_io().into()),
+    }
+}
+
+#[test]
+fn each_beginning_of_a_symbol_is_taken() -> Result<(), Fail> {
+    let rt = HostRuntime;
+    let alloc = rt.alloc();
+    for text in texts(alloc)?.iter() {
+        let text = text.as_str();
+        for len in 0..=text.len() {
+            if let Some(beginning) = text.get(..len) {
+                assert_printed(&rt, alloc, beginning)?;
+            }
+        }
+    }
+    Ok(())
+}
+
+#[test]
+fn the_stream_writes_for_each_beginning_what_the_crate_writes() -> Result<(), Fail> {
+    let rt = HostRuntime;
+    let alloc = rt.alloc();
+    for (include_hash, wanted) in WRITTEN {
+        let mut digest = OF_NOTHING;
+        for text in texts(alloc)?.iter() {
+            let text = text.as_str();
+            for len in 0..=text.len() {
+                if let Some(beginning) = text.get(..len) {
+                    let output = filter_text(alloc, beginning, include_hash)?;
+                    digest = digest_of(digest_of(digest, output.as_slice()), b"\n");
+                }
+            }
+        }
+        assert_eq!(digest, wanted);
+    }
+    Ok(())
+}
+
+#[test]
+fn any_fillings_give_what_the_crate_writes() -> Result<(), Fail> {
+    let rt = HostRuntime;
+    let alloc = rt.alloc();
+    for ((include_hash, wanted), size) in WRITTEN.iter().zip([1, 3]) {
+        let mut digest = OF_NOTHING;
+        for text in texts(alloc)?.iter() {
+            let text = text.as_str();
+            for len in 0..=text.len() {
+                if let Some(beginning) = text.get(..len) {
+                    let output = filter_parts(alloc, beginning, size, *include_hash)?;
+                    digest = digest_of(digest_of(digest, output.as_slice()), b"\n");
+                }
+            }
+        }
+        assert_eq!(digest, *wanted, "by fillings of {size}");
+    }
+    Ok(())
+}

@@ -1,0 +1,75 @@
+// Made from crates/demangle_vectors/src/tests/formats.rt by packaging/crate/erase.py: edit that file instead.
+//! What `Display` and `Debug` write.
+use crate::rustc_demangle::demangle;
+use crate::support::format;
+use crate::support::rt::HostRuntime;
+use crate::support::test::Fail;
+use core::fmt;
+use core::fmt::Write;
+
+#[test]
+fn the_alternate_flag_leaves_out_the_hash() -> Result<(), Fail> {
+    let rt = HostRuntime;
+    let alloc = rt.alloc();
+    for (symbol, plain, alt) in [
+        (
+            "_ZN3foo17h05af221e174051e9E",
+            "foo::h05af221e174051e9",
+            "foo",
+        ),
+        ("_ZN3fooE.x", "foo.x", "foo.x"),
+        ("_RCs_3foo", "foo[1]", "foo"),
+        (
+            "_RMC0WmRm1_m9_.x",
+            "<u32 is 1u32..=9u32>.x",
+            "<u32 is 1..=9>.x",
+        ),
+        ("_ZN1hE", "h", ""),
+        ("no symbol.llvm.AB", "no symbol", "no symbol"),
+    ] {
+        let symbol = demangle(symbol);
+        assert_eq!(format!(in alloc; "{}", symbol)?.as_str(), plain);
+        assert_eq!(format!(in alloc; "{:?}", symbol)?.as_str(), plain);
+        assert_eq!(format!(in alloc; "{:>40}", symbol)?.as_str(), plain);
+        assert_eq!(format!(in alloc; "{:*^+040.2}", symbol)?.as_str(), plain);
+        assert_eq!(format!(in alloc; "{:#}", symbol)?.as_str(), alt);
+        assert_eq!(format!(in alloc; "{:>40?}", symbol)?.as_str(), plain);
+        assert_eq!(format!(in alloc; "{:40?}", symbol)?.as_str(), plain);
+        assert_eq!(format!(in alloc; "{:.3?}", symbol)?.as_str(), plain);
+        assert_eq!(format!(in alloc; "{:#?}", symbol)?.as_str(), alt);
+        assert_eq!(format!(in alloc; "{:#>40.3?}", symbol)?.as_str(), plain);
+    }
+    Ok(())
+}
+
+/// Takes so many texts, and refuses those behind them.
+struct Refusing {
+    left: usize,
+}
+
+impl fmt::Write for Refusing {
+    fn write_str(&mut self, _s: &str) -> fmt::Result {
+        if self.left == 0 {
+            return Err(fmt::Error);
+        }
+        self.left -= 1;
+        Ok(())
+    }
+}
+
+#[test]
+fn a_refused_piece_is_an_error() {
+    let symbol = demangle("_ZN1a1bE.x");
+    for left in 0..5usize {
+        let mut text = Refusing { left };
+        assert_eq!(write!(text, "{}", symbol).is_ok(), left == 4, "with {left}");
+        let mut text = Refusing { left };
+        assert_eq!(
+            write!(text, "{:?}", symbol).is_ok(),
+            left == 4,
+            "with {left}"
+        );
+    }
+    let mut text = Refusing { left: 0 };
+    assert!(write!(text, "{}", demangle("_ZNE")).is_ok());
+}

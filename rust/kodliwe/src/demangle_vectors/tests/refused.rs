@@ -1,0 +1,67 @@
+// Made from crates/demangle_vectors/src/tests/refused.rt by packaging/crate/erase.py: edit that file instead.
+//! Texts that are no symbols.
+use super::assert_refused;
+use crate::demangle_vectors::printed_is;
+use crate::support::rt::HostRuntime;
+
+#[test]
+fn texts_that_no_grammar_spells_print_themselves() {
+    let rt = HostRuntime;
+    for text in [
+        "",
+        "é",
+        "\0",
+        "N1aE",
+        "_zn1aE",
+        "___ZN1aE",
+        "_ZN",
+        "_R",
+        "R",
+        "_ZN6$u000$",
+        "_ZN8$ud800$E",
+    ] {
+        assert_refused(&rt, text, text);
+    }
+}
+
+#[test]
+fn symbols_with_a_suffix_that_is_not_allowed_print_themselves() {
+    let rt = HostRuntime;
+    for text in [
+        "_ZN3fooE.a b",
+        "_ZN3fooEx",
+        "_ZN3fooE\n",
+        "_ZN3fooE.\0",
+        "_ZN3fooE.é",
+        "_ZN1aE.llvm.é",
+        "_ZN1a1bE.llvm.A B",
+        "_ZN3fooE.a\u{7f}",
+        "_RC3foo.a b",
+        "_RC3foo.a\u{7f}",
+        "_RC3foo.ü",
+    ] {
+        assert_refused(&rt, text, text);
+    }
+}
+
+#[test]
+fn an_ending_of_thin_lto_is_taken_off_any_text() {
+    let rt = HostRuntime;
+    for (text, printed) in [
+        ("foo.llvm.AB", "foo"),
+        ("foo.llvm.", "foo"),
+        (".llvm.", ""),
+        ("_ZNfooE.llvm.AB", "_ZNfooE"),
+        ("a.llvm.A.llvm.G", "a.llvm.A.llvm.G"),
+        ("foo.llvm.AG", "foo.llvm.AG"),
+    ] {
+        assert_refused(&rt, text, printed);
+    }
+}
+
+#[test]
+fn printed_is_says_no() {
+    assert!(!printed_is("_ZN3foo17h05af221e174051e9E", true, "foo"));
+    assert!(!printed_is("_ZN3fooE", true, "fo"));
+    assert!(!printed_is("_ZN3fooE", true, "fooo"));
+}

@@ -1,0 +1,131 @@
+// Made from crates/demangle_vectors/src/tests/sinks.rt by packaging/crate/erase.py: edit that file instead.
+//! Sinks that take a part, and what they hold then.
+use crate::rustc_demangle::sink::{ArraySink, TextSink, WriteSink};
+use crate::rustc_demangle::{demangle, demangle_stream};
+use crate::support::rt::HostRuntime;
+use crate::support::test::Fail;
+use crate::test_doubles::RefusingSink;
+use std::io;
+use std::io::{ErrorKind, Write};
+
+/// Counts the texts that are written whole, the bytes of them, and the flushes.
+#[derive(Default)]
+struct CountingWriter {
+    texts: usize,
+    bytes: usize,
+    flushes: usize,
+}
+
+impl Write for CountingWriter {
+    fn write(&mut self, buf: &[u8]) -> io::Result<usize> {
+        self.bytes = self.bytes.saturating_add(buf.len());
+        Ok(buf.len())
+    }
+
+    fn write_all(&mut self, buf: &[u8]) -> io::Result<()> {
+        self.texts = self.texts.saturating_add(1);
+        self.bytes = self.bytes.saturating_add(buf.len());
+        Ok(())
+    }
+
+    fn flush(&mut self) -> io::Result<()> {
+        self.flushes = self.flushes.saturating_add(1);
+        Ok(())
+    }
+}
+
+#[test]
+fn a_full_sink_holds_the_pieces_before_the_refused_one() {
+    let symbol = demangle("_ZN1a1bE");
+    for include_hash in [true, false] {
+        let mut sink: ArraySink<4> = ArraySink::new();
+        assert!(symbol.write_to(&mut sink, include_hash).is_ok());
+        assert_eq!(sink.as_str(), "a::b");
+        assert!(!sink.is_failed());
+        let mut sink: ArraySink<2> = ArraySink::new();
+        assert!(symbol.write_to(&mut sink, include_hash).is_err());
+        assert_eq!(sink.as_str(), "a");
+        assert!(sink.is_failed());
+    }
+}
+
+#[test]
+fn each_piece_is_refused_in_turn() {
+    let symbol = demangle("_ZN1a1bE.x");
+    let texts = ["", "a", "a::", "a::b", "a::b.x"];
+    for (pieces, text) in texts.iter().enumerate() {
+        for include_hash in [true, false] {
+            let mut sink = RefusingSink::new(pieces.saturating_add(1));
+            let result = symbol.write_to(&mut sink, include_hash);
+            assert_eq!(result.is_ok(), pieces == 4, "after {pieces}");
+            assert_eq!(sink.is_failed(), pieces != 4, "after {pieces}");
+            assert_eq!(sink.as_str(), *text, "after {pieces}");
+        }
+    }
+}
+
+#[test]
+fn each_piece_of_a_disambiguator_is_refused_in_turn() {
+    let symbol = demangle("_RCs_3foo");
+    let texts = ["", "foo", "foo[", "foo[1", "foo[1]"];
+    for (pieces, text) in texts.iter().enumerate() {
+        let mut sink = RefusingSink::new(pieces.saturating_add(1));
+        let result = symbol.write_to(&mut sink, true);
+        assert_eq!(result.is_ok(), pieces == 4, "after {pieces}");
+        assert_eq!(sink.is_failed(), pieces != 4, "after {pieces}");
+        assert_eq!(sink.as_str(), *text, "after {pieces}");
+    }
+}
+
+#[test]
+fn empty_pieces_are_taken_where_no_other_is() {
+    for symbol in ["_ZNE", "_ZN0E", "", ".llvm."] {
+        let mut sink = RefusingSink::new(1);
+        assert!(
+            demangle(symbol).write_to(&mut sink, true).is_ok(),
+            "{symbol}"
+        );
+        let mut room: &mut [u8] = &mut [];
+        let mut sink = WriteSink::new(&mut room);
+        assert!(
+            demangle(symbol).write_to(&mut sink, true).is_ok(),
+            "{symbol}"
+        );
+        assert!(sink.into_fault().is_none(), "{symbol}");
+    }
+}
+
+#[test]
+fn a_write_sink_holds_the_fault_of_its_writer() {
+    let mut bytes = [0; 4];
+    let mut room = bytes.as_mut_slice();
+    let mut sink = WriteSink::new(&mut room);
+    assert!(demangle("_ZN1a3bcdE").write_to(&mut sink, true).is_err());
+    assert!(sink.is_failed());
+    let fault = sink.into_fault();
+    assert!(matches!(&fault, Some(fault) if fault.kind() == ErrorKind::WriteZero));
+    assert!(bytes.starts_with(b"a::"));
+}
+
+#[test]
+fn a_write_sink_writes_each_piece_once_and_flushes_nothing() -> Result<(), Fail> {
+    let rt = HostRuntime;
+    for (symbol, texts, bytes) in [("_ZN1a1bE.x", 4, 6), ("_ZN1a0E", 2, 3), ("_ZNE", 0, 0)] {
+        let mut writer = CountingWriter::default();
+        let mut sink = WriteSink::new(&mut writer);
+        assert!(demangle(symbol).write_to(&mut sink, true).is_ok());
+        assert!(sink.into_fault().is_none());
+        assert_eq!(writer.texts, texts, "of {symbol}");
+        assert_eq!(writer.bytes, bytes, "of {symbol}");
+        assert_eq!(writer.flushes, 0, "of {symbol}");
+    }
+    let mut writer = CountingWriter::default();
+    demangle_stream(
+        rt.alloc(),
+        &mut b"_ZN1a1bE.x\n".as_slice(),
+        &mut writer,
+        true,
+    )?;
+    assert_eq!((writer.texts, writer.bytes, writer.flushes), (5, 7, 0));
+    Ok(())
+}

@@ -1,0 +1,267 @@
+// Made from crates/demangle_vectors/src/tests/stream.rt by packaging/crate/erase.py: edit that file instead.
+//! What the stream writes of lines, and where a reader or a writer refuses.
+use crate::rustc_demangle::{StreamFault, demangle_stream, demangle_stream_named};
+use crate::support::alloc::Global;
+use crate::support::process::Abort;
+use crate::support::rt::HostRuntime;
+use crate::support::test::Fail;
+use crate::support::vec::Vec;
+use crate::test_doubles::streams::{NotingWriter, PartsReader, RefusingWriter};
+use std::io::ErrorKind;
+
+/// Texts, and what the stream writes of them, with the hash and without it.
+pub(super) const ROWS: [(&[u8], &[u8]); 20] = [
+    (b"", b""),
+    (b"\n", b"\n"),
+    (b"__ZN3fooE", b"_foo"),
+    (b"_ZN3fooE.llvm.9D1C9369@@16", b"foo@@16"),
+    (b"_R_ZN3fooE", b"_R_ZN3fooE"),
+    (b"_ZNfooE.llvm.AB", b"_ZNfooE.llvm.AB"),
+    (
+        b"_ZN3fooE.llvm moocow _ZN3fooE.llvm",
+        b"foo.llvm moocow foo.llvm",
+    ),
+    (b"a_ZN3fooE", b"afoo"),
+    (b"\xC3\xA9_ZN3fooE\xC3\xA9", b"\xC3\xA9foo\xC3\xA9"),
+    (b"_ZN3fooEx", b"_ZN3fooEx"),
+    (b"_ZN3fooE\r\n", b"foo\r\n"),
+    (b"x _RCx _ZN3fooE", b"x _RCx foo"),
+    (b"_Z _ZN_ _R", b"_Z _ZN_ _R"),
+    (b"a\n\nb _ZN1aE\nc", b"a\n\nb a\nc"),
+    (b"_ZN3fooE,_RC1a", b"foo,a"),
+    (b"RC1a __RC1a _RC1aC1b", b"RC1a _a a"),
+    (b"_RMC0FG_RL0_hEu\n", b"<for<'a> fn(&'a u8)>\n"),
+    (b"_R_RC1a _RC1a_RC1b", b"_R_RC1a _RC1a_RC1b"),
+    (b"x _ZN8$RF$testE y", b"x &test y"),
+    (b"_ZN3fooE.a~ _ZN3fooE.llvm.AG", b"foo.a~ foo.llvm.AG"),
+];
+
+/// Asserts what the stream writes of a text, with the hash or without it.
+fn assert_writes(
+    rt: &impl Abort,
+    alloc: Global,
+    text: &[u8],
+    include_hash: bool,
+    wanted: &[u8],
+) -> Result<(), Fail> {
+    let mut input = text;
+    let mut output = Vec::new(alloc);
+    demangle_stream(alloc, &mut input, &mut output, include_hash)?;
+    assert_eq!(output.as_slice(), wanted, "of {text:?}");
+    assert!(input.is_empty(), "of {text:?}");
+    Ok(())
+}
+
+#[test]
+fn symbols_are_replaced_in_lines() -> Result<(), Fail> {
+    let rt = HostRuntime;
+    for (text, wanted) in ROWS {
+        assert_writes(&rt, rt.alloc(), text, true, wanted)?;
+        assert_writes(&rt, rt.alloc(), text, false, wanted)?;
+    }
+    Ok(())
+}
+
+#[test]
+fn a_run_ends_at_each_byte_that_it_may_not_have() -> Result<(), Fail> {
+    let rt = HostRuntime;
+    let alloc = rt.alloc();
+    for byte in 0..128u8 {
+        let goes_on = byte.is_ascii_alphanumeric() || byte == b'$' || byte == b'_';
+        let mut text = Vec::from_slice(alloc, b"_ZN3fooE")?;
+        text.push(byte)?;
+        let mut wanted = Vec::new(alloc);
+        if goes_on {
+            wanted.extend_from_slice(b"_ZN3fooE")?;
+        } else {
+            wanted.extend_from_slice(b"foo")?;
+        }
+        wanted.push(byte)?;
+        assert_writes(&rt, alloc, text.as_slice(), true, wanted.as_slice())?;
+    }
+    Ok(())
+}
+
+#[test]
+fn the_stream_leaves_out_a_hash() -> Result<(), Fail> {
+    let rt = HostRuntime;
+    let text = b"<_ZN3foo17h05af221e174051e9E>\n".as_slice();
+    assert_writes(&rt, rt.alloc(), text, true, b"<foo::h05af221e174051e9>\n")?;
+    assert_writes(&rt, rt.alloc(), text, false, b"<foo>\n")
+}
+
+#[test]
+fn the_reader_fails() -> Result<(), Fail> {
+    let rt = HostRuntime;
+    let alloc = rt.alloc();
+    let cases: [(&[u8], &[u8]); 3] = [
+        (b"x _ZN3fooE\n", b"x foo\n"),
+        (b"x _ZN3fo", b""),
+        (b"\xFF", b""),
+    ];
+    for (text, wanted) in cases {
+        let parts = [text];
+        let mut input = PartsReader::new(&parts, 1, ErrorKind::Other);
+        let mut output = Vec::new(alloc);
+        let result = demangle_stream_named(alloc, &mut input, &mut output, true);
+        assert!(
+            matches!(&result, Err(StreamFault::Read(error)) if error.kind() == ErrorKind::Other)
+        );
+        assert_eq!(output.as_slice(), wanted, "after {text:?}");
+        let mut input = PartsReader::new(&parts, 1, ErrorKind::OutOfMemory);
+        let mut output = Vec::new(alloc);
+        let result = demangle_stream_named(alloc, &mut input, &mut output, true);
+        assert!(matches!(&result, Err(StreamFault::Memory)));
+        assert_eq!(output.as_slice(), wanted, "after {text:?}");
+    }
+    Ok(())
+}
+
+#[test]
+fn the_reader_fails_at_each_filling() -> Result<(), Fail> {
+    let rt = HostRuntime;
+    let alloc = rt.alloc();
+    let parts: [&[u8]; 4] = [b"x _ZN", b"3fooE\n_ZN3", b"barE", b"\n"];
+    let written: [&[u8]; 6] = [
+        b"",
+        b"",
+        b"x foo\n",
+        b"x foo\n",
+        b"x foo\nbar\n",
+        b"x foo\nbar\n",
+    ];
+    for (fills, wanted) in written.iter().enumerate() {
+        let mut input = PartsReader::new(&parts, fills, ErrorKind::Other);
+        let mut output = Vec::new(alloc);
+        let result = demangle_stream(alloc, &mut input, &mut output, true);
+        let kind = result.map_err(|error| error.kind());
+        if fills < 5 {
+            assert_eq!(kind, Err(ErrorKind::Other), "at {fills}");
+        } else {
+            assert_eq!(kind, Ok(()));
+        }
+        assert_eq!(output.as_slice(), *wanted, "at {fills}");
+    }
+    Ok(())
+}
+
+#[test]
+fn a_line_is_not_utf8() -> Result<(), Fail> {
+    let rt = HostRuntime;
+    let alloc = rt.alloc();
+    let cases: [(&[u8], &[u8]); 3] = [
+        (b"x _RCx _ZN3fooE\n\xFF", b"x _RCx foo\n"),
+        (b"\xFF", b""),
+        (b"_ZN3fooE \xFF\n_ZN3fooE", b""),
+    ];
+    for (text, wanted) in cases {
+        let mut input = text;
+        let mut output = Vec::new(alloc);
+        let result = demangle_stream_named(alloc, &mut input, &mut output, true);
+        assert!(matches!(&result, Err(StreamFault::NotUtf8)), "of {text:?}");
+        assert_eq!(output.as_slice(), wanted, "of {text:?}");
+    }
+    Ok(())
+}
+
+/// A line of symbols of both schemes.
+pub(super) const LINE: &[u8] = b"_ZN3fooE.llvm moocow \
+    _RNvMNtNtNtNtCs8a2262Dv4r_3mio3sys4unix8selector5epollNtB2_8Selector6select _ZN3fooE.llvm";
+
+/// The writes of that line up to its disambiguator, which only the plain form shows, behind it, and
+/// of a line feed.
+pub(super) const HEAD: [&[u8]; 5] = [b"foo", b".llvm", b" moocow ", b"<", b"mio"];
+
+pub(super) const DISAMBIGUATOR: [&[u8]; 3] = [b"[", b"1888792e1a78739", b"]"];
+
+pub(super) const TAIL: [&[u8]; 17] = [
+    b"::",
+    b"sys",
+    b"::",
+    b"unix",
+    b"::",
+    b"selector",
+    b"::",
+    b"epoll",
+    b"::",
+    b"Selector",
+    b">",
+    b"::",
+    b"select",
+    b" ",
+    b"foo",
+    b".llvm",
+    b"\n",
+];
+
+#[test]
+fn lines_have_symbols_of_both_schemes() -> Result<(), Fail> {
+    let rt = HostRuntime;
+    let alt = b"foo.llvm moocow <mio::sys::unix::selector::epoll::Selector>::select foo.llvm";
+    assert_writes(&rt, rt.alloc(), LINE, false, alt.as_slice())?;
+    let plain =
+        b"foo.llvm moocow <mio[1888792e1a78739]::sys::unix::selector::epoll::Selector>::select foo.llvm";
+    assert_writes(&rt, rt.alloc(), LINE, true, plain.as_slice())
+}
+
+/// Asserts that a writer that refuses its write of each number in turn holds those before it, over
+/// that line twice.
+fn assert_held(rt: &impl Abort, alloc: Global, include_hash: bool) -> Result<(), Fail> {
+    let mut text = Vec::new(alloc);
+    let mut wanted_writes: Vec<&[u8]> = Vec::new(alloc);
+    for _ in 0..2 {
+        text.extend_from_slice(LINE)?;
+        text.push(b'\n')?;
+        wanted_writes.extend_from_slice(&HEAD)?;
+        if include_hash {
+            wanted_writes.extend_from_slice(&DISAMBIGUATOR)?;
+        }
+        wanted_writes.extend_from_slice(&TAIL)?;
+    }
+    for writes in 0..=wanted_writes.len() {
+        let mut input = text.as_slice();
+        let mut output = RefusingWriter::new(alloc, b"old", writes, true)?;
+        let result = demangle_stream(alloc, &mut input, &mut output, include_hash);
+        let kind = result.map_err(|error| error.kind());
+        if writes < wanted_writes.len() {
+            assert_eq!(kind, Err(ErrorKind::BrokenPipe), "at {writes}");
+        } else {
+            assert_eq!(kind, Ok(()));
+        }
+        let mut wanted = Vec::from_slice(alloc, b"old")?;
+        for write in wanted_writes.iter().take(writes) {
+            wanted.extend_from_slice(write)?;
+        }
+        assert_eq!(output.held(), wanted.as_slice(), "at {writes}");
+    }
+    Ok(())
+}
+
+#[test]
+fn the_writer_fails_at_each_write() -> Result<(), Fail> {
+    let rt = HostRuntime;
+    assert_held(&rt, rt.alloc(), true)?;
+    assert_held(&rt, rt.alloc(), false)
+}
+
+#[test]
+fn each_text_and_piece_is_a_write() -> Result<(), Fail> {
+    let rt = HostRuntime;
+    let alloc = rt.alloc();
+    let cases: [(&[u8], &[&[u8]]); 4] = [
+        (b"x _RCx _ZN3fooE", &[b"x ", b"_RCx", b" ", b"foo"]),
+        (b"_ZN1a1bE.x\n\n", &[b"a", b"::", b"b", b".x", b"\n", b"\n"]),
+        (b"_RCs_1a.x", &[b"a", b"[", b"1", b"]", b".x"]),
+        (b"_ZNE _ZN0E", &[b" "]),
+    ];
+    for (text, wanted) in cases {
+        let mut input = text;
+        let mut output = NotingWriter::new(alloc);
+        demangle_stream(alloc, &mut input, &mut output, true)?;
+        assert_eq!(output.writes().len(), wanted.len(), "of {text:?}");
+        for (write, want) in output.writes().iter().zip(wanted.iter()) {
+            assert_eq!(write.as_slice(), *want, "of {text:?}");
+        }
+    }
+    Ok(())
+}

@@ -1,0 +1,119 @@
+// Made from crates/demangle_words/src/render/numbers.rt by packaging/crate/erase.py: edit that file instead.
+//! Numbers.
+
+use crate::demangle_sink::{SinkRefused, SizeLimitedFmtAdapter, TextSink};
+use crate::demangle_symbol::cursor::{Part, Symbol};
+use crate::demangle_words::texts::{basic_mark, text};
+use crate::support::itoa::Buffer;
+use core::str;
+
+// The two digits of each byte.
+#[rustfmt::skip]
+static DIGIT_PAIRS_16: [u8; 512] = *b"\
+    000102030405060708090a0b0c0d0e0f\
+    101112131415161718191a1b1c1d1e1f\
+    202122232425262728292a2b2c2d2e2f\
+    303132333435363738393a3b3c3d3e3f\
+    404142434445464748494a4b4c4d4e4f\
+    505152535455565758595a5b5c5d5e5f\
+    606162636465666768696a6b6c6d6e6f\
+    707172737475767778797a7b7c7d7e7f\
+    808182838485868788898a8b8c8d8e8f\
+    909192939495969798999a9b9c9d9e9f\
+    a0a1a2a3a4a5a6a7a8a9aaabacadaeaf\
+    b0b1b2b3b4b5b6b7b8b9babbbcbdbebf\
+    c0c1c2c3c4c5c6c7c8c9cacbcccdcecf\
+    d0d1d2d3d4d5d6d7d8d9dadbdcdddedf\
+    e0e1e2e3e4e5e6e7e8e9eaebecedeeef\
+    f0f1f2f3f4f5f6f7f8f9fafbfcfdfeff\
+";
+
+/// Writes the hexadecimal digits of a number, its leading zeros too: where the others begin.
+#[inline(always)]
+fn write_hexadecimal(number: u64, text: &mut [u8; 16]) -> usize {
+    let mut pairs = 8;
+    let mut rest = number;
+    while pairs > 0 {
+        pairs -= 1;
+        let pair = (rest % 256) as usize * 2;
+        text[pairs * 2 + 1] = DIGIT_PAIRS_16[pair + 1];
+        text[pairs * 2] = DIGIT_PAIRS_16[pair];
+        rest /= 256;
+    }
+    // 0 has one digit, so its lowest bit is set for the count.
+    ((number | 1).leading_zeros() / 4) as usize
+}
+
+/// Puts a number in hexadecimal digits, as one piece.
+#[inline(always)]
+pub(super) fn put_hexadecimal<S: TextSink>(
+    number: u64,
+    out: &mut SizeLimitedFmtAdapter<'_, S>,
+) -> Result<(), SinkRefused> {
+    let mut text = [0; 16];
+    let start = write_hexadecimal(number, &mut text);
+    // SAFETY: digits are ASCII.
+    out.put(unsafe { str::from_utf8_unchecked(&text[start..]) })
+}
+
+/// Puts the nibbles of a hex word that has no number.
+fn put_nibbles<S: TextSink>(
+    symbol: &Symbol<'_>,
+    nibbles: Part,
+    out: &mut SizeLimitedFmtAdapter<'_, S>,
+) -> Result<(), SinkRefused> {
+    // All the nibbles stand as they are spelled, zeros in front too.
+    out.put("0x")?;
+    symbol.span(nibbles).write_to(out)
+}
+
+/// Puts a number in decimal digits, as one piece.
+pub(super) fn put_decimal<S: TextSink>(
+    number: u128,
+    out: &mut SizeLimitedFmtAdapter<'_, S>,
+) -> Result<(), SinkRefused> {
+    let mut buffer = Buffer::new();
+    out.put(buffer.format(number))
+}
+
+/// Puts a number in decimal digits, or its nibbles where it has none.
+fn put_number<S: TextSink>(
+    symbol: &Symbol<'_>,
+    value: Option<u128>,
+    nibbles: Part,
+    out: &mut SizeLimitedFmtAdapter<'_, S>,
+) -> Result<(), SinkRefused> {
+    match value {
+        Some(number) => put_decimal(number, out),
+        None => put_nibbles(symbol, nibbles, out),
+    }
+}
+
+/// Puts the name of a basic type, in the plain form alone.
+fn put_type_name<S: TextSink>(
+    tag: u8,
+    include_hash: bool,
+    out: &mut SizeLimitedFmtAdapter<'_, S>,
+) -> Result<(), SinkRefused> {
+    if !include_hash {
+        return Ok(());
+    }
+    match basic_mark(tag) {
+        Some(mark) => out.put(text(mark)),
+        None => Ok(()),
+    }
+}
+
+/// Puts a number, and the name of its type.
+#[inline(never)]
+pub(super) fn put_number_constant<S: TextSink>(
+    symbol: &Symbol<'_>,
+    value: Option<u128>,
+    nibbles: Part,
+    tag: u8,
+    include_hash: bool,
+    out: &mut SizeLimitedFmtAdapter<'_, S>,
+) -> Result<(), SinkRefused> {
+    put_number(symbol, value, nibbles, out)?;
+    put_type_name(tag, include_hash, out)
+}

@@ -1,0 +1,81 @@
+// Made from crates/held_bytes/src/lib.rt by packaging/crate/erase.py: edit that file instead.
+//! Bytes that a program holds for a writer, so that pieces of a few bytes cost little.
+
+/// How many bytes can be held. They lie on the stack.
+pub const CAPACITY: usize = 2048;
+
+/// Copies a piece of `N` to `2 * N` bytes: its first `N`, and its last `N`, which may overlap.
+#[inline(always)]
+fn copy_ends<const N: usize>(piece: &[u8], room: &mut [u8]) {
+    *room.first_chunk_mut::<N>().unwrap() = *piece.first_chunk::<N>().unwrap();
+    *room.last_chunk_mut::<N>().unwrap() = *piece.last_chunk::<N>().unwrap();
+}
+
+/// Copies a piece to the front of the room. A call of the C library costs more than the copying of
+/// the few bytes that most pieces have.
+#[inline]
+fn copy(piece: &[u8], room: &mut [u8]) {
+    let room = &mut room[..piece.len()];
+    match piece.len() {
+        0..=1 => {
+            if let [byte] = piece {
+                room[0] = *byte;
+            }
+        }
+        2..=4 => copy_ends::<2>(piece, room),
+        5..=8 => copy_ends::<4>(piece, room),
+        9..=16 => copy_ends::<8>(piece, room),
+        17..=32 => copy_ends::<16>(piece, room),
+        _ => room.copy_from_slice(piece),
+    }
+}
+
+/// At most `CAPACITY` bytes, in the order in which they came.
+pub struct Held {
+    bytes: [u8; CAPACITY],
+    len: usize,
+}
+
+impl Held {
+    /// Holds no bytes.
+    pub fn new() -> Self {
+        Held {
+            bytes: [0; CAPACITY],
+            len: 0,
+        }
+    }
+
+    /// The bytes that are held.
+    pub fn as_slice(&self) -> &[u8] {
+        &self.bytes[..self.len]
+    }
+
+    /// Whether no bytes are held.
+    pub fn is_empty(&self) -> bool {
+        self.len == 0
+    }
+
+    /// Holds all of the piece, or answers `false` where there is no room for it.
+    #[inline(always)]
+    pub fn push(&mut self, piece: &[u8]) -> bool {
+        let start = self.len;
+        let end = start + piece.len();
+        if end > CAPACITY {
+            return false;
+        }
+        self.len = end;
+        copy(piece, &mut self.bytes[start..]);
+        true
+    }
+
+    /// Lets go of the first `count` bytes.
+    pub fn remove_front(&mut self, count: usize) {
+        self.bytes.copy_within(count..self.len, 0);
+        self.len -= count;
+    }
+
+    /// Lets go of the bytes that are held.
+    pub fn clear(&mut self) {
+        self.len = 0;
+    }
+}

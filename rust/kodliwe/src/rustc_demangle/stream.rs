@@ -1,0 +1,85 @@
+// Made from crates/rustc_demangle/src/stream.rt by packaging/crate/erase.py: edit that file instead.
+//! The demangling of a text that comes from a reader.
+
+use crate::support::alloc::{Allocator, Global};
+use crate::support::vec::Vec;
+use core::str;
+use std::io;
+use std::io::{BufRead, Write};
+
+mod bytes;
+mod carrying;
+mod fault;
+mod line;
+mod reading;
+
+pub use bytes::{BytesFilter, demangle_bytes, demangle_bytes_limited};
+pub use fault::StreamFault;
+use line::demangle_line;
+use reading::read_line;
+
+/// Reads a line whole and then writes it demangled, or answers `false` at the end of the input.
+fn copy_line<R: BufRead, W: Write, A: Allocator>(
+    input: &mut R,
+    output: &mut W,
+    line: &mut Vec<u8, A>,
+    include_hash: bool,
+) -> Result<bool, StreamFault> {
+    line.clear();
+    read_line(input, line)?;
+    if line.is_empty() {
+        return Ok(false);
+    }
+    let Ok(text) = str::from_utf8(line.as_slice()) else {
+        return Err(StreamFault::NotUtf8);
+    };
+    match demangle_line(text, output, include_hash) {
+        Ok(()) => Ok(true),
+        Err(error) => Err(StreamFault::Write(error)),
+    }
+}
+
+/// Copies lines up to the end of the input, with a buffer for the line.
+fn copy_lines<R: BufRead, W: Write, A: Allocator>(
+    input: &mut R,
+    output: &mut W,
+    line: &mut Vec<u8, A>,
+    include_hash: bool,
+) -> Result<(), StreamFault> {
+    for _ in 0..=u64::MAX {
+        if !copy_line(input, output, line, include_hash)? {
+            return Ok(());
+        }
+    }
+    Err(StreamFault::Read(io::Error::other("too many lines")))
+}
+
+/// Writes the input with each symbol of it demangled.
+///
+/// A symbol is looked for where `_ZN` or `_R` stands, up to the next character that is no ASCII
+/// letter, no digit and none of `$`, `.` and `_`. What is no symbol is written as it was. A line is
+/// read whole before any of it is written.
+///
+/// It is refused where the reader or the writer answers an error, where a line is not UTF-8, and
+/// where the buffer of the line is refused memory.
+pub fn demangle_stream_named<R: BufRead, W: Write>(
+    alloc: Global,
+    input: &mut R,
+    output: &mut W,
+    include_hash: bool,
+) -> Result<(), StreamFault> {
+    let mut line = Vec::new(alloc);
+    copy_lines(input, output, &mut line, include_hash)
+}
+
+/// Writes the input with each symbol of it demangled, as `demangle_stream_named` does, and gives
+/// its fault as an `io::Error`, by `StreamFault::into_io`. A caller that has to know what was
+/// written before a fault calls these two.
+pub fn demangle_stream<R: BufRead, W: Write>(
+    alloc: Global,
+    input: &mut R,
+    output: &mut W,
+    include_hash: bool,
+) -> io::Result<()> {
+    demangle_stream_named(alloc, input, output, include_hash).map_err(StreamFault::into_io)
+}

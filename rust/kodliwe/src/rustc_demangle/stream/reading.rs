@@ -1,0 +1,48 @@
+// Made from crates/rustc_demangle/src/stream/reading.rt by packaging/crate/erase.py: edit that file instead.
+//! A line from a reader, by the reader's fillings.
+
+use crate::rustc_demangle::stream::fault::{StreamFault, read_fault};
+use crate::support::alloc::Allocator;
+use crate::support::memchr::memchr;
+use crate::support::vec::Vec;
+use std::io;
+use std::io::BufRead;
+
+/// The length up to and including the first line feed, or the whole length.
+fn len_through_feed(bytes: &[u8]) -> usize {
+    match memchr(b'\n', bytes) {
+        Some(at) => at + 1,
+        None => bytes.len(),
+    }
+}
+
+/// Takes one filling, up to and including its first line feed. `true` where the line is whole.
+fn take_filling<R: BufRead, A: Allocator>(
+    input: &mut R,
+    line: &mut Vec<u8, A>,
+) -> Result<bool, StreamFault> {
+    let available = match input.fill_buf() {
+        Ok(available) => available,
+        Err(error) => return Err(read_fault(error)),
+    };
+    let end = len_through_feed(available);
+    if line.extend_from_slice(&available[..end]).is_err() {
+        return Err(StreamFault::Memory);
+    }
+    let is_whole = end == 0 || available[end - 1] == b'\n';
+    input.consume(end);
+    Ok(is_whole)
+}
+
+/// Appends the rest of a line to the buffer, its line feed included.
+pub(super) fn read_line<R: BufRead, A: Allocator>(
+    input: &mut R,
+    line: &mut Vec<u8, A>,
+) -> Result<(), StreamFault> {
+    for _ in 0..u64::MAX {
+        if take_filling(input, line)? {
+            return Ok(());
+        }
+    }
+    Err(StreamFault::Read(io::Error::other("too many fillings")))
+}

@@ -1,0 +1,264 @@
+// Made from crates/rustc_demangle/src/value.rt by packaging/crate/erase.py: edit that file instead.
+//! A demangled symbol, and how it prints.
+
+use crate::demangle_sink::{SinkRefused, SizeLimitedFmtAdapter, TextSink, put_piece};
+use crate::demangle_symbol::cursor::{Looks, Symbol};
+use crate::rustc_demangle::strip::without_thin_lto;
+
+/// The most bytes that a call with no limit of its own prints of a symbol, before the marker and
+/// the suffix.
+pub(crate) const MAX_SIZE: usize = 1_000_000;
+
+/// The scheme of a symbol, and what was read of it.
+pub(crate) enum DemangleStyle<'a> {
+    Legacy(crate::demangle_legacy::Demangle<'a>),
+    V0(crate::demangle_v0::Demangle<'a>),
+}
+
+impl DemangleStyle<'_> {
+    /// Prints the symbol without its suffix.
+    fn write_to<S: TextSink>(
+        &self,
+        out: &mut SizeLimitedFmtAdapter<'_, S>,
+        include_hash: bool,
+        looks: &mut Looks,
+    ) -> Result<(), SinkRefused> {
+        match self {
+            DemangleStyle::Legacy(symbol) => symbol.write_to(out, include_hash, looks),
+            DemangleStyle::V0(symbol) => symbol.write_to(out, include_hash, looks),
+        }
+    }
+}
+
+/// A text, demangled where it is a Rust symbol. It prints the path that the symbol names, and any
+/// other text as it is.
+pub struct Demangle<'a> {
+    style: Option<DemangleStyle<'a>>,
+    original: &'a str,
+    suffix: &'a str,
+}
+
+/// Prints a symbol without its suffix into a sink, cut at the limit.
+fn write_cut<S: TextSink>(
+    style: &DemangleStyle<'_>,
+    out: &mut S,
+    include_hash: bool,
+    limit: usize,
+    looks: &mut Looks,
+) -> Result<(), SinkRefused> {
+    let mut limited = SizeLimitedFmtAdapter::new(out, limit);
+    let result = style.write_to(&mut limited, include_hash, looks);
+    // The limit and the sink stop the printing alike; only a sink that takes more gets the marker.
+    if limited.is_over() {
+        put_piece("{size limit reached}", out)
+    } else {
+        result
+    }
+}
+
+impl<'a> Demangle<'a> {
+    /// The symbol as it was, without an ending that ThinLTO appended.
+    pub fn as_str(&self) -> &'a str {
+        self.original
+    }
+
+    /// How many bytes of the symbol stand in front of its suffix; 0 where the text is no symbol.
+    ///
+    /// `write_with_path_len` prints the symbol by it without reading where its path ends.
+    pub fn path_len(&self) -> usize {
+        match &self.style {
+            Some(_) => self.original.len() - self.suffix.len(),
+            None => 0,
+        }
+    }
+
+    /// Prints into a sink, by what it was handed.
+    pub(crate) fn hand_over<S: TextSink>(
+        &self,
+        out: &mut S,
+        include_hash: bool,
+        limit: usize,
+        looks: &mut Looks,
+    ) -> Result<(), SinkRefused> {
+        let Some(style) = &self.style else {
+            return put_piece(self.original, out);
+        };
+        write_cut(style, out, include_hash, limit, looks)?;
+        put_piece(self.suffix, out)
+    }
+
+    /// Prints into a sink, cut at `limit` bytes before the suffix, and counts its looks.
+    ///
+    /// A piece that would go past the limit ends the path, and `{size limit reached}` and the
+    /// suffix follow it. A text that is no symbol has no limit. It is refused exactly where the
+    /// sink failed in this call: then the sink was handed nothing more, and one that keeps what it
+    /// took holds the pieces in front of the refused one. Where all of it is within the sink's
+    /// room, it is taken, and the room falls by its bytes.
+    pub fn write_limited_counted<S: TextSink>(
+        &self,
+        out: &mut S,
+        include_hash: bool,
+        limit: usize,
+        looks: &mut Looks,
+    ) -> Result<(), SinkRefused> {
+        self.hand_over(out, include_hash, limit, looks)
+    }
+
+    /// Prints into a sink, cut at `limit` bytes before the suffix, as `write_limited_counted` does.
+    pub fn write_limited<S: TextSink>(
+        &self,
+        out: &mut S,
+        include_hash: bool,
+        limit: usize,
+    ) -> Result<(), SinkRefused> {
+        self.write_limited_counted(out, include_hash, limit, &mut Looks::new())
+    }
+
+    /// Prints into a sink, cut at 1,000,000 bytes before the suffix, and counts its looks, as
+    /// `write_limited_counted` does.
+    pub fn write_counted<S: TextSink>(
+        &self,
+        out: &mut S,
+        include_hash: bool,
+        looks: &mut Looks,
+    ) -> Result<(), SinkRefused> {
+        self.write_limited_counted(out, include_hash, MAX_SIZE, looks)
+    }
+
+    /// Prints into a sink, cut at 1,000,000 bytes before the suffix, with the hash of a legacy
+    /// symbol or without it.
+    ///
+    /// It is refused exactly where the sink failed in this call, as `write_limited_counted` says,
+    /// and takes no memory.
+    pub fn write_to<S: TextSink>(
+        &self,
+        out: &mut S,
+        include_hash: bool,
+    ) -> Result<(), SinkRefused> {
+        self.write_limited(out, include_hash, MAX_SIZE)
+    }
+}
+
+/// Whether a byte is a printable ASCII character that is no space.
+fn is_graphic(byte: u8) -> bool {
+    matches!(byte, 0x21..=0x7E)
+}
+
+/// Whether a suffix is allowed: nothing, or `.` and graphic characters alone. It is one look for
+/// each byte.
+fn is_allowed(suffix: &str, looks: &mut Looks) -> bool {
+    let symbol = Symbol::new(suffix);
+    if symbol.len() == 0 {
+        return true;
+    }
+    if !symbol.is_at(b'.', 0, looks) {
+        return false;
+    }
+    for at in 1..symbol.len() {
+        let Some(byte) = symbol.byte(at, looks) else {
+            return false;
+        };
+        if !is_graphic(byte) {
+            return false;
+        }
+    }
+    true
+}
+
+/// What a scheme reads of a text, and what it leaves. `is_ascii` says that the text is known to be
+/// ASCII.
+fn read_style<'a>(
+    text: &'a str,
+    is_ascii: bool,
+    looks: &mut Looks,
+) -> Option<(DemangleStyle<'a>, &'a str)> {
+    // No text has the prefixes of both schemes, so the order shows in nothing that is printed; the
+    // prefixes of v0 are told by fewer bytes.
+    if let Ok((symbol, suffix)) = crate::demangle_v0::demangle(text, is_ascii, looks) {
+        return Some((DemangleStyle::V0(symbol), suffix));
+    }
+    match crate::demangle_legacy::demangle(text, is_ascii, looks) {
+        Ok((symbol, suffix)) => Some((DemangleStyle::Legacy(symbol), suffix)),
+        Err(()) => None,
+    }
+}
+
+/// The style of a text and its suffix, if it is a symbol.
+fn style_of<'a>(
+    text: &'a str,
+    is_ascii: bool,
+    looks: &mut Looks,
+) -> Option<(DemangleStyle<'a>, &'a str)> {
+    let (style, suffix) = read_style(text, is_ascii, looks)?;
+    if is_allowed(suffix, looks) {
+        Some((style, suffix))
+    } else {
+        None
+    }
+}
+
+impl<'a> Demangle<'a> {
+    /// The text, read as a symbol where it is one. `is_ascii` says that it is known to be ASCII.
+    pub(crate) fn read(text: &'a str, is_ascii: bool, looks: &mut Looks) -> Demangle<'a> {
+        match style_of(text, is_ascii, looks) {
+            Some((style, suffix)) => Demangle {
+                style: Some(style),
+                original: text,
+                suffix,
+            },
+            None => Demangle {
+                style: None,
+                original: text,
+                suffix: "",
+            },
+        }
+    }
+
+    /// The run, read as a symbol where it is one. A run is ASCII.
+    pub(crate) fn read_run(run: &'a str) -> Demangle<'a> {
+        Demangle::read(without_thin_lto(run), true, &mut Looks::new())
+    }
+
+    /// Whether it is a symbol.
+    pub(crate) fn has_style(&self) -> bool {
+        self.style.is_some()
+    }
+}
+
+/// Prints a text into a sink, by what it was handed, where its path has `path_len` bytes.
+fn hand_over_with<S: TextSink>(
+    text: &str,
+    path_len: usize,
+    out: &mut S,
+    include_hash: bool,
+    limit: usize,
+) -> Result<(), SinkRefused> {
+    let mut looks = Looks::new();
+    let Some(symbol) = crate::demangle_v0::ascii_symbol(text, &mut looks) else {
+        let read = Demangle::read(text, false, &mut looks);
+        return read.hand_over(out, include_hash, limit, &mut looks);
+    };
+    // A caller may hand in any number.
+    let suffix = &text[path_len.min(text.len())..];
+    let style = DemangleStyle::V0(symbol);
+    write_cut(&style, out, include_hash, limit, &mut looks)?;
+    put_piece(suffix, out)
+}
+
+/// Prints a symbol as `Demangle::write_limited` does, without reading again where its path ends:
+/// `path_len` is what `Demangle::path_len` answered of the same text.
+///
+/// An ending that ThinLTO appended is taken off first. Whatever the text and the number are, it
+/// ends, and hands over no more than the limit, the marker and the text have bytes: of an ASCII
+/// text with a v0 prefix the first path as far as it is spelled, and the text from `path_len` on; of
+/// any other text what `demangle` prints of it. It is refused exactly where the sink failed in this
+/// call, and takes no memory.
+pub fn write_with_path_len<S: TextSink>(
+    text: &str,
+    path_len: usize,
+    out: &mut S,
+    include_hash: bool,
+    limit: usize,
+) -> Result<(), SinkRefused> {
+    hand_over_with(without_thin_lto(text), path_len, out, include_hash, limit)
+}

@@ -1,0 +1,182 @@
+//! Texts from a reader to a writer.
+use crate::rustc_demangle;
+use crate::support::alloc::Global;
+use std::io::{self, BufRead, Write};
+use std::{error, fmt};
+
+pub use crate::rustc_demangle::StreamFault;
+
+/// Copies `input` to `output` line by line, with each Rust symbol demangled.
+///
+/// Symbols are found as by [`demangle_text`](crate::demangle_text). A line is read whole before any
+/// of it is written. There is one write for each symbol and for each text between two, so give a
+/// buffered writer if each write costs much.
+///
+/// # Errors
+///
+/// Fails with the error of `input` or `output`, with
+/// [`InvalidData`](io::ErrorKind::InvalidData) if a line is not UTF-8, and with
+/// [`OutOfMemory`](io::ErrorKind::OutOfMemory) if there is no memory for a line. What was written
+/// before stays.
+///
+/// ```
+/// let mut output = Vec::new();
+/// kodliwe::demangle_stream(&mut "at _ZN3foo3barE:7\n".as_bytes(), &mut output, false)?;
+/// assert_eq!(output, b"at foo::bar:7\n");
+/// # std::io::Result::Ok(())
+/// ```
+pub fn demangle_stream<R: BufRead, W: Write>(
+    input: &mut R,
+    output: &mut W,
+    include_hash: bool,
+) -> io::Result<()> {
+    rustc_demangle::demangle_stream(Global, input, output, include_hash)
+}
+
+/// Copies `input` to `output` as [`demangle_stream`] does, and tells who failed.
+///
+/// # Errors
+///
+/// Fails as [`demangle_stream`] does.
+pub fn demangle_stream_named<R: BufRead, W: Write>(
+    input: &mut R,
+    output: &mut W,
+    include_hash: bool,
+) -> Result<(), StreamFault> {
+    rustc_demangle::demangle_stream_named(Global, input, output, include_hash)
+}
+
+/// Copies any bytes from `input` to `output`, with each Rust symbol demangled.
+///
+/// It holds no line: what the reader shows is written at once, except a symbol that may go on.
+///
+/// # Errors
+///
+/// Fails if the reader, the writer or the memory for a symbol does.
+///
+/// ```
+/// let mut output = Vec::new();
+/// kodliwe::demangle_bytes(&mut &b"\xFF _ZN3foo3barE"[..], &mut output, false)?;
+/// assert_eq!(output, b"\xFF foo::bar");
+/// # Ok::<(), kodliwe::StreamFault>(())
+/// ```
+pub fn demangle_bytes<R: BufRead, W: Write>(
+    input: &mut R,
+    output: &mut W,
+    include_hash: bool,
+) -> Result<(), StreamFault> {
+    rustc_demangle::demangle_bytes(Global, input, output, include_hash)
+}
+
+/// Copies any bytes as [`demangle_bytes`] does, with each path cut at `limit` bytes.
+///
+/// # Errors
+///
+/// Fails as [`demangle_bytes`] does.
+pub fn demangle_bytes_limited<R: BufRead, W: Write>(
+    input: &mut R,
+    output: &mut W,
+    include_hash: bool,
+    limit: usize,
+) -> Result<(), StreamFault> {
+    rustc_demangle::demangle_bytes_limited(Global, input, output, include_hash, limit)
+}
+
+/// A filter of any bytes that is driven step by step, for readers that pause.
+///
+/// ```
+/// let (mut input, mut output) = (&b"at _ZN3foo3barE"[..], Vec::new());
+/// let mut filter = kodliwe::BytesFilter::new();
+/// while filter.step(&mut input, &mut output, false)? {}
+/// assert_eq!(output, b"at foo::bar");
+/// # Ok::<(), kodliwe::StreamFault>(())
+/// ```
+pub struct BytesFilter(rustc_demangle::BytesFilter<Global>);
+
+impl BytesFilter {
+    /// Returns a filter that has read nothing.
+    pub fn new() -> BytesFilter {
+        BytesFilter(rustc_demangle::BytesFilter::new(Global))
+    }
+
+    /// Takes some of the bytes that the reader shows, and writes what is known of them.
+    ///
+    /// It returns false at the end of the input, after it wrote what it held.
+    ///
+    /// # Errors
+    ///
+    /// Fails if the reader, the writer or the memory for a symbol does. If the reader or the memory
+    /// failed, nothing was taken or written, and the step can be made again.
+    pub fn step<R: BufRead, W: Write>(
+        &mut self,
+        input: &mut R,
+        output: &mut W,
+        include_hash: bool,
+    ) -> Result<bool, StreamFault> {
+        self.0.step(input, output, include_hash)
+    }
+
+    /// Takes a step as [`step`](BytesFilter::step) does, with each path cut at `limit` bytes.
+    ///
+    /// # Errors
+    ///
+    /// Fails as [`step`](BytesFilter::step) does.
+    pub fn step_limited<R: BufRead, W: Write>(
+        &mut self,
+        input: &mut R,
+        output: &mut W,
+        include_hash: bool,
+        limit: usize,
+    ) -> Result<bool, StreamFault> {
+        self.0.step_limited(input, output, include_hash, limit)
+    }
+}
+
+impl Default for BytesFilter {
+    fn default() -> BytesFilter {
+        BytesFilter::new()
+    }
+}
+
+impl fmt::Debug for BytesFilter {
+    fn fmt(&self, f: &mut fmt::Formatter<'_>) -> fmt::Result {
+        f.debug_struct("BytesFilter").finish_non_exhaustive()
+    }
+}
+
+impl fmt::Debug for StreamFault {
+    fn fmt(&self, f: &mut fmt::Formatter<'_>) -> fmt::Result {
+        match self {
+            StreamFault::Read(error) => f.debug_tuple("Read").field(error).finish(),
+            StreamFault::NotUtf8 => f.write_str("NotUtf8"),
+            StreamFault::Write(error) => f.debug_tuple("Write").field(error).finish(),
+            StreamFault::Memory => f.write_str("Memory"),
+        }
+    }
+}
+
+impl fmt::Display for StreamFault {
+    fn fmt(&self, f: &mut fmt::Formatter<'_>) -> fmt::Result {
+        f.write_str(match self {
+            StreamFault::Read(_) => "the input could not be read",
+            StreamFault::NotUtf8 => "a line is not UTF-8",
+            StreamFault::Write(_) => "the output could not be written",
+            StreamFault::Memory => "out of memory",
+        })
+    }
+}
+
+impl error::Error for StreamFault {
+    fn source(&self) -> Option<&(dyn error::Error + 'static)> {
+        match self {
+            StreamFault::Read(error) | StreamFault::Write(error) => Some(error),
+            StreamFault::NotUtf8 | StreamFault::Memory => None,
+        }
+    }
+}
+
+impl From<StreamFault> for io::Error {
+    fn from(fault: StreamFault) -> io::Error {
+        fault.into_io()
+    }
+}

@@ -1,0 +1,148 @@
+// Made from crates/test_doubles/src/streams.rt by packaging/crate/erase.py: edit that file instead.
+//! Readers and writers in memory, for tests: they fail where they are told to, or tell what was
+//! done to them.
+use crate::support::alloc::{AllocError, Global};
+use crate::support::vec::Vec;
+use std::io;
+use std::io::{BufRead, ErrorKind, Read, Write};
+
+/// What the errors of a `PartsReader` say.
+pub const RESET: &str = "reset by the other side";
+
+/// Hands out its parts, one at a filling, and fails at the filling after so many, with the kind
+/// that it is given and the text `RESET`.
+pub struct PartsReader<'a> {
+    parts: &'a [&'a [u8]],
+    part: usize,
+    taken: usize,
+    fills_left: usize,
+    fault: ErrorKind,
+}
+
+impl<'a> PartsReader<'a> {
+    /// Hands out these parts, and fails with this kind at the filling after so many.
+    pub fn new(parts: &'a [&'a [u8]], fills: usize, fault: ErrorKind) -> PartsReader<'a> {
+        PartsReader {
+            parts,
+            part: 0,
+            taken: 0,
+            fills_left: fills,
+            fault,
+        }
+    }
+}
+
+impl Read for PartsReader<'_> {
+    fn read(&mut self, buf: &mut [u8]) -> io::Result<usize> {
+        let part = self.fill_buf()?;
+        let count = part.len().min(buf.len());
+        buf[..count].copy_from_slice(&part[..count]);
+        self.consume(count);
+        Ok(count)
+    }
+}
+
+impl BufRead for PartsReader<'_> {
+    fn fill_buf(&mut self) -> io::Result<&[u8]> {
+        if self.taken == 0 {
+            if self.fills_left == 0 {
+                return Err(io::Error::new(self.fault, RESET));
+            }
+            self.fills_left -= 1;
+        }
+        match self.parts.get(self.part) {
+            None => Ok(b""),
+            Some(part) => Ok(part.get(self.taken..).unwrap_or(b"")),
+        }
+    }
+
+    fn consume(&mut self, amount: usize) {
+        self.taken = self.taken.saturating_add(amount);
+        if let Some(part) = self.parts.get(self.part) {
+            if part.len() <= self.taken {
+                self.part = self.part.saturating_add(1);
+                self.taken = 0;
+            }
+        }
+    }
+}
+
+/// Holds what is written, and fails at the write after so many, and at a flush unless that is
+/// taken.
+pub struct RefusingWriter {
+    held: Vec<u8>,
+    writes_left: usize,
+    takes_flush: bool,
+}
+
+impl RefusingWriter {
+    /// Holds the old bytes, and takes so many writes.
+    pub fn new(
+        alloc: Global,
+        old: &[u8],
+        writes: usize,
+        takes_flush: bool,
+    ) -> Result<RefusingWriter, AllocError> {
+        Ok(RefusingWriter {
+            held: Vec::from_slice(alloc, old)?,
+            writes_left: writes,
+            takes_flush,
+        })
+    }
+
+    /// What was written, behind the old bytes.
+    pub fn held(&self) -> &[u8] {
+        self.held.as_slice()
+    }
+}
+
+impl Write for RefusingWriter {
+    fn write(&mut self, buf: &[u8]) -> io::Result<usize> {
+        if self.writes_left == 0 {
+            return Err(io::Error::from(ErrorKind::BrokenPipe));
+        }
+        self.writes_left -= 1;
+        self.held.extend_from_slice(buf)?;
+        Ok(buf.len())
+    }
+
+    fn flush(&mut self) -> io::Result<()> {
+        if self.takes_flush {
+            Ok(())
+        } else {
+            Err(io::Error::from(ErrorKind::BrokenPipe))
+        }
+    }
+}
+
+/// Notes each write.
+pub struct NotingWriter {
+    writes: Vec<Vec<u8>>,
+    alloc: Global,
+}
+
+impl NotingWriter {
+    /// A writer with no writes noted.
+    pub fn new(alloc: Global) -> NotingWriter {
+        NotingWriter {
+            writes: Vec::new(alloc),
+            alloc,
+        }
+    }
+
+    /// The writes, from the first on.
+    pub fn writes(&self) -> &[Vec<u8>] {
+        self.writes.as_slice()
+    }
+}
+
+impl Write for NotingWriter {
+    fn write(&mut self, buf: &[u8]) -> io::Result<usize> {
+        self.writes.push(Vec::from_slice(self.alloc, buf)?)?;
+        Ok(buf.len())
+    }
+
+    fn flush(&mut self) -> io::Result<()> {
+        Ok(())
+    }
+}

@@ -1,0 +1,240 @@
+#!/usr/bin/env python3
+"""Tests the Rust crate in rust/, which is made from the Rattle source.
+
+usage: crate.py [STEP..]
+
+  same        rust/ is what packaging/crate/erase.py makes of the source
+  tests       the repository's tests, erased, and the crate's own: in debug and release, without std
+  lints       cargo fmt, clippy and doc have nothing to say
+  corpus      the stored answers, pieces and limits of crates/demangle_corpus/stdin
+  damaged     50,000 damaged symbols, by calls and by both programs, against stored digests
+  programs    both programs on the runs that are stored beside their sources
+  characters  the table of characters gives each of 1,114,112 code points what the kit's crate does
+  no_std      a static library without std needs five functions of C and a 128-bit division at most
+  package     `cargo package` makes both .crate files, with their licences
+
+It needs cargo, a C compiler, `nm` and, for `characters`, the Rattle kit. Work is done in out/crate.
+"""
+
+import filecmp
+import os
+import re
+import subprocess
+import sys
+import tarfile
+
+sys.path.insert(0, os.path.join(os.path.dirname(os.path.abspath(__file__)), "crate"))
+import common
+from common import OUT, ROOT, RUST, cargo, check, run
+
+RELEASE = os.path.join(OUT, "target", "release")
+LICENCES = {"LICENSE", "LICENSE-MIT-rustc-demangle", "LICENSE-APACHE-rustc-demangle"}
+
+
+def files_of(folder):
+    """Returns the files below a folder, without what cargo builds."""
+    found = set()
+    for place, folders, names in os.walk(folder):
+        folders[:] = [name for name in folders if name != "target"]
+        found |= {os.path.relpath(os.path.join(place, name), folder) for name in names}
+    return found
+
+
+def check_same():
+    anew = os.path.join(OUT, "anew")
+    common.erase(anew)
+    ours, theirs = files_of(RUST), files_of(anew)
+    check(ours == theirs, f"these files are in one alone: {sorted(ours ^ theirs)[:5]}")
+    _, differ, errors = filecmp.cmpfiles(RUST, anew, sorted(ours), shallow=False)
+    check(not differ + errors, f"run `make crate`: these files differ: {(differ + errors)[:5]}")
+    return f"{len(ours)} files are as they are made"
+
+
+def tests_in_source():
+    """Counts the tests of the source that can be erased."""
+    names = os.listdir(os.path.join(RUST, "kodliwe", "src"))
+    names += os.listdir(os.path.join(RUST, "kodliwe", "src", "bin"))
+    counts = {}
+    for name in names:
+        for place, _, files in os.walk(os.path.join(ROOT, "crates", name, "src")):
+            for file in (os.path.join(place, file) for file in files if file.endswith(".rt")):
+                with open(file, encoding="utf-8") as source:
+                    text = source.read()
+                counts[file] = len(re.findall(r"^#\[test\]$", text, re.M))
+                if "linked_list_allocator" in text:
+                    counts[file] = 0  # Stable Rust has no allocator of one's own in a `Vec`.
+    return sum(counts.values())
+
+
+def count_passed(said):
+    check(" 0 failed" in said and "FAILED" not in said, said[-2500:])
+    return sum(map(int, re.findall(r"test result: ok\. (\d+) passed", said)))
+
+
+def check_tests(rust=RUST):
+    wanted = tests_in_source()
+    said = cargo(rust, "test", "--package", "kodliwe", "--lib", "--bins", "--all-features")
+    erased = count_passed(said)
+    check(wanted > 150 and erased == wanted, f"{erased} tests were run, the source has {wanted}")
+    debug = count_passed(cargo(rust, "test", "--workspace", "--all-features", "--no-fail-fast"))
+    # Without link-time optimization, which takes minutes for each of the test programs.
+    quick = {"CARGO_PROFILE_RELEASE_LTO": "off", "CARGO_PROFILE_RELEASE_CODEGEN_UNITS": "16"}
+    words = ["test", "--workspace", "--all-features", "--release"]
+    release = count_passed(cargo(rust, *words, target=os.path.join(OUT, "quick"), **quick))
+    without = count_passed(cargo(rust, "test", "--workspace", "--no-default-features"))
+    check(debug == release > erased and without > 20, f"{debug}, {release} and {without} tests")
+    return (
+        f"all {erased} tests of the source that can be erased pass; with the crate's own and those "
+        f"of the documentation {debug} in debug and release, {without} without std"
+    )
+
+
+def check_lints(rust=RUST):
+    cargo(rust, "fmt", "--all", "--check")
+    for words in (["--all-targets", "--all-features"], ["--no-default-features"]):
+        cargo(rust, "clippy", "--workspace", *words, "--", "-D", "warnings")
+    cargo(rust, "doc", "--workspace", "--no-deps", "--all-features", RUSTDOCFLAGS="-D warnings")
+    cargo(rust, "doc", "--workspace", "--no-deps", "--no-default-features", RUSTDOCFLAGS="-D warnings")
+    return "cargo fmt, clippy and doc have nothing to say, with and without std"
+
+
+def compare_corpus(words):
+    """Compares a build of answers.rs with the stored rows, and returns how many there are."""
+    rows = [row for row in common.rows() if common.is_utf8(row[1])]
+    records = b"".join(common.record(symbol, limit) for _, symbol, limit, _ in rows)
+    fields = common.fields_of(run([*words, "records"], input=records))
+    check(len(fields) == 5 * len(rows) > 20_000, f"{len(fields)} fields for {len(rows)} rows")
+    for at, (kind, symbol, limit, wanted) in enumerate(rows):
+        status, as_str, plain, alt, pieces = fields[5 * at : 5 * at + 5]
+        forms = [common.column(plain), common.column(alt)]
+        if kind == "pieces":
+            forms = [
+                b"\\|".join(map(common.escaped, form.split(b"\x1f"))) for form in pieces.split(b"\x1e")
+            ]
+        if kind == "answer":
+            text = b"=" if as_str == symbol else common.escaped(as_str)
+            forms = [status, text, *forms]
+        check(forms == wanted, f"{kind} of {symbol[:80]!r} under {limit}: {forms!r:.300}")
+    return len(rows)
+
+
+def check_corpus(rust=RUST):
+    rows = compare_corpus([common.answers_program(rust)])
+    return f"{rows} stored rows: status, as_str, both forms, pieces and limits"
+
+
+def check_damaged(rust=RUST):
+    symbols = common.damaged_symbols()
+    with open(os.path.join(common.HERE, "damaged.txt"), encoding="ascii") as file:
+        stored = [line.split() for line in file if not line.startswith("#")]
+    text = b"\n".join(symbols) + b"\n"
+    said = run([common.answers_program(rust), "lines"], input=text).split(b"\n")[:-1]
+    accepted = sum(line.startswith(b"OK") for line in said)
+    cargo(rust, "build", "--release")
+    outputs = [said]
+    for words in (["demangle_filter"], ["demangle_filter", "--no-hash"], ["kodliwe"]):
+        program = os.path.join(RELEASE, words[0])
+        outputs.append(run([program, *words[1:]], input=text).split(b"\n")[:-1])
+    check(all(len(lines) == len(symbols) for lines in outputs), "a symbol has not one line")
+    found = [list(row) for row in zip(*map(common.digests, outputs))]
+    wanted = [[lines, plain, alt, alt] for lines, plain, alt in stored]
+    wrong = [at for at, row in enumerate(found) if row != wanted[at]]
+    check(len(found) == len(wanted) and not wrong, f"these thousands differ: {wrong}")
+    return f"{len(symbols)} damaged symbols, {accepted} of them accepted, are as stored"
+
+
+def check_programs():
+    cargo(RUST, "build", "--release")
+    for name in ("kodliwe", "demangle_filter"):
+        place = os.path.join(ROOT, "crates", name)
+        words = []
+        if os.path.exists(os.path.join(place, "args")):
+            with open(os.path.join(place, "args"), encoding="utf-8") as file:
+                words = file.read().split("\n")[:-1]
+        data = os.path.join(place, "data")
+        with open(os.path.join(place, "stdin"), "rb") as text, open(
+            os.path.join(place, "stdout"), "rb"
+        ) as stored:
+            command = [os.path.join(RELEASE, name), *words]
+            said = run(command, stdin=text, cwd=data if os.path.isdir(data) else place)
+            check(said == stored.read(), f"{name} wrote {said[:300]!r}")
+    return "kodliwe and demangle_filter write what is stored beside their sources"
+
+
+def letters_of_kit():
+    """Returns what the kit's crate says of each code point, by the program of the repository."""
+    place = os.path.join(ROOT, "crates", "character_tables")
+    run(["rt", "run", "--", "each"], cwd=place, stdin=subprocess.DEVNULL)
+    return run([os.path.join(place, "out", "character_tables"), "each"])
+
+
+def check_characters(rust=RUST):
+    theirs = letters_of_kit()
+    check(len(theirs) == 0x110000 and len(set(theirs)) > 8, f"{len(theirs)} letters of the kit")
+    ours = run([common.answers_program(rust), "characters"])
+    wrong = [at for at, (one, other) in enumerate(zip(ours, theirs)) if one != other]
+    check(len(ours) == len(theirs) and not wrong, f"{len(wrong)} code points, as U+{wrong[:1]}")
+    return f"{len(ours):,} code points are as in the kit's crate"
+
+
+def check_no_std(rust=RUST):
+    folder = common.package(
+        "no_std",
+        f'[features]\nstd = ["rustc-demangle/std"]\n\n[dependencies]\nrustc-demangle = {{ path = '
+        f'"{rust}/rustc-demangle" }}\n\n[lib]\ncrate-type = ["staticlib"]\npath = "{common.HERE}/'
+        f'no_std.rs"\n\n[profile.release]\npanic = "abort"\nlto = true\nopt-level = 3\n',
+    )
+    cargo(folder, "build", "--release")
+    archive, program = os.path.join(RELEASE, "libno_std.a"), os.path.join(folder, "program")
+    words = [os.path.join(common.HERE, "no_std.c"), archive, "-o", program]
+    run(["cc", "-O1", "-Wall", "-Wextra", "-Wl,--gc-sections", *words])
+    said = run([program, "_ZN3foo17h05af221e174051e9E", "_RNvC3foo3bar", "main"])
+    check(said == b"foo\nfoo::bar\nmain\n", repr(said))
+    needed = undefined_of(archive)
+    allowed = {"memcpy", "memmove", "memset", "memcmp", "bcmp", "__udivti3", "__umodti3"}
+    check(needed <= allowed, f"it needs {sorted(needed - allowed)}")
+    said = cargo(folder, "build", "--release", "--features", "std", status=1)
+    check("panic_impl" in said, "with the feature std it is built too, so this shows nothing")
+    return f"it is linked without std, prints, and needs {', '.join(sorted(needed))} alone"
+
+
+def undefined_of(archive):
+    """Returns what the archive's own object needs; the rest are Rust's `core` and intrinsics."""
+    text = run(["nm", archive], stdin=subprocess.DEVNULL).decode()
+    for member in text.split("\n\n"):
+        if re.search(r" T path_of$", member, re.M):
+            return set(re.findall(r"^ +U (\S+)$", member, re.M))
+    raise common.Failure("no object of the archive has the function")
+
+
+def check_package():
+    target = os.path.join(OUT, "package")
+    cargo(RUST, "package", "--workspace", "--allow-dirty", "--offline", target=target)
+    counts = []
+    for name, licences in (
+        ("kodliwe-0.1.0", LICENCES | {"LICENSE-UNICODE"}),
+        ("rustc-demangle-0.1.28", LICENCES),
+    ):
+        with tarfile.open(os.path.join(target, "package", name + ".crate")) as file:
+            names = {place.partition("/")[2] for place in file.getnames()}
+        missing = licences - names
+        check(not missing, f"{name} lacks {missing}")
+        counts.append(f"{name} with {len(names)} files")
+    return ", ".join(counts)
+
+
+CHECKS = [
+    ("same", check_same),
+    ("tests", check_tests),
+    ("lints", check_lints),
+    ("corpus", check_corpus),
+    ("damaged", check_damaged),
+    ("programs", check_programs),
+    ("characters", check_characters),
+    ("no_std", check_no_std),
+    ("package", check_package),
+]
+
+if __name__ == "__main__":
+    os.makedirs(OUT, exist_ok=True)
+    sys.exit(common.steps(CHECKS, sys.argv[1:]))
