@@ -23,9 +23,8 @@ import subprocess
 import sys
 import tarfile
 
-sys.path.insert(0, os.path.join(os.path.dirname(os.path.abspath(__file__)), "crate"))
-import common
-from common import OUT, ROOT, RUST, cargo, check, run
+import rust_common as common
+from rust_common import OUT, ROOT, RUST, cargo, check, run
 
 RELEASE = os.path.join(OUT, "target", "release")
 LICENCES = {"LICENSE", "LICENSE-MIT-rustc-demangle", "LICENSE-APACHE-rustc-demangle"}
@@ -108,9 +107,7 @@ def compare_corpus(words):
         status, as_str, plain, alt, pieces = fields[5 * at : 5 * at + 5]
         forms = [common.column(plain), common.column(alt)]
         if kind == "pieces":
-            forms = [
-                b"\\|".join(map(common.escaped, form.split(b"\x1f"))) for form in pieces.split(b"\x1e")
-            ]
+            forms = [b"\\|".join(map(common.escaped, form.split(b"\x1f"))) for form in pieces.split(b"\x1e")]
         if kind == "answer":
             text = b"=" if as_str == symbol else common.escaped(as_str)
             forms = [status, text, *forms]
@@ -152,9 +149,7 @@ def check_programs():
             with open(os.path.join(place, "args"), encoding="utf-8") as file:
                 words = file.read().split("\n")[:-1]
         data = os.path.join(place, "data")
-        with open(os.path.join(place, "stdin"), "rb") as text, open(
-            os.path.join(place, "stdout"), "rb"
-        ) as stored:
+        with open(os.path.join(place, "stdin"), "rb") as text, open(os.path.join(place, "stdout"), "rb") as stored:
             command = [os.path.join(RELEASE, name), *words]
             said = run(command, stdin=text, cwd=data if os.path.isdir(data) else place)
             check(said == stored.read(), f"{name} wrote {said[:300]!r}")

@@ -17,14 +17,14 @@ import shutil
 import subprocess
 import sys
 
-HERE = os.path.dirname(os.path.abspath(__file__))
-sys.path.insert(0, os.path.join(HERE, "crate"))
-sys.path.insert(0, os.path.join(HERE, "..", "packaging", "crate"))
-import common
 import crate
-import rattle_tokens
-import rules
-from common import OUT, ROOT, Failure, check
+import rust_common as common
+from rust_common import OUT, ROOT, Failure, check
+
+HERE = os.path.dirname(os.path.abspath(__file__))
+sys.path.insert(0, os.path.join(HERE, "..", "packaging", "crate"))
+import rattle_tokens  # noqa: E402
+import rules  # noqa: E402
 
 FAULTY = os.path.join(OUT, "faulty")
 TARGET = os.path.join(OUT, "faulty-target")
@@ -83,9 +83,7 @@ def copy_of_source(folder, edits=()):
         shutil.copy(os.path.join(ROOT, name), folder)
     ignored = shutil.ignore_patterns("out", "proofs", "specs", "must-fail", "stdin", "data")
     shutil.copytree(os.path.join(ROOT, "crates"), os.path.join(folder, "crates"), ignore=ignored)
-    shutil.copytree(
-        os.path.join(ROOT, "packaging", "crate"), os.path.join(folder, "packaging", "crate")
-    )
+    shutil.copytree(os.path.join(ROOT, "packaging", "crate"), os.path.join(folder, "packaging", "crate"))
     for file, old, new in edits:
         place = os.path.join(folder, file)
         with open(place, encoding="utf-8") as source:

@@ -28,9 +28,8 @@ import struct
 import subprocess
 import sys
 
-sys.path.insert(0, os.path.join(os.path.dirname(os.path.abspath(__file__)), "crate"))
-import common
-from common import HERE, NO_LIMIT, OUT, RUST, check, run
+import rust_common as common
+from rust_common import HERE, OUT, RUST, check, run
 
 OURS = os.path.join(RUST, "rustc-demangle")
 DEBIAN = "/usr/share/cargo/registry"
@@ -115,10 +114,7 @@ def folder(name, manifest):
 
 def over(library):
     """Returns the part of a manifest by which a package takes a crate rustc-demangle."""
-    return (
-        '[features]\nstd = ["rustc-demangle/std"]\n\n'
-        f'[dependencies]\nrustc-demangle = {{ path = "{library}" }}\n'
-    )
+    return '[features]\nstd = ["rustc-demangle/std"]\n\n' f'[dependencies]\nrustc-demangle = {{ path = "{library}" }}\n'
 
 
 def published():
@@ -279,9 +275,7 @@ def v0_symbols():
 def instructions(command, text):
     words = ["valgrind", "--tool=callgrind", "--callgrind-out-file=/dev/null", *command]
     check(shutil.which("valgrind"), "this machine has no valgrind")
-    ran = subprocess.run(
-        words, input=text, stdout=subprocess.DEVNULL, stderr=subprocess.PIPE, check=True
-    )
+    ran = subprocess.run(words, input=text, stdout=subprocess.DEVNULL, stderr=subprocess.PIPE, check=True)
     return int(re.search(rb"Collected : (\d+)", ran.stderr).group(1))
 
 

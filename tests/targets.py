@@ -16,10 +16,9 @@ import os
 import subprocess
 import sys
 
-sys.path.insert(0, os.path.join(os.path.dirname(os.path.abspath(__file__)), "crate"))
-import common
+import rust_common as common
 import crate
-from common import OUT, ROOT, RUST, check, run
+from rust_common import OUT, ROOT, RUST, check, run
 
 PLACE = os.path.join(ROOT, "out", "targets")
 TREE = os.path.join(PLACE, "root")

@@ -186,10 +186,7 @@ def rust_of(module, gated, written):
         gated = set()  # It is behind the feature as a whole.
     lines = use_lines(module, gated)
     text = "".join(t.text for t in module.head) + "".join(sorted(set(lines.get(None, []))))
-    text += "".join(
-        "".join(lines.get(at, []))[:-1] if token.kind == "use" else token.text
-        for at, token in enumerate(module.tokens)
-    )
+    text += "".join("".join(lines.get(at, []))[:-1] if token.kind == "use" else token.text for at, token in enumerate(module.tokens))
     for child in module.children:
         declared = r"((?:pub(?:\(\w+\))? )?mod %s;)" % child
         if (*path, child) in gated:

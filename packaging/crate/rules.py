@@ -89,9 +89,7 @@ def end_of_clause(tokens, at):
     if opened < len(tokens) and tokens[opened].kind == "name":
         opened = after(tokens, opened)
     if text_at(tokens, opened) != "{":
-        raise SourceError(
-            tokens[at].line, f"no rule for this `{tokens[at].text}`: its text has no braces"
-        )
+        raise SourceError(tokens[at].line, f"no rule for this `{tokens[at].text}`: its text has no braces")
     end = closing(tokens, opened)
     follows = after(tokens, end)
     if text_at(tokens, follows) in ("requires", "ensures"):
@@ -168,11 +166,7 @@ FORMS = [
     ("assert_ne!($h;", "assert_ne!("),
     ("final fn", "fn"),
     # Methods that take the allocator, which Rust's methods of these names do not.
-    *(
-        (f".{name}({first}", f".{name}_in({first}")
-        for name in ("repeat", "collect", "to_vec")
-        for first in ("alloc", "rt.alloc()")
-    ),
+    *((f".{name}({first}", f".{name}_in({first}") for name in ("repeat", "collect", "to_vec") for first in ("alloc", "rt.alloc()")),
     (".collect::<Vec<$t>>(", ".collect_in::<Vec<$t>>("),
     (".clone()?", ".clone()"),
 ]

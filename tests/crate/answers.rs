@@ -7,8 +7,8 @@
 //! the two printed forms, and the pieces of each form, with U+001F between them and U+001E between
 //! the forms. `lines` writes for each line `OK` or `ERR` and the two forms, with tabs between them.
 //! `characters` writes a letter for each code point, as crates/character_tables does.
-use kodliwe::support::unicode::properties::{GeneralCategory, is_grapheme_extend};
-use kodliwe::{Demangle, SinkRefused, TextSink, demangle, try_demangle};
+use kodliwe::support::unicode::properties::{is_grapheme_extend, GeneralCategory};
+use kodliwe::{demangle, try_demangle, Demangle, SinkRefused, TextSink};
 use std::io::{self, Read, Write};
 
 /// Keeps the nonempty pieces.
@@ -38,7 +38,11 @@ fn pieces_of(symbol: &Demangle<'_>, include_hash: bool, limit: Option<usize>) ->
 }
 
 fn status_of(text: &str) -> &'static str {
-    if try_demangle(text).is_ok() { "OK" } else { "ERR" }
+    if try_demangle(text).is_ok() {
+        "OK"
+    } else {
+        "ERR"
+    }
 }
 
 fn put(to: &mut impl Write, field: &str) -> io::Result<()> {
@@ -58,7 +62,10 @@ fn answer(text: &str, limit: u64, to: &mut impl Write) -> io::Result<()> {
         assert!(limit.is_some() || joined == shown, "{text}");
         put(to, &joined)?;
     }
-    put(to, &forms.map(|pieces| pieces.join("\u{1f}")).join("\u{1e}"))
+    put(
+        to,
+        &forms.map(|pieces| pieces.join("\u{1f}")).join("\u{1e}"),
+    )
 }
 
 fn answer_records(input: &[u8], to: &mut impl Write) -> io::Result<()> {
@@ -103,7 +110,9 @@ fn main() -> io::Result<()> {
     let mut input = Vec::new();
     let mut output = io::BufWriter::new(io::stdout().lock());
     match std::env::args().nth(1).as_deref() {
-        Some("characters") => output.write_all(&(0..0x11_0000).map(letter_of).collect::<Vec<_>>())?,
+        Some("characters") => {
+            output.write_all(&(0..0x11_0000).map(letter_of).collect::<Vec<_>>())?
+        }
         Some("records") => {
             io::stdin().read_to_end(&mut input)?;
             answer_records(&input, &mut output)?;

@@ -95,7 +95,9 @@ fn times(symbols: &[&str], rounds: usize, out: &mut String) {
 fn main() {
     let words: Vec<String> = std::env::args().skip(1).collect();
     let mut input = Vec::new();
-    std::io::stdin().read_to_end(&mut input).expect("standard input");
+    std::io::stdin()
+        .read_to_end(&mut input)
+        .expect("standard input");
     let mut to = Vec::new();
     let mut out = String::with_capacity(1 << 21);
     let symbols = || -> Vec<&str> { std::str::from_utf8(&input).expect("text").lines().collect() };
@@ -108,7 +110,10 @@ fn main() {
         ["stream-ours"] => put(&mut to, &streamed_by!(ours, &input[..], true)),
         ["time", rounds] => times(&symbols(), rounds.parse().expect("a number"), &mut out),
         ["count", which, rounds] => {
-            let (_, job) = JOBS.into_iter().find(|(name, _)| *name == which).expect("a job");
+            let (_, job) = JOBS
+                .into_iter()
+                .find(|(name, _)| *name == which)
+                .expect("a job");
             let symbols = symbols();
             for _ in 0..rounds.parse().expect("a number") {
                 run(job, &symbols, &mut out);

@@ -15,7 +15,10 @@ struct Bytes<'b> {
 
 impl Write for Bytes<'_> {
     fn write_str(&mut self, text: &str) -> fmt::Result {
-        let to = self.out.get_mut(self.len..self.len + text.len()).ok_or(fmt::Error)?;
+        let to = self
+            .out
+            .get_mut(self.len..self.len + text.len())
+            .ok_or(fmt::Error)?;
         to.copy_from_slice(text.as_bytes());
         self.len += text.len();
         Ok(())
@@ -28,10 +31,18 @@ impl Write for Bytes<'_> {
 ///
 /// `symbol` and `out` point to as many bytes as the sizes behind them say.
 #[unsafe(no_mangle)]
-pub unsafe extern "C" fn path_of(symbol: *const u8, len: usize, out: *mut u8, size: usize) -> usize {
+pub unsafe extern "C" fn path_of(
+    symbol: *const u8,
+    len: usize,
+    out: *mut u8,
+    size: usize,
+) -> usize {
     // SAFETY: the caller keeps that the sizes are right.
     let (symbol, out) = unsafe {
-        (core::slice::from_raw_parts(symbol, len), core::slice::from_raw_parts_mut(out, size))
+        (
+            core::slice::from_raw_parts(symbol, len),
+            core::slice::from_raw_parts_mut(out, size),
+        )
     };
     let symbol = core::str::from_utf8(symbol).unwrap_or("");
     let mut to = Bytes { out, len: 0 };

@@ -20,6 +20,8 @@ mod refused {
     }
 
     pub fn demangle(symbol: &str) -> Result<(), ParseError> {
-        ::try_demangle(symbol).map(|_| ()).map_err(|_| ParseError::RecursedTooDeep)
+        ::try_demangle(symbol)
+            .map(|_| ())
+            .map_err(|_| ParseError::RecursedTooDeep)
     }
 }

@@ -8,7 +8,7 @@ import struct
 import subprocess
 import sys
 
-ROOT = os.path.dirname(os.path.dirname(os.path.dirname(os.path.abspath(__file__))))
+ROOT = os.path.dirname(os.path.dirname(os.path.abspath(__file__)))
 HERE = os.path.join(ROOT, "tests", "crate")
 RUST = os.path.join(ROOT, "rust")
 OUT = os.path.join(ROOT, "out", "crate")
@@ -30,9 +30,7 @@ def run(command, status=0, **more):
     """Runs a command and returns its output; another status than the given one is a failure."""
     if shutil.which(command[0]) is None:
         raise Failure(f"this machine has no {command[0]}")
-    ran = subprocess.run(
-        command, stdout=subprocess.PIPE, stderr=subprocess.PIPE, check=False, **more
-    )
+    ran = subprocess.run(command, stdout=subprocess.PIPE, stderr=subprocess.PIPE, check=False, **more)
     if ran.returncode != status:
         said = (ran.stderr + ran.stdout)[-2500:].decode(errors="replace")
         raise Failure(f"{' '.join(map(str, command))[:300]}: status {ran.returncode}\n{said}")
@@ -73,8 +71,7 @@ def answers_program(rust, target=None):
     """Builds the program answers.rs over a workspace, and returns its path."""
     folder = package(
         "answers",
-        f'[[bin]]\nname = "answers"\npath = "{HERE}/answers.rs"\n\n'
-        f'[dependencies]\nkodliwe = {{ path = "{rust}/kodliwe" }}\n',
+        f'[[bin]]\nname = "answers"\npath = "{HERE}/answers.rs"\n\n' f'[dependencies]\nkodliwe = {{ path = "{rust}/kodliwe" }}\n',
     )
     cargo(folder, "build", "--release", target=target)
     return os.path.join(target or os.path.join(OUT, "target"), "release", "answers")
@@ -139,9 +136,7 @@ def is_utf8(text):
 def damaged_symbols():
     """Returns the damaged symbols: the same on each machine, by a generator of its own."""
     symbols = [
-        symbol
-        for kind, symbol, _, columns in rows()
-        if kind == "answer" and columns[0] == b"OK" and symbol.isascii() and len(symbol) < 400
+        symbol for kind, symbol, _, columns in rows() if kind == "answer" and columns[0] == b"OK" and symbol.isascii() and len(symbol) < 400
     ]
     symbols = [symbol for symbol in symbols if not re.search(rb"[^!-~]", symbol)]
     state = 1
@@ -174,10 +169,7 @@ def damaged_symbols():
 
 def digests(lines):
     """Returns a digest for each thousand lines."""
-    return [
-        hashlib.sha256(b"\n".join(lines[at : at + CHUNK])).hexdigest()[:16]
-        for at in range(0, len(lines), CHUNK)
-    ]
+    return [hashlib.sha256(b"\n".join(lines[at : at + CHUNK])).hexdigest()[:16] for at in range(0, len(lines), CHUNK)]
 
 
 def steps(checks, arguments):
