@@ -23,3 +23,4 @@ pub mod TextRows
 pub mod V0Feeds
 pub mod WholeText
 pub mod WordFeeds
+pub mod MemoSteps
