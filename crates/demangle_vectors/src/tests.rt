@@ -14,6 +14,7 @@ mod hostile;
 mod legacy;
 mod limits;
 mod refused;
+mod repeats;
 mod sinks;
 mod stream;
 mod texts;

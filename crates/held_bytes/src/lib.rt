@@ -91,6 +91,7 @@ impl Held {
         ensures room { length self.old + length piece.now ≤ CAPACITY → IsTrue result }
         ensures held { IsTrue result → self.new ≡ self.old ++ piece.now }
         ensures kept { IsFalse result → self.new ≡ self.old }
+        ensures most { length self.old ≤ CAPACITY }
     {
         let start = self.len;
         let end = start + piece.len();

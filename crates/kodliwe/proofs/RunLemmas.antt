@@ -7,7 +7,7 @@ use Rattle.std.specs.Bool.{⊤}
 use Rattle.std.specs.Io.KnownBytes.{Appends, Keeps, prepend_known}
 use Rattle.std.proofs.KnownBytes.{Appends-trans, Appends-nil, Appends-kept}
 use Rattle.std.proofs.lemmas.Option.{MatchOption-at_some}
-use Rattle.rustc_demangle.specs.Filtered.{filtered_by}
+use Rattle.rustc_demangle.specs.Filtered.{filtered_by, filtered_within}
 use Rattle.rustc_demangle.specs.Bytes.{Passed, IsWriting, StepTook, StepEnded, StepRefused, BytesStopped}
 use Rattle.rustc_demangle.specs.declared.stream.fault.StreamFault.{StreamFault}
 use Rattle.rustc_demangle.specs.declared.stream.fault.StreamFault.TheVariants.{Read, NotUtf8, Write, Memory}
@@ -216,3 +216,22 @@ pub front_kept : (f : List ℕ → List ℕ) (all : List (Option (List ℕ))) (o
 front_kept f all old mid new wrote keeps = λ texts is.
     let s = wrote texts is in
     record { before = s.before; front = s.front; left = s.left; behind = s.behind; whole = s.whole; uncut = s.uncut; wrote = Appends-kept old mid new _ s.wrote keeps }
+
+-- a turn with a memo of the same value
+pub turn_same : (m n : Bool × ℕ) (carried next : List ℕ) (left rest old new : Option (List ℕ)) → m ≡ n → TurnTook (filtered_within m.0 m.1) carried next left rest old new
+    → TurnTook (filtered_within n.0 n.1) carried next left rest old new
+turn_same m n carried next left rest old new same = subst (λ (v : Bool × ℕ). TurnTook (filtered_within v.0 v.1) carried next left rest old new) same
+
+pub refused_same : (m n : Bool × ℕ) (fault : StreamFault) (carried : List ℕ) (left old new : Option (List ℕ)) → m ≡ n
+    → IfSome left (λ text. BytesStopped (filtered_within m.0 m.1) fault (carried ++ text) old new)
+    → IfSome left (λ text. BytesStopped (filtered_within n.0 n.1) fault (carried ++ text) old new)
+refused_same m n fault carried left old new same = subst (λ (v : Bool × ℕ). IfSome left (λ text. BytesStopped (filtered_within v.0 v.1) fault (carried ++ text) old new)) same
+
+-- what a reader held, filtered with a memo of the same value
+pub reader_same : (m n : Bool × ℕ) (held old new : Option (List ℕ)) → m ≡ n → IfSome held (λ text. Appends old new (filtered_within m.0 m.1 text))
+    → IfSome held (λ text. Appends old new (filtered_within n.0 n.1 text))
+reader_same m n held old new same = subst (λ (v : Bool × ℕ). IfSome held (λ text. Appends old new (filtered_within v.0 v.1 text))) same
+
+pub stopped_same : (m n : Bool × ℕ) (fault : StreamFault) (held old new : Option (List ℕ)) → m ≡ n → IfSome held (λ text. BytesStopped (filtered_within m.0 m.1) fault text old new)
+    → IfSome held (λ text. BytesStopped (filtered_within n.0 n.1) fault text old new)
+stopped_same m n fault held old new same = subst (λ (v : Bool × ℕ). IfSome held (λ text. BytesStopped (filtered_within v.0 v.1) fault text old new)) same

@@ -7,7 +7,7 @@ ghost use Rattle.rustc_demangle.specs.Bytes.{IsWriting, StepEnded, StepRefused, 
 ghost use Rattle.kodliwe.specs.Run.{TurnTook, WroteAll, WroteFront, RunStopped, IsClosedPipe};
 
 use crate::fault::{InputFault, report};
-use rustc_demangle::{BytesFilter, StreamFault};
+use rustc_demangle::{BytesFilter, StreamFault, SymbolMemo};
 use std::alloc::{Allocator, Global};
 use std::io;
 use std::io::{BufRead, BufReader, ErrorKind, Read, Write};
@@ -86,20 +86,20 @@ fn step<R: BufRead, W: Write, A: Allocator>(
     filter: &mut BytesFilter<A>,
     input: &mut R,
     output: &mut W,
-    include_hash: bool,
-    limit: usize,
+    memo: &mut SymbolMemo,
 ) -> Result<bool, StreamFault>
-    ensures took { result ≡ Ok true → TurnTook (filtered_within include_hash limit)
+    ensures took { result ≡ Ok true → TurnTook (filtered_within memo.old.0 memo.old.1)
         filter.old filter.new (R.remaining input.old) (R.remaining input.new)
         (W.contents output.old) (W.contents output.new) }
-    ensures ended { result ≡ Ok false → StepEnded (filtered_within include_hash limit)
+    ensures ended { result ≡ Ok false → StepEnded (filtered_within memo.old.0 memo.old.1)
         filter.old filter.new (R.remaining input.old) (R.remaining input.new)
         (W.contents output.old) (W.contents output.new) }
     ensures refused { IfErr result (λ fault. StepRefused fault filter.old filter.new
         (R.remaining input.old) (R.remaining input.new)
         (W.contents output.old) (W.contents output.new)) }
+    ensures same { memo.new ≡ memo.old }
 {
-    match filter.step_limited(input, output, include_hash, limit) {
+    match filter.step(input, output, memo) {
         Err(StreamFault::Read(error)) if error.kind() == ErrorKind::Interrupted => Ok(true),
         stepped => stepped,
     }
@@ -110,23 +110,23 @@ fn turn<R: Read, W: Write, A: Allocator, B: Allocator>(
     filter: &mut BytesFilter<A>,
     input: &mut BufReader<R, B>,
     output: &mut W,
-    include_hash: bool,
-    limit: usize,
+    memo: &mut SymbolMemo,
 ) -> Result<bool, StreamFault>
-    ensures took { result ≡ Ok true → TurnTook (filtered_within include_hash limit)
+    ensures took { result ≡ Ok true → TurnTook (filtered_within memo.old.0 memo.old.1)
         filter.old filter.new
         (reader_remaining R.remaining input.old) (reader_remaining R.remaining input.new)
         (W.contents output.old) (W.contents output.new) }
-    ensures ended { result ≡ Ok false → StepEnded (filtered_within include_hash limit)
+    ensures ended { result ≡ Ok false → StepEnded (filtered_within memo.old.0 memo.old.1)
         filter.old filter.new
         (reader_remaining R.remaining input.old) (reader_remaining R.remaining input.new)
         (W.contents output.old) (W.contents output.new) }
     ensures refused { IfErr result (λ fault. IfSome (reader_remaining R.remaining input.old)
-        (λ text. BytesStopped (filtered_within include_hash limit) fault (filter.old ++ text)
+        (λ text. BytesStopped (filtered_within memo.old.0 memo.old.1) fault (filter.old ++ text)
         (W.contents output.old) (W.contents output.new))) }
+    ensures same { memo.new ≡ memo.old }
 {
     pause(input, output)?;
-    step(filter, input, output, include_hash, limit)
+    step(filter, input, output, memo)
 }
 
 /// Filters what a reader holds, up to its end. The output is flushed before each reading.
@@ -134,19 +134,19 @@ fn filter_steps<R: Read, W: Write, A: Allocator, B: Allocator>(
     filter: &mut BytesFilter<A>,
     input: &mut BufReader<R, B>,
     output: &mut W,
-    include_hash: bool,
-    limit: usize,
+    memo: &mut SymbolMemo,
 ) -> Result<(), StreamFault>
     requires { filter.old ≡ [] }
     ensures ok { OnOk result (IfSome (reader_remaining R.remaining input.old) (λ text.
         Appends (W.contents output.old) (W.contents output.new)
-        (filtered_within include_hash limit text))) }
+        (filtered_within memo.old.0 memo.old.1 text))) }
     ensures err { IfErr result (λ fault. IfSome (reader_remaining R.remaining input.old) (λ text.
-        BytesStopped (filtered_within include_hash limit) fault text
+        BytesStopped (filtered_within memo.old.0 memo.old.1) fault text
         (W.contents output.old) (W.contents output.new))) }
+    ensures same { memo.new ≡ memo.old }
 {
     for _ in 0..=u64::MAX {
-        if !turn(filter, input, output, include_hash, limit)? {
+        if !turn(filter, input, output, memo)? {
             return Ok(());
         }
     }
@@ -158,41 +158,41 @@ fn filter_reader<R: Read + Drop, W: Write>(
     alloc: Global,
     reader: R,
     output: &mut W,
-    include_hash: bool,
-    limit: usize,
+    memo: &mut SymbolMemo,
 ) -> Result<(), StreamFault>
     ensures ok { OnOk result (IfSome (R.remaining reader) (λ text.
         Appends (W.contents output.old) (W.contents output.new)
-        (filtered_within include_hash limit text))) }
+        (filtered_within memo.old.0 memo.old.1 text))) }
     ensures err { IfErr result (λ fault. IfSome (R.remaining reader) (λ text.
-        BytesStopped (filtered_within include_hash limit) fault text
+        BytesStopped (filtered_within memo.old.0 memo.old.1) fault text
         (W.contents output.old) (W.contents output.new))) }
+    ensures same { memo.new ≡ memo.old }
 {
     let Ok(mut input) = BufReader::with_capacity(alloc, BUFFER, reader) else {
         return Err(StreamFault::Memory);
     };
     let mut filter = BytesFilter::new(alloc);
-    filter_steps(&mut filter, &mut input, output, include_hash, limit)
+    filter_steps(&mut filter, &mut input, output, memo)
 }
 
-/// Filters what each reader holds, in order, and flushes the output.
+/// Filters what each reader holds, in order and with one memo, and flushes the output.
 fn filter_inputs<'a, R: Read + Drop, W: Write>(
     alloc: Global,
     inputs: Vec<Input<'a, R>>,
     output: &mut W,
-    include_hash: bool,
-    limit: usize,
+    memo: &mut SymbolMemo,
 ) -> Result<(), InputFault<'a>>
-    ensures ok { OnOk result (WroteAll (filtered_within include_hash limit)
+    ensures ok { OnOk result (WroteAll (filtered_within memo.old.0 memo.old.1)
         (map (λ input. R.remaining input.reader) inputs.entry.items)
         (W.contents output.old) (W.contents output.new)) }
-    ensures err { IfErr result (λ stop. RunStopped stop.fault (filtered_within include_hash limit)
+    ensures err { IfErr result (λ stop. RunStopped stop.fault
+        (filtered_within memo.old.0 memo.old.1)
         (map (λ input. R.remaining input.reader) inputs.entry.items)
         (W.contents output.old) (W.contents output.new)) }
 {
     for input in inputs {
         let Input { name, reader } = input;
-        match filter_reader(alloc, reader, output, include_hash, limit) {
+        match filter_reader(alloc, reader, output, memo) {
             Ok(()) => {}
             Err(fault) => return Err(InputFault { name, fault }),
         }
@@ -245,7 +245,8 @@ pub fn run<R: Read + Drop, W: Write, E: Write>(
         (map (λ input. R.remaining input.reader) inputs.entry.items)
         (W.contents output.old) (W.contents output.new) }
 {
-    let Err(stop) = filter_inputs(alloc, inputs, output, include_hash, limit) else {
+    let mut memo = SymbolMemo::new(alloc, include_hash, limit);
+    let Err(stop) = filter_inputs(alloc, inputs, output, &mut memo) else {
         return Ended::Complete;
     };
     let ended = end_of(&stop.fault);

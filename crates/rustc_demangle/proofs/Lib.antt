@@ -24,3 +24,4 @@ pub mod TextRows
 pub mod V0Feeds
 pub mod WholeText
 pub mod WordFeeds
+pub mod MemoSteps

@@ -19,7 +19,7 @@ pub use demangle_symbol::cursor::Looks;
 pub use runs::{run_len, run_start};
 pub use slice::demangle_slice;
 pub use stream::{
-    BytesFilter, StreamFault, demangle_bytes, demangle_bytes_limited, demangle_stream,
+    BytesFilter, StreamFault, SymbolMemo, demangle_bytes, demangle_bytes_limited, demangle_stream,
     demangle_stream_named,
 };
 use strip::without_thin_lto;

@@ -9,7 +9,9 @@ use std::{io, str};
 mod bytes;
 mod carrying;
 mod fault;
+mod held_sink;
 mod line;
+mod memo;
 mod reading;
 #[cfg(test)]
 mod tests;
@@ -17,6 +19,7 @@ mod tests;
 pub use bytes::{BytesFilter, demangle_bytes, demangle_bytes_limited};
 pub use fault::StreamFault;
 use line::demangle_line;
+pub use memo::SymbolMemo;
 use reading::read_line;
 
 /// Reads a line whole and then writes it demangled, or answers `false` at the end of the input.

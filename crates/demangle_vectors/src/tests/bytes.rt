@@ -1,6 +1,8 @@
 //! What is written of any bytes, by fillings of all sizes, and where a reader or a writer refuses.
 use super::stream::{DISAMBIGUATOR, HEAD, LINE, ROWS, TAIL};
-use rustc_demangle::{BytesFilter, StreamFault, demangle_bytes, demangle_bytes_limited};
+use rustc_demangle::{
+    BytesFilter, StreamFault, SymbolMemo, demangle_bytes, demangle_bytes_limited,
+};
 use std::alloc::Global;
 use std::io;
 use std::io::{BufRead, ErrorKind, Read, Write};
@@ -173,8 +175,9 @@ fn a_step_is_made_again_after_an_interruption(rt: HostRuntime) -> Result<(), Fai
     };
     let mut output = Vec::new(alloc);
     let mut filter = BytesFilter::new(alloc);
+    let mut memo = SymbolMemo::new(alloc, true, 1_000_000);
     for _ in 0..1_000u32 {
-        match filter.step(&mut input, &mut output, true) {
+        match filter.step(&mut input, &mut output, &mut memo) {
             Ok(false) => break,
             Ok(true) => {}
             Err(StreamFault::Read(error)) if error.kind() == ErrorKind::Interrupted => {}
@@ -190,6 +193,7 @@ fn the_writer_of_bytes_fails_at_each_write(rt: HostRuntime) -> Result<(), Fail> 
     let alloc = rt.alloc();
     let mut text = Vec::new(alloc);
     let mut wanted_writes: Vec<&[u8]> = Vec::new(alloc);
+    // The first symbol of all is remembered when it comes for the third time.
     for _ in 0..2 {
         text.extend_from_slice(LINE)?;
         text.push(b'\n')?;
@@ -197,6 +201,12 @@ fn the_writer_of_bytes_fails_at_each_write(rt: HostRuntime) -> Result<(), Fail> 
         wanted_writes.extend_from_slice(&DISAMBIGUATOR)?;
         wanted_writes.extend_from_slice(&TAIL)?;
     }
+    // A symbol that comes again is one write.
+    text.extend_from_slice(LINE)?;
+    text.push(b'\n')?;
+    wanted_writes.extend_from_slice(&HEAD[..3])?;
+    wanted_writes.push(b"<mio[1888792e1a78739]::sys::unix::selector::epoll::Selector>::select")?;
+    wanted_writes.extend_from_slice(&TAIL[13..])?;
     for writes in 0..=wanted_writes.len() {
         let mut input = text.as_slice();
         let mut output = RefusingWriter::new(alloc, b"old", writes, true)?;

@@ -6,6 +6,7 @@ ghost use Rattle.rustc_demangle.specs.Bytes.{IsOpen, StepTook, StepEnded, StepRe
 
 use crate::stream::carrying::{finish, take_some};
 use crate::stream::fault::{StreamFault, read_fault};
+use crate::stream::memo::SymbolMemo;
 use crate::value::MAX_SIZE;
 use std::alloc::{Allocator, Global};
 use std::io;
@@ -36,60 +37,40 @@ impl<A: Allocator> BytesFilter<A> {
         }
     }
 
-    /// Takes some of the bytes that the reader shows and writes what is known of them, with each
-    /// symbol cut at `limit` bytes before its suffix; or answers `false` at the end of the input,
-    /// where it writes what stands for the carried run.
+    /// Takes some of the bytes that the reader shows and writes what is known of them. Returns
+    /// `false` at the end of the input, after the text of the carried run is written. The memo says
+    /// how symbols are printed, and remembers their texts.
     ///
-    /// Where the reader or the memory refuses it, nothing is taken and nothing written: the same
+    /// If the reader fails or memory is refused, nothing is taken and nothing is written: the same
     /// step can be made again, as after a read that was interrupted.
-    pub fn step_limited<R: BufRead, W: Write>(
+    pub fn step<R: BufRead, W: Write>(
         &mut self,
         input: &mut R,
         output: &mut W,
-        include_hash: bool,
-        limit: usize,
+        memo: &mut SymbolMemo,
     ) -> Result<bool, StreamFault>
-        ensures took { result ≡ Ok true → StepTook (filtered_within include_hash limit)
+        ensures took { result ≡ Ok true → StepTook (filtered_within memo.old.0 memo.old.1)
             self.old self.new (R.remaining input.old) (R.remaining input.new)
             (W.contents output.old) (W.contents output.new) }
-        ensures ended { result ≡ Ok false → StepEnded (filtered_within include_hash limit)
+        ensures ended { result ≡ Ok false → StepEnded (filtered_within memo.old.0 memo.old.1)
             self.old self.new (R.remaining input.old) (R.remaining input.new)
             (W.contents output.old) (W.contents output.new) }
         ensures refused { IfErr result (λ fault. StepRefused fault self.old self.new
             (R.remaining input.old) (R.remaining input.new)
             (W.contents output.old) (W.contents output.new)) }
+        ensures same { memo.new ≡ memo.old }
     {
         let shown = match input.fill_buf() {
             Ok(shown) => shown,
             Err(error) => return Err(read_fault(error)),
         };
         if shown.is_empty() {
-            finish(&mut self.carried, output, include_hash, limit)?;
+            finish(&mut self.carried, output, memo)?;
             return Ok(false);
         }
-        let taken = take_some(&mut self.carried, shown, output, include_hash, limit)?;
+        let taken = take_some(&mut self.carried, shown, output, memo)?;
         input.consume(taken);
         Ok(true)
-    }
-
-    /// Takes a step as `step_limited` does, with each symbol cut at 1,000,000 bytes.
-    pub fn step<R: BufRead, W: Write>(
-        &mut self,
-        input: &mut R,
-        output: &mut W,
-        include_hash: bool,
-    ) -> Result<bool, StreamFault>
-        ensures took { result ≡ Ok true → StepTook (filtered include_hash) self.old self.new
-            (R.remaining input.old) (R.remaining input.new)
-            (W.contents output.old) (W.contents output.new) }
-        ensures ended { result ≡ Ok false → StepEnded (filtered include_hash) self.old self.new
-            (R.remaining input.old) (R.remaining input.new)
-            (W.contents output.old) (W.contents output.new) }
-        ensures refused { IfErr result (λ fault. StepRefused fault self.old self.new
-            (R.remaining input.old) (R.remaining input.new)
-            (W.contents output.old) (W.contents output.new)) }
-    {
-        self.step_limited(input, output, include_hash, MAX_SIZE)
     }
 }
 
@@ -98,19 +79,18 @@ fn take_steps<R: BufRead, W: Write, A: Allocator>(
     filter: &mut BytesFilter<A>,
     input: &mut R,
     output: &mut W,
-    include_hash: bool,
-    limit: usize,
+    memo: &mut SymbolMemo,
 ) -> Result<(), StreamFault>
     requires { filter.old ≡ [] }
     ensures ok { OnOk result (IfSome (R.remaining input.old) (λ text.
         (R.remaining input.new ≡ Some []) × Appends (W.contents output.old) (W.contents output.new)
-        (filtered_within include_hash limit text))) }
+        (filtered_within memo.old.0 memo.old.1 text))) }
     ensures err { IfErr result (λ fault. IfSome (R.remaining input.old) (λ text.
-        BytesStopped (filtered_within include_hash limit) fault text
+        BytesStopped (filtered_within memo.old.0 memo.old.1) fault text
         (W.contents output.old) (W.contents output.new))) }
 {
     for _ in 0..=u64::MAX {
-        if !filter.step_limited(input, output, include_hash, limit)? {
+        if !filter.step(input, output, memo)? {
             return Ok(());
         }
     }
@@ -121,12 +101,13 @@ fn take_steps<R: BufRead, W: Write, A: Allocator>(
 /// bytes before its suffix.
 ///
 /// A symbol is looked for where `_ZN` or `_R` stands, up to the next byte that is no ASCII letter,
-/// no digit and none of `$`, `.` and `_`. What is no symbol is written as it was. It reads by the
-/// reader's fillings and not by lines: what a filling has between two such runs is written as it
-/// lies there, and only a run that the bytes so far end with is kept in memory.
+/// no digit and none of `$`, `.` and `_`. What is no symbol is written as it was. It reads in the
+/// reader's chunks and not by lines: what a chunk has between two such runs is one write. It keeps in
+/// memory the run that the bytes so far end with, and a `SymbolMemo`. So a symbol that comes again is
+/// one write. The first time its pieces are a write each.
 ///
-/// It is refused where the reader or the writer answers an error, and where the buffer of the run
-/// is refused memory, and never for want of UTF-8.
+/// It fails if the reader or the writer fails, or if memory is refused to the buffer of the run. It
+/// never fails because the bytes are not UTF-8, nor because memory is refused to the memo.
 pub fn demangle_bytes_limited<R: BufRead, W: Write>(
     alloc: Global,
     input: &mut R,
@@ -142,7 +123,8 @@ pub fn demangle_bytes_limited<R: BufRead, W: Write>(
         (W.contents output.old) (W.contents output.new))) }
 {
     let mut filter = BytesFilter::new(alloc);
-    take_steps(&mut filter, input, output, include_hash, limit)
+    let mut memo = SymbolMemo::new(alloc, include_hash, limit);
+    take_steps(&mut filter, input, output, &mut memo)
 }
 
 /// Writes the input, which may be any bytes, with each symbol of it demangled, as

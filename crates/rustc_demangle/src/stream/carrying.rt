@@ -7,7 +7,7 @@ ghost use Rattle.rustc_demangle.specs.Bytes.{CutsNoRun, IsOpen, PassedIn, IsWrit
 
 use crate::runs::{begins_run, run_len, run_start, run_text};
 use crate::stream::fault::StreamFault;
-use crate::stream::line::write_run;
+use crate::stream::memo::SymbolMemo;
 use std::alloc::Allocator;
 use std::io::Write;
 
@@ -29,15 +29,16 @@ fn keep_bytes<W: Write>(bytes: &[u8], output: &mut W) -> Result<(), StreamFault>
 fn pass_run<W: Write>(
     run: &[u8],
     output: &mut W,
-    include_hash: bool,
-    limit: usize,
+    memo: &mut SymbolMemo,
 ) -> Result<(), StreamFault>
-    requires { list_all is_run run.now ≡ true }
+    requires all { list_all is_run run.now ≡ true }
+    requires some { 0 < length run.now }
     ensures ok { OnOk result (Appends (W.contents output.old) (W.contents output.new)
-        (replacement_within include_hash limit run.now)) }
+        (replacement_within memo.old.0 memo.old.1 run.now)) }
     ensures named { IfErr result IsWriting }
+    ensures same { memo.new ≡ memo.old }
 {
-    match write_run(run_text(run), output, include_hash, limit) {
+    match memo.write_run(run_text(run), output) {
         Ok(()) => Ok(()),
         Err(error) => Err(StreamFault::Write(error)),
     }
@@ -47,17 +48,17 @@ fn pass_run<W: Write>(
 pub(super) fn finish<W: Write, A: Allocator>(
     carried: &mut Vec<u8, A>,
     output: &mut W,
-    include_hash: bool,
-    limit: usize,
+    memo: &mut SymbolMemo,
 ) -> Result<(), StreamFault>
     requires { IsOpen carried.old.items }
     ensures ok { OnOk result (Appends (W.contents output.old) (W.contents output.new)
-        (filtered_within include_hash limit carried.old.items)) }
+        (filtered_within memo.old.0 memo.old.1 carried.old.items)) }
     ensures named { IfErr result IsWriting }
     ensures none { carried.new.items ≡ [] }
+    ensures same { memo.new ≡ memo.old }
 {
     let written = if begins_run(carried.as_slice()) {
-        pass_run(carried.as_slice(), output, include_hash, limit)
+        pass_run(carried.as_slice(), output, memo)
     } else {
         keep_bytes(carried.as_slice(), output)
     };
@@ -112,8 +113,7 @@ fn take_byte<W: Write, A: Allocator>(
     carried: &mut Vec<u8, A>,
     shown: &[u8],
     output: &mut W,
-    include_hash: bool,
-    limit: usize,
+    memo: &mut SymbolMemo,
 ) -> Result<usize, StreamFault>
     requires some { 0 < length shown.now }
     requires beginning { (carried.old.items ≡ codes "_") ⊎ (carried.old.items ≡ codes "_Z") }
@@ -121,17 +121,18 @@ fn take_byte<W: Write, A: Allocator>(
     ensures carried { IsOpen carried.new.items }
     ensures less { IfOk result (λ n.
         length carried.new.items < length carried.old.items + 2 * n) }
-    ensures ok { IfOk result (λ n. PassedIn (filtered_within include_hash limit)
+    ensures ok { IfOk result (λ n. PassedIn (filtered_within memo.old.0 memo.old.1)
         carried.old.items shown.now carried.new.items n
         (W.contents output.old) (W.contents output.new)) }
     ensures err { IfErr result (λ fault. TakeRefused fault carried.old.items carried.new.items
         (W.contents output.old) (W.contents output.new)) }
+    ensures same { memo.new ≡ memo.old }
 {
     if goes_on(carried.as_slice(), shown[0]) {
         carry(carried, &shown[..1])?;
         return Ok(1);
     }
-    finish(carried, output, include_hash, limit)?;
+    finish(carried, output, memo)?;
     Ok(0)
 }
 
@@ -140,8 +141,7 @@ fn take_run<W: Write, A: Allocator>(
     carried: &mut Vec<u8, A>,
     shown: &[u8],
     output: &mut W,
-    include_hash: bool,
-    limit: usize,
+    memo: &mut SymbolMemo,
 ) -> Result<usize, StreamFault>
     requires some { 0 < length shown.now }
     requires begun { begins_run carried.old.items ≡ true }
@@ -150,16 +150,17 @@ fn take_run<W: Write, A: Allocator>(
     ensures carried { IsOpen carried.new.items }
     ensures less { IfOk result (λ n.
         length carried.new.items < length carried.old.items + 2 * n) }
-    ensures ok { IfOk result (λ n. PassedIn (filtered_within include_hash limit)
+    ensures ok { IfOk result (λ n. PassedIn (filtered_within memo.old.0 memo.old.1)
         carried.old.items shown.now carried.new.items n
         (W.contents output.old) (W.contents output.new)) }
     ensures err { IfErr result (λ fault. TakeRefused fault carried.old.items carried.new.items
         (W.contents output.old) (W.contents output.new)) }
+    ensures same { memo.new ≡ memo.old }
 {
     let len = run_len(shown);
     carry(carried, &shown[..len])?;
     if len < shown.len() {
-        finish(carried, output, include_hash, limit)?;
+        finish(carried, output, memo)?;
     }
     Ok(len)
 }
@@ -169,8 +170,7 @@ fn take_text<W: Write, A: Allocator>(
     carried: &mut Vec<u8, A>,
     shown: &[u8],
     output: &mut W,
-    include_hash: bool,
-    limit: usize,
+    memo: &mut SymbolMemo,
 ) -> Result<usize, StreamFault>
     requires some { 0 < length shown.now }
     requires none { carried.old.items ≡ [] }
@@ -178,11 +178,12 @@ fn take_text<W: Write, A: Allocator>(
     ensures carried { IsOpen carried.new.items }
     ensures less { IfOk result (λ n.
         length carried.new.items < length carried.old.items + 2 * n) }
-    ensures ok { IfOk result (λ n. PassedIn (filtered_within include_hash limit)
+    ensures ok { IfOk result (λ n. PassedIn (filtered_within memo.old.0 memo.old.1)
         carried.old.items shown.now carried.new.items n
         (W.contents output.old) (W.contents output.new)) }
     ensures err { IfErr result (λ fault. TakeRefused fault carried.old.items carried.new.items
         (W.contents output.old) (W.contents output.new)) }
+    ensures same { memo.new ≡ memo.old }
 {
     let Some(start) = run_start(shown) else {
         let (kept, beginning) = shown.split_at(shown.len() - beginning_len(shown));
@@ -200,7 +201,7 @@ fn take_text<W: Write, A: Allocator>(
         return Ok(shown.len());
     }
     keep_bytes(kept, output)?;
-    pass_run(&found[..len], output, include_hash, limit)?;
+    pass_run(&found[..len], output, memo)?;
     Ok(start + len)
 }
 
@@ -209,8 +210,7 @@ pub(super) fn take_some<W: Write, A: Allocator>(
     carried: &mut Vec<u8, A>,
     shown: &[u8],
     output: &mut W,
-    include_hash: bool,
-    limit: usize,
+    memo: &mut SymbolMemo,
 ) -> Result<usize, StreamFault>
     requires some { 0 < length shown.now }
     requires carried { IsOpen carried.old.items }
@@ -218,17 +218,18 @@ pub(super) fn take_some<W: Write, A: Allocator>(
     ensures carried { IsOpen carried.new.items }
     ensures less { IfOk result (λ n.
         length carried.new.items < length carried.old.items + 2 * n) }
-    ensures ok { IfOk result (λ n. PassedIn (filtered_within include_hash limit)
+    ensures ok { IfOk result (λ n. PassedIn (filtered_within memo.old.0 memo.old.1)
         carried.old.items shown.now carried.new.items n
         (W.contents output.old) (W.contents output.new)) }
     ensures err { IfErr result (λ fault. TakeRefused fault carried.old.items carried.new.items
         (W.contents output.old) (W.contents output.new)) }
+    ensures same { memo.new ≡ memo.old }
 {
     if carried.is_empty() {
-        return take_text(carried, shown, output, include_hash, limit);
+        return take_text(carried, shown, output, memo);
     }
     if begins_run(carried.as_slice()) {
-        return take_run(carried, shown, output, include_hash, limit);
+        return take_run(carried, shown, output, memo);
     }
-    take_byte(carried, shown, output, include_hash, limit)
+    take_byte(carried, shown, output, memo)
 }

@@ -1,5 +1,5 @@
 //! The stream where memory is refused, and its faults as errors.
-use super::{BytesFilter, StreamFault, copy_lines, demangle_stream};
+use super::{BytesFilter, StreamFault, SymbolMemo, copy_lines, demangle_stream};
 use linked_list_allocator::LocalHeap;
 use std::alloc::Global;
 use std::io;
@@ -191,11 +191,12 @@ fn written_in_heap(alloc: Global, size: usize) -> Result<usize, Fail> {
     let mut held = Vec::new(&heap);
     held.push(0u8)?;
     let mut filter = BytesFilter::new(&heap);
+    let mut memo = SymbolMemo::new(alloc, false, 1_000_000);
     let mut input = WatchingReader::new(alloc, RUNS, &heap);
     let mut output = Vec::new(alloc);
     let mut is_whole = false;
     for _ in 0..10_000u32 {
-        match filter.step(&mut input, &mut output, false) {
+        match filter.step(&mut input, &mut output, &mut memo) {
             Ok(true) => {}
             Ok(false) => {
                 is_whole = true;

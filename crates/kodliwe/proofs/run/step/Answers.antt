@@ -5,5 +5,5 @@ use Rattle.kodliwe.proofs.run.step.Goals as goal
 
 pub returns-in-Err-Read-clause-took : goal.returns-in-Err-Read-clause-took
 returns-in-Err-Read-clause-took g c = λ e.
-    took_refused c.step_limited.result c.in-Err-Read.error (replacement_within c.args.include_hash c.args.limit) c.args.filter.now c.step_limited.new.self (g.R.Read.remaining c.args.input.now) (g.R.Read.remaining c.step_limited.new.input)
-    (g.W.Write.contents c.args.output.now) (g.W.Write.contents c.step_limited.new.output) (search rules) c.step_limited.ensures.refused
+    took_refused c.step.result c.in-Err-Read.error (replacement_within c.args.memo.now.0 c.args.memo.now.1) c.args.filter.now c.step.new.self (g.R.Read.remaining c.args.input.now) (g.R.Read.remaining c.step.new.input)
+    (g.W.Write.contents c.args.output.now) (g.W.Write.contents c.step.new.output) (search rules) c.step.ensures.refused

@@ -1,6 +1,6 @@
 use Rattle.std.proofs.Common.{refl, sym, ap, subst, ◌∙◌, arith, take, ◌-◌, ◌≤◌, length, length-drop}
 use Rattle.std.specs.List.{list_all}
-use Rattle.std.proofs.lemmas.List.{length-append}
+use Rattle.std.proofs.lemmas.List.{length-append, length-take}
 use Rattle.std.proofs.lemmas.List.Sums.{prefix_len-le-length}
 use Rattle.rustc_demangle.specs.Filtered.{is_run, begins_run}
 use Rattle.rustc_demangle.proofs.RunSteps.{run_some}
@@ -25,8 +25,13 @@ returns-then-len-found-clause-ok g c =
     text_kept _ _ _ _ _ _ c.in-Some.start _ _ c.requires.none c.split_at-2.ensures.front c.split_at-2.ensures.back c.in_ok-carry-2.ensures.ok (omega arith)
     (far _ _ c.in-Some.ensures.some.1 c.in-Some.ensures.some.2) c.in_ok-keep_bytes-2.ensures.ok
 
-pub pass_run-requires : goal.pass_run-requires
-pass_run-requires g c = ap (λ n. list_all is_run (take n c.split_at-2.result.1.now)) c.run_len-len.ensures ∙ all_prefix c.split_at-2.result.1.now
+pub pass_run-requires-clause-some : goal.pass_run-requires-clause-some
+pass_run-requires-clause-some g c =
+    omega (arith, length-take c.run_len-len.result c.split_at-2.result.1.now, c.run_len-len.ensures, (run_some c.split_at-2.result.1.now (ap begins_run c.split_at-2.ensures.back ∙ c.in-Some.ensures.some.1)).1,
+    (run_some c.split_at-2.result.1.now (ap begins_run c.split_at-2.ensures.back ∙ c.in-Some.ensures.some.1)).0)
+
+pub pass_run-requires-clause-all : goal.pass_run-requires-clause-all
+pass_run-requires-clause-all g c = ap (λ n. list_all is_run (take n c.split_at-2.result.1.now)) c.run_len-len.ensures ∙ all_prefix c.split_at-2.result.1.now
 
 pub returns-clause-ok : goal.returns-clause-ok
 returns-clause-ok g c =

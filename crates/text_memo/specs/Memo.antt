@@ -1,0 +1,26 @@
+-- Internal: no public contract cites this.
+-- What a memo remembers.
+use Rattle.std.specs.Prelude.{◌≡◌, ℕ, ◌+◌, ◌<◌, ◌≤◌, List, length, take, drop}
+use Rattle.std.specs.List.{All}
+use Rattle.text_memo.specs.declared.Entry.{Entry}
+use Rattle.text_memo.specs.declared.Pair.{Pair}
+use Rattle.text_memo.specs.declared.TextMemo.{TextMemo}
+
+-- the key of an entry, among these bytes
+abbrev pub key_of : List ℕ → Entry → List ℕ
+key_of bytes entry = take entry.key_len (drop entry.start bytes)
+
+-- the text after it
+abbrev pub text_of : List ℕ → Entry → List ℕ
+text_of bytes entry = take entry.text_len (drop (entry.start + entry.key_len) bytes)
+
+-- if the entry has a key, the key and the text are within the bytes, and the text is that of the key
+abbrev pub Holds : (List ℕ → List ℕ) → List ℕ → Entry → Type 0
+Holds text_for bytes entry = 0 < entry.key_len → (entry.start + entry.key_len + entry.text_len ≤ length bytes) × (text_of bytes entry ≡ text_for (key_of bytes entry))
+
+abbrev pub HoldsBoth : (List ℕ → List ℕ) → List ℕ → Pair → Type 0
+HoldsBoth text_for bytes pair = Holds text_for bytes pair.newer × Holds text_for bytes pair.older
+
+-- the text of each entry is that of its key
+abbrev pub Remembers : (List ℕ → List ℕ) → TextMemo → Type 0
+Remembers text_for memo = All (HoldsBoth text_for memo.bytes.items) memo.pairs.items
