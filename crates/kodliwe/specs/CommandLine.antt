@@ -6,11 +6,13 @@ use Rattle.std.specs.List.{starts_with}
 use Rattle.std.specs.Str.Parse.{IsNumeral, digits_value, without_leading_plus}
 use Rattle.kodliwe.specs.declared.words.Source.{Source}
 use Rattle.kodliwe.specs.declared.words.Source.TheVariants.{Stdin, File, Symbols}
+use Rattle.kodliwe.specs.declared.words.Target.{Target as Named}
+use Rattle.kodliwe.specs.declared.words.Target.TheVariants as named
 use Rattle.kodliwe.specs.declared.words.Request.{Request}
 use Rattle.kodliwe.specs.declared.words.Asked.{Asked}
 use Rattle.kodliwe.specs.declared.words.Asked.TheVariants.{Help, Version, Filter}
 use Rattle.kodliwe.specs.declared.words.WordsFault.{WordsFault}
-use Rattle.kodliwe.specs.declared.words.WordsFault.TheVariants.{Unknown, NoFile, NoNumber, Memory}
+use Rattle.kodliwe.specs.declared.words.WordsFault.TheVariants.{Unknown, NoFile, NoNumber, BadNumber, SecondOutput, Memory}
 use Rattle.kodliwe.specs.declared.words.ValuedOption.{ValuedOption}
 use Rattle.kodliwe.specs.declared.words.ValuedOption.TheVariants.{Input, Output, Limit}
 
@@ -20,10 +22,15 @@ pub data Part : Type 0 where
   file : List ℕ → Part
   symbols : List ℕ → Part
 
--- what the words said so far; the last part stands first
+-- a place to write to: standard output, or a file
+pub data Target : Type 0 where
+  stdout : Target
+  a_file : List ℕ → Target
+
+-- the options that were read so far; the last part is the first of the list
 pub record Options : Type 0 where
   pub parts : List Part
-  pub output : Option (List ℕ)
+  pub output : Option Target
   pub keeps_hash : Bool
   pub limit : ℕ
 
@@ -35,7 +42,9 @@ defaults = record { parts = []; output = None; keeps_hash = false; limit = 10000
 pub data Answer : Type 0 where
   help version : Answer
   filter : Options → Answer
-  unknown no_file no_number : List ℕ → Answer
+  unknown no_file no_number second_output : List ℕ → Answer
+  -- the option that this word is, and its value
+  bad_number : List ℕ → List ℕ → Answer
 
 -- what the next word is taken for: anything, the value of the option that this word was, or a symbol
 pub data Place : Type 0 where
@@ -55,6 +64,11 @@ abbrev pub IsPart : List ℕ → Part → Type 0
 IsPart path stdin = path ≡ codes "-"
 IsPart path (file name) = (path ≢ codes "-") × (name ≡ path)
 IsPart path (symbols lines) = ⊥
+
+-- - as a file to write is standard output
+abbrev pub IsTarget : List ℕ → Target → Type 0
+IsTarget path stdout = path ≡ codes "-"
+IsTarget path (a_file name) = (path ≢ codes "-") × (name ≡ path)
 
 abbrev pub short_name : ValuedOption → List ℕ
 short_name Input = codes "-i"
@@ -83,14 +97,14 @@ IsNumber text = IsNumeral 10 (without_leading_plus text) × (digits_value 10 (wi
 -- what an option's value makes of the options
 abbrev pub Sets : ValuedOption → List ℕ → Options → Options → Type 0
 Sets Input value old new = (part : Part) × IsPart value part × (new ≡ record old { parts = part ∷ old.parts })
-Sets Output value old new = new ≡ record old { output = Some value }
+Sets Output value old new = (old.output ≡ None) × (target : Target) × IsTarget value target × (new ≡ record old { output = Some target })
 Sets Limit value old new = IsNumber value × (new ≡ record old { limit = digits_value 10 (without_leading_plus value) })
 
--- a value that is refused
-abbrev pub IsRefused : ValuedOption → List ℕ → List ℕ → Answer → Type 0
-IsRefused Input word value answer = ⊥
-IsRefused Output word value answer = ⊥
-IsRefused Limit word value answer = (IsNumber value → ⊥) × (answer ≡ no_number word)
+-- a value that is an error: a second place to write to, or no number of bytes
+abbrev pub IsRefused : Options → ValuedOption → List ℕ → List ℕ → Answer → Type 0
+IsRefused old Input word value answer = ⊥
+IsRefused old Output word value answer = (old.output ≢ None) × (answer ≡ second_output word)
+IsRefused old Limit word value answer = (IsNumber value → ⊥) × (answer ≡ bad_number word value)
 
 -- the refusal of an option behind which no word stands
 abbrev pub lacking_value : ValuedOption → List ℕ → Answer
@@ -131,14 +145,14 @@ pub data Asks : Place → Options → List (List ℕ) → Answer → Type 0 wher
   has_value : {o p : Options} {w : List ℕ} {ws : List (List ℕ)} {a : Answer} (v : ValuedOption) (value : List ℕ)
       → HasValue (short_name v) (long_name v) w value → Sets v value o p → Asks anything p ws a → Asks anything o (w ∷ ws) a
   has_refused : {o : Options} {w : List ℕ} {ws : List (List ℕ)} {a : Answer} (v : ValuedOption) (value : List ℕ)
-      → HasValue (short_name v) (long_name v) w value → IsRefused v w value a → Asks anything o (w ∷ ws) a
+      → HasValue (short_name v) (long_name v) w value → IsRefused o v w value a → Asks anything o (w ∷ ws) a
   -- an option alone: its value is the next word
   is_alone : {o : Options} {w : List ℕ} {ws : List (List ℕ)} {a : Answer} (v : ValuedOption)
       → IsAlone (short_name v) (long_name v) w → Asks (a_value v w) o ws a → Asks anything o (w ∷ ws) a
   is_value : {o p : Options} {v : ValuedOption} {w value : List ℕ} {ws : List (List ℕ)} {a : Answer}
       → Sets v value o p → Asks anything p ws a → Asks (a_value v w) o (value ∷ ws) a
   is_refused : {o : Options} {v : ValuedOption} {w value : List ℕ} {ws : List (List ℕ)} {a : Answer}
-      → IsRefused v w value a → Asks (a_value v w) o (value ∷ ws) a
+      → IsRefused o v w value a → Asks (a_value v w) o (value ∷ ws) a
   lacks_value : {o : Options} {v : ValuedOption} {w : List ℕ} → Asks (a_value v w) o [] (lacking_value v w)
 
 -- the parts and options that a request has
@@ -147,10 +161,14 @@ part_of Stdin = stdin
 part_of (File path) = file path.now
 part_of (Symbols lines) = symbols lines.items
 
+abbrev pub target_of : Named → Target
+target_of named.Stdout = stdout
+target_of (named.File path) = a_file path.now
+
 abbrev pub options_of : Request → Options
 options_of request = record {
   parts = reverse (map part_of request.sources.items);
-  output = option_map (λ path. path.now) request.output;
+  output = option_map target_of request.output;
   keeps_hash = request.include_hash;
   limit = request.limit;
 }
@@ -165,4 +183,6 @@ abbrev pub refusal_of : WordsFault → Option Answer
 refusal_of (Unknown word) = Some (unknown word.now)
 refusal_of (NoFile word) = Some (no_file word.now)
 refusal_of (NoNumber word) = Some (no_number word.now)
+refusal_of (BadNumber word value) = Some (bad_number word.now value.now)
+refusal_of (SecondOutput word) = Some (second_output word.now)
 refusal_of Memory = None

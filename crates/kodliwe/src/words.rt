@@ -8,6 +8,7 @@ ghost use Rattle.kodliwe.specs.CommandLine.{Asks, anything, defaults, with_line}
 ghost use Rattle.kodliwe.specs.CommandLine.{options_of, asked_of, refusal_of, lacking_value};
 ghost use Rattle.kodliwe.specs.OneWord.{IsWord, Takes, Refuses, place_of};
 
+use rustc_demangle::{demangle_bytes, run_start};
 use std::alloc::{AllocError, Global};
 
 /// The most bytes of a path, where no word says another number.
@@ -22,15 +23,25 @@ pub enum Source<'a> {
     Symbols(Vec<u8>),
 }
 
-/// What is to be filtered, and how.
+/// A place to write to, as the command line names it.
+#[derive(Clone, Copy, Debug, Drop, PartialEq, Eq)]
+pub enum Target<'a> {
+    Stdout,
+    File(&'a str),
+}
+
+/// What to filter, and how.
 #[derive(Drop)]
 pub struct Request<'a> {
-    /// In the order of the words; none stands for standard input.
+    /// The texts to filter, in the order of the words. If it is empty, standard input is filtered.
     pub sources: Vec<Source<'a>>,
-    pub output: Option<&'a str>,
+    /// The value of `-o`, if it was given.
+    pub output: Option<Target<'a>>,
     pub include_hash: bool,
-    /// The most bytes of a path.
+    /// The largest number of bytes of a path.
     pub limit: usize,
+    /// The first word that is a SYMBOL and that the filter does not change.
+    pub plain_word: Option<&'a str>,
 }
 
 /// What the words ask for.
@@ -50,6 +61,10 @@ pub enum WordsFault<'a> {
     NoFile(&'a str),
     /// The option that this word is has no number of bytes in it or behind it.
     NoNumber(&'a str),
+    /// The value of the option that the first word is, the second text, is not a number of bytes.
+    BadNumber(&'a str, &'a str),
+    /// The option that this word is was given before.
+    SecondOutput(&'a str),
     Memory,
 }
 
@@ -182,15 +197,19 @@ impl<'a> Request<'a> {
             output: None,
             include_hash: false,
             limit: LIMIT,
+            plain_word: None,
         }
     }
 
     /// Adds a symbol, as a line of its own.
-    fn add_symbol(&mut self, alloc: Global, symbol: &str) -> Result<(), AllocError>
+    fn add_symbol(&mut self, alloc: Global, symbol: &'a str) -> Result<(), AllocError>
         ensures { OnOk result (options_of self.new ≡ record (options_of self.old) {
           parts = with_line symbol.now (options_of self.old).parts;
         }) }
     {
+        if self.plain_word.is_none() && !has_symbol(alloc, symbol)? {
+            self.plain_word = Some(symbol);
+        }
         let mut lines = match self.sources.pop() {
             Some(Source::Symbols(lines)) => lines,
             Some(source) => {
@@ -223,6 +242,24 @@ impl<'a> Request<'a> {
         Ok(())
     }
 
+    /// Sets the place to write to. Fails if it was set before, by the option that `word` is.
+    fn set_output(&mut self, word: &'a str, value: &'a str) -> Result<(), WordsFault<'a>>
+        ensures sets { OnOk result (Sets ValuedOption.Output value.now
+            (options_of self.old) (options_of self.new)) }
+        ensures refused { IfErr result (λ fault. IfSome (refusal_of fault) (λ answer.
+            IsRefused (options_of self.old) ValuedOption.Output word.now value.now answer)) }
+    {
+        if self.output.is_some() {
+            return Err(WordsFault::SecondOutput(word));
+        }
+        self.output = Some(if value == "-" {
+            Target::Stdout
+        } else {
+            Target::File(value)
+        });
+        Ok(())
+    }
+
     /// Takes the value of an option, which `word` was.
     fn take_value(
         &mut self,
@@ -233,14 +270,14 @@ impl<'a> Request<'a> {
         ensures sets { OnOk result (Sets option value.now
             (options_of self.old) (options_of self.new)) }
         ensures refused { IfErr result (λ fault. IfSome (refusal_of fault) (λ answer.
-            IsRefused option word.now value.now answer)) }
+            IsRefused (options_of self.old) option word.now value.now answer)) }
     {
         match option {
             ValuedOption::Input => self.add_file(value)?,
-            ValuedOption::Output => self.output = Some(value),
+            ValuedOption::Output => return self.set_output(word, value),
             ValuedOption::Limit => {
                 let Ok(limit) = value.parse::<usize>() else {
-                    return Err(WordsFault::NoNumber(word));
+                    return Err(WordsFault::BadNumber(word, value));
                 };
                 self.limit = limit;
             }
@@ -314,6 +351,18 @@ impl<'a> Request<'a> {
     }
 }
 
+/// Returns whether a text has a symbol, which the filter replaces.
+fn has_symbol(alloc: Global, text: &str) -> Result<bool, AllocError> {
+    if run_start(text.as_bytes()).is_none() {
+        return Ok(false);
+    }
+    let mut filtered = Vec::new(alloc);
+    match demangle_bytes(alloc, &mut text.as_bytes(), &mut filtered, false) {
+        Ok(()) => Ok(filtered.as_slice() != text.as_bytes()),
+        Err(_) => Err(AllocError),
+    }
+}
+
 /// Adds a text and a line feed.
 fn push_line(lines: &mut Vec<u8>, text: &str) -> Result<(), AllocError>
     ensures { OnOk result (lines.new.items ≡ lines.old.items ++ (text.now ++ 10 ∷ [])) }
@@ -337,8 +386,8 @@ fn lacking(option: ValuedOption, word: &str) -> WordsFault<'_>
 ///
 /// Options and symbols may stand in any order; behind `--` each word is a symbol. Of `--help` and
 /// `--version` the first holds, and no word behind it is read. It is refused at the first word that
-/// begins with `-` and is no option, at an option without its FILE or its number of BYTES, and
-/// where memory is refused.
+/// begins with `-` and is no option, at an option without its FILE or its number of BYTES, at a
+/// second `-o`, and where memory is refused.
 pub fn read_words<'a>(alloc: Global, words: &'a [String]) -> Result<Asked<'a>, WordsFault<'a>>
     ensures asked { IfOk result (λ asked. Asks anything defaults
         (map string_bytes words.now) (asked_of asked)) }

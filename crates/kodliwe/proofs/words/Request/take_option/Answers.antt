@@ -14,7 +14,7 @@ returns-in_err-take_value-clause-refused c = λ is.
     let value = c.in-Some.value in
     let within = subst (λ o. IsWord c.args.word.now (kind.Valued c.args.option o)) c.in-Some.is is in
     let p = err_from_is_err_and c.from_residual.result c.from_residual.ensures.1 in
-    rw (p.1, p.2) (refusal_then _ {P = λ a. IsRefused c.args.option c.args.word.now value.now a} {Q = λ a. Refuses anything (options_of c.args.self.now) c.args.word.now a}
+    rw (p.1, p.2) (refusal_then _ {P = λ a. IsRefused (options_of c.args.self.now) c.args.option c.args.word.now value.now a} {Q = λ a. Refuses anything (options_of c.args.self.now) c.args.word.now a}
     (λ answer refused words. has_refused c.args.option value.now within refused) c.in_err-take_value.ensures.refused)
 
 pub returns-clause-takes : goal.returns-clause-takes
