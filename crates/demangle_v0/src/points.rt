@@ -26,6 +26,7 @@ mod functions;
 mod impls;
 mod marks;
 mod names;
+pub mod parser;
 mod paths;
 mod patterns;
 mod rare;

@@ -3,13 +3,14 @@ ghost use Rattle.std.specs.Prelude.{◌≡◌, ◌+◌, ◌≤◌, true, Bool, I
 ghost use Rattle.demangle_sink.specs.Limit.{Ready};
 ghost use Rattle.demangle_v0.specs.PointRuns.{Valid, RanOn, Ended, Finishes, Skipped, SkipsTo, ValidLeft, looks_left, first_looks, printing};
 ghost use Rattle.demangle_v0.specs.Impls.{is_skip, skip_point};
+ghost use Rattle.demangle_v0.specs.Parsers.{Same, reading_of, turn_of};
 ghost use Rattle.demangle_v0.specs.Points.{Turn, turn};
 
 use crate::points::Point;
 use crate::points::frames::{FULL_STACK, FrameStack, MIDDLE_STACK, SHORT_STACK};
+use crate::points::parser::Parser;
 use crate::points::read::Reading;
 use crate::points::skip::{is_skipped, skip};
-use crate::points::step::{resume, step};
 use demangle_sink::{SinkRefused, SizeLimitedFmtAdapter, TextSink};
 use demangle_symbol::cursor::{Looks, Symbol};
 
@@ -35,6 +36,7 @@ fn skip_own<const N: usize>(
 ) -> Option<Left>
     requires skipped { is_skip printing.old.point ≡ true }
     requires valid { Valid printing.old.point printing.old.state stack.old }
+    requires small { N ≤ 4096 }
     ensures behind { IfNone result ((q : Bool) → printing.old.point ≡ skip_point q → Skipped
         symbol.now include_hash q printing.old.state stack.old looks.old printing.new.point
         printing.new.state stack.new looks.new) }
@@ -65,6 +67,7 @@ pub(crate) fn print_on<const N: usize, S: TextSink>(
     requires ascii { IsAscii symbol.now }
     requires ready { Ready S.TextSink out.old }
     requires valid { Valid reading.old.point reading.old.state stack.old }
+    requires small { N ≤ 4096 }
     ensures ran { RanOn (printing S.TextSink symbol.now include_hash) reading.old.point (turn
         reading.old.state stack.old out.old looks.old) result reading.new stack.new out.new
         looks.new }
@@ -74,31 +77,87 @@ pub(crate) fn print_on<const N: usize, S: TextSink>(
     ensures least { looks.old + first_looks reading.old.point reading.old.state ≤ looks.new +
         looks_left result reading.new }
 {
-    let mut point = reading.point;
-    let mut state = reading.state;
-    'steps: while stack.len() < N {
-        let Some(at) = resume(0, point, &mut state, stack) else {
-            reading.point = Point::End;
-            reading.state = state;
-            return Ok(None);
+    let mut parser = Parser::take(symbol, include_hash, reading, stack, looks);
+    let result = parser.print_on(out);
+    parser.give(reading, stack, looks);
+    result
+}
+
+impl<const N: usize> Parser<'_, N> {
+    /// Goes behind the own path of the impl at which printing stands, or answers what is left, where
+    /// the stack is full.
+    #[inline(always)]
+    fn skip_own(&mut self) -> Option<Left>
+        requires skipped { is_skip self.old.point ≡ true }
+        requires valid { Valid self.old.point self.old.state self.old.stack }
+        requires small { N ≤ 4096 }
+        ensures behind { IfNone result ((q : Bool) → self.old.point ≡ skip_point q → Skipped
+            self.old.symbol.now self.old.include_hash q self.old.state self.old.stack self.old.looks
+            self.new.point self.new.state self.new.stack self.new.looks) }
+        ensures midway { IfSome result (λ left. SkipsTo self.old.symbol.now self.old.include_hash
+            (reading_of self.old) self.old.stack self.old.looks left N (reading_of self.new)
+            self.new.stack self.new.looks) }
+        ensures grows { self.old.looks ≤ self.new.looks }
+        ensures same { Same self.old self.new }
+    {
+        let mut reading = Reading {
+            point: self.point,
+            state: self.state,
         };
-        // An impl's own path tells where the impl stands. It is read, and not printed.
-        if is_skipped(at) {
-            reading.point = at;
-            reading.state = state;
-            let skipped = skip_own(symbol, include_hash, reading, stack, looks);
-            if let Some(left) = skipped {
-                return Ok(Some(left));
-            }
-            point = reading.point;
-            state = reading.state;
-        } else {
-            point = step(symbol, at, include_hash, &mut state, stack, out, looks)?;
-        }
+        let left = skip_own(
+            self.symbol,
+            self.include_hash,
+            &mut reading,
+            &mut self.stack,
+            &mut self.looks,
+        );
+        self.point = reading.point;
+        self.state = reading.state;
+        left
     }
-    reading.point = point;
-    reading.state = state;
-    Ok(Some(Left::Stack))
+
+    /// Prints on, until nothing is left or the stack is full.
+    ///
+    /// It ends at the piece that the limit or the sink refuses.
+    fn print_on<S: TextSink>(
+        &mut self,
+        out: &mut SizeLimitedFmtAdapter<'_, S>,
+    ) -> Result<Option<Left>, SinkRefused>
+        requires ascii { IsAscii self.old.symbol.now }
+        requires ready { Ready S.TextSink out.old }
+        requires valid { Valid self.old.point self.old.state self.old.stack }
+        requires small { N ≤ 4096 }
+        ensures ran { RanOn (printing S.TextSink self.old.symbol.now self.old.include_hash)
+            self.old.point (turn_of self.old out.old) result (reading_of self.new) self.new.stack
+            out.new self.new.looks }
+        ensures ready { IsOk result → Ready S.TextSink out.new }
+        ensures valid { ValidLeft self.old.symbol.now self.old.include_hash N result (reading_of
+            self.new) self.new.stack self.new.looks }
+        ensures grows { self.old.looks ≤ self.new.looks }
+        ensures least { self.old.looks + first_looks self.old.point self.old.state ≤ self.new.looks +
+            looks_left result (reading_of self.new) }
+    {
+        let mut point = self.point;
+        'steps: while self.stack.len() < N {
+            let Some(at) = self.resume(0, point) else {
+                self.point = Point::End;
+                return Ok(None);
+            };
+            // An impl's own path tells where the impl stands. It is read, and not printed.
+            if is_skipped(at) {
+                self.point = at;
+                let skipped = self.skip_own();
+                if let Some(left) = skipped {
+                    return Ok(Some(left));
+                }
+                point = self.point;
+            } else {
+                point = self.step(at, out)?;
+            }
+        }
+        self.point = point;
+        Ok(Some(Left::Stack))
+    }
 }
 
 /// Goes behind the own path of an impl, if one was read so far, or answers what is left, where the
@@ -113,6 +172,7 @@ fn finish_skip<const N: usize>(
 ) -> Option<Left>
     requires valid { ValidLeft symbol.now include_hash 0 (Ok (Some left)) reading.old stack.old
         looks.old }
+    requires small { N ≤ 4096 }
     ensures finishes { Finishes symbol.now include_hash N left reading.old stack.old looks.old
         result reading.new stack.new looks.new }
     ensures grows { looks.old ≤ looks.new }
@@ -140,6 +200,7 @@ fn print_left<const N: usize, S: TextSink>(
     requires ready { Ready S.TextSink out.old }
     requires valid { ValidLeft symbol.now include_hash 0 (Ok (Some left)) reading.old stack.old
         looks.old }
+    requires small { N ≤ 4096 }
     ensures ran { (p : Point) (began : Turn (SizeLimitedFmtAdapter S)) → RanOn (printing S.TextSink
         symbol.now include_hash) p began (Ok (Some left)) reading.old stack.old out.old looks.old →
         RanOn (printing S.TextSink symbol.now include_hash) p began result reading.new stack.new

@@ -8,9 +8,9 @@ ghost use Rattle.demangle_sink.specs.Limit.{Prints, Ready};
 ghost use Rattle.demangle_v0.specs.PointRuns.{Valid};
 
 use crate::points::frames::{FULL_STACK, FrameStack};
+use crate::points::parser::Parser;
 use crate::points::read::Reading;
 use crate::points::skip::{is_skipped, skip};
-use crate::points::step::{resume, step};
 use demangle_sink::{ArraySink, SinkRefused, SizeLimitedFmtAdapter, TextSink};
 use demangle_symbol::cursor::{Looks, Symbol};
 use demangle_words::output::Output;
@@ -174,7 +174,10 @@ fn goes_on(
     if stack.len() >= FULL_STACK || sink.is_failed() {
         return None;
     }
-    let Some(at) = resume(0, reading.point, &mut reading.state, stack) else {
+    let mut parser = Parser::take(symbol, include_hash, reading, stack, looks);
+    let resumed = parser.resume(0, reading.point);
+    parser.give(reading, stack, looks);
+    let Some(at) = resumed else {
         return Some(true);
     };
     reading.point = at;
@@ -192,15 +195,10 @@ fn goes_on(
         stretches: 0,
         last: Stretch::Nothing,
     };
-    let Ok(next) = step(
-        symbol,
-        at,
-        include_hash,
-        &mut reading.state,
-        stack,
-        &mut output,
-        looks,
-    ) else {
+    let mut parser = Parser::take(symbol, include_hash, reading, stack, looks);
+    let stepped = parser.step(at, &mut output);
+    parser.give(reading, stack, looks);
+    let Ok(next) = stepped else {
         return None;
     };
     reading.point = next;

@@ -5,7 +5,7 @@ ghost use Rattle.demangle_v0.specs.PointRuns.{Valid, ReadOn, first_state, silent
 ghost use Rattle.demangle_v0.specs.declared.points.frames.Frame.{Frame};
 
 use crate::points::frames::FrameStack;
-use crate::points::step::{resume, step};
+use crate::points::parser::Parser;
 use crate::points::{Point, State};
 use demangle_symbol::cursor::{Looks, MAX_DEPTH, Symbol};
 use demangle_words::output::Silent;
@@ -67,6 +67,7 @@ pub fn read_on<const N: usize>(
     looks: &mut Looks,
 ) -> Halt
     requires valid { Valid reading.old.point reading.old.state stack.old }
+    requires small { N ≤ 4096 }
     ensures reads { (below above : List Frame) → stack.old ≡ below ++ above → length below ≡ base →
         AllInner above → ReadOn (silently symbol.now include_hash) below reading.old.point
         (silent_turn reading.old.state above looks.old) result reading.new.point (silent_turn
@@ -75,28 +76,36 @@ pub fn read_on<const N: usize>(
     ensures full { result ≡ Halt.Full → N ≤ length stack.new }
     ensures grows { looks.old ≤ looks.new }
 {
-    let mut point = reading.point;
-    let mut state = reading.state;
-    'steps: while stack.len() < N {
-        let Some(at) = resume(base, point, &mut state, stack) else {
-            reading.point = Point::End;
-            reading.state = state;
-            return Halt::Over;
-        };
-        match step(
-            symbol,
-            at,
-            include_hash,
-            &mut state,
-            stack,
-            &mut Silent,
-            looks,
-        ) {
-            Ok(next) => point = next,
-            Err(_) => return Halt::Failed,
+    let mut parser = Parser::take(symbol, include_hash, reading, stack, looks);
+    let halt = parser.read_on(base);
+    parser.give(reading, stack, looks);
+    halt
+}
+
+impl<const N: usize> Parser<'_, N> {
+    /// Reads without printing, above so many frames.
+    fn read_on(&mut self, base: usize) -> Halt
+        requires valid { Valid self.old.point self.old.state self.old.stack }
+        ensures reads { (below above : List Frame) → self.old.stack ≡ below ++ above → length below ≡
+            base → AllInner above → ReadOn (silently self.old.symbol.now self.old.include_hash) below
+            self.old.point (silent_turn self.old.state above self.old.looks) result self.new.point
+            (silent_turn self.new.state self.new.stack self.new.looks) }
+        ensures valid { result ≡ Halt.Full → Valid self.new.point self.new.state self.new.stack }
+        ensures full { result ≡ Halt.Full → N ≤ length self.new.stack }
+        ensures grows { self.old.looks ≤ self.new.looks }
+    {
+        let mut point = self.point;
+        'steps: while self.stack.len() < N {
+            let Some(at) = self.resume(base, point) else {
+                self.point = Point::End;
+                return Halt::Over;
+            };
+            match self.step(at, &mut Silent) {
+                Ok(next) => point = next,
+                Err(_) => return Halt::Failed,
+            }
         }
+        self.point = point;
+        Halt::Full
     }
-    reading.point = point;
-    reading.state = state;
-    Halt::Full
 }

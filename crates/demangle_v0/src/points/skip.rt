@@ -80,6 +80,7 @@ pub fn skip<const N: usize>(
     looks: &mut Looks,
 ) -> Option<Reading>
     requires valid { Valid inner.point inner.state stack.old }
+    requires small { N ≤ 4096 }
     ensures behind { IfNone result ((below : List Frame) (q : Bool) (began : ℕ) → ReadsOwn symbol.now
         include_hash below printing.old.state began inner stack.old looks.old → length below ≡ base
         → printing.old.point ≡ skip_point q → Skipped symbol.now include_hash q printing.old.state

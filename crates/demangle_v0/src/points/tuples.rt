@@ -1,11 +1,11 @@
 //! The points of tuple types.
-ghost use Rattle.std.specs.Prelude.{◌≡◌, Bool, Ok};
-ghost use Rattle.demangle_v0.specs.Points.{MayRead, Paid, PointDoes, env, turn, is_list_over, behind_list, list_costs};
+ghost use Rattle.std.specs.Prelude.{◌≡◌, Ok};
+ghost use Rattle.demangle_v0.specs.Parsers.{MayGo, Went};
+ghost use Rattle.demangle_v0.specs.Points.{Paid, is_list_over, behind_list, list_costs};
 
-use crate::points::frames::FrameStack;
-use crate::points::{Point, State};
+use crate::points::Point;
+use crate::points::parser::Parser;
 use demangle_symbol::cursor::{Looks, Symbol};
-use demangle_words::output::Output;
 use demangle_words::texts::Mark;
 
 /// Whether a list is over: at its `E`, which is read, or where the reading has failed.
@@ -26,70 +26,47 @@ pub(super) fn is_over(symbol: &Symbol<'_>, place: &mut Option<usize>, looks: &mu
     true
 }
 
-/// The first type of a tuple.
-#[inline(always)]
-pub(super) fn first_tuple_type<V: Output, const N: usize>(
-    symbol: &Symbol<'_>,
-    state: &mut State,
-    stack: &mut FrameStack<N>,
-    looks: &mut Looks,
-) -> Point
-    requires may { MayRead Point.FirstTupleType N state.old stack.old }
-    ensures did { (include_hash : Bool) (v : V) → PointDoes (env V.Output symbol.now include_hash)
-        Point.FirstTupleType (turn state.old stack.old v looks.old) (Ok result) (turn state.new
-        stack.new v looks.new) }
-{
-    if is_over(symbol, &mut state.place, looks) {
-        state.mark = Some(Mark::CloseParen);
-        state.is_open = false;
-        return Point::End;
+impl<const N: usize> Parser<'_, N> {
+    /// The first type of a tuple.
+    #[inline(always)]
+    pub(super) fn first_tuple_type(&mut self) -> Point
+        requires may { MayGo Point.FirstTupleType self.old }
+        ensures did { Went Point.FirstTupleType self.old (Ok result) self.new }
+    {
+        if self.is_over() {
+            return self.end_with(Mark::CloseParen);
+        }
+        self.push(Point::SecondTupleType);
+        Point::Type
     }
-    stack.push(state.frame(Point::SecondTupleType));
-    Point::Type
-}
 
-/// The second type of a tuple, or the comma behind one that stands alone.
-#[inline(always)]
-pub(super) fn second_tuple_type<V: Output, const N: usize>(
-    symbol: &Symbol<'_>,
-    state: &mut State,
-    stack: &mut FrameStack<N>,
-    looks: &mut Looks,
-) -> Point
-    requires may { MayRead Point.SecondTupleType N state.old stack.old }
-    ensures did { (include_hash : Bool) (v : V) → PointDoes (env V.Output symbol.now include_hash)
-        Point.SecondTupleType (turn state.old stack.old v looks.old) (Ok result) (turn state.new
-        stack.new v looks.new) }
-{
-    if is_over(symbol, &mut state.place, looks) {
-        // `(T,)` is the tuple, where `(T)` would be the type in brackets.
-        state.mark = Some(Mark::OneComma);
-        return Point::CloseParen;
+    /// The second type of a tuple, or the comma behind one that stands alone.
+    #[inline(always)]
+    pub(super) fn second_tuple_type(&mut self) -> Point
+        requires may { MayGo Point.SecondTupleType self.old }
+        ensures did { Went Point.SecondTupleType self.old (Ok result) self.new }
+    {
+        if self.is_over() {
+            // `(T,)` is the tuple, where `(T)` would be the type in brackets.
+            self.put(Mark::OneComma);
+            return Point::CloseParen;
+        }
+        self.push(Point::NextTupleType);
+        self.put(Mark::Comma);
+        Point::Type
     }
-    stack.push(state.frame(Point::NextTupleType));
-    state.mark = Some(Mark::Comma);
-    Point::Type
-}
 
-/// A further type of a tuple.
-#[inline(always)]
-pub(super) fn next_tuple_type<V: Output, const N: usize>(
-    symbol: &Symbol<'_>,
-    state: &mut State,
-    stack: &mut FrameStack<N>,
-    looks: &mut Looks,
-) -> Point
-    requires may { MayRead Point.NextTupleType N state.old stack.old }
-    ensures did { (include_hash : Bool) (v : V) → PointDoes (env V.Output symbol.now include_hash)
-        Point.NextTupleType (turn state.old stack.old v looks.old) (Ok result) (turn state.new
-        stack.new v looks.new) }
-{
-    if is_over(symbol, &mut state.place, looks) {
-        state.mark = Some(Mark::CloseParen);
-        state.is_open = false;
-        return Point::End;
+    /// A further type of a tuple.
+    #[inline(always)]
+    pub(super) fn next_tuple_type(&mut self) -> Point
+        requires may { MayGo Point.NextTupleType self.old }
+        ensures did { Went Point.NextTupleType self.old (Ok result) self.new }
+    {
+        if self.is_over() {
+            return self.end_with(Mark::CloseParen);
+        }
+        self.push(Point::NextTupleType);
+        self.put(Mark::Comma);
+        Point::Type
     }
-    stack.push(state.frame(Point::NextTupleType));
-    state.mark = Some(Mark::Comma);
-    Point::Type
 }

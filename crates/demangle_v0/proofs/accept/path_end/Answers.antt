@@ -3,7 +3,7 @@ use Rattle.demangle_v0.proofs.PointWholes.{valid_first, first_place, first_allow
 use Rattle.demangle_v0.proofs.accept.path_end.Goals as goal
 
 pub read_on-requires : goal.read_on-requires
-read_on-requires c = (omega arith, rw (c.of_path-reading.ensures, c.requires) (valid_first c.args.place))
+read_on-requires c = (omega arith, (rw (c.of_path-reading.ensures, c.requires) (valid_first c.args.place), omega arith))
 
 pub read_more-end-requires-clause-inner : goal.read_more-end-requires-clause-inner
 read_more-end-requires-clause-inner c = full_inner (c.in-Full.ensures.reads [] [] c.requires refl tt)

@@ -9,7 +9,7 @@ pub returns-in-Some-clause-valid : goal.returns-in-Some-clause-valid
 returns-in-Some-clause-valid g c = finished_valid c.args.symbol.now c.args.include_hash 0 g.row.N _ _ c.args.left c.in-Some.more _ _ _ _ c.requires.valid c.in-Some.ensures.finishes
 
 pub print_on-requires : goal.print_on-requires
-print_on-requires g c = (omega arith, (c.requires.ascii, (c.requires.ready, passed_valid c.args.symbol.now c.args.include_hash _ _ 0 c.args.left _ _ _ _ c.requires.valid c.in_default.ensures.finishes)))
+print_on-requires g c = (omega arith, (c.requires.ascii, (c.requires.ready, (passed_valid c.args.symbol.now c.args.include_hash _ _ 0 c.args.left _ _ _ _ c.requires.valid c.in_default.ensures.finishes, c.requires.small))))
 
 pub returns-clause-ran : goal.returns-clause-ran
 returns-clause-ran g c = λ p began ran. ran_joins _ (passed_ran g.S.TextSink c.args.symbol.now c.args.include_hash c.args.left ran c.in_default.ensures.finishes) c.print_on.ensures.ran

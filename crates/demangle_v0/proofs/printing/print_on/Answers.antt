@@ -1,53 +1,26 @@
-use Rattle.std.proofs.Common.{arith, refl, sym, ◌∙◌}
-use Rattle.demangle_v0.proofs.PointRuns.{valid_resumes, resumes_length, valid_steps, turn_less, first_resumes, ran_then, ran_resumes, ran_turn, ran_broke}
-use Rattle.demangle_v0.proofs.PointPrints.{ran_fail, ran_left, ran_skips}
-use Rattle.demangle_v0.proofs.PointSkips.{skip_is, skip_unread, skipped_valid, skipped_less, skips_valid}
+use Rattle.std.proofs.Common.{arith}
 use Rattle.demangle_v0.proofs.printing.print_on.Goals as goal
 
-pub skip_own-skipped-requires : goal.skip_own-skipped-requires
-skip_own-skipped-requires g c = (omega arith, (sym c.is_skipped.ensures ∙ c.if-is_skipped.true, valid_resumes c.steps.invariant.valid c.in-Some.ensures.some))
+pub take-parser-requires : goal.take-parser-requires
+take-parser-requires g c = (omega arith, omega arith)
 
-pub returns-in-Some-skipped-clause-valid : goal.returns-in-Some-skipped-clause-valid
-returns-in-Some-skipped-clause-valid g c = skips_valid (sym c.is_skipped.ensures ∙ c.if-is_skipped.true) (valid_resumes c.steps.invariant.valid c.in-Some.ensures.some) c.in-Some-skipped.ensures.midway
+pub print_on-result-requires : goal.print_on-result-requires
+print_on-result-requires g c = let t = c.take-parser.ensures in (omega arith, (rw t.symbol c.requires.ascii, (c.requires.ready, (rw (t.point, t.state, t.stack) c.requires.valid, c.requires.small))))
 
-pub returns-in-Some-skipped-clause-ran : goal.returns-in-Some-skipped-clause-ran
-returns-in-Some-skipped-clause-ran g c =
-    ran_left (sym c.is_skipped.ensures ∙ c.if-is_skipped.true) (valid_resumes c.steps.invariant.valid c.in-Some.ensures.some) c.in-Some-skipped.ensures.midway (ran_then c.steps.invariant.ran (ran_resumes c.in-Some.ensures.some))
+pub give-requires : goal.give-requires
+give-requires g c = omega arith
 
-pub steps-smaller-then-is_skipped : goal.steps-smaller-then-is_skipped
-steps-smaller-then-is_skipped g c =
-    let k = skip_is _ (sym c.is_skipped.ensures ∙ c.if-is_skipped.true) in
-    skipped_less k c.in-Some.ensures.some (c.in_default-skipped.ensures.behind k.0 k.1)
+pub returns-clause-ran : goal.returns-clause-ran
+returns-clause-ran g c =
+    let t = c.take-parser.ensures in
+    rw (c.give.ensures.reading, c.give.ensures.stack, c.give.ensures.looks) (rw (t.symbol, t.include_hash, t.point, t.state, t.stack, t.looks) at c.print_on-result.ensures.ran)
 
-pub steps-preserved-then-is_skipped : goal.steps-preserved-then-is_skipped
-steps-preserved-then-is_skipped g c =
-    let skips = sym c.is_skipped.ensures ∙ c.if-is_skipped.true in
-    let k = skip_is _ skips in
-    let z = c.in_default-skipped.ensures.behind k.0 k.1 in
-    record {
-      ready = c.steps.invariant.ready;
-      valid = skipped_valid k z (valid_resumes c.steps.invariant.valid c.in-Some.ensures.some);
-      ran = ran_skips g.S.TextSink c.args.symbol.now c.args.include_hash k (ran_then c.steps.invariant.ran (ran_resumes c.in-Some.ensures.some)) z;
-      grows = omega (arith, c.steps.invariant.grows, c.in_default-skipped.ensures.grows);
-      least = omega (arith, c.steps.invariant.least, c.in_default-skipped.ensures.grows, first_resumes c.in-Some.ensures.some, skip_unread _ c.resume.new.state skips);
-    }
+pub returns-clause-valid : goal.returns-clause-valid
+returns-clause-valid g c =
+    let t = c.take-parser.ensures in
+    rw (c.give.ensures.reading, c.give.ensures.stack, c.give.ensures.looks) (rw (t.symbol, t.include_hash) at c.print_on-result.ensures.valid)
 
-pub step-requires : goal.step-requires
-step-requires g c =
-    let v = valid_resumes c.steps.invariant.valid c.in-Some.ensures.some in
-    (omega arith, (record { ascii = λ _. c.requires.ascii; ready = c.steps.invariant.ready; unmarked = v.unmarked; room = omega (arith, resumes_length c.in-Some.ensures.some, c.steps-test.true, c.len.ensures); fits = v.fits }, λ z. sym c.is_skipped.ensures ∙ c.if-is_skipped.false))
-
-pub returns-in_err-point-clause-ran : goal.returns-in_err-point-clause-ran
-returns-in_err-point-clause-ran g c = ran_fail c.from_residual.ensures.0 (ran_broke c.steps.invariant.ran c.in-Some.ensures.some c.in_err-point.ensures.stepped)
-
-pub steps-smaller : goal.steps-smaller
-steps-smaller g c = turn_less c.in-Some.ensures.some c.in_ok-point.ensures.stepped
-
-pub steps-preserved : goal.steps-preserved
-steps-preserved g c = record {
-  ready = c.in_ok-point.ensures.ready refl;
-  valid = valid_steps (valid_resumes c.steps.invariant.valid c.in-Some.ensures.some) c.in_ok-point.ensures.stepped;
-  ran = ran_turn c.steps.invariant.ran c.in-Some.ensures.some c.in_ok-point.ensures.stepped;
-  grows = omega (arith, c.steps.invariant.grows, c.in_ok-point.ensures.grows);
-  least = omega (arith, c.steps.invariant.least, c.in_ok-point.ensures.least, first_resumes c.in-Some.ensures.some);
-}
+pub returns-clause-least : goal.returns-clause-least
+returns-clause-least g c =
+    let t = c.take-parser.ensures in
+    rw (c.give.ensures.reading, c.give.ensures.looks) (rw (t.point, t.state, t.looks) at c.print_on-result.ensures.least)

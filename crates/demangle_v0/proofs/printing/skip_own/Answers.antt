@@ -1,5 +1,5 @@
-use Rattle.std.proofs.Common.{refl, sym}
-use Rattle.demangle_v0.proofs.PointSkips.{own_stands, own_reads}
+use Rattle.std.proofs.Common.{sym}
+use Rattle.demangle_v0.proofs.PointSkips.{own_reads}
 use Rattle.demangle_v0.proofs.printing.skip_own.Goals as goal
 
 pub returns-in_default-clause-behind : goal.returns-in_default-clause-behind

@@ -1,22 +1,16 @@
-use Rattle.std.proofs.Common.{arith, refl}
-use Rattle.std.proofs.lemmas.Bool.{false≢true}
-use Rattle.demangle_v0.proofs.PointRuns.{valid_resumes, resumes_length, valid_steps, turn_less, reads_turn, reads_fail}
+use Rattle.std.proofs.Common.{arith}
 use Rattle.demangle_v0.proofs.points.read.read_on.Goals as goal
 
-pub step-requires : goal.step-requires
-step-requires g c =
-    let v = valid_resumes c.steps.invariant.valid c.in-Some.ensures.some in
-    (omega arith, (record { ascii = λ z. absurd (false≢true z); ready = tt; unmarked = v.unmarked; room = omega (arith, resumes_length c.in-Some.ensures.some, c.steps-test.true, c.len.ensures); fits = v.fits }, λ z. absurd (false≢true z)))
+pub take-parser-requires : goal.take-parser-requires
+take-parser-requires g c = (omega arith, omega arith)
 
-pub steps-smaller : goal.steps-smaller
-steps-smaller g c = turn_less c.in-Some.ensures.some c.in-Ok.ensures.stepped
+pub read_on-halt-requires : goal.read_on-halt-requires
+read_on-halt-requires g c = (omega arith, rw (c.take-parser.ensures.point, c.take-parser.ensures.state, c.take-parser.ensures.stack) c.requires.valid)
 
-pub steps-preserved : goal.steps-preserved
-steps-preserved g c = record {
-  valid = valid_steps (valid_resumes c.steps.invariant.valid c.in-Some.ensures.some) c.in-Ok.ensures.stepped;
-  reads = λ below above e l i. reads_turn refl (c.steps.invariant.reads below above e l i) l c.in-Some.ensures.some c.in-Ok.ensures.stepped;
-  grows = omega (arith, c.steps.invariant.grows, c.in-Ok.ensures.grows);
-}
+pub give-requires : goal.give-requires
+give-requires g c = omega arith
 
-pub returns-in-Err-clause-reads : goal.returns-in-Err-clause-reads
-returns-in-Err-clause-reads g c = λ below above e l i. reads_fail (c.steps.invariant.reads below above e l i) l c.in-Some.ensures.some c.in-Err.ensures.stepped
+pub returns-clause-reads : goal.returns-clause-reads
+returns-clause-reads g c = λ below above e l i.
+    let t = c.take-parser.ensures in
+    rw (c.give.ensures.reading, c.give.ensures.stack, c.give.ensures.looks) (rw (t.symbol, t.include_hash, t.point, t.state, t.looks) at c.read_on-halt.ensures.reads below above (rw t.stack e) l i)

@@ -7,7 +7,7 @@ use Rattle.demangle_v0.proofs.PointPrints.{ended_all, ended_err, prints_so, prin
 use Rattle.demangle_v0.proofs.value.Demangle.write_to.Goals as goal
 
 pub print_on-requires : goal.print_on-requires
-print_on-requires g c = (omega arith, (c.self.invariant, (c.requires, rw (c.of_path-reading.ensures, c.new-stack.ensures) (valid_first 0))))
+print_on-requires g c = (omega arith, (c.self.invariant, (c.requires, (rw (c.of_path-reading.ensures, c.new-stack.ensures) (valid_first 0), omega arith))))
 
 pub returns-in_err-print_on-clause-prints : goal.returns-in_err-print_on-clause-prints
 returns-in_err-print_on-clause-prints g c =

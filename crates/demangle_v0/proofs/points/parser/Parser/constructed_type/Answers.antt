@@ -1,0 +1,48 @@
+use Rattle.std.proofs.Common.{true, false, arith, refl}
+use Rattle.demangle_v0.proofs.PointTypes.{encloses}
+use Rattle.demangle_grammar.specs.Items.{a_type}
+use Rattle.demangle_v0.proofs.PointReferences.{unit_type}
+use Rattle.demangle_grammar.specs.Reading.{run}
+use Rattle.demangle_v0.specs.Points.{unit_rest_at, frame_at}
+use Rattle.demangle_words.specs.declared.texts.Mark.TheVariants as mark
+use Rattle.demangle_v0.specs.declared.points.Point.TheVariants as point
+use Rattle.demangle_v0.proofs.PointTurns.{alike, enters, marks}
+use Rattle.demangle_v0.proofs.points.parser.Parser.constructed_type.Goals as goal
+
+pub returns-in-ConstPointer : goal.returns-in-ConstPointer
+unfolding run unit_rest_at
+returns-in-ConstPointer g c = record { did = rw (c.in-ConstPointer.is, c.put.ensures) (record { does = marks point.Const refl (omega arith) (omega arith) (omega (arith, c.requires.may.fits)); same = (refl, refl) }) }
+
+pub returns-in-MutPointer : goal.returns-in-MutPointer
+unfolding run unit_rest_at
+returns-in-MutPointer g c = record { did = rw (c.in-MutPointer.is, c.put-in-MutPointer.ensures) (record { does = marks point.Mut refl (omega arith) (omega arith) (omega (arith, c.requires.may.fits)); same = (refl, refl) }) }
+
+pub returns-in-Tuple : goal.returns-in-Tuple
+unfolding run unit_rest_at
+returns-in-Tuple g c = record { did = rw (c.in-Tuple.is, c.put-in-Tuple.ensures) (record { does = marks point.FirstTupleType refl (omega arith) (omega arith) (omega (arith, c.requires.may.fits)); same = (refl, refl) }) }
+
+pub returns-in-Array : goal.returns-in-Array
+unfolding run unit_rest_at
+returns-in-Array g c = record { did = rw (c.in-Array.is, c.put-in-Array.ensures, c.push.ensures) (record { does = enters point.«Type» (frame_at point.ArrayLength c.args.self.now.state) refl refl (omega arith) (omega arith) (omega arith) (omega (arith, c.requires.may.fits)) (omega (arith, c.requires.may.fits)) refl; same = (refl, refl) }) }
+
+pub returns-in-Pattern : goal.returns-in-Pattern
+unfolding run unit_rest_at
+returns-in-Pattern g c = record { did = rw (c.in-Pattern.is, c.push-in-Pattern.ensures) (record { does = enters point.«Type» (frame_at point.PatternIs c.args.self.now.state) (rw c.requires.may.unmarked refl) refl (omega arith) (omega arith) (omega arith) (omega (arith, c.requires.may.fits)) (omega (arith, c.requires.may.fits)) refl; same = (refl, refl) }) }
+
+pub returns-in-Slice : goal.returns-in-Slice
+unfolding run unit_rest_at
+returns-in-Slice g c = record {
+  did = rw (c.in-Slice.is, c.put-in-Slice.ensures, c.push_printing.ensures.parser) (record {
+    does = encloses point.«Type» a_type false c.args.self.now.state.in_value mark.OpenBracket refl refl (omega arith) (omega arith) (omega arith) (omega (arith, c.requires.may.fits)) (omega (arith, c.requires.may.fits)) c.push_printing.ensures.is_printed c.push_printing.ensures.silent;
+    same = (refl, refl);
+  });
+}
+
+pub returns-in-Backref : goal.returns-in-Backref
+returns-in-Backref g c = record { did = rw c.in-Backref.is (record { does = alike (omega arith) refl (omega arith) (omega arith) (c.follow.ensures.did c.args.self.now.include_hash c.args.output.now true a_type false (unit_type c.args.self.now.symbol.now c.args.self.now.include_hash c.args.self.now.state.in_value c.args.self.now.state.letter c.args.self.now.state.lifetimes)); same = (refl, refl) }) }
+
+pub returns-in-Function : goal.returns-in-Function
+returns-in-Function g c = record { did = rw c.in-Function.is (record { does = alike (omega arith) refl (omega arith) (omega arith) (c.function_binder.ensures.did c.args.self.now.stack); same = (refl, refl) }) }
+
+pub returns-in-Dyn : goal.returns-in-Dyn
+returns-in-Dyn g c = record { did = rw c.in-Dyn.is (record { does = alike (omega arith) refl (omega arith) (omega arith) (c.dyn_type.ensures.did c.args.self.now.include_hash c.args.output.now c.args.self.now.looks); same = (refl, refl) }) }

@@ -1,0 +1,170 @@
+use Rattle.std.proofs.Common.{arith, refl, subst}
+use Rattle.demangle_v0.specs.Parsers.{Did}
+use Rattle.demangle_v0.specs.Points.{unit_rest_at}
+use Rattle.demangle_v0.specs.declared.points.Point.{Point}
+use Rattle.demangle_v0.specs.declared.points.Point.TheVariants as point
+use Rattle.demangle_v0.proofs.Parsers.{went}
+use Rattle.demangle_v0.proofs.PointReferences.{stays_over}
+use Rattle.demangle_v0.proofs.PointTypes.{type_point}
+use Rattle.demangle_v0.proofs.PointTurns.{alike}
+use Rattle.demangle_v0.proofs.points.parser.Parser.dispatch.Goals as goal
+
+pub returns-in-Path-clause-did : goal.returns-in-Path-clause-did
+returns-in-Path-clause-did g c = rw c.in-Path.is c.path.ensures.did
+
+pub returns-in-Lifetime-clause-did : goal.returns-in-Lifetime-clause-did
+unfolding unit_rest_at
+returns-in-Lifetime-clause-did g c = rw c.in-Lifetime.is (record { does = alike (omega arith) refl (omega arith) (omega arith) (c.last_word.ensures.did c.args.self.now.stack); same = (refl, refl) })
+
+pub returns-in-End-clause-did : goal.returns-in-End-clause-did
+returns-in-End-clause-did g c = rw c.in-End.is (record { does = stays_over c.requires.may.unmarked; same = (refl, refl) })
+
+pub returns-in-CloseParen-clause-did : goal.returns-in-CloseParen-clause-did
+returns-in-CloseParen-clause-did g c = record { does = c.leave.ensures.did c.args.self.now.symbol.now c.args.self.now.include_hash c.args.output.now c.args.self.now.stack c.args.self.now.looks; same = (refl, refl) }
+
+pub returns-in-Type-clause-did : goal.returns-in-Type-clause-did
+returns-in-Type-clause-did g c =
+    subst (λ (p : Point). Did g.V.Output p c.args.self.now c.args.output.now c.type_.result c.type_.new.self c.type_.new.output)
+    (type_point c.args.point c.is_begun.result c.in-Type.is c.is_begun.ensures.yes c.is_begun.ensures.no)
+    c.type_.ensures.did
+
+pub returns-in-Nested-clause-did : goal.returns-in-Nested-clause-did
+returns-in-Nested-clause-did g c = rw c.in-Nested.is (record { does = c.nested_name.ensures.did c.args.self.now.stack; same = (refl, refl) })
+
+pub returns-in-InherentPath-clause-did : goal.returns-in-InherentPath-clause-did
+returns-in-InherentPath-clause-did g c = rw c.in-InherentPath.is (record { does = c.skipped_path.ensures.did c.args.self.now.symbol.now c.args.self.now.include_hash c.args.output.now c.args.self.now.looks; same = (refl, refl) })
+
+pub returns-in-ImplPath-clause-did : goal.returns-in-ImplPath-clause-did
+returns-in-ImplPath-clause-did g c = rw c.in-ImplPath.is (record { does = c.skipped_path-in-ImplPath.ensures.did c.args.self.now.symbol.now c.args.self.now.include_hash c.args.output.now c.args.self.now.looks; same = (refl, refl) })
+
+pub returns-in-InherentType-clause-did : goal.returns-in-InherentType-clause-did
+returns-in-InherentType-clause-did g c = rw c.in-InherentType.is (record { does = c.self_type.ensures.did c.args.self.now.symbol.now c.args.self.now.include_hash c.args.output.now c.args.self.now.looks; same = (refl, refl) })
+
+pub returns-in-SelfType-clause-did : goal.returns-in-SelfType-clause-did
+returns-in-SelfType-clause-did g c = rw c.in-SelfType.is (record { does = c.self_type-in-SelfType.ensures.did c.args.self.now.symbol.now c.args.self.now.include_hash c.args.output.now c.args.self.now.looks; same = (refl, refl) })
+
+pub returns-in-As-clause-did : goal.returns-in-As-clause-did
+returns-in-As-clause-did g c = rw c.in-As.is (record { does = c.as_trait.ensures.did c.args.self.now.symbol.now c.args.self.now.include_hash c.args.output.now c.args.self.now.looks; same = (refl, refl) })
+
+pub returns-in-Generic-clause-did : goal.returns-in-Generic-clause-did
+returns-in-Generic-clause-did g c = rw c.in-Generic.is (record { does = c.generic.ensures.did c.args.self.now.symbol.now c.args.self.now.include_hash c.args.output.now c.args.self.now.stack c.args.self.now.looks; same = (refl, refl) })
+
+pub returns-in-FirstArgument-clause-did : goal.returns-in-FirstArgument-clause-did
+returns-in-FirstArgument-clause-did g c = rw c.in-FirstArgument.is (record { does = c.arguments.ensures.did c.args.self.now.include_hash c.args.output.now; same = (refl, refl) })
+
+pub returns-in-NextArgument-clause-did : goal.returns-in-NextArgument-clause-did
+returns-in-NextArgument-clause-did g c = rw c.in-NextArgument.is (record { does = c.arguments-in-NextArgument.ensures.did c.args.self.now.include_hash c.args.output.now; same = (refl, refl) })
+
+pub returns-in-ArrayLength-clause-did : goal.returns-in-ArrayLength-clause-did
+returns-in-ArrayLength-clause-did g c = rw c.in-ArrayLength.is c.array_length.ensures.did
+
+pub returns-in-FirstTupleType-clause-did : goal.returns-in-FirstTupleType-clause-did
+returns-in-FirstTupleType-clause-did g c = rw c.in-FirstTupleType.is (went g.V.Output c.args.output.now point.FirstTupleType c.first_tuple_type.ensures.did)
+
+pub returns-in-SecondTupleType-clause-did : goal.returns-in-SecondTupleType-clause-did
+returns-in-SecondTupleType-clause-did g c = rw c.in-SecondTupleType.is (went g.V.Output c.args.output.now point.SecondTupleType c.second_tuple_type.ensures.did)
+
+pub returns-in-NextTupleType-clause-did : goal.returns-in-NextTupleType-clause-did
+returns-in-NextTupleType-clause-did g c = rw c.in-NextTupleType.is (went g.V.Output c.args.output.now point.NextTupleType c.next_tuple_type.ensures.did)
+
+pub returns-in-ReferenceLifetime-clause-did : goal.returns-in-ReferenceLifetime-clause-did
+returns-in-ReferenceLifetime-clause-did g c = rw c.in-ReferenceLifetime.is (record { does = c.reference_lifetime.ensures.did c.args.self.now.stack; same = (refl, refl) })
+
+pub returns-in-MutReferenceLifetime-clause-did : goal.returns-in-MutReferenceLifetime-clause-did
+returns-in-MutReferenceLifetime-clause-did g c = rw c.in-MutReferenceLifetime.is (record { does = c.reference_lifetime-in-MutReferenceLifetime.ensures.did c.args.self.now.stack; same = (refl, refl) })
+
+pub returns-in-FunctionHead-clause-did : goal.returns-in-FunctionHead-clause-did
+returns-in-FunctionHead-clause-did g c = rw c.in-FunctionHead.is c.rare.ensures.did
+
+pub returns-in-FirstParameter-clause-did : goal.returns-in-FirstParameter-clause-did
+returns-in-FirstParameter-clause-did g c = rw c.in-FirstParameter.is (record { does = c.parameter.ensures.did c.args.self.now.include_hash c.args.output.now; same = (refl, refl) })
+
+pub returns-in-NextParameter-clause-did : goal.returns-in-NextParameter-clause-did
+returns-in-NextParameter-clause-did g c = rw c.in-NextParameter.is (record { does = c.parameter-in-NextParameter.ensures.did c.args.self.now.include_hash c.args.output.now; same = (refl, refl) })
+
+pub returns-in-Returns-clause-did : goal.returns-in-Returns-clause-did
+returns-in-Returns-clause-did g c = rw c.in-Returns.is (record { does = c.returns.ensures.did c.args.self.now.include_hash c.args.output.now c.args.self.now.stack; same = (refl, refl) })
+
+pub returns-in-DynBinder-clause-did : goal.returns-in-DynBinder-clause-did
+returns-in-DynBinder-clause-did g c = rw c.in-DynBinder.is c.rare-in-DynBinder.ensures.did
+
+pub returns-in-FirstDynTrait-clause-did : goal.returns-in-FirstDynTrait-clause-did
+returns-in-FirstDynTrait-clause-did g c = rw c.in-FirstDynTrait.is (record { does = c.dyn_trait.ensures.did c.args.self.now.include_hash c.args.output.now; same = (refl, refl) })
+
+pub returns-in-NextDynTrait-clause-did : goal.returns-in-NextDynTrait-clause-did
+returns-in-NextDynTrait-clause-did g c = rw c.in-NextDynTrait.is (record { does = c.dyn_trait-in-NextDynTrait.ensures.did c.args.self.now.include_hash c.args.output.now; same = (refl, refl) })
+
+pub returns-in-TraitPath-clause-did : goal.returns-in-TraitPath-clause-did
+returns-in-TraitPath-clause-did g c = rw c.in-TraitPath.is (record { does = c.trait_path.ensures.did c.args.self.now.include_hash c.args.output.now; same = (refl, refl) })
+
+pub returns-in-FirstOpenArgument-clause-did : goal.returns-in-FirstOpenArgument-clause-did
+returns-in-FirstOpenArgument-clause-did g c = rw c.in-FirstOpenArgument.is (record { does = c.open_argument.ensures.did c.args.self.now.include_hash c.args.output.now; same = (refl, refl) })
+
+pub returns-in-NextOpenArgument-clause-did : goal.returns-in-NextOpenArgument-clause-did
+returns-in-NextOpenArgument-clause-did g c = rw c.in-NextOpenArgument.is (record { does = c.open_argument-in-NextOpenArgument.ensures.did c.args.self.now.include_hash c.args.output.now; same = (refl, refl) })
+
+pub returns-in-Bindings-clause-did : goal.returns-in-Bindings-clause-did
+returns-in-Bindings-clause-did g c = rw c.in-Bindings.is (record { does = c.bindings.ensures.did c.args.self.now.include_hash c.args.output.now c.args.self.now.stack; same = (refl, refl) })
+
+pub returns-in-OpenBindings-clause-did : goal.returns-in-OpenBindings-clause-did
+returns-in-OpenBindings-clause-did g c = rw c.in-OpenBindings.is (record { does = c.open_bindings.ensures.did c.args.self.now.include_hash c.args.output.now c.args.self.now.stack; same = (refl, refl) })
+
+pub returns-in-BindingName-clause-did : goal.returns-in-BindingName-clause-did
+returns-in-BindingName-clause-did g c = rw c.in-BindingName.is c.rare-in-BindingName.ensures.did
+
+pub returns-in-Bound-clause-did : goal.returns-in-Bound-clause-did
+returns-in-Bound-clause-did g c = rw c.in-Bound.is (record { does = c.bound.ensures.did c.args.self.now.include_hash c.args.output.now; same = (refl, refl) })
+
+pub returns-in-DynLifetime-clause-did : goal.returns-in-DynLifetime-clause-did
+returns-in-DynLifetime-clause-did g c = rw c.in-DynLifetime.is c.rare-in-DynLifetime.ensures.did
+
+pub returns-in-Pattern-clause-did : goal.returns-in-Pattern-clause-did
+returns-in-Pattern-clause-did g c = rw c.in-Pattern.is (record { does = c.pattern.ensures.did c.args.self.now.include_hash c.args.output.now; same = (refl, refl) })
+
+pub returns-in-NextPattern-clause-did : goal.returns-in-NextPattern-clause-did
+returns-in-NextPattern-clause-did g c = rw c.in-NextPattern.is (record { does = c.next_pattern.ensures.did c.args.self.now.include_hash c.args.output.now; same = (refl, refl) })
+
+pub returns-in-Constant-clause-did : goal.returns-in-Constant-clause-did
+returns-in-Constant-clause-did g c = rw c.in-Constant.is c.rare-in-Constant.ensures.did
+
+pub returns-in-Number-clause-did : goal.returns-in-Number-clause-did
+returns-in-Number-clause-did g c = rw c.in-Number.is c.rare-in-Number.ensures.did
+
+pub returns-in-Literal-clause-did : goal.returns-in-Literal-clause-did
+returns-in-Literal-clause-did g c = rw c.in-Literal.is c.rare-in-Literal.ensures.did
+
+pub returns-in-FirstArrayConstant-clause-did : goal.returns-in-FirstArrayConstant-clause-did
+returns-in-FirstArrayConstant-clause-did g c = rw c.in-FirstArrayConstant.is (record { does = c.first_constant.ensures.did c.args.self.now.include_hash c.args.output.now; same = (refl, refl) })
+
+pub returns-in-NextArrayConstant-clause-did : goal.returns-in-NextArrayConstant-clause-did
+returns-in-NextArrayConstant-clause-did g c = rw c.in-NextArrayConstant.is (record { does = c.next_constant.ensures.did c.args.self.now.include_hash c.args.output.now; same = (refl, refl) })
+
+pub returns-in-FirstTupleConstant-clause-did : goal.returns-in-FirstTupleConstant-clause-did
+returns-in-FirstTupleConstant-clause-did g c = rw c.in-FirstTupleConstant.is (record { does = c.first_constant-in-FirstTupleConstant.ensures.did c.args.self.now.include_hash c.args.output.now; same = (refl, refl) })
+
+pub returns-in-NextTupleConstant-clause-did : goal.returns-in-NextTupleConstant-clause-did
+returns-in-NextTupleConstant-clause-did g c = rw c.in-NextTupleConstant.is (record { does = c.next_constant-in-NextTupleConstant.ensures.did c.args.self.now.include_hash c.args.output.now; same = (refl, refl) })
+
+pub returns-in-FirstVariantConstant-clause-did : goal.returns-in-FirstVariantConstant-clause-did
+returns-in-FirstVariantConstant-clause-did g c = rw c.in-FirstVariantConstant.is (record { does = c.first_constant-in-FirstVariantConstant.ensures.did c.args.self.now.include_hash c.args.output.now; same = (refl, refl) })
+
+pub returns-in-NextVariantConstant-clause-did : goal.returns-in-NextVariantConstant-clause-did
+returns-in-NextVariantConstant-clause-did g c = rw c.in-NextVariantConstant.is (record { does = c.next_constant-in-NextVariantConstant.ensures.did c.args.self.now.include_hash c.args.output.now; same = (refl, refl) })
+
+pub returns-in-FirstField-clause-did : goal.returns-in-FirstField-clause-did
+returns-in-FirstField-clause-did g c = rw c.in-FirstField.is (record { does = c.first_constant-in-FirstField.ensures.did c.args.self.now.include_hash c.args.output.now; same = (refl, refl) })
+
+pub returns-in-NextField-clause-did : goal.returns-in-NextField-clause-did
+returns-in-NextField-clause-did g c = rw c.in-NextField.is (record { does = c.next_constant-in-NextField.ensures.did c.args.self.now.include_hash c.args.output.now; same = (refl, refl) })
+
+pub returns-in-SecondTupleConstant-clause-did : goal.returns-in-SecondTupleConstant-clause-did
+returns-in-SecondTupleConstant-clause-did g c = rw c.in-SecondTupleConstant.is (record { does = c.second_tuple_constant.ensures.did c.args.self.now.include_hash c.args.output.now; same = (refl, refl) })
+
+pub returns-in-Variant-clause-did : goal.returns-in-Variant-clause-did
+returns-in-Variant-clause-did g c = rw c.in-Variant.is c.rare-in-Variant.ensures.did
+
+pub returns-in-Field-clause-did : goal.returns-in-Field-clause-did
+returns-in-Field-clause-did g c = rw c.in-Field.is c.rare-in-Field.ensures.did
+
+pub returns-in-AfterBackref-clause-did : goal.returns-in-AfterBackref-clause-did
+returns-in-AfterBackref-clause-did g c = rw c.in-AfterBackref.is (record { does = c.behind.ensures.did c.args.self.now.symbol.now c.args.self.now.include_hash c.args.output.now c.args.self.now.stack c.args.self.now.looks; same = (refl, refl) })
