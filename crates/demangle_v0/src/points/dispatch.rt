@@ -7,16 +7,13 @@ ghost use Rattle.demangle_v0.specs.PointRuns.{first_looks};
 
 use crate::points::arguments::{arguments, generic};
 use crate::points::bindings::{bindings, bound, open_bindings};
-use crate::points::constant_lists::{
-    ConstantList, first_constant, next_constant, second_tuple_constant,
-};
+use crate::points::constant_lists::ConstantList;
 use crate::points::dyn_traits::{dyn_trait, open_argument, trait_path};
 use crate::points::functions::{parameter, returns};
 use crate::points::impls::{as_trait, self_type, skipped_path};
 use crate::points::marks::leave;
 use crate::points::names::nested_name;
 use crate::points::parser::Parser;
-use crate::points::patterns::{next_pattern, pattern};
 use crate::points::rare::{RarePoint, rare};
 use crate::points::references::behind;
 use crate::points::type_references::reference_lifetime;
@@ -184,102 +181,21 @@ impl<const N: usize> Parser<'_, N> {
                 &mut self.looks,
             )),
             Point::DynLifetime => { self.rare(RarePoint::DynLifetime, output) }
-            Point::Pattern => pattern::<V, N>(
-                self.symbol,
-                &mut self.state,
-                &mut self.stack,
-                &mut self.looks,
-            ),
-            Point::NextPattern => next_pattern::<V, N>(
-                self.symbol,
-                &mut self.state,
-                &mut self.stack,
-                &mut self.looks,
-            ),
+            Point::Pattern => self.pattern(),
+            Point::NextPattern => self.next_pattern(),
             Point::Constant => { self.rare(RarePoint::Constant, output) }
             Point::Number => { self.rare(RarePoint::Number, output) }
             Point::Literal => { self.rare(RarePoint::Literal, output) }
-            Point::FirstArrayConstant => {
-                Ok(first_constant::<V, N>(
-                    self.symbol,
-                    ConstantList::Array,
-                    &mut self.state,
-                    &mut self.stack,
-                    &mut self.looks,
-                ))
-            }
-            Point::NextArrayConstant => {
-                Ok(next_constant::<V, N>(
-                    self.symbol,
-                    ConstantList::Array,
-                    &mut self.state,
-                    &mut self.stack,
-                    &mut self.looks,
-                ))
-            }
-            Point::FirstTupleConstant => {
-                Ok(first_constant::<V, N>(
-                    self.symbol,
-                    ConstantList::Tuple,
-                    &mut self.state,
-                    &mut self.stack,
-                    &mut self.looks,
-                ))
-            }
-            Point::SecondTupleConstant => {
-                Ok(second_tuple_constant::<V, N>(
-                    self.symbol,
-                    &mut self.state,
-                    &mut self.stack,
-                    &mut self.looks,
-                ))
-            }
-            Point::NextTupleConstant => {
-                Ok(next_constant::<V, N>(
-                    self.symbol,
-                    ConstantList::Tuple,
-                    &mut self.state,
-                    &mut self.stack,
-                    &mut self.looks,
-                ))
-            }
+            Point::FirstArrayConstant => Ok(self.first_list_constant(ConstantList::Array)),
+            Point::NextArrayConstant => Ok(self.next_list_constant(ConstantList::Array)),
+            Point::FirstTupleConstant => Ok(self.first_list_constant(ConstantList::Tuple)),
+            Point::SecondTupleConstant => Ok(self.second_tuple_constant()),
+            Point::NextTupleConstant => Ok(self.next_list_constant(ConstantList::Tuple)),
             Point::Variant => { self.rare(RarePoint::Variant, output) }
-            Point::FirstVariantConstant => {
-                Ok(first_constant::<V, N>(
-                    self.symbol,
-                    ConstantList::TupleVariant,
-                    &mut self.state,
-                    &mut self.stack,
-                    &mut self.looks,
-                ))
-            }
-            Point::NextVariantConstant => {
-                Ok(next_constant::<V, N>(
-                    self.symbol,
-                    ConstantList::TupleVariant,
-                    &mut self.state,
-                    &mut self.stack,
-                    &mut self.looks,
-                ))
-            }
-            Point::FirstField => {
-                Ok(first_constant::<V, N>(
-                    self.symbol,
-                    ConstantList::Fields,
-                    &mut self.state,
-                    &mut self.stack,
-                    &mut self.looks,
-                ))
-            }
-            Point::NextField => {
-                Ok(next_constant::<V, N>(
-                    self.symbol,
-                    ConstantList::Fields,
-                    &mut self.state,
-                    &mut self.stack,
-                    &mut self.looks,
-                ))
-            }
+            Point::FirstVariantConstant => Ok(self.first_list_constant(ConstantList::TupleVariant)),
+            Point::NextVariantConstant => Ok(self.next_list_constant(ConstantList::TupleVariant)),
+            Point::FirstField => Ok(self.first_list_constant(ConstantList::Fields)),
+            Point::NextField => Ok(self.next_list_constant(ConstantList::Fields)),
             Point::Field => { self.rare(RarePoint::Field, output) }
             Point::AfterBackref => Ok(behind::<V>(&mut self.state)),
             Point::CloseParen
