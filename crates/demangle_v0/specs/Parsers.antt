@@ -1,13 +1,14 @@
 -- Internal: no public contract cites this.
 -- What points do to a parser.
-use Rattle.std.specs.Prelude.{◌≡◌, ℕ, ◌-◌, Bool, false, List, [], ◌∷◌, ◌++◌, Some, Result}
+use Rattle.std.specs.Prelude.{◌≡◌, ℕ, ◌-◌, Bool, false, Option, List, [], ◌∷◌, ◌++◌, Some, Result}
 use Rattle.demangle_grammar.specs.Reading.{Place}
 use Rattle.demangle_grammar.specs.Items.{Items, Kind}
 use Rattle.demangle_words.specs.WordReads.{Group, word_group}
 use Rattle.demangle_words.specs.declared.texts.Mark.{Mark}
 use Rattle.demangle_words.specs.declared.texts.Word.{Word}
 use Rattle.demangle_words.specs.declared.output.Output.{Ghosts}
-use Rattle.demangle_v0.specs.Points.{Does, Env, MayEmit, MayRead, MayStep, Part, Turn, env, rest, turn, whole}
+use Rattle.demangle_v0.specs.PointContracts.{brace_behind}
+use Rattle.demangle_v0.specs.Points.{Does, Env, MayEmit, MayRead, MayStep, Part, Turn, env, pushed_on, rest, turn, whole}
 use Rattle.demangle_v0.specs.References.{IsUnit, target_part}
 use Rattle.demangle_v0.specs.declared.points.Point.{Point}
 use Rattle.demangle_v0.specs.declared.points.State.{State}
@@ -38,6 +39,10 @@ restacked m now = record m { stack = now }
 
 abbrev pub looked : {N : ℕ} → Parser N → ℕ → Parser N
 looked m n = record m { looks = n }
+
+-- a brace is still to be closed behind it, but in value position
+abbrev pub braced : {N : ℕ} → Parser N → Option Mark → Parser N
+braced m x = record m { state = record m.state { mark = x }; stack = pushed_on m.stack (brace_behind m.state) }
 
 abbrev pub restated : {N : ℕ} → Parser N → State → ℕ → Parser N
 restated m s n = record m { state = s; looks = n }

@@ -2,7 +2,6 @@
 ghost use Rattle.std.specs.Prelude.{◌≡◌, ◌+◌, ◌≤◌, true, false};
 ghost use Rattle.demangle_v0.specs.Impls.{is_skip};
 ghost use Rattle.demangle_v0.specs.Parsers.{Did, May};
-ghost use Rattle.demangle_v0.specs.PointContracts.{rare_point};
 ghost use Rattle.demangle_v0.specs.PointRuns.{first_looks};
 
 use crate::points::arguments::{arguments, generic};
@@ -14,32 +13,14 @@ use crate::points::impls::{as_trait, self_type, skipped_path};
 use crate::points::marks::leave;
 use crate::points::names::nested_name;
 use crate::points::parser::Parser;
-use crate::points::rare::{RarePoint, rare};
+use crate::points::rare::RarePoint;
 use crate::points::references::behind;
-use crate::points::type_references::reference_lifetime;
 use crate::points::types::is_begun;
 use crate::points::{Point, Stop, last_word};
 use demangle_words::output::Output;
 use demangle_words::texts::Word;
 
 impl<const N: usize> Parser<'_, N> {
-    /// A point that few symbols have.
-    #[inline(always)]
-    fn rare<V: Output>(&mut self, point: RarePoint, output: &mut V) -> Result<Point, Stop>
-        requires may { May V.Output (rare_point point) self.old output.old }
-        ensures did { Did V.Output (rare_point point) self.old output.old result self.new output.new }
-    {
-        rare(
-            self.symbol,
-            point,
-            self.include_hash,
-            &mut self.state,
-            &mut self.stack,
-            output,
-            &mut self.looks,
-        )
-    }
-
     /// What a point does.
     #[inline(always)]
     pub(super) fn dispatch<V: Output>(
@@ -99,22 +80,8 @@ impl<const N: usize> Parser<'_, N> {
             Point::FirstTupleType => Ok(self.first_tuple_type()),
             Point::SecondTupleType => Ok(self.second_tuple_type()),
             Point::NextTupleType => Ok(self.next_tuple_type()),
-            Point::ReferenceLifetime => reference_lifetime(
-                self.symbol,
-                false,
-                self.include_hash,
-                &mut self.state,
-                output,
-                &mut self.looks,
-            ),
-            Point::MutReferenceLifetime => reference_lifetime(
-                self.symbol,
-                true,
-                self.include_hash,
-                &mut self.state,
-                output,
-                &mut self.looks,
-            ),
+            Point::ReferenceLifetime => self.reference_lifetime(false, output),
+            Point::MutReferenceLifetime => self.reference_lifetime(true, output),
             Point::FunctionHead => { self.rare(RarePoint::FunctionHead, output) }
             Point::FirstParameter => Ok(parameter::<V, N>(
                 self.symbol,

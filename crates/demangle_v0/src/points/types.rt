@@ -9,7 +9,6 @@ use crate::points::dyn_traits::dyn_type;
 use crate::points::functions::function_binder;
 use crate::points::parser::Parser;
 use crate::points::references::follow;
-use crate::points::type_references::reference;
 use crate::points::{Point, Stop};
 use demangle_symbol::cursor::{Looks, Symbol};
 use demangle_words::output::Output;
@@ -97,12 +96,8 @@ impl<const N: usize> Parser<'_, N> {
             output.new }
     {
         match kind {
-            TypeKind::SharedReference => {
-                Ok(reference::<V>(self.symbol, false, &mut self.state, &mut self.looks))
-            }
-            TypeKind::MutReference => {
-                Ok(reference::<V>(self.symbol, true, &mut self.state, &mut self.looks))
-            }
+            TypeKind::SharedReference => Ok(self.reference_type(false)),
+            TypeKind::MutReference => Ok(self.reference_type(true)),
             // A copy, so that what others answer need not lie where the call writes its answer.
             TypeKind::Constructed(kind) => Ok(self.constructed_type(kind, output)?),
         }

@@ -68,10 +68,10 @@ pub returns-in-NextTupleType-clause-did : goal.returns-in-NextTupleType-clause-d
 returns-in-NextTupleType-clause-did g c = rw c.in-NextTupleType.is (went g.V.Output c.args.output.now point.NextTupleType c.next_tuple_type.ensures.did)
 
 pub returns-in-ReferenceLifetime-clause-did : goal.returns-in-ReferenceLifetime-clause-did
-returns-in-ReferenceLifetime-clause-did g c = rw c.in-ReferenceLifetime.is (record { does = c.reference_lifetime.ensures.did c.args.self.now.stack; same = (refl, refl) })
+returns-in-ReferenceLifetime-clause-did g c = rw c.in-ReferenceLifetime.is c.reference_lifetime.ensures.did
 
 pub returns-in-MutReferenceLifetime-clause-did : goal.returns-in-MutReferenceLifetime-clause-did
-returns-in-MutReferenceLifetime-clause-did g c = rw c.in-MutReferenceLifetime.is (record { does = c.reference_lifetime-in-MutReferenceLifetime.ensures.did c.args.self.now.stack; same = (refl, refl) })
+returns-in-MutReferenceLifetime-clause-did g c = rw c.in-MutReferenceLifetime.is c.reference_lifetime-in-MutReferenceLifetime.ensures.did
 
 pub returns-in-FunctionHead-clause-did : goal.returns-in-FunctionHead-clause-did
 returns-in-FunctionHead-clause-did g c = rw c.in-FunctionHead.is c.rare.ensures.did
