@@ -7,7 +7,6 @@ ghost use Rattle.demangle_v0.specs.Points.{own_by};
 ghost use Rattle.demangle_words.specs.Tags.{constant_of};
 
 use crate::points::parser::Parser;
-use crate::points::references::follow;
 use crate::points::{Point, Stop};
 use demangle_words::output::Output;
 use demangle_words::tags::{ConstantKind, constant_kind};
@@ -132,14 +131,7 @@ impl<const N: usize> Parser<'_, N> {
             ConstantKind::Array => Ok(self.with_braces(Point::ArrayConstant)),
             ConstantKind::Tuple => Ok(self.with_braces(Point::TupleConstant)),
             ConstantKind::Variant => Ok(self.variant_path()),
-            ConstantKind::Reference => follow(
-                self.symbol,
-                Point::Constant,
-                &mut self.state,
-                &mut self.stack,
-                output,
-                &mut self.looks,
-            ),
+            ConstantKind::Reference => self.follow_backref(Point::Constant, output),
         }
     }
 

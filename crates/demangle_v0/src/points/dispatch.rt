@@ -10,13 +10,11 @@ use crate::points::constant_lists::ConstantList;
 use crate::points::dyn_traits::{dyn_trait, open_argument, trait_path};
 use crate::points::functions::{parameter, returns};
 use crate::points::impls::{as_trait, self_type, skipped_path};
-use crate::points::marks::leave;
 use crate::points::names::nested_name;
 use crate::points::parser::Parser;
 use crate::points::rare::RarePoint;
-use crate::points::references::behind;
 use crate::points::types::is_begun;
-use crate::points::{Point, Stop, last_word};
+use crate::points::{Point, Stop};
 use demangle_words::output::Output;
 use demangle_words::texts::Word;
 
@@ -67,14 +65,7 @@ impl<const N: usize> Parser<'_, N> {
                 &mut self.stack,
                 &mut self.looks,
             )),
-            Point::Lifetime => last_word(
-                self.symbol,
-                Word::LifetimeIndex,
-                self.include_hash,
-                &mut self.state,
-                output,
-                &mut self.looks,
-            ),
+            Point::Lifetime => self.end_with_token(Word::LifetimeIndex, output),
             Point::Type | Point::TaggedType => { self.type_(is_begun(point), output) }
             Point::ArrayLength => Ok(self.array_length(output)),
             Point::FirstTupleType => Ok(self.first_tuple_type()),
@@ -164,7 +155,7 @@ impl<const N: usize> Parser<'_, N> {
             Point::FirstField => Ok(self.first_list_constant(ConstantList::Fields)),
             Point::NextField => Ok(self.next_list_constant(ConstantList::Fields)),
             Point::Field => { self.rare(RarePoint::Field, output) }
-            Point::AfterBackref => Ok(behind::<V>(&mut self.state)),
+            Point::AfterBackref => Ok(self.after_backref()),
             Point::CloseParen
             | Point::CloseAngle
             | Point::Mut
@@ -182,7 +173,7 @@ impl<const N: usize> Parser<'_, N> {
             | Point::ArrayConstant
             | Point::TupleConstant
             | Point::FieldColon
-            | Point::CloseBrace => { Ok(leave::<V>(point, &mut self.state)) }
+            | Point::CloseBrace => Ok(self.queue_text(point)),
             Point::End => Ok(Point::End),
         }
     }

@@ -9,7 +9,6 @@ ghost use Rattle.demangle_words.specs.Tags.{path_of};
 use crate::points::impls::{impl_path, self_type};
 use crate::points::names::crate_name;
 use crate::points::parser::Parser;
-use crate::points::references::follow;
 use crate::points::{Point, Stop};
 use demangle_words::output::Output;
 use demangle_words::tags::{PathKind, path_kind};
@@ -58,14 +57,7 @@ impl<const N: usize> Parser<'_, N> {
             ),
             PathKind::Nested => self.nested_path(),
             PathKind::Generic => Ok(self.generic_path()),
-            PathKind::Reference => follow(
-                self.symbol,
-                Point::Path,
-                &mut self.state,
-                &mut self.stack,
-                output,
-                &mut self.looks,
-            ),
+            PathKind::Reference => self.follow_backref(Point::Path, output),
             PathKind::InherentImpl => {
                 impl_path::<V>(self.symbol, false, &mut self.state, &mut self.looks)
             }

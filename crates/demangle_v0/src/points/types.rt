@@ -8,7 +8,6 @@ ghost use Rattle.demangle_words.specs.Tags.{constructed_of, type_of};
 use crate::points::dyn_traits::dyn_type;
 use crate::points::functions::function_binder;
 use crate::points::parser::Parser;
-use crate::points::references::follow;
 use crate::points::{Point, Stop};
 use demangle_symbol::cursor::{Looks, Symbol};
 use demangle_words::output::Output;
@@ -137,14 +136,7 @@ impl<const N: usize> Parser<'_, N> {
                 self.put(Mark::OpenParen);
                 Ok(Point::FirstTupleType)
             }
-            ConstructedType::Backref => follow(
-                self.symbol,
-                Point::Type,
-                &mut self.state,
-                &mut self.stack,
-                output,
-                &mut self.looks,
-            ),
+            ConstructedType::Backref => self.follow_backref(Point::Type, output),
             ConstructedType::Pattern => {
                 self.push(Point::PatternIs);
                 Ok(Point::Type)

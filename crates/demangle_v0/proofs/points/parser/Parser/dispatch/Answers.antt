@@ -14,13 +14,13 @@ returns-in-Path-clause-did g c = rw c.in-Path.is c.path.ensures.did
 
 pub returns-in-Lifetime-clause-did : goal.returns-in-Lifetime-clause-did
 unfolding unit_rest_at
-returns-in-Lifetime-clause-did g c = rw c.in-Lifetime.is (record { does = alike (omega arith) refl (omega arith) (omega arith) (c.last_word.ensures.did c.args.self.now.stack); same = (refl, refl) })
+returns-in-Lifetime-clause-did g c = rw c.in-Lifetime.is (record { does = alike (omega arith) refl (omega arith) (omega arith) c.end_with_token.ensures.did.does; same = c.end_with_token.ensures.did.same })
 
 pub returns-in-End-clause-did : goal.returns-in-End-clause-did
 returns-in-End-clause-did g c = rw c.in-End.is (record { does = stays_over c.requires.may.unmarked; same = (refl, refl) })
 
 pub returns-in-CloseParen-clause-did : goal.returns-in-CloseParen-clause-did
-returns-in-CloseParen-clause-did g c = record { does = c.leave.ensures.did c.args.self.now.symbol.now c.args.self.now.include_hash c.args.output.now c.args.self.now.stack c.args.self.now.looks; same = (refl, refl) }
+returns-in-CloseParen-clause-did g c = went g.V.Output c.args.output.now c.args.point c.queue_text.ensures.did
 
 pub returns-in-Type-clause-did : goal.returns-in-Type-clause-did
 returns-in-Type-clause-did g c =
@@ -178,4 +178,4 @@ pub returns-in-Field-clause-did : goal.returns-in-Field-clause-did
 returns-in-Field-clause-did g c = rw c.in-Field.is c.rare-in-Field.ensures.did
 
 pub returns-in-AfterBackref-clause-did : goal.returns-in-AfterBackref-clause-did
-returns-in-AfterBackref-clause-did g c = rw c.in-AfterBackref.is (record { does = c.behind.ensures.did c.args.self.now.symbol.now c.args.self.now.include_hash c.args.output.now c.args.self.now.stack c.args.self.now.looks; same = (refl, refl) })
+returns-in-AfterBackref-clause-did g c = rw c.in-AfterBackref.is (went g.V.Output c.args.output.now point.AfterBackref c.after_backref.ensures.did)

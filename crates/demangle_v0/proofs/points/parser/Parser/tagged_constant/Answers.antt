@@ -134,14 +134,15 @@ returns-in-Variant g c = let d = went_rest g.V.Output c.args.output.now _ 6 6 9 
 }
 
 pub returns-in-Reference : goal.returns-in-Reference
-returns-in-Reference g c = record {
-  did = record {
-    does = constant_as c.args.tag kind.Reference
-        (rw (c.in_ok-kind.ensures.ok_part, c.in-Reference.is) at c.constant_kind.ensures) (omega arith)
-        (omega arith) (omega arith) (c.follow.ensures.did c.args.self.now.include_hash
-        c.args.output.now true a_constant c.args.self.now.state.in_value (unit_constant c.args.self.now.symbol.now
-        c.args.self.now.include_hash c.args.self.now.state.in_value c.args.self.now.state.letter
-        c.args.self.now.state.lifetimes));
-    same = (refl, refl);
-  };
-}
+returns-in-Reference g c =
+    let m = c.args.self.now in
+    let d = c.follow_backref.ensures.did true a_constant m.state.in_value
+        (unit_constant m.symbol.now m.include_hash m.state.in_value m.state.letter m.state.lifetimes) in
+    record {
+      did = record {
+        does = constant_as c.args.tag kind.Reference
+            (rw (c.in_ok-kind.ensures.ok_part, c.in-Reference.is) at c.constant_kind.ensures) (omega arith)
+            (omega arith) (omega arith) d.does;
+        same = d.same;
+      };
+    }
