@@ -51,40 +51,38 @@ returns-then-index-eq0 g c = record {
 }
 
 pub returns-in_err-emit : goal.returns-in_err-emit
-returns-in_err-emit g c = record {
-  did = rw c.in_err-emit.ensures.parser (record {
+returns-in_err-emit g c = let e = c.in_err-emit.ensures in let x = c.spaced_lifetime-stretch.ensures in record {
+  did = rw e.parser (record {
     does = rw (stops c.from_residual-in_err-emit.result c.from_residual-in_err-emit.ensures.1 refl) (lifetime_refused
         c.args.is_mut c.in_ok-at.at c.in_ok-index.index c.in_ok-index.next _ _ (record {
           at = c.in_ok-at.ensures.ok;
           is = c.in_ok-index.ensures.read;
           paid = record {
             grows = omega arith;
-            within = omega (arith, c.in_ok-index.ensures.ok_looks, c.in_err-emit.ensures.most,
-                c.spaced_lifetime-stretch.ensures.later);
+            within = omega (arith, c.in_ok-index.ensures.ok_looks, e.most, x.later);
           };
           unmarked = c.requires.may.unmarked;
           fits = c.requires.may.fits;
         }) c.if-index-eq0.false (sym c.is_printing.ensures ∙ c.if-not-is_printing.false)
-        c.spaced_lifetime-stretch.ensures.value c.in_err-emit.ensures.prints);
+        x.value e.prints);
     same = (refl, refl);
   });
 }
 
 pub returns : goal.returns
-returns g c = record {
-  did = rw (c.after_reference_lifetime-2.ensures, c.in_ok-emit.ensures.parser) (record {
+returns g c = let e = c.in_ok-emit.ensures in let x = c.spaced_lifetime-stretch.ensures in record {
+  did = rw (c.after_reference_lifetime-2.ensures, e.parser) (record {
     does = lifetime_tells c.args.is_mut c.in_ok-at.at c.in_ok-index.index c.in_ok-index.next _ _ (record {
       at = c.in_ok-at.ensures.ok;
       is = c.in_ok-index.ensures.read;
       paid = record {
         grows = omega arith;
-        within = omega (arith, c.in_ok-index.ensures.ok_looks, c.in_ok-emit.ensures.most,
-            c.spaced_lifetime-stretch.ensures.later);
+        within = omega (arith, c.in_ok-index.ensures.ok_looks, e.most, x.later);
       };
       unmarked = c.requires.may.unmarked;
       fits = c.requires.may.fits;
     }) c.if-index-eq0.false (sym c.is_printing.ensures ∙ c.if-not-is_printing.false)
-        c.spaced_lifetime-stretch.ensures.value c.in_ok-emit.ensures.prints c.in_ok-emit.ensures.ready;
+        x.value e.prints e.ready;
     same = (refl, refl);
   });
 }

@@ -28,8 +28,11 @@ pub returns : goal.returns
 returns g c = record {
   did = record {
     does = signed_plus c.args.tag c.in_ok-at.at c.in_ok-at.ensures.ok c.if-is_at.ensures.there c.is_at.ensures.look
-        (rw c.in_ok-at.ensures.ok (omega (arith, c.is_at.ensures.look,
-        rw c.in_ok-at.ensures.ok at c.number.ensures.own))) c.number.ensures.did.does;
+        (rw c.in_ok-at.ensures.ok (omega (
+          arith,
+          c.is_at.ensures.look,
+          rw c.in_ok-at.ensures.ok at c.number.ensures.own,
+        ))) c.number.ensures.did.does;
     same = c.number.ensures.did.same;
   };
 }
