@@ -4,13 +4,10 @@ ghost use Rattle.demangle_v0.specs.Impls.{is_skip};
 ghost use Rattle.demangle_v0.specs.Parsers.{Did, May};
 ghost use Rattle.demangle_v0.specs.PointRuns.{first_looks};
 
-use crate::points::arguments::{arguments, generic};
 use crate::points::bindings::{bindings, bound, open_bindings};
 use crate::points::constant_lists::ConstantList;
 use crate::points::dyn_traits::{dyn_trait, open_argument, trait_path};
 use crate::points::functions::{parameter, returns};
-use crate::points::impls::{as_trait, self_type, skipped_path};
-use crate::points::names::nested_name;
 use crate::points::parser::Parser;
 use crate::points::rare::RarePoint;
 use crate::points::types::is_begun;
@@ -34,37 +31,15 @@ impl<const N: usize> Parser<'_, N> {
     {
         match point {
             Point::Path => self.path(output),
-            Point::Nested => nested_name(
-                self.symbol,
-                self.include_hash,
-                &mut self.state,
-                output,
-                &mut self.looks,
-            ),
-            Point::InherentPath => Ok(skipped_path::<V, N>(
-                false,
-                &mut self.state,
-                &mut self.stack,
-            )),
-            Point::ImplPath => Ok(skipped_path::<V, N>(true, &mut self.state, &mut self.stack)),
-            Point::InherentType => Ok(self_type::<V, N>(false, &mut self.state, &mut self.stack)),
-            Point::SelfType => Ok(self_type::<V, N>(true, &mut self.state, &mut self.stack)),
-            Point::As => Ok(as_trait::<V, N>(&mut self.state, &mut self.stack)),
-            Point::Generic => Ok(generic::<V>(&mut self.state)),
-            Point::FirstArgument => Ok(arguments::<V, N>(
-                self.symbol,
-                true,
-                &mut self.state,
-                &mut self.stack,
-                &mut self.looks,
-            )),
-            Point::NextArgument => Ok(arguments::<V, N>(
-                self.symbol,
-                false,
-                &mut self.state,
-                &mut self.stack,
-                &mut self.looks,
-            )),
+            Point::Nested => self.nested_name(output),
+            Point::InherentPath => Ok(self.read_impl_path(false)),
+            Point::ImplPath => Ok(self.read_impl_path(true)),
+            Point::InherentType => Ok(self.self_type(false)),
+            Point::SelfType => Ok(self.self_type(true)),
+            Point::As => Ok(self.as_trait()),
+            Point::Generic => Ok(self.generic()),
+            Point::FirstArgument => Ok(self.arguments(true)),
+            Point::NextArgument => Ok(self.arguments(false)),
             Point::Lifetime => self.end_with_token(Word::LifetimeIndex, output),
             Point::Type | Point::TaggedType => { self.type_(is_begun(point), output) }
             Point::ArrayLength => Ok(self.array_length(output)),
