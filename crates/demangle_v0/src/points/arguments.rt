@@ -6,7 +6,7 @@ ghost use Rattle.demangle_v0.specs.declared.points.frames.Frame.{Frame};
 ghost use Rattle.demangle_v0.specs.Points.{Fits, MayRead, PointDoes, env, own_by, turn};
 
 use crate::points::frames::FrameStack;
-use crate::points::functions::separator;
+use crate::points::lists::separator;
 use crate::points::{Point, State};
 use demangle_symbol::cursor::{Looks, Symbol};
 use demangle_words::output::Output;

@@ -6,18 +6,15 @@ ghost use Rattle.demangle_v0.specs.PointContracts.{rare_point};
 ghost use Rattle.demangle_v0.specs.PointRuns.{first_looks};
 
 use crate::points::arguments::{arguments, generic};
-use crate::points::bindings::{bindings, bound, open_bindings};
 use crate::points::constant_lists::{
     ConstantList, first_constant, next_constant, second_tuple_constant,
 };
-use crate::points::dyn_traits::{dyn_trait, open_argument, trait_path};
-use crate::points::functions::{parameter, returns};
 use crate::points::impls::{as_trait, self_type, skipped_path};
 use crate::points::marks::leave;
 use crate::points::names::nested_name;
 use crate::points::parser::Parser;
 use crate::points::patterns::{next_pattern, pattern};
-use crate::points::rare::{RarePoint, rare};
+use crate::points::rare::RarePoint;
 use crate::points::references::behind;
 use crate::points::type_references::reference_lifetime;
 use crate::points::types::is_begun;
@@ -32,15 +29,9 @@ impl<const N: usize> Parser<'_, N> {
         requires may { May V.Output (rare_point point) self.old output.old }
         ensures did { Did V.Output (rare_point point) self.old output.old result self.new output.new }
     {
-        rare(
-            self.symbol,
-            point,
-            self.include_hash,
-            &mut self.state,
-            &mut self.stack,
-            output,
-            &mut self.looks,
-        )
+        // A copy, so that what other points answer need not lie where a call writes its answer.
+        let next = self.call_out_of_line(point, output)?;
+        Ok(next)
     }
 
     /// What a point does.
@@ -119,70 +110,19 @@ impl<const N: usize> Parser<'_, N> {
                 &mut self.looks,
             ),
             Point::FunctionHead => { self.rare(RarePoint::FunctionHead, output) }
-            Point::FirstParameter => Ok(parameter::<V, N>(
-                self.symbol,
-                true,
-                &mut self.state,
-                &mut self.stack,
-                &mut self.looks,
-            )),
-            Point::NextParameter => Ok(parameter::<V, N>(
-                self.symbol,
-                false,
-                &mut self.state,
-                &mut self.stack,
-                &mut self.looks,
-            )),
-            Point::Returns => Ok(returns::<V>(self.symbol, &mut self.state, &mut self.looks)),
+            Point::FirstParameter => Ok(self.parameter(true)),
+            Point::NextParameter => Ok(self.parameter(false)),
+            Point::Returns => Ok(self.returns()),
             Point::DynBinder => { self.rare(RarePoint::DynBinder, output) }
-            Point::FirstDynTrait => Ok(dyn_trait::<V, N>(
-                self.symbol,
-                true,
-                &mut self.state,
-                &mut self.stack,
-                &mut self.looks,
-            )),
-            Point::NextDynTrait => Ok(dyn_trait::<V, N>(
-                self.symbol,
-                false,
-                &mut self.state,
-                &mut self.stack,
-                &mut self.looks,
-            )),
-            Point::TraitPath => trait_path(
-                self.symbol,
-                &mut self.state,
-                &mut self.stack,
-                output,
-                &mut self.looks,
-            ),
-            Point::FirstOpenArgument => Ok(open_argument::<V, N>(
-                self.symbol,
-                true,
-                &mut self.state,
-                &mut self.stack,
-                &mut self.looks,
-            )),
-            Point::NextOpenArgument => Ok(open_argument::<V, N>(
-                self.symbol,
-                false,
-                &mut self.state,
-                &mut self.stack,
-                &mut self.looks,
-            )),
-            Point::Bindings => Ok(bindings::<V>(self.symbol, &mut self.state, &mut self.looks)),
-            Point::OpenBindings => Ok(open_bindings::<V>(
-                self.symbol,
-                &mut self.state,
-                &mut self.looks,
-            )),
+            Point::FirstDynTrait => Ok(self.dyn_trait(true)),
+            Point::NextDynTrait => Ok(self.dyn_trait(false)),
+            Point::TraitPath => self.trait_path(output),
+            Point::FirstOpenArgument => Ok(self.trait_argument(true)),
+            Point::NextOpenArgument => Ok(self.trait_argument(false)),
+            Point::Bindings => Ok(self.bindings()),
+            Point::OpenBindings => Ok(self.further_bindings()),
             Point::BindingName => { self.rare(RarePoint::BindingName, output) }
-            Point::Bound => Ok(bound::<V, N>(
-                self.symbol,
-                &mut self.state,
-                &mut self.stack,
-                &mut self.looks,
-            )),
+            Point::Bound => Ok(self.bound_value()),
             Point::DynLifetime => { self.rare(RarePoint::DynLifetime, output) }
             Point::Pattern => pattern::<V, N>(
                 self.symbol,
