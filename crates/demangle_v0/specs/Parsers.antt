@@ -1,6 +1,6 @@
 -- Internal: no public contract cites this.
 -- What points do to a parser.
-use Rattle.std.specs.Prelude.{◌≡◌, ℕ, ◌-◌, Bool, false, Option, List, [], ◌∷◌, ◌++◌, Some, Result}
+use Rattle.std.specs.Prelude.{◌≡◌, ℕ, ◌+◌, ◌-◌, Bool, false, Option, List, [], ◌∷◌, ◌++◌, Some, Result}
 use Rattle.demangle_grammar.specs.Reading.{Place}
 use Rattle.demangle_grammar.specs.Items.{Items, Kind}
 use Rattle.demangle_words.specs.WordReads.{Group, word_group}
@@ -46,6 +46,10 @@ braced m x = record m { state = record m.state { mark = x }; stack = pushed_on m
 
 abbrev pub restated : {N : ℕ} → Parser N → State → ℕ → Parser N
 restated m s n = record m { state = s; looks = n }
+
+-- further lifetimes are in force
+abbrev pub binding : {N : ℕ} → Parser N → ℕ → Parser N
+binding m number = record m { state = record m.state { lifetimes = m.state.lifetimes + number } }
 
 -- where it stands
 abbrev pub reading_of : {N : ℕ} → Parser N → Reading

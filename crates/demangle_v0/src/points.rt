@@ -15,6 +15,7 @@ use demangle_words::read::{WordRead, read_word};
 use demangle_words::texts::{Mark, Word};
 
 mod arguments;
+mod binders;
 mod bindings;
 mod constant_lists;
 mod constants;
@@ -24,6 +25,7 @@ mod faults;
 pub mod frames;
 mod functions;
 mod impls;
+mod lists;
 mod marks;
 mod names;
 pub mod parser;

@@ -5,7 +5,7 @@ ghost use Rattle.demangle_grammar.specs.Totals.{total};
 ghost use Rattle.demangle_v0.specs.Parsers.{MayGo, Went, restated};
 ghost use Rattle.demangle_v0.specs.Points.{own_by};
 
-use crate::points::functions::separator;
+use crate::points::lists::separator;
 use crate::points::parser::Parser;
 use crate::points::{Point, State};
 use demangle_symbol::cursor::{Looks, Symbol};

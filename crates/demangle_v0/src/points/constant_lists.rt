@@ -74,7 +74,7 @@ impl<const N: usize> Parser<'_, N> {
         requires may { MayGo Point.Constant self.old }
         ensures did { Went (first_point list) self.old (Ok result) self.new }
     {
-        if self.is_over() {
+        if self.ends_list() {
             return self.end_with(list.close());
         }
         self.push(list.after_first());
@@ -88,7 +88,7 @@ impl<const N: usize> Parser<'_, N> {
         requires may { MayGo Point.Constant self.old }
         ensures did { Went (next_point list) self.old (Ok result) self.new }
     {
-        if self.is_over() {
+        if self.ends_list() {
             return self.end_with(list.close());
         }
         self.push(list.after_next());
@@ -103,7 +103,7 @@ impl<const N: usize> Parser<'_, N> {
         requires may { MayGo Point.SecondTupleConstant self.old }
         ensures did { Went Point.SecondTupleConstant self.old (Ok result) self.new }
     {
-        if self.is_over() {
+        if self.ends_list() {
             self.put(Mark::OneComma);
             return Point::CloseParen;
         }

@@ -4,10 +4,7 @@ ghost use Rattle.demangle_v0.specs.Impls.{is_skip};
 ghost use Rattle.demangle_v0.specs.Parsers.{Did, May};
 ghost use Rattle.demangle_v0.specs.PointRuns.{first_looks};
 
-use crate::points::bindings::{bindings, bound, open_bindings};
 use crate::points::constant_lists::ConstantList;
-use crate::points::dyn_traits::{dyn_trait, open_argument, trait_path};
-use crate::points::functions::{parameter, returns};
 use crate::points::parser::Parser;
 use crate::points::rare::RarePoint;
 use crate::points::types::is_begun;
@@ -49,70 +46,19 @@ impl<const N: usize> Parser<'_, N> {
             Point::ReferenceLifetime => self.reference_lifetime(false, output),
             Point::MutReferenceLifetime => self.reference_lifetime(true, output),
             Point::FunctionHead => { self.rare(RarePoint::FunctionHead, output) }
-            Point::FirstParameter => Ok(parameter::<V, N>(
-                self.symbol,
-                true,
-                &mut self.state,
-                &mut self.stack,
-                &mut self.looks,
-            )),
-            Point::NextParameter => Ok(parameter::<V, N>(
-                self.symbol,
-                false,
-                &mut self.state,
-                &mut self.stack,
-                &mut self.looks,
-            )),
-            Point::Returns => Ok(returns::<V>(self.symbol, &mut self.state, &mut self.looks)),
+            Point::FirstParameter => Ok(self.parameter(true)),
+            Point::NextParameter => Ok(self.parameter(false)),
+            Point::Returns => Ok(self.returns()),
             Point::DynBinder => { self.rare(RarePoint::DynBinder, output) }
-            Point::FirstDynTrait => Ok(dyn_trait::<V, N>(
-                self.symbol,
-                true,
-                &mut self.state,
-                &mut self.stack,
-                &mut self.looks,
-            )),
-            Point::NextDynTrait => Ok(dyn_trait::<V, N>(
-                self.symbol,
-                false,
-                &mut self.state,
-                &mut self.stack,
-                &mut self.looks,
-            )),
-            Point::TraitPath => trait_path(
-                self.symbol,
-                &mut self.state,
-                &mut self.stack,
-                output,
-                &mut self.looks,
-            ),
-            Point::FirstOpenArgument => Ok(open_argument::<V, N>(
-                self.symbol,
-                true,
-                &mut self.state,
-                &mut self.stack,
-                &mut self.looks,
-            )),
-            Point::NextOpenArgument => Ok(open_argument::<V, N>(
-                self.symbol,
-                false,
-                &mut self.state,
-                &mut self.stack,
-                &mut self.looks,
-            )),
-            Point::Bindings => Ok(bindings::<V>(self.symbol, &mut self.state, &mut self.looks)),
-            Point::OpenBindings => Ok(open_bindings::<V>(
-                self.symbol,
-                &mut self.state,
-                &mut self.looks,
-            )),
+            Point::FirstDynTrait => Ok(self.dyn_trait(true)),
+            Point::NextDynTrait => Ok(self.dyn_trait(false)),
+            Point::TraitPath => self.trait_path(output),
+            Point::FirstOpenArgument => Ok(self.trait_argument(true)),
+            Point::NextOpenArgument => Ok(self.trait_argument(false)),
+            Point::Bindings => Ok(self.bindings()),
+            Point::OpenBindings => Ok(self.further_bindings()),
             Point::BindingName => { self.rare(RarePoint::BindingName, output) }
-            Point::Bound => Ok(bound::<V, N>(
-                self.symbol,
-                &mut self.state,
-                &mut self.stack,
-                &mut self.looks,
-            )),
+            Point::Bound => Ok(self.bound_value()),
             Point::DynLifetime => { self.rare(RarePoint::DynLifetime, output) }
             Point::Pattern => self.pattern(),
             Point::NextPattern => self.next_pattern(),

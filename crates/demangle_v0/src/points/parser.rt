@@ -1,12 +1,11 @@
 //! The parser that points work on.
 ghost use Rattle.std.specs.Prelude.{◌≡◌, ◌+◌, ◌-◌, ◌<◌, ◌≤◌, ◌^◌, length, IfOk, IfErr};
-ghost use Rattle.demangle_v0.specs.Parsers.{deeper, marked, moved, pushed, reading_of, shut};
-ghost use Rattle.demangle_v0.specs.Points.{frame_at, frame_of, Paid, behind_list, is_list_over, list_costs};
+ghost use Rattle.demangle_v0.specs.Parsers.{deeper, marked, pushed, reading_of, shut};
+ghost use Rattle.demangle_v0.specs.Points.{frame_at, frame_of};
 ghost use Rattle.demangle_v0.specs.declared.points.Stop.TheVariants.{Fault};
 
 use crate::points::frames::{Frame, FrameStack};
 use crate::points::read::Reading;
-use crate::points::tuples::is_over;
 use crate::points::{Point, State, Stop};
 use demangle_symbol::cursor::{Looks, Symbol};
 use demangle_words::texts::Mark;
@@ -122,16 +121,5 @@ impl<const N: usize> Parser<'_, N> {
     {
         self.state.depth_left = self.state.inner_depth()?;
         Ok(())
-    }
-
-    /// Whether a list is over: at its `E`, which is read, or where the reading has failed.
-    #[inline(always)]
-    pub(super) fn is_over(&mut self) -> bool
-        ensures over { result ≡ is_list_over self.old.symbol.now self.old.state.place }
-        ensures place { self.new ≡ moved self.old (behind_list self.old.symbol.now
-            self.old.state.place) self.new.looks }
-        ensures paid { Paid self.old.looks (list_costs self.old.state.place) self.new.looks }
-    {
-        is_over(self.symbol, &mut self.state.place, &mut self.looks)
     }
 }

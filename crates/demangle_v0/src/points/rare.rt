@@ -2,14 +2,11 @@
 ghost use Rattle.demangle_v0.specs.Parsers.{Did, May};
 ghost use Rattle.demangle_v0.specs.PointContracts.{rare_point};
 
-use crate::points::bindings::binding_name;
-use crate::points::dyn_traits::{dyn_binder, dyn_lifetime};
-use crate::points::functions::function_head;
 use crate::points::parser::Parser;
 use crate::points::{Point, Stop};
 use demangle_words::output::Output;
 
-/// A point that few symbols have.
+/// A continuation that few symbols have.
 #[derive(Clone, Copy)]
 pub enum RarePoint {
     FunctionHead,
@@ -35,35 +32,10 @@ impl<const N: usize> Parser<'_, N> {
         ensures did { Did V.Output (rare_point point) self.old output.old result self.new output.new }
     {
         match point {
-            RarePoint::FunctionHead => function_head(
-                self.symbol,
-                self.include_hash,
-                &mut self.state,
-                output,
-                &mut self.looks,
-            ),
-            RarePoint::DynBinder => dyn_binder(
-                self.symbol,
-                self.include_hash,
-                &mut self.state,
-                &mut self.stack,
-                output,
-                &mut self.looks,
-            ),
-            RarePoint::BindingName => binding_name(
-                self.symbol,
-                self.include_hash,
-                &mut self.state,
-                output,
-                &mut self.looks,
-            ),
-            RarePoint::DynLifetime => dyn_lifetime(
-                self.symbol,
-                self.include_hash,
-                &mut self.state,
-                output,
-                &mut self.looks,
-            ),
+            RarePoint::FunctionHead => self.function_qualifiers(output),
+            RarePoint::DynBinder => self.dyn_binder(output),
+            RarePoint::BindingName => self.binding_name(output),
+            RarePoint::DynLifetime => self.dyn_lifetime(output),
             RarePoint::Constant => self.constant(output),
             RarePoint::Number => self.number(output),
             RarePoint::Literal => self.literal(output),
@@ -82,7 +54,7 @@ impl<const N: usize> Parser<'_, N> {
         requires may { May V.Output (rare_point point) self.old output.old }
         ensures did { Did V.Output (rare_point point) self.old output.old result self.new output.new }
     {
-        // A copy, so that what other points answer need not lie where a call writes its answer.
+        // A copy, so that the results of other continuations need not be where a call writes its own.
         let next = self.call_out_of_line(point, output)?;
         Ok(next)
     }

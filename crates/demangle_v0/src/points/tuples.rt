@@ -33,7 +33,7 @@ impl<const N: usize> Parser<'_, N> {
         requires may { MayGo Point.FirstTupleType self.old }
         ensures did { Went Point.FirstTupleType self.old (Ok result) self.new }
     {
-        if self.is_over() {
+        if self.ends_list() {
             return self.end_with(Mark::CloseParen);
         }
         self.push(Point::SecondTupleType);
@@ -46,7 +46,7 @@ impl<const N: usize> Parser<'_, N> {
         requires may { MayGo Point.SecondTupleType self.old }
         ensures did { Went Point.SecondTupleType self.old (Ok result) self.new }
     {
-        if self.is_over() {
+        if self.ends_list() {
             // `(T,)` is the tuple, where `(T)` would be the type in brackets.
             self.put(Mark::OneComma);
             return Point::CloseParen;
@@ -62,7 +62,7 @@ impl<const N: usize> Parser<'_, N> {
         requires may { MayGo Point.NextTupleType self.old }
         ensures did { Went Point.NextTupleType self.old (Ok result) self.new }
     {
-        if self.is_over() {
+        if self.ends_list() {
             return self.end_with(Mark::CloseParen);
         }
         self.push(Point::NextTupleType);

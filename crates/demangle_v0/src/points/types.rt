@@ -5,8 +5,6 @@ ghost use Rattle.demangle_v0.specs.PointContracts.{is_splat_at};
 ghost use Rattle.demangle_v0.specs.Points.{own_by, frame_at};
 ghost use Rattle.demangle_words.specs.Tags.{constructed_of, type_of};
 
-use crate::points::dyn_traits::dyn_type;
-use crate::points::functions::function_binder;
 use crate::points::parser::Parser;
 use crate::points::{Point, Stop};
 use demangle_symbol::cursor::{Looks, Symbol};
@@ -141,16 +139,8 @@ impl<const N: usize> Parser<'_, N> {
                 self.push(Point::PatternIs);
                 Ok(Point::Type)
             }
-            ConstructedType::Function => function_binder(
-                self.symbol,
-                self.include_hash,
-                &mut self.state,
-                output,
-                &mut self.looks,
-            ),
-            ConstructedType::Dyn => {
-                Ok(dyn_type::<V, N>(self.symbol, &mut self.state, &mut self.stack))
-            }
+            ConstructedType::Function => self.function_binder(output),
+            ConstructedType::Dyn => Ok(self.dyn_type()),
         }
     }
 

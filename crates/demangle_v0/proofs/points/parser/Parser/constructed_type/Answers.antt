@@ -3,9 +3,11 @@ use Rattle.demangle_v0.proofs.PointTypes.{encloses}
 use Rattle.demangle_grammar.specs.Items.{a_type}
 use Rattle.demangle_v0.proofs.PointReferences.{unit_type}
 use Rattle.demangle_grammar.specs.Reading.{run}
+use Rattle.demangle_v0.specs.DynTraits.{dyn_type}
 use Rattle.demangle_v0.specs.Points.{unit_rest_at, frame_at}
 use Rattle.demangle_words.specs.declared.texts.Mark.TheVariants as mark
 use Rattle.demangle_v0.specs.declared.points.Point.TheVariants as point
+use Rattle.demangle_v0.proofs.Parsers.{went_rest}
 use Rattle.demangle_v0.proofs.PointTurns.{alike, enters, marks}
 use Rattle.demangle_v0.proofs.points.parser.Parser.constructed_type.Goals as goal
 
@@ -45,7 +47,19 @@ returns-in-Backref g c =
     record { did = rw c.in-Backref.is (record { does = alike (omega arith) refl (omega arith) (omega arith) d.does; same = d.same }) }
 
 pub returns-in-Function : goal.returns-in-Function
-returns-in-Function g c = record { did = rw c.in-Function.is (record { does = alike (omega arith) refl (omega arith) (omega arith) (c.function_binder.ensures.did c.args.self.now.stack); same = (refl, refl) }) }
+returns-in-Function g c = record {
+  did = rw c.in-Function.is (record {
+    does = alike (omega arith) refl (omega arith) (omega arith) c.function_binder.ensures.did.does;
+    same = c.function_binder.ensures.did.same;
+  });
+}
 
 pub returns-in-Dyn : goal.returns-in-Dyn
-returns-in-Dyn g c = record { did = rw c.in-Dyn.is (record { does = alike (omega arith) refl (omega arith) (omega arith) (c.dyn_type.ensures.did c.args.self.now.include_hash c.args.output.now c.args.self.now.looks); same = (refl, refl) }) }
+returns-in-Dyn g c =
+    let d = went_rest g.V.Output c.args.output.now dyn_type 5 4 5 c.dyn_type.ensures.did in
+    record {
+      did = rw c.in-Dyn.is (record {
+        does = alike (omega arith) refl (omega arith) (omega arith) d.does;
+        same = d.same;
+      });
+    }

@@ -77,43 +77,43 @@ pub returns-in-FunctionHead-clause-did : goal.returns-in-FunctionHead-clause-did
 returns-in-FunctionHead-clause-did g c = rw c.in-FunctionHead.is c.rare.ensures.did
 
 pub returns-in-FirstParameter-clause-did : goal.returns-in-FirstParameter-clause-did
-returns-in-FirstParameter-clause-did g c = rw c.in-FirstParameter.is (record { does = c.parameter.ensures.did c.args.self.now.include_hash c.args.output.now; same = (refl, refl) })
+returns-in-FirstParameter-clause-did g c = rw c.in-FirstParameter.is (went g.V.Output c.args.output.now point.FirstParameter c.parameter.ensures.did)
 
 pub returns-in-NextParameter-clause-did : goal.returns-in-NextParameter-clause-did
-returns-in-NextParameter-clause-did g c = rw c.in-NextParameter.is (record { does = c.parameter-in-NextParameter.ensures.did c.args.self.now.include_hash c.args.output.now; same = (refl, refl) })
+returns-in-NextParameter-clause-did g c = rw c.in-NextParameter.is (went g.V.Output c.args.output.now point.NextParameter c.parameter-in-NextParameter.ensures.did)
 
 pub returns-in-Returns-clause-did : goal.returns-in-Returns-clause-did
-returns-in-Returns-clause-did g c = rw c.in-Returns.is (record { does = c.returns.ensures.did c.args.self.now.include_hash c.args.output.now c.args.self.now.stack; same = (refl, refl) })
+returns-in-Returns-clause-did g c = rw c.in-Returns.is (went g.V.Output c.args.output.now point.Returns c.returns.ensures.did)
 
 pub returns-in-DynBinder-clause-did : goal.returns-in-DynBinder-clause-did
 returns-in-DynBinder-clause-did g c = rw c.in-DynBinder.is c.rare-in-DynBinder.ensures.did
 
 pub returns-in-FirstDynTrait-clause-did : goal.returns-in-FirstDynTrait-clause-did
-returns-in-FirstDynTrait-clause-did g c = rw c.in-FirstDynTrait.is (record { does = c.dyn_trait.ensures.did c.args.self.now.include_hash c.args.output.now; same = (refl, refl) })
+returns-in-FirstDynTrait-clause-did g c = rw c.in-FirstDynTrait.is (went g.V.Output c.args.output.now point.FirstDynTrait c.dyn_trait.ensures.did)
 
 pub returns-in-NextDynTrait-clause-did : goal.returns-in-NextDynTrait-clause-did
-returns-in-NextDynTrait-clause-did g c = rw c.in-NextDynTrait.is (record { does = c.dyn_trait-in-NextDynTrait.ensures.did c.args.self.now.include_hash c.args.output.now; same = (refl, refl) })
+returns-in-NextDynTrait-clause-did g c = rw c.in-NextDynTrait.is (went g.V.Output c.args.output.now point.NextDynTrait c.dyn_trait-in-NextDynTrait.ensures.did)
 
 pub returns-in-TraitPath-clause-did : goal.returns-in-TraitPath-clause-did
-returns-in-TraitPath-clause-did g c = rw c.in-TraitPath.is (record { does = c.trait_path.ensures.did c.args.self.now.include_hash c.args.output.now; same = (refl, refl) })
+returns-in-TraitPath-clause-did g c = rw c.in-TraitPath.is c.trait_path.ensures.did
 
 pub returns-in-FirstOpenArgument-clause-did : goal.returns-in-FirstOpenArgument-clause-did
-returns-in-FirstOpenArgument-clause-did g c = rw c.in-FirstOpenArgument.is (record { does = c.open_argument.ensures.did c.args.self.now.include_hash c.args.output.now; same = (refl, refl) })
+returns-in-FirstOpenArgument-clause-did g c = rw c.in-FirstOpenArgument.is (went g.V.Output c.args.output.now point.FirstOpenArgument c.trait_argument.ensures.did)
 
 pub returns-in-NextOpenArgument-clause-did : goal.returns-in-NextOpenArgument-clause-did
-returns-in-NextOpenArgument-clause-did g c = rw c.in-NextOpenArgument.is (record { does = c.open_argument-in-NextOpenArgument.ensures.did c.args.self.now.include_hash c.args.output.now; same = (refl, refl) })
+returns-in-NextOpenArgument-clause-did g c = rw c.in-NextOpenArgument.is (went g.V.Output c.args.output.now point.NextOpenArgument c.trait_argument-in-NextOpenArgument.ensures.did)
 
 pub returns-in-Bindings-clause-did : goal.returns-in-Bindings-clause-did
-returns-in-Bindings-clause-did g c = rw c.in-Bindings.is (record { does = c.bindings.ensures.did c.args.self.now.include_hash c.args.output.now c.args.self.now.stack; same = (refl, refl) })
+returns-in-Bindings-clause-did g c = rw c.in-Bindings.is (went g.V.Output c.args.output.now point.Bindings c.bindings.ensures.did)
 
 pub returns-in-OpenBindings-clause-did : goal.returns-in-OpenBindings-clause-did
-returns-in-OpenBindings-clause-did g c = rw c.in-OpenBindings.is (record { does = c.open_bindings.ensures.did c.args.self.now.include_hash c.args.output.now c.args.self.now.stack; same = (refl, refl) })
+returns-in-OpenBindings-clause-did g c = rw c.in-OpenBindings.is (went g.V.Output c.args.output.now point.OpenBindings c.further_bindings.ensures.did)
 
 pub returns-in-BindingName-clause-did : goal.returns-in-BindingName-clause-did
 returns-in-BindingName-clause-did g c = rw c.in-BindingName.is c.rare-in-BindingName.ensures.did
 
 pub returns-in-Bound-clause-did : goal.returns-in-Bound-clause-did
-returns-in-Bound-clause-did g c = rw c.in-Bound.is (record { does = c.bound.ensures.did c.args.self.now.include_hash c.args.output.now; same = (refl, refl) })
+returns-in-Bound-clause-did g c = rw c.in-Bound.is (went g.V.Output c.args.output.now point.Bound c.bound_value.ensures.did)
 
 pub returns-in-DynLifetime-clause-did : goal.returns-in-DynLifetime-clause-did
 returns-in-DynLifetime-clause-did g c = rw c.in-DynLifetime.is c.rare-in-DynLifetime.ensures.did
