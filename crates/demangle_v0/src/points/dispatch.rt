@@ -29,7 +29,7 @@ impl<const N: usize> Parser<'_, N> {
         requires may { May V.Output (rare_point point) self.old output.old }
         ensures did { Did V.Output (rare_point point) self.old output.old result self.new output.new }
     {
-        // A copy, so that what other points answer need not lie where a call writes its answer.
+        // A copy: the results of other continuations need not be where this call writes its own.
         let next = self.call_out_of_line(point, output)?;
         Ok(next)
     }

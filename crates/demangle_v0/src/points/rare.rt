@@ -23,7 +23,7 @@ pub enum RarePoint {
 }
 
 impl<const N: usize> Parser<'_, N> {
-    /// Calls the function of a rare continuation.
+    /// Performs a continuation that few symbols have, by a call.
     #[inline(always)]
     pub(super) fn call_out_of_line<V: Output>(
         &mut self,
