@@ -31,7 +31,7 @@ returns-in_ok-emit-in-Goes g c = record {
           within = omega (arith, c.in-Goes.ensures.looks, c.in_ok-emit-in-Goes.ensures.most);
         })
         c.in_ok-emit-in-Goes.ensures.prints c.in_ok-emit-in-Goes.ensures.ready c.requires.may.unmarked refl
-            (omega arith) (omega arith)
+        (omega arith) (omega arith)
         c.requires.may.fits;
     same = (refl, refl);
   };

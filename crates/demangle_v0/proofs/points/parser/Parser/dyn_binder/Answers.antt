@@ -22,11 +22,11 @@ unfolding unit_rest_at
 returns-in_err-number g c = record {
   did = rw (stops_invalid c.from_residual-in_err-number.result c.from_residual-in_err-number.ensures.1
       c.in_err-number.ensures.fault) (record {
-    does = binder_stops (omega arith) first_traits c.in_ok-at.at c.in_ok-at.ensures.ok c.requires.may.unmarked
-        c.in_err-number.ensures.read
-        (record { grows = omega arith; within = omega (arith, c.in_err-number.ensures.err_looks) }) (omega arith);
-    same = (refl, refl);
-  });
+        does = binder_stops (omega arith) first_traits c.in_ok-at.at c.in_ok-at.ensures.ok c.requires.may.unmarked
+            c.in_err-number.ensures.read
+            (record { grows = omega arith; within = omega (arith, c.in_err-number.ensures.err_looks) }) (omega arith);
+        same = (refl, refl);
+      });
 }
 
 pub returns-then-number-eq0 : goal.returns-then-number-eq0
@@ -43,8 +43,14 @@ returns-then-number-eq0 g c =
               grows = omega (arith, c.in_ok-number.ensures.grows);
               within = omega (arith, c.in_ok-number.ensures.ok_looks);
             })
-            (rw c.in_ok-at.ensures.ok (omega (arith, there.0, there.1, c.in_ok-number.ensures.ok_looks,
-                c.in_ok-number.ensures.grows, c.dyn_trait.ensures.own)))
+            (rw c.in_ok-at.ensures.ok (omega (
+              arith,
+              there.0,
+              there.1,
+              c.in_ok-number.ensures.ok_looks,
+              c.in_ok-number.ensures.grows,
+              c.dyn_trait.ensures.own,
+            )))
             (omega arith) (omega arith) d.does;
         same = d.same;
       };
@@ -55,8 +61,11 @@ unfolding unit_rest_at
 returns-in_err-bind_lifetimes g c =
     let there = optional_there _ _ _ _ _ (sym c.in_ok-number.ensures.read) in
     record {
-      did = rw (c.in_err-bind_lifetimes.ensures.parser, stops c.from_residual-in_err-bind_lifetimes.result
-          c.from_residual-in_err-bind_lifetimes.ensures.1 refl) (record {
+      did = rw (
+        c.in_err-bind_lifetimes.ensures.parser,
+        stops c.from_residual-in_err-bind_lifetimes.result
+            c.from_residual-in_err-bind_lifetimes.ensures.1 refl,
+      ) (record {
         does = binder_refused (omega arith) first_traits c.in_ok-at.at c.in_ok-number.next c.in_ok-number.number
             c.in_ok-at.ensures.ok
             c.in_ok-number.ensures.read
@@ -64,8 +73,13 @@ returns-in_err-bind_lifetimes g c =
               grows = omega (arith, c.in_ok-number.ensures.grows);
               within = omega (arith, c.in_ok-number.ensures.ok_looks);
             })
-            (rw c.in_ok-at.ensures.ok (omega (arith, there.0, there.1, c.in_ok-number.ensures.ok_looks,
-                c.in_ok-number.ensures.grows)))
+            (rw c.in_ok-at.ensures.ok (omega (
+              arith,
+              there.0,
+              there.1,
+              c.in_ok-number.ensures.ok_looks,
+              c.in_ok-number.ensures.grows,
+            )))
             c.in_err-bind_lifetimes.ensures.prints c.in_err-bind_lifetimes.ensures.quiet;
         same = (refl, refl);
       });
@@ -84,8 +98,13 @@ returns g c =
               grows = omega (arith, c.in_ok-number.ensures.grows);
               within = omega (arith, c.in_ok-number.ensures.ok_looks);
             })
-            (rw c.in_ok-at.ensures.ok (omega (arith, there.0, there.1, c.in_ok-number.ensures.ok_looks,
-                c.in_ok-number.ensures.grows)))
+            (rw c.in_ok-at.ensures.ok (omega (
+              arith,
+              there.0,
+              there.1,
+              c.in_ok-number.ensures.ok_looks,
+              c.in_ok-number.ensures.grows,
+            )))
             c.in_ok-bind_lifetimes.ensures.prints c.in_ok-bind_lifetimes.ensures.ready c.requires.may.unmarked refl
             (omega arith) (omega arith) (omega (arith, c.requires.may.fits, c.in_ok-bind_lifetimes.ensures.number));
         same = (refl, refl);

@@ -17,7 +17,7 @@ returns-in_err-at-clause-did g c =
 pub returns-in_err-number-clause-did : goal.returns-in_err-number-clause-did
 returns-in_err-number-clause-did g c =
     rw (stops_invalid c.from_residual-in_err-number.result c.from_residual-in_err-number.ensures.1
-        c.in_err-number.ensures.fault) (record {
+    c.in_err-number.ensures.fault) (record {
       does = binder_stops (omega arith) head c.in_ok-at.at c.in_ok-at.ensures.ok c.requires.may.unmarked
           c.in_err-number.ensures.read
           (record { grows = omega arith; within = omega (arith, c.in_err-number.ensures.err_looks) }) (omega arith);
@@ -36,8 +36,14 @@ returns-then-number-eq0-clause-did g c =
             grows = omega (arith, c.in_ok-number.ensures.grows);
             within = omega (arith, c.in_ok-number.ensures.ok_looks);
           })
-          (rw c.in_ok-at.ensures.ok (omega (arith, there.0, there.1, c.in_ok-number.ensures.ok_looks,
-              c.in_ok-number.ensures.grows, c.function_qualifiers.ensures.own)))
+          (rw c.in_ok-at.ensures.ok (omega (
+            arith,
+            there.0,
+            there.1,
+            c.in_ok-number.ensures.ok_looks,
+            c.in_ok-number.ensures.grows,
+            c.function_qualifiers.ensures.own,
+          )))
           (omega arith) (omega arith) c.function_qualifiers.ensures.did.does;
       same = c.function_qualifiers.ensures.did.same;
     }
@@ -45,16 +51,24 @@ returns-then-number-eq0-clause-did g c =
 pub returns-in_err-bind_lifetimes-clause-did : goal.returns-in_err-bind_lifetimes-clause-did
 returns-in_err-bind_lifetimes-clause-did g c =
     let there = optional_there _ _ _ _ _ (sym c.in_ok-number.ensures.read) in
-    rw (c.in_err-bind_lifetimes.ensures.parser, stops c.from_residual-in_err-bind_lifetimes.result
-        c.from_residual-in_err-bind_lifetimes.ensures.1 refl) (record {
+    rw (
+      c.in_err-bind_lifetimes.ensures.parser,
+      stops c.from_residual-in_err-bind_lifetimes.result
+          c.from_residual-in_err-bind_lifetimes.ensures.1 refl,
+    ) (record {
       does = binder_refused (omega arith) head c.in_ok-at.at c.in_ok-number.next c.in_ok-number.number
           c.in_ok-at.ensures.ok c.in_ok-number.ensures.read
           (record {
             grows = omega (arith, c.in_ok-number.ensures.grows);
             within = omega (arith, c.in_ok-number.ensures.ok_looks);
           })
-          (rw c.in_ok-at.ensures.ok (omega (arith, there.0, there.1, c.in_ok-number.ensures.ok_looks,
-              c.in_ok-number.ensures.grows)))
+          (rw c.in_ok-at.ensures.ok (omega (
+            arith,
+            there.0,
+            there.1,
+            c.in_ok-number.ensures.ok_looks,
+            c.in_ok-number.ensures.grows,
+          )))
           c.in_err-bind_lifetimes.ensures.prints c.in_err-bind_lifetimes.ensures.quiet;
       same = (refl, refl);
     })
@@ -71,8 +85,13 @@ returns-clause-did g c =
             grows = omega (arith, c.in_ok-number.ensures.grows);
             within = omega (arith, c.in_ok-number.ensures.ok_looks);
           })
-          (rw c.in_ok-at.ensures.ok (omega (arith, there.0, there.1, c.in_ok-number.ensures.ok_looks,
-              c.in_ok-number.ensures.grows)))
+          (rw c.in_ok-at.ensures.ok (omega (
+            arith,
+            there.0,
+            there.1,
+            c.in_ok-number.ensures.ok_looks,
+            c.in_ok-number.ensures.grows,
+          )))
           c.in_ok-bind_lifetimes.ensures.prints c.in_ok-bind_lifetimes.ensures.ready c.requires.may.unmarked refl
           (omega arith) (omega arith) (omega (arith, c.requires.may.fits, c.in_ok-bind_lifetimes.ensures.number));
       same = (refl, refl);

@@ -13,14 +13,14 @@ unfolding unit_rest_at
 returns-then-has_no_qualifiers g c =
     let m = c.args.self.now in
     let tight = group_tight m.symbol.now word.FunctionHead m.state.letter g.V.Output.is_printed m.state.lifetimes
-        m.state.place in
+    m.state.place in
     record {
       did = record {
         does = word_bare (omega arith) word.FunctionHead parameters _ _ c.in-Goes.ensures.value
             (c.has_no_qualifiers.ensures c.if-has_no_qualifiers.true m.symbol.now m.include_hash)
             (record { grows = omega arith; within = omega (arith, c.in-Goes.ensures.looks) })
             (own_more {l = c.word_at.new.looks} _ 8 20 _ _ (omega arith)
-                (omega (arith, c.in-Goes.ensures.looks, tight))) (omega arith) (omega arith)
+            (omega (arith, c.in-Goes.ensures.looks, tight))) (omega arith) (omega arith)
             (c.leave.ensures.did m.symbol.now m.include_hash c.args.output.now m.stack _);
         same = (refl, refl);
       };
@@ -41,8 +41,13 @@ returns-in_err-emit-in-Goes g c =
             c.in_err-emit-in-Goes.ensures.prints c.in_err-emit-in-Goes.ensures.quiet;
         same = (refl, refl);
       });
-      own = omega (arith, c.in-Goes.ensures.looks, c.in_err-emit-in-Goes.ensures.most, group_tight m.symbol.now
-          word.FunctionHead m.state.letter g.V.Output.is_printed m.state.lifetimes m.state.place);
+      own = omega (
+        arith,
+        c.in-Goes.ensures.looks,
+        c.in_err-emit-in-Goes.ensures.most,
+        group_tight m.symbol.now
+            word.FunctionHead m.state.letter g.V.Output.is_printed m.state.lifetimes m.state.place,
+      );
     }
 
 pub returns-in_ok-emit-in-Goes : goal.returns-in_ok-emit-in-Goes
@@ -57,12 +62,17 @@ returns-in_ok-emit-in-Goes g c =
               within = omega (arith, c.in-Goes.ensures.looks, c.in_ok-emit-in-Goes.ensures.most);
             })
             c.in_ok-emit-in-Goes.ensures.prints c.in_ok-emit-in-Goes.ensures.ready c.requires.may.unmarked refl
-                (omega arith) (omega arith)
+            (omega arith) (omega arith)
             c.requires.may.fits;
         same = (refl, refl);
       };
-      own = omega (arith, c.in-Goes.ensures.looks, c.in_ok-emit-in-Goes.ensures.most, group_tight m.symbol.now
-          word.FunctionHead m.state.letter g.V.Output.is_printed m.state.lifetimes m.state.place);
+      own = omega (
+        arith,
+        c.in-Goes.ensures.looks,
+        c.in_ok-emit-in-Goes.ensures.most,
+        group_tight m.symbol.now
+            word.FunctionHead m.state.letter g.V.Output.is_printed m.state.lifetimes m.state.place,
+      );
     }
 
 pub returns-in-Stops : goal.returns-in-Stops
@@ -76,6 +86,10 @@ returns-in-Stops g c =
             (omega arith);
         same = (refl, refl);
       };
-      own = omega (arith, c.in-Stops.ensures.looks, group_tight m.symbol.now word.FunctionHead m.state.letter
-          g.V.Output.is_printed m.state.lifetimes m.state.place);
+      own = omega (
+        arith,
+        c.in-Stops.ensures.looks,
+        group_tight m.symbol.now word.FunctionHead m.state.letter
+            g.V.Output.is_printed m.state.lifetimes m.state.place,
+      );
     }

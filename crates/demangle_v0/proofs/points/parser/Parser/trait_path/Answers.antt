@@ -23,7 +23,7 @@ returns-then-is_at g c = let m = c.args.self.now in record {
         c.is_at.ensures.look
         (c.is_at.ensures.within c.if-is_at.true)
         (c.follow.ensures.did m.include_hash c.args.output.now false a_trait_path false
-            (unit_trait _ m.include_hash _ _ _));
+        (unit_trait _ m.include_hash _ _ _));
     same = (refl, refl);
   };
 }
