@@ -40,7 +40,7 @@ restacked m now = record m { stack = now }
 abbrev pub looked : {N : ℕ} → Parser N → ℕ → Parser N
 looked m n = record m { looks = n }
 
--- a brace is still to be closed behind it, but in value position
+-- with this text pending, and outside value position a frame for the closing brace
 abbrev pub braced : {N : ℕ} → Parser N → Option Mark → Parser N
 braced m x = record m { state = record m.state { mark = x }; stack = pushed_on m.stack (brace_behind m.state) }
 

@@ -10,7 +10,7 @@ use demangle_words::output::Output;
 use demangle_words::stretch::Stretch;
 
 impl<const N: usize> Parser<'_, N> {
-    /// Brings so many further lifetimes into force, and prints them.
+    /// Brings `number` further lifetimes into force, and prints them.
     ///
     /// Fails if the output does.
     #[inline(always)]

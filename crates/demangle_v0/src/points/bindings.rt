@@ -26,7 +26,9 @@ fn opening_text(is_open: bool) -> Mark
 }
 
 impl<const N: usize> Parser<'_, N> {
-    /// Reads up to the name of the next binding, or the end of the bindings.
+    /// Begins the next binding of a dyn trait, or ends its bindings.
+    ///
+    /// Queues the text before either, which depends on whether the bracket is open.
     #[inline(always)]
     fn binding(&mut self, is_open: bool) -> Point
         requires may { MayGo Point.Bindings self.old }
@@ -46,7 +48,7 @@ impl<const N: usize> Parser<'_, N> {
         Point::BindingName
     }
 
-    /// Reads up to the first binding after the path of a dyn trait, or the end of the bindings.
+    /// Begins the first binding after the path of a dyn trait, or ends its bindings.
     #[inline(always)]
     pub(super) fn bindings(&mut self) -> Point
         requires may { MayGo Point.Bindings self.old }
@@ -55,7 +57,7 @@ impl<const N: usize> Parser<'_, N> {
         self.binding(self.state.is_open)
     }
 
-    /// Reads up to a further binding, or the end of the bindings.
+    /// Begins a further binding of a dyn trait, or ends its bindings.
     #[inline(always)]
     pub(super) fn further_bindings(&mut self) -> Point
         requires may { MayGo Point.OpenBindings self.old }
@@ -64,7 +66,7 @@ impl<const N: usize> Parser<'_, N> {
         self.binding(true)
     }
 
-    /// Reads the name of a binding, and prints it with its ` = `.
+    /// Reads the name of a binding, and prints it with its ` = `. The value follows.
     #[inline(never)]
     pub(super) fn binding_name<V: Output>(&mut self, output: &mut V) -> Result<Point, Stop>
         requires may { May V.Output Point.BindingName self.old output.old }
@@ -79,17 +81,14 @@ impl<const N: usize> Parser<'_, N> {
         ) {
             WordRead::Goes(name, next) => {
                 self.state.place = next;
-                let Ok(()) = output.emit(self.symbol, &name, self.include_hash, &mut self.looks)
-                else {
-                    return Err(Stop::Refused);
-                };
+                output.emit(self.symbol, &name, self.include_hash, &mut self.looks)?;
                 Ok(Point::Bound)
             }
             WordRead::Stops(mark) => Err(Stop::Fault(mark)),
         }
     }
 
-    /// Reads up to the value of a binding: a constant or a type.
+    /// Begins the value of a binding: a constant or a type. Further bindings follow it.
     #[inline(always)]
     pub(super) fn bound_value(&mut self) -> Point
         requires may { MayGo Point.Bound self.old }

@@ -13,7 +13,7 @@ use demangle_words::output::Output;
 use demangle_words::texts::{Mark, Word};
 
 impl<const N: usize> Parser<'_, N> {
-    /// Prints the `dyn ` of a dyn type, after its `D`.
+    /// Queues the `dyn ` of a dyn type, after its `D`. The binder of its traits follows.
     #[inline(always)]
     pub(super) fn dyn_type(&mut self) -> Point
         requires may { MayGo Point.DynBinder self.old }
@@ -28,29 +28,25 @@ impl<const N: usize> Parser<'_, N> {
 
     /// Reads the binder of dyn traits, and prints its lifetimes.
     ///
-    /// If there are none, the first trait is reached in the same step.
+    /// The traits follow. If there is no binder, the same step begins the first of them.
     #[inline(never)]
     pub(super) fn dyn_binder<V: Output>(&mut self, output: &mut V) -> Result<Point, Stop>
         requires may { May V.Output Point.DynBinder self.old output.old }
         ensures did { Did V.Output Point.DynBinder self.old output.old result self.new output.new }
     {
-        let Some(at) = self.state.place else {
-            return Err(Stop::Fault(Mark::AfterError));
-        };
-        let Ok((number, next)) = self.symbol.opt_integer_62(b'G', at, &mut self.looks) else {
-            return Err(Stop::Fault(Mark::Invalid));
-        };
+        let at = self.state.at()?;
+        let (number, next) = self.symbol.opt_integer_62(b'G', at, &mut self.looks)?;
         self.state.place = Some(next);
         if number == 0 {
             return Ok(self.dyn_trait(true));
         }
-        let Ok(()) = self.bind_lifetimes(number, output) else {
-            return Err(Stop::Refused);
-        };
+        self.bind_lifetimes(number, output)?;
         Ok(Point::FirstDynTrait)
     }
 
-    /// Reads up to the next dyn trait, or the end of the traits.
+    /// Begins the next dyn trait, or ends the traits.
+    ///
+    /// Queues the ` + ` before a trait that is not the first.
     #[inline(always)]
     pub(super) fn dyn_trait(&mut self, is_first: bool) -> Point
         requires may { MayGo Point.NextDynTrait self.old }
@@ -68,17 +64,15 @@ impl<const N: usize> Parser<'_, N> {
         Point::TraitPath
     }
 
-    /// Reads up to the path of a dyn trait.
+    /// Begins the path of a dyn trait, which may be a back reference.
     ///
-    /// The bracket of its arguments stays open, because bindings may follow in it.
+    /// If the path has arguments, their bracket stays open for the bindings that may follow.
     #[inline(always)]
     pub(super) fn trait_path<V: Output>(&mut self, output: &mut V) -> Result<Point, Stop>
         requires may { May V.Output Point.TraitPath self.old output.old }
         ensures did { Did V.Output Point.TraitPath self.old output.old result self.new output.new }
     {
-        let Some(at) = self.state.place else {
-            return Err(Stop::Fault(Mark::AfterError));
-        };
+        let at = self.state.at()?;
         if self.symbol.is_at(b'B', at, &mut self.looks) {
             self.state.place = Some(at + 1);
             return follow(
@@ -99,9 +93,10 @@ impl<const N: usize> Parser<'_, N> {
         Ok(Point::Path)
     }
 
-    /// Reads up to the next argument of a dyn trait path, or the end of the arguments.
+    /// Begins the next argument of a dyn trait path, or ends the arguments.
     ///
-    /// After the end the bracket is open.
+    /// Queues the `, ` before an argument that is not the first. After the last one the bracket is
+    /// still open.
     #[inline(always)]
     pub(super) fn trait_argument(&mut self, is_first: bool) -> Point
         requires may { MayGo Point.NextOpenArgument self.old }
@@ -122,7 +117,7 @@ impl<const N: usize> Parser<'_, N> {
         argument(self.symbol, at, &mut self.state, &mut self.looks)
     }
 
-    /// Reads the lifetime of a dyn type, and prints it.
+    /// Reads the lifetime of a dyn type, and prints it after a ` + ` unless it is erased.
     #[inline(never)]
     pub(super) fn dyn_lifetime<V: Output>(&mut self, output: &mut V) -> Result<Point, Stop>
         requires may { May V.Output Point.DynLifetime self.old output.old }

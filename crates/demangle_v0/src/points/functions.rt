@@ -27,7 +27,7 @@ fn has_no_qualifiers(head: &Stretch) -> bool
 impl<const N: usize> Parser<'_, N> {
     /// Reads the binder of a function type, after its `F`, and prints its lifetimes.
     ///
-    /// If there are none, the qualifiers are read in the same step.
+    /// The qualifiers follow. If there is no binder, the same step reads them.
     #[inline(never)]
     pub(super) fn function_binder<V: Output>(&mut self, output: &mut V) -> Result<Point, Stop>
         requires may { May V.Output Point.DynBinder self.old output.old }
@@ -36,23 +36,17 @@ impl<const N: usize> Parser<'_, N> {
         ensures own { self.new.looks ≤ self.old.looks + own_by 16 self.old.symbol.now
             self.old.state.place }
     {
-        let Some(at) = self.state.place else {
-            return Err(Stop::Fault(Mark::AfterError));
-        };
-        let Ok((number, next)) = self.symbol.opt_integer_62(b'G', at, &mut self.looks) else {
-            return Err(Stop::Fault(Mark::Invalid));
-        };
+        let at = self.state.at()?;
+        let (number, next) = self.symbol.opt_integer_62(b'G', at, &mut self.looks)?;
         self.state.place = Some(next);
         if number == 0 {
             return self.function_qualifiers(output);
         }
-        let Ok(()) = self.bind_lifetimes(number, output) else {
-            return Err(Stop::Refused);
-        };
+        self.bind_lifetimes(number, output)?;
         Ok(Point::FunctionHead)
     }
 
-    /// Reads whether a function is unsafe, and its ABI, and prints both.
+    /// Reads whether a function is unsafe, and its ABI, and prints both. The parameters follow.
     #[inline(never)]
     pub(super) fn function_qualifiers<V: Output>(&mut self, output: &mut V) -> Result<Point, Stop>
         requires may { May V.Output Point.FunctionHead self.old output.old }
@@ -73,17 +67,16 @@ impl<const N: usize> Parser<'_, N> {
                 if has_no_qualifiers(&head) {
                     return Ok(leave::<V>(Point::OpenParameters, &mut self.state));
                 }
-                let Ok(()) = output.emit(self.symbol, &head, self.include_hash, &mut self.looks)
-                else {
-                    return Err(Stop::Refused);
-                };
+                output.emit(self.symbol, &head, self.include_hash, &mut self.looks)?;
                 Ok(Point::OpenParameters)
             }
             WordRead::Stops(mark) => Err(Stop::Fault(mark)),
         }
     }
 
-    /// Reads up to the next parameter of a function type, or the end of the parameters.
+    /// Begins the next parameter of a function type, or ends the parameters.
+    ///
+    /// Queues the text before either: `, ` unless the parameter is the first, or `)`.
     #[inline(always)]
     pub(super) fn parameter(&mut self, is_first: bool) -> Point
         requires may { MayGo Point.NextParameter self.old }
@@ -99,7 +92,9 @@ impl<const N: usize> Parser<'_, N> {
         Point::Type
     }
 
-    /// Reads up to the type that a function returns. A `()` is read whole.
+    /// Begins the type that a function returns, and queues the ` -> ` before it.
+    ///
+    /// A `()` is read here, and nothing is printed for it.
     #[inline(always)]
     pub(super) fn returns(&mut self) -> Point
         requires may { MayGo Point.Returns self.old }
@@ -109,7 +104,6 @@ impl<const N: usize> Parser<'_, N> {
             self.put(Mark::Arrow);
             return Point::Type;
         };
-        // A function that returns `()` is printed without its result, as in Rust.
         if self.symbol.is_at(b'u', at, &mut self.looks) {
             self.state.place = Some(at + 1);
             self.state.is_open = false;

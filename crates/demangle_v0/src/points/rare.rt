@@ -21,7 +21,7 @@ pub enum RarePoint {
 }
 
 impl<const N: usize> Parser<'_, N> {
-    /// Calls the function of a rare continuation.
+    /// Performs a continuation that few symbols have, by a call.
     #[inline(always)]
     fn call_out_of_line<V: Output>(
         &mut self,
@@ -44,7 +44,7 @@ impl<const N: usize> Parser<'_, N> {
         }
     }
 
-    /// Runs a rare continuation.
+    /// Performs a continuation that few symbols have.
     #[inline(always)]
     pub(super) fn rare<V: Output>(
         &mut self,
@@ -54,7 +54,7 @@ impl<const N: usize> Parser<'_, N> {
         requires may { May V.Output (rare_point point) self.old output.old }
         ensures did { Did V.Output (rare_point point) self.old output.old result self.new output.new }
     {
-        // A copy, so that the results of other continuations need not be where a call writes its own.
+        // A copy: the results of other continuations need not be where this call writes its own.
         let next = self.call_out_of_line(point, output)?;
         Ok(next)
     }

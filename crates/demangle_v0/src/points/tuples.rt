@@ -1,4 +1,4 @@
-//! The points of tuple types.
+//! Tuple types.
 ghost use Rattle.std.specs.Prelude.{◌≡◌, Ok};
 ghost use Rattle.demangle_v0.specs.Parsers.{MayGo, Went};
 ghost use Rattle.demangle_v0.specs.Points.{Paid, is_list_over, behind_list, list_costs};
@@ -27,7 +27,7 @@ pub(super) fn is_over(symbol: &Symbol<'_>, place: &mut Option<usize>, looks: &mu
 }
 
 impl<const N: usize> Parser<'_, N> {
-    /// The first type of a tuple.
+    /// Begins the first type of a tuple, or ends the tuple.
     #[inline(always)]
     pub(super) fn first_tuple_type(&mut self) -> Point
         requires may { MayGo Point.FirstTupleType self.old }
@@ -40,14 +40,14 @@ impl<const N: usize> Parser<'_, N> {
         Point::Type
     }
 
-    /// The second type of a tuple, or the comma behind one that stands alone.
+    /// Begins the second type of a tuple, or queues the comma after the only one.
     #[inline(always)]
     pub(super) fn second_tuple_type(&mut self) -> Point
         requires may { MayGo Point.SecondTupleType self.old }
         ensures did { Went Point.SecondTupleType self.old (Ok result) self.new }
     {
         if self.ends_list() {
-            // `(T,)` is the tuple, where `(T)` would be the type in brackets.
+            // `(T,)` is a tuple. `(T)` would be the type `T` in parentheses.
             self.put(Mark::OneComma);
             return Point::CloseParen;
         }
@@ -56,7 +56,7 @@ impl<const N: usize> Parser<'_, N> {
         Point::Type
     }
 
-    /// A further type of a tuple.
+    /// Begins a further type of a tuple, or ends the tuple.
     #[inline(always)]
     pub(super) fn next_tuple_type(&mut self) -> Point
         requires may { MayGo Point.NextTupleType self.old }

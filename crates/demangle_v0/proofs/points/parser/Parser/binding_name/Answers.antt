@@ -2,28 +2,36 @@ use Rattle.std.proofs.Common.{arith, refl}
 use Rattle.demangle_v0.specs.Points.{unit_rest_at}
 use Rattle.demangle_v0.specs.declared.points.Point.TheVariants as point
 use Rattle.demangle_words.specs.declared.texts.Word.TheVariants as word
+use Rattle.demangle_v0.proofs.Faults.{stops}
 use Rattle.demangle_v0.proofs.PointDynTraits.{behind_name}
 use Rattle.demangle_v0.proofs.PointTurns.{word_goes, word_refuses, word_stops}
 use Rattle.demangle_v0.proofs.points.parser.Parser.binding_name.Goals as goal
 
-pub returns-in_default : goal.returns-in_default
+pub returns-in_err-emit-in-Goes : goal.returns-in_err-emit-in-Goes
 unfolding unit_rest_at
-returns-in_default g c = record {
-  did = record {
+returns-in_err-emit-in-Goes g c = record {
+  did = rw (stops c.from_residual.result c.from_residual.ensures.1 refl) (record {
     does = word_refuses (omega arith) word.BindingName behind_name _ _ c.in-Goes.ensures.value
-        (record { grows = omega arith; within = omega (arith, c.in-Goes.ensures.looks, c.in_default.ensures.most) })
-        c.in_default.ensures.prints c.in_default.ensures.quiet;
+        (record {
+          grows = omega arith;
+          within = omega (arith, c.in-Goes.ensures.looks, c.in_err-emit-in-Goes.ensures.most);
+        })
+        c.in_err-emit-in-Goes.ensures.prints c.in_err-emit-in-Goes.ensures.quiet;
     same = (refl, refl);
-  };
+  });
 }
 
-pub returns-in-Ok : goal.returns-in-Ok
+pub returns-in_ok-emit-in-Goes : goal.returns-in_ok-emit-in-Goes
 unfolding unit_rest_at
-returns-in-Ok g c = record {
+returns-in_ok-emit-in-Goes g c = record {
   did = record {
     does = word_goes (omega arith) point.Bound word.BindingName behind_name _ _ c.in-Goes.ensures.value
-        (record { grows = omega arith; within = omega (arith, c.in-Goes.ensures.looks, c.in-Ok.ensures.most) })
-        c.in-Ok.ensures.prints c.in-Ok.ensures.ready c.requires.may.unmarked refl (omega arith) (omega arith)
+        (record {
+          grows = omega arith;
+          within = omega (arith, c.in-Goes.ensures.looks, c.in_ok-emit-in-Goes.ensures.most);
+        })
+        c.in_ok-emit-in-Goes.ensures.prints c.in_ok-emit-in-Goes.ensures.ready c.requires.may.unmarked refl
+        (omega arith) (omega arith)
         c.requires.may.fits;
     same = (refl, refl);
   };

@@ -2,6 +2,7 @@ use Rattle.std.proofs.Common.{arith, refl}
 use Rattle.demangle_v0.specs.Points.{unit_rest_at}
 use Rattle.demangle_v0.specs.declared.points.Point.TheVariants as point
 use Rattle.demangle_words.specs.declared.texts.Word.TheVariants as word
+use Rattle.demangle_v0.proofs.Faults.{stops}
 use Rattle.demangle_v0.proofs.PointFunctions.{parameters}
 use Rattle.demangle_v0.proofs.PointTurns.{word_goes, word_bare, word_refuses, word_stops}
 use Rattle.demangle_v0.proofs.WordLooks.{group_tight, own_more}
@@ -11,46 +12,67 @@ pub returns-then-has_no_qualifiers : goal.returns-then-has_no_qualifiers
 unfolding unit_rest_at
 returns-then-has_no_qualifiers g c =
     let m = c.args.self.now in
-    let tight = group_tight m.symbol.now word.FunctionHead m.state.letter g.V.Output.is_printed m.state.lifetimes m.state.place in
+    let tight = group_tight m.symbol.now word.FunctionHead m.state.letter g.V.Output.is_printed m.state.lifetimes
+    m.state.place in
     record {
       did = record {
         does = word_bare (omega arith) word.FunctionHead parameters _ _ c.in-Goes.ensures.value
             (c.has_no_qualifiers.ensures c.if-has_no_qualifiers.true m.symbol.now m.include_hash)
             (record { grows = omega arith; within = omega (arith, c.in-Goes.ensures.looks) })
-            (own_more _ 8 20 _ _ (omega arith) (omega (arith, c.in-Goes.ensures.looks, tight))) (omega arith) (omega arith)
+            (own_more {l = c.word_at.new.looks} _ 8 20 _ _ (omega arith)
+            (omega (arith, c.in-Goes.ensures.looks, tight))) (omega arith) (omega arith)
             (c.leave.ensures.did m.symbol.now m.include_hash c.args.output.now m.stack _);
         same = (refl, refl);
       };
       own = omega (arith, c.in-Goes.ensures.looks, tight);
     }
 
-pub returns-in_default : goal.returns-in_default
+pub returns-in_err-emit-in-Goes : goal.returns-in_err-emit-in-Goes
 unfolding unit_rest_at
-returns-in_default g c =
+returns-in_err-emit-in-Goes g c =
     let m = c.args.self.now in
     record {
-      did = record {
+      did = rw (stops c.from_residual.result c.from_residual.ensures.1 refl) (record {
         does = word_refuses (omega arith) word.FunctionHead parameters _ _ c.in-Goes.ensures.value
-            (record { grows = omega arith; within = omega (arith, c.in-Goes.ensures.looks, c.in_default.ensures.most) })
-            c.in_default.ensures.prints c.in_default.ensures.quiet;
+            (record {
+              grows = omega arith;
+              within = omega (arith, c.in-Goes.ensures.looks, c.in_err-emit-in-Goes.ensures.most);
+            })
+            c.in_err-emit-in-Goes.ensures.prints c.in_err-emit-in-Goes.ensures.quiet;
         same = (refl, refl);
-      };
-      own = omega (arith, c.in-Goes.ensures.looks, c.in_default.ensures.most, group_tight m.symbol.now word.FunctionHead m.state.letter g.V.Output.is_printed m.state.lifetimes m.state.place);
+      });
+      own = omega (
+        arith,
+        c.in-Goes.ensures.looks,
+        c.in_err-emit-in-Goes.ensures.most,
+        group_tight m.symbol.now
+            word.FunctionHead m.state.letter g.V.Output.is_printed m.state.lifetimes m.state.place,
+      );
     }
 
-pub returns-in-Ok : goal.returns-in-Ok
+pub returns-in_ok-emit-in-Goes : goal.returns-in_ok-emit-in-Goes
 unfolding unit_rest_at
-returns-in-Ok g c =
+returns-in_ok-emit-in-Goes g c =
     let m = c.args.self.now in
     record {
       did = record {
         does = word_goes (omega arith) point.OpenParameters word.FunctionHead parameters _ _ c.in-Goes.ensures.value
-            (record { grows = omega arith; within = omega (arith, c.in-Goes.ensures.looks, c.in-Ok.ensures.most) })
-            c.in-Ok.ensures.prints c.in-Ok.ensures.ready c.requires.may.unmarked refl (omega arith) (omega arith)
+            (record {
+              grows = omega arith;
+              within = omega (arith, c.in-Goes.ensures.looks, c.in_ok-emit-in-Goes.ensures.most);
+            })
+            c.in_ok-emit-in-Goes.ensures.prints c.in_ok-emit-in-Goes.ensures.ready c.requires.may.unmarked refl
+            (omega arith) (omega arith)
             c.requires.may.fits;
         same = (refl, refl);
       };
-      own = omega (arith, c.in-Goes.ensures.looks, c.in-Ok.ensures.most, group_tight m.symbol.now word.FunctionHead m.state.letter g.V.Output.is_printed m.state.lifetimes m.state.place);
+      own = omega (
+        arith,
+        c.in-Goes.ensures.looks,
+        c.in_ok-emit-in-Goes.ensures.most,
+        group_tight m.symbol.now
+            word.FunctionHead m.state.letter g.V.Output.is_printed m.state.lifetimes m.state.place,
+      );
     }
 
 pub returns-in-Stops : goal.returns-in-Stops
@@ -64,5 +86,10 @@ returns-in-Stops g c =
             (omega arith);
         same = (refl, refl);
       };
-      own = omega (arith, c.in-Stops.ensures.looks, group_tight m.symbol.now word.FunctionHead m.state.letter g.V.Output.is_printed m.state.lifetimes m.state.place);
+      own = omega (
+        arith,
+        c.in-Stops.ensures.looks,
+        group_tight m.symbol.now word.FunctionHead m.state.letter
+            g.V.Output.is_printed m.state.lifetimes m.state.place,
+      );
     }
