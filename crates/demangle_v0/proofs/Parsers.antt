@@ -1,11 +1,12 @@
 -- What points do to a parser.
-use Rattle.std.proofs.Common.{◌≡◌, ℕ, Bool, Option, Some, None, List, Result, Ok, Err, refl}
+use Rattle.std.proofs.lemmas.Bool.{false≢true}
+use Rattle.std.proofs.Common.{◌≡◌, ℕ, Bool, true, false, Option, Some, None, List, Result, Ok, Err, refl}
 use Rattle.demangle_grammar.specs.Items.{Items}
 use Rattle.demangle_words.specs.declared.output.Output.{Ghosts}
 use Rattle.demangle_words.specs.declared.stretch.Stretch.{Stretch}
 use Rattle.demangle_sink.specs.declared.SinkRefused.{SinkRefused}
 use Rattle.demangle_v0.specs.PointRuns.{Stepped}
-use Rattle.demangle_v0.specs.Parsers.{Same, DidRest, Did, Went as ParserWent, WentRest, unheard, env_of}
+use Rattle.demangle_v0.specs.Parsers.{Same, DidRest, Did, Went as ParserWent, WentRest, WentSilent, unheard, env_of}
 use Rattle.demangle_v0.specs.Points.{Comes, Does, Emits, Part, Turn, env, turn}
 use Rattle.demangle_v0.specs.declared.points.Point.{Point}
 use Rattle.demangle_v0.specs.declared.points.State.{State}
@@ -68,6 +69,17 @@ went output v p {m} {k} {r} d = let x = d output.is_printed in record {
   does = does_heard output m.symbol.now m.include_hash v _ m.state k.state m.stack k.stack m.looks k.looks r x.does;
   same = x.same;
 }
+
+-- where the output does not print
+pub went_silent : {N : ℕ} {V : Type 0} (output : Ghosts V) (v : V) (p : Point) {m k : Parser N} {r : Result Point Stop} → (output.is_printed ≡ true → false ≡ true) → WentSilent p m r k → Did output p m v r k v
+went_silent output v p {m} {k} {r} q x = go output.is_printed refl
+  where
+    go : (b : Bool) → output.is_printed ≡ b → Did output p m v r k v
+    go true e = absurd (false≢true (q e))
+    go false e = record {
+      does = does_heard output m.symbol.now m.include_hash v _ m.state k.state m.stack k.stack m.looks k.looks r (rw e x.does);
+      same = x.same;
+    }
 
 pub went_rest : {N : ℕ} {V : Type 0} (output : Ghosts V) (v : V) (items : Items) (words weight above : ℕ) {m k : Parser N} {r : Result Point Stop} → WentRest items words weight above m r k → DidRest output items words weight above m v r k v
 went_rest output v items words weight above {m} {k} {r} d = let x = d output.is_printed in record {

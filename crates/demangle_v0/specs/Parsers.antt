@@ -1,11 +1,15 @@
 -- Internal: no public contract cites this.
 -- What points do to a parser.
-use Rattle.std.specs.Prelude.{◌≡◌, ℕ, ◌+◌, ◌-◌, Bool, false, List, [], ◌∷◌, ◌++◌, Some, Result}
-use Rattle.demangle_grammar.specs.Items.{Items}
+use Rattle.std.specs.Prelude.{◌≡◌, ℕ, ◌+◌, ◌-◌, Bool, false, Option, List, [], ◌∷◌, ◌++◌, Some, Result}
 use Rattle.demangle_grammar.specs.Reading.{Place}
+use Rattle.demangle_grammar.specs.Items.{Items, Kind}
+use Rattle.demangle_words.specs.WordReads.{Group, word_group}
 use Rattle.demangle_words.specs.declared.texts.Mark.{Mark}
+use Rattle.demangle_words.specs.declared.texts.Word.{Word}
 use Rattle.demangle_words.specs.declared.output.Output.{Ghosts}
-use Rattle.demangle_v0.specs.Points.{Does, Env, MayRead, MayStep, Part, Turn, env, rest, turn, whole}
+use Rattle.demangle_v0.specs.PointContracts.{brace_behind}
+use Rattle.demangle_v0.specs.Points.{Does, Env, MayEmit, MayRead, MayStep, Part, Turn, env, pushed_on, rest, turn, whole}
+use Rattle.demangle_v0.specs.References.{IsUnit, target_part}
 use Rattle.demangle_v0.specs.declared.points.Point.{Point}
 use Rattle.demangle_v0.specs.declared.points.State.{State}
 use Rattle.demangle_v0.specs.declared.points.Stop.{Stop}
@@ -33,6 +37,13 @@ moved m i n = record m { state = record m.state { place = i }; looks = n }
 abbrev pub restacked : {N : ℕ} → Parser N → List Frame → Parser N
 restacked m now = record m { stack = now }
 
+abbrev pub looked : {N : ℕ} → Parser N → ℕ → Parser N
+looked m n = record m { looks = n }
+
+-- a brace is still to be closed behind it, but in value position
+abbrev pub braced : {N : ℕ} → Parser N → Option Mark → Parser N
+braced m x = record m { state = record m.state { mark = x }; stack = pushed_on m.stack (brace_behind m.state) }
+
 abbrev pub restated : {N : ℕ} → Parser N → State → ℕ → Parser N
 restated m s n = record m { state = s; looks = n }
 
@@ -43,6 +54,10 @@ binding m number = record m { state = record m.state { lifetimes = m.state.lifet
 -- where it stands
 abbrev pub reading_of : {N : ℕ} → Parser N → Reading
 reading_of m = record { point = m.point; state = m.state }
+
+-- The token of this kind that is read there, and may be printed or not.
+abbrev pub token_group : {N : ℕ} → Bool → Parser N → Word → Group
+token_group is_printed m w = word_group m.symbol.now w m.state.letter is_printed m.state.lifetimes m.state.place
 
 -- What a point does.
 
@@ -71,6 +86,16 @@ Did output p m v result k w = DoesPart output (whole (env_of output m) p m.state
 abbrev pub DidRest : {N : ℕ} {V : Type 0} → Ghosts V → Items → ℕ → ℕ → ℕ → Parser N → V → Result Point Stop → Parser N → V → Type 0
 DidRest output items words weight above m v result k w = DoesPart output (rest (env_of output m) items words weight above m.state) m v result k w
 
+-- where a token may be printed
+abbrev pub MayPrint : {N : ℕ} {V : Type 0} → Ghosts V → Parser N → V → Type 0
+MayPrint output m v = MayEmit (env_of output m) m.state v
+
+-- at a reference to a unit that begins at this point
+abbrev pub Followed : {N : ℕ} {V : Type 0} → Ghosts V → Point → Parser N → V → Result Point Stop → Parser N → Type 0
+Followed output p m v result k =
+    (shut : Bool) (kind : Kind) (value : Bool) → IsUnit m.symbol.now m.include_hash p m.state.in_value m.state.letter m.state.lifetimes shut kind value
+    → DoesPart output (target_part (env_of output m) shut kind value m.state) m v result k v
+
 -- An output that is handed nothing, and may print or not.
 abbrev pub unheard : Bool → Ghosts (Unit {0})
 unheard is_printed = record { is_printed = is_printed; ready = λ v. Unit {0}; prints = λ v texts result w. ⊥ }
@@ -81,6 +106,10 @@ MayGo {N} p m = MayRead p N m.state m.stack
 
 abbrev pub Went : {N : ℕ} → Point → Parser N → Result Point Stop → Parser N → Type 0
 Went p m result k = (is_printed : Bool) → Did (unheard is_printed) p m tt result k tt
+
+-- the same of one that is only read where nothing is printed
+abbrev pub WentSilent : {N : ℕ} → Point → Parser N → Result Point Stop → Parser N → Type 0
+WentSilent p m result k = Did (unheard false) p m tt result k tt
 
 abbrev pub WentRest : {N : ℕ} → Items → ℕ → ℕ → ℕ → Parser N → Result Point Stop → Parser N → Type 0
 WentRest items words weight above m result k = (is_printed : Bool) → DidRest (unheard is_printed) items words weight above m tt result k tt

@@ -36,6 +36,7 @@ pub mod read;
 mod references;
 pub mod skip;
 pub mod step;
+mod tokens;
 mod tuples;
 mod type_references;
 mod types;

@@ -2,38 +2,17 @@
 ghost use Rattle.std.specs.Prelude.{◌≡◌, ◌+◌, ◌≤◌, true, false};
 ghost use Rattle.demangle_v0.specs.Impls.{is_skip};
 ghost use Rattle.demangle_v0.specs.Parsers.{Did, May};
-ghost use Rattle.demangle_v0.specs.PointContracts.{rare_point};
 ghost use Rattle.demangle_v0.specs.PointRuns.{first_looks};
 
-use crate::points::arguments::{arguments, generic};
-use crate::points::constant_lists::{
-    ConstantList, first_constant, next_constant, second_tuple_constant,
-};
-use crate::points::impls::{as_trait, self_type, skipped_path};
-use crate::points::marks::leave;
-use crate::points::names::nested_name;
+use crate::points::constant_lists::ConstantList;
 use crate::points::parser::Parser;
-use crate::points::patterns::{next_pattern, pattern};
 use crate::points::rare::RarePoint;
-use crate::points::references::behind;
-use crate::points::type_references::reference_lifetime;
 use crate::points::types::is_begun;
-use crate::points::{Point, Stop, last_word};
+use crate::points::{Point, Stop};
 use demangle_words::output::Output;
 use demangle_words::texts::Word;
 
 impl<const N: usize> Parser<'_, N> {
-    /// A point that few symbols have.
-    #[inline(always)]
-    fn rare<V: Output>(&mut self, point: RarePoint, output: &mut V) -> Result<Point, Stop>
-        requires may { May V.Output (rare_point point) self.old output.old }
-        ensures did { Did V.Output (rare_point point) self.old output.old result self.new output.new }
-    {
-        // A copy: the results of other continuations need not be where this call writes its own.
-        let next = self.call_out_of_line(point, output)?;
-        Ok(next)
-    }
-
     /// What a point does.
     #[inline(always)]
     pub(super) fn dispatch<V: Output>(
@@ -49,66 +28,23 @@ impl<const N: usize> Parser<'_, N> {
     {
         match point {
             Point::Path => self.path(output),
-            Point::Nested => nested_name(
-                self.symbol,
-                self.include_hash,
-                &mut self.state,
-                output,
-                &mut self.looks,
-            ),
-            Point::InherentPath => Ok(skipped_path::<V, N>(
-                false,
-                &mut self.state,
-                &mut self.stack,
-            )),
-            Point::ImplPath => Ok(skipped_path::<V, N>(true, &mut self.state, &mut self.stack)),
-            Point::InherentType => Ok(self_type::<V, N>(false, &mut self.state, &mut self.stack)),
-            Point::SelfType => Ok(self_type::<V, N>(true, &mut self.state, &mut self.stack)),
-            Point::As => Ok(as_trait::<V, N>(&mut self.state, &mut self.stack)),
-            Point::Generic => Ok(generic::<V>(&mut self.state)),
-            Point::FirstArgument => Ok(arguments::<V, N>(
-                self.symbol,
-                true,
-                &mut self.state,
-                &mut self.stack,
-                &mut self.looks,
-            )),
-            Point::NextArgument => Ok(arguments::<V, N>(
-                self.symbol,
-                false,
-                &mut self.state,
-                &mut self.stack,
-                &mut self.looks,
-            )),
-            Point::Lifetime => last_word(
-                self.symbol,
-                Word::LifetimeIndex,
-                self.include_hash,
-                &mut self.state,
-                output,
-                &mut self.looks,
-            ),
+            Point::Nested => self.nested_name(output),
+            Point::InherentPath => Ok(self.read_impl_path(false)),
+            Point::ImplPath => Ok(self.read_impl_path(true)),
+            Point::InherentType => Ok(self.self_type(false)),
+            Point::SelfType => Ok(self.self_type(true)),
+            Point::As => Ok(self.as_trait()),
+            Point::Generic => Ok(self.generic()),
+            Point::FirstArgument => Ok(self.arguments(true)),
+            Point::NextArgument => Ok(self.arguments(false)),
+            Point::Lifetime => self.end_with_token(Word::LifetimeIndex, output),
             Point::Type | Point::TaggedType => { self.type_(is_begun(point), output) }
             Point::ArrayLength => Ok(self.array_length(output)),
             Point::FirstTupleType => Ok(self.first_tuple_type()),
             Point::SecondTupleType => Ok(self.second_tuple_type()),
             Point::NextTupleType => Ok(self.next_tuple_type()),
-            Point::ReferenceLifetime => reference_lifetime(
-                self.symbol,
-                false,
-                self.include_hash,
-                &mut self.state,
-                output,
-                &mut self.looks,
-            ),
-            Point::MutReferenceLifetime => reference_lifetime(
-                self.symbol,
-                true,
-                self.include_hash,
-                &mut self.state,
-                output,
-                &mut self.looks,
-            ),
+            Point::ReferenceLifetime => self.reference_lifetime(false, output),
+            Point::MutReferenceLifetime => self.reference_lifetime(true, output),
             Point::FunctionHead => { self.rare(RarePoint::FunctionHead, output) }
             Point::FirstParameter => Ok(self.parameter(true)),
             Point::NextParameter => Ok(self.parameter(false)),
@@ -124,104 +60,23 @@ impl<const N: usize> Parser<'_, N> {
             Point::BindingName => { self.rare(RarePoint::BindingName, output) }
             Point::Bound => Ok(self.bound_value()),
             Point::DynLifetime => { self.rare(RarePoint::DynLifetime, output) }
-            Point::Pattern => pattern::<V, N>(
-                self.symbol,
-                &mut self.state,
-                &mut self.stack,
-                &mut self.looks,
-            ),
-            Point::NextPattern => next_pattern::<V, N>(
-                self.symbol,
-                &mut self.state,
-                &mut self.stack,
-                &mut self.looks,
-            ),
+            Point::Pattern => self.pattern(),
+            Point::NextPattern => self.next_pattern(),
             Point::Constant => { self.rare(RarePoint::Constant, output) }
             Point::Number => { self.rare(RarePoint::Number, output) }
             Point::Literal => { self.rare(RarePoint::Literal, output) }
-            Point::FirstArrayConstant => {
-                Ok(first_constant::<V, N>(
-                    self.symbol,
-                    ConstantList::Array,
-                    &mut self.state,
-                    &mut self.stack,
-                    &mut self.looks,
-                ))
-            }
-            Point::NextArrayConstant => {
-                Ok(next_constant::<V, N>(
-                    self.symbol,
-                    ConstantList::Array,
-                    &mut self.state,
-                    &mut self.stack,
-                    &mut self.looks,
-                ))
-            }
-            Point::FirstTupleConstant => {
-                Ok(first_constant::<V, N>(
-                    self.symbol,
-                    ConstantList::Tuple,
-                    &mut self.state,
-                    &mut self.stack,
-                    &mut self.looks,
-                ))
-            }
-            Point::SecondTupleConstant => {
-                Ok(second_tuple_constant::<V, N>(
-                    self.symbol,
-                    &mut self.state,
-                    &mut self.stack,
-                    &mut self.looks,
-                ))
-            }
-            Point::NextTupleConstant => {
-                Ok(next_constant::<V, N>(
-                    self.symbol,
-                    ConstantList::Tuple,
-                    &mut self.state,
-                    &mut self.stack,
-                    &mut self.looks,
-                ))
-            }
+            Point::FirstArrayConstant => Ok(self.first_list_constant(ConstantList::Array)),
+            Point::NextArrayConstant => Ok(self.next_list_constant(ConstantList::Array)),
+            Point::FirstTupleConstant => Ok(self.first_list_constant(ConstantList::Tuple)),
+            Point::SecondTupleConstant => Ok(self.second_tuple_constant()),
+            Point::NextTupleConstant => Ok(self.next_list_constant(ConstantList::Tuple)),
             Point::Variant => { self.rare(RarePoint::Variant, output) }
-            Point::FirstVariantConstant => {
-                Ok(first_constant::<V, N>(
-                    self.symbol,
-                    ConstantList::TupleVariant,
-                    &mut self.state,
-                    &mut self.stack,
-                    &mut self.looks,
-                ))
-            }
-            Point::NextVariantConstant => {
-                Ok(next_constant::<V, N>(
-                    self.symbol,
-                    ConstantList::TupleVariant,
-                    &mut self.state,
-                    &mut self.stack,
-                    &mut self.looks,
-                ))
-            }
-            Point::FirstField => {
-                Ok(first_constant::<V, N>(
-                    self.symbol,
-                    ConstantList::Fields,
-                    &mut self.state,
-                    &mut self.stack,
-                    &mut self.looks,
-                ))
-            }
-            Point::NextField => {
-                Ok(next_constant::<V, N>(
-                    self.symbol,
-                    ConstantList::Fields,
-                    &mut self.state,
-                    &mut self.stack,
-                    &mut self.looks,
-                ))
-            }
+            Point::FirstVariantConstant => Ok(self.first_list_constant(ConstantList::TupleVariant)),
+            Point::NextVariantConstant => Ok(self.next_list_constant(ConstantList::TupleVariant)),
+            Point::FirstField => Ok(self.first_list_constant(ConstantList::Fields)),
+            Point::NextField => Ok(self.next_list_constant(ConstantList::Fields)),
             Point::Field => { self.rare(RarePoint::Field, output) }
-            Point::AfterBackref => Ok(behind::<V>(&mut self.state)),
+            Point::AfterBackref => Ok(self.after_backref()),
             Point::CloseParen
             | Point::CloseAngle
             | Point::Mut
@@ -239,7 +94,7 @@ impl<const N: usize> Parser<'_, N> {
             | Point::ArrayConstant
             | Point::TupleConstant
             | Point::FieldColon
-            | Point::CloseBrace => { Ok(leave::<V>(point, &mut self.state)) }
+            | Point::CloseBrace => Ok(self.queue_text(point)),
             Point::End => Ok(Point::End),
         }
     }

@@ -1,9 +1,11 @@
 //! Points that do no more than leave a mark.
 ghost use Rattle.std.specs.Prelude.{◌≡◌, ℕ, List, Bool, Ok, IsSome};
 ghost use Rattle.demangle_v0.specs.Marks.{left_at};
+ghost use Rattle.demangle_v0.specs.Parsers.{Went};
 ghost use Rattle.demangle_v0.specs.Points.{Fits, PointDoes, env, turn};
 ghost use Rattle.demangle_v0.specs.declared.points.frames.Frame.{Frame};
 
+use crate::points::parser::Parser;
 use crate::points::{Point, State};
 use demangle_words::output::Output;
 use demangle_words::texts::Mark;
@@ -65,4 +67,23 @@ pub(super) fn leave<V: Output>(point: Point, state: &mut State) -> Point
     state.in_value = left.in_value;
     state.is_open = false;
     left.next
+}
+
+impl<const N: usize> Parser<'_, N> {
+    /// Queues the fixed text of a continuation that does nothing else.
+    #[inline(always)]
+    pub(super) fn queue_text(&mut self, point: Point) -> Point
+        requires listed { IsSome (left_at point) }
+        requires fits { Fits point self.old.state.depth_left self.old.state.lifetimes }
+        ensures did { Went point self.old (Ok result) self.new }
+        ensures looks { self.new.looks ≡ self.old.looks }
+    {
+        let Some(left) = left_at(point) else {
+            return Point::End;
+        };
+        self.state.mark = Some(left.mark);
+        self.state.in_value = left.in_value;
+        self.state.is_open = false;
+        left.next
+    }
 }

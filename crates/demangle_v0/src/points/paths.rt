@@ -6,10 +6,7 @@ ghost use Rattle.demangle_v0.specs.PointRuns.{first_looks};
 ghost use Rattle.demangle_grammar.specs.Table.{path};
 ghost use Rattle.demangle_words.specs.Tags.{path_of};
 
-use crate::points::impls::{impl_path, self_type};
-use crate::points::names::crate_name;
 use crate::points::parser::Parser;
-use crate::points::references::follow;
 use crate::points::{Point, Stop};
 use demangle_words::output::Output;
 use demangle_words::tags::{PathKind, path_kind};
@@ -49,32 +46,13 @@ impl<const N: usize> Parser<'_, N> {
     {
         let kind = path_kind(tag).ok_or(Stop::Fault(Mark::Invalid))?;
         match kind {
-            PathKind::CrateRoot => crate_name(
-                self.symbol,
-                self.include_hash,
-                &mut self.state,
-                output,
-                &mut self.looks,
-            ),
+            PathKind::CrateRoot => self.crate_name(output),
             PathKind::Nested => self.nested_path(),
             PathKind::Generic => Ok(self.generic_path()),
-            PathKind::Reference => follow(
-                self.symbol,
-                Point::Path,
-                &mut self.state,
-                &mut self.stack,
-                output,
-                &mut self.looks,
-            ),
-            PathKind::InherentImpl => {
-                impl_path::<V>(self.symbol, false, &mut self.state, &mut self.looks)
-            }
-            PathKind::TraitImpl => {
-                impl_path::<V>(self.symbol, true, &mut self.state, &mut self.looks)
-            }
-            PathKind::TraitDefinition => {
-                Ok(self_type::<V, N>(true, &mut self.state, &mut self.stack))
-            }
+            PathKind::Reference => self.follow_backref(Point::Path, output),
+            PathKind::InherentImpl => self.impl_disambiguator(false),
+            PathKind::TraitImpl => self.impl_disambiguator(true),
+            PathKind::TraitDefinition => Ok(self.self_type(true)),
         }
     }
 

@@ -6,8 +6,6 @@ ghost use Rattle.demangle_v0.specs.Points.{own_by, frame_at};
 ghost use Rattle.demangle_words.specs.Tags.{constructed_of, type_of};
 
 use crate::points::parser::Parser;
-use crate::points::references::follow;
-use crate::points::type_references::reference;
 use crate::points::{Point, Stop};
 use demangle_symbol::cursor::{Looks, Symbol};
 use demangle_words::output::Output;
@@ -95,12 +93,8 @@ impl<const N: usize> Parser<'_, N> {
             output.new }
     {
         match kind {
-            TypeKind::SharedReference => {
-                Ok(reference::<V>(self.symbol, false, &mut self.state, &mut self.looks))
-            }
-            TypeKind::MutReference => {
-                Ok(reference::<V>(self.symbol, true, &mut self.state, &mut self.looks))
-            }
+            TypeKind::SharedReference => Ok(self.reference_type(false)),
+            TypeKind::MutReference => Ok(self.reference_type(true)),
             // A copy, so that what others answer need not lie where the call writes its answer.
             TypeKind::Constructed(kind) => Ok(self.constructed_type(kind, output)?),
         }
@@ -140,14 +134,7 @@ impl<const N: usize> Parser<'_, N> {
                 self.put(Mark::OpenParen);
                 Ok(Point::FirstTupleType)
             }
-            ConstructedType::Backref => follow(
-                self.symbol,
-                Point::Type,
-                &mut self.state,
-                &mut self.stack,
-                output,
-                &mut self.looks,
-            ),
+            ConstructedType::Backref => self.follow_backref(Point::Type, output),
             ConstructedType::Pattern => {
                 self.push(Point::PatternIs);
                 Ok(Point::Type)

@@ -41,7 +41,10 @@ returns-in-Slice g c = record {
 }
 
 pub returns-in-Backref : goal.returns-in-Backref
-returns-in-Backref g c = record { did = rw c.in-Backref.is (record { does = alike (omega arith) refl (omega arith) (omega arith) (c.follow.ensures.did c.args.self.now.include_hash c.args.output.now true a_type false (unit_type c.args.self.now.symbol.now c.args.self.now.include_hash c.args.self.now.state.in_value c.args.self.now.state.letter c.args.self.now.state.lifetimes)); same = (refl, refl) }) }
+returns-in-Backref g c =
+    let s = c.args.self.now.state in
+    let d = c.follow_backref.ensures.did true a_type false (unit_type c.args.self.now.symbol.now c.args.self.now.include_hash s.in_value s.letter s.lifetimes) in
+    record { did = rw c.in-Backref.is (record { does = alike (omega arith) refl (omega arith) (omega arith) d.does; same = d.same }) }
 
 pub returns-in-Function : goal.returns-in-Function
 returns-in-Function g c = record {

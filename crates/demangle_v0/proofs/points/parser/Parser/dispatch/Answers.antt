@@ -14,13 +14,13 @@ returns-in-Path-clause-did g c = rw c.in-Path.is c.path.ensures.did
 
 pub returns-in-Lifetime-clause-did : goal.returns-in-Lifetime-clause-did
 unfolding unit_rest_at
-returns-in-Lifetime-clause-did g c = rw c.in-Lifetime.is (record { does = alike (omega arith) refl (omega arith) (omega arith) (c.last_word.ensures.did c.args.self.now.stack); same = (refl, refl) })
+returns-in-Lifetime-clause-did g c = rw c.in-Lifetime.is (record { does = alike (omega arith) refl (omega arith) (omega arith) c.end_with_token.ensures.did.does; same = c.end_with_token.ensures.did.same })
 
 pub returns-in-End-clause-did : goal.returns-in-End-clause-did
 returns-in-End-clause-did g c = rw c.in-End.is (record { does = stays_over c.requires.may.unmarked; same = (refl, refl) })
 
 pub returns-in-CloseParen-clause-did : goal.returns-in-CloseParen-clause-did
-returns-in-CloseParen-clause-did g c = record { does = c.leave.ensures.did c.args.self.now.symbol.now c.args.self.now.include_hash c.args.output.now c.args.self.now.stack c.args.self.now.looks; same = (refl, refl) }
+returns-in-CloseParen-clause-did g c = went g.V.Output c.args.output.now c.args.point c.queue_text.ensures.did
 
 pub returns-in-Type-clause-did : goal.returns-in-Type-clause-did
 returns-in-Type-clause-did g c =
@@ -68,10 +68,10 @@ pub returns-in-NextTupleType-clause-did : goal.returns-in-NextTupleType-clause-d
 returns-in-NextTupleType-clause-did g c = rw c.in-NextTupleType.is (went g.V.Output c.args.output.now point.NextTupleType c.next_tuple_type.ensures.did)
 
 pub returns-in-ReferenceLifetime-clause-did : goal.returns-in-ReferenceLifetime-clause-did
-returns-in-ReferenceLifetime-clause-did g c = rw c.in-ReferenceLifetime.is (record { does = c.reference_lifetime.ensures.did c.args.self.now.stack; same = (refl, refl) })
+returns-in-ReferenceLifetime-clause-did g c = rw c.in-ReferenceLifetime.is c.reference_lifetime.ensures.did
 
 pub returns-in-MutReferenceLifetime-clause-did : goal.returns-in-MutReferenceLifetime-clause-did
-returns-in-MutReferenceLifetime-clause-did g c = rw c.in-MutReferenceLifetime.is (record { does = c.reference_lifetime-in-MutReferenceLifetime.ensures.did c.args.self.now.stack; same = (refl, refl) })
+returns-in-MutReferenceLifetime-clause-did g c = rw c.in-MutReferenceLifetime.is c.reference_lifetime-in-MutReferenceLifetime.ensures.did
 
 pub returns-in-FunctionHead-clause-did : goal.returns-in-FunctionHead-clause-did
 returns-in-FunctionHead-clause-did g c = rw c.in-FunctionHead.is c.rare.ensures.did
@@ -119,10 +119,12 @@ pub returns-in-DynLifetime-clause-did : goal.returns-in-DynLifetime-clause-did
 returns-in-DynLifetime-clause-did g c = rw c.in-DynLifetime.is c.rare-in-DynLifetime.ensures.did
 
 pub returns-in-Pattern-clause-did : goal.returns-in-Pattern-clause-did
-returns-in-Pattern-clause-did g c = rw c.in-Pattern.is (record { does = c.pattern.ensures.did c.args.self.now.include_hash c.args.output.now; same = (refl, refl) })
+returns-in-Pattern-clause-did g c =
+    rw c.in-Pattern.is (went g.V.Output c.args.output.now point.Pattern c.pattern.ensures.did)
 
 pub returns-in-NextPattern-clause-did : goal.returns-in-NextPattern-clause-did
-returns-in-NextPattern-clause-did g c = rw c.in-NextPattern.is (record { does = c.next_pattern.ensures.did c.args.self.now.include_hash c.args.output.now; same = (refl, refl) })
+returns-in-NextPattern-clause-did g c =
+    rw c.in-NextPattern.is (went g.V.Output c.args.output.now point.NextPattern c.next_pattern.ensures.did)
 
 pub returns-in-Constant-clause-did : goal.returns-in-Constant-clause-did
 returns-in-Constant-clause-did g c = rw c.in-Constant.is c.rare-in-Constant.ensures.did
@@ -134,31 +136,40 @@ pub returns-in-Literal-clause-did : goal.returns-in-Literal-clause-did
 returns-in-Literal-clause-did g c = rw c.in-Literal.is c.rare-in-Literal.ensures.did
 
 pub returns-in-FirstArrayConstant-clause-did : goal.returns-in-FirstArrayConstant-clause-did
-returns-in-FirstArrayConstant-clause-did g c = rw c.in-FirstArrayConstant.is (record { does = c.first_constant.ensures.did c.args.self.now.include_hash c.args.output.now; same = (refl, refl) })
+returns-in-FirstArrayConstant-clause-did g c =
+    rw c.in-FirstArrayConstant.is (went g.V.Output c.args.output.now point.FirstArrayConstant c.first_list_constant.ensures.did)
 
 pub returns-in-NextArrayConstant-clause-did : goal.returns-in-NextArrayConstant-clause-did
-returns-in-NextArrayConstant-clause-did g c = rw c.in-NextArrayConstant.is (record { does = c.next_constant.ensures.did c.args.self.now.include_hash c.args.output.now; same = (refl, refl) })
+returns-in-NextArrayConstant-clause-did g c =
+    rw c.in-NextArrayConstant.is (went g.V.Output c.args.output.now point.NextArrayConstant c.next_list_constant.ensures.did)
 
 pub returns-in-FirstTupleConstant-clause-did : goal.returns-in-FirstTupleConstant-clause-did
-returns-in-FirstTupleConstant-clause-did g c = rw c.in-FirstTupleConstant.is (record { does = c.first_constant-in-FirstTupleConstant.ensures.did c.args.self.now.include_hash c.args.output.now; same = (refl, refl) })
+returns-in-FirstTupleConstant-clause-did g c =
+    rw c.in-FirstTupleConstant.is (went g.V.Output c.args.output.now point.FirstTupleConstant c.first_list_constant-in-FirstTupleConstant.ensures.did)
 
 pub returns-in-NextTupleConstant-clause-did : goal.returns-in-NextTupleConstant-clause-did
-returns-in-NextTupleConstant-clause-did g c = rw c.in-NextTupleConstant.is (record { does = c.next_constant-in-NextTupleConstant.ensures.did c.args.self.now.include_hash c.args.output.now; same = (refl, refl) })
+returns-in-NextTupleConstant-clause-did g c =
+    rw c.in-NextTupleConstant.is (went g.V.Output c.args.output.now point.NextTupleConstant c.next_list_constant-in-NextTupleConstant.ensures.did)
 
 pub returns-in-FirstVariantConstant-clause-did : goal.returns-in-FirstVariantConstant-clause-did
-returns-in-FirstVariantConstant-clause-did g c = rw c.in-FirstVariantConstant.is (record { does = c.first_constant-in-FirstVariantConstant.ensures.did c.args.self.now.include_hash c.args.output.now; same = (refl, refl) })
+returns-in-FirstVariantConstant-clause-did g c =
+    rw c.in-FirstVariantConstant.is (went g.V.Output c.args.output.now point.FirstVariantConstant c.first_list_constant-in-FirstVariantConstant.ensures.did)
 
 pub returns-in-NextVariantConstant-clause-did : goal.returns-in-NextVariantConstant-clause-did
-returns-in-NextVariantConstant-clause-did g c = rw c.in-NextVariantConstant.is (record { does = c.next_constant-in-NextVariantConstant.ensures.did c.args.self.now.include_hash c.args.output.now; same = (refl, refl) })
+returns-in-NextVariantConstant-clause-did g c =
+    rw c.in-NextVariantConstant.is (went g.V.Output c.args.output.now point.NextVariantConstant c.next_list_constant-in-NextVariantConstant.ensures.did)
 
 pub returns-in-FirstField-clause-did : goal.returns-in-FirstField-clause-did
-returns-in-FirstField-clause-did g c = rw c.in-FirstField.is (record { does = c.first_constant-in-FirstField.ensures.did c.args.self.now.include_hash c.args.output.now; same = (refl, refl) })
+returns-in-FirstField-clause-did g c =
+    rw c.in-FirstField.is (went g.V.Output c.args.output.now point.FirstField c.first_list_constant-in-FirstField.ensures.did)
 
 pub returns-in-NextField-clause-did : goal.returns-in-NextField-clause-did
-returns-in-NextField-clause-did g c = rw c.in-NextField.is (record { does = c.next_constant-in-NextField.ensures.did c.args.self.now.include_hash c.args.output.now; same = (refl, refl) })
+returns-in-NextField-clause-did g c =
+    rw c.in-NextField.is (went g.V.Output c.args.output.now point.NextField c.next_list_constant-in-NextField.ensures.did)
 
 pub returns-in-SecondTupleConstant-clause-did : goal.returns-in-SecondTupleConstant-clause-did
-returns-in-SecondTupleConstant-clause-did g c = rw c.in-SecondTupleConstant.is (record { does = c.second_tuple_constant.ensures.did c.args.self.now.include_hash c.args.output.now; same = (refl, refl) })
+returns-in-SecondTupleConstant-clause-did g c =
+    rw c.in-SecondTupleConstant.is (went g.V.Output c.args.output.now point.SecondTupleConstant c.second_tuple_constant.ensures.did)
 
 pub returns-in-Variant-clause-did : goal.returns-in-Variant-clause-did
 returns-in-Variant-clause-did g c = rw c.in-Variant.is c.rare-in-Variant.ensures.did
@@ -167,4 +178,4 @@ pub returns-in-Field-clause-did : goal.returns-in-Field-clause-did
 returns-in-Field-clause-did g c = rw c.in-Field.is c.rare-in-Field.ensures.did
 
 pub returns-in-AfterBackref-clause-did : goal.returns-in-AfterBackref-clause-did
-returns-in-AfterBackref-clause-did g c = rw c.in-AfterBackref.is (record { does = c.behind.ensures.did c.args.self.now.symbol.now c.args.self.now.include_hash c.args.output.now c.args.self.now.stack c.args.self.now.looks; same = (refl, refl) })
+returns-in-AfterBackref-clause-did g c = rw c.in-AfterBackref.is (went g.V.Output c.args.output.now point.AfterBackref c.after_backref.ensures.did)

@@ -25,7 +25,10 @@ returns-in-Generic g c =
     record { did = record { does = path_as c.args.tag kind.Generic (rw (c.in_ok-kind.ensures.ok_part, c.in-Generic.is) at c.path_kind.ensures) (omega arith) (omega arith) (omega arith) d.does; same = d.same } }
 
 pub returns-in-Reference : goal.returns-in-Reference
-returns-in-Reference g c = record { did = record { does = path_as c.args.tag kind.Reference (rw (c.in_ok-kind.ensures.ok_part, c.in-Reference.is) at c.path_kind.ensures) (omega arith) (omega arith) (omega arith) (c.follow.ensures.did c.args.self.now.include_hash c.args.output.now true a_path c.args.self.now.state.in_value (unit_path c.args.self.now.symbol.now c.args.self.now.include_hash c.args.self.now.state.in_value c.args.self.now.state.letter c.args.self.now.state.lifetimes)); same = (refl, refl) } }
+returns-in-Reference g c =
+    let s = c.args.self.now.state in
+    let d = c.follow_backref.ensures.did true a_path s.in_value (unit_path c.args.self.now.symbol.now c.args.self.now.include_hash s.in_value s.letter s.lifetimes) in
+    record { did = record { does = path_as c.args.tag kind.Reference (rw (c.in_ok-kind.ensures.ok_part, c.in-Reference.is) at c.path_kind.ensures) (omega arith) (omega arith) (omega arith) d.does; same = d.same } }
 
 pub returns-in-InherentImpl : goal.returns-in-InherentImpl
 returns-in-InherentImpl g c = record { did = record { does = path_as c.args.tag kind.InherentImpl (rw (c.in_ok-kind.ensures.ok_part, c.in-InherentImpl.is) at c.path_kind.ensures) (omega arith) (omega arith) (omega arith) (c.impl_path.ensures.did c.args.self.now.include_hash c.args.output.now c.args.self.now.stack); same = (refl, refl) } }
