@@ -14,9 +14,9 @@ unfolding unit_rest_at
 returns-then-has_no_qualifiers g c =
     let m = c.args.self.now in
     let tight = group_tight m.symbol.now word.FunctionHead m.state.letter g.V.Output.is_printed m.state.lifetimes
-        m.state.place in
+    m.state.place in
     let d = went g.V.Output c.args.output.now point.OpenParameters
-        (rw c.token_at.ensures.parser at c.queue_text.ensures.did) in
+    (rw c.token_at.ensures.parser at c.queue_text.ensures.did) in
     record {
       did = record {
         does = word_bare (omega arith) word.FunctionHead parameters _ _ c.in-Goes.ensures.value
@@ -35,7 +35,7 @@ returns-in_err-emit-in-Goes g c =
     let m = c.args.self.now in
     let e = c.in_err-emit-in-Goes.ensures in
     let tight = group_tight m.symbol.now word.FunctionHead m.state.letter g.V.Output.is_printed m.state.lifetimes
-        m.state.place in
+    m.state.place in
     rw (e.parser, c.token_at.ensures.parser, stops c.from_residual.result c.from_residual.ensures.1 refl) (record {
       did = record {
         does = word_refuses (omega arith) word.FunctionHead parameters _ _ c.in-Goes.ensures.value
@@ -55,7 +55,7 @@ returns-in_ok-emit-in-Goes g c =
     let m = c.args.self.now in
     let e = c.in_ok-emit-in-Goes.ensures in
     let tight = group_tight m.symbol.now word.FunctionHead m.state.letter g.V.Output.is_printed m.state.lifetimes
-        m.state.place in
+    m.state.place in
     rw (e.parser, c.token_at.ensures.parser) (record {
       did = record {
         does = word_goes (omega arith) point.OpenParameters word.FunctionHead parameters _ _ c.in-Goes.ensures.value
@@ -75,7 +75,7 @@ unfolding unit_rest_at
 returns-in-Stops g c =
     let m = c.args.self.now in
     let tight = group_tight m.symbol.now word.FunctionHead m.state.letter g.V.Output.is_printed m.state.lifetimes
-        m.state.place in
+    m.state.place in
     rw c.token_at.ensures.parser (record {
       did = record {
         does = word_stops (omega arith) word.FunctionHead parameters _ c.in-Stops.ensures.value
