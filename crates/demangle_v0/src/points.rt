@@ -1,18 +1,9 @@
 //! Reading by resume points: each reads up to its next child, puts what stands behind that on the
 //! frame stack, and answers where it goes on.
-ghost use Rattle.std.specs.Prelude.{◌≡◌, ◌+◌, ◌-◌, ◌<◌, ◌≤◌, None, Ok, Err, List};
-ghost use Rattle.demangle_v0.specs.Points.{own_by, MayEmit, RestDoes, env, turn};
-ghost use Rattle.demangle_grammar.specs.Totals.{total};
-ghost use Rattle.demangle_words.specs.WordReads.{word_group, read_stretch, looks_later};
-ghost use Rattle.demangle_words.specs.Backrefs.{LiesIn};
-ghost use Rattle.demangle_grammar.specs.Items.{done};
-ghost use Rattle.demangle_words.specs.Texts.{word_items};
+ghost use Rattle.std.specs.Prelude.{◌≡◌};
 
 use crate::points::frames::Frame;
-use demangle_symbol::cursor::{Looks, Symbol};
-use demangle_words::output::Output;
-use demangle_words::read::{WordRead, read_word};
-use demangle_words::texts::{Mark, Word};
+use demangle_words::texts::Mark;
 
 mod arguments;
 mod binders;
@@ -177,60 +168,5 @@ impl State {
             depth_left: self.depth_left,
             number: self.lifetimes,
         }
-    }
-}
-
-/// The word at a place, of what is printed or not.
-#[inline(always)]
-fn word_at<V: Output>(
-    symbol: &Symbol<'_>,
-    word: Word,
-    state: &State,
-    output: &V,
-    looks: &mut Looks,
-) -> WordRead
-    ensures value { result ≡ (word_group symbol.now word state.now.letter V.is_printed
-        state.now.lifetimes state.now.place).reads }
-    ensures grows { looks.old ≤ looks.new }
-    ensures looks { looks.new + looks_later (read_stretch result) ≤ looks.old + total (word_group
-        symbol.now word state.now.letter V.is_printed state.now.lifetimes state.now.place).costs }
-    ensures in_bounds { LiesIn symbol.now (read_stretch result) }
-{
-    let is_printing = output.is_printing();
-    read_word(
-        symbol,
-        word,
-        state.letter,
-        is_printing,
-        state.lifetimes,
-        state.place,
-        looks,
-    )
-}
-
-/// A word with which the unit ends.
-#[inline(always)]
-fn last_word<V: Output>(
-    symbol: &Symbol<'_>,
-    word: Word,
-    include_hash: bool,
-    state: &mut State,
-    output: &mut V,
-    looks: &mut Looks,
-) -> Result<Point, Stop>
-    requires may { MayEmit (env V.Output symbol.now include_hash) state.old output.old }
-    ensures did { (stack : List Frame) → RestDoes (env V.Output symbol.now include_hash) (word_items
-        word state.old.letter done) 4 1 0 (turn state.old stack output.old looks.old) result (turn
-        state.new stack output.new looks.new) }
-    ensures own { looks.new ≤ looks.old + own_by 8 symbol.now state.old.place }
-{
-    match word_at(symbol, word, state, output, looks) {
-        WordRead::Goes(stretch, next) => {
-            state.place = next;
-            state.is_open = false;
-            output.emit(symbol, &stretch, include_hash, looks)?;
-            Ok(Point::End)
-        }
-        WordRead::Stops(mark) => Err(Stop::Fault(mark)),
     }
 }

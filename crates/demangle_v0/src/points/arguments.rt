@@ -5,10 +5,9 @@ ghost use Rattle.demangle_grammar.specs.Totals.{total};
 ghost use Rattle.demangle_v0.specs.Parsers.{MayGo, Went, restated};
 ghost use Rattle.demangle_v0.specs.Points.{own_by};
 
+use crate::points::Point;
 use crate::points::lists::separator;
 use crate::points::parser::Parser;
-use crate::points::{Point, State};
-use demangle_symbol::cursor::{Looks, Symbol};
 use demangle_words::texts::Mark;
 
 impl<const N: usize> Parser<'_, N> {
@@ -72,36 +71,4 @@ impl<const N: usize> Parser<'_, N> {
         }
         Point::Type
     }
-}
-
-/// An argument of a path: a lifetime, a constant or a type.
-#[inline(always)]
-pub(super) fn argument(
-    symbol: &Symbol<'_>,
-    at: usize,
-    state: &mut State,
-    looks: &mut Looks,
-) -> Point
-    requires place { state.old.place ≡ Some at }
-    ensures point { result ≡ argument_point symbol.now at }
-    ensures state { state.new ≡ record state.old {
-      in_value = false;
-      place = Some (argument_place
-          symbol.now at);
-    } }
-    ensures grows { looks.old ≤ looks.new }
-    ensures own { looks.new ≤ looks.old + own_by 20 symbol.now state.old.place }
-    ensures looks { looks.new ≤ looks.old + total (argument_costs symbol.now at) }
-    ensures few { looks.new ≤ looks.old + 2 }
-{
-    state.in_value = false;
-    if symbol.is_at(b'L', at, looks) {
-        state.place = Some(at + 1);
-        return Point::Lifetime;
-    }
-    if symbol.is_at(b'K', at, looks) {
-        state.place = Some(at + 1);
-        return Point::Constant;
-    }
-    Point::Type
 }

@@ -1,7 +1,7 @@
 //! Binders: lifetimes that a function type or dyn traits bring into force.
-ghost use Rattle.std.specs.Prelude.{◌≡◌, ◌^◌, ◌<◌, ◌≤◌, IsOk, OnOk, IsAscii, true, false};
+ghost use Rattle.std.specs.Prelude.{◌≡◌, ◌^◌, ◌<◌, ◌≤◌, IsOk, OnOk, false};
 ghost use Rattle.demangle_grammar.specs.Binders.{binder_texts};
-ghost use Rattle.demangle_v0.specs.Parsers.{binding};
+ghost use Rattle.demangle_v0.specs.Parsers.{MayPrint, binding};
 ghost use Rattle.demangle_v0.specs.Points.{most_lifetimes};
 
 use crate::points::parser::Parser;
@@ -19,8 +19,7 @@ impl<const N: usize> Parser<'_, N> {
         number: u64,
         output: &mut V,
     ) -> Result<(), SinkRefused>
-        requires ascii { V.is_printed ≡ true → IsAscii self.old.symbol.now }
-        requires ready { V.ready output.old }
+        requires may { MayPrint V.Output self.old output.old }
         requires most { self.old.state.lifetimes ≤ most_lifetimes }
         ensures prints { V.prints output.old (binder_texts number self.old.state.lifetimes) result
             output.new }
@@ -31,6 +30,6 @@ impl<const N: usize> Parser<'_, N> {
     {
         let stretch = Stretch::Binder(self.state.lifetimes, number);
         self.state.lifetimes += u128::from(number);
-        output.emit(self.symbol, &stretch, self.include_hash, &mut self.looks)
+        self.emit(&stretch, output)
     }
 }

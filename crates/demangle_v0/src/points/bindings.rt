@@ -4,7 +4,7 @@ ghost use Rattle.demangle_v0.specs.Parsers.{Did, May, MayGo, Went, WentRest};
 ghost use Rattle.demangle_v0.specs.Points.{bindings_left};
 
 use crate::points::parser::Parser;
-use crate::points::{Point, Stop, word_at};
+use crate::points::{Point, Stop};
 use demangle_words::output::Output;
 use demangle_words::read::WordRead;
 use demangle_words::texts::{Mark, Word};
@@ -72,16 +72,10 @@ impl<const N: usize> Parser<'_, N> {
         requires may { May V.Output Point.BindingName self.old output.old }
         ensures did { Did V.Output Point.BindingName self.old output.old result self.new output.new }
     {
-        match word_at(
-            self.symbol,
-            Word::BindingName,
-            &self.state,
-            output,
-            &mut self.looks,
-        ) {
+        match self.token_at(Word::BindingName, output) {
             WordRead::Goes(name, next) => {
                 self.state.place = next;
-                output.emit(self.symbol, &name, self.include_hash, &mut self.looks)?;
+                self.emit(&name, output)?;
                 Ok(Point::Bound)
             }
             WordRead::Stops(mark) => Err(Stop::Fault(mark)),

@@ -4,11 +4,9 @@ ghost use Rattle.demangle_v0.specs.DynTraits.{dyn_type};
 ghost use Rattle.demangle_v0.specs.Parsers.{Did, May, MayGo, Went, WentRest};
 ghost use Rattle.demangle_v0.specs.Points.{own_by};
 
-use crate::points::arguments::argument;
 use crate::points::lists::separator;
 use crate::points::parser::Parser;
-use crate::points::references::follow;
-use crate::points::{Point, Stop, last_word};
+use crate::points::{Point, Stop};
 use demangle_words::output::Output;
 use demangle_words::texts::{Mark, Word};
 
@@ -75,14 +73,7 @@ impl<const N: usize> Parser<'_, N> {
         let at = self.state.at()?;
         if self.symbol.is_at(b'B', at, &mut self.looks) {
             self.state.place = Some(at + 1);
-            return follow(
-                self.symbol,
-                Point::TraitPath,
-                &mut self.state,
-                &mut self.stack,
-                output,
-                &mut self.looks,
-            );
+            return self.follow_backref(Point::TraitPath, output);
         }
         self.state.in_value = false;
         if self.symbol.is_at(b'I', at, &mut self.looks) {
@@ -114,7 +105,7 @@ impl<const N: usize> Parser<'_, N> {
         }
         self.push(Point::NextOpenArgument);
         self.state.mark = separator(is_first, Mark::Comma);
-        argument(self.symbol, at, &mut self.state, &mut self.looks)
+        self.argument(at)
     }
 
     /// Reads the lifetime of a dyn type, and prints it after a ` + ` unless it is erased.
@@ -123,13 +114,6 @@ impl<const N: usize> Parser<'_, N> {
         requires may { May V.Output Point.DynLifetime self.old output.old }
         ensures did { Did V.Output Point.DynLifetime self.old output.old result self.new output.new }
     {
-        last_word(
-            self.symbol,
-            Word::DynLifetime,
-            self.include_hash,
-            &mut self.state,
-            output,
-            &mut self.looks,
-        )
+        self.end_with_token(Word::DynLifetime, output)
     }
 }

@@ -7,9 +7,8 @@ ghost use Rattle.demangle_v0.specs.Parsers.{Did, DidRest, May, MayGo, Went};
 ghost use Rattle.demangle_v0.specs.Points.{own_by};
 
 use crate::points::lists::separator;
-use crate::points::marks::leave;
 use crate::points::parser::Parser;
-use crate::points::{Point, Stop, word_at};
+use crate::points::{Point, Stop};
 use demangle_words::output::Output;
 use demangle_words::read::WordRead;
 use demangle_words::stretch::{Abi, Stretch};
@@ -55,19 +54,13 @@ impl<const N: usize> Parser<'_, N> {
         ensures own { self.new.looks ≤ self.old.looks + own_by 8 self.old.symbol.now
             self.old.state.place }
     {
-        match word_at(
-            self.symbol,
-            Word::FunctionHead,
-            &self.state,
-            output,
-            &mut self.looks,
-        ) {
+        match self.token_at(Word::FunctionHead, output) {
             WordRead::Goes(head, next) => {
                 self.state.place = next;
                 if has_no_qualifiers(&head) {
-                    return Ok(leave::<V>(Point::OpenParameters, &mut self.state));
+                    return Ok(self.queue_text(Point::OpenParameters));
                 }
-                output.emit(self.symbol, &head, self.include_hash, &mut self.looks)?;
+                self.emit(&head, output)?;
                 Ok(Point::OpenParameters)
             }
             WordRead::Stops(mark) => Err(Stop::Fault(mark)),

@@ -1,30 +1,10 @@
 //! Tuple types.
-ghost use Rattle.std.specs.Prelude.{◌≡◌, Ok};
+ghost use Rattle.std.specs.Prelude.{Ok};
 ghost use Rattle.demangle_v0.specs.Parsers.{MayGo, Went};
-ghost use Rattle.demangle_v0.specs.Points.{Paid, is_list_over, behind_list, list_costs};
 
 use crate::points::Point;
 use crate::points::parser::Parser;
-use demangle_symbol::cursor::{Looks, Symbol};
 use demangle_words::texts::Mark;
-
-/// Whether a list is over: at its `E`, which is read, or where the reading has failed.
-#[inline(always)]
-pub(super) fn is_over(symbol: &Symbol<'_>, place: &mut Option<usize>, looks: &mut Looks) -> bool
-    ensures over { result ≡ is_list_over symbol.now place.old }
-    ensures place { place.new ≡ behind_list symbol.now place.old }
-    ensures paid { Paid looks.old (list_costs place.old) looks.new }
-{
-    // So that a list ends where the reading has failed, and what stands behind it is printed.
-    let Some(at) = *place else {
-        return true;
-    };
-    if !symbol.is_at(b'E', at, looks) {
-        return false;
-    }
-    *place = Some(at + 1);
-    true
-}
 
 impl<const N: usize> Parser<'_, N> {
     /// Begins the first type of a tuple, or ends the tuple.

@@ -5,9 +5,6 @@ use Rattle.demangle_v0.proofs.points.parser.Parser.dyn_lifetime.Goals as goal
 
 pub returns : goal.returns
 unfolding unit_rest_at
-returns g c = record {
-  did = record {
-    does = alike (omega arith) refl (omega arith) (omega arith) (c.last_word.ensures.did c.args.self.now.stack);
-    same = (refl, refl);
-  };
+returns g c = let d = c.end_with_token.ensures.did in record {
+  did = record { does = alike (omega arith) refl (omega arith) (omega arith) d.does; same = d.same };
 }

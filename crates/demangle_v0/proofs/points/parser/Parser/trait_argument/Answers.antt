@@ -25,7 +25,7 @@ returns-then-is_at g c =
 
 pub returns : goal.returns
 returns g c = record {
-  did = λ p. rw (c.argument.ensures.point, c.argument.ensures.state, c.push.ensures) (record {
+  did = λ p. rw (c.argument.ensures.point, c.argument.ensures.parser, c.push.ensures) (record {
     does = open_on c.args.is_first c.in-Some.at c.in-Some.is (sym c.is_at.ensures.there ∙ c.if-is_at.false)
         (record {
           grows = omega (arith, c.is_at.ensures.look, rw c.push.ensures at c.argument.ensures.grows);

@@ -17,16 +17,15 @@ returns-in_err-at g c = let failed = c.in_err-at.ensures.failed in record {
 }
 
 pub returns-then-is_at : goal.returns-then-is_at
-returns-then-is_at g c = let m = c.args.self.now in record {
-  did = record {
-    does = trait_refers c.in_ok-at.at c.in_ok-at.ensures.ok (rw c.is_at.ensures.there at c.if-is_at.true)
-        c.is_at.ensures.look
-        (c.is_at.ensures.within c.if-is_at.true)
-        (c.follow.ensures.did m.include_hash c.args.output.now false a_trait_path false
-        (unit_trait _ m.include_hash _ _ _));
-    same = (refl, refl);
-  };
-}
+returns-then-is_at g c =
+    let d = c.follow_backref.ensures.did false a_trait_path false (unit_trait _ c.args.self.now.include_hash _ _ _) in
+    record {
+      did = record {
+        does = trait_refers c.in_ok-at.at c.in_ok-at.ensures.ok (rw c.is_at.ensures.there at c.if-is_at.true)
+            c.is_at.ensures.look (c.is_at.ensures.within c.if-is_at.true) d.does;
+        same = d.same;
+      };
+    }
 
 pub returns-then-is_at-2 : goal.returns-then-is_at-2
 returns-then-is_at-2 g c = record {
