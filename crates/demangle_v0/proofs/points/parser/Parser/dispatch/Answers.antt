@@ -1,9 +1,9 @@
-use Rattle.std.proofs.Common.{arith, refl, subst}
+use Rattle.std.proofs.Common.{arith, refl, subst, sym}
 use Rattle.demangle_v0.specs.Parsers.{Did}
 use Rattle.demangle_v0.specs.Points.{unit_rest_at}
 use Rattle.demangle_v0.specs.declared.points.Point.{Point}
 use Rattle.demangle_v0.specs.declared.points.Point.TheVariants as point
-use Rattle.demangle_v0.proofs.Parsers.{went}
+use Rattle.demangle_v0.proofs.Parsers.{went, went_silent}
 use Rattle.demangle_v0.proofs.PointReferences.{stays_over}
 use Rattle.demangle_v0.proofs.PointTypes.{type_point}
 use Rattle.demangle_v0.proofs.PointTurns.{alike}
@@ -29,31 +29,31 @@ returns-in-Type-clause-did g c =
     c.type_.ensures.did
 
 pub returns-in-Nested-clause-did : goal.returns-in-Nested-clause-did
-returns-in-Nested-clause-did g c = rw c.in-Nested.is (record { does = c.nested_name.ensures.did c.args.self.now.stack; same = (refl, refl) })
+returns-in-Nested-clause-did g c = rw c.in-Nested.is c.nested_name.ensures.did
 
 pub returns-in-InherentPath-clause-did : goal.returns-in-InherentPath-clause-did
-returns-in-InherentPath-clause-did g c = rw c.in-InherentPath.is (record { does = c.skipped_path.ensures.did c.args.self.now.symbol.now c.args.self.now.include_hash c.args.output.now c.args.self.now.looks; same = (refl, refl) })
+returns-in-InherentPath-clause-did g c = rw c.in-InherentPath.is (went_silent g.V.Output c.args.output.now point.InherentPath (λ is_printed. sym (rw c.in-InherentPath.is at c.requires.unskipped is_printed)) c.read_impl_path.ensures.did)
 
 pub returns-in-ImplPath-clause-did : goal.returns-in-ImplPath-clause-did
-returns-in-ImplPath-clause-did g c = rw c.in-ImplPath.is (record { does = c.skipped_path-in-ImplPath.ensures.did c.args.self.now.symbol.now c.args.self.now.include_hash c.args.output.now c.args.self.now.looks; same = (refl, refl) })
+returns-in-ImplPath-clause-did g c = rw c.in-ImplPath.is (went_silent g.V.Output c.args.output.now point.ImplPath (λ is_printed. sym (rw c.in-ImplPath.is at c.requires.unskipped is_printed)) c.read_impl_path-in-ImplPath.ensures.did)
 
 pub returns-in-InherentType-clause-did : goal.returns-in-InherentType-clause-did
-returns-in-InherentType-clause-did g c = rw c.in-InherentType.is (record { does = c.self_type.ensures.did c.args.self.now.symbol.now c.args.self.now.include_hash c.args.output.now c.args.self.now.looks; same = (refl, refl) })
+returns-in-InherentType-clause-did g c = rw c.in-InherentType.is (went g.V.Output c.args.output.now point.InherentType c.self_type.ensures.did)
 
 pub returns-in-SelfType-clause-did : goal.returns-in-SelfType-clause-did
-returns-in-SelfType-clause-did g c = rw c.in-SelfType.is (record { does = c.self_type-in-SelfType.ensures.did c.args.self.now.symbol.now c.args.self.now.include_hash c.args.output.now c.args.self.now.looks; same = (refl, refl) })
+returns-in-SelfType-clause-did g c = rw c.in-SelfType.is (went g.V.Output c.args.output.now point.SelfType c.self_type-in-SelfType.ensures.did)
 
 pub returns-in-As-clause-did : goal.returns-in-As-clause-did
-returns-in-As-clause-did g c = rw c.in-As.is (record { does = c.as_trait.ensures.did c.args.self.now.symbol.now c.args.self.now.include_hash c.args.output.now c.args.self.now.looks; same = (refl, refl) })
+returns-in-As-clause-did g c = rw c.in-As.is (went g.V.Output c.args.output.now point.As c.as_trait.ensures.did)
 
 pub returns-in-Generic-clause-did : goal.returns-in-Generic-clause-did
-returns-in-Generic-clause-did g c = rw c.in-Generic.is (record { does = c.generic.ensures.did c.args.self.now.symbol.now c.args.self.now.include_hash c.args.output.now c.args.self.now.stack c.args.self.now.looks; same = (refl, refl) })
+returns-in-Generic-clause-did g c = rw c.in-Generic.is (went g.V.Output c.args.output.now point.Generic c.generic.ensures.did)
 
 pub returns-in-FirstArgument-clause-did : goal.returns-in-FirstArgument-clause-did
-returns-in-FirstArgument-clause-did g c = rw c.in-FirstArgument.is (record { does = c.arguments.ensures.did c.args.self.now.include_hash c.args.output.now; same = (refl, refl) })
+returns-in-FirstArgument-clause-did g c = rw c.in-FirstArgument.is (went g.V.Output c.args.output.now point.FirstArgument c.arguments.ensures.did)
 
 pub returns-in-NextArgument-clause-did : goal.returns-in-NextArgument-clause-did
-returns-in-NextArgument-clause-did g c = rw c.in-NextArgument.is (record { does = c.arguments-in-NextArgument.ensures.did c.args.self.now.include_hash c.args.output.now; same = (refl, refl) })
+returns-in-NextArgument-clause-did g c = rw c.in-NextArgument.is (went g.V.Output c.args.output.now point.NextArgument c.arguments-in-NextArgument.ensures.did)
 
 pub returns-in-ArrayLength-clause-did : goal.returns-in-ArrayLength-clause-did
 returns-in-ArrayLength-clause-did g c = rw c.in-ArrayLength.is c.array_length.ensures.did
