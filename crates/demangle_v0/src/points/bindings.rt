@@ -26,7 +26,7 @@ fn opening_text(is_open: bool) -> Mark
 }
 
 impl<const N: usize> Parser<'_, N> {
-    /// Begins the next binding of a dyn trait, or ends its bindings.
+    /// Starts the next binding of a dyn trait, or ends its bindings.
     ///
     /// Queues the text before either, which depends on whether the bracket is open.
     #[inline(always)]
@@ -48,7 +48,7 @@ impl<const N: usize> Parser<'_, N> {
         Point::BindingName
     }
 
-    /// Begins the first binding after the path of a dyn trait, or ends its bindings.
+    /// Starts the first binding after the path of a dyn trait, or ends its bindings.
     #[inline(always)]
     pub(super) fn bindings(&mut self) -> Point
         requires may { MayGo Point.Bindings self.old }
@@ -57,7 +57,7 @@ impl<const N: usize> Parser<'_, N> {
         self.binding(self.state.is_open)
     }
 
-    /// Begins a further binding of a dyn trait, or ends its bindings.
+    /// Starts a further binding of a dyn trait, or ends its bindings.
     #[inline(always)]
     pub(super) fn further_bindings(&mut self) -> Point
         requires may { MayGo Point.OpenBindings self.old }
@@ -82,7 +82,7 @@ impl<const N: usize> Parser<'_, N> {
         }
     }
 
-    /// Begins the value of a binding: a constant or a type. Further bindings follow it.
+    /// Starts the value of a binding: a constant or a type. Further bindings follow it.
     #[inline(always)]
     pub(super) fn bound_value(&mut self) -> Point
         requires may { MayGo Point.Bound self.old }

@@ -26,7 +26,7 @@ impl<const N: usize> Parser<'_, N> {
 
     /// Reads the binder of dyn traits, and prints its lifetimes.
     ///
-    /// The traits follow. If there is no binder, the same step begins the first of them.
+    /// The traits follow. If there is no binder, the same step starts the first of them.
     #[inline(never)]
     pub(super) fn dyn_binder<V: Output>(&mut self, output: &mut V) -> Result<Point, Stop>
         requires may { May V.Output Point.DynBinder self.old output.old }
@@ -42,7 +42,7 @@ impl<const N: usize> Parser<'_, N> {
         Ok(Point::FirstDynTrait)
     }
 
-    /// Begins the next dyn trait, or ends the traits.
+    /// Starts the next dyn trait, or ends the traits.
     ///
     /// Queues the ` + ` before a trait that is not the first.
     #[inline(always)]
@@ -62,7 +62,7 @@ impl<const N: usize> Parser<'_, N> {
         Point::TraitPath
     }
 
-    /// Begins the path of a dyn trait, which may be a back reference.
+    /// Starts the path of a dyn trait, which may be a back reference.
     ///
     /// If the path has arguments, their bracket stays open for the bindings that may follow.
     #[inline(always)]
@@ -84,7 +84,7 @@ impl<const N: usize> Parser<'_, N> {
         Ok(Point::Path)
     }
 
-    /// Begins the next argument of a dyn trait path, or ends the arguments.
+    /// Starts the next argument of a dyn trait path, or ends the arguments.
     ///
     /// Queues the `, ` before an argument that is not the first. After the last one the bracket is
     /// still open.

@@ -67,7 +67,7 @@ impl<const N: usize> Parser<'_, N> {
         }
     }
 
-    /// Begins the next parameter of a function type, or ends the parameters.
+    /// Starts the next parameter of a function type, or ends the parameters.
     ///
     /// Queues the text before either: `, ` unless the parameter is the first, or `)`.
     #[inline(always)]
@@ -85,7 +85,7 @@ impl<const N: usize> Parser<'_, N> {
         Point::Type
     }
 
-    /// Begins the type that a function returns, and queues the ` -> ` before it.
+    /// Starts the type that a function returns, and queues the ` -> ` before it.
     ///
     /// A `()` is read here, and nothing is printed for it.
     #[inline(always)]

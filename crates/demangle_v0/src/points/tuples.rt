@@ -7,7 +7,7 @@ use crate::points::parser::Parser;
 use demangle_words::texts::Mark;
 
 impl<const N: usize> Parser<'_, N> {
-    /// Begins the first type of a tuple, or ends the tuple.
+    /// Starts the first type of a tuple, or ends the tuple.
     #[inline(always)]
     pub(super) fn first_tuple_type(&mut self) -> Point
         requires may { MayGo Point.FirstTupleType self.old }
@@ -20,7 +20,7 @@ impl<const N: usize> Parser<'_, N> {
         Point::Type
     }
 
-    /// Begins the second type of a tuple, or queues the comma after the only one.
+    /// Starts the second type of a tuple, or queues the comma after the only one.
     #[inline(always)]
     pub(super) fn second_tuple_type(&mut self) -> Point
         requires may { MayGo Point.SecondTupleType self.old }
@@ -36,7 +36,7 @@ impl<const N: usize> Parser<'_, N> {
         Point::Type
     }
 
-    /// Begins a further type of a tuple, or ends the tuple.
+    /// Starts a further type of a tuple, or ends the tuple.
     #[inline(always)]
     pub(super) fn next_tuple_type(&mut self) -> Point
         requires may { MayGo Point.NextTupleType self.old }
