@@ -125,7 +125,7 @@ skipping {p = p} {below = below} e k h v x = let q = skip_is p e in rw k (record
 
 pub skips_valid : {b : List ℕ} {include_hash : Bool} {r to : Reading} {below now : List Frame} {began n looks : ℕ} {x : Left} → is_skip r.point ≡ true → Valid r.point r.state below → SkipsTo b include_hash r below began x n to now looks
     → ValidLeft b include_hash n (Ok (Some x)) to now looks
-skips_valid {began = began} e v k = rw k.is_left (began, skipping e k.same k.height v k.reads, k.valid, k.full)
+skips_valid {began = began} e v k = rw k.is_left (began, skipping e refl k.height v k.reads, k.valid, k.full)
 
 module _ {b : List ℕ} {include_hash : Bool} {below : List Frame} {began m : ℕ} {p q : Point} {t : State} {stack : List Frame} {u : Turn Silent} (of_trait : Bool) (s : State) (r : Reads (silently b include_hash) below point.Path (silent_turn (silent_of s) [] began) p (silent_turn t stack m)) where
   -- it came to its end

@@ -1,7 +1,7 @@
 use Rattle.std.proofs.Common.{◌∙◌, sym, ap, arith}
 use Rattle.demangle_grammar.specs.Accepting.{suffix_looks}
 use Rattle.demangle_grammar.proofs.Accepts.{suffix_none, suffix_one, suffix_two}
-use Rattle.demangle_v0.proofs.accept.suffix_at.Goals as goal
+use Rattle.demangle_v0.proofs.points.parser.Parser.suffix.Goals as goal
 
 pub returns-in_default-clause-value : goal.returns-in_default-clause-value
 returns-in_default-clause-value c = sym (suffix_none c.args.symbol.now (sym c.in_default.is ∙ c.path_end.ensures.value)).0

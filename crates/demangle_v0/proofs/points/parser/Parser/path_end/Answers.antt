@@ -1,6 +1,6 @@
 use Rattle.std.proofs.Common.{arith, refl, [], ◌∙◌}
 use Rattle.demangle_v0.proofs.PointWholes.{valid_first, first_place, first_allowed, over_value, over_looks, failed_value, failed_looks, full_inner, full_value, full_looks}
-use Rattle.demangle_v0.proofs.accept.path_end.Goals as goal
+use Rattle.demangle_v0.proofs.points.parser.Parser.path_end.Goals as goal
 
 pub read_on-requires : goal.read_on-requires
 read_on-requires c = (omega arith, (rw (c.of_path-reading.ensures, c.requires) (valid_first c.args.place), omega arith))

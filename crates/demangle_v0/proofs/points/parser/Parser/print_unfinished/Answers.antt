@@ -1,6 +1,6 @@
 use Rattle.std.proofs.Common.{arith}
 use Rattle.demangle_v0.proofs.PointPrints.{passed_ran, passed_valid, ran_joins, finished_ran, finished_valid}
-use Rattle.demangle_v0.proofs.printing.print_left.Goals as goal
+use Rattle.demangle_v0.proofs.points.parser.Parser.print_unfinished.Goals as goal
 
 pub returns-in-Some-clause-ran : goal.returns-in-Some-clause-ran
 returns-in-Some-clause-ran g c = λ p began ran. finished_ran g.row.N c.args.left c.in-Some.more ran c.in-Some.ensures.finishes

@@ -1,7 +1,7 @@
 use Rattle.std.proofs.Common.{true, ap, ◌∙◌}
 use Rattle.demangle_v0.specs.PointRuns.{state_at}
 use Rattle.demangle_v0.proofs.PointSkips.{own_over, own_failed, own_full}
-use Rattle.demangle_v0.proofs.points.skip.skip.Goals as goal
+use Rattle.demangle_v0.proofs.points.parser.Parser.finish_impl_path.Goals as goal
 
 pub returns-in-Over-clause-behind : goal.returns-in-Over-clause-behind
 returns-in-Over-clause-behind g c = λ below q began r h e.

@@ -5,7 +5,7 @@ use Rattle.demangle_v0.proofs.Parsers.{stepped_as}
 use Rattle.demangle_v0.proofs.PointRuns.{valid_resumes, resumes_length, valid_steps, turn_less, first_resumes, ran_then, ran_resumes, ran_turn, ran_broke}
 use Rattle.demangle_v0.proofs.PointPrints.{ran_fail, ran_left, ran_skips}
 use Rattle.demangle_v0.proofs.PointSkips.{skip_is, skip_unread, skipped_valid, skipped_less, skips_valid}
-use Rattle.demangle_v0.proofs.points.parser.Parser.print_on.Goals as goal
+use Rattle.demangle_v0.proofs.points.parser.Parser.print_steps.Goals as goal
 
 pub skip_own-skipped-requires : goal.skip_own-skipped-requires
 skip_own-skipped-requires g c = (omega arith, (sym c.is_skipped.ensures ∙ c.if-is_skipped.true, (valid_resumes c.steps.invariant.valid c.in-Some.ensures.some, c.requires.small)))

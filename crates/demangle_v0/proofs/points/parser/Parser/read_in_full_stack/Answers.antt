@@ -1,6 +1,6 @@
 use Rattle.std.proofs.Common.{refl, [], ◌∙◌, arith}
 use Rattle.demangle_v0.proofs.PointWholes.{valid_length, over_value, over_looks, failed_of, failed_value, failed_looks}
-use Rattle.demangle_v0.proofs.accept.read_rest.Goals as goal
+use Rattle.demangle_v0.proofs.points.parser.Parser.read_in_full_stack.Goals as goal
 
 pub returns-in-Over-clause-value : goal.returns-in-Over-clause-value
 returns-in-Over-clause-value c = c.place.ensures ∙ over_value (c.in-Over.ensures.reads [] c.args.few.now (rw (c.append.ensures, c.new-stack.ensures) refl) refl c.requires.inner)
