@@ -35,13 +35,13 @@ pub over_place : (b : List ℕ) (include_hash : Bool) (s : State) → (reading_r
 unfolding unit_rest_at stack_rest
 over_place b include_hash s = refl
 
-pub first_place : (b : List ℕ) (include_hash : Bool) (i : ℕ) → (reading_rest b include_hash false point.Path (first_state i) []).place ≡ unit_end b a_path i 0
+pub first_place : (b : List ℕ) (i : ℕ) → (reading_rest b true false point.Path (first_state i) []).place ≡ unit_end b a_path i 0
 unfolding unit_rest_at unit_end read_at
-first_place b include_hash i = ap (λ (h : Heard). h.place) (owed_alone b include_hash false point.Path (first_state i))
+first_place b i = ap (λ (h : Heard). h.place) (owed_alone b true false point.Path (first_state i))
 
-pub first_allowed : (b : List ℕ) (include_hash : Bool) (i : ℕ) → allowed_in (reading_rest b include_hash false point.Path (first_state i) []).events ≡ looks_in (read_at b false a_path i 0 0 true)
+pub first_allowed : (b : List ℕ) (i : ℕ) → allowed_in (reading_rest b true false point.Path (first_state i) []).events ≡ looks_in (read_at b false a_path i 0 0 true)
 unfolding unit_rest_at read_at
-first_allowed b include_hash i = ap (λ (h : Heard). allowed_in h.events) (owed_alone b include_hash false point.Path (first_state i)) ∙ allowed_looks include_hash false (level_of b (levels b max_depth) false a_path true 0 i).tree
+first_allowed b i = ap (λ (h : Heard). allowed_in h.events) (owed_alone b true false point.Path (first_state i)) ∙ allowed_looks true false (level_of b (levels b max_depth) false a_path true 0 i).tree
 
 -- What a silent reading tells of its place and its looks.
 

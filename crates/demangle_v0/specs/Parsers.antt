@@ -132,9 +132,9 @@ SkipsOver m k = (q : Bool) → m.point ≡ skip_point q → Skipped m.symbol.now
 abbrev pub SkipsFull : {N : ℕ} → Parser N → Left → Parser N → Type 0
 SkipsFull {N} m x k = SkipsTo m.symbol.now m.include_hash (reading_of m) m.stack m.looks x N (reading_of k) k.stack k.looks
 
--- the same, of what was left of it
-abbrev pub FinishesSkip : {N : ℕ} → ℕ → Reading → Parser N → Option Left → Parser N → Type 0
-FinishesSkip {N} base r m result k = Finishes m.symbol.now m.include_hash N (left.OwnPath base r) (reading_of m) m.stack m.looks result (reading_of k) k.stack k.looks
+-- the same, of what was left of it, if it was read so far
+abbrev pub FinishesSkip : {N : ℕ} → Parser N → Left → Option Left → Parser N → Type 0
+FinishesSkip {N} m x result k = Finishes m.symbol.now m.include_hash N x (reading_of m) m.stack m.looks result (reading_of k) k.stack k.looks
 
 abbrev pub printing_of : {N : ℕ} {S : Type 0} → Sinks S → Parser N → Env (SizeLimitedFmtAdapter S)
 printing_of sink m = printing sink m.symbol.now m.include_hash

@@ -12,6 +12,24 @@ use crate::points::parser::Parser;
 use crate::points::read::Halt;
 use demangle_symbol::cursor::{Looks, Symbol};
 
+impl Parser<'_, FULL_STACK> {
+    /// Reads the rest. Returns where it ends.
+    #[inline(always)]
+    fn read_to_end(&mut self) -> Option<usize>
+        requires valid { IsValid self.old }
+        requires inner { AllInner self.old.stack }
+        ensures value { result ≡ (unread_of self.old).place }
+        ensures looks { self.new.looks ≤ self.old.looks + allowed_in (unread_of self.old).events }
+        ensures grows { self.old.looks ≤ self.new.looks }
+    {
+        match self.read_steps(0) {
+            Halt::Over => self.place(),
+            // A stack with room for every frame is never full.
+            Halt::Full | Halt::Failed => None,
+        }
+    }
+}
+
 impl Parser<'_, MIDDLE_STACK> {
     /// Reads the rest in a stack with room for every frame. Returns where it ends.
     #[inline(never)]
@@ -23,13 +41,25 @@ impl Parser<'_, MIDDLE_STACK> {
         ensures grows { self.old.looks ≤ self.new.looks }
     {
         let mut parser: Parser<FULL_STACK> = self.with_room();
-        let end = match parser.read_steps(0) {
-            Halt::Over => parser.place(),
-            // A stack with room for every frame is never full.
-            Halt::Full | Halt::Failed => None,
-        };
+        let end = parser.read_to_end();
         self.looks = parser.looks;
         end
+    }
+
+    /// Reads the rest, in the largest stack if this one is full. Returns where it ends.
+    #[inline(always)]
+    fn read_to_end(&mut self) -> Option<usize>
+        requires valid { IsValid self.old }
+        requires inner { AllInner self.old.stack }
+        ensures value { result ≡ (unread_of self.old).place }
+        ensures looks { self.new.looks ≤ self.old.looks + allowed_in (unread_of self.old).events }
+        ensures grows { self.old.looks ≤ self.new.looks }
+    {
+        match self.read_steps(0) {
+            Halt::Over => self.place(),
+            Halt::Full => self.read_in_full_stack(),
+            Halt::Failed => None,
+        }
     }
 }
 
@@ -46,11 +76,7 @@ impl Parser<'_, SHORT_STACK> {
         ensures parser { Recounted self.old self.new }
     {
         let mut parser: Parser<MIDDLE_STACK> = self.with_room();
-        let end = match parser.read_steps(0) {
-            Halt::Over => parser.place(),
-            Halt::Full => parser.read_in_full_stack(),
-            Halt::Failed => None,
-        };
+        let end = parser.read_to_end();
         self.looks = parser.looks;
         end
     }
@@ -58,6 +84,7 @@ impl Parser<'_, SHORT_STACK> {
     /// Reads the path at a place, above no frames. Returns where it ends, and leaves no frames then.
     fn path_end(&mut self, place: usize) -> Option<usize>
         requires empty { self.old.stack ≡ [] }
+        requires hash { self.old.include_hash ≡ true }
         ensures value { result ≡ unit_end self.old.symbol.now a_path place 0 }
         ensures empty { IsSome result → self.new.stack ≡ [] }
         ensures grows { self.old.looks ≤ self.new.looks }
@@ -80,6 +107,7 @@ impl Parser<'_, SHORT_STACK> {
     /// Reads one path or two. Returns where the suffix after them begins.
     fn suffix(&mut self) -> Option<usize>
         requires empty { self.old.stack ≡ [] }
+        requires hash { self.old.include_hash ≡ true }
         ensures value { result ≡ suffix_place self.old.symbol.now }
         ensures grows { self.old.looks ≤ self.new.looks }
         ensures looks { self.new.looks + suffix_looks self.old.symbol.now result ≤ self.old.looks +

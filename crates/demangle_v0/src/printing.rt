@@ -81,10 +81,8 @@ impl<const N: usize> Parser<'_, N> {
             left_looks result self.new }
         ensures same { Same self.old self.new }
     {
-        if let Left::OwnPath(base, printing) = left {
-            if let Some(more) = self.finish_impl_path(base, printing) {
-                return Ok(Some(more));
-            }
+        if let Some(more) = self.finish_impl_path(left) {
+            return Ok(Some(more));
         }
         self.print_steps(out)
     }
@@ -111,6 +109,26 @@ impl Parser<'_, MIDDLE_STACK> {
         printed?;
         Ok(())
     }
+
+    /// Prints what is left, in the largest stack if this one is full.
+    #[inline(always)]
+    fn print_to_end<S: TextSink>(
+        &mut self,
+        left: Left,
+        out: &mut SizeLimitedFmtAdapter<'_, S>,
+    ) -> Result<(), SinkRefused>
+        requires ascii { IsAscii self.old.symbol.now }
+        requires ready { Ready S.TextSink out.old }
+        requires valid { LeftValid 0 (Ok (Some left)) self.old }
+        ensures ended { EndsPrinting S.TextSink self.old left out.old result self.new out.new }
+        ensures grows { self.old.looks ≤ self.new.looks }
+        ensures least { self.old.looks + left_looks (Ok (Some left)) self.old ≤ self.new.looks }
+    {
+        match self.print_unfinished(left, out)? {
+            None => Ok(()),
+            Some(left) => self.print_in_full_stack(left, out),
+        }
+    }
 }
 
 impl Parser<'_, SHORT_STACK> {
@@ -129,11 +147,7 @@ impl Parser<'_, SHORT_STACK> {
         ensures least { self.old.looks + left_looks (Ok (Some left)) self.old ≤ self.new.looks }
     {
         let mut parser: Parser<MIDDLE_STACK> = self.with_room();
-        let printed = match parser.print_unfinished(left, out) {
-            Ok(None) => Ok(()),
-            Ok(Some(left)) => parser.print_in_full_stack(left, out),
-            Err(refused) => Err(refused),
-        };
+        let printed = parser.print_to_end(left, out);
         self.looks = parser.looks;
         printed
     }

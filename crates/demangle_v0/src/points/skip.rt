@@ -1,7 +1,7 @@
 //! Impl paths, which are read and never printed.
-ghost use Rattle.std.specs.Prelude.{◌≡◌, ◌≤◌, Bool, Some, IfSome, IfNone};
+ghost use Rattle.std.specs.Prelude.{◌≡◌, ◌≤◌, true, Bool, Some, Ok, IfSome, IfNone};
 ghost use Rattle.demangle_v0.specs.Impls.{skip_point, self_point, is_skip};
-ghost use Rattle.demangle_v0.specs.Parsers.{FinishesSkip, IsValid, Same, SkipsFull, SkipsOver, checked_at, reading_of};
+ghost use Rattle.demangle_v0.specs.Parsers.{FinishesSkip, IsValid, LeftValid, Same, SkipsFull, SkipsOver, checked_at};
 ghost use Rattle.demangle_v0.specs.PointRuns.{state_at};
 
 use crate::points::parser::Parser;
@@ -47,18 +47,21 @@ impl<const N: usize> Parser<'_, N> {
         };
     }
 
-    /// Reads the rest of an impl path above the lowest `base` frames, and continues after it at the
-    /// checkpoint. Returns what is left to print if the stack is full before.
+    /// Reads the rest of an impl path, if one was read so far, and continues after it. Returns what
+    /// is left to print if the stack is full before.
     // It is not inlined, so that the loop of printing stays small.
     #[inline(never)]
-    pub(crate) fn finish_impl_path(&mut self, base: usize, printing: Reading) -> Option<Left>
-        requires valid { IsValid self.old }
-        ensures finishes { FinishesSkip base printing self.old result self.new }
+    pub(crate) fn finish_impl_path(&mut self, left: Left) -> Option<Left>
+        requires valid { LeftValid 0 (Ok (Some left)) self.old }
+        ensures finishes { FinishesSkip self.old left result self.new }
         ensures grows { self.old.looks ≤ self.new.looks }
         ensures same { Same self.old self.new }
     {
+        let Left::OwnPath(base, printing) = left else {
+            return None;
+        };
         match self.read_steps(base) {
-            Halt::Full => Some(Left::OwnPath(base, printing)),
+            Halt::Full => Some(left),
             Halt::Over => {
                 self.continue_after(printing, self.state.place);
                 None
@@ -89,6 +92,6 @@ impl<const N: usize> Parser<'_, N> {
         };
         self.point = Point::Path;
         self.state.in_value = false;
-        self.finish_impl_path(base, printing)
+        self.finish_impl_path(Left::OwnPath(base, printing))
     }
 }

@@ -1,6 +1,12 @@
-use Rattle.std.proofs.Common.{sym}
-use Rattle.demangle_v0.proofs.PointSkips.{own_reads}
+use Rattle.std.proofs.Common.{arith}
+use Rattle.demangle_v0.proofs.PointSkips.{skip_begins, skips_over, skips_full}
 use Rattle.demangle_v0.proofs.points.parser.Parser.skip_impl_path.Goals as goal
 
-pub returns-in_default-clause-behind : goal.returns-in_default-clause-behind
-returns-in_default-clause-behind g c = λ q e. c.in_default.ensures.behind c.args.stack.now q c.args.looks.now (own_reads c.args.symbol.now c.args.include_hash c.args.looks.now c.args.printing.now.state c.own_path-own.ensures) (sym c.len-base.ensures) e
+pub finish_impl_path-requires : goal.finish_impl_path-requires
+finish_impl_path-requires g c = (omega arith, skip_begins c.args.self.now _ c.requires.skipped c.len-base.ensures c.requires.valid)
+
+pub returns-clause-behind : goal.returns-clause-behind
+returns-clause-behind g c = skips_over c.args.self.now _ c.finish_impl_path.new.self _ c.len-base.ensures c.finish_impl_path.ensures.finishes
+
+pub returns-clause-midway : goal.returns-clause-midway
+returns-clause-midway g c = skips_full c.args.self.now _ c.finish_impl_path.new.self _ c.len-base.ensures c.finish_impl_path.ensures.finishes
