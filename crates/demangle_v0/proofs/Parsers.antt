@@ -5,8 +5,8 @@ use Rattle.demangle_grammar.specs.Items.{Items}
 use Rattle.demangle_words.specs.declared.output.Output.{Ghosts}
 use Rattle.demangle_words.specs.declared.stretch.Stretch.{Stretch}
 use Rattle.demangle_sink.specs.declared.SinkRefused.{SinkRefused}
-use Rattle.demangle_v0.specs.PointRuns.{Stepped}
-use Rattle.demangle_v0.specs.Parsers.{Same, DidRest, Did, Went as ParserWent, WentRest, WentSilent, unheard, env_of}
+use Rattle.demangle_v0.specs.PointRuns.{Stepped, ValidLeft}
+use Rattle.demangle_v0.specs.Parsers.{LeftValid, Same, DidRest, Did, Went as ParserWent, WentRest, WentSilent, unheard, env_of, reading_of}
 use Rattle.demangle_v0.specs.Points.{Comes, Does, Emits, Part, Turn, env, turn}
 use Rattle.demangle_v0.specs.declared.points.Point.{Point}
 use Rattle.demangle_v0.specs.declared.points.State.{State}
@@ -14,6 +14,7 @@ use Rattle.demangle_v0.specs.declared.points.Stop.{Stop}
 use Rattle.demangle_v0.specs.declared.points.Stop.TheVariants.{Refused, Fault}
 use Rattle.demangle_v0.specs.declared.points.frames.Frame.{Frame}
 use Rattle.demangle_v0.specs.declared.points.parser.Parser.{Parser}
+use Rattle.demangle_v0.specs.declared.printing.Left.{Left}
 
 -- What hands nothing over does the same with any output.
 
@@ -90,3 +91,7 @@ went_rest output v items words weight above {m} {k} {r} d = let x = d output.is_
 -- A step of a parser that was another before, whose input is the same.
 pub stepped_as : {N : ℕ} {V : Type 0} (output : Ghosts V) (m k : Parser N) {p : Point} {t u : Turn V} {r : Result Point SinkRefused} → Same m k → Stepped (env_of output k) p t r u → Stepped (env_of output m) p t r u
 stepped_as output m k (e, h) d = rw (← e, ← h) d
+
+-- What is left to print, of a parser whose input is the same.
+pub left_as : {N : ℕ} (n : ℕ) (m k : Parser N) (r : Result (Option Left) SinkRefused) → Same m k → ValidLeft m.symbol.now m.include_hash n r (reading_of k) k.stack k.looks → LeftValid n r k
+left_as n m k r (e, h) d = rw (e, h) d

@@ -5,12 +5,11 @@ ghost use Rattle.std.proofs.lemmas.List.{append-nil, append_assoc};
 ghost use Rattle.std.specs.Str.{IsAscii};
 ghost use Rattle.demangle_sink.specs.Array.{text_of};
 ghost use Rattle.demangle_sink.specs.Limit.{Prints, Ready};
-ghost use Rattle.demangle_v0.specs.PointRuns.{Valid};
+ghost use Rattle.demangle_v0.specs.Parsers.{IsValid, Same};
 
-use crate::points::frames::{FULL_STACK, FrameStack};
+use crate::points::frames::FULL_STACK;
 use crate::points::parser::Parser;
-use crate::points::read::Reading;
-use crate::points::skip::{is_skipped, skip};
+use crate::points::skip::is_skipped;
 use demangle_sink::{ArraySink, SinkRefused, SizeLimitedFmtAdapter, TextSink};
 use demangle_symbol::cursor::{Looks, Symbol};
 use demangle_words::output::Output;
@@ -130,25 +129,17 @@ fn is_of_one_step(stretches: usize, last: Stretch, added: &str, pieces: usize) -
     }
 }
 
-/// Whether the steps of a printing hand over at most one stretch each, and all of them this text.
+/// Returns whether the steps of a printing print at most one token each, and this text together.
 fn steps_print(inner: &str, include_hash: bool, wanted: &str) -> bool {
     let symbol = Symbol::new(inner);
     let mut looks = Looks::new();
     if !symbol.is_ascii(&mut looks) {
         return false;
     }
-    let mut stack: FrameStack<FULL_STACK> = FrameStack::new();
-    let mut reading = Reading::of_path(0);
+    let mut parser: Parser<FULL_STACK> = Parser::at_path(&symbol, include_hash, 0, &mut looks);
     let mut sink = CountingSink::new();
     for _ in 0..200_000 {
-        match goes_on(
-            &symbol,
-            include_hash,
-            &mut reading,
-            &mut stack,
-            &mut sink,
-            &mut looks,
-        ) {
+        match goes_on(&mut parser, &mut sink) {
             Some(false) => {}
             Some(true) => return sink.text.as_str() == wanted,
             None => return false,
@@ -157,34 +148,23 @@ fn steps_print(inner: &str, include_hash: bool, wanted: &str) -> bool {
     false
 }
 
-/// Does one step, or reads over the own path of an impl: whether nothing is left, if it was one
-/// step and was not refused.
-fn goes_on(
-    symbol: &Symbol<'_>,
-    include_hash: bool,
-    reading: &mut Reading,
-    stack: &mut FrameStack<FULL_STACK>,
-    sink: &mut CountingSink,
-    looks: &mut Looks,
-) -> Option<bool>
-    requires ascii { IsAscii symbol.now }
-    requires valid { Valid reading.old.point reading.old.state stack.old }
-    ensures valid { result ≡ Some false → Valid reading.new.point reading.new.state stack.new }
+/// Does one step, or skips an impl path. Returns whether nothing was left to print, or `None` if the
+/// step printed more than one token or failed.
+fn goes_on(parser: &mut Parser<'_, FULL_STACK>, sink: &mut CountingSink) -> Option<bool>
+    requires ascii { IsAscii parser.old.symbol.now }
+    requires valid { IsValid parser.old }
+    ensures valid { result ≡ Some false → IsValid parser.new }
+    ensures same { Same parser.old parser.new }
 {
-    if stack.len() >= FULL_STACK || sink.is_failed() {
+    if parser.stack.len() >= FULL_STACK || sink.is_failed() {
         return None;
     }
-    let mut parser = Parser::take(symbol, include_hash, reading, stack, looks);
-    let resumed = parser.resume(0, reading.point);
-    parser.give(reading, stack, looks);
-    let Some(at) = resumed else {
+    let Some(at) = parser.resume(0, parser.point) else {
         return Some(true);
     };
-    reading.point = at;
+    parser.point = at;
     if is_skipped(at) {
-        let base = stack.len();
-        let own = reading.own_path();
-        return match skip(symbol, include_hash, base, own, reading, stack, looks) {
+        return match parser.skip_impl_path() {
             None => Some(false),
             Some(_) => None,
         };
@@ -195,13 +175,10 @@ fn goes_on(
         stretches: 0,
         last: Stretch::Nothing,
     };
-    let mut parser = Parser::take(symbol, include_hash, reading, stack, looks);
-    let stepped = parser.step(at, &mut output);
-    parser.give(reading, stack, looks);
-    let Ok(next) = stepped else {
+    let Ok(next) = parser.step(at, &mut output) else {
         return None;
     };
-    reading.point = next;
+    parser.point = next;
     let (stretches, last) = (output.stretches, output.last);
     let added = sink.text.as_str().get(from..)?;
     if !is_of_one_step(stretches, last, added, sink.pieces.saturating_sub(pieces)) {

@@ -4,9 +4,8 @@ ghost use Rattle.demangle_sink.specs.Cut.{kept};
 ghost use Rattle.demangle_sink.specs.Limit.{Prints, Ready};
 ghost use Rattle.demangle_grammar.specs.Reading.{path_texts};
 
-use crate::points::frames::{FrameStack, SHORT_STACK};
-use crate::points::read::Reading;
-use crate::printing::{print_more, print_on};
+use crate::points::frames::SHORT_STACK;
+use crate::points::parser::Parser;
 use demangle_sink::{SinkRefused, SizeLimitedFmtAdapter, TextSink};
 use demangle_symbol::cursor::{Looks, Symbol};
 use std::marker::Model;
@@ -53,26 +52,9 @@ impl<'s> Demangle<'s> {
             out.old.remaining + 1) * (length self.now + 1) }
         ensures least { looks.old + 1 ≤ looks.new }
     {
-        let mut stack: FrameStack<SHORT_STACK> = FrameStack::new();
-        let mut reading = Reading::of_path(0);
-        match print_on(
-            &self.inner,
-            include_hash,
-            &mut reading,
-            &mut stack,
-            out,
-            looks,
-        )? {
-            None => Ok(()),
-            Some(left) => print_more(
-                &self.inner,
-                include_hash,
-                &stack,
-                &reading,
-                left,
-                out,
-                looks,
-            ),
-        }
+        let mut parser: Parser<SHORT_STACK> = Parser::at_path(&self.inner, include_hash, 0, looks);
+        let printed = parser.print_path(out);
+        *looks = parser.looks;
+        printed
     }
 }

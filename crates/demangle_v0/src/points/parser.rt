@@ -1,11 +1,10 @@
 //! The parser that points work on.
 ghost use Rattle.std.specs.Prelude.{◌≡◌, ◌+◌, ◌-◌, ◌<◌, ◌≤◌, ◌^◌, length, IfOk, IfErr};
-ghost use Rattle.demangle_v0.specs.Parsers.{deeper, marked, pushed, reading_of, shut};
+ghost use Rattle.demangle_v0.specs.Parsers.{deeper, looked, marked, path_parser, pushed, roomy, shut};
 ghost use Rattle.demangle_v0.specs.Points.{frame_at, frame_of};
 ghost use Rattle.demangle_v0.specs.declared.points.Stop.TheVariants.{Fault};
 
 use crate::points::frames::{Frame, FrameStack};
-use crate::points::read::Reading;
 use crate::points::{Point, State, Stop};
 use demangle_symbol::cursor::{Looks, Symbol};
 use demangle_words::texts::Mark;
@@ -24,49 +23,45 @@ pub struct Parser<'m, const N: usize> {
 }
 
 impl<'m, const N: usize> Parser<'m, N> {
-    /// The parser of a reading, whose frames and looks it takes.
+    /// Returns a parser of the path at a place, with no frames. Moves the count out of `looks`.
     #[inline(always)]
-    pub(crate) fn take(
+    pub(crate) fn at_path(
         symbol: &'m Symbol<'m>,
         include_hash: bool,
-        reading: &Reading,
-        stack: &mut FrameStack<N>,
+        place: usize,
         looks: &mut Looks,
     ) -> Self
         ensures symbol { result.symbol.now ≡ symbol.now }
-        ensures include_hash { result.include_hash ≡ include_hash }
-        ensures point { result.point ≡ reading.now.point }
-        ensures state { result.state ≡ reading.now.state }
-        ensures stack { result.stack ≡ stack.old }
-        ensures looks { result.looks ≡ looks.old }
+        ensures parser { result ≡ path_parser result include_hash place looks.old }
     {
         Parser {
             symbol,
             include_hash,
-            point: reading.point,
-            state: reading.state,
-            stack: mem::replace(stack, FrameStack::new()),
+            point: Point::Path,
+            state: State::at_path(place),
+            stack: FrameStack::new(),
             looks: mem::replace(looks, Looks::new()),
         }
     }
 
-    /// Gives them back.
+    /// Returns a parser with the same frames, which continues where this one is, and has room for
+    /// `M` frames. Moves the count of looks into it.
     #[inline(always)]
-    pub(crate) fn give(self, reading: &mut Reading, stack: &mut FrameStack<N>, looks: &mut Looks)
-        ensures reading { reading.new ≡ reading_of self.entry }
-        ensures stack { stack.new ≡ self.entry.stack }
-        ensures looks { looks.new ≡ self.entry.looks }
+    pub(crate) fn with_room<const M: usize>(&mut self) -> Parser<'m, M>
+        requires room { N ≤ M }
+        ensures larger { result ≡ roomy self.old }
+        ensures counted { self.new ≡ looked self.old 0 }
     {
-        let Parser {
-            point,
-            state,
-            stack: frames,
-            looks: count,
-            ..
-        } = self;
-        *reading = Reading { point, state };
-        *stack = frames;
-        *looks = count;
+        let mut stack = FrameStack::new();
+        stack.append(&self.stack);
+        Parser {
+            symbol: self.symbol,
+            include_hash: self.include_hash,
+            point: self.point,
+            state: self.state,
+            stack,
+            looks: mem::replace(&mut self.looks, Looks::new()),
+        }
     }
 }
 

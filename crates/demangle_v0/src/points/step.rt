@@ -28,7 +28,7 @@ impl State {
 impl<const N: usize> Parser<'_, N> {
     /// Hands over the mark that a point left, if there is one.
     #[inline(always)]
-    fn put_mark<V: Output>(&mut self, output: &mut V) -> Result<(), SinkRefused>
+    fn flush_pending_text<V: Output>(&mut self, output: &mut V) -> Result<(), SinkRefused>
         requires ascii { V.is_printed ≡ true → IsAscii self.old.symbol.now }
         requires ready { V.ready output.old }
         ensures put { Puts V.Output self.old.state.mark output.old result output.new }
@@ -75,7 +75,7 @@ impl<const N: usize> Parser<'_, N> {
     {
         match self.dispatch(point, output) {
             Ok(next) => {
-                self.put_mark(output)?;
+                self.flush_pending_text(output)?;
                 Ok(next)
             }
             Err(Stop::Fault(fault)) => {

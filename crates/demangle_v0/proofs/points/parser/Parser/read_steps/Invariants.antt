@@ -3,7 +3,7 @@ use Rattle.demangle_v0.specs.Parsers.{Same}
 use Rattle.demangle_v0.specs.Points.{AllInner, measure}
 use Rattle.demangle_v0.specs.PointRuns.{Valid, Reads, silently, silent_turn}
 use Rattle.demangle_v0.specs.declared.points.frames.Frame.{Frame}
-use Rattle.demangle_v0.proofs.points.parser.Parser.read_on.Given as goal
+use Rattle.demangle_v0.proofs.points.parser.Parser.read_steps.Given as goal
 
 abbrev pub invariant-steps : goal.invariant-steps
 invariant-steps g l = record {

@@ -3,7 +3,7 @@ use Rattle.demangle_sink.specs.Limit.{Ready}
 use Rattle.demangle_v0.specs.Parsers.{Same, turn_of}
 use Rattle.demangle_v0.specs.Points.{measure}
 use Rattle.demangle_v0.specs.PointRuns.{Valid, Ran, first_looks, printing}
-use Rattle.demangle_v0.proofs.points.parser.Parser.print_on.Given as goal
+use Rattle.demangle_v0.proofs.points.parser.Parser.print_steps.Given as goal
 
 abbrev pub invariant-steps : goal.invariant-steps
 invariant-steps g l = record {

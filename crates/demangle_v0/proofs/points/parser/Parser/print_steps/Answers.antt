@@ -1,19 +1,18 @@
 use Rattle.std.proofs.Common.{arith, refl, sym, ◌∙◌}
 use Rattle.demangle_v0.specs.Parsers.{Same}
 use Rattle.demangle_v0.specs.PointRuns.{printing}
-use Rattle.demangle_v0.proofs.Parsers.{stepped_as}
+use Rattle.demangle_v0.proofs.Parsers.{left_as, stepped_as}
 use Rattle.demangle_v0.proofs.PointRuns.{valid_resumes, resumes_length, valid_steps, turn_less, first_resumes, ran_then, ran_resumes, ran_turn, ran_broke}
 use Rattle.demangle_v0.proofs.PointPrints.{ran_fail, ran_left, ran_skips}
 use Rattle.demangle_v0.proofs.PointSkips.{skip_is, skip_unread, skipped_valid, skipped_less, skips_valid}
-use Rattle.demangle_v0.proofs.points.parser.Parser.print_on.Goals as goal
+use Rattle.demangle_v0.proofs.points.parser.Parser.print_steps.Goals as goal
 
-pub skip_own-skipped-requires : goal.skip_own-skipped-requires
-skip_own-skipped-requires g c = (omega arith, (sym c.is_skipped.ensures ∙ c.if-is_skipped.true, (valid_resumes c.steps.invariant.valid c.in-Some.ensures.some, c.requires.small)))
+pub skip_impl_path-skipped-requires : goal.skip_impl_path-skipped-requires
+skip_impl_path-skipped-requires g c = (omega arith, (sym c.is_skipped.ensures ∙ c.if-is_skipped.true, valid_resumes c.steps.invariant.valid c.in-Some.ensures.some))
 
 pub returns-in-Some-skipped-clause-valid : goal.returns-in-Some-skipped-clause-valid
 returns-in-Some-skipped-clause-valid g c =
-    let same : Same c.args.self.now c.resume.new.self = (c.in-Some.ensures.same.0 ∙ c.steps.invariant.same.0, c.in-Some.ensures.same.1 ∙ c.steps.invariant.same.1) in
-    skips_valid (sym c.is_skipped.ensures ∙ c.if-is_skipped.true) (valid_resumes c.steps.invariant.valid c.in-Some.ensures.some) (rw (same.0, same.1, c.in-Some.ensures.looks) at c.in-Some-skipped.ensures.midway)
+    left_as g.row.N c.resume.new.self _ _ c.in-Some-skipped.ensures.same (skips_valid (sym c.is_skipped.ensures ∙ c.if-is_skipped.true) (valid_resumes c.steps.invariant.valid c.in-Some.ensures.some) c.in-Some-skipped.ensures.midway)
 
 pub returns-in-Some-skipped-clause-ran : goal.returns-in-Some-skipped-clause-ran
 returns-in-Some-skipped-clause-ran g c =

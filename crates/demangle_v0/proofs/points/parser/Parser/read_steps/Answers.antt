@@ -3,7 +3,7 @@ use Rattle.std.proofs.lemmas.Bool.{false≢true}
 use Rattle.demangle_v0.specs.PointRuns.{silently}
 use Rattle.demangle_v0.proofs.Parsers.{stepped_as}
 use Rattle.demangle_v0.proofs.PointRuns.{valid_resumes, resumes_length, valid_steps, turn_less, reads_turn, reads_fail}
-use Rattle.demangle_v0.proofs.points.parser.Parser.read_on.Goals as goal
+use Rattle.demangle_v0.proofs.points.parser.Parser.read_steps.Goals as goal
 
 pub step-requires : goal.step-requires
 step-requires g c =
