@@ -29,7 +29,7 @@ returns-in_err-name g c =
       did = record {
         does = rw (stops_none c.from_residual-in_err-name.result c.from_residual-in_err-name.ensures.1 c.in_err-name.ensures.value c.in_err-name.ensures.ok_part)
             (group_faults (crate_group b at) (omega (arith, named_few b at CrateName)) ended _ (crate_heard (env_of g.V.Output c.args.self.now) c.args.self.now.state at c.in_ok-at.ensures.ok) (named.none CrateName)
-                (record { grows = omega arith; within = omega (arith, named.looks CrateName) }) (named_at _ b at CrateName c.in_ok-at.ensures.ok (omega (arith, named.looks CrateName))) c.requires.may.unmarked (omega arith));
+            (record { grows = omega arith; within = omega (arith, named.looks CrateName) }) (named_at _ b at CrateName c.in_ok-at.ensures.ok (omega (arith, named.looks CrateName))) c.requires.may.unmarked (omega arith));
         same = (refl, refl);
       };
     }
@@ -44,7 +44,7 @@ returns-in_err-emit g c =
       did = rw e.parser (record {
         does = rw (stops c.from_residual-in_err-emit.result c.from_residual-in_err-emit.ensures.1 refl)
             (group_halts (crate_group b at) (omega (arith, named_few b at CrateName)) ended _ _ (crate_heard (env_of g.V.Output c.args.self.now) c.args.self.now.state at c.in_ok-at.ensures.ok) (named.some CrateName)
-                (record { grows = omega (arith, e.grows); within = omega (arith, named.looks CrateName, e.most) }) (named_at _ b at CrateName c.in_ok-at.ensures.ok (omega (arith, named.looks CrateName, e.most))) e.prints e.quiet);
+            (record { grows = omega (arith, e.grows); within = omega (arith, named.looks CrateName, e.most) }) (named_at _ b at CrateName c.in_ok-at.ensures.ok (omega (arith, named.looks CrateName, e.most))) e.prints e.quiet);
         same = (refl, refl);
       });
     }

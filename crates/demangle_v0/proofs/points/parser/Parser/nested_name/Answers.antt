@@ -20,7 +20,7 @@ returns-in_err-ident g c =
       did = record {
         does = rw (stops_none c.from_residual.result c.from_residual.ensures.1 c.in_err-ident.ensures.value c.in_err-ident.ensures.ok_part)
             (group_faults (nested_group b s.letter at) (omega (arith, named_few b at (λ a d. NestedName s.letter d a))) ended _ (nested_heard (env_of g.V.Output c.args.self.now) s at c.in-Some.is) (named.none (λ a d. NestedName s.letter d a))
-                (record { grows = omega arith; within = omega (arith, named.looks (λ a d. NestedName s.letter d a)) }) (named_at _ b at (λ a d. NestedName s.letter d a) c.in-Some.is (omega (arith, named.looks (λ a d. NestedName s.letter d a)))) c.requires.may.unmarked (omega arith));
+            (record { grows = omega arith; within = omega (arith, named.looks (λ a d. NestedName s.letter d a)) }) (named_at _ b at (λ a d. NestedName s.letter d a) c.in-Some.is (omega (arith, named.looks (λ a d. NestedName s.letter d a)))) c.requires.may.unmarked (omega arith));
         same = (refl, refl);
       };
     }
@@ -36,7 +36,7 @@ returns-in_err-emit g c =
       did = rw e.parser (record {
         does = rw (stops c.from_residual-in_err-emit.result c.from_residual-in_err-emit.ensures.1 refl)
             (group_halts (nested_group b s.letter at) (omega (arith, named_few b at (λ a d. NestedName s.letter d a))) ended _ _ (nested_heard (env_of g.V.Output c.args.self.now) s at c.in-Some.is) (named.some (λ a d. NestedName s.letter d a))
-                (record { grows = omega (arith, e.grows); within = omega (arith, named.looks (λ a d. NestedName s.letter d a), e.most) }) (named_at _ b at (λ a d. NestedName s.letter d a) c.in-Some.is (omega (arith, named.looks (λ a d. NestedName s.letter d a), e.most))) e.prints e.quiet);
+            (record { grows = omega (arith, e.grows); within = omega (arith, named.looks (λ a d. NestedName s.letter d a), e.most) }) (named_at _ b at (λ a d. NestedName s.letter d a) c.in-Some.is (omega (arith, named.looks (λ a d. NestedName s.letter d a), e.most))) e.prints e.quiet);
         same = (refl, refl);
       });
     }
