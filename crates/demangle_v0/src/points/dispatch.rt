@@ -1,4 +1,4 @@
-//! What each resume point does.
+//! Which method performs each continuation.
 ghost use Rattle.std.specs.Prelude.{◌≡◌, ◌+◌, ◌≤◌, true, false};
 ghost use Rattle.demangle_v0.specs.Impls.{is_skip};
 ghost use Rattle.demangle_v0.specs.Parsers.{Did, May};
@@ -13,7 +13,9 @@ use demangle_words::output::Output;
 use demangle_words::texts::Word;
 
 impl<const N: usize> Parser<'_, N> {
-    /// What a point does.
+    /// Performs a continuation, and returns the one to run next.
+    ///
+    /// An impl's own path is only read here if nothing is printed.
     #[inline(always)]
     pub(super) fn dispatch<V: Output>(
         &mut self,

@@ -1,4 +1,4 @@
-//! Points that do no more than leave a mark.
+//! Continuations that do nothing but queue a fixed text.
 ghost use Rattle.std.specs.Prelude.{◌≡◌, Ok, IsSome};
 ghost use Rattle.demangle_v0.specs.Marks.{left_at};
 ghost use Rattle.demangle_v0.specs.Parsers.{Went};
@@ -8,15 +8,18 @@ use crate::points::Point;
 use crate::points::parser::Parser;
 use demangle_words::texts::Mark;
 
-/// The mark that a point leaves, where it goes on, and whether that stands in value position.
+/// What such a continuation does.
 #[derive(Clone, Copy)]
 pub struct Left {
+    /// The text that it queues.
     mark: Mark,
+    /// The continuation to run next.
     next: Point,
+    /// Whether that is in value position.
     in_value: bool,
 }
 
-/// What a point leaves that does no more.
+/// Returns what `point` does, or `None` if it does more than queue a fixed text.
 #[inline(always)]
 fn left_at(point: Point) -> Option<Left>
     ensures { result ≡ left_at point }

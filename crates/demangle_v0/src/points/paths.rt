@@ -1,4 +1,4 @@
-//! The points of paths.
+//! Paths.
 ghost use Rattle.std.specs.Prelude.{◌+◌, ◌≤◌, Ok};
 ghost use Rattle.demangle_v0.specs.Parsers.{Did, DidRest, May, MayGo, WentRest};
 ghost use Rattle.demangle_v0.specs.PointContracts.{nested_path};
@@ -13,7 +13,7 @@ use demangle_words::tags::{PathKind, path_kind};
 use demangle_words::texts::Mark;
 
 impl<const N: usize> Parser<'_, N> {
-    /// A path of names, behind its `N`.
+    /// Reads the namespace of a nested path after its `N`, and starts the path before the name.
     #[inline(always)]
     fn nested_path(&mut self) -> Result<Point, Stop>
         requires may { MayGo Point.Nested self.old }
@@ -26,7 +26,7 @@ impl<const N: usize> Parser<'_, N> {
         Ok(Point::Path)
     }
 
-    /// A path with arguments, behind its `I`.
+    /// Starts the path that has generic arguments, after its `I`.
     #[inline(always)]
     fn generic_path(&mut self) -> Point
         requires may { MayGo Point.Generic self.old }
@@ -37,7 +37,7 @@ impl<const N: usize> Parser<'_, N> {
         Point::Path
     }
 
-    /// A path, behind its tag.
+    /// Starts a path after its tag. It fails if no path has this tag.
     #[inline(always)]
     fn tagged_path<V: Output>(&mut self, tag: u8, output: &mut V) -> Result<Point, Stop>
         requires may { May V.Output Point.Path self.old output.old }
@@ -56,7 +56,7 @@ impl<const N: usize> Parser<'_, N> {
         }
     }
 
-    /// A path.
+    /// Reads the tag of a path, and starts the path one level deeper.
     #[inline(always)]
     pub(super) fn path<V: Output>(&mut self, output: &mut V) -> Result<Point, Stop>
         requires may { May V.Output Point.Path self.old output.old }
@@ -64,8 +64,8 @@ impl<const N: usize> Parser<'_, N> {
         ensures least { self.old.looks + first_looks Point.Path self.old.state ≤ self.new.looks }
     {
         let at = self.state.at()?;
-        // Of a path the depth is tested before its tag is looked at, of a type or a constant behind
-        // it: in this order the Rust crate reports, where both fail.
+        // The depth is tested before the tag here, and after it for a type or a constant. The Rust
+        // crate reports errors in this order.
         self.enter()?;
         let (tag, next) = self.symbol.tag(at, &mut self.looks)?;
         self.state.place = Some(next);

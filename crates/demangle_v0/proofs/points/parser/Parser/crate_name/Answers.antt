@@ -15,7 +15,8 @@ pub returns-in_err-at : goal.returns-in_err-at
 unfolding run
 returns-in_err-at g c = record {
   did = record {
-    does = rw (stops c.from_residual.result c.from_residual.ensures.1 c.in_err-at.ensures.failed.1) (unread c.requires.may.unmarked (rw c.in_err-at.ensures.failed.0 refl) (omega arith));
+    does = rw (stops c.from_residual.result c.from_residual.ensures.1 c.in_err-at.ensures.failed.1)
+        (unread c.requires.may.unmarked (rw c.in_err-at.ensures.failed.0 refl) (omega arith));
     same = (refl, refl);
   };
 }
@@ -27,9 +28,13 @@ returns-in_err-name g c =
     let at = c.in_ok-at.at in
     record {
       did = record {
-        does = rw (stops_none c.from_residual-in_err-name.result c.from_residual-in_err-name.ensures.1 c.in_err-name.ensures.value c.in_err-name.ensures.ok_part)
-            (group_faults (crate_group b at) (omega (arith, named_few b at CrateName)) ended _ (crate_heard (env_of g.V.Output c.args.self.now) c.args.self.now.state at c.in_ok-at.ensures.ok) (named.none CrateName)
-                (record { grows = omega arith; within = omega (arith, named.looks CrateName) }) (named_at _ b at CrateName c.in_ok-at.ensures.ok (omega (arith, named.looks CrateName))) c.requires.may.unmarked (omega arith));
+        does = rw (stops_none c.from_residual-in_err-name.result c.from_residual-in_err-name.ensures.1
+            c.in_err-name.ensures.value c.in_err-name.ensures.ok_part)
+            (group_faults (crate_group b at) (omega (arith, named_few b at CrateName)) ended _
+            (crate_heard (env_of g.V.Output c.args.self.now) c.args.self.now.state at c.in_ok-at.ensures.ok)
+            (named.none CrateName)
+            (record { grows = omega arith; within = omega (arith, named.looks CrateName) }) (named_at _ b at CrateName
+            c.in_ok-at.ensures.ok (omega (arith, named.looks CrateName))) c.requires.may.unmarked (omega arith));
         same = (refl, refl);
       };
     }
@@ -43,8 +48,12 @@ returns-in_err-emit g c =
     record {
       did = rw e.parser (record {
         does = rw (stops c.from_residual-in_err-emit.result c.from_residual-in_err-emit.ensures.1 refl)
-            (group_halts (crate_group b at) (omega (arith, named_few b at CrateName)) ended _ _ (crate_heard (env_of g.V.Output c.args.self.now) c.args.self.now.state at c.in_ok-at.ensures.ok) (named.some CrateName)
-                (record { grows = omega (arith, e.grows); within = omega (arith, named.looks CrateName, e.most) }) (named_at _ b at CrateName c.in_ok-at.ensures.ok (omega (arith, named.looks CrateName, e.most))) e.prints e.quiet);
+            (group_halts (crate_group b at) (omega (arith, named_few b at CrateName)) ended _ _
+            (crate_heard (env_of g.V.Output c.args.self.now) c.args.self.now.state at c.in_ok-at.ensures.ok)
+            (named.some CrateName)
+            (record { grows = omega (arith, e.grows); within = omega (arith, named.looks CrateName, e.most) })
+            (named_at _ b at CrateName c.in_ok-at.ensures.ok (omega (arith, named.looks CrateName, e.most)))
+            e.prints e.quiet);
         same = (refl, refl);
       });
     }
@@ -58,8 +67,11 @@ returns g c =
     let e = c.in_ok-emit.ensures in
     record {
       did = rw e.parser (record {
-        does = group_tells point.End (crate_group b at) (omega (arith, named_few b at CrateName)) ended _ _ (crate_heard (env_of g.V.Output c.args.self.now) c.args.self.now.state at c.in_ok-at.ensures.ok) (named.some CrateName)
-            (record { grows = omega (arith, e.grows); within = omega (arith, named.looks CrateName, e.most) }) (named_at _ b at CrateName c.in_ok-at.ensures.ok (omega (arith, named.looks CrateName, e.most)))
+        does = group_tells point.End (crate_group b at) (omega (arith, named_few b at CrateName)) ended _ _
+            (crate_heard (env_of g.V.Output c.args.self.now) c.args.self.now.state at c.in_ok-at.ensures.ok)
+            (named.some CrateName)
+            (record { grows = omega (arith, e.grows); within = omega (arith, named.looks CrateName, e.most) })
+            (named_at _ b at CrateName c.in_ok-at.ensures.ok (omega (arith, named.looks CrateName, e.most)))
             e.prints e.ready c.requires.may.unmarked refl (omega arith) (omega arith) tt;
         same = (refl, refl);
       });

@@ -8,7 +8,8 @@ returns-in_err-emit_name_after_error g c =
     let e = c.in_err-emit_name_after_error.ensures in
     record {
       did = rw e.parser (record {
-        does = rw (stops c.from_residual.result c.from_residual.ensures.1 refl) (name_unread_refused c.requires.failed (record { grows = e.grows; within = omega (arith, e.most) }) e.prints);
+        does = rw (stops c.from_residual.result c.from_residual.ensures.1 refl) (name_unread_refused c.requires.failed
+            (record { grows = e.grows; within = omega (arith, e.most) }) e.prints);
         same = (refl, refl);
       });
     }
@@ -16,4 +17,10 @@ returns-in_err-emit_name_after_error g c =
 pub returns : goal.returns
 returns g c =
     let e = c.in_ok-emit_name_after_error.ensures in
-    record { did = rw e.parser (record { does = name_unread c.requires.failed (record { grows = e.grows; within = omega (arith, e.most) }) e.prints e.ready c.requires.may.unmarked; same = (refl, refl) }) }
+    record {
+      did = rw e.parser (record {
+        does = name_unread c.requires.failed
+            (record { grows = e.grows; within = omega (arith, e.most) }) e.prints e.ready c.requires.may.unmarked;
+        same = (refl, refl);
+      });
+    }

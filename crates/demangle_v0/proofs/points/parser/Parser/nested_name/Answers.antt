@@ -18,9 +18,17 @@ returns-in_err-ident g c =
     let s = c.args.self.now.state in
     record {
       did = record {
-        does = rw (stops_none c.from_residual.result c.from_residual.ensures.1 c.in_err-ident.ensures.value c.in_err-ident.ensures.ok_part)
-            (group_faults (nested_group b s.letter at) (omega (arith, named_few b at (λ a d. NestedName s.letter d a))) ended _ (nested_heard (env_of g.V.Output c.args.self.now) s at c.in-Some.is) (named.none (λ a d. NestedName s.letter d a))
-                (record { grows = omega arith; within = omega (arith, named.looks (λ a d. NestedName s.letter d a)) }) (named_at _ b at (λ a d. NestedName s.letter d a) c.in-Some.is (omega (arith, named.looks (λ a d. NestedName s.letter d a)))) c.requires.may.unmarked (omega arith));
+        does = rw (stops_none c.from_residual.result c.from_residual.ensures.1 c.in_err-ident.ensures.value
+            c.in_err-ident.ensures.ok_part)
+            (group_faults (nested_group b s.letter at) (omega (
+              arith,
+              named_few b at (λ a d. NestedName s.letter d
+                  a),
+            )) ended _ (nested_heard (env_of g.V.Output c.args.self.now) s at c.in-Some.is)
+            (named.none (λ a d. NestedName s.letter d a))
+            (record { grows = omega arith; within = omega (arith, named.looks (λ a d. NestedName s.letter d a)) })
+            (named_at _ b at (λ a d. NestedName s.letter d a) c.in-Some.is
+            (omega (arith, named.looks (λ a d. NestedName s.letter d a)))) c.requires.may.unmarked (omega arith));
         same = (refl, refl);
       };
     }
@@ -35,8 +43,19 @@ returns-in_err-emit g c =
     record {
       did = rw e.parser (record {
         does = rw (stops c.from_residual-in_err-emit.result c.from_residual-in_err-emit.ensures.1 refl)
-            (group_halts (nested_group b s.letter at) (omega (arith, named_few b at (λ a d. NestedName s.letter d a))) ended _ _ (nested_heard (env_of g.V.Output c.args.self.now) s at c.in-Some.is) (named.some (λ a d. NestedName s.letter d a))
-                (record { grows = omega (arith, e.grows); within = omega (arith, named.looks (λ a d. NestedName s.letter d a), e.most) }) (named_at _ b at (λ a d. NestedName s.letter d a) c.in-Some.is (omega (arith, named.looks (λ a d. NestedName s.letter d a), e.most))) e.prints e.quiet);
+            (group_halts (nested_group b s.letter at) (omega (arith, named_few b at (λ a d. NestedName s.letter d a)))
+            ended _ _ (nested_heard (env_of g.V.Output c.args.self.now) s at c.in-Some.is)
+            (named.some (λ a d. NestedName s.letter d a))
+            (record {
+              grows = omega (arith, e.grows);
+              within = omega (
+                arith,
+                named.looks (λ a d. NestedName s.letter d
+                    a),
+                e.most,
+              );
+            }) (named_at _ b at (λ a d. NestedName s.letter d a) c.in-Some.is
+            (omega (arith, named.looks (λ a d. NestedName s.letter d a), e.most))) e.prints e.quiet);
         same = (refl, refl);
       });
     }
@@ -51,8 +70,22 @@ returns g c =
     let e = c.in_ok-emit.ensures in
     record {
       did = rw e.parser (record {
-        does = group_tells point.End (nested_group b s.letter at) (omega (arith, named_few b at (λ a d. NestedName s.letter d a))) ended _ _ (nested_heard (env_of g.V.Output c.args.self.now) s at c.in-Some.is) (named.some (λ a d. NestedName s.letter d a))
-            (record { grows = omega (arith, e.grows); within = omega (arith, named.looks (λ a d. NestedName s.letter d a), e.most) }) (named_at _ b at (λ a d. NestedName s.letter d a) c.in-Some.is (omega (arith, named.looks (λ a d. NestedName s.letter d a), e.most)))
+        does = group_tells point.End (nested_group b s.letter at) (omega (
+          arith,
+          named_few b at (λ a d. NestedName
+              s.letter d a),
+        )) ended _ _ (nested_heard (env_of g.V.Output c.args.self.now) s at c.in-Some.is)
+            (named.some (λ a d. NestedName s.letter d a))
+            (record {
+              grows = omega (arith, e.grows);
+              within = omega (
+                arith,
+                named.looks (λ a d. NestedName s.letter d
+                    a),
+                e.most,
+              );
+            }) (named_at _ b at (λ a d. NestedName s.letter d a) c.in-Some.is
+            (omega (arith, named.looks (λ a d. NestedName s.letter d a), e.most)))
             e.prints e.ready c.requires.may.unmarked refl (omega arith) (omega arith) tt;
         same = (refl, refl);
       });
