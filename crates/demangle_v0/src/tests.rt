@@ -1,4 +1,4 @@
-//! What is handed over, step by step.
+//! What each step prints.
 ghost use Rattle.std.specs.Prelude.{◌≡◌, ◌-◌, ◌++◌, length, Some, true, false};
 ghost use Rattle.std.proofs.Common.{sym, ap, ◌∙◌};
 ghost use Rattle.std.proofs.lemmas.List.{append-nil, append_assoc};
@@ -19,7 +19,7 @@ use std::test::Fail;
 
 mod rows;
 
-/// Keeps the text that it took, and counts the nonempty pieces.
+/// Keeps the text that it took, and counts the pieces that are not empty.
 #[derive(Drop)]
 struct CountingSink {
     text: ArraySink<131072>,
@@ -62,7 +62,7 @@ impl TextSink for CountingSink {
     ghost took_joined = { λ s t u xs ys h k. k ∙ (ap (λ z. z ++ ys) h ∙ append_assoc (text_of s.text) xs ys) };
 }
 
-/// Prints into a counting sink, and counts the stretches that are something.
+/// Prints into a counting sink, and counts the tokens that are not empty.
 #[derive(Drop)]
 struct CountingVoice<'s> {
     out: SizeLimitedFmtAdapter<'s, CountingSink>,
@@ -71,7 +71,7 @@ struct CountingVoice<'s> {
 }
 
 impl<'s> CountingVoice<'s> {
-    /// Counts a stretch that is handed over.
+    /// Counts a token.
     fn count(&mut self, stretch: &Stretch)
         ensures same { self.new.out ≡ self.old.out }
     {
@@ -116,8 +116,8 @@ impl<'s> Output for CountingVoice<'s> {
     }
 }
 
-/// Whether a step that handed over so many stretches, the last of them this one, may have added
-/// this text in so many nonempty pieces.
+/// Returns whether a step that printed that many tokens, the last of them this one, may have added
+/// this text in that many pieces that are not empty.
 fn is_of_one_step(stretches: usize, last: Stretch, added: &str, pieces: usize) -> bool {
     if stretches > 1 {
         return false;
@@ -187,7 +187,7 @@ fn goes_on(parser: &mut Parser<'_, FULL_STACK>, sink: &mut CountingSink) -> Opti
     Some(false)
 }
 
-/// Whether the steps print each of these symbols so, in both forms.
+/// Returns whether the steps print each of these symbols so, in both forms.
 fn all_step(rows: &[(&str, &str, &str)]) -> bool {
     for &(inner, include_hash, alt) in rows {
         if !steps_print(inner, true, include_hash) || !steps_print(inner, false, alt) {

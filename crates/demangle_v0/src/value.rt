@@ -10,7 +10,7 @@ use demangle_sink::{SinkRefused, SizeLimitedFmtAdapter, TextSink};
 use demangle_symbol::cursor::{Looks, Symbol};
 use std::marker::Model;
 
-/// A v0 symbol that was read: the bytes behind its prefix, with the suffix.
+/// A v0 symbol that was read: the bytes after its prefix, with the suffix.
 #[derive(Drop)]
 pub struct Demangle<'s> {
     inner: Symbol<'s>,
@@ -27,7 +27,7 @@ impl<'s> Model for Demangle<'s> {
 }
 
 impl<'s> Demangle<'s> {
-    /// A symbol that is spelled, of ASCII alone.
+    /// Returns the symbol with these bytes, which are ASCII.
     pub(super) fn new(inner: Symbol<'s>) -> Demangle<'s>
         requires { IsAscii inner }
         ensures { result ≡ inner.entry }
@@ -37,7 +37,7 @@ impl<'s> Demangle<'s> {
 
     /// Prints the first path, with the hash or without it.
     ///
-    /// It ends at the piece that the limit or the sink refuses.
+    /// Fails at the first piece that the limit or the sink refuses.
     pub fn write_to<S: TextSink>(
         &self,
         out: &mut SizeLimitedFmtAdapter<'_, S>,

@@ -1,4 +1,4 @@
-//! The parser that points work on.
+//! The parser, and what its methods share.
 ghost use Rattle.std.specs.Prelude.{◌≡◌, ◌+◌, ◌-◌, ◌<◌, ◌≤◌, ◌^◌, length, IfOk, IfErr};
 ghost use Rattle.demangle_v0.specs.Parsers.{deeper, looked, marked, path_parser, pushed, roomy, shut};
 ghost use Rattle.demangle_v0.specs.Points.{frame_at, frame_of};
@@ -10,8 +10,8 @@ use demangle_symbol::cursor::{Looks, Symbol};
 use demangle_words::texts::Mark;
 use std::mem;
 
-/// What a reading needs but an output: the symbol, where it stands, and the frames with which it
-/// goes on.
+/// A parse of a symbol: what is next, and the frames with which it continues after that. The output
+/// is a parameter of the methods that print.
 #[derive(Drop)]
 pub struct Parser<'m, const N: usize> {
     pub symbol: &'m Symbol<'m>,
@@ -66,7 +66,7 @@ impl<'m, const N: usize> Parser<'m, N> {
 }
 
 impl<const N: usize> Parser<'_, N> {
-    /// Goes on at a point once what is read next is over.
+    /// Pushes a frame with which the parser continues after what is read next.
     #[inline(always)]
     pub(super) fn push(&mut self, point: Point)
         requires room { length self.old.stack < N }
@@ -76,7 +76,7 @@ impl<const N: usize> Parser<'_, N> {
         self.stack.push(self.state.frame(point));
     }
 
-    /// The same, with another letter.
+    /// Pushes such a frame with another letter.
     #[inline(always)]
     pub(super) fn push_lettered(&mut self, point: Point, letter: u8)
         requires room { length self.old.stack < N }
@@ -88,7 +88,7 @@ impl<const N: usize> Parser<'_, N> {
         self.stack.push(Frame { letter, ..frame });
     }
 
-    /// Leaves a mark, which is handed over behind the step.
+    /// Leaves a fixed text, which is printed at the end of the step.
     #[inline(always)]
     pub(super) fn put(&mut self, mark: Mark)
         ensures { self.new ≡ marked self.old mark }
@@ -96,7 +96,7 @@ impl<const N: usize> Parser<'_, N> {
         self.state.mark = Some(mark);
     }
 
-    /// Leaves a mark, with which the unit ends.
+    /// Leaves the fixed text with which the production ends.
     #[inline(always)]
     pub(super) fn end_with(&mut self, mark: Mark) -> Point
         ensures end { result ≡ Point.End }
@@ -107,7 +107,7 @@ impl<const N: usize> Parser<'_, N> {
         Point::End
     }
 
-    /// Raises the depth, if it may be raised.
+    /// Raises the depth. Fails if it has reached the limit.
     #[inline(always)]
     pub(super) fn enter(&mut self) -> Result<(), Stop>
         ensures ok { IfOk result (λ _. (0 < self.old.state.depth_left) × (self.new ≡ deeper self.old)) }

@@ -1,4 +1,4 @@
-//! Steps: what a point does and the mark that it leaves, and where a unit that is over goes on.
+//! Steps: what is done at a continuation, the fixed text that it leaves, and what is next.
 ghost use Rattle.std.specs.Prelude.{◌≡◌, ◌+◌, ◌≤◌, true, false, IfSome, IfNone, IsOk, OnOk, length, IsAscii};
 ghost use Rattle.demangle_v0.specs.Impls.{is_skip};
 ghost use Rattle.demangle_v0.specs.Parsers.{May, Same, env_of, restated, turn_of};
@@ -13,7 +13,7 @@ use demangle_words::output::Output;
 use demangle_words::stretch::Stretch;
 
 impl State {
-    /// Goes on with a frame.
+    /// Restores what a frame keeps.
     #[inline(always)]
     fn resume(&mut self, frame: Frame)
         ensures { self.new ≡ resumed_of self.old frame }
@@ -26,7 +26,7 @@ impl State {
 }
 
 impl<const N: usize> Parser<'_, N> {
-    /// Hands over the mark that a point left, if there is one.
+    /// Prints the fixed text that a continuation left, if there is one.
     #[inline(always)]
     fn flush_pending_text<V: Output>(&mut self, output: &mut V) -> Result<(), SinkRefused>
         requires ascii { V.is_printed ≡ true → IsAscii self.old.symbol.now }
@@ -38,7 +38,7 @@ impl<const N: usize> Parser<'_, N> {
         ensures most { self.new.looks ≤ self.old.looks }
     {
         let mark = self.state.mark;
-        // Most turns leave none. A silent reading clears it without asking, which costs it less.
+        // Most iterations leave none. A parse without output clears it untested, which costs less.
         if mark.is_some() || !output.is_printing() {
             self.state.mark = None;
         }
@@ -53,9 +53,11 @@ impl<const N: usize> Parser<'_, N> {
         }
     }
 
-    /// Does what a point does, and hands over the mark that it left.
+    /// Reads and prints what a continuation says, and prints the fixed text that it left. Returns the
+    /// next continuation.
     ///
-    /// An output that prints is never asked for the own path of an impl, which is not printed.
+    /// Fails if the output refuses a piece. An output that prints never gets an impl path, which is
+    /// not printed.
     #[inline(always)]
     pub(crate) fn step<V: Output>(
         &mut self,
@@ -93,8 +95,8 @@ impl<const N: usize> Parser<'_, N> {
         }
     }
 
-    /// The point to go on at: where a unit is over, that of the frame on top, if there is one above
-    /// so many.
+    /// Returns the next continuation. After the end of a production it is that of the frame on top,
+    /// which is removed, or `None` if only `base` frames are left.
     #[inline(always)]
     pub(crate) fn resume(&mut self, base: usize, point: Point) -> Option<Point>
         ensures some { IfSome result (λ next. Resumes base point self.old.state self.old.stack next

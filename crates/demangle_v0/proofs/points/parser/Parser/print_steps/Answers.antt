@@ -1,4 +1,4 @@
-use Rattle.std.proofs.Common.{arith, refl, sym, ◌∙◌}
+use Rattle.std.proofs.Common.{Ok, Some, arith, refl, sym, ◌∙◌}
 use Rattle.demangle_v0.specs.Parsers.{Same}
 use Rattle.demangle_v0.specs.PointRuns.{printing}
 use Rattle.demangle_v0.proofs.Parsers.{left_as, stepped_as}
@@ -12,7 +12,7 @@ skip_impl_path-skipped-requires g c = (omega arith, (sym c.is_skipped.ensures �
 
 pub returns-in-Some-skipped-clause-valid : goal.returns-in-Some-skipped-clause-valid
 returns-in-Some-skipped-clause-valid g c =
-    left_as g.row.N c.resume.new.self _ _ c.in-Some-skipped.ensures.same (skips_valid (sym c.is_skipped.ensures ∙ c.if-is_skipped.true) (valid_resumes c.steps.invariant.valid c.in-Some.ensures.some) c.in-Some-skipped.ensures.midway)
+    left_as g.row.N c.resume.new.self c.skip_impl_path-skipped.new.self (Ok (Some c.in-Some-skipped.left)) c.in-Some-skipped.ensures.same (skips_valid (sym c.is_skipped.ensures ∙ c.if-is_skipped.true) (valid_resumes c.steps.invariant.valid c.in-Some.ensures.some) c.in-Some-skipped.ensures.midway)
 
 pub returns-in-Some-skipped-clause-ran : goal.returns-in-Some-skipped-clause-ran
 returns-in-Some-skipped-clause-ran g c =

@@ -1,4 +1,4 @@
-use Rattle.std.proofs.Common.{arith}
+use Rattle.std.proofs.Common.{Ok, Some, arith}
 use Rattle.demangle_v0.proofs.Parsers.{left_as}
 use Rattle.demangle_v0.proofs.PointPrints.{passed_ran, passed_valid, ran_joins, finished_ran, finished_valid}
 use Rattle.demangle_v0.proofs.points.parser.Parser.print_unfinished.Goals as goal
@@ -9,7 +9,7 @@ returns-in-Some-clause-ran g c = λ p began ran. finished_ran g.row.N c.args.lef
 pub returns-in-Some-clause-valid : goal.returns-in-Some-clause-valid
 returns-in-Some-clause-valid g c =
     let d = c.in-Some.ensures in
-    left_as g.row.N c.args.self.now _ _ d.same (finished_valid c.args.self.now.symbol.now c.args.self.now.include_hash 0 g.row.N _ _ c.args.left c.in-Some.more _ _ _ _ c.requires.valid d.finishes)
+    left_as g.row.N c.args.self.now c.finish_impl_path.new.self (Ok (Some c.in-Some.more)) d.same (finished_valid c.args.self.now.symbol.now c.args.self.now.include_hash 0 g.row.N _ _ c.args.left c.in-Some.more _ _ _ _ c.requires.valid d.finishes)
 
 pub print_steps-requires : goal.print_steps-requires
 print_steps-requires g c =
