@@ -1,6 +1,6 @@
 use Rattle.std.proofs.Common.{refl}
 use Rattle.demangle_sink.proofs.PrintsPieces.{piece_then, piece_stop}
-use Rattle.demangle_words.proofs.render.functions.put_function_head.Goals as goal
+use Rattle.demangle_words.proofs.source.Source.put_function_qualifiers.Goals as goal
 
 pub returns-in_err-put-clause-prints : goal.returns-in_err-put-clause-prints
 returns-in_err-put-clause-prints g c =

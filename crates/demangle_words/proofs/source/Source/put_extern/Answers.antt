@@ -1,7 +1,7 @@
 use Rattle.std.proofs.Common.{refl}
 use Rattle.demangle_sink.proofs.PrintsLemmas.{prints_then, prints_stop}
 use Rattle.demangle_sink.proofs.PrintsPieces.{piece_then, piece_stop}
-use Rattle.demangle_words.proofs.render.functions.put_extern.Goals as goal
+use Rattle.demangle_words.proofs.source.Source.put_extern.Goals as goal
 
 pub returns-in_err-put-clause-prints : goal.returns-in_err-put-clause-prints
 returns-in_err-put-clause-prints g c = piece_stop g.S.TextSink _ _ _ _ _ _ c.in_err-put.ensures refl c.from_residual.ensures.0
