@@ -67,7 +67,7 @@ does_heard output b h v part s t stack now n m r d = record {
 
 pub went : {N : ℕ} {V : Type 0} (output : Ghosts V) (v : V) (p : Point) {m k : Parser N} {r : Result Point Stop} → ParserWent p m r k → Did output p m v r k v
 went output v p {m} {k} {r} d = let x = d output.is_printed in record {
-  does = does_heard output m.symbol.now m.include_hash v _ m.state k.state m.stack k.stack m.looks k.looks r x.does;
+  does = does_heard output m.source.symbol.now m.source.include_hash v _ m.state k.state m.stack k.stack m.looks k.looks r x.does;
   same = x.same;
 }
 
@@ -78,13 +78,13 @@ went_silent output v p {m} {k} {r} q x = go output.is_printed refl
     go : (b : Bool) → output.is_printed ≡ b → Did output p m v r k v
     go true e = absurd (false≢true (q e))
     go false e = record {
-      does = does_heard output m.symbol.now m.include_hash v _ m.state k.state m.stack k.stack m.looks k.looks r (rw e x.does);
+      does = does_heard output m.source.symbol.now m.source.include_hash v _ m.state k.state m.stack k.stack m.looks k.looks r (rw e x.does);
       same = x.same;
     }
 
 pub went_rest : {N : ℕ} {V : Type 0} (output : Ghosts V) (v : V) (items : Items) (words weight above : ℕ) {m k : Parser N} {r : Result Point Stop} → WentRest items words weight above m r k → DidRest output items words weight above m v r k v
 went_rest output v items words weight above {m} {k} {r} d = let x = d output.is_printed in record {
-  does = does_heard output m.symbol.now m.include_hash v _ m.state k.state m.stack k.stack m.looks k.looks r x.does;
+  does = does_heard output m.source.symbol.now m.source.include_hash v _ m.state k.state m.stack k.stack m.looks k.looks r x.does;
   same = x.same;
 }
 
@@ -93,5 +93,5 @@ pub stepped_as : {N : ℕ} {V : Type 0} (output : Ghosts V) (m k : Parser N) {p 
 stepped_as output m k (e, h) d = rw (← e, ← h) d
 
 -- What is left to print, of a parser whose input is the same.
-pub left_as : {N : ℕ} (n : ℕ) (m k : Parser N) (r : Result (Option Left) SinkRefused) → Same m k → ValidLeft m.symbol.now m.include_hash n r (reading_of k) k.stack k.looks → LeftValid n r k
+pub left_as : {N : ℕ} (n : ℕ) (m k : Parser N) (r : Result (Option Left) SinkRefused) → Same m k → ValidLeft m.source.symbol.now m.source.include_hash n r (reading_of k) k.stack k.looks → LeftValid n r k
 left_as n m k r (e, h) d = rw (e, h) d

@@ -163,10 +163,10 @@ module _ {N : ℕ} (m : Parser N) (base : ℕ) where
   inside = checked_at m point.Path (silent_of m.state)
 
   pub skip_begins : is_skip m.point ≡ true → base ≡ length m.stack → IsValid m → LeftValid 0 (Ok (Some (left.OwnPath base (reading_of m)))) inside
-  skip_begins e h v = (m.looks, skipping e refl h v (own_reads m.symbol.now m.include_hash m.looks m.state refl), own_stands e refl v, omega arith)
+  skip_begins e h v = (m.looks, skipping e refl h v (own_reads m.source.symbol.now m.source.include_hash m.looks m.state refl), own_stands e refl v, omega arith)
 
   pub skips_over : (k : Parser N) (result : Option Left) → base ≡ length m.stack → FinishesSkip inside (left.OwnPath base (reading_of m)) result k → IfNone result (SkipsOver m k)
-  skips_over k None h f = λ q at. f m.stack q m.looks (own_reads m.symbol.now m.include_hash m.looks m.state refl) (sym h) at
+  skips_over k None h f = λ q at. f m.stack q m.looks (own_reads m.source.symbol.now m.source.include_hash m.looks m.state refl) (sym h) at
   skips_over k (Some x) h f = tt
 
   pub skips_full : (k : Parser N) (result : Option Left) → base ≡ length m.stack → FinishesSkip inside (left.OwnPath base (reading_of m)) result k → IfSome result (λ x. SkipsFull m x k)
@@ -176,7 +176,7 @@ module _ {N : ℕ} (m : Parser N) (base : ℕ) where
     base = base;
     is_left = rw (f.0, f.1) refl;
     height = h;
-    reads = f.4 m.stack m.looks (own_reads m.symbol.now m.include_hash m.looks m.state refl) (sym h);
+    reads = f.4 m.stack m.looks (own_reads m.source.symbol.now m.source.include_hash m.looks m.state refl) (sym h);
     valid = f.2;
     full = f.3;
   }

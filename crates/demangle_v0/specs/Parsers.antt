@@ -60,7 +60,7 @@ binding m number = record m { state = record m.state { lifetimes = m.state.lifet
 
 -- The token of this kind that is read there, and may be printed or not.
 abbrev pub token_group : {N : ℕ} → Bool → Parser N → Word → Group
-token_group is_printed m w = word_group m.symbol.now w m.state.letter is_printed m.state.lifetimes m.state.place
+token_group is_printed m w = word_group m.source.symbol.now w m.state.letter is_printed m.state.lifetimes m.state.place
 
 abbrev pub looked : {N : ℕ} → Parser N → ℕ → Parser N
 looked m n = record m { looks = n }
@@ -75,22 +75,22 @@ reading_of m = record { point = m.point; state = m.state }
 -- A new parser: of a path of the same symbol, or of another with room for `M` frames.
 
 abbrev pub path_parser : {N : ℕ} → Parser N → Bool → ℕ → ℕ → Parser N
-path_parser m include_hash i n = record { symbol = m.symbol; include_hash = include_hash; point = point.Path; state = first_state i; stack = []; looks = n }
+path_parser m include_hash i n = record { source = record { symbol = m.source.symbol; include_hash = include_hash }; point = point.Path; state = first_state i; stack = []; looks = n }
 
 abbrev pub roomy : {N M : ℕ} → Parser N → Parser M
-roomy m = record { symbol = m.symbol; include_hash = m.include_hash; point = m.point; state = m.state; stack = m.stack; looks = m.looks }
+roomy m = record { source = m.source; point = m.point; state = m.state; stack = m.stack; looks = m.looks }
 
 -- What a point does.
 
 abbrev pub env_of : {N : ℕ} {V : Type 0} → Ghosts V → Parser N → Env V
-env_of output m = env output m.symbol.now m.include_hash
+env_of output m = env output m.source.symbol.now m.source.include_hash
 
 abbrev pub turn_of : {N : ℕ} {V : Type 0} → Parser N → V → Turn V
 turn_of m v = turn m.state m.stack v m.looks
 
 -- no point changes what is read
 abbrev pub Same : {N : ℕ} → Parser N → Parser N → Type 0
-Same m k = (k.symbol ≡ m.symbol) × (k.include_hash ≡ m.include_hash)
+Same m k = (k.source.symbol ≡ m.source.symbol) × (k.source.include_hash ≡ m.source.include_hash)
 
 pub record DoesPart {N : ℕ} {V : Type 0} (output : Ghosts V) (part : Part) (m : Parser N) (v : V) (result : Result Point Stop) (k : Parser N) (w : V) : Type 0 where
   pub does : Does (env_of output m) (turn_of m v) part result (turn_of k w)
@@ -114,7 +114,7 @@ MayPrint output m v = MayEmit (env_of output m) m.state v
 -- at a reference to a unit that begins at this point
 abbrev pub Followed : {N : ℕ} {V : Type 0} → Ghosts V → Point → Parser N → V → Result Point Stop → Parser N → Type 0
 Followed output p m v result k =
-    (shut : Bool) (kind : Kind) (value : Bool) → IsUnit m.symbol.now m.include_hash p m.state.in_value m.state.letter m.state.lifetimes shut kind value
+    (shut : Bool) (kind : Kind) (value : Bool) → IsUnit m.source.symbol.now m.source.include_hash p m.state.in_value m.state.letter m.state.lifetimes shut kind value
     → DoesPart output (target_part (env_of output m) shut kind value m.state) m v result k v
 
 -- An output that is handed nothing, and may print or not.
@@ -147,31 +147,31 @@ Recounted m k = k ≡ looked m k.looks
 
 -- what is still read without output
 abbrev pub unread_of : {N : ℕ} → Parser N → Heard
-unread_of m = reading_rest m.symbol.now m.include_hash false m.point m.state m.stack
+unread_of m = reading_rest m.source.symbol.now m.source.include_hash false m.point m.state m.stack
 
 -- `k` is where a parse without output of `m` stops, above the lowest `base` frames
 abbrev pub ReadSteps : {N : ℕ} → ℕ → Parser N → Halt → Parser N → Type 0
 ReadSteps base m result k = (below above : List Frame) → m.stack ≡ below ++ above → length below ≡ base → AllInner above
-    → ReadOn (silently m.symbol.now m.include_hash) below m.point (silent_turn m.state above m.looks) result k.point (silent_turn k.state k.stack k.looks)
+    → ReadOn (silently m.source.symbol.now m.source.include_hash) below m.point (silent_turn m.state above m.looks) result k.point (silent_turn k.state k.stack k.looks)
 
 -- the impl path was read: to its end
 abbrev pub SkipsOver : {N : ℕ} → Parser N → Parser N → Type 0
-SkipsOver m k = (q : Bool) → m.point ≡ skip_point q → Skipped m.symbol.now m.include_hash q m.state m.stack m.looks k.point k.state k.stack k.looks
+SkipsOver m k = (q : Bool) → m.point ≡ skip_point q → Skipped m.source.symbol.now m.source.include_hash q m.state m.stack m.looks k.point k.state k.stack k.looks
 
 -- until the stack was full
 abbrev pub SkipsFull : {N : ℕ} → Parser N → Left → Parser N → Type 0
-SkipsFull {N} m x k = SkipsTo m.symbol.now m.include_hash (reading_of m) m.stack m.looks x N (reading_of k) k.stack k.looks
+SkipsFull {N} m x k = SkipsTo m.source.symbol.now m.source.include_hash (reading_of m) m.stack m.looks x N (reading_of k) k.stack k.looks
 
 -- the same, of what was left of it, if it was read so far
 abbrev pub FinishesSkip : {N : ℕ} → Parser N → Left → Option Left → Parser N → Type 0
-FinishesSkip {N} m x result k = Finishes m.symbol.now m.include_hash N x (reading_of m) m.stack m.looks result (reading_of k) k.stack k.looks
+FinishesSkip {N} m x result k = Finishes m.source.symbol.now m.source.include_hash N x (reading_of m) m.stack m.looks result (reading_of k) k.stack k.looks
 
 abbrev pub printing_of : {N : ℕ} {S : Type 0} → Sinks S → Parser N → Env (SizeLimitedFmtAdapter S)
-printing_of sink m = printing sink m.symbol.now m.include_hash
+printing_of sink m = printing sink m.source.symbol.now m.source.include_hash
 
 -- what is left can be printed
 abbrev pub LeftValid : {N : ℕ} → ℕ → Result (Option Left) SinkRefused → Parser N → Type 0
-LeftValid n result m = ValidLeft m.symbol.now m.include_hash n result (reading_of m) m.stack m.looks
+LeftValid n result m = ValidLeft m.source.symbol.now m.source.include_hash n result (reading_of m) m.stack m.looks
 
 -- the looks that are certain: of what is next, and of what is left
 abbrev pub first_looks_of : {N : ℕ} → Parser N → ℕ

@@ -84,11 +84,11 @@ impl Parser<'_, SHORT_STACK> {
     /// Reads the path at a place, above no frames. Returns where it ends, and leaves no frames then.
     fn path_end(&mut self, place: usize) -> Option<usize>
         requires empty { self.old.stack ≡ [] }
-        requires hash { self.old.include_hash ≡ true }
-        ensures value { result ≡ unit_end self.old.symbol.now a_path place 0 }
+        requires hash { self.old.source.include_hash ≡ true }
+        ensures value { result ≡ unit_end self.old.source.symbol.now a_path place 0 }
         ensures empty { IsSome result → self.new.stack ≡ [] }
         ensures grows { self.old.looks ≤ self.new.looks }
-        ensures looks { self.new.looks ≤ self.old.looks + looks_in (read_at self.old.symbol.now false
+        ensures looks { self.new.looks ≤ self.old.looks + looks_in (read_at self.old.source.symbol.now false
             a_path place 0 0 true) }
         ensures same { Same self.old self.new }
     {
@@ -107,18 +107,18 @@ impl Parser<'_, SHORT_STACK> {
     /// Reads one path or two. Returns where the suffix after them begins.
     fn suffix(&mut self) -> Option<usize>
         requires empty { self.old.stack ≡ [] }
-        requires hash { self.old.include_hash ≡ true }
-        ensures value { result ≡ suffix_place self.old.symbol.now }
+        requires hash { self.old.source.include_hash ≡ true }
+        ensures value { result ≡ suffix_place self.old.source.symbol.now }
         ensures grows { self.old.looks ≤ self.new.looks }
-        ensures looks { self.new.looks + suffix_looks self.old.symbol.now result ≤ self.old.looks +
-            accepting_looks self.old.symbol.now }
+        ensures looks { self.new.looks + suffix_looks self.old.source.symbol.now result ≤ self.old.looks +
+            accepting_looks self.old.source.symbol.now }
     {
         let Some(end) = self.path_end(0) else {
             return None;
         };
         // A second path names the crate in which a generic was instantiated. It is read, so that the
         // suffix begins after it, and never printed.
-        if begins_path(self.symbol, end, &mut self.looks) {
+        if begins_path(self.source.symbol, end, &mut self.looks) {
             return self.path_end(end);
         }
         Some(end)

@@ -29,7 +29,7 @@ impl<const N: usize> Parser<'_, N> {
         &mut self,
         out: &mut SizeLimitedFmtAdapter<'_, S>,
     ) -> Result<Option<Left>, SinkRefused>
-        requires ascii { IsAscii self.old.symbol.now }
+        requires ascii { IsAscii self.old.source.symbol.now }
         requires ready { Ready S.TextSink out.old }
         requires valid { IsValid self.old }
         ensures ran { PrintsSteps S.TextSink self.old out.old result self.new out.new }
@@ -70,7 +70,7 @@ impl<const N: usize> Parser<'_, N> {
         left: Left,
         out: &mut SizeLimitedFmtAdapter<'_, S>,
     ) -> Result<Option<Left>, SinkRefused>
-        requires ascii { IsAscii self.old.symbol.now }
+        requires ascii { IsAscii self.old.source.symbol.now }
         requires ready { Ready S.TextSink out.old }
         requires valid { LeftValid 0 (Ok (Some left)) self.old }
         ensures ran { PrintsOn S.TextSink self.old left out.old result self.new out.new }
@@ -96,7 +96,7 @@ impl Parser<'_, MIDDLE_STACK> {
         left: Left,
         out: &mut SizeLimitedFmtAdapter<'_, S>,
     ) -> Result<(), SinkRefused>
-        requires ascii { IsAscii self.old.symbol.now }
+        requires ascii { IsAscii self.old.source.symbol.now }
         requires ready { Ready S.TextSink out.old }
         requires valid { LeftValid 0 (Ok (Some left)) self.old }
         ensures ended { EndsPrinting S.TextSink self.old left out.old result self.new out.new }
@@ -117,7 +117,7 @@ impl Parser<'_, MIDDLE_STACK> {
         left: Left,
         out: &mut SizeLimitedFmtAdapter<'_, S>,
     ) -> Result<(), SinkRefused>
-        requires ascii { IsAscii self.old.symbol.now }
+        requires ascii { IsAscii self.old.source.symbol.now }
         requires ready { Ready S.TextSink out.old }
         requires valid { LeftValid 0 (Ok (Some left)) self.old }
         ensures ended { EndsPrinting S.TextSink self.old left out.old result self.new out.new }
@@ -139,7 +139,7 @@ impl Parser<'_, SHORT_STACK> {
         left: Left,
         out: &mut SizeLimitedFmtAdapter<'_, S>,
     ) -> Result<(), SinkRefused>
-        requires ascii { IsAscii self.old.symbol.now }
+        requires ascii { IsAscii self.old.source.symbol.now }
         requires ready { Ready S.TextSink out.old }
         requires valid { LeftValid 0 (Ok (Some left)) self.old }
         ensures ended { EndsPrinting S.TextSink self.old left out.old result self.new out.new }
@@ -160,7 +160,7 @@ impl Parser<'_, SHORT_STACK> {
         &mut self,
         out: &mut SizeLimitedFmtAdapter<'_, S>,
     ) -> Result<(), SinkRefused>
-        requires ascii { IsAscii self.old.symbol.now }
+        requires ascii { IsAscii self.old.source.symbol.now }
         requires ready { Ready S.TextSink out.old }
         requires valid { IsValid self.old }
         ensures ended { PrintsAll S.TextSink self.old out.old result self.new out.new }

@@ -13,6 +13,7 @@ use crate::points::skip::is_skipped;
 use demangle_sink::{ArraySink, SinkRefused, SizeLimitedFmtAdapter, TextSink};
 use demangle_symbol::cursor::{Looks, Symbol};
 use demangle_words::output::Output;
+use demangle_words::source::Source;
 use demangle_words::stretch::Stretch;
 use demangle_words::texts::text;
 use std::test::Fail;
@@ -95,24 +96,22 @@ impl<'s> Output for CountingVoice<'s> {
 
     fn emit(
         &mut self,
-        symbol: &Symbol<'_>,
+        source: &Source<'_>,
         stretch: &Stretch,
-        include_hash: bool,
         looks: &mut Looks,
     ) -> Result<(), SinkRefused> {
         self.count(stretch);
-        self.out.emit(symbol, stretch, include_hash, looks)
+        self.out.emit(source, stretch, looks)
     }
 
     fn emit_fault(
         &mut self,
-        symbol: &Symbol<'_>,
+        source: &Source<'_>,
         stretch: &Stretch,
-        include_hash: bool,
         looks: &mut Looks,
     ) -> Result<(), SinkRefused> {
         self.count(stretch);
-        self.out.emit_fault(symbol, stretch, include_hash, looks)
+        self.out.emit_fault(source, stretch, looks)
     }
 }
 

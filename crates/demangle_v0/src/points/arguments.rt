@@ -34,7 +34,7 @@ impl<const N: usize> Parser<'_, N> {
         let Some(at) = self.state.place else {
             return self.end_with(Mark::Greater);
         };
-        if self.symbol.is_at(b'E', at, &mut self.looks) {
+        if self.source.symbol.is_at(b'E', at, &mut self.looks) {
             self.state.place = Some(at + 1);
             return self.end_with(Mark::Greater);
         }
@@ -48,24 +48,24 @@ impl<const N: usize> Parser<'_, N> {
     #[inline(always)]
     pub(super) fn argument(&mut self, at: usize) -> Point
         requires place { self.old.state.place ≡ Some at }
-        ensures point { result ≡ argument_point self.old.symbol.now at }
+        ensures point { result ≡ argument_point self.old.source.symbol.now at }
         ensures parser { self.new ≡ restated self.old (record self.old.state {
           in_value = false;
-          place = Some (argument_place self.old.symbol.now at);
+          place = Some (argument_place self.old.source.symbol.now at);
         }) self.new.looks }
         ensures grows { self.old.looks ≤ self.new.looks }
-        ensures own { self.new.looks ≤ self.old.looks + own_by 20 self.old.symbol.now
+        ensures own { self.new.looks ≤ self.old.looks + own_by 20 self.old.source.symbol.now
             self.old.state.place }
-        ensures looks { self.new.looks ≤ self.old.looks + total (argument_costs self.old.symbol.now
+        ensures looks { self.new.looks ≤ self.old.looks + total (argument_costs self.old.source.symbol.now
             at) }
         ensures few { self.new.looks ≤ self.old.looks + 2 }
     {
         self.state.in_value = false;
-        if self.symbol.is_at(b'L', at, &mut self.looks) {
+        if self.source.symbol.is_at(b'L', at, &mut self.looks) {
             self.state.place = Some(at + 1);
             return Point::Lifetime;
         }
-        if self.symbol.is_at(b'K', at, &mut self.looks) {
+        if self.source.symbol.is_at(b'K', at, &mut self.looks) {
             self.state.place = Some(at + 1);
             return Point::Constant;
         }

@@ -39,7 +39,7 @@ impl<const N: usize> Parser<'_, N> {
             self.state.is_open = false;
             return Point::End;
         };
-        if !self.symbol.is_at(b'p', at, &mut self.looks) {
+        if !self.source.symbol.is_at(b'p', at, &mut self.looks) {
             self.state.mark = closing_text(is_open);
             return Point::NextDynTrait;
         }
@@ -93,7 +93,7 @@ impl<const N: usize> Parser<'_, N> {
         let Some(at) = self.state.place else {
             return Point::Type;
         };
-        if self.symbol.is_at(b'K', at, &mut self.looks) {
+        if self.source.symbol.is_at(b'K', at, &mut self.looks) {
             self.state.place = Some(at + 1);
             return Point::Constant;
         }

@@ -18,7 +18,7 @@ impl<const N: usize> Parser<'_, N> {
     pub(super) fn literal<V: Output>(&mut self, output: &mut V) -> Result<Point, Stop>
         requires may { MayPrint V.Output self.old output.old }
         ensures did { Did V.Output Point.Literal self.old output.old result self.new output.new }
-        ensures own { self.new.looks ≤ self.old.looks + own_by 8 self.old.symbol.now
+        ensures own { self.new.looks ≤ self.old.looks + own_by 8 self.old.source.symbol.now
             self.old.state.place }
     {
         self.end_with_token(Word::Literal, output)
@@ -31,7 +31,7 @@ impl<const N: usize> Parser<'_, N> {
     pub(super) fn number<V: Output>(&mut self, output: &mut V) -> Result<Point, Stop>
         requires may { MayPrint V.Output self.old output.old }
         ensures did { Did V.Output Point.Number self.old output.old result self.new output.new }
-        ensures own { self.new.looks ≤ self.old.looks + own_by 8 self.old.symbol.now
+        ensures own { self.new.looks ≤ self.old.looks + own_by 8 self.old.source.symbol.now
             self.old.state.place }
     {
         self.end_with_token(Word::Number, output)
@@ -66,7 +66,7 @@ impl<const N: usize> Parser<'_, N> {
     {
         let at = self.state.at()?;
         self.state.letter = tag;
-        if self.symbol.is_at(b'n', at, &mut self.looks) {
+        if self.source.symbol.is_at(b'n', at, &mut self.looks) {
             self.state.place = Some(at + 1);
             self.put(Mark::Minus);
             return Ok(Point::Number);
@@ -85,7 +85,7 @@ impl<const N: usize> Parser<'_, N> {
             return Ok(self.with_braces(Point::ReferenceConstant));
         };
         // `Re` is printed as `".."`, which has the type `&str`, and not as `&*".."`.
-        if self.symbol.is_at(b'e', at, &mut self.looks) {
+        if self.source.symbol.is_at(b'e', at, &mut self.looks) {
             self.state.place = Some(at + 1);
             return self.literal(output);
         }
@@ -142,7 +142,7 @@ impl<const N: usize> Parser<'_, N> {
         ensures did { Did V.Output Point.Constant self.old output.old result self.new output.new }
     {
         let at = self.state.at()?;
-        let (tag, next) = self.symbol.tag(at, &mut self.looks)?;
+        let (tag, next) = self.source.symbol.tag(at, &mut self.looks)?;
         // Every constant raises the depth, even a number or a placeholder. A basic type does not.
         self.enter()?;
         self.state.place = Some(next);

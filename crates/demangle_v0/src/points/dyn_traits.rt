@@ -33,7 +33,10 @@ impl<const N: usize> Parser<'_, N> {
         ensures did { Did V.Output Point.DynBinder self.old output.old result self.new output.new }
     {
         let at = self.state.at()?;
-        let (number, next) = self.symbol.opt_integer_62(b'G', at, &mut self.looks)?;
+        let (number, next) = self
+            .source
+            .symbol
+            .opt_integer_62(b'G', at, &mut self.looks)?;
         self.state.place = Some(next);
         if number == 0 {
             return Ok(self.dyn_trait(true));
@@ -50,7 +53,7 @@ impl<const N: usize> Parser<'_, N> {
         requires may { MayGo Point.NextDynTrait self.old }
         ensures did { Went (if is_first then Point.FirstDynTrait else Point.NextDynTrait) self.old
             (Ok result) self.new }
-        ensures own { self.new.looks ≤ self.old.looks + own_by 16 self.old.symbol.now
+        ensures own { self.new.looks ≤ self.old.looks + own_by 16 self.old.source.symbol.now
             self.old.state.place }
     {
         if self.ends_list() {
@@ -71,12 +74,12 @@ impl<const N: usize> Parser<'_, N> {
         ensures did { Did V.Output Point.TraitPath self.old output.old result self.new output.new }
     {
         let at = self.state.at()?;
-        if self.symbol.is_at(b'B', at, &mut self.looks) {
+        if self.source.symbol.is_at(b'B', at, &mut self.looks) {
             self.state.place = Some(at + 1);
             return self.follow_backref(Point::TraitPath, output);
         }
         self.state.in_value = false;
-        if self.symbol.is_at(b'I', at, &mut self.looks) {
+        if self.source.symbol.is_at(b'I', at, &mut self.looks) {
             self.state.place = Some(at + 1);
             self.push(Point::OpenTraitPath);
             return Ok(Point::Path);
@@ -98,7 +101,7 @@ impl<const N: usize> Parser<'_, N> {
             self.state.is_open = true;
             return Point::End;
         };
-        if self.symbol.is_at(b'E', at, &mut self.looks) {
+        if self.source.symbol.is_at(b'E', at, &mut self.looks) {
             self.state.place = Some(at + 1);
             self.state.is_open = true;
             return Point::End;

@@ -32,11 +32,14 @@ impl<const N: usize> Parser<'_, N> {
         requires may { May V.Output Point.DynBinder self.old output.old }
         ensures did { DidRest V.Output (constructed_of ConstructedType.Function) 5 1 2 self.old
             output.old result self.new output.new }
-        ensures own { self.new.looks ≤ self.old.looks + own_by 16 self.old.symbol.now
+        ensures own { self.new.looks ≤ self.old.looks + own_by 16 self.old.source.symbol.now
             self.old.state.place }
     {
         let at = self.state.at()?;
-        let (number, next) = self.symbol.opt_integer_62(b'G', at, &mut self.looks)?;
+        let (number, next) = self
+            .source
+            .symbol
+            .opt_integer_62(b'G', at, &mut self.looks)?;
         self.state.place = Some(next);
         if number == 0 {
             return self.function_qualifiers(output);
@@ -51,7 +54,7 @@ impl<const N: usize> Parser<'_, N> {
         requires may { May V.Output Point.FunctionHead self.old output.old }
         ensures did { Did V.Output Point.FunctionHead self.old output.old result self.new
             output.new }
-        ensures own { self.new.looks ≤ self.old.looks + own_by 8 self.old.symbol.now
+        ensures own { self.new.looks ≤ self.old.looks + own_by 8 self.old.source.symbol.now
             self.old.state.place }
     {
         match self.token_at(Word::FunctionHead, output) {
@@ -97,7 +100,7 @@ impl<const N: usize> Parser<'_, N> {
             self.put(Mark::Arrow);
             return Point::Type;
         };
-        if self.symbol.is_at(b'u', at, &mut self.looks) {
+        if self.source.symbol.is_at(b'u', at, &mut self.looks) {
             self.state.place = Some(at + 1);
             self.state.is_open = false;
             return Point::End;

@@ -18,7 +18,7 @@ impl<const N: usize> Parser<'_, N> {
             return Err(Stop::Fault(Mark::AfterError));
         };
         // The disambiguator tells the impls of a module apart, and is not printed.
-        let Ok((_, next)) = self.symbol.opt_integer_62(b's', at, &mut self.looks) else {
+        let Ok((_, next)) = self.source.symbol.opt_integer_62(b's', at, &mut self.looks) else {
             return Err(Stop::Fault(Mark::Invalid));
         };
         self.state.place = Some(next);

@@ -20,15 +20,15 @@ impl<const N: usize> Parser<'_, N> {
     /// A list also ends if parsing has failed, so that what follows the list is printed.
     #[inline(always)]
     pub(super) fn ends_list(&mut self) -> bool
-        ensures over { result ≡ is_list_over self.old.symbol.now self.old.state.place }
-        ensures place { self.new ≡ moved self.old (behind_list self.old.symbol.now
+        ensures over { result ≡ is_list_over self.old.source.symbol.now self.old.state.place }
+        ensures place { self.new ≡ moved self.old (behind_list self.old.source.symbol.now
             self.old.state.place) self.new.looks }
         ensures paid { Paid self.old.looks (list_costs self.old.state.place) self.new.looks }
     {
         let Some(at) = self.state.place else {
             return true;
         };
-        if !self.symbol.is_at(b'E', at, &mut self.looks) {
+        if !self.source.symbol.is_at(b'E', at, &mut self.looks) {
             return false;
         }
         self.state.place = Some(at + 1);

@@ -22,7 +22,7 @@ impl<const N: usize> Parser<'_, N> {
             output.old result self.new output.new }
     {
         let at = self.state.at()?;
-        let named = numbered_name(self.symbol, at, &mut self.looks);
+        let named = numbered_name(self.source.symbol, at, &mut self.looks);
         let (name, number, next) = named.ok_or(Stop::Fault(Mark::Invalid))?;
         self.state.place = Some(next);
         self.state.is_open = false;
@@ -34,19 +34,14 @@ impl<const N: usize> Parser<'_, N> {
     #[inline(never)]
     fn emit_name_after_error<V: Output>(&mut self, output: &mut V) -> Result<(), SinkRefused>
         requires may { MayPrint V.Output self.old output.old }
-        ensures prints { V.prints output.old (texts_of self.old.symbol.now self.old.include_hash
+        ensures prints { V.prints output.old (texts_of self.old.source.symbol.now self.old.source.include_hash
             Stretch.NestedAfterError) result output.new }
         ensures ready { OnOk result (V.ready output.new) }
         ensures parser { self.new ≡ looked self.old self.new.looks }
         ensures grows { self.old.looks ≤ self.new.looks }
         ensures most { self.new.looks ≤ self.old.looks }
     {
-        output.emit_fault(
-            self.symbol,
-            &Stretch::NestedAfterError,
-            self.include_hash,
-            &mut self.looks,
-        )
+        output.emit_fault(&self.source, &Stretch::NestedAfterError, &mut self.looks)
     }
 
     /// Prints `::` and that the name was not read, since its path has failed.
@@ -70,7 +65,7 @@ impl<const N: usize> Parser<'_, N> {
         let Some(at) = self.state.place else {
             return self.name_after_error(output);
         };
-        let named = numbered_name(self.symbol, at, &mut self.looks);
+        let named = numbered_name(self.source.symbol, at, &mut self.looks);
         let (ident, number, next) = named.ok_or(Stop::Fault(Mark::Invalid))?;
         self.state.place = Some(next);
         self.state.is_open = false;

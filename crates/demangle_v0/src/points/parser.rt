@@ -7,6 +7,7 @@ ghost use Rattle.demangle_v0.specs.declared.points.Stop.TheVariants.{Fault};
 use crate::points::frames::{Frame, FrameStack};
 use crate::points::{Point, State, Stop};
 use demangle_symbol::cursor::{Looks, Symbol};
+use demangle_words::source::Source;
 use demangle_words::texts::Mark;
 use std::mem;
 
@@ -14,8 +15,7 @@ use std::mem;
 /// is a parameter of the methods that print.
 #[derive(Drop)]
 pub struct Parser<'m, const N: usize> {
-    pub symbol: &'m Symbol<'m>,
-    pub include_hash: bool,
+    pub source: Source<'m>,
     pub point: Point,
     pub state: State,
     pub stack: FrameStack<N>,
@@ -31,12 +31,14 @@ impl<'m, const N: usize> Parser<'m, N> {
         place: usize,
         looks: &mut Looks,
     ) -> Self
-        ensures symbol { result.symbol.now ≡ symbol.now }
+        ensures symbol { result.source.symbol.now ≡ symbol.now }
         ensures parser { result ≡ path_parser result include_hash place looks.old }
     {
         Parser {
-            symbol,
-            include_hash,
+            source: Source {
+                symbol,
+                include_hash,
+            },
             point: Point::Path,
             state: State::at_path(place),
             stack: FrameStack::new(),
@@ -55,8 +57,7 @@ impl<'m, const N: usize> Parser<'m, N> {
         let mut stack = FrameStack::new();
         stack.append(&self.stack);
         Parser {
-            symbol: self.symbol,
-            include_hash: self.include_hash,
+            source: self.source,
             point: self.point,
             state: self.state,
             stack,

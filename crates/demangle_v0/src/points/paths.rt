@@ -20,7 +20,7 @@ impl<const N: usize> Parser<'_, N> {
         ensures did { WentRest (nested_path self.old.state.in_value) 6 1 9 self.old result self.new }
     {
         let at = self.state.at()?;
-        let (letter, next) = self.symbol.namespace(at, &mut self.looks)?;
+        let (letter, next) = self.source.symbol.namespace(at, &mut self.looks)?;
         self.push_lettered(Point::Nested, letter);
         self.state.place = Some(next);
         Ok(Point::Path)
@@ -67,7 +67,7 @@ impl<const N: usize> Parser<'_, N> {
         // The depth is tested before the tag here, and after it for a type or a constant. The Rust
         // crate reports errors in this order.
         self.enter()?;
-        let (tag, next) = self.symbol.tag(at, &mut self.looks)?;
+        let (tag, next) = self.source.symbol.tag(at, &mut self.looks)?;
         self.state.place = Some(next);
         self.tagged_path(tag, output)
     }

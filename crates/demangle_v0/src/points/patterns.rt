@@ -17,7 +17,7 @@ impl<const N: usize> Parser<'_, N> {
         ensures did { Went Point.Pattern self.old result self.new }
     {
         let at = self.state.at()?;
-        let (tag, next) = self.symbol.tag(at, &mut self.looks)?;
+        let (tag, next) = self.source.symbol.tag(at, &mut self.looks)?;
         let kind = pattern_kind(tag).ok_or(Stop::Fault(Mark::Invalid))?;
         self.state.place = Some(next);
         match kind {
@@ -45,7 +45,7 @@ impl<const N: usize> Parser<'_, N> {
         ensures did { Went Point.NextPattern self.old result self.new }
     {
         let at = self.state.place.ok_or(Stop::Fault(Mark::Invalid))?;
-        if self.symbol.is_at(b'E', at, &mut self.looks) {
+        if self.source.symbol.is_at(b'E', at, &mut self.looks) {
             self.state.place = Some(at + 1);
             self.state.is_open = false;
             return Ok(Point::End);

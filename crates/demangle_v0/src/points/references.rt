@@ -23,7 +23,7 @@ impl<const N: usize> Parser<'_, N> {
         ensures did { Followed V.Output unit self.old output.now result self.new }
     {
         let reference = refer(
-            self.symbol,
+            self.source.symbol,
             self.state.depth_left,
             self.state.place,
             &mut self.looks,

@@ -29,7 +29,7 @@ impl<const N: usize> Parser<'_, N> {
     /// Prints the fixed text that a continuation left, if there is one.
     #[inline(always)]
     fn flush_pending_text<V: Output>(&mut self, output: &mut V) -> Result<(), SinkRefused>
-        requires ascii { V.is_printed ≡ true → IsAscii self.old.symbol.now }
+        requires ascii { V.is_printed ≡ true → IsAscii self.old.source.symbol.now }
         requires ready { V.ready output.old }
         ensures put { Puts V.Output self.old.state.mark output.old result output.new }
         ensures parser { self.new ≡ restated self.old (unmarked_of self.old.state) self.new.looks }
@@ -44,12 +44,7 @@ impl<const N: usize> Parser<'_, N> {
         }
         match mark {
             None => Ok(()),
-            Some(mark) => output.emit(
-                self.symbol,
-                &Stretch::Fixed(mark),
-                self.include_hash,
-                &mut self.looks,
-            ),
+            Some(mark) => output.emit(&self.source, &Stretch::Fixed(mark), &mut self.looks),
         }
     }
 
@@ -71,7 +66,7 @@ impl<const N: usize> Parser<'_, N> {
         ensures same { Same self.old self.new }
         ensures ready { IsOk result → V.ready output.new }
         ensures grows { self.old.looks ≤ self.new.looks }
-        ensures own { self.new.looks ≤ self.old.looks + own_by 20 self.old.symbol.now
+        ensures own { self.new.looks ≤ self.old.looks + own_by 20 self.old.source.symbol.now
             self.old.state.place }
         ensures least { self.old.looks + first_looks point self.old.state ≤ self.new.looks }
     {
@@ -83,12 +78,7 @@ impl<const N: usize> Parser<'_, N> {
             Err(Stop::Fault(fault)) => {
                 self.state.place = None;
                 self.state.is_open = false;
-                output.emit_fault(
-                    self.symbol,
-                    &Stretch::Fixed(fault),
-                    self.include_hash,
-                    &mut self.looks,
-                )?;
+                output.emit_fault(&self.source, &Stretch::Fixed(fault), &mut self.looks)?;
                 Ok(Point::End)
             }
             Err(Stop::Refused) => Err(SinkRefused),

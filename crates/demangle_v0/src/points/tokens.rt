@@ -12,7 +12,7 @@ use crate::points::parser::Parser;
 use crate::points::{Point, Stop};
 use demangle_sink::SinkRefused;
 use demangle_words::output::Output;
-use demangle_words::read::{WordRead, read_word};
+use demangle_words::read::{TokenReader, WordRead};
 use demangle_words::stretch::Stretch;
 use demangle_words::texts::Word;
 
@@ -27,8 +27,8 @@ impl<const N: usize> Parser<'_, N> {
         output: &mut V,
     ) -> Result<(), SinkRefused>
         requires may { MayPrint V.Output self.old output.old }
-        requires in_bounds { LiesIn self.old.symbol.now stretch.now }
-        ensures prints { V.prints output.old (texts_of self.old.symbol.now self.old.include_hash
+        requires in_bounds { LiesIn self.old.source.symbol.now stretch.now }
+        ensures prints { V.prints output.old (texts_of self.old.source.symbol.now self.old.source.include_hash
             stretch.now) result output.new }
         ensures ready { OnOk result (V.ready output.new) }
         ensures quiet { V.is_printed ≡ false → IsOk result }
@@ -36,7 +36,7 @@ impl<const N: usize> Parser<'_, N> {
         ensures grows { self.old.looks ≤ self.new.looks }
         ensures most { self.new.looks ≤ self.old.looks + looks_later stretch.now }
     {
-        output.emit(self.symbol, stretch, self.include_hash, &mut self.looks)
+        output.emit(&self.source, stretch, &mut self.looks)
     }
 
     /// Reads the token at the current offset, and prints nothing.
@@ -49,18 +49,15 @@ impl<const N: usize> Parser<'_, N> {
         ensures grows { self.old.looks ≤ self.new.looks }
         ensures looks { self.new.looks + looks_later (read_stretch result) ≤ self.old.looks + total
             (token_group V.is_printed self.old word).costs }
-        ensures in_bounds { LiesIn self.old.symbol.now (read_stretch result) }
+        ensures in_bounds { LiesIn self.old.source.symbol.now (read_stretch result) }
     {
-        let is_printing = output.is_printing();
-        read_word(
-            self.symbol,
-            word,
-            self.state.letter,
-            is_printing,
-            self.state.lifetimes,
-            self.state.place,
-            &mut self.looks,
-        )
+        let reader = TokenReader {
+            symbol: self.source.symbol,
+            tag: self.state.letter,
+            is_printing: output.is_printing(),
+            lifetimes: self.state.lifetimes,
+        };
+        reader.read_word(word, self.state.place, &mut self.looks)
     }
 
     /// Reads and prints the last token of a production.
@@ -73,7 +70,7 @@ impl<const N: usize> Parser<'_, N> {
         requires may { MayPrint V.Output self.old output.old }
         ensures did { DidRest V.Output (word_items word self.old.state.letter done) 4 1 0 self.old
             output.old result self.new output.new }
-        ensures own { self.new.looks ≤ self.old.looks + own_by 8 self.old.symbol.now
+        ensures own { self.new.looks ≤ self.old.looks + own_by 8 self.old.source.symbol.now
             self.old.state.place }
     {
         match self.token_at(word, output) {

@@ -47,7 +47,7 @@ impl<const N: usize> Parser<'_, N> {
         let Some(at) = self.state.place else {
             return after_reference_lifetime(is_mut);
         };
-        if !self.symbol.is_at(b'L', at, &mut self.looks) {
+        if !self.source.symbol.is_at(b'L', at, &mut self.looks) {
             return after_reference_lifetime(is_mut);
         }
         self.state.place = Some(at + 1);
@@ -73,7 +73,7 @@ impl<const N: usize> Parser<'_, N> {
             output.new }
     {
         let at = self.state.at()?;
-        let (index, next) = self.symbol.integer_62(at, &mut self.looks)?;
+        let (index, next) = self.source.symbol.integer_62(at, &mut self.looks)?;
         self.state.place = Some(next);
         // `&'_ T` is printed as `&T`. Without output no lifetime is checked.
         if index == 0 || !output.is_printing() {

@@ -46,7 +46,7 @@ impl<const N: usize> Parser<'_, N> {
             output.old result self.new output.new }
     {
         let at = self.state.at()?;
-        if is_splat(self.symbol, is_begun, at, &mut self.looks) {
+        if is_splat(self.source.symbol, is_begun, at, &mut self.looks) {
             self.state.place = Some(at + 1);
             self.put(Mark::Splat);
             return Ok(Point::TaggedType);
@@ -59,13 +59,13 @@ impl<const N: usize> Parser<'_, N> {
     fn tagged_type<V: Output>(&mut self, output: &mut V) -> Result<Point, Stop>
         requires may { May V.Output Point.TaggedType self.old output.old }
         ensures did { Did V.Output Point.TaggedType self.old output.old result self.new output.new }
-        ensures own { self.new.looks ≤ self.old.looks + own_by 18 self.old.symbol.now
+        ensures own { self.new.looks ≤ self.old.looks + own_by 18 self.old.source.symbol.now
             self.old.state.place }
     {
         let Some(at) = self.state.place else {
             return Err(Stop::Fault(Mark::AfterError));
         };
-        let Some(tag) = self.symbol.byte(at, &mut self.looks) else {
+        let Some(tag) = self.source.symbol.byte(at, &mut self.looks) else {
             return Err(Stop::Fault(Mark::Invalid));
         };
         // A basic type raises no depth, so it is read at the limit too.

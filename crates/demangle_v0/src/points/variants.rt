@@ -49,7 +49,7 @@ impl<const N: usize> Parser<'_, N> {
         ensures did { Went Point.Variant self.old result self.new }
     {
         let at = self.state.at()?;
-        let (tag, next) = self.symbol.tag(at, &mut self.looks)?;
+        let (tag, next) = self.source.symbol.tag(at, &mut self.looks)?;
         let kind = variant_kind(tag).ok_or(Stop::Fault(Mark::Invalid))?;
         self.state.place = Some(next);
         match kind {

@@ -16,7 +16,7 @@ returns-in_default g c = record {
 
 pub returns-then-is_at : goal.returns-then-is_at
 returns-then-is_at g c =
-    let over : is_byte c.args.self.now.symbol.now c.in-Some.at (code "E") ≡ true = sym c.is_at.ensures.there ∙
+    let over : is_byte c.args.self.now.source.symbol.now c.in-Some.at (code "E") ≡ true = sym c.is_at.ensures.there ∙
     c.if-is_at.true in
     record {
       did = λ p. rw (c.end_with-then-is_at.ensures.end, c.end_with-then-is_at.ensures.marked) (record {

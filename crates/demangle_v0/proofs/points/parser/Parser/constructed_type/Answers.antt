@@ -43,7 +43,7 @@ returns-in-Slice g c = record {
 pub returns-in-Backref : goal.returns-in-Backref
 returns-in-Backref g c =
     let s = c.args.self.now.state in
-    let d = c.follow_backref.ensures.did true a_type false (unit_type c.args.self.now.symbol.now c.args.self.now.include_hash s.in_value s.letter s.lifetimes) in
+    let d = c.follow_backref.ensures.did true a_type false (unit_type c.args.self.now.source.symbol.now c.args.self.now.source.include_hash s.in_value s.letter s.lifetimes) in
     record { did = rw c.in-Backref.is (record { does = alike (omega arith) refl (omega arith) (omega arith) d.does; same = d.same }) }
 
 pub returns-in-Function : goal.returns-in-Function

@@ -24,7 +24,7 @@ returns-in_err-at g c = record {
 pub returns-in_err-name : goal.returns-in_err-name
 returns-in_err-name g c =
     let named = rw c.in_err-name.ensures.ok_part at c.numbered_name-named.ensures in
-    let b = c.args.self.now.symbol.now in
+    let b = c.args.self.now.source.symbol.now in
     let at = c.in_ok-at.at in
     record {
       did = record {
@@ -42,7 +42,7 @@ returns-in_err-name g c =
 pub returns-in_err-emit : goal.returns-in_err-emit
 returns-in_err-emit g c =
     let named = rw c.in_ok-name.ensures.ok_part at c.numbered_name-named.ensures in
-    let b = c.args.self.now.symbol.now in
+    let b = c.args.self.now.source.symbol.now in
     let at = c.in_ok-at.at in
     let e = c.in_err-emit.ensures in
     record {
@@ -62,7 +62,7 @@ pub returns : goal.returns
 unfolding unit_rest_at
 returns g c =
     let named = rw c.in_ok-name.ensures.ok_part at c.numbered_name-named.ensures in
-    let b = c.args.self.now.symbol.now in
+    let b = c.args.self.now.source.symbol.now in
     let at = c.in_ok-at.at in
     let e = c.in_ok-emit.ensures in
     record {

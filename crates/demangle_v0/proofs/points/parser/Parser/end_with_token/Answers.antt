@@ -7,7 +7,7 @@ use Rattle.demangle_v0.proofs.points.parser.Parser.end_with_token.Goals as goal
 pub returns-in_err-emit-in-Goes : goal.returns-in_err-emit-in-Goes
 returns-in_err-emit-in-Goes g c =
     let e = c.in_err-emit-in-Goes.ensures in
-    let own = group_tight c.args.self.now.symbol.now c.args.word c.args.self.now.state.letter g.V.Output.is_printed
+    let own = group_tight c.args.self.now.source.symbol.now c.args.word c.args.self.now.state.letter g.V.Output.is_printed
     c.args.self.now.state.lifetimes c.args.self.now.state.place in
     rw (e.parser, c.token_at.ensures.parser) (record {
       did = record {
@@ -25,7 +25,7 @@ returns-in_err-emit-in-Goes g c =
 
 pub returns-in-Stops : goal.returns-in-Stops
 returns-in-Stops g c =
-    let own = group_tight c.args.self.now.symbol.now c.args.word c.args.self.now.state.letter g.V.Output.is_printed
+    let own = group_tight c.args.self.now.source.symbol.now c.args.word c.args.self.now.state.letter g.V.Output.is_printed
     c.args.self.now.state.lifetimes c.args.self.now.state.place in
     rw c.token_at.ensures.parser (record {
       did = record {
@@ -41,7 +41,7 @@ returns-in-Stops g c =
 pub returns-in_ok-emit-in-Goes : goal.returns-in_ok-emit-in-Goes
 returns-in_ok-emit-in-Goes g c =
     let e = c.in_ok-emit-in-Goes.ensures in
-    let own = group_tight c.args.self.now.symbol.now c.args.word c.args.self.now.state.letter g.V.Output.is_printed
+    let own = group_tight c.args.self.now.source.symbol.now c.args.word c.args.self.now.state.letter g.V.Output.is_printed
     c.args.self.now.state.lifetimes c.args.self.now.state.place in
     rw (e.parser, c.token_at.ensures.parser) (record {
       did = record {

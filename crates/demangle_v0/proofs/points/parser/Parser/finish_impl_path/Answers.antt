@@ -14,5 +14,11 @@ returns-in-Failed-clause-finishes g c =
 
 pub returns-in-Full-clause-finishes : goal.returns-in-Full-clause-finishes
 returns-in-Full-clause-finishes g c =
-    rw c.in-OwnPath.is (refl, refl, c.in-Full.ensures.valid refl, c.in-Full.ensures.full refl, λ below began r h.
-    own_full true c.in-OwnPath.printing.state r (c.in-Full.ensures.reads below r.frames r.is_stack h r.inner))
+    rw c.in-OwnPath.is (
+      refl,
+      refl,
+      c.in-Full.ensures.valid refl,
+      c.in-Full.ensures.full refl,
+      λ below began r h.
+          own_full true c.in-OwnPath.printing.state r (c.in-Full.ensures.reads below r.frames r.is_stack h r.inner),
+    )

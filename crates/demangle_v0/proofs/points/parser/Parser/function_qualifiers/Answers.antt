@@ -13,14 +13,14 @@ pub returns-then-has_no_qualifiers : goal.returns-then-has_no_qualifiers
 unfolding unit_rest_at
 returns-then-has_no_qualifiers g c =
     let m = c.args.self.now in
-    let tight = group_tight m.symbol.now word.FunctionHead m.state.letter g.V.Output.is_printed m.state.lifetimes
+    let tight = group_tight m.source.symbol.now word.FunctionHead m.state.letter g.V.Output.is_printed m.state.lifetimes
     m.state.place in
     let d = went g.V.Output c.args.output.now point.OpenParameters
     (rw c.token_at.ensures.parser at c.queue_text.ensures.did) in
     record {
       did = record {
         does = word_bare (omega arith) word.FunctionHead parameters _ _ c.in-Goes.ensures.value
-            (c.has_no_qualifiers.ensures c.if-has_no_qualifiers.true m.symbol.now m.include_hash)
+            (c.has_no_qualifiers.ensures c.if-has_no_qualifiers.true m.source.symbol.now m.source.include_hash)
             (record { grows = c.in-Goes.ensures.grows; within = omega (arith, c.in-Goes.ensures.looks) })
             (own_more _ 8 20 _ _ (omega arith) (omega (arith, c.in-Goes.ensures.looks, tight, c.queue_text.ensures.looks)))
             (omega arith) (omega arith) d.does;
@@ -34,7 +34,7 @@ unfolding unit_rest_at
 returns-in_err-emit-in-Goes g c =
     let m = c.args.self.now in
     let e = c.in_err-emit-in-Goes.ensures in
-    let tight = group_tight m.symbol.now word.FunctionHead m.state.letter g.V.Output.is_printed m.state.lifetimes
+    let tight = group_tight m.source.symbol.now word.FunctionHead m.state.letter g.V.Output.is_printed m.state.lifetimes
     m.state.place in
     rw (e.parser, c.token_at.ensures.parser, stops c.from_residual.result c.from_residual.ensures.1 refl) (record {
       did = record {
@@ -54,7 +54,7 @@ unfolding unit_rest_at
 returns-in_ok-emit-in-Goes g c =
     let m = c.args.self.now in
     let e = c.in_ok-emit-in-Goes.ensures in
-    let tight = group_tight m.symbol.now word.FunctionHead m.state.letter g.V.Output.is_printed m.state.lifetimes
+    let tight = group_tight m.source.symbol.now word.FunctionHead m.state.letter g.V.Output.is_printed m.state.lifetimes
     m.state.place in
     rw (e.parser, c.token_at.ensures.parser) (record {
       did = record {
@@ -74,7 +74,7 @@ pub returns-in-Stops : goal.returns-in-Stops
 unfolding unit_rest_at
 returns-in-Stops g c =
     let m = c.args.self.now in
-    let tight = group_tight m.symbol.now word.FunctionHead m.state.letter g.V.Output.is_printed m.state.lifetimes
+    let tight = group_tight m.source.symbol.now word.FunctionHead m.state.letter g.V.Output.is_printed m.state.lifetimes
     m.state.place in
     rw c.token_at.ensures.parser (record {
       did = record {

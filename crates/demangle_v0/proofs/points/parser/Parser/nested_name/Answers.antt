@@ -13,7 +13,7 @@ use Rattle.demangle_v0.proofs.points.parser.Parser.nested_name.Goals as goal
 pub returns-in_err-ident : goal.returns-in_err-ident
 returns-in_err-ident g c =
     let named = rw c.in_err-ident.ensures.ok_part at c.numbered_name-named.ensures in
-    let b = c.args.self.now.symbol.now in
+    let b = c.args.self.now.source.symbol.now in
     let at = c.in-Some.at in
     let s = c.args.self.now.state in
     record {
@@ -36,7 +36,7 @@ returns-in_err-ident g c =
 pub returns-in_err-emit : goal.returns-in_err-emit
 returns-in_err-emit g c =
     let named = rw c.in_ok-ident.ensures.ok_part at c.numbered_name-named.ensures in
-    let b = c.args.self.now.symbol.now in
+    let b = c.args.self.now.source.symbol.now in
     let at = c.in-Some.at in
     let s = c.args.self.now.state in
     let e = c.in_err-emit.ensures in
@@ -64,7 +64,7 @@ pub returns : goal.returns
 unfolding unit_rest_at
 returns g c =
     let named = rw c.in_ok-ident.ensures.ok_part at c.numbered_name-named.ensures in
-    let b = c.args.self.now.symbol.now in
+    let b = c.args.self.now.source.symbol.now in
     let at = c.in-Some.at in
     let s = c.args.self.now.state in
     let e = c.in_ok-emit.ensures in

@@ -34,7 +34,7 @@ steps-preserved-then-is_skipped g c =
     record {
       ready = c.steps.invariant.ready;
       valid = skipped_valid k z (valid_resumes c.steps.invariant.valid c.in-Some.ensures.some);
-      ran = ran_skips g.S.TextSink c.args.self.now.symbol.now c.args.self.now.include_hash k (ran_then c.steps.invariant.ran (ran_resumes c.in-Some.ensures.some)) z;
+      ran = ran_skips g.S.TextSink c.args.self.now.source.symbol.now c.args.self.now.source.include_hash k (ran_then c.steps.invariant.ran (ran_resumes c.in-Some.ensures.some)) z;
       same = (c.in_default-skipped.ensures.same.0 ∙ same.0, c.in_default-skipped.ensures.same.1 ∙ same.1);
       grows = omega (arith, c.steps.invariant.grows, c.in-Some.ensures.looks, c.in_default-skipped.ensures.grows);
       least = omega (arith, c.steps.invariant.least, c.in-Some.ensures.looks, c.in_default-skipped.ensures.grows, first_resumes c.in-Some.ensures.some, skip_unread _ c.resume.new.self.state skips);
@@ -48,18 +48,18 @@ step-requires g c =
 
 pub returns-in_err-point-clause-ran : goal.returns-in_err-point-clause-ran
 returns-in_err-point-clause-ran g c =
-    let d = stepped_as (printing g.S.TextSink c.args.self.now.symbol.now c.args.self.now.include_hash).output c.args.self.now c.resume.new.self (c.in-Some.ensures.same.0 ∙ c.steps.invariant.same.0, c.in-Some.ensures.same.1 ∙ c.steps.invariant.same.1) c.in_err-point.ensures.stepped in
+    let d = stepped_as (printing g.S.TextSink c.args.self.now.source.symbol.now c.args.self.now.source.include_hash).output c.args.self.now c.resume.new.self (c.in-Some.ensures.same.0 ∙ c.steps.invariant.same.0, c.in-Some.ensures.same.1 ∙ c.steps.invariant.same.1) c.in_err-point.ensures.stepped in
     ran_fail c.from_residual.ensures.0 (ran_broke c.steps.invariant.ran c.in-Some.ensures.some (rw c.in-Some.ensures.looks at d))
 
 pub steps-smaller : goal.steps-smaller
 steps-smaller g c =
-    let d = stepped_as (printing g.S.TextSink c.args.self.now.symbol.now c.args.self.now.include_hash).output c.args.self.now c.resume.new.self (c.in-Some.ensures.same.0 ∙ c.steps.invariant.same.0, c.in-Some.ensures.same.1 ∙ c.steps.invariant.same.1) c.in_ok-point.ensures.stepped in
+    let d = stepped_as (printing g.S.TextSink c.args.self.now.source.symbol.now c.args.self.now.source.include_hash).output c.args.self.now c.resume.new.self (c.in-Some.ensures.same.0 ∙ c.steps.invariant.same.0, c.in-Some.ensures.same.1 ∙ c.steps.invariant.same.1) c.in_ok-point.ensures.stepped in
     turn_less c.in-Some.ensures.some d
 
 pub steps-preserved : goal.steps-preserved
 steps-preserved g c =
     let same : Same c.args.self.now c.resume.new.self = (c.in-Some.ensures.same.0 ∙ c.steps.invariant.same.0, c.in-Some.ensures.same.1 ∙ c.steps.invariant.same.1) in
-    let d = stepped_as (printing g.S.TextSink c.args.self.now.symbol.now c.args.self.now.include_hash).output c.args.self.now c.resume.new.self (c.in-Some.ensures.same.0 ∙ c.steps.invariant.same.0, c.in-Some.ensures.same.1 ∙ c.steps.invariant.same.1) c.in_ok-point.ensures.stepped in
+    let d = stepped_as (printing g.S.TextSink c.args.self.now.source.symbol.now c.args.self.now.source.include_hash).output c.args.self.now c.resume.new.self (c.in-Some.ensures.same.0 ∙ c.steps.invariant.same.0, c.in-Some.ensures.same.1 ∙ c.steps.invariant.same.1) c.in_ok-point.ensures.stepped in
     record {
       ready = c.in_ok-point.ensures.ready refl;
       valid = valid_steps (valid_resumes c.steps.invariant.valid c.in-Some.ensures.some) d;

@@ -9,11 +9,11 @@ abbrev pub invariant-steps : goal.invariant-steps
 invariant-steps g l = record {
   ready : Ready g.S.TextSink l.out;
   valid : Valid l.point l.self.state l.self.stack;
-  ran : Ran (printing g.S.TextSink l.initial.self.symbol.now l.initial.self.include_hash) l.initial.self.point (turn_of l.initial.self l.initial.out) l.point (turn_of l.self l.out);
+  ran : Ran (printing g.S.TextSink l.initial.self.source.symbol.now l.initial.self.source.include_hash) l.initial.self.point (turn_of l.initial.self l.initial.out) l.point (turn_of l.self l.out);
   same : Same l.initial.self l.self;
   grows : l.initial.self.looks ≤ l.self.looks;
   least : l.initial.self.looks + first_looks l.initial.self.point l.initial.self.state ≤ l.self.looks + first_looks l.point l.self.state;
 }
 
 abbrev pub decreases-steps : goal.decreases-steps
-decreases-steps g l = measure l.initial.self.symbol.now l.initial.self.include_hash true l.point l.self.state l.self.stack
+decreases-steps g l = measure l.initial.self.source.symbol.now l.initial.self.source.include_hash true l.point l.self.state l.self.stack

@@ -137,7 +137,7 @@ pub returns-in-Reference : goal.returns-in-Reference
 returns-in-Reference g c =
     let m = c.args.self.now in
     let d = c.follow_backref.ensures.did true a_constant m.state.in_value
-    (unit_constant m.symbol.now m.include_hash m.state.in_value m.state.letter m.state.lifetimes) in
+    (unit_constant m.source.symbol.now m.source.include_hash m.state.in_value m.state.letter m.state.lifetimes) in
     record {
       did = record {
         does = constant_as c.args.tag kind.Reference

@@ -57,8 +57,8 @@ returns-in-Generic g c =
 pub returns-in-Reference : goal.returns-in-Reference
 returns-in-Reference g c =
     let s = c.args.self.now.state in
-    let d = c.follow_backref.ensures.did true a_path s.in_value (unit_path c.args.self.now.symbol.now
-    c.args.self.now.include_hash s.in_value s.letter s.lifetimes) in
+    let d = c.follow_backref.ensures.did true a_path s.in_value (unit_path c.args.self.now.source.symbol.now
+    c.args.self.now.source.include_hash s.in_value s.letter s.lifetimes) in
     record {
       did = record {
         does = path_as c.args.tag kind.Reference (rw (

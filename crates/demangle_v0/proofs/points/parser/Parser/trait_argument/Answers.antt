@@ -14,7 +14,7 @@ returns-in_default g c = record {
 
 pub returns-then-is_at : goal.returns-then-is_at
 returns-then-is_at g c =
-    let z = ends_at c.args.self.now.symbol.now _ c.in-Some.at c.in-Some.is (sym c.is_at.ensures.there ∙ c.if-is_at.true) in
+    let z = ends_at c.args.self.now.source.symbol.now _ c.in-Some.at c.in-Some.is (sym c.is_at.ensures.there ∙ c.if-is_at.true) in
     record {
       did = λ p. record {
         does = open_over c.args.is_first z.0 z.1 (rw c.in-Some.is (one_look c.is_at.ensures.look))

@@ -18,7 +18,7 @@ returns-in_err-at g c = let failed = c.in_err-at.ensures.failed in record {
 
 pub returns-then-is_at : goal.returns-then-is_at
 returns-then-is_at g c =
-    let d = c.follow_backref.ensures.did false a_trait_path false (unit_trait _ c.args.self.now.include_hash _ _ _) in
+    let d = c.follow_backref.ensures.did false a_trait_path false (unit_trait _ c.args.self.now.source.include_hash _ _ _) in
     record {
       did = record {
         does = trait_refers c.in_ok-at.at c.in_ok-at.ensures.ok (rw c.is_at.ensures.there at c.if-is_at.true)
