@@ -4,4 +4,4 @@ use Rattle.demangle_v0.specs.Parsers.{IsValid}
 use Rattle.demangle_v0.proofs.tests.steps_print.Given as goal
 
 abbrev pub invariant-loop : goal.invariant-loop
-invariant-loop l = record { valid : IsValid l.parser; ascii : IsAscii l.parser.symbol.now }
+invariant-loop l = record { valid : IsValid l.parser; ascii : IsAscii l.parser.source.symbol.now }
