@@ -1,6 +1,7 @@
 pub mod Faults
 pub mod Heights
 pub mod Kept
+pub mod Parsers
 pub mod PointArguments
 pub mod PointConstantLists
 pub mod PointConstants

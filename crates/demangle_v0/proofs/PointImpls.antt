@@ -3,7 +3,7 @@ use Rattle.std.specs.Prelude.{◌*◌}
 use Rattle.std.proofs.Common.{◌≡◌, ℕ, ◌+◌, ◌-◌, length, Bool, true, false, Some, None, List, [], ◌∷◌, ◌++◌, Ok, Err, refl, arith, sym}
 use Prim.Native.Char.{code}
 use Rattle.demangle_symbol.specs.Words.{optional_at}
-use Rattle.demangle_grammar.specs.Events.{of, and_then}
+use Rattle.demangle_grammar.specs.Events.{and_then}
 use Rattle.demangle_v0.specs.Impls.{impl_items, skip_point, self_point}
 use Rattle.demangle_v0.specs.Points.{frame_at, Turn, Env, Paid, RestDoes, PointDoes, frame_of, unit_rest, unit_rest_at, Fits}
 use Rattle.demangle_grammar.specs.Reading.{Place, run}

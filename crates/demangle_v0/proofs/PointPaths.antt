@@ -106,7 +106,7 @@ module _ {V : Type 0} {e : Env V} where
   unfolding unit_rest_at run level_of levels
   path_deep i at d k = ends mark.Recursion [] (omega arith) k (rw (at, d) refl) (record { grows = omega arith; within = omega arith }) (omega arith) (omega arith)
 
-  pub path_untagged : {t : Turn V} {n : ℕ} (i : ℕ) → t.state.place ≡ Some i → 0 < t.state.depth_left → None ≡ byte_at e.symbol i → n ≡ t.looks + 1 → t.state.mark ≡ None → PointDoes e point.Path t (Err (Fault mark.Invalid)) (record t { looks = n })
+  pub path_untagged : {t : Turn V} {s : State} {n : ℕ} (i : ℕ) → t.state.place ≡ Some i → 0 < t.state.depth_left → None ≡ byte_at e.symbol i → n ≡ t.looks + 1 → s.mark ≡ None → PointDoes e point.Path t (Err (Fault mark.Invalid)) (record t { state = s; looks = n })
   unfolding run
   path_untagged {t} i at d r l k =
       ends mark.Invalid (4 * (length e.symbol - i + 1) ∷ []) (omega arith) k (opened e t.state i at d ∙ rw (sym r) refl) (record { grows = omega arith; within = omega arith }) (rw at (omega (arith, l))) (omega arith)

@@ -45,29 +45,29 @@ module _ {V : Type 0} {e : Env V} where
 
   -- the stack is full
   pub ran_midway : {o p : Point} {first : Turn V} {s : State} {below now : List Frame} {w : V} {base began n : ℕ} {inner r : Reading} → is_skip p ≡ true → r ≡ record { point = p; state = s } → base ≡ length below → Valid p s below
-      → ReadsOwn e.symbol e.include_hash below s began inner now n → Ran e o first p (turn s below w began) → RanOn e o first (Ok (Some (left.OwnPath base inner))) r now w n
+      → ReadsOwn e.symbol e.include_hash below s began inner now n → Ran e o first p (turn s below w began) → RanOn e o first (Ok (Some (left.OwnPath base r))) inner now w n
   ran_midway {p = p} {below = below} {began = began} i k h valid x ran = let q = skip_is p i in rw k (record {
     ran = record { began = began; skips = record { below = below; height = sym h; of_trait = q.0; at = q.1; valid = valid; reads = x }; ran = ran };
   })
 
   pub ran_left : {o : Point} {first : Turn V} {r to : Reading} {below now : List Frame} {w : V} {began k n : ℕ} {x : Left} → is_skip r.point ≡ true → Valid r.point r.state below → SkipsTo e.symbol e.include_hash r below began x k to now n
       → Ran e o first r.point (turn r.state below w began) → RanOn e o first (Ok (Some x)) to now w n
-  ran_left i v k ran = rw k.is_left (ran_midway i k.same k.height v k.reads ran)
+  ran_left i v k ran = rw k.is_left (ran_midway i refl k.height v k.reads ran)
 
   -- A reading that goes on where another stopped.
 
   pub ran_joins : {p q : Point} {t u : Turn V} (result : Result (Option Left) SinkRefused) {r : Reading} {now : List Frame} {w : V} {n : ℕ} → Ran e p t q u → RanOn e q u result r now w n → RanOn e p t result r now w n
   ran_joins (Ok None) a c = record { ran = ran_then a c.ran }
   ran_joins (Ok (Some left.Stack)) a c = record { ran = ran_then a c.ran }
-  ran_joins (Ok (Some (left.OwnPath base inner))) a c = record { ran = record { began = c.ran.began; skips = c.ran.skips; ran = ran_then a c.ran.ran } }
+  ran_joins (Ok (Some (left.OwnPath base r))) a c = record { ran = record { began = c.ran.began; skips = c.ran.skips; ran = ran_then a c.ran.ran } }
   ran_joins (Err f) a c =
       let d = c.ran in record { ran = record { at = d.at; mid = d.mid; stack = d.stack; end = d.end; ran = ran_then a d.ran; halts = d.halts; same_output = d.same_output; same_looks = d.same_looks } }
 
   -- behind an impl's own path, or where the stack is full before
   pub finished_ran : (k : ℕ) {p : Point} {t : Turn V} {few now : List Frame} {w : V} (x y : Left) {r to : Reading} {m n : ℕ} → RanOn e p t (Ok (Some x)) r few w m → Finishes e.symbol e.include_hash k x r few m (Some y) to now n → RanOn e p t (Ok (Some y)) to now w n
   finished_ran i left.Stack y a k = absurd k
-  finished_ran i (left.OwnPath base inner) left.Stack a k = absurd k
-  finished_ran i (left.OwnPath base inner) (left.OwnPath height more) a k =
+  finished_ran i (left.OwnPath base r) left.Stack a k = absurd k
+  finished_ran i (left.OwnPath base r) (left.OwnPath height to) a k =
       let z = a.ran.skips in
       rw (k.0, k.1) (record {
         ran = record {
@@ -94,12 +94,12 @@ module _ {V : Type 0} {e : Env V} where
 
 pub passed_valid : (b : List ℕ) (include_hash : Bool) (few now : List Frame) (k : ℕ) (x : Left) (r to : Reading) (m n : ℕ) → ValidLeft b include_hash k (Ok (Some x)) r few m → Passed b include_hash x r few m to now n → Valid to.point to.state now
 passed_valid b include_hash few now i left.Stack r to m n v k = rw (k.0, k.1) v.0
-passed_valid b include_hash few now i (left.OwnPath base inner) r to m n v k = let s = v.1 in skipped_valid (s.of_trait, s.at) (k s.below s.of_trait v.0 s.reads s.height s.at) s.valid
+passed_valid b include_hash few now i (left.OwnPath base r) inner to m n v k = let s = v.1 in skipped_valid (s.of_trait, s.at) (k s.below s.of_trait v.0 s.reads s.height s.at) s.valid
 
 pub finished_valid : (b : List ℕ) (include_hash : Bool) (i j : ℕ) (few now : List Frame) (x y : Left) (r to : Reading) (m n : ℕ) → ValidLeft b include_hash i (Ok (Some x)) r few m → Finishes b include_hash j x r few m (Some y) to now n → ValidLeft b include_hash j (Ok (Some y)) to now n
 finished_valid b include_hash i j few now left.Stack y r to m n v k = absurd k
-finished_valid b include_hash i j few now (left.OwnPath base inner) left.Stack r to m n v k = absurd k
-finished_valid b include_hash i j few now (left.OwnPath base inner) (left.OwnPath height more) r to m n v k =
+finished_valid b include_hash i j few now (left.OwnPath base r) left.Stack inner to m n v k = absurd k
+finished_valid b include_hash i j few now (left.OwnPath base r) (left.OwnPath height to) inner more m n v k =
     let z = v.1 in
     rw (k.0, k.1) (v.0, record { below = z.below; height = z.height; of_trait = z.of_trait; at = z.at; valid = z.valid; reads = k.4 z.below v.0 z.reads z.height }, k.2, k.3)
 
@@ -149,7 +149,7 @@ module _ {S : Type 0} (sink : Sinks S) (b : List ℕ) (include_hash : Bool) wher
   pub passed_ran : {p : Point} {t : Turn (SizeLimitedFmtAdapter S)} {few now : List Frame} {w : SizeLimitedFmtAdapter S} (x : Left) {r to : Reading} {m n : ℕ} → RanOn (printing sink b include_hash) p t (Ok (Some x)) r few w m → Passed b include_hash x r few m to now n
       → Ran (printing sink b include_hash) p t to.point (turn to.state now w n)
   passed_ran left.Stack a k = rw (k.0, k.1) (record { bits = a.ran.bits; emits = a.ran.emits; reads = a.ran.reads; enough = omega (arith, k.2, a.ran.enough) })
-  passed_ran (left.OwnPath base inner) a k = let s = a.ran.skips in ran_skips (s.of_trait, s.at) a.ran.ran (k s.below s.of_trait a.ran.began s.reads s.height s.at)
+  passed_ran (left.OwnPath base r) a k = let s = a.ran.skips in ran_skips (s.of_trait, s.at) a.ran.ran (k s.below s.of_trait a.ran.began s.reads s.height s.at)
 
   abbrev begun : SizeLimitedFmtAdapter S → ℕ → Turn (SizeLimitedFmtAdapter S)
   begun v n = turn (first_state 0) [] v n

@@ -1,6 +1,6 @@
 -- The own path of an impl, where something is printed: it is read above the frames that stand, and printing goes on behind it.
-use Rattle.std.specs.Prelude.{◌*◌, take}
-use Rattle.std.proofs.Common.{◌≡◌, ℕ, ◌+◌, ◌≤◌, ◌<◌, Bool, true, false, Some, None, Ok, List, [], ◌∷◌, length, refl, arith, sym, ap, ◌∙◌, subst}
+use Rattle.std.specs.Prelude.{◌*◌, take, IfSome, IfNone}
+use Rattle.std.proofs.Common.{◌≡◌, ℕ, ◌+◌, ◌≤◌, ◌<◌, Bool, true, false, Option, Some, None, Ok, List, [], ◌∷◌, length, refl, arith, sym, ap, ◌∙◌, subst}
 use Rattle.std.proofs.lemmas.Bool.{false≢true}
 use Rattle.std.proofs.lemmas.List.{append-nil}
 use Rattle.std.proofs.Math.Seq.{take-append_seam}
@@ -12,6 +12,8 @@ use Rattle.demangle_grammar.specs.Reading.{Place, unit_outcome, run}
 use Rattle.demangle_grammar.specs.Running.{allowed_in}
 use Rattle.demangle_v0.specs.Points.{most_frames, Turn, pays, heard_bits, way_weight, weights, measure, unit_rest_at, unit_rest_of, stack_rest, reading_rest, none_open}
 use Rattle.demangle_v0.specs.PointRuns.{Resumes, Valid, frame_height, Reads, ReadOn, silently, silent_turn, Skipped, SkipsTo, ReadsOwn, Skipping, ValidLeft, silent_of, own_path, own_heard, state_at, first_looks}
+use Rattle.demangle_v0.specs.Parsers.{FinishesSkip, IsValid, LeftValid, SkipsFull, SkipsOver, checked_at, reading_of}
+use Rattle.demangle_v0.specs.declared.points.parser.Parser.{Parser}
 use Rattle.demangle_words.specs.declared.output.Silent.{Silent}
 use Rattle.demangle_v0.specs.declared.points.Point.{Point}
 use Rattle.demangle_v0.specs.declared.points.Point.TheVariants as point
@@ -20,6 +22,7 @@ use Rattle.demangle_v0.specs.declared.points.State.{State}
 use Rattle.demangle_v0.specs.declared.points.read.Halt.TheVariants as halt
 use Rattle.demangle_v0.specs.declared.points.read.Reading.{Reading}
 use Rattle.demangle_v0.specs.declared.printing.Left.{Left}
+use Rattle.demangle_v0.specs.declared.printing.Left.TheVariants as left
 use Rattle.demangle_grammar.proofs.Hearing.{allowing_then}
 use Rattle.demangle_v0.proofs.Heights.{stands_on}
 use Rattle.demangle_v0.proofs.PointRuns.{allowed_bits, reads_none, resumes_heard, resume_light, ran_then, ran_place, ran_looks, broke_fails}
@@ -125,7 +128,7 @@ skipping {p = p} {below = below} e k h v x = let q = skip_is p e in rw k (record
 
 pub skips_valid : {b : List ℕ} {include_hash : Bool} {r to : Reading} {below now : List Frame} {began n looks : ℕ} {x : Left} → is_skip r.point ≡ true → Valid r.point r.state below → SkipsTo b include_hash r below began x n to now looks
     → ValidLeft b include_hash n (Ok (Some x)) to now looks
-skips_valid {began = began} e v k = rw k.is_left (began, skipping e k.same k.height v k.reads, k.valid, k.full)
+skips_valid {began = began} e v k = rw k.is_left (began, skipping e refl k.height v k.reads, k.valid, k.full)
 
 module _ {b : List ℕ} {include_hash : Bool} {below : List Frame} {began m : ℕ} {p q : Point} {t : State} {stack : List Frame} {u : Turn Silent} (of_trait : Bool) (s : State) (r : Reads (silently b include_hash) below point.Path (silent_turn (silent_of s) [] began) p (silent_turn t stack m)) where
   -- it came to its end
@@ -152,3 +155,28 @@ module _ {b : List ℕ} {include_hash : Bool} {below : List Frame} {began m : �
   -- the stack is full
   pub own_full : ReadOn (silently b include_hash) below p (silent_turn t r.frames m) halt.Full q u → Reads (silently b include_hash) below point.Path (silent_turn (silent_of s) [] began) q u
   own_full d = record { frames = d.reads.frames; is_stack = d.reads.is_stack; inner = d.reads.inner; ran = ran_then r.ran d.reads.ran }
+
+-- An impl path that is read from its beginning.
+
+module _ {N : ℕ} (m : Parser N) (base : ℕ) where
+  abbrev inside : Parser N
+  inside = checked_at m point.Path (silent_of m.state)
+
+  pub skip_begins : is_skip m.point ≡ true → base ≡ length m.stack → IsValid m → LeftValid 0 (Ok (Some (left.OwnPath base (reading_of m)))) inside
+  skip_begins e h v = (m.looks, skipping e refl h v (own_reads m.source.symbol.now m.source.include_hash m.looks m.state refl), own_stands e refl v, omega arith)
+
+  pub skips_over : (k : Parser N) (result : Option Left) → base ≡ length m.stack → FinishesSkip inside (left.OwnPath base (reading_of m)) result k → IfNone result (SkipsOver m k)
+  skips_over k None h f = λ q at. f m.stack q m.looks (own_reads m.source.symbol.now m.source.include_hash m.looks m.state refl) (sym h) at
+  skips_over k (Some x) h f = tt
+
+  pub skips_full : (k : Parser N) (result : Option Left) → base ≡ length m.stack → FinishesSkip inside (left.OwnPath base (reading_of m)) result k → IfSome result (λ x. SkipsFull m x k)
+  skips_full k None h f = tt
+  skips_full k (Some left.Stack) h f = absurd f
+  skips_full k (Some (left.OwnPath height r)) h f = record {
+    base = base;
+    is_left = rw (f.0, f.1) refl;
+    height = h;
+    reads = f.4 m.stack m.looks (own_reads m.source.symbol.now m.source.include_hash m.looks m.state refl) (sym h);
+    valid = f.2;
+    full = f.3;
+  }

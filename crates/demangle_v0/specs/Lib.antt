@@ -5,6 +5,7 @@ pub mod DynTraits
 pub mod Faults
 pub mod Heights
 pub mod Impls
+pub mod Parsers
 pub mod Marks
 pub mod Packing
 pub mod PointRuns

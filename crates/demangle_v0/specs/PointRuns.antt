@@ -166,14 +166,12 @@ pub record Skipping (b : List ℕ) (include_hash : Bool) (base : ℕ) (began : �
   pub valid : Valid printing.point printing.state below
   pub reads : ReadsOwn b include_hash below printing.state began inner now looks
 
--- it was read from where printing stands, until a stack of at least so many frames was full
-pub record SkipsTo (b : List ℕ) (include_hash : Bool) (r : Reading) (below : List Frame) (began : ℕ) (x : Left) (n : ℕ) (to : Reading) (now : List Frame) (looks : ℕ) : Type 0 where
+-- it was read from where printing is, until a stack of at least `n` frames was full
+pub record SkipsTo (b : List ℕ) (include_hash : Bool) (printing : Reading) (below : List Frame) (began : ℕ) (x : Left) (n : ℕ) (inner : Reading) (now : List Frame) (looks : ℕ) : Type 0 where
   pub base : ℕ
-  pub inner : Reading
-  pub is_left : x ≡ left.OwnPath base inner
-  pub same : to ≡ r
+  pub is_left : x ≡ left.OwnPath base printing
   pub height : base ≡ length below
-  pub reads : ReadsOwn b include_hash below r.state began inner now looks
+  pub reads : ReadsOwn b include_hash below printing.state began inner now looks
   pub valid : Valid inner.point inner.state now
   pub full : n ≤ length now
 
@@ -190,7 +188,7 @@ pub record Midway {V : Type 0} (env : Env V) (p : Point) (before : Turn V) (base
 abbrev pub RansOn : {V : Type 0} → Env V → Point → Turn V → Result (Option Left) SinkRefused → Reading → List Frame → V → ℕ → Type 0
 RansOn env p before (Ok None) r now w looks = Ran env p before point.End (turn r.state [] w looks)
 RansOn env p before (Ok (Some left.Stack)) r now w looks = Ran env p before r.point (turn r.state now w looks)
-RansOn env p before (Ok (Some (left.OwnPath base inner))) r now w looks = Midway env p before base inner r now w looks
+RansOn env p before (Ok (Some (left.OwnPath base r))) inner now w looks = Midway env p before base inner r now w looks
 RansOn env p before (Err e) r now w looks = Broke env p before w looks
 
 pub record RanOn {V : Type 0} (env : Env V) (p : Point) (before : Turn V) (result : Result (Option Left) SinkRefused) (r : Reading) (now : List Frame) (w : V) (looks : ℕ) : Type 0 where
@@ -200,27 +198,28 @@ pub record RanOn {V : Type 0} (env : Env V) (p : Point) (before : Turn V) (resul
 abbrev pub ValidLeft : List ℕ → Bool → ℕ → Result (Option Left) SinkRefused → Reading → List Frame → ℕ → Type 0
 ValidLeft b include_hash n (Ok None) r stack looks = Unit {0}
 ValidLeft b include_hash n (Ok (Some left.Stack)) r stack looks = Valid r.point r.state stack × (n ≤ length stack)
-ValidLeft b include_hash n (Ok (Some (left.OwnPath base inner))) r stack looks = (began : ℕ) × Skipping b include_hash base began inner r stack looks × Valid inner.point inner.state stack × (n ≤ length stack)
+ValidLeft b include_hash n (Ok (Some (left.OwnPath base r))) inner stack looks = (began : ℕ) × Skipping b include_hash base began inner r stack looks × Valid inner.point inner.state stack × (n ≤ length stack)
 ValidLeft b include_hash n (Err e) r stack looks = Unit {0}
 
 -- the own path of an impl that was read so far was read to its end, if there was one
 abbrev pub Passed : List ℕ → Bool → Left → Reading → List Frame → ℕ → Reading → List Frame → ℕ → Type 0
 Passed b include_hash left.Stack r stack old to now new = (to ≡ r) × (now ≡ stack) × (new ≤ old)
-Passed b include_hash (left.OwnPath base inner) r stack old to now new = (below : List Frame) (q : Bool) (began : ℕ) → ReadsOwn b include_hash below r.state began inner stack old → length below ≡ base → r.point ≡ skip_point q
+Passed b include_hash (left.OwnPath base r) inner stack old to now new = (below : List Frame) (q : Bool) (began : ℕ) → ReadsOwn b include_hash below r.state began inner stack old → length below ≡ base → r.point ≡ skip_point q
     → Skipped b include_hash q r.state below began to.point to.state now new
 
 -- the same, where the stack of so many frames may be full before
 abbrev pub Finishes : List ℕ → Bool → ℕ → Left → Reading → List Frame → ℕ → Option Left → Reading → List Frame → ℕ → Type 0
 Finishes b include_hash n x r stack old None to now new = Passed b include_hash x r stack old to now new
 Finishes b include_hash n left.Stack r stack old (Some y) to now new = ⊥
-Finishes b include_hash n (left.OwnPath base inner) r stack old (Some left.Stack) to now new = ⊥
-Finishes b include_hash n (left.OwnPath base inner) r stack old (Some (left.OwnPath height more)) to now new = (height ≡ base) × (to ≡ r) × Valid more.point more.state now × (n ≤ length now)
+Finishes b include_hash n (left.OwnPath base r) inner stack old (Some left.Stack) to now new = ⊥
+Finishes b include_hash n (left.OwnPath base r) inner stack old (Some (left.OwnPath height to)) more now new = (height ≡ base) × (to ≡ r) × Valid more.point more.state now × (n ≤ length now)
     × ((below : List Frame) (began : ℕ) → ReadsOwn b include_hash below r.state began inner stack old → length below ≡ base → ReadsOwn b include_hash below r.state began more now new)
 
 -- the looks that what is left makes for certain
 abbrev pub looks_left : Result (Option Left) SinkRefused → Reading → ℕ
 looks_left (Ok None) r = 0
-looks_left (Ok (Some x)) r = first_looks r.point r.state
+looks_left (Ok (Some left.Stack)) r = first_looks r.point r.state
+looks_left (Ok (Some (left.OwnPath base r))) inner = 0
 looks_left (Err e) r = 0
 
 -- how it ended: all was printed, or it was refused

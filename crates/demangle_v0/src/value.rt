@@ -4,14 +4,13 @@ ghost use Rattle.demangle_sink.specs.Cut.{kept};
 ghost use Rattle.demangle_sink.specs.Limit.{Prints, Ready};
 ghost use Rattle.demangle_grammar.specs.Reading.{path_texts};
 
-use crate::points::frames::{FrameStack, SHORT_STACK};
-use crate::points::read::Reading;
-use crate::printing::{print_more, print_on};
+use crate::points::frames::SHORT_STACK;
+use crate::points::parser::Parser;
 use demangle_sink::{SinkRefused, SizeLimitedFmtAdapter, TextSink};
 use demangle_symbol::cursor::{Looks, Symbol};
 use std::marker::Model;
 
-/// A v0 symbol that was read: the bytes behind its prefix, with the suffix.
+/// A v0 symbol that was read: the bytes after its prefix, with the suffix.
 #[derive(Drop)]
 pub struct Demangle<'s> {
     inner: Symbol<'s>,
@@ -28,7 +27,7 @@ impl<'s> Model for Demangle<'s> {
 }
 
 impl<'s> Demangle<'s> {
-    /// A symbol that is spelled, of ASCII alone.
+    /// Returns the symbol with these bytes, which are ASCII.
     pub(super) fn new(inner: Symbol<'s>) -> Demangle<'s>
         requires { IsAscii inner }
         ensures { result ≡ inner.entry }
@@ -38,7 +37,7 @@ impl<'s> Demangle<'s> {
 
     /// Prints the first path, with the hash or without it.
     ///
-    /// It ends at the piece that the limit or the sink refuses.
+    /// Fails at the first piece that the limit or the sink refuses.
     pub fn write_to<S: TextSink>(
         &self,
         out: &mut SizeLimitedFmtAdapter<'_, S>,
@@ -53,26 +52,9 @@ impl<'s> Demangle<'s> {
             out.old.remaining + 1) * (length self.now + 1) }
         ensures least { looks.old + 1 ≤ looks.new }
     {
-        let mut stack: FrameStack<SHORT_STACK> = FrameStack::new();
-        let mut reading = Reading::of_path(0);
-        match print_on(
-            &self.inner,
-            include_hash,
-            &mut reading,
-            &mut stack,
-            out,
-            looks,
-        )? {
-            None => Ok(()),
-            Some(left) => print_more(
-                &self.inner,
-                include_hash,
-                &stack,
-                &reading,
-                left,
-                out,
-                looks,
-            ),
-        }
+        let mut parser: Parser<SHORT_STACK> = Parser::at_path(&self.inner, include_hash, 0, looks);
+        let printed = parser.print_path(out);
+        *looks = parser.looks;
+        printed
     }
 }

@@ -1,11 +1,12 @@
-//! The words of v0 symbols (RFC 2603) and their fixed texts: how a word is read, where a back
-//! reference leads, and how what was read is put into a sink.
+//! The tokens of v0 symbols (RFC 2603) and their fixed texts: how a token is read, where a back
+//! reference leads, and how a token is printed.
 #![tactic(auto)]
 
 pub mod output;
 pub mod read;
 pub mod reference;
 pub mod render;
+pub mod source;
 pub mod stretch;
 pub mod tags;
 pub mod texts;

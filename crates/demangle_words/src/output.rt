@@ -1,66 +1,76 @@
-//! What becomes of what is read: text, or nothing.
+//! Where the parser sends its tokens: a sink, or nowhere.
 ghost use Rattle.std.specs.Prelude.{◌≡◌, ◌+◌, ◌≤◌, ℕ, List, Bool, Result, true, false, IsAscii, IsOk, OnOk};
 ghost use Rattle.demangle_words.specs.WordReads.{texts_of, looks_later};
 ghost use Rattle.demangle_sink.specs.Limit.{Prints, Ready};
 ghost use Rattle.demangle_words.specs.Backrefs.{LiesIn};
 ghost use Rattle.demangle_sink.specs.declared.SinkRefused.{SinkRefused};
 
-use crate::render::render;
+use crate::source::Source;
 use crate::stretch::Stretch;
 use demangle_sink::{SinkRefused, SizeLimitedFmtAdapter, TextSink};
-use demangle_symbol::cursor::{Looks, Symbol};
+use demangle_symbol::cursor::Looks;
 
-/// What stretches are handed to.
+/// Receives the tokens that the parser reads.
+///
+/// The parser is generic over its output. With `Silent` it only validates a symbol. With a
+/// `SizeLimitedFmtAdapter` it prints one.
 pub trait Output {
-    // Whether stretches are printed: where not, a fault ends the reading.
+    // Whether tokens are printed. If not, the first error ends the parse.
     ghost is_printed: { Bool };
 
+    // Whether the output accepts another token.
     ghost ready: { Self → Type 0 };
 
-    // Handing these texts over answered so.
+    // Relates the output before, the texts of a token, the result, and the output after.
     ghost prints: { Self → List (List ℕ) → Result (Unit {0}) SinkRefused → Self → Type 0 };
 
-    /// Whether stretches are printed.
+    /// Returns `true` if tokens are printed.
     fn is_printing(&self) -> bool
         ensures { result ≡ is_printed };
 
-    /// Hands a stretch over.
+    /// Prints a token, piece by piece.
+    ///
+    /// # Errors
+    ///
+    /// Returns `SinkRefused` if the sink or the size limit rejects a piece. No later piece is sent.
     fn emit(
         &mut self,
-        symbol: &Symbol<'_>,
+        source: &Source<'_>,
         stretch: &Stretch,
-        include_hash: bool,
         looks: &mut Looks,
     ) -> Result<(), SinkRefused>
-        requires ascii { is_printed ≡ true → IsAscii symbol.now }
-        requires in_bounds { LiesIn symbol.now stretch.now }
+        requires ascii { is_printed ≡ true → IsAscii source.now.symbol.now }
+        requires in_bounds { LiesIn source.now.symbol.now stretch.now }
         requires ready { ready self.old }
-        ensures prints { prints self.old (texts_of symbol.now include_hash stretch.now) result
+        ensures prints { prints self.old (texts_of source.now.symbol.now source.now.include_hash stretch.now) result
             self.new }
         ensures ready { OnOk result (ready self.new) }
         ensures quiet { is_printed ≡ false → IsOk result }
         ensures grows { looks.old ≤ looks.new }
         ensures most { looks.new ≤ looks.old + looks_later stretch.now };
 
-    /// Hands the stretch of a fault over, or ends the reading.
+    /// Prints the token of a syntax error.
+    ///
+    /// # Errors
+    ///
+    /// Returns `SinkRefused` as `emit` does, and always if nothing is printed.
     fn emit_fault(
         &mut self,
-        symbol: &Symbol<'_>,
+        source: &Source<'_>,
         stretch: &Stretch,
-        include_hash: bool,
         looks: &mut Looks,
     ) -> Result<(), SinkRefused>
-        requires ascii { is_printed ≡ true → IsAscii symbol.now }
-        requires in_bounds { LiesIn symbol.now stretch.now }
+        requires ascii { is_printed ≡ true → IsAscii source.now.symbol.now }
+        requires in_bounds { LiesIn source.now.symbol.now stretch.now }
         requires ready { ready self.old }
-        ensures prints { prints self.old (texts_of symbol.now include_hash stretch.now) result
+        ensures prints { prints self.old (texts_of source.now.symbol.now source.now.include_hash stretch.now) result
             self.new }
         ensures ready { OnOk result (ready self.new) }
         ensures grows { looks.old ≤ looks.new }
         ensures most { looks.new ≤ looks.old + looks_later stretch.now };
 }
 
-/// Acceptance: nothing is printed.
+/// An output that prints nothing. It is used to validate a symbol.
 #[derive(Drop)]
 pub struct Silent;
 
@@ -79,9 +89,8 @@ impl Output for Silent {
     #[inline(always)]
     fn emit(
         &mut self,
-        _symbol: &Symbol<'_>,
+        _source: &Source<'_>,
         _stretch: &Stretch,
-        _plain: bool,
         _looks: &mut Looks,
     ) -> Result<(), SinkRefused> {
         Ok(())
@@ -90,9 +99,8 @@ impl Output for Silent {
     #[inline(always)]
     fn emit_fault(
         &mut self,
-        _symbol: &Symbol<'_>,
+        _source: &Source<'_>,
         _stretch: &Stretch,
-        _plain: bool,
         _looks: &mut Looks,
     ) -> Result<(), SinkRefused> {
         Err(SinkRefused)
@@ -114,22 +122,20 @@ impl<'s, S: TextSink> Output for SizeLimitedFmtAdapter<'s, S> {
     #[inline(always)]
     fn emit(
         &mut self,
-        symbol: &Symbol<'_>,
+        source: &Source<'_>,
         stretch: &Stretch,
-        include_hash: bool,
         looks: &mut Looks,
     ) -> Result<(), SinkRefused> {
-        render(symbol, stretch, include_hash, self, looks)
+        source.render(stretch, self, looks)
     }
 
     #[inline(always)]
     fn emit_fault(
         &mut self,
-        symbol: &Symbol<'_>,
+        source: &Source<'_>,
         stretch: &Stretch,
-        include_hash: bool,
         looks: &mut Looks,
     ) -> Result<(), SinkRefused> {
-        render(symbol, stretch, include_hash, self, looks)
+        source.render(stretch, self, looks)
     }
 }

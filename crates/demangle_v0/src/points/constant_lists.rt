@@ -1,16 +1,13 @@
-//! The lists of constants.
-ghost use Rattle.std.specs.Prelude.{◌≡◌, Ok, Bool};
+//! Lists of constants: arrays, tuples and the fields of variants.
+ghost use Rattle.std.specs.Prelude.{◌≡◌, Ok};
 ghost use Rattle.demangle_v0.specs.ConstantLists.{first_point, second_point, next_point, element_point, close_of};
-ghost use Rattle.demangle_v0.specs.Points.{MayRead, PointDoes, env, turn};
+ghost use Rattle.demangle_v0.specs.Parsers.{MayGo, Went};
 
-use crate::points::frames::FrameStack;
-use crate::points::tuples::is_over;
-use crate::points::{Point, State};
-use demangle_symbol::cursor::{Looks, Symbol};
-use demangle_words::output::Output;
+use crate::points::Point;
+use crate::points::parser::Parser;
 use demangle_words::texts::Mark;
 
-/// What constants stand in, one behind the other.
+/// A kind of list whose elements are constants.
 #[derive(Clone, Copy)]
 pub enum ConstantList {
     Array,
@@ -20,7 +17,7 @@ pub enum ConstantList {
 }
 
 impl ConstantList {
-    /// What stands behind the last.
+    /// Returns the text that closes the list.
     #[inline(always)]
     fn close(self) -> Mark
         ensures { result ≡ close_of self }
@@ -32,7 +29,7 @@ impl ConstantList {
         }
     }
 
-    /// What is read of each.
+    /// Returns the continuation that reads an element.
     #[inline(always)]
     fn element(self) -> Point
         ensures { result ≡ element_point self }
@@ -43,9 +40,9 @@ impl ConstantList {
         }
     }
 
-    /// Where it goes on behind the first.
+    /// Returns the continuation after the first element.
     #[inline(always)]
-    fn behind_first(self) -> Point
+    fn after_first(self) -> Point
         ensures { result ≡ second_point self }
     {
         match self {
@@ -56,9 +53,9 @@ impl ConstantList {
         }
     }
 
-    /// Where it goes on behind another.
+    /// Returns the continuation after a further element.
     #[inline(always)]
-    fn behind_next(self) -> Point
+    fn after_next(self) -> Point
         ensures { result ≡ next_point self }
     {
         match self {
@@ -70,74 +67,49 @@ impl ConstantList {
     }
 }
 
-/// The first constant of a list, or its end.
-#[inline(always)]
-pub(super) fn first_constant<V: Output, const N: usize>(
-    symbol: &Symbol<'_>,
-    list: ConstantList,
-    state: &mut State,
-    stack: &mut FrameStack<N>,
-    looks: &mut Looks,
-) -> Point
-    requires may { MayRead Point.Constant N state.old stack.old }
-    ensures did { (include_hash : Bool) (v : V) → PointDoes (env V.Output symbol.now include_hash)
-        (first_point list) (turn state.old stack.old v looks.old) (Ok result) (turn state.new
-        stack.new v looks.new) }
-{
-    if is_over(symbol, &mut state.place, looks) {
-        state.mark = Some(list.close());
-        state.is_open = false;
-        return Point::End;
+impl<const N: usize> Parser<'_, N> {
+    /// Starts the first element of a list, or closes the list if it has ended.
+    #[inline(always)]
+    pub(super) fn first_list_constant(&mut self, list: ConstantList) -> Point
+        requires may { MayGo Point.Constant self.old }
+        ensures did { Went (first_point list) self.old (Ok result) self.new }
+    {
+        if self.ends_list() {
+            return self.end_with(list.close());
+        }
+        self.push(list.after_first());
+        self.state.in_value = true;
+        list.element()
     }
-    stack.push(state.frame(list.behind_first()));
-    state.in_value = true;
-    list.element()
-}
 
-/// The next constant of a list, or its end.
-#[inline(always)]
-pub(super) fn next_constant<V: Output, const N: usize>(
-    symbol: &Symbol<'_>,
-    list: ConstantList,
-    state: &mut State,
-    stack: &mut FrameStack<N>,
-    looks: &mut Looks,
-) -> Point
-    requires may { MayRead Point.Constant N state.old stack.old }
-    ensures did { (include_hash : Bool) (v : V) → PointDoes (env V.Output symbol.now include_hash)
-        (next_point list) (turn state.old stack.old v looks.old) (Ok result) (turn state.new
-        stack.new v looks.new) }
-{
-    if is_over(symbol, &mut state.place, looks) {
-        state.mark = Some(list.close());
-        state.is_open = false;
-        return Point::End;
+    /// Starts a further element after a comma, or closes the list if it has ended.
+    #[inline(always)]
+    pub(super) fn next_list_constant(&mut self, list: ConstantList) -> Point
+        requires may { MayGo Point.Constant self.old }
+        ensures did { Went (next_point list) self.old (Ok result) self.new }
+    {
+        if self.ends_list() {
+            return self.end_with(list.close());
+        }
+        self.push(list.after_next());
+        self.put(Mark::Comma);
+        self.state.in_value = true;
+        list.element()
     }
-    stack.push(state.frame(list.behind_next()));
-    state.mark = Some(Mark::Comma);
-    state.in_value = true;
-    list.element()
-}
 
-/// The second constant of a tuple, or its end behind the one comma.
-#[inline(always)]
-pub(super) fn second_tuple_constant<V: Output, const N: usize>(
-    symbol: &Symbol<'_>,
-    state: &mut State,
-    stack: &mut FrameStack<N>,
-    looks: &mut Looks,
-) -> Point
-    requires may { MayRead Point.SecondTupleConstant N state.old stack.old }
-    ensures did { (include_hash : Bool) (v : V) → PointDoes (env V.Output symbol.now include_hash)
-        Point.SecondTupleConstant (turn state.old stack.old v looks.old) (Ok result) (turn state.new
-        stack.new v looks.new) }
-{
-    if is_over(symbol, &mut state.place, looks) {
-        state.mark = Some(Mark::OneComma);
-        return Point::CloseParen;
+    /// Starts the second element of a tuple, or leaves the comma that follows a single element.
+    #[inline(always)]
+    pub(super) fn second_tuple_constant(&mut self) -> Point
+        requires may { MayGo Point.SecondTupleConstant self.old }
+        ensures did { Went Point.SecondTupleConstant self.old (Ok result) self.new }
+    {
+        if self.ends_list() {
+            self.put(Mark::OneComma);
+            return Point::CloseParen;
+        }
+        self.push(Point::NextTupleConstant);
+        self.put(Mark::Comma);
+        self.state.in_value = true;
+        Point::Constant
     }
-    stack.push(state.frame(Point::NextTupleConstant));
-    state.mark = Some(Mark::Comma);
-    state.in_value = true;
-    Point::Constant
 }

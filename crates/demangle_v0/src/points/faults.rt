@@ -1,4 +1,4 @@
-//! Faults by `?`.
+//! The errors that end a step, and how `?` makes them.
 ghost use Rattle.std.specs.Prelude.{◌≡◌, ◌-◌, ◌<◌, Some, None, IfOk, IfErr};
 ghost use Rattle.demangle_v0.specs.Faults.{fault_of};
 ghost use Rattle.demangle_v0.specs.declared.points.Stop.TheVariants.{Refused, Fault};
@@ -30,7 +30,7 @@ impl From<ParseError> for Stop {
 }
 
 impl State {
-    /// The place where the reading stands, if it has not failed.
+    /// Returns the offset of the next byte. It fails after an error.
     #[inline(always)]
     pub(super) fn at(&self) -> Result<usize, Stop>
         ensures ok { IfOk result (λ at. self.now.place ≡ Some at) }
@@ -40,7 +40,7 @@ impl State {
         self.place.ok_or(Stop::Fault(Mark::AfterError))
     }
 
-    /// The depth left of a unit inside, if the depth may be raised.
+    /// Returns how many levels of nesting are allowed one level deeper. It fails if none is left.
     #[inline(always)]
     pub(super) fn inner_depth(&self) -> Result<u16, Stop>
         ensures ok { IfOk result

@@ -1,22 +1,25 @@
-//! Points that do no more than leave a mark.
-ghost use Rattle.std.specs.Prelude.{◌≡◌, ℕ, List, Bool, Ok, IsSome};
+//! Continuations that do nothing but queue a fixed text.
+ghost use Rattle.std.specs.Prelude.{◌≡◌, Ok, IsSome};
 ghost use Rattle.demangle_v0.specs.Marks.{left_at};
-ghost use Rattle.demangle_v0.specs.Points.{Fits, PointDoes, env, turn};
-ghost use Rattle.demangle_v0.specs.declared.points.frames.Frame.{Frame};
+ghost use Rattle.demangle_v0.specs.Parsers.{Went};
+ghost use Rattle.demangle_v0.specs.Points.{Fits};
 
-use crate::points::{Point, State};
-use demangle_words::output::Output;
+use crate::points::Point;
+use crate::points::parser::Parser;
 use demangle_words::texts::Mark;
 
-/// The mark that a point leaves, where it goes on, and whether that stands in value position.
+/// What such a continuation does.
 #[derive(Clone, Copy)]
 pub struct Left {
+    /// The text that it queues.
     mark: Mark,
+    /// The continuation to run next.
     next: Point,
+    /// Whether that is in value position.
     in_value: bool,
 }
 
-/// What a point leaves that does no more.
+/// Returns what `point` does, or `None` if it does more than queue a fixed text.
 #[inline(always)]
 fn left_at(point: Point) -> Option<Left>
     ensures { result ≡ left_at point }
@@ -49,20 +52,21 @@ fn left_at(point: Point) -> Option<Left>
     })
 }
 
-/// Leaves the mark of a point that does no more.
-#[inline(always)]
-pub(super) fn leave<V: Output>(point: Point, state: &mut State) -> Point
-    requires listed { IsSome (left_at point) }
-    requires fits { Fits point state.old.depth_left state.old.lifetimes }
-    ensures did { (b : List ℕ) (include_hash : Bool) (v : V) (stack : List Frame) (n : ℕ) →
-        PointDoes (env V.Output b include_hash) point (turn state.old stack v n) (Ok result) (turn
-        state.new stack v n) }
-{
-    let Some(left) = left_at(point) else {
-        return Point::End;
-    };
-    state.mark = Some(left.mark);
-    state.in_value = left.in_value;
-    state.is_open = false;
-    left.next
+impl<const N: usize> Parser<'_, N> {
+    /// Queues the fixed text of a continuation that does nothing else.
+    #[inline(always)]
+    pub(super) fn queue_text(&mut self, point: Point) -> Point
+        requires listed { IsSome (left_at point) }
+        requires fits { Fits point self.old.state.depth_left self.old.state.lifetimes }
+        ensures did { Went point self.old (Ok result) self.new }
+        ensures looks { self.new.looks ≡ self.old.looks }
+    {
+        let Some(left) = left_at(point) else {
+            return Point::End;
+        };
+        self.state.mark = Some(left.mark);
+        self.state.in_value = left.in_value;
+        self.state.is_open = false;
+        left.next
+    }
 }

@@ -1,104 +1,76 @@
 //! The names of paths.
-ghost use Rattle.std.specs.Prelude.{◌≡◌, ◌≤◌, true, None, List, IsAscii, OnOk};
+ghost use Rattle.std.specs.Prelude.{◌≡◌, ◌≤◌, true, None, IsAscii, OnOk};
+ghost use Rattle.demangle_v0.specs.Parsers.{Did, DidRest, MayPrint, looked};
+ghost use Rattle.demangle_v0.specs.PointContracts.{crate_path};
 ghost use Rattle.demangle_words.specs.WordReads.{texts_of};
 ghost use Rattle.demangle_words.specs.declared.stretch.Stretch.TheVariants as Stretch;
-ghost use Rattle.demangle_v0.specs.Points.{MayEmit, PointDoes, RestDoes, env, turn};
-ghost use Rattle.demangle_v0.specs.PointContracts.{crate_path};
-ghost use Rattle.demangle_v0.specs.declared.points.frames.Frame.{Frame};
 
-use crate::points::{Point, State, Stop};
+use crate::points::parser::Parser;
+use crate::points::{Point, Stop};
 use demangle_sink::SinkRefused;
-use demangle_symbol::cursor::{Looks, Symbol};
 use demangle_words::output::Output;
 use demangle_words::read::names::numbered_name;
 use demangle_words::stretch::Stretch;
 use demangle_words::texts::Mark;
 
-/// The name of a crate, with which its path ends.
-#[inline(always)]
-pub(super) fn crate_name<V: Output>(
-    symbol: &Symbol<'_>,
-    include_hash: bool,
-    state: &mut State,
-    output: &mut V,
-    looks: &mut Looks,
-) -> Result<Point, Stop>
-    requires may { MayEmit (env V.Output symbol.now include_hash) state.old output.old }
-    ensures did { (stack : List Frame) → RestDoes (env V.Output symbol.now include_hash) (crate_path
-        state.old.in_value) 6 1 0 (turn state.old stack output.old looks.old) result (turn
-        state.new stack output.new looks.new) }
-{
-    let at = state.at()?;
-    let named = numbered_name(symbol, at, looks);
-    let (name, number, next) = named.ok_or(Stop::Fault(Mark::Invalid))?;
-    state.place = Some(next);
-    state.is_open = false;
-    let name = Stretch::CrateName(name, number);
-    output.emit(symbol, &name, include_hash, looks)?;
-    Ok(Point::End)
-}
+impl<const N: usize> Parser<'_, N> {
+    /// Reads and prints the name of a crate, which ends its path.
+    #[inline(always)]
+    pub(super) fn crate_name<V: Output>(&mut self, output: &mut V) -> Result<Point, Stop>
+        requires may { MayPrint V.Output self.old output.old }
+        ensures did { DidRest V.Output (crate_path self.old.state.in_value) 6 1 0 self.old
+            output.old result self.new output.new }
+    {
+        let at = self.state.at()?;
+        let named = numbered_name(self.source.symbol, at, &mut self.looks);
+        let (name, number, next) = named.ok_or(Stop::Fault(Mark::Invalid))?;
+        self.state.place = Some(next);
+        self.state.is_open = false;
+        self.emit(&Stretch::CrateName(name, number), output)?;
+        Ok(Point::End)
+    }
 
-/// Hands over what stands for a name behind a path that failed.
-#[inline(never)]
-fn emit_unread<V: Output>(
-    symbol: &Symbol<'_>,
-    include_hash: bool,
-    output: &mut V,
-    looks: &mut Looks,
-) -> Result<(), SinkRefused>
-    requires ascii { V.is_printed ≡ true → IsAscii symbol.now }
-    requires ready { V.ready output.old }
-    ensures prints { V.prints output.old (texts_of symbol.now include_hash Stretch.NestedAfterError)
-        result output.new }
-    ensures ready { OnOk result (V.ready output.new) }
-    ensures grows { looks.old ≤ looks.new }
-    ensures most { looks.new ≤ looks.old }
-{
-    output.emit_fault(symbol, &Stretch::NestedAfterError, include_hash, looks)
-}
+    /// Passes the text of a name after an error to the output.
+    #[inline(never)]
+    fn emit_name_after_error<V: Output>(&mut self, output: &mut V) -> Result<(), SinkRefused>
+        requires may { MayPrint V.Output self.old output.old }
+        ensures prints { V.prints output.old (texts_of self.old.source.symbol.now self.old.source.include_hash
+            Stretch.NestedAfterError) result output.new }
+        ensures ready { OnOk result (V.ready output.new) }
+        ensures parser { self.new ≡ looked self.old self.new.looks }
+        ensures grows { self.old.looks ≤ self.new.looks }
+        ensures most { self.new.looks ≤ self.old.looks }
+    {
+        output.emit_fault(&self.source, &Stretch::NestedAfterError, &mut self.looks)
+    }
 
-/// A name behind a path that failed: its colons are printed, and that it was not read.
-#[inline(always)]
-fn unread_name<V: Output>(
-    symbol: &Symbol<'_>,
-    include_hash: bool,
-    state: &mut State,
-    output: &mut V,
-    looks: &mut Looks,
-) -> Result<Point, Stop>
-    requires may { MayEmit (env V.Output symbol.now include_hash) state.old output.old }
-    requires failed { state.old.place ≡ None }
-    ensures did { (stack : List Frame) → PointDoes (env V.Output symbol.now include_hash)
-        Point.Nested (turn state.old stack output.old looks.old) result (turn state.new stack
-        output.new looks.new) }
-{
-    state.is_open = false;
-    emit_unread(symbol, include_hash, output, looks)?;
-    Ok(Point::End)
-}
+    /// Prints `::` and that the name was not read, since its path has failed.
+    #[inline(always)]
+    fn name_after_error<V: Output>(&mut self, output: &mut V) -> Result<Point, Stop>
+        requires may { MayPrint V.Output self.old output.old }
+        requires failed { self.old.state.place ≡ None }
+        ensures did { Did V.Output Point.Nested self.old output.old result self.new output.new }
+    {
+        self.state.is_open = false;
+        self.emit_name_after_error(output)?;
+        Ok(Point::End)
+    }
 
-/// The name behind the path that it lies in, with which its path ends.
-#[inline(always)]
-pub(super) fn nested_name<V: Output>(
-    symbol: &Symbol<'_>,
-    include_hash: bool,
-    state: &mut State,
-    output: &mut V,
-    looks: &mut Looks,
-) -> Result<Point, Stop>
-    requires may { MayEmit (env V.Output symbol.now include_hash) state.old output.old }
-    ensures did { (stack : List Frame) → PointDoes (env V.Output symbol.now include_hash)
-        Point.Nested (turn state.old stack output.old looks.old) result (turn state.new stack
-        output.new looks.new) }
-{
-    let Some(at) = state.place else {
-        return unread_name(symbol, include_hash, state, output, looks);
-    };
-    let named = numbered_name(symbol, at, looks);
-    let (ident, number, next) = named.ok_or(Stop::Fault(Mark::Invalid))?;
-    state.place = Some(next);
-    state.is_open = false;
-    let name = Stretch::NestedName(state.letter, number, ident);
-    output.emit(symbol, &name, include_hash, looks)?;
-    Ok(Point::End)
+    /// Reads and prints the name after the path that it is in, which ends its own path.
+    #[inline(always)]
+    pub(super) fn nested_name<V: Output>(&mut self, output: &mut V) -> Result<Point, Stop>
+        requires may { MayPrint V.Output self.old output.old }
+        ensures did { Did V.Output Point.Nested self.old output.old result self.new output.new }
+    {
+        let Some(at) = self.state.place else {
+            return self.name_after_error(output);
+        };
+        let named = numbered_name(self.source.symbol, at, &mut self.looks);
+        let (ident, number, next) = named.ok_or(Stop::Fault(Mark::Invalid))?;
+        self.state.place = Some(next);
+        self.state.is_open = false;
+        let name = Stretch::NestedName(self.state.letter, number, ident);
+        self.emit(&name, output)?;
+        Ok(Point::End)
+    }
 }

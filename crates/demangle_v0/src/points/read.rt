@@ -1,102 +1,89 @@
-//! Readings without an output, above the frames that stand.
-ghost use Rattle.std.specs.Prelude.{◌≡◌, ◌≤◌, ◌++◌, length, List};
-ghost use Rattle.demangle_v0.specs.Points.{AllInner};
-ghost use Rattle.demangle_v0.specs.PointRuns.{Valid, ReadOn, first_state, silently, silent_turn};
-ghost use Rattle.demangle_v0.specs.declared.points.frames.Frame.{Frame};
+//! Parses without output, which read and print nothing.
+ghost use Rattle.std.specs.Prelude.{◌≡◌, ◌≤◌, length};
+ghost use Rattle.demangle_v0.specs.Parsers.{IsValid, ReadSteps, Same, checked_at};
+ghost use Rattle.demangle_v0.specs.PointRuns.{first_state};
 
-use crate::points::frames::FrameStack;
-use crate::points::step::{resume, step};
+use crate::points::parser::Parser;
 use crate::points::{Point, State};
-use demangle_symbol::cursor::{Looks, MAX_DEPTH, Symbol};
+use demangle_symbol::cursor::MAX_DEPTH;
 use demangle_words::output::Silent;
 
-/// Where a reading stands.
+/// A checkpoint: where a parse continues, in a symbol and above frames that are kept elsewhere.
 #[derive(Clone, Copy)]
 pub struct Reading {
     pub point: Point,
     pub state: State,
 }
 
-impl Reading {
-    /// A path that is to be read at a place.
+impl State {
+    /// Returns the state in which the path at a place begins.
     #[inline(always)]
-    pub fn of_path(place: usize) -> Self
-        ensures { result ≡ record { point = Point.Path; state = first_state place } }
+    pub(super) fn at_path(place: usize) -> Self
+        ensures { result ≡ first_state place }
     {
-        Reading {
-            point: Point::Path,
-            state: State {
-                in_value: true,
-                letter: 0,
-                depth_left: MAX_DEPTH as u16,
-                lifetimes: 0,
-                place: Some(place),
-                is_open: false,
-                mark: None,
-            },
+        State {
+            in_value: true,
+            letter: 0,
+            depth_left: MAX_DEPTH as u16,
+            lifetimes: 0,
+            place: Some(place),
+            is_open: false,
+            mark: None,
         }
     }
+}
 
-    /// Its place, if it has not failed.
+/// Why a parse without output stopped.
+#[derive(Clone, Copy)]
+pub enum Halt {
+    /// Nothing is left to parse.
+    Over,
+    /// The stack is full.
+    Full,
+    /// The symbol has a syntax error there.
+    Failed,
+}
+
+impl<const N: usize> Parser<'_, N> {
+    /// Continues with the path at a place.
     #[inline(always)]
-    pub fn place(&self) -> Option<usize>
+    pub(crate) fn start_path(&mut self, place: usize)
+        ensures { self.new ≡ checked_at self.old Point.Path (first_state place) }
+    {
+        self.point = Point::Path;
+        self.state = State::at_path(place);
+    }
+
+    /// Returns the place at which the parser is, unless it found a syntax error.
+    #[inline(always)]
+    pub(crate) fn place(&self) -> Option<usize>
         ensures { result ≡ self.now.state.place }
     {
         self.state.place
     }
-}
 
-/// Why a reading without an output went no further.
-#[derive(Clone, Copy)]
-pub enum Halt {
-    /// Nothing is left.
-    Over,
-    /// The stack is full.
-    Full,
-    /// No unit of the kind is spelled there.
-    Failed,
-}
-
-/// Reads without printing, above so many frames.
-pub fn read_on<const N: usize>(
-    symbol: &Symbol<'_>,
-    base: usize,
-    include_hash: bool,
-    reading: &mut Reading,
-    stack: &mut FrameStack<N>,
-    looks: &mut Looks,
-) -> Halt
-    requires valid { Valid reading.old.point reading.old.state stack.old }
-    ensures reads { (below above : List Frame) → stack.old ≡ below ++ above → length below ≡ base →
-        AllInner above → ReadOn (silently symbol.now include_hash) below reading.old.point
-        (silent_turn reading.old.state above looks.old) result reading.new.point (silent_turn
-        reading.new.state stack.new looks.new) }
-    ensures valid { result ≡ Halt.Full → Valid reading.new.point reading.new.state stack.new }
-    ensures full { result ≡ Halt.Full → N ≤ length stack.new }
-    ensures grows { looks.old ≤ looks.new }
-{
-    let mut point = reading.point;
-    let mut state = reading.state;
-    'steps: while stack.len() < N {
-        let Some(at) = resume(base, point, &mut state, stack) else {
-            reading.point = Point::End;
-            reading.state = state;
-            return Halt::Over;
-        };
-        match step(
-            symbol,
-            at,
-            include_hash,
-            &mut state,
-            stack,
-            &mut Silent,
-            looks,
-        ) {
-            Ok(next) => point = next,
-            Err(_) => return Halt::Failed,
+    /// Reads without output until only the lowest `base` frames are left, the stack is full, or the
+    /// symbol has a syntax error.
+    pub(crate) fn read_steps(&mut self, base: usize) -> Halt
+        requires valid { IsValid self.old }
+        ensures reads { ReadSteps base self.old result self.new }
+        ensures valid { result ≡ Halt.Full → IsValid self.new }
+        ensures full { result ≡ Halt.Full → N ≤ length self.new.stack }
+        ensures grows { self.old.looks ≤ self.new.looks }
+        ensures same { Same self.old self.new }
+    {
+        let mut point = self.point;
+        'steps: while self.stack.len() < N {
+            let Some(at) = self.resume(base, point) else {
+                self.point = Point::End;
+                return Halt::Over;
+            };
+            match self.step(at, &mut Silent) {
+                Ok(next) => point = next,
+                Err(_) => return Halt::Failed,
+            }
         }
+        self.point = point;
+        Halt::Full
     }
-    reading.point = point;
-    reading.state = state;
-    Halt::Full
 }

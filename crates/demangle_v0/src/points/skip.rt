@@ -1,15 +1,15 @@
-//! The own path of an impl, which is read and not printed.
-ghost use Rattle.std.specs.Prelude.{◌≡◌, ℕ, ◌≤◌, Bool, List, length, IfSome, IfNone};
+//! Impl paths, which are read and never printed.
+ghost use Rattle.std.specs.Prelude.{◌≡◌, ◌≤◌, true, Bool, Some, Ok, IfSome, IfNone};
 ghost use Rattle.demangle_v0.specs.Impls.{skip_point, self_point, is_skip};
-ghost use Rattle.demangle_v0.specs.PointRuns.{Valid, ReadsOwn, Skipped, own_path, state_at, silent_of};
-ghost use Rattle.demangle_v0.specs.declared.points.frames.Frame.{Frame};
+ghost use Rattle.demangle_v0.specs.Parsers.{FinishesSkip, IsValid, LeftValid, Same, SkipsFull, SkipsOver, checked_at};
+ghost use Rattle.demangle_v0.specs.PointRuns.{state_at};
 
-use crate::points::frames::FrameStack;
-use crate::points::read::{Halt, Reading, read_on};
+use crate::points::parser::Parser;
+use crate::points::read::{Halt, Reading};
 use crate::points::{Point, State};
-use demangle_symbol::cursor::{Looks, Symbol};
+use crate::printing::Left;
 
-/// Whether what stands there is not printed.
+/// Returns whether the continuation is an impl path, which is not printed.
 #[inline(always)]
 pub fn is_skipped(point: Point) -> bool
     ensures { result ≡ is_skip point }
@@ -20,9 +20,9 @@ pub fn is_skipped(point: Point) -> bool
     }
 }
 
-/// What stands behind an impl's own path.
+/// Returns the continuation after an impl path.
 #[inline(always)]
-fn behind_skip(point: Point) -> Point
+fn after_impl_path(point: Point) -> Point
     ensures { (q : Bool) → point ≡ skip_point q → result ≡ self_point q }
 {
     match point {
@@ -31,78 +31,67 @@ fn behind_skip(point: Point) -> Point
     }
 }
 
-impl State {
-    /// Where an impl's own path is begun.
+impl<const N: usize> Parser<'_, N> {
+    /// Continues at a checkpoint, after the impl path there. The path ends at `place`, or has a
+    /// syntax error if that is `None`.
     #[inline(always)]
-    fn at_own_path(&self) -> State
-        ensures { result ≡ silent_of self.now }
+    fn continue_after(&mut self, printing: Reading, place: Option<usize>)
+        ensures point { (q : Bool) → printing.point ≡ skip_point q → self.new.point ≡ self_point q }
+        ensures parser { self.new ≡ checked_at self.old self.new.point (state_at printing.state
+            place) }
     {
-        State {
-            in_value: false,
-            ..*self
-        }
-    }
-}
-
-impl Reading {
-    /// The own path of the impl at which printing stands.
-    #[inline(always)]
-    pub fn own_path(&self) -> Reading
-        ensures { result ≡ own_path self.now.state }
-    {
-        Reading {
-            point: Point::Path,
-            state: self.state.at_own_path(),
-        }
+        self.point = after_impl_path(printing.point);
+        self.state = State {
+            place,
+            ..printing.state
+        };
     }
 
-    /// Goes on behind the own path, which ends there, if it has not failed.
-    #[inline(always)]
-    fn go_behind(&mut self, place: Option<usize>)
-        ensures point { (q : Bool) → self.old.point ≡ skip_point q → self.new.point ≡ self_point q }
-        ensures state { self.new.state ≡ state_at self.old.state place }
+    /// Reads the rest of an impl path, if one was read so far, and continues after it. Returns what
+    /// is left to print if the stack is full before.
+    // It is not inlined, so that the loop of printing stays small.
+    #[inline(never)]
+    pub(crate) fn finish_impl_path(&mut self, left: Left) -> Option<Left>
+        requires valid { LeftValid 0 (Ok (Some left)) self.old }
+        ensures finishes { FinishesSkip self.old left result self.new }
+        ensures grows { self.old.looks ≤ self.new.looks }
+        ensures same { Same self.old self.new }
     {
-        self.point = behind_skip(self.point);
-        self.state.place = place;
+        let Left::OwnPath(base, printing) = left else {
+            return None;
+        };
+        match self.read_steps(base) {
+            Halt::Full => Some(left),
+            Halt::Over => {
+                self.continue_after(printing, self.state.place);
+                None
+            }
+            Halt::Failed => {
+                self.stack.truncate(base);
+                self.continue_after(printing, None);
+                None
+            }
+        }
     }
-}
 
-/// Reads on in the own path of the impl at which printing stands, above so many frames, and lets
-/// printing go on behind it: or answers how far it was read, where the stack is full.
-#[inline(never)]
-pub fn skip<const N: usize>(
-    symbol: &Symbol<'_>,
-    include_hash: bool,
-    base: usize,
-    inner: Reading,
-    printing: &mut Reading,
-    stack: &mut FrameStack<N>,
-    looks: &mut Looks,
-) -> Option<Reading>
-    requires valid { Valid inner.point inner.state stack.old }
-    ensures behind { IfNone result ((below : List Frame) (q : Bool) (began : ℕ) → ReadsOwn symbol.now
-        include_hash below printing.old.state began inner stack.old looks.old → length below ≡ base
-        → printing.old.point ≡ skip_point q → Skipped symbol.now include_hash q printing.old.state
-        below began printing.new.point printing.new.state stack.new looks.new) }
-    ensures midway { IfSome result (λ more. (below : List Frame) (began : ℕ) → ReadsOwn symbol.now
-        include_hash below printing.old.state began inner stack.old looks.old → length below ≡ base
-        → ReadsOwn symbol.now include_hash below printing.old.state began more stack.new looks.new) }
-    ensures valid { IfSome result (λ more. Valid more.point more.state stack.new) }
-    ensures full { IfSome result (λ more. N ≤ length stack.new) }
-    ensures same { IfSome result (λ more. printing.new ≡ printing.old) }
-    ensures grows { looks.old ≤ looks.new }
-{
-    let mut reading = inner;
-    match read_on(symbol, base, include_hash, &mut reading, stack, looks) {
-        Halt::Full => Some(reading),
-        Halt::Over => {
-            printing.go_behind(reading.place());
-            None
-        }
-        Halt::Failed => {
-            stack.truncate(base);
-            printing.go_behind(None);
-            None
-        }
+    /// Reads the impl path at which the parser is, and continues after it. Returns what is left to
+    /// print if the stack is full before.
+    #[inline(always)]
+    pub(crate) fn skip_impl_path(&mut self) -> Option<Left>
+        requires skipped { is_skip self.old.point ≡ true }
+        requires valid { IsValid self.old }
+        ensures behind { IfNone result (SkipsOver self.old self.new) }
+        ensures midway { IfSome result (λ left. SkipsFull self.old left self.new) }
+        ensures grows { self.old.looks ≤ self.new.looks }
+        ensures same { Same self.old self.new }
+    {
+        let base = self.stack.len();
+        let printing = Reading {
+            point: self.point,
+            state: self.state,
+        };
+        self.point = Point::Path;
+        self.state.in_value = false;
+        self.finish_impl_path(Left::OwnPath(base, printing))
     }
 }

@@ -1,86 +1,19 @@
-//! Steps: what a point does and the mark that it leaves, and where a unit that is over goes on.
-ghost use Rattle.std.specs.Prelude.{◌≡◌, ◌+◌, ◌-◌, ◌<◌, ◌≤◌, true, false, IfSome, IfNone, IsOk, OnOk, length, IsAscii};
+//! Steps: what is done at a continuation, the fixed text that it leaves, and what is next.
+ghost use Rattle.std.specs.Prelude.{◌≡◌, ◌+◌, ◌≤◌, true, false, IfSome, IfNone, IsOk, OnOk, length, IsAscii};
 ghost use Rattle.demangle_v0.specs.Impls.{is_skip};
-ghost use Rattle.demangle_v0.specs.Points.{own_by, MayStep, env, turn, resumed_of};
+ghost use Rattle.demangle_v0.specs.Parsers.{May, Same, env_of, restated, turn_of};
+ghost use Rattle.demangle_v0.specs.Points.{own_by, resumed_of};
 ghost use Rattle.demangle_v0.specs.PointRuns.{Puts, Stepped, Resumes, first_looks, unmarked_of};
 
-use crate::points::dispatch::dispatch;
-use crate::points::frames::{Frame, FrameStack};
+use crate::points::frames::Frame;
+use crate::points::parser::Parser;
 use crate::points::{Point, State, Stop};
 use demangle_sink::SinkRefused;
-use demangle_symbol::cursor::{Looks, Symbol};
 use demangle_words::output::Output;
 use demangle_words::stretch::Stretch;
-use demangle_words::texts::Mark;
-
-/// Hands over the mark that a point left, if there is one.
-#[inline(always)]
-fn put_mark<V: Output>(
-    symbol: &Symbol<'_>,
-    include_hash: bool,
-    state: &mut State,
-    output: &mut V,
-    looks: &mut Looks,
-) -> Result<(), SinkRefused>
-    requires ascii { V.is_printed ≡ true → IsAscii symbol.now }
-    requires ready { V.ready output.old }
-    ensures put { Puts V.Output state.old.mark output.old result output.new }
-    ensures state { state.new ≡ unmarked_of state.old }
-    ensures ready { OnOk result (V.ready output.new) }
-    ensures grows { looks.old ≤ looks.new }
-    ensures most { looks.new ≤ looks.old }
-{
-    let mark = state.mark;
-    // Most turns leave none. A silent reading clears it without asking, which costs it less.
-    if mark.is_some() || !output.is_printing() {
-        state.mark = None;
-    }
-    match mark {
-        None => Ok(()),
-        Some(mark) => output.emit(symbol, &Stretch::Fixed(mark), include_hash, looks),
-    }
-}
-
-/// Does what a point does, and hands over the mark that it left.
-///
-/// An output that prints is never asked for the own path of an impl, which is not printed.
-#[inline(always)]
-pub(crate) fn step<V: Output, const N: usize>(
-    symbol: &Symbol<'_>,
-    point: Point,
-    include_hash: bool,
-    state: &mut State,
-    stack: &mut FrameStack<N>,
-    output: &mut V,
-    looks: &mut Looks,
-) -> Result<Point, SinkRefused>
-    requires may { MayStep (env V.Output symbol.now include_hash) point N (turn state.old stack.old
-        output.old looks.old) }
-    requires unskipped { V.is_printed ≡ true → is_skip point ≡ false }
-    ensures stepped { Stepped (env V.Output symbol.now include_hash) point (turn state.old stack.old
-        output.old looks.old) result (turn state.new stack.new output.new looks.new) }
-    ensures ready { IsOk result → V.ready output.new }
-    ensures grows { looks.old ≤ looks.new }
-    ensures own { looks.new ≤ looks.old + own_by 20 symbol.now state.old.place }
-    ensures least { looks.old + first_looks point state.old ≤ looks.new }
-{
-    match dispatch(symbol, point, include_hash, state, stack, output, looks) {
-        Ok(next) => {
-            put_mark(symbol, include_hash, state, output, looks)?;
-            Ok(next)
-        }
-        Err(Stop::Fault(fault)) => {
-            state.place = None;
-            state.is_open = false;
-            output.emit_fault(symbol, &Stretch::Fixed(fault), include_hash, looks)?;
-            Ok(Point::End)
-        }
-        Err(Stop::Refused) => Err(SinkRefused),
-    }
-}
 
 impl State {
-    /// Goes on with a frame.
+    /// Restores what a frame keeps.
     #[inline(always)]
     fn resume(&mut self, frame: Frame)
         ensures { self.new ≡ resumed_of self.old frame }
@@ -92,31 +25,89 @@ impl State {
     }
 }
 
-/// The point to go on at: where a unit is over, that of the frame on top, if there is one above so
-/// many.
-#[inline(always)]
-pub(crate) fn resume<const N: usize>(
-    base: usize,
-    point: Point,
-    state: &mut State,
-    stack: &mut FrameStack<N>,
-) -> Option<Point>
-    ensures some { IfSome result (λ next. Resumes base point state.old stack.old next state.new
-        stack.new) }
-    ensures none { IfNone result ((point ≡ Point.End) × (length stack.old ≤ base) × (stack.new ≡
-        stack.old) × (state.new ≡ state.old)) }
-{
-    match point {
-        Point::End => {
-            if stack.len() <= base {
-                return None;
-            }
-            let Some(frame) = stack.pop() else {
-                return None;
-            };
-            state.resume(frame);
-            Some(frame.point)
+impl<const N: usize> Parser<'_, N> {
+    /// Prints the fixed text that a continuation left, if there is one.
+    #[inline(always)]
+    fn flush_pending_text<V: Output>(&mut self, output: &mut V) -> Result<(), SinkRefused>
+        requires ascii { V.is_printed ≡ true → IsAscii self.old.source.symbol.now }
+        requires ready { V.ready output.old }
+        ensures put { Puts V.Output self.old.state.mark output.old result output.new }
+        ensures parser { self.new ≡ restated self.old (unmarked_of self.old.state) self.new.looks }
+        ensures ready { OnOk result (V.ready output.new) }
+        ensures grows { self.old.looks ≤ self.new.looks }
+        ensures most { self.new.looks ≤ self.old.looks }
+    {
+        let mark = self.state.mark;
+        // Most iterations leave none. A parse without output clears it untested, which costs less.
+        if mark.is_some() || !output.is_printing() {
+            self.state.mark = None;
         }
-        other => Some(other),
+        match mark {
+            None => Ok(()),
+            Some(mark) => output.emit(&self.source, &Stretch::Fixed(mark), &mut self.looks),
+        }
+    }
+
+    /// Reads and prints what a continuation says, and prints the fixed text that it left. Returns the
+    /// next continuation.
+    ///
+    /// Fails if the output refuses a piece. An output that prints never gets an impl path, which is
+    /// not printed.
+    #[inline(always)]
+    pub(crate) fn step<V: Output>(
+        &mut self,
+        point: Point,
+        output: &mut V,
+    ) -> Result<Point, SinkRefused>
+        requires may { May V.Output point self.old output.old }
+        requires unskipped { V.is_printed ≡ true → is_skip point ≡ false }
+        ensures stepped { Stepped (env_of V.Output self.old) point (turn_of self.old output.old)
+            result (turn_of self.new output.new) }
+        ensures same { Same self.old self.new }
+        ensures ready { IsOk result → V.ready output.new }
+        ensures grows { self.old.looks ≤ self.new.looks }
+        ensures own { self.new.looks ≤ self.old.looks + own_by 20 self.old.source.symbol.now
+            self.old.state.place }
+        ensures least { self.old.looks + first_looks point self.old.state ≤ self.new.looks }
+    {
+        match self.dispatch(point, output) {
+            Ok(next) => {
+                self.flush_pending_text(output)?;
+                Ok(next)
+            }
+            Err(Stop::Fault(fault)) => {
+                self.state.place = None;
+                self.state.is_open = false;
+                output.emit_fault(&self.source, &Stretch::Fixed(fault), &mut self.looks)?;
+                Ok(Point::End)
+            }
+            Err(Stop::Refused) => Err(SinkRefused),
+        }
+    }
+
+    /// Returns the next continuation. After the end of a production it is that of the frame on top,
+    /// which is removed, or `None` if only `base` frames are left.
+    #[inline(always)]
+    pub(crate) fn resume(&mut self, base: usize, point: Point) -> Option<Point>
+        ensures some { IfSome result (λ next. Resumes base point self.old.state self.old.stack next
+            self.new.state self.new.stack) }
+        ensures none { IfNone result ((point ≡ Point.End) × (length self.old.stack ≤ base) × (self.new
+            ≡ self.old)) }
+        ensures same { Same self.old self.new }
+        ensures looks { self.new.looks ≡ self.old.looks }
+    {
+        match point {
+            Point::End => {
+                if self.stack.len() <= base {
+                    return None;
+                }
+                let Some(frame) = self.stack.pop() else {
+                    return None;
+                };
+                self.state.resume(frame);
+                Some(frame.point)
+            }
+            other => Some(other),
+        }
     }
 }

@@ -1,101 +1,79 @@
-//! The points of variants, and of their fields.
-ghost use Rattle.std.specs.Prelude.{Bool, List, None, Ok, Some, length, ℕ, ◌<◌, ◌≡◌};
-ghost use Rattle.demangle_v0.specs.Points.{Fits, MayRead, MayEmit, PointDoes, RestDoes, env, pushed_on, turn};
-ghost use Rattle.demangle_v0.specs.PointContracts.{brace_behind};
+//! Continuations of variants and of their fields.
+ghost use Rattle.std.specs.Prelude.{◌≡◌, None, Ok, Some};
+ghost use Rattle.demangle_v0.specs.Parsers.{Did, May, MayGo, Went, WentRest, braced};
 ghost use Rattle.demangle_words.specs.Tags.{variant_of};
 
-use crate::points::frames::{Frame, FrameStack};
-use crate::points::{Point, State, Stop, word_at};
-use demangle_symbol::cursor::{Looks, Symbol};
+use crate::points::parser::Parser;
+use crate::points::{Point, Stop};
 use demangle_words::output::Output;
 use demangle_words::read::WordRead;
 use demangle_words::tags::{VariantKind, variant_kind};
 use demangle_words::texts::{Mark, Word};
 
-/// A variant that holds nothing.
-#[inline(always)]
-fn unit_variant<V: Output>(state: &mut State) -> Point
-    requires unmarked { state.old.mark ≡ None }
-    ensures did { (b : List ℕ) (include_hash : Bool) (stack : List Frame) (v : V) (n : ℕ) → RestDoes
-        (env V.Output b include_hash) (variant_of state.old.in_value VariantKind.Unit) 3 5 3 (turn
-        state.old stack v n) (Ok result) (turn state.new stack v n) }
-{
-    state.is_open = false;
-    if state.in_value {
-        return Point::End;
-    }
-    state.mark = Some(Mark::CloseBrace);
-    Point::End
-}
-
-/// What a variant holds, behind its tag: a brace follows it outside value position.
-#[inline(always)]
-fn open_fields<const N: usize>(
-    mark: Mark,
-    point: Point,
-    state: &mut State,
-    stack: &mut FrameStack<N>,
-) -> Point
-    requires room { length stack.old < N }
-    requires fits { Fits Point.Variant state.old.depth_left state.old.lifetimes }
-    ensures point { result ≡ point }
-    ensures state { state.new ≡ record state.old { mark = Some mark } }
-    ensures stack { stack.new ≡ pushed_on stack.old (brace_behind state.old) }
-{
-    if !state.in_value {
-        stack.push(state.frame(Point::CloseBrace));
-    }
-    state.mark = Some(mark);
-    point
-}
-
-/// What follows the path of a variant.
-#[inline(never)]
-pub(super) fn variant<V: Output, const N: usize>(
-    symbol: &Symbol<'_>,
-    state: &mut State,
-    stack: &mut FrameStack<N>,
-    looks: &mut Looks,
-) -> Result<Point, Stop>
-    requires may { MayRead Point.Variant N state.old stack.old }
-    ensures did { (include_hash : Bool) (v : V) → PointDoes (env V.Output symbol.now include_hash)
-        Point.Variant (turn state.old stack.old v looks.old) result (turn state.new stack.new v
-        looks.new) }
-{
-    let at = state.at()?;
-    let (tag, next) = symbol.tag(at, looks)?;
-    let kind = variant_kind(tag).ok_or(Stop::Fault(Mark::Invalid))?;
-    state.place = Some(next);
-    match kind {
-        VariantKind::Unit => Ok(unit_variant::<V>(state)),
-        VariantKind::Tuple => {
-            Ok(open_fields(Mark::OpenParen, Point::FirstVariantConstant, state, stack))
+impl<const N: usize> Parser<'_, N> {
+    /// Ends a variant without fields, and leaves its closing brace outside value position.
+    #[inline(always)]
+    fn unit_variant(&mut self) -> Point
+        requires unmarked { self.old.state.mark ≡ None }
+        ensures did { WentRest (variant_of self.old.state.in_value VariantKind.Unit) 3 5 3 self.old
+            (Ok result) self.new }
+    {
+        self.state.is_open = false;
+        if self.state.in_value {
+            return Point::End;
         }
-        VariantKind::Fields => Ok(open_fields(Mark::OpenFields, Point::FirstField, state, stack)),
+        self.put(Mark::CloseBrace);
+        Point::End
     }
-}
 
-/// The name of a field.
-#[inline(never)]
-pub(super) fn field<V: Output>(
-    symbol: &Symbol<'_>,
-    include_hash: bool,
-    state: &mut State,
-    output: &mut V,
-    looks: &mut Looks,
-) -> Result<Point, Stop>
-    requires may { MayEmit (env V.Output symbol.now include_hash) state.old output.old }
-    requires fits { Fits Point.Field state.old.depth_left state.old.lifetimes }
-    ensures did { (stack : List Frame) → PointDoes (env V.Output symbol.now include_hash)
-        Point.Field (turn state.old stack output.old looks.old) result (turn state.new stack
-        output.new looks.new) }
-{
-    match word_at(symbol, Word::FieldName, state, output, looks) {
-        WordRead::Goes(stretch, next) => {
-            state.place = next;
-            output.emit(symbol, &stretch, include_hash, looks)?;
-            Ok(Point::FieldColon)
+    /// Leaves the text that opens a variant's fields, and returns `fields`.
+    ///
+    /// Outside value position it also pushes a frame for the variant's closing brace.
+    #[inline(always)]
+    fn open_fields(&mut self, mark: Mark, fields: Point) -> Point
+        requires may { MayGo Point.Variant self.old }
+        ensures point { result ≡ fields }
+        ensures parser { self.new ≡ braced self.old (Some mark) }
+    {
+        if !self.state.in_value {
+            self.push(Point::CloseBrace);
         }
-        WordRead::Stops(mark) => Err(Stop::Fault(mark)),
+        self.put(mark);
+        fields
+    }
+
+    /// Reads the tag that follows the path of a variant, and opens the variant's fields.
+    #[inline(never)]
+    pub(super) fn variant(&mut self) -> Result<Point, Stop>
+        requires may { MayGo Point.Variant self.old }
+        ensures did { Went Point.Variant self.old result self.new }
+    {
+        let at = self.state.at()?;
+        let (tag, next) = self.source.symbol.tag(at, &mut self.looks)?;
+        let kind = variant_kind(tag).ok_or(Stop::Fault(Mark::Invalid))?;
+        self.state.place = Some(next);
+        match kind {
+            VariantKind::Unit => Ok(self.unit_variant()),
+            VariantKind::Tuple => {
+                Ok(self.open_fields(Mark::OpenParen, Point::FirstVariantConstant))
+            }
+            VariantKind::Fields => Ok(self.open_fields(Mark::OpenFields, Point::FirstField)),
+        }
+    }
+
+    /// Reads and prints the name of a field.
+    #[inline(never)]
+    pub(super) fn field<V: Output>(&mut self, output: &mut V) -> Result<Point, Stop>
+        requires may { May V.Output Point.Field self.old output.old }
+        ensures did { Did V.Output Point.Field self.old output.old result self.new output.new }
+    {
+        match self.token_at(Word::FieldName, output) {
+            WordRead::Goes(stretch, next) => {
+                self.state.place = next;
+                self.emit(&stretch, output)?;
+                Ok(Point::FieldColon)
+            }
+            WordRead::Stops(mark) => Err(Stop::Fault(mark)),
+        }
     }
 }

@@ -9,11 +9,12 @@ ghost use Rattle.demangle_words.specs.declared.stretch.Stretch.{Stretch};
 ghost use Rattle.demangle_words.specs.declared.texts.Mark.{Mark};
 ghost use Rattle.demangle_symbol.specs.declared.cursor.ident.Ident.{Ident};
 
-use crate::read::{WordRead, faulty, goes};
+use crate::read::{TokenReader, WordRead, invalid_token, token_read};
 use crate::stretch::Stretch;
 use demangle_symbol::cursor::{Ident, Looks, Symbol};
 
-/// A name behind a disambiguator, its number, and the place behind it.
+/// Reads a disambiguator and the name after it. Returns the name, the disambiguator and the place
+/// after both, or `None` if they are not spelled there.
 #[inline(always)]
 pub fn numbered_name(
     symbol: &Symbol<'_>,
@@ -39,32 +40,34 @@ pub fn numbered_name(
     Some((ident, number, next))
 }
 
-/// The name of a field, whose disambiguator is not printed.
-#[inline(always)]
-pub(super) fn read_field(symbol: &Symbol<'_>, place: usize, looks: &mut Looks) -> WordRead
-    ensures value { result ≡ (field_group symbol.now place).reads }
-    ensures grows { looks.old ≤ looks.new }
-    ensures looks { looks.new + looks_later (read_stretch result) ≤ looks.old + total (field_group
-        symbol.now place).costs }
-    ensures in_bounds { LiesIn symbol.now (read_stretch result) }
-{
-    match numbered_name(symbol, place, looks) {
-        Some((ident, _, next)) => goes(Stretch::FieldName(ident), next),
-        None => faulty(),
+impl TokenReader<'_> {
+    /// Reads the name of a field, whose disambiguator is not printed.
+    #[inline(always)]
+    pub(super) fn read_field(&self, place: usize, looks: &mut Looks) -> WordRead
+        ensures value { result ≡ (field_group self.now.symbol.now place).reads }
+        ensures grows { looks.old ≤ looks.new }
+        ensures looks { looks.new + looks_later (read_stretch result) ≤ looks.old + total (field_group
+            self.now.symbol.now place).costs }
+        ensures in_bounds { LiesIn self.now.symbol.now (read_stretch result) }
+    {
+        match numbered_name(self.symbol, place, looks) {
+            Some((ident, _, next)) => token_read(Stretch::FieldName(ident), next),
+            None => invalid_token(),
+        }
     }
-}
 
-/// The name of a binding.
-#[inline(always)]
-pub(super) fn read_binding(symbol: &Symbol<'_>, place: usize, looks: &mut Looks) -> WordRead
-    ensures value { result ≡ (binding_group symbol.now place).reads }
-    ensures grows { looks.old ≤ looks.new }
-    ensures looks { looks.new + looks_later (read_stretch result) ≤ looks.old + total (binding_group
-        symbol.now place).costs }
-    ensures in_bounds { LiesIn symbol.now (read_stretch result) }
-{
-    match symbol.ident(place, looks) {
-        Ok((ident, next)) => goes(Stretch::BindingName(ident), next),
-        Err(_) => faulty(),
+    /// Reads the name of an associated type that a trait's arguments bind.
+    #[inline(always)]
+    pub(super) fn read_binding(&self, place: usize, looks: &mut Looks) -> WordRead
+        ensures value { result ≡ (binding_group self.now.symbol.now place).reads }
+        ensures grows { looks.old ≤ looks.new }
+        ensures looks { looks.new + looks_later (read_stretch result) ≤ looks.old + total (binding_group
+            self.now.symbol.now place).costs }
+        ensures in_bounds { LiesIn self.now.symbol.now (read_stretch result) }
+    {
+        match self.symbol.ident(place, looks) {
+            Ok((ident, next)) => token_read(Stretch::BindingName(ident), next),
+            Err(_) => invalid_token(),
+        }
     }
 }

@@ -7,7 +7,7 @@ ghost use Rattle.demangle_grammar.specs.Reading.{letter_of};
 use demangle_sink::{SinkRefused, SizeLimitedFmtAdapter, TextSink, put_char, put_each};
 use itoa::Buffer;
 
-/// Puts the name of the lifetime of a number: a letter, or `_` and the number.
+/// Prints the name of the lifetime of a number: a letter, or `_` and the number.
 fn put_letter<S: TextSink>(
     number: u128,
     out: &mut SizeLimitedFmtAdapter<'_, S>,
@@ -18,12 +18,12 @@ fn put_letter<S: TextSink>(
     if number < 26 {
         return put_char(char::from(b'a' + number as u8), out);
     }
-    // Behind `'z` comes `'_26`: the number itself, and not how far it is past the letters.
+    // After `'z` comes `'_26`: the number itself, not its distance from the letters.
     let mut buffer = Buffer::new();
     put_each(&["_", buffer.format(number)], out)
 }
 
-/// Puts the lifetime of a number.
+/// Prints the lifetime of a number.
 #[tactic(auto, using(demangle_sink::proofs::PrintsLemmas::prints_ready))]
 #[inline(never)]
 pub(super) fn put_lifetime<S: TextSink>(
@@ -37,7 +37,7 @@ pub(super) fn put_lifetime<S: TextSink>(
     put_letter(number, out)
 }
 
-/// Puts the lifetime of a number, and a space.
+/// Prints the lifetime of a number, and a space after it.
 #[tactic(auto, using(demangle_sink::proofs::PrintsLemmas::prints_ready))]
 #[inline(never)]
 pub(super) fn put_spaced_lifetime<S: TextSink>(
@@ -52,10 +52,10 @@ pub(super) fn put_spaced_lifetime<S: TextSink>(
     out.put(" ")
 }
 
-/// Puts the lifetime of a number behind a text.
+/// Prints a text, and the lifetime of a number after it.
 #[tactic(auto, using(demangle_sink::proofs::PrintsLemmas::prints_ready))]
 #[inline(never)]
-pub(super) fn put_lifetime_behind<S: TextSink>(
+pub(super) fn put_prefixed_lifetime<S: TextSink>(
     before: &str,
     number: u128,
     out: &mut SizeLimitedFmtAdapter<'_, S>,
@@ -67,7 +67,8 @@ pub(super) fn put_lifetime_behind<S: TextSink>(
     put_lifetime(number, out)
 }
 
-/// Puts the binder of so many new lifetimes, from a number on. It has none where there are none.
+/// Prints the binder of `count` new lifetimes, whose numbers begin at `first`. It prints nothing
+/// if `count` is 0.
 #[tactic(auto, using(demangle_sink::proofs::PrintsLemmas::prints_ready, demangle_sink::proofs::PrintsLemmas::prints_nothing, demangle_sink::proofs::Printed::printed_ready))]
 #[inline(never)]
 pub(super) fn put_binder<S: TextSink>(
@@ -82,9 +83,9 @@ pub(super) fn put_binder<S: TextSink>(
     if count == 0 {
         return Ok(());
     }
-    put_lifetime_behind("for<", first, out)?;
+    put_prefixed_lifetime("for<", first, out)?;
     for at in 1..count {
-        put_lifetime_behind(", ", first + at as u128, out)?;
+        put_prefixed_lifetime(", ", first + at as u128, out)?;
     }
     out.put("> ")
 }

@@ -1,4 +1,4 @@
-//! Names, with what stands round them.
+//! Names, with the texts before and after them.
 ghost use Rattle.std.specs.Prelude.{◌≡◌, ◌+◌, ◌<◌, ◌≤◌, [], ◌∷◌, ◌++◌, IsAscii, codes, decimal};
 ghost use Rattle.demangle_words.specs.WordReads.{nested_texts, special_texts};
 ghost use Rattle.demangle_symbol.specs.Idents.{LiesWithin, name_in, name_size};
@@ -7,10 +7,21 @@ ghost use Rattle.demangle_symbol.specs.Names.{is_nameless, name_pieces};
 ghost use Rattle.demangle_words.specs.Stretches.{crate_texts, kind_text, name_behind, disambiguator_texts};
 
 use crate::render::numbers;
+use crate::source::Source;
 use demangle_sink::{SinkRefused, SizeLimitedFmtAdapter, TextSink, put_char};
-use demangle_symbol::cursor::{Ident, Looks, Part, Symbol};
+use demangle_symbol::cursor::{Ident, Looks};
 
-/// Puts a disambiguator in brackets, in the plain form alone and where it is not 0.
+/// A name in a namespace.
+#[derive(Clone, Copy)]
+pub(super) struct NamespacedName {
+    /// The letter of the namespace, which is special if it is `A` to `Z`.
+    pub(super) namespace: u8,
+    /// The disambiguator.
+    pub(super) number: u64,
+    pub(super) ident: Ident,
+}
+
+/// Prints a disambiguator in brackets, if it is not 0. The alternate form omits it.
 #[tactic(auto, using(demangle_sink::proofs::PrintsLemmas::prints_ready, demangle_sink::proofs::PrintsLemmas::prints_nothing))]
 #[inline(never)]
 fn put_disambiguator<S: TextSink>(
@@ -32,71 +43,8 @@ fn put_disambiguator<S: TextSink>(
     out.put("]")
 }
 
-/// Puts the name of a crate, and its disambiguator.
-#[tactic(auto, using(demangle_sink::proofs::PrintsLemmas::prints_ready))]
-#[inline(always)]
-pub(super) fn put_crate_name<S: TextSink>(
-    symbol: &Symbol<'_>,
-    name: &Ident,
-    number: u64,
-    include_hash: bool,
-    out: &mut SizeLimitedFmtAdapter<'_, S>,
-    looks: &mut Looks,
-) -> Result<(), SinkRefused>
-    requires parts { LiesWithin symbol.now name.now }
-    requires ascii { IsAscii symbol.now }
-    requires ready { Ready S.TextSink out.old }
-    ensures prints { Prints S.TextSink out.old (crate_texts include_hash (name_in symbol.now
-        name.now) number) result out.new }
-    ensures grows { looks.old ≤ looks.new }
-    ensures most { looks.new ≤ looks.old + name_size name.now }
-{
-    name.write_to(symbol, out, looks)?;
-    put_disambiguator(number, include_hash, out)
-}
-
-/// Whether both parts of a name are empty.
-#[tactic(auto, using(crate::proofs::StretchTexts::name_steps))]
-#[inline(always)]
-fn is_nameless(symbol: &Symbol<'_>, name: &Ident) -> bool
-    requires parts { LiesWithin symbol.now name.now }
-    requires ascii { IsAscii symbol.now }
-    ensures { result ≡ is_nameless (name_in symbol.now name.now) }
-{
-    if symbol.span(name.ascii).len() > 0 {
-        return false;
-    }
-    symbol.span(name.punycode).len() == 0
-}
-
-/// Puts a name behind a text, and nothing where the name is empty.
-#[tactic(auto, using(demangle_sink::proofs::PrintsLemmas::prints_ready, demangle_sink::proofs::PrintsLemmas::prints_nothing))]
-#[inline(always)]
-fn put_name_behind<S: TextSink>(
-    before: &str,
-    symbol: &Symbol<'_>,
-    name: &Ident,
-    out: &mut SizeLimitedFmtAdapter<'_, S>,
-    looks: &mut Looks,
-) -> Result<(), SinkRefused>
-    requires parts { LiesWithin symbol.now name.now }
-    requires ascii { IsAscii symbol.now }
-    requires ready { Ready S.TextSink out.old }
-    ensures prints { Prints S.TextSink out.old (name_behind before.now (name_in symbol.now
-        name.now)) result out.new }
-    ensures grows { looks.old ≤ looks.new }
-    ensures most { looks.new ≤ looks.old + name_size name.now }
-{
-    // A name may be empty, as a closure's is: then what would set it off goes too.
-    if is_nameless(symbol, name) {
-        return Ok(());
-    }
-    out.put(before)?;
-    name.write_to(symbol, out, looks)
-}
-
-/// Puts what a special namespace holds.
-fn put_kind<S: TextSink>(
+/// Prints what a special namespace holds.
+fn put_special_kind<S: TextSink>(
     namespace: u8,
     out: &mut SizeLimitedFmtAdapter<'_, S>,
 ) -> Result<(), SinkRefused>
@@ -111,7 +59,7 @@ fn put_kind<S: TextSink>(
     }
 }
 
-/// Puts the disambiguator of a special name, in decimal digits.
+/// Prints the disambiguator of a special name, in decimal digits.
 fn put_index<S: TextSink>(
     number: u64,
     out: &mut SizeLimitedFmtAdapter<'_, S>,
@@ -122,9 +70,9 @@ fn put_index<S: TextSink>(
     numbers::put_decimal(number as u128, out)
 }
 
-/// Puts what a special name ends in.
+/// Prints what a special name ends in: `#`, its disambiguator and `}`.
 #[tactic(auto, using(demangle_sink::proofs::PrintsLemmas::prints_ready))]
-fn put_ending<S: TextSink>(
+fn put_special_suffix<S: TextSink>(
     number: u64,
     out: &mut SizeLimitedFmtAdapter<'_, S>,
 ) -> Result<(), SinkRefused>
@@ -137,87 +85,135 @@ fn put_ending<S: TextSink>(
     out.put("}")
 }
 
-/// Puts a name in a special namespace, by its parts, and its disambiguator.
-// It takes no reference, so that the names of its caller can lie in registers.
-#[tactic(auto, using(demangle_sink::proofs::PrintsLemmas::prints_ready))]
-#[inline(never)]
-fn put_special_name<S: TextSink>(
-    symbol: &Symbol<'_>,
-    namespace: u8,
-    number: u64,
-    ascii: Part,
-    punycode: Part,
-    out: &mut SizeLimitedFmtAdapter<'_, S>,
-    looks: &mut Looks,
-) -> Result<(), SinkRefused>
-    requires small { namespace < 128 }
-    requires parts { LiesWithin symbol.now (record { ascii = ascii; punycode = punycode }) }
-    requires ascii { IsAscii symbol.now }
-    requires ready { Ready S.TextSink out.old }
-    ensures prints { Prints S.TextSink out.old (special_texts namespace number (name_in
-        symbol.now (record { ascii = ascii; punycode = punycode }))) result out.new }
-    ensures grows { looks.old ≤ looks.new }
-    ensures most { looks.new ≤ looks.old + name_size (record {
-      ascii = ascii;
-      punycode = punycode;
-    }) }
-{
-    out.put("::{")?;
-    put_kind(namespace, out)?;
-    let name = Ident { ascii, punycode };
-    put_name_behind(":", symbol, &name, out, looks)?;
-    put_ending(number, out)
-}
-
-/// Puts a name in a namespace: special where its letter is `A` to `Z`.
-#[inline(always)]
-pub(super) fn put_nested_name<S: TextSink>(
-    symbol: &Symbol<'_>,
-    namespace: u8,
-    number: u64,
-    name: &Ident,
-    out: &mut SizeLimitedFmtAdapter<'_, S>,
-    looks: &mut Looks,
-) -> Result<(), SinkRefused>
-    requires parts { LiesWithin symbol.now name.now }
-    requires ascii { IsAscii symbol.now }
-    requires ready { Ready S.TextSink out.old }
-    ensures prints { Prints S.TextSink out.old (nested_texts namespace number (name_in symbol.now
-        name.now)) result out.new }
-    ensures grows { looks.old ≤ looks.new }
-    ensures most { looks.new ≤ looks.old + name_size name.now }
-{
-    match namespace {
-        b'A'..=b'Z' => put_special_name(
-            symbol,
-            namespace,
-            number,
-            name.ascii,
-            name.punycode,
-            out,
-            looks,
-        ),
-        _ => put_name_behind("::", symbol, name, out, looks),
+impl Source<'_> {
+    /// Prints the name of a crate, and its disambiguator after it.
+    #[tactic(auto, using(demangle_sink::proofs::PrintsLemmas::prints_ready))]
+    #[inline(always)]
+    pub(super) fn put_crate_name<S: TextSink>(
+        &self,
+        name: &Ident,
+        number: u64,
+        out: &mut SizeLimitedFmtAdapter<'_, S>,
+        looks: &mut Looks,
+    ) -> Result<(), SinkRefused>
+        requires parts { LiesWithin self.now.symbol.now name.now }
+        requires ascii { IsAscii self.now.symbol.now }
+        requires ready { Ready S.TextSink out.old }
+        ensures prints { Prints S.TextSink out.old (crate_texts self.now.include_hash (name_in
+            self.now.symbol.now name.now) number) result out.new }
+        ensures grows { looks.old ≤ looks.new }
+        ensures most { looks.new ≤ looks.old + name_size name.now }
+    {
+        name.write_to(self.symbol, out, looks)?;
+        put_disambiguator(number, self.include_hash, out)
     }
-}
 
-/// Puts the name that a binding binds.
-#[tactic(auto, using(demangle_sink::proofs::PrintsLemmas::prints_ready))]
-#[inline(never)]
-pub(super) fn put_binding<S: TextSink>(
-    symbol: &Symbol<'_>,
-    name: &Ident,
-    out: &mut SizeLimitedFmtAdapter<'_, S>,
-    looks: &mut Looks,
-) -> Result<(), SinkRefused>
-    requires parts { LiesWithin symbol.now name.now }
-    requires ascii { IsAscii symbol.now }
-    requires ready { Ready S.TextSink out.old }
-    ensures prints { Prints S.TextSink out.old
-        (name_pieces (name_in symbol.now name.now) ++ codes " = " ∷ []) result out.new }
-    ensures grows { looks.old ≤ looks.new }
-    ensures most { looks.new ≤ looks.old + name_size name.now }
-{
-    name.write_to(symbol, out, looks)?;
-    out.put(" = ")
+    /// Returns `true` if both parts of a name are empty.
+    #[tactic(auto, using(crate::proofs::StretchTexts::name_steps))]
+    #[inline(always)]
+    fn is_empty_name(&self, name: &Ident) -> bool
+        requires parts { LiesWithin self.now.symbol.now name.now }
+        requires ascii { IsAscii self.now.symbol.now }
+        ensures { result ≡ is_nameless (name_in self.now.symbol.now name.now) }
+    {
+        if self.symbol.span(name.ascii).len() > 0 {
+            return false;
+        }
+        self.symbol.span(name.punycode).len() == 0
+    }
+
+    /// Prints a text, and a name after it. It prints nothing if the name is empty.
+    #[tactic(auto, using(demangle_sink::proofs::PrintsLemmas::prints_ready, demangle_sink::proofs::PrintsLemmas::prints_nothing))]
+    #[inline(always)]
+    fn put_prefixed_name<S: TextSink>(
+        &self,
+        before: &str,
+        name: &Ident,
+        out: &mut SizeLimitedFmtAdapter<'_, S>,
+        looks: &mut Looks,
+    ) -> Result<(), SinkRefused>
+        requires parts { LiesWithin self.now.symbol.now name.now }
+        requires ascii { IsAscii self.now.symbol.now }
+        requires ready { Ready S.TextSink out.old }
+        ensures prints { Prints S.TextSink out.old (name_behind before.now (name_in
+            self.now.symbol.now name.now)) result out.new }
+        ensures grows { looks.old ≤ looks.new }
+        ensures most { looks.new ≤ looks.old + name_size name.now }
+    {
+        // A name may be empty, as a closure's is. Then the text before it is omitted too.
+        if self.is_empty_name(name) {
+            return Ok(());
+        }
+        out.put(before)?;
+        name.write_to(self.symbol, out, looks)
+    }
+
+    /// Prints a name in a special namespace, and its disambiguator.
+    // It takes the name by value, so that its caller can keep the names that it reads in registers.
+    #[tactic(auto, using(demangle_sink::proofs::PrintsLemmas::prints_ready))]
+    #[inline(never)]
+    fn put_special_name<S: TextSink>(
+        &self,
+        name: NamespacedName,
+        out: &mut SizeLimitedFmtAdapter<'_, S>,
+        looks: &mut Looks,
+    ) -> Result<(), SinkRefused>
+        requires small { name.namespace < 128 }
+        requires parts { LiesWithin self.now.symbol.now name.ident }
+        requires ascii { IsAscii self.now.symbol.now }
+        requires ready { Ready S.TextSink out.old }
+        ensures prints { Prints S.TextSink out.old (special_texts name.namespace name.number (name_in
+            self.now.symbol.now name.ident)) result out.new }
+        ensures grows { looks.old ≤ looks.new }
+        ensures most { looks.new ≤ looks.old + name_size name.ident }
+    {
+        out.put("::{")?;
+        put_special_kind(name.namespace, out)?;
+        self.put_prefixed_name(":", &name.ident, out, looks)?;
+        put_special_suffix(name.number, out)
+    }
+
+    /// Prints a name in a namespace, with `::` before it. An empty name prints nothing, unless the
+    /// namespace is special.
+    #[inline(always)]
+    pub(super) fn put_nested_name<S: TextSink>(
+        &self,
+        name: NamespacedName,
+        out: &mut SizeLimitedFmtAdapter<'_, S>,
+        looks: &mut Looks,
+    ) -> Result<(), SinkRefused>
+        requires parts { LiesWithin self.now.symbol.now name.ident }
+        requires ascii { IsAscii self.now.symbol.now }
+        requires ready { Ready S.TextSink out.old }
+        ensures prints { Prints S.TextSink out.old (nested_texts name.namespace name.number (name_in
+            self.now.symbol.now name.ident)) result out.new }
+        ensures grows { looks.old ≤ looks.new }
+        ensures most { looks.new ≤ looks.old + name_size name.ident }
+    {
+        match name.namespace {
+            b'A'..=b'Z' => self.put_special_name(name, out, looks),
+            _ => self.put_prefixed_name("::", &name.ident, out, looks),
+        }
+    }
+
+    /// Prints the name of an associated type that a trait's arguments bind, and ` = ` after it.
+    #[tactic(auto, using(demangle_sink::proofs::PrintsLemmas::prints_ready))]
+    #[inline(never)]
+    pub(super) fn put_binding<S: TextSink>(
+        &self,
+        name: &Ident,
+        out: &mut SizeLimitedFmtAdapter<'_, S>,
+        looks: &mut Looks,
+    ) -> Result<(), SinkRefused>
+        requires parts { LiesWithin self.now.symbol.now name.now }
+        requires ascii { IsAscii self.now.symbol.now }
+        requires ready { Ready S.TextSink out.old }
+        ensures prints { Prints S.TextSink out.old
+            (name_pieces (name_in self.now.symbol.now name.now) ++ codes " = " ∷ []) result out.new }
+        ensures grows { looks.old ≤ looks.new }
+        ensures most { looks.new ≤ looks.old + name_size name.now }
+    {
+        name.write_to(self.symbol, out, looks)?;
+        out.put(" = ")
+    }
 }

@@ -1,4 +1,4 @@
-//! Numbers.
+//! Numbers, and the types of numeric constants.
 ghost use Rattle.std.specs.Prelude.{◌≡◌, ◌≤◌, [], ◌∷◌, false, IsAscii, codes, decimal, drop, slice_range};
 ghost use Rattle.std.specs.Fmt.{digits};
 ghost use Rattle.demangle_words.specs.WordReads.{number_texts};
@@ -6,9 +6,10 @@ ghost use Rattle.demangle_sink.specs.Limit.{Prints, Ready};
 ghost use Rattle.demangle_words.specs.Backrefs.{PartIn};
 ghost use Rattle.demangle_words.specs.Stretches.{constant_texts, type_texts};
 
+use crate::source::Source;
 use crate::texts::{basic_mark, text};
 use demangle_sink::{SinkRefused, SizeLimitedFmtAdapter, TextSink};
-use demangle_symbol::cursor::{Part, Symbol};
+use demangle_symbol::cursor::Part;
 use itoa::Buffer;
 use std::str;
 
@@ -33,7 +34,7 @@ static DIGIT_PAIRS_16: [u8; 512] = *b"\
     f0f1f2f3f4f5f6f7f8f9fafbfcfdfeff\
 ";
 
-/// Writes the hexadecimal digits of a number, its leading zeros too: where the others begin.
+/// Writes all 16 hexadecimal digits of a number, and returns how many leading zeros to omit.
 #[inline(always)]
 fn write_hexadecimal(number: u64, text: &mut [u8; 16]) -> usize
     ensures bound { result ≤ 16 }
@@ -52,7 +53,7 @@ fn write_hexadecimal(number: u64, text: &mut [u8; 16]) -> usize
     ((number | 1).leading_zeros() / 4) as usize
 }
 
-/// Puts a number in hexadecimal digits, as one piece.
+/// Prints a number in hexadecimal digits, as one piece.
 #[inline(always)]
 pub(super) fn put_hexadecimal<S: TextSink>(
     number: u64,
@@ -67,25 +68,7 @@ pub(super) fn put_hexadecimal<S: TextSink>(
     out.put(unsafe { str::from_utf8_unchecked(&text[start..]) })
 }
 
-/// Puts the nibbles of a hex word that has no number.
-#[tactic(auto, using(demangle_sink::proofs::PrintsLemmas::prints_ready))]
-fn put_nibbles<S: TextSink>(
-    symbol: &Symbol<'_>,
-    nibbles: Part,
-    out: &mut SizeLimitedFmtAdapter<'_, S>,
-) -> Result<(), SinkRefused>
-    requires ascii { IsAscii symbol.now }
-    requires part { PartIn symbol.now nibbles }
-    requires ready { Ready S.TextSink out.old }
-    ensures { Prints S.TextSink out.old
-        (codes "0x" ∷ slice_range symbol.now nibbles.from nibbles.to ∷ []) result out.new }
-{
-    // All the nibbles stand as they are spelled, zeros in front too.
-    out.put("0x")?;
-    symbol.span(nibbles).write_to(out)
-}
-
-/// Puts a number in decimal digits, as one piece.
+/// Prints a number in decimal digits, as one piece.
 pub(super) fn put_decimal<S: TextSink>(
     number: u128,
     out: &mut SizeLimitedFmtAdapter<'_, S>,
@@ -97,61 +80,80 @@ pub(super) fn put_decimal<S: TextSink>(
     out.put(buffer.format(number))
 }
 
-/// Puts a number in decimal digits, or its nibbles where it has none.
-fn put_number<S: TextSink>(
-    symbol: &Symbol<'_>,
-    value: Option<u128>,
-    nibbles: Part,
-    out: &mut SizeLimitedFmtAdapter<'_, S>,
-) -> Result<(), SinkRefused>
-    requires ascii { IsAscii symbol.now }
-    requires part { PartIn symbol.now nibbles }
-    requires ready { Ready S.TextSink out.old }
-    ensures { Prints S.TextSink out.old (number_texts (slice_range symbol.now nibbles.from
-        nibbles.to) value) result out.new }
-{
-    match value {
-        Some(number) => put_decimal(number, out),
-        None => put_nibbles(symbol, nibbles, out),
+impl Source<'_> {
+    /// Prints the nibbles of a number that has more than 128 bits.
+    #[tactic(auto, using(demangle_sink::proofs::PrintsLemmas::prints_ready))]
+    fn put_nibbles<S: TextSink>(
+        &self,
+        nibbles: Part,
+        out: &mut SizeLimitedFmtAdapter<'_, S>,
+    ) -> Result<(), SinkRefused>
+        requires ascii { IsAscii self.now.symbol.now }
+        requires part { PartIn self.now.symbol.now nibbles }
+        requires ready { Ready S.TextSink out.old }
+        ensures { Prints S.TextSink out.old
+            (codes "0x" ∷ slice_range self.now.symbol.now nibbles.from nibbles.to ∷ []) result out.new }
+    {
+        // All the nibbles are printed as they are spelled, leading zeros too.
+        out.put("0x")?;
+        self.symbol.span(nibbles).write_to(out)
     }
-}
 
-/// Puts the name of a basic type, in the plain form alone.
-#[tactic(auto, using(demangle_sink::proofs::PrintsLemmas::prints_nothing, crate::proofs::TagRows::basic_found))]
-fn put_type_name<S: TextSink>(
-    tag: u8,
-    include_hash: bool,
-    out: &mut SizeLimitedFmtAdapter<'_, S>,
-) -> Result<(), SinkRefused>
-    requires { Ready S.TextSink out.old }
-    ensures { Prints S.TextSink out.old (type_texts include_hash tag) result out.new }
-{
-    if !include_hash {
-        return Ok(());
+    /// Prints a number in decimal digits, or its nibbles if it has no value.
+    fn put_number<S: TextSink>(
+        &self,
+        value: Option<u128>,
+        nibbles: Part,
+        out: &mut SizeLimitedFmtAdapter<'_, S>,
+    ) -> Result<(), SinkRefused>
+        requires ascii { IsAscii self.now.symbol.now }
+        requires part { PartIn self.now.symbol.now nibbles }
+        requires ready { Ready S.TextSink out.old }
+        ensures { Prints S.TextSink out.old (number_texts (slice_range self.now.symbol.now nibbles.from
+            nibbles.to) value) result out.new }
+    {
+        match value {
+            Some(number) => put_decimal(number, out),
+            None => self.put_nibbles(nibbles, out),
+        }
     }
-    match basic_mark(tag) {
-        Some(mark) => out.put(text(mark)),
-        None => Ok(()),
-    }
-}
 
-/// Puts a number, and the name of its type.
-#[tactic(auto, using(demangle_sink::proofs::PrintsLemmas::prints_ready))]
-#[inline(never)]
-pub(super) fn put_number_constant<S: TextSink>(
-    symbol: &Symbol<'_>,
-    value: Option<u128>,
-    nibbles: Part,
-    tag: u8,
-    include_hash: bool,
-    out: &mut SizeLimitedFmtAdapter<'_, S>,
-) -> Result<(), SinkRefused>
-    requires ascii { IsAscii symbol.now }
-    requires part { PartIn symbol.now nibbles }
-    requires ready { Ready S.TextSink out.old }
-    ensures { Prints S.TextSink out.old (constant_texts symbol.now include_hash value nibbles tag)
-        result out.new }
-{
-    put_number(symbol, value, nibbles, out)?;
-    put_type_name(tag, include_hash, out)
+    /// Prints the name of a basic type. The alternate form omits it.
+    #[tactic(auto, using(demangle_sink::proofs::PrintsLemmas::prints_nothing, crate::proofs::TagRows::basic_found))]
+    fn put_type_name<S: TextSink>(
+        &self,
+        tag: u8,
+        out: &mut SizeLimitedFmtAdapter<'_, S>,
+    ) -> Result<(), SinkRefused>
+        requires { Ready S.TextSink out.old }
+        ensures { Prints S.TextSink out.old (type_texts self.now.include_hash tag) result out.new }
+    {
+        if !self.include_hash {
+            return Ok(());
+        }
+        match basic_mark(tag) {
+            Some(mark) => out.put(text(mark)),
+            None => Ok(()),
+        }
+    }
+
+    /// Prints a numeric constant, and the name of its type after it.
+    #[tactic(auto, using(demangle_sink::proofs::PrintsLemmas::prints_ready))]
+    #[inline(never)]
+    pub(super) fn put_number_constant<S: TextSink>(
+        &self,
+        value: Option<u128>,
+        nibbles: Part,
+        tag: u8,
+        out: &mut SizeLimitedFmtAdapter<'_, S>,
+    ) -> Result<(), SinkRefused>
+        requires ascii { IsAscii self.now.symbol.now }
+        requires part { PartIn self.now.symbol.now nibbles }
+        requires ready { Ready S.TextSink out.old }
+        ensures { Prints S.TextSink out.old (constant_texts self.now.symbol.now self.now.include_hash value nibbles tag)
+            result out.new }
+    {
+        self.put_number(value, nibbles, out)?;
+        self.put_type_name(tag, out)
+    }
 }

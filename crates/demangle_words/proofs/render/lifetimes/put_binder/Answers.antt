@@ -10,31 +10,31 @@ use Rattle.demangle_words.proofs.render.lifetimes.put_binder.Goals as goal
 pub returns-then-count-eq0 : goal.returns-then-count-eq0
 returns-then-count-eq0 g c = rw (binder_none c.args.count c.args.first (omega arith)) (prints_nothing g.S.TextSink _ c.requires.ready)
 
-pub returns-in_err-put_lifetime_behind : goal.returns-in_err-put_lifetime_behind
-returns-in_err-put_lifetime_behind g c =
+pub returns-in_err-put_prefixed_lifetime : goal.returns-in_err-put_prefixed_lifetime
+returns-in_err-put_prefixed_lifetime g c =
     let m = c.args.count - 1 in
     rw (binder_first c.args.count m c.args.first (omega arith))
-    (prints_stop g.S.TextSink _ _ _ _ _ _ c.in_err-put_lifetime_behind.ensures refl c.from_residual.ensures.0)
+    (prints_stop g.S.TextSink _ _ _ _ _ _ c.in_err-put_prefixed_lifetime.ensures refl c.from_residual.ensures.0)
 
 pub loop-at-init : goal.loop-at-init
 loop-at-init g c =
     printed_then g.S.TextSink _ _ _ _ (binder_texts c.args.count c.args.first) (codes "for<" ∷ codes "'" ∷ letter_of c.args.first) _
     (printed_start g.S.TextSink _ _ _ c.requires.ready refl)
-    (binder_first c.args.count (c.args.count - 1) c.args.first (omega arith)) c.in_ok-put_lifetime_behind.ensures
+    (binder_first c.args.count (c.args.count - 1) c.args.first (omega arith)) c.in_ok-put_prefixed_lifetime.ensures
 
 pub loop-at-preserved : goal.loop-at-preserved
 loop-at-preserved g c =
     let l = c.loop-at in
     let n = c.args.first + l.at in
     let turn = more_turn (c.args.count - l.at) (c.args.count - (l.at + 1)) n (c.args.first + (l.at + 1)) (omega arith) (omega arith) in
-    printed_then g.S.TextSink _ _ _ _ _ (codes ", " ∷ codes "'" ∷ letter_of n) _ l.invariant turn c.in_ok-put_lifetime_behind-2.ensures
+    printed_then g.S.TextSink _ _ _ _ _ (codes ", " ∷ codes "'" ∷ letter_of n) _ l.invariant turn c.in_ok-put_prefixed_lifetime-2.ensures
 
-pub returns-in_err-put_lifetime_behind-2 : goal.returns-in_err-put_lifetime_behind-2
-returns-in_err-put_lifetime_behind-2 g c =
+pub returns-in_err-put_prefixed_lifetime-2 : goal.returns-in_err-put_prefixed_lifetime-2
+returns-in_err-put_prefixed_lifetime-2 g c =
     let l = c.loop-at in
     let n = c.args.first + l.at in
     let turn = more_turn (c.args.count - l.at) (c.args.count - (l.at + 1)) n (c.args.first + (l.at + 1)) (omega arith) (omega arith) in
-    printed_stop g.S.TextSink _ _ _ _ _ (codes ", " ∷ codes "'" ∷ letter_of n) _ _ _ l.invariant turn c.in_err-put_lifetime_behind-2.ensures c.from_residual-in_err-put_lifetime_behind-2.ensures.0
+    printed_stop g.S.TextSink _ _ _ _ _ (codes ", " ∷ codes "'" ∷ letter_of n) _ _ _ l.invariant turn c.in_err-put_prefixed_lifetime-2.ensures c.from_residual-in_err-put_prefixed_lifetime-2.ensures.0
 
 pub returns : goal.returns
 returns g c =

@@ -1,8 +1,0 @@
-use Rattle.std.proofs.Common.{arith, refl}
-use Rattle.demangle_v0.specs.Points.{unit_rest_at}
-use Rattle.demangle_v0.proofs.PointTurns.{alike}
-use Rattle.demangle_v0.proofs.points.constants.number.Goals as goal
-
-pub returns-clause-did : goal.returns-clause-did
-unfolding unit_rest_at
-returns-clause-did g c = λ stack. alike (omega arith) refl (omega arith) (omega arith) (c.last_word.ensures.did stack)

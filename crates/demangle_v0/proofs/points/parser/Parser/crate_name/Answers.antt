@@ -1,0 +1,78 @@
+use Rattle.std.proofs.Common.{arith, refl}
+use Rattle.demangle_v0.specs.Points.{unit_rest_at}
+use Rattle.demangle_v0.specs.Parsers.{env_of}
+use Rattle.demangle_grammar.specs.Reading.{run}
+use Rattle.demangle_v0.specs.declared.points.Point.TheVariants as point
+use Rattle.demangle_words.specs.WordReads.{crate_group}
+use Rattle.demangle_words.specs.declared.stretch.Stretch.TheVariants.{CrateName}
+use Rattle.demangle_v0.proofs.Faults.{stops, stops_none}
+use Rattle.demangle_v0.proofs.WordLooks.{named_at, named_few}
+use Rattle.demangle_v0.proofs.PointTurns.{ended, unread, group_tells, group_halts, group_faults}
+use Rattle.demangle_v0.proofs.PointPaths.{crate_heard}
+use Rattle.demangle_v0.proofs.points.parser.Parser.crate_name.Goals as goal
+
+pub returns-in_err-at : goal.returns-in_err-at
+unfolding run
+returns-in_err-at g c = record {
+  did = record {
+    does = rw (stops c.from_residual.result c.from_residual.ensures.1 c.in_err-at.ensures.failed.1)
+        (unread c.requires.may.unmarked (rw c.in_err-at.ensures.failed.0 refl) (omega arith));
+    same = (refl, refl);
+  };
+}
+
+pub returns-in_err-name : goal.returns-in_err-name
+returns-in_err-name g c =
+    let named = rw c.in_err-name.ensures.ok_part at c.numbered_name-named.ensures in
+    let b = c.args.self.now.source.symbol.now in
+    let at = c.in_ok-at.at in
+    record {
+      did = record {
+        does = rw (stops_none c.from_residual-in_err-name.result c.from_residual-in_err-name.ensures.1
+            c.in_err-name.ensures.value c.in_err-name.ensures.ok_part)
+            (group_faults (crate_group b at) (omega (arith, named_few b at CrateName)) ended _
+            (crate_heard (env_of g.V.Output c.args.self.now) c.args.self.now.state at c.in_ok-at.ensures.ok)
+            (named.none CrateName)
+            (record { grows = omega arith; within = omega (arith, named.looks CrateName) }) (named_at _ b at CrateName
+            c.in_ok-at.ensures.ok (omega (arith, named.looks CrateName))) c.requires.may.unmarked (omega arith));
+        same = (refl, refl);
+      };
+    }
+
+pub returns-in_err-emit : goal.returns-in_err-emit
+returns-in_err-emit g c =
+    let named = rw c.in_ok-name.ensures.ok_part at c.numbered_name-named.ensures in
+    let b = c.args.self.now.source.symbol.now in
+    let at = c.in_ok-at.at in
+    let e = c.in_err-emit.ensures in
+    record {
+      did = rw e.parser (record {
+        does = rw (stops c.from_residual-in_err-emit.result c.from_residual-in_err-emit.ensures.1 refl)
+            (group_halts (crate_group b at) (omega (arith, named_few b at CrateName)) ended _ _
+            (crate_heard (env_of g.V.Output c.args.self.now) c.args.self.now.state at c.in_ok-at.ensures.ok)
+            (named.some CrateName)
+            (record { grows = omega (arith, e.grows); within = omega (arith, named.looks CrateName, e.most) })
+            (named_at _ b at CrateName c.in_ok-at.ensures.ok (omega (arith, named.looks CrateName, e.most)))
+            e.prints e.quiet);
+        same = (refl, refl);
+      });
+    }
+
+pub returns : goal.returns
+unfolding unit_rest_at
+returns g c =
+    let named = rw c.in_ok-name.ensures.ok_part at c.numbered_name-named.ensures in
+    let b = c.args.self.now.source.symbol.now in
+    let at = c.in_ok-at.at in
+    let e = c.in_ok-emit.ensures in
+    record {
+      did = rw e.parser (record {
+        does = group_tells point.End (crate_group b at) (omega (arith, named_few b at CrateName)) ended _ _
+            (crate_heard (env_of g.V.Output c.args.self.now) c.args.self.now.state at c.in_ok-at.ensures.ok)
+            (named.some CrateName)
+            (record { grows = omega (arith, e.grows); within = omega (arith, named.looks CrateName, e.most) })
+            (named_at _ b at CrateName c.in_ok-at.ensures.ok (omega (arith, named.looks CrateName, e.most)))
+            e.prints e.ready c.requires.may.unmarked refl (omega arith) (omega arith) tt;
+        same = (refl, refl);
+      });
+    }

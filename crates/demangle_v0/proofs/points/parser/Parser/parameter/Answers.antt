@@ -1,0 +1,22 @@
+use Rattle.std.proofs.Common.{refl, sym, ◌∙◌}
+use Rattle.demangle_v0.proofs.PointFunctions.{parameter_types, parameters_close}
+use Rattle.demangle_v0.proofs.PointLists.{list_goes}
+use Rattle.demangle_v0.proofs.points.parser.Parser.parameter.Goals as goal
+
+pub returns-then-ends_list : goal.returns-then-ends_list
+returns-then-ends_list g c = record {
+  did = λ p. rw (c.put.ensures, c.ends_list.ensures.place) (record {
+    does = parameters_close c.args.is_first (sym c.ends_list.ensures.over ∙ c.if-ends_list.true) refl
+        c.ends_list.ensures.paid c.requires.may.fits;
+    same = (refl, refl);
+  });
+}
+
+pub returns : goal.returns
+returns g c = record {
+  did = λ p. rw (c.push.ensures, c.ends_list.ensures.place) (record {
+    does = list_goes (parameter_types _ c.args.is_first) (sym c.ends_list.ensures.over ∙ c.if-ends_list.false) refl
+        c.ends_list.ensures.paid c.separator-self.ensures c.requires.may.fits refl;
+    same = (refl, refl);
+  });
+}

@@ -1,0 +1,27 @@
+use Rattle.std.proofs.Common.{false, arith, refl, sym, ◌∙◌}
+use Rattle.demangle_grammar.specs.Table.{constant_inside}
+use Rattle.demangle_v0.specs.Points.{unit_rest_at}
+use Rattle.demangle_v0.specs.declared.points.constant_lists.ConstantList.TheVariants as list
+use Rattle.demangle_v0.proofs.PointConstantLists.{constants}
+use Rattle.demangle_v0.proofs.PointLists.{second_closes, second_goes}
+use Rattle.demangle_v0.proofs.points.parser.Parser.second_tuple_constant.Goals as goal
+
+pub returns-then-ends_list : goal.returns-then-ends_list
+unfolding unit_rest_at
+returns-then-ends_list g c = record {
+  did = λ p. rw (c.put.ensures, c.ends_list.ensures.place) (record {
+    does = second_closes constant_inside refl (sym c.ends_list.ensures.over ∙ c.if-ends_list.true) refl
+        c.ends_list.ensures.paid (omega arith) (omega arith) c.requires.may.fits;
+    same = (refl, refl);
+  });
+}
+
+pub returns : goal.returns
+unfolding unit_rest_at
+returns g c = record {
+  did = λ p. rw (c.put-2.ensures, c.push.ensures, c.ends_list.ensures.place) (record {
+    does = second_goes (constants _ false list.Tuple) refl (sym c.ends_list.ensures.over ∙ c.if-ends_list.false) refl
+        c.ends_list.ensures.paid (omega arith) c.requires.may.fits refl;
+    same = (refl, refl);
+  });
+}

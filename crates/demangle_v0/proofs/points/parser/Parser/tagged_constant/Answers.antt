@@ -1,0 +1,148 @@
+use Rattle.std.proofs.Common.{true, arith, refl}
+use Rattle.demangle_grammar.specs.Items.{a_constant}
+use Rattle.demangle_grammar.specs.Reading.{run}
+use Rattle.demangle_v0.specs.Points.{unit_rest_at}
+use Rattle.demangle_v0.specs.declared.points.Point.TheVariants as point
+use Rattle.demangle_words.specs.declared.tags.ConstantKind.TheVariants as kind
+use Rattle.demangle_v0.proofs.Faults.{stops_none}
+use Rattle.demangle_v0.proofs.Parsers.{went_rest}
+use Rattle.demangle_v0.proofs.PointReferences.{unit_constant}
+use Rattle.demangle_v0.proofs.PointTaggedConstants.{constant_wrong, constant_as, number_reads, text_braced, mutable_braced, array_braced, tuple_braced}
+use Rattle.demangle_v0.proofs.PointTurns.{marks}
+use Rattle.demangle_v0.proofs.points.parser.Parser.tagged_constant.Goals as goal
+
+pub returns-in_err-kind : goal.returns-in_err-kind
+returns-in_err-kind g c = record {
+  did = record {
+    does = rw (stops_none c.from_residual.result c.from_residual.ensures.1 c.in_err-kind.ensures.value
+        c.in_err-kind.ensures.ok_part) (constant_wrong c.args.tag
+        (rw c.in_err-kind.ensures.ok_part at c.constant_kind.ensures) c.requires.may.unmarked);
+    same = (refl, refl);
+  };
+}
+
+pub returns-in-Placeholder : goal.returns-in-Placeholder
+unfolding run unit_rest_at
+returns-in-Placeholder g c = record {
+  did = rw (c.end_with.ensures.end, c.end_with.ensures.marked) (record {
+    does = constant_as c.args.tag kind.Placeholder
+        (rw (c.in_ok-kind.ensures.ok_part, c.in-Placeholder.is) at c.constant_kind.ensures) (omega arith)
+        (omega arith) (omega arith)
+        (marks {words = 6} {weight = 6} {high = 0} point.End refl (omega arith) (omega arith) tt);
+    same = (refl, refl);
+  });
+}
+
+pub returns-in-Unsigned : goal.returns-in-Unsigned
+returns-in-Unsigned g c = record {
+  did = record {
+    does = constant_as c.args.tag kind.Unsigned
+        (rw (c.in_ok-kind.ensures.ok_part, c.in-Unsigned.is) at c.constant_kind.ensures) (omega arith)
+        (omega arith) (omega arith) (number_reads c.args.tag c.number.ensures.did.does);
+    same = c.number.ensures.did.same;
+  };
+}
+
+pub returns-in-Signed : goal.returns-in-Signed
+returns-in-Signed g c = record {
+  did = record {
+    does = constant_as c.args.tag kind.Signed
+        (rw (c.in_ok-kind.ensures.ok_part, c.in-Signed.is) at c.constant_kind.ensures) (omega arith)
+        (omega arith) (omega arith) c.signed_number.ensures.did.does;
+    same = c.signed_number.ensures.did.same;
+  };
+}
+
+pub returns-in-Bool : goal.returns-in-Bool
+returns-in-Bool g c = record {
+  did = record {
+    does = constant_as c.args.tag kind.Bool
+        (rw (c.in_ok-kind.ensures.ok_part, c.in-Bool.is) at c.constant_kind.ensures) (omega arith)
+        (omega arith) (omega arith) c.end_with_token.ensures.did.does;
+    same = c.end_with_token.ensures.did.same;
+  };
+}
+
+pub returns-in-Char : goal.returns-in-Char
+returns-in-Char g c = record {
+  did = record {
+    does = constant_as c.args.tag kind.Char
+        (rw (c.in_ok-kind.ensures.ok_part, c.in-Char.is) at c.constant_kind.ensures) (omega arith)
+        (omega arith) (omega arith) c.end_with_token-in-Char.ensures.did.does;
+    same = c.end_with_token-in-Char.ensures.did.same;
+  };
+}
+
+pub returns-in-Text : goal.returns-in-Text
+returns-in-Text g c = record {
+  did = rw (c.with_braces.ensures.point, c.with_braces.ensures.parser) (record {
+    does = constant_as c.args.tag kind.Text
+        (rw (c.in_ok-kind.ensures.ok_part, c.in-Text.is) at c.constant_kind.ensures) (omega arith)
+        (omega arith) (omega arith) (text_braced _ _ _ c.requires.may.fits (refl, refl));
+    same = (refl, refl);
+  });
+}
+
+pub returns-in-Mut : goal.returns-in-Mut
+returns-in-Mut g c = record {
+  did = rw (c.with_braces-in-Mut.ensures.point, c.with_braces-in-Mut.ensures.parser) (record {
+    does = constant_as c.args.tag kind.Mut
+        (rw (c.in_ok-kind.ensures.ok_part, c.in-Mut.is) at c.constant_kind.ensures) (omega arith)
+        (omega arith) (omega arith) (mutable_braced _ _ _ c.requires.may.fits (refl, refl));
+    same = (refl, refl);
+  });
+}
+
+pub returns-in-Array : goal.returns-in-Array
+returns-in-Array g c = record {
+  did = rw (c.with_braces-in-Array.ensures.point, c.with_braces-in-Array.ensures.parser) (record {
+    does = constant_as c.args.tag kind.Array
+        (rw (c.in_ok-kind.ensures.ok_part, c.in-Array.is) at c.constant_kind.ensures) (omega arith)
+        (omega arith) (omega arith) (array_braced _ _ _ c.requires.may.fits (refl, refl));
+    same = (refl, refl);
+  });
+}
+
+pub returns-in-Tuple : goal.returns-in-Tuple
+returns-in-Tuple g c = record {
+  did = rw (c.with_braces-in-Tuple.ensures.point, c.with_braces-in-Tuple.ensures.parser) (record {
+    does = constant_as c.args.tag kind.Tuple
+        (rw (c.in_ok-kind.ensures.ok_part, c.in-Tuple.is) at c.constant_kind.ensures) (omega arith)
+        (omega arith) (omega arith) (tuple_braced _ _ _ c.requires.may.fits (refl, refl));
+    same = (refl, refl);
+  });
+}
+
+pub returns-in-Shared : goal.returns-in-Shared
+returns-in-Shared g c = record {
+  did = record {
+    does = constant_as c.args.tag kind.Shared
+        (rw (c.in_ok-kind.ensures.ok_part, c.in-Shared.is) at c.constant_kind.ensures) (omega arith)
+        (omega arith) (omega arith) c.shared_reference.ensures.did.does;
+    same = c.shared_reference.ensures.did.same;
+  };
+}
+
+pub returns-in-Variant : goal.returns-in-Variant
+returns-in-Variant g c = let d = went_rest g.V.Output c.args.output.now _ 6 6 9 c.variant_path.ensures.did in record {
+  did = record {
+    does = constant_as c.args.tag kind.Variant
+        (rw (c.in_ok-kind.ensures.ok_part, c.in-Variant.is) at c.constant_kind.ensures) (omega arith)
+        (omega arith) (omega arith) d.does;
+    same = d.same;
+  };
+}
+
+pub returns-in-Reference : goal.returns-in-Reference
+returns-in-Reference g c =
+    let m = c.args.self.now in
+    let d = c.follow_backref.ensures.did true a_constant m.state.in_value
+    (unit_constant m.source.symbol.now m.source.include_hash m.state.in_value m.state.letter m.state.lifetimes) in
+    record {
+      did = record {
+        does = constant_as c.args.tag kind.Reference
+            (rw (c.in_ok-kind.ensures.ok_part, c.in-Reference.is) at c.constant_kind.ensures) (omega arith)
+            (omega arith) (omega arith) d.does;
+        same = d.same;
+      };
+    }

@@ -1,0 +1,121 @@
+//! The parser, and what its methods share.
+ghost use Rattle.std.specs.Prelude.{◌≡◌, ◌+◌, ◌-◌, ◌<◌, ◌≤◌, ◌^◌, length, IfOk, IfErr};
+ghost use Rattle.demangle_v0.specs.Parsers.{deeper, looked, marked, path_parser, pushed, roomy, shut};
+ghost use Rattle.demangle_v0.specs.Points.{frame_at, frame_of};
+ghost use Rattle.demangle_v0.specs.declared.points.Stop.TheVariants.{Fault};
+
+use crate::points::frames::{Frame, FrameStack};
+use crate::points::{Point, State, Stop};
+use demangle_symbol::cursor::{Looks, Symbol};
+use demangle_words::source::Source;
+use demangle_words::texts::Mark;
+use std::mem;
+
+/// A parse of a symbol: what is next, and the frames with which it continues after that. The output
+/// is a parameter of the methods that print.
+#[derive(Drop)]
+pub struct Parser<'m, const N: usize> {
+    pub source: Source<'m>,
+    pub point: Point,
+    pub state: State,
+    pub stack: FrameStack<N>,
+    pub looks: Looks,
+}
+
+impl<'m, const N: usize> Parser<'m, N> {
+    /// Returns a parser of the path at a place, with no frames. Moves the count out of `looks`.
+    #[inline(always)]
+    pub(crate) fn at_path(
+        symbol: &'m Symbol<'m>,
+        include_hash: bool,
+        place: usize,
+        looks: &mut Looks,
+    ) -> Self
+        ensures symbol { result.source.symbol.now ≡ symbol.now }
+        ensures parser { result ≡ path_parser result include_hash place looks.old }
+    {
+        Parser {
+            source: Source {
+                symbol,
+                include_hash,
+            },
+            point: Point::Path,
+            state: State::at_path(place),
+            stack: FrameStack::new(),
+            looks: mem::replace(looks, Looks::new()),
+        }
+    }
+
+    /// Returns a parser with the same frames, which continues where this one is, and has room for
+    /// `M` frames. Moves the count of looks into it.
+    #[inline(always)]
+    pub(crate) fn with_room<const M: usize>(&mut self) -> Parser<'m, M>
+        requires room { N ≤ M }
+        ensures larger { result ≡ roomy self.old }
+        ensures counted { self.new ≡ looked self.old 0 }
+    {
+        let mut stack = FrameStack::new();
+        stack.append(&self.stack);
+        Parser {
+            source: self.source,
+            point: self.point,
+            state: self.state,
+            stack,
+            looks: mem::replace(&mut self.looks, Looks::new()),
+        }
+    }
+}
+
+impl<const N: usize> Parser<'_, N> {
+    /// Pushes a frame with which the parser continues after what is read next.
+    #[inline(always)]
+    pub(super) fn push(&mut self, point: Point)
+        requires room { length self.old.stack < N }
+        requires small { self.old.state.lifetimes < 2 ^ 80 }
+        ensures { self.new ≡ pushed self.old (frame_at point self.old.state) }
+    {
+        self.stack.push(self.state.frame(point));
+    }
+
+    /// Pushes such a frame with another letter.
+    #[inline(always)]
+    pub(super) fn push_lettered(&mut self, point: Point, letter: u8)
+        requires room { length self.old.stack < N }
+        requires small { self.old.state.lifetimes < 2 ^ 80 }
+        ensures { self.new ≡ pushed self.old (frame_of point self.old.state.in_value letter
+            self.old.state.depth_left self.old.state.lifetimes) }
+    {
+        let frame = self.state.frame(point);
+        self.stack.push(Frame { letter, ..frame });
+    }
+
+    /// Leaves a fixed text, which is printed at the end of the step.
+    #[inline(always)]
+    pub(super) fn put(&mut self, mark: Mark)
+        ensures { self.new ≡ marked self.old mark }
+    {
+        self.state.mark = Some(mark);
+    }
+
+    /// Leaves the fixed text with which the production ends.
+    #[inline(always)]
+    pub(super) fn end_with(&mut self, mark: Mark) -> Point
+        ensures end { result ≡ Point.End }
+        ensures marked { self.new ≡ shut (marked self.old mark) }
+    {
+        self.state.mark = Some(mark);
+        self.state.is_open = false;
+        Point::End
+    }
+
+    /// Raises the depth. Fails if it has reached the limit.
+    #[inline(always)]
+    pub(super) fn enter(&mut self) -> Result<(), Stop>
+        ensures ok { IfOk result (λ _. (0 < self.old.state.depth_left) × (self.new ≡ deeper self.old)) }
+        ensures deep { IfErr result (λ stop. (self.old.state.depth_left ≡ 0) × (stop ≡ Fault
+            Mark.Recursion) × (self.new ≡ self.old)) }
+    {
+        self.state.depth_left = self.state.inner_depth()?;
+        Ok(())
+    }
+}
