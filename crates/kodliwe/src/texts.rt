@@ -14,7 +14,7 @@ is no Rust symbol stays as it is, bytes that are not UTF-8 and C++ names too.
 
 Options:
   -i, --input FILE    Read FILE; - is standard input. May stand several times
-  -o, --output FILE   Write FILE, replaced once it is complete; - is standard output
+  -o, --output FILE   Write FILE once all is read; - is standard output
       --hash          Keep the hashes of legacy symbols (foo::h05af221e174051e9)
   -l, --limit BYTES   Cut each path at BYTES (1000000 if not given)
   -h, --help          Print this help
