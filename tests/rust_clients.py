@@ -42,9 +42,11 @@ DIFFERENT = {
         f'"{0xFF00FF00FF00FF00FF}"',
     ),
 }
-# Unit tests of Debian's release that 0.1.28 fails too, or that DIFFERENT has.
+# Unit tests of Debian's release, 0.1.21, that want another text than ours, and why.
 DEBIAN_DIFFERENT = {
+    # 0.1.21 prints a disambiguator of 0 as `[0]`, which 0.1.28 leaves out.
     "v0::tests::demangle_const_generics_preview",
+    # A number of 17 to 32 nibbles is decimal here (docs/DIFFERENCES.md); this test also has a `[0]`.
     "v0::tests::demangle_min_const_generics",
 }
 # The most instructions, in those of the published crate.

@@ -26,11 +26,7 @@ fn keep_bytes<W: Write>(bytes: &[u8], output: &mut W) -> Result<(), StreamFault>
 }
 
 /// Writes what stands for a run.
-fn pass_run<W: Write>(
-    run: &[u8],
-    output: &mut W,
-    memo: &mut SymbolMemo,
-) -> Result<(), StreamFault>
+fn pass_run<W: Write>(run: &[u8], output: &mut W, memo: &mut SymbolMemo) -> Result<(), StreamFault>
     requires all { list_all is_run run.now ≡ true }
     requires some { 0 < length run.now }
     ensures ok { OnOk result (Appends (W.contents output.old) (W.contents output.new)

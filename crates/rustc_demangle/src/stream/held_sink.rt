@@ -53,6 +53,8 @@ impl<'h> TextSink for HeldSink<'h> {
 
     ghost took_nothing = { λ s. (refl, sym (append-nil s.held.now)) };
 
-    ghost took_joined = { λ s t u xs ys h k. (k.0 ∙ h.0,
-        k.1 ∙ (ap (λ z. z ++ ys) h.1 ∙ append_assoc s.held.now xs ys)) };
+    ghost took_joined = { λ s t u xs ys h k. (
+      k.0 ∙ h.0,
+      k.1 ∙ (ap (λ z. z ++ ys) h.1 ∙ append_assoc s.held.now xs ys),
+    ) };
 }

@@ -140,14 +140,12 @@ fn is_looked_up(run: &[u8]) -> bool {
 #[inline(never)]
 fn print_new(run: &str, hash: u64, form: Form, store: &mut Store) -> Printed
     requires run { list_all is_run run.now ≡ true }
-    requires remembers {
-        Remembers (replacement_within form.include_hash form.limit) store.old.texts }
+    requires remembers { Remembers (replacement_within form.include_hash form.limit) store.old.texts }
     ensures symbol { result ≡ Printed.Symbol →
         store.new.printed ≡ replacement_within form.include_hash form.limit run.now }
     ensures no_symbol { result ≡ Printed.NoSymbol →
         run.now ≡ replacement_within form.include_hash form.limit run.now }
-    ensures remembers {
-        Remembers (replacement_within form.include_hash form.limit) store.new.texts }
+    ensures remembers { Remembers (replacement_within form.include_hash form.limit) store.new.texts }
 {
     let symbol = Demangle::read_run(run);
     if !symbol.has_style() {

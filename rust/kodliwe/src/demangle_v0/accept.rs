@@ -1,81 +1,92 @@
 // Made from crates/demangle_v0/src/accept.rt by packaging/crate/erase.py: edit that file instead.
-//! Acceptance of v0 symbols: readings without an output.
+//! Acceptance of v0 symbols: parses without output.
 
 use crate::demangle_symbol::cursor::{Looks, Symbol};
-use crate::demangle_v0::points::frames::{FULL_STACK, FrameStack, MIDDLE_STACK, SHORT_STACK};
-use crate::demangle_v0::points::read::{Halt, Reading, read_on};
+use crate::demangle_v0::points::frames::{FULL_STACK, MIDDLE_STACK, SHORT_STACK};
+use crate::demangle_v0::points::parser::Parser;
+use crate::demangle_v0::points::read::Halt;
 
-/// Reads the rest, with room for every frame: where it ends.
-#[inline(never)]
-fn read_rest(
-    symbol: &Symbol<'_>,
-    few: &FrameStack<MIDDLE_STACK>,
-    from: &Reading,
-    looks: &mut Looks,
-) -> Option<usize> {
-    let mut stack: FrameStack<FULL_STACK> = FrameStack::new();
-    stack.append(few);
-    let mut reading = *from;
-    match read_on(symbol, 0, true, &mut reading, &mut stack, looks) {
-        Halt::Over => reading.place(),
-        // A stack with room for every frame is never full.
-        Halt::Full | Halt::Failed => None,
-    }
-}
-
-/// Reads the rest in a second stack, and where that is full too, in the last: where it ends.
-#[inline(never)]
-fn read_more(
-    symbol: &Symbol<'_>,
-    few: &FrameStack<SHORT_STACK>,
-    from: &Reading,
-    looks: &mut Looks,
-) -> Option<usize> {
-    let mut stack: FrameStack<MIDDLE_STACK> = FrameStack::new();
-    stack.append(few);
-    let mut reading = *from;
-    match read_on(symbol, 0, true, &mut reading, &mut stack, looks) {
-        Halt::Over => reading.place(),
-        Halt::Full => read_rest(symbol, &stack, &reading, looks),
-        Halt::Failed => None,
-    }
-}
-
-/// Where the path at a place ends, if one is spelled there. It is read above no frames, and leaves
-/// none.
-fn path_end(
-    symbol: &Symbol<'_>,
-    place: usize,
-    stack: &mut FrameStack<SHORT_STACK>,
-    looks: &mut Looks,
-) -> Option<usize> {
-    let mut reading = Reading::of_path(place);
-    match read_on(symbol, 0, true, &mut reading, stack, looks) {
-        Halt::Over => reading.place(),
-        Halt::Full => {
-            let end = read_more(symbol, stack, &reading, looks);
-            stack.truncate(0);
-            end
+impl Parser<'_, FULL_STACK> {
+    /// Reads the rest. Returns where it ends.
+    #[inline(always)]
+    fn read_to_end(&mut self) -> Option<usize> {
+        match self.read_steps(0) {
+            Halt::Over => self.place(),
+            // A stack with room for every frame is never full.
+            Halt::Full | Halt::Failed => None,
         }
-        Halt::Failed => None,
     }
 }
 
-/// Where the suffix begins, behind one path or two, if they are spelled.
+impl Parser<'_, MIDDLE_STACK> {
+    /// Reads the rest in a stack with room for every frame. Returns where it ends.
+    #[inline(never)]
+    fn read_in_full_stack(&mut self) -> Option<usize> {
+        let mut parser: Parser<FULL_STACK> = self.with_room();
+        let end = parser.read_to_end();
+        self.looks = parser.looks;
+        end
+    }
+
+    /// Reads the rest, in the largest stack if this one is full. Returns where it ends.
+    #[inline(always)]
+    fn read_to_end(&mut self) -> Option<usize> {
+        match self.read_steps(0) {
+            Halt::Over => self.place(),
+            Halt::Full => self.read_in_full_stack(),
+            Halt::Failed => None,
+        }
+    }
+}
+
+impl Parser<'_, SHORT_STACK> {
+    /// Reads the rest in a larger stack, and if that is full too, in the largest. Returns where it
+    /// ends.
+    #[inline(never)]
+    fn read_in_middle_stack(&mut self) -> Option<usize> {
+        let mut parser: Parser<MIDDLE_STACK> = self.with_room();
+        let end = parser.read_to_end();
+        self.looks = parser.looks;
+        end
+    }
+
+    /// Reads the path at a place, above no frames. Returns where it ends, and leaves no frames then.
+    fn path_end(&mut self, place: usize) -> Option<usize> {
+        self.start_path(place);
+        match self.read_steps(0) {
+            Halt::Over => self.place(),
+            Halt::Full => {
+                let end = self.read_in_middle_stack();
+                self.stack.truncate(0);
+                end
+            }
+            Halt::Failed => None,
+        }
+    }
+
+    /// Reads one path or two. Returns where the suffix after them begins.
+    fn suffix(&mut self) -> Option<usize> {
+        let Some(end) = self.path_end(0) else {
+            return None;
+        };
+        // A second path names the crate in which a generic was instantiated. It is read, so that the
+        // suffix begins after it, and never printed.
+        if begins_path(self.source.symbol, end, &mut self.looks) {
+            return self.path_end(end);
+        }
+        Some(end)
+    }
+}
+
+/// Returns where the suffix begins, after one path or two, if they have no syntax error.
 pub fn suffix_at(symbol: &Symbol<'_>, looks: &mut Looks) -> Option<usize> {
-    let mut stack: FrameStack<SHORT_STACK> = FrameStack::new();
-    let Some(end) = path_end(symbol, 0, &mut stack, looks) else {
-        return None;
-    };
-    // A second path names the Rust crate that a generic was instantiated in. It is read, so that
-    // the suffix begins behind it, and never printed.
-    if begins_path(symbol, end, looks) {
-        return path_end(symbol, end, &mut stack, looks);
-    }
-    Some(end)
+    let mut parser: Parser<SHORT_STACK> = Parser::at_path(symbol, true, 0, looks);
+    let end = parser.suffix();
+    *looks = parser.looks;
+    end
 }
 
-/// Whether a second path begins at a place.
+/// Returns whether a path begins at a place.
 pub fn begins_path(symbol: &Symbol<'_>, place: usize, looks: &mut Looks) -> bool {
     match symbol.byte(place, looks) {
         Some(b'A'..=b'Z') => true,

@@ -1,5 +1,5 @@
 // Made from crates/demangle_v0/src/lib.rt by packaging/crate/erase.py: edit that file instead.
-//! v0 symbols (RFC 2603): behind a prefix one path or two, then a suffix.
+//! v0 symbols (RFC 2603): a prefix, one path or two, then a suffix.
 
 use crate::demangle_symbol::cursor::{Looks, ParseError, Symbol};
 use crate::demangle_v0::accept::{begins_path, suffix_at};
@@ -14,7 +14,7 @@ mod value;
 
 pub use value::Demangle;
 
-/// What stands behind the prefix of a v0 symbol.
+/// Returns what is after the prefix of a v0 symbol.
 fn inner_of(s: &str) -> Option<&str> {
     if let Some(inner) = s.strip_prefix("_R") {
         return Some(inner);
@@ -27,8 +27,8 @@ fn inner_of(s: &str) -> Option<&str> {
     s.strip_prefix("__R")
 }
 
-/// The text as a symbol whose first path prints as far as it is spelled, where the text is ASCII
-/// and has a prefix of the v0 scheme. No path is read.
+/// Returns the text as a symbol, if it is ASCII and has a prefix of the v0 scheme. No path is read:
+/// the first one prints up to its first syntax error.
 pub fn ascii_symbol<'s>(s: &'s str, looks: &mut Looks) -> Option<Demangle<'s>> {
     let text = Symbol::new(s);
     if !text.is_ascii(looks) {
@@ -40,8 +40,8 @@ pub fn ascii_symbol<'s>(s: &'s str, looks: &mut Looks) -> Option<Demangle<'s>> {
     }
 }
 
-/// What stands behind the prefix of a v0 symbol, where it is ASCII. It is not tested where the text
-/// is known to be ASCII.
+/// Returns what is after the prefix of a v0 symbol, if it is ASCII. It is not tested if the text is
+/// known to be ASCII.
 fn ascii_inner_of<'s>(s: &'s str, is_ascii: bool, looks: &mut Looks) -> Option<&'s str> {
     let Some(inner) = inner_of(s) else {
         return None;
@@ -55,8 +55,8 @@ fn ascii_inner_of<'s>(s: &'s str, is_ascii: bool, looks: &mut Looks) -> Option<&
     Some(inner)
 }
 
-/// Reads a v0 symbol: the symbol, and the suffix behind its paths. `is_ascii` says that the text is
-/// known to be ASCII.
+/// Reads a v0 symbol. Returns the symbol and the suffix after its paths. `is_ascii` says that the text
+/// is known to be ASCII.
 pub fn demangle<'s>(
     s: &'s str,
     is_ascii: bool,

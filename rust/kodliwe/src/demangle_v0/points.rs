@@ -1,14 +1,15 @@
 // Made from crates/demangle_v0/src/points.rt by packaging/crate/erase.py: edit that file instead.
-//! Reading by resume points: each reads up to its next child, puts what stands behind that on the
-//! frame stack, and answers where it goes on.
+//! The v0 parser as a state machine.
+//!
+//! The parser does not recurse. Each `Point`, a continuation, names a position in a production of
+//! the grammar. Its method reads up to the next nested production, pushes a frame for what follows
+//! that production, and returns the continuation to run next.
 
-use crate::demangle_symbol::cursor::{Looks, Symbol};
 use crate::demangle_v0::points::frames::Frame;
-use crate::demangle_words::output::Output;
-use crate::demangle_words::read::{WordRead, read_word};
-use crate::demangle_words::texts::{Mark, Word};
+use crate::demangle_words::texts::Mark;
 
 mod arguments;
+mod binders;
 mod bindings;
 mod constant_lists;
 mod constants;
@@ -18,8 +19,10 @@ mod faults;
 pub mod frames;
 mod functions;
 mod impls;
+mod lists;
 mod marks;
 mod names;
+pub mod parser;
 mod paths;
 mod patterns;
 mod rare;
@@ -27,20 +30,24 @@ pub mod read;
 mod references;
 pub mod skip;
 pub mod step;
+mod tokens;
 mod tuples;
 mod type_references;
 mod types;
 mod variants;
 
-/// Where a unit begins, or goes on behind a part of it.
+/// A continuation: a position in the grammar from which parsing continues.
+///
+/// It is either the start of a production, such as `Path`, or a position inside one, such as
+/// `CloseAngle`.
 #[derive(Clone, Copy)]
 pub enum Point {
-    // The points that the loops look for stand first, so that they are told by one comparison.
-    /// An impl's own path.
+    // These three come first because the loops test for them, and a range takes one comparison.
+    /// The path of an inherent impl. It is parsed but not printed.
     InherentPath,
-    /// The same of an impl of a trait.
+    /// The path of a trait impl. It is parsed but not printed.
     ImplPath,
-    /// The unit is over: the frame stack tells.
+    /// The production is complete. The frame on top of the stack says what follows.
     End,
     // path
     Path,
@@ -115,40 +122,40 @@ pub enum Point {
     Field,
     FieldColon,
     CloseBrace,
-    /// Behind the target of a reference.
+    /// The target of a back reference is complete. Parsing continues after the reference.
     AfterBackref,
 }
 
-/// What a reading knows where it stands.
+/// The parser's state, apart from the frame stack.
 #[derive(Clone, Copy)]
 pub struct State {
-    /// Whether the path or constant that is entered stands in value position.
+    /// Whether the current path or constant is in value position.
     in_value: bool,
-    /// The letter of a namespace, or the tag of a number.
+    /// The namespace of a nested path, or the type tag of a number.
     letter: u8,
-    /// How often the depth may be raised.
+    /// How many more levels of nesting are allowed.
     depth_left: u16,
-    /// The lifetimes in force.
+    /// The number of lifetimes in scope.
     lifetimes: u128,
-    /// None where the reading has failed.
+    /// The offset of the next byte, or `None` after an error.
     place: Option<usize>,
-    /// Whether the bracket of the dyn trait path that was just read is open.
+    /// Whether the `<` of the last dyn trait path is still open.
     is_open: bool,
-    /// What the step leaves to be handed over.
+    /// The fixed text that `step` prints after the continuation's method returns.
     mark: Option<Mark>,
 }
 
-/// Why a step does not go on.
+/// Why a step failed.
 #[derive(Clone, Copy)]
 pub enum Stop {
-    /// The output refused.
+    /// The output failed.
     Refused,
-    /// The unit ends with this text.
+    /// The production ends early and prints this text, such as `{invalid syntax}`.
     Fault(Mark),
 }
 
 impl State {
-    /// The frame with which the unit goes on.
+    /// Returns a frame that resumes this production at `point`.
     #[inline(always)]
     fn frame(&self, point: Point) -> Frame {
         Frame {
@@ -158,47 +165,5 @@ impl State {
             depth_left: self.depth_left,
             number: self.lifetimes,
         }
-    }
-}
-
-/// The word at a place, of what is printed or not.
-#[inline(always)]
-fn word_at<V: Output>(
-    symbol: &Symbol<'_>,
-    word: Word,
-    state: &State,
-    output: &V,
-    looks: &mut Looks,
-) -> WordRead {
-    let is_printing = output.is_printing();
-    read_word(
-        symbol,
-        word,
-        state.letter,
-        is_printing,
-        state.lifetimes,
-        state.place,
-        looks,
-    )
-}
-
-/// A word with which the unit ends.
-#[inline(always)]
-fn last_word<V: Output>(
-    symbol: &Symbol<'_>,
-    word: Word,
-    include_hash: bool,
-    state: &mut State,
-    output: &mut V,
-    looks: &mut Looks,
-) -> Result<Point, Stop> {
-    match word_at(symbol, word, state, output, looks) {
-        WordRead::Goes(stretch, next) => {
-            state.place = next;
-            state.is_open = false;
-            output.emit(symbol, &stretch, include_hash, looks)?;
-            Ok(Point::End)
-        }
-        WordRead::Stops(mark) => Err(Stop::Fault(mark)),
     }
 }

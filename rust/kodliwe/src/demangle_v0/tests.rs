@@ -1,13 +1,13 @@
 // Made from crates/demangle_v0/src/tests.rt by packaging/crate/erase.py: edit that file instead.
-//! What is handed over, step by step.
+//! What each step prints.
 
 use crate::demangle_sink::{ArraySink, SinkRefused, SizeLimitedFmtAdapter, TextSink};
 use crate::demangle_symbol::cursor::{Looks, Symbol};
-use crate::demangle_v0::points::frames::{FULL_STACK, FrameStack};
-use crate::demangle_v0::points::read::Reading;
-use crate::demangle_v0::points::skip::{is_skipped, skip};
-use crate::demangle_v0::points::step::{resume, step};
+use crate::demangle_v0::points::frames::FULL_STACK;
+use crate::demangle_v0::points::parser::Parser;
+use crate::demangle_v0::points::skip::is_skipped;
 use crate::demangle_words::output::Output;
+use crate::demangle_words::source::Source;
 use crate::demangle_words::stretch::Stretch;
 use crate::demangle_words::texts::text;
 use crate::support::format;
@@ -18,7 +18,7 @@ use crate::support::vec_in as vec;
 
 mod rows;
 
-/// Keeps the text that it took, and counts the nonempty pieces.
+/// Keeps the text that it took, and counts the pieces that are not empty.
 struct CountingSink {
     text: ArraySink<131072>,
     pieces: usize,
@@ -46,7 +46,7 @@ impl TextSink for CountingSink {
     }
 }
 
-/// Prints into a counting sink, and counts the stretches that are something.
+/// Prints into a counting sink, and counts the tokens that are not empty.
 struct CountingVoice<'s> {
     out: SizeLimitedFmtAdapter<'s, CountingSink>,
     stretches: usize,
@@ -54,7 +54,7 @@ struct CountingVoice<'s> {
 }
 
 impl<'s> CountingVoice<'s> {
-    /// Counts a stretch that is handed over.
+    /// Counts a token.
     fn count(&mut self, stretch: &Stretch) {
         if !matches!(stretch, Stretch::Nothing) {
             self.stretches = self.stretches.saturating_add(1);
@@ -70,29 +70,27 @@ impl<'s> Output for CountingVoice<'s> {
 
     fn emit(
         &mut self,
-        symbol: &Symbol<'_>,
+        source: &Source<'_>,
         stretch: &Stretch,
-        include_hash: bool,
         looks: &mut Looks,
     ) -> Result<(), SinkRefused> {
         self.count(stretch);
-        self.out.emit(symbol, stretch, include_hash, looks)
+        self.out.emit(source, stretch, looks)
     }
 
     fn emit_fault(
         &mut self,
-        symbol: &Symbol<'_>,
+        source: &Source<'_>,
         stretch: &Stretch,
-        include_hash: bool,
         looks: &mut Looks,
     ) -> Result<(), SinkRefused> {
         self.count(stretch);
-        self.out.emit_fault(symbol, stretch, include_hash, looks)
+        self.out.emit_fault(source, stretch, looks)
     }
 }
 
-/// Whether a step that handed over so many stretches, the last of them this one, may have added
-/// this text in so many nonempty pieces.
+/// Returns whether a step that printed that many tokens, the last of them this one, may have added
+/// this text in that many pieces that are not empty.
 fn is_of_one_step(stretches: usize, last: Stretch, added: &str, pieces: usize) -> bool {
     if stretches > 1 {
         return false;
@@ -104,25 +102,17 @@ fn is_of_one_step(stretches: usize, last: Stretch, added: &str, pieces: usize) -
     }
 }
 
-/// Whether the steps of a printing hand over at most one stretch each, and all of them this text.
+/// Returns whether the steps of a printing print at most one token each, and this text together.
 fn steps_print(inner: &str, include_hash: bool, wanted: &str) -> bool {
     let symbol = Symbol::new(inner);
     let mut looks = Looks::new();
     if !symbol.is_ascii(&mut looks) {
         return false;
     }
-    let mut stack: FrameStack<FULL_STACK> = FrameStack::new();
-    let mut reading = Reading::of_path(0);
+    let mut parser: Parser<FULL_STACK> = Parser::at_path(&symbol, include_hash, 0, &mut looks);
     let mut sink = CountingSink::new();
     for _ in 0..200_000 {
-        match goes_on(
-            &symbol,
-            include_hash,
-            &mut reading,
-            &mut stack,
-            &mut sink,
-            &mut looks,
-        ) {
+        match goes_on(&mut parser, &mut sink) {
             Some(false) => {}
             Some(true) => return sink.text.as_str() == wanted,
             None => return false,
@@ -131,27 +121,18 @@ fn steps_print(inner: &str, include_hash: bool, wanted: &str) -> bool {
     false
 }
 
-/// Does one step, or reads over the own path of an impl: whether nothing is left, if it was one
-/// step and was not refused.
-fn goes_on(
-    symbol: &Symbol<'_>,
-    include_hash: bool,
-    reading: &mut Reading,
-    stack: &mut FrameStack<FULL_STACK>,
-    sink: &mut CountingSink,
-    looks: &mut Looks,
-) -> Option<bool> {
-    if stack.len() >= FULL_STACK || sink.is_failed() {
+/// Does one step, or skips an impl path. Returns whether nothing was left to print, or `None` if the
+/// step printed more than one token or failed.
+fn goes_on(parser: &mut Parser<'_, FULL_STACK>, sink: &mut CountingSink) -> Option<bool> {
+    if parser.stack.len() >= FULL_STACK || sink.is_failed() {
         return None;
     }
-    let Some(at) = resume(0, reading.point, &mut reading.state, stack) else {
+    let Some(at) = parser.resume(0, parser.point) else {
         return Some(true);
     };
-    reading.point = at;
+    parser.point = at;
     if is_skipped(at) {
-        let base = stack.len();
-        let own = reading.own_path();
-        return match skip(symbol, include_hash, base, own, reading, stack, looks) {
+        return match parser.skip_impl_path() {
             None => Some(false),
             Some(_) => None,
         };
@@ -162,18 +143,10 @@ fn goes_on(
         stretches: 0,
         last: Stretch::Nothing,
     };
-    let Ok(next) = step(
-        symbol,
-        at,
-        include_hash,
-        &mut reading.state,
-        stack,
-        &mut output,
-        looks,
-    ) else {
+    let Ok(next) = parser.step(at, &mut output) else {
         return None;
     };
-    reading.point = next;
+    parser.point = next;
     let (stretches, last) = (output.stretches, output.last);
     let added = sink.text.as_str().get(from..)?;
     if !is_of_one_step(stretches, last, added, sink.pieces.saturating_sub(pieces)) {
@@ -182,7 +155,7 @@ fn goes_on(
     Some(false)
 }
 
-/// Whether the steps print each of these symbols so, in both forms.
+/// Returns whether the steps print each of these symbols so, in both forms.
 fn all_step(rows: &[(&str, &str, &str)]) -> bool {
     for &(inner, include_hash, alt) in rows {
         if !steps_print(inner, true, include_hash) || !steps_print(inner, false, alt) {

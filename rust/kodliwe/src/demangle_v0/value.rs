@@ -3,50 +3,32 @@
 
 use crate::demangle_sink::{SinkRefused, SizeLimitedFmtAdapter, TextSink};
 use crate::demangle_symbol::cursor::{Looks, Symbol};
-use crate::demangle_v0::points::frames::{FrameStack, SHORT_STACK};
-use crate::demangle_v0::points::read::Reading;
-use crate::demangle_v0::printing::{print_more, print_on};
+use crate::demangle_v0::points::frames::SHORT_STACK;
+use crate::demangle_v0::points::parser::Parser;
 
-/// A v0 symbol that was read: the bytes behind its prefix, with the suffix.
+/// A v0 symbol that was read: the bytes after its prefix, with the suffix.
 pub struct Demangle<'s> {
     inner: Symbol<'s>,
 }
 
 impl<'s> Demangle<'s> {
-    /// A symbol that is spelled, of ASCII alone.
+    /// Returns the symbol with these bytes, which are ASCII.
     pub(super) fn new(inner: Symbol<'s>) -> Demangle<'s> {
         Demangle { inner }
     }
 
     /// Prints the first path, with the hash or without it.
     ///
-    /// It ends at the piece that the limit or the sink refuses.
+    /// Fails at the first piece that the limit or the sink refuses.
     pub fn write_to<S: TextSink>(
         &self,
         out: &mut SizeLimitedFmtAdapter<'_, S>,
         include_hash: bool,
         looks: &mut Looks,
     ) -> Result<(), SinkRefused> {
-        let mut stack: FrameStack<SHORT_STACK> = FrameStack::new();
-        let mut reading = Reading::of_path(0);
-        match print_on(
-            &self.inner,
-            include_hash,
-            &mut reading,
-            &mut stack,
-            out,
-            looks,
-        )? {
-            None => Ok(()),
-            Some(left) => print_more(
-                &self.inner,
-                include_hash,
-                &stack,
-                &reading,
-                left,
-                out,
-                looks,
-            ),
-        }
+        let mut parser: Parser<SHORT_STACK> = Parser::at_path(&self.inner, include_hash, 0, looks);
+        let printed = parser.print_path(out);
+        *looks = parser.looks;
+        printed
     }
 }

@@ -19,6 +19,7 @@ mod hostile;
 mod legacy;
 mod limits;
 mod refused;
+mod repeats;
 mod sinks;
 mod stream;
 mod texts;

@@ -1,36 +1,45 @@
 // Made from crates/demangle_words/src/output.rt by packaging/crate/erase.py: edit that file instead.
-//! What becomes of what is read: text, or nothing.
+//! Where the parser sends its tokens: a sink, or nowhere.
 
 use crate::demangle_sink::{SinkRefused, SizeLimitedFmtAdapter, TextSink};
-use crate::demangle_symbol::cursor::{Looks, Symbol};
-use crate::demangle_words::render::render;
+use crate::demangle_symbol::cursor::Looks;
+use crate::demangle_words::source::Source;
 use crate::demangle_words::stretch::Stretch;
 
-/// What stretches are handed to.
+/// Receives the tokens that the parser reads.
+///
+/// The parser is generic over its output. With `Silent` it only validates a symbol. With a
+/// `SizeLimitedFmtAdapter` it prints one.
 pub trait Output {
-    /// Whether stretches are printed.
+    /// Returns `true` if tokens are printed.
     fn is_printing(&self) -> bool;
 
-    /// Hands a stretch over.
+    /// Prints a token, piece by piece.
+    ///
+    /// # Errors
+    ///
+    /// Returns `SinkRefused` if the sink or the size limit rejects a piece. No later piece is sent.
     fn emit(
         &mut self,
-        symbol: &Symbol<'_>,
+        source: &Source<'_>,
         stretch: &Stretch,
-        include_hash: bool,
         looks: &mut Looks,
     ) -> Result<(), SinkRefused>;
 
-    /// Hands the stretch of a fault over, or ends the reading.
+    /// Prints the token of a syntax error.
+    ///
+    /// # Errors
+    ///
+    /// Returns `SinkRefused` as `emit` does, and always if nothing is printed.
     fn emit_fault(
         &mut self,
-        symbol: &Symbol<'_>,
+        source: &Source<'_>,
         stretch: &Stretch,
-        include_hash: bool,
         looks: &mut Looks,
     ) -> Result<(), SinkRefused>;
 }
 
-/// Acceptance: nothing is printed.
+/// An output that prints nothing. It is used to validate a symbol.
 pub struct Silent;
 
 impl Output for Silent {
@@ -42,9 +51,8 @@ impl Output for Silent {
     #[inline(always)]
     fn emit(
         &mut self,
-        _symbol: &Symbol<'_>,
+        _source: &Source<'_>,
         _stretch: &Stretch,
-        _plain: bool,
         _looks: &mut Looks,
     ) -> Result<(), SinkRefused> {
         Ok(())
@@ -53,9 +61,8 @@ impl Output for Silent {
     #[inline(always)]
     fn emit_fault(
         &mut self,
-        _symbol: &Symbol<'_>,
+        _source: &Source<'_>,
         _stretch: &Stretch,
-        _plain: bool,
         _looks: &mut Looks,
     ) -> Result<(), SinkRefused> {
         Err(SinkRefused)
@@ -71,22 +78,20 @@ impl<'s, S: TextSink> Output for SizeLimitedFmtAdapter<'s, S> {
     #[inline(always)]
     fn emit(
         &mut self,
-        symbol: &Symbol<'_>,
+        source: &Source<'_>,
         stretch: &Stretch,
-        include_hash: bool,
         looks: &mut Looks,
     ) -> Result<(), SinkRefused> {
-        render(symbol, stretch, include_hash, self, looks)
+        source.render(stretch, self, looks)
     }
 
     #[inline(always)]
     fn emit_fault(
         &mut self,
-        symbol: &Symbol<'_>,
+        source: &Source<'_>,
         stretch: &Stretch,
-        include_hash: bool,
         looks: &mut Looks,
     ) -> Result<(), SinkRefused> {
-        render(symbol, stretch, include_hash, self, looks)
+        source.render(stretch, self, looks)
     }
 }

@@ -1,13 +1,7 @@
 // Made from crates/demangle_words/src/read.rt by packaging/crate/erase.py: edit that file instead.
-//! The words of a v0 symbol that are read in one step, and what they hand over.
+//! The tokens of a v0 symbol that are read in one step.
 
 use crate::demangle_symbol::cursor::{Looks, Symbol};
-use crate::demangle_words::read::constants::{
-    read_bool, read_character, read_literal, read_number,
-};
-use crate::demangle_words::read::functions::read_head;
-use crate::demangle_words::read::lifetimes::{read_dyn, read_lifetime};
-use crate::demangle_words::read::names::{read_binding, read_field};
 use crate::demangle_words::stretch::{Abi, Stretch};
 use crate::demangle_words::texts::{Mark, Word};
 
@@ -16,63 +10,69 @@ mod functions;
 mod lifetimes;
 pub mod names;
 
-/// What became of a word.
+/// The result of reading a token.
 #[derive(Clone, Copy)]
 pub enum WordRead {
-    /// The unit goes on at the place.
+    /// The token, and the place after it.
     Goes(Stretch, Option<usize>),
-    /// The unit ends with this text.
+    /// The error with which the production ends.
     Stops(Mark),
 }
 
-/// Reads a word; a number has a tag.
-#[inline(always)]
-pub fn read_word(
-    symbol: &Symbol<'_>,
-    word: Word,
-    tag: u8,
-    printing: bool,
-    lifetimes: u128,
-    place: Option<usize>,
-    looks: &mut Looks,
-) -> WordRead {
-    let Some(at) = place else {
-        return word_failed(word);
-    };
-    match word {
-        Word::FieldName => read_field(symbol, at, looks),
-        Word::BindingName => read_binding(symbol, at, looks),
-        Word::LifetimeIndex => read_lifetime(symbol, printing, lifetimes, at, looks),
-        Word::DynLifetime => read_dyn(symbol, printing, lifetimes, at, looks),
-        Word::FunctionHead => read_head(symbol, at, looks),
-        Word::Number => read_number(symbol, tag, at, looks),
-        Word::Bool => read_bool(symbol, at, looks),
-        Word::Character => read_character(symbol, at, looks),
-        Word::Literal => read_literal(symbol, at, looks),
+/// Reads the tokens of a symbol.
+#[derive(Clone, Copy)]
+pub struct TokenReader<'s> {
+    pub symbol: &'s Symbol<'s>,
+    /// The tag of a number.
+    pub tag: u8,
+    /// Whether the tokens are printed.
+    pub is_printing: bool,
+    /// How many lifetimes are in scope.
+    pub lifetimes: u128,
+}
+
+impl TokenReader<'_> {
+    /// Reads a token at a place, which is `None` after an error.
+    #[inline(always)]
+    pub fn read_word(&self, word: Word, place: Option<usize>, looks: &mut Looks) -> WordRead {
+        let Some(at) = place else {
+            return token_after_error(word);
+        };
+        match word {
+            Word::FieldName => self.read_field(at, looks),
+            Word::BindingName => self.read_binding(at, looks),
+            Word::LifetimeIndex => self.read_lifetime(at, looks),
+            Word::DynLifetime => self.read_dyn_lifetime(at, looks),
+            Word::FunctionHead => self.read_function_qualifiers(at, looks),
+            Word::Number => self.read_number(at, looks),
+            Word::Bool => self.read_bool(at, looks),
+            Word::Character => self.read_character(at, looks),
+            Word::Literal => self.read_literal(at, looks),
+        }
     }
 }
 
-/// What a word hands over where the reading has failed.
+/// Returns what takes the place of a token after an error.
 #[inline(always)]
-fn word_failed(word: Word) -> WordRead {
+fn token_after_error(word: Word) -> WordRead {
     match word {
-        // A dyn type asks for its `L`: where the reading has failed that is not there, and its lack
-        // is a fault anew, as the Rust crate prints it.
-        Word::DynLifetime => faulty(),
-        // `U` and `K` may be left out, and where the reading has failed they are not there.
+        // A dyn type needs its `L`. After an error it is missing, and the Rust crate prints this as
+        // a new error.
+        Word::DynLifetime => invalid_token(),
+        // `U` and `K` are optional, and after an error they are missing.
         Word::FunctionHead => WordRead::Goes(Stretch::FunctionHead(false, Abi::Rust), None),
         _ => WordRead::Stops(Mark::AfterError),
     }
 }
 
-/// A word that is not spelled.
+/// Returns the result for a token that is not spelled.
 #[inline(always)]
-fn faulty() -> WordRead {
+fn invalid_token() -> WordRead {
     WordRead::Stops(Mark::Invalid)
 }
 
-/// A word that was read, and the place behind it.
+/// Returns the result for a token that is spelled, and ends before `next`.
 #[inline(always)]
-fn goes(stretch: Stretch, next: usize) -> WordRead {
+fn token_read(stretch: Stretch, next: usize) -> WordRead {
     WordRead::Goes(stretch, Some(next))
 }

@@ -17,7 +17,7 @@ pub use runs::{run_len, run_start};
 pub use slice::demangle_slice;
 #[cfg(feature = "std")]
 pub use stream::{
-    BytesFilter, StreamFault, demangle_bytes, demangle_bytes_limited, demangle_stream,
+    BytesFilter, StreamFault, SymbolMemo, demangle_bytes, demangle_bytes_limited, demangle_stream,
     demangle_stream_named,
 };
 use strip::without_thin_lto;

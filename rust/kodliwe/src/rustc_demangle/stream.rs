@@ -10,12 +10,15 @@ use std::io::{BufRead, Write};
 mod bytes;
 mod carrying;
 mod fault;
+mod held_sink;
 mod line;
+mod memo;
 mod reading;
 
 pub use bytes::{BytesFilter, demangle_bytes, demangle_bytes_limited};
 pub use fault::StreamFault;
 use line::demangle_line;
+pub use memo::SymbolMemo;
 use reading::read_line;
 
 /// Reads a line whole and then writes it demangled, or answers `false` at the end of the input.

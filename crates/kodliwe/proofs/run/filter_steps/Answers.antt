@@ -18,9 +18,10 @@ pub returns-then-not-branch-clause-ok : goal.returns-then-not-branch-clause-ok
 returns-then-not-branch-clause-ok g c = wrote_end _ _ _ _ _ (passing_end _ _ _ _ _ _ _ _ _ c.loop.invariant.0 (ended_same c.loop.memo c.args.memo.now _ _ _ _ _ _ c.loop.invariant.1 (c.in_ok-turn.ensures.ended (ap Ok c.if-not-branch.true))))
 
 pub loop-preserved : goal.loop-preserved
-loop-preserved g c =
-    (passing_turn _ _ _ _ _ _ _ _ _ c.loop.invariant.0 (turn_same c.loop.memo c.args.memo.now _ _ _ _ _ _ c.loop.invariant.1 (c.in_ok-turn.ensures.took (ap Ok c.if-not-branch.false))),
-    c.in_ok-turn.ensures.same ∙ c.loop.invariant.1)
+loop-preserved g c = (
+  passing_turn _ _ _ _ _ _ _ _ _ c.loop.invariant.0 (turn_same c.loop.memo c.args.memo.now _ _ _ _ _ _ c.loop.invariant.1 (c.in_ok-turn.ensures.took (ap Ok c.if-not-branch.false))),
+  c.in_ok-turn.ensures.same ∙ c.loop.invariant.1,
+)
 
 pub returns-clause-err : goal.returns-clause-err
 returns-clause-err g c = elim c.loop-test.branch [

@@ -24,8 +24,39 @@ fn reason(alloc: Global, error: &io::Error) -> Result<String, AllocError> {
     }
 }
 
-/// The line of a call on something that has a name.
+/// Returns whether a text has a character that is not printable, by the rule of Rust's `Debug`.
+fn has_unprintable(text: &str) -> bool {
+    // `escape_debug` puts a backslash before each quote and each backslash, which are printable.
+    let escaped = text
+        .chars()
+        .filter(|c| matches!(c, '\'' | '"' | '\\'))
+        .count();
+    text.escape_debug().count() != text.chars().count().saturating_add(escaped)
+}
+
+/// Returns a text in quotes. If it has a character that is not printable, it is escaped as in
+/// Rust's literals.
+pub fn quoted(alloc: Global, text: &str) -> Result<String, AllocError> {
+    if has_unprintable(text) {
+        format!(in alloc; "'{}'", text.escape_debug())
+    } else {
+        format!(in alloc; "'{text}'")
+    }
+}
+
+/// Returns a name as a message shows it: in quotes if it is empty or has a character that is not
+/// printable.
+fn shown_name(alloc: Global, name: &str) -> Result<String, AllocError> {
+    if name.is_empty() || has_unprintable(name) {
+        quoted(alloc, name)
+    } else {
+        String::from_str(alloc, name)
+    }
+}
+
+/// Returns the line for a call that failed on something that has a name.
 fn line_of(alloc: Global, name: &str, error: &io::Error) -> Result<String, AllocError> {
+    let name = shown_name(alloc, name)?;
     let reason = reason(alloc, error)?;
     format!(in alloc; "kodliwe: {name}: {reason}\n")
 }

@@ -1,13 +1,13 @@
 // Made from crates/kodliwe/src/program.rt by packaging/crate/erase.py: edit that file instead.
 //! The program, over any file system and standard streams.
 
-use crate::fault::{OUT_OF_MEMORY, report_call};
+use crate::fault::{OUT_OF_MEMORY, quoted, report_call};
 use crate::output::Output;
 use crate::replacing::open_output;
 use crate::run::{BUFFER, Ended, Input, run};
 use crate::streams::{SourceReader, source_name};
 use crate::texts::{HELP, VERSION};
-use crate::words::{Asked, Request, Source, WordsFault, read_words};
+use crate::words::{Asked, Request, Source, Target, WordsFault, read_words};
 use kodliwe::support::alloc::{AllocError, Global};
 use kodliwe::support::format;
 use kodliwe::support::fs::{Files, OpenFile};
@@ -23,11 +23,17 @@ fn tell<E: Write>(errors: &mut E, line: &str, status: u8) -> u8 {
     status
 }
 
-/// Tells of words that are refused.
-fn refuse_words<E: Write>(alloc: Global, errors: &mut E, fault: WordsFault<'_>) -> u8 {
-    let line = match fault {
+/// Returns the name of an option that a word is, which may have the option's value in it.
+fn option_name<'a>(word: &str, short: &'a str, long: &'a str) -> &'a str {
+    if word.starts_with("--") { long } else { short }
+}
+
+/// Returns the line for words that are not valid.
+fn usage_line(alloc: Global, fault: WordsFault<'_>) -> Result<String, AllocError> {
+    match fault {
         WordsFault::Unknown(word) => {
-            format!(in alloc; "kodliwe: unknown option '{word}'; try 'kodliwe --help'\n")
+            let word = quoted(alloc, word)?;
+            format!(in alloc; "kodliwe: unknown option {word}; try 'kodliwe --help'\n")
         }
         WordsFault::NoFile(word) => {
             format!(in alloc; "kodliwe: option '{word}' needs a FILE; try 'kodliwe --help'\n")
@@ -36,9 +42,23 @@ fn refuse_words<E: Write>(alloc: Global, errors: &mut E, fault: WordsFault<'_>) 
             let needs = "needs a number of BYTES";
             format!(in alloc; "kodliwe: option '{word}' {needs}; try 'kodliwe --help'\n")
         }
-        WordsFault::Memory => return tell(errors, OUT_OF_MEMORY, 1),
-    };
-    match line {
+        WordsFault::BadNumber(word, value) => {
+            let name = option_name(word, "-l", "--limit");
+            let value = quoted(alloc, value)?;
+            let fault = "is not a number of bytes below 2^64";
+            format!(in alloc; "kodliwe: option '{name}': {value} {fault}\n")
+        }
+        WordsFault::SecondOutput(word) => {
+            let name = option_name(word, "-o", "--output");
+            format!(in alloc; "kodliwe: option '{name}' may be given once; try 'kodliwe --help'\n")
+        }
+        WordsFault::Memory => Err(AllocError),
+    }
+}
+
+/// Writes the line for words that are not valid, and returns the status.
+fn refuse_words<E: Write>(alloc: Global, errors: &mut E, fault: WordsFault<'_>) -> u8 {
+    match usage_line(alloc, fault) {
         Ok(line) => tell(errors, line.as_str(), 2),
         Err(_) => tell(errors, OUT_OF_MEMORY, 1),
     }
@@ -136,7 +156,7 @@ fn filter<F: Files, W: Write, E: Write>(
     let Ok(inputs) = open_inputs(alloc, files, stdin, request.sources) else {
         return tell(errors, OUT_OF_MEMORY, 1);
     };
-    if let Some(path) = request.output {
+    if let Some(Target::File(path)) = request.output {
         return filter_into(alloc, files, inputs, path, errors, include_hash, limit);
     }
     let Ok(buffer) = BufWriter::with_capacity(alloc, BUFFER, stdout) else {

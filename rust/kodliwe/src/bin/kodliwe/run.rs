@@ -2,7 +2,7 @@
 //! The program's work over any readers and any writer.
 
 use crate::fault::{InputFault, report};
-use kodliwe::rustc_demangle::{BytesFilter, StreamFault};
+use kodliwe::rustc_demangle::{BytesFilter, StreamFault, SymbolMemo};
 use kodliwe::support::alloc::{Allocator, Global};
 use kodliwe::support::io::BufReader;
 use kodliwe::support::vec::Vec;
@@ -70,10 +70,9 @@ fn step<R: BufRead, W: Write, A: Allocator>(
     filter: &mut BytesFilter<A>,
     input: &mut R,
     output: &mut W,
-    include_hash: bool,
-    limit: usize,
+    memo: &mut SymbolMemo,
 ) -> Result<bool, StreamFault> {
-    match filter.step_limited(input, output, include_hash, limit) {
+    match filter.step(input, output, memo) {
         Err(StreamFault::Read(error)) if error.kind() == ErrorKind::Interrupted => Ok(true),
         stepped => stepped,
     }
@@ -84,11 +83,10 @@ fn turn<R: Read, W: Write, A: Allocator, B: Allocator>(
     filter: &mut BytesFilter<A>,
     input: &mut BufReader<R, B>,
     output: &mut W,
-    include_hash: bool,
-    limit: usize,
+    memo: &mut SymbolMemo,
 ) -> Result<bool, StreamFault> {
     pause(input, output)?;
-    step(filter, input, output, include_hash, limit)
+    step(filter, input, output, memo)
 }
 
 /// Filters what a reader holds, up to its end. The output is flushed before each reading.
@@ -96,11 +94,10 @@ fn filter_steps<R: Read, W: Write, A: Allocator, B: Allocator>(
     filter: &mut BytesFilter<A>,
     input: &mut BufReader<R, B>,
     output: &mut W,
-    include_hash: bool,
-    limit: usize,
+    memo: &mut SymbolMemo,
 ) -> Result<(), StreamFault> {
     for _ in 0..=u64::MAX {
-        if !turn(filter, input, output, include_hash, limit)? {
+        if !turn(filter, input, output, memo)? {
             return Ok(());
         }
     }
@@ -112,27 +109,25 @@ fn filter_reader<R: Read, W: Write>(
     alloc: Global,
     reader: R,
     output: &mut W,
-    include_hash: bool,
-    limit: usize,
+    memo: &mut SymbolMemo,
 ) -> Result<(), StreamFault> {
     let Ok(mut input) = BufReader::with_capacity(alloc, BUFFER, reader) else {
         return Err(StreamFault::Memory);
     };
     let mut filter = BytesFilter::new(alloc);
-    filter_steps(&mut filter, &mut input, output, include_hash, limit)
+    filter_steps(&mut filter, &mut input, output, memo)
 }
 
-/// Filters what each reader holds, in order, and flushes the output.
+/// Filters what each reader holds, in order and with one memo, and flushes the output.
 fn filter_inputs<'a, R: Read, W: Write>(
     alloc: Global,
     inputs: Vec<Input<'a, R>>,
     output: &mut W,
-    include_hash: bool,
-    limit: usize,
+    memo: &mut SymbolMemo,
 ) -> Result<(), InputFault<'a>> {
     for input in inputs {
         let Input { name, reader } = input;
-        match filter_reader(alloc, reader, output, include_hash, limit) {
+        match filter_reader(alloc, reader, output, memo) {
             Ok(()) => {}
             Err(fault) => return Err(InputFault { name, fault }),
         }
@@ -172,7 +167,8 @@ pub fn run<R: Read, W: Write, E: Write>(
     include_hash: bool,
     limit: usize,
 ) -> Ended {
-    let Err(stop) = filter_inputs(alloc, inputs, output, include_hash, limit) else {
+    let mut memo = SymbolMemo::new(alloc, include_hash, limit);
+    let Err(stop) = filter_inputs(alloc, inputs, output, &mut memo) else {
         return Ended::Complete;
     };
     let ended = end_of(&stop.fault);

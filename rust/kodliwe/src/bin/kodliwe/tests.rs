@@ -3,7 +3,7 @@
 //! tested with the library, by which this is compared.
 use crate::program::start;
 use crate::run::{Ended, Input, run};
-use crate::words::{Asked, read_words};
+use crate::words::{Asked, Target, read_words};
 use core::cell::Cell;
 use kodliwe::rustc_demangle::demangle_stream_named;
 use kodliwe::support::alloc::{AllocError, Global};
@@ -286,13 +286,92 @@ fn each_path_is_cut_at_the_limit() -> Result<(), Fail> {
         let cut: &[u8] = b"x{size limit reached}\n";
         assert_program(&rt, rt.alloc(), rt.stdin(), words, 0, cut, b"")?;
     }
-    let words = ["-l", "x"];
     let line: &[u8] = b"kodliwe: option '-l' needs a number of BYTES; try 'kodliwe --help'\n";
-    assert_program(&rt, rt.alloc(), rt.stdin(), &words, 2, b"", line)?;
-    assert_program(&rt, rt.alloc(), rt.stdin(), &["-l"], 2, b"", line)?;
-    let line: &[u8] =
-        b"kodliwe: option '--limit=-1' needs a number of BYTES; try 'kodliwe --help'\n";
-    assert_program(&rt, rt.alloc(), rt.stdin(), &["--limit=-1"], 2, b"", line)
+    assert_program(&rt, rt.alloc(), rt.stdin(), &["-l"], 2, b"", line)
+}
+
+#[test]
+fn a_value_that_is_no_number_of_bytes_is_named() -> Result<(), Fail> {
+    let rt = HostRuntime;
+    let cases: [(&[&str], &[u8]); 5] = [
+        (
+            &["-l", "1K"],
+            b"kodliwe: option '-l': '1K' is not a number of bytes below 2^64\n",
+        ),
+        (
+            &["-l18446744073709551616"],
+            b"kodliwe: option '-l': '18446744073709551616' is not a number of bytes below 2^64\n",
+        ),
+        (
+            &["--limit=-1"],
+            b"kodliwe: option '--limit': '-1' is not a number of bytes below 2^64\n",
+        ),
+        (
+            &["--limit=", FOO],
+            b"kodliwe: option '--limit': '' is not a number of bytes below 2^64\n",
+        ),
+        (
+            &["--limit", "1\n2", FOO],
+            b"kodliwe: option '--limit': '1\\n2' is not a number of bytes below 2^64\n",
+        ),
+    ];
+    for (words, line) in cases {
+        assert_program(&rt, rt.alloc(), rt.stdin(), words, 2, b"", line)?;
+    }
+    Ok(())
+}
+
+#[test]
+fn a_second_output_is_an_error() -> Result<(), Fail> {
+    let rt = HostRuntime;
+    let cases: [(&[&str], &[u8]); 3] = [
+        (
+            &["-o", "a", "-o", "b", FOO],
+            b"kodliwe: option '-o' may be given once; try 'kodliwe --help'\n",
+        ),
+        (
+            &["-o-", FOO, "-ob"],
+            b"kodliwe: option '-o' may be given once; try 'kodliwe --help'\n",
+        ),
+        (
+            &["-oa", "--output=-", FOO],
+            b"kodliwe: option '--output' may be given once; try 'kodliwe --help'\n",
+        ),
+    ];
+    for (words, line) in cases {
+        assert_program(&rt, rt.alloc(), rt.stdin(), words, 2, b"", line)?;
+    }
+    Ok(())
+}
+
+#[test]
+fn a_dash_as_the_output_is_standard_output() -> Result<(), Fail> {
+    let rt = HostRuntime;
+    let cases: [&[&str]; 3] = [&["-o", "-", FOO], &["-o-", FOO], &[FOO, "--output=-"]];
+    for words in cases {
+        assert_program(&rt, rt.alloc(), rt.stdin(), words, 0, b"foo\n", b"")?;
+    }
+    Ok(())
+}
+
+#[test]
+fn names_that_would_not_show_are_quoted() -> Result<(), Fail> {
+    let rt = HostRuntime;
+    let cases: [(&[&str], &[u8]); 3] = [
+        (&["-i", ""], b"kodliwe: '': No such file or directory\n"),
+        (
+            &["-i", "no\x1b[31m\nfile"],
+            b"kodliwe: 'no\\u{1b}[31m\\nfile': No such file or directory\n",
+        ),
+        (
+            &["-i", "no \"caf\u{e9}\""],
+            "kodliwe: no \"caf\u{e9}\": No such file or directory\n".as_bytes(),
+        ),
+    ];
+    for (words, line) in cases {
+        assert_program(&rt, rt.alloc(), rt.stdin(), words, 1, b"", line)?;
+    }
+    Ok(())
 }
 
 /// Asserts that these words ask for this output, with the hash kept and this limit.
@@ -300,7 +379,7 @@ fn assert_request(
     rt: &impl Abort,
     alloc: Global,
     words: &[&str],
-    output: Option<&str>,
+    output: Option<Target<'_>>,
     limit: usize,
 ) -> Result<(), Fail> {
     let owned = owned_words(alloc, words)?;
@@ -319,26 +398,20 @@ fn assert_request(
 fn the_word_behind_an_option_is_its_value() -> Result<(), Fail> {
     let rt = HostRuntime;
     let alloc = rt.alloc();
-    assert_request(&rt, alloc, &["-o", "-h", "--hash"], Some("-h"), 1_000_000)?;
-    assert_request(
-        &rt,
-        alloc,
-        &["--output", "--", "--hash"],
-        Some("--"),
-        1_000_000,
-    )?;
-    assert_request(
-        &rt,
-        alloc,
-        &["-o", "-o", "-o-V", "--hash"],
-        Some("-V"),
-        1_000_000,
-    )?;
+    let outputs: [(&[&str], &str); 4] = [
+        (&["-o", "-h", "--hash"], "-h"),
+        (&["--output", "--", "--hash"], "--"),
+        (&["-o", "-o", "--hash"], "-o"),
+        (&["--hash", "-o-V"], "-V"),
+    ];
+    for (words, path) in outputs {
+        assert_request(&rt, alloc, words, Some(Target::File(path)), 1_000_000)?;
+    }
     assert_request(
         &rt,
         alloc,
         &["--output==x", "--limit=10", "--hash"],
-        Some("=x"),
+        Some(Target::File("=x")),
         10,
     )?;
     assert_request(
@@ -348,7 +421,7 @@ fn the_word_behind_an_option_is_its_value() -> Result<(), Fail> {
         None,
         7,
     )?;
-    let cases: [(&[&str], u8, &[u8], &[u8]); 6] = [
+    let cases: [(&[&str], u8, &[u8], &[u8]); 5] = [
         (
             &["-i", "--", "_ZN1aE"],
             1,
@@ -365,19 +438,13 @@ fn the_word_behind_an_option_is_its_value() -> Result<(), Fail> {
             &["-l", "--", FOO],
             2,
             b"",
-            b"kodliwe: option '-l' needs a number of BYTES; try 'kodliwe --help'\n",
+            b"kodliwe: option '-l': '--' is not a number of bytes below 2^64\n",
         ),
         (
             &[FOO, "--limit"],
             2,
             b"",
             b"kodliwe: option '--limit' needs a number of BYTES; try 'kodliwe --help'\n",
-        ),
-        (
-            &["--limit=", FOO],
-            2,
-            b"",
-            b"kodliwe: option '--limit=' needs a number of BYTES; try 'kodliwe --help'\n",
         ),
         (
             &["--limit=5", "--", "-_ZN3foo3barE", "-l"],
@@ -418,7 +485,7 @@ fn files_that_are_not_there_are_named() -> Result<(), Fail> {
             words,
             1,
             b"",
-            b"kodliwe: none/log.txt: No such file or directory\n",
+            b"kodliwe: none: No such file or directory\n",
         )?;
     }
     Ok(())

@@ -15,7 +15,7 @@ is no Rust symbol stays as it is, bytes that are not UTF-8 and C++ names too.
 
 Options:
   -i, --input FILE    Read FILE; - is standard input. May stand several times
-  -o, --output FILE   Write FILE, which is replaced once all of it is written
+  -o, --output FILE   Write FILE once all is read; - is standard output
       --hash          Keep the hashes of legacy symbols (foo::h05af221e174051e9)
   -l, --limit BYTES   Cut each path at BYTES (1000000 if not given)
   -h, --help          Print this help
@@ -24,5 +24,5 @@ Options:
 SYMBOLs and inputs are filtered in their order, each by itself. -- ends the
 options. The status is 0, also where whoever reads the output closes it; 1 where
 an input can't be read or the output can't be written; 2 where an option is
-unknown, and then nothing is read.
+not valid, and then nothing is read.
 ";

@@ -1,6 +1,7 @@
 // Made from crates/kodliwe/src/words.rt by packaging/crate/erase.py: edit that file instead.
 //! The words of the command line.
 
+use kodliwe::rustc_demangle::{demangle_bytes, run_start};
 use kodliwe::support::alloc::{AllocError, Global};
 use kodliwe::support::string::String;
 use kodliwe::support::vec::Vec;
@@ -16,14 +17,24 @@ pub enum Source<'a> {
     Symbols(Vec<u8>),
 }
 
-/// What is to be filtered, and how.
+/// A place to write to, as the command line names it.
+#[derive(Clone, Copy, Debug, PartialEq, Eq)]
+pub enum Target<'a> {
+    Stdout,
+    File(&'a str),
+}
+
+/// What to filter, and how.
 pub struct Request<'a> {
-    /// In the order of the words; none stands for standard input.
+    /// The texts to filter, in the order of the words. If it is empty, standard input is filtered.
     pub sources: Vec<Source<'a>>,
-    pub output: Option<&'a str>,
+    /// The value of `-o`, if it was given.
+    pub output: Option<Target<'a>>,
     pub include_hash: bool,
-    /// The most bytes of a path.
+    /// The largest number of bytes of a path.
     pub limit: usize,
+    /// The first word that is a SYMBOL and that the filter does not change.
+    pub plain_word: Option<&'a str>,
 }
 
 /// What the words ask for.
@@ -42,6 +53,10 @@ pub enum WordsFault<'a> {
     NoFile(&'a str),
     /// The option that this word is has no number of bytes in it or behind it.
     NoNumber(&'a str),
+    /// The value of the option that the first word is, the second text, is not a number of bytes.
+    BadNumber(&'a str, &'a str),
+    /// The option that this word is was given before.
+    SecondOutput(&'a str),
     Memory,
 }
 
@@ -147,11 +162,15 @@ impl<'a> Request<'a> {
             output: None,
             include_hash: false,
             limit: LIMIT,
+            plain_word: None,
         }
     }
 
     /// Adds a symbol, as a line of its own.
-    fn add_symbol(&mut self, alloc: Global, symbol: &str) -> Result<(), AllocError> {
+    fn add_symbol(&mut self, alloc: Global, symbol: &'a str) -> Result<(), AllocError> {
+        if self.plain_word.is_none() && !has_symbol(alloc, symbol)? {
+            self.plain_word = Some(symbol);
+        }
         let mut lines = match self.sources.pop() {
             Some(Source::Symbols(lines)) => lines,
             Some(source) => {
@@ -176,6 +195,19 @@ impl<'a> Request<'a> {
         Ok(())
     }
 
+    /// Sets the place to write to. Fails if it was set before, by the option that `word` is.
+    fn set_output(&mut self, word: &'a str, value: &'a str) -> Result<(), WordsFault<'a>> {
+        if self.output.is_some() {
+            return Err(WordsFault::SecondOutput(word));
+        }
+        self.output = Some(if value == "-" {
+            Target::Stdout
+        } else {
+            Target::File(value)
+        });
+        Ok(())
+    }
+
     /// Takes the value of an option, which `word` was.
     fn take_value(
         &mut self,
@@ -185,10 +217,10 @@ impl<'a> Request<'a> {
     ) -> Result<(), WordsFault<'a>> {
         match option {
             ValuedOption::Input => self.add_file(value)?,
-            ValuedOption::Output => self.output = Some(value),
+            ValuedOption::Output => return self.set_output(word, value),
             ValuedOption::Limit => {
                 let Ok(limit) = value.parse::<usize>() else {
-                    return Err(WordsFault::NoNumber(word));
+                    return Err(WordsFault::BadNumber(word, value));
                 };
                 self.limit = limit;
             }
@@ -246,6 +278,18 @@ impl<'a> Request<'a> {
     }
 }
 
+/// Returns whether a text has a symbol, which the filter replaces.
+fn has_symbol(alloc: Global, text: &str) -> Result<bool, AllocError> {
+    if run_start(text.as_bytes()).is_none() {
+        return Ok(false);
+    }
+    let mut filtered = Vec::new(alloc);
+    match demangle_bytes(alloc, &mut text.as_bytes(), &mut filtered, false) {
+        Ok(()) => Ok(filtered.as_slice() != text.as_bytes()),
+        Err(_) => Err(AllocError),
+    }
+}
+
 /// Adds a text and a line feed.
 fn push_line(lines: &mut Vec<u8>, text: &str) -> Result<(), AllocError> {
     lines.extend_from_slice(text.as_bytes())?;
@@ -265,8 +309,8 @@ fn lacking(option: ValuedOption, word: &str) -> WordsFault<'_> {
 ///
 /// Options and symbols may stand in any order; behind `--` each word is a symbol. Of `--help` and
 /// `--version` the first holds, and no word behind it is read. It is refused at the first word that
-/// begins with `-` and is no option, at an option without its FILE or its number of BYTES, and
-/// where memory is refused.
+/// begins with `-` and is no option, at an option without its FILE or its number of BYTES, at a
+/// second `-o`, and where memory is refused.
 pub fn read_words<'a>(alloc: Global, words: &'a [String]) -> Result<Asked<'a>, WordsFault<'a>> {
     let mut request = Request::new(alloc);
     let mut next = Next::Anything;

@@ -1,104 +1,81 @@
 // Made from crates/demangle_v0/src/points/bindings.rt by packaging/crate/erase.py: edit that file instead.
 //! The bindings of a dyn trait path.
 
-use crate::demangle_symbol::cursor::{Looks, Symbol};
-use crate::demangle_v0::points::frames::FrameStack;
-use crate::demangle_v0::points::{Point, State, Stop, word_at};
+use crate::demangle_v0::points::parser::Parser;
+use crate::demangle_v0::points::{Point, Stop};
 use crate::demangle_words::output::Output;
 use crate::demangle_words::read::WordRead;
 use crate::demangle_words::texts::{Mark, Word};
 
-/// What bindings print at their end.
+/// Returns the text after the last binding: a `>` if the bracket is open.
 #[inline(always)]
-fn end_mark(is_open: bool) -> Option<Mark> {
+fn closing_text(is_open: bool) -> Option<Mark> {
     if is_open { Some(Mark::Greater) } else { None }
 }
 
-/// What a binding prints first.
+/// Returns the text before a binding: a `<` if the bracket is not yet open.
 #[inline(always)]
-fn first_mark(is_open: bool) -> Mark {
+fn opening_text(is_open: bool) -> Mark {
     if is_open { Mark::Comma } else { Mark::Less }
 }
 
-/// A binding, where the bracket is open or not, or their end.
-#[inline(always)]
-fn binding<V: Output>(
-    symbol: &Symbol<'_>,
-    is_open: bool,
-    state: &mut State,
-    looks: &mut Looks,
-) -> Point {
-    let Some(at) = state.place else {
-        state.mark = end_mark(is_open);
-        state.is_open = false;
-        return Point::End;
-    };
-    if !symbol.is_at(b'p', at, looks) {
-        state.mark = end_mark(is_open);
-        return Point::NextDynTrait;
-    }
-    state.place = Some(at + 1);
-    state.mark = Some(first_mark(is_open));
-    Point::BindingName
-}
-
-/// The bindings of a dyn trait path that was read.
-#[inline(always)]
-pub(super) fn bindings<V: Output>(
-    symbol: &Symbol<'_>,
-    state: &mut State,
-    looks: &mut Looks,
-) -> Point {
-    binding::<V>(symbol, state.is_open, state, looks)
-}
-
-/// Further bindings, or their end.
-#[inline(always)]
-pub(super) fn open_bindings<V: Output>(
-    symbol: &Symbol<'_>,
-    state: &mut State,
-    looks: &mut Looks,
-) -> Point {
-    binding::<V>(symbol, true, state, looks)
-}
-
-/// The name of a binding.
-#[inline(never)]
-pub(super) fn binding_name<V: Output>(
-    symbol: &Symbol<'_>,
-    include_hash: bool,
-    state: &mut State,
-    output: &mut V,
-    looks: &mut Looks,
-) -> Result<Point, Stop> {
-    match word_at(symbol, Word::BindingName, state, output, looks) {
-        WordRead::Goes(name, next) => {
-            state.place = next;
-            let Ok(()) = output.emit(symbol, &name, include_hash, looks) else {
-                return Err(Stop::Refused);
-            };
-            Ok(Point::Bound)
+impl<const N: usize> Parser<'_, N> {
+    /// Starts the next binding of a dyn trait, or ends its bindings.
+    ///
+    /// Queues the text before either, which depends on whether the bracket is open.
+    #[inline(always)]
+    fn binding(&mut self, is_open: bool) -> Point {
+        let Some(at) = self.state.place else {
+            self.state.mark = closing_text(is_open);
+            self.state.is_open = false;
+            return Point::End;
+        };
+        if !self.source.symbol.is_at(b'p', at, &mut self.looks) {
+            self.state.mark = closing_text(is_open);
+            return Point::NextDynTrait;
         }
-        WordRead::Stops(mark) => Err(Stop::Fault(mark)),
+        self.state.place = Some(at + 1);
+        self.state.mark = Some(opening_text(is_open));
+        Point::BindingName
     }
-}
 
-/// What a binding binds: a constant or a type.
-#[inline(always)]
-pub(super) fn bound<V: Output, const N: usize>(
-    symbol: &Symbol<'_>,
-    state: &mut State,
-    stack: &mut FrameStack<N>,
-    looks: &mut Looks,
-) -> Point {
-    stack.push(state.frame(Point::OpenBindings));
-    state.in_value = false;
-    let Some(at) = state.place else {
-        return Point::Type;
-    };
-    if symbol.is_at(b'K', at, looks) {
-        state.place = Some(at + 1);
-        return Point::Constant;
+    /// Starts the first binding after the path of a dyn trait, or ends its bindings.
+    #[inline(always)]
+    pub(super) fn bindings(&mut self) -> Point {
+        self.binding(self.state.is_open)
     }
-    Point::Type
+
+    /// Starts a further binding of a dyn trait, or ends its bindings.
+    #[inline(always)]
+    pub(super) fn further_bindings(&mut self) -> Point {
+        self.binding(true)
+    }
+
+    /// Reads the name of a binding, and prints it with its ` = `. The value follows.
+    #[inline(never)]
+    pub(super) fn binding_name<V: Output>(&mut self, output: &mut V) -> Result<Point, Stop> {
+        match self.token_at(Word::BindingName, output) {
+            WordRead::Goes(name, next) => {
+                self.state.place = next;
+                self.emit(&name, output)?;
+                Ok(Point::Bound)
+            }
+            WordRead::Stops(mark) => Err(Stop::Fault(mark)),
+        }
+    }
+
+    /// Starts the value of a binding: a constant or a type. Further bindings follow it.
+    #[inline(always)]
+    pub(super) fn bound_value(&mut self) -> Point {
+        self.push(Point::OpenBindings);
+        self.state.in_value = false;
+        let Some(at) = self.state.place else {
+            return Point::Type;
+        };
+        if self.source.symbol.is_at(b'K', at, &mut self.looks) {
+            self.state.place = Some(at + 1);
+            return Point::Constant;
+        }
+        Point::Type
+    }
 }

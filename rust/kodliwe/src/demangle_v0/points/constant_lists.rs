@@ -1,14 +1,11 @@
 // Made from crates/demangle_v0/src/points/constant_lists.rt by packaging/crate/erase.py: edit that file instead.
-//! The lists of constants.
+//! Lists of constants: arrays, tuples and the fields of variants.
 
-use crate::demangle_symbol::cursor::{Looks, Symbol};
-use crate::demangle_v0::points::frames::FrameStack;
-use crate::demangle_v0::points::tuples::is_over;
-use crate::demangle_v0::points::{Point, State};
-use crate::demangle_words::output::Output;
+use crate::demangle_v0::points::Point;
+use crate::demangle_v0::points::parser::Parser;
 use crate::demangle_words::texts::Mark;
 
-/// What constants stand in, one behind the other.
+/// A kind of list whose elements are constants.
 #[derive(Clone, Copy)]
 pub enum ConstantList {
     Array,
@@ -18,7 +15,7 @@ pub enum ConstantList {
 }
 
 impl ConstantList {
-    /// What stands behind the last.
+    /// Returns the text that closes the list.
     #[inline(always)]
     fn close(self) -> Mark {
         match self {
@@ -28,7 +25,7 @@ impl ConstantList {
         }
     }
 
-    /// What is read of each.
+    /// Returns the continuation that reads an element.
     #[inline(always)]
     fn element(self) -> Point {
         match self {
@@ -37,9 +34,9 @@ impl ConstantList {
         }
     }
 
-    /// Where it goes on behind the first.
+    /// Returns the continuation after the first element.
     #[inline(always)]
-    fn behind_first(self) -> Point {
+    fn after_first(self) -> Point {
         match self {
             ConstantList::Array => Point::NextArrayConstant,
             ConstantList::Tuple => Point::SecondTupleConstant,
@@ -48,9 +45,9 @@ impl ConstantList {
         }
     }
 
-    /// Where it goes on behind another.
+    /// Returns the continuation after a further element.
     #[inline(always)]
-    fn behind_next(self) -> Point {
+    fn after_next(self) -> Point {
         match self {
             ConstantList::Array => Point::NextArrayConstant,
             ConstantList::Tuple => Point::NextTupleConstant,
@@ -60,59 +57,40 @@ impl ConstantList {
     }
 }
 
-/// The first constant of a list, or its end.
-#[inline(always)]
-pub(super) fn first_constant<V: Output, const N: usize>(
-    symbol: &Symbol<'_>,
-    list: ConstantList,
-    state: &mut State,
-    stack: &mut FrameStack<N>,
-    looks: &mut Looks,
-) -> Point {
-    if is_over(symbol, &mut state.place, looks) {
-        state.mark = Some(list.close());
-        state.is_open = false;
-        return Point::End;
+impl<const N: usize> Parser<'_, N> {
+    /// Starts the first element of a list, or closes the list if it has ended.
+    #[inline(always)]
+    pub(super) fn first_list_constant(&mut self, list: ConstantList) -> Point {
+        if self.ends_list() {
+            return self.end_with(list.close());
+        }
+        self.push(list.after_first());
+        self.state.in_value = true;
+        list.element()
     }
-    stack.push(state.frame(list.behind_first()));
-    state.in_value = true;
-    list.element()
-}
 
-/// The next constant of a list, or its end.
-#[inline(always)]
-pub(super) fn next_constant<V: Output, const N: usize>(
-    symbol: &Symbol<'_>,
-    list: ConstantList,
-    state: &mut State,
-    stack: &mut FrameStack<N>,
-    looks: &mut Looks,
-) -> Point {
-    if is_over(symbol, &mut state.place, looks) {
-        state.mark = Some(list.close());
-        state.is_open = false;
-        return Point::End;
+    /// Starts a further element after a comma, or closes the list if it has ended.
+    #[inline(always)]
+    pub(super) fn next_list_constant(&mut self, list: ConstantList) -> Point {
+        if self.ends_list() {
+            return self.end_with(list.close());
+        }
+        self.push(list.after_next());
+        self.put(Mark::Comma);
+        self.state.in_value = true;
+        list.element()
     }
-    stack.push(state.frame(list.behind_next()));
-    state.mark = Some(Mark::Comma);
-    state.in_value = true;
-    list.element()
-}
 
-/// The second constant of a tuple, or its end behind the one comma.
-#[inline(always)]
-pub(super) fn second_tuple_constant<V: Output, const N: usize>(
-    symbol: &Symbol<'_>,
-    state: &mut State,
-    stack: &mut FrameStack<N>,
-    looks: &mut Looks,
-) -> Point {
-    if is_over(symbol, &mut state.place, looks) {
-        state.mark = Some(Mark::OneComma);
-        return Point::CloseParen;
+    /// Starts the second element of a tuple, or leaves the comma that follows a single element.
+    #[inline(always)]
+    pub(super) fn second_tuple_constant(&mut self) -> Point {
+        if self.ends_list() {
+            self.put(Mark::OneComma);
+            return Point::CloseParen;
+        }
+        self.push(Point::NextTupleConstant);
+        self.put(Mark::Comma);
+        self.state.in_value = true;
+        Point::Constant
     }
-    stack.push(state.frame(Point::NextTupleConstant));
-    state.mark = Some(Mark::Comma);
-    state.in_value = true;
-    Point::Constant
 }

@@ -1,5 +1,5 @@
 // Made from crates/demangle_v0/src/points/faults.rt by packaging/crate/erase.py: edit that file instead.
-//! Faults by `?`.
+//! The errors that end a step, and how `?` makes them.
 
 use crate::demangle_sink::SinkRefused;
 use crate::demangle_symbol::cursor::ParseError;
@@ -24,13 +24,13 @@ impl From<ParseError> for Stop {
 }
 
 impl State {
-    /// The place where the reading stands, if it has not failed.
+    /// Returns the offset of the next byte. It fails after an error.
     #[inline(always)]
     pub(super) fn at(&self) -> Result<usize, Stop> {
         self.place.ok_or(Stop::Fault(Mark::AfterError))
     }
 
-    /// The depth left of a unit inside, if the depth may be raised.
+    /// Returns how many levels of nesting are allowed one level deeper. It fails if none is left.
     #[inline(always)]
     pub(super) fn inner_depth(&self) -> Result<u16, Stop> {
         self.depth_left

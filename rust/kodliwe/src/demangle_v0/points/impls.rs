@@ -1,78 +1,59 @@
 // Made from crates/demangle_v0/src/points/impls.rt by packaging/crate/erase.py: edit that file instead.
-//! Paths of impls, and of what implements a trait.
+//! The paths of impls, and the self type of a trait.
 
-use crate::demangle_symbol::cursor::{Looks, Symbol};
-use crate::demangle_v0::points::frames::{Frame, FrameStack};
-use crate::demangle_v0::points::{Point, State, Stop};
-use crate::demangle_words::output::Output;
+use crate::demangle_v0::points::parser::Parser;
+use crate::demangle_v0::points::{Point, Stop};
 use crate::demangle_words::texts::Mark;
 
-/// An impl's path, behind its `M`, or its `X` where the impl is of a trait.
-#[inline(always)]
-pub(super) fn impl_path<V: Output>(
-    symbol: &Symbol<'_>,
-    of_trait: bool,
-    state: &mut State,
-    looks: &mut Looks,
-) -> Result<Point, Stop> {
-    let Some(at) = state.place else {
-        return Err(Stop::Fault(Mark::AfterError));
-    };
-    // The disambiguator tells one impl from another of its module, and is not printed.
-    let Ok((_, next)) = symbol.opt_integer_62(b's', at, looks) else {
-        return Err(Stop::Fault(Mark::Invalid));
-    };
-    state.place = Some(next);
-    if of_trait {
-        return Ok(Point::ImplPath);
+impl<const N: usize> Parser<'_, N> {
+    /// Reads the disambiguator of an impl, after its `M`, or its `X` if the impl is of a trait.
+    #[inline(always)]
+    pub(super) fn impl_disambiguator(&mut self, is_trait: bool) -> Result<Point, Stop> {
+        let Some(at) = self.state.place else {
+            return Err(Stop::Fault(Mark::AfterError));
+        };
+        // The disambiguator tells the impls of a module apart, and is not printed.
+        let Ok((_, next)) = self.source.symbol.opt_integer_62(b's', at, &mut self.looks) else {
+            return Err(Stop::Fault(Mark::Invalid));
+        };
+        self.state.place = Some(next);
+        if is_trait {
+            return Ok(Point::ImplPath);
+        }
+        Ok(Point::InherentPath)
     }
-    Ok(Point::InherentPath)
-}
 
-/// The impl's own path, where nothing is printed. Where something is, the loop skips it.
-#[inline(always)]
-pub(super) fn skipped_path<V: Output, const N: usize>(
-    of_trait: bool,
-    state: &mut State,
-    stack: &mut FrameStack<N>,
-) -> Point {
-    let frame = state.frame(Point::InherentType);
-    state.in_value = false;
-    if of_trait {
-        stack.push(Frame {
-            point: Point::SelfType,
-            ..frame
-        });
-        return Point::Path;
+    /// Starts the impl's own path during validation. The printing loop skips that path instead.
+    #[inline(always)]
+    pub(super) fn read_impl_path(&mut self, is_trait: bool) -> Point {
+        let next = if is_trait {
+            Point::SelfType
+        } else {
+            Point::InherentType
+        };
+        self.push(next);
+        self.state.in_value = false;
+        Point::Path
     }
-    stack.push(frame);
-    Point::Path
-}
 
-/// The type that an impl is for, and that implements a trait or not.
-#[inline(always)]
-pub(super) fn self_type<V: Output, const N: usize>(
-    of_trait: bool,
-    state: &mut State,
-    stack: &mut FrameStack<N>,
-) -> Point {
-    state.mark = Some(Mark::Less);
-    if of_trait {
-        stack.push(state.frame(Point::As));
-        return Point::Type;
+    /// Queues `<` and starts the self type, which is followed by a trait or by `>`.
+    #[inline(always)]
+    pub(super) fn self_type(&mut self, is_trait: bool) -> Point {
+        self.put(Mark::Less);
+        if is_trait {
+            self.push(Point::As);
+            return Point::Type;
+        }
+        self.push(Point::CloseAngle);
+        Point::Type
     }
-    stack.push(state.frame(Point::CloseAngle));
-    Point::Type
-}
 
-/// The trait that it implements.
-#[inline(always)]
-pub(super) fn as_trait<V: Output, const N: usize>(
-    state: &mut State,
-    stack: &mut FrameStack<N>,
-) -> Point {
-    stack.push(state.frame(Point::CloseAngle));
-    state.mark = Some(Mark::As);
-    state.in_value = false;
-    Point::Path
+    /// Queues ` as ` and starts the trait, which is followed by `>`.
+    #[inline(always)]
+    pub(super) fn as_trait(&mut self) -> Point {
+        self.push(Point::CloseAngle);
+        self.put(Mark::As);
+        self.state.in_value = false;
+        Point::Path
+    }
 }

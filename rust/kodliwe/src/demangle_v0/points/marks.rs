@@ -1,19 +1,22 @@
 // Made from crates/demangle_v0/src/points/marks.rt by packaging/crate/erase.py: edit that file instead.
-//! Points that do no more than leave a mark.
+//! Continuations that do nothing but queue a fixed text.
 
-use crate::demangle_v0::points::{Point, State};
-use crate::demangle_words::output::Output;
+use crate::demangle_v0::points::Point;
+use crate::demangle_v0::points::parser::Parser;
 use crate::demangle_words::texts::Mark;
 
-/// The mark that a point leaves, where it goes on, and whether that stands in value position.
+/// What such a continuation does.
 #[derive(Clone, Copy)]
 pub struct Left {
+    /// The text that it queues.
     mark: Mark,
+    /// The continuation to run next.
     next: Point,
+    /// Whether that is in value position.
     in_value: bool,
 }
 
-/// What a point leaves that does no more.
+/// Returns what `point` does, or `None` if it does more than queue a fixed text.
 #[inline(always)]
 fn left_at(point: Point) -> Option<Left> {
     let (mark, next, in_value) = match point {
@@ -44,14 +47,16 @@ fn left_at(point: Point) -> Option<Left> {
     })
 }
 
-/// Leaves the mark of a point that does no more.
-#[inline(always)]
-pub(super) fn leave<V: Output>(point: Point, state: &mut State) -> Point {
-    let Some(left) = left_at(point) else {
-        return Point::End;
-    };
-    state.mark = Some(left.mark);
-    state.in_value = left.in_value;
-    state.is_open = false;
-    left.next
+impl<const N: usize> Parser<'_, N> {
+    /// Queues the fixed text of a continuation that does nothing else.
+    #[inline(always)]
+    pub(super) fn queue_text(&mut self, point: Point) -> Point {
+        let Some(left) = left_at(point) else {
+            return Point::End;
+        };
+        self.state.mark = Some(left.mark);
+        self.state.in_value = left.in_value;
+        self.state.is_open = false;
+        left.next
+    }
 }

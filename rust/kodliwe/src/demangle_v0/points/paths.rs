@@ -1,78 +1,54 @@
 // Made from crates/demangle_v0/src/points/paths.rt by packaging/crate/erase.py: edit that file instead.
-//! The points of paths.
+//! Paths.
 
-use crate::demangle_symbol::cursor::{Looks, Symbol};
-use crate::demangle_v0::points::frames::{Frame, FrameStack};
-use crate::demangle_v0::points::impls::{impl_path, self_type};
-use crate::demangle_v0::points::names::crate_name;
-use crate::demangle_v0::points::references::follow;
-use crate::demangle_v0::points::{Point, State, Stop};
+use crate::demangle_v0::points::parser::Parser;
+use crate::demangle_v0::points::{Point, Stop};
 use crate::demangle_words::output::Output;
 use crate::demangle_words::tags::{PathKind, path_kind};
 use crate::demangle_words::texts::Mark;
 
-/// A path of names, behind its `N`.
-#[inline(always)]
-fn nested_path<V: Output, const N: usize>(
-    symbol: &Symbol<'_>,
-    state: &mut State,
-    stack: &mut FrameStack<N>,
-    looks: &mut Looks,
-) -> Result<Point, Stop> {
-    let at = state.at()?;
-    let (letter, next) = symbol.namespace(at, looks)?;
-    let frame = state.frame(Point::Nested);
-    stack.push(Frame { letter, ..frame });
-    state.place = Some(next);
-    Ok(Point::Path)
-}
-
-/// A path with arguments, behind its `I`.
-#[inline(always)]
-fn generic_path<V: Output, const N: usize>(state: &State, stack: &mut FrameStack<N>) -> Point {
-    stack.push(state.frame(Point::Generic));
-    Point::Path
-}
-
-/// A path, behind its tag.
-#[inline(always)]
-fn tagged_path<V: Output, const N: usize>(
-    symbol: &Symbol<'_>,
-    tag: u8,
-    include_hash: bool,
-    state: &mut State,
-    stack: &mut FrameStack<N>,
-    output: &mut V,
-    looks: &mut Looks,
-) -> Result<Point, Stop> {
-    let kind = path_kind(tag).ok_or(Stop::Fault(Mark::Invalid))?;
-    match kind {
-        PathKind::CrateRoot => crate_name(symbol, include_hash, state, output, looks),
-        PathKind::Nested => nested_path::<V, N>(symbol, state, stack, looks),
-        PathKind::Generic => Ok(generic_path::<V, N>(state, stack)),
-        PathKind::Reference => follow(symbol, Point::Path, state, stack, output, looks),
-        PathKind::InherentImpl => impl_path::<V>(symbol, false, state, looks),
-        PathKind::TraitImpl => impl_path::<V>(symbol, true, state, looks),
-        PathKind::TraitDefinition => Ok(self_type::<V, N>(true, state, stack)),
+impl<const N: usize> Parser<'_, N> {
+    /// Reads the namespace of a nested path after its `N`, and starts the path before the name.
+    #[inline(always)]
+    fn nested_path(&mut self) -> Result<Point, Stop> {
+        let at = self.state.at()?;
+        let (letter, next) = self.source.symbol.namespace(at, &mut self.looks)?;
+        self.push_lettered(Point::Nested, letter);
+        self.state.place = Some(next);
+        Ok(Point::Path)
     }
-}
 
-/// A path.
-#[inline(always)]
-pub(super) fn path<V: Output, const N: usize>(
-    symbol: &Symbol<'_>,
-    include_hash: bool,
-    state: &mut State,
-    stack: &mut FrameStack<N>,
-    output: &mut V,
-    looks: &mut Looks,
-) -> Result<Point, Stop> {
-    let at = state.at()?;
-    // Of a path the depth is tested before its tag is looked at, of a type or a constant behind it:
-    // in this order the Rust crate reports, where both fail.
-    let inner_depth = state.inner_depth()?;
-    let (tag, next) = symbol.tag(at, looks)?;
-    state.depth_left = inner_depth;
-    state.place = Some(next);
-    tagged_path(symbol, tag, include_hash, state, stack, output, looks)
+    /// Starts the path that has generic arguments, after its `I`.
+    #[inline(always)]
+    fn generic_path(&mut self) -> Point {
+        self.push(Point::Generic);
+        Point::Path
+    }
+
+    /// Starts a path after its tag. It fails if no path has this tag.
+    #[inline(always)]
+    fn tagged_path<V: Output>(&mut self, tag: u8, output: &mut V) -> Result<Point, Stop> {
+        let kind = path_kind(tag).ok_or(Stop::Fault(Mark::Invalid))?;
+        match kind {
+            PathKind::CrateRoot => self.crate_name(output),
+            PathKind::Nested => self.nested_path(),
+            PathKind::Generic => Ok(self.generic_path()),
+            PathKind::Reference => self.follow_backref(Point::Path, output),
+            PathKind::InherentImpl => self.impl_disambiguator(false),
+            PathKind::TraitImpl => self.impl_disambiguator(true),
+            PathKind::TraitDefinition => Ok(self.self_type(true)),
+        }
+    }
+
+    /// Reads the tag of a path, and starts the path one level deeper.
+    #[inline(always)]
+    pub(super) fn path<V: Output>(&mut self, output: &mut V) -> Result<Point, Stop> {
+        let at = self.state.at()?;
+        // The depth is tested before the tag here, and after it for a type or a constant. The Rust
+        // crate reports errors in this order.
+        self.enter()?;
+        let (tag, next) = self.source.symbol.tag(at, &mut self.looks)?;
+        self.state.place = Some(next);
+        self.tagged_path(tag, output)
+    }
 }

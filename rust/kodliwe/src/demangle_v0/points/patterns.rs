@@ -1,60 +1,50 @@
 // Made from crates/demangle_v0/src/points/patterns.rt by packaging/crate/erase.py: edit that file instead.
-//! The points of patterns.
+//! Continuations of patterns.
 
-use crate::demangle_symbol::cursor::{Looks, Symbol};
-use crate::demangle_v0::points::frames::FrameStack;
-use crate::demangle_v0::points::{Point, State, Stop};
-use crate::demangle_words::output::Output;
+use crate::demangle_v0::points::parser::Parser;
+use crate::demangle_v0::points::{Point, Stop};
 use crate::demangle_words::tags::{PatternKind, pattern_kind};
 use crate::demangle_words::texts::Mark;
 
-/// A pattern.
-#[inline(always)]
-pub(super) fn pattern<V: Output, const N: usize>(
-    symbol: &Symbol<'_>,
-    state: &mut State,
-    stack: &mut FrameStack<N>,
-    looks: &mut Looks,
-) -> Result<Point, Stop> {
-    let at = state.at()?;
-    let (tag, next) = symbol.tag(at, looks)?;
-    let kind = pattern_kind(tag).ok_or(Stop::Fault(Mark::Invalid))?;
-    state.place = Some(next);
-    match kind {
-        PatternKind::Range => {
-            stack.push(state.frame(Point::RangeEnd));
-            state.in_value = false;
-            Ok(Point::Constant)
-        }
-        PatternKind::Or => {
-            // Only `O` holds patterns, so only there the Rust crate raises the depth.
-            state.depth_left = state.inner_depth()?;
-            stack.push(state.frame(Point::NextPattern));
-            Ok(Point::Pattern)
-        }
-        PatternKind::NotNull => {
-            state.mark = Some(Mark::NotNull);
-            state.is_open = false;
-            Ok(Point::End)
+impl<const N: usize> Parser<'_, N> {
+    /// Reads the tag of a pattern, and starts the first constant or pattern in it.
+    ///
+    /// `NotNull` has neither, so the pattern ends with its text.
+    #[inline(always)]
+    pub(super) fn pattern(&mut self) -> Result<Point, Stop> {
+        let at = self.state.at()?;
+        let (tag, next) = self.source.symbol.tag(at, &mut self.looks)?;
+        let kind = pattern_kind(tag).ok_or(Stop::Fault(Mark::Invalid))?;
+        self.state.place = Some(next);
+        match kind {
+            PatternKind::Range => {
+                self.push(Point::RangeEnd);
+                self.state.in_value = false;
+                Ok(Point::Constant)
+            }
+            PatternKind::Or => {
+                // Only `O` has patterns in it, so the Rust crate raises the depth only here.
+                self.enter()?;
+                self.push(Point::NextPattern);
+                Ok(Point::Pattern)
+            }
+            PatternKind::NotNull => Ok(self.end_with(Mark::NotNull)),
         }
     }
-}
 
-/// Another pattern behind `|`, or the end. Where the reading has failed the end is a new fault.
-#[inline(always)]
-pub(super) fn next_pattern<V: Output, const N: usize>(
-    symbol: &Symbol<'_>,
-    state: &mut State,
-    stack: &mut FrameStack<N>,
-    looks: &mut Looks,
-) -> Result<Point, Stop> {
-    let at = state.place.ok_or(Stop::Fault(Mark::Invalid))?;
-    if symbol.is_at(b'E', at, looks) {
-        state.place = Some(at + 1);
-        state.is_open = false;
-        return Ok(Point::End);
+    /// Starts a further pattern after `|`, or ends at an `E`.
+    ///
+    /// After an error it fails with a new error.
+    #[inline(always)]
+    pub(super) fn next_pattern(&mut self) -> Result<Point, Stop> {
+        let at = self.state.place.ok_or(Stop::Fault(Mark::Invalid))?;
+        if self.source.symbol.is_at(b'E', at, &mut self.looks) {
+            self.state.place = Some(at + 1);
+            self.state.is_open = false;
+            return Ok(Point::End);
+        }
+        self.push(Point::NextPattern);
+        self.put(Mark::Or);
+        Ok(Point::Pattern)
     }
-    stack.push(state.frame(Point::NextPattern));
-    state.mark = Some(Mark::Or);
-    Ok(Point::Pattern)
 }

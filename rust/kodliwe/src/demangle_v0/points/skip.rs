@@ -1,12 +1,12 @@
 // Made from crates/demangle_v0/src/points/skip.rt by packaging/crate/erase.py: edit that file instead.
-//! The own path of an impl, which is read and not printed.
+//! Impl paths, which are read and never printed.
 
-use crate::demangle_symbol::cursor::{Looks, Symbol};
-use crate::demangle_v0::points::frames::FrameStack;
-use crate::demangle_v0::points::read::{Halt, Reading, read_on};
+use crate::demangle_v0::points::parser::Parser;
+use crate::demangle_v0::points::read::{Halt, Reading};
 use crate::demangle_v0::points::{Point, State};
+use crate::demangle_v0::printing::Left;
 
-/// Whether what stands there is not printed.
+/// Returns whether the continuation is an impl path, which is not printed.
 #[inline(always)]
 pub fn is_skipped(point: Point) -> bool {
     match point {
@@ -15,67 +15,60 @@ pub fn is_skipped(point: Point) -> bool {
     }
 }
 
-/// What stands behind an impl's own path.
+/// Returns the continuation after an impl path.
 #[inline(always)]
-fn behind_skip(point: Point) -> Point {
+fn after_impl_path(point: Point) -> Point {
     match point {
         Point::InherentPath => Point::InherentType,
         _ => Point::SelfType,
     }
 }
 
-impl State {
-    /// Where an impl's own path is begun.
+impl<const N: usize> Parser<'_, N> {
+    /// Continues at a checkpoint, after the impl path there. The path ends at `place`, or has a
+    /// syntax error if that is `None`.
     #[inline(always)]
-    fn at_own_path(&self) -> State {
-        State {
-            in_value: false,
-            ..*self
-        }
-    }
-}
-
-impl Reading {
-    /// The own path of the impl at which printing stands.
-    #[inline(always)]
-    pub fn own_path(&self) -> Reading {
-        Reading {
-            point: Point::Path,
-            state: self.state.at_own_path(),
-        }
+    fn continue_after(&mut self, printing: Reading, place: Option<usize>) {
+        self.point = after_impl_path(printing.point);
+        self.state = State {
+            place,
+            ..printing.state
+        };
     }
 
-    /// Goes on behind the own path, which ends there, if it has not failed.
-    #[inline(always)]
-    fn go_behind(&mut self, place: Option<usize>) {
-        self.point = behind_skip(self.point);
-        self.state.place = place;
+    /// Reads the rest of an impl path, if one was read so far, and continues after it. Returns what
+    /// is left to print if the stack is full before.
+    // It is not inlined, so that the loop of printing stays small.
+    #[inline(never)]
+    pub(crate) fn finish_impl_path(&mut self, left: Left) -> Option<Left> {
+        let Left::OwnPath(base, printing) = left else {
+            return None;
+        };
+        match self.read_steps(base) {
+            Halt::Full => Some(left),
+            Halt::Over => {
+                self.continue_after(printing, self.state.place);
+                None
+            }
+            Halt::Failed => {
+                self.stack.truncate(base);
+                self.continue_after(printing, None);
+                None
+            }
+        }
     }
-}
 
-/// Reads on in the own path of the impl at which printing stands, above so many frames, and lets
-/// printing go on behind it: or answers how far it was read, where the stack is full.
-#[inline(never)]
-pub fn skip<const N: usize>(
-    symbol: &Symbol<'_>,
-    include_hash: bool,
-    base: usize,
-    inner: Reading,
-    printing: &mut Reading,
-    stack: &mut FrameStack<N>,
-    looks: &mut Looks,
-) -> Option<Reading> {
-    let mut reading = inner;
-    match read_on(symbol, base, include_hash, &mut reading, stack, looks) {
-        Halt::Full => Some(reading),
-        Halt::Over => {
-            printing.go_behind(reading.place());
-            None
-        }
-        Halt::Failed => {
-            stack.truncate(base);
-            printing.go_behind(None);
-            None
-        }
+    /// Reads the impl path at which the parser is, and continues after it. Returns what is left to
+    /// print if the stack is full before.
+    #[inline(always)]
+    pub(crate) fn skip_impl_path(&mut self) -> Option<Left> {
+        let base = self.stack.len();
+        let printing = Reading {
+            point: self.point,
+            state: self.state,
+        };
+        self.point = Point::Path;
+        self.state.in_value = false;
+        self.finish_impl_path(Left::OwnPath(base, printing))
     }
 }

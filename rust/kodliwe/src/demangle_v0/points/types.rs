@@ -2,12 +2,8 @@
 //! The points of types.
 
 use crate::demangle_symbol::cursor::{Looks, Symbol};
-use crate::demangle_v0::points::dyn_traits::dyn_type;
-use crate::demangle_v0::points::frames::FrameStack;
-use crate::demangle_v0::points::functions::function_binder;
-use crate::demangle_v0::points::references::follow;
-use crate::demangle_v0::points::type_references::reference;
-use crate::demangle_v0::points::{Point, State, Stop};
+use crate::demangle_v0::points::parser::Parser;
+use crate::demangle_v0::points::{Point, Stop};
 use crate::demangle_words::output::Output;
 use crate::demangle_words::tags::{ConstructedType, TypeKind, type_kind};
 use crate::demangle_words::texts::{Mark, basic_mark};
@@ -27,168 +23,118 @@ fn is_splat(symbol: &Symbol<'_>, is_begun: bool, at: usize, looks: &mut Looks) -
     is_begun && symbol.is_at(b'w', at, looks)
 }
 
-/// A type, with the `w` before its tag where it is begun.
-#[inline(always)]
-pub(super) fn type_<V: Output, const N: usize>(
-    symbol: &Symbol<'_>,
-    is_begun: bool,
-    include_hash: bool,
-    state: &mut State,
-    stack: &mut FrameStack<N>,
-    output: &mut V,
-    looks: &mut Looks,
-) -> Result<Point, Stop> {
-    let Some(at) = state.place else {
-        return Err(Stop::Fault(Mark::AfterError));
-    };
-    if is_splat(symbol, is_begun, at, looks) {
-        state.place = Some(at + 1);
-        state.mark = Some(Mark::Splat);
-        return Ok(Point::TaggedType);
+impl<const N: usize> Parser<'_, N> {
+    /// A type, with the `w` before its tag where it is begun.
+    #[inline(always)]
+    pub(super) fn type_<V: Output>(
+        &mut self,
+        is_begun: bool,
+        output: &mut V,
+    ) -> Result<Point, Stop> {
+        let at = self.state.at()?;
+        if is_splat(self.source.symbol, is_begun, at, &mut self.looks) {
+            self.state.place = Some(at + 1);
+            self.put(Mark::Splat);
+            return Ok(Point::TaggedType);
+        }
+        self.tagged_type(output)
     }
-    tagged_type(symbol, include_hash, state, stack, output, looks)
-}
 
-/// A type, from its tag on.
-#[inline(always)]
-fn tagged_type<V: Output, const N: usize>(
-    symbol: &Symbol<'_>,
-    include_hash: bool,
-    state: &mut State,
-    stack: &mut FrameStack<N>,
-    output: &mut V,
-    looks: &mut Looks,
-) -> Result<Point, Stop> {
-    let Some(at) = state.place else {
-        return Err(Stop::Fault(Mark::AfterError));
-    };
-    let Some(tag) = symbol.byte(at, looks) else {
-        return Err(Stop::Fault(Mark::Invalid));
-    };
-    // A basic type raises no depth, so it is read at the limit too.
-    if let Some(mark) = basic_mark(tag) {
-        state.place = Some(at + 1);
-        state.mark = Some(mark);
-        state.is_open = false;
-        return Ok(Point::End);
+    /// A type, from its tag on.
+    #[inline(always)]
+    fn tagged_type<V: Output>(&mut self, output: &mut V) -> Result<Point, Stop> {
+        let Some(at) = self.state.place else {
+            return Err(Stop::Fault(Mark::AfterError));
+        };
+        let Some(tag) = self.source.symbol.byte(at, &mut self.looks) else {
+            return Err(Stop::Fault(Mark::Invalid));
+        };
+        // A basic type raises no depth, so it is read at the limit too.
+        if let Some(mark) = basic_mark(tag) {
+            self.state.place = Some(at + 1);
+            return Ok(self.end_with(mark));
+        }
+        self.enter()?;
+        // Any other tag is a path's, which is read again from that tag on, and raises the depth
+        // once more.
+        let Some(kind) = type_kind(tag) else {
+            self.state.in_value = false;
+            return Ok(Point::Path);
+        };
+        self.state.place = Some(at + 1);
+        self.type_behind_tag(kind, output)
     }
-    if state.depth_left == 0 {
-        return Err(Stop::Fault(Mark::Recursion));
-    }
-    state.depth_left -= 1;
-    // Any other tag is a path's, which is read again from that tag on, and raises the depth once
-    // more.
-    let Some(kind) = type_kind(tag) else {
-        state.in_value = false;
-        return Ok(Point::Path);
-    };
-    state.place = Some(at + 1);
-    type_behind_tag(symbol, kind, include_hash, state, stack, output, looks)
-}
 
-/// A type that is no basic one, behind its tag.
-// References are the commonest, and lie deepest in one another: theirs alone is no call.
-#[inline(always)]
-fn type_behind_tag<V: Output, const N: usize>(
-    symbol: &Symbol<'_>,
-    kind: TypeKind,
-    include_hash: bool,
-    state: &mut State,
-    stack: &mut FrameStack<N>,
-    output: &mut V,
-    looks: &mut Looks,
-) -> Result<Point, Stop> {
-    match kind {
-        TypeKind::SharedReference => Ok(reference::<V>(symbol, false, state, looks)),
-        TypeKind::MutReference => Ok(reference::<V>(symbol, true, state, looks)),
-        TypeKind::Constructed(kind) => {
-            called_type(symbol, kind, include_hash, state, stack, output, looks)
+    /// A type that is no basic one, behind its tag.
+    // References are the commonest, and lie deepest in one another: theirs alone is no call.
+    #[inline(always)]
+    fn type_behind_tag<V: Output>(
+        &mut self,
+        kind: TypeKind,
+        output: &mut V,
+    ) -> Result<Point, Stop> {
+        match kind {
+            TypeKind::SharedReference => Ok(self.reference_type(false)),
+            TypeKind::MutReference => Ok(self.reference_type(true)),
+            // A copy, so that what others answer need not lie where the call writes its answer.
+            TypeKind::Constructed(kind) => Ok(self.constructed_type(kind, output)?),
         }
     }
-}
 
-/// A type that is made of others and no reference, behind its tag.
-#[inline(never)]
-fn constructed_type<V: Output, const N: usize>(
-    symbol: &Symbol<'_>,
-    kind: ConstructedType,
-    include_hash: bool,
-    state: &mut State,
-    stack: &mut FrameStack<N>,
-    output: &mut V,
-    looks: &mut Looks,
-) -> Result<Point, Stop> {
-    match kind {
-        ConstructedType::ConstPointer => {
-            state.mark = Some(Mark::Star);
-            Ok(Point::Const)
+    /// A type that is made of others and no reference, behind its tag.
+    #[inline(never)]
+    fn constructed_type<V: Output>(
+        &mut self,
+        kind: ConstructedType,
+        output: &mut V,
+    ) -> Result<Point, Stop> {
+        match kind {
+            ConstructedType::ConstPointer => {
+                self.put(Mark::Star);
+                Ok(Point::Const)
+            }
+            ConstructedType::MutPointer => {
+                self.put(Mark::Star);
+                Ok(Point::Mut)
+            }
+            ConstructedType::Array => {
+                self.push(Point::ArrayLength);
+                self.put(Mark::OpenBracket);
+                Ok(Point::Type)
+            }
+            ConstructedType::Slice => {
+                self.push_printing(Point::CloseBracket, output);
+                self.put(Mark::OpenBracket);
+                Ok(Point::Type)
+            }
+            ConstructedType::Tuple => {
+                self.put(Mark::OpenParen);
+                Ok(Point::FirstTupleType)
+            }
+            ConstructedType::Backref => self.follow_backref(Point::Type, output),
+            ConstructedType::Pattern => {
+                self.push(Point::PatternIs);
+                Ok(Point::Type)
+            }
+            ConstructedType::Function => self.function_binder(output),
+            ConstructedType::Dyn => Ok(self.dyn_type()),
         }
-        ConstructedType::MutPointer => {
-            state.mark = Some(Mark::Star);
-            Ok(Point::Mut)
-        }
-        ConstructedType::Array => {
-            stack.push(state.frame(Point::ArrayLength));
-            state.mark = Some(Mark::OpenBracket);
-            Ok(Point::Type)
-        }
-        ConstructedType::Slice => {
-            push_printing(Point::CloseBracket, state, stack, output);
-            state.mark = Some(Mark::OpenBracket);
-            Ok(Point::Type)
-        }
-        ConstructedType::Tuple => {
-            state.mark = Some(Mark::OpenParen);
-            Ok(Point::FirstTupleType)
-        }
-        ConstructedType::Backref => follow(symbol, Point::Type, state, stack, output, looks),
-        ConstructedType::Pattern => {
-            stack.push(state.frame(Point::PatternIs));
-            Ok(Point::Type)
-        }
-        ConstructedType::Function => function_binder(symbol, include_hash, state, output, looks),
-        ConstructedType::Dyn => Ok(dyn_type::<V, N>(symbol, state, stack)),
     }
-}
 
-/// The same by a call, whose answer is copied: what others answer need not lie where it writes its
-/// own.
-#[inline(always)]
-fn called_type<V: Output, const N: usize>(
-    symbol: &Symbol<'_>,
-    kind: ConstructedType,
-    include_hash: bool,
-    state: &mut State,
-    stack: &mut FrameStack<N>,
-    output: &mut V,
-    looks: &mut Looks,
-) -> Result<Point, Stop> {
-    let next = constructed_type(symbol, kind, include_hash, state, stack, output, looks)?;
-    Ok(next)
-}
-
-/// Puts a frame on the stack that does nothing but print, where that is heard.
-#[inline(always)]
-pub(super) fn push_printing<V: Output, const N: usize>(
-    point: Point,
-    state: &State,
-    stack: &mut FrameStack<N>,
-    output: &V,
-) {
-    if output.is_printing() {
-        stack.push(state.frame(point));
+    /// Puts a frame on the stack that does nothing but print, where that is heard.
+    #[inline(always)]
+    pub(super) fn push_printing<V: Output>(&mut self, point: Point, output: &V) {
+        if output.is_printing() {
+            self.push(point);
+        }
     }
-}
 
-/// The length of an array, behind its type.
-#[inline(always)]
-pub(super) fn array_length<V: Output, const N: usize>(
-    state: &mut State,
-    stack: &mut FrameStack<N>,
-    output: &V,
-) -> Point {
-    push_printing(Point::CloseBracket, state, stack, output);
-    state.mark = Some(Mark::Semicolon);
-    state.in_value = true;
-    Point::Constant
+    /// The length of an array, behind its type.
+    #[inline(always)]
+    pub(super) fn array_length<V: Output>(&mut self, output: &mut V) -> Point {
+        self.push_printing(Point::CloseBracket, output);
+        self.put(Mark::Semicolon);
+        self.state.in_value = true;
+        Point::Constant
+    }
 }

@@ -1,7 +1,9 @@
 // Made from crates/demangle_vectors/src/tests/bytes.rt by packaging/crate/erase.py: edit that file instead.
 //! What is written of any bytes, by fillings of all sizes, and where a reader or a writer refuses.
 use super::stream::{DISAMBIGUATOR, HEAD, LINE, ROWS, TAIL};
-use crate::rustc_demangle::{BytesFilter, StreamFault, demangle_bytes, demangle_bytes_limited};
+use crate::rustc_demangle::{
+    BytesFilter, StreamFault, SymbolMemo, demangle_bytes, demangle_bytes_limited,
+};
 use crate::support::alloc::Global;
 use crate::support::process::Abort;
 use crate::support::rt::HostRuntime;
@@ -182,8 +184,9 @@ fn a_step_is_made_again_after_an_interruption() -> Result<(), Fail> {
     };
     let mut output = Vec::new(alloc);
     let mut filter = BytesFilter::new(alloc);
+    let mut memo = SymbolMemo::new(alloc, true, 1_000_000);
     for _ in 0..1_000u32 {
-        match filter.step(&mut input, &mut output, true) {
+        match filter.step(&mut input, &mut output, &mut memo) {
             Ok(false) => break,
             Ok(true) => {}
             Err(StreamFault::Read(error)) if error.kind() == ErrorKind::Interrupted => {}
@@ -200,6 +203,7 @@ fn the_writer_of_bytes_fails_at_each_write() -> Result<(), Fail> {
     let alloc = rt.alloc();
     let mut text = Vec::new(alloc);
     let mut wanted_writes: Vec<&[u8]> = Vec::new(alloc);
+    // The first symbol of all is remembered when it comes for the third time.
     for _ in 0..2 {
         text.extend_from_slice(LINE)?;
         text.push(b'\n')?;
@@ -207,6 +211,12 @@ fn the_writer_of_bytes_fails_at_each_write() -> Result<(), Fail> {
         wanted_writes.extend_from_slice(&DISAMBIGUATOR)?;
         wanted_writes.extend_from_slice(&TAIL)?;
     }
+    // A symbol that comes again is one write.
+    text.extend_from_slice(LINE)?;
+    text.push(b'\n')?;
+    wanted_writes.extend_from_slice(&HEAD[..3])?;
+    wanted_writes.push(b"<mio[1888792e1a78739]::sys::unix::selector::epoll::Selector>::select")?;
+    wanted_writes.extend_from_slice(&TAIL[13..])?;
     for writes in 0..=wanted_writes.len() {
         let mut input = text.as_slice();
         let mut output = RefusingWriter::new(alloc, b"old", writes, true)?;

@@ -3,6 +3,7 @@
 use crate::rustc_demangle::demangle;
 use crate::support::format;
 use crate::support::rt::HostRuntime;
+use crate::support::string::String;
 use crate::support::test::Fail;
 use core::fmt;
 use core::fmt::Write;
@@ -39,6 +40,24 @@ fn the_alternate_flag_leaves_out_the_hash() -> Result<(), Fail> {
         assert_eq!(format!(in alloc; "{:#?}", symbol)?.as_str(), alt);
         assert_eq!(format!(in alloc; "{:#>40.3?}", symbol)?.as_str(), plain);
     }
+    Ok(())
+}
+
+#[test]
+fn a_symbol_of_ten_thousand_bytes_is_written_whole() -> Result<(), Fail> {
+    let rt = HostRuntime;
+    let alloc = rt.alloc();
+    let mut symbol = String::from_str(alloc, "_ZN3foo")?;
+    let mut wanted = String::from_str(alloc, "foo")?;
+    for _ in 0..2500 {
+        symbol.push_str("3bar")?;
+        wanted.push_str("::bar")?;
+    }
+    symbol.push_str("E")?;
+    let symbol = demangle(symbol.as_str());
+    assert_eq!(format!(in alloc; "{}", symbol)?.as_str(), wanted.as_str());
+    assert_eq!(format!(in alloc; "{:#}", symbol)?.as_str(), wanted.as_str());
+    assert_eq!(format!(in alloc; "{:?}", symbol)?.as_str(), wanted.as_str());
     Ok(())
 }
 

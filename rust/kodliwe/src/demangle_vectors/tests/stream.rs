@@ -1,13 +1,14 @@
 // Made from crates/demangle_vectors/src/tests/stream.rt by packaging/crate/erase.py: edit that file instead.
 //! What the stream writes of lines, and where a reader or a writer refuses.
-use crate::rustc_demangle::{StreamFault, demangle_stream, demangle_stream_named};
+use crate::rustc_demangle::{StreamFault, demangle_bytes, demangle_stream, demangle_stream_named};
 use crate::support::alloc::Global;
 use crate::support::process::Abort;
 use crate::support::rt::HostRuntime;
 use crate::support::test::Fail;
 use crate::support::vec::Vec;
 use crate::test_doubles::streams::{NotingWriter, PartsReader, RefusingWriter};
-use std::io::ErrorKind;
+use std::io;
+use std::io::{BufRead, ErrorKind, Read};
 
 /// Texts, and what the stream writes of them, with the hash and without it.
 pub(super) const ROWS: [(&[u8], &[u8]); 20] = [
@@ -248,11 +249,22 @@ fn the_writer_fails_at_each_write() -> Result<(), Fail> {
 fn each_text_and_piece_is_a_write() -> Result<(), Fail> {
     let rt = HostRuntime;
     let alloc = rt.alloc();
-    let cases: [(&[u8], &[&[u8]]); 4] = [
+    let cases: [(&[u8], &[&[u8]]); 6] = [
         (b"x _RCx _ZN3fooE", &[b"x ", b"_RCx", b" ", b"foo"]),
         (b"_ZN1a1bE.x\n\n", &[b"a", b"::", b"b", b".x", b"\n", b"\n"]),
         (b"_RCs_1a.x", &[b"a", b"[", b"1", b"]", b".x"]),
         (b"_ZNE _ZN0E", &[b" "]),
+        (b"_RCx_a_longer_run y", &[b"_RCx_a_longer_run", b" y"]),
+        (
+            b"y _ZN3fo\nx _R_a_longer_run_that_is_no_symbol",
+            &[
+                b"y ",
+                b"_ZN3fo",
+                b"\n",
+                b"x ",
+                b"_R_a_longer_run_that_is_no_symbol",
+            ],
+        ),
     ];
     for (text, wanted) in cases {
         let mut input = text;
@@ -263,5 +275,61 @@ fn each_text_and_piece_is_a_write() -> Result<(), Fail> {
             assert_eq!(write.as_slice(), *want, "of {text:?}");
         }
     }
+    Ok(())
+}
+
+/// Hands out one part, so many times.
+struct RepeatingReader<'a> {
+    part: &'a [u8],
+    left: u32,
+}
+
+impl Read for RepeatingReader<'_> {
+    fn read(&mut self, buf: &mut [u8]) -> io::Result<usize> {
+        let part = self.fill_buf()?;
+        let count = part.len().min(buf.len());
+        buf[..count].copy_from_slice(&part[..count]);
+        self.consume(count);
+        Ok(count)
+    }
+}
+
+impl BufRead for RepeatingReader<'_> {
+    fn fill_buf(&mut self) -> io::Result<&[u8]> {
+        Ok(if self.left == 0 { b"" } else { self.part })
+    }
+
+    fn consume(&mut self, amount: usize) {
+        if amount != 0 {
+            self.left = self.left.saturating_sub(1);
+        }
+    }
+}
+
+#[test]
+fn a_line_may_come_in_many_parts() -> Result<(), Fail> {
+    let rt = HostRuntime;
+    let alloc = rt.alloc();
+    let mut input = RepeatingReader {
+        part: b"x",
+        left: 200_000,
+    };
+    let mut output = Vec::new(alloc);
+    demangle_stream(alloc, &mut input, &mut output, true)?;
+    assert_eq!(output.len(), 200_000usize);
+    Ok(())
+}
+
+#[test]
+fn bytes_may_come_in_many_parts() -> Result<(), Fail> {
+    let rt = HostRuntime;
+    let alloc = rt.alloc();
+    let mut input = RepeatingReader {
+        part: b"x ",
+        left: 300_000,
+    };
+    let mut output = Vec::new(alloc);
+    assert!(demangle_bytes(alloc, &mut input, &mut output, true).is_ok());
+    assert_eq!(output.len(), 600_000usize);
     Ok(())
 }

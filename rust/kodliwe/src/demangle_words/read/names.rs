@@ -2,10 +2,11 @@
 //! Names, and disambiguators.
 
 use crate::demangle_symbol::cursor::{Ident, Looks, Symbol};
-use crate::demangle_words::read::{WordRead, faulty, goes};
+use crate::demangle_words::read::{TokenReader, WordRead, invalid_token, token_read};
 use crate::demangle_words::stretch::Stretch;
 
-/// A name behind a disambiguator, its number, and the place behind it.
+/// Reads a disambiguator and the name after it. Returns the name, the disambiguator and the place
+/// after both, or `None` if they are not spelled there.
 #[inline(always)]
 pub fn numbered_name(
     symbol: &Symbol<'_>,
@@ -21,20 +22,22 @@ pub fn numbered_name(
     Some((ident, number, next))
 }
 
-/// The name of a field, whose disambiguator is not printed.
-#[inline(always)]
-pub(super) fn read_field(symbol: &Symbol<'_>, place: usize, looks: &mut Looks) -> WordRead {
-    match numbered_name(symbol, place, looks) {
-        Some((ident, _, next)) => goes(Stretch::FieldName(ident), next),
-        None => faulty(),
+impl TokenReader<'_> {
+    /// Reads the name of a field, whose disambiguator is not printed.
+    #[inline(always)]
+    pub(super) fn read_field(&self, place: usize, looks: &mut Looks) -> WordRead {
+        match numbered_name(self.symbol, place, looks) {
+            Some((ident, _, next)) => token_read(Stretch::FieldName(ident), next),
+            None => invalid_token(),
+        }
     }
-}
 
-/// The name of a binding.
-#[inline(always)]
-pub(super) fn read_binding(symbol: &Symbol<'_>, place: usize, looks: &mut Looks) -> WordRead {
-    match symbol.ident(place, looks) {
-        Ok((ident, next)) => goes(Stretch::BindingName(ident), next),
-        Err(_) => faulty(),
+    /// Reads the name of an associated type that a trait's arguments bind.
+    #[inline(always)]
+    pub(super) fn read_binding(&self, place: usize, looks: &mut Looks) -> WordRead {
+        match self.symbol.ident(place, looks) {
+            Ok((ident, next)) => token_read(Stretch::BindingName(ident), next),
+            Err(_) => invalid_token(),
+        }
     }
 }

@@ -4,7 +4,7 @@
 use crate::demangle_sink::{SinkRefused, SizeLimitedFmtAdapter, TextSink, put_char, put_each};
 use crate::support::itoa::Buffer;
 
-/// Puts the name of the lifetime of a number: a letter, or `_` and the number.
+/// Prints the name of the lifetime of a number: a letter, or `_` and the number.
 fn put_letter<S: TextSink>(
     number: u128,
     out: &mut SizeLimitedFmtAdapter<'_, S>,
@@ -12,12 +12,12 @@ fn put_letter<S: TextSink>(
     if number < 26 {
         return put_char(char::from(b'a' + number as u8), out);
     }
-    // Behind `'z` comes `'_26`: the number itself, and not how far it is past the letters.
+    // After `'z` comes `'_26`: the number itself, not its distance from the letters.
     let mut buffer = Buffer::new();
     put_each(&["_", buffer.format(number)], out)
 }
 
-/// Puts the lifetime of a number.
+/// Prints the lifetime of a number.
 #[inline(never)]
 pub(super) fn put_lifetime<S: TextSink>(
     number: u128,
@@ -27,7 +27,7 @@ pub(super) fn put_lifetime<S: TextSink>(
     put_letter(number, out)
 }
 
-/// Puts the lifetime of a number, and a space.
+/// Prints the lifetime of a number, and a space after it.
 #[inline(never)]
 pub(super) fn put_spaced_lifetime<S: TextSink>(
     number: u128,
@@ -37,9 +37,9 @@ pub(super) fn put_spaced_lifetime<S: TextSink>(
     out.put(" ")
 }
 
-/// Puts the lifetime of a number behind a text.
+/// Prints a text, and the lifetime of a number after it.
 #[inline(never)]
-pub(super) fn put_lifetime_behind<S: TextSink>(
+pub(super) fn put_prefixed_lifetime<S: TextSink>(
     before: &str,
     number: u128,
     out: &mut SizeLimitedFmtAdapter<'_, S>,
@@ -48,7 +48,8 @@ pub(super) fn put_lifetime_behind<S: TextSink>(
     put_lifetime(number, out)
 }
 
-/// Puts the binder of so many new lifetimes, from a number on. It has none where there are none.
+/// Prints the binder of `count` new lifetimes, whose numbers begin at `first`. It prints nothing
+/// if `count` is 0.
 #[inline(never)]
 pub(super) fn put_binder<S: TextSink>(
     first: u128,
@@ -58,9 +59,9 @@ pub(super) fn put_binder<S: TextSink>(
     if count == 0 {
         return Ok(());
     }
-    put_lifetime_behind("for<", first, out)?;
+    put_prefixed_lifetime("for<", first, out)?;
     for at in 1..count {
-        put_lifetime_behind(", ", first + at as u128, out)?;
+        put_prefixed_lifetime(", ", first + at as u128, out)?;
     }
     out.put("> ")
 }

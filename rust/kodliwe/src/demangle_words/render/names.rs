@@ -1,11 +1,22 @@
 // Made from crates/demangle_words/src/render/names.rt by packaging/crate/erase.py: edit that file instead.
-//! Names, with what stands round them.
+//! Names, with the texts before and after them.
 
 use crate::demangle_sink::{SinkRefused, SizeLimitedFmtAdapter, TextSink, put_char};
-use crate::demangle_symbol::cursor::{Ident, Looks, Part, Symbol};
+use crate::demangle_symbol::cursor::{Ident, Looks};
 use crate::demangle_words::render::numbers;
+use crate::demangle_words::source::Source;
 
-/// Puts a disambiguator in brackets, in the plain form alone and where it is not 0.
+/// A name in a namespace.
+#[derive(Clone, Copy)]
+pub(super) struct NamespacedName {
+    /// The letter of the namespace, which is special if it is `A` to `Z`.
+    pub(super) namespace: u8,
+    /// The disambiguator.
+    pub(super) number: u64,
+    pub(super) ident: Ident,
+}
+
+/// Prints a disambiguator in brackets, if it is not 0. The alternate form omits it.
 #[inline(never)]
 fn put_disambiguator<S: TextSink>(
     number: u64,
@@ -23,48 +34,8 @@ fn put_disambiguator<S: TextSink>(
     out.put("]")
 }
 
-/// Puts the name of a crate, and its disambiguator.
-#[inline(always)]
-pub(super) fn put_crate_name<S: TextSink>(
-    symbol: &Symbol<'_>,
-    name: &Ident,
-    number: u64,
-    include_hash: bool,
-    out: &mut SizeLimitedFmtAdapter<'_, S>,
-    looks: &mut Looks,
-) -> Result<(), SinkRefused> {
-    name.write_to(symbol, out, looks)?;
-    put_disambiguator(number, include_hash, out)
-}
-
-/// Whether both parts of a name are empty.
-#[inline(always)]
-fn is_nameless(symbol: &Symbol<'_>, name: &Ident) -> bool {
-    if symbol.span(name.ascii).len() > 0 {
-        return false;
-    }
-    symbol.span(name.punycode).len() == 0
-}
-
-/// Puts a name behind a text, and nothing where the name is empty.
-#[inline(always)]
-fn put_name_behind<S: TextSink>(
-    before: &str,
-    symbol: &Symbol<'_>,
-    name: &Ident,
-    out: &mut SizeLimitedFmtAdapter<'_, S>,
-    looks: &mut Looks,
-) -> Result<(), SinkRefused> {
-    // A name may be empty, as a closure's is: then what would set it off goes too.
-    if is_nameless(symbol, name) {
-        return Ok(());
-    }
-    out.put(before)?;
-    name.write_to(symbol, out, looks)
-}
-
-/// Puts what a special namespace holds.
-fn put_kind<S: TextSink>(
+/// Prints what a special namespace holds.
+fn put_special_kind<S: TextSink>(
     namespace: u8,
     out: &mut SizeLimitedFmtAdapter<'_, S>,
 ) -> Result<(), SinkRefused> {
@@ -75,7 +46,7 @@ fn put_kind<S: TextSink>(
     }
 }
 
-/// Puts the disambiguator of a special name, in decimal digits.
+/// Prints the disambiguator of a special name, in decimal digits.
 fn put_index<S: TextSink>(
     number: u64,
     out: &mut SizeLimitedFmtAdapter<'_, S>,
@@ -83,8 +54,8 @@ fn put_index<S: TextSink>(
     numbers::put_decimal(number as u128, out)
 }
 
-/// Puts what a special name ends in.
-fn put_ending<S: TextSink>(
+/// Prints what a special name ends in: `#`, its disambiguator and `}`.
+fn put_special_suffix<S: TextSink>(
     number: u64,
     out: &mut SizeLimitedFmtAdapter<'_, S>,
 ) -> Result<(), SinkRefused> {
@@ -93,57 +64,85 @@ fn put_ending<S: TextSink>(
     out.put("}")
 }
 
-/// Puts a name in a special namespace, by its parts, and its disambiguator.
-// It takes no reference, so that the names of its caller can lie in registers.
-#[inline(never)]
-fn put_special_name<S: TextSink>(
-    symbol: &Symbol<'_>,
-    namespace: u8,
-    number: u64,
-    ascii: Part,
-    punycode: Part,
-    out: &mut SizeLimitedFmtAdapter<'_, S>,
-    looks: &mut Looks,
-) -> Result<(), SinkRefused> {
-    out.put("::{")?;
-    put_kind(namespace, out)?;
-    let name = Ident { ascii, punycode };
-    put_name_behind(":", symbol, &name, out, looks)?;
-    put_ending(number, out)
-}
-
-/// Puts a name in a namespace: special where its letter is `A` to `Z`.
-#[inline(always)]
-pub(super) fn put_nested_name<S: TextSink>(
-    symbol: &Symbol<'_>,
-    namespace: u8,
-    number: u64,
-    name: &Ident,
-    out: &mut SizeLimitedFmtAdapter<'_, S>,
-    looks: &mut Looks,
-) -> Result<(), SinkRefused> {
-    match namespace {
-        b'A'..=b'Z' => put_special_name(
-            symbol,
-            namespace,
-            number,
-            name.ascii,
-            name.punycode,
-            out,
-            looks,
-        ),
-        _ => put_name_behind("::", symbol, name, out, looks),
+impl Source<'_> {
+    /// Prints the name of a crate, and its disambiguator after it.
+    #[inline(always)]
+    pub(super) fn put_crate_name<S: TextSink>(
+        &self,
+        name: &Ident,
+        number: u64,
+        out: &mut SizeLimitedFmtAdapter<'_, S>,
+        looks: &mut Looks,
+    ) -> Result<(), SinkRefused> {
+        name.write_to(self.symbol, out, looks)?;
+        put_disambiguator(number, self.include_hash, out)
     }
-}
 
-/// Puts the name that a binding binds.
-#[inline(never)]
-pub(super) fn put_binding<S: TextSink>(
-    symbol: &Symbol<'_>,
-    name: &Ident,
-    out: &mut SizeLimitedFmtAdapter<'_, S>,
-    looks: &mut Looks,
-) -> Result<(), SinkRefused> {
-    name.write_to(symbol, out, looks)?;
-    out.put(" = ")
+    /// Returns `true` if both parts of a name are empty.
+    #[inline(always)]
+    fn is_empty_name(&self, name: &Ident) -> bool {
+        if self.symbol.span(name.ascii).len() > 0 {
+            return false;
+        }
+        self.symbol.span(name.punycode).len() == 0
+    }
+
+    /// Prints a text, and a name after it. It prints nothing if the name is empty.
+    #[inline(always)]
+    fn put_prefixed_name<S: TextSink>(
+        &self,
+        before: &str,
+        name: &Ident,
+        out: &mut SizeLimitedFmtAdapter<'_, S>,
+        looks: &mut Looks,
+    ) -> Result<(), SinkRefused> {
+        // A name may be empty, as a closure's is. Then the text before it is omitted too.
+        if self.is_empty_name(name) {
+            return Ok(());
+        }
+        out.put(before)?;
+        name.write_to(self.symbol, out, looks)
+    }
+
+    /// Prints a name in a special namespace, and its disambiguator.
+    // It takes the name by value, so that its caller can keep the names that it reads in registers.
+    #[inline(never)]
+    fn put_special_name<S: TextSink>(
+        &self,
+        name: NamespacedName,
+        out: &mut SizeLimitedFmtAdapter<'_, S>,
+        looks: &mut Looks,
+    ) -> Result<(), SinkRefused> {
+        out.put("::{")?;
+        put_special_kind(name.namespace, out)?;
+        self.put_prefixed_name(":", &name.ident, out, looks)?;
+        put_special_suffix(name.number, out)
+    }
+
+    /// Prints a name in a namespace, with `::` before it. An empty name prints nothing, unless the
+    /// namespace is special.
+    #[inline(always)]
+    pub(super) fn put_nested_name<S: TextSink>(
+        &self,
+        name: NamespacedName,
+        out: &mut SizeLimitedFmtAdapter<'_, S>,
+        looks: &mut Looks,
+    ) -> Result<(), SinkRefused> {
+        match name.namespace {
+            b'A'..=b'Z' => self.put_special_name(name, out, looks),
+            _ => self.put_prefixed_name("::", &name.ident, out, looks),
+        }
+    }
+
+    /// Prints the name of an associated type that a trait's arguments bind, and ` = ` after it.
+    #[inline(never)]
+    pub(super) fn put_binding<S: TextSink>(
+        &self,
+        name: &Ident,
+        out: &mut SizeLimitedFmtAdapter<'_, S>,
+        looks: &mut Looks,
+    ) -> Result<(), SinkRefused> {
+        name.write_to(self.symbol, out, looks)?;
+        out.put(" = ")
+    }
 }

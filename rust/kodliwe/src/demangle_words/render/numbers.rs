@@ -1,8 +1,9 @@
 // Made from crates/demangle_words/src/render/numbers.rt by packaging/crate/erase.py: edit that file instead.
-//! Numbers.
+//! Numbers, and the types of numeric constants.
 
 use crate::demangle_sink::{SinkRefused, SizeLimitedFmtAdapter, TextSink};
-use crate::demangle_symbol::cursor::{Part, Symbol};
+use crate::demangle_symbol::cursor::Part;
+use crate::demangle_words::source::Source;
 use crate::demangle_words::texts::{basic_mark, text};
 use crate::support::itoa::Buffer;
 use core::str;
@@ -28,7 +29,7 @@ static DIGIT_PAIRS_16: [u8; 512] = *b"\
     f0f1f2f3f4f5f6f7f8f9fafbfcfdfeff\
 ";
 
-/// Writes the hexadecimal digits of a number, its leading zeros too: where the others begin.
+/// Writes all 16 hexadecimal digits of a number, and returns how many leading zeros to omit.
 #[inline(always)]
 fn write_hexadecimal(number: u64, text: &mut [u8; 16]) -> usize {
     let mut pairs = 8;
@@ -44,7 +45,7 @@ fn write_hexadecimal(number: u64, text: &mut [u8; 16]) -> usize {
     ((number | 1).leading_zeros() / 4) as usize
 }
 
-/// Puts a number in hexadecimal digits, as one piece.
+/// Prints a number in hexadecimal digits, as one piece.
 #[inline(always)]
 pub(super) fn put_hexadecimal<S: TextSink>(
     number: u64,
@@ -56,18 +57,7 @@ pub(super) fn put_hexadecimal<S: TextSink>(
     out.put(unsafe { str::from_utf8_unchecked(&text[start..]) })
 }
 
-/// Puts the nibbles of a hex word that has no number.
-fn put_nibbles<S: TextSink>(
-    symbol: &Symbol<'_>,
-    nibbles: Part,
-    out: &mut SizeLimitedFmtAdapter<'_, S>,
-) -> Result<(), SinkRefused> {
-    // All the nibbles stand as they are spelled, zeros in front too.
-    out.put("0x")?;
-    symbol.span(nibbles).write_to(out)
-}
-
-/// Puts a number in decimal digits, as one piece.
+/// Prints a number in decimal digits, as one piece.
 pub(super) fn put_decimal<S: TextSink>(
     number: u128,
     out: &mut SizeLimitedFmtAdapter<'_, S>,
@@ -76,44 +66,56 @@ pub(super) fn put_decimal<S: TextSink>(
     out.put(buffer.format(number))
 }
 
-/// Puts a number in decimal digits, or its nibbles where it has none.
-fn put_number<S: TextSink>(
-    symbol: &Symbol<'_>,
-    value: Option<u128>,
-    nibbles: Part,
-    out: &mut SizeLimitedFmtAdapter<'_, S>,
-) -> Result<(), SinkRefused> {
-    match value {
-        Some(number) => put_decimal(number, out),
-        None => put_nibbles(symbol, nibbles, out),
+impl Source<'_> {
+    /// Prints the nibbles of a number that has more than 128 bits.
+    fn put_nibbles<S: TextSink>(
+        &self,
+        nibbles: Part,
+        out: &mut SizeLimitedFmtAdapter<'_, S>,
+    ) -> Result<(), SinkRefused> {
+        // All the nibbles are printed as they are spelled, leading zeros too.
+        out.put("0x")?;
+        self.symbol.span(nibbles).write_to(out)
     }
-}
 
-/// Puts the name of a basic type, in the plain form alone.
-fn put_type_name<S: TextSink>(
-    tag: u8,
-    include_hash: bool,
-    out: &mut SizeLimitedFmtAdapter<'_, S>,
-) -> Result<(), SinkRefused> {
-    if !include_hash {
-        return Ok(());
+    /// Prints a number in decimal digits, or its nibbles if it has no value.
+    fn put_number<S: TextSink>(
+        &self,
+        value: Option<u128>,
+        nibbles: Part,
+        out: &mut SizeLimitedFmtAdapter<'_, S>,
+    ) -> Result<(), SinkRefused> {
+        match value {
+            Some(number) => put_decimal(number, out),
+            None => self.put_nibbles(nibbles, out),
+        }
     }
-    match basic_mark(tag) {
-        Some(mark) => out.put(text(mark)),
-        None => Ok(()),
-    }
-}
 
-/// Puts a number, and the name of its type.
-#[inline(never)]
-pub(super) fn put_number_constant<S: TextSink>(
-    symbol: &Symbol<'_>,
-    value: Option<u128>,
-    nibbles: Part,
-    tag: u8,
-    include_hash: bool,
-    out: &mut SizeLimitedFmtAdapter<'_, S>,
-) -> Result<(), SinkRefused> {
-    put_number(symbol, value, nibbles, out)?;
-    put_type_name(tag, include_hash, out)
+    /// Prints the name of a basic type. The alternate form omits it.
+    fn put_type_name<S: TextSink>(
+        &self,
+        tag: u8,
+        out: &mut SizeLimitedFmtAdapter<'_, S>,
+    ) -> Result<(), SinkRefused> {
+        if !self.include_hash {
+            return Ok(());
+        }
+        match basic_mark(tag) {
+            Some(mark) => out.put(text(mark)),
+            None => Ok(()),
+        }
+    }
+
+    /// Prints a numeric constant, and the name of its type after it.
+    #[inline(never)]
+    pub(super) fn put_number_constant<S: TextSink>(
+        &self,
+        value: Option<u128>,
+        nibbles: Part,
+        tag: u8,
+        out: &mut SizeLimitedFmtAdapter<'_, S>,
+    ) -> Result<(), SinkRefused> {
+        self.put_number(value, nibbles, out)?;
+        self.put_type_name(tag, out)
+    }
 }

@@ -3,6 +3,7 @@
 
 use crate::rustc_demangle::stream::carrying::{finish, take_some};
 use crate::rustc_demangle::stream::fault::{StreamFault, read_fault};
+use crate::rustc_demangle::stream::memo::SymbolMemo;
 use crate::rustc_demangle::value::MAX_SIZE;
 use crate::support::alloc::{Allocator, Global};
 use crate::support::vec::Vec;
@@ -22,40 +23,29 @@ impl<A: Allocator> BytesFilter<A> {
         }
     }
 
-    /// Takes some of the bytes that the reader shows and writes what is known of them, with each
-    /// symbol cut at `limit` bytes before its suffix; or answers `false` at the end of the input,
-    /// where it writes what stands for the carried run.
+    /// Takes some of the bytes that the reader shows and writes what is known of them. Returns
+    /// `false` at the end of the input, after the text of the carried run is written. The memo says
+    /// how symbols are printed, and remembers their texts.
     ///
-    /// Where the reader or the memory refuses it, nothing is taken and nothing written: the same
+    /// If the reader fails or memory is refused, nothing is taken and nothing is written: the same
     /// step can be made again, as after a read that was interrupted.
-    pub fn step_limited<R: BufRead, W: Write>(
+    pub fn step<R: BufRead, W: Write>(
         &mut self,
         input: &mut R,
         output: &mut W,
-        include_hash: bool,
-        limit: usize,
+        memo: &mut SymbolMemo,
     ) -> Result<bool, StreamFault> {
         let shown = match input.fill_buf() {
             Ok(shown) => shown,
             Err(error) => return Err(read_fault(error)),
         };
         if shown.is_empty() {
-            finish(&mut self.carried, output, include_hash, limit)?;
+            finish(&mut self.carried, output, memo)?;
             return Ok(false);
         }
-        let taken = take_some(&mut self.carried, shown, output, include_hash, limit)?;
+        let taken = take_some(&mut self.carried, shown, output, memo)?;
         input.consume(taken);
         Ok(true)
-    }
-
-    /// Takes a step as `step_limited` does, with each symbol cut at 1,000,000 bytes.
-    pub fn step<R: BufRead, W: Write>(
-        &mut self,
-        input: &mut R,
-        output: &mut W,
-        include_hash: bool,
-    ) -> Result<bool, StreamFault> {
-        self.step_limited(input, output, include_hash, MAX_SIZE)
     }
 }
 
@@ -64,11 +54,10 @@ fn take_steps<R: BufRead, W: Write, A: Allocator>(
     filter: &mut BytesFilter<A>,
     input: &mut R,
     output: &mut W,
-    include_hash: bool,
-    limit: usize,
+    memo: &mut SymbolMemo,
 ) -> Result<(), StreamFault> {
     for _ in 0..=u64::MAX {
-        if !filter.step_limited(input, output, include_hash, limit)? {
+        if !filter.step(input, output, memo)? {
             return Ok(());
         }
     }
@@ -79,12 +68,13 @@ fn take_steps<R: BufRead, W: Write, A: Allocator>(
 /// bytes before its suffix.
 ///
 /// A symbol is looked for where `_ZN` or `_R` stands, up to the next byte that is no ASCII letter,
-/// no digit and none of `$`, `.` and `_`. What is no symbol is written as it was. It reads by the
-/// reader's fillings and not by lines: what a filling has between two such runs is written as it
-/// lies there, and only a run that the bytes so far end with is kept in memory.
+/// no digit and none of `$`, `.` and `_`. What is no symbol is written as it was. It reads in the
+/// reader's chunks and not by lines: what a chunk has between two such runs is one write. It keeps in
+/// memory the run that the bytes so far end with, and a `SymbolMemo`. So a symbol that comes again is
+/// one write. The first time its pieces are a write each.
 ///
-/// It is refused where the reader or the writer answers an error, and where the buffer of the run
-/// is refused memory, and never for want of UTF-8.
+/// It fails if the reader or the writer fails, or if memory is refused to the buffer of the run. It
+/// never fails because the bytes are not UTF-8, nor because memory is refused to the memo.
 pub fn demangle_bytes_limited<R: BufRead, W: Write>(
     alloc: Global,
     input: &mut R,
@@ -93,7 +83,8 @@ pub fn demangle_bytes_limited<R: BufRead, W: Write>(
     limit: usize,
 ) -> Result<(), StreamFault> {
     let mut filter = BytesFilter::new(alloc);
-    take_steps(&mut filter, input, output, include_hash, limit)
+    let mut memo = SymbolMemo::new(alloc, include_hash, limit);
+    take_steps(&mut filter, input, output, &mut memo)
 }
 
 /// Writes the input, which may be any bytes, with each symbol of it demangled, as

@@ -3,7 +3,7 @@
 
 use crate::rustc_demangle::runs::{begins_run, run_len, run_start, run_text};
 use crate::rustc_demangle::stream::fault::StreamFault;
-use crate::rustc_demangle::stream::line::write_run;
+use crate::rustc_demangle::stream::memo::SymbolMemo;
 use crate::support::alloc::Allocator;
 use crate::support::vec::Vec;
 use std::io::Write;
@@ -23,10 +23,9 @@ fn keep_bytes<W: Write>(bytes: &[u8], output: &mut W) -> Result<(), StreamFault>
 fn pass_run<W: Write>(
     run: &[u8],
     output: &mut W,
-    include_hash: bool,
-    limit: usize,
+    memo: &mut SymbolMemo,
 ) -> Result<(), StreamFault> {
-    match write_run(run_text(run), output, include_hash, limit) {
+    match memo.write_run(run_text(run), output) {
         Ok(()) => Ok(()),
         Err(error) => Err(StreamFault::Write(error)),
     }
@@ -36,11 +35,10 @@ fn pass_run<W: Write>(
 pub(super) fn finish<W: Write, A: Allocator>(
     carried: &mut Vec<u8, A>,
     output: &mut W,
-    include_hash: bool,
-    limit: usize,
+    memo: &mut SymbolMemo,
 ) -> Result<(), StreamFault> {
     let written = if begins_run(carried.as_slice()) {
-        pass_run(carried.as_slice(), output, include_hash, limit)
+        pass_run(carried.as_slice(), output, memo)
     } else {
         keep_bytes(carried.as_slice(), output)
     };
@@ -81,14 +79,13 @@ fn take_byte<W: Write, A: Allocator>(
     carried: &mut Vec<u8, A>,
     shown: &[u8],
     output: &mut W,
-    include_hash: bool,
-    limit: usize,
+    memo: &mut SymbolMemo,
 ) -> Result<usize, StreamFault> {
     if goes_on(carried.as_slice(), shown[0]) {
         carry(carried, &shown[..1])?;
         return Ok(1);
     }
-    finish(carried, output, include_hash, limit)?;
+    finish(carried, output, memo)?;
     Ok(0)
 }
 
@@ -97,13 +94,12 @@ fn take_run<W: Write, A: Allocator>(
     carried: &mut Vec<u8, A>,
     shown: &[u8],
     output: &mut W,
-    include_hash: bool,
-    limit: usize,
+    memo: &mut SymbolMemo,
 ) -> Result<usize, StreamFault> {
     let len = run_len(shown);
     carry(carried, &shown[..len])?;
     if len < shown.len() {
-        finish(carried, output, include_hash, limit)?;
+        finish(carried, output, memo)?;
     }
     Ok(len)
 }
@@ -113,8 +109,7 @@ fn take_text<W: Write, A: Allocator>(
     carried: &mut Vec<u8, A>,
     shown: &[u8],
     output: &mut W,
-    include_hash: bool,
-    limit: usize,
+    memo: &mut SymbolMemo,
 ) -> Result<usize, StreamFault> {
     let Some(start) = run_start(shown) else {
         let (kept, beginning) = shown.split_at(shown.len() - beginning_len(shown));
@@ -132,7 +127,7 @@ fn take_text<W: Write, A: Allocator>(
         return Ok(shown.len());
     }
     keep_bytes(kept, output)?;
-    pass_run(&found[..len], output, include_hash, limit)?;
+    pass_run(&found[..len], output, memo)?;
     Ok(start + len)
 }
 
@@ -141,14 +136,13 @@ pub(super) fn take_some<W: Write, A: Allocator>(
     carried: &mut Vec<u8, A>,
     shown: &[u8],
     output: &mut W,
-    include_hash: bool,
-    limit: usize,
+    memo: &mut SymbolMemo,
 ) -> Result<usize, StreamFault> {
     if carried.is_empty() {
-        return take_text(carried, shown, output, include_hash, limit);
+        return take_text(carried, shown, output, memo);
     }
     if begins_run(carried.as_slice()) {
-        return take_run(carried, shown, output, include_hash, limit);
+        return take_run(carried, shown, output, memo);
     }
-    take_byte(carried, shown, output, include_hash, limit)
+    take_byte(carried, shown, output, memo)
 }

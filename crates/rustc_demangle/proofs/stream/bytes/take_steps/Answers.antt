@@ -17,9 +17,10 @@ pub returns-then-not-branch-clause-ok : goal.returns-then-not-branch-clause-ok
 returns-then-not-branch-clause-ok g c = passing_end _ _ _ _ _ _ _ _ _ c.loop.invariant.0 (ended_same c.loop.memo c.args.memo.now _ _ _ _ _ _ c.loop.invariant.1 (c.in_ok-step.ensures.ended (ap Ok c.if-not-branch.true)))
 
 pub loop-preserved : goal.loop-preserved
-loop-preserved g c =
-    (passing_step _ _ _ _ _ _ _ _ _ c.loop.invariant.0 (took_same c.loop.memo c.args.memo.now _ _ _ _ _ _ c.loop.invariant.1 (c.in_ok-step.ensures.took (ap Ok c.if-not-branch.false))),
-    c.in_ok-step.ensures.same ∙ c.loop.invariant.1)
+loop-preserved g c = (
+  passing_step _ _ _ _ _ _ _ _ _ c.loop.invariant.0 (took_same c.loop.memo c.args.memo.now _ _ _ _ _ _ c.loop.invariant.1 (c.in_ok-step.ensures.took (ap Ok c.if-not-branch.false))),
+  c.in_ok-step.ensures.same ∙ c.loop.invariant.1,
+)
 
 pub returns-clause-err : goal.returns-clause-err
 returns-clause-err g c = elim c.loop-test.branch [

@@ -27,8 +27,13 @@ returns-then-len-found-clause-ok g c =
 
 pub pass_run-requires-clause-some : goal.pass_run-requires-clause-some
 pass_run-requires-clause-some g c =
-    omega (arith, length-take c.run_len-len.result c.split_at-2.result.1.now, c.run_len-len.ensures, (run_some c.split_at-2.result.1.now (ap begins_run c.split_at-2.ensures.back ∙ c.in-Some.ensures.some.1)).1,
-    (run_some c.split_at-2.result.1.now (ap begins_run c.split_at-2.ensures.back ∙ c.in-Some.ensures.some.1)).0)
+    omega (
+      arith,
+      length-take c.run_len-len.result c.split_at-2.result.1.now,
+      c.run_len-len.ensures,
+      (run_some c.split_at-2.result.1.now (ap begins_run c.split_at-2.ensures.back ∙ c.in-Some.ensures.some.1)).1,
+      (run_some c.split_at-2.result.1.now (ap begins_run c.split_at-2.ensures.back ∙ c.in-Some.ensures.some.1)).0,
+    )
 
 pub pass_run-requires-clause-all : goal.pass_run-requires-clause-all
 pass_run-requires-clause-all g c = ap (λ n. list_all is_run (take n c.split_at-2.result.1.now)) c.run_len-len.ensures ∙ all_prefix c.split_at-2.result.1.now

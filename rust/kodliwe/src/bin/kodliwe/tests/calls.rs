@@ -1,7 +1,8 @@
 // Made from crates/kodliwe/src/tests/calls.rt by packaging/crate/erase.py: edit that file instead.
 //! Inputs and outputs of which each call fails in turn.
-use super::streams::{CallsWriter, ChunkReader};
+use super::streams::{CallsWriter, ChunkReader, StutteringWriter};
 use super::{FILTERED_LOG, LOG, run_one};
+use crate::fault::report_call;
 use crate::output::Output;
 use crate::run::{BUFFER, Ended};
 use kodliwe::held_bytes::CAPACITY;
@@ -12,6 +13,7 @@ use kodliwe::support::rt::HostRuntime;
 use kodliwe::support::test::Fail;
 use kodliwe::support::vec::Vec;
 use kodliwe::support::vec_in as vec;
+use std::io;
 use std::io::ErrorKind;
 
 const TEXT: &[u8] = b"__ZN3fooE x\n_RCs_3foo \xFF _ZN3foo4headE\n_R_ZN3fooE \
@@ -56,9 +58,17 @@ fn known_of(alloc: Global, count: usize) -> Result<Vec<u8>, AllocError> {
 fn a_reader_that_fails_at_any_read_is_told_by_its_name() -> Result<(), Fail> {
     let rt = HostRuntime;
     let alloc = rt.alloc();
-    let faults: [(ErrorKind, &[u8]); 2] = [
+    let faults: [(ErrorKind, &[u8]); 4] = [
         (
             ErrorKind::IsADirectory,
+            b"kodliwe: log.txt: reset by the other side\n",
+        ),
+        (
+            ErrorKind::WouldBlock,
+            b"kodliwe: log.txt: reset by the other side\n",
+        ),
+        (
+            ErrorKind::TimedOut,
             b"kodliwe: log.txt: reset by the other side\n",
         ),
         (ErrorKind::OutOfMemory, b"kodliwe: out of memory\n"),
@@ -92,6 +102,36 @@ fn interrupted_calls_are_made_again() -> Result<(), Fail> {
     assert!(errors.is_empty());
     assert_eq!(output.held(), FILTERED_LOG);
     Ok(())
+}
+
+#[test]
+fn calls_are_made_again_after_ten_interruptions() -> Result<(), Fail> {
+    let rt = HostRuntime;
+    let alloc = rt.alloc();
+    let mut writer = StutteringWriter::new(alloc, 10);
+    let (ended, errors) = run_one(alloc, ChunkReader::new(LOG, 5), &mut writer, false)?;
+    assert_eq!(ended, Ended::Complete);
+    assert!(errors.is_empty());
+    assert_eq!(writer.held(), FILTERED_LOG);
+    let mut writer = StutteringWriter::new(alloc, 10);
+    let mut output = Output::new(BufWriter::with_capacity(alloc, BUFFER, &mut writer)?);
+    let (ended, errors) = run_one(alloc, ChunkReader::new(LOG, 5), &mut output, false)?;
+    drop(output);
+    assert_eq!(ended, Ended::Complete);
+    assert!(errors.is_empty());
+    assert_eq!(writer.held(), FILTERED_LOG);
+    Ok(())
+}
+
+#[test]
+fn a_reason_keeps_its_own_brackets() {
+    let rt = HostRuntime;
+    let alloc = rt.alloc();
+    let mut errors = Vec::new(alloc);
+    let error = io::Error::other("late (again)");
+    report_call(alloc, &mut errors, "log.txt", &error);
+    let line: &[u8] = b"kodliwe: log.txt: late (again)\n";
+    assert_eq!(errors.as_slice(), line);
 }
 
 #[test]

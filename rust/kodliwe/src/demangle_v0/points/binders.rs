@@ -1,0 +1,23 @@
+// Made from crates/demangle_v0/src/points/binders.rt by packaging/crate/erase.py: edit that file instead.
+//! Binders: lifetimes that a function type or dyn traits bring into force.
+
+use crate::demangle_sink::SinkRefused;
+use crate::demangle_v0::points::parser::Parser;
+use crate::demangle_words::output::Output;
+use crate::demangle_words::stretch::Stretch;
+
+impl<const N: usize> Parser<'_, N> {
+    /// Brings `number` further lifetimes into force, and prints them.
+    ///
+    /// Fails if the output does.
+    #[inline(always)]
+    pub(super) fn bind_lifetimes<V: Output>(
+        &mut self,
+        number: u64,
+        output: &mut V,
+    ) -> Result<(), SinkRefused> {
+        let stretch = Stretch::Binder(self.state.lifetimes, number);
+        self.state.lifetimes += u128::from(number);
+        self.emit(&stretch, output)
+    }
+}

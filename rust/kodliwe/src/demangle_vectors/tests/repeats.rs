@@ -1,0 +1,275 @@
+// Made from crates/demangle_vectors/src/tests/repeats.rt by packaging/crate/erase.py: edit that file instead.
+//! What is written of symbols that come again, by chunks of all sizes and at several limits.
+use crate::rustc_demangle::{BytesFilter, SymbolMemo, demangle_bytes_limited};
+use crate::support::alloc::{AllocError, Global};
+use crate::support::process::Abort;
+use crate::support::rt::HostRuntime;
+use crate::support::test::Fail;
+use crate::support::vec::CollectIn;
+use crate::support::vec::Vec;
+use crate::test_doubles::streams::{PartsReader, RefusingWriter};
+use std::io::ErrorKind;
+
+/// The number of times that each text comes.
+const TIMES: usize = 5;
+
+/// A symbol whose text is longer than a memo keeps.
+const LONG: &[u8] = b"_RIC1aTyyyyyyyyyyyyyyyyETB3_B3_B3_ETBl_Bl_Bl_ETBw_Bw_Bw_EE";
+
+/// Runs that a memo looks up, what they print at a limit, with the hash and without it.
+const ROWS: [(&[u8], usize, &[u8], &[u8]); 11] = [
+    (
+        b"_ZN3foo17h05af221e174051e9E",
+        1_000_000,
+        b"foo::h05af221e174051e9",
+        b"foo",
+    ),
+    (
+        b"_RNvMNtNtNtNtCs8a2262Dv4r_3mio3sys4unix8selector5epollNtB2_8Selector6select",
+        1_000_000,
+        b"<mio[1888792e1a78739]::sys::unix::selector::epoll::Selector>::select",
+        b"<mio::sys::unix::selector::epoll::Selector>::select",
+    ),
+    (
+        b"_RNvC5crate4main.llvm.0@1",
+        1_000_000,
+        b"crate::main@1",
+        b"crate::main@1",
+    ),
+    (
+        b"_ZNfoo17h05af221e174051e9E",
+        1_000_000,
+        b"_ZNfoo17h05af221e174051e9E",
+        b"_ZNfoo17h05af221e174051e9E",
+    ),
+    (
+        b"_RNvC5crate4mainNo_symbol",
+        1_000_000,
+        b"_RNvC5crate4mainNo_symbol",
+        b"_RNvC5crate4mainNo_symbol",
+    ),
+    (
+        b"_ZN3foo17h05af221e174051e9E",
+        3,
+        b"foo{size limit reached}",
+        b"foo",
+    ),
+    (
+        b"_RNvMNtNtNtNtCs8a2262Dv4r_3mio3sys4unix8selector5epollNtB2_8Selector6select",
+        3,
+        b"<{size limit reached}",
+        b"<{size limit reached}",
+    ),
+    (
+        LONG,
+        3,
+        b"a::{size limit reached}",
+        b"a::{size limit reached}",
+    ),
+    (
+        b"_ZN3foo17h05af221e174051e9E",
+        0,
+        b"{size limit reached}",
+        b"{size limit reached}",
+    ),
+    (
+        b"_ZNfoo17h05af221e174051e9E",
+        0,
+        b"_ZNfoo17h05af221e174051e9E",
+        b"_ZNfoo17h05af221e174051e9E",
+    ),
+    (LONG, 0, b"{size limit reached}", b"{size limit reached}"),
+];
+
+/// A text, and what is written of it in one form.
+struct Case<'a> {
+    text: &'a [u8],
+    include_hash: bool,
+    limit: usize,
+    wanted: &'a [u8],
+}
+
+impl Case<'_> {
+    /// Asserts what is written of the text in chunks of one size.
+    fn assert_written(&self, rt: &impl Abort, alloc: Global, size: usize) -> Result<(), Fail> {
+        let parts: Vec<&[u8]> = self.text.chunks(size.max(1)).collect_in(alloc)?;
+        let mut input = PartsReader::new(parts.as_slice(), usize::MAX, ErrorKind::Other);
+        let mut output = Vec::new(alloc);
+        demangle_bytes_limited(
+            alloc,
+            &mut input,
+            &mut output,
+            self.include_hash,
+            self.limit,
+        )
+        .map_err(|fault| fault.into_io())?;
+        assert_eq!(
+            output.as_slice(),
+            self.wanted,
+            "of {:?} by {size}",
+            self.text
+        );
+        Ok(())
+    }
+}
+
+/// Returns a text `TIMES` times, each on a line.
+fn repeated(alloc: Global, text: &[u8]) -> Result<Vec<u8>, AllocError> {
+    let mut lines = Vec::new(alloc);
+    for _ in 0..TIMES {
+        lines.extend_from_slice(text)?;
+        lines.extend_from_slice(b"\n")?;
+    }
+    Ok(lines)
+}
+
+#[test]
+fn a_repeated_run_is_written_alike() -> Result<(), Fail> {
+    let rt = HostRuntime;
+    let alloc = rt.alloc();
+    for (run, limit, plain, alt) in ROWS {
+        let text = repeated(alloc, run)?;
+        for (include_hash, printed) in [(true, plain), (false, alt)] {
+            let wanted = repeated(alloc, printed)?;
+            let case = Case {
+                text: text.as_slice(),
+                include_hash,
+                limit,
+                wanted: wanted.as_slice(),
+            };
+            for size in [1, 2, 3, 64, 4_096] {
+                case.assert_written(&rt, alloc, size)?;
+            }
+        }
+    }
+    Ok(())
+}
+
+/// Returns the text of a tuple of this text and of no other, so many times.
+fn tuple_of(alloc: Global, text: &[u8], times: usize) -> Result<Vec<u8>, AllocError> {
+    let mut tuple = Vec::from_slice(alloc, b"(")?;
+    for at in 0..times {
+        if at > 0 {
+            tuple.extend_from_slice(b", ")?;
+        }
+        tuple.extend_from_slice(text)?;
+    }
+    tuple.extend_from_slice(b")")?;
+    Ok(tuple)
+}
+
+#[test]
+fn a_long_text_is_written_whole_each_time() -> Result<(), Fail> {
+    let rt = HostRuntime;
+    let alloc = rt.alloc();
+    let mut printed = Vec::from_slice(alloc, b"a::<")?;
+    let mut tuple = tuple_of(alloc, b"u64", 16)?;
+    printed.extend_from_slice(tuple.as_slice())?;
+    for _ in 0..3 {
+        tuple = tuple_of(alloc, tuple.as_slice(), 3)?;
+        printed.extend_from_slice(b", ")?;
+        printed.extend_from_slice(tuple.as_slice())?;
+    }
+    printed.extend_from_slice(b">")?;
+    let text = repeated(alloc, LONG)?;
+    let wanted = repeated(alloc, printed.as_slice())?;
+    let case = Case {
+        text: text.as_slice(),
+        include_hash: true,
+        limit: 1_000_000,
+        wanted: wanted.as_slice(),
+    };
+    for size in [1, 64, 4_096] {
+        case.assert_written(&rt, alloc, size)?;
+    }
+    Ok(())
+}
+
+#[test]
+fn runs_that_take_turns_keep_their_texts() -> Result<(), Fail> {
+    let rt = HostRuntime;
+    let alloc = rt.alloc();
+    for include_hash in [true, false] {
+        let mut text = Vec::new(alloc);
+        let mut wanted = Vec::new(alloc);
+        for (run, limit, plain, alt) in ROWS {
+            if limit == 1_000_000 {
+                text.extend_from_slice(run)?;
+                text.push(b' ')?;
+                wanted.extend_from_slice(if include_hash { plain } else { alt })?;
+                wanted.push(b' ')?;
+            }
+        }
+        let text = repeated(alloc, text.as_slice())?;
+        let wanted = repeated(alloc, wanted.as_slice())?;
+        let case = Case {
+            text: text.as_slice(),
+            include_hash,
+            limit: 1_000_000,
+            wanted: wanted.as_slice(),
+        };
+        for size in [1, 2, 3, 64, 4_096] {
+            case.assert_written(&rt, alloc, size)?;
+        }
+    }
+    Ok(())
+}
+
+#[test]
+fn filters_share_a_memo() -> Result<(), Fail> {
+    let rt = HostRuntime;
+    let alloc = rt.alloc();
+    let mut memo = SymbolMemo::new(alloc, false, 1_000_000);
+    let mut output = Vec::new(alloc);
+    for _ in 0..TIMES {
+        let mut filter = BytesFilter::new(alloc);
+        let mut input = b"<_ZN3foo17h05af221e174051e9E>\n".as_slice();
+        for _ in 0..100u32 {
+            match filter.step(&mut input, &mut output, &mut memo) {
+                Ok(true) => {}
+                Ok(false) => break,
+                Err(fault) => return Err(fault.into_io().into()),
+            }
+        }
+    }
+    assert_eq!(output.as_slice(), repeated(alloc, b"<foo>")?.as_slice());
+    Ok(())
+}
+
+#[test]
+fn a_repeated_symbol_is_one_write() -> Result<(), Fail> {
+    let rt = HostRuntime;
+    let alloc = rt.alloc();
+    let text = repeated(alloc, b"_RNvC5crate4main.llvm.0@1")?;
+    // The first two times it is written piece by piece, since no other symbol came before it.
+    let writes: [&[u8]; 16] = [
+        b"crate",
+        b"::",
+        b"main",
+        b"@1",
+        b"\n",
+        b"crate",
+        b"::",
+        b"main",
+        b"@1",
+        b"\n",
+        b"crate::main@1",
+        b"\n",
+        b"crate::main@1",
+        b"\n",
+        b"crate::main@1",
+        b"\n",
+    ];
+    for taken in 0..=writes.len() {
+        let mut input = text.as_slice();
+        let mut output = RefusingWriter::new(alloc, b"", taken, true)?;
+        let result = demangle_bytes_limited(alloc, &mut input, &mut output, true, 1_000_000);
+        assert_eq!(result.is_ok(), taken == writes.len(), "at {taken}");
+        let mut wanted = Vec::new(alloc);
+        for write in writes.iter().take(taken) {
+            wanted.extend_from_slice(write)?;
+        }
+        assert_eq!(output.held(), wanted.as_slice(), "at {taken}");
+    }
+    Ok(())
+}

@@ -1,0 +1,184 @@
+// Made from crates/rustc_demangle/src/stream/memo.rt by packaging/crate/erase.py: edit that file instead.
+//! A memo of the symbols that a filter printed.
+
+use crate::held_bytes::Held;
+use crate::rustc_demangle::stream::held_sink::HeldSink;
+use crate::rustc_demangle::stream::line::write_run;
+use crate::rustc_demangle::value::Demangle;
+use crate::support::alloc::Global;
+use std::io;
+use std::io::Write;
+
+use crate::text_memo::{MAX_KEY, Noted, TextMemo, hash_of};
+
+/// Each lookup that finds nothing counts as one, and one that finds a text takes off this many. So
+/// the count grows if fewer than one lookup in twenty finds a text.
+const HIT_WORTH: u32 = 19;
+
+/// The count at which a memo is turned off.
+const MAX_MISSES: u32 = 4096;
+
+/// The number of runs for which a memo is off, until it is tried again.
+const PAUSE: u32 = 32_768;
+
+/// Turns a memo off for a while if few symbols repeat.
+#[derive(Clone, Copy)]
+struct Probe {
+    misses: u32,
+    pause: u32,
+}
+
+impl Probe {
+    /// Returns whether the memo is on. If it is off, this run counts as one of the pause.
+    #[inline(always)]
+    fn is_on(&mut self) -> bool {
+        if self.pause == 0 {
+            return true;
+        }
+        self.pause -= 1;
+        false
+    }
+
+    /// Counts a lookup that found a text.
+    #[inline(always)]
+    fn hit(&mut self) {
+        self.misses = self.misses.saturating_sub(HIT_WORTH);
+    }
+
+    /// Counts a lookup that found nothing.
+    #[inline(always)]
+    fn miss(&mut self) {
+        self.misses = self.misses.saturating_add(1);
+        if self.misses >= MAX_MISSES {
+            self.misses = 0;
+            self.pause = PAUSE;
+        }
+    }
+}
+
+/// How symbols are printed: with the hash or without it, and each cut at `limit` bytes before its
+/// suffix.
+#[derive(Clone, Copy)]
+struct Form {
+    include_hash: bool,
+    limit: usize,
+}
+
+/// The texts that are remembered, and the last one that was printed for them.
+struct Store {
+    texts: TextMemo,
+    printed: Held,
+}
+
+/// Remembers what symbols print, so that a filter does not read a repeated symbol again.
+///
+/// It belongs to one form of printing: with the hash or without it, and one limit. It takes at most
+/// 4.5 MB of memory: 32 KB if no symbol repeats, and none if there are no symbols. If memory is
+/// refused, symbols are read as without a memo. It turns itself off for a while if few symbols
+/// repeat.
+pub struct SymbolMemo {
+    form: Form,
+    store: Store,
+    probe: Probe,
+}
+
+/// Prints a symbol into held bytes, or returns `false` if they have no room for it.
+fn print_held(symbol: &Demangle<'_>, held: &mut Held, form: Form) -> bool {
+    let mut sink = HeldSink::new(held);
+    symbol
+        .write_limited(&mut sink, form.include_hash, form.limit)
+        .is_ok()
+}
+
+/// How the text of a run was found.
+#[derive(Clone, Copy)]
+enum Printed {
+    /// The run is a symbol, and its text is held.
+    Symbol,
+    /// The run is no symbol, and its text is the run.
+    NoSymbol,
+    /// The text of the run is too long.
+    TooLong,
+}
+
+/// Returns whether a run is looked up: if it begins as a v0 symbol, or ends with the hash of a
+/// legacy one, and is not too long. Most other runs are no symbols.
+#[inline(always)]
+fn is_looked_up(run: &[u8]) -> bool {
+    if run.len() < 20 || run.len() > MAX_KEY {
+        return false;
+    }
+    let end = run.len();
+    (run[1] == b'R') | ((run[end - 1] == b'E') & (run[end - 18] == b'h') & (run[end - 19] == b'7'))
+}
+
+/// Prints a run, and remembers its text.
+#[inline(never)]
+fn print_new(run: &str, hash: u64, form: Form, store: &mut Store) -> Printed {
+    let symbol = Demangle::read_run(run);
+    if !symbol.has_style() {
+        return Printed::NoSymbol;
+    }
+    store.printed.clear();
+    if !print_held(&symbol, &mut store.printed, form) {
+        store.texts.note_too_long(hash);
+        return Printed::TooLong;
+    }
+    store
+        .texts
+        .insert(run.as_bytes(), store.printed.as_slice(), hash);
+    Printed::Symbol
+}
+
+impl SymbolMemo {
+    /// Returns a memo of symbols that are printed with the hash or without it, and each cut at
+    /// `limit` bytes before its suffix.
+    pub fn new(alloc: Global, include_hash: bool, limit: usize) -> Self {
+        SymbolMemo {
+            form: Form {
+                include_hash,
+                limit,
+            },
+            store: Store {
+                texts: TextMemo::new(alloc),
+                printed: Held::new(),
+            },
+            probe: Probe {
+                misses: 0,
+                pause: 0,
+            },
+        }
+    }
+
+    /// Writes the text of a run that the memo has not. It is remembered if the run came before.
+    #[inline(always)]
+    fn write_new<W: Write>(&mut self, run: &str, hash: u64, output: &mut W) -> io::Result<()> {
+        let Form {
+            include_hash,
+            limit,
+        } = self.form;
+        match self.store.texts.note(hash) {
+            Noted::Again => {}
+            Noted::New | Noted::TooLong => return write_run(run, output, include_hash, limit),
+        }
+        match print_new(run, hash, self.form, &mut self.store) {
+            Printed::Symbol => output.write_all(self.store.printed.as_slice()),
+            Printed::NoSymbol => output.write_all(run.as_bytes()),
+            Printed::TooLong => write_run(run, output, include_hash, limit),
+        }
+    }
+
+    /// Writes the text of a run: what the symbol prints if the run is one, and otherwise the run.
+    pub(super) fn write_run<W: Write>(&mut self, run: &str, output: &mut W) -> io::Result<()> {
+        if !is_looked_up(run.as_bytes()) || !self.probe.is_on() {
+            return write_run(run, output, self.form.include_hash, self.form.limit);
+        }
+        let hash = hash_of(run.as_bytes());
+        if let Some(text) = self.store.texts.get(run.as_bytes(), hash) {
+            self.probe.hit();
+            return output.write_all(text);
+        }
+        self.probe.miss();
+        self.write_new(run, hash, output)
+    }
+}

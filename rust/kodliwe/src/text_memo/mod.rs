@@ -1,0 +1,252 @@
+// Made from crates/text_memo/src/lib.rt by packaging/crate/erase.py: edit that file instead.
+//! A memo of bounded memory for a function from texts to texts: some keys, and the text of each.
+
+use crate::support::alloc::Global;
+use crate::support::vec::Vec;
+
+#[cfg(test)]
+#[cfg(feature = "std")]
+mod tests;
+
+/// The number of pairs of entries. The hash of a key chooses its pair.
+const PAIRS: usize = 4096;
+
+/// The number of places for marks of keys.
+const MARKS: usize = 8192;
+
+/// The longest key of an entry.
+pub const MAX_KEY: usize = 512;
+
+/// The longest text of an entry.
+pub const MAX_TEXT: usize = 2048;
+
+/// The most bytes of keys and texts. All entries are let go before there would be more.
+const MAX_BYTES: usize = 4_194_304;
+
+/// The memory that is taken for the first entry. It doubles when it is full, up to `MAX_BYTES`.
+const FIRST_BYTES: usize = 65_536;
+
+/// An entry: the place of a key among the bytes. Its text follows it.
+#[derive(Clone, Copy)]
+struct Entry {
+    start: u32,
+    key_len: u16,
+    text_len: u16,
+    /// A part of the key's hash. Most other keys have another one.
+    mark: u32,
+}
+
+/// The entries of the keys that share a part of their hash.
+#[derive(Clone, Copy)]
+struct Pair {
+    newer: Entry,
+    older: Entry,
+}
+
+/// No entry: no key is empty.
+const NO_ENTRY: Entry = Entry {
+    start: 0,
+    key_len: 0,
+    text_len: 0,
+    mark: 0,
+};
+
+/// A pair without entries.
+const NO_PAIR: Pair = Pair {
+    newer: NO_ENTRY,
+    older: NO_ENTRY,
+};
+
+/// How a key was noted before. Another key may have the same mark.
+#[derive(Clone, Copy, Debug, PartialEq, Eq)]
+pub enum Noted {
+    /// It was not, or it is no longer.
+    New,
+    /// It came before.
+    Again,
+    /// Its text is too long for an entry.
+    TooLong,
+}
+
+/// A memo: keys, and the text of each.
+pub struct TextMemo {
+    pairs: Vec<Pair>,
+    bytes: Vec<u8>,
+    /// A mark is even if its key came once, and odd if its key's text is too long.
+    marks: Vec<u32>,
+}
+
+/// Mixes sixteen bytes into a hash.
+#[inline(always)]
+fn mixed(hash: u64, bytes: u128) -> u64 {
+    let low = (bytes % 18_446_744_073_709_551_616) as u64 ^ hash;
+    let high = (bytes / 18_446_744_073_709_551_616) as u64 ^ 0x9E37_79B9_7F4A_7C15;
+    let product = (low as u128).wrapping_mul(high as u128);
+    let folded = (product / 18_446_744_073_709_551_616) as u64;
+    (product % 18_446_744_073_709_551_616) as u64 ^ folded
+}
+
+/// Returns a hash of a key. Different keys may have the same hash.
+#[inline(always)]
+pub fn hash_of(key: &[u8]) -> u64 {
+    let (groups, _) = key.as_chunks::<16>();
+    let mut hash = 0;
+    for group in groups {
+        hash = mixed(hash, u128::from_le_bytes(*group));
+    }
+    // The last sixteen bytes, some of which may be read a second time.
+    if let Some(last) = key.last_chunk::<16>() {
+        hash = mixed(hash, u128::from_le_bytes(*last));
+    }
+    hash
+}
+
+/// Returns the place of a key's pair.
+#[inline(always)]
+fn pair_place(hash: u64) -> usize {
+    ((hash / 4_294_967_296) % 4096) as usize
+}
+
+/// Returns the place of a key's mark.
+#[inline(always)]
+fn mark_place(hash: u64) -> usize {
+    ((hash / 1_099_511_627_776) % 8192) as usize
+}
+
+/// Returns a key's mark, which is even.
+#[inline(always)]
+fn mark_of(hash: u64) -> u32 {
+    (hash % 4_294_967_296) as u32 & 0xFFFF_FFFE
+}
+
+impl TextMemo {
+    /// Returns a memo without entries. It takes no memory before a key is noted.
+    pub fn new(alloc: Global) -> Self {
+        TextMemo {
+            pairs: Vec::new(alloc),
+            bytes: Vec::new(alloc),
+            marks: Vec::new(alloc),
+        }
+    }
+
+    /// Returns the text of an entry, if it is the entry of this key.
+    #[inline(always)]
+    fn text_at(&self, entry: &Entry, key: &[u8], mark: u32) -> Option<&[u8]> {
+        if entry.mark != mark || entry.key_len as usize != key.len() {
+            return None;
+        }
+        let start = entry.start as usize;
+        let middle = start + entry.key_len as usize;
+        let end = middle + entry.text_len as usize;
+        let bytes = self.bytes.as_slice();
+        if end > bytes.len() {
+            return None;
+        }
+        // Two keys may have the same mark and length.
+        if &bytes[start..middle] == key {
+            Some(&bytes[middle..end])
+        } else {
+            None
+        }
+    }
+
+    /// Returns the text of a key, if the memo has an entry of it. `hash` is the key's.
+    #[inline(always)]
+    pub fn get(&self, key: &[u8], hash: u64) -> Option<&[u8]> {
+        let place = pair_place(hash);
+        if place >= self.pairs.len() {
+            return None;
+        }
+        let pair = &self.pairs[place];
+        let mark = mark_of(hash);
+        match self.text_at(&pair.newer, key, mark) {
+            Some(text) => Some(text),
+            None => self.text_at(&pair.older, key, mark),
+        }
+    }
+
+    /// Notes that a key came, and returns how it was noted before. So a caller can leave out keys
+    /// that come once. `hash` is the key's.
+    #[inline(always)]
+    pub fn note(&mut self, hash: u64) -> Noted {
+        let place = mark_place(hash);
+        if place >= self.marks.len() {
+            let _ = self.marks.resize(MARKS, 0);
+            return Noted::New;
+        }
+        let noted = self.marks[place];
+        if noted & 0xFFFF_FFFE == mark_of(hash) {
+            return if noted & 1 == 0 {
+                Noted::Again
+            } else {
+                Noted::TooLong
+            };
+        }
+        // The mark of a long text stays: so each place makes a caller read one of these in vain.
+        if noted & 1 == 0 {
+            self.marks[place] = mark_of(hash);
+        }
+        Noted::New
+    }
+
+    /// Notes that a key's text is too long for an entry. `hash` is the key's.
+    pub fn note_too_long(&mut self, hash: u64) {
+        let place = mark_place(hash);
+        if place < self.marks.len() {
+            self.marks[place] = mark_of(hash) | 1;
+        }
+    }
+
+    /// Makes room for an entry of `len` bytes, or returns `false` if memory is refused. All entries
+    /// are let go if their bytes would be too many.
+    fn make_room(&mut self, len: usize) -> bool {
+        if self.bytes.len() > MAX_BYTES - len {
+            self.pairs.clear();
+            self.bytes.clear();
+        }
+        if self.bytes.capacity() == 0 && self.bytes.reserve_exact(FIRST_BYTES).is_err() {
+            return false;
+        }
+        self.pairs.len() == PAIRS || self.pairs.resize(PAIRS, NO_PAIR).is_ok()
+    }
+
+    /// Appends a key and its text to the bytes, or returns `false` if memory is refused.
+    fn append(&mut self, key: &[u8], text: &[u8]) -> bool {
+        self.bytes.extend_from_slice(key).is_ok() && self.bytes.extend_from_slice(text).is_ok()
+    }
+
+    /// Makes an entry the newer one of a pair. The older one of that pair is let go.
+    fn put(&mut self, entry: Entry, place: usize) {
+        if place < self.pairs.len() {
+            let older = self.pairs[place].newer;
+            self.pairs[place] = Pair {
+                newer: entry,
+                older,
+            };
+        }
+    }
+
+    /// Makes an entry of a key and its text, and lets an older entry go for it. It changes nothing
+    /// that `get` returns if the key or the text is too long, or if memory is refused. `hash` is the
+    /// key's.
+    #[inline(never)]
+    pub fn insert(&mut self, key: &[u8], text: &[u8], hash: u64) {
+        if key.len() > MAX_KEY || text.len() > MAX_TEXT {
+            return;
+        }
+        if !self.make_room(key.len() + text.len()) {
+            return;
+        }
+        let start = self.bytes.len();
+        if !self.append(key, text) {
+            return;
+        }
+        let entry = Entry {
+            start: start as u32,
+            key_len: key.len() as u16,
+            text_len: text.len() as u16,
+            mark: mark_of(hash),
+        };
+        self.put(entry, pair_place(hash));
+    }
+}

@@ -1,0 +1,99 @@
+// Made from crates/text_memo/src/tests.rt by packaging/crate/erase.py: edit that file instead.
+//! What a memo returns, for keys that share a hash, long ones and full memory.
+use super::{MAX_KEY, MAX_TEXT, Noted, TextMemo, hash_of};
+use crate::support::rt::HostRuntime;
+use crate::support::test::Fail;
+
+#[test]
+fn a_text_is_found_again() -> Result<(), Fail> {
+    let rt = HostRuntime;
+    let mut memo = TextMemo::new(rt.alloc());
+    let keys: [&[u8]; 3] = [
+        b"k",
+        b"a key of twenty bytes",
+        b"another key of many more bytes",
+    ];
+    for key in keys {
+        assert_eq!(memo.get(key, hash_of(key)), None);
+        memo.insert(key, b"text", hash_of(key));
+    }
+    for key in keys {
+        assert_eq!(memo.get(key, hash_of(key)), Some(b"text".as_slice()));
+    }
+    Ok(())
+}
+
+#[test]
+fn keys_of_one_hash_have_their_own_texts() -> Result<(), Fail> {
+    let rt = HostRuntime;
+    let mut memo = TextMemo::new(rt.alloc());
+    memo.insert(b"first", b"one", 7);
+    memo.insert(b"third", b"three", 7);
+    assert_eq!(memo.get(b"first", 7), Some(b"one".as_slice()));
+    assert_eq!(memo.get(b"third", 7), Some(b"three".as_slice()));
+    assert_eq!(memo.get(b"fifth", 7), None);
+    // A pair has two entries: the older one is let go.
+    memo.insert(b"fifth", b"", 7);
+    assert_eq!(memo.get(b"first", 7), None);
+    assert_eq!(memo.get(b"third", 7), Some(b"three".as_slice()));
+    assert_eq!(memo.get(b"fifth", 7), Some(b"".as_slice()));
+    Ok(())
+}
+
+#[test]
+fn long_keys_and_texts_have_no_entry() -> Result<(), Fail> {
+    let rt = HostRuntime;
+    let bytes = [b'a'; 2049];
+    let mut memo = TextMemo::new(rt.alloc());
+    for (key_len, text_len, is_kept) in [
+        (MAX_KEY, MAX_TEXT, true),
+        (MAX_KEY.saturating_add(1), 1, false),
+        (1, MAX_TEXT.saturating_add(1), false),
+    ] {
+        let key = bytes.get(..key_len).unwrap_or(b"");
+        let text = bytes.get(..text_len).unwrap_or(b"");
+        memo.insert(key, text, 1);
+        assert_eq!(memo.get(key, 1), is_kept.then_some(text));
+    }
+    Ok(())
+}
+
+#[test]
+fn a_key_is_noted() -> Result<(), Fail> {
+    let rt = HostRuntime;
+    let mut memo = TextMemo::new(rt.alloc());
+    // The first call takes the memory of the marks.
+    assert_eq!(memo.note(2), Noted::New);
+    assert_eq!(memo.note(2), Noted::New);
+    assert_eq!(memo.note(2), Noted::Again);
+    // Another key in the same place takes it.
+    assert_eq!(memo.note(4), Noted::New);
+    assert_eq!(memo.note(2), Noted::New);
+    // One whose text is too long keeps it.
+    memo.note_too_long(2);
+    assert_eq!(memo.note(2), Noted::TooLong);
+    assert_eq!(memo.note(4), Noted::New);
+    assert_eq!(memo.note(4), Noted::New);
+    assert_eq!(memo.note(2), Noted::TooLong);
+    Ok(())
+}
+
+#[test]
+fn a_full_memo_starts_anew() -> Result<(), Fail> {
+    let rt = HostRuntime;
+    let text = [b'a'; MAX_TEXT];
+    let mut memo = TextMemo::new(rt.alloc());
+    let mut lost = 0;
+    for turn in 0..5_000u64 {
+        let key = turn.to_le_bytes();
+        memo.insert(&key, &text, turn << 32);
+        assert_eq!(memo.get(&key, turn << 32), Some(text.as_slice()));
+        let first = 0u64.to_le_bytes();
+        if lost == 0 && memo.get(&first, 0).is_none() {
+            lost = turn;
+        }
+    }
+    // 2,040 entries of 2,056 bytes are the most.
+    assert_eq!(lost, 2_040);
+    Ok(())
+}
