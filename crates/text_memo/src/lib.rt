@@ -91,10 +91,11 @@ fn mixed(hash: u64, bytes: u128) -> u64 {
 /// Returns a hash of a key. Different keys may have the same hash.
 #[inline(always)]
 pub fn hash_of(key: &[u8]) -> u64 {
-    let (groups, _) = key.as_chunks::<16>();
     let mut hash = 0;
-    for group in groups {
-        hash = mixed(hash, u128::from_le_bytes(*group));
+    for group in key.chunks_exact(16) {
+        if let Some(bytes) = group.first_chunk::<16>() {
+            hash = mixed(hash, u128::from_le_bytes(*bytes));
+        }
     }
     // The last sixteen bytes, some of which may be read a second time.
     if let Some(last) = key.last_chunk::<16>() {

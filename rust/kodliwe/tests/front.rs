@@ -118,14 +118,17 @@ mod streams {
         demangle_stream(&mut &TEXT[..], &mut outputs[0], false).unwrap();
         demangle_stream_named(&mut &TEXT[..], &mut outputs[1], false).unwrap();
         demangle_bytes(&mut &TEXT[..], &mut outputs[2], false).unwrap();
-        let (mut filter, mut input) = (BytesFilter::default(), TEXT);
-        while filter.step(&mut input, &mut outputs[3], false).unwrap() {}
+        let (mut filter, mut input) = (BytesFilter::new(false), TEXT);
+        while filter.step(&mut input, &mut outputs[3]).unwrap() {}
         for output in outputs {
             assert_eq!(output, b"at foo::bar:7\n");
         }
         let mut output = Vec::new();
         demangle_bytes_limited(&mut &TEXT[..], &mut output, false, 4).unwrap();
-        assert_eq!(output, b"at foo{size limit reached}:7\n");
+        let (mut filter, mut input) = (BytesFilter::with_limit(false, 4), TEXT);
+        while filter.step(&mut input, &mut output).unwrap() {}
+        let cut = b"at foo{size limit reached}:7\n";
+        assert_eq!(output, [&cut[..], &cut[..]].concat());
     }
 
     #[test]

@@ -234,23 +234,21 @@ fn a_repeated_symbol_is_one_write(rt: HostRuntime) -> Result<(), Fail> {
     let alloc = rt.alloc();
     let text = repeated(alloc, b"_RNvC5crate4main.llvm.0@1")?;
     // The first two times it is written piece by piece, since no other symbol came before it.
-    let writes: [&[u8]; 16] = [
+    let writes: [&[u8]; 14] = [
         b"crate",
         b"::",
         b"main",
-        b"@1",
-        b"\n",
+        b"@1\n",
         b"crate",
         b"::",
         b"main",
-        b"@1",
-        b"\n",
-        b"crate::main@1",
-        b"\n",
-        b"crate::main@1",
-        b"\n",
-        b"crate::main@1",
-        b"\n",
+        b"@1\n",
+        b"crate::main",
+        b"@1\n",
+        b"crate::main",
+        b"@1\n",
+        b"crate::main",
+        b"@1\n",
     ];
     for taken in 0..=writes.len() {
         let mut input = text.as_slice();

@@ -44,6 +44,23 @@ impl<T, A: Allocator> Vec<T, A> {
     pub fn clear(&mut self) {
         self.items.clear();
     }
+
+    pub fn capacity(&self) -> usize {
+        self.items.capacity()
+    }
+
+    pub fn reserve_exact(&mut self, more: usize) -> Result<(), AllocError> {
+        self.items.try_reserve_exact(more).map_err(|_| AllocError)
+    }
+}
+
+impl<T: Clone, A: Allocator> Vec<T, A> {
+    pub fn resize(&mut self, len: usize, item: T) -> Result<(), AllocError> {
+        let more = len.saturating_sub(self.items.len());
+        self.items.try_reserve(more).map_err(|_| AllocError)?;
+        self.items.resize(len, item);
+        Ok(())
+    }
 }
 
 impl<T: Copy, A: Allocator> Vec<T, A> {

@@ -1,4 +1,5 @@
 //! Texts from a reader to a writer.
+use crate::MAX_SIZE;
 use crate::rustc_demangle;
 use crate::support::alloc::Global;
 use std::io::{self, BufRead, Write};
@@ -84,19 +85,33 @@ pub fn demangle_bytes_limited<R: BufRead, W: Write>(
 
 /// A filter of any bytes that is driven step by step, for readers that pause.
 ///
+/// It remembers what symbols print, in at most 4.5 MB, so a repeated symbol costs little. It
+/// allocates nothing for that before a symbol is long enough to be remembered.
+///
 /// ```
 /// let (mut input, mut output) = (&b"at _ZN3foo3barE"[..], Vec::new());
-/// let mut filter = kodliwe::BytesFilter::new();
-/// while filter.step(&mut input, &mut output, false)? {}
+/// let mut filter = kodliwe::BytesFilter::new(false);
+/// while filter.step(&mut input, &mut output)? {}
 /// assert_eq!(output, b"at foo::bar");
 /// # Ok::<(), kodliwe::StreamFault>(())
 /// ```
-pub struct BytesFilter(rustc_demangle::BytesFilter<Global>);
+pub struct BytesFilter {
+    filter: rustc_demangle::BytesFilter<Global>,
+    memo: rustc_demangle::SymbolMemo,
+}
 
 impl BytesFilter {
-    /// Returns a filter that has read nothing.
-    pub fn new() -> BytesFilter {
-        BytesFilter(rustc_demangle::BytesFilter::new(Global))
+    /// Returns a filter that has read nothing, and prints with or without hashes.
+    pub fn new(include_hash: bool) -> BytesFilter {
+        BytesFilter::with_limit(include_hash, MAX_SIZE)
+    }
+
+    /// Returns a filter as [`new`](BytesFilter::new) does, which cuts each path at `limit` bytes.
+    pub fn with_limit(include_hash: bool, limit: usize) -> BytesFilter {
+        BytesFilter {
+            filter: rustc_demangle::BytesFilter::new(Global),
+            memo: rustc_demangle::SymbolMemo::new(Global, include_hash, limit),
+        }
     }
 
     /// Takes some of the bytes that the reader shows, and writes what is known of them.
@@ -111,30 +126,8 @@ impl BytesFilter {
         &mut self,
         input: &mut R,
         output: &mut W,
-        include_hash: bool,
     ) -> Result<bool, StreamFault> {
-        self.0.step(input, output, include_hash)
-    }
-
-    /// Takes a step as [`step`](BytesFilter::step) does, with each path cut at `limit` bytes.
-    ///
-    /// # Errors
-    ///
-    /// Fails as [`step`](BytesFilter::step) does.
-    pub fn step_limited<R: BufRead, W: Write>(
-        &mut self,
-        input: &mut R,
-        output: &mut W,
-        include_hash: bool,
-        limit: usize,
-    ) -> Result<bool, StreamFault> {
-        self.0.step_limited(input, output, include_hash, limit)
-    }
-}
-
-impl Default for BytesFilter {
-    fn default() -> BytesFilter {
-        BytesFilter::new()
+        self.filter.step(input, output, &mut self.memo)
     }
 }
 
