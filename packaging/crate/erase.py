@@ -22,7 +22,7 @@ import shutil
 import subprocess
 import sys
 
-from modules import Module, find_gated, read_uses, rust_of
+from modules import GATE, Module, find_gated, read_uses, rust_of
 from rattle_tokens import SourceError
 from rules import COUNTS
 
@@ -150,9 +150,11 @@ def declarations(libraries, modules):
             continue
         gate = ""
         if name == TEST_CRATES[0]:
-            gate = '#[cfg(feature = "std")]\n'
+            gate = GATE
         elif name == TEST_CRATES[1]:
             gate = '#[cfg(all(test, feature = "std"))]\n'
+        elif roots[name].needs_std:
+            gate = GATE
         lines.append(f"{gate}#[doc(hidden)]\n{ALLOWED}pub mod {name};\n")
     return "".join(lines)
 

@@ -166,7 +166,7 @@ def is_gated(path, gated):
 
 def find_gated(modules):
     """Returns the paths that need `std`: modules that use it, and what is exported from them."""
-    gated = {("crate", *m.path) for m in modules if m.needs_std and len(m.path) > 1}
+    gated = {("crate", *m.path) for m in modules if m.needs_std}
     while True:
         more = set()
         for module in modules:

@@ -3,7 +3,7 @@ ghost use Rattle.std.specs.Prelude.{◌≡◌, ◌<◌, length, IfOk};
 
 use crate::fault::{OUT_OF_MEMORY, quoted, report_call};
 use crate::output::Output;
-use crate::replacing::open_output;
+use crate::replacing::{folder_of, open_output};
 use crate::run::{BUFFER, Ended, Input, run};
 use crate::streams::{SourceReader, source_name};
 use crate::texts::{HELP, VERSION};
@@ -112,8 +112,13 @@ fn filter_into<'a, F: Files, E: Write>(
 ) -> u8 {
     let (file, replacement) = match open_output(alloc, files, path) {
         Ok(opened) => opened,
-        Err(error) => {
-            report_call(alloc, errors, path, &error);
+        Err(fault) => {
+            let name = if fault.is_in_folder {
+                folder_of(path)
+            } else {
+                path
+            };
+            report_call(alloc, errors, name, &fault.error);
             return 1;
         }
     };

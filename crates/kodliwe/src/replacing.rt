@@ -23,6 +23,49 @@ impl Replacement {
     }
 }
 
+/// Why an output was not opened.
+#[derive(Drop)]
+pub struct OpenFault {
+    /// Whether the folder of the file is what failed, and not the file.
+    pub is_in_folder: bool,
+    pub error: io::Error,
+}
+
+impl OpenFault {
+    /// Returns the fault of a call on the file itself.
+    fn of_file(error: io::Error) -> OpenFault {
+        OpenFault {
+            is_in_folder: false,
+            error,
+        }
+    }
+
+    /// Returns the fault of a call that looks for the file, or makes one next to it. If the folder
+    /// can't be used, that is what failed.
+    fn in_folder(error: io::Error) -> OpenFault {
+        let is_in_folder = matches!(
+            error.kind(),
+            ErrorKind::NotFound
+                | ErrorKind::NotADirectory
+                | ErrorKind::PermissionDenied
+                | ErrorKind::ReadOnlyFilesystem
+        );
+        OpenFault {
+            is_in_folder,
+            error,
+        }
+    }
+}
+
+/// Returns the folder that a path names a file in.
+pub fn folder_of(path: &str) -> &str {
+    match path.rsplit_once('/') {
+        Some(("", _)) => "/",
+        Some((folder, _)) => folder,
+        None => ".",
+    }
+}
+
 /// How many names are tried for a file that is not whole yet.
 const TRIES: u32 = 100;
 
@@ -43,33 +86,56 @@ fn create_beside<F: Files>(
     Err(io::Error::from(ErrorKind::AlreadyExists))
 }
 
+/// Makes a file in place of one that is not there.
+fn open_new<F: Files>(
+    alloc: Global,
+    files: &F,
+    path: &str,
+) -> io::Result<(F::File, Option<Replacement>)> {
+    let path = String::from_str(alloc, path)?;
+    let (file, replacement) = create_beside(alloc, files, path)?;
+    Ok((file, Some(replacement)))
+}
+
+/// Makes a file next to one that is there, through any links to it.
+fn open_next_to<F: Files>(
+    alloc: Global,
+    files: &F,
+    path: &str,
+) -> io::Result<(F::File, Replacement)> {
+    let path = files.canonicalize(alloc, path)?;
+    let path = String::from_str(alloc, path.as_str())?;
+    create_beside(alloc, files, path)
+}
+
 /// Opens a file to be written. One that is there, and is no device and no pipe, is replaced once
 /// the new one is whole, which has its permissions.
 pub fn open_output<F: Files>(
     alloc: Global,
     files: &F,
     path: &str,
-) -> io::Result<(F::File, Option<Replacement>)> {
+) -> Result<(F::File, Option<Replacement>), OpenFault> {
     let old = match files.metadata(path) {
         Ok(old) => old,
         Err(error) if error.kind() == ErrorKind::NotFound => {
-            let path = String::from_str(alloc, path)?;
-            let (file, replacement) = create_beside(alloc, files, path)?;
-            return Ok((file, Some(replacement)));
+            return open_new(alloc, files, path).map_err(OpenFault::in_folder);
         }
-        Err(error) => return Err(error),
+        Err(error) => return Err(OpenFault::in_folder(error)),
     };
     if !old.is_file() {
-        let file = OpenOptions::new().write(true).open(files, path)?;
-        return Ok((file, None));
+        let file = OpenOptions::new().write(true).open(files, path);
+        return match file {
+            Ok(file) => Ok((file, None)),
+            Err(error) => Err(OpenFault::of_file(error)),
+        };
     }
-    // Behind a link, the file itself is replaced.
-    let path = files.canonicalize(alloc, path)?;
-    let path = String::from_str(alloc, path.as_str())?;
-    let (file, replacement) = create_beside(alloc, files, path)?;
+    let (file, replacement) = match open_next_to(alloc, files, path) {
+        Ok(opened) => opened,
+        Err(error) => return Err(OpenFault::in_folder(error)),
+    };
     if let Err(error) = OpenFile::set_permissions(&file, old.permissions()) {
         replacement.give_up(files);
-        return Err(error);
+        return Err(OpenFault::of_file(error));
     }
     Ok((file, Some(replacement)))
 }

@@ -78,6 +78,7 @@ pub mod rustc_demangle;
 #[allow(clippy::complexity, clippy::style, clippy::manual_unwrap_or_default)]
 #[cfg_attr(test, allow(unused_assignments, clippy::suspicious))]
 pub mod test_doubles;
+#[cfg(feature = "std")]
 #[doc(hidden)]
 #[allow(unused_imports, unused_labels, unused_variables)]
 #[allow(clippy::complexity, clippy::style, clippy::manual_unwrap_or_default)]

@@ -5,7 +5,6 @@ use crate::support::alloc::Global;
 use crate::support::vec::Vec;
 
 #[cfg(test)]
-#[cfg(feature = "std")]
 mod tests;
 
 /// The number of pairs of entries. The hash of a key chooses its pair.

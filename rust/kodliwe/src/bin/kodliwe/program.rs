@@ -3,7 +3,7 @@
 
 use crate::fault::{OUT_OF_MEMORY, quoted, report_call};
 use crate::output::Output;
-use crate::replacing::open_output;
+use crate::replacing::{folder_of, open_output};
 use crate::run::{BUFFER, Ended, Input, run};
 use crate::streams::{SourceReader, source_name};
 use crate::texts::{HELP, VERSION};
@@ -109,8 +109,13 @@ fn filter_into<'a, F: Files, E: Write>(
 ) -> u8 {
     let (file, replacement) = match open_output(alloc, files, path) {
         Ok(opened) => opened,
-        Err(error) => {
-            report_call(alloc, errors, path, &error);
+        Err(fault) => {
+            let name = if fault.is_in_folder {
+                folder_of(path)
+            } else {
+                path
+            };
+            report_call(alloc, errors, name, &fault.error);
             return 1;
         }
     };
