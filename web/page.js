@@ -12,6 +12,7 @@
   const TOLD = 600; // characters of a name in the line below
   const STILL = 600; // milliseconds until a screen reader is told
   const LINKED = 30_000; // characters of a symbol in a link
+  const FRAMES = 12; // in which a symbol is brought into view
   const EXAMPLE = `thread 'main' panicked at src/parse.rs:88:14:
 called \`Option::unwrap()\` on a \`None\` value
 stack backtrace:
@@ -201,14 +202,12 @@ stack backtrace:
       for (const it of this.element.querySelectorAll(`mark[data-number="${number}"]`)) it.classList.add("current");
     }
 
-    // Scrolls a symbol into view. Returns false if no block has it yet.
+    // Scrolls a symbol into view.
     bring(number) {
-      for (const block of this.blocksOf(number)) {
-        this.mark(block);
-        this.scrollTo(block.element.querySelector(`mark[data-number="${number}"]`).getClientRects()[0]);
-        return true;
-      }
-      return false;
+      const { value: block } = this.blocksOf(number).next();
+      if (!block) return;
+      this.mark(block);
+      this.scrollTo(block.element.querySelector(`mark[data-number="${number}"]`).getClientRects()[0]);
     }
 
     // Scrolls a place into view, as little as may be; a name may be wider than the pane.
@@ -519,18 +518,22 @@ stack backtrace:
     say(`${commas(current + 1)} of ${commas(symbols)}: ${$("mangled").textContent} is ${$("path").textContent}`);
   }
 
-  // Brings a symbol into view in both panes. The text area follows the marks under it.
-  function bring(number) {
-    output.bring(number);
-    if (shown.bring(number) && isArea()) input.scrollTo(shown.element.scrollLeft, shown.element.scrollTop);
-  }
+  let revealed = 0; // calls of reveal
 
+  // Brings a symbol into view in both panes. A block has its size only some frames after it is seen, and that may
+  // move the symbol: so it is brought again in some frames.
   function reveal(number) {
-    bring(number);
-    if (!wrap.checked) return;
-    // A block of wrapped lines has its height only once it is seen, and that may move the symbol.
-    const before = turn;
-    requestAnimationFrame(() => requestAnimationFrame(() => { if (turn === before) bring(number); }));
+    const [call, before] = [++revealed, turn];
+    let frames = FRAMES;
+    const bring = () => {
+      if (call !== revealed || turn !== before) return;
+      output.bring(number);
+      shown.bring(number);
+      // The text area follows the marks under it.
+      if (isArea()) input.scrollTo(shown.element.scrollLeft, shown.element.scrollTop);
+      if (frames-- > 0) requestAnimationFrame(bring);
+    };
+    bring();
   }
 
   // Brings the symbol that is sought into view, once both panes have it.
