@@ -343,7 +343,7 @@ stack backtrace:
       const isWhole = before + behind === "";
       if (isEdited(before + text + behind) && ends !== null && !text.includes("\0")) {
         if (isWhole) lineEnd = ends; // else it takes the line ends that the text has
-        pastedAt = before.length;
+        if (text !== "") pastedAt = before.length;
         return;
       }
       event.preventDefault();
@@ -644,7 +644,8 @@ stack backtrace:
       await navigator.clipboard.writeText(text);
     } catch {
       if (!copySelected(text, element)) {
-        told(`${what} is selected: press Ctrl+C or Cmd+C to copy it.`);
+        const isShortened = element === $("path") && element.textContent !== text;
+        told(isShortened ? `${what} could not be copied.` : `${what} is selected: press Ctrl+C or Cmd+C to copy it.`);
         return;
       }
     }
