@@ -43,7 +43,7 @@ WANTED = ["memcpy", "memmove", "memset", "strlen"]
 # How many texts the sanitizers see.
 FEW, ALL = 20_000, 200_000
 # The most instructions that a call takes for a hostile tree, an output and a limit of 4,096 bytes.
-MOST_INSTRUCTIONS = 400_000
+MOST_INSTRUCTIONS = 800_000
 
 
 def check_archive():

@@ -19,21 +19,26 @@ The crate is Debian's librust-rustc-demangle-dev, 0.1.21, which answers some tex
 """
 import argparse, glob, os, re, shutil, struct, subprocess, sys, tempfile
 
-from common import ARCHIVE, BUILD, DROP_IN, ROOT, RUST_KODLIWE, Lacking, Tally, built, instructions, run, tool
+from common import ARCHIVE, BUILD, DROP_IN, FILTER, ROOT, RUST_KODLIWE, Lacking, Tally, built, instructions, run, tool
 from texts import NO_LIMIT, REAL, column, made_lines, stored
 
 HERE = os.path.join(ROOT, "tests", "clients")
 DEBIAN = "/usr/share/cargo/registry"
 CRATE = os.path.join(DEBIAN, "rustc-demangle-0.1.21")
-# Unit tests of the crate that want a text that the port does not print (docs/DIFFERENCES.md), with that text and the one it prints.
+# Unit tests of a release of the crate that expect a text that the port does not print, and those texts with the ones that it prints:
+# numbers of 17 to 32 nibbles are decimal (docs/DIFFERENCES.md), and 0.1.21 writes a disambiguator of 0 as `[0]`.
 DIFFERENT = {
-    "v0::tests::demangle_min_const_generics": ('"0xff00ff00ff00ff00ff"', '"%d"' % 0xFF00FF00FF00FF00FF),
+    "0.1.28": (
+        {"v0::tests::demangle_min_const_generics"},
+        [('"0xff00ff00ff00ff00ff"', '"%d"' % 0xFF00FF00FF00FF00FF)],
+    ),
+    "0.1.21": (
+        {"v0::tests::demangle_const_generics_preview", "v0::tests::demangle_min_const_generics"},
+        [('"0xff00ff00ff00ff00ff"', '"%d"' % 0xFF00FF00FF00FF00FF), ('"[0]::<"', '"::<"')],
+    ),
 }
-# Tests of the drop-in that a release of the crate fails, and why.
-CHANGED = {
-    "0.1.21": {},
-    "0.1.28": {},
-}
+# Tests of the drop-in that fail with a release of the crate: 0.1.21 writes a disambiguator of 0 as `[0]`.
+CHANGED = {"0.1.21": {"a_long_name_is_whole", "a_symbol_prints_its_path"}}
 # The most instructions that a symbol may take, in those of the crate.
 MOST = 1.0
 CLIENTS = ("backtrace", "addr2line")
@@ -84,6 +89,15 @@ class Work:
         """Returns the release of the crate."""
         with open(os.path.join(self.crate(), "Cargo.toml")) as file:
             return re.search(r'^version = "(.*)"', file.read(), re.M)[1]
+
+    def has_std(self):
+        """Returns whether the crate has the feature std, under which the stream is. 0.1.21 has neither."""
+        with open(os.path.join(self.crate(), "Cargo.toml")) as file:
+            return re.search(r"^std\b", file.read(), re.M) is not None
+
+    def std(self):
+        """Returns the feature std of a package over either library, if the crate has it."""
+        return '[features]\nstd = ["rustc-demangle/std"]\n\n' if self.has_std() else ""
 
     def renamed_crate(self):
         """A copy of it under another name, for programs that have both."""
@@ -218,8 +232,8 @@ def test_folder(work, name, library):
     project = work.path(name)
     work.write(
         name + "/Cargo.toml",
-        '[package]\nname = "%s"\nversion = "0.0.0"\nedition = "2021"\n\n[features]\nstd = ["rustc-demangle/std"]\n\n'
-        '[dependencies]\nrustc-demangle = { path = "%s" }\n\n[workspace]\n' % (name, library),
+        '[package]\nname = "%s"\nversion = "0.0.0"\nedition = "2021"\n\n%s'
+        '[dependencies]\nrustc-demangle = { path = "%s" }\n\n[workspace]\n' % (name, work.std(), library),
     )
     work.write(name + "/src/lib.rs", "")
     shutil.copytree(os.path.join(DROP_IN, "tests"), os.path.join(project, "tests"), dirs_exist_ok=True)
@@ -231,8 +245,13 @@ def check_interface(work):
         tests_of(work.cargo(test_folder(work, "interface_" + name, library), ["test", "--no-fail-fast", "--all-features"], check=False)[1])
         for name, library in (("theirs", work.crate()), ("ours", DROP_IN))
     )
-    assert passing(theirs) == set(theirs), "these fail with the crate: %s" % named(set(theirs) - passing(theirs))
-    return same_pass(work, "tests of the drop-in", theirs, ours)
+    failing = {name for _, name in set(theirs) - passing(theirs)}
+    assert failing == CHANGED.get(work.release(), set()), "these fail with the crate: %s" % ", ".join(sorted(failing))
+    kept = {test for test in theirs if test[1] not in failing}
+    assert passing(ours) == set(ours), "these fail with ours: %s" % named(set(ours) - passing(ours))
+    return same_pass(
+        work, "tests of the drop-in", {test: theirs[test] for test in kept}, {test: ours[test] for test in ours if test[1] not in failing}
+    )
 
 
 def for_tests_only(path):
@@ -250,8 +269,8 @@ def unit_folder(work, name, library, edits=()):
     shutil.rmtree(project, ignore_errors=True)
     work.write(
         name + "/Cargo.toml",
-        '[package]\nname = "%s"\nversion = "0.0.0"\n\n[features]\nstd = ["rustc-demangle/std"]\n\n'
-        '[dependencies]\nrustc-demangle = { path = "%s" }\n\n[workspace]\n' % (name, library),
+        '[package]\nname = "%s"\nversion = "0.0.0"\n\n%s'
+        '[dependencies]\nrustc-demangle = { path = "%s" }\n\n[workspace]\n' % (name, work.std(), library),
     )
     with open(os.path.join(HERE, "unit.rs")) as file:
         public = file.read()
@@ -272,18 +291,19 @@ def check_unit(work):
         return tests_of(work.cargo(unit_folder(work, name, library, edits), ["test", "--no-fail-fast", "--all-features"], check=False)[1])
 
     theirs, ours = tests("unit_theirs", work.crate()), tests("unit_ours", DROP_IN)
-    edited = tests("unit_ours_edited", DROP_IN, DIFFERENT.values())
+    different, edits = DIFFERENT.get(work.release(), (set(), []))
+    edited = tests("unit_ours_edited", DROP_IN, edits)
     assert theirs and passing(theirs) == set(theirs), "these fail with the crate: %s" % named(set(theirs) - passing(theirs))
     assert set(ours) == set(theirs) == set(edited), "other tests were run"
     failing = {name for _, name in set(ours) - passing(ours)}
-    assert failing == set(DIFFERENT), "these fail with ours: %s" % (", ".join(sorted(failing)) or "none")
+    assert failing == different, "these fail with ours: %s" % (", ".join(sorted(failing)) or "none")
     assert passing(edited) == set(edited), "with the texts of docs/DIFFERENCES.md these fail: %s" % named(set(edited) - passing(edited))
     work.rows.append(
         (
             "unit tests of the crate",
             len(passing(theirs)),
             len(passing(ours)),
-            "a text of docs/DIFFERENCES.md: " + ", ".join(sorted(DIFFERENT)),
+            "other texts: " + ", ".join(sorted(different)),
         )
     )
     return "%d pass with the crate, and with ours all but %s, which passes with the text that the port prints" % (
@@ -298,10 +318,11 @@ def calls_program(work):
         "calls/Cargo.toml",
         '[package]\nname = "calls"\nversion = "0.0.0"\nedition = "2021"\n\n[[bin]]\nname = "calls"\npath = "%s"\n\n[dependencies]\n'
         'ours = { package = "rustc-demangle", path = "%s", features = ["std"] }\n'
-        'theirs = { package = "rustc-demangle-published", path = "%s", features = ["std"] }\n\n'
-        "[profile.release]\ndebug = 1\n\n[workspace]\n" % (os.path.join(HERE, "calls.rs"), DROP_IN, work.renamed_crate()),
+        'theirs = { package = "rustc-demangle-published", path = "%s" }\n\n[features]\nstream = [%s]\n\n'
+        "[profile.release]\ndebug = 1\n\n[workspace]\n"
+        % (os.path.join(HERE, "calls.rs"), DROP_IN, work.renamed_crate(), '"theirs/std"' if work.has_std() else ""),
     )
-    work.cargo(work.path("calls"), ["build", "--release"])
+    work.cargo(work.path("calls"), ["build", "--release"] + (["--features", "stream"] if work.has_std() else []))
     return work.path("target", "release", "calls")
 
 
@@ -330,14 +351,21 @@ def check_answers(work):
         ours, theirs = out[8 * at : 8 * at + 4], out[8 * at + 4 : 8 * at + 8]
         wrong += [text] if (ours[0] == b"\1") != (answer is not None) or answer and (*map(column, ours[2:]), len(ours[1])) != answer else []
         differ |= {text} if ours != theirs else set()
-        assert ours[:2] == theirs[:2], "%r is read otherwise: %r, and by the crate %r" % (text[:80], ours[:2], theirs[:2])
+        assert ours[:2] == theirs[:2] or not work.has_std(), "%r is read otherwise: %r, and by the crate %r" % (
+            text[:80],
+            ours[:2],
+            theirs[:2],
+        )
     assert not wrong, "%d answers are not the stored ones, as for %r" % (len(wrong), wrong[0][:80])
-    stored = [text for text, _ in known]
-    real = {text for _, start, end in REAL for text in stored[start:end]}
+    texts = [text for text, _ in known]
+    real = {text for _, start, end in REAL for text in texts[start:end]}
     assert not differ & real, "real symbols differ: %r" % sorted(differ & real)[:3]
-    for hash_ in ("true", "false"):
-        ours, theirs = parted(run([program, "stream", hash_], input="".join(made_lines(3, "all")).encode()))
-        assert ours == theirs and len(ours) > 100_000, "a text is copied otherwise"
+    log = "".join(made_lines(3, "all")).encode()
+    for hash_, words in (("true", []), ("false", ["--no-hash"])):
+        ours, *theirs = parted(run([program, "stream", hash_], input=log))
+        # A crate without a stream has none to compare with.
+        for other in [run([built(FILTER), *words], input=log), *theirs]:
+            assert ours == other and len(ours) > 100_000, "a text is copied otherwise"
     few, many = (instructions([program, "stream-ours"], b"_ZN1aE _Z _R " * count) for count in (20_000, 80_000))
     assert many < 5 * few, "%d instructions for a line, %d for one of four times its length" % (few, many)
     work.rows.append(

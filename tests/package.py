@@ -229,6 +229,22 @@ def package(work):
     equal(os.path.exists("/usr/bin/kodliwe"), False)
 
 
+def fresh_tree(work):
+    """Installs the package in an empty bookworm tree, and runs what it has there."""
+    if os.geteuid() != 0:
+        raise Lacking("root is needed, to make a tree of debootstrap")
+    root, (package,) = os.path.join(work, "root"), glob.glob(os.path.join(DIST, "*.deb"))
+    # The mirror is the one that this machine's apt reads.
+    listed = run([tool("apt-get"), "indextargets", "--format", "$(CODENAME) $(SITE)"]).split("\n")
+    mirrors = [line.split()[1] for line in listed if line.startswith("bookworm ")]
+    run([tool("debootstrap", "debootstrap"), "--variant=minbase", "bookworm", root, *mirrors[:1]])
+    shutil.copy(package, os.path.join(root, "kodliwe.deb"))
+    run(["chroot", root, "dpkg", "-i", "/kodliwe.deb"])
+    line = ("worker 1: called %s\n" % SYMBOL).encode()
+    equal(run(["chroot", root, "kodliwe"], line), "worker 1: called foo\n")
+    equal(run(["chroot", root, "demangle_filter", "--no-hash"], line), "worker 1: called foo\n")
+
+
 def excluded():
     """Whether this machine's dpkg leaves manuals out."""
     return any("/usr/share/man" in open(place).read() for place in glob.glob("/etc/dpkg/dpkg.cfg.d/*"))
@@ -293,6 +309,8 @@ def main():
 
         if words.twice:
             table.step("same, from a copy", twice)
+        if words.tree:
+            table.step("tree", fresh_tree, work)
     table.step("untracked", lambda: equal(run(["git", "status", "--porcelain", "--ignored=no"], cwd=ROOT), before))
     return table.end()
 

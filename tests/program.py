@@ -387,7 +387,7 @@ def names():
     same(run("-o", "names/out", FOO), (b"", "", 0))
     same((read("names/out"), len(os.listdir("names"))), (b"foo\n", 100))
     write("names/out.kodliwe-99", b"of another run")
-    same(run("-o", "names/out", "_ZN1aE"), (b"", "kodliwe: names/out: File exists\n", 1))
+    same(run("-o", "names/out", "_ZN1aE"), (b"", "kodliwe: names/out: entity already exists\n", 1))
     same((read("names/out"), len(os.listdir("names"))), (b"foo\n", 101))
 
 

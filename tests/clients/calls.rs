@@ -107,6 +107,7 @@ fn main() {
         ["answers"] => answers(&input, &mut to),
         ["stream", hash] => {
             put(&mut to, &streamed_by!(ours, &input[..], hash == "true"));
+            #[cfg(feature = "stream")]
             put(&mut to, &streamed_by!(theirs, &input[..], hash == "true"));
         }
         ["stream-ours"] => put(&mut to, &streamed_by!(ours, &input[..], true)),

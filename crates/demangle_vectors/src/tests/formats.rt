@@ -38,6 +38,29 @@ fn the_alternate_flag_leaves_out_the_hash(rt: HostRuntime) -> Result<(), Fail> {
     Ok(())
 }
 
+#[test]
+fn a_symbol_of_ten_thousand_bytes_is_written_whole(rt: HostRuntime) -> Result<(), Fail> {
+    let alloc = rt.alloc();
+    let mut symbol = String::from_str(alloc, "_ZN3foo")?;
+    let mut wanted = String::from_str(alloc, "foo")?;
+    for _ in 0..2500 {
+        symbol.push_str("3bar")?;
+        wanted.push_str("::bar")?;
+    }
+    symbol.push_str("E")?;
+    let symbol = demangle(symbol.as_str());
+    assert_eq!(rt; format!(in alloc; "{}", symbol)?.as_str(), wanted.as_str());
+    assert_eq!(rt;
+        format!(in alloc; "{:#}", symbol)?.as_str(),
+        wanted.as_str()
+    );
+    assert_eq!(rt;
+        format!(in alloc; "{:?}", symbol)?.as_str(),
+        wanted.as_str()
+    );
+    Ok(())
+}
+
 /// Takes so many texts, and refuses those behind them.
 #[derive(Drop)]
 struct Refusing {

@@ -1,7 +1,8 @@
 //! What the stream writes of lines, and where a reader or a writer refuses.
-use rustc_demangle::{StreamFault, demangle_stream, demangle_stream_named};
+use rustc_demangle::{StreamFault, demangle_bytes, demangle_stream, demangle_stream_named};
 use std::alloc::Global;
-use std::io::ErrorKind;
+use std::io;
+use std::io::{BufRead, ErrorKind, Read};
 use std::process::Abort;
 use std::test::Fail;
 use test_doubles::streams::{NotingWriter, PartsReader, RefusingWriter};
@@ -236,11 +237,22 @@ fn the_writer_fails_at_each_write(rt: HostRuntime) -> Result<(), Fail> {
 #[test]
 fn each_text_and_piece_is_a_write(rt: HostRuntime) -> Result<(), Fail> {
     let alloc = rt.alloc();
-    let cases: [(&[u8], &[&[u8]]); 4] = [
+    let cases: [(&[u8], &[&[u8]]); 6] = [
         (b"x _RCx _ZN3fooE", &[b"x ", b"_RCx", b" ", b"foo"]),
         (b"_ZN1a1bE.x\n\n", &[b"a", b"::", b"b", b".x", b"\n", b"\n"]),
         (b"_RCs_1a.x", &[b"a", b"[", b"1", b"]", b".x"]),
         (b"_ZNE _ZN0E", &[b" "]),
+        (b"_RCx_a_longer_run y", &[b"_RCx_a_longer_run", b" y"]),
+        (
+            b"y _ZN3fo\nx _R_a_longer_run_that_is_no_symbol",
+            &[
+                b"y ",
+                b"_ZN3fo",
+                b"\n",
+                b"x ",
+                b"_R_a_longer_run_that_is_no_symbol",
+            ],
+        ),
     ];
     for (text, wanted) in cases {
         let mut input = text;
@@ -251,5 +263,60 @@ fn each_text_and_piece_is_a_write(rt: HostRuntime) -> Result<(), Fail> {
             assert_eq!(rt; write.as_slice(), *want, "of {text:?}");
         }
     }
+    Ok(())
+}
+
+/// Hands out one part, so many times.
+#[derive(Drop)]
+struct RepeatingReader<'a> {
+    part: &'a [u8],
+    left: u32,
+}
+
+impl Read for RepeatingReader<'_> {
+    fn read(&mut self, buf: &mut [u8]) -> io::Result<usize> {
+        let part = self.fill_buf()?;
+        let count = part.len().min(buf.len());
+        buf[..count].copy_from_slice(&part[..count]);
+        self.consume(count);
+        Ok(count)
+    }
+}
+
+impl BufRead for RepeatingReader<'_> {
+    fn fill_buf(&mut self) -> io::Result<&[u8]> {
+        Ok(if self.left == 0 { b"" } else { self.part })
+    }
+
+    fn consume(&mut self, amount: usize) {
+        if amount != 0 {
+            self.left = self.left.saturating_sub(1);
+        }
+    }
+}
+
+#[test]
+fn a_line_may_come_in_many_parts(rt: HostRuntime) -> Result<(), Fail> {
+    let alloc = rt.alloc();
+    let mut input = RepeatingReader {
+        part: b"x",
+        left: 200_000,
+    };
+    let mut output = Vec::new(alloc);
+    demangle_stream(alloc, &mut input, &mut output, true)?;
+    assert_eq!(rt; output.len(), 200_000usize);
+    Ok(())
+}
+
+#[test]
+fn bytes_may_come_in_many_parts(rt: HostRuntime) -> Result<(), Fail> {
+    let alloc = rt.alloc();
+    let mut input = RepeatingReader {
+        part: b"x ",
+        left: 300_000,
+    };
+    let mut output = Vec::new(alloc);
+    assert!(rt; demangle_bytes(alloc, &mut input, &mut output, true).is_ok());
+    assert_eq!(rt; output.len(), 600_000usize);
     Ok(())
 }

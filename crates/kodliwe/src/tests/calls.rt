@@ -1,10 +1,12 @@
 //! Inputs and outputs of which each call fails in turn.
-use super::streams::{CallsWriter, ChunkReader};
+use super::streams::{CallsWriter, ChunkReader, StutteringWriter};
 use super::{FILTERED_LOG, LOG, run_one};
+use crate::fault::report_call;
 use crate::output::Output;
 use crate::run::{BUFFER, Ended};
 use held_bytes::CAPACITY;
 use std::alloc::{AllocError, Global};
+use std::io;
 use std::io::{BufWriter, ErrorKind};
 use std::process::Abort;
 use std::test::Fail;
@@ -50,9 +52,17 @@ fn known_of(alloc: Global, count: usize) -> Result<Vec<u8>, AllocError> {
 #[test]
 fn a_reader_that_fails_at_any_read_is_told_by_its_name(rt: HostRuntime) -> Result<(), Fail> {
     let alloc = rt.alloc();
-    let faults: [(ErrorKind, &[u8]); 2] = [
+    let faults: [(ErrorKind, &[u8]); 4] = [
         (
             ErrorKind::IsADirectory,
+            b"kodliwe: log.txt: reset by the other side\n",
+        ),
+        (
+            ErrorKind::WouldBlock,
+            b"kodliwe: log.txt: reset by the other side\n",
+        ),
+        (
+            ErrorKind::TimedOut,
             b"kodliwe: log.txt: reset by the other side\n",
         ),
         (ErrorKind::OutOfMemory, b"kodliwe: out of memory\n"),
@@ -89,6 +99,34 @@ fn interrupted_calls_are_made_again(rt: HostRuntime) -> Result<(), Fail> {
     assert!(rt; errors.is_empty());
     assert_eq!(rt; output.held(), FILTERED_LOG);
     Ok(())
+}
+
+#[test]
+fn calls_are_made_again_after_ten_interruptions(rt: HostRuntime) -> Result<(), Fail> {
+    let alloc = rt.alloc();
+    let mut writer = StutteringWriter::new(alloc, 10);
+    let (ended, errors) = run_one(alloc, ChunkReader::new(LOG, 5), &mut writer, false)?;
+    assert_eq!(rt; ended, Ended::Complete);
+    assert!(rt; errors.is_empty());
+    assert_eq!(rt; writer.held(), FILTERED_LOG);
+    let mut writer = StutteringWriter::new(alloc, 10);
+    let mut output = Output::new(BufWriter::with_capacity(alloc, BUFFER, &mut writer)?);
+    let (ended, errors) = run_one(alloc, ChunkReader::new(LOG, 5), &mut output, false)?;
+    drop(output);
+    assert_eq!(rt; ended, Ended::Complete);
+    assert!(rt; errors.is_empty());
+    assert_eq!(rt; writer.held(), FILTERED_LOG);
+    Ok(())
+}
+
+#[test]
+fn a_reason_keeps_its_own_brackets(rt: HostRuntime) {
+    let alloc = rt.alloc();
+    let mut errors = Vec::new(alloc);
+    let error = io::Error::other("late (again)");
+    report_call(alloc, &mut errors, "log.txt", &error);
+    let line: &[u8] = b"kodliwe: log.txt: late (again)\n";
+    assert_eq!(rt; errors.as_slice(), line);
 }
 
 #[test]

@@ -151,6 +151,49 @@ impl Write for CallsWriter {
     }
 }
 
+/// Holds what is written. So many interruptions come before each call that it takes.
+#[derive(Drop)]
+pub struct StutteringWriter {
+    held: Vec<u8>,
+    each: u32,
+    left: u32,
+}
+
+impl StutteringWriter {
+    pub fn new(alloc: Global, each: u32) -> StutteringWriter {
+        StutteringWriter {
+            held: Vec::new(alloc),
+            each,
+            left: each,
+        }
+    }
+
+    pub fn held(&self) -> &[u8] {
+        self.held.as_slice()
+    }
+
+    fn call(&mut self) -> io::Result<()> {
+        if self.left == 0 {
+            self.left = self.each;
+            return Ok(());
+        }
+        self.left -= 1;
+        Err(io::Error::from(ErrorKind::Interrupted))
+    }
+}
+
+impl Write for StutteringWriter {
+    fn write(&mut self, buf: &[u8]) -> io::Result<usize> {
+        self.call()?;
+        self.held.extend_from_slice(buf)?;
+        Ok(buf.len())
+    }
+
+    fn flush(&mut self) -> io::Result<()> {
+        self.call()
+    }
+}
+
 /// Holds what is written, and tells its reader whether that was flushed.
 #[derive(Drop)]
 pub struct WatchedWriter<'a> {
