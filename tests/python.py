@@ -47,7 +47,7 @@ def check_program():
     module = [sys.executable, os.path.join(PACKAGE, "kodliwe.py")]
     rows = [[], ["-"], ["--hash"], ["--hash", symbol], [symbol, "", "at %s." % symbol], ["-i", CORPUS], ["--input=" + CORPUS, "--hash"]]
     rows += [["-i" + CORPUS, symbol, "-"], ["-l", "5", symbol * 2, "-i", CORPUS], ["-l5", "_ZN3foo3barE.cold"], ["--", "--hash", symbol]]
-    rows += [["-V"], [symbol, "-i", "/none", symbol], ["-i", ROOT], ["-x"], ["-i"], ["--input"], ["-l", "1K", symbol], ["--hash=", symbol]]
+    rows += [[symbol, "-i", "/none", symbol], ["-i", ROOT], ["-x"], ["-i"], ["--input"], ["-l", "1K", symbol], ["--hash=", symbol]]
     env = environment(KODLIWE_LIB=built(SHARED))
     with open(CORPUS, "rb") as file:
         given = file.read()
