@@ -31,7 +31,7 @@ __version__ = "0.1.0"
 MAX_SIZE = 1_000_000
 
 _NAMES = ("libkodliwe.so", "libkodliwe.so.0", "libkodliwe.so." + __version__, "libkodliwe.dylib")
-# Enough for the path of any usual symbol, so that one call prints it. Longer answers get memory of their own.
+# Enough for the path of any usual symbol, so that one call prints it. Longer paths get memory of their own.
 _ROOM = 1 << 16
 
 
@@ -112,8 +112,8 @@ def _calls() -> _Calls:
 
 
 class _Rooms(threading.local):
-    """Memory of this thread, which its calls use again and again. A call takes it away while it uses it, so that a handler
-    of a signal may make a call in the midst of another."""
+    """Has memory of this thread, which its calls use again and again. A call takes it away while it uses it, so that a handler
+    of a signal may make a call during another."""
 
     def __init__(self) -> None:
         self.free: List[Tuple[Any, int]] = []
@@ -123,7 +123,7 @@ _rooms = _Rooms()
 
 
 def _written(call: Callable[..., int], text: bytes, include_hash: bool, limit: int) -> Optional[bytes]:
-    """What a call writes for a text, without the NUL behind it; None where it answers 0."""
+    """Returns what a call writes for a text, without the NUL after it, or None if the call returns 0."""
     free = _rooms.free
     buffer, size = free.pop() if free else (ctypes.create_string_buffer(_ROOM), _ROOM)
     answer: Optional[bytes]
@@ -159,14 +159,15 @@ def _limit(limit: int) -> int:
 
 
 def is_symbol(text: AnyStr) -> bool:
-    """Whether the text is a Rust symbol, once an ending of ThinLTO (``.llvm.``) is taken off. It prints nothing."""
+    """Returns whether the text is a Rust symbol, once an ending of ThinLTO (``.llvm.``) is taken off. Prints no path."""
     symbol = _encoded(text)
     return _calls().is_symbol(symbol, len(symbol))
 
 
 def strip_thin_lto(text: AnyStr) -> Optional[AnyStr]:
-    """A Rust symbol without the ending (``.llvm.``) that ThinLTO appended to it, whole where there is none; None where the
-    text is no Rust symbol. It prints nothing.
+    """Returns a Rust symbol without the ending (``.llvm.``) that ThinLTO appended to it, or whole if it has none.
+
+    Returns None if the text is no Rust symbol. Prints no path.
     """
     symbol = _encoded(text)
     size = _calls().symbol_len(symbol, len(symbol))
@@ -175,30 +176,30 @@ def strip_thin_lto(text: AnyStr) -> Optional[AnyStr]:
 
 
 def try_demangle(text: AnyStr, hash: bool = False, limit: int = MAX_SIZE) -> Optional[AnyStr]:
-    """The path that a Rust symbol names, as ``demangle`` prints it; None where the text is no Rust symbol."""
+    """Returns the path that a Rust symbol names, as ``demangle`` does, or None if the text is no Rust symbol."""
     path = _written(_calls().demangle, _encoded(text), hash, _limit(limit))
     return None if path is None else _as_given(text, path)
 
 
 def demangle(text: AnyStr, hash: bool = False, limit: int = MAX_SIZE) -> AnyStr:
-    """The path that a Rust symbol names; any other text as it is.
+    """Returns the path that a Rust symbol names, and any other text as it is.
 
-    ``hash``: with the hash of a legacy symbol, and the disambiguators of v0. A path ends after at most ``limit`` bytes,
-    and after a million of them at most; ``{size limit reached}`` and the symbol's suffix then follow.
+    ``hash`` keeps the hash of a legacy symbol, and the disambiguators of v0. A path ends after at most ``limit`` bytes, and
+    after a million of them at most. ``{size limit reached}`` and the symbol's suffix then follow.
     """
     path = try_demangle(text, hash, limit)
     return text if path is None else path
 
 
 def demangle_text(text: AnyStr, hash: bool = False, limit: int = MAX_SIZE) -> AnyStr:
-    """The text with each Rust symbol in it replaced by its path, and all else as it was.
+    """Returns the text with each Rust symbol in it replaced by its path, and all else as it is.
 
-    A symbol is looked for where ``_ZN`` or ``_R`` stands, up to the next byte that is no ASCII letter, no digit and none of
+    A symbol is looked for where ``_ZN`` or ``_R`` is, up to the next byte that is no ASCII letter, no digit and none of
     ``$``, ``.`` and ``_``. ``hash`` and ``limit`` are those of ``demangle``, for each symbol.
     """
     given = _encoded(text)
     filtered = _written(_calls().demangle_text, given, hash, _limit(limit))
-    assert filtered is not None  # the call never answers 0
+    assert filtered is not None  # the call never returns 0
     return _as_given(text, filtered)
 
 
