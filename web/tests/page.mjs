@@ -222,8 +222,12 @@ export async function testPage(kind, check, shots) {
     await evaluate("localStorage.clear(); 0");
     await visit(FILE);
     await evaluate('document.getElementById("input").focus(); 0');
+    await fresh();
     await type("x"); // without a key a browser lets no script write into the clipboard
+    await wait('document.body.dataset.done && document.getElementById("output").textContent === "x"');
+    await fresh();
     await click("clear");
+    await done();
   }
 
   async function wording() {
