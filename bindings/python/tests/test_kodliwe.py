@@ -326,6 +326,7 @@ class Program(unittest.TestCase):
 
     def test_a_line_is_written_before_the_next_is_there(self):
         env = dict(os.environ, KODLIWE_LIB=kodliwe._load()._name)
+        env.pop("PYTHONUNBUFFERED", None)
         with subprocess.Popen([sys.executable, MODULE], stdin=subprocess.PIPE, stdout=subprocess.PIPE, env=env) as child:
             late = threading.Timer(20, child.kill)
             late.start()
