@@ -35,14 +35,16 @@ def check_program():
 
 def check_answers():
     expected = list(stored())
-    out = run([tool(EMULATOR, "qemu-user"), PROGRAM], input=b"".join(record(symbol, limit) for symbol, limit, _ in expected))
+    out = run([tool(EMULATOR, "qemu-user"), PROGRAM, "quick"], input=b"".join(record(symbol, limit) for symbol, limit, _ in expected))
     compared(out, expected)
-    return "%d texts in both forms: no answer differs" % len(expected)
+    some = expected[::40]
+    compared(run([tool(EMULATOR), PROGRAM], input=b"".join(record(symbol, limit) for symbol, limit, _ in some)), some)
+    return "%d texts in both forms, and %d of them at 13 sizes and in parts: no answer differs" % (len(expected), len(some))
 
 
 def check_hostile():
-    texts = trees() + [text.encode() for _, text in hostile() if len(text) < 100_000]
-    run([tool(EMULATOR, "qemu-user"), PROGRAM], input=b"".join(record(text, 4096) for text in texts))
+    texts = trees()[::4] + [text.encode() for _, text in hostile() if len(text) < 100_000]
+    run([tool(EMULATOR, "qemu-user"), PROGRAM, "quick"], input=b"".join(record(text, 4096) for text in texts))
     return "%d texts: each answered as the header says" % len(texts)
 
 
