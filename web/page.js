@@ -11,6 +11,8 @@
   const SLICE = 8; // milliseconds of showing, between which keys are heard
   const TOLD = 600; // characters of a name in the line below
   const STILL = 600; // milliseconds until a screen reader is told
+  const LINKED = 30_000; // characters of a symbol in a link
+  const FRAMES = 12; // in which a symbol is brought into view
   const EXAMPLE = `thread 'main' panicked at src/parse.rs:88:14:
 called \`Option::unwrap()\` on a \`None\` value
 stack backtrace:
@@ -22,7 +24,7 @@ stack backtrace:
 `;
 
   const $ = (id) => document.getElementById(id);
-  const [input, hash, copy, download, clear] = ["input", "hash", "copy", "download", "clear"].map($);
+  const [input, hash, wrap, copy, download, clear] = ["input", "hash", "wrap", "copy", "download", "clear"].map($);
   const commas = (number) => number.toLocaleString("en");
 
   // ---- What is told
@@ -92,6 +94,8 @@ stack backtrace:
           this.element.append(block.element);
         }
         this.blocks[this.reached] = block;
+      } else {
+        [old.from, old.to] = [block.from, block.to]; // the text before it may have changed
       }
       this.reached++;
     }
@@ -99,7 +103,7 @@ stack backtrace:
     make(block) {
       const element = document.createElement("div");
       element.className = block.isOpen ? "block open" : "block";
-      element.style.height = `calc(${block.rows} * var(--row))`;
+      element.style.setProperty("--rows", block.rows);
       element.textContent = block.text;
       element.block = block;
       block.element = element;
@@ -170,24 +174,40 @@ stack backtrace:
       return text;
     }
 
-    // Marks a symbol as the one that is told, and answers its element, if it is in view.
+    // Returns the first symbol that ends after a place in the text, or -1. Only blocks of the input know their places.
+    firstAfter(place) {
+      const at = firstOf(this.blocks, (it) => it.to > place);
+      for (const { from, marks } of this.blocks.slice(at, this.reached)) {
+        for (let n = 0; n < marks.length; n += 3) {
+          if (from + marks[n + 2] > place) return marks[n];
+        }
+      }
+      return -1;
+    }
+
+    // Returns the symbol that a place in the text is in, or at an end of, or -1.
+    symbolAt(place) {
+      const block = this.blocks[firstOf(this.blocks, (it) => it.to >= place)];
+      for (let n = 0; block && n < block.marks.length; n += 3) {
+        const [number, start, end] = block.marks.subarray(n, n + 3);
+        if (block.from + start <= place && place <= block.from + end) return number;
+      }
+      return -1;
+    }
+
+    // Marks a symbol as the one that is told.
     point(number) {
       this.current = number;
       for (const it of this.element.querySelectorAll("mark.current")) it.classList.remove("current");
-      const found = this.element.querySelectorAll(`mark[data-number="${number}"]`);
-      for (const it of found) it.classList.add("current");
-      return found[0];
+      for (const it of this.element.querySelectorAll(`mark[data-number="${number}"]`)) it.classList.add("current");
     }
 
-    // The same, with the symbol brought into view.
-    reveal(number) {
-      for (const block of this.blocksOf(number)) {
-        this.mark(block);
-        break;
-      }
-      const mark = this.point(number);
-      if (mark) this.scrollTo(mark.getBoundingClientRect());
-      return mark;
+    // Scrolls a symbol into view.
+    bring(number) {
+      const { value: block } = this.blocksOf(number).next();
+      if (!block) return;
+      this.mark(block);
+      this.scrollTo(block.element.querySelector(`mark[data-number="${number}"]`).getClientRects()[0]);
     }
 
     // Scrolls a place into view, as little as may be; a name may be wider than the pane.
@@ -221,6 +241,8 @@ stack backtrace:
   let asked = { text: "", isNew: true };
   let symbols = 0;
   let cut = new Set(); // the numbers of the paths that end in the marker
+  let isFinished = false; // whether all of the text is shown
+  let sought = -1; // the first symbol that ends after this place is to be brought into view, unless it is -1
 
   const isArea = () => held === null;
 
@@ -283,23 +305,27 @@ stack backtrace:
       input.value = text;
       lineEnd = ends;
       if (input.value === text.replaceAll("\r\n", "\n")) {
-        ask(true);
+        ask(true, 0);
         return;
       }
     }
     lineEnd = "\n";
     hold(text, name);
-    ask(true);
+    ask(true, 0);
   }
 
-  // What the text area has after an edit.
+  let pastedAt = -1; // where a paste put its text that the text area takes by itself
+
+  // Takes what the text area has after an edit.
   function edited() {
+    const place = pastedAt;
+    pastedAt = -1;
     if (!isEdited(input.value)) {
       set(input.value, "The text");
       shown.element.focus();
     } else {
       tell("");
-      ask(false);
+      ask(false, place);
     }
   }
 
@@ -317,6 +343,7 @@ stack backtrace:
       const isWhole = before + behind === "";
       if (isEdited(before + text + behind) && ends !== null && !text.includes("\0")) {
         if (isWhole) lineEnd = ends; // else it takes the line ends that the text has
+        if (text !== "") pastedAt = before.length;
         return;
       }
       event.preventDefault();
@@ -373,9 +400,11 @@ stack backtrace:
 
   // ---- Asking the worker, and showing what it answers
 
-  function ask(isNew) {
+  function ask(isNew, place = -1) {
     const text = held ? held.text : input.value;
     asked = { text, isNew };
+    sought = place;
+    isFinished = false;
     if (text === "") fileName = "";
     worker.postMessage({ turn: ++turn, text, hash: hash.checked, isWhole: isArea() });
     clear.disabled = text === "";
@@ -384,7 +413,7 @@ stack backtrace:
     output.begin();
     symbols = 0;
     cut = new Set();
-    point(-1);
+    choose(-1);
     output.element.ariaBusy = "true";
   }
 
@@ -433,6 +462,7 @@ stack backtrace:
     for (const number of news.cut) cut.add(number);
     symbols = news.count;
     count(news);
+    seek();
     if (news.isDone) finish();
   }
 
@@ -443,12 +473,16 @@ stack backtrace:
     for (const it of [copy, download]) it.disabled = asked.text === "";
     for (const it of [$("previous"), $("next")]) it.disabled = symbols === 0;
     scrolled(input, shown.element);
+    isFinished = true;
+    seek();
+    if (symbols === 1) choose(0); else caretMoved();
     document.body.dataset.done = turn;
   }
 
   function count({ isDone, isFew }) {
     const found = `${commas(symbols)} ${symbols === 1 ? "symbol" : "symbols"}`;
-    const text = asked.text === "" ? "" : isDone ? `${found} demangled.` : `${found} so far …`;
+    const none = "No symbols found. Rust symbols begin with _R or _ZN.";
+    const text = asked.text === "" ? "" : !isDone ? `${found} so far …` : symbols === 0 ? none : `${found} demangled.`;
     const few = isFew ? ", and past 256 once all were very long" : "";
     const paths = cut.size === 1 ? "path ends" : "paths end";
     const more = cut.size ? `${commas(cut.size)} ${paths} in {size limit reached}, past 16,384 bytes${few}.` : "";
@@ -457,45 +491,82 @@ stack backtrace:
     if (isDone) say(`${text} ${more}`);
   }
 
-  // ---- Pointing at a symbol, and stepping to it
+  // ---- Pointing at a symbol, choosing it, and stepping to it
 
-  let current = -1;
+  let current = -1; // the symbol that is told
+  let chosen = -1; // the one that was clicked, was stepped to, or has the text cursor: it is told again once the pointer leaves
 
-  function point(number, isRevealed = false) {
-    if (number === current && !isRevealed) return;
+  function point(number) {
+    if (number === current) return;
     current = number;
-    if (number === -1) {
-      shown.point(-1);
-      output.point(-1);
-      $("mangled").textContent = "Point at a marked name, or step to one.";
-      $("path").textContent = "";
-      return;
-    }
-    $("mangled").textContent = shortened(shown.textOf(number));
-    $("path").textContent = shortened(output.textOf(number)) || "(empty)";
-    if (!isRevealed) {
-      shown.point(number);
-      output.point(number);
-      return;
-    }
-    const mark = shown.reveal(number);
-    output.reveal(number);
-    if (isArea() && mark) {
-      // the text area follows the marks that lie under it
-      input.scrollTo(shown.element.scrollLeft, shown.element.scrollTop);
-    }
-    say(`${commas(number + 1)} of ${commas(symbols)}: ${$("mangled").textContent} is ${$("path").textContent}`);
+    shown.point(number);
+    output.point(number);
+    for (const it of [$("copypath"), $("link")]) it.disabled = number === -1;
+    $("mangled").textContent = number === -1 ? "Hover over or step to a name" : shortened(shown.textOf(number));
+    $("path").textContent = number === -1 ? "" : shortened(output.textOf(number)) || "(empty)";
+  }
+
+  function choose(number) {
+    chosen = number;
+    point(number);
   }
 
   function step(by) {
     const from = current === -1 && by < 0 ? symbols : current;
-    point(Math.min(Math.max(from + by, 0), symbols - 1), true);
+    choose(Math.min(Math.max(from + by, 0), symbols - 1));
+    reveal(current);
+    say(`${commas(current + 1)} of ${commas(symbols)}: ${$("mangled").textContent} is ${$("path").textContent}`);
+  }
+
+  let revealed = 0; // calls of reveal
+
+  // Brings a symbol into view in both panes. A block has its size only some frames after it is seen, and that may
+  // move the symbol: so it is brought again in some frames.
+  function reveal(number) {
+    const [call, before] = [++revealed, turn];
+    let frames = FRAMES;
+    const bring = () => {
+      if (call !== revealed || turn !== before) return;
+      output.bring(number);
+      shown.bring(number);
+      // The text area follows the marks under it.
+      if (isArea()) input.scrollTo(shown.element.scrollLeft, shown.element.scrollTop);
+      if (frames-- > 0) requestAnimationFrame(bring);
+    };
+    bring();
+  }
+
+  // Brings the symbol that is sought into view, once both panes have it.
+  function seek() {
+    const number = sought === -1 ? -1 : shown.firstAfter(sought);
+    if (number === -1 || output.blocksOf(number).next().done) return;
+    sought = -1;
+    const before = turn;
+    // The text area scrolls to its cursor first.
+    requestAnimationFrame(() => { if (turn === before) reveal(number); });
   }
 
   // A text area lies over the marks, so they are looked for under the pointer.
+  const markUnder = ({ clientX, clientY }) => document.elementsFromPoint(clientX, clientY).find((it) => it.localName === "mark");
+
   function pointed(event) {
-    const mark = document.elementsFromPoint(event.clientX, event.clientY).find((it) => it.localName === "mark");
+    const mark = markUnder(event);
     if (mark) point(Number(mark.dataset.number));
+  }
+
+  function clicked(event) {
+    const mark = markUnder(event);
+    if (mark) choose(Number(mark.dataset.number));
+  }
+
+  function left() {
+    if (chosen !== -1) point(chosen);
+  }
+
+  function caretMoved() {
+    if (!isFinished || !isArea() || document.activeElement !== input) return;
+    const number = shown.symbolAt(input.selectionStart);
+    if (number !== -1) choose(number);
   }
 
   // ---- Scrolling: the marks under the text area follow it, and the panes one another
@@ -510,10 +581,33 @@ stack backtrace:
     const one = event.currentTarget;
     if (one === input) scrolled(input, shown.element);
     if (!one.matches(":hover, :focus")) return;
-    if (shown.isDivided || output.isDivided) return; // their rows are not the same lines
+    if (wrap.checked || shown.isDivided || output.isDivided) return; // their rows are not the same lines
     const source = isArea() ? input : shown.element;
     const other = one === output.element ? source : output.element;
     if (other.scrollTop !== one.scrollTop) other.scrollTop = one.scrollTop;
+  }
+
+  // ---- Wrapping: by default where the page is narrow
+
+  const narrow = matchMedia("(width < 700px)");
+
+  function wrapLines() {
+    document.body.classList.toggle("wrapped", wrap.checked);
+    input.wrap = wrap.checked ? "soft" : "off";
+    fit();
+    if (current !== -1) reveal(current);
+  }
+
+  // Gives the marks under the text area its width, without its scroll bar, and its place.
+  function fit() {
+    if (input.hidden) return;
+    shown.element.style.setProperty("--inner", `${input.clientWidth}px`);
+    scrolled(input, shown.element);
+  }
+
+  function setWrap() {
+    wrap.checked = kept("wrap", narrow.matches ? "on" : "off") === "on";
+    wrapLines();
   }
 
   // ---- Copying
@@ -524,21 +618,75 @@ stack backtrace:
     event.preventDefault();
   }
 
-  async function copyResult() {
-    const text = withEnds(output.text());
+  function told(text) {
+    $("count").textContent = text;
+    say(text);
+  }
+
+  // Copies a text in a browser that does so only of a selection.
+  function copySelected(text, element) {
+    const put = (event) => {
+      event.clipboardData.setData("text/plain", text);
+      event.preventDefault();
+      event.stopPropagation();
+    };
+    addEventListener("copy", put, { capture: true });
+    getSelection().selectAllChildren(element);
+    const isCopied = document.execCommand("copy");
+    removeEventListener("copy", put, { capture: true });
+    if (isCopied) getSelection().removeAllRanges();
+    return isCopied;
+  }
+
+  // Copies a text. If the browser lets no script copy, it selects the element that shows the text.
+  async function copyText(text, element, what) {
     try {
       await navigator.clipboard.writeText(text);
     } catch {
-      getSelection().selectAllChildren(output.element);
-      if (!document.execCommand("copy")) {
-        say("The result is selected: press Ctrl+C or Cmd+C to copy it.");
-        $("count").textContent = "The result is selected: press Ctrl+C or Cmd+C to copy it.";
+      if (!copySelected(text, element)) {
+        const isShortened = element === $("path") && element.textContent !== text;
+        told(isShortened ? `${what} could not be copied.` : `${what} is selected: press Ctrl+C or Cmd+C to copy it.`);
         return;
       }
-      getSelection().removeAllRanges();
     }
-    $("count").textContent = "Copied.";
-    say("Copied.");
+    told(what === "The result" ? "Copied." : `${what} is copied.`);
+  }
+
+  const copyResult = () => copyText(withEnds(output.text()), output.element, "The result");
+  const copyPath = () => copyText(output.textOf(current), $("path"), "The path");
+
+  // ---- Links: #symbol=.. shows a symbol. What follows # is sent to no server.
+
+  function linked() {
+    const [, given] = /^#symbol=(.*)$/s.exec(location.hash) ?? [];
+    if (given === undefined) return null;
+    try {
+      return decodeURIComponent(given);
+    } catch {
+      return given;
+    }
+  }
+
+  function showLinked() {
+    const symbol = linked();
+    if (symbol !== null) set(symbol, "The symbol of the link");
+  }
+
+  // Writes the link of the symbol that is told into the address, and copies it.
+  async function link() {
+    const symbol = shown.textOf(current);
+    if (symbol.length > LINKED) {
+      told(`The symbol has ${commas(symbol.length)} characters, and a link takes ${commas(LINKED)}.`);
+      return;
+    }
+    const url = new URL(`#symbol=${encodeURIComponent(symbol)}`, location.href).href;
+    history.replaceState(null, "", url);
+    try {
+      await navigator.clipboard.writeText(url);
+      told("The link is copied, and it is the page's address now.");
+    } catch {
+      told(copySelected(url, $("mangled")) ? "The link is copied, and it is the page's address now." : "The link is the page's address now.");
+    }
   }
 
   function downloadResult() {
@@ -550,19 +698,19 @@ stack backtrace:
     say(`Downloaded as ${link.download}.`);
   }
 
-  // ---- What is kept for the next visit: the switch alone
+  // ---- What is kept for the next visit: the two switches
 
-  function kept() {
+  function kept(name, otherwise) {
     try {
-      return localStorage.getItem("kodliwe-hash") === "shown";
+      return localStorage.getItem(`kodliwe-${name}`) ?? otherwise;
     } catch {
-      return false; // this browser keeps nothing for the page
+      return otherwise; // this browser keeps nothing for the page
     }
   }
 
-  function keep() {
+  function keep(name, value) {
     try {
-      localStorage.setItem("kodliwe-hash", hash.checked ? "shown" : "hidden");
+      localStorage.setItem(`kodliwe-${name}`, value);
     } catch {
       // as above
     }
@@ -578,9 +726,13 @@ stack backtrace:
         tell("A text that is only shown can't be typed into: clear it, or paste another.");
       }
     });
-    hash.addEventListener("change", () => { keep(); ask(false); });
+    hash.addEventListener("change", () => { keep("hash", hash.checked ? "shown" : "hidden"); ask(false); });
+    wrap.addEventListener("change", () => { keep("wrap", wrap.checked ? "on" : "off"); wrapLines(); });
+    narrow.addEventListener("change", setWrap);
     copy.addEventListener("click", copyResult);
     download.addEventListener("click", downloadResult);
+    $("copypath").addEventListener("click", copyPath);
+    $("link").addEventListener("click", link);
     $("previous").addEventListener("click", () => step(-1));
     $("next").addEventListener("click", () => step(1));
     $("example").addEventListener("click", () => { set(EXAMPLE, "The example"); input.focus(); });
@@ -592,10 +744,13 @@ stack backtrace:
     for (const one of [input, shown.element, output.element]) {
       one.addEventListener("scroll", follow, { passive: true });
       one.addEventListener("pointermove", pointed, { passive: true });
-      one.addEventListener("click", pointed);
+      one.addEventListener("pointerleave", left, { passive: true });
+      one.addEventListener("click", clicked);
     }
     for (const one of [shown.element, output.element]) one.addEventListener("copy", copied);
-    new ResizeObserver(() => scrolled(input, shown.element)).observe(input);
+    document.addEventListener("selectionchange", caretMoved);
+    addEventListener("hashchange", showLinked);
+    new ResizeObserver(fit).observe(input);
     listenToDrops();
   }
 
@@ -644,9 +799,12 @@ stack backtrace:
       tell(`This browser does not run the module: ${error.message}.`);
       return;
     }
-    hash.checked = kept();
+    hash.checked = kept("hash", "hidden") === "shown";
+    setWrap();
     listen();
-    if (location.hash === "#try" && input.value === "") set(EXAMPLE, "The example"); else edited();
+    if (linked() !== null) showLinked();
+    else if (location.hash === "#try" && input.value === "") set(EXAMPLE, "The example");
+    else edited();
     document.body.dataset.ready = "";
   }
 

@@ -7,11 +7,13 @@
     'worker 1: called foo::bar'
 
 These are calls of the proved library for C, through ctypes. The shared library ``libkodliwe.so`` is the one that
-``KODLIWE_LIB`` names (the file, or its folder), else the one beside this module, else the one that the system's loader
-finds. It is looked for once, at the first call. If there is none, each call raises ``OSError``.
+``KODLIWE_LIB`` names (the file, or its folder). Without this variable it is the first of these that is there: the one
+beside this module, the one in ``lib`` of the PREFIX that has this module, the one of this Python's prefix, that of
+``/usr/local``, and the one that the system's loader finds. It is looked for once, at the first call. If there is none,
+each call raises ``OSError``.
 
-A text is ``str`` or ``bytes``, and the answer is of the same type; what is no symbol is kept as it is, be it UTF-8 or not. The
-calls may be made from any thread. ``python3 -m kodliwe SYMBOL..`` prints paths, and without a symbol it filters its input.
+A text is ``str`` or ``bytes``, and the result is of the same type. All that is no symbol is kept as it is, be it UTF-8 or
+not. The calls may be made from any thread. ``python3 -m kodliwe --help`` says how the module is used as a program.
 """
 
 import ctypes
@@ -20,7 +22,7 @@ import functools
 import os
 import sys
 import threading
-from typing import Any, AnyStr, Callable, List, NamedTuple, Optional, Tuple, Union
+from typing import Any, AnyStr, Callable, Iterator, List, NamedTuple, Optional, Tuple, Union
 
 __all__ = ["MAX_SIZE", "demangle", "demangle_text", "is_symbol", "strip_thin_lto", "try_demangle"]
 __version__ = "0.1.0"
@@ -28,8 +30,8 @@ __version__ = "0.1.0"
 #: The most bytes that are printed of a symbol, before ``{size limit reached}`` and its suffix.
 MAX_SIZE = 1_000_000
 
-_NAMES = ("libkodliwe.so", "libkodliwe.so.0", "libkodliwe.dylib")
-# Enough for the path of any usual symbol, so that one call prints it. Longer answers get memory of their own.
+_NAMES = ("libkodliwe.so", "libkodliwe.so.0", "libkodliwe.so." + __version__, "libkodliwe.dylib")
+# Enough for the path of any usual symbol, so that one call prints it. Longer paths get memory of their own.
 _ROOM = 1 << 16
 
 
@@ -40,15 +42,29 @@ class _Calls(NamedTuple):
     demangle_text: Callable[..., int]
 
 
-def _candidates() -> List[str]:
-    """The files that may be the library, in the order in which they are tried."""
+def _prefixes() -> List[str]:
+    """Returns the prefixes whose ``lib`` may have the library. The first is that of this module, if it is installed."""
+    folder, prefixes = os.path.dirname(os.path.abspath(__file__)), []
+    while folder != os.path.dirname(folder):
+        if os.path.basename(folder) in ("lib", "lib64"):
+            prefixes.append(os.path.dirname(folder))
+        folder = os.path.dirname(folder)
+    is_venv = sys.prefix != sys.base_prefix
+    return prefixes + ([sys.prefix, "/usr/local"] if is_venv else ["/usr/local", sys.prefix])
+
+
+def _candidates() -> Iterator[str]:
+    """Yields the files that may be the library, in the order in which they are tried."""
     named = os.environ.get("KODLIWE_LIB")
     if named:
-        return [os.path.join(named, name) for name in _NAMES] if os.path.isdir(named) else [named]
-    here = os.path.dirname(os.path.abspath(__file__))
-    beside = [os.path.join(here, name) for name in _NAMES]
+        yield from [os.path.join(named, name) for name in _NAMES] if os.path.isdir(named) else [named]
+        return
+    folders = [os.path.dirname(os.path.abspath(__file__))]
+    for prefix in _prefixes():
+        folders += [os.path.join(prefix, "lib"), os.path.join(prefix, "lib64")]
+    yield from filter(os.path.exists, (os.path.join(folder, name) for folder in folders for name in _NAMES))
     found = ctypes.util.find_library("kodliwe")
-    return [path for path in beside if os.path.exists(path)] + ([found] if found else []) + list(_NAMES[:2])
+    yield from ([found] if found else []) + list(_NAMES[:2])
 
 
 # What `_load` found: the library, or why there is none. It looks once, since `find_library` starts other programs.
@@ -72,7 +88,8 @@ def _looked_for() -> Union[ctypes.CDLL, str]:
             return ctypes.CDLL(path)
         except OSError as error:
             tried.append(str(error))
-    return "kodliwe finds no libkodliwe.so: build it as docs/C.md says, and let KODLIWE_LIB name it (%s)" % "; ".join(tried)
+    how = "`make install PREFIX=%s` in Kodliwe's repository installs it for this module, or KODLIWE_LIB names it" % _prefixes()[0]
+    return "kodliwe finds no libkodliwe.so: %s (%s)" % (how, "; ".join(tried))
 
 
 @functools.lru_cache(maxsize=None)
@@ -95,8 +112,8 @@ def _calls() -> _Calls:
 
 
 class _Rooms(threading.local):
-    """Memory of this thread, which its calls use again and again. A call takes it away while it uses it, so that a handler
-    of a signal may make a call in the midst of another."""
+    """Has memory of this thread, which its calls use again and again. A call takes it away while it uses it, so that a handler
+    of a signal may make a call during another."""
 
     def __init__(self) -> None:
         self.free: List[Tuple[Any, int]] = []
@@ -106,7 +123,7 @@ _rooms = _Rooms()
 
 
 def _written(call: Callable[..., int], text: bytes, include_hash: bool, limit: int) -> Optional[bytes]:
-    """What a call writes for a text, without the NUL behind it; None where it answers 0."""
+    """Returns what a call writes for a text, without the NUL after it, or None if the call returns 0."""
     free = _rooms.free
     buffer, size = free.pop() if free else (ctypes.create_string_buffer(_ROOM), _ROOM)
     answer: Optional[bytes]
@@ -142,14 +159,15 @@ def _limit(limit: int) -> int:
 
 
 def is_symbol(text: AnyStr) -> bool:
-    """Whether the text is a Rust symbol, once an ending of ThinLTO (``.llvm.``) is taken off. It prints nothing."""
+    """Returns whether the text is a Rust symbol, once an ending of ThinLTO (``.llvm.``) is taken off. Prints no path."""
     symbol = _encoded(text)
     return _calls().is_symbol(symbol, len(symbol))
 
 
 def strip_thin_lto(text: AnyStr) -> Optional[AnyStr]:
-    """A Rust symbol without the ending (``.llvm.``) that ThinLTO appended to it, whole where there is none; None where the
-    text is no Rust symbol. It prints nothing.
+    """Returns a Rust symbol without the ending (``.llvm.``) that ThinLTO appended to it, or whole if it has none.
+
+    Returns None if the text is no Rust symbol. Prints no path.
     """
     symbol = _encoded(text)
     size = _calls().symbol_len(symbol, len(symbol))
@@ -158,41 +176,176 @@ def strip_thin_lto(text: AnyStr) -> Optional[AnyStr]:
 
 
 def try_demangle(text: AnyStr, hash: bool = False, limit: int = MAX_SIZE) -> Optional[AnyStr]:
-    """The path that a Rust symbol names, as ``demangle`` prints it; None where the text is no Rust symbol."""
+    """Returns the path that a Rust symbol names, as ``demangle`` does, or None if the text is no Rust symbol."""
     path = _written(_calls().demangle, _encoded(text), hash, _limit(limit))
     return None if path is None else _as_given(text, path)
 
 
 def demangle(text: AnyStr, hash: bool = False, limit: int = MAX_SIZE) -> AnyStr:
-    """The path that a Rust symbol names; any other text as it is.
+    """Returns the path that a Rust symbol names, and any other text as it is.
 
-    ``hash``: with the hash of a legacy symbol, and the disambiguators of v0. A path ends after at most ``limit`` bytes,
-    and after a million of them at most; ``{size limit reached}`` and the symbol's suffix then follow.
+    ``hash`` keeps the hash of a legacy symbol, and the disambiguators of v0. A path ends after at most ``limit`` bytes, and
+    after a million of them at most. ``{size limit reached}`` and the symbol's suffix then follow.
     """
     path = try_demangle(text, hash, limit)
     return text if path is None else path
 
 
 def demangle_text(text: AnyStr, hash: bool = False, limit: int = MAX_SIZE) -> AnyStr:
-    """The text with each Rust symbol in it replaced by its path, and all else as it was.
+    """Returns the text with each Rust symbol in it replaced by its path, and all else as it is.
 
-    A symbol is looked for where ``_ZN`` or ``_R`` stands, up to the next byte that is no ASCII letter, no digit and none of
+    A symbol is looked for where ``_ZN`` or ``_R`` is, up to the next byte that is no ASCII letter, no digit and none of
     ``$``, ``.`` and ``_``. ``hash`` and ``limit`` are those of ``demangle``, for each symbol.
     """
     given = _encoded(text)
     filtered = _written(_calls().demangle_text, given, hash, _limit(limit))
-    assert filtered is not None  # the call never answers 0
+    assert filtered is not None  # the call never returns 0
     return _as_given(text, filtered)
 
 
-def _main() -> None:
-    """Prints the paths of the symbols in the arguments, a line for each, or else filters standard input."""
-    for symbol in sys.argv[1:]:
-        sys.stdout.buffer.write(demangle(os.fsencode(symbol)) + b"\n")
-    if len(sys.argv) == 1:
-        for line in sys.stdin.buffer:
-            sys.stdout.buffer.write(demangle_text(line))
+_HELP = """\
+Usage: python3 -m kodliwe [OPTIONS] [SYMBOL]...
+
+Copies text with each Rust symbol in it demangled (legacy _ZN..E and v0 _R..).
+Each SYMBOL is a line of its own. Without a SYMBOL and without an input,
+standard input is read.
+
+Options:
+  -i, --input FILE    Read FILE; - is standard input. May be given several times
+      --hash          Keep the hashes of legacy symbols (foo::h05af221e174051e9)
+  -l, --limit BYTES   Cut each path at BYTES (1000000 if not given)
+  -h, --help          Print this help
+  -V, --version       Print the version
+
+SYMBOLs and inputs are filtered in their order, each by itself. -- ends the
+options. The status is 0, also if the reader of the output closes it; 1 if an
+input can't be read or the output can't be written; 2 if an option is unknown,
+and then nothing is read. The program kodliwe is faster and can write a file.
+"""
+
+
+class _Fault(Exception):
+    """Ends the program with a line on standard error and a status."""
+
+    def __init__(self, line: str, status: int) -> None:
+        super().__init__(line)
+        self.status = status
+
+
+class _Words(NamedTuple):
+    """What the words of the command line ask for: ``inputs`` has files and symbols in their order, ``text`` what is printed alone."""
+
+    inputs: List[Tuple[bool, str]]
+    hash: bool = False
+    limit: int = MAX_SIZE
+    text: str = ""
+
+
+def _split(word: str) -> Tuple[str, Optional[str]]:
+    """Returns the long name of an option and the value in the same word, if it has one."""
+    for short, name in (("-i", "--input"), ("-l", "--limit")):
+        if word in (short, name):
+            return name, None
+        if word.startswith(name + "="):
+            return name, word[len(name) + 1 :]
+        if word.startswith(short):
+            return name, word[len(short) :]
+    return {"-h": "--help", "-V": "--version"}.get(word, word), None
+
+
+def _value(word: str, name: str, value: Optional[str], rest: Iterator[str]) -> str:
+    """Returns the value of an option, from its word or the next. Fails if there is none."""
+    given = next(rest, None) if value is None else value
+    if given is None:
+        needs = "FILE" if name == "--input" else "number of BYTES"
+        raise _Fault("option '%s' needs a %s; try 'python3 -m kodliwe --help'" % (word, needs), 2)
+    return given
+
+
+def _bytes(word: str, value: str) -> int:
+    """Returns the number of bytes that a word gives. Fails if it is none."""
+    if not (value.isascii() and value.isdigit() and int(value) < 1 << 64):
+        raise _Fault("option '%s': '%s' is not a number of bytes below 2^64; try 'python3 -m kodliwe --help'" % (word, value), 2)
+    return int(value)
+
+
+def _parsed(words: List[str]) -> _Words:
+    """Reads the words of the command line. Fails at the first that is wrong."""
+    found, rest = _Words([]), iter(words)
+    for word in rest:
+        name, value = _split(word)
+        if word == "--":
+            found.inputs.extend((False, symbol) for symbol in rest)
+        elif word == "-" or not word.startswith("-"):
+            found.inputs.append((word == "-", word))
+        elif name == "--hash":
+            found = found._replace(hash=True)
+        elif name == "--input":
+            found.inputs.append((True, _value(word, name, value, rest)))
+        elif name == "--limit":
+            found = found._replace(limit=_bytes(word, _value(word, name, value, rest)))
+        elif name in ("--help", "--version"):
+            return found._replace(text=_HELP if name == "--help" else "kodliwe %s\n" % __version__)
+        else:
+            raise _Fault("unknown option '%s'; try 'python3 -m kodliwe --help'" % word, 2)
+    return found if found.inputs else found._replace(inputs=[(True, "-")])
+
+
+def _lines(file: str) -> Iterator[bytes]:
+    """Yields what a file has so far, up to a line's end, as soon as it is there. Fails if it can't be read."""
+    kept: List[bytes] = []
+    try:
+        stream = open(0, "rb", buffering=0, closefd=False) if file == "-" else open(file, "rb", buffering=0)
+        with stream:
+            while True:
+                chunk = stream.read(1 << 16)
+                if not chunk:
+                    break
+                end = chunk.rfind(b"\n") + 1
+                if end:
+                    yield b"".join(kept) + chunk[:end]
+                    kept = []
+                kept.append(chunk[end:])
+    except OSError as error:
+        raise _Fault("%s: %s" % ("standard input" if file == "-" else file, error.strerror), 1) from error
+    yield b"".join(kept)
+
+
+def _print(text: bytes) -> None:
+    """Writes to standard output at once. Fails if it can't be written."""
+    try:
+        sys.stdout.buffer.write(text)
+        sys.stdout.buffer.flush()
+    except OSError as error:
+        os.dup2(os.open(os.devnull, os.O_WRONLY), sys.stdout.fileno())  # what is not written yet is not tried again at the end
+        is_closed = isinstance(error, BrokenPipeError)
+        raise _Fault("" if is_closed else "write failed: %s" % error.strerror, 0 if is_closed else 1) from error
+
+
+def _filter(words: _Words) -> None:
+    """Prints the inputs with their symbols demangled."""
+    if words.text:
+        _print(words.text.encode())
+        return
+    try:
+        _load()
+    except OSError as error:
+        raise _Fault(str(error), 1) from error
+    for is_file, name in words.inputs:
+        for text in _lines(name) if is_file else [os.fsencode(name) + b"\n"]:
+            _print(demangle_text(text, words.hash, words.limit))
+
+
+def _main(words: List[str]) -> int:
+    """Runs the module as a program, and returns its status."""
+    try:
+        _filter(_parsed(words))
+    except _Fault as fault:
+        if str(fault):
+            print("kodliwe: %s" % fault, file=sys.stderr)
+        return fault.status
+    return 0
 
 
 if __name__ == "__main__":
-    _main()
+    sys.exit(_main(sys.argv[1:]))

@@ -1,5 +1,7 @@
 """Packs the one module as a wheel (PEP 517, PEP 427), with Python alone. So `pip install` needs no other package, and no network.
 
+In the wheel the module is a package of the same name, since only a package can say that it has types (PEP 561).
+
 The fields of METADATA are those of pyproject.toml's [project]; test_kodliwe.py compares them.
 """
 
@@ -23,6 +25,7 @@ Description-Content-Type: text/markdown
 
 """
 WHEEL = "Wheel-Version: 1.0\nGenerator: kodliwe\nRoot-Is-Purelib: true\nTag: py3-none-any\n"
+MAIN = b"import sys\n\nfrom kodliwe import _main\n\nsys.exit(_main(sys.argv[1:]))\n"
 HERE = os.path.dirname(os.path.abspath(__file__))
 # Times in what is packed, so that two packings are the same.
 TIME = (1980, 1, 1, 0, 0, 0)
@@ -40,7 +43,8 @@ def _metadata() -> bytes:
 def build_wheel(wheel_directory: str, config_settings: Any = None, metadata_directory: Optional[str] = None) -> str:
     """Writes the wheel into a folder, and returns its name."""
     folder = "%s-%s.dist-info/" % (NAME, VERSION)
-    files = [("kodliwe.py", _read("kodliwe.py")), (folder + "METADATA", _metadata()), (folder + "WHEEL", WHEEL.encode())]
+    files = [("kodliwe/__init__.py", _read("kodliwe.py")), ("kodliwe/__main__.py", MAIN), ("kodliwe/py.typed", b"")]
+    files += [(folder + "METADATA", _metadata()), (folder + "WHEEL", WHEEL.encode())]
     record = ""
     for name, data in files:
         digest = base64.urlsafe_b64encode(hashlib.sha256(data).digest()).rstrip(b"=").decode()

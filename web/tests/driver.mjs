@@ -127,7 +127,7 @@ async function startChromium(command) {
       await send("DOM.setFileInputFiles", { files, nodeId: await node(selector) });
     },
     async paste(text) {
-      await evaluate(`navigator.clipboard.writeText(${JSON.stringify(text)}).catch(() => 0)`);
+      await evaluate(`navigator.clipboard.writeText(${JSON.stringify(text)}).then(() => 0)`);
       await this.pasteKey();
     },
     async pasteKey() {
@@ -223,7 +223,7 @@ async function startFirefox(command, { downloads, preferences = "" } = {}) {
       await send("input.setFiles", { context, element: { sharedId: nodes[0].sharedId }, files });
     },
     async paste(text) {
-      await send("script.evaluate", { expression: `navigator.clipboard.writeText(${JSON.stringify(text)}).catch(() => 0)`, target, awaitPromise: true, userActivation: true });
+      await send("script.evaluate", { expression: `navigator.clipboard.writeText(${JSON.stringify(text)}).then(() => 0)`, target, awaitPromise: true, userActivation: true });
       await this.pasteKey();
     },
     pasteKey: () => keys([{ type: "keyDown", value: "\uE009" }, ...press("v"), { type: "keyUp", value: "\uE009" }]),

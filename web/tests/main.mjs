@@ -1,4 +1,5 @@
 // Runs all tests, and counts them.
+import fs from "node:fs";
 import { parseArgs } from "node:util";
 import { program } from "./driver.mjs";
 import { testModule } from "./module.mjs";
@@ -34,6 +35,7 @@ if (unknown.length) {
   console.error(`web/test knows chromium and firefox, and not ${unknown.join(", ")}`);
   process.exit(2);
 }
+if (values.shots) fs.mkdirSync(values.shots, { recursive: true });
 await guarded("module", () => testModule(check));
 for (const kind of positionals.length ? positionals : ["chromium", "firefox"]) {
   if (program(kind)) {

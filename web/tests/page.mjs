@@ -12,10 +12,10 @@ import { HOSTILE, HOSTILE_LINE, HOSTILE_LINES, LOG, LOG_LINE, ODD, ODD_RESULT } 
 const require = createRequire(import.meta.url);
 const WEB = fileURLToPath(new URL("../", import.meta.url));
 const FILE = `file://${WEB}index.html`;
-// Milliseconds that a key may wait, until what it did is painted, beyond what it waits over a short text.
+// Milliseconds that the page may keep a key waiting, until what it did is painted, beyond what it does over a short text.
 const PAUSE = 200;
 const SHORT = "_ZN3fooE\n";
-const TRIES = 4; // of these the best counts: other programs of the machine make pauses too
+const TRIES = 4; // of these the best counts
 
 const TYPES = { ".html": "text/html", ".js": "text/javascript", ".css": "text/css", ".svg": "image/svg+xml" };
 
@@ -39,11 +39,42 @@ function serve() {
   });
 }
 
+// Notes the time of each key and input event. A busy thread of the page beside it notes how long it takes
+// for the same work again and again: on a busy machine it takes longer, and so does the page.
 const PROBE = `
   window.events = [];
-  new PerformanceObserver((list) => { for (const it of list.getEntries()) if (/key|input/.test(it.name)) events.push(it.duration); })
+  window.units = [];
+  new PerformanceObserver((list) => { for (const it of list.getEntries()) if (/key|input/.test(it.name)) events.push([it.startTime, it.startTime + it.duration]); })
     .observe({ type: "event", durationThreshold: 16 });
+  window.busy = new Worker(URL.createObjectURL(new Blob([\`
+    let sum = 0, units = [];
+    for (;;) {
+      const from = performance.now();
+      for (let n = 0; n < 10_000_000; n++) sum = (Math.imul(sum, 31) + n) | 0;
+      units.push([performance.timeOrigin + from, performance.timeOrigin + performance.now()]);
+      if (units.length === 5) {
+        postMessage(units);
+        units = [];
+      }
+    }\`])));
+  busy.onmessage = ({ data }) => { for (const unit of data) units.push(unit.map((it) => it - performance.timeOrigin)); };
   0`;
+// The longest event, times the share of a core that a busy thread had meanwhile.
+const OWN = `(() => {
+  busy.terminate();
+  const least = Math.min(...units.map(([from, to]) => to - from));
+  const share = ([start, end]) => {
+    let got = 0, all = 0;
+    for (const [from, to] of units) {
+      const both = Math.min(to, end) - Math.max(from, start);
+      if (both <= 0) continue;
+      all += both;
+      got += both * least / (to - from);
+    }
+    return all === 0 ? 1 : got / all;
+  };
+  return Math.round(Math.max(0, ...events.map((it) => (it[1] - it[0]) * share(it))));
+})()`;
 
 export async function testPage(kind, check, shots) {
   const folder = fs.mkdtempSync(path.join(os.tmpdir(), "kodliwe-web-"));
@@ -80,6 +111,62 @@ export async function testPage(kind, check, shots) {
   const output = () => value("output");
   const type = async (text) => { for (const key of text) await browser.key(key); };
 
+  const paste = async (text) => {
+    await fresh();
+    await browser.paste(text);
+    await done();
+  };
+
+  // Whether a test comes out true within some seconds: the page scrolls in its next frames.
+  const until = async (test, seconds = 5) => {
+    for (let turn = 0; turn < seconds * 20; turn++) {
+      if (await test()) return true;
+      await sleep(50);
+    }
+    return false;
+  };
+
+  // Whether the text area is where the marks under it are.
+  const isLevel = () => evaluate(`input.hidden || (input.scrollTop === shown.scrollTop && input.scrollLeft === shown.scrollLeft)`);
+
+  // Whether the first part of a symbol comes into view in both panes, and stays.
+  const isBrought = async (number) => {
+    const isThere = () => evaluate(`["shown", "output"].every((id) => {
+      const box = document.getElementById(id).getBoundingClientRect();
+      const it = document.querySelector("#" + id + " mark[data-number='${number}']")?.getClientRects()[0];
+      return Boolean(it && it.top >= box.top && it.bottom <= box.bottom && it.left >= box.left && it.left < box.right);
+    })`);
+    const isRight = async () => (await isThere()) && (await isLevel());
+    if (!(await until(isRight))) return false;
+    await sleep(300);
+    return isRight();
+  };
+  const wide = `${"wide ".repeat(80)}`;
+  const lines = (count) => Array.from({ length: count }, (_, n) => `${n} ${n % 7 ? "" : wide}\n`).join("");
+
+  // Whether each mark in view is under the same characters of the text area; how many are.
+  const alignment = () => evaluate(`(() => {
+    const box = input.getBoundingClientRect();
+    let count = 0;
+    for (const mark of document.querySelectorAll("#shown mark")) {
+      const it = mark.getClientRects()[0];
+      if (it.top < box.top + 1 || it.bottom > box.bottom - 1 || it.left < box.left || it.left > box.left + input.clientWidth - 4) continue;
+      const place = document.caretPositionFromPoint(it.left + 1, it.top + it.height / 2);
+      if (place?.offsetNode !== input || place.offset !== input.value.indexOf(mark.textContent)) return -1 - count;
+      count++;
+    }
+    return count;
+  })()`);
+
+  // Lines that browsers wrap at different places: spaces, tabs, characters of other scripts, symbols, no place to break.
+  const odd = Array.from({ length: 60 }, (_, n) => [
+    `${n} ${"word ".repeat(n)} _ZN4name${String(n).length + 1}a${n}E end`, `${"x".repeat(n * 7)} _ZN4tail${String(n).length + 1}b${n}E`,
+    `\t${n}\t${"é漢字 ".repeat(n % 9)}\t_RNvC${String(n).length + 1}c${n}3bar   ${" ".repeat(n * 3)}`][n % 3]).join("\n");
+
+  const isAligned = () => until(async () => (await alignment()) > 3 && (await isLevel()));
+
+  const address = () => evaluate("location.href");
+
   try {
     await browser.allow();
     await browser.downloads(folder);
@@ -88,7 +175,7 @@ export async function testPage(kind, check, shots) {
       await visit(`${url}#try`);
       say(`runs from ${name}`, (await output()).includes("std::panicking::begin_panic\n") && (await value("fault")) === "");
     }
-    for (const part of [typing, switching, copying, stepping, files, staying, pictures]) {
+    for (const part of [typing, wording, bringing, wrapping, linking, choosing, switching, copying, stepping, files, staying, pictures]) {
       // what one part throws ends no other
       await part().catch((error) => say(`the part ${part.name} ends`, false, error.stack));
     }
@@ -130,6 +217,158 @@ export async function testPage(kind, check, shots) {
     say(`and marks it in both`, (await evaluate('document.querySelectorAll("mark.current").length')) === 2);
   }
 
+  // Opens the page anew, with both switches off and an empty text area, which has the keyboard.
+  async function empty() {
+    await evaluate("localStorage.clear(); 0");
+    await visit(FILE);
+    await evaluate('document.getElementById("input").focus(); 0');
+    await fresh();
+    await type("x"); // without a key a browser lets no script write into the clipboard
+    await wait('document.body.dataset.done && document.getElementById("output").textContent === "x"');
+    await fresh();
+    await click("clear");
+    await done();
+  }
+
+  async function wording() {
+    await empty();
+    say("an empty input has a placeholder", /Paste a symbol/.test(await value("input", "placeholder")));
+    say("the name's line says what to do", (await value("mangled")) === "Hover over or step to a name");
+    await paste("foo _ZN3fo_R \n");
+    say("says that there are no symbols", (await value("count")) === "No symbols found. Rust symbols begin with _R or _ZN.", await value("count"));
+    const words = await evaluate(`["label", "result", "copy", "download"].map((id) => document.getElementById(id).textContent).join()`);
+    say("the panes and buttons have their words", words === "Input,Demangled,Copy,Download", words);
+    const links = JSON.parse(await evaluate(`JSON.stringify([...document.querySelectorAll("a")].map((it) => it.href))`));
+    const dead = links.filter((it) => !it.startsWith("file://") || !fs.existsSync(fileURLToPath(it)));
+    say("the footer's links name files", links.length === 4 && dead.length === 0, links.join(" "));
+  }
+
+  async function bringing() {
+    for (const isWrapped of [false, true]) {
+      const how = isWrapped ? "wrapped, " : "";
+      for (const [name, text] of [["a paste", lines(150)], ["a large paste", lines(3000)]]) {
+        await empty();
+        if (isWrapped) await click("wrap");
+        await paste(`${text}${wide}_ZN3foo3barE\n${lines(100)}`);
+        say(`${how}${name} brings the first symbol into view`, await isBrought(0));
+        say(`${how}and tells of no other`, (await value("output")).includes("foo::bar") && (await evaluate("input.hidden")) === text.length > 100_000);
+      }
+    }
+    await empty();
+    await paste(`_ZN1aE\n${lines(100)}`);
+    await evaluate("input.setSelectionRange(input.value.length, input.value.length); 0");
+    await paste(`${lines(60)}_ZN1bE\n${lines(60)}_ZN1cE\n${lines(60)}`);
+    say("a paste into a text brings its own first symbol into view", await isBrought(1));
+    await open("first.txt", `${lines(150)}_ZN3foo3barE\n${lines(100)}`);
+    await done();
+    say("so does a file", await isBrought(0));
+  }
+
+  async function wrapping() {
+    await empty();
+    say("lines do not wrap in a wide page", !(await value("wrap", "checked")) && (await evaluate("getComputedStyle(input).whiteSpace")) === "pre");
+    for (const isWrapped of [false, true]) {
+      const how = isWrapped ? "wrapped" : "unwrapped";
+      await empty();
+      if (isWrapped) await click("wrap");
+      await paste(odd);
+      for (const [place, top] of [["at the top", 0], ["in the middle", 600], ["at the end", 1e6]]) {
+        await evaluate(`input.scrollTo(0, ${top}); 0`);
+        say(`${how}, the marks are under their symbols ${place}`, await isAligned(), await alignment());
+      }
+      const isWide = await evaluate("[input, output].map((it) => it.scrollWidth > it.clientWidth).join()");
+      say(`${how}, ${isWrapped ? "nothing is beside the panes" : "long lines go on beside the panes"}`, isWide === (isWrapped ? "false,false" : "true,true"), isWide);
+    }
+    const heights = await evaluate(`[input.scrollHeight, [...shown.children].reduce((sum, it) => sum + it.getBoundingClientRect().height, 0)].join()`);
+    const [area, marks] = heights.split(",").map(Number);
+    say("wrapped, the marks have as many rows as the text area", Math.abs(area - marks - 19.2) < 2, heights);
+    await type("\u0020_ZN3addE");
+    await wait('document.getElementById("output").textContent.includes("add")', 5);
+    say("wrapped, an edit is marked in its place", await isAligned(), await alignment());
+    await fresh();
+    await visit(FILE);
+    say("the switch is kept for the next visit", await value("wrap", "checked"));
+    await open("log.txt", LOG.slice(0, 400_000));
+    await done();
+    await click("previous");
+    const last = Number(await evaluate('document.querySelector("#output mark.current")?.dataset.number'));
+    say("wrapped, it steps to the last symbol of a large text", last > 3000 && (await isBrought(last)), last);
+    await click("wrap");
+    say("the symbol that is told stays in view when lines unwrap", await isBrought(last));
+    await evaluate("localStorage.clear(); 0");
+    await browser.look({ width: 690, height: 800 });
+    await visit(`${FILE}#try`);
+    say("lines wrap in a page of under 700 px", await value("wrap", "checked"));
+    await browser.look();
+    say("and no longer once it is wide", await wait('!document.getElementById("wrap").checked', 5));
+  }
+
+  async function linking() {
+    for (const [name, url] of [["a file", FILE], ["a server", site.url]]) {
+      await visit(`${url}#symbol=_ZN11_%24LT%24u8%24GT%243bar17h05af221e174051e9E`);
+      const text = [await value("input", "value"), await output(), await value("path")].join();
+      say(`#symbol= shows that symbol from ${name}`, text === "_ZN11_$LT$u8$GT$3bar17h05af221e174051e9E,<u8>::bar,<u8>::bar", text);
+    }
+    say("the server is not told of it", !site.asked.some((it) => it.includes("u8")));
+    await visit(`${FILE}#symbol=_ZN3fooE%`);
+    say("an address that is no code is taken as it is", (await output()) === "foo%", await output());
+    await fresh();
+    await evaluate('location.hash = "#symbol=_RNvC3foo3bar"; 0');
+    say("an address that changes shows its symbol", await wait('document.getElementById("output").textContent === "foo::bar"', 5), await output());
+    await empty();
+    say("there is no link without a symbol", (await value("link", "disabled")) && (await value("copypath", "disabled")));
+    await paste("a _ZN3foo3barE b\n_ZN11_$LT$u8$GT$3bazE.cold c");
+    await click("next");
+    await click("next");
+    await evaluate('document.getElementById("link").focus(); 0');
+    await browser.key("Enter");
+    say("Link says what it did", await wait('document.getElementById("count").textContent === "The link is copied, and it is the page\'s address now."', 5), await value("count"));
+    const link = await address();
+    say("Link writes the address", link === `${FILE}#symbol=_ZN11_%24LT%24u8%24GT%243bazE.cold`, link);
+    say("and the text stays", (await value("input", "value")).startsWith("a _ZN3foo3barE b"));
+    await evaluate("input.select(); 0");
+    await evaluate('input.focus(); 0');
+    await browser.pasteKey();
+    say("and copies it", await wait(`input.value === ${JSON.stringify(link)}`, 5), await value("input", "value"));
+    await visit(link);
+    say("a link shows its symbol", (await output()) === "<u8>::baz.cold", await output());
+    await empty();
+    await paste(`_ZN${"3foo".repeat(8000)}E`);
+    await click("link");
+    say("a symbol that is too long for a link says so", /32,004 characters, and a link takes 30,000/.test(await value("count")), await value("count"));
+    say("and leaves the address", (await address()) === FILE);
+  }
+
+  async function choosing() {
+    await empty();
+    await paste("_ZN3foo3barE\n_RNvC1a1b\n_ZN1xE");
+    await evaluate("input.setSelectionRange(16, 16); 0");
+    say("the text cursor chooses a symbol", await wait('document.getElementById("mangled").textContent === "_RNvC1a1b"', 5), await value("mangled"));
+    const place = JSON.parse(await evaluate(`(() => { const it = document.querySelector("#output mark").getBoundingClientRect(); return JSON.stringify([it.x + it.width / 2, it.y + it.height / 2]); })()`));
+    await browser.mouse(...place);
+    say("the pointer tells another", await wait('document.getElementById("mangled").textContent === "_ZN3foo3barE"', 5), await value("mangled"));
+    await browser.mouse(5, 5);
+    say("and the chosen one is told once the pointer leaves", await wait('document.getElementById("mangled").textContent === "_RNvC1a1b"', 5), await value("mangled"));
+    await evaluate('document.getElementById("copypath").focus(); 0');
+    await browser.key("Enter");
+    say("Copy path says what it did", await wait('document.getElementById("count").textContent === "The path is copied."', 5), await value("count"));
+    await click("clear");
+    await evaluate("input.focus(); 0");
+    await browser.pasteKey();
+    say("and copies the path alone", await wait('input.value === "a::b"', 5), await value("input", "value"));
+    await evaluate("input.select(); 0");
+    await paste(`${"_ZN3foo3barE\n".repeat(250)}_RNvC1a1b`);
+    await evaluate("input.setSelectionRange(0, 0); 0");
+    await type("first ");
+    await wait('document.getElementById("output").textContent.startsWith("first ")', 5);
+    await sleep(300);
+    await evaluate("input.setSelectionRange(input.value.length - 2, input.value.length - 2); 0");
+    say("the text cursor chooses a symbol far after an edit", await wait('document.getElementById("mangled").textContent === "_RNvC1a1b"', 5), await value("mangled"));
+    await evaluate("input.select(); 0");
+    await paste(" _ZN3oneE");
+    say("the only symbol of a text is told", (await value("path")) === "one", await value("path"));
+  }
+
   async function switching() {
     await open("hash.txt", "_ZN3foo17h05af221e174051e9E");
     await done();
@@ -169,12 +408,12 @@ export async function testPage(kind, check, shots) {
     await visit(`${FILE}#try`);
     await evaluate('document.getElementById("hash").focus(); 0');
     const order = [];
-    for (let turn = 0; turn < 9; turn++) {
+    for (let turn = 0; turn < 10; turn++) {
       order.push(await evaluate('document.activeElement.id'));
       await browser.key("Tab");
     }
-    say("the order of the keyboard", order.join() === "hash,example,file,clear,copy,download,previous,next,input", order.join());
-    say("the result is behind it", (await evaluate("document.activeElement.id")) === "output");
+    say("the order of the keyboard", order.join() === "hash,wrap,example,file,clear,copy,download,previous,next,input", order.join());
+    say("the result is after it", (await evaluate("document.activeElement.id")) === "output");
     for (const wanted of ["_ZN3std9panicking11begin_panic17h3f1a9c2b7d5e6041E", "_ZN71_$LT$Test"]) {
       await evaluate('document.getElementById("next").focus(); 0');
       await browser.key("Enter");
@@ -188,7 +427,7 @@ export async function testPage(kind, check, shots) {
       const nodes = await browser.names();
       const controls = nodes.filter(({ role }) => ["button", "switch", "checkbox", "textbox", "region"].includes(role));
       const nameless = controls.filter((it) => it.name === "");
-      say("every control has a name in the accessibility tree", controls.length >= 9 && nameless.length === 0, controls.map((it) => `${it.role} ${it.name}`).join(", "));
+      say("every control has a name in the accessibility tree", controls.length >= 12 && nameless.length === 0, controls.map((it) => `${it.role} ${it.name}`).join(", "));
     }
     const moving = await evaluate(`[...document.querySelectorAll("*")].flatMap((it) => [it, it.matches("input") ? "::before" : null].map((one) => one === null ? null : getComputedStyle(it, typeof one === "string" ? one : null))).filter((it) => it && (it.transitionDuration !== "0s" || it.animationName !== "none")).length`);
     say("nothing moves", moving === 0);
@@ -216,8 +455,9 @@ export async function testPage(kind, check, shots) {
   }
 
   // The milliseconds of the key that waits longest, of some that are pressed over a text.
-  async function longest(text) {
+  async function longest(text, isWrapped) {
     await visit(FILE);
+    if ((await value("wrap", "checked")) !== isWrapped) await click("wrap");
     await evaluate(PROBE);
     await open("text.txt", text);
     for (let turns = 0; turns < 15; turns++) {
@@ -233,7 +473,7 @@ export async function testPage(kind, check, shots) {
     }
     await done();
     await sleep(500);
-    return evaluate("Math.max(0, ...events)");
+    return evaluate(OWN);
   }
 
   async function staying() {
@@ -241,12 +481,14 @@ export async function testPage(kind, check, shots) {
     const it = await kodliwe.load(await kodliwe.unpack(require("../module.js")));
     const sum = (text) => createHash("sha256").update(text).digest("hex");
     const texts = [["40,000 symbols in lines", LOG, true], ["40,000 symbols in one line", LOG_LINE, true], ["5,000 hostile symbols in lines", HOSTILE_LINES, false],
-      ["5,000 hostile symbols in one line", HOSTILE_LINE, false], ["a text area full of symbols", LOG.slice(0, 99_000), false], ["a text area full of hostile symbols", HOSTILE_LINES.slice(0, 99_000), false]];
+      ["5,000 hostile symbols in one line", HOSTILE_LINE, false], ["a text area full of symbols", LOG.slice(0, 99_000), false], ["a text area full of hostile symbols", HOSTILE_LINES.slice(0, 99_000), false],
+      ["40,000 symbols in lines, wrapped", LOG, false], ["a text area full of symbols, wrapped", LOG.slice(0, 99_000), false]];
     for (const [name, text, isCompared] of texts) {
+      const isWrapped = name.endsWith("wrapped");
       let best = Infinity;
       for (let turn = 0; turn < TRIES && best > PAUSE; turn++) {
-        const usual = await longest(SHORT);
-        best = Math.min(best, await longest(text) - usual);
+        const usual = await longest(SHORT, isWrapped);
+        best = Math.min(best, await longest(text, isWrapped) - usual);
       }
       say(`${name}: the longest key`, best <= PAUSE, `${Math.max(0, best)} ms or less beyond a short text's`);
       if (isCompared) {
@@ -259,19 +501,31 @@ export async function testPage(kind, check, shots) {
         say(`${name}: steps to the last symbol`, seen, await value("mangled"));
       }
     }
-    await evaluate(`document.getElementById("clear").click(); 0`);
+    await evaluate(`document.getElementById("clear").click(); localStorage.clear(); 0`);
   }
 
   async function pictures() {
-    for (const [name, look] of [["light", {}], ["dark", { dark: true }], ["narrow", { width: 420, height: 900 }]]) {
+    const looks = [["light", {}], ["dark", { dark: true }], ["narrow", { width: 390, height: 844 }], ["narrow-dark", { width: 390, height: 664, dark: true }]];
+    for (const [name, look] of looks) {
       await browser.look(look);
+      await visit(FILE);
+      await evaluate("localStorage.clear(); 0");
       await visit(`${FILE}#try`);
-      const wide = await evaluate("document.documentElement.scrollWidth <= innerWidth");
-      say(`${name}: nothing stands out of the page`, wide);
       await click("next");
       await sleep(300);
-      if (shots) await browser.shot(path.join(shots, `${kind}-${name}.png`));
+      const wide = await evaluate("document.documentElement.scrollWidth <= innerWidth");
+      say(`${name}: nothing stands out of the page`, wide);
+      const rows = await evaluate(`new Set([...document.querySelectorAll(".tools > *")].map((it) => it.getBoundingClientRect()).map((it) => Math.round((it.top + it.bottom) / 8))).size`);
+      say(`${name}: the buttons take few rows`, rows <= (look.width ? 2 : 1), rows);
+      const seen = await evaluate(`(() => { const it = document.querySelector("#output mark.current").getClientRects()[0]; return it.top > 0 && it.bottom < innerHeight && scrollY === 0; })()`);
+      say(`${name}: the result is on the first screen`, seen);
+      for (const how of ["", "-toggled"]) {
+        if (how) await click("wrap");
+        await sleep(300);
+        if (shots) await browser.shot(path.join(shots, `${kind}-${name}${how}.png`));
+      }
     }
+    await evaluate("localStorage.clear(); 0");
     await browser.look();
   }
 

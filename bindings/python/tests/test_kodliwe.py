@@ -202,10 +202,28 @@ class Library(unittest.TestCase):
             shutil.copy(self.file(), os.path.join(folder, "libkodliwe.so"))
             self.assertEqual(run(self.CODE, folder, KODLIWE_LIB="").stdout, b"foo\n")
 
+    def test_it_is_of_the_same_prefix(self):
+        with tempfile.TemporaryDirectory() as prefix:
+            for folder in ("lib/python3.9/site-packages", "lib/python3/dist-packages/kodliwe"):
+                place = os.path.join(prefix, folder)
+                os.makedirs(place)
+                shutil.copy(MODULE, place)
+                shutil.copy(self.file(), os.path.join(prefix, "lib", "libkodliwe.so"))
+                code = self.CODE + "; print(kodliwe._load()._name)"
+                said = run(code, place, KODLIWE_LIB="").stdout.decode()
+                self.assertEqual(said, "foo\n%s/lib/libkodliwe.so\n" % prefix)
+
     def test_none_is_said_in_one_line(self):
-        ran = run(self.CODE, os.path.dirname(MODULE), KODLIWE_LIB=os.path.join(HERE, "none.so"))
-        self.assertEqual(ran.returncode, 1)
-        self.assertIn(b"OSError: kodliwe finds no libkodliwe.so: build it as docs/C.md says", ran.stderr.splitlines()[-1])
+        how = b"OSError: kodliwe finds no libkodliwe.so: `make install PREFIX=%s` in Kodliwe's repository installs it"
+        with tempfile.TemporaryDirectory() as prefix:
+            place = os.path.join(prefix, "lib", "python3", "site-packages")
+            os.makedirs(place)
+            shutil.copy(MODULE, place)
+            for folder, told in ((place, prefix.encode()), (os.path.dirname(MODULE), b"/usr/local")):
+                code = "import sys; sys.prefix = sys.base_prefix\n" + self.CODE
+                ran = run(code, folder, KODLIWE_LIB=os.path.join(HERE, "none.so"))
+                self.assertEqual(ran.returncode, 1)
+                self.assertIn(how % told, ran.stderr.splitlines()[-1])
 
     def test_it_is_looked_for_once(self):
         code = (
@@ -229,12 +247,95 @@ class Library(unittest.TestCase):
             self.assertIn("\n%s: %s\n" % (field, project[key]), packing.METADATA)
         self.assertEqual((packing.NAME, packing.VERSION), (project["name"], kodliwe.__version__))
 
-    def test_the_module_is_a_program(self):
-        library = self.file()
-        program = "import runpy, sys; sys.argv[1:2] = []; runpy.run_path(%r, run_name='__main__')" % MODULE
-        self.assertEqual(run(program, "-", LEGACY, "main", KODLIWE_LIB=library).stdout, b"foo\nmain\n")
-        filtered = run(program, "-", given=b"\xff " + LEGACY.encode() + b"\nend", KODLIWE_LIB=library)
-        self.assertEqual(filtered.stdout, b"\xff foo\nend")
+
+class Program(unittest.TestCase):
+    def ran(self, *words, given=b"", lib=None, **more):
+        env = dict(os.environ, KODLIWE_LIB=lib or kodliwe._load()._name)
+        more.setdefault("stdout", subprocess.PIPE)
+        ran = subprocess.run([sys.executable, MODULE, *words], input=given, stderr=subprocess.PIPE, env=env, **more)
+        return ran.returncode, ran.stdout, ran.stderr.decode()
+
+    def test_symbols_are_lines(self):
+        self.assertEqual(self.ran(LEGACY, "main", "at _ZN3fooE"), (0, b"foo\nmain\nat foo\n", ""))
+        self.assertEqual(self.ran("--", "-x", LEGACY), (0, b"-x\nfoo\n", ""))
+
+    def test_standard_input_is_filtered(self):
+        given = b"\xff " + LEGACY.encode() + b"\nend"
+        for words in ((), ("-",), ("-i", "-"), ("--input=-",)):
+            self.assertEqual(self.ran(*words, given=given), (0, b"\xff foo\nend", ""))
+
+    def test_the_hash_is_kept(self):
+        for words in (("--hash", LEGACY), (LEGACY, "--hash")):
+            self.assertEqual(self.ran(*words), (0, b"foo::h05af221e174051e9\n", ""))
+        self.assertEqual(self.ran("--hash", given=LEGACY.encode()), (0, b"foo::h05af221e174051e9", ""))
+
+    def test_a_file_is_read_in_its_turn(self):
+        with tempfile.TemporaryDirectory() as folder:
+            name = os.path.join(folder, "log")
+            with open(name, "wb") as file:
+                file.write(b"x _ZN3fooE\n" * 20_000 + b"a" * 200_000 + b" _ZN3fooE")
+            filtered = b"x foo\n" * 20_000 + b"a" * 200_000 + b" foo"
+            for words in (("-i", name), ("-i" + name,), ("--input", name), ("--input=" + name,)):
+                # assertEqual would look for the difference of long texts for minutes
+                self.assertTrue(self.ran("1", *words, "2") == (0, b"1\n" + filtered + b"2\n", ""), words)
+            self.assertEqual(self.ran("1", "-i", name + "x", "2"), (1, b"1\n", "kodliwe: %sx: No such file or directory\n" % name))
+            self.assertEqual(self.ran("-i", folder), (1, b"", "kodliwe: %s: Is a directory\n" % folder))
+
+    def test_a_limit_cuts(self):
+        for words in (("-l", "3"), ("-l3",), ("--limit=3",)):
+            self.assertEqual(self.ran(*words, "_ZN3foo3barE"), (0, b"foo{size limit reached}\n", ""))
+
+    def test_help_and_version_are_printed_without_a_library(self):
+        for word in ("-h", "--help"):
+            status, said, faults = self.ran(word, lib="/none.so")
+            self.assertEqual((status, faults), (0, ""))
+            for option in (b"-i, --input FILE", b"--hash", b"-l, --limit BYTES", b"-h, --help", b"-V, --version", b"[SYMBOL]"):
+                self.assertIn(option, said)
+            self.assertLessEqual(max(map(len, said.splitlines())), 80)
+        self.assertEqual(self.ran("-V", lib="/none.so"), (0, b"kodliwe %s\n" % kodliwe.__version__.encode(), ""))
+
+    def test_a_wrong_word_reads_nothing(self):
+        told = "; try 'python3 -m kodliwe --help'\n"
+        for words, why in (
+            (["-x"], "unknown option '-x'"),
+            (["--hash=1"], "unknown option '--hash=1'"),
+            (["-i"], "option '-i' needs a FILE"),
+            (["--limit"], "option '--limit' needs a number of BYTES"),
+            (["-l", "1K"], "option '-l': '1K' is not a number of bytes below 2^64"),
+            (["-l", str(1 << 64)], "option '-l': '%d' is not a number of bytes below 2^64" % (1 << 64)),
+        ):
+            self.assertEqual(self.ran(LEGACY, *words), (2, b"", "kodliwe: " + why + told))
+
+    def test_no_library_is_one_line(self):
+        status, said, faults = self.ran(LEGACY, lib="/none.so")
+        self.assertEqual((status, said, faults.count("\n")), (1, b"", 1))
+        self.assertTrue(faults.startswith("kodliwe: kodliwe finds no libkodliwe.so: `make install PREFIX="), faults)
+
+    def test_a_closed_output_is_no_fault(self):
+        reading, writing = os.pipe()
+        os.close(reading)
+        try:
+            self.assertEqual(self.ran(LEGACY, stdout=writing), (0, None, ""))
+        finally:
+            os.close(writing)
+
+    @unittest.skipUnless(os.path.exists("/dev/full"), "there is no full device")
+    def test_a_full_output_is_one(self):
+        with open("/dev/full", "wb") as full:
+            self.assertEqual(self.ran(LEGACY, stdout=full), (1, None, "kodliwe: write failed: No space left on device\n"))
+
+    def test_a_line_is_written_before_the_next_is_there(self):
+        env = dict(os.environ, KODLIWE_LIB=kodliwe._load()._name)
+        env.pop("PYTHONUNBUFFERED", None)
+        with subprocess.Popen([sys.executable, MODULE], stdin=subprocess.PIPE, stdout=subprocess.PIPE, env=env) as child:
+            late = threading.Timer(20, child.kill)
+            late.start()
+            child.stdin.write(b"a _ZN3fooE\n")
+            child.stdin.flush()
+            self.assertEqual(child.stdout.readline(), b"a foo\n")
+            child.stdin.close()
+            self.assertEqual(child.stdout.read(), b"")
+            late.cancel()
 
 
 if __name__ == "__main__":
