@@ -99,9 +99,7 @@ def arguments():
     """Returns the arguments of the command line."""
     parser = argparse.ArgumentParser(description=__doc__, formatter_class=argparse.RawDescriptionHelpFormatter)
     parser.add_argument("--scheduler", metavar="ADDRESS", help="the scheduler's address, tcp://HOST:8786")
-    parser.add_argument(
-        "--block", type=block_size, default="64MiB", help="bytes of a block (64MiB); a worker needs three times as much"
-    )
+    parser.add_argument("--block", type=block_size, default="64MiB", help="bytes of a block (64MiB); a worker needs three times as much")
     parser.add_argument("--hash", action="store_true", help="keep the hashes, as kodliwe --hash does")
     parser.add_argument("--resume", action="store_true", help="keep the blocks that are in OUT, and do the others")
     parser.add_argument("--wait", type=float, default=60, metavar="SECONDS", help="wait for the first worker (60)")

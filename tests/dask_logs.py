@@ -1,10 +1,10 @@
 #!/usr/bin/env python3
 """Tests examples/dask_logs.py with a scheduler and workers of its own, on the loopback address.
 
-    KODLIWE_LIB=out/build PYTHONPATH=bindings/python /usr/bin/python3 tests/dask_logs.py
+    /usr/bin/python3 tests/dask_logs.py
 
-It needs Dask (Debian: python3-distributed). KODLIWE names the program whose output the example's is compared with;
-without it, that is out/build/kodliwe. The last line is `N passed, N failed`.
+It needs Dask (Debian: python3-distributed), and what `make` builds: the library for the workers, and the program whose
+output the example's is compared with. The last line is 'N passed, N failed'.
 """
 import glob
 import os
@@ -18,9 +18,10 @@ import tempfile
 import time
 import unittest
 
-ROOT = os.path.dirname(os.path.dirname(os.path.abspath(__file__)))
+from common import KODLIWE, ROOT, SHARED, built
+
 EXAMPLE = os.path.join(ROOT, "examples", "dask_logs.py")
-PROGRAM = os.environ.get("KODLIWE", os.path.join(ROOT, "out", "build", "kodliwe"))
+MODULE = os.path.join(ROOT, "bindings", "python")
 LIMIT = 60  # seconds that one step may take
 SYMBOLS = [
     b"_ZN3foo17h05af221e174051e9E",
@@ -48,6 +49,11 @@ def make_log(size):
         written += len(lines[-1]) + 1
     chance.shuffle(lines)
     return b"\n".join(lines)
+
+
+def environment(**variables):
+    """Returns the environment of a process that uses the Python module, with these variables."""
+    return {**os.environ, "KODLIWE_LIB": built(SHARED), "PYTHONPATH": MODULE, "PYTHONDONTWRITEBYTECODE": "1", **variables}
 
 
 def end(process, sign=signal.SIGTERM):
@@ -81,7 +87,7 @@ class DaskLogs(unittest.TestCase):
         inputs = [word for log in cls.logs for word in ("-i", log)]
         cls.expected = {
             keeps_hash: subprocess.run(
-                [PROGRAM] + ["--hash"] * keeps_hash + inputs, check=True, capture_output=True, timeout=LIMIT
+                [built(KODLIWE)] + ["--hash"] * keeps_hash + inputs, check=True, capture_output=True, timeout=LIMIT
             ).stdout
             for keeps_hash in (False, True)
         }
@@ -92,9 +98,7 @@ class DaskLogs(unittest.TestCase):
         log = open(os.path.join(cls.folder, "%d.log" % time.monotonic_ns()), "w+")
         cls.addClassCleanup(log.close)
         command = [sys.executable, "-m", "distributed.cli.dask_" + words[0], "--host", "127.0.0.1", "--no-dashboard"]
-        process = subprocess.Popen(
-            command + words[1:], stdout=log, stderr=log, cwd=cls.folder, env=dict(os.environ, **variables)
-        )
+        process = subprocess.Popen(command + words[1:], stdout=log, stderr=log, cwd=cls.folder, env=environment(**variables))
         cls.addClassCleanup(end, process)
         until = time.monotonic() + LIMIT
         while time.monotonic() < until and process.poll() is None:
@@ -121,7 +125,7 @@ class DaskLogs(unittest.TestCase):
         return [sys.executable, EXAMPLE, "--scheduler", address or self.address, *words, out] + self.logs
 
     def run_example(self, out, *words, **given):
-        return subprocess.run(self.command(out, *words, **given), capture_output=True, text=True, timeout=LIMIT)
+        return subprocess.run(self.command(out, *words, **given), capture_output=True, text=True, timeout=LIMIT, env=environment())
 
     def joined(self, out):
         """Returns the files of a folder, joined in the order of their names. No unfinished file may be left."""
@@ -142,7 +146,7 @@ class DaskLogs(unittest.TestCase):
     def test_lost_worker(self):
         out = os.path.join(self.folder, "lost")
         lost = self.start_worker(self.address)
-        with subprocess.Popen(self.command(out, "--block", "4KiB"), stderr=subprocess.PIPE, text=True) as run:
+        with subprocess.Popen(self.command(out, "--block", "4KiB"), stderr=subprocess.PIPE, text=True, env=environment()) as run:
             until = time.monotonic() + LIMIT
             while len(glob.glob(out + "/*")) < 30 and time.monotonic() < until and run.poll() is None:
                 time.sleep(0.005)
@@ -192,12 +196,18 @@ class DaskLogs(unittest.TestCase):
     def test_workers_of_this_machine(self):
         out = os.path.join(self.folder, "local")
         words = [word for word in self.command(out, "--block", "1MiB") if word not in ("--scheduler", self.address)]
-        done = subprocess.run(words, capture_output=True, text=True, timeout=LIMIT)
+        done = subprocess.run(words, capture_output=True, text=True, timeout=LIMIT, env=environment())
         self.assertEqual(done.returncode, 0, done.stderr)
         self.assertTrue(self.joined(out) == self.expected[False])
 
 
 def main():
+    try:
+        import distributed  # noqa: F401
+    except ImportError:
+        print("no Dask for this Python: the Debian package python3-distributed has it")
+        print("0 passed, 1 failed")
+        return 1
     result = unittest.TextTestRunner(verbosity=2).run(unittest.defaultTestLoader.loadTestsFromTestCase(DaskLogs))
     failed = len(result.failures) + len(result.errors)
     print("%d passed, %d failed" % (max(result.testsRun - failed, 0), failed))
