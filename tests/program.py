@@ -7,7 +7,10 @@ It prints a line for each of these, and at last how many passed:
   inputs        several inputs in the order of the words, one of them without its last line feed
   words         -- and symbols that begin with -; 10,000 symbols as words
   unknown       a word that is no option ends it with status 2 before anything is read
-  missing       an input that is not there, or is a directory, is named; what came before it stands
+  missing       an input that is not there, or is a directory, is named; what came before it is written; a name that would not
+                show is quoted, and a folder of --output that fails is named
+  noted         a word without a symbol that names a file: one note, with the output and the status as they are
+  standard      -o - is standard output, and a second -o is an error
   full          /dev/full is told, as the output and under --output
   closed        a pipe that whoever read it has closed ends it silently with status 0
   followed      what is finished is shown while the input is still open
@@ -98,11 +101,43 @@ def missing():
     same(run("_ZN1aE", "-i", "none.txt", "_ZN1bE"), (b"a\n", "kodliwe: none.txt: No such file or directory\n", 1))
     os.mkdir("folder")
     same(run("_ZN1aE", "-i", "folder"), (b"a\n", "kodliwe: folder: Is a directory\n", 1))
-    same(run("-o", "none/out", "_ZN1aE"), (b"", "kodliwe: none/out: No such file or directory\n", 1))
+    same(run("-o", "none/out", "_ZN1aE"), (b"", "kodliwe: none: No such file or directory\n", 1))
+    write("plain", b"")
+    same(run("-o", "plain/out", "_ZN1aE"), (b"", "kodliwe: plain: Not a directory\n", 1))
+    same(run("-i", "", "_ZN1aE"), (b"", "kodliwe: '': No such file or directory\n", 1))
+    same(run("-i", "a\x1b[1m"), (b"", "kodliwe: 'a\\u{1b}[1m': No such file or directory\n", 1))
     same(run("-o", "folder", "_ZN1aE"), (b"", "kodliwe: folder: Is a directory\n", 1))
     with open("folder/../closed", "wb") as file:
         ran = subprocess.run([KODLIWE], stdin=file, stdout=subprocess.PIPE, stderr=subprocess.PIPE, timeout=120)
     same((ran.stdout, ran.stderr, ran.returncode), (b"", b"kodliwe: standard input: Bad file descriptor\n", 1))
+
+
+def noted():
+    write("crash.txt", b"at _ZN1aE")
+    note = "kodliwe: note: 'crash.txt' is a file; use -i to read it\n"
+    same(run("crash.txt"), (b"crash.txt\n", note, 0))
+    same(run("_ZN1aE", "crash.txt", "_ZN1bE"), (b"a\ncrash.txt\nb\n", note, 0))
+    same(run("crash.txt", "-o", "noted"), (b"", note, 0))
+    same(read("noted"), b"crash.txt\n")
+    same(run("-i", "crash.txt"), (b"at a", "", 0))
+    # Only the first word without a symbol is looked up, and a folder is no file.
+    same(run("none.txt", "crash.txt"), (b"none.txt\ncrash.txt\n", "", 0))
+    os.mkdir("crashes")
+    same(run("crashes"), (b"crashes\n", "", 0))
+    write("line\nfeed", b"")
+    same(run("line\nfeed"), (b"line\nfeed\n", "kodliwe: note: 'line\\nfeed' is a file; use -i to read it\n", 0))
+    write("_ZN1aE", b"")
+    same(run("_ZN1aE"), (b"a\n", "", 0))
+
+
+def standard_output():
+    same(run("-o", "-", FOO), (b"foo\n", "", 0))
+    same(run("--output=-", "-i", "-", text=b"_ZN1aE"), (b"a", "", 0))
+    assert not os.path.exists("-")
+    twice = "kodliwe: option '%s' may be given once; try 'kodliwe --help'\n"
+    same(run("-o", "one", "-o", "two", FOO), (b"", twice % "-o", 2))
+    same(run("-o-", "--output", "two", FOO), (b"", twice % "--output", 2))
+    assert not os.path.exists("one") and not os.path.exists("two")
 
 
 def full():
@@ -373,7 +408,8 @@ def guarded():
     assert "statx" in calls, calls
     for refused, reason in REASONS.items():
         found, files, calls = run_guarded(refused)
-        same(found, (b"", "kodliwe: guarded/out: %s\n" % reason, 1))
+        name = "guarded" if refused == "statx" else "guarded/out"
+        same(found, (b"", "kodliwe: %s: %s\n" % (name, reason), 1))
         same(files, {"out": b"old"})
         assert refused in calls, calls
     return "%d calls refused" % len(REASONS)
@@ -517,6 +553,8 @@ CHECKS = [
     words,
     unknown,
     missing,
+    noted,
+    standard_output,
     full,
     closed,
     followed,

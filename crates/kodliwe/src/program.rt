@@ -151,34 +151,62 @@ fn filter_into<'a, F: Files, E: Write>(
     }
 }
 
-/// Filters what is asked for, and answers the status.
-fn filter<F: Files, W: Write + Drop, E: Write>(
+/// Returns the note for a word that names a file.
+fn file_note(alloc: Global, word: &str) -> Result<String, AllocError> {
+    let name = quoted(alloc, word)?;
+    format!(in alloc; "kodliwe: note: {name} is a file; use -i to read it\n")
+}
+
+/// Writes a note if a word names a regular file. An error of `errors` is ignored.
+fn note_file<F: Files, E: Write>(alloc: Global, files: &F, errors: &mut E, word: &str) {
+    let is_file = match files.metadata(word) {
+        Ok(found) => found.is_file(),
+        Err(_) => false,
+    };
+    if is_file {
+        let _ = match file_note(alloc, word) {
+            Ok(line) => errors.write_all(line.as_bytes()),
+            Err(_) => errors.write_all(OUT_OF_MEMORY.as_bytes()),
+        };
+    }
+}
+
+/// Filters what the words ask for, and returns the exit status.
+fn filter<'a, F: Files, W: Write + Drop, E: Write>(
     alloc: Global,
-    files: &F,
+    files: &'a F,
     stdin: Stdin,
     stdout: W,
     errors: &mut E,
-    request: Request<'_>,
+    request: Request<'a>,
 ) -> u8 {
     let (include_hash, limit) = (request.include_hash, request.limit);
+    let plain_word = request.plain_word;
     let Ok(inputs) = open_inputs(alloc, files, stdin, request.sources) else {
         return tell(errors, OUT_OF_MEMORY, 1);
     };
-    if let Some(Target::File(path)) = request.output {
-        return filter_into(alloc, files, inputs, path, errors, include_hash, limit);
-    }
-    let Ok(buffer) = BufWriter::with_capacity(alloc, BUFFER, stdout) else {
-        return tell(errors, OUT_OF_MEMORY, 1);
+    let status = if let Some(Target::File(path)) = request.output {
+        filter_into(alloc, files, inputs, path, errors, include_hash, limit)
+    } else if let Ok(buffer) = BufWriter::with_capacity(alloc, BUFFER, stdout) {
+        let mut output = Output::new(buffer);
+        run(alloc, inputs, &mut output, errors, include_hash, limit).status()
+    } else {
+        tell(errors, OUT_OF_MEMORY, 1)
     };
-    let mut output = Output::new(buffer);
-    run(alloc, inputs, &mut output, errors, include_hash, limit).status()
+    if let Some(word) = plain_word {
+        // A user who gives a word that has no symbol may have meant a file.
+        if status == 0 {
+            note_file(alloc, files, errors, word);
+        }
+    }
+    status
 }
 
 /// Runs the program on the words behind its name, and answers the exit status.
-pub fn start<F: Files, W: Write + Drop, E: Write>(
+pub fn start<'a, F: Files, W: Write + Drop, E: Write>(
     alloc: Global,
-    words: &[String],
-    files: &F,
+    words: &'a [String],
+    files: &'a F,
     stdin: Stdin,
     mut stdout: W,
     errors: &mut E,

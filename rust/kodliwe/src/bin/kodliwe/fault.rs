@@ -26,12 +26,15 @@ fn reason(alloc: Global, error: &io::Error) -> Result<String, AllocError> {
 
 /// Returns whether a text has a character that is not printable, by the rule of Rust's `Debug`.
 fn has_unprintable(text: &str) -> bool {
-    // `escape_debug` puts a backslash before each quote and each backslash, which are printable.
-    let escaped = text
-        .chars()
-        .filter(|c| matches!(c, '\'' | '"' | '\\'))
-        .count();
-    text.escape_debug().count() != text.chars().count().saturating_add(escaped)
+    // A quote and a backslash are printable, though `escape_debug` puts a backslash before them.
+    let mut is_escaped = false;
+    for c in text.escape_debug() {
+        if is_escaped && !matches!(c, '\'' | '"' | '\\') {
+            return true;
+        }
+        is_escaped = c == '\\' && !is_escaped;
+    }
+    false
 }
 
 /// Returns a text in quotes. If it has a character that is not printable, it is escaped as in
