@@ -20,7 +20,7 @@ import argparse, itertools, os, random, re, subprocess, tempfile
 
 from common import CORPUS, KODLIWE, further, instructions, need_kodliwe, need_valgrind
 
-DIGITS = '0123456789abcdefghijklmnopqrstuvwxyzABCDEFGHIJKLMNOPQRSTUVWXYZ'
+DIGITS = "0123456789abcdefghijklmnopqrstuvwxyzABCDEFGHIJKLMNOPQRSTUVWXYZ"
 COUNTED_LINES = 20_000
 REPEATS = 60
 MULTIPLIER = 0x9E3779B97F4A7C15
@@ -30,19 +30,19 @@ WORD = (1 << 64) - 1
 def stored_symbols():
     """The symbols of libraries and programs that the stored corpus has, in its order."""
     found = {}
-    for line in itertools.islice(open(CORPUS, encoding='utf-8'), 1700):
-        for field in line.rstrip('\n').split('\t'):
-            if re.fullmatch(r'(_ZN|_R)[!-~]+', field) and '\\' not in field:
+    for line in itertools.islice(open(CORPUS, encoding="utf-8"), 1700):
+        for field in line.rstrip("\n").split("\t"):
+            if re.fullmatch(r"(_ZN|_R)[!-~]+", field) and "\\" not in field:
                 found[field] = None
                 break
-    return [symbol for symbol in found if re.search(r'17h[0-9a-f]{16}E', symbol) or re.search(r'Cs[0-9A-Za-z]{11}_', symbol)]
+    return [symbol for symbol in found if re.search(r"17h[0-9a-f]{16}E", symbol) or re.search(r"Cs[0-9A-Za-z]{11}_", symbol)]
 
 
 def variant(symbol, chance):
     """The same symbol of another build: with another hash, or other disambiguators of its crates."""
-    digits = ''.join(chance.choices('0123456789abcdef', k=16))
-    legacy = re.sub(r'17h[0-9a-f]{16}E', '17h%sE' % digits, symbol)
-    return re.sub(r'Cs[0-9A-Za-z]{11}_', lambda _: 'Cs%s_' % ''.join(chance.choices(DIGITS[1:36], k=11)), legacy)
+    digits = "".join(chance.choices("0123456789abcdef", k=16))
+    legacy = re.sub(r"17h[0-9a-f]{16}E", "17h%sE" % digits, symbol)
+    return re.sub(r"Cs[0-9A-Za-z]{11}_", lambda _: "Cs%s_" % "".join(chance.choices(DIGITS[1:36], k=11)), legacy)
 
 
 def variants(count):
@@ -59,71 +59,71 @@ def profile(size):
     weights = list(itertools.accumulate(1 / (rank + 1) for rank in range(len(symbols))))
     written = 0
     while written < size:
-        lines = ['rustc  4242 1234.567890:     250000 cycles:u: \n']
+        lines = ["rustc  4242 1234.567890:     250000 cycles:u: \n"]
         for symbol in chance.choices(symbols, cum_weights=weights, k=24):
-            lines.append('\t    %x %s+0x%x (/usr/lib/librustc_driver.so)\n' % (chance.randrange(1 << 47), symbol, chance.randrange(4096)))
-        lines.append('\n')
-        text = ''.join(lines).encode()
+            lines.append("\t    %x %s+0x%x (/usr/lib/librustc_driver.so)\n" % (chance.randrange(1 << 47), symbol, chance.randrange(4096)))
+        lines.append("\n")
+        text = "".join(lines).encode()
         written += len(text)
         yield text
 
 
 def once(size):
     for n, symbol in enumerate(variants(size // 115)):
-        yield ('%016x t %s\n' % (n * 64, symbol)).encode()
+        yield ("%016x t %s\n" % (n * 64, symbol)).encode()
 
 
 def hash_of(key):
     """The hash by which crates/text_memo chooses a key's pair."""
     value = 0
-    groups = [key[at:at + 16] for at in range(0, len(key) // 16 * 16, 16)]
+    groups = [key[at : at + 16] for at in range(0, len(key) // 16 * 16, 16)]
     for group in groups + [key[-16:]]:
-        number = int.from_bytes(group, 'little')
+        number = int.from_bytes(group, "little")
         product = ((number & WORD) ^ value) * ((number >> 64) ^ MULTIPLIER)
         value = (product & WORD) ^ (product >> 64)
     return value
 
 
 def one_pair(size):
-    symbol = '_RNvNtCs19Rhsj6B5T4_23rustc_next_trait_solver5solve15name%06d_more'
+    symbol = "_RNvNtCs19Rhsj6B5T4_23rustc_next_trait_solver5solve15name%06d_more"
     found = {}
     for n in itertools.count():
         key = (symbol % n).encode()
         place = (hash_of(key) >> 32) % 4096
         found.setdefault(place, []).append(key)
         if len(found[place]) == 40:
-            text = b'\n'.join(found[place]) + b'\n'
+            text = b"\n".join(found[place]) + b"\n"
             return (text for _ in range(size // len(text)))
 
 
 def deep_tuple():
     """A symbol whose references double its text at each level."""
-    symbol, at = 'IC1aTC1bC1bE', 4
+    symbol, at = "IC1aTC1bC1bE", 4
     while len(symbol) < 150:
         here, reference = len(symbol), at - 1
-        word = ''
+        word = ""
         while True:
             word = DIGITS[reference % 62] + word
             reference //= 62
             if reference == 0:
                 break
-        symbol += 'T%sE' % (('B%s_' % word) * 2)
+        symbol += "T%sE" % (("B%s_" % word) * 2)
         at = here
-    return '_R' + symbol + 'E'
+    return "_R" + symbol + "E"
 
 
 def long_texts(size):
-    line = (deep_tuple() + '\n').encode()
+    line = (deep_tuple() + "\n").encode()
     return (line for _ in range(max(1, size // 250_000)))
 
 
 def long_run(size):
-    line = b'_ZN' + b'8abcdefgh' * 111_108 + b'17h05af221e174051e9E\n'
+    line = b"_ZN" + b"8abcdefgh" * 111_108 + b"17h05af221e174051e9E\n"
     return (line for _ in range(max(1, size // len(line))))
 
 
 def plain(size):
-    return (b'no symbol on this line, only a few words and numbers %d\n' % n for n in range(size // 60))
+    return (b"no symbol on this line, only a few words and numbers %d\n" % n for n in range(size // 60))
 
 
 def output_of(command):
@@ -135,18 +135,18 @@ def texts(given):
     """The texts to run over, by name: for each the parts that it is written of."""
     size = given.size * 1_000_000
     if not given.only_given:
-        yield 'profile', profile(size)
-        yield 'once', once(size // 4)
-        yield 'one pair', one_pair(size // 4)
-        yield 'long texts', long_texts(size)
-        yield 'long run', long_run(size)
-        yield 'plain', plain(size)
+        yield "profile", profile(size)
+        yield "once", once(size // 4)
+        yield "one pair", one_pair(size // 4)
+        yield "long texts", long_texts(size)
+        yield "long run", long_run(size)
+        yield "plain", plain(size)
     for path in given.objdump:
-        yield 'objdump -d ' + os.path.basename(path), output_of(['objdump', '-d', path])
+        yield "objdump -d " + os.path.basename(path), output_of(["objdump", "-d", path])
     for path in given.nm:
-        yield 'nm ' + os.path.basename(path), output_of(['nm', path])
+        yield "nm " + os.path.basename(path), output_of(["nm", path])
     for path in given.text:
-        yield os.path.basename(path), [open(path, 'rb').read()]
+        yield os.path.basename(path), [open(path, "rb").read()]
 
 
 def spent(words, path):
@@ -174,29 +174,29 @@ def measure(programs, path, rounds):
 
 def counted(words, path):
     """Instructions a line of the first lines, less those of a start."""
-    with open(path, 'rb') as file:
+    with open(path, "rb") as file:
         lines = list(itertools.islice(file, COUNTED_LINES))
-    text = b''.join(lines)
-    return (instructions(words, text) - instructions(words, b'')) / max(1, len(lines))
+    text = b"".join(lines)
+    return (instructions(words, text) - instructions(words, b"")) / max(1, len(lines))
 
 
 def main():
     parser = argparse.ArgumentParser(description=__doc__, formatter_class=argparse.RawDescriptionHelpFormatter)
-    parser.add_argument('--size', type=int, default=50, help='megabytes of the profile (50)')
-    parser.add_argument('--rounds', type=int, default=5, help='runs of each program over each text (5)')
-    parser.add_argument('--objdump', action='append', default=[], metavar='PATH')
-    parser.add_argument('--nm', action='append', default=[], metavar='PATH')
-    parser.add_argument('--text', action='append', default=[], metavar='FILE')
-    parser.add_argument('--only-given', action='store_true', help='leave out the texts that are made')
-    parser.add_argument('--no-instructions', action='store_true')
-    parser.add_argument('--also', type=further, action='append', default=[], metavar='NAME=COMMAND')
+    parser.add_argument("--size", type=int, default=50, help="megabytes of the profile (50)")
+    parser.add_argument("--rounds", type=int, default=5, help="runs of each program over each text (5)")
+    parser.add_argument("--objdump", action="append", default=[], metavar="PATH")
+    parser.add_argument("--nm", action="append", default=[], metavar="PATH")
+    parser.add_argument("--text", action="append", default=[], metavar="FILE")
+    parser.add_argument("--only-given", action="store_true", help="leave out the texts that are made")
+    parser.add_argument("--no-instructions", action="store_true")
+    parser.add_argument("--also", type=further, action="append", default=[], metavar="NAME=COMMAND")
     given = parser.parse_args()
     need_kodliwe()
     if not given.no_instructions:
         need_valgrind()
-    programs = [('kodliwe', [KODLIWE])] + given.also
-    print('| text | program | MB a second | times as fast as kodliwe | memory, KB | instructions a line |')
-    print('| --- | --- | ---: | ---: | ---: | ---: |')
+    programs = [("kodliwe", [KODLIWE])] + given.also
+    print("| text | program | MB a second | times as fast as kodliwe | memory, KB | instructions a line |")
+    print("| --- | --- | ---: | ---: | ---: | ---: |")
     for name, parts in texts(given):
         with tempfile.NamedTemporaryFile() as file:
             for part in parts:
@@ -205,10 +205,13 @@ def main():
             megabytes = os.path.getsize(file.name) / 1_000_000
             least, most = measure(programs, file.name, given.rounds)
             for program, words in programs:
-                a_line = '-' if given.no_instructions else '{:,.0f}'.format(counted(words, file.name))
-                rate, times = megabytes / max(least[program], 1e-6), least['kodliwe'] / max(least[program], 1e-6)
-                print('| %s, %.0f MB | %s | %.0f | %.3f | %d | %s |' % (name, megabytes, program, rate, times, most[program], a_line), flush=True)
+                a_line = "-" if given.no_instructions else "{:,.0f}".format(counted(words, file.name))
+                rate, times = megabytes / max(least[program], 1e-6), least["kodliwe"] / max(least[program], 1e-6)
+                print(
+                    "| %s, %.0f MB | %s | %.0f | %.3f | %d | %s |" % (name, megabytes, program, rate, times, most[program], a_line),
+                    flush=True,
+                )
 
 
-if __name__ == '__main__':
+if __name__ == "__main__":
     main()
