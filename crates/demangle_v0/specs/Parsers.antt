@@ -72,13 +72,13 @@ checked_at m p s = record m { point = p; state = s }
 abbrev pub reading_of : {N : ℕ} → Parser N → Reading
 reading_of m = record { point = m.point; state = m.state }
 
--- A new parser: of a path of the same symbol, or of another with room for `M` frames.
+-- A new parser: of a path of the same symbol, or of the same parse without its frames.
 
 abbrev pub path_parser : {N : ℕ} → Parser N → Bool → ℕ → ℕ → Parser N
 path_parser m include_hash i n = record { source = record { symbol = m.source.symbol; include_hash = include_hash }; point = point.Path; state = first_state i; stack = []; looks = n }
 
-abbrev pub roomy : {N M : ℕ} → Parser N → Parser M
-roomy m = record { source = m.source; point = m.point; state = m.state; stack = m.stack; looks = m.looks }
+abbrev pub emptied : {N M : ℕ} → Parser N → Parser M
+emptied m = record { source = m.source; point = m.point; state = m.state; stack = []; looks = m.looks }
 
 -- What a point does.
 

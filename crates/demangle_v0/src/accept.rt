@@ -40,7 +40,8 @@ impl Parser<'_, MIDDLE_STACK> {
         ensures looks { self.new.looks ≤ self.old.looks + allowed_in (unread_of self.old).events }
         ensures grows { self.old.looks ≤ self.new.looks }
     {
-        let mut parser: Parser<FULL_STACK> = self.with_room();
+        let mut parser: Parser<FULL_STACK> = self.without_frames();
+        parser.stack.append(&self.stack);
         let end = parser.read_to_end();
         self.looks = parser.looks;
         end
@@ -75,7 +76,8 @@ impl Parser<'_, SHORT_STACK> {
         ensures grows { self.old.looks ≤ self.new.looks }
         ensures parser { Recounted self.old self.new }
     {
-        let mut parser: Parser<MIDDLE_STACK> = self.with_room();
+        let mut parser: Parser<MIDDLE_STACK> = self.without_frames();
+        parser.stack.append(&self.stack);
         let end = parser.read_to_end();
         self.looks = parser.looks;
         end

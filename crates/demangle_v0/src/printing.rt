@@ -103,7 +103,8 @@ impl Parser<'_, MIDDLE_STACK> {
         ensures grows { self.old.looks ≤ self.new.looks }
         ensures least { self.old.looks + left_looks (Ok (Some left)) self.old ≤ self.new.looks }
     {
-        let mut parser: Parser<FULL_STACK> = self.with_room();
+        let mut parser: Parser<FULL_STACK> = self.without_frames();
+        parser.stack.append(&self.stack);
         let printed = parser.print_unfinished(left, out);
         self.looks = parser.looks;
         printed?;
@@ -146,7 +147,8 @@ impl Parser<'_, SHORT_STACK> {
         ensures grows { self.old.looks ≤ self.new.looks }
         ensures least { self.old.looks + left_looks (Ok (Some left)) self.old ≤ self.new.looks }
     {
-        let mut parser: Parser<MIDDLE_STACK> = self.with_room();
+        let mut parser: Parser<MIDDLE_STACK> = self.without_frames();
+        parser.stack.append(&self.stack);
         let printed = parser.print_to_end(left, out);
         self.looks = parser.looks;
         printed

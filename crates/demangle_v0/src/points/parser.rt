@@ -1,6 +1,6 @@
 //! The parser, and what its methods share.
 ghost use Rattle.std.specs.Prelude.{◌≡◌, ◌+◌, ◌-◌, ◌<◌, ◌≤◌, ◌^◌, length, IfOk, IfErr};
-ghost use Rattle.demangle_v0.specs.Parsers.{deeper, looked, marked, path_parser, pushed, roomy, shut};
+ghost use Rattle.demangle_v0.specs.Parsers.{deeper, emptied, looked, marked, path_parser, pushed, shut};
 ghost use Rattle.demangle_v0.specs.Points.{frame_at, frame_of};
 ghost use Rattle.demangle_v0.specs.declared.points.Stop.TheVariants.{Fault};
 
@@ -46,21 +46,19 @@ impl<'m, const N: usize> Parser<'m, N> {
         }
     }
 
-    /// Returns a parser with the same frames, which continues where this one is, and has room for
-    /// `M` frames. Moves the count of looks into it.
+    /// Returns a parser that continues where this one is, but has no frames. Moves the count of looks
+    /// into it.
+    // The caller appends the frames: a parser that is returned with its frames would be copied.
     #[inline(always)]
-    pub(crate) fn with_room<const M: usize>(&mut self) -> Parser<'m, M>
-        requires room { N ≤ M }
-        ensures larger { result ≡ roomy self.old }
+    pub(crate) fn without_frames<const M: usize>(&mut self) -> Parser<'m, M>
+        ensures moved { result ≡ emptied self.old }
         ensures counted { self.new ≡ looked self.old 0 }
     {
-        let mut stack = FrameStack::new();
-        stack.append(&self.stack);
         Parser {
             source: self.source,
             point: self.point,
             state: self.state,
-            stack,
+            stack: FrameStack::new(),
             looks: mem::replace(&mut self.looks, Looks::new()),
         }
     }
