@@ -4,20 +4,20 @@ use Rattle.demangle_symbol.proofs.cursor.Symbol.decimal_from.Goals as goal
 
 pub loop-at-preserved : goal.loop-at-preserved
 loop-at-preserved c = record {
-  digits = rw c.in-Some-append_digit.ensures.1 (digits_more _ _ _ _ _ c.loop-at.invariant.digits c.in-Some.ensures.digit c.in-Some.ensures.small);
+  digits = rw c.in-Some-append_decimal.ensures.1 (digits_more _ _ _ _ _ c.loop-at.invariant.digits c.in-Some.ensures.digit c.in-Some.ensures.small);
   looked = omega arith;
 }
 
-pub returns-in_default-append_digit-clause-err : goal.returns-in_default-append_digit-clause-err
-returns-in_default-append_digit-clause-err c =
+pub returns-in_default-append_decimal-clause-err : goal.returns-in_default-append_decimal-clause-err
+returns-in_default-append_decimal-clause-err c =
     no_decimal_large _ _ _ _ _ c.loop-at.invariant.digits c.in-Some.ensures.digit c.in-Some.ensures.small
-    (omega (arith, c.in_default-append_digit.ensures))
+    (omega (arith, c.in_default-append_decimal.ensures))
 
 pub returns-clause-ok : goal.returns-clause-ok
 returns-clause-ok c =
     let inside = digits_inside _ _ _ _ c.loop-at.invariant.digits (omega (arith, c.if-end-start.false)) in
     let e : c.loop-at.at ≡ c.len-end.result = omega (arith, inside) in
-    rw (← c.in_ok-as_length-2.ensures.value, e) at (digits_decimal _ _ _ _ c.loop-at.invariant.digits (omega arith) (run_past _ _ _ (omega arith)))
+    rw e at (digits_decimal _ _ _ _ c.loop-at.invariant.digits (omega arith) (run_past _ _ _ (omega arith)))
 
 pub returns-clause-within : goal.returns-clause-within
 returns-clause-within c =
