@@ -110,7 +110,7 @@ impl<'s> Symbol<'s> {
     #[inline(always)]
     fn decimal_from(
         &self,
-        number: u64,
+        number: usize,
         start: usize,
         from: usize,
         looks: &mut Looks,
@@ -121,11 +121,11 @@ impl<'s> Symbol<'s> {
                 if at == start {
                     return Err(ParseError::Invalid);
                 }
-                return Ok((as_length(number)?, at));
+                return Ok((number, at));
             };
-            // A number of 2^64 or more is refused, as the Rust crate refuses it, and never comes
-            // round to a small one.
-            let Some(sum) = append_digit(number, 10, digit) else {
+            // A number that a `usize` cannot hold is an error, as in the Rust crate, and never wraps
+            // to a small one.
+            let Some(sum) = append_decimal(number, digit) else {
                 return Err(ParseError::Invalid);
             };
             number = sum;
@@ -134,7 +134,7 @@ impl<'s> Symbol<'s> {
         if end <= start {
             return Err(ParseError::Invalid);
         }
-        Ok((as_length(number)?, end))
+        Ok((number, end))
     }
 
     /// The decimal digit at a place, if one stands there.
@@ -147,18 +147,13 @@ impl<'s> Symbol<'s> {
     }
 }
 
-/// Returns a number as a `usize`.
-///
-/// # Errors
-///
-/// Fails with `ParseError::Invalid` if a `usize` cannot hold the number, which happens on targets
-/// with less than 64 bits alone.
-#[inline(always)]
-fn as_length(number: u64) -> Result<usize, ParseError> {
-    usize::try_from(number).map_err(|_| ParseError::Invalid)
-}
-
 /// The number with this digit behind its own, in a base, if it fits 64 bits.
 pub(crate) fn append_digit(number: u64, base: u64, digit: u8) -> Option<u64> {
     number.checked_mul(base)?.checked_add(u64::from(digit))
+}
+
+/// Returns the number with this decimal digit after its own, if a `usize` holds it.
+#[inline(always)]
+fn append_decimal(number: usize, digit: u8) -> Option<usize> {
+    number.checked_mul(10)?.checked_add(usize::from(digit))
 }

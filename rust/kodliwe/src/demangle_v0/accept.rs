@@ -22,7 +22,8 @@ impl Parser<'_, MIDDLE_STACK> {
     /// Reads the rest in a stack with room for every frame. Returns where it ends.
     #[inline(never)]
     fn read_in_full_stack(&mut self) -> Option<usize> {
-        let mut parser: Parser<FULL_STACK> = self.with_room();
+        let mut parser: Parser<FULL_STACK> = self.without_frames();
+        parser.stack.append(&self.stack);
         let end = parser.read_to_end();
         self.looks = parser.looks;
         end
@@ -44,7 +45,8 @@ impl Parser<'_, SHORT_STACK> {
     /// ends.
     #[inline(never)]
     fn read_in_middle_stack(&mut self) -> Option<usize> {
-        let mut parser: Parser<MIDDLE_STACK> = self.with_room();
+        let mut parser: Parser<MIDDLE_STACK> = self.without_frames();
+        parser.stack.append(&self.stack);
         let end = parser.read_to_end();
         self.looks = parser.looks;
         end

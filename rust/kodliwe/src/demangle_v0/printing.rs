@@ -72,7 +72,8 @@ impl Parser<'_, MIDDLE_STACK> {
         left: Left,
         out: &mut SizeLimitedFmtAdapter<'_, S>,
     ) -> Result<(), SinkRefused> {
-        let mut parser: Parser<FULL_STACK> = self.with_room();
+        let mut parser: Parser<FULL_STACK> = self.without_frames();
+        parser.stack.append(&self.stack);
         let printed = parser.print_unfinished(left, out);
         self.looks = parser.looks;
         printed?;
@@ -101,7 +102,8 @@ impl Parser<'_, SHORT_STACK> {
         left: Left,
         out: &mut SizeLimitedFmtAdapter<'_, S>,
     ) -> Result<(), SinkRefused> {
-        let mut parser: Parser<MIDDLE_STACK> = self.with_room();
+        let mut parser: Parser<MIDDLE_STACK> = self.without_frames();
+        parser.stack.append(&self.stack);
         let printed = parser.print_to_end(left, out);
         self.looks = parser.looks;
         printed

@@ -11,14 +11,15 @@
 //! ```
 //!
 //! [`demangle_text`] and [`demangle_slice`] demangle each symbol of a text in memory;
-//! [`demangle_stream`] and [`demangle_bytes`] do so from a reader to a writer.
+//! `demangle_stream` and `demangle_bytes` do so from a reader to a writer.
 //!
 //! Reading and printing a symbol allocates nothing, and takes time in proportion to the symbol and
-//! to what it prints. Only streams allocate: they hold one line, or one symbol.
+//! to what it prints. Only streams allocate: they hold one line, or one symbol, and
+//! `demangle_bytes` remembers what symbols print, in at most 4.5 MB.
 //!
 //! # Features
 //!
-//! `std`, which is on by default, adds the streams and [`WriteSink`]. Without it the crate is
+//! `std`, which is on by default, adds the streams and `WriteSink`. Without it the crate is
 //! `no_std` and needs no allocator.
 //!
 //! # Where it comes from

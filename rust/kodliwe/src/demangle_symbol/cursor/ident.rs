@@ -23,15 +23,15 @@ impl<'s> Symbol<'s> {
             return Err(ParseError::Invalid);
         };
         // Most names have fewer than 100 bytes.
-        let one = u64::from(first);
+        let one = usize::from(first);
         let Some(second) = self.digit(place + 1, looks) else {
-            return Ok((one as usize, place + 1));
+            return Ok((one, place + 1));
         };
-        let two = one * 10 + u64::from(second);
+        let two = one * 10 + usize::from(second);
         let Some(third) = self.digit(place + 2, looks) else {
-            return Ok((two as usize, place + 2));
+            return Ok((two, place + 2));
         };
-        self.decimal_from(two * 10 + u64::from(third), place, place + 3, looks)
+        self.decimal_from(two * 10 + usize::from(third), place, place + 3, looks)
     }
 
     /// Where the bytes behind the last `_` of a part begin, or the part where it has none.

@@ -39,17 +39,16 @@ impl<'m, const N: usize> Parser<'m, N> {
         }
     }
 
-    /// Returns a parser with the same frames, which continues where this one is, and has room for
-    /// `M` frames. Moves the count of looks into it.
+    /// Returns a parser that continues where this one is, but has no frames. Moves the count of looks
+    /// into it.
+    // The caller appends the frames: a parser that is returned with its frames would be copied.
     #[inline(always)]
-    pub(crate) fn with_room<const M: usize>(&mut self) -> Parser<'m, M> {
-        let mut stack = FrameStack::new();
-        stack.append(&self.stack);
+    pub(crate) fn without_frames<const M: usize>(&mut self) -> Parser<'m, M> {
         Parser {
             source: self.source,
             point: self.point,
             state: self.state,
-            stack,
+            stack: FrameStack::new(),
             looks: mem::replace(&mut self.looks, Looks::new()),
         }
     }
