@@ -150,7 +150,7 @@ fn steps_print(inner: &str, include_hash: bool, wanted: &str) -> bool {
 /// Does one step, or skips an impl path. Returns whether nothing was left to print, or `None` if the
 /// step printed more than one token or failed.
 fn goes_on(parser: &mut Parser<'_, FULL_STACK>, sink: &mut CountingSink) -> Option<bool>
-    requires ascii { IsAscii parser.old.symbol.now }
+    requires ascii { IsAscii parser.old.source.symbol.now }
     requires valid { IsValid parser.old }
     ensures valid { result ≡ Some false → IsValid parser.new }
     ensures same { Same parser.old parser.new }
