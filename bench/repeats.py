@@ -14,11 +14,11 @@ plain       lines without a symbol.
 With --objdump PATH and --nm PATH it also takes what `objdump -d` and `nm` print of a program or a library, and with --text FILE a file.
 For each text and program it prints megabytes a second of processor time (the least of --rounds runs, all programs in turn), the most
 memory, and instructions a line of the first 20,000 lines, counted by callgrind, less those of a run on no input.
-Build kodliwe first, by `rt run` in crates/kodliwe.
+Build the programs first, by `make`.
 """
 import argparse, itertools, os, random, re, subprocess, tempfile
 
-from common import CORPUS, KODLIWE, further, instructions, need_kodliwe, need_valgrind
+from measuring import CORPUS, KODLIWE, further, instructions, need_programs, need_valgrind
 
 DIGITS = "0123456789abcdefghijklmnopqrstuvwxyzABCDEFGHIJKLMNOPQRSTUVWXYZ"
 COUNTED_LINES = 20_000
@@ -191,7 +191,7 @@ def main():
     parser.add_argument("--no-instructions", action="store_true")
     parser.add_argument("--also", type=further, action="append", default=[], metavar="NAME=COMMAND")
     given = parser.parse_args()
-    need_kodliwe()
+    need_programs()
     if not given.no_instructions:
         need_valgrind()
     programs = [("kodliwe", [KODLIWE])] + given.also
