@@ -67,7 +67,10 @@ fn repeats() -> Vec<u8> {
     let mut symbols: Vec<String> = SYMBOLS.map(String::from).into();
     symbols.push(deep_tuple(2));
     // Its text is longer than an entry, and this symbol is longer than a key.
-    symbols.push(format!("_RINvC1a1bT{}EE", "NtNtC4core6option6Option".repeat(20)));
+    symbols.push(format!(
+        "_RINvC1a1bT{}EE",
+        "NtNtC4core6option6Option".repeat(20)
+    ));
     symbols.push(format!("_ZN{}17h05af221e174051e9E", "8abcdefgh".repeat(40)));
     symbols.push(format!("_ZN{}17h05af221e174051e9E", "8abcdefgh".repeat(80)));
     let mut text = Vec::new();
@@ -75,7 +78,9 @@ fn repeats() -> Vec<u8> {
     for turn in 0..1_500u32 {
         chance = chance.wrapping_mul(1_664_525).wrapping_add(1_013_904_223);
         text.extend_from_slice(symbols[chance as usize / 65_536 % symbols.len()].as_bytes());
-        text.extend_from_slice([&b"\n"[..], b" ", b"\xFF", b"-", b"+0x1f\n"][chance as usize / 256 % 5]);
+        text.extend_from_slice(
+            [&b"\n"[..], b" ", b"\xFF", b"-", b"+0x1f\n"][chance as usize / 256 % 5],
+        );
         if turn % 7 == 0 {
             text.extend_from_slice(format!("_ZN4once17h{chance:016x}E\n").as_bytes());
         }
@@ -93,8 +98,12 @@ fn repeats_are_written_as_the_first_time() {
             for size in [1, 2, 3, 61, 65_536] {
                 let mut input = Chunks { text: &text, size };
                 let mut output = Vec::new();
-                kodliwe::demangle_bytes_limited(&mut input, &mut output, include_hash, limit).unwrap();
-                assert!(output == memory[..len], "hash {include_hash}, limit {limit}, chunks of {size}");
+                kodliwe::demangle_bytes_limited(&mut input, &mut output, include_hash, limit)
+                    .unwrap();
+                assert!(
+                    output == memory[..len],
+                    "hash {include_hash}, limit {limit}, chunks of {size}"
+                );
             }
         }
     }
