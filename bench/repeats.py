@@ -10,6 +10,7 @@ one pair    40 symbols that a memo of kodliwe keeps in one pair of entries, in t
 long texts  a symbol of 159 bytes that prints 1,000,020 bytes, up to the limit.
 long run    a symbol of 1,000,000 bytes.
 plain       lines without a symbol.
+underscores lines without a symbol that have many underscores.
 
 With --objdump PATH and --nm PATH it also takes what `objdump -d` and `nm` print of a program or a library, and with --text FILE a file.
 For each text and program it prints megabytes a second of processor time (the least of --rounds runs, all programs in turn), the most
@@ -42,7 +43,8 @@ def variant(symbol, chance):
     """The same symbol of another build: with another hash, or other disambiguators of its crates."""
     digits = "".join(chance.choices("0123456789abcdef", k=16))
     legacy = re.sub(r"17h[0-9a-f]{16}E", "17h%sE" % digits, symbol)
-    return re.sub(r"Cs[0-9A-Za-z]{11}_", lambda _: "Cs%s_" % "".join(chance.choices(DIGITS[1:36], k=11)), legacy)
+    # A disambiguator is below 2^64: of eleven digits, the first is at most 21.
+    return re.sub(r"Cs[0-9A-Za-z]{11}_", lambda _: "Cs%s%s_" % (chance.choice(DIGITS[1:21]), "".join(chance.choices(DIGITS, k=10))), legacy)
 
 
 def variants(count):
@@ -126,6 +128,10 @@ def plain(size):
     return (b"no symbol on this line, only a few words and numbers %d\n" % n for n in range(size // 60))
 
 
+def underscores(size):
+    return (b"some_names_of_c __with_many_ _Regions_ and_ more_of_%d_\n" % n for n in range(size // 60))
+
+
 def output_of(command):
     run = subprocess.run(command, stdout=subprocess.PIPE, check=True)
     return [run.stdout]
@@ -141,6 +147,7 @@ def texts(given):
         yield "long texts", long_texts(size)
         yield "long run", long_run(size)
         yield "plain", plain(size)
+        yield "underscores", underscores(size // 4)
     for path in given.objdump:
         yield "objdump -d " + os.path.basename(path), output_of(["objdump", "-d", path])
     for path in given.nm:
