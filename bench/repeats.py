@@ -157,26 +157,40 @@ def texts(given):
 
 
 def spent(words, path):
-    """The processor time of one run, in it and in the system, and its most memory in KB."""
+    """The processor time of one run, in it and in the system."""
     pid = os.fork()
     if pid == 0:
         os.dup2(os.open(path, os.O_RDONLY), 0)
         os.dup2(os.open(os.devnull, os.O_WRONLY), 1)
         os.execvp(words[0], words)
     _, _, usage = os.wait4(pid, 0)
-    return usage.ru_utime + usage.ru_stime, usage.ru_maxrss
+    return usage.ru_utime + usage.ru_stime
+
+
+def most_memory(words, path):
+    """The most memory of one run in KB, as the system told it last before the run ended.
+
+    What `wait4` tells counts this script too, which the run was forked from.
+    """
+    most = 0
+    with open(path, "rb") as file:
+        run = subprocess.Popen(words, stdin=file, stdout=subprocess.DEVNULL)
+    while run.poll() is None:
+        with open("/proc/%d/status" % run.pid) as status:
+            for line in status:
+                if line.startswith("VmHWM:"):
+                    most = int(line.split()[1])
+    return most
 
 
 def measure(programs, path, rounds):
-    """The least time and the most memory of each program, over runs in turn."""
+    """The least time of each program, over runs in turn."""
     least = {name: None for name, _ in programs}
-    most = {name: 0 for name, _ in programs}
     for _ in range(rounds):
         for name, words in programs:
-            seconds, memory = spent(words, path)
+            seconds = spent(words, path)
             least[name] = seconds if least[name] is None else min(least[name], seconds)
-            most[name] = max(most[name], memory)
-    return least, most
+    return least
 
 
 def counted(words, path):
@@ -210,12 +224,12 @@ def main():
                 file.write(part)
             file.flush()
             megabytes = os.path.getsize(file.name) / 1_000_000
-            least, most = measure(programs, file.name, given.rounds)
+            least = measure(programs, file.name, given.rounds)
             for program, words in programs:
                 a_line = "-" if given.no_instructions else "{:,.0f}".format(counted(words, file.name))
                 rate, times = megabytes / max(least[program], 1e-6), least["kodliwe"] / max(least[program], 1e-6)
                 print(
-                    "| %s, %.0f MB | %s | %.0f | %.3f | %d | %s |" % (name, megabytes, program, rate, times, most[program], a_line),
+                    "| %s, %.0f MB | %s | %.0f | %.3f | %d | %s |" % (name, megabytes, program, rate, times, most_memory(words, file.name), a_line),
                     flush=True,
                 )
 
