@@ -151,6 +151,8 @@ fn print_new(run: &str, hash: u64, form: Form, store: &mut Store) -> Printed
 {
     let symbol = Demangle::read_run(run);
     if !symbol.has_style() {
+        let kept = run.as_bytes();
+        store.texts.insert(kept, kept, hash);
         return Printed::NoSymbol;
     }
     store.printed.clear();
