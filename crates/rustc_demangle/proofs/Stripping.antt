@@ -9,7 +9,7 @@ use Rattle.std.proofs.lemmas.Str.{IsAscii-drop}
 use Rattle.std.proofs.lemmas.Str.Ascii.{IsAscii-nil, IsAscii-cons}
 use Rattle.memchr.specs.Find.{Nowhere, Passes, is_byte}
 use Rattle.rustc_demangle.specs.Stripped.{stripped, is_thin_lto}
-use Rattle.std.proofs.lemmas.Bool.{cases_Bool, cases_lt, eqb-true, true≢false}
+use Rattle.std.proofs.lemmas.Bool.{cases_Bool, cases_lt, true≢false}
 use Rattle.std.proofs.lemmas.List.Folds.{list_all_at}
 
 abbrev pub ending : List ℕ → List ℕ
