@@ -151,6 +151,12 @@ FAULTS = {
         "text[at..text.len().max(at + 1) - 1].iter()",
         support_tests,
     ),
+    "a search for a byte leaves out what follows the last group": (
+        "packaging/crate/template/kodliwe/src/support/memchr.rs",
+        "text.last_chunk()",
+        "text.first_chunk()",
+        support_tests,
+    ),
     "a search for a byte stops at a byte that is near": (
         "packaging/crate/template/kodliwe/src/support/memchr.rs",
         "& !difference",
