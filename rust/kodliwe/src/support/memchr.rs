@@ -1,4 +1,4 @@
-//! The search for a byte, with the interface of the crate `memchr`.
+//! The searches for a byte, with the interface of the crate `memchr`.
 
 /// How many bytes are tested at once, by a processor's vectors.
 const GROUP: usize = 32;
@@ -35,7 +35,7 @@ fn has_byte(needle: u8, group: &[u8; GROUP]) -> bool {
         .fold(false, |found, byte| found | (*byte == needle))
 }
 
-/// Returns the place of the first such byte in a short text.
+/// Returns the place of the first such byte, by words.
 #[inline(always)]
 fn find_by_words(needle: u8, text: &[u8]) -> Option<usize> {
     let pattern = LOW * usize::from(needle);
@@ -53,4 +53,41 @@ fn find_by_words(needle: u8, text: &[u8]) -> Option<usize> {
         .iter()
         .position(|byte| *byte == needle)
         .map(|after| at + after)
+}
+
+/// Returns the last place of the byte.
+pub fn memrchr(needle: u8, text: &[u8]) -> Option<usize> {
+    let mut rest = text;
+    while let Some((before, group)) = rest.split_last_chunk() {
+        if has_byte(needle, group) {
+            break;
+        }
+        rest = before;
+    }
+    // What is left is shorter than a group, or ends with one that has the byte.
+    if rest.len() < GROUP
+        && text
+            .first_chunk()
+            .is_some_and(|group| !has_byte(needle, group))
+    {
+        return None;
+    }
+    find_last_by_words(needle, rest)
+}
+
+/// Returns the last place of the byte, from the end on by words.
+#[inline(always)]
+fn find_last_by_words(needle: u8, text: &[u8]) -> Option<usize> {
+    let pattern = LOW * usize::from(needle);
+    let mut end = text.len();
+    // Each byte of the difference but zero sets its own high bit, so the highest zero is exact.
+    while let Some(word) = text[..end].last_chunk::<SIZE>() {
+        let difference = usize::from_le_bytes(*word) ^ pattern;
+        let zeros = !(((difference & !HIGH) + !HIGH) | difference) & HIGH;
+        if zeros != 0 {
+            return Some(end - 1 - (zeros.leading_zeros() / 8) as usize);
+        }
+        end -= SIZE;
+    }
+    text[..end].iter().rposition(|byte| *byte == needle)
 }
