@@ -31,7 +31,7 @@ It prints a line for each of these, and at last how many passed:
   long          a line of 1 GB without a line feed, within 8 MB of memory
   help          --help has at most 24 lines of 80 columns, and names every option
   manual        docs/kodliwe.1 has each option and is laid out without a warning
-  completions   bash, zsh and fish offer each option
+  completions   bash, zsh and fish offer each option, and bash the files of an option after its =
   filter        the output is that of demangle_filter over the stored corpus and hostile symbols
 
 `make` builds the programs. The last line is 'N passed, N failed'. A missing tool is a failure.
@@ -524,6 +524,19 @@ def completions():
     tool("bash"), tool("zsh"), tool("fish")
     asked = 'source %s/kodliwe.bash; COMP_WORDS=(kodliwe -); COMP_CWORD=1; _kodliwe; echo "${COMPREPLY[@]}"' % folder
     same(subprocess.check_output(["bash", "-c", asked]).decode().split(), OPTIONS)
+    # Bash ends a word at =, unless COMP_WORDBREAKS has none.
+    for name in ["crash.txt", "cry", "other"]:
+        write(name, b"")
+    for asked, wanted in [
+        ("--input = cr", ["crash.txt", "cry"]),
+        ("--output =", ["crash.txt", "cry", "other"]),
+        ("--input=cr", ["--input=crash.txt", "--input=cry"]),
+        ("-i ot", ["other"]),
+        ("--limit = c", []),
+        ("-- --input = cr", []),
+    ]:
+        lines = 'source %s/kodliwe.bash; COMP_WORDS=(kodliwe %s); COMP_CWORD=$((${#COMP_WORDS[@]} - 1)); _kodliwe' % (folder, asked)
+        same(subprocess.check_output(["bash", "-c", lines + '; echo "${COMPREPLY[@]}"']).decode().split(), wanted)
     subprocess.run(["zsh", "-n", folder + "/_kodliwe"], check=True)
     with open(folder + "/_kodliwe") as file:
         text = file.read()
