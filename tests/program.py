@@ -21,7 +21,7 @@ It prints a line for each of these, and at last how many passed:
   interrupted   a signal that is caught interrupts reading and writing, and nothing is lost
   memory        a run under each limit of address space ends with all of the text or with one line and status 1
   requests      each request of memory refused, alone or with all behind it, ends it with one line and status 1, what was written
-                begins the output, and the file of --output is as it was, with no other beside it
+                begins the output, and the file of --output is as it was, with no other beside it; without its memo a run is whole
   guarded       each of fsync, rename, fchmod and statx refused under --output: one line, status 1, the file is as it was, and no other
                 is beside it; the file is synchronized before it gets its name
   names         99 names for the unfinished file are taken, and then a hundred
@@ -254,55 +254,64 @@ def memory():
     same(ended, {0, 1})
 
 
-# Refuses the requests of memory from FIRST to LAST, and writes into the file COUNT how many there were.
+# Refuses the requests of memory from FIRST to LAST. It writes into the file COUNT how many there were, and the size of the first that it
+# refused.
 REFUSING = r"""
 #define _GNU_SOURCE
 #include <dlfcn.h>
 #include <stdio.h>
 #include <stdlib.h>
 
-static unsigned long count, first, last;
+static unsigned long count, first, last, refused;
 
 __attribute__((constructor)) static void begin(void) {
     first = strtoul(getenv("FIRST"), NULL, 10);
     last = strtoul(getenv("LAST"), NULL, 10);
-    count = 0;
+    count = refused = 0;
 }
 
-static int is_refused(void) {
+static int is_refused(size_t size) {
     ++count;
-    return first <= count && count <= last;
+    if (count < first || last < count)
+        return 0;
+    refused = refused ? refused : size;
+    return 1;
 }
 
 void *malloc(size_t size) {
     void *(*real)(size_t) = (void *(*)(size_t))dlsym(RTLD_NEXT, "malloc");
-    return is_refused() ? NULL : real(size);
+    return is_refused(size) ? NULL : real(size);
 }
 
 void *realloc(void *old, size_t size) {
     void *(*real)(void *, size_t) = (void *(*)(void *, size_t))dlsym(RTLD_NEXT, "realloc");
-    return is_refused() ? NULL : real(old, size);
+    return is_refused(size) ? NULL : real(old, size);
 }
 
 __attribute__((destructor)) static void end(void) {
     unsigned long made = count;
     last = 0;
     FILE *file = fopen(getenv("COUNT"), "w");
-    fprintf(file, "%lu", made);
+    fprintf(file, "%lu %lu", made, refused);
     fclose(file);
 }
 """
 
 
 def run_refusing(first, last, words, text):
-    """What a run gave that was refused these requests of memory, with the files of its folder, and how many it made."""
+    """Returns what a run gave that was refused these requests of memory, with the files of its folder; how many it made; and the size of
+    the first that was refused."""
     shutil.rmtree("refusing", ignore_errors=True)
     os.mkdir("refusing")
     write("refusing/in", b"_ZN1bE\n")
     write("refusing/out", b"old")
     env = dict(LD_PRELOAD=os.path.abspath("refuse.so"), FIRST=str(first), LAST=str(last), COUNT="count")
     found = run(*words, text=text, env=env)
-    return (*found, {name: read("refusing/" + name) for name in os.listdir("refusing")}), int(read("count"))
+    return (*found, {name: read("refusing/" + name) for name in os.listdir("refusing")}), *map(int, read("count").split())
+
+
+# The size of the request for a memo's marks. A run whose memo is refused them is whole: it only finds no symbol again.
+MEMO_MARKS = 4 * 8192
 
 
 def requests():
@@ -325,14 +334,14 @@ def requests():
     ]
     tried = 0
     for words, text in cases:
-        whole, count = run_refusing(1, 0, words, text)
+        whole, count, _ = run_refusing(1, 0, words, text)
         refused = {("kodliwe: %sout of memory\n" % name, 1) for name in ["", *(word + ": " for word in words)]}
         # The end of the words' memory that is not used is given back: where that is refused, nothing is lost.
         for most, ends in [(0, lambda number: 10**9), (1, lambda number: number)]:
             unharmed = 0
             for number in range(1, count + 1):
-                found, _ = run_refusing(number, ends(number), words, text)
-                unharmed += found == whole
+                found, _, size = run_refusing(number, ends(number), words, text)
+                unharmed += found == whole and size != MEMO_MARKS
                 assert found == whole or (
                     whole[0].startswith(found[0]) and found[1:3] in refused and found[3] == {"in": b"_ZN1bE\n", "out": b"old"}
                 ), "%r, request %d: %.300r" % (words, number, found)
