@@ -1,5 +1,5 @@
 // Made from crates/demangle_legacy/src/lib.rt by packaging/crate/erase.py: edit that file instead.
-//! Legacy symbols: `_ZN`, then elements behind their lengths, then `E`.
+//! Parses and prints legacy symbols: `_ZN`, then elements after their lengths, then `E`.
 
 use crate::demangle_symbol::cursor::{Looks, Symbol};
 
@@ -12,7 +12,7 @@ mod value;
 
 pub use value::Demangle;
 
-/// What stands behind the prefix of a legacy symbol.
+/// Returns the text after the prefix of a legacy symbol, or `None` if it has no such prefix.
 fn inner_of(s: &str) -> Option<&str> {
     if let Some(inner) = s.strip_prefix("_ZN") {
         return Some(inner);
@@ -21,12 +21,12 @@ fn inner_of(s: &str) -> Option<&str> {
     if let Some(inner) = s.strip_prefix("ZN") {
         return Some(inner);
     }
-    // On macOS, symbols have one underscore more.
+    // On macOS, symbols have an additional underscore.
     s.strip_prefix("__ZN")
 }
 
-/// What stands behind the prefix of a legacy symbol, where it is ASCII. It is not tested where the
-/// text is known to be ASCII.
+/// Returns the text after the prefix of a legacy symbol, if that text is ASCII. `is_ascii` says
+/// that the text is known to be ASCII. In that case it is not tested.
 fn ascii_inner_of<'s>(s: &'s str, is_ascii: bool, looks: &mut Looks) -> Option<&'s str> {
     let Some(inner) = inner_of(s) else {
         return None;
@@ -40,14 +40,18 @@ fn ascii_inner_of<'s>(s: &'s str, is_ascii: bool, looks: &mut Looks) -> Option<&
     Some(inner)
 }
 
-/// Reads a legacy symbol: the symbol, and what follows its `E`. `is_ascii` says that the text is
-/// known to be ASCII.
+/// Parses a legacy symbol. Returns the symbol and the suffix after its `E`. `is_ascii` says that
+/// the text is known to be ASCII.
+///
+/// # Errors
+///
+/// Returns `Err` if the text is not a legacy symbol.
 pub fn demangle<'s>(
     s: &'s str,
     is_ascii: bool,
     looks: &mut Looks,
 ) -> Result<(Demangle<'s>, &'s str), ()> {
-    // A length counts bytes, so in other text an element could end within a character.
+    // A length counts bytes. In other text, an element could end within a character.
     let Some(inner) = ascii_inner_of(s, is_ascii, looks) else {
         return Err(());
     };

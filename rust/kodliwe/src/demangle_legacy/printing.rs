@@ -1,11 +1,11 @@
 // Made from crates/demangle_legacy/src/printing.rt by packaging/crate/erase.py: edit that file instead.
-//! How an element of a legacy symbol prints.
+//! Prints an element of a legacy symbol.
 
 use crate::demangle_legacy::units::{Unit, unit_at};
 use crate::demangle_sink::{SinkRefused, SizeLimitedFmtAdapter, TextSink};
 use crate::demangle_symbol::cursor::{Looks, Part, Symbol};
 
-/// Whether an element is `h` and hexadecimal digits alone.
+/// Returns `true` if an element is `h` followed only by hexadecimal digits.
 fn is_hash(symbol: &Symbol<'_>, element: Part, looks: &mut Looks) -> bool {
     if element.to <= element.from {
         return false;
@@ -17,8 +17,8 @@ fn is_hash(symbol: &Symbol<'_>, element: Part, looks: &mut Looks) -> bool {
         let Some(byte) = symbol.byte(at, looks) else {
             return false;
         };
-        // Of either case, and any count of them, as in the Rust crate: rustc writes 16 in lower
-        // case.
+        // Digits of either case and any number of them are accepted, as in the Rust crate. rustc
+        // writes 16 lower case digits.
         if !byte.is_ascii_hexdigit() {
             return false;
         }
@@ -26,7 +26,8 @@ fn is_hash(symbol: &Symbol<'_>, element: Part, looks: &mut Looks) -> bool {
     true
 }
 
-/// Whether an element is left out: where the form has no hash, a last one that is a hash.
+/// Returns `true` if an element is omitted: the form has no hash, and the element is the last one
+/// and is a hash.
 pub(super) fn is_left_out(
     symbol: &Symbol<'_>,
     element: Part,
@@ -36,7 +37,7 @@ pub(super) fn is_left_out(
     !include_hash && symbol.is_at(b'E', element.to, looks) && is_hash(symbol, element, looks)
 }
 
-/// Prints a unit of these bytes.
+/// Puts the text of the unit that these bytes spell.
 fn put_unit<S: TextSink>(
     symbol: &Symbol<'_>,
     unit: Unit,
@@ -50,10 +51,9 @@ fn put_unit<S: TextSink>(
     }
 }
 
-/// Where the units of an element begin: a `_` before a `$` is left out.
+/// Returns the place of the first unit of an element. A `_` before a `$` is omitted.
 fn first_unit(symbol: &Symbol<'_>, element: Part, looks: &mut Looks) -> usize {
-    // rustc sets a `_` before an element that would begin with an escape, which is no beginning of
-    // an identifier.
+    // An identifier cannot start with an escape. rustc puts a `_` before an element that would.
     if element.to - element.from >= 2
         && symbol.is_at(b'_', element.from, looks)
         && symbol.is_at(b'$', element.from + 1, looks)
@@ -64,7 +64,7 @@ fn first_unit(symbol: &Symbol<'_>, element: Part, looks: &mut Looks) -> usize {
     }
 }
 
-/// Prints an element.
+/// Puts an element, with one piece for each unit.
 pub(super) fn put_element<S: TextSink>(
     symbol: &Symbol<'_>,
     element: Part,
@@ -73,7 +73,8 @@ pub(super) fn put_element<S: TextSink>(
 ) -> Result<(), SinkRefused> {
     let mut at = first_unit(symbol, element, looks);
     while at < element.to {
-        // From an escape that is none the rest of the element stands as it is, later escapes too.
+        // After an invalid escape, the rest of the element is printed unchanged, with its later
+        // escapes.
         let Some((unit, next)) = unit_at(symbol, at, element.to, looks) else {
             break;
         };

@@ -1,19 +1,19 @@
 // Made from crates/demangle_legacy/src/units.rt by packaging/crate/erase.py: edit that file instead.
-//! The units that a legacy element is made of.
+//! Reads the units of a legacy element.
 
 use crate::demangle_symbol::cursor::{Looks, Part, Symbol};
 
-/// What a unit prints.
+/// The text that a unit prints.
 #[derive(Clone, Copy)]
 pub(super) enum Unit {
     /// `::`
     Separator,
     Char(char),
-    /// Its bytes as they stand.
+    /// The bytes of the unit, unchanged.
     Run,
 }
 
-/// The first `$` of a part.
+/// Returns the place of the first `$` of a part.
 fn dollar_in(symbol: &Symbol<'_>, part: Part, looks: &mut Looks) -> Option<usize> {
     for at in part.from..part.to {
         let Some(byte) = symbol.byte(at, looks) else {
@@ -26,7 +26,7 @@ fn dollar_in(symbol: &Symbol<'_>, part: Part, looks: &mut Looks) -> Option<usize
     None
 }
 
-/// The first `$` or `.` of a part.
+/// Returns the place of the first `$` or `.` of a part.
 fn special_in(symbol: &Symbol<'_>, part: Part, looks: &mut Looks) -> Option<usize> {
     for at in part.from..part.to {
         let Some(byte) = symbol.byte(at, looks) else {
@@ -39,7 +39,7 @@ fn special_in(symbol: &Symbol<'_>, part: Part, looks: &mut Looks) -> Option<usiz
     None
 }
 
-/// The value of a lower case hexadecimal digit, or `None` at any other byte.
+/// Returns the value of a lower case hexadecimal digit, or `None` for any other byte.
 fn lower_hex_of(byte: u8) -> Option<u8> {
     match byte {
         b'0'..=b'9' => Some(byte - b'0'),
@@ -48,16 +48,16 @@ fn lower_hex_of(byte: u8) -> Option<u8> {
     }
 }
 
-/// The character of a code, if it may be escaped.
+/// Returns the character of a code, or `None` if the code may not be escaped.
 fn escaped_code(code: u32) -> Option<char> {
     match char::from_u32(code) {
-        // The Rust crate leaves the escape of a control character as it is spelled.
+        // The Rust crate prints the escape of a control character unchanged.
         Some(c) if !c.is_control() => Some(c),
         _ => None,
     }
 }
 
-/// The character that `u` and these digits escape.
+/// Returns the character that `u` and these digits escape.
 fn escaped_char(symbol: &Symbol<'_>, digits: Part, looks: &mut Looks) -> Option<char> {
     if digits.to <= digits.from {
         return None;
@@ -66,7 +66,7 @@ fn escaped_char(symbol: &Symbol<'_>, digits: Part, looks: &mut Looks) -> Option<
     for at in digits.from..digits.to {
         let digit = lower_hex_of(symbol.byte(at, looks)?)?;
         code = code * 16 + u32::from(digit);
-        // Tested at each digit, so that no count of digits overflows.
+        // The test at each digit prevents an overflow for any number of digits.
         if code > 0x10_ffff {
             return None;
         }
@@ -74,7 +74,7 @@ fn escaped_char(symbol: &Symbol<'_>, digits: Part, looks: &mut Looks) -> Option<
     escaped_code(code)
 }
 
-/// What two letters between `$` give.
+/// Returns the character for two letters between `$`, if they are an escape.
 fn letters(first: u8, second: u8) -> Option<char> {
     match (first, second) {
         (b'S', b'P') => Some('@'),
@@ -88,7 +88,7 @@ fn letters(first: u8, second: u8) -> Option<char> {
     }
 }
 
-/// What a name between `$` gives.
+/// Returns the character for a name between `$`, if it is an escape.
 fn escape_in(symbol: &Symbol<'_>, name: Part, looks: &mut Looks) -> Option<char> {
     if name.to <= name.from {
         return None;
@@ -110,7 +110,8 @@ fn escape_in(symbol: &Symbol<'_>, name: Part, looks: &mut Looks) -> Option<char>
     }
 }
 
-/// The unit at a place of an element that ends at `to`, and the place behind the unit.
+/// Returns the unit at a place of an element that ends at `to`, and the place after the unit.
+/// Returns `None` if no unit starts there.
 pub(super) fn unit_at(
     symbol: &Symbol<'_>,
     at: usize,

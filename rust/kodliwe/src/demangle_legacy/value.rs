@@ -1,12 +1,12 @@
 // Made from crates/demangle_legacy/src/value.rt by packaging/crate/erase.py: edit that file instead.
-//! A legacy symbol, and how it prints.
+//! The value of a parsed legacy symbol.
 
 use crate::demangle_legacy::elements::element_at;
 use crate::demangle_legacy::printing::{is_left_out, put_element};
 use crate::demangle_sink::{SinkRefused, SizeLimitedFmtAdapter, TextSink};
 use crate::demangle_symbol::cursor::{Looks, Symbol};
 
-/// A legacy symbol that was read.
+/// A legacy symbol that was parsed.
 pub struct Demangle<'s> {
     inner: Symbol<'s>,
 }
@@ -16,7 +16,11 @@ impl<'s> Demangle<'s> {
         Demangle { inner }
     }
 
-    /// Prints the elements with `::` between, with the hash or without it.
+    /// Puts the elements with `::` between them. The hash is omitted unless `include_hash` is set.
+    ///
+    /// # Errors
+    ///
+    /// Returns `SinkRefused` if the sink or the size limit rejects a piece. No later piece is sent.
     pub fn write_to<S: TextSink>(
         &self,
         out: &mut SizeLimitedFmtAdapter<'_, S>,

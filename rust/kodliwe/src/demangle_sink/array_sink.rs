@@ -1,18 +1,18 @@
 // Made from crates/demangle_sink/src/array_sink.rt by packaging/crate/erase.py: edit that file instead.
-//! A sink into the value itself.
+//! A sink that stores the text in the value itself.
 
 use crate::demangle_sink::{SinkRefused, TextSink};
 use crate::support::arrayvec::ArrayString;
 
-/// A text of at most `N` bytes, in the value itself. It refuses a piece that does not fit, and
-/// keeps what it took before.
+/// A text of at most `N` bytes, stored in the value itself. A piece that does not fit is rejected,
+/// and the text taken before stays.
 pub struct ArraySink<const N: usize> {
     text: ArrayString<N>,
     failed: bool,
 }
 
 impl<const N: usize> ArraySink<N> {
-    /// The empty text, which has not failed.
+    /// Returns an empty sink that has not failed.
     pub fn new() -> Self {
         ArraySink {
             text: ArrayString::new(),
@@ -20,7 +20,7 @@ impl<const N: usize> ArraySink<N> {
         }
     }
 
-    /// The text that it took.
+    /// Returns the text that the sink has taken.
     pub fn as_str(&self) -> &str {
         self.text.as_str()
     }

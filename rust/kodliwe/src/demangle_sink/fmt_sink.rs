@@ -1,17 +1,17 @@
 // Made from crates/demangle_sink/src/fmt_sink.rt by packaging/crate/erase.py: edit that file instead.
-//! A sink into a formatter, and what prints through it.
+//! A sink that writes to a formatter.
 
 use crate::demangle_sink::{SinkRefused, TextSink};
 use core::fmt;
 
-/// Hands each piece to a formatter.
+/// A sink that passes each nonempty piece to a formatter.
 pub struct FmtSink<'f, W: fmt::Write> {
     out: &'f mut W,
     failed: bool,
 }
 
 impl<'f, W: fmt::Write> FmtSink<'f, W> {
-    /// A sink into this formatter, which has not failed.
+    /// Returns a sink for this formatter. It has not failed.
     pub fn new(out: &'f mut W) -> Self {
         FmtSink { out, failed: false }
     }

@@ -1,18 +1,18 @@
 // Made from crates/demangle_sink/src/limit.rt by packaging/crate/erase.py: edit that file instead.
-//! The limit of what is printed.
+//! Limits the size of the printed text.
 
 use crate::demangle_sink::{SinkRefused, TextSink};
 
-/// Hands pieces on while they are within the limit together.
+/// Passes pieces to a sink while their total size is within a limit.
 pub struct SizeLimitedFmtAdapter<'s, S: TextSink> {
     out: &'s mut S,
     remaining: usize,
-    /// Whether a piece did not fit.
+    /// Whether a piece exceeded the limit.
     is_over: bool,
 }
 
 impl<'s, S: TextSink> SizeLimitedFmtAdapter<'s, S> {
-    /// A sink into `out` for so many bytes.
+    /// Returns an adapter that passes at most `limit` bytes to `out`.
     pub fn new(out: &'s mut S, limit: usize) -> Self {
         SizeLimitedFmtAdapter {
             out,
@@ -21,12 +21,17 @@ impl<'s, S: TextSink> SizeLimitedFmtAdapter<'s, S> {
         }
     }
 
-    /// Whether a piece did not fit.
+    /// Returns `true` if a piece exceeded the limit.
     pub fn is_over(&self) -> bool {
         self.is_over
     }
 
-    /// Hands a piece on, or refuses it where it goes past the limit, or where the sink does.
+    /// Passes a piece to the sink.
+    ///
+    /// # Errors
+    ///
+    /// Returns `SinkRefused` if the piece exceeds the limit, or if the sink rejects it. A piece
+    /// that exceeds the limit is not passed.
     #[inline(always)]
     pub fn put(&mut self, s: &str) -> Result<(), SinkRefused> {
         if s.len() > self.remaining {
@@ -38,7 +43,11 @@ impl<'s, S: TextSink> SizeLimitedFmtAdapter<'s, S> {
     }
 }
 
-/// Hands one piece to a sink.
+/// Puts one piece into a sink, without a limit.
+///
+/// # Errors
+///
+/// Returns `SinkRefused` if the sink rejects the piece.
 pub fn put_piece<S: TextSink>(s: &str, out: &mut S) -> Result<(), SinkRefused> {
     out.put(s)
 }

@@ -1,5 +1,5 @@
 // Made from crates/demangle_sink/src/lib.rt by packaging/crate/erase.py: edit that file instead.
-//! Sinks: what takes the text that is printed, a piece at a time.
+//! Sinks take printed text, one piece at a time.
 
 mod array_sink;
 mod chars;
@@ -21,18 +21,23 @@ pub use slice_sink::SliceSink;
 #[cfg(feature = "std")]
 pub use write_sink::WriteSink;
 
-/// A sink refused a piece, and has failed from then on.
+/// The error of a sink that rejected a piece. The sink has failed and takes no further piece.
 #[derive(Debug, Clone, Copy)]
 pub struct SinkRefused;
 
-/// What takes pieces of text, until it refuses one.
+/// Takes pieces of text until it rejects one.
 ///
-/// A sink has a room: a piece within it is surely taken, and the room falls by the piece's bytes.
-/// An empty piece is always taken. A sink that keeps is unchanged by a piece that it refuses.
+/// A sink has a `room`. A piece within the room is always taken, and the room falls by the number
+/// of its bytes. An empty piece is always taken. If `keeps` is true, a rejected piece leaves the
+/// sink's text and room unchanged.
 pub trait TextSink {
-    /// Takes the piece, or refuses it and has failed from then on.
+    /// Takes a piece.
+    ///
+    /// # Errors
+    ///
+    /// Returns `SinkRefused` if the sink rejects the piece. The sink has failed from then on.
     fn put(&mut self, s: &str) -> Result<(), SinkRefused>;
 
-    /// Whether it has refused a piece.
+    /// Returns `true` if the sink has rejected a piece.
     fn is_failed(&self) -> bool;
 }

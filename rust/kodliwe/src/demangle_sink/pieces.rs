@@ -1,9 +1,13 @@
 // Made from crates/demangle_sink/src/pieces.rt by packaging/crate/erase.py: edit that file instead.
-//! Several pieces into a sink.
+//! Puts several pieces into a sink.
 
 use crate::demangle_sink::{SinkRefused, SizeLimitedFmtAdapter, TextSink};
 
-/// Puts one piece after another.
+/// Puts pieces in order.
+///
+/// # Errors
+///
+/// Returns `SinkRefused` if the sink or the size limit rejects a piece. No later piece is sent.
 pub fn put_each<S: TextSink>(
     pieces: &[&str],
     out: &mut SizeLimitedFmtAdapter<'_, S>,

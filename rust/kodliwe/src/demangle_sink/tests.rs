@@ -1,5 +1,5 @@
 // Made from crates/demangle_sink/src/tests.rt by packaging/crate/erase.py: edit that file instead.
-//! What sinks take, and what the limit hands on.
+//! Tests of the pieces that sinks take and that the limit passes.
 use crate::demangle_sink::{ArraySink, SizeLimitedFmtAdapter, TextSink, put_char, put_each};
 
 #[test]

@@ -1,25 +1,25 @@
 // Made from crates/demangle_sink/src/write_sink.rt by packaging/crate/erase.py: edit that file instead.
-//! A sink into a writer.
+//! A sink that writes to a writer.
 
 use crate::demangle_sink::{SinkRefused, TextSink};
 use std::io;
 use std::io::Write;
 
-/// Hands each nonempty piece to a writer by one `write_all`, and keeps the error that the writer
-/// answered. It takes no memory of its own. After a refusal nothing is known of how much of the
-/// piece the writer took.
+/// A sink that passes each nonempty piece to a writer by one `write_all`. It stores the writer's
+/// error and does not allocate. After an error, the number of bytes of the piece that the writer
+/// took is unknown.
 pub struct WriteSink<'w, W: Write> {
     out: &'w mut W,
     fault: Option<io::Error>,
 }
 
 impl<'w, W: Write> WriteSink<'w, W> {
-    /// A sink into this writer, which has not failed.
+    /// Returns a sink for this writer. It has not failed.
     pub fn new(out: &'w mut W) -> Self {
         WriteSink { out, fault: None }
     }
 
-    /// The error that the writer answered, exactly where the sink has failed.
+    /// Returns the writer's error. It is `Some` exactly if the sink has failed.
     pub fn into_fault(self) -> Option<io::Error> {
         let WriteSink { out: _, fault } = self;
         fault

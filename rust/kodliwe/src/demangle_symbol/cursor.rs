@@ -1,5 +1,5 @@
 // Made from crates/demangle_symbol/src/cursor.rt by packaging/crate/erase.py: edit that file instead.
-//! The bytes of a symbol, which only `byte` tells.
+//! Access to the bytes of a symbol. Only `Symbol::byte` reads one, and it counts each look.
 
 use crate::demangle_sink::{SinkRefused, SizeLimitedFmtAdapter, TextSink};
 
@@ -16,37 +16,42 @@ pub use ident::Ident;
 pub use looks::Looks;
 pub use words::MAX_DEPTH;
 
-/// Why a symbol was not read, by the Rust crate's names.
+/// The reason for which a symbol could not be parsed. The variants have the names of the Rust
+/// crate.
 #[derive(Clone, Copy, Debug, PartialEq, Eq)]
 pub enum ParseError {
     Invalid,
     RecursedTooDeep,
 }
 
-/// A part of a symbol, from a place up to another.
+/// A part of a symbol: the bytes from place `from` up to, but without, place `to`.
 #[derive(Clone, Copy, Debug, PartialEq, Eq)]
 pub struct Part {
     pub from: usize,
     pub to: usize,
 }
 
-/// The bytes of a symbol behind its scheme's prefix.
+/// The bytes of a symbol after the prefix of its mangling scheme.
 pub struct Symbol<'s> {
     inner: &'s str,
 }
 
-/// A part of a symbol, that can only be measured or put into a sink.
+/// The text of a part of a symbol. It can only be measured or put into a sink.
 pub struct Span<'s> {
     text: &'s str,
 }
 
 impl<'s> Span<'s> {
-    /// How many bytes it has.
+    /// Returns the number of bytes.
     pub fn len(&self) -> usize {
         self.text.len()
     }
 
-    /// Puts it into a sink. It is no look.
+    /// Puts the text into a sink as one piece. It makes no look.
+    ///
+    /// # Errors
+    ///
+    /// Returns `SinkRefused` if the sink or the size limit rejects the piece.
     #[inline(always)]
     pub fn write_to<S: TextSink>(
         &self,
@@ -57,24 +62,24 @@ impl<'s> Span<'s> {
 }
 
 impl<'s> Symbol<'s> {
-    /// The symbol whose bytes behind the prefix are these.
+    /// Returns the symbol that has these bytes after its prefix.
     pub fn new(inner: &'s str) -> Symbol<'s> {
         Symbol { inner }
     }
 
-    /// How many bytes it has. It is no look.
+    /// Returns the number of bytes. It makes no look.
     pub fn len(&self) -> usize {
         self.inner.len()
     }
 
-    /// The byte at a place, if there is one. It is one look.
+    /// Returns the byte at a place, or `None` after the end. It makes one look.
     pub fn byte(&self, place: usize, looks: &mut Looks) -> Option<u8> {
         looks.tick();
         let _count = self.inner.len();
         self.inner.as_bytes().get(place).copied()
     }
 
-    /// Whether all its bytes are ASCII. It is one look for each byte.
+    /// Returns `true` if all bytes are ASCII. It makes at most one look for each byte.
     pub fn is_ascii(&self, looks: &mut Looks) -> bool {
         let mut all = true;
         for at in 0..self.len() {
@@ -86,14 +91,14 @@ impl<'s> Symbol<'s> {
         all
     }
 
-    /// A part of it, to be measured or put into a sink. It is no look.
+    /// Returns the text of a part, to be measured or put into a sink. It makes no look.
     pub fn span(&self, part: Part) -> Span<'s> {
         Span {
             text: &self.inner[part.from..part.to],
         }
     }
 
-    /// Whether this byte stands at a place. It is one look.
+    /// Returns `true` if the byte at a place is `byte`. It makes one look.
     pub fn is_at(&self, byte: u8, place: usize, looks: &mut Looks) -> bool {
         match self.byte(place, looks) {
             Some(b) => b == byte,
@@ -101,12 +106,17 @@ impl<'s> Symbol<'s> {
         }
     }
 
-    /// The number that decimal digits spell, and the place behind them.
+    /// Reads a decimal number and returns it with the place after its digits.
+    ///
+    /// # Errors
+    ///
+    /// Returns `Invalid` if there is no digit at the place, or if a `usize` cannot hold the number.
     pub fn decimal(&self, place: usize, looks: &mut Looks) -> Result<(usize, usize), ParseError> {
         self.decimal_from(0, place, place, looks)
     }
 
-    /// The same of digits that begin at `start`, of which `number` was read in front of `from`.
+    /// Reads the remaining digits of a decimal number and returns it with the place after them. The
+    /// number starts at `start`, and its digits before `from` have the value `number`.
     #[inline(always)]
     fn decimal_from(
         &self,
@@ -123,8 +133,8 @@ impl<'s> Symbol<'s> {
                 }
                 return Ok((number, at));
             };
-            // A number that a `usize` cannot hold is an error, as in the Rust crate, and never wraps
-            // to a small one.
+            // If a `usize` cannot hold the number, that is an error, as in the Rust crate. The
+            // number never wraps to a small one.
             let Some(sum) = append_decimal(number, digit) else {
                 return Err(ParseError::Invalid);
             };
@@ -137,7 +147,8 @@ impl<'s> Symbol<'s> {
         Ok((number, end))
     }
 
-    /// The decimal digit at a place, if one stands there.
+    /// Returns the value of the decimal digit at a place, or `None` if another byte or the end is
+    /// there.
     #[inline(always)]
     fn digit(&self, place: usize, looks: &mut Looks) -> Option<u8> {
         match self.byte(place, looks) {
@@ -147,12 +158,12 @@ impl<'s> Symbol<'s> {
     }
 }
 
-/// The number with this digit behind its own, in a base, if it fits 64 bits.
+/// Returns the number with this digit appended in a base, or `None` if it does not fit 64 bits.
 pub(crate) fn append_digit(number: u64, base: u64, digit: u8) -> Option<u64> {
     number.checked_mul(base)?.checked_add(u64::from(digit))
 }
 
-/// Returns the number with this decimal digit after its own, if a `usize` holds it.
+/// Returns the number with this decimal digit appended, or `None` if a `usize` cannot hold it.
 #[inline(always)]
 fn append_decimal(number: usize, digit: u8) -> Option<usize> {
     number.checked_mul(10)?.checked_add(usize::from(digit))

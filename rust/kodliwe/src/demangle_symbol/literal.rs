@@ -1,5 +1,5 @@
 // Made from crates/demangle_symbol/src/literal.rt by packaging/crate/erase.py: edit that file instead.
-//! Literals of characters and strings.
+//! Prints the literals of char and string constants.
 
 use crate::demangle_sink::{SinkRefused, SizeLimitedFmtAdapter, TextSink, put_char, put_chars};
 use crate::support::arrayvec::ArrayVec;
@@ -11,18 +11,18 @@ mod tests;
 
 pub use strings::{is_string, put_string_literal};
 
-/// How a character is written in a literal.
+/// The way to write a character in a literal.
 #[derive(Clone, Copy)]
 enum Escape {
-    /// As it stands.
+    /// The character itself.
     Itself,
-    /// A backslash, and this character.
+    /// A backslash, then this character.
     Backslash(char),
     /// Its code in hexadecimal digits, between `\u{` and `}`.
     Code,
 }
 
-/// Whether a character of this category, past ASCII, is written by its code.
+/// Returns `true` if a character of this category, past ASCII, is written as its code.
 fn is_hidden_category(category: GeneralCategory) -> bool {
     match category {
         GeneralCategory::Control
@@ -37,15 +37,15 @@ fn is_hidden_category(category: GeneralCategory) -> bool {
     }
 }
 
-/// Whether a character past ASCII stands for itself.
+/// Returns `true` if a character past ASCII is written as itself.
 fn is_shown(c: char) -> bool {
     c >= '\u{80}' && !is_hidden_category(GeneralCategory::for_char(c)) && !is_grapheme_extend(c)
 }
 
-/// How a character is written in a literal with this quote.
+/// Returns the way to write a character in a literal with this quote.
 fn literal_escape(quote: char, c: char) -> Escape {
-    // Only the literal's own quote is escaped: `'` stands for itself in a string, and `"` as a
-    // character.
+    // Only the literal's own quote is escaped. A string literal contains `'` unescaped, and a char
+    // literal `"`.
     if c == quote || c == '\\' {
         return Escape::Backslash(c);
     }
@@ -65,7 +65,7 @@ fn literal_escape(quote: char, c: char) -> Escape {
     }
 }
 
-/// A hexadecimal digit.
+/// Returns the byte of a hexadecimal digit.
 fn digit_byte(digit: u64) -> u8 {
     if digit < 10 {
         b'0' + digit as u8
@@ -74,12 +74,12 @@ fn digit_byte(digit: u64) -> u8 {
     }
 }
 
-/// A hexadecimal digit, as a character.
+/// Returns the character of a hexadecimal digit.
 fn digit_char(digit: u64) -> char {
     char::from(digit_byte(digit))
 }
 
-/// The hexadecimal digits of a number, the highest first.
+/// Returns the hexadecimal digits of a number, the highest first.
 fn hexadecimal(number: u64) -> ArrayVec<char, 16> {
     let mut text = ArrayVec::new();
     let mut rest = number;
@@ -112,7 +112,7 @@ fn put_backslashed<S: TextSink>(
     put_char(letter, out)
 }
 
-/// Puts one character of a literal, each character that it is written with as one piece.
+/// Puts one character of a literal in its escaped form. Each character of that form is one piece.
 fn put_escaped<S: TextSink>(
     quote: char,
     c: char,
@@ -125,7 +125,11 @@ fn put_escaped<S: TextSink>(
     }
 }
 
-/// Puts the literal of a character: its quote, the character, and its quote.
+/// Puts the literal of a character: a quote, the character and a quote.
+///
+/// # Errors
+///
+/// Returns `SinkRefused` if the sink or the size limit rejects a piece. No later piece is sent.
 #[inline(never)]
 pub fn put_char_literal<S: TextSink>(
     c: char,
@@ -136,14 +140,15 @@ pub fn put_char_literal<S: TextSink>(
     put_char('\'', out)
 }
 
-/// The character of a char constant by the number of its hex word. There is none without a number,
-/// and where that is no Unicode scalar value.
+/// Returns the character of a char constant, given the number of its hexadecimal string. The result
+/// is `None` if there is no number or the number is not a Unicode scalar value.
 pub fn character_of(number: Option<u128>) -> Option<char> {
     let code = u32::try_from(number?).ok()?;
     char::from_u32(code)
 }
 
-/// The value of a bool constant by the number of its hex word: 0 or 1, and no other.
+/// Returns the value of a bool constant, given the number of its hexadecimal string. Only 0 and 1
+/// have a value.
 pub fn truth_of(number: Option<u128>) -> Option<bool> {
     match number {
         Some(0) => Some(false),

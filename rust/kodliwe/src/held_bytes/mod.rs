@@ -1,18 +1,18 @@
 // Made from crates/held_bytes/src/lib.rt by packaging/crate/erase.py: edit that file instead.
-//! Bytes that a program holds for a writer, so that pieces of a few bytes cost little.
+//! A buffer for bytes on their way to a writer, which makes pieces of a few bytes cheap.
 
-/// How many bytes can be held. They lie on the stack.
+/// The most bytes that the buffer holds. They are on the stack.
 pub const CAPACITY: usize = 2048;
 
-/// Copies a piece of `N` to `2 * N` bytes: its first `N`, and its last `N`, which may overlap.
+/// Copies a piece of `N` to `2 * N` bytes: its first `N` and its last `N`, which may overlap.
 #[inline(always)]
 fn copy_ends<const N: usize>(piece: &[u8], room: &mut [u8]) {
     *room.first_chunk_mut::<N>().unwrap() = *piece.first_chunk::<N>().unwrap();
     *room.last_chunk_mut::<N>().unwrap() = *piece.last_chunk::<N>().unwrap();
 }
 
-/// Copies a piece to the front of the room. A call of the C library costs more than the copying of
-/// the few bytes that most pieces have.
+/// Copies a piece to the start of the room. Most pieces have a few bytes, and copying those costs
+/// less than a call of the C library.
 #[inline]
 fn copy(piece: &[u8], room: &mut [u8]) {
     let room = &mut room[..piece.len()];
@@ -30,14 +30,14 @@ fn copy(piece: &[u8], room: &mut [u8]) {
     }
 }
 
-/// At most `CAPACITY` bytes, in the order in which they came.
+/// At most `CAPACITY` bytes, in the order in which they were pushed.
 pub struct Held {
     bytes: [u8; CAPACITY],
     len: usize,
 }
 
 impl Held {
-    /// Holds no bytes.
+    /// Returns an empty buffer.
     pub fn new() -> Self {
         Held {
             bytes: [0; CAPACITY],
@@ -45,17 +45,17 @@ impl Held {
         }
     }
 
-    /// The bytes that are held.
+    /// Returns the buffered bytes.
     pub fn as_slice(&self) -> &[u8] {
         &self.bytes[..self.len]
     }
 
-    /// Whether no bytes are held.
+    /// Returns `true` if no bytes are buffered.
     pub fn is_empty(&self) -> bool {
         self.len == 0
     }
 
-    /// Holds all of the piece, or answers `false` where there is no room for it.
+    /// Appends all of the piece. If there is no room for it, returns `false` and changes nothing.
     #[inline(always)]
     pub fn push(&mut self, piece: &[u8]) -> bool {
         let start = self.len;
@@ -68,13 +68,13 @@ impl Held {
         true
     }
 
-    /// Lets go of the first `count` bytes.
+    /// Removes the first `count` bytes.
     pub fn remove_front(&mut self, count: usize) {
         self.bytes.copy_within(count..self.len, 0);
         self.len -= count;
     }
 
-    /// Lets go of the bytes that are held.
+    /// Removes all bytes.
     pub fn clear(&mut self) {
         self.len = 0;
     }

@@ -83,9 +83,8 @@ fn groups_end<const N: usize>(text: &[u8], from: usize) -> usize {
 /// How long a run is that begins here: up to the first byte that is no ASCII letter, no digit and
 /// none of `$`, `.` and `_`.
 pub fn run_len(text: &[u8]) -> usize {
-    // Groups of these sizes the compiler tests by vectors: at most seven bytes of a run are left.
-    let mut at = groups_end::<32>(text, 0);
-    at = groups_end::<16>(text, at);
+    // The compiler tests groups of these sizes by vectors: at most seven bytes of a run are left.
+    let mut at = groups_end::<16>(text, 0);
     at = groups_end::<8>(text, at);
     while at < text.len() && is_run(text[at]) {
         at += 1;

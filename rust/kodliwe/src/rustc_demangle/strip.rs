@@ -1,22 +1,31 @@
 // Made from crates/rustc_demangle/src/strip.rt by packaging/crate/erase.py: edit that file instead.
 //! Symbols as ThinLTO leaves them.
 
-use crate::support::memchr::memchr;
+use crate::support::memchr::memrchr;
 
-/// Whether all of it may stand behind `.llvm.`.
+/// Returns whether all of it may follow `.llvm.`.
 fn is_thin_lto(ending: &str) -> bool {
     ending
         .bytes()
         .all(|b| matches!(b, b'A'..=b'F' | b'0'..=b'9' | b'@'))
 }
 
-/// The text without an ending that ThinLTO appends: from its first `.llvm.` on, where only `A` to
-/// `F`, digits and `@` follow that.
-pub(crate) fn without_thin_lto(text: &str) -> &str {
-    // Most symbols have no `.`, and one byte is found sooner.
-    let Some(_) = memchr(b'.', text.as_bytes()) else {
-        return text;
+/// Returns whether a text may have an ending of ThinLTO: whether its last `.` ends a `.llvm.`.
+fn may_be_thin_lto(text: &str) -> bool {
+    let bytes = text.as_bytes();
+    // What may follow `.llvm.` has no `.`. Most symbols have none at all, or one near their end.
+    let Some(dot) = memrchr(b'.', bytes) else {
+        return false;
     };
+    dot >= 5 && bytes[dot - 5..].starts_with(b".llvm.")
+}
+
+/// Returns the text without an ending that ThinLTO appends: from its first `.llvm.` on, if only `A`
+/// to `F`, digits and `@` follow that.
+pub(crate) fn without_thin_lto(text: &str) -> &str {
+    if !may_be_thin_lto(text) {
+        return text;
+    }
     match text.split_once(".llvm.") {
         Some((name, ending)) if is_thin_lto(ending) => name,
         _ => text,

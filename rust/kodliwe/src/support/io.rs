@@ -76,6 +76,17 @@ impl Stdin {
     }
 }
 
+/// Whether a stream is a terminal. Rust's own trait takes no types but its own.
+pub trait IsTerminal {
+    fn is_terminal(&self) -> bool;
+}
+
+impl IsTerminal for Stdin {
+    fn is_terminal(&self) -> bool {
+        io::IsTerminal::is_terminal(&io::stdin())
+    }
+}
+
 impl Read for Stdin {
     fn read(&mut self, bytes: &mut [u8]) -> io::Result<usize> {
         io::stdin().read(bytes)

@@ -1,4 +1,4 @@
-//! The search for a byte, with the interface of the crate `memchr`.
+//! The searches for a byte, with the interface of the crate `memchr`.
 
 /// How many bytes are tested at once, by a processor's vectors.
 const GROUP: usize = 32;
@@ -53,4 +53,20 @@ fn find_by_words(needle: u8, text: &[u8]) -> Option<usize> {
         .iter()
         .position(|byte| *byte == needle)
         .map(|after| at + after)
+}
+
+/// Returns the last place of the byte.
+pub fn memrchr(needle: u8, text: &[u8]) -> Option<usize> {
+    let pattern = LOW * usize::from(needle);
+    let mut end = text.len();
+    // Each byte of the difference but zero sets its own high bit, so the highest zero is exact.
+    while let Some(word) = text[..end].last_chunk::<SIZE>() {
+        let difference = usize::from_le_bytes(*word) ^ pattern;
+        let zeros = !(((difference & !HIGH) + !HIGH) | difference) & HIGH;
+        if zeros != 0 {
+            return Some(end - 1 - (zeros.leading_zeros() / 8) as usize);
+        }
+        end -= SIZE;
+    }
+    text[..end].iter().rposition(|byte| *byte == needle)
 }

@@ -1,19 +1,19 @@
 // Made from crates/test_doubles/src/refusing_sink.rt by packaging/crate/erase.py: edit that file instead.
-//! A sink that refuses a piece.
+//! A sink that rejects a piece.
 
 use crate::demangle_sink::{ArraySink, SinkRefused, TextSink};
 
-/// Takes every empty piece, and refuses one of the nonempty ones; it keeps the text that it took,
+/// Takes every empty piece, and rejects one of the nonempty ones. It stores the text that it took,
 /// of at most 4,096 bytes.
 pub struct RefusingSink {
     text: ArraySink<4096>,
-    /// How many nonempty pieces are taken before the refused one.
+    /// The number of nonempty pieces that are taken before the rejected one.
     left: usize,
     failed: bool,
 }
 
 impl RefusingSink {
-    /// Refuses the nonempty piece of this number, counted from 1.
+    /// Returns a sink that rejects the nonempty piece with this number, counted from 1.
     pub fn new(number: usize) -> RefusingSink {
         RefusingSink {
             text: ArraySink::new(),
@@ -22,7 +22,7 @@ impl RefusingSink {
         }
     }
 
-    /// The text that it took.
+    /// Returns the text that the sink has taken.
     pub fn as_str(&self) -> &str {
         self.text.as_str()
     }

@@ -170,8 +170,10 @@ impl TextMemo {
     #[inline(always)]
     pub fn note(&mut self, hash: u64) -> Noted {
         let place = mark_place(hash);
+        if self.marks.is_empty() && self.marks.resize(MARKS, 0).is_err() {
+            return Noted::New;
+        }
         if place >= self.marks.len() {
-            let _ = self.marks.resize(MARKS, 0);
             return Noted::New;
         }
         let noted = self.marks[place];

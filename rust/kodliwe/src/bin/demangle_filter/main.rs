@@ -23,7 +23,7 @@ use std::io;
 use std::io::ErrorKind;
 use std::process::ExitCode;
 
-/// The arguments behind the program's name.
+/// Returns the arguments after the program's name.
 fn arguments(rt: &(impl Env + AllocGlobal)) -> io::Result<Vec<String>> {
     let words = env::args(rt)?;
     Ok(words.skip(1).collect_in::<Vec<String>>(rt.alloc())?)

@@ -14,6 +14,7 @@ mod output;
 mod program;
 mod replacing;
 mod run;
+mod same_file;
 mod streams;
 #[cfg(test)]
 mod tests;
@@ -22,7 +23,7 @@ mod words;
 
 use kodliwe::support::env;
 use kodliwe::support::rt::Env;
-use program::{start, words_fault};
+use program::{Host, start, words_fault};
 use std::io;
 use std::io::Write;
 use std::process::ExitCode;
@@ -45,14 +46,12 @@ fn main() -> ExitCode {
             return ExitCode::from(status);
         }
     };
-    let stdout = rt.stdout().lock();
-    let status = start(
+    let host = Host {
         alloc,
-        words.as_slice(),
-        &rt,
-        rt.stdin(),
-        stdout,
-        &mut errors,
-    );
-    ExitCode::from(status)
+        files: &rt,
+        stdin: rt.stdin(),
+        stdout: rt.stdout().lock(),
+        errors,
+    };
+    ExitCode::from(start(host, words.as_slice()))
 }

@@ -1,14 +1,17 @@
 // Made from crates/demangle_symbol/src/cursor/hex.rt by packaging/crate/erase.py: edit that file instead.
-//! The hex words of a v0 symbol, and their numbers.
+//! Reads the hexadecimal strings of a v0 symbol, and their numbers.
 
 use crate::demangle_symbol::cursor::{Looks, ParseError, Part, Symbol};
 
-/// How many nibbles a number may have behind its leading zeros.
+/// The most nibbles that a number may have after its leading zeros.
 pub const MAX_NIBBLES: usize = 32;
 
 impl<'s> Symbol<'s> {
-    /// The hex word at a place: its nibbles, and the place behind its `_`. It is Invalid where
-    /// another byte, or the end, comes before the `_`.
+    /// Reads a hexadecimal string. Returns the part of its nibbles and the place after its `_`.
+    ///
+    /// # Errors
+    ///
+    /// Returns `Invalid` if another byte, or the end, comes before the `_`.
     #[inline(never)]
     pub fn hex_nibbles(
         &self,
@@ -33,7 +36,7 @@ impl<'s> Symbol<'s> {
         Err(ParseError::Invalid)
     }
 
-    /// Where the leading zeros of a part end.
+    /// Returns the place after the leading zeros of a part.
     fn behind_zeros(&self, part: Part, looks: &mut Looks) -> usize {
         for at in part.from..part.to {
             if !self.is_at(b'0', at, looks) {
@@ -43,10 +46,11 @@ impl<'s> Symbol<'s> {
         part.to
     }
 
-    /// The number of the nibbles of a hex word, if at most 32 are left behind its leading zeros.
+    /// Returns the number that the nibbles of a hexadecimal string spell. Returns `None` if more
+    /// than 32 nibbles follow the leading zeros.
     #[inline(never)]
     pub fn hex_number(&self, nibbles: Part, looks: &mut Looks) -> Option<u128> {
-        // Zeros in front carry no value, so a number may have any count of them.
+        // Leading zeros have no value, so a number may have any number of them.
         let start = self.behind_zeros(nibbles, looks);
         if nibbles.to - start > MAX_NIBBLES {
             return None;
@@ -65,7 +69,7 @@ impl<'s> Symbol<'s> {
     }
 }
 
-/// The value of a lower case hexadecimal digit, or `None` at any other byte.
+/// Returns the value of a lower case hexadecimal digit, or `None` for any other byte.
 pub(crate) fn nibble_of(byte: u8) -> Option<u8> {
     match byte {
         b'0'..=b'9' => Some(byte - b'0'),

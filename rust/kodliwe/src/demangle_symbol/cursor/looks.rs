@@ -1,29 +1,29 @@
 // Made from crates/demangle_symbol/src/cursor/looks.rt by packaging/crate/erase.py: edit that file instead.
-//! The count of looks, which takes no room.
+//! Counts looks at the bytes of a symbol. The count occupies no memory.
 
 use crate::support::snapshot::Snapshot;
 use core::mem;
 
-/// A number, counted by its steps from zero. No run holds one.
+/// A natural number as the number of steps from zero. No value exists at run time.
 enum Tally {
     Zero,
     More(Snapshot<Tally>),
 }
 
-/// How many looks were taken. It takes no bytes, and only `tick` raises it.
+/// The number of looks made. It occupies no bytes, and only `tick` raises it.
 pub struct Looks {
     count: Snapshot<Tally>,
 }
 
 impl Looks {
-    /// A count of no looks.
+    /// Returns a count of zero looks.
     pub fn new() -> Looks {
         Looks {
             count: Snapshot::of(&Tally::Zero),
         }
     }
 
-    /// One look more.
+    /// Adds one look.
     pub(super) fn tick(&mut self) {
         let before = mem::replace(&mut self.count, Snapshot::of(&Tally::Zero));
         self.count = Snapshot::of(&Tally::More(before));

@@ -1,5 +1,5 @@
 // Made from crates/demangle_symbol/src/cursor/tests.rt by packaging/crate/erase.py: edit that file instead.
-//! Words of known symbols.
+//! Tests of the primitives of known symbols.
 use crate::demangle_symbol::cursor::{Ident, Looks, ParseError, Symbol};
 use core::mem;
 
@@ -19,7 +19,7 @@ fn namespace(text: &str) -> Result<(u8, usize), ParseError> {
     Symbol::new(text).namespace(0, &mut Looks::new())
 }
 
-/// Where the parts of a name begin and end, and the place behind it.
+/// Returns the bounds of both parts of a name, and the place after it.
 fn parts(text: &str) -> Result<(usize, usize, usize, usize, usize), ParseError> {
     let (name, next) = Symbol::new(text).ident(0, &mut Looks::new())?;
     let Ident { ascii, punycode } = name;

@@ -1,26 +1,29 @@
 // Made from crates/demangle_symbol/src/cursor/words.rt by packaging/crate/erase.py: edit that file instead.
-//! The words of a v0 symbol that are numbers, letters and references.
+//! Reads the primitives of a v0 symbol that are numbers, letters and back references.
 
 use crate::demangle_symbol::cursor::{Looks, ParseError, Symbol, append_digit};
 
-/// How deep the units of a symbol may lie in one another.
+/// The greatest depth to which productions of a symbol may be nested.
 pub const MAX_DEPTH: u32 = 500;
 
-/// How many digits are taken with no check: 62^10 is below 2^60.
+/// The number of digits that are read without an overflow check. 62^10 is below 2^60.
 const UNCHECKED_DIGITS: usize = 10;
 
 impl<'s> Symbol<'s> {
-    /// The integer at a place, and the place behind it. It is Invalid where none is spelled there,
-    /// and where it is not below 2^64.
+    /// Reads an integer in base 62 and returns it with the place after it.
+    ///
+    /// # Errors
+    ///
+    /// Returns `Invalid` if no integer is spelled there, or if the integer is 2^64 or more.
     #[inline(never)]
     pub fn integer_62(&self, place: usize, looks: &mut Looks) -> Result<(u64, usize), ParseError> {
-        // `_` alone is 0, so what digits spell is one less than the integer.
+        // `_` alone is 0, so the digits spell one less than the integer.
         let Some(first) = self.integer_digit(place, looks)? else {
             return Ok((0, place + 1));
         };
         let mut number = first;
-        // As many turns at any place, so that they are unrolled: each digit tells where the symbol
-        // ends.
+        // The number of iterations does not depend on the place, so the compiler can unroll them.
+        // Each digit read finds the end of the symbol itself.
         for step in 1..UNCHECKED_DIGITS {
             let at = place + step;
             let Some(digit) = self.integer_digit(at, looks)? else {
@@ -43,17 +46,18 @@ impl<'s> Symbol<'s> {
         Err(ParseError::Invalid)
     }
 
-    /// The digit of an integer at a place, or none where the `_` stands there that ends it. Any
-    /// other byte is Invalid.
+    /// Reads a digit of an integer. Returns `None` if the byte is the `_` that ends the integer,
+    /// and `Invalid` if it is any other byte.
     #[inline(always)]
     fn integer_digit(&self, place: usize, looks: &mut Looks) -> Result<Option<u64>, ParseError> {
-        // It says that a symbol is shorter than 2^63 bytes.
+        // This call shows the proof that a symbol is shorter than 2^63 bytes.
         let _count = self.inner.as_bytes().len();
         let Some(byte) = self.byte(place, looks) else {
             return Err(ParseError::Invalid);
         };
-        // The digits go first: there are up to eleven, and one end behind them. The end is told by
-        // its byte, since a test of the table for it would be made in front of the digits' test.
+        // Digits are tested first, since an integer has up to eleven of them and one end. The end
+        // is recognized by its byte: a test by the table would be moved before the test of the
+        // digits.
         let digit = digit_62_of(byte);
         if digit < 62 {
             return Ok(Some(u64::from(digit)));
@@ -64,8 +68,12 @@ impl<'s> Symbol<'s> {
         Err(ParseError::Invalid)
     }
 
-    /// The integer behind a tag and one more, or 0 where the tag is not there. It is Invalid where
-    /// the tag has no integer behind it, and where the sum is not below 2^64.
+    /// Reads an optional integer and returns it with the place after it. The value is the integer
+    /// after the tag plus one, or 0 without the tag.
+    ///
+    /// # Errors
+    ///
+    /// Returns `Invalid` if the tag has no integer after it, or if the sum is 2^64 or more.
     #[inline(always)]
     pub fn opt_integer_62(
         &self,
@@ -79,10 +87,10 @@ impl<'s> Symbol<'s> {
         self.integer_behind_tag(place + 1, looks)
     }
 
-    /// The integer behind a tag, and one more. It is Invalid where none is spelled there, and where
-    /// the sum is not below 2^64.
-    // Apart, since memory for the call's answer is cleared where this begins, and most names have
-    // no tag.
+    /// Reads the integer after a tag. Returns the integer plus one, and the place after it. Returns
+    /// `Invalid` if no integer is spelled there, or if the sum is 2^64 or more.
+    // The function is separate since memory for the call's result is cleared at its start, and most
+    // names have no tag.
     #[inline(always)]
     fn integer_behind_tag(
         &self,
@@ -92,15 +100,20 @@ impl<'s> Symbol<'s> {
         let Ok((number, next)) = self.integer_62(place, looks) else {
             return Err(ParseError::Invalid);
         };
-        // The tag left out is 0, so behind the tag an integer counts from 1 on.
+        // A missing tag means 0, so an integer after the tag counts from 1.
         let Some(value) = number.checked_add(1) else {
             return Err(ParseError::Invalid);
         };
         Ok((value, next))
     }
 
-    /// The disambiguator at a place, which is 0 where there is none. It is Invalid as for an
-    /// integer behind a tag.
+    /// Reads a disambiguator and returns it with the place after it. It is 0 if the tag `s` is
+    /// missing.
+    ///
+    /// # Errors
+    ///
+    /// Returns `Invalid` if the tag has no integer after it, or if the disambiguator is 2^64 or
+    /// more.
     #[inline(always)]
     pub fn disambiguator(
         &self,
@@ -110,7 +123,11 @@ impl<'s> Symbol<'s> {
         self.opt_integer_62(b's', place, looks)
     }
 
-    /// The byte at a place, read as a word, and the place behind it. It is Invalid at the end.
+    /// Reads a byte and returns it with the place after it.
+    ///
+    /// # Errors
+    ///
+    /// Returns `Invalid` at the end of the symbol.
     pub fn tag(&self, place: usize, looks: &mut Looks) -> Result<(u8, usize), ParseError> {
         let Some(byte) = self.byte(place, looks) else {
             return Err(ParseError::Invalid);
@@ -118,7 +135,11 @@ impl<'s> Symbol<'s> {
         Ok((byte, place + 1))
     }
 
-    /// The letter of a namespace, and the place behind it. Any other byte is Invalid.
+    /// Reads the letter of a namespace and returns it with the place after it.
+    ///
+    /// # Errors
+    ///
+    /// Returns `Invalid` if the byte is not an ASCII letter.
     pub fn namespace(&self, place: usize, looks: &mut Looks) -> Result<(u8, usize), ParseError> {
         match self.byte(place, looks) {
             Some(b) if b.is_ascii_alphabetic() => Ok((b, place + 1)),
@@ -126,10 +147,13 @@ impl<'s> Symbol<'s> {
         }
     }
 
-    /// The target of a back reference whose `B` stands in front of `place`, and the place behind
-    /// its word. It is Invalid where no integer is spelled, and where the target does not lie in
-    /// front of the `B`. Then it is RecursedTooDeep where `depth`, that of the reference, has no
-    /// depth below it.
+    /// Reads a back reference whose `B` is directly before `place`. Returns its target and the
+    /// place after it. `depth` is the depth of the reference.
+    ///
+    /// # Errors
+    ///
+    /// Returns `Invalid` if no integer is spelled there, or if the target is not before the `B`.
+    /// Otherwise returns `RecursedTooDeep` if `depth` is the greatest depth.
     #[inline(always)]
     pub fn backref(
         &self,
@@ -138,9 +162,8 @@ impl<'s> Symbol<'s> {
         looks: &mut Looks,
     ) -> Result<(usize, usize), ParseError> {
         let (target, next) = self.integer_62(place, looks)?;
-        // Only what stands in front of its `B` may be referred to, so that references lead to no
-        // circle. The target is looked at before the depth: a bad one is Invalid however deep it
-        // lies.
+        // A back reference may only name a place before its `B`, so references cannot form a cycle.
+        // The target is checked before the depth. So an invalid target is `Invalid` at any depth.
         if target >= place as u64 - 1 {
             return Err(ParseError::Invalid);
         }
@@ -150,7 +173,7 @@ impl<'s> Symbol<'s> {
         Ok((target as usize, next))
     }
 
-    /// The place behind an optional byte. It is one look.
+    /// Returns the place after an optional byte. It makes one look.
     pub fn skip(&self, byte: u8, place: usize, looks: &mut Looks) -> usize {
         if self.is_at(byte, place, looks) {
             place + 1
@@ -160,7 +183,7 @@ impl<'s> Symbol<'s> {
     }
 }
 
-/// The value of each digit in base 62, and 255 at each other byte.
+/// The value of each digit in base 62, and 255 for every other byte.
 #[rustfmt::skip]
 static DIGITS_62: [u8; 256] = [
     255, 255, 255, 255, 255, 255, 255, 255, 255, 255, 255, 255, 255, 255, 255, 255,
@@ -181,7 +204,7 @@ static DIGITS_62: [u8; 256] = [
     255, 255, 255, 255, 255, 255, 255, 255, 255, 255, 255, 255, 255, 255, 255, 255,
 ];
 
-/// The value of a digit in base 62, and more at any other byte.
+/// Returns the value of a digit in base 62, and 62 or more for any other byte.
 #[inline(always)]
 fn digit_62_of(byte: u8) -> u8 {
     DIGITS_62[usize::from(byte)]

@@ -1,19 +1,19 @@
 // Made from crates/demangle_symbol/src/literal/strings.rt by packaging/crate/erase.py: edit that file instead.
-//! The characters of string constants, from their nibbles.
+//! Decodes the characters of string constants from their nibbles.
 
 use crate::demangle_sink::{SinkRefused, SizeLimitedFmtAdapter, TextSink, put_char};
 use crate::demangle_symbol::cursor::{Looks, Part, Symbol, nibble_of};
 use crate::demangle_symbol::literal::put_escaped;
 use core::str;
 
-/// The characters that the nibbles of a string constant spell, one after another.
+/// An iterator over the characters that the nibbles of a string constant spell.
 #[derive(Clone, Copy)]
 pub struct StrChars {
-    /// The nibbles that are left.
+    /// The nibbles not yet read.
     rest: Part,
 }
 
-/// The nibble at a place.
+/// Returns the value of the nibble at a place.
 fn nibble_at(symbol: &Symbol<'_>, place: usize, looks: &mut Looks) -> u8 {
     match symbol.byte(place, looks) {
         Some(byte) => match nibble_of(byte) {
@@ -24,14 +24,14 @@ fn nibble_at(symbol: &Symbol<'_>, place: usize, looks: &mut Looks) -> u8 {
     }
 }
 
-/// The byte of the two nibbles from a place on.
+/// Returns the byte that the two nibbles from a place spell.
 fn nibble_byte(symbol: &Symbol<'_>, rest: Part, place: usize, looks: &mut Looks) -> u8 {
     let high = nibble_at(symbol, place, looks);
     let low = nibble_at(symbol, place + 1, looks);
     high * 16 + low
 }
 
-/// The first character of these bytes, if they are a text.
+/// Returns the first character of these bytes, or `None` if they are not UTF-8.
 fn first_char(bytes: &[u8]) -> Option<char> {
     let Ok(text) = str::from_utf8(bytes) else {
         return None;
@@ -39,7 +39,8 @@ fn first_char(bytes: &[u8]) -> Option<char> {
     text.chars().next()
 }
 
-/// The character that a part begins with, and the place behind it.
+/// Returns the first character of a part and the place after it. Returns `None` if the nibbles do
+/// not start with a character.
 fn char_at(symbol: &Symbol<'_>, rest: Part, looks: &mut Looks) -> Option<(char, usize)> {
     let mut bytes = [0_u8; 4];
     for len in 0..4_usize {
@@ -56,17 +57,18 @@ fn char_at(symbol: &Symbol<'_>, rest: Part, looks: &mut Looks) -> Option<(char, 
 }
 
 impl StrChars {
-    /// The characters of these nibbles.
+    /// Returns an iterator over the characters of these nibbles.
     pub fn new(nibbles: Part) -> StrChars {
         StrChars { rest: nibbles }
     }
 
-    /// Whether no nibbles are left.
+    /// Returns `true` if all nibbles have been read.
     pub fn is_done(&self) -> bool {
         self.rest.to <= self.rest.from
     }
 
-    /// The next character, or none where the nibbles begin no character.
+    /// Returns the next character and removes its nibbles. Returns `None` if the nibbles do not
+    /// start with a character, and then changes nothing.
     pub fn next(&mut self, symbol: &Symbol<'_>, looks: &mut Looks) -> Option<char> {
         let Some((c, next)) = char_at(symbol, self.rest, looks) else {
             return None;
@@ -76,7 +78,8 @@ impl StrChars {
     }
 }
 
-/// Whether the nibbles of a hex word spell a text: an even number of them, whose bytes are UTF-8.
+/// Returns `true` if the nibbles of a hexadecimal string spell a text: their number is even and
+/// their bytes are UTF-8.
 #[inline(never)]
 pub fn is_string(symbol: &Symbol<'_>, nibbles: Part, looks: &mut Looks) -> bool {
     let mut chars = StrChars::new(nibbles);
@@ -88,7 +91,7 @@ pub fn is_string(symbol: &Symbol<'_>, nibbles: Part, looks: &mut Looks) -> bool 
     true
 }
 
-/// Puts the characters of a string literal.
+/// Puts the characters of a string literal in their escaped form.
 fn put_characters<S: TextSink>(
     symbol: &Symbol<'_>,
     nibbles: Part,
@@ -105,7 +108,11 @@ fn put_characters<S: TextSink>(
     Ok(())
 }
 
-/// Puts the literal of a string constant: its quote, the characters, and its quote.
+/// Puts the literal of a string constant: a quote, its characters and a quote.
+///
+/// # Errors
+///
+/// Returns `SinkRefused` if the sink or the size limit rejects a piece. No later piece is sent.
 #[inline(never)]
 pub fn put_string_literal<S: TextSink>(
     symbol: &Symbol<'_>,

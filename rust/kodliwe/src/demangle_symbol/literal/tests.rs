@@ -1,12 +1,12 @@
 // Made from crates/demangle_symbol/src/literal/tests.rt by packaging/crate/erase.py: edit that file instead.
-//! Literals of known constants.
+//! Tests of the literals of known constants.
 use crate::demangle_sink::{ArraySink, SizeLimitedFmtAdapter};
 use crate::demangle_symbol::cursor::{Looks, Symbol};
 use crate::demangle_symbol::literal::{
     character_of, is_string, put_char_literal, put_string_literal, truth_of,
 };
 
-/// The number of a hex word.
+/// Returns the number of a hexadecimal string.
 fn number(word: &str) -> Option<u128> {
     let symbol = Symbol::new(word);
     let mut looks = Looks::new();
@@ -16,7 +16,7 @@ fn number(word: &str) -> Option<u128> {
     symbol.hex_number(nibbles, &mut looks)
 }
 
-/// Whether the char constant of this hex word prints so.
+/// Returns `true` if the char constant of this hexadecimal string prints as this text.
 fn prints_char(word: &str, text: &str) -> bool {
     let Some(c) = character_of(number(word)) else {
         return false;
@@ -29,7 +29,7 @@ fn prints_char(word: &str, text: &str) -> bool {
     sink.as_str() == text
 }
 
-/// Whether this hex word spells a string.
+/// Returns `true` if this hexadecimal string spells a string.
 fn spells(word: &str) -> bool {
     let symbol = Symbol::new(word);
     let mut looks = Looks::new();
@@ -39,7 +39,7 @@ fn spells(word: &str) -> bool {
     }
 }
 
-/// Whether the string constant of this hex word prints so.
+/// Returns `true` if the string constant of this hexadecimal string prints as this text.
 fn prints_string(word: &str, text: &str) -> bool {
     let symbol = Symbol::new(word);
     let mut looks = Looks::new();

@@ -1,12 +1,12 @@
 // Made from crates/demangle_symbol/src/punycode/printing.rt by packaging/crate/erase.py: edit that file instead.
-//! How names print.
+//! Prints names.
 
 use crate::demangle_sink::{SinkRefused, SizeLimitedFmtAdapter, TextSink, put_chars};
 use crate::demangle_symbol::cursor::{Ident, Looks, Part, Symbol};
 use crate::demangle_symbol::punycode::decode;
 
 impl Ident {
-    /// Puts the ASCII part and `-`, where it is not empty.
+    /// Puts the ASCII part and `-`. Puts nothing if the ASCII part is empty.
     fn write_ascii<S: TextSink>(
         &self,
         symbol: &Symbol<'_>,
@@ -19,7 +19,7 @@ impl Ident {
         out.put("-")
     }
 
-    /// Puts the parts as they stand, where they can't be decoded.
+    /// Puts both parts undecoded, between `punycode{` and `}`.
     fn write_undecoded<S: TextSink>(
         &self,
         symbol: &Symbol<'_>,
@@ -31,10 +31,10 @@ impl Ident {
         out.put("}")
     }
 
-    /// Puts the decoded characters of a name with these parts, or the parts as they stand, behind
-    /// `punycode`, where they can't be decoded.
-    // Most names have no Punycode part, and their printing stays short where this stands alone; it
-    // takes no reference, so that they can lie in registers.
+    /// Puts the decoded characters of a name with these parts. If they cannot be decoded, puts both
+    /// parts undecoded, between `punycode{` and `}`.
+    // Most names have no Punycode part. A separate function keeps the code for them short. It takes
+    // the parts by value, so that they can stay in registers.
     #[inline(never)]
     fn write_decoded<S: TextSink>(
         ascii: Part,
@@ -50,8 +50,12 @@ impl Ident {
         }
     }
 
-    /// Puts a name: its ASCII part, where it has no Punycode part, or its decoded characters. Where
-    /// these can't be decoded it puts both parts between `punycode{` and `}`.
+    /// Puts a name: the ASCII part if there is no Punycode part, and otherwise the decoded
+    /// characters. If they cannot be decoded, puts both parts between `punycode{` and `}`.
+    ///
+    /// # Errors
+    ///
+    /// Returns `SinkRefused` if the sink or the size limit rejects a piece. No later piece is sent.
     #[inline(always)]
     pub fn write_to<S: TextSink>(
         &self,

@@ -1,9 +1,9 @@
 // Made from crates/demangle_symbol/src/punycode/tests.rt by packaging/crate/erase.py: edit that file instead.
-//! Names of known symbols.
+//! Tests of the names of known symbols.
 use crate::demangle_sink::{ArraySink, SizeLimitedFmtAdapter};
 use crate::demangle_symbol::cursor::{Looks, Symbol};
 
-/// Whether the identifier at the front of a text prints so.
+/// Returns `true` if the identifier at the start of a text prints as this text.
 fn prints(identifier: &str, text: &str) -> bool {
     let symbol = Symbol::new(identifier);
     let mut looks = Looks::new();

@@ -1,7 +1,6 @@
 // Made from crates/demangle_v0/src/points/types.rt by packaging/crate/erase.py: edit that file instead.
 //! The points of types.
 
-use crate::demangle_symbol::cursor::{Looks, Symbol};
 use crate::demangle_v0::points::parser::Parser;
 use crate::demangle_v0::points::{Point, Stop};
 use crate::demangle_words::output::Output;
@@ -17,32 +16,14 @@ pub(super) fn is_begun(point: Point) -> bool {
     }
 }
 
-/// Whether a type that is begun at a place has a `w` before its tag.
-#[inline(always)]
-fn is_splat(symbol: &Symbol<'_>, is_begun: bool, at: usize, looks: &mut Looks) -> bool {
-    is_begun && symbol.is_at(b'w', at, looks)
-}
-
 impl<const N: usize> Parser<'_, N> {
-    /// A type, with the `w` before its tag where it is begun.
+    /// Reads a type. If the type begins here, reads its `w` if it has one, and leaves the rest.
     #[inline(always)]
     pub(super) fn type_<V: Output>(
         &mut self,
         is_begun: bool,
         output: &mut V,
     ) -> Result<Point, Stop> {
-        let at = self.state.at()?;
-        if is_splat(self.source.symbol, is_begun, at, &mut self.looks) {
-            self.state.place = Some(at + 1);
-            self.put(Mark::Splat);
-            return Ok(Point::TaggedType);
-        }
-        self.tagged_type(output)
-    }
-
-    /// A type, from its tag on.
-    #[inline(always)]
-    fn tagged_type<V: Output>(&mut self, output: &mut V) -> Result<Point, Stop> {
         let Some(at) = self.state.place else {
             return Err(Stop::Fault(Mark::AfterError));
         };
@@ -53,6 +34,12 @@ impl<const N: usize> Parser<'_, N> {
         if let Some(mark) = basic_mark(tag) {
             self.state.place = Some(at + 1);
             return Ok(self.end_with(mark));
+        }
+        // A `w` is no basic type, so it is looked for only after those.
+        if is_begun && tag == b'w' {
+            self.state.place = Some(at + 1);
+            self.put(Mark::Splat);
+            return Ok(Point::TaggedType);
         }
         self.enter()?;
         // Any other tag is a path's, which is read again from that tag on, and raises the depth

@@ -1,5 +1,5 @@
 // Made from crates/demangle_vectors/src/tests/calls.rt by packaging/crate/erase.py: edit that file instead.
-//! Each public call once, where it succeeds.
+//! Tests of each public call, with an input for which it succeeds.
 use crate::rustc_demangle::sink::{ArraySink, SinkRefused, SliceSink, TextSink, WriteSink};
 use crate::rustc_demangle::{
     Looks, StreamFault, demangle, demangle_counted, demangle_stream, demangle_stream_named,

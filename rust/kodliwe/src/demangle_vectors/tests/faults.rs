@@ -1,6 +1,6 @@
 // Made from crates/demangle_vectors/src/tests/faults.rt by packaging/crate/erase.py: edit that file instead.
-//! Faults of readers and writers: the caller meets their kind and text, and nothing is written
-//! behind one.
+//! Tests of errors of readers and writers. The caller gets their kind and text, and nothing is
+//! written after one.
 use crate::rustc_demangle::sink::{TextSink, WriteSink};
 use crate::rustc_demangle::{StreamFault, demangle, demangle_stream, demangle_stream_named};
 use crate::support::alloc::{AllocError, Global};
@@ -17,8 +17,8 @@ use std::io::{ErrorKind, Write};
 
 const GONE: &str = "nobody reads any more";
 
-/// Takes so many writes, refuses one with an error of this kind and text, and counts those behind
-/// it.
+/// Takes a given number of writes, fails one with an error of this kind and text, and counts the
+/// later ones.
 struct OnceRefusingWriter {
     held: Vec<u8>,
     left: usize,
@@ -58,7 +58,7 @@ impl Write for OnceRefusingWriter {
     }
 }
 
-/// The kind and the text of an error.
+/// Returns the kind and the text of an error.
 fn told(alloc: Global, error: &io::Error) -> Result<(ErrorKind, String), AllocError> {
     Ok((error.kind(), format!(in alloc; "{error}")?))
 }

@@ -1,5 +1,5 @@
 // Made from crates/demangle_vectors/src/tests/formats.rt by packaging/crate/erase.py: edit that file instead.
-//! What `Display` and `Debug` write.
+//! Tests of `Display` and `Debug`.
 use crate::rustc_demangle::demangle;
 use crate::support::format;
 use crate::support::rt::HostRuntime;
@@ -61,7 +61,7 @@ fn a_symbol_of_ten_thousand_bytes_is_written_whole() -> Result<(), Fail> {
     Ok(())
 }
 
-/// Takes so many texts, and refuses those behind them.
+/// Takes a given number of texts and then fails.
 struct Refusing {
     left: usize,
 }

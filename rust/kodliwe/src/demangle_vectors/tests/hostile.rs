@@ -1,5 +1,5 @@
 // Made from crates/demangle_vectors/src/tests/hostile.rt by packaging/crate/erase.py: edit that file instead.
-//! Symbols that are meant to do harm.
+//! Tests of symbols that are made to do harm.
 use super::{assert_prints, assert_refused, print_symbol};
 use crate::support::format;
 use crate::support::rt::HostRuntime;

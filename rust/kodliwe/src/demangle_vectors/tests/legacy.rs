@@ -1,5 +1,5 @@
 // Made from crates/demangle_vectors/src/tests/legacy.rt by packaging/crate/erase.py: edit that file instead.
-//! Legacy symbols.
+//! Tests of legacy symbols.
 use super::assert_prints;
 use crate::support::rt::HostRuntime;
 

@@ -1,5 +1,5 @@
 // Made from crates/demangle_vectors/src/tests/limits.rt by packaging/crate/erase.py: edit that file instead.
-//! Symbols under a limit.
+//! Tests of symbols under a size limit.
 use super::assert_prints_long;
 use crate::rustc_demangle::sink::{ArraySink, TextSink};
 use crate::rustc_demangle::{Looks, demangle};
@@ -8,7 +8,7 @@ use crate::support::rt::HostRuntime;
 use crate::support::string::RepeatIn;
 use crate::support::test::Fail;
 
-/// Whether a text prints this under a limit, with its looks counted and without.
+/// Returns `true` if a text prints as `text` under a limit, with its looks counted and without.
 fn limited_is(symbol: &str, include_hash: bool, limit: usize, text: &str) -> bool {
     let symbol = demangle(symbol);
     let mut sink: ArraySink<4096> = ArraySink::new();

@@ -1,5 +1,5 @@
 // Made from crates/demangle_vectors/src/tests/refused.rt by packaging/crate/erase.py: edit that file instead.
-//! Texts that are no symbols.
+//! Tests of texts that are not symbols.
 use super::assert_refused;
 use crate::demangle_vectors::printed_is;
 use crate::support::rt::HostRuntime;

@@ -1,5 +1,5 @@
 // Made from crates/demangle_vectors/src/tests/repeats.rt by packaging/crate/erase.py: edit that file instead.
-//! What is written of symbols that come again, by chunks of all sizes and at several limits.
+//! Tests of repeated symbols, with chunks of all sizes and several limits.
 use crate::rustc_demangle::{BytesFilter, SymbolMemo, demangle_bytes_limited};
 use crate::support::alloc::{AllocError, Global};
 use crate::support::process::Abort;
@@ -10,13 +10,14 @@ use crate::support::vec::Vec;
 use crate::test_doubles::streams::{PartsReader, RefusingWriter};
 use std::io::ErrorKind;
 
-/// The number of times that each text comes.
+/// The number of times that each text is repeated.
 const TIMES: usize = 5;
 
-/// A symbol whose text is longer than a memo keeps.
+/// A symbol whose text is longer than a memo stores.
 const LONG: &[u8] = b"_RIC1aTyyyyyyyyyyyyyyyyETB3_B3_B3_ETBl_Bl_Bl_ETBw_Bw_Bw_EE";
 
-/// Runs that a memo looks up, what they print at a limit, with the hash and without it.
+/// Runs that a memo looks up, with a limit and the texts printed under it, with the hash and
+/// without it.
 const ROWS: [(&[u8], usize, &[u8], &[u8]); 11] = [
     (
         b"_ZN3foo17h05af221e174051e9E",
@@ -81,7 +82,7 @@ const ROWS: [(&[u8], usize, &[u8], &[u8]); 11] = [
     (LONG, 0, b"{size limit reached}", b"{size limit reached}"),
 ];
 
-/// A text, and what is written of it in one form.
+/// A text, and its output in one form.
 struct Case<'a> {
     text: &'a [u8],
     include_hash: bool,
@@ -90,7 +91,7 @@ struct Case<'a> {
 }
 
 impl Case<'_> {
-    /// Asserts what is written of the text in chunks of one size.
+    /// Asserts the output for the text in chunks of one size.
     fn assert_written(&self, rt: &impl Abort, alloc: Global, size: usize) -> Result<(), Fail> {
         let parts: Vec<&[u8]> = self.text.chunks(size.max(1)).collect_in(alloc)?;
         let mut input = PartsReader::new(parts.as_slice(), usize::MAX, ErrorKind::Other);
@@ -145,7 +146,7 @@ fn a_repeated_run_is_written_alike() -> Result<(), Fail> {
     Ok(())
 }
 
-/// Returns the text of a tuple of this text and of no other, so many times.
+/// Returns the text of a tuple that has this text as each of its `times` elements.
 fn tuple_of(alloc: Global, text: &[u8], times: usize) -> Result<Vec<u8>, AllocError> {
     let mut tuple = Vec::from_slice(alloc, b"(")?;
     for at in 0..times {
@@ -241,15 +242,13 @@ fn a_repeated_symbol_is_one_write() -> Result<(), Fail> {
     let rt = HostRuntime;
     let alloc = rt.alloc();
     let text = repeated(alloc, b"_RNvC5crate4main.llvm.0@1")?;
-    // The first two times it is written piece by piece, since no other symbol came before it.
-    let writes: [&[u8]; 14] = [
+    // The symbol is written piece by piece when it is found first.
+    let writes: [&[u8]; 12] = [
         b"crate",
         b"::",
         b"main",
         b"@1\n",
-        b"crate",
-        b"::",
-        b"main",
+        b"crate::main",
         b"@1\n",
         b"crate::main",
         b"@1\n",

@@ -1,5 +1,5 @@
 // Made from crates/demangle_vectors/src/tests/sinks.rt by packaging/crate/erase.py: edit that file instead.
-//! Sinks that take a part, and what they hold then.
+//! Tests of sinks that take a part of the text, and of their contents then.
 use crate::rustc_demangle::sink::{ArraySink, TextSink, WriteSink};
 use crate::rustc_demangle::{demangle, demangle_stream};
 use crate::support::rt::HostRuntime;
@@ -8,7 +8,7 @@ use crate::test_doubles::RefusingSink;
 use std::io;
 use std::io::{ErrorKind, Write};
 
-/// Counts the texts that are written whole, the bytes of them, and the flushes.
+/// Counts the texts that are written completely, their bytes, and the flushes.
 #[derive(Default)]
 struct CountingWriter {
     texts: usize,

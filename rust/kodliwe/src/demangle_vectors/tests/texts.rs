@@ -1,5 +1,5 @@
 // Made from crates/demangle_vectors/src/tests/texts.rt by packaging/crate/erase.py: edit that file instead.
-//! Texts and bytes in memory, into sinks and into memory.
+//! Tests of texts and bytes in memory, which are written to sinks and slices.
 use super::stream::ROWS;
 use crate::rustc_demangle::sink::{ArraySink, TextSink};
 use crate::rustc_demangle::{
@@ -69,7 +69,7 @@ fn a_limit_cuts_each_symbol_of_a_text() {
     assert_eq!(sink.as_str(), "foo{size limit reached}, a.x");
 }
 
-/// Asserts what is written of bytes into memory that has room for it, and into less.
+/// Asserts the output for bytes in a slice with room for it, and in smaller ones.
 fn assert_fills(rt: &impl Abort, text: &[u8], wanted: &[u8]) {
     for size in 0..=wanted.len().saturating_add(1).min(128) {
         let mut bytes = [7; 128];

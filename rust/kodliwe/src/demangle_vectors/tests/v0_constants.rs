@@ -1,5 +1,5 @@
 // Made from crates/demangle_vectors/src/tests/v0_constants.rt by packaging/crate/erase.py: edit that file instead.
-//! Symbols of the v0 scheme: constants.
+//! Tests of v0 symbols: constants.
 use super::{assert_prints, assert_refused};
 use crate::support::alloc::Global;
 use crate::support::format;
@@ -7,8 +7,8 @@ use crate::support::process::Abort;
 use crate::support::rt::HostRuntime;
 use crate::support::test::Fail;
 
-/// Asserts what a constant prints as the one argument of a path, with the types of its numbers and
-/// without them.
+/// Asserts the printed form of a constant as the only argument of a path, with the types of its
+/// numbers and without them.
 pub fn assert_constant(
     rt: &impl Abort,
     alloc: Global,

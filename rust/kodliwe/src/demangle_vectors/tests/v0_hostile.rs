@@ -1,5 +1,5 @@
 // Made from crates/demangle_vectors/src/tests/v0_hostile.rt by packaging/crate/erase.py: edit that file instead.
-//! Symbols of the v0 scheme that are long.
+//! Tests of v0 symbols that are long.
 use super::{assert_prints_long, print_symbol, repeat_between};
 use crate::rustc_demangle::try_demangle;
 use crate::support::rt::HostRuntime;

@@ -1,5 +1,5 @@
 // Made from crates/demangle_vectors/src/tests/v0_literals.rt by packaging/crate/erase.py: edit that file instead.
-//! Symbols of the v0 scheme: characters and strings.
+//! Tests of v0 symbols: characters and strings.
 use super::v0_constants::assert_constant;
 use crate::support::rt::HostRuntime;
 use crate::support::test::Fail;

@@ -1,5 +1,5 @@
 // Made from crates/demangle_vectors/src/tests/v0_references.rt by packaging/crate/erase.py: edit that file instead.
-//! Symbols of the v0 scheme: back references, and what a damaged target prints.
+//! Tests of v0 symbols: back references, and the output for a damaged target.
 use super::{assert_prints, assert_refused};
 use crate::support::rt::HostRuntime;
 

@@ -1,5 +1,5 @@
 // Made from crates/demangle_vectors/src/tests/v0_types.rt by packaging/crate/erase.py: edit that file instead.
-//! Symbols of the v0 scheme: types, functions, binders and patterns.
+//! Tests of v0 symbols: types, functions, binders and patterns.
 use super::{assert_prints, assert_refused};
 use crate::support::rt::HostRuntime;
 

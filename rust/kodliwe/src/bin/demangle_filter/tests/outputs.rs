@@ -1,6 +1,5 @@
 // Made from crates/demangle_filter/src/tests/outputs.rt by packaging/crate/erase.py: edit that file instead.
-//! What the output holds and when it is written, where its writer takes a part of what it is
-//! handed, or refuses once.
+//! Tests of the output's buffer, with a writer that takes a part of a write or fails once.
 use super::{WRITE_FAILED, assert_failed, run_pausing};
 use crate::pausing::PausingOutput;
 use kodliwe::held_bytes::CAPACITY;
@@ -13,7 +12,7 @@ use kodliwe::test_doubles::streams::{PartsReader, RefusingWriter};
 use std::io;
 use std::io::{ErrorKind, Read, Write};
 
-/// Takes at most three bytes a write.
+/// Takes at most three bytes in one write.
 struct ShortWriter {
     held: Vec<u8>,
 }
@@ -30,7 +29,7 @@ impl Write for ShortWriter {
     }
 }
 
-/// Refuses one write and one flush, each the one after so many, takes those that follow, and counts
+/// Fails one write and one flush, each after a given number of them. Takes all others, and counts
 /// the flushes that it took.
 struct OnceRefusingWriter {
     held: Vec<u8>,
@@ -143,7 +142,7 @@ fn a_write_that_fails_once_is_told() -> Result<(), Fail> {
     assert!(writer.write_all(full.as_slice()).is_err());
     assert!(writer.flush().is_err());
     drop(output);
-    // What was refused stays held, and the flush hands it on.
+    // The bytes of the failed write stay buffered, and the flush writes them.
     assert_eq!(refusing.held.as_slice(), b"x".as_slice());
     Ok(())
 }
