@@ -205,15 +205,12 @@ fn the_writer_of_bytes_fails_at_each_write() -> Result<(), Fail> {
     let alloc = rt.alloc();
     let mut text = Vec::new(alloc);
     let mut wanted_writes: Vec<&[u8]> = Vec::new(alloc);
-    // The first symbol of a memo is remembered when it is found for the third time.
-    for _ in 0..2 {
-        text.extend_from_slice(LINE)?;
-        text.push(b'\n')?;
-        wanted_writes.extend_from_slice(&HEAD)?;
-        wanted_writes.extend_from_slice(&DISAMBIGUATOR)?;
-        wanted_writes.extend_from_slice(&TAIL)?;
-    }
-    // A remembered symbol is one write.
+    text.extend_from_slice(LINE)?;
+    text.push(b'\n')?;
+    wanted_writes.extend_from_slice(&HEAD)?;
+    wanted_writes.extend_from_slice(&DISAMBIGUATOR)?;
+    wanted_writes.extend_from_slice(&TAIL)?;
+    // A symbol that is found again is remembered, and is one write.
     text.extend_from_slice(LINE)?;
     text.push(b'\n')?;
     wanted_writes.extend_from_slice(&HEAD[..3])?;
