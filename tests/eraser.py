@@ -158,6 +158,12 @@ FAULTS = {
         "text.first_chunk()",
         support_tests,
     ),
+    "a search from the end leaves out what comes before the first group": (
+        "packaging/crate/template/kodliwe/src/support/memchr.rs",
+        "text.first_chunk()",
+        "text.last_chunk()",
+        support_tests,
+    ),
     "a search for a byte stops at a byte that is near": (
         "packaging/crate/template/kodliwe/src/support/memchr.rs",
         "& !difference",

@@ -112,6 +112,8 @@ fn escape_in(symbol: &Symbol<'_>, name: Part, looks: &mut Looks) -> Option<char>
 
 /// Returns the unit at a place of an element that ends at `to`, and the place after the unit.
 /// Returns `None` if no unit starts there.
+// It is inlined since a call would write each unit to memory, and read it from there again.
+#[inline(always)]
 pub(super) fn unit_at(
     symbol: &Symbol<'_>,
     at: usize,

@@ -35,7 +35,7 @@ fn has_byte(needle: u8, group: &[u8; GROUP]) -> bool {
         .fold(false, |found, byte| found | (*byte == needle))
 }
 
-/// Returns the place of the first such byte in a short text.
+/// Returns the place of the first such byte, by words.
 #[inline(always)]
 fn find_by_words(needle: u8, text: &[u8]) -> Option<usize> {
     let pattern = LOW * usize::from(needle);
@@ -57,6 +57,27 @@ fn find_by_words(needle: u8, text: &[u8]) -> Option<usize> {
 
 /// Returns the last place of the byte.
 pub fn memrchr(needle: u8, text: &[u8]) -> Option<usize> {
+    let mut rest = text;
+    while let Some((before, group)) = rest.split_last_chunk() {
+        if has_byte(needle, group) {
+            break;
+        }
+        rest = before;
+    }
+    // What is left is shorter than a group, or ends with one that has the byte.
+    if rest.len() < GROUP
+        && text
+            .first_chunk()
+            .is_some_and(|group| !has_byte(needle, group))
+    {
+        return None;
+    }
+    find_last_by_words(needle, rest)
+}
+
+/// Returns the last place of the byte, from the end on by words.
+#[inline(always)]
+fn find_last_by_words(needle: u8, text: &[u8]) -> Option<usize> {
     let pattern = LOW * usize::from(needle);
     let mut end = text.len();
     // Each byte of the difference but zero sets its own high bit, so the highest zero is exact.

@@ -24,7 +24,7 @@ fn memchr_finds_the_first_of_any_places() {
 
 #[test]
 fn memrchr_finds_the_last_of_any_places() {
-    for len in 0..40usize {
+    for len in 0..100usize {
         for other in [b'-', b'/', 0, 0x7F, 0x80, 0xAE, 0xFF] {
             assert_eq!(memrchr(b'.', &vec![other; len]), None, "{len} {other}");
             for last in 0..len {
