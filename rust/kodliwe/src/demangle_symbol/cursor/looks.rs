@@ -1,8 +1,10 @@
 // Made from crates/demangle_symbol/src/cursor/looks.rt by packaging/crate/erase.py: edit that file instead.
 //! Counts looks at the bytes of a symbol. The count occupies no memory.
 
-use crate::support::snapshot::Snapshot;
+
+
 use core::mem;
+use crate::support::snapshot::Snapshot;
 
 /// A natural number as the number of steps from zero. No value exists at run time.
 enum Tally {
@@ -15,16 +17,22 @@ pub struct Looks {
     count: Snapshot<Tally>,
 }
 
+
+
 impl Looks {
     /// Returns a count of zero looks.
-    pub fn new() -> Looks {
+    pub fn new() -> Looks
+        
+    {
         Looks {
             count: Snapshot::of(&Tally::Zero),
         }
     }
 
     /// Adds one look.
-    pub(super) fn tick(&mut self) {
+    pub(super) fn tick(&mut self)
+        
+    {
         let before = mem::replace(&mut self.count, Snapshot::of(&Tally::Zero));
         self.count = Snapshot::of(&Tally::More(before));
     }

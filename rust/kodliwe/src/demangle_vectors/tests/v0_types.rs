@@ -1,11 +1,10 @@
 // Made from crates/demangle_vectors/src/tests/v0_types.rt by packaging/crate/erase.py: edit that file instead.
 //! Tests of v0 symbols: types, functions, binders and patterns.
-use super::{assert_prints, assert_refused};
 use crate::support::rt::HostRuntime;
+use super::{assert_prints, assert_refused};
 
 #[test]
-fn basic_types_have_their_names() {
-    let rt = HostRuntime;
+fn basic_types_have_their_names() { let rt = HostRuntime;
     for (symbol, text) in [
         ("_RMC0b", "<bool>"),
         ("_RMC0c", "<char>"),
@@ -34,8 +33,7 @@ fn basic_types_have_their_names() {
 }
 
 #[test]
-fn references_and_pointers() {
-    let rt = HostRuntime;
+fn references_and_pointers() { let rt = HostRuntime;
     for (symbol, text) in [
         ("_RMC0Rh", "<&u8>"),
         ("_RMC0Qh", "<&mut u8>"),
@@ -51,8 +49,7 @@ fn references_and_pointers() {
 }
 
 #[test]
-fn arrays_have_a_length() {
-    let rt = HostRuntime;
+fn arrays_have_a_length() { let rt = HostRuntime;
     for (symbol, plain, alt) in [
         ("_RMC0Ahj3_", "<[u8; 3usize]>", "<[u8; 3]>"),
         (
@@ -67,8 +64,7 @@ fn arrays_have_a_length() {
 }
 
 #[test]
-fn tuples() {
-    let rt = HostRuntime;
+fn tuples() { let rt = HostRuntime;
     for (symbol, text) in [
         ("_RMC0TE", "<()>"),
         ("_RMC0ThE", "<(u8,)>"),
@@ -80,8 +76,7 @@ fn tuples() {
 }
 
 #[test]
-fn functions() {
-    let rt = HostRuntime;
+fn functions() { let rt = HostRuntime;
     for (symbol, text) in [
         ("_RMC0FEu", "<fn()>"),
         ("_RMC0FhEh", "<fn(u8) -> u8>"),
@@ -100,8 +95,7 @@ fn functions() {
 }
 
 #[test]
-fn an_argument_is_splat() {
-    let rt = HostRuntime;
+fn an_argument_is_splat() { let rt = HostRuntime;
     for (symbol, text) in [
         ("_RMC0wh", "<#[splat] u8>"),
         ("_RMC0FwThmEEu", "<fn(#[splat] (u8, u32))>"),
@@ -112,8 +106,7 @@ fn an_argument_is_splat() {
 }
 
 #[test]
-fn binders_name_their_lifetimes() {
-    let rt = HostRuntime;
+fn binders_name_their_lifetimes() { let rt = HostRuntime;
     for (symbol, text) in [
         ("_RMC0FG_RL0_hEu", "<for<'a> fn(&'a u8)>"),
         ("_RMC0FG0_RL0_RL1_hEu", "<for<'a, 'b> fn(&'b &'a u8)>"),
@@ -132,8 +125,7 @@ fn binders_name_their_lifetimes() {
 }
 
 #[test]
-fn dynamic_types() {
-    let rt = HostRuntime;
+fn dynamic_types() { let rt = HostRuntime;
     for (symbol, text) in [
         ("_RMC0DEL_", "<dyn >"),
         ("_RMC0DC1aEL_", "<dyn a>"),
@@ -148,8 +140,7 @@ fn dynamic_types() {
 }
 
 #[test]
-fn patterns() {
-    let rt = HostRuntime;
+fn patterns() { let rt = HostRuntime;
     for (symbol, plain, alt) in [
         (
             "_RMC0WmORm1_m2_Rm5_m6_E",
@@ -170,8 +161,7 @@ fn patterns() {
 }
 
 #[test]
-fn a_lifetime_out_of_scope_is_marked() {
-    let rt = HostRuntime;
+fn a_lifetime_out_of_scope_is_marked() { let rt = HostRuntime;
     for (symbol, text) in [
         ("_RMC0RL0_u", "<&'{invalid syntax} ?>"),
         (
@@ -189,8 +179,7 @@ fn a_lifetime_out_of_scope_is_marked() {
 }
 
 #[test]
-fn damaged_types_print_themselves() {
-    let rt = HostRuntime;
+fn damaged_types_print_themselves() { let rt = HostRuntime;
     for text in [
         "_RMC0",
         "_RMC0DE",
