@@ -182,7 +182,7 @@ class Installed:
         line = ("worker 1: called %s\n" % SYMBOL).encode()
         equal(run([os.path.join(self.tree, "bin", "kodliwe")], line), "worker 1: called foo\n")
         equal(run([os.path.join(self.tree, "bin", "kodliwe"), "--hash"], line), "worker 1: called foo::h05af221e174051e9\n")
-        equal(run([os.path.join(self.tree, "bin", "kodliwe"), "--version"]), "kodliwe 0.1.0\n")
+        equal(run([os.path.join(self.tree, "bin", "kodliwe"), "--version"]).splitlines()[0], "kodliwe 0.1.0")
         equal(run([os.path.join(self.tree, "bin", "demangle_filter"), "--no-hash"], line), "worker 1: called foo\n")
 
     def manual(self):

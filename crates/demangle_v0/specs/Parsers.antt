@@ -25,7 +25,6 @@ use Rattle.demangle_v0.specs.declared.points.parser.Parser.{Parser}
 use Rattle.demangle_v0.specs.declared.points.read.Halt.{Halt}
 use Rattle.demangle_v0.specs.declared.points.read.Reading.{Reading}
 use Rattle.demangle_v0.specs.declared.printing.Left.{Left}
-use Rattle.demangle_v0.specs.declared.printing.Left.TheVariants as left
 
 -- What is done to one.
 
