@@ -87,7 +87,11 @@ pub mod test_doubles;
 pub mod text_memo;
 // It has the interface of the kit's library.
 #[doc(hidden)]
-#[allow(clippy::len_without_is_empty, clippy::new_without_default, clippy::result_unit_err)]
+#[allow(
+    clippy::len_without_is_empty,
+    clippy::new_without_default,
+    clippy::result_unit_err
+)]
 pub mod support;
 
 #[cfg(feature = "std")]
@@ -95,9 +99,9 @@ mod streams;
 mod symbols;
 mod traits;
 
-pub use demangle_sink::{ArraySink, SinkRefused, SliceSink, TextSink};
 #[cfg(feature = "std")]
 pub use demangle_sink::WriteSink;
+pub use demangle_sink::{ArraySink, SinkRefused, SliceSink, TextSink};
 #[cfg(feature = "std")]
 pub use streams::{
     BytesFilter, StreamFault, demangle_bytes, demangle_bytes_limited, demangle_stream,

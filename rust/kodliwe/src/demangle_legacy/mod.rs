@@ -1,8 +1,6 @@
 // Made from crates/demangle_legacy/src/lib.rt by packaging/crate/erase.py: edit that file instead.
 //! Parses and prints legacy symbols: `_ZN`, then elements after their lengths, then `E`.
 
-
-
 use crate::demangle_symbol::cursor::{Looks, Symbol};
 
 mod elements;
@@ -15,9 +13,7 @@ mod value;
 pub use value::Demangle;
 
 /// Returns the text after the prefix of a legacy symbol, or `None` if it has no such prefix.
-fn inner_of(s: &str) -> Option<&str>
-    
-{
+fn inner_of(s: &str) -> Option<&str> {
     if let Some(inner) = s.strip_prefix("_ZN") {
         return Some(inner);
     }
@@ -31,9 +27,7 @@ fn inner_of(s: &str) -> Option<&str>
 
 /// Returns the text after the prefix of a legacy symbol, if that text is ASCII. `is_ascii` says
 /// that the text is known to be ASCII. In that case it is not tested.
-fn ascii_inner_of<'s>(s: &'s str, is_ascii: bool, looks: &mut Looks) -> Option<&'s str>
-    
-{
+fn ascii_inner_of<'s>(s: &'s str, is_ascii: bool, looks: &mut Looks) -> Option<&'s str> {
     let Some(inner) = inner_of(s) else {
         return None;
     };
@@ -56,9 +50,7 @@ pub fn demangle<'s>(
     s: &'s str,
     is_ascii: bool,
     looks: &mut Looks,
-) -> Result<(Demangle<'s>, &'s str), ()>
-    
-{
+) -> Result<(Demangle<'s>, &'s str), ()> {
     // A length counts bytes. In other text, an element could end within a character.
     let Some(inner) = ascii_inner_of(s, is_ascii, looks) else {
         return Err(());

@@ -1,19 +1,12 @@
 // Made from crates/demangle_legacy/src/printing.rt by packaging/crate/erase.py: edit that file instead.
 //! Prints an element of a legacy symbol.
 
-
-
-
-
-
 use crate::demangle_legacy::units::{Unit, unit_at};
 use crate::demangle_sink::{SinkRefused, SizeLimitedFmtAdapter, TextSink};
 use crate::demangle_symbol::cursor::{Looks, Part, Symbol};
 
 /// Returns `true` if an element is `h` followed only by hexadecimal digits.
-fn is_hash(symbol: &Symbol<'_>, element: Part, looks: &mut Looks) -> bool
-    
-{
+fn is_hash(symbol: &Symbol<'_>, element: Part, looks: &mut Looks) -> bool {
     if element.to <= element.from {
         return false;
     }
@@ -40,9 +33,7 @@ pub(super) fn is_left_out(
     element: Part,
     include_hash: bool,
     looks: &mut Looks,
-) -> bool
-    
-{
+) -> bool {
     !include_hash && symbol.is_at(b'E', element.to, looks) && is_hash(symbol, element, looks)
 }
 
@@ -52,9 +43,7 @@ fn put_unit<S: TextSink>(
     unit: Unit,
     bytes: Part,
     out: &mut SizeLimitedFmtAdapter<'_, S>,
-) -> Result<(), SinkRefused>
-    
-{
+) -> Result<(), SinkRefused> {
     match unit {
         Unit::Separator => out.put("::"),
         Unit::Char(c) => out.put(c.encode_utf8(&mut [0; 4])),
@@ -63,9 +52,7 @@ fn put_unit<S: TextSink>(
 }
 
 /// Returns the place of the first unit of an element. A `_` before a `$` is omitted.
-fn first_unit(symbol: &Symbol<'_>, element: Part, looks: &mut Looks) -> usize
-    
-{
+fn first_unit(symbol: &Symbol<'_>, element: Part, looks: &mut Looks) -> usize {
     // An identifier cannot start with an escape. rustc puts a `_` before an element that would.
     if element.to - element.from >= 2
         && symbol.is_at(b'_', element.from, looks)
@@ -83,9 +70,7 @@ pub(super) fn put_element<S: TextSink>(
     element: Part,
     out: &mut SizeLimitedFmtAdapter<'_, S>,
     looks: &mut Looks,
-) -> Result<(), SinkRefused>
-    
-{
+) -> Result<(), SinkRefused> {
     let mut at = first_unit(symbol, element, looks);
     while at < element.to {
         // After an invalid escape, the rest of the element is printed unchanged, with its later

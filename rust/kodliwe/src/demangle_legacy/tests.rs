@@ -21,17 +21,17 @@ fn prints(symbol: &str, include_hash: bool, text: &str, suffix: &str) -> bool {
 #[test]
 fn symbols_print_their_elements() {
     let symbol = "_ZN3foo17h05af221e174051e9E";
-    assert!( prints(symbol, true, "foo::h05af221e174051e9", ""));
-    assert!( prints(symbol, false, "foo", ""));
-    assert!( prints("_ZN8$BP$test4foobE", true, "*test::foob", ""));
-    assert!( prints("ZN4testE", true, "test", ""));
-    assert!( prints("_ZN3fooE.x", true, "foo", ".x"));
-    assert!( prints("_ZNE", true, "", ""));
+    assert!(prints(symbol, true, "foo::h05af221e174051e9", ""));
+    assert!(prints(symbol, false, "foo", ""));
+    assert!(prints("_ZN8$BP$test4foobE", true, "*test::foob", ""));
+    assert!(prints("ZN4testE", true, "test", ""));
+    assert!(prints("_ZN3fooE.x", true, "foo", ".x"));
+    assert!(prints("_ZNE", true, "", ""));
 }
 
 #[test]
 fn other_texts_are_refused() {
     for text in ["", "test", "_ZN", "_ZN4test", "_ZNfooE", "_RC3foo"] {
-        assert!( demangle(text, false, &mut Looks::new()).is_err(), "{text}");
+        assert!(demangle(text, false, &mut Looks::new()).is_err(), "{text}");
     }
 }

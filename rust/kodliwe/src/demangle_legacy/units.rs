@@ -1,9 +1,6 @@
 // Made from crates/demangle_legacy/src/units.rt by packaging/crate/erase.py: edit that file instead.
 //! Reads the units of a legacy element.
 
-
-
-
 use crate::demangle_symbol::cursor::{Looks, Part, Symbol};
 
 /// The text that a unit prints.
@@ -17,9 +14,7 @@ pub(super) enum Unit {
 }
 
 /// Returns the place of the first `$` of a part.
-fn dollar_in(symbol: &Symbol<'_>, part: Part, looks: &mut Looks) -> Option<usize>
-    
-{
+fn dollar_in(symbol: &Symbol<'_>, part: Part, looks: &mut Looks) -> Option<usize> {
     for at in part.from..part.to {
         let Some(byte) = symbol.byte(at, looks) else {
             return None;
@@ -32,9 +27,7 @@ fn dollar_in(symbol: &Symbol<'_>, part: Part, looks: &mut Looks) -> Option<usize
 }
 
 /// Returns the place of the first `$` or `.` of a part.
-fn special_in(symbol: &Symbol<'_>, part: Part, looks: &mut Looks) -> Option<usize>
-    
-{
+fn special_in(symbol: &Symbol<'_>, part: Part, looks: &mut Looks) -> Option<usize> {
     for at in part.from..part.to {
         let Some(byte) = symbol.byte(at, looks) else {
             return None;
@@ -47,9 +40,7 @@ fn special_in(symbol: &Symbol<'_>, part: Part, looks: &mut Looks) -> Option<usiz
 }
 
 /// Returns the value of a lower case hexadecimal digit, or `None` for any other byte.
-fn lower_hex_of(byte: u8) -> Option<u8>
-    
-{
+fn lower_hex_of(byte: u8) -> Option<u8> {
     match byte {
         b'0'..=b'9' => Some(byte - b'0'),
         b'a'..=b'f' => Some(byte - b'a' + 10),
@@ -58,9 +49,7 @@ fn lower_hex_of(byte: u8) -> Option<u8>
 }
 
 /// Returns the character of a code, or `None` if the code may not be escaped.
-fn escaped_code(code: u32) -> Option<char>
-    
-{
+fn escaped_code(code: u32) -> Option<char> {
     match char::from_u32(code) {
         // The Rust crate prints the escape of a control character unchanged.
         Some(c) if !c.is_control() => Some(c),
@@ -69,9 +58,7 @@ fn escaped_code(code: u32) -> Option<char>
 }
 
 /// Returns the character that `u` and these digits escape.
-fn escaped_char(symbol: &Symbol<'_>, digits: Part, looks: &mut Looks) -> Option<char>
-    
-{
+fn escaped_char(symbol: &Symbol<'_>, digits: Part, looks: &mut Looks) -> Option<char> {
     if digits.to <= digits.from {
         return None;
     }
@@ -88,9 +75,7 @@ fn escaped_char(symbol: &Symbol<'_>, digits: Part, looks: &mut Looks) -> Option<
 }
 
 /// Returns the character for two letters between `$`, if they are an escape.
-fn letters(first: u8, second: u8) -> Option<char>
-    
-{
+fn letters(first: u8, second: u8) -> Option<char> {
     match (first, second) {
         (b'S', b'P') => Some('@'),
         (b'B', b'P') => Some('*'),
@@ -104,9 +89,7 @@ fn letters(first: u8, second: u8) -> Option<char>
 }
 
 /// Returns the character for a name between `$`, if it is an escape.
-fn escape_in(symbol: &Symbol<'_>, name: Part, looks: &mut Looks) -> Option<char>
-    
-{
+fn escape_in(symbol: &Symbol<'_>, name: Part, looks: &mut Looks) -> Option<char> {
     if name.to <= name.from {
         return None;
     }
@@ -136,9 +119,7 @@ pub(super) fn unit_at(
     at: usize,
     to: usize,
     looks: &mut Looks,
-) -> Option<(Unit, usize)>
-    
-{
+) -> Option<(Unit, usize)> {
     let next = at + 1;
     let rest = Part { from: next, to };
     match symbol.byte(at, looks)? {

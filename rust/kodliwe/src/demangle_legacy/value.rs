@@ -1,27 +1,18 @@
 // Made from crates/demangle_legacy/src/value.rt by packaging/crate/erase.py: edit that file instead.
 //! The value of a parsed legacy symbol.
 
-
-
-
-
 use crate::demangle_legacy::elements::element_at;
 use crate::demangle_legacy::printing::{is_left_out, put_element};
 use crate::demangle_sink::{SinkRefused, SizeLimitedFmtAdapter, TextSink};
 use crate::demangle_symbol::cursor::{Looks, Symbol};
-
 
 /// A legacy symbol that was parsed.
 pub struct Demangle<'s> {
     inner: Symbol<'s>,
 }
 
-
-
 impl<'s> Demangle<'s> {
-    pub(super) fn new(inner: Symbol<'s>) -> Demangle<'s>
-        
-    {
+    pub(super) fn new(inner: Symbol<'s>) -> Demangle<'s> {
         Demangle { inner }
     }
 
@@ -35,9 +26,7 @@ impl<'s> Demangle<'s> {
         out: &mut SizeLimitedFmtAdapter<'_, S>,
         include_hash: bool,
         looks: &mut Looks,
-    ) -> Result<(), SinkRefused>
-        
-    {
+    ) -> Result<(), SinkRefused> {
         let mut at = 0;
         while let Some(element) = element_at(&self.inner, at, looks) {
             if is_left_out(&self.inner, element, include_hash, looks) {

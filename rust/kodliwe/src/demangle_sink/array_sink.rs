@@ -1,10 +1,6 @@
 // Made from crates/demangle_sink/src/array_sink.rt by packaging/crate/erase.py: edit that file instead.
 //! A sink that stores the text in the value itself.
 
-
-
-
-
 use crate::demangle_sink::{SinkRefused, TextSink};
 use crate::support::arrayvec::ArrayString;
 
@@ -17,9 +13,7 @@ pub struct ArraySink<const N: usize> {
 
 impl<const N: usize> ArraySink<N> {
     /// Returns an empty sink that has not failed.
-    pub fn new() -> Self
-        
-    {
+    pub fn new() -> Self {
         ArraySink {
             text: ArrayString::new(),
             failed: false,
@@ -27,16 +21,12 @@ impl<const N: usize> ArraySink<N> {
     }
 
     /// Returns the text that the sink has taken.
-    pub fn as_str(&self) -> &str
-        
-    {
+    pub fn as_str(&self) -> &str {
         self.text.as_str()
     }
 }
 
 impl<const N: usize> TextSink for ArraySink<N> {
-
-
     fn put(&mut self, s: &str) -> Result<(), SinkRefused> {
         if s.len() > self.text.remaining_capacity() {
             self.failed = true;
@@ -49,5 +39,4 @@ impl<const N: usize> TextSink for ArraySink<N> {
     fn is_failed(&self) -> bool {
         self.failed
     }
-
 }

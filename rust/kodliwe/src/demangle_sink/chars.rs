@@ -1,8 +1,6 @@
 // Made from crates/demangle_sink/src/chars.rt by packaging/crate/erase.py: edit that file instead.
 //! Puts characters into a sink.
 
-
-
 use crate::demangle_sink::{SinkRefused, SizeLimitedFmtAdapter, TextSink};
 
 /// Puts one character as one piece.
@@ -13,9 +11,7 @@ use crate::demangle_sink::{SinkRefused, SizeLimitedFmtAdapter, TextSink};
 pub fn put_char<S: TextSink>(
     c: char,
     out: &mut SizeLimitedFmtAdapter<'_, S>,
-) -> Result<(), SinkRefused>
-    
-{
+) -> Result<(), SinkRefused> {
     out.put(c.encode_utf8(&mut [0; 4]))
 }
 
@@ -27,9 +23,7 @@ pub fn put_char<S: TextSink>(
 pub fn put_chars<S: TextSink>(
     characters: &[char],
     out: &mut SizeLimitedFmtAdapter<'_, S>,
-) -> Result<(), SinkRefused>
-    
-{
+) -> Result<(), SinkRefused> {
     for c in characters {
         put_char(*c, out)?;
     }

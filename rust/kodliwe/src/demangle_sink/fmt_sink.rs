@@ -1,9 +1,6 @@
 // Made from crates/demangle_sink/src/fmt_sink.rt by packaging/crate/erase.py: edit that file instead.
 //! A sink that writes to a formatter.
 
-
-
-
 use crate::demangle_sink::{SinkRefused, TextSink};
 use core::fmt;
 
@@ -15,16 +12,12 @@ pub struct FmtSink<'f, W: fmt::Write> {
 
 impl<'f, W: fmt::Write> FmtSink<'f, W> {
     /// Returns a sink for this formatter. It has not failed.
-    pub fn new(out: &'f mut W) -> Self
-        
-    {
+    pub fn new(out: &'f mut W) -> Self {
         FmtSink { out, failed: false }
     }
 }
 
 impl<'f, W: fmt::Write> TextSink for FmtSink<'f, W> {
-
-
     fn put(&mut self, s: &str) -> Result<(), SinkRefused> {
         if s.is_empty() {
             return Ok(());
@@ -41,5 +34,4 @@ impl<'f, W: fmt::Write> TextSink for FmtSink<'f, W> {
     fn is_failed(&self) -> bool {
         self.failed
     }
-
 }

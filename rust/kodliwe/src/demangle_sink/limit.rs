@@ -1,9 +1,6 @@
 // Made from crates/demangle_sink/src/limit.rt by packaging/crate/erase.py: edit that file instead.
 //! Limits the size of the printed text.
 
-
-
-
 use crate::demangle_sink::{SinkRefused, TextSink};
 
 /// Passes pieces to a sink while their total size is within a limit.
@@ -16,9 +13,7 @@ pub struct SizeLimitedFmtAdapter<'s, S: TextSink> {
 
 impl<'s, S: TextSink> SizeLimitedFmtAdapter<'s, S> {
     /// Returns an adapter that passes at most `limit` bytes to `out`.
-    pub fn new(out: &'s mut S, limit: usize) -> Self
-        
-    {
+    pub fn new(out: &'s mut S, limit: usize) -> Self {
         SizeLimitedFmtAdapter {
             out,
             remaining: limit,
@@ -27,9 +22,7 @@ impl<'s, S: TextSink> SizeLimitedFmtAdapter<'s, S> {
     }
 
     /// Returns `true` if a piece exceeded the limit.
-    pub fn is_over(&self) -> bool
-        
-    {
+    pub fn is_over(&self) -> bool {
         self.is_over
     }
 
@@ -40,9 +33,7 @@ impl<'s, S: TextSink> SizeLimitedFmtAdapter<'s, S> {
     /// Returns `SinkRefused` if the piece exceeds the limit, or if the sink rejects it. A piece
     /// that exceeds the limit is not passed.
     #[inline(always)]
-    pub fn put(&mut self, s: &str) -> Result<(), SinkRefused>
-        
-    {
+    pub fn put(&mut self, s: &str) -> Result<(), SinkRefused> {
         if s.len() > self.remaining {
             self.is_over = true;
             return Err(SinkRefused);
@@ -57,8 +48,6 @@ impl<'s, S: TextSink> SizeLimitedFmtAdapter<'s, S> {
 /// # Errors
 ///
 /// Returns `SinkRefused` if the sink rejects the piece.
-pub fn put_piece<S: TextSink>(s: &str, out: &mut S) -> Result<(), SinkRefused>
-    
-{
+pub fn put_piece<S: TextSink>(s: &str, out: &mut S) -> Result<(), SinkRefused> {
     out.put(s)
 }

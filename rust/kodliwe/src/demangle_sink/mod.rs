@@ -1,8 +1,6 @@
 // Made from crates/demangle_sink/src/lib.rt by packaging/crate/erase.py: edit that file instead.
 //! Sinks take printed text, one piece at a time.
 
-
-
 mod array_sink;
 mod chars;
 mod fmt_sink;
@@ -33,18 +31,13 @@ pub struct SinkRefused;
 /// of its bytes. An empty piece is always taken. If `keeps` is true, a rejected piece leaves the
 /// sink's text and room unchanged.
 pub trait TextSink {
-
-
     /// Takes a piece.
     ///
     /// # Errors
     ///
     /// Returns `SinkRefused` if the sink rejects the piece. The sink has failed from then on.
-    fn put(&mut self, s: &str) -> Result<(), SinkRefused>
-        ;
+    fn put(&mut self, s: &str) -> Result<(), SinkRefused>;
 
     /// Returns `true` if the sink has rejected a piece.
-    fn is_failed(&self) -> bool
-        ;
-
+    fn is_failed(&self) -> bool;
 }

@@ -1,8 +1,6 @@
 // Made from crates/demangle_sink/src/pieces.rt by packaging/crate/erase.py: edit that file instead.
 //! Puts several pieces into a sink.
 
-
-
 use crate::demangle_sink::{SinkRefused, SizeLimitedFmtAdapter, TextSink};
 
 /// Puts pieces in order.
@@ -13,9 +11,7 @@ use crate::demangle_sink::{SinkRefused, SizeLimitedFmtAdapter, TextSink};
 pub fn put_each<S: TextSink>(
     pieces: &[&str],
     out: &mut SizeLimitedFmtAdapter<'_, S>,
-) -> Result<(), SinkRefused>
-    
-{
+) -> Result<(), SinkRefused> {
     for piece in pieces {
         out.put(piece)?;
     }

@@ -1,11 +1,6 @@
 // Made from crates/demangle_sink/src/slice_sink.rt by packaging/crate/erase.py: edit that file instead.
 //! A sink that writes to a slice of the caller.
 
-
-
-
-
-
 use crate::demangle_sink::{SinkRefused, TextSink};
 
 /// Writes a part of a text to the caller's bytes, as far as they reach, and counts all bytes of the
@@ -26,18 +21,14 @@ pub struct SliceSink<'b> {
 impl<'b> SliceSink<'b> {
     /// Returns a sink that writes the first bytes of a text to this slice. It has taken nothing and
     /// has not failed.
-    pub fn new(out: &'b mut [u8]) -> Self
-        
-    {
+    pub fn new(out: &'b mut [u8]) -> Self {
         SliceSink::starting_at(out, 0)
     }
 
     /// Returns a sink that writes the text from byte `start`, counted from 0, to this slice. It has
     /// taken nothing and has not failed. A text of at most `start` bytes leaves the slice
     /// unchanged.
-    pub fn starting_at(out: &'b mut [u8], start: usize) -> Self
-        
-    {
+    pub fn starting_at(out: &'b mut [u8], start: usize) -> Self {
         SliceSink {
             out,
             start,
@@ -48,9 +39,7 @@ impl<'b> SliceSink<'b> {
 
     /// Returns the number of bytes of the text. It includes bytes before the part and bytes that
     /// did not fit.
-    pub fn len(&self) -> usize
-        
-    {
+    pub fn len(&self) -> usize {
         self.len
     }
 
@@ -61,9 +50,7 @@ impl<'b> SliceSink<'b> {
     /// Returns `SinkRefused` if the count would exceed `usize::MAX`. The sink has failed from then
     /// on, and the slice is unchanged.
     #[inline(always)]
-    pub fn put_bytes(&mut self, bytes: &[u8]) -> Result<(), SinkRefused>
-        
-    {
+    pub fn put_bytes(&mut self, bytes: &[u8]) -> Result<(), SinkRefused> {
         if bytes.len() > usize::MAX - self.len {
             self.failed = true;
             return Err(SinkRefused);
@@ -79,17 +66,13 @@ impl<'b> SliceSink<'b> {
 }
 
 /// Writes the bytes after the first `before` ones to the start of the slice, as far as it reaches.
-fn lay_behind(out: &mut [u8], before: usize, bytes: &[u8])
-    
-{
+fn lay_behind(out: &mut [u8], before: usize, bytes: &[u8]) {
     lay(out, 0, &bytes[before.min(bytes.len())..]);
 }
 
 /// Writes bytes to the slice from a place, as far as it reaches.
 #[inline(always)]
-fn lay(out: &mut [u8], place: usize, bytes: &[u8])
-    
-{
+fn lay(out: &mut [u8], place: usize, bytes: &[u8]) {
     if place < out.len() {
         let kept = bytes.len().min(out.len() - place);
         out[place..place + kept].copy_from_slice(&bytes[..kept]);
@@ -97,8 +80,6 @@ fn lay(out: &mut [u8], place: usize, bytes: &[u8])
 }
 
 impl<'b> TextSink for SliceSink<'b> {
-
-
     #[inline(always)]
     fn put(&mut self, s: &str) -> Result<(), SinkRefused> {
         self.put_bytes(s.as_bytes())
@@ -107,5 +88,4 @@ impl<'b> TextSink for SliceSink<'b> {
     fn is_failed(&self) -> bool {
         self.failed
     }
-
 }

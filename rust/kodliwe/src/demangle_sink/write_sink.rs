@@ -1,9 +1,6 @@
 // Made from crates/demangle_sink/src/write_sink.rt by packaging/crate/erase.py: edit that file instead.
 //! A sink that writes to a writer.
 
-
-
-
 use crate::demangle_sink::{SinkRefused, TextSink};
 use std::io;
 use std::io::Write;
@@ -18,24 +15,18 @@ pub struct WriteSink<'w, W: Write> {
 
 impl<'w, W: Write> WriteSink<'w, W> {
     /// Returns a sink for this writer. It has not failed.
-    pub fn new(out: &'w mut W) -> Self
-        
-    {
+    pub fn new(out: &'w mut W) -> Self {
         WriteSink { out, fault: None }
     }
 
     /// Returns the writer's error. It is `Some` exactly if the sink has failed.
-    pub fn into_fault(self) -> Option<io::Error>
-        
-    {
+    pub fn into_fault(self) -> Option<io::Error> {
         let WriteSink { out: _, fault } = self;
         fault
     }
 }
 
 impl<'w, W: Write> TextSink for WriteSink<'w, W> {
-
-
     #[inline(always)]
     fn put(&mut self, s: &str) -> Result<(), SinkRefused> {
         if s.is_empty() {
@@ -53,5 +44,4 @@ impl<'w, W: Write> TextSink for WriteSink<'w, W> {
     fn is_failed(&self) -> bool {
         self.fault.is_some()
     }
-
 }

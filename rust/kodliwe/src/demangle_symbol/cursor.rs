@@ -1,13 +1,7 @@
 // Made from crates/demangle_symbol/src/cursor.rt by packaging/crate/erase.py: edit that file instead.
 //! Access to the bytes of a symbol. Only `Symbol::byte` reads one, and it counts each look.
 
-
-
-
-
-
 use crate::demangle_sink::{SinkRefused, SizeLimitedFmtAdapter, TextSink};
-
 
 mod hex;
 mod ident;
@@ -42,20 +36,14 @@ pub struct Symbol<'s> {
     inner: &'s str,
 }
 
-
-
 /// The text of a part of a symbol. It can only be measured or put into a sink.
 pub struct Span<'s> {
     text: &'s str,
 }
 
-
-
 impl<'s> Span<'s> {
     /// Returns the number of bytes.
-    pub fn len(&self) -> usize
-        
-    {
+    pub fn len(&self) -> usize {
         self.text.len()
     }
 
@@ -68,41 +56,31 @@ impl<'s> Span<'s> {
     pub fn write_to<S: TextSink>(
         &self,
         out: &mut SizeLimitedFmtAdapter<'_, S>,
-    ) -> Result<(), SinkRefused>
-        
-    {
+    ) -> Result<(), SinkRefused> {
         out.put(self.text)
     }
 }
 
 impl<'s> Symbol<'s> {
     /// Returns the symbol that has these bytes after its prefix.
-    pub fn new(inner: &'s str) -> Symbol<'s>
-        
-    {
+    pub fn new(inner: &'s str) -> Symbol<'s> {
         Symbol { inner }
     }
 
     /// Returns the number of bytes. It makes no look.
-    pub fn len(&self) -> usize
-        
-    {
+    pub fn len(&self) -> usize {
         self.inner.len()
     }
 
     /// Returns the byte at a place, or `None` after the end. It makes one look.
-    pub fn byte(&self, place: usize, looks: &mut Looks) -> Option<u8>
-        
-    {
+    pub fn byte(&self, place: usize, looks: &mut Looks) -> Option<u8> {
         looks.tick();
         let _count = self.inner.len();
         self.inner.as_bytes().get(place).copied()
     }
 
     /// Returns `true` if all bytes are ASCII. It makes at most one look for each byte.
-    pub fn is_ascii(&self, looks: &mut Looks) -> bool
-        
-    {
+    pub fn is_ascii(&self, looks: &mut Looks) -> bool {
         let mut all = true;
         for at in 0..self.len() {
             let Some(byte) = self.byte(at, looks) else {
@@ -114,18 +92,14 @@ impl<'s> Symbol<'s> {
     }
 
     /// Returns the text of a part, to be measured or put into a sink. It makes no look.
-    pub fn span(&self, part: Part) -> Span<'s>
-        
-    {
+    pub fn span(&self, part: Part) -> Span<'s> {
         Span {
             text: &self.inner[part.from..part.to],
         }
     }
 
     /// Returns `true` if the byte at a place is `byte`. It makes one look.
-    pub fn is_at(&self, byte: u8, place: usize, looks: &mut Looks) -> bool
-        
-    {
+    pub fn is_at(&self, byte: u8, place: usize, looks: &mut Looks) -> bool {
         match self.byte(place, looks) {
             Some(b) => b == byte,
             None => false,
@@ -137,9 +111,7 @@ impl<'s> Symbol<'s> {
     /// # Errors
     ///
     /// Returns `Invalid` if there is no digit at the place, or if a `usize` cannot hold the number.
-    pub fn decimal(&self, place: usize, looks: &mut Looks) -> Result<(usize, usize), ParseError>
-        
-    {
+    pub fn decimal(&self, place: usize, looks: &mut Looks) -> Result<(usize, usize), ParseError> {
         self.decimal_from(0, place, place, looks)
     }
 
@@ -152,9 +124,7 @@ impl<'s> Symbol<'s> {
         start: usize,
         from: usize,
         looks: &mut Looks,
-    ) -> Result<(usize, usize), ParseError>
-        
-    {
+    ) -> Result<(usize, usize), ParseError> {
         let mut number = number;
         for at in from..self.len() {
             let Some(digit) = self.digit(at, looks) else {
@@ -180,9 +150,7 @@ impl<'s> Symbol<'s> {
     /// Returns the value of the decimal digit at a place, or `None` if another byte or the end is
     /// there.
     #[inline(always)]
-    fn digit(&self, place: usize, looks: &mut Looks) -> Option<u8>
-        
-    {
+    fn digit(&self, place: usize, looks: &mut Looks) -> Option<u8> {
         match self.byte(place, looks) {
             Some(byte @ b'0'..=b'9') => Some(byte - b'0'),
             _ => None,
@@ -191,16 +159,12 @@ impl<'s> Symbol<'s> {
 }
 
 /// Returns the number with this digit appended in a base, or `None` if it does not fit 64 bits.
-pub(crate) fn append_digit(number: u64, base: u64, digit: u8) -> Option<u64>
-    
-{
+pub(crate) fn append_digit(number: u64, base: u64, digit: u8) -> Option<u64> {
     number.checked_mul(base)?.checked_add(u64::from(digit))
 }
 
 /// Returns the number with this decimal digit appended, or `None` if a `usize` cannot hold it.
 #[inline(always)]
-fn append_decimal(number: usize, digit: u8) -> Option<usize>
-    
-{
+fn append_decimal(number: usize, digit: u8) -> Option<usize> {
     number.checked_mul(10)?.checked_add(usize::from(digit))
 }

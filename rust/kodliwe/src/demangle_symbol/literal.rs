@@ -1,13 +1,8 @@
 // Made from crates/demangle_symbol/src/literal.rt by packaging/crate/erase.py: edit that file instead.
 //! Prints the literals of char and string constants.
 
-
-
-
-
-
-use crate::support::arrayvec::ArrayVec;
 use crate::demangle_sink::{SinkRefused, SizeLimitedFmtAdapter, TextSink, put_char, put_chars};
+use crate::support::arrayvec::ArrayVec;
 use crate::support::unicode::properties::{GeneralCategory, is_grapheme_extend};
 
 mod strings;
@@ -28,9 +23,7 @@ enum Escape {
 }
 
 /// Returns `true` if a character of this category, past ASCII, is written as its code.
-fn is_hidden_category(category: GeneralCategory) -> bool
-    
-{
+fn is_hidden_category(category: GeneralCategory) -> bool {
     match category {
         GeneralCategory::Control
         | GeneralCategory::Format
@@ -45,16 +38,12 @@ fn is_hidden_category(category: GeneralCategory) -> bool
 }
 
 /// Returns `true` if a character past ASCII is written as itself.
-fn is_shown(c: char) -> bool
-    
-{
+fn is_shown(c: char) -> bool {
     c >= '\u{80}' && !is_hidden_category(GeneralCategory::for_char(c)) && !is_grapheme_extend(c)
 }
 
 /// Returns the way to write a character in a literal with this quote.
-fn literal_escape(quote: char, c: char) -> Escape
-    
-{
+fn literal_escape(quote: char, c: char) -> Escape {
     // Only the literal's own quote is escaped. A string literal contains `'` unescaped, and a char
     // literal `"`.
     if c == quote || c == '\\' {
@@ -77,9 +66,7 @@ fn literal_escape(quote: char, c: char) -> Escape
 }
 
 /// Returns the byte of a hexadecimal digit.
-fn digit_byte(digit: u64) -> u8
-    
-{
+fn digit_byte(digit: u64) -> u8 {
     if digit < 10 {
         b'0' + digit as u8
     } else {
@@ -88,16 +75,12 @@ fn digit_byte(digit: u64) -> u8
 }
 
 /// Returns the character of a hexadecimal digit.
-fn digit_char(digit: u64) -> char
-    
-{
+fn digit_char(digit: u64) -> char {
     char::from(digit_byte(digit))
 }
 
 /// Returns the hexadecimal digits of a number, the highest first.
-fn hexadecimal(number: u64) -> ArrayVec<char, 16>
-    
-{
+fn hexadecimal(number: u64) -> ArrayVec<char, 16> {
     let mut text = ArrayVec::new();
     let mut rest = number;
     for _turn in 0..16_usize {
@@ -111,9 +94,10 @@ fn hexadecimal(number: u64) -> ArrayVec<char, 16>
 }
 
 /// Puts the code of a character between `\u{` and `}`.
-fn put_code<S: TextSink>(c: char, out: &mut SizeLimitedFmtAdapter<'_, S>) -> Result<(), SinkRefused>
-    
-{
+fn put_code<S: TextSink>(
+    c: char,
+    out: &mut SizeLimitedFmtAdapter<'_, S>,
+) -> Result<(), SinkRefused> {
     put_chars(&['\\', 'u', '{'], out)?;
     put_chars(&hexadecimal(c as u64), out)?;
     put_char('}', out)
@@ -123,9 +107,7 @@ fn put_code<S: TextSink>(c: char, out: &mut SizeLimitedFmtAdapter<'_, S>) -> Res
 fn put_backslashed<S: TextSink>(
     letter: char,
     out: &mut SizeLimitedFmtAdapter<'_, S>,
-) -> Result<(), SinkRefused>
-    
-{
+) -> Result<(), SinkRefused> {
     put_char('\\', out)?;
     put_char(letter, out)
 }
@@ -135,9 +117,7 @@ fn put_escaped<S: TextSink>(
     quote: char,
     c: char,
     out: &mut SizeLimitedFmtAdapter<'_, S>,
-) -> Result<(), SinkRefused>
-    
-{
+) -> Result<(), SinkRefused> {
     match literal_escape(quote, c) {
         Escape::Itself => put_char(c, out),
         Escape::Backslash(letter) => put_backslashed(letter, out),
@@ -154,9 +134,7 @@ fn put_escaped<S: TextSink>(
 pub fn put_char_literal<S: TextSink>(
     c: char,
     out: &mut SizeLimitedFmtAdapter<'_, S>,
-) -> Result<(), SinkRefused>
-    
-{
+) -> Result<(), SinkRefused> {
     put_char('\'', out)?;
     put_escaped('\'', c, out)?;
     put_char('\'', out)
@@ -164,18 +142,14 @@ pub fn put_char_literal<S: TextSink>(
 
 /// Returns the character of a char constant, given the number of its hexadecimal string. The result
 /// is `None` if there is no number or the number is not a Unicode scalar value.
-pub fn character_of(number: Option<u128>) -> Option<char>
-    
-{
+pub fn character_of(number: Option<u128>) -> Option<char> {
     let code = u32::try_from(number?).ok()?;
     char::from_u32(code)
 }
 
 /// Returns the value of a bool constant, given the number of its hexadecimal string. Only 0 and 1
 /// have a value.
-pub fn truth_of(number: Option<u128>) -> Option<bool>
-    
-{
+pub fn truth_of(number: Option<u128>) -> Option<bool> {
     match number {
         Some(0) => Some(false),
         Some(1) => Some(true),

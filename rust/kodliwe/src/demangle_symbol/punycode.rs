@@ -2,9 +2,6 @@
 //! Decodes Punycode (RFC 3492) in the form of v0 names: `_` replaces `-`, and digits are lower
 //! case.
 
-
-
-
 use crate::demangle_symbol::cursor::{Ident, Looks, Part, Symbol};
 use crate::support::arrayvec::ArrayVec;
 
@@ -21,9 +18,7 @@ const MAX_DELTA: u64 = 0x11_0000 * 129 - 1;
 
 /// Returns the value of a Punycode digit, or `None` for any other byte. An upper case letter is not
 /// a digit.
-fn digit_of(byte: u8) -> Option<u64>
-    
-{
+fn digit_of(byte: u8) -> Option<u64> {
     match byte {
         b'a'..=b'z' => Some(u64::from(byte - b'a')),
         b'0'..=b'9' => Some(u64::from(byte - b'0') + 26),
@@ -32,9 +27,7 @@ fn digit_of(byte: u8) -> Option<u64>
 }
 
 /// Returns the value of the digit at a place of the symbol, or `None` if another byte is there.
-fn digit_at(symbol: &Symbol<'_>, place: usize, looks: &mut Looks) -> Option<u64>
-    
-{
+fn digit_at(symbol: &Symbol<'_>, place: usize, looks: &mut Looks) -> Option<u64> {
     match symbol.byte(place, looks) {
         Some(byte) => digit_of(byte),
         None => None,
@@ -43,18 +36,14 @@ fn digit_at(symbol: &Symbol<'_>, place: usize, looks: &mut Looks) -> Option<u64>
 
 /// Returns the threshold of a digit of a delta. `place` is 36 for the first digit, and 36 more for
 /// each later one.
-fn threshold(place: u64, bias: u64) -> u64
-    
-{
+fn threshold(place: u64, bias: u64) -> u64 {
     // RFC 3492 uses the least threshold, 1, for a place up to the bias. The difference is 0 there,
     // as it saturates.
     place.saturating_sub(bias).max(1).min(26)
 }
 
 /// Returns the bias after a delta. `count` is the number of characters with the new one.
-fn adapt(delta: u64, count: u64, first: bool) -> u64
-    
-{
+fn adapt(delta: u64, count: u64, first: bool) -> u64 {
     // The parameters of RFC 3492 (5) are: damping 700, skew 38, thresholds 1 to 26, base 36. So 35
     // is the base minus the least threshold, and 455 is half of 35 x 26.
     let damped = if first { delta / 700 } else { delta / 2 };
@@ -69,9 +58,12 @@ fn adapt(delta: u64, count: u64, first: bool) -> u64
 
 /// Reads the first delta of a part and returns it with the place after it. Returns `None` if a byte
 /// is not a digit, if the part ends too early, or if the delta is too large for any character.
-fn delta_at(symbol: &Symbol<'_>, digits: Part, bias: u64, looks: &mut Looks) -> Option<(u64, usize)>
-    
-{
+fn delta_at(
+    symbol: &Symbol<'_>,
+    digits: Part,
+    bias: u64,
+    looks: &mut Looks,
+) -> Option<(u64, usize)> {
     let mut sum: u64 = 0;
     let mut weight: u64 = 1;
     let mut place: u64 = 36;
@@ -100,9 +92,7 @@ fn ascii_characters(
     symbol: &Symbol<'_>,
     ascii: Part,
     looks: &mut Looks,
-) -> Option<ArrayVec<char, SMALL_PUNYCODE_LEN>>
-    
-{
+) -> Option<ArrayVec<char, SMALL_PUNYCODE_LEN>> {
     let mut characters = ArrayVec::new();
     if ascii.to - ascii.from > SMALL_PUNYCODE_LEN {
         return None;
@@ -123,9 +113,7 @@ fn decode(
     symbol: &Symbol<'_>,
     name: Ident,
     looks: &mut Looks,
-) -> Option<ArrayVec<char, SMALL_PUNYCODE_LEN>>
-    
-{
+) -> Option<ArrayVec<char, SMALL_PUNYCODE_LEN>> {
     let Some(mut characters) = ascii_characters(symbol, name.ascii, looks) else {
         return None;
     };

@@ -1,24 +1,15 @@
 // Made from crates/demangle_v0/src/accept.rt by packaging/crate/erase.py: edit that file instead.
 //! Acceptance of v0 symbols: parses without output.
 
-
-
-
-
-
-
-
+use crate::demangle_symbol::cursor::{Looks, Symbol};
 use crate::demangle_v0::points::frames::{FULL_STACK, MIDDLE_STACK, SHORT_STACK};
 use crate::demangle_v0::points::parser::Parser;
 use crate::demangle_v0::points::read::Halt;
-use crate::demangle_symbol::cursor::{Looks, Symbol};
 
 impl Parser<'_, FULL_STACK> {
     /// Reads the rest. Returns where it ends.
     #[inline(always)]
-    fn read_to_end(&mut self) -> Option<usize>
-        
-    {
+    fn read_to_end(&mut self) -> Option<usize> {
         match self.read_steps(0) {
             Halt::Over => self.place(),
             // A stack with room for every frame is never full.
@@ -30,9 +21,7 @@ impl Parser<'_, FULL_STACK> {
 impl Parser<'_, MIDDLE_STACK> {
     /// Reads the rest in a stack with room for every frame. Returns where it ends.
     #[inline(never)]
-    fn read_in_full_stack(&mut self) -> Option<usize>
-        
-    {
+    fn read_in_full_stack(&mut self) -> Option<usize> {
         let mut parser: Parser<FULL_STACK> = self.without_frames();
         parser.stack.append(&self.stack);
         let end = parser.read_to_end();
@@ -42,9 +31,7 @@ impl Parser<'_, MIDDLE_STACK> {
 
     /// Reads the rest, in the largest stack if this one is full. Returns where it ends.
     #[inline(always)]
-    fn read_to_end(&mut self) -> Option<usize>
-        
-    {
+    fn read_to_end(&mut self) -> Option<usize> {
         match self.read_steps(0) {
             Halt::Over => self.place(),
             Halt::Full => self.read_in_full_stack(),
@@ -57,9 +44,7 @@ impl Parser<'_, SHORT_STACK> {
     /// Reads the rest in a larger stack, and if that is full too, in the largest. Returns where it
     /// ends.
     #[inline(never)]
-    fn read_in_middle_stack(&mut self) -> Option<usize>
-        
-    {
+    fn read_in_middle_stack(&mut self) -> Option<usize> {
         let mut parser: Parser<MIDDLE_STACK> = self.without_frames();
         parser.stack.append(&self.stack);
         let end = parser.read_to_end();
@@ -68,9 +53,7 @@ impl Parser<'_, SHORT_STACK> {
     }
 
     /// Reads the path at a place, above no frames. Returns where it ends, and leaves no frames then.
-    fn path_end(&mut self, place: usize) -> Option<usize>
-        
-    {
+    fn path_end(&mut self, place: usize) -> Option<usize> {
         self.start_path(place);
         match self.read_steps(0) {
             Halt::Over => self.place(),
@@ -84,9 +67,7 @@ impl Parser<'_, SHORT_STACK> {
     }
 
     /// Reads one path or two. Returns where the suffix after them begins.
-    fn suffix(&mut self) -> Option<usize>
-        
-    {
+    fn suffix(&mut self) -> Option<usize> {
         let Some(end) = self.path_end(0) else {
             return None;
         };
@@ -100,9 +81,7 @@ impl Parser<'_, SHORT_STACK> {
 }
 
 /// Returns where the suffix begins, after one path or two, if they have no syntax error.
-pub fn suffix_at(symbol: &Symbol<'_>, looks: &mut Looks) -> Option<usize>
-    
-{
+pub fn suffix_at(symbol: &Symbol<'_>, looks: &mut Looks) -> Option<usize> {
     let mut parser: Parser<SHORT_STACK> = Parser::at_path(symbol, true, 0, looks);
     let end = parser.suffix();
     *looks = parser.looks;
@@ -110,9 +89,7 @@ pub fn suffix_at(symbol: &Symbol<'_>, looks: &mut Looks) -> Option<usize>
 }
 
 /// Returns whether a path begins at a place.
-pub fn begins_path(symbol: &Symbol<'_>, place: usize, looks: &mut Looks) -> bool
-    
-{
+pub fn begins_path(symbol: &Symbol<'_>, place: usize, looks: &mut Looks) -> bool {
     match symbol.byte(place, looks) {
         Some(b'A'..=b'Z') => true,
         _ => false,

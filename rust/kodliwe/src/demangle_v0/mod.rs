@@ -1,10 +1,8 @@
 // Made from crates/demangle_v0/src/lib.rt by packaging/crate/erase.py: edit that file instead.
 //! v0 symbols (RFC 2603): a prefix, one path or two, then a suffix.
 
-
-
-use crate::demangle_v0::accept::{begins_path, suffix_at};
 use crate::demangle_symbol::cursor::{Looks, ParseError, Symbol};
+use crate::demangle_v0::accept::{begins_path, suffix_at};
 
 mod accept;
 mod points;
@@ -17,9 +15,7 @@ mod value;
 pub use value::Demangle;
 
 /// Returns what is after the prefix of a v0 symbol.
-fn inner_of(s: &str) -> Option<&str>
-    
-{
+fn inner_of(s: &str) -> Option<&str> {
     if let Some(inner) = s.strip_prefix("_R") {
         return Some(inner);
     }
@@ -33,9 +29,7 @@ fn inner_of(s: &str) -> Option<&str>
 
 /// Returns the text as a symbol, if it is ASCII and has a prefix of the v0 scheme. No path is read:
 /// the first one prints up to its first syntax error.
-pub fn ascii_symbol<'s>(s: &'s str, looks: &mut Looks) -> Option<Demangle<'s>>
-    
-{
+pub fn ascii_symbol<'s>(s: &'s str, looks: &mut Looks) -> Option<Demangle<'s>> {
     let text = Symbol::new(s);
     if !text.is_ascii(looks) {
         return None;
@@ -48,9 +42,7 @@ pub fn ascii_symbol<'s>(s: &'s str, looks: &mut Looks) -> Option<Demangle<'s>>
 
 /// Returns what is after the prefix of a v0 symbol, if it is ASCII. It is not tested if the text is
 /// known to be ASCII.
-fn ascii_inner_of<'s>(s: &'s str, is_ascii: bool, looks: &mut Looks) -> Option<&'s str>
-    
-{
+fn ascii_inner_of<'s>(s: &'s str, is_ascii: bool, looks: &mut Looks) -> Option<&'s str> {
     let Some(inner) = inner_of(s) else {
         return None;
     };
@@ -69,9 +61,7 @@ pub fn demangle<'s>(
     s: &'s str,
     is_ascii: bool,
     looks: &mut Looks,
-) -> Result<(Demangle<'s>, &'s str), ParseError>
-    
-{
+) -> Result<(Demangle<'s>, &'s str), ParseError> {
     let Some(inner) = ascii_inner_of(s, is_ascii, looks) else {
         return Err(ParseError::Invalid);
     };

@@ -5,7 +5,6 @@
 //! the grammar. Its method reads up to the next nested production, pushes a frame for what follows
 //! that production, and returns the continuation to run next.
 
-
 use crate::demangle_v0::points::frames::Frame;
 use crate::demangle_words::texts::Mark;
 
@@ -158,9 +157,7 @@ pub enum Stop {
 impl State {
     /// Returns a frame that resumes this production at `point`.
     #[inline(always)]
-    fn frame(&self, point: Point) -> Frame
-        
-    {
+    fn frame(&self, point: Point) -> Frame {
         Frame {
             point,
             in_value: self.in_value,

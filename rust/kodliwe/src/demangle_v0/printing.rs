@@ -1,15 +1,12 @@
 // Made from crates/demangle_v0/src/printing.rt by packaging/crate/erase.py: edit that file instead.
 //! Printing: steps, each of which prints what it reads as soon as it is known.
 
-
-
-
+use crate::demangle_sink::{SinkRefused, SizeLimitedFmtAdapter, TextSink};
 use crate::demangle_v0::points::Point;
 use crate::demangle_v0::points::frames::{FULL_STACK, MIDDLE_STACK, SHORT_STACK};
 use crate::demangle_v0::points::parser::Parser;
 use crate::demangle_v0::points::read::Reading;
 use crate::demangle_v0::points::skip::is_skipped;
-use crate::demangle_sink::{SinkRefused, SizeLimitedFmtAdapter, TextSink};
 
 /// What is left to print when the stack is full.
 #[derive(Clone, Copy)]
@@ -29,9 +26,7 @@ impl<const N: usize> Parser<'_, N> {
     fn print_steps<S: TextSink>(
         &mut self,
         out: &mut SizeLimitedFmtAdapter<'_, S>,
-    ) -> Result<Option<Left>, SinkRefused>
-        
-    {
+    ) -> Result<Option<Left>, SinkRefused> {
         let mut point = self.point;
         'steps: while self.stack.len() < N {
             let Some(at) = self.resume(0, point) else {
@@ -61,9 +56,7 @@ impl<const N: usize> Parser<'_, N> {
         &mut self,
         left: Left,
         out: &mut SizeLimitedFmtAdapter<'_, S>,
-    ) -> Result<Option<Left>, SinkRefused>
-        
-    {
+    ) -> Result<Option<Left>, SinkRefused> {
         if let Some(more) = self.finish_impl_path(left) {
             return Ok(Some(more));
         }
@@ -78,9 +71,7 @@ impl Parser<'_, MIDDLE_STACK> {
         &mut self,
         left: Left,
         out: &mut SizeLimitedFmtAdapter<'_, S>,
-    ) -> Result<(), SinkRefused>
-        
-    {
+    ) -> Result<(), SinkRefused> {
         let mut parser: Parser<FULL_STACK> = self.without_frames();
         parser.stack.append(&self.stack);
         let printed = parser.print_unfinished(left, out);
@@ -95,9 +86,7 @@ impl Parser<'_, MIDDLE_STACK> {
         &mut self,
         left: Left,
         out: &mut SizeLimitedFmtAdapter<'_, S>,
-    ) -> Result<(), SinkRefused>
-        
-    {
+    ) -> Result<(), SinkRefused> {
         match self.print_unfinished(left, out)? {
             None => Ok(()),
             Some(left) => self.print_in_full_stack(left, out),
@@ -112,9 +101,7 @@ impl Parser<'_, SHORT_STACK> {
         &mut self,
         left: Left,
         out: &mut SizeLimitedFmtAdapter<'_, S>,
-    ) -> Result<(), SinkRefused>
-        
-    {
+    ) -> Result<(), SinkRefused> {
         let mut parser: Parser<MIDDLE_STACK> = self.without_frames();
         parser.stack.append(&self.stack);
         let printed = parser.print_to_end(left, out);
@@ -129,9 +116,7 @@ impl Parser<'_, SHORT_STACK> {
     pub(crate) fn print_path<S: TextSink>(
         &mut self,
         out: &mut SizeLimitedFmtAdapter<'_, S>,
-    ) -> Result<(), SinkRefused>
-        
-    {
+    ) -> Result<(), SinkRefused> {
         match self.print_steps(out)? {
             None => Ok(()),
             Some(left) => self.print_in_middle_stack(left, out),

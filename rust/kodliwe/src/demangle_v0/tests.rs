@@ -1,27 +1,20 @@
 // Made from crates/demangle_v0/src/tests.rt by packaging/crate/erase.py: edit that file instead.
 //! What each step prints.
 
-
-
-
-
-
-
-
-use crate::support::format;
-use crate::support::rt::HostRuntime;
-use crate::support::string::String;
-use crate::support::vec_in as vec;
+use crate::demangle_sink::{ArraySink, SinkRefused, SizeLimitedFmtAdapter, TextSink};
+use crate::demangle_symbol::cursor::{Looks, Symbol};
 use crate::demangle_v0::points::frames::FULL_STACK;
 use crate::demangle_v0::points::parser::Parser;
 use crate::demangle_v0::points::skip::is_skipped;
-use crate::demangle_sink::{ArraySink, SinkRefused, SizeLimitedFmtAdapter, TextSink};
-use crate::demangle_symbol::cursor::{Looks, Symbol};
 use crate::demangle_words::output::Output;
 use crate::demangle_words::source::Source;
 use crate::demangle_words::stretch::Stretch;
 use crate::demangle_words::texts::text;
+use crate::support::format;
+use crate::support::rt::HostRuntime;
+use crate::support::string::String;
 use crate::support::test::Fail;
+use crate::support::vec_in as vec;
 
 mod rows;
 
@@ -32,9 +25,7 @@ struct CountingSink {
 }
 
 impl CountingSink {
-    fn new() -> CountingSink
-        
-    {
+    fn new() -> CountingSink {
         CountingSink {
             text: ArraySink::new(),
             pieces: 0,
@@ -43,8 +34,6 @@ impl CountingSink {
 }
 
 impl TextSink for CountingSink {
-
-
     fn put(&mut self, s: &str) -> Result<(), SinkRefused> {
         if !s.is_empty() {
             self.pieces = self.pieces.saturating_add(1);
@@ -55,7 +44,6 @@ impl TextSink for CountingSink {
     fn is_failed(&self) -> bool {
         self.text.is_failed()
     }
-
 }
 
 /// Prints into a counting sink, and counts the tokens that are not empty.
@@ -67,9 +55,7 @@ struct CountingVoice<'s> {
 
 impl<'s> CountingVoice<'s> {
     /// Counts a token.
-    fn count(&mut self, stretch: &Stretch)
-        
-    {
+    fn count(&mut self, stretch: &Stretch) {
         if !matches!(stretch, Stretch::Nothing) {
             self.stretches = self.stretches.saturating_add(1);
             self.last = *stretch;
@@ -78,8 +64,6 @@ impl<'s> CountingVoice<'s> {
 }
 
 impl<'s> Output for CountingVoice<'s> {
-
-
     fn is_printing(&self) -> bool {
         true
     }
@@ -139,9 +123,7 @@ fn steps_print(inner: &str, include_hash: bool, wanted: &str) -> bool {
 
 /// Does one step, or skips an impl path. Returns whether nothing was left to print, or `None` if the
 /// step printed more than one token or failed.
-fn goes_on(parser: &mut Parser<'_, FULL_STACK>, sink: &mut CountingSink) -> Option<bool>
-    
-{
+fn goes_on(parser: &mut Parser<'_, FULL_STACK>, sink: &mut CountingSink) -> Option<bool> {
     if parser.stack.len() >= FULL_STACK || sink.is_failed() {
         return None;
     }
@@ -184,16 +166,17 @@ fn all_step(rows: &[(&str, &str, &str)]) -> bool {
 }
 
 #[test]
-fn one_piece_a_step() -> Result<(), Fail> { let rt = HostRuntime;
-    assert!( all_step(rows::CONSTANTS));
-    assert!( all_step(rows::REFERENCES));
-    assert!( all_step(rows::MORE_REFERENCES));
-    assert!( all_step(rows::TYPES));
-    assert!( all_step(rows::MORE_TYPES));
-    assert!( all_step(rows::FURTHER_TYPES));
-    assert!( all_step(rows::LAST_TYPES));
-    assert!( all_step(rows::PATHS));
-    assert!( all_step(rows::MORE_PATHS));
+fn one_piece_a_step() -> Result<(), Fail> {
+    let rt = HostRuntime;
+    assert!(all_step(rows::CONSTANTS));
+    assert!(all_step(rows::REFERENCES));
+    assert!(all_step(rows::MORE_REFERENCES));
+    assert!(all_step(rows::TYPES));
+    assert!(all_step(rows::MORE_TYPES));
+    assert!(all_step(rows::FURTHER_TYPES));
+    assert!(all_step(rows::LAST_TYPES));
+    assert!(all_step(rows::PATHS));
+    assert!(all_step(rows::MORE_PATHS));
     let alloc = rt.alloc();
     let mut tuples = String::from_str(alloc, "(_, _)")?;
     for _ in 1..6 {
@@ -201,13 +184,13 @@ fn one_piece_a_step() -> Result<(), Fail> { let rt = HostRuntime;
     }
     let wanted = format!(in alloc; "<{tuples}>")?;
     let inner = "MC0TTTTTTpB8_EB7_EB6_EB5_EB4_EB3_E";
-    assert!( steps_print(inner, false, wanted.as_str()));
-    assert!( steps_print(inner, true, wanted.as_str()));
+    assert!(steps_print(inner, false, wanted.as_str()));
+    assert!(steps_print(inner, true, wanted.as_str()));
     let name = String::from_utf8_lossy(alloc, vec![in alloc; b'R'; 100_000]?.as_slice())?;
     let inner = format!(in alloc; "IC100000{name}B7_E")?;
     let marks = String::from_utf8_lossy(alloc, vec![in alloc; b'&'; 497]?.as_slice())?;
     let wanted = format!(in alloc; "{name}::<{marks}{{recursion limit reached}}>")?;
-    assert!( steps_print(inner.as_str(), false, wanted.as_str()));
-    assert!( steps_print(inner.as_str(), true, wanted.as_str()));
+    assert!(steps_print(inner.as_str(), false, wanted.as_str()));
+    assert!(steps_print(inner.as_str(), true, wanted.as_str()));
     Ok(())
 }

@@ -1,28 +1,19 @@
 // Made from crates/demangle_v0/src/value.rt by packaging/crate/erase.py: edit that file instead.
 //! A v0 symbol that was read, and how its first path is printed.
 
-
-
-
-
-use crate::demangle_v0::points::frames::SHORT_STACK;
-use crate::demangle_v0::points::parser::Parser;
 use crate::demangle_sink::{SinkRefused, SizeLimitedFmtAdapter, TextSink};
 use crate::demangle_symbol::cursor::{Looks, Symbol};
-
+use crate::demangle_v0::points::frames::SHORT_STACK;
+use crate::demangle_v0::points::parser::Parser;
 
 /// A v0 symbol that was read: the bytes after its prefix, with the suffix.
 pub struct Demangle<'s> {
     inner: Symbol<'s>,
 }
 
-
-
 impl<'s> Demangle<'s> {
     /// Returns the symbol with these bytes, which are ASCII.
-    pub(super) fn new(inner: Symbol<'s>) -> Demangle<'s>
-        
-    {
+    pub(super) fn new(inner: Symbol<'s>) -> Demangle<'s> {
         Demangle { inner }
     }
 
@@ -34,9 +25,7 @@ impl<'s> Demangle<'s> {
         out: &mut SizeLimitedFmtAdapter<'_, S>,
         include_hash: bool,
         looks: &mut Looks,
-    ) -> Result<(), SinkRefused>
-        
-    {
+    ) -> Result<(), SinkRefused> {
         let mut parser: Parser<SHORT_STACK> = Parser::at_path(&self.inner, include_hash, 0, looks);
         let printed = parser.print_path(out);
         *looks = parser.looks;

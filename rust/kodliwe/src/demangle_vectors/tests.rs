@@ -1,14 +1,14 @@
 // Made from crates/demangle_vectors/src/tests.rt by packaging/crate/erase.py: edit that file instead.
 //! Tests with vectors of the Rust crate and of the legacy scheme.
-use crate::support::format;
-use crate::support::string::RepeatIn;
-use crate::support::string::String;
-use crate::support::vec::Vec;
 use crate::demangle_vectors::printed_is;
 use crate::rustc_demangle::sink::WriteSink;
 use crate::rustc_demangle::{Demangle, demangle, try_demangle};
 use crate::support::alloc::{AllocError, Global};
+use crate::support::format;
 use crate::support::process::Abort;
+use crate::support::string::RepeatIn;
+use crate::support::string::String;
+use crate::support::vec::Vec;
 
 mod beginnings;
 mod bytes;
@@ -34,16 +34,16 @@ mod vectors;
 
 /// Asserts that a text is a symbol that prints as these texts, with the hash and without it.
 fn assert_prints(rt: &impl Abort, symbol: &str, plain: &str, alt: &str) {
-    assert!( try_demangle(symbol).is_ok(), "{symbol} is a symbol");
-    assert!( printed_is(symbol, true, plain), "{symbol} with the hash");
-    assert!( printed_is(symbol, false, alt), "{symbol} without the hash");
+    assert!(try_demangle(symbol).is_ok(), "{symbol} is a symbol");
+    assert!(printed_is(symbol, true, plain), "{symbol} with the hash");
+    assert!(printed_is(symbol, false, alt), "{symbol} without the hash");
 }
 
 /// Asserts that a text is not a symbol and prints as this text in both forms.
 fn assert_refused(rt: &impl Abort, text: &str, printed: &str) {
-    assert!( try_demangle(text).is_err(), "{text} is no symbol");
-    assert!( printed_is(text, true, printed), "{text} with the hash");
-    assert!( printed_is(text, false, printed), "{text} without the hash");
+    assert!(try_demangle(text).is_err(), "{text} is no symbol");
+    assert!(printed_is(text, true, printed), "{text} with the hash");
+    assert!(printed_is(text, false, printed), "{text} without the hash");
 }
 
 /// Returns the printed text of a symbol, of any length.
@@ -74,10 +74,10 @@ fn assert_prints_long(
     symbol: &str,
     text: &str,
 ) -> Result<(), AllocError> {
-    assert!( try_demangle(symbol).is_ok(), "it is a symbol");
+    assert!(try_demangle(symbol).is_ok(), "it is a symbol");
     for include_hash in [true, false] {
         let printed = print_symbol(alloc, symbol, include_hash)?;
-        assert!( printed.as_slice() == text.as_bytes(), "it prints the text");
+        assert!(printed.as_slice() == text.as_bytes(), "it prints the text");
     }
     Ok(())
 }

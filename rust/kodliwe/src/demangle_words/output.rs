@@ -1,26 +1,18 @@
 // Made from crates/demangle_words/src/output.rt by packaging/crate/erase.py: edit that file instead.
 //! Where the parser sends its tokens: a sink, or nowhere.
 
-
-
-
-
-
-use crate::demangle_words::source::Source;
-use crate::demangle_words::stretch::Stretch;
 use crate::demangle_sink::{SinkRefused, SizeLimitedFmtAdapter, TextSink};
 use crate::demangle_symbol::cursor::Looks;
+use crate::demangle_words::source::Source;
+use crate::demangle_words::stretch::Stretch;
 
 /// Receives the tokens that the parser reads.
 ///
 /// The parser is generic over its output. With `Silent` it only validates a symbol. With a
 /// `SizeLimitedFmtAdapter` it prints one.
 pub trait Output {
-
-
     /// Returns `true` if tokens are printed.
-    fn is_printing(&self) -> bool
-        ;
+    fn is_printing(&self) -> bool;
 
     /// Prints a token, piece by piece.
     ///
@@ -32,8 +24,7 @@ pub trait Output {
         source: &Source<'_>,
         stretch: &Stretch,
         looks: &mut Looks,
-    ) -> Result<(), SinkRefused>
-        ;
+    ) -> Result<(), SinkRefused>;
 
     /// Prints the token of a syntax error.
     ///
@@ -45,16 +36,13 @@ pub trait Output {
         source: &Source<'_>,
         stretch: &Stretch,
         looks: &mut Looks,
-    ) -> Result<(), SinkRefused>
-        ;
+    ) -> Result<(), SinkRefused>;
 }
 
 /// An output that prints nothing. It is used to validate a symbol.
 pub struct Silent;
 
 impl Output for Silent {
-
-
     #[inline(always)]
     fn is_printing(&self) -> bool {
         false
@@ -82,8 +70,6 @@ impl Output for Silent {
 }
 
 impl<'s, S: TextSink> Output for SizeLimitedFmtAdapter<'s, S> {
-
-
     #[inline(always)]
     fn is_printing(&self) -> bool {
         true

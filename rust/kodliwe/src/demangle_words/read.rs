@@ -1,13 +1,9 @@
 // Made from crates/demangle_words/src/read.rt by packaging/crate/erase.py: edit that file instead.
 //! The tokens of a v0 symbol that are read in one step.
 
-
-
-
-
+use crate::demangle_symbol::cursor::{Looks, Symbol};
 use crate::demangle_words::stretch::{Abi, Stretch};
 use crate::demangle_words::texts::{Mark, Word};
-use crate::demangle_symbol::cursor::{Looks, Symbol};
 
 mod constants;
 mod functions;
@@ -38,9 +34,7 @@ pub struct TokenReader<'s> {
 impl TokenReader<'_> {
     /// Reads a token at a place, which is `None` after an error.
     #[inline(always)]
-    pub fn read_word(&self, word: Word, place: Option<usize>, looks: &mut Looks) -> WordRead
-        
-    {
+    pub fn read_word(&self, word: Word, place: Option<usize>, looks: &mut Looks) -> WordRead {
         let Some(at) = place else {
             return token_after_error(word);
         };
@@ -60,9 +54,7 @@ impl TokenReader<'_> {
 
 /// Returns what takes the place of a token after an error.
 #[inline(always)]
-fn token_after_error(word: Word) -> WordRead
-    
-{
+fn token_after_error(word: Word) -> WordRead {
     match word {
         // A dyn type needs its `L`. After an error it is missing, and the Rust crate prints this as
         // a new error.
@@ -75,16 +67,12 @@ fn token_after_error(word: Word) -> WordRead
 
 /// Returns the result for a token that is not spelled.
 #[inline(always)]
-fn invalid_token() -> WordRead
-    
-{
+fn invalid_token() -> WordRead {
     WordRead::Stops(Mark::Invalid)
 }
 
 /// Returns the result for a token that is spelled, and ends before `next`.
 #[inline(always)]
-fn token_read(stretch: Stretch, next: usize) -> WordRead
-    
-{
+fn token_read(stretch: Stretch, next: usize) -> WordRead {
     WordRead::Goes(stretch, Some(next))
 }

@@ -1,11 +1,8 @@
 // Made from crates/demangle_words/src/reference.rt by packaging/crate/erase.py: edit that file instead.
 //! Back references.
 
-
-
-
-use crate::demangle_words::texts::Mark;
 use crate::demangle_symbol::cursor::{Looks, MAX_DEPTH, ParseError, Symbol};
+use crate::demangle_words::texts::Mark;
 
 /// Where a reference leads.
 #[derive(Clone, Copy)]
@@ -17,9 +14,7 @@ pub enum Reference {
 
 /// Reads where a reference leads, behind its `B`.
 #[inline(always)]
-pub fn refer(symbol: &Symbol<'_>, left: u16, place: Option<usize>, looks: &mut Looks) -> Reference
-    
-{
+pub fn refer(symbol: &Symbol<'_>, left: u16, place: Option<usize>, looks: &mut Looks) -> Reference {
     let Some(at) = place else {
         return Reference::Faulty(Mark::AfterError);
     };

@@ -1,17 +1,13 @@
 // Made from crates/demangle_words/src/render.rt by packaging/crate/erase.py: edit that file instead.
 //! How a token is printed, piece by piece.
 
-
-
-
-
+use crate::demangle_sink::{SinkRefused, SizeLimitedFmtAdapter, TextSink, put_each};
+use crate::demangle_symbol::cursor::Looks;
+use crate::demangle_symbol::literal::{put_char_literal, put_string_literal};
 use crate::demangle_words::render::names::NamespacedName;
 use crate::demangle_words::source::Source;
 use crate::demangle_words::stretch::Stretch;
 use crate::demangle_words::texts::text;
-use crate::demangle_sink::{SinkRefused, SizeLimitedFmtAdapter, TextSink, put_each};
-use crate::demangle_symbol::cursor::Looks;
-use crate::demangle_symbol::literal::{put_char_literal, put_string_literal};
 
 mod functions;
 mod lifetimes;
@@ -32,9 +28,7 @@ impl Source<'_> {
         stretch: &Stretch,
         out: &mut SizeLimitedFmtAdapter<'_, S>,
         looks: &mut Looks,
-    ) -> Result<(), SinkRefused>
-        
-    {
+    ) -> Result<(), SinkRefused> {
         match stretch {
             Stretch::Nothing => Ok(()),
             Stretch::Fixed(mark) => out.put(text(*mark)),

@@ -1,7 +1,7 @@
 // Made from crates/demangle_words/src/stretch.rt by packaging/crate/erase.py: edit that file instead.
 //! What one step hands over, but for a mark.
-use crate::demangle_words::texts::Mark;
 use crate::demangle_symbol::cursor::{Ident, Part};
+use crate::demangle_words::texts::Mark;
 
 /// The ABI of a function type.
 #[derive(Clone, Copy)]

@@ -1,9 +1,6 @@
 // Made from crates/demangle_words/src/tags.rt by packaging/crate/erase.py: edit that file instead.
 //! What begins with a tag.
 
-
-
-
 /// What begins with the tag of a path.
 #[derive(Clone, Copy)]
 pub enum PathKind {
@@ -18,9 +15,7 @@ pub enum PathKind {
 
 /// Which path begins with a tag.
 #[inline(always)]
-pub fn path_kind(tag: u8) -> Option<PathKind>
-    
-{
+pub fn path_kind(tag: u8) -> Option<PathKind> {
     match tag {
         b'C' => Some(PathKind::CrateRoot),
         b'N' => Some(PathKind::Nested),
@@ -57,9 +52,7 @@ pub enum ConstructedType {
 
 /// Which type begins with a tag, that is no basic type.
 #[inline(always)]
-pub fn type_kind(tag: u8) -> Option<TypeKind>
-    
-{
+pub fn type_kind(tag: u8) -> Option<TypeKind> {
     let constructed = match tag {
         b'R' => return Some(TypeKind::SharedReference),
         b'Q' => return Some(TypeKind::MutReference),
@@ -96,9 +89,7 @@ pub enum ConstantKind {
 
 /// Which constant begins with a tag.
 #[inline(always)]
-pub fn constant_kind(tag: u8) -> Option<ConstantKind>
-    
-{
+pub fn constant_kind(tag: u8) -> Option<ConstantKind> {
     match tag {
         b'p' => Some(ConstantKind::Placeholder),
         b'h' | b't' | b'm' | b'y' | b'o' | b'j' => Some(ConstantKind::Unsigned),
@@ -126,9 +117,7 @@ pub enum VariantKind {
 
 /// Which fields of a variant begin with a tag.
 #[inline(always)]
-pub fn variant_kind(tag: u8) -> Option<VariantKind>
-    
-{
+pub fn variant_kind(tag: u8) -> Option<VariantKind> {
     match tag {
         b'U' => Some(VariantKind::Unit),
         b'T' => Some(VariantKind::Tuple),
@@ -147,9 +136,7 @@ pub enum PatternKind {
 
 /// Which pattern begins with a tag.
 #[inline(always)]
-pub fn pattern_kind(tag: u8) -> Option<PatternKind>
-    
-{
+pub fn pattern_kind(tag: u8) -> Option<PatternKind> {
     match tag {
         b'R' => Some(PatternKind::Range),
         b'O' => Some(PatternKind::Or),

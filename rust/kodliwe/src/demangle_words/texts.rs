@@ -1,8 +1,6 @@
 // Made from crates/demangle_words/src/texts.rt by packaging/crate/erase.py: edit that file instead.
 //! The fixed texts of v0 symbols, and the words.
 
-
-
 /// The fixed texts.
 #[derive(Clone, Copy)]
 pub enum Mark {
@@ -80,9 +78,7 @@ pub enum Word {
 
 /// The text of a mark.
 #[inline(always)]
-pub fn text(mark: Mark) -> &'static str
-    
-{
+pub fn text(mark: Mark) -> &'static str {
     match mark {
         Mark::Invalid => "{invalid syntax}",
         Mark::Recursion => "{recursion limit reached}",
@@ -144,9 +140,7 @@ pub fn text(mark: Mark) -> &'static str
 }
 
 /// The text of a basic type.
-pub fn basic_mark(tag: u8) -> Option<Mark>
-    
-{
+pub fn basic_mark(tag: u8) -> Option<Mark> {
     match tag {
         b'b' => Some(Mark::Bool),
         b'c' => Some(Mark::Char),

@@ -1,9 +1,6 @@
 // Made from crates/rustc_demangle/src/lib.rt by packaging/crate/erase.py: edit that file instead.
 //! Demangling of Rust symbols.
 
-
-
-
 mod display;
 pub mod laws;
 mod runs;
@@ -19,7 +16,10 @@ pub use crate::demangle_symbol::cursor::Looks;
 pub use runs::{run_len, run_start};
 pub use slice::demangle_slice;
 #[cfg(feature = "std")]
-pub use stream::{BytesFilter, StreamFault, SymbolMemo, demangle_bytes, demangle_bytes_limited, demangle_stream, demangle_stream_named};
+pub use stream::{
+    BytesFilter, StreamFault, SymbolMemo, demangle_bytes, demangle_bytes_limited, demangle_stream,
+    demangle_stream_named,
+};
 use strip::without_thin_lto;
 pub use text::{demangle_text, demangle_text_limited};
 pub use value::{Demangle, write_with_path_len};
@@ -35,9 +35,7 @@ pub struct TryDemangleError {
 ///
 /// An ending that ThinLTO appended is taken off first. A text that is no symbol is kept as it is.
 /// It takes no memory.
-pub fn demangle_counted<'a>(s: &'a str, looks: &mut Looks) -> Demangle<'a>
-    
-{
+pub fn demangle_counted<'a>(s: &'a str, looks: &mut Looks) -> Demangle<'a> {
     Demangle::read(without_thin_lto(s), false, looks)
 }
 
@@ -45,16 +43,12 @@ pub fn demangle_counted<'a>(s: &'a str, looks: &mut Looks) -> Demangle<'a>
 ///
 /// An ending that ThinLTO appended is taken off first. A text that is no symbol is kept as it is.
 /// It takes no memory.
-pub fn demangle(s: &str) -> Demangle<'_>
-    
-{
+pub fn demangle(s: &str) -> Demangle<'_> {
     demangle_counted(s, &mut Looks::new())
 }
 
 /// Reads a text as a Rust symbol, or refuses it where it is none.
-pub fn try_demangle(s: &str) -> Result<Demangle<'_>, TryDemangleError>
-    
-{
+pub fn try_demangle(s: &str) -> Result<Demangle<'_>, TryDemangleError> {
     let symbol = demangle(s);
     if symbol.has_style() {
         Ok(symbol)

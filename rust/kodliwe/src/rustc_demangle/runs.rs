@@ -1,32 +1,23 @@
 // Made from crates/rustc_demangle/src/runs.rt by packaging/crate/erase.py: edit that file instead.
 //! Where the runs of a text stand, which may be symbols.
 
-
-
-
 use crate::support::memchr::memchr;
 use core::str;
 
 /// Whether a run begins here.
-pub(crate) fn begins_run(text: &[u8]) -> bool
-    
-{
+pub(crate) fn begins_run(text: &[u8]) -> bool {
     text.starts_with(b"_ZN") || text.starts_with(b"_R")
 }
 
 /// Whether a run may begin with these two bytes.
 #[inline(always)]
-fn is_mark(first: u8, second: u8) -> bool
-    
-{
+fn is_mark(first: u8, second: u8) -> bool {
     (first == b'_') & ((second == b'R') | (second == b'Z'))
 }
 
 /// Whether a run may begin in the group that begins here.
 #[inline(always)]
-fn has_mark<const N: usize>(text: &[u8], from: usize) -> bool
-    
-{
+fn has_mark<const N: usize>(text: &[u8], from: usize) -> bool {
     let mut any = false;
     for k in 0..N {
         any |= is_mark(text[from + k], text[from + k + 1]);
@@ -36,9 +27,7 @@ fn has_mark<const N: usize>(text: &[u8], from: usize) -> bool
 
 /// Where the whole groups end, from a place on, in which no run begins.
 #[inline(always)]
-fn unmarked_end<const N: usize>(text: &[u8], from: usize) -> usize
-    
-{
+fn unmarked_end<const N: usize>(text: &[u8], from: usize) -> usize {
     let mut at = from;
     while text.len() - at > N && !has_mark::<N>(text, at) {
         at += N;
@@ -47,9 +36,7 @@ fn unmarked_end<const N: usize>(text: &[u8], from: usize) -> usize
 }
 
 /// Where the next run begins: the first place where `_ZN` or `_R` stands.
-pub fn run_start(text: &[u8]) -> Option<usize>
-    
-{
+pub fn run_start(text: &[u8]) -> Option<usize> {
     let mut from = 0;
     // Each beginning of a run has `_` in front, and a single byte is found many at a time.
     while let Some(ahead) = memchr(b'_', &text[from..]) {
@@ -65,17 +52,13 @@ pub fn run_start(text: &[u8]) -> Option<usize>
 
 /// Whether a run may have this byte.
 #[inline(always)]
-fn is_run(byte: u8) -> bool
-    
-{
+fn is_run(byte: u8) -> bool {
     (byte == b'$') | (byte == b'.') | (byte == b'_') | byte.is_ascii_alphanumeric()
 }
 
 /// Whether a run may have each byte of the group that begins here.
 #[inline(always)]
-fn is_run_group<const N: usize>(text: &[u8], from: usize) -> bool
-    
-{
+fn is_run_group<const N: usize>(text: &[u8], from: usize) -> bool {
     // An array has no check of bounds in the loop, so the compiler makes vectors of it.
     let Some(group) = text[from..].first_chunk::<N>() else {
         return false;
@@ -89,9 +72,7 @@ fn is_run_group<const N: usize>(text: &[u8], from: usize) -> bool
 
 /// Where the whole groups of a run end, from a place on.
 #[inline(always)]
-fn groups_end<const N: usize>(text: &[u8], from: usize) -> usize
-    
-{
+fn groups_end<const N: usize>(text: &[u8], from: usize) -> usize {
     let mut at = from;
     while text.len() - at >= N && is_run_group::<N>(text, at) {
         at += N;
@@ -101,9 +82,7 @@ fn groups_end<const N: usize>(text: &[u8], from: usize) -> usize
 
 /// How long a run is that begins here: up to the first byte that is no ASCII letter, no digit and
 /// none of `$`, `.` and `_`.
-pub fn run_len(text: &[u8]) -> usize
-    
-{
+pub fn run_len(text: &[u8]) -> usize {
     // The compiler tests groups of these sizes by vectors: at most seven bytes of a run are left.
     let mut at = groups_end::<16>(text, 0);
     at = groups_end::<8>(text, at);
@@ -114,9 +93,7 @@ pub fn run_len(text: &[u8]) -> usize
 }
 
 /// The text of a run, which is ASCII.
-pub(crate) fn run_text(run: &[u8]) -> &str
-    
-{
+pub(crate) fn run_text(run: &[u8]) -> &str {
     // SAFETY: a run is ASCII.
     unsafe { str::from_utf8_unchecked(run) }
 }

@@ -1,15 +1,9 @@
 // Made from crates/rustc_demangle/src/slice.rt by packaging/crate/erase.py: edit that file instead.
 //! Any bytes in memory with their symbols demangled.
 
-
-
-
-
-
-
+use crate::demangle_sink::{SinkRefused, SliceSink};
 use crate::rustc_demangle::runs::{run_len, run_start, run_text};
 use crate::rustc_demangle::text::put_run;
-use crate::demangle_sink::{SinkRefused, SliceSink};
 
 /// Puts bytes, which need not be UTF-8, with each symbol of them demangled.
 fn put_slice<'b>(
@@ -17,9 +11,7 @@ fn put_slice<'b>(
     out: &mut SliceSink<'b>,
     include_hash: bool,
     limit: usize,
-) -> Result<(), SinkRefused>
-    
-{
+) -> Result<(), SinkRefused> {
     let mut rest = text;
     while let Some(start) = run_start(rest) {
         let (kept, found) = rest.split_at(start);
@@ -32,9 +24,7 @@ fn put_slice<'b>(
 }
 
 /// Writes any bytes into memory with each symbol of them demangled, by their pieces.
-fn write_slice(text: &[u8], out: &mut [u8], include_hash: bool, limit: usize) -> Option<usize>
-    
-{
+fn write_slice(text: &[u8], out: &mut [u8], include_hash: bool, limit: usize) -> Option<usize> {
     let mut sink = SliceSink::new(out);
     match put_slice(text, &mut sink, include_hash, limit) {
         Ok(()) => Some(sink.len()),
@@ -54,8 +44,6 @@ pub fn demangle_slice(
     out: &mut [u8],
     include_hash: bool,
     limit: usize,
-) -> Option<usize>
-    
-{
+) -> Option<usize> {
     write_slice(text, out, include_hash, limit)
 }

@@ -1,13 +1,11 @@
 // Made from crates/rustc_demangle/src/stream.rt by packaging/crate/erase.py: edit that file instead.
 //! The demangling of a text that comes from a reader.
 
-
-
-use crate::support::vec::Vec;
 use crate::support::alloc::{Allocator, Global};
-use std::io::{BufRead, Write};
+use crate::support::vec::Vec;
 use core::str;
 use std::io;
+use std::io::{BufRead, Write};
 
 mod bytes;
 mod carrying;
@@ -29,9 +27,7 @@ fn copy_line<R: BufRead, W: Write, A: Allocator>(
     output: &mut W,
     line: &mut Vec<u8, A>,
     include_hash: bool,
-) -> Result<bool, StreamFault>
-    
-{
+) -> Result<bool, StreamFault> {
     line.clear();
     read_line(input, line)?;
     if line.is_empty() {
@@ -52,9 +48,7 @@ fn copy_lines<R: BufRead, W: Write, A: Allocator>(
     output: &mut W,
     line: &mut Vec<u8, A>,
     include_hash: bool,
-) -> Result<(), StreamFault>
-    
-{
+) -> Result<(), StreamFault> {
     for _ in 0..=u64::MAX {
         if !copy_line(input, output, line, include_hash)? {
             return Ok(());
@@ -76,9 +70,7 @@ pub fn demangle_stream_named<R: BufRead, W: Write>(
     input: &mut R,
     output: &mut W,
     include_hash: bool,
-) -> Result<(), StreamFault>
-    
-{
+) -> Result<(), StreamFault> {
     let mut line = Vec::new(alloc);
     copy_lines(input, output, &mut line, include_hash)
 }
@@ -91,8 +83,6 @@ pub fn demangle_stream<R: BufRead, W: Write>(
     input: &mut R,
     output: &mut W,
     include_hash: bool,
-) -> io::Result<()>
-    
-{
+) -> io::Result<()> {
     demangle_stream_named(alloc, input, output, include_hash).map_err(StreamFault::into_io)
 }

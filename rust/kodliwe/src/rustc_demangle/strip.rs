@@ -1,24 +1,17 @@
 // Made from crates/rustc_demangle/src/strip.rt by packaging/crate/erase.py: edit that file instead.
 //! Symbols as ThinLTO leaves them.
 
-
-
-
 use crate::support::memchr::memrchr;
 
 /// Returns whether all of it may follow `.llvm.`.
-fn is_thin_lto(ending: &str) -> bool
-    
-{
+fn is_thin_lto(ending: &str) -> bool {
     ending
         .bytes()
         .all(|b| matches!(b, b'A'..=b'F' | b'0'..=b'9' | b'@'))
 }
 
 /// Returns whether a text may have an ending of ThinLTO: whether its last `.` ends a `.llvm.`.
-fn may_be_thin_lto(text: &str) -> bool
-    
-{
+fn may_be_thin_lto(text: &str) -> bool {
     let bytes = text.as_bytes();
     // What may follow `.llvm.` has no `.`. Most symbols have none at all, or one near their end.
     let Some(dot) = memrchr(b'.', bytes) else {
@@ -29,9 +22,7 @@ fn may_be_thin_lto(text: &str) -> bool
 
 /// Returns the text without an ending that ThinLTO appends: from its first `.llvm.` on, if only `A`
 /// to `F`, digits and `@` follow that.
-pub(crate) fn without_thin_lto(text: &str) -> &str
-    
-{
+pub(crate) fn without_thin_lto(text: &str) -> &str {
     if !may_be_thin_lto(text) {
         return text;
     }

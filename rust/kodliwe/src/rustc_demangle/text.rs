@@ -1,17 +1,10 @@
 // Made from crates/rustc_demangle/src/text.rt by packaging/crate/erase.py: edit that file instead.
 //! A text in memory with its symbols demangled.
 
-
-
-
-
-
-
-
-use crate::rustc_demangle::runs::{run_len, run_start};
-use crate::rustc_demangle::value::{Demangle, MAX_SIZE};
 use crate::demangle_sink::{SinkRefused, TextSink, put_piece};
 use crate::demangle_symbol::cursor::Looks;
+use crate::rustc_demangle::runs::{run_len, run_start};
+use crate::rustc_demangle::value::{Demangle, MAX_SIZE};
 
 /// Puts what stands for a run: the pieces of its symbol, if it is one, else the run.
 pub(crate) fn put_run<S: TextSink>(
@@ -19,9 +12,7 @@ pub(crate) fn put_run<S: TextSink>(
     out: &mut S,
     include_hash: bool,
     limit: usize,
-) -> Result<(), SinkRefused>
-    
-{
+) -> Result<(), SinkRefused> {
     let symbol = Demangle::read_run(run);
     if symbol.has_style() {
         symbol.hand_over(out, include_hash, limit, &mut Looks::new())
@@ -36,9 +27,7 @@ fn put_text<S: TextSink>(
     out: &mut S,
     include_hash: bool,
     limit: usize,
-) -> Result<(), SinkRefused>
-    
-{
+) -> Result<(), SinkRefused> {
     let mut rest = text;
     while let Some(start) = run_start(rest.as_bytes()) {
         let (kept, found) = rest.split_at(start);
@@ -64,9 +53,7 @@ pub fn demangle_text_limited<S: TextSink>(
     out: &mut S,
     include_hash: bool,
     limit: usize,
-) -> Result<(), SinkRefused>
-    
-{
+) -> Result<(), SinkRefused> {
     put_text(text, out, include_hash, limit)
 }
 
@@ -76,8 +63,6 @@ pub fn demangle_text<S: TextSink>(
     text: &str,
     out: &mut S,
     include_hash: bool,
-) -> Result<(), SinkRefused>
-    
-{
+) -> Result<(), SinkRefused> {
     demangle_text_limited(text, out, include_hash, MAX_SIZE)
 }

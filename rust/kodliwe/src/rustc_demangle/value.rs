@@ -1,23 +1,9 @@
 // Made from crates/rustc_demangle/src/value.rt by packaging/crate/erase.py: edit that file instead.
 //! A demangled symbol, and how it prints.
 
-
-
-
-
-
-
-
-
-
-
-
-
-
-use crate::rustc_demangle::strip::without_thin_lto;
 use crate::demangle_sink::{SinkRefused, SizeLimitedFmtAdapter, TextSink, put_piece};
 use crate::demangle_symbol::cursor::{Looks, Symbol};
-
+use crate::rustc_demangle::strip::without_thin_lto;
 
 /// The most bytes that a call with no limit of its own prints of a symbol, before the marker and
 /// the suffix.
@@ -36,9 +22,7 @@ impl DemangleStyle<'_> {
         out: &mut SizeLimitedFmtAdapter<'_, S>,
         include_hash: bool,
         looks: &mut Looks,
-    ) -> Result<(), SinkRefused>
-        
-    {
+    ) -> Result<(), SinkRefused> {
         match self {
             DemangleStyle::Legacy(symbol) => symbol.write_to(out, include_hash, looks),
             DemangleStyle::V0(symbol) => symbol.write_to(out, include_hash, looks),
@@ -54,8 +38,6 @@ pub struct Demangle<'a> {
     suffix: &'a str,
 }
 
-
-
 /// Prints a symbol without its suffix into a sink, cut at the limit.
 fn write_cut<S: TextSink>(
     style: &DemangleStyle<'_>,
@@ -63,9 +45,7 @@ fn write_cut<S: TextSink>(
     include_hash: bool,
     limit: usize,
     looks: &mut Looks,
-) -> Result<(), SinkRefused>
-    
-{
+) -> Result<(), SinkRefused> {
     let mut limited = SizeLimitedFmtAdapter::new(out, limit);
     let result = style.write_to(&mut limited, include_hash, looks);
     // The limit and the sink stop the printing alike; only a sink that takes more gets the marker.
@@ -78,18 +58,14 @@ fn write_cut<S: TextSink>(
 
 impl<'a> Demangle<'a> {
     /// The symbol as it was, without an ending that ThinLTO appended.
-    pub fn as_str(&self) -> &'a str
-        
-    {
+    pub fn as_str(&self) -> &'a str {
         self.original
     }
 
     /// How many bytes of the symbol stand in front of its suffix; 0 where the text is no symbol.
     ///
     /// `write_with_path_len` prints the symbol by it without reading where its path ends.
-    pub fn path_len(&self) -> usize
-        
-    {
+    pub fn path_len(&self) -> usize {
         match &self.style {
             Some(_) => self.original.len() - self.suffix.len(),
             None => 0,
@@ -103,9 +79,7 @@ impl<'a> Demangle<'a> {
         include_hash: bool,
         limit: usize,
         looks: &mut Looks,
-    ) -> Result<(), SinkRefused>
-        
-    {
+    ) -> Result<(), SinkRefused> {
         let Some(style) = &self.style else {
             return put_piece(self.original, out);
         };
@@ -126,9 +100,7 @@ impl<'a> Demangle<'a> {
         include_hash: bool,
         limit: usize,
         looks: &mut Looks,
-    ) -> Result<(), SinkRefused>
-        
-    {
+    ) -> Result<(), SinkRefused> {
         self.hand_over(out, include_hash, limit, looks)
     }
 
@@ -138,9 +110,7 @@ impl<'a> Demangle<'a> {
         out: &mut S,
         include_hash: bool,
         limit: usize,
-    ) -> Result<(), SinkRefused>
-        
-    {
+    ) -> Result<(), SinkRefused> {
         self.write_limited_counted(out, include_hash, limit, &mut Looks::new())
     }
 
@@ -151,9 +121,7 @@ impl<'a> Demangle<'a> {
         out: &mut S,
         include_hash: bool,
         looks: &mut Looks,
-    ) -> Result<(), SinkRefused>
-        
-    {
+    ) -> Result<(), SinkRefused> {
         self.write_limited_counted(out, include_hash, MAX_SIZE, looks)
     }
 
@@ -162,25 +130,23 @@ impl<'a> Demangle<'a> {
     ///
     /// It is refused exactly where the sink failed in this call, as `write_limited_counted` says,
     /// and takes no memory.
-    pub fn write_to<S: TextSink>(&self, out: &mut S, include_hash: bool) -> Result<(), SinkRefused>
-        
-    {
+    pub fn write_to<S: TextSink>(
+        &self,
+        out: &mut S,
+        include_hash: bool,
+    ) -> Result<(), SinkRefused> {
         self.write_limited(out, include_hash, MAX_SIZE)
     }
 }
 
 /// Whether a byte is a printable ASCII character that is no space.
-fn is_graphic(byte: u8) -> bool
-    
-{
+fn is_graphic(byte: u8) -> bool {
     matches!(byte, 0x21..=0x7E)
 }
 
 /// Whether a suffix is allowed: nothing, or `.` and graphic characters alone. It is one look for
 /// each byte.
-fn is_allowed(suffix: &str, looks: &mut Looks) -> bool
-    
-{
+fn is_allowed(suffix: &str, looks: &mut Looks) -> bool {
     let symbol = Symbol::new(suffix);
     if symbol.len() == 0 {
         return true;
@@ -205,9 +171,7 @@ fn read_style<'a>(
     text: &'a str,
     is_ascii: bool,
     looks: &mut Looks,
-) -> Option<(DemangleStyle<'a>, &'a str)>
-    
-{
+) -> Option<(DemangleStyle<'a>, &'a str)> {
     // No text has the prefixes of both schemes, so the order shows in nothing that is printed; the
     // prefixes of v0 are told by fewer bytes.
     if let Ok((symbol, suffix)) = crate::demangle_v0::demangle(text, is_ascii, looks) {
@@ -224,9 +188,7 @@ fn style_of<'a>(
     text: &'a str,
     is_ascii: bool,
     looks: &mut Looks,
-) -> Option<(DemangleStyle<'a>, &'a str)>
-    
-{
+) -> Option<(DemangleStyle<'a>, &'a str)> {
     let (style, suffix) = read_style(text, is_ascii, looks)?;
     if is_allowed(suffix, looks) {
         Some((style, suffix))
@@ -237,9 +199,7 @@ fn style_of<'a>(
 
 impl<'a> Demangle<'a> {
     /// The text, read as a symbol where it is one. `is_ascii` says that it is known to be ASCII.
-    pub(crate) fn read(text: &'a str, is_ascii: bool, looks: &mut Looks) -> Demangle<'a>
-        
-    {
+    pub(crate) fn read(text: &'a str, is_ascii: bool, looks: &mut Looks) -> Demangle<'a> {
         match style_of(text, is_ascii, looks) {
             Some((style, suffix)) => Demangle {
                 style: Some(style),
@@ -255,16 +215,12 @@ impl<'a> Demangle<'a> {
     }
 
     /// The run, read as a symbol where it is one. A run is ASCII.
-    pub(crate) fn read_run(run: &'a str) -> Demangle<'a>
-        
-    {
+    pub(crate) fn read_run(run: &'a str) -> Demangle<'a> {
         Demangle::read(without_thin_lto(run), true, &mut Looks::new())
     }
 
     /// Whether it is a symbol.
-    pub(crate) fn has_style(&self) -> bool
-        
-    {
+    pub(crate) fn has_style(&self) -> bool {
         self.style.is_some()
     }
 }
@@ -276,9 +232,7 @@ fn hand_over_with<S: TextSink>(
     out: &mut S,
     include_hash: bool,
     limit: usize,
-) -> Result<(), SinkRefused>
-    
-{
+) -> Result<(), SinkRefused> {
     let mut looks = Looks::new();
     let Some(symbol) = crate::demangle_v0::ascii_symbol(text, &mut looks) else {
         let read = Demangle::read(text, false, &mut looks);
@@ -305,8 +259,6 @@ pub fn write_with_path_len<S: TextSink>(
     out: &mut S,
     include_hash: bool,
     limit: usize,
-) -> Result<(), SinkRefused>
-    
-{
+) -> Result<(), SinkRefused> {
     hand_over_with(without_thin_lto(text), path_len, out, include_hash, limit)
 }

@@ -12,7 +12,10 @@ impl<R: Read, A: Allocator> BufReader<R, A> {
     }
 
     pub fn with_capacity(_alloc: A, capacity: usize, reader: R) -> io::Result<Self> {
-        Ok(BufReader(io::BufReader::with_capacity(capacity, reader), PhantomData))
+        Ok(BufReader(
+            io::BufReader::with_capacity(capacity, reader),
+            PhantomData,
+        ))
     }
 
     pub fn buffer(&self) -> &[u8] {

@@ -16,7 +16,11 @@ pub fn memchr(needle: u8, text: &[u8]) -> Option<usize> {
         rest = after;
     }
     // What is left is shorter than a group, or begins with one that has the byte.
-    if rest.len() < GROUP && text.last_chunk().is_some_and(|group| !has_byte(needle, group)) {
+    if rest.len() < GROUP
+        && text
+            .last_chunk()
+            .is_some_and(|group| !has_byte(needle, group))
+    {
         return None;
     }
     Some(text.len() - rest.len() + find_by_words(needle, rest)?)
@@ -26,7 +30,9 @@ pub fn memchr(needle: u8, text: &[u8]) -> Option<usize> {
 #[inline(always)]
 fn has_byte(needle: u8, group: &[u8; GROUP]) -> bool {
     // A loop that ends early would not be made of vectors.
-    group.iter().fold(false, |found, byte| found | (*byte == needle))
+    group
+        .iter()
+        .fold(false, |found, byte| found | (*byte == needle))
 }
 
 /// Returns the place of the first such byte, by words.
@@ -43,7 +49,10 @@ fn find_by_words(needle: u8, text: &[u8]) -> Option<usize> {
         }
         at += SIZE;
     }
-    text[at..].iter().position(|byte| *byte == needle).map(|after| at + after)
+    text[at..]
+        .iter()
+        .position(|byte| *byte == needle)
+        .map(|after| at + after)
 }
 
 /// Returns the last place of the byte.
@@ -56,7 +65,11 @@ pub fn memrchr(needle: u8, text: &[u8]) -> Option<usize> {
         rest = before;
     }
     // What is left is shorter than a group, or ends with one that has the byte.
-    if rest.len() < GROUP && text.first_chunk().is_some_and(|group| !has_byte(needle, group)) {
+    if rest.len() < GROUP
+        && text
+            .first_chunk()
+            .is_some_and(|group| !has_byte(needle, group))
+    {
         return None;
     }
     find_last_by_words(needle, rest)

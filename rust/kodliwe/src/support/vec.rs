@@ -14,11 +14,17 @@ pub struct Vec<T, A: Allocator = Global> {
 
 impl<T, A: Allocator> Vec<T, A> {
     pub fn new(_alloc: A) -> Self {
-        Vec { items: std::vec::Vec::new(), alloc: PhantomData }
+        Vec {
+            items: std::vec::Vec::new(),
+            alloc: PhantomData,
+        }
     }
 
     pub fn from_std(_alloc: A, items: std::vec::Vec<T>) -> Result<Self, AllocError> {
-        Ok(Vec { items, alloc: PhantomData })
+        Ok(Vec {
+            items,
+            alloc: PhantomData,
+        })
     }
 
     pub fn as_slice(&self) -> &[T] {
@@ -65,7 +71,9 @@ impl<T: Copy, A: Allocator> Vec<T, A> {
     }
 
     pub fn extend_from_slice(&mut self, items: &[T]) -> Result<(), AllocError> {
-        self.items.try_reserve(items.len()).map_err(|_| AllocError)?;
+        self.items
+            .try_reserve(items.len())
+            .map_err(|_| AllocError)?;
         self.items.extend_from_slice(items);
         Ok(())
     }

@@ -1,10 +1,6 @@
 // Made from crates/test_doubles/src/refusing_sink.rt by packaging/crate/erase.py: edit that file instead.
 //! A sink that rejects a piece.
 
-
-
-
-
 use crate::demangle_sink::{ArraySink, SinkRefused, TextSink};
 
 /// Takes every empty piece, and rejects one of the nonempty ones. It stores the text that it took,
@@ -18,9 +14,7 @@ pub struct RefusingSink {
 
 impl RefusingSink {
     /// Returns a sink that rejects the nonempty piece with this number, counted from 1.
-    pub fn new(number: usize) -> RefusingSink
-        
-    {
+    pub fn new(number: usize) -> RefusingSink {
         RefusingSink {
             text: ArraySink::new(),
             left: number - 1,
@@ -29,16 +23,12 @@ impl RefusingSink {
     }
 
     /// Returns the text that the sink has taken.
-    pub fn as_str(&self) -> &str
-        
-    {
+    pub fn as_str(&self) -> &str {
         self.text.as_str()
     }
 }
 
 impl TextSink for RefusingSink {
-
-
     fn put(&mut self, s: &str) -> Result<(), SinkRefused> {
         if s.is_empty() {
             return Ok(());
@@ -60,5 +50,4 @@ impl TextSink for RefusingSink {
     fn is_failed(&self) -> bool {
         self.failed
     }
-
 }

@@ -1,7 +1,7 @@
 // Made from crates/test_doubles/src/streams.rt by packaging/crate/erase.py: edit that file instead.
 //! Readers and writers in memory, for tests. They fail on demand, or record their calls.
-use crate::support::vec::Vec;
 use crate::support::alloc::{AllocError, Global};
+use crate::support::vec::Vec;
 use std::io;
 use std::io::{BufRead, ErrorKind, Read, Write};
 

@@ -1,10 +1,8 @@
 // Made from crates/text_memo/src/lib.rt by packaging/crate/erase.py: edit that file instead.
 //! A memo of bounded memory for a function from texts to texts: some keys, and the text of each.
 
-
-
-use crate::support::vec::Vec;
 use crate::support::alloc::Global;
+use crate::support::vec::Vec;
 
 #[cfg(test)]
 mod tests;
@@ -105,17 +103,13 @@ pub fn hash_of(key: &[u8]) -> u64 {
 
 /// Returns the place of a key's pair.
 #[inline(always)]
-fn pair_place(hash: u64) -> usize
-    
-{
+fn pair_place(hash: u64) -> usize {
     ((hash / 4_294_967_296) % 4096) as usize
 }
 
 /// Returns the place of a key's mark.
 #[inline(always)]
-fn mark_place(hash: u64) -> usize
-    
-{
+fn mark_place(hash: u64) -> usize {
     ((hash / 1_099_511_627_776) % 8192) as usize
 }
 
@@ -127,9 +121,7 @@ fn mark_of(hash: u64) -> u32 {
 
 impl TextMemo {
     /// Returns a memo without entries. It takes no memory before a key is noted.
-    pub fn new(alloc: Global) -> Self
-        
-    {
+    pub fn new(alloc: Global) -> Self {
         TextMemo {
             pairs: Vec::new(alloc),
             bytes: Vec::new(alloc),
@@ -139,9 +131,7 @@ impl TextMemo {
 
     /// Returns the text of an entry, if it is the entry of this key.
     #[inline(always)]
-    fn text_at(&self, entry: &Entry, key: &[u8], mark: u32) -> Option<&[u8]>
-        
-    {
+    fn text_at(&self, entry: &Entry, key: &[u8], mark: u32) -> Option<&[u8]> {
         if entry.mark != mark || entry.key_len as usize != key.len() {
             return None;
         }
@@ -162,9 +152,7 @@ impl TextMemo {
 
     /// Returns the text of a key, if the memo has an entry of it. `hash` is the key's.
     #[inline(always)]
-    pub fn get(&self, key: &[u8], hash: u64) -> Option<&[u8]>
-        
-    {
+    pub fn get(&self, key: &[u8], hash: u64) -> Option<&[u8]> {
         let place = pair_place(hash);
         if place >= self.pairs.len() {
             return None;
@@ -180,9 +168,7 @@ impl TextMemo {
     /// Notes that a key came, and returns how it was noted before. So a caller can leave out keys
     /// that come once. `hash` is the key's.
     #[inline(always)]
-    pub fn note(&mut self, hash: u64) -> Noted
-        
-    {
+    pub fn note(&mut self, hash: u64) -> Noted {
         let place = mark_place(hash);
         if self.marks.is_empty() && self.marks.resize(MARKS, 0).is_err() {
             return Noted::New;
@@ -206,9 +192,7 @@ impl TextMemo {
     }
 
     /// Notes that a key's text is too long for an entry. `hash` is the key's.
-    pub fn note_too_long(&mut self, hash: u64)
-        
-    {
+    pub fn note_too_long(&mut self, hash: u64) {
         let place = mark_place(hash);
         if place < self.marks.len() {
             self.marks[place] = mark_of(hash) | 1;
@@ -217,9 +201,7 @@ impl TextMemo {
 
     /// Makes room for an entry of `len` bytes, or returns `false` if memory is refused. All entries
     /// are let go if their bytes would be too many.
-    fn make_room(&mut self, len: usize) -> bool
-        
-    {
+    fn make_room(&mut self, len: usize) -> bool {
         if self.bytes.len() > MAX_BYTES - len {
             self.pairs.clear();
             self.bytes.clear();
@@ -231,16 +213,12 @@ impl TextMemo {
     }
 
     /// Appends a key and its text to the bytes, or returns `false` if memory is refused.
-    fn append(&mut self, key: &[u8], text: &[u8]) -> bool
-        
-    {
+    fn append(&mut self, key: &[u8], text: &[u8]) -> bool {
         self.bytes.extend_from_slice(key).is_ok() && self.bytes.extend_from_slice(text).is_ok()
     }
 
     /// Makes an entry the newer one of a pair. The older one of that pair is let go.
-    fn put(&mut self, entry: Entry, place: usize)
-        
-    {
+    fn put(&mut self, entry: Entry, place: usize) {
         if place < self.pairs.len() {
             let older = self.pairs[place].newer;
             self.pairs[place] = Pair {
@@ -254,9 +232,7 @@ impl TextMemo {
     /// that `get` returns if the key or the text is too long, or if memory is refused. `hash` is the
     /// key's.
     #[inline(never)]
-    pub fn insert(&mut self, key: &[u8], text: &[u8], hash: u64)
-        
-    {
+    pub fn insert(&mut self, key: &[u8], text: &[u8], hash: u64) {
         if key.len() > MAX_KEY || text.len() > MAX_TEXT {
             return;
         }

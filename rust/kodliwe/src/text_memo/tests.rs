@@ -1,11 +1,12 @@
 // Made from crates/text_memo/src/tests.rt by packaging/crate/erase.py: edit that file instead.
 //! What a memo returns, for keys that share a hash, long ones and full memory.
-use crate::support::rt::HostRuntime;
 use super::{MAX_KEY, MAX_TEXT, Noted, TextMemo, hash_of};
+use crate::support::rt::HostRuntime;
 use crate::support::test::Fail;
 
 #[test]
-fn a_text_is_found_again() -> Result<(), Fail> { let rt = HostRuntime;
+fn a_text_is_found_again() -> Result<(), Fail> {
+    let rt = HostRuntime;
     let mut memo = TextMemo::new(rt.alloc());
     let keys: [&[u8]; 3] = [
         b"k",
@@ -13,11 +14,11 @@ fn a_text_is_found_again() -> Result<(), Fail> { let rt = HostRuntime;
         b"another key of many more bytes",
     ];
     for key in keys {
-        assert_eq!( memo.get(key, hash_of(key)), None);
+        assert_eq!(memo.get(key, hash_of(key)), None);
         memo.insert(key, b"text", hash_of(key));
     }
     for key in keys {
-        assert_eq!( memo.get(key, hash_of(key)), Some(b"text".as_slice()));
+        assert_eq!(memo.get(key, hash_of(key)), Some(b"text".as_slice()));
     }
     Ok(())
 }
@@ -34,23 +35,25 @@ fn has_text(memo: &TextMemo, key: &[u8], text: &[u8]) -> bool {
 }
 
 #[test]
-fn keys_of_one_hash_have_their_own_texts() -> Result<(), Fail> { let rt = HostRuntime;
+fn keys_of_one_hash_have_their_own_texts() -> Result<(), Fail> {
+    let rt = HostRuntime;
     let mut memo = TextMemo::new(rt.alloc());
     memo.insert(b"first", b"one", 7);
     memo.insert(b"third", b"three", 7);
-    assert!( has_text(&memo, b"first", b"one"));
-    assert!( has_text(&memo, b"third", b"three"));
-    assert!( memo.get(b"fifth", 7).is_none());
+    assert!(has_text(&memo, b"first", b"one"));
+    assert!(has_text(&memo, b"third", b"three"));
+    assert!(memo.get(b"fifth", 7).is_none());
     // A pair has two entries: the older one is let go.
     memo.insert(b"fifth", b"", 7);
-    assert!( memo.get(b"first", 7).is_none());
-    assert!( has_text(&memo, b"third", b"three"));
-    assert!( has_text(&memo, b"fifth", b""));
+    assert!(memo.get(b"first", 7).is_none());
+    assert!(has_text(&memo, b"third", b"three"));
+    assert!(has_text(&memo, b"fifth", b""));
     Ok(())
 }
 
 #[test]
-fn long_keys_and_texts_have_no_entry() -> Result<(), Fail> { let rt = HostRuntime;
+fn long_keys_and_texts_have_no_entry() -> Result<(), Fail> {
+    let rt = HostRuntime;
     let bytes = [b'a'; 2049];
     let mut memo = TextMemo::new(rt.alloc());
     for (key_len, text_len, is_kept) in [
@@ -61,43 +64,45 @@ fn long_keys_and_texts_have_no_entry() -> Result<(), Fail> { let rt = HostRuntim
         let key = bytes.get(..key_len).unwrap_or(b"");
         let text = bytes.get(..text_len).unwrap_or(b"");
         memo.insert(key, text, 1);
-        assert_eq!( memo.get(key, 1), is_kept.then_some(text));
+        assert_eq!(memo.get(key, 1), is_kept.then_some(text));
     }
     Ok(())
 }
 
 #[test]
-fn a_key_is_noted() -> Result<(), Fail> { let rt = HostRuntime;
+fn a_key_is_noted() -> Result<(), Fail> {
+    let rt = HostRuntime;
     let mut memo = TextMemo::new(rt.alloc());
-    assert_eq!( memo.note(2), Noted::New);
-    assert_eq!( memo.note(2), Noted::Again);
+    assert_eq!(memo.note(2), Noted::New);
+    assert_eq!(memo.note(2), Noted::Again);
     // Another key in the same place takes it.
-    assert_eq!( memo.note(4), Noted::New);
-    assert_eq!( memo.note(2), Noted::New);
+    assert_eq!(memo.note(4), Noted::New);
+    assert_eq!(memo.note(2), Noted::New);
     // One whose text is too long keeps it.
     memo.note_too_long(2);
-    assert_eq!( memo.note(2), Noted::TooLong);
-    assert_eq!( memo.note(4), Noted::New);
-    assert_eq!( memo.note(4), Noted::New);
-    assert_eq!( memo.note(2), Noted::TooLong);
+    assert_eq!(memo.note(2), Noted::TooLong);
+    assert_eq!(memo.note(4), Noted::New);
+    assert_eq!(memo.note(4), Noted::New);
+    assert_eq!(memo.note(2), Noted::TooLong);
     Ok(())
 }
 
 #[test]
-fn a_full_memo_starts_anew() -> Result<(), Fail> { let rt = HostRuntime;
+fn a_full_memo_starts_anew() -> Result<(), Fail> {
+    let rt = HostRuntime;
     let text = [b'a'; MAX_TEXT];
     let mut memo = TextMemo::new(rt.alloc());
     let mut lost = 0;
     for turn in 0..5_000u64 {
         let key = turn.to_le_bytes();
         memo.insert(&key, &text, turn << 32);
-        assert_eq!( memo.get(&key, turn << 32), Some(text.as_slice()));
+        assert_eq!(memo.get(&key, turn << 32), Some(text.as_slice()));
         let first = 0u64.to_le_bytes();
         if lost == 0 && memo.get(&first, 0).is_none() {
             lost = turn;
         }
     }
     // 2,040 entries of 2,056 bytes are the most.
-    assert_eq!( lost, 2_040);
+    assert_eq!(lost, 2_040);
     Ok(())
 }

@@ -1,11 +1,6 @@
 // Made from crates/demangle_symbol/src/cursor/hex.rt by packaging/crate/erase.py: edit that file instead.
 //! Reads the hexadecimal strings of a v0 symbol, and their numbers.
 
-
-
-
-
-
 use crate::demangle_symbol::cursor::{Looks, ParseError, Part, Symbol};
 
 /// The most nibbles that a number may have after its leading zeros.
@@ -18,9 +13,11 @@ impl<'s> Symbol<'s> {
     ///
     /// Returns `Invalid` if another byte, or the end, comes before the `_`.
     #[inline(never)]
-    pub fn hex_nibbles(&self, place: usize, looks: &mut Looks) -> Result<(Part, usize), ParseError>
-        
-    {
+    pub fn hex_nibbles(
+        &self,
+        place: usize,
+        looks: &mut Looks,
+    ) -> Result<(Part, usize), ParseError> {
         for at in place..self.len() {
             let Some(byte) = self.byte(at, looks) else {
                 return Err(ParseError::Invalid);
@@ -40,9 +37,7 @@ impl<'s> Symbol<'s> {
     }
 
     /// Returns the place after the leading zeros of a part.
-    fn behind_zeros(&self, part: Part, looks: &mut Looks) -> usize
-        
-    {
+    fn behind_zeros(&self, part: Part, looks: &mut Looks) -> usize {
         for at in part.from..part.to {
             if !self.is_at(b'0', at, looks) {
                 return at;
@@ -54,9 +49,7 @@ impl<'s> Symbol<'s> {
     /// Returns the number that the nibbles of a hexadecimal string spell. Returns `None` if more
     /// than 32 nibbles follow the leading zeros.
     #[inline(never)]
-    pub fn hex_number(&self, nibbles: Part, looks: &mut Looks) -> Option<u128>
-        
-    {
+    pub fn hex_number(&self, nibbles: Part, looks: &mut Looks) -> Option<u128> {
         // Leading zeros have no value, so a number may have any number of them.
         let start = self.behind_zeros(nibbles, looks);
         if nibbles.to - start > MAX_NIBBLES {
@@ -77,9 +70,7 @@ impl<'s> Symbol<'s> {
 }
 
 /// Returns the value of a lower case hexadecimal digit, or `None` for any other byte.
-pub(crate) fn nibble_of(byte: u8) -> Option<u8>
-    
-{
+pub(crate) fn nibble_of(byte: u8) -> Option<u8> {
     match byte {
         b'0'..=b'9' => Some(byte - b'0'),
         b'a'..=b'f' => Some(byte - b'a' + 10),

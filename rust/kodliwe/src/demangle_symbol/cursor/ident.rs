@@ -1,11 +1,6 @@
 // Made from crates/demangle_symbol/src/cursor/ident.rt by packaging/crate/erase.py: edit that file instead.
 //! Reads the identifiers of a v0 symbol.
 
-
-
-
-
-
 use crate::demangle_symbol::cursor::{Looks, ParseError, Part, Symbol};
 
 /// The two parts of a name. A name without Punycode has an empty Punycode part.
@@ -18,9 +13,7 @@ pub struct Ident {
 impl<'s> Symbol<'s> {
     /// Reads the length of an identifier and returns it with the place after its digits.
     #[inline(always)]
-    fn length(&self, place: usize, looks: &mut Looks) -> Result<(usize, usize), ParseError>
-        
-    {
+    fn length(&self, place: usize, looks: &mut Looks) -> Result<(usize, usize), ParseError> {
         // The grammar has no leading zeros. So a first `0` is the whole length, and digits after it
         // belong to the name.
         if self.is_at(b'0', place, looks) {
@@ -42,9 +35,7 @@ impl<'s> Symbol<'s> {
     }
 
     /// Returns the place after the last `_` of a part, or the start of the part if it has no `_`.
-    fn tail(&self, from: usize, to: usize, looks: &mut Looks) -> usize
-        
-    {
+    fn tail(&self, from: usize, to: usize, looks: &mut Looks) -> usize {
         for at in (from..to).rev() {
             if self.is_at(b'_', at, looks) {
                 return at + 1;
@@ -60,9 +51,7 @@ impl<'s> Symbol<'s> {
     /// Returns `Invalid` if there is no length, if the length exceeds the symbol, or if a `u` is
     /// present and its Punycode part is empty.
     #[inline(always)]
-    pub fn ident(&self, place: usize, looks: &mut Looks) -> Result<(Ident, usize), ParseError>
-        
-    {
+    pub fn ident(&self, place: usize, looks: &mut Looks) -> Result<(Ident, usize), ParseError> {
         if self.is_at(b'u', place, looks) {
             return self.punycode_copy(place, looks);
         }
@@ -86,9 +75,7 @@ impl<'s> Symbol<'s> {
     // The copy frees other names from the memory to which that call writes its result. The function
     // is separate since that memory is cleared at its start.
     #[inline(always)]
-    fn punycode_copy(&self, place: usize, looks: &mut Looks) -> Result<(Ident, usize), ParseError>
-        
-    {
+    fn punycode_copy(&self, place: usize, looks: &mut Looks) -> Result<(Ident, usize), ParseError> {
         let Ok((name, to)) = self.punycode_ident(place, looks) else {
             return Err(ParseError::Invalid);
         };
@@ -103,9 +90,11 @@ impl<'s> Symbol<'s> {
     /// looked at before. Returns `Invalid` if no identifier is spelled there.
     // Few identifiers have a `u`. A separate function keeps the code for the others short.
     #[inline(never)]
-    fn punycode_ident(&self, place: usize, looks: &mut Looks) -> Result<(Ident, usize), ParseError>
-        
-    {
+    fn punycode_ident(
+        &self,
+        place: usize,
+        looks: &mut Looks,
+    ) -> Result<(Ident, usize), ParseError> {
         let Ok((len, digits_end)) = self.length(place + 1, looks) else {
             return Err(ParseError::Invalid);
         };

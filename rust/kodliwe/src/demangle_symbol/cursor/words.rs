@@ -1,12 +1,6 @@
 // Made from crates/demangle_symbol/src/cursor/words.rt by packaging/crate/erase.py: edit that file instead.
 //! Reads the primitives of a v0 symbol that are numbers, letters and back references.
 
-
-
-
-
-
-
 use crate::demangle_symbol::cursor::{Looks, ParseError, Symbol, append_digit};
 
 /// The greatest depth to which productions of a symbol may be nested.
@@ -22,9 +16,7 @@ impl<'s> Symbol<'s> {
     ///
     /// Returns `Invalid` if no integer is spelled there, or if the integer is 2^64 or more.
     #[inline(never)]
-    pub fn integer_62(&self, place: usize, looks: &mut Looks) -> Result<(u64, usize), ParseError>
-        
-    {
+    pub fn integer_62(&self, place: usize, looks: &mut Looks) -> Result<(u64, usize), ParseError> {
         // `_` alone is 0, so the digits spell one less than the integer.
         let Some(first) = self.integer_digit(place, looks)? else {
             return Ok((0, place + 1));
@@ -57,9 +49,7 @@ impl<'s> Symbol<'s> {
     /// Reads a digit of an integer. Returns `None` if the byte is the `_` that ends the integer,
     /// and `Invalid` if it is any other byte.
     #[inline(always)]
-    fn integer_digit(&self, place: usize, looks: &mut Looks) -> Result<Option<u64>, ParseError>
-        
-    {
+    fn integer_digit(&self, place: usize, looks: &mut Looks) -> Result<Option<u64>, ParseError> {
         // This call shows the proof that a symbol is shorter than 2^63 bytes.
         let _count = self.inner.as_bytes().len();
         let Some(byte) = self.byte(place, looks) else {
@@ -90,9 +80,7 @@ impl<'s> Symbol<'s> {
         tag: u8,
         place: usize,
         looks: &mut Looks,
-    ) -> Result<(u64, usize), ParseError>
-        
-    {
+    ) -> Result<(u64, usize), ParseError> {
         if !self.is_at(tag, place, looks) {
             return Ok((0, place));
         }
@@ -108,9 +96,7 @@ impl<'s> Symbol<'s> {
         &self,
         place: usize,
         looks: &mut Looks,
-    ) -> Result<(u64, usize), ParseError>
-        
-    {
+    ) -> Result<(u64, usize), ParseError> {
         let Ok((number, next)) = self.integer_62(place, looks) else {
             return Err(ParseError::Invalid);
         };
@@ -129,9 +115,11 @@ impl<'s> Symbol<'s> {
     /// Returns `Invalid` if the tag has no integer after it, or if the disambiguator is 2^64 or
     /// more.
     #[inline(always)]
-    pub fn disambiguator(&self, place: usize, looks: &mut Looks) -> Result<(u64, usize), ParseError>
-        
-    {
+    pub fn disambiguator(
+        &self,
+        place: usize,
+        looks: &mut Looks,
+    ) -> Result<(u64, usize), ParseError> {
         self.opt_integer_62(b's', place, looks)
     }
 
@@ -140,9 +128,7 @@ impl<'s> Symbol<'s> {
     /// # Errors
     ///
     /// Returns `Invalid` at the end of the symbol.
-    pub fn tag(&self, place: usize, looks: &mut Looks) -> Result<(u8, usize), ParseError>
-        
-    {
+    pub fn tag(&self, place: usize, looks: &mut Looks) -> Result<(u8, usize), ParseError> {
         let Some(byte) = self.byte(place, looks) else {
             return Err(ParseError::Invalid);
         };
@@ -154,9 +140,7 @@ impl<'s> Symbol<'s> {
     /// # Errors
     ///
     /// Returns `Invalid` if the byte is not an ASCII letter.
-    pub fn namespace(&self, place: usize, looks: &mut Looks) -> Result<(u8, usize), ParseError>
-        
-    {
+    pub fn namespace(&self, place: usize, looks: &mut Looks) -> Result<(u8, usize), ParseError> {
         match self.byte(place, looks) {
             Some(b) if b.is_ascii_alphabetic() => Ok((b, place + 1)),
             _ => Err(ParseError::Invalid),
@@ -176,9 +160,7 @@ impl<'s> Symbol<'s> {
         place: usize,
         depth: u32,
         looks: &mut Looks,
-    ) -> Result<(usize, usize), ParseError>
-        
-    {
+    ) -> Result<(usize, usize), ParseError> {
         let (target, next) = self.integer_62(place, looks)?;
         // A back reference may only name a place before its `B`, so references cannot form a cycle.
         // The target is checked before the depth. So an invalid target is `Invalid` at any depth.
@@ -192,9 +174,7 @@ impl<'s> Symbol<'s> {
     }
 
     /// Returns the place after an optional byte. It makes one look.
-    pub fn skip(&self, byte: u8, place: usize, looks: &mut Looks) -> usize
-        
-    {
+    pub fn skip(&self, byte: u8, place: usize, looks: &mut Looks) -> usize {
         if self.is_at(byte, place, looks) {
             place + 1
         } else {
@@ -226,8 +206,6 @@ static DIGITS_62: [u8; 256] = [
 
 /// Returns the value of a digit in base 62, and 62 or more for any other byte.
 #[inline(always)]
-fn digit_62_of(byte: u8) -> u8
-    
-{
+fn digit_62_of(byte: u8) -> u8 {
     DIGITS_62[usize::from(byte)]
 }

@@ -1,16 +1,9 @@
 // Made from crates/demangle_symbol/src/literal/strings.rt by packaging/crate/erase.py: edit that file instead.
 //! Decodes the characters of string constants from their nibbles.
 
-
-
-
-
-
-
-
+use crate::demangle_sink::{SinkRefused, SizeLimitedFmtAdapter, TextSink, put_char};
 use crate::demangle_symbol::cursor::{Looks, Part, Symbol, nibble_of};
 use crate::demangle_symbol::literal::put_escaped;
-use crate::demangle_sink::{SinkRefused, SizeLimitedFmtAdapter, TextSink, put_char};
 use core::str;
 
 /// An iterator over the characters that the nibbles of a string constant spell.
@@ -21,9 +14,7 @@ pub struct StrChars {
 }
 
 /// Returns the value of the nibble at a place.
-fn nibble_at(symbol: &Symbol<'_>, place: usize, looks: &mut Looks) -> u8
-    
-{
+fn nibble_at(symbol: &Symbol<'_>, place: usize, looks: &mut Looks) -> u8 {
     match symbol.byte(place, looks) {
         Some(byte) => match nibble_of(byte) {
             Some(value) => value,
@@ -34,18 +25,14 @@ fn nibble_at(symbol: &Symbol<'_>, place: usize, looks: &mut Looks) -> u8
 }
 
 /// Returns the byte that the two nibbles from a place spell.
-fn nibble_byte(symbol: &Symbol<'_>, rest: Part, place: usize, looks: &mut Looks) -> u8
-    
-{
+fn nibble_byte(symbol: &Symbol<'_>, rest: Part, place: usize, looks: &mut Looks) -> u8 {
     let high = nibble_at(symbol, place, looks);
     let low = nibble_at(symbol, place + 1, looks);
     high * 16 + low
 }
 
 /// Returns the first character of these bytes, or `None` if they are not UTF-8.
-fn first_char(bytes: &[u8]) -> Option<char>
-    
-{
+fn first_char(bytes: &[u8]) -> Option<char> {
     let Ok(text) = str::from_utf8(bytes) else {
         return None;
     };
@@ -54,9 +41,7 @@ fn first_char(bytes: &[u8]) -> Option<char>
 
 /// Returns the first character of a part and the place after it. Returns `None` if the nibbles do
 /// not start with a character.
-fn char_at(symbol: &Symbol<'_>, rest: Part, looks: &mut Looks) -> Option<(char, usize)>
-    
-{
+fn char_at(symbol: &Symbol<'_>, rest: Part, looks: &mut Looks) -> Option<(char, usize)> {
     let mut bytes = [0_u8; 4];
     for len in 0..4_usize {
         let at = rest.from + 2 * len;
@@ -73,24 +58,18 @@ fn char_at(symbol: &Symbol<'_>, rest: Part, looks: &mut Looks) -> Option<(char, 
 
 impl StrChars {
     /// Returns an iterator over the characters of these nibbles.
-    pub fn new(nibbles: Part) -> StrChars
-        
-    {
+    pub fn new(nibbles: Part) -> StrChars {
         StrChars { rest: nibbles }
     }
 
     /// Returns `true` if all nibbles have been read.
-    pub fn is_done(&self) -> bool
-        
-    {
+    pub fn is_done(&self) -> bool {
         self.rest.to <= self.rest.from
     }
 
     /// Returns the next character and removes its nibbles. Returns `None` if the nibbles do not
     /// start with a character, and then changes nothing.
-    pub fn next(&mut self, symbol: &Symbol<'_>, looks: &mut Looks) -> Option<char>
-        
-    {
+    pub fn next(&mut self, symbol: &Symbol<'_>, looks: &mut Looks) -> Option<char> {
         let Some((c, next)) = char_at(symbol, self.rest, looks) else {
             return None;
         };
@@ -102,9 +81,7 @@ impl StrChars {
 /// Returns `true` if the nibbles of a hexadecimal string spell a text: their number is even and
 /// their bytes are UTF-8.
 #[inline(never)]
-pub fn is_string(symbol: &Symbol<'_>, nibbles: Part, looks: &mut Looks) -> bool
-    
-{
+pub fn is_string(symbol: &Symbol<'_>, nibbles: Part, looks: &mut Looks) -> bool {
     let mut chars = StrChars::new(nibbles);
     while !chars.is_done() {
         let Some(_) = chars.next(symbol, looks) else {
@@ -120,9 +97,7 @@ fn put_characters<S: TextSink>(
     nibbles: Part,
     out: &mut SizeLimitedFmtAdapter<'_, S>,
     looks: &mut Looks,
-) -> Result<(), SinkRefused>
-    
-{
+) -> Result<(), SinkRefused> {
     let mut chars = StrChars::new(nibbles);
     while !chars.is_done() {
         let Some(c) = chars.next(symbol, looks) else {
@@ -144,9 +119,7 @@ pub fn put_string_literal<S: TextSink>(
     nibbles: Part,
     out: &mut SizeLimitedFmtAdapter<'_, S>,
     looks: &mut Looks,
-) -> Result<(), SinkRefused>
-    
-{
+) -> Result<(), SinkRefused> {
     put_char('"', out)?;
     put_characters(symbol, nibbles, out, looks)?;
     put_char('"', out)

@@ -1,8 +1,10 @@
 // Made from crates/demangle_symbol/src/literal/tests.rt by packaging/crate/erase.py: edit that file instead.
 //! Tests of the literals of known constants.
-use crate::demangle_symbol::cursor::{Looks, Symbol};
-use crate::demangle_symbol::literal::{character_of, is_string, put_char_literal, put_string_literal, truth_of};
 use crate::demangle_sink::{ArraySink, SizeLimitedFmtAdapter};
+use crate::demangle_symbol::cursor::{Looks, Symbol};
+use crate::demangle_symbol::literal::{
+    character_of, is_string, put_char_literal, put_string_literal, truth_of,
+};
 
 /// Returns the number of a hexadecimal string.
 fn number(word: &str) -> Option<u128> {
@@ -57,49 +59,49 @@ fn prints_string(word: &str, text: &str) -> bool {
 
 #[test]
 fn characters() {
-    assert!( prints_char("76_", "'v'"));
-    assert!( prints_char("22_", "'\"'"));
-    assert!( prints_char("27_", "'\\''"));
-    assert!( prints_char("a_", "'\\n'"));
-    assert!( prints_char("2202_", "'∂'"));
-    assert!( prints_char("_", "'\\0'"));
-    assert!( prints_char("7f_", "'\\u{7f}'"));
-    assert!( prints_char("1b_", "'\\u{1b}'"));
+    assert!(prints_char("76_", "'v'"));
+    assert!(prints_char("22_", "'\"'"));
+    assert!(prints_char("27_", "'\\''"));
+    assert!(prints_char("a_", "'\\n'"));
+    assert!(prints_char("2202_", "'∂'"));
+    assert!(prints_char("_", "'\\0'"));
+    assert!(prints_char("7f_", "'\\u{7f}'"));
+    assert!(prints_char("1b_", "'\\u{1b}'"));
 }
 
 #[test]
 fn characters_past_ascii() {
-    assert!( prints_char("a0_", "'\\u{a0}'"));
-    assert!( prints_char("301_", "'\\u{301}'"));
-    assert!( prints_char("ad_", "'\\u{ad}'"));
-    assert!( prints_char("200b_", "'\\u{200b}'"));
-    assert!( prints_char("3000_", "'\\u{3000}'"));
-    assert!( prints_char("e000_", "'\\u{e000}'"));
+    assert!(prints_char("a0_", "'\\u{a0}'"));
+    assert!(prints_char("301_", "'\\u{301}'"));
+    assert!(prints_char("ad_", "'\\u{ad}'"));
+    assert!(prints_char("200b_", "'\\u{200b}'"));
+    assert!(prints_char("3000_", "'\\u{3000}'"));
+    assert!(prints_char("e000_", "'\\u{e000}'"));
 }
 
 #[test]
 fn no_characters() {
-    assert!( character_of(number("d800_")).is_none());
-    assert!( character_of(number("110000_")).is_none());
+    assert!(character_of(number("d800_")).is_none());
+    assert!(character_of(number("110000_")).is_none());
 }
 
 #[test]
 fn truths() {
-    assert_eq!( truth_of(number("_")), Some(false));
-    assert_eq!( truth_of(number("00_")), Some(false));
-    assert_eq!( truth_of(number("1_")), Some(true));
-    assert_eq!( truth_of(number("2_")), None);
+    assert_eq!(truth_of(number("_")), Some(false));
+    assert_eq!(truth_of(number("00_")), Some(false));
+    assert_eq!(truth_of(number("1_")), Some(true));
+    assert_eq!(truth_of(number("2_")), None);
 }
 
 #[test]
 fn strings() {
-    assert!( prints_string("22_", "\"\\\"\""));
-    assert!( prints_string("5c_", "\"\\\\\""));
-    assert!( prints_string("27_", "\"'\""));
-    assert!( prints_string("616263_", "\"abc\""));
-    assert!( prints_string("090a_", "\"\\t\\n\""));
-    assert!( prints_string("e28882c3bc_", "\"∂ü\""));
-    assert!( prints_string("_", "\"\""));
-    assert!( !spells("6_"));
-    assert!( !spells("c080_"));
+    assert!(prints_string("22_", "\"\\\"\""));
+    assert!(prints_string("5c_", "\"\\\\\""));
+    assert!(prints_string("27_", "\"'\""));
+    assert!(prints_string("616263_", "\"abc\""));
+    assert!(prints_string("090a_", "\"\\t\\n\""));
+    assert!(prints_string("e28882c3bc_", "\"∂ü\""));
+    assert!(prints_string("_", "\"\""));
+    assert!(!spells("6_"));
+    assert!(!spells("c080_"));
 }

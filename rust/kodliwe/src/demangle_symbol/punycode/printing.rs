@@ -1,13 +1,9 @@
 // Made from crates/demangle_symbol/src/punycode/printing.rt by packaging/crate/erase.py: edit that file instead.
 //! Prints names.
 
-
-
-
-
+use crate::demangle_sink::{SinkRefused, SizeLimitedFmtAdapter, TextSink, put_chars};
 use crate::demangle_symbol::cursor::{Ident, Looks, Part, Symbol};
 use crate::demangle_symbol::punycode::decode;
-use crate::demangle_sink::{SinkRefused, SizeLimitedFmtAdapter, TextSink, put_chars};
 
 impl Ident {
     /// Puts the ASCII part and `-`. Puts nothing if the ASCII part is empty.
@@ -15,9 +11,7 @@ impl Ident {
         &self,
         symbol: &Symbol<'_>,
         out: &mut SizeLimitedFmtAdapter<'_, S>,
-    ) -> Result<(), SinkRefused>
-        
-    {
+    ) -> Result<(), SinkRefused> {
         if self.ascii.to <= self.ascii.from {
             return Ok(());
         }
@@ -30,9 +24,7 @@ impl Ident {
         &self,
         symbol: &Symbol<'_>,
         out: &mut SizeLimitedFmtAdapter<'_, S>,
-    ) -> Result<(), SinkRefused>
-        
-    {
+    ) -> Result<(), SinkRefused> {
         out.put("punycode{")?;
         self.write_ascii(symbol, out)?;
         symbol.span(self.punycode).write_to(out)?;
@@ -50,9 +42,7 @@ impl Ident {
         symbol: &Symbol<'_>,
         out: &mut SizeLimitedFmtAdapter<'_, S>,
         looks: &mut Looks,
-    ) -> Result<(), SinkRefused>
-        
-    {
+    ) -> Result<(), SinkRefused> {
         let name = Ident { ascii, punycode };
         match decode(symbol, name, looks) {
             Some(characters) => put_chars(&characters, out),
@@ -72,9 +62,7 @@ impl Ident {
         symbol: &Symbol<'_>,
         out: &mut SizeLimitedFmtAdapter<'_, S>,
         looks: &mut Looks,
-    ) -> Result<(), SinkRefused>
-        
-    {
+    ) -> Result<(), SinkRefused> {
         if self.punycode.to <= self.punycode.from {
             return symbol.span(self.ascii).write_to(out);
         }

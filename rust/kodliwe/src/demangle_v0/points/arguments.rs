@@ -1,11 +1,6 @@
 // Made from crates/demangle_v0/src/points/arguments.rt by packaging/crate/erase.py: edit that file instead.
 //! Generic arguments.
 
-
-
-
-
-
 use crate::demangle_v0::points::Point;
 use crate::demangle_v0::points::lists::separator;
 use crate::demangle_v0::points::parser::Parser;
@@ -14,9 +9,7 @@ use crate::demangle_words::texts::Mark;
 impl<const N: usize> Parser<'_, N> {
     /// Queues the `<` of a path's generic arguments, or `::` before it in value position.
     #[inline(always)]
-    pub(super) fn generic(&mut self) -> Point
-        
-    {
+    pub(super) fn generic(&mut self) -> Point {
         if self.state.in_value {
             self.put(Mark::Colons);
             return Point::OpenArguments;
@@ -27,9 +20,7 @@ impl<const N: usize> Parser<'_, N> {
 
     /// Starts the first or a further generic argument of a path, or ends their list.
     #[inline(always)]
-    pub(super) fn arguments(&mut self, is_first: bool) -> Point
-        
-    {
+    pub(super) fn arguments(&mut self, is_first: bool) -> Point {
         let Some(at) = self.state.place else {
             return self.end_with(Mark::Greater);
         };
@@ -45,9 +36,7 @@ impl<const N: usize> Parser<'_, N> {
     /// Reads the tag of a generic argument at `at`, the current offset: `L` for a lifetime, `K` for
     /// a constant, and none for a type.
     #[inline(always)]
-    pub(super) fn argument(&mut self, at: usize) -> Point
-        
-    {
+    pub(super) fn argument(&mut self, at: usize) -> Point {
         self.state.in_value = false;
         if self.source.symbol.is_at(b'L', at, &mut self.looks) {
             self.state.place = Some(at + 1);

@@ -1,12 +1,8 @@
 // Made from crates/demangle_v0/src/points/binders.rt by packaging/crate/erase.py: edit that file instead.
 //! Binders: lifetimes that a function type or dyn traits bring into force.
 
-
-
-
-
-use crate::demangle_v0::points::parser::Parser;
 use crate::demangle_sink::SinkRefused;
+use crate::demangle_v0::points::parser::Parser;
 use crate::demangle_words::output::Output;
 use crate::demangle_words::stretch::Stretch;
 
@@ -19,9 +15,7 @@ impl<const N: usize> Parser<'_, N> {
         &mut self,
         number: u64,
         output: &mut V,
-    ) -> Result<(), SinkRefused>
-        
-    {
+    ) -> Result<(), SinkRefused> {
         let stretch = Stretch::Binder(self.state.lifetimes, number);
         self.state.lifetimes += u128::from(number);
         self.emit(&stretch, output)

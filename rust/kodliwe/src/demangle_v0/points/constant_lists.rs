@@ -1,9 +1,6 @@
 // Made from crates/demangle_v0/src/points/constant_lists.rt by packaging/crate/erase.py: edit that file instead.
 //! Lists of constants: arrays, tuples and the fields of variants.
 
-
-
-
 use crate::demangle_v0::points::Point;
 use crate::demangle_v0::points::parser::Parser;
 use crate::demangle_words::texts::Mark;
@@ -20,9 +17,7 @@ pub enum ConstantList {
 impl ConstantList {
     /// Returns the text that closes the list.
     #[inline(always)]
-    fn close(self) -> Mark
-        
-    {
+    fn close(self) -> Mark {
         match self {
             ConstantList::Array => Mark::CloseBracket,
             ConstantList::Tuple | ConstantList::TupleVariant => Mark::CloseParen,
@@ -32,9 +27,7 @@ impl ConstantList {
 
     /// Returns the continuation that reads an element.
     #[inline(always)]
-    fn element(self) -> Point
-        
-    {
+    fn element(self) -> Point {
         match self {
             ConstantList::Fields => Point::Field,
             _ => Point::Constant,
@@ -43,9 +36,7 @@ impl ConstantList {
 
     /// Returns the continuation after the first element.
     #[inline(always)]
-    fn after_first(self) -> Point
-        
-    {
+    fn after_first(self) -> Point {
         match self {
             ConstantList::Array => Point::NextArrayConstant,
             ConstantList::Tuple => Point::SecondTupleConstant,
@@ -56,9 +47,7 @@ impl ConstantList {
 
     /// Returns the continuation after a further element.
     #[inline(always)]
-    fn after_next(self) -> Point
-        
-    {
+    fn after_next(self) -> Point {
         match self {
             ConstantList::Array => Point::NextArrayConstant,
             ConstantList::Tuple => Point::NextTupleConstant,
@@ -71,9 +60,7 @@ impl ConstantList {
 impl<const N: usize> Parser<'_, N> {
     /// Starts the first element of a list, or closes the list if it has ended.
     #[inline(always)]
-    pub(super) fn first_list_constant(&mut self, list: ConstantList) -> Point
-        
-    {
+    pub(super) fn first_list_constant(&mut self, list: ConstantList) -> Point {
         if self.ends_list() {
             return self.end_with(list.close());
         }
@@ -84,9 +71,7 @@ impl<const N: usize> Parser<'_, N> {
 
     /// Starts a further element after a comma, or closes the list if it has ended.
     #[inline(always)]
-    pub(super) fn next_list_constant(&mut self, list: ConstantList) -> Point
-        
-    {
+    pub(super) fn next_list_constant(&mut self, list: ConstantList) -> Point {
         if self.ends_list() {
             return self.end_with(list.close());
         }
@@ -98,9 +83,7 @@ impl<const N: usize> Parser<'_, N> {
 
     /// Starts the second element of a tuple, or leaves the comma that follows a single element.
     #[inline(always)]
-    pub(super) fn second_tuple_constant(&mut self) -> Point
-        
-    {
+    pub(super) fn second_tuple_constant(&mut self) -> Point {
         if self.ends_list() {
             self.put(Mark::OneComma);
             return Point::CloseParen;

@@ -1,12 +1,6 @@
 // Made from crates/demangle_v0/src/points/constants.rt by packaging/crate/erase.py: edit that file instead.
 //! Continuations of constants.
 
-
-
-
-
-
-
 use crate::demangle_v0::points::parser::Parser;
 use crate::demangle_v0::points::{Point, Stop};
 use crate::demangle_words::output::Output;
@@ -16,9 +10,7 @@ use crate::demangle_words::texts::{Mark, Word};
 impl<const N: usize> Parser<'_, N> {
     /// Reads and prints a string, with which the constant ends.
     #[inline(never)]
-    pub(super) fn literal<V: Output>(&mut self, output: &mut V) -> Result<Point, Stop>
-        
-    {
+    pub(super) fn literal<V: Output>(&mut self, output: &mut V) -> Result<Point, Stop> {
         self.end_with_token(Word::Literal, output)
     }
 
@@ -26,9 +18,7 @@ impl<const N: usize> Parser<'_, N> {
     ///
     /// The state's letter is the tag of the number's type.
     #[inline(never)]
-    pub(super) fn number<V: Output>(&mut self, output: &mut V) -> Result<Point, Stop>
-        
-    {
+    pub(super) fn number<V: Output>(&mut self, output: &mut V) -> Result<Point, Stop> {
         self.end_with_token(Word::Number, output)
     }
 
@@ -36,9 +26,7 @@ impl<const N: usize> Parser<'_, N> {
     ///
     /// It leaves the opening brace and pushes a frame for the closing one.
     #[inline(always)]
-    fn with_braces(&mut self, constant: Point) -> Point
-        
-    {
+    fn with_braces(&mut self, constant: Point) -> Point {
         // An expression that is not a literal needs braces in Rust as an argument of a path.
         if !self.state.in_value {
             self.push(Point::CloseBrace);
@@ -51,9 +39,7 @@ impl<const N: usize> Parser<'_, N> {
     ///
     /// It leaves the `-` of a negative number, whose digits the next step reads.
     #[inline(always)]
-    fn signed_number<V: Output>(&mut self, tag: u8, output: &mut V) -> Result<Point, Stop>
-        
-    {
+    fn signed_number<V: Output>(&mut self, tag: u8, output: &mut V) -> Result<Point, Stop> {
         let at = self.state.at()?;
         self.state.letter = tag;
         if self.source.symbol.is_at(b'n', at, &mut self.looks) {
@@ -66,9 +52,7 @@ impl<const N: usize> Parser<'_, N> {
 
     /// Reads a string, or starts a shared reference, after its `R`.
     #[inline(always)]
-    fn shared_reference<V: Output>(&mut self, output: &mut V) -> Result<Point, Stop>
-        
-    {
+    fn shared_reference<V: Output>(&mut self, output: &mut V) -> Result<Point, Stop> {
         let Some(at) = self.state.place else {
             return Ok(self.with_braces(Point::ReferenceConstant));
         };
@@ -82,9 +66,7 @@ impl<const N: usize> Parser<'_, N> {
 
     /// Starts the path of a variant, after its `V`.
     #[inline(always)]
-    fn variant_path(&mut self) -> Point
-        
-    {
+    fn variant_path(&mut self) -> Point {
         self.push(Point::Variant);
         if self.state.in_value {
             return Point::Path;
@@ -96,9 +78,7 @@ impl<const N: usize> Parser<'_, N> {
 
     /// Reads a constant, after its tag.
     #[inline(always)]
-    fn tagged_constant<V: Output>(&mut self, tag: u8, output: &mut V) -> Result<Point, Stop>
-        
-    {
+    fn tagged_constant<V: Output>(&mut self, tag: u8, output: &mut V) -> Result<Point, Stop> {
         let kind = constant_kind(tag).ok_or(Stop::Fault(Mark::Invalid))?;
         match kind {
             ConstantKind::Placeholder => Ok(self.end_with(Mark::Placeholder)),
@@ -121,9 +101,7 @@ impl<const N: usize> Parser<'_, N> {
 
     /// Reads the tag of a constant and what follows it, up to the first constant or path in it.
     #[inline(never)]
-    pub(super) fn constant<V: Output>(&mut self, output: &mut V) -> Result<Point, Stop>
-        
-    {
+    pub(super) fn constant<V: Output>(&mut self, output: &mut V) -> Result<Point, Stop> {
         let at = self.state.at()?;
         let (tag, next) = self.source.symbol.tag(at, &mut self.looks)?;
         // Every constant raises the depth, even a number or a placeholder. A basic type does not.

@@ -1,10 +1,6 @@
 // Made from crates/demangle_v0/src/points/dispatch.rt by packaging/crate/erase.py: edit that file instead.
 //! Which method performs each continuation.
 
-
-
-
-
 use crate::demangle_v0::points::constant_lists::ConstantList;
 use crate::demangle_v0::points::parser::Parser;
 use crate::demangle_v0::points::rare::RarePoint;
@@ -22,9 +18,7 @@ impl<const N: usize> Parser<'_, N> {
         &mut self,
         point: Point,
         output: &mut V,
-    ) -> Result<Point, Stop>
-        
-    {
+    ) -> Result<Point, Stop> {
         match point {
             Point::Path => self.path(output),
             Point::Nested => self.nested_name(output),
@@ -37,18 +31,18 @@ impl<const N: usize> Parser<'_, N> {
             Point::FirstArgument => Ok(self.arguments(true)),
             Point::NextArgument => Ok(self.arguments(false)),
             Point::Lifetime => self.end_with_token(Word::LifetimeIndex, output),
-            Point::Type | Point::TaggedType => { self.type_(is_begun(point), output) }
+            Point::Type | Point::TaggedType => self.type_(is_begun(point), output),
             Point::ArrayLength => Ok(self.array_length(output)),
             Point::FirstTupleType => Ok(self.first_tuple_type()),
             Point::SecondTupleType => Ok(self.second_tuple_type()),
             Point::NextTupleType => Ok(self.next_tuple_type()),
             Point::ReferenceLifetime => self.reference_lifetime(false, output),
             Point::MutReferenceLifetime => self.reference_lifetime(true, output),
-            Point::FunctionHead => { self.rare(RarePoint::FunctionHead, output) }
+            Point::FunctionHead => self.rare(RarePoint::FunctionHead, output),
             Point::FirstParameter => Ok(self.parameter(true)),
             Point::NextParameter => Ok(self.parameter(false)),
             Point::Returns => Ok(self.returns()),
-            Point::DynBinder => { self.rare(RarePoint::DynBinder, output) }
+            Point::DynBinder => self.rare(RarePoint::DynBinder, output),
             Point::FirstDynTrait => Ok(self.dyn_trait(true)),
             Point::NextDynTrait => Ok(self.dyn_trait(false)),
             Point::TraitPath => self.trait_path(output),
@@ -56,25 +50,25 @@ impl<const N: usize> Parser<'_, N> {
             Point::NextOpenArgument => Ok(self.trait_argument(false)),
             Point::Bindings => Ok(self.bindings()),
             Point::OpenBindings => Ok(self.further_bindings()),
-            Point::BindingName => { self.rare(RarePoint::BindingName, output) }
+            Point::BindingName => self.rare(RarePoint::BindingName, output),
             Point::Bound => Ok(self.bound_value()),
-            Point::DynLifetime => { self.rare(RarePoint::DynLifetime, output) }
+            Point::DynLifetime => self.rare(RarePoint::DynLifetime, output),
             Point::Pattern => self.pattern(),
             Point::NextPattern => self.next_pattern(),
-            Point::Constant => { self.rare(RarePoint::Constant, output) }
-            Point::Number => { self.rare(RarePoint::Number, output) }
-            Point::Literal => { self.rare(RarePoint::Literal, output) }
+            Point::Constant => self.rare(RarePoint::Constant, output),
+            Point::Number => self.rare(RarePoint::Number, output),
+            Point::Literal => self.rare(RarePoint::Literal, output),
             Point::FirstArrayConstant => Ok(self.first_list_constant(ConstantList::Array)),
             Point::NextArrayConstant => Ok(self.next_list_constant(ConstantList::Array)),
             Point::FirstTupleConstant => Ok(self.first_list_constant(ConstantList::Tuple)),
             Point::SecondTupleConstant => Ok(self.second_tuple_constant()),
             Point::NextTupleConstant => Ok(self.next_list_constant(ConstantList::Tuple)),
-            Point::Variant => { self.rare(RarePoint::Variant, output) }
+            Point::Variant => self.rare(RarePoint::Variant, output),
             Point::FirstVariantConstant => Ok(self.first_list_constant(ConstantList::TupleVariant)),
             Point::NextVariantConstant => Ok(self.next_list_constant(ConstantList::TupleVariant)),
             Point::FirstField => Ok(self.first_list_constant(ConstantList::Fields)),
             Point::NextField => Ok(self.next_list_constant(ConstantList::Fields)),
-            Point::Field => { self.rare(RarePoint::Field, output) }
+            Point::Field => self.rare(RarePoint::Field, output),
             Point::AfterBackref => Ok(self.after_backref()),
             Point::CloseParen
             | Point::CloseAngle

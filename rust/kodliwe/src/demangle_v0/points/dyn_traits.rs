@@ -1,10 +1,6 @@
 // Made from crates/demangle_v0/src/points/dyn_traits.rt by packaging/crate/erase.py: edit that file instead.
 //! Trait objects: `dyn` types.
 
-
-
-
-
 use crate::demangle_v0::points::lists::separator;
 use crate::demangle_v0::points::parser::Parser;
 use crate::demangle_v0::points::{Point, Stop};
@@ -14,9 +10,7 @@ use crate::demangle_words::texts::{Mark, Word};
 impl<const N: usize> Parser<'_, N> {
     /// Queues the `dyn ` of a dyn type, after its `D`. The binder of its traits follows.
     #[inline(always)]
-    pub(super) fn dyn_type(&mut self) -> Point
-        
-    {
+    pub(super) fn dyn_type(&mut self) -> Point {
         // The lifetime of the type follows the traits, outside their binder: the frame has the
         // lifetimes that are in force without it.
         self.push(Point::DynLifetime);
@@ -28,9 +22,7 @@ impl<const N: usize> Parser<'_, N> {
     ///
     /// The traits follow. If there is no binder, the same step starts the first of them.
     #[inline(never)]
-    pub(super) fn dyn_binder<V: Output>(&mut self, output: &mut V) -> Result<Point, Stop>
-        
-    {
+    pub(super) fn dyn_binder<V: Output>(&mut self, output: &mut V) -> Result<Point, Stop> {
         let at = self.state.at()?;
         let (number, next) = self
             .source
@@ -48,9 +40,7 @@ impl<const N: usize> Parser<'_, N> {
     ///
     /// Queues the ` + ` before a trait that is not the first.
     #[inline(always)]
-    pub(super) fn dyn_trait(&mut self, is_first: bool) -> Point
-        
-    {
+    pub(super) fn dyn_trait(&mut self, is_first: bool) -> Point {
         if self.ends_list() {
             self.state.is_open = false;
             return Point::End;
@@ -64,9 +54,7 @@ impl<const N: usize> Parser<'_, N> {
     ///
     /// If the path has arguments, their bracket stays open for the bindings that may follow.
     #[inline(always)]
-    pub(super) fn trait_path<V: Output>(&mut self, output: &mut V) -> Result<Point, Stop>
-        
-    {
+    pub(super) fn trait_path<V: Output>(&mut self, output: &mut V) -> Result<Point, Stop> {
         let at = self.state.at()?;
         if self.source.symbol.is_at(b'B', at, &mut self.looks) {
             self.state.place = Some(at + 1);
@@ -86,9 +74,7 @@ impl<const N: usize> Parser<'_, N> {
     /// Queues the `, ` before an argument that is not the first. After the last one the bracket is
     /// still open.
     #[inline(always)]
-    pub(super) fn trait_argument(&mut self, is_first: bool) -> Point
-        
-    {
+    pub(super) fn trait_argument(&mut self, is_first: bool) -> Point {
         let Some(at) = self.state.place else {
             self.state.is_open = true;
             return Point::End;
@@ -105,9 +91,7 @@ impl<const N: usize> Parser<'_, N> {
 
     /// Reads the lifetime of a dyn type, and prints it after a ` + ` unless it is erased.
     #[inline(never)]
-    pub(super) fn dyn_lifetime<V: Output>(&mut self, output: &mut V) -> Result<Point, Stop>
-        
-    {
+    pub(super) fn dyn_lifetime<V: Output>(&mut self, output: &mut V) -> Result<Point, Stop> {
         self.end_with_token(Word::DynLifetime, output)
     }
 }

@@ -1,8 +1,6 @@
 // Made from crates/demangle_v0/src/points/frames.rt by packaging/crate/erase.py: edit that file instead.
 //! The frames, which store what follows a nested production, and their stack.
 
-
-
 use crate::demangle_v0::points::Point;
 use crate::support::arrayvec::ArrayVec;
 use core::default::Default;
@@ -59,9 +57,7 @@ impl Default for Packed {
 
 /// Returns a frame as the stack stores it.
 #[inline(always)]
-fn pack(frame: Frame) -> Packed
-    
-{
+fn pack(frame: Frame) -> Packed {
     Packed {
         low: (frame.number % TWO_64) as u64,
         // 80 bits hold the number of all lifetimes in scope: fewer than 2^64 for each of 500 levels.
@@ -76,9 +72,7 @@ fn pack(frame: Frame) -> Packed
 
 /// Returns the frame that the stack stores so.
 #[inline(always)]
-fn unpack(packed: Packed) -> Frame
-    
-{
+fn unpack(packed: Packed) -> Frame {
     Frame {
         point: packed.point,
         in_value: packed.in_value,
@@ -102,14 +96,10 @@ pub struct FrameStack<const N: usize> {
     frames: ArrayVec<Packed, N>,
 }
 
-
-
 impl<const N: usize> FrameStack<N> {
     /// Returns an empty stack.
     #[inline(always)]
-    pub fn new() -> Self
-        
-    {
+    pub fn new() -> Self {
         FrameStack {
             frames: ArrayVec::new(),
         }
@@ -117,39 +107,29 @@ impl<const N: usize> FrameStack<N> {
 
     /// Returns the number of frames.
     #[inline(always)]
-    pub fn len(&self) -> usize
-        
-    {
+    pub fn len(&self) -> usize {
         self.frames.len()
     }
 
     /// Pushes a frame.
     #[inline(always)]
-    pub fn push(&mut self, frame: Frame)
-        
-    {
+    pub fn push(&mut self, frame: Frame) {
         self.frames.push(pack(frame));
     }
 
     /// Pushes all frames of another stack, in their order.
-    pub fn append<const M: usize>(&mut self, other: &FrameStack<M>)
-        
-    {
+    pub fn append<const M: usize>(&mut self, other: &FrameStack<M>) {
         let _ = self.frames.try_extend_from_slice(other.frames.as_slice());
     }
 
     /// Keeps only the lowest `count` frames.
-    pub fn truncate(&mut self, count: usize)
-        
-    {
+    pub fn truncate(&mut self, count: usize) {
         self.frames.truncate(count);
     }
 
     /// Removes the top frame and returns it, or returns `None` if the stack is empty.
     #[inline(always)]
-    pub fn pop(&mut self) -> Option<Frame>
-        
-    {
+    pub fn pop(&mut self) -> Option<Frame> {
         Some(unpack(self.frames.pop()?))
     }
 }

@@ -1,12 +1,6 @@
 // Made from crates/demangle_v0/src/points/functions.rt by packaging/crate/erase.py: edit that file instead.
 //! Function types.
 
-
-
-
-
-
-
 use crate::demangle_v0::points::lists::separator;
 use crate::demangle_v0::points::parser::Parser;
 use crate::demangle_v0::points::{Point, Stop};
@@ -17,9 +11,7 @@ use crate::demangle_words::texts::{Mark, Word};
 
 /// Returns whether a function has no qualifiers, so that nothing is printed before its `fn`.
 #[inline(always)]
-fn has_no_qualifiers(head: &Stretch) -> bool
-    
-{
+fn has_no_qualifiers(head: &Stretch) -> bool {
     matches!(head, Stretch::FunctionHead(false, Abi::Rust))
 }
 
@@ -28,9 +20,7 @@ impl<const N: usize> Parser<'_, N> {
     ///
     /// The qualifiers follow. If there is no binder, the same step reads them.
     #[inline(never)]
-    pub(super) fn function_binder<V: Output>(&mut self, output: &mut V) -> Result<Point, Stop>
-        
-    {
+    pub(super) fn function_binder<V: Output>(&mut self, output: &mut V) -> Result<Point, Stop> {
         let at = self.state.at()?;
         let (number, next) = self
             .source
@@ -46,9 +36,7 @@ impl<const N: usize> Parser<'_, N> {
 
     /// Reads whether a function is unsafe, and its ABI, and prints both. The parameters follow.
     #[inline(never)]
-    pub(super) fn function_qualifiers<V: Output>(&mut self, output: &mut V) -> Result<Point, Stop>
-        
-    {
+    pub(super) fn function_qualifiers<V: Output>(&mut self, output: &mut V) -> Result<Point, Stop> {
         match self.token_at(Word::FunctionHead, output) {
             WordRead::Goes(head, next) => {
                 self.state.place = next;
@@ -66,9 +54,7 @@ impl<const N: usize> Parser<'_, N> {
     ///
     /// Queues the text before either: `, ` unless the parameter is the first, or `)`.
     #[inline(always)]
-    pub(super) fn parameter(&mut self, is_first: bool) -> Point
-        
-    {
+    pub(super) fn parameter(&mut self, is_first: bool) -> Point {
         if self.ends_list() {
             self.put(Mark::CloseParen);
             return Point::Returns;
@@ -82,9 +68,7 @@ impl<const N: usize> Parser<'_, N> {
     ///
     /// A `()` is read here, and nothing is printed for it.
     #[inline(always)]
-    pub(super) fn returns(&mut self) -> Point
-        
-    {
+    pub(super) fn returns(&mut self) -> Point {
         let Some(at) = self.state.place else {
             self.put(Mark::Arrow);
             return Point::Type;

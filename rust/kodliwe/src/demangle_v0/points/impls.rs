@@ -1,9 +1,6 @@
 // Made from crates/demangle_v0/src/points/impls.rt by packaging/crate/erase.py: edit that file instead.
 //! The paths of impls, and the self type of a trait.
 
-
-
-
 use crate::demangle_v0::points::parser::Parser;
 use crate::demangle_v0::points::{Point, Stop};
 use crate::demangle_words::texts::Mark;
@@ -11,9 +8,7 @@ use crate::demangle_words::texts::Mark;
 impl<const N: usize> Parser<'_, N> {
     /// Reads the disambiguator of an impl, after its `M`, or its `X` if the impl is of a trait.
     #[inline(always)]
-    pub(super) fn impl_disambiguator(&mut self, is_trait: bool) -> Result<Point, Stop>
-        
-    {
+    pub(super) fn impl_disambiguator(&mut self, is_trait: bool) -> Result<Point, Stop> {
         let Some(at) = self.state.place else {
             return Err(Stop::Fault(Mark::AfterError));
         };
@@ -30,9 +25,7 @@ impl<const N: usize> Parser<'_, N> {
 
     /// Starts the impl's own path during validation. The printing loop skips that path instead.
     #[inline(always)]
-    pub(super) fn read_impl_path(&mut self, is_trait: bool) -> Point
-        
-    {
+    pub(super) fn read_impl_path(&mut self, is_trait: bool) -> Point {
         let next = if is_trait {
             Point::SelfType
         } else {
@@ -45,9 +38,7 @@ impl<const N: usize> Parser<'_, N> {
 
     /// Queues `<` and starts the self type, which is followed by a trait or by `>`.
     #[inline(always)]
-    pub(super) fn self_type(&mut self, is_trait: bool) -> Point
-        
-    {
+    pub(super) fn self_type(&mut self, is_trait: bool) -> Point {
         self.put(Mark::Less);
         if is_trait {
             self.push(Point::As);
@@ -59,9 +50,7 @@ impl<const N: usize> Parser<'_, N> {
 
     /// Queues ` as ` and starts the trait, which is followed by `>`.
     #[inline(always)]
-    pub(super) fn as_trait(&mut self) -> Point
-        
-    {
+    pub(super) fn as_trait(&mut self) -> Point {
         self.push(Point::CloseAngle);
         self.put(Mark::As);
         self.state.in_value = false;

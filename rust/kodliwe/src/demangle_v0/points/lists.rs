@@ -1,17 +1,12 @@
 // Made from crates/demangle_v0/src/points/lists.rt by packaging/crate/erase.py: edit that file instead.
 //! Lists: where they end, and what separates their elements.
 
-
-
-
 use crate::demangle_v0::points::parser::Parser;
 use crate::demangle_words::texts::Mark;
 
 /// Returns the text before an element: none before the first.
 #[inline(always)]
-pub(super) fn separator(is_first: bool, mark: Mark) -> Option<Mark>
-    
-{
+pub(super) fn separator(is_first: bool, mark: Mark) -> Option<Mark> {
     if is_first { None } else { Some(mark) }
 }
 
@@ -20,9 +15,7 @@ impl<const N: usize> Parser<'_, N> {
     ///
     /// A list also ends if parsing has failed, so that what follows the list is printed.
     #[inline(always)]
-    pub(super) fn ends_list(&mut self) -> bool
-        
-    {
+    pub(super) fn ends_list(&mut self) -> bool {
         let Some(at) = self.state.place else {
             return true;
         };

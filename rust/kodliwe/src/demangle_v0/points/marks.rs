@@ -1,10 +1,6 @@
 // Made from crates/demangle_v0/src/points/marks.rt by packaging/crate/erase.py: edit that file instead.
 //! Continuations that do nothing but queue a fixed text.
 
-
-
-
-
 use crate::demangle_v0::points::Point;
 use crate::demangle_v0::points::parser::Parser;
 use crate::demangle_words::texts::Mark;
@@ -22,9 +18,7 @@ pub struct Left {
 
 /// Returns what `point` does, or `None` if it does more than queue a fixed text.
 #[inline(always)]
-fn left_at(point: Point) -> Option<Left>
-    
-{
+fn left_at(point: Point) -> Option<Left> {
     let (mark, next, in_value) = match point {
         Point::CloseParen => (Mark::CloseParen, Point::End, false),
         Point::CloseAngle => (Mark::Greater, Point::End, false),
@@ -56,9 +50,7 @@ fn left_at(point: Point) -> Option<Left>
 impl<const N: usize> Parser<'_, N> {
     /// Queues the fixed text of a continuation that does nothing else.
     #[inline(always)]
-    pub(super) fn queue_text(&mut self, point: Point) -> Point
-        
-    {
+    pub(super) fn queue_text(&mut self, point: Point) -> Point {
         let Some(left) = left_at(point) else {
             return Point::End;
         };

@@ -1,13 +1,9 @@
 // Made from crates/demangle_v0/src/points/parser.rt by packaging/crate/erase.py: edit that file instead.
 //! The parser, and what its methods share.
 
-
-
-
-
+use crate::demangle_symbol::cursor::{Looks, Symbol};
 use crate::demangle_v0::points::frames::{Frame, FrameStack};
 use crate::demangle_v0::points::{Point, State, Stop};
-use crate::demangle_symbol::cursor::{Looks, Symbol};
 use crate::demangle_words::source::Source;
 use crate::demangle_words::texts::Mark;
 use core::mem;
@@ -30,9 +26,7 @@ impl<'m, const N: usize> Parser<'m, N> {
         include_hash: bool,
         place: usize,
         looks: &mut Looks,
-    ) -> Self
-        
-    {
+    ) -> Self {
         Parser {
             source: Source {
                 symbol,
@@ -49,9 +43,7 @@ impl<'m, const N: usize> Parser<'m, N> {
     /// into it.
     // The caller appends the frames: a parser that is returned with its frames would be copied.
     #[inline(always)]
-    pub(crate) fn without_frames<const M: usize>(&mut self) -> Parser<'m, M>
-        
-    {
+    pub(crate) fn without_frames<const M: usize>(&mut self) -> Parser<'m, M> {
         Parser {
             source: self.source,
             point: self.point,
@@ -65,34 +57,26 @@ impl<'m, const N: usize> Parser<'m, N> {
 impl<const N: usize> Parser<'_, N> {
     /// Pushes a frame with which the parser continues after what is read next.
     #[inline(always)]
-    pub(super) fn push(&mut self, point: Point)
-        
-    {
+    pub(super) fn push(&mut self, point: Point) {
         self.stack.push(self.state.frame(point));
     }
 
     /// Pushes such a frame with another letter.
     #[inline(always)]
-    pub(super) fn push_lettered(&mut self, point: Point, letter: u8)
-        
-    {
+    pub(super) fn push_lettered(&mut self, point: Point, letter: u8) {
         let frame = self.state.frame(point);
         self.stack.push(Frame { letter, ..frame });
     }
 
     /// Leaves a fixed text, which is printed at the end of the step.
     #[inline(always)]
-    pub(super) fn put(&mut self, mark: Mark)
-        
-    {
+    pub(super) fn put(&mut self, mark: Mark) {
         self.state.mark = Some(mark);
     }
 
     /// Leaves the fixed text with which the production ends.
     #[inline(always)]
-    pub(super) fn end_with(&mut self, mark: Mark) -> Point
-        
-    {
+    pub(super) fn end_with(&mut self, mark: Mark) -> Point {
         self.state.mark = Some(mark);
         self.state.is_open = false;
         Point::End
@@ -100,9 +84,7 @@ impl<const N: usize> Parser<'_, N> {
 
     /// Raises the depth. Fails if it has reached the limit.
     #[inline(always)]
-    pub(super) fn enter(&mut self) -> Result<(), Stop>
-        
-    {
+    pub(super) fn enter(&mut self) -> Result<(), Stop> {
         self.state.depth_left = self.state.inner_depth()?;
         Ok(())
     }

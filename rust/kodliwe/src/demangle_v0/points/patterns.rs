@@ -1,8 +1,6 @@
 // Made from crates/demangle_v0/src/points/patterns.rt by packaging/crate/erase.py: edit that file instead.
 //! Continuations of patterns.
 
-
-
 use crate::demangle_v0::points::parser::Parser;
 use crate::demangle_v0::points::{Point, Stop};
 use crate::demangle_words::tags::{PatternKind, pattern_kind};
@@ -13,9 +11,7 @@ impl<const N: usize> Parser<'_, N> {
     ///
     /// `NotNull` has neither, so the pattern ends with its text.
     #[inline(always)]
-    pub(super) fn pattern(&mut self) -> Result<Point, Stop>
-        
-    {
+    pub(super) fn pattern(&mut self) -> Result<Point, Stop> {
         let at = self.state.at()?;
         let (tag, next) = self.source.symbol.tag(at, &mut self.looks)?;
         let kind = pattern_kind(tag).ok_or(Stop::Fault(Mark::Invalid))?;
@@ -40,9 +36,7 @@ impl<const N: usize> Parser<'_, N> {
     ///
     /// After an error it fails with a new error.
     #[inline(always)]
-    pub(super) fn next_pattern(&mut self) -> Result<Point, Stop>
-        
-    {
+    pub(super) fn next_pattern(&mut self) -> Result<Point, Stop> {
         let at = self.state.place.ok_or(Stop::Fault(Mark::Invalid))?;
         if self.source.symbol.is_at(b'E', at, &mut self.looks) {
             self.state.place = Some(at + 1);

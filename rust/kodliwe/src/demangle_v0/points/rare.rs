@@ -1,8 +1,6 @@
 // Made from crates/demangle_v0/src/points/rare.rt by packaging/crate/erase.py: edit that file instead.
 //! Continuations that few symbols have: each is a call, so that the loops stay short.
 
-
-
 use crate::demangle_v0::points::parser::Parser;
 use crate::demangle_v0::points::{Point, Stop};
 use crate::demangle_words::output::Output;
@@ -28,9 +26,7 @@ impl<const N: usize> Parser<'_, N> {
         &mut self,
         point: RarePoint,
         output: &mut V,
-    ) -> Result<Point, Stop>
-        
-    {
+    ) -> Result<Point, Stop> {
         match point {
             RarePoint::FunctionHead => self.function_qualifiers(output),
             RarePoint::DynBinder => self.dyn_binder(output),
@@ -50,9 +46,7 @@ impl<const N: usize> Parser<'_, N> {
         &mut self,
         point: RarePoint,
         output: &mut V,
-    ) -> Result<Point, Stop>
-        
-    {
+    ) -> Result<Point, Stop> {
         // A copy: the results of other continuations need not be where this call writes its own.
         let next = self.call_out_of_line(point, output)?;
         Ok(next)

@@ -1,12 +1,9 @@
 // Made from crates/demangle_v0/src/points/read.rt by packaging/crate/erase.py: edit that file instead.
 //! Parses without output, which read and print nothing.
 
-
-
-
+use crate::demangle_symbol::cursor::MAX_DEPTH;
 use crate::demangle_v0::points::parser::Parser;
 use crate::demangle_v0::points::{Point, State};
-use crate::demangle_symbol::cursor::MAX_DEPTH;
 use crate::demangle_words::output::Silent;
 
 /// A checkpoint: where a parse continues, in a symbol and above frames that are kept elsewhere.
@@ -19,9 +16,7 @@ pub struct Reading {
 impl State {
     /// Returns the state in which the path at a place begins.
     #[inline(always)]
-    pub(super) fn at_path(place: usize) -> Self
-        
-    {
+    pub(super) fn at_path(place: usize) -> Self {
         State {
             in_value: true,
             letter: 0,
@@ -48,26 +43,20 @@ pub enum Halt {
 impl<const N: usize> Parser<'_, N> {
     /// Continues with the path at a place.
     #[inline(always)]
-    pub(crate) fn start_path(&mut self, place: usize)
-        
-    {
+    pub(crate) fn start_path(&mut self, place: usize) {
         self.point = Point::Path;
         self.state = State::at_path(place);
     }
 
     /// Returns the place at which the parser is, unless it found a syntax error.
     #[inline(always)]
-    pub(crate) fn place(&self) -> Option<usize>
-        
-    {
+    pub(crate) fn place(&self) -> Option<usize> {
         self.state.place
     }
 
     /// Reads without output until only the lowest `base` frames are left, the stack is full, or the
     /// symbol has a syntax error.
-    pub(crate) fn read_steps(&mut self, base: usize) -> Halt
-        
-    {
+    pub(crate) fn read_steps(&mut self, base: usize) -> Halt {
         let mut point = self.point;
         'steps: while self.stack.len() < N {
             let Some(at) = self.resume(base, point) else {

@@ -1,8 +1,6 @@
 // Made from crates/demangle_v0/src/points/references.rt by packaging/crate/erase.py: edit that file instead.
 //! Back references, which point to a path, type or constant before them.
 
-
-
 use crate::demangle_v0::points::frames::Frame;
 use crate::demangle_v0::points::parser::Parser;
 use crate::demangle_v0::points::{Point, Stop};
@@ -19,9 +17,7 @@ impl<const N: usize> Parser<'_, N> {
         &mut self,
         unit: Point,
         output: &V,
-    ) -> Result<Point, Stop>
-        
-    {
+    ) -> Result<Point, Stop> {
         let reference = refer(
             self.source.symbol,
             self.state.depth_left,
@@ -52,9 +48,7 @@ impl<const N: usize> Parser<'_, N> {
 
     /// Continues after a back reference, whose target was printed.
     #[inline(always)]
-    pub(super) fn after_backref(&mut self) -> Point
-        
-    {
+    pub(super) fn after_backref(&mut self) -> Point {
         self.state.place = Some(self.state.lifetimes as usize);
         Point::End
     }

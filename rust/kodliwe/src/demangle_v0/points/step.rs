@@ -1,24 +1,17 @@
 // Made from crates/demangle_v0/src/points/step.rt by packaging/crate/erase.py: edit that file instead.
 //! Steps: what is done at a continuation, the fixed text that it leaves, and what is next.
 
-
-
-
-
-
+use crate::demangle_sink::SinkRefused;
 use crate::demangle_v0::points::frames::Frame;
 use crate::demangle_v0::points::parser::Parser;
 use crate::demangle_v0::points::{Point, State, Stop};
-use crate::demangle_sink::SinkRefused;
 use crate::demangle_words::output::Output;
 use crate::demangle_words::stretch::Stretch;
 
 impl State {
     /// Restores what a frame keeps.
     #[inline(always)]
-    fn resume(&mut self, frame: Frame)
-        
-    {
+    fn resume(&mut self, frame: Frame) {
         self.in_value = frame.in_value;
         self.letter = frame.letter;
         self.depth_left = frame.depth_left;
@@ -29,9 +22,7 @@ impl State {
 impl<const N: usize> Parser<'_, N> {
     /// Prints the fixed text that a continuation left, if there is one.
     #[inline(always)]
-    fn flush_pending_text<V: Output>(&mut self, output: &mut V) -> Result<(), SinkRefused>
-        
-    {
+    fn flush_pending_text<V: Output>(&mut self, output: &mut V) -> Result<(), SinkRefused> {
         let mark = self.state.mark;
         // Most iterations leave none. A parse without output clears it untested, which costs less.
         if mark.is_some() || !output.is_printing() {
@@ -53,9 +44,7 @@ impl<const N: usize> Parser<'_, N> {
         &mut self,
         point: Point,
         output: &mut V,
-    ) -> Result<Point, SinkRefused>
-        
-    {
+    ) -> Result<Point, SinkRefused> {
         match self.dispatch(point, output) {
             Ok(next) => {
                 self.flush_pending_text(output)?;
@@ -74,9 +63,7 @@ impl<const N: usize> Parser<'_, N> {
     /// Returns the next continuation. After the end of a production it is that of the frame on top,
     /// which is removed, or `None` if only `base` frames are left.
     #[inline(always)]
-    pub(crate) fn resume(&mut self, base: usize, point: Point) -> Option<Point>
-        
-    {
+    pub(crate) fn resume(&mut self, base: usize, point: Point) -> Option<Point> {
         match point {
             Point::End => {
                 if self.stack.len() <= base {

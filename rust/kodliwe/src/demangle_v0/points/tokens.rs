@@ -1,17 +1,9 @@
 // Made from crates/demangle_v0/src/points/tokens.rt by packaging/crate/erase.py: edit that file instead.
 //! Reading tokens and printing them.
 
-
-
-
-
-
-
-
-
+use crate::demangle_sink::SinkRefused;
 use crate::demangle_v0::points::parser::Parser;
 use crate::demangle_v0::points::{Point, Stop};
-use crate::demangle_sink::SinkRefused;
 use crate::demangle_words::output::Output;
 use crate::demangle_words::read::{TokenReader, WordRead};
 use crate::demangle_words::stretch::Stretch;
@@ -26,9 +18,7 @@ impl<const N: usize> Parser<'_, N> {
         &mut self,
         stretch: &Stretch,
         output: &mut V,
-    ) -> Result<(), SinkRefused>
-        
-    {
+    ) -> Result<(), SinkRefused> {
         output.emit(&self.source, stretch, &mut self.looks)
     }
 
@@ -36,9 +26,7 @@ impl<const N: usize> Parser<'_, N> {
     ///
     /// Lifetimes are only checked if `output` prints.
     #[inline(always)]
-    pub(super) fn token_at<V: Output>(&mut self, word: Word, output: &V) -> WordRead
-        
-    {
+    pub(super) fn token_at<V: Output>(&mut self, word: Word, output: &V) -> WordRead {
         let reader = TokenReader {
             symbol: self.source.symbol,
             tag: self.state.letter,
@@ -54,9 +42,7 @@ impl<const N: usize> Parser<'_, N> {
         &mut self,
         word: Word,
         output: &mut V,
-    ) -> Result<Point, Stop>
-        
-    {
+    ) -> Result<Point, Stop> {
         match self.token_at(word, output) {
             WordRead::Goes(stretch, next) => {
                 self.state.place = next;

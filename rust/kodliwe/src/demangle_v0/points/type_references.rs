@@ -1,11 +1,6 @@
 // Made from crates/demangle_v0/src/points/type_references.rt by packaging/crate/erase.py: edit that file instead.
 //! Continuations of reference types.
 
-
-
-
-
-
 use crate::demangle_v0::points::parser::Parser;
 use crate::demangle_v0::points::{Point, Stop};
 use crate::demangle_words::output::Output;
@@ -14,9 +9,7 @@ use crate::demangle_words::texts::Mark;
 
 /// Returns the continuation after the lifetime of a reference.
 #[inline(always)]
-fn after_reference_lifetime(is_mut: bool) -> Point
-    
-{
+fn after_reference_lifetime(is_mut: bool) -> Point {
     if is_mut { Point::Mut } else { Point::Type }
 }
 
@@ -24,9 +17,7 @@ fn after_reference_lifetime(is_mut: bool) -> Point
 ///
 /// If the index is above the lifetimes in scope, the token is an error, and there is no place.
 #[inline(always)]
-fn spaced_lifetime(lifetimes: u128, index: u64, next: usize) -> (Stretch, Option<usize>)
-    
-{
+fn spaced_lifetime(lifetimes: u128, index: u64, next: usize) -> (Stretch, Option<usize>) {
     if u128::from(index) > lifetimes {
         return (Stretch::SpacedFault, None);
     }
@@ -39,9 +30,7 @@ fn spaced_lifetime(lifetimes: u128, index: u64, next: usize) -> (Stretch, Option
 impl<const N: usize> Parser<'_, N> {
     /// Leaves the `&` of a reference, and reads the `L` if a lifetime follows.
     #[inline(always)]
-    pub(super) fn reference_type(&mut self, is_mut: bool) -> Point
-        
-    {
+    pub(super) fn reference_type(&mut self, is_mut: bool) -> Point {
         self.put(Mark::Ampersand);
         let Some(at) = self.state.place else {
             return after_reference_lifetime(is_mut);
@@ -66,9 +55,7 @@ impl<const N: usize> Parser<'_, N> {
         &mut self,
         is_mut: bool,
         output: &mut V,
-    ) -> Result<Point, Stop>
-        
-    {
+    ) -> Result<Point, Stop> {
         let at = self.state.at()?;
         let (index, next) = self.source.symbol.integer_62(at, &mut self.looks)?;
         self.state.place = Some(next);

@@ -1,10 +1,6 @@
 // Made from crates/demangle_v0/src/points/types.rt by packaging/crate/erase.py: edit that file instead.
 //! The points of types.
 
-
-
-
-
 use crate::demangle_v0::points::parser::Parser;
 use crate::demangle_v0::points::{Point, Stop};
 use crate::demangle_words::output::Output;
@@ -13,9 +9,7 @@ use crate::demangle_words::texts::{Mark, basic_mark};
 
 /// Whether a type is begun, and not only gone on with behind its `w`.
 #[inline(always)]
-pub(super) fn is_begun(point: Point) -> bool
-    
-{
+pub(super) fn is_begun(point: Point) -> bool {
     match point {
         Point::TaggedType => false,
         _ => true,
@@ -25,9 +19,11 @@ pub(super) fn is_begun(point: Point) -> bool
 impl<const N: usize> Parser<'_, N> {
     /// Reads a type. If the type begins here, reads its `w` if it has one, and leaves the rest.
     #[inline(always)]
-    pub(super) fn type_<V: Output>(&mut self, is_begun: bool, output: &mut V) -> Result<Point, Stop>
-        
-    {
+    pub(super) fn type_<V: Output>(
+        &mut self,
+        is_begun: bool,
+        output: &mut V,
+    ) -> Result<Point, Stop> {
         let Some(at) = self.state.place else {
             return Err(Stop::Fault(Mark::AfterError));
         };
@@ -59,9 +55,11 @@ impl<const N: usize> Parser<'_, N> {
     /// A type that is no basic one, behind its tag.
     // References are the commonest, and lie deepest in one another: theirs alone is no call.
     #[inline(always)]
-    fn type_behind_tag<V: Output>(&mut self, kind: TypeKind, output: &mut V) -> Result<Point, Stop>
-        
-    {
+    fn type_behind_tag<V: Output>(
+        &mut self,
+        kind: TypeKind,
+        output: &mut V,
+    ) -> Result<Point, Stop> {
         match kind {
             TypeKind::SharedReference => Ok(self.reference_type(false)),
             TypeKind::MutReference => Ok(self.reference_type(true)),
@@ -76,9 +74,7 @@ impl<const N: usize> Parser<'_, N> {
         &mut self,
         kind: ConstructedType,
         output: &mut V,
-    ) -> Result<Point, Stop>
-        
-    {
+    ) -> Result<Point, Stop> {
         match kind {
             ConstructedType::ConstPointer => {
                 self.put(Mark::Star);
@@ -114,9 +110,7 @@ impl<const N: usize> Parser<'_, N> {
 
     /// Puts a frame on the stack that does nothing but print, where that is heard.
     #[inline(always)]
-    pub(super) fn push_printing<V: Output>(&mut self, point: Point, output: &V)
-        
-    {
+    pub(super) fn push_printing<V: Output>(&mut self, point: Point, output: &V) {
         if output.is_printing() {
             self.push(point);
         }
@@ -124,9 +118,7 @@ impl<const N: usize> Parser<'_, N> {
 
     /// The length of an array, behind its type.
     #[inline(always)]
-    pub(super) fn array_length<V: Output>(&mut self, output: &mut V) -> Point
-        
-    {
+    pub(super) fn array_length<V: Output>(&mut self, output: &mut V) -> Point {
         self.push_printing(Point::CloseBracket, output);
         self.put(Mark::Semicolon);
         self.state.in_value = true;

@@ -1,9 +1,6 @@
 // Made from crates/demangle_v0/src/points/variants.rt by packaging/crate/erase.py: edit that file instead.
 //! Continuations of variants and of their fields.
 
-
-
-
 use crate::demangle_v0::points::parser::Parser;
 use crate::demangle_v0::points::{Point, Stop};
 use crate::demangle_words::output::Output;
@@ -14,9 +11,7 @@ use crate::demangle_words::texts::{Mark, Word};
 impl<const N: usize> Parser<'_, N> {
     /// Ends a variant without fields, and leaves its closing brace outside value position.
     #[inline(always)]
-    fn unit_variant(&mut self) -> Point
-        
-    {
+    fn unit_variant(&mut self) -> Point {
         self.state.is_open = false;
         if self.state.in_value {
             return Point::End;
@@ -29,9 +24,7 @@ impl<const N: usize> Parser<'_, N> {
     ///
     /// Outside value position it also pushes a frame for the variant's closing brace.
     #[inline(always)]
-    fn open_fields(&mut self, mark: Mark, fields: Point) -> Point
-        
-    {
+    fn open_fields(&mut self, mark: Mark, fields: Point) -> Point {
         if !self.state.in_value {
             self.push(Point::CloseBrace);
         }
@@ -41,9 +34,7 @@ impl<const N: usize> Parser<'_, N> {
 
     /// Reads the tag that follows the path of a variant, and opens the variant's fields.
     #[inline(never)]
-    pub(super) fn variant(&mut self) -> Result<Point, Stop>
-        
-    {
+    pub(super) fn variant(&mut self) -> Result<Point, Stop> {
         let at = self.state.at()?;
         let (tag, next) = self.source.symbol.tag(at, &mut self.looks)?;
         let kind = variant_kind(tag).ok_or(Stop::Fault(Mark::Invalid))?;
@@ -59,9 +50,7 @@ impl<const N: usize> Parser<'_, N> {
 
     /// Reads and prints the name of a field.
     #[inline(never)]
-    pub(super) fn field<V: Output>(&mut self, output: &mut V) -> Result<Point, Stop>
-        
-    {
+    pub(super) fn field<V: Output>(&mut self, output: &mut V) -> Result<Point, Stop> {
         match self.token_at(Word::FieldName, output) {
             WordRead::Goes(stretch, next) => {
                 self.state.place = next;

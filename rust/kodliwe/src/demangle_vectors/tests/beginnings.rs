@@ -1,16 +1,16 @@
 // Made from crates/demangle_vectors/src/tests/beginnings.rt by packaging/crate/erase.py: edit that file instead.
 //! Tests of symbols that are cut off.
-use crate::support::rt::HostRuntime;
-use crate::support::vec::CollectIn;
-use crate::support::vec::Vec;
 use super::printed_by;
 use super::vectors::texts;
 use crate::rustc_demangle::{demangle, demangle_bytes, demangle_stream, try_demangle};
 use crate::support::alloc::Global;
-use std::io::ErrorKind;
 use crate::support::process::Abort;
+use crate::support::rt::HostRuntime;
 use crate::support::test::Fail;
+use crate::support::vec::CollectIn;
+use crate::support::vec::Vec;
 use crate::test_doubles::streams::PartsReader;
+use std::io::ErrorKind;
 
 /// Asserts the printed form of a text. A rejected text prints itself, an accepted one prints the
 /// same by both calls, and stripping a second time changes nothing.
@@ -19,7 +19,7 @@ fn assert_printed(rt: &impl Abort, alloc: Global, text: &str) -> Result<(), Fail
     let stripped = symbol.as_str();
     // If nothing was stripped, there is nothing more to strip.
     if stripped != text {
-        assert_eq!( demangle(stripped).as_str(), stripped);
+        assert_eq!(demangle(stripped).as_str(), stripped);
     }
     let tried = try_demangle(text);
     for include_hash in [true, false] {
@@ -27,9 +27,9 @@ fn assert_printed(rt: &impl Abort, alloc: Global, text: &str) -> Result<(), Fail
         match &tried {
             Ok(tried) => {
                 let again = printed_by(alloc, tried, include_hash)?;
-                assert!( again.as_slice() == printed.as_slice(), "{text}");
+                assert!(again.as_slice() == printed.as_slice(), "{text}");
             }
-            Err(_) => assert!( printed.as_slice() == stripped.as_bytes(), "{text}"),
+            Err(_) => assert!(printed.as_slice() == stripped.as_bytes(), "{text}"),
         }
     }
     Ok(())
@@ -83,7 +83,8 @@ fn filter_parts(
 }
 
 #[test]
-fn each_beginning_of_a_symbol_is_taken() -> Result<(), Fail> { let rt = HostRuntime;
+fn each_beginning_of_a_symbol_is_taken() -> Result<(), Fail> {
+    let rt = HostRuntime;
     let alloc = rt.alloc();
     for text in texts(alloc)?.iter() {
         let text = text.as_str();
@@ -97,7 +98,8 @@ fn each_beginning_of_a_symbol_is_taken() -> Result<(), Fail> { let rt = HostRunt
 }
 
 #[test]
-fn the_stream_writes_for_each_beginning_what_the_crate_writes() -> Result<(), Fail> { let rt = HostRuntime;
+fn the_stream_writes_for_each_beginning_what_the_crate_writes() -> Result<(), Fail> {
+    let rt = HostRuntime;
     let alloc = rt.alloc();
     for (include_hash, wanted) in WRITTEN {
         let mut digest = OF_NOTHING;
@@ -110,13 +112,14 @@ fn the_stream_writes_for_each_beginning_what_the_crate_writes() -> Result<(), Fa
                 }
             }
         }
-        assert_eq!( digest, wanted);
+        assert_eq!(digest, wanted);
     }
     Ok(())
 }
 
 #[test]
-fn any_fillings_give_what_the_crate_writes() -> Result<(), Fail> { let rt = HostRuntime;
+fn any_fillings_give_what_the_crate_writes() -> Result<(), Fail> {
+    let rt = HostRuntime;
     let alloc = rt.alloc();
     for ((include_hash, wanted), size) in WRITTEN.iter().zip([1, 3]) {
         let mut digest = OF_NOTHING;
@@ -129,7 +132,7 @@ fn any_fillings_give_what_the_crate_writes() -> Result<(), Fail> { let rt = Host
                 }
             }
         }
-        assert_eq!( digest, *wanted, "by fillings of {size}");
+        assert_eq!(digest, *wanted, "by fillings of {size}");
     }
     Ok(())
 }

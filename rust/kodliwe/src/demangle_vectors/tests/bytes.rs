@@ -1,17 +1,19 @@
 // Made from crates/demangle_vectors/src/tests/bytes.rt by packaging/crate/erase.py: edit that file instead.
 //! Tests of the output for any bytes: with chunks of all sizes, and with a reader or a writer that
 //! fails.
+use super::stream::{DISAMBIGUATOR, HEAD, LINE, ROWS, TAIL};
+use crate::rustc_demangle::{
+    BytesFilter, StreamFault, SymbolMemo, demangle_bytes, demangle_bytes_limited,
+};
+use crate::support::alloc::Global;
+use crate::support::process::Abort;
 use crate::support::rt::HostRuntime;
+use crate::support::test::Fail;
 use crate::support::vec::CollectIn;
 use crate::support::vec::Vec;
-use super::stream::{DISAMBIGUATOR, HEAD, LINE, ROWS, TAIL};
-use crate::rustc_demangle::{BytesFilter, StreamFault, SymbolMemo, demangle_bytes, demangle_bytes_limited};
-use crate::support::alloc::Global;
+use crate::test_doubles::streams::{PartsReader, RefusingWriter};
 use std::io;
 use std::io::{BufRead, ErrorKind, Read, Write};
-use crate::support::process::Abort;
-use crate::support::test::Fail;
-use crate::test_doubles::streams::{PartsReader, RefusingWriter};
 
 /// Asserts the output for bytes that are read in chunks of `size`.
 fn assert_filters(
@@ -26,13 +28,14 @@ fn assert_filters(
     let mut input = PartsReader::new(parts.as_slice(), usize::MAX, ErrorKind::Other);
     let mut output = Vec::new(alloc);
     let result = demangle_bytes(alloc, &mut input, &mut output, include_hash);
-    assert!( result.is_ok(), "of {text:?} by {size}");
-    assert_eq!( output.as_slice(), wanted, "of {text:?} by {size}");
+    assert!(result.is_ok(), "of {text:?} by {size}");
+    assert_eq!(output.as_slice(), wanted, "of {text:?} by {size}");
     Ok(())
 }
 
 #[test]
-fn the_rows_of_the_stream_by_fillings_of_each_size() -> Result<(), Fail> { let rt = HostRuntime;
+fn the_rows_of_the_stream_by_fillings_of_each_size() -> Result<(), Fail> {
+    let rt = HostRuntime;
     for (text, wanted) in ROWS {
         for size in 1..=text.len().saturating_add(1) {
             assert_filters(&rt, rt.alloc(), text, size, true, wanted)?;
@@ -43,7 +46,8 @@ fn the_rows_of_the_stream_by_fillings_of_each_size() -> Result<(), Fail> { let r
 }
 
 #[test]
-fn bytes_between_symbols_are_kept() -> Result<(), Fail> { let rt = HostRuntime;
+fn bytes_between_symbols_are_kept() -> Result<(), Fail> {
+    let rt = HostRuntime;
     let cases: [(&[u8], &[u8]); 10] = [
         (b"caf\xE9 _ZN3fooE\xE9\n", b"caf\xE9 foo\xE9\n"),
         (b"\xFF_ZN3fooE\xFF\n\xFE", b"\xFFfoo\xFF\n\xFE"),
@@ -65,7 +69,8 @@ fn bytes_between_symbols_are_kept() -> Result<(), Fail> { let rt = HostRuntime;
 }
 
 #[test]
-fn a_hash_is_left_out_of_bytes() -> Result<(), Fail> { let rt = HostRuntime;
+fn a_hash_is_left_out_of_bytes() -> Result<(), Fail> {
+    let rt = HostRuntime;
     let text = b"\xE9<_ZN3foo17h05af221e174051e9E>\n".as_slice();
     for size in [1, 2, 3, 64] {
         assert_filters(
@@ -82,12 +87,13 @@ fn a_hash_is_left_out_of_bytes() -> Result<(), Fail> { let rt = HostRuntime;
 }
 
 #[test]
-fn each_symbol_is_cut_at_the_limit() -> Result<(), Fail> { let rt = HostRuntime;
+fn each_symbol_is_cut_at_the_limit() -> Result<(), Fail> {
+    let rt = HostRuntime;
     let alloc = rt.alloc();
     let mut input = b"_ZN3foo3barE _ZN1aE.llvm.1@x\n".as_slice();
     let mut output = Vec::new(alloc);
     let result = demangle_bytes_limited(alloc, &mut input, &mut output, true, 3);
-    assert!( result.is_ok());
+    assert!(result.is_ok());
     assert_eq!(
         output.as_slice(),
         b"foo{size limit reached} a@x\n".as_slice()
@@ -96,7 +102,8 @@ fn each_symbol_is_cut_at_the_limit() -> Result<(), Fail> { let rt = HostRuntime;
 }
 
 #[test]
-fn bytes_before_a_fault_of_the_reader() -> Result<(), Fail> { let rt = HostRuntime;
+fn bytes_before_a_fault_of_the_reader() -> Result<(), Fail> {
+    let rt = HostRuntime;
     let alloc = rt.alloc();
     let parts: [&[u8]; 4] = [b"x _ZN", b"3fooE\n_ZN3", b"barE", b"\n_"];
     // The fourth part is returned by two calls of `fill_buf`. The run that it ends is written
@@ -120,16 +127,16 @@ fn bytes_before_a_fault_of_the_reader() -> Result<(), Fail> { let rt = HostRunti
                 "at {fills}"
             );
         } else {
-            assert!( result.is_ok());
+            assert!(result.is_ok());
         }
-        assert_eq!( output.as_slice(), *wanted, "at {fills}");
+        assert_eq!(output.as_slice(), *wanted, "at {fills}");
         let mut input = PartsReader::new(&parts, fills, ErrorKind::OutOfMemory);
         let mut output = Vec::new(alloc);
         let result = demangle_bytes(alloc, &mut input, &mut output, true);
         if fills < 6 {
-            assert!( matches!(&result, Err(StreamFault::Memory)), "at {fills}");
+            assert!(matches!(&result, Err(StreamFault::Memory)), "at {fills}");
         }
-        assert_eq!( output.as_slice(), *wanted, "at {fills}");
+        assert_eq!(output.as_slice(), *wanted, "at {fills}");
     }
     Ok(())
 }
@@ -169,7 +176,8 @@ impl BufRead for InterruptedReader<'_> {
 }
 
 #[test]
-fn a_step_is_made_again_after_an_interruption() -> Result<(), Fail> { let rt = HostRuntime;
+fn a_step_is_made_again_after_an_interruption() -> Result<(), Fail> {
+    let rt = HostRuntime;
     let alloc = rt.alloc();
     let mut input = InterruptedReader {
         text: b"a _ZN3fooE b\n_RC1a_ZN1bE _ZN3barE",
@@ -187,12 +195,13 @@ fn a_step_is_made_again_after_an_interruption() -> Result<(), Fail> { let rt = H
             Err(fault) => return Err(fault.into_io().into()),
         }
     }
-    assert_eq!( output.as_slice(), b"a foo b\n_RC1a_ZN1bE bar".as_slice());
+    assert_eq!(output.as_slice(), b"a foo b\n_RC1a_ZN1bE bar".as_slice());
     Ok(())
 }
 
 #[test]
-fn the_writer_of_bytes_fails_at_each_write() -> Result<(), Fail> { let rt = HostRuntime;
+fn the_writer_of_bytes_fails_at_each_write() -> Result<(), Fail> {
+    let rt = HostRuntime;
     let alloc = rt.alloc();
     let mut text = Vec::new(alloc);
     let mut wanted_writes: Vec<&[u8]> = Vec::new(alloc);
@@ -217,13 +226,13 @@ fn the_writer_of_bytes_fails_at_each_write() -> Result<(), Fail> { let rt = Host
                 "at {writes}"
             );
         } else {
-            assert!( result.is_ok());
+            assert!(result.is_ok());
         }
         let mut wanted = Vec::from_slice(alloc, b"old")?;
         for write in wanted_writes.iter().take(writes) {
             wanted.extend_from_slice(write)?;
         }
-        assert_eq!( output.held(), wanted.as_slice(), "at {writes}");
+        assert_eq!(output.held(), wanted.as_slice(), "at {writes}");
     }
     Ok(())
 }
@@ -250,14 +259,15 @@ impl Write for ByteWriter {
 }
 
 #[test]
-fn short_writes_lose_nothing() -> Result<(), Fail> { let rt = HostRuntime;
+fn short_writes_lose_nothing() -> Result<(), Fail> {
+    let rt = HostRuntime;
     let alloc = rt.alloc();
     let mut input = b"caf\xE9 _ZN1a1bE.x\n".as_slice();
     let mut output = ByteWriter {
         held: Vec::new(alloc),
     };
     let result = demangle_bytes(alloc, &mut input, &mut output, true);
-    assert!( result.is_ok());
-    assert_eq!( output.held.as_slice(), b"caf\xE9 a::b.x\n".as_slice());
+    assert!(result.is_ok());
+    assert_eq!(output.held.as_slice(), b"caf\xE9 a::b.x\n".as_slice());
     Ok(())
 }

@@ -1,19 +1,21 @@
 // Made from crates/demangle_vectors/src/tests/faults.rt by packaging/crate/erase.py: edit that file instead.
 //! Tests of errors of readers and writers. The caller gets their kind and text, and nothing is
 //! written after one.
+use crate::rustc_demangle::sink::{TextSink, WriteSink};
+use crate::rustc_demangle::{
+    StreamFault, demangle, demangle_bytes, demangle_stream, demangle_stream_named,
+};
+use crate::support::alloc::{AllocError, Global};
 use crate::support::format;
 use crate::support::rt::HostRuntime;
 use crate::support::string::RepeatIn;
 use crate::support::string::String;
+use crate::support::test::Fail;
 use crate::support::vec::CollectIn;
 use crate::support::vec::Vec;
-use crate::rustc_demangle::sink::{TextSink, WriteSink};
-use crate::rustc_demangle::{StreamFault, demangle, demangle_bytes, demangle_stream, demangle_stream_named};
-use crate::support::alloc::{AllocError, Global};
+use crate::test_doubles::streams::{PartsReader, RESET};
 use std::io;
 use std::io::{ErrorKind, Write};
-use crate::support::test::Fail;
-use crate::test_doubles::streams::{PartsReader, RESET};
 
 const GONE: &str = "nobody reads any more";
 
@@ -64,7 +66,8 @@ fn told(alloc: Global, error: &io::Error) -> Result<(ErrorKind, String), AllocEr
 }
 
 #[test]
-fn the_error_of_a_reader_reaches_the_caller() -> Result<(), Fail> { let rt = HostRuntime;
+fn the_error_of_a_reader_reaches_the_caller() -> Result<(), Fail> {
+    let rt = HostRuntime;
     let alloc = rt.alloc();
     let parts = [b"x _ZN3fooE\n_ZN3ba".as_slice()];
     let mut output = Vec::new(alloc);
@@ -74,19 +77,20 @@ fn the_error_of_a_reader_reaches_the_caller() -> Result<(), Fail> { let rt = Hos
         return Err("no fault of the reader".into());
     };
     let (kind, text) = told(alloc, &error)?;
-    assert_eq!( kind, ErrorKind::ConnectionReset);
-    assert_eq!( text.as_str(), RESET);
+    assert_eq!(kind, ErrorKind::ConnectionReset);
+    assert_eq!(text.as_str(), RESET);
     let mut input = PartsReader::new(&parts, 1, ErrorKind::ConnectionReset);
     let result = demangle_stream(alloc, &mut input, &mut output, true);
     let (kind, text) = told(alloc, &result.err().ok_or("no error")?)?;
-    assert_eq!( kind, ErrorKind::ConnectionReset);
-    assert_eq!( text.as_str(), RESET);
-    assert_eq!( output.as_slice(), b"x foo\nx foo\n".as_slice());
+    assert_eq!(kind, ErrorKind::ConnectionReset);
+    assert_eq!(text.as_str(), RESET);
+    assert_eq!(output.as_slice(), b"x foo\nx foo\n".as_slice());
     Ok(())
 }
 
 #[test]
-fn the_errors_of_a_run_over_bytes_reach_the_caller() -> Result<(), Fail> { let rt = HostRuntime;
+fn the_errors_of_a_run_over_bytes_reach_the_caller() -> Result<(), Fail> {
+    let rt = HostRuntime;
     let alloc = rt.alloc();
     let parts = [b"x _ZN3fooE\n_ZN3ba".as_slice()];
     let mut output = Vec::new(alloc);
@@ -96,8 +100,8 @@ fn the_errors_of_a_run_over_bytes_reach_the_caller() -> Result<(), Fail> { let r
         return Err("no fault of the reader".into());
     };
     let (kind, text) = told(alloc, &error)?;
-    assert_eq!( kind, ErrorKind::ConnectionReset);
-    assert_eq!( text.as_str(), RESET);
+    assert_eq!(kind, ErrorKind::ConnectionReset);
+    assert_eq!(text.as_str(), RESET);
     // The writes are `x `, `foo` and the line feed.
     for writes in 0..3usize {
         let mut output = OnceRefusingWriter::new(alloc, writes, ErrorKind::BrokenPipe);
@@ -107,30 +111,32 @@ fn the_errors_of_a_run_over_bytes_reach_the_caller() -> Result<(), Fail> { let r
             return Err("no fault of the writer".into());
         };
         let (kind, text) = told(alloc, &error)?;
-        assert_eq!( kind, ErrorKind::BrokenPipe);
-        assert_eq!( text.as_str(), GONE, "at {writes}");
-        assert_eq!( output.late, 0usize, "at {writes}");
+        assert_eq!(kind, ErrorKind::BrokenPipe);
+        assert_eq!(text.as_str(), GONE, "at {writes}");
+        assert_eq!(output.late, 0usize, "at {writes}");
     }
     Ok(())
 }
 
 #[test]
-fn want_of_memory_in_a_reader_keeps_its_kind_alone() -> Result<(), Fail> { let rt = HostRuntime;
+fn want_of_memory_in_a_reader_keeps_its_kind_alone() -> Result<(), Fail> {
+    let rt = HostRuntime;
     let alloc = rt.alloc();
     let parts = [b"x _ZN3fooE\n".as_slice()];
     let reader = || PartsReader::new(&parts, 1, ErrorKind::OutOfMemory);
     let mut output = Vec::new(alloc);
     let result = demangle_stream_named(alloc, &mut reader(), &mut output, true);
-    assert!( matches!(&result, Err(StreamFault::Memory)));
+    assert!(matches!(&result, Err(StreamFault::Memory)));
     let result = demangle_stream(alloc, &mut reader(), &mut output, true);
     let (kind, text) = told(alloc, &result.err().ok_or("no error")?)?;
-    assert_eq!( kind, ErrorKind::OutOfMemory);
-    assert!( text.as_str() != RESET);
+    assert_eq!(kind, ErrorKind::OutOfMemory);
+    assert!(text.as_str() != RESET);
     Ok(())
 }
 
 #[test]
-fn the_error_of_a_writer_reaches_the_caller() -> Result<(), Fail> { let rt = HostRuntime;
+fn the_error_of_a_writer_reaches_the_caller() -> Result<(), Fail> {
+    let rt = HostRuntime;
     let alloc = rt.alloc();
     for wanted in [ErrorKind::BrokenPipe, ErrorKind::OutOfMemory] {
         let mut output = OnceRefusingWriter::new(alloc, 1, wanted);
@@ -140,26 +146,27 @@ fn the_error_of_a_writer_reaches_the_caller() -> Result<(), Fail> { let rt = Hos
             return Err("no fault of the writer".into());
         };
         let (kind, text) = told(alloc, &error)?;
-        assert_eq!( kind, wanted);
-        assert_eq!( text.as_str(), GONE);
+        assert_eq!(kind, wanted);
+        assert_eq!(text.as_str(), GONE);
         let mut output = OnceRefusingWriter::new(alloc, 1, wanted);
         let mut input = b"x _ZN3fooE\n".as_slice();
         let result = demangle_stream(alloc, &mut input, &mut output, true);
         let (kind, text) = told(alloc, &result.err().ok_or("no error")?)?;
-        assert_eq!( kind, wanted);
-        assert_eq!( text.as_str(), GONE);
+        assert_eq!(kind, wanted);
+        assert_eq!(text.as_str(), GONE);
         let mut output = OnceRefusingWriter::new(alloc, 1, wanted);
         let mut sink = WriteSink::new(&mut output);
-        assert!( demangle("_ZN1a1bE").write_to(&mut sink, true).is_err());
+        assert!(demangle("_ZN1a1bE").write_to(&mut sink, true).is_err());
         let (kind, text) = told(alloc, &sink.into_fault().ok_or("no fault")?)?;
-        assert_eq!( kind, wanted);
-        assert_eq!( text.as_str(), GONE);
+        assert_eq!(kind, wanted);
+        assert_eq!(text.as_str(), GONE);
     }
     Ok(())
 }
 
 #[test]
-fn both_stream_calls_meet_the_same_fault() -> Result<(), Fail> { let rt = HostRuntime;
+fn both_stream_calls_meet_the_same_fault() -> Result<(), Fail> {
+    let rt = HostRuntime;
     let alloc = rt.alloc();
     let cases: [(&[u8], ErrorKind, usize); 5] = [
         (b"x _ZN3fooE\n", ErrorKind::ConnectionReset, 100),
@@ -179,31 +186,25 @@ fn both_stream_calls_meet_the_same_fault() -> Result<(), Fail> { let rt = HostRu
             let error = demangle_stream(alloc, &mut reader(), &mut output, include_hash);
             let (wanted_kind, wanted_text) = told(alloc, &fault)?;
             let (kind, message) = told(alloc, &error.err().ok_or("no error")?)?;
-            assert_eq!( kind, wanted_kind, "of {text:?}");
-            assert_eq!( message.as_str(), wanted_text.as_str(), "of {text:?}");
-            assert_eq!(
-                output.held.as_slice(),
-                named.held.as_slice(),
-                "of {text:?}"
-            );
+            assert_eq!(kind, wanted_kind, "of {text:?}");
+            assert_eq!(message.as_str(), wanted_text.as_str(), "of {text:?}");
+            assert_eq!(output.held.as_slice(), named.held.as_slice(), "of {text:?}");
         }
     }
     Ok(())
 }
 
 #[test]
-fn nothing_is_written_behind_the_first_fault() -> Result<(), Fail> { let rt = HostRuntime;
+fn nothing_is_written_behind_the_first_fault() -> Result<(), Fail> {
+    let rt = HostRuntime;
     let alloc = rt.alloc();
     for writes in 0..12usize {
         let mut input = b"a _ZN1a1bE.x b\n_RCs_3foo c\nd\n".as_slice();
         let mut output = OnceRefusingWriter::new(alloc, writes, ErrorKind::BrokenPipe);
         let result = demangle_stream_named(alloc, &mut input, &mut output, true);
-        assert!(
-            matches!(&result, Err(StreamFault::Write(_))),
-            "at {writes}"
-        );
-        assert!( output.has_refused, "at {writes}");
-        assert_eq!( output.late, 0, "at {writes}");
+        assert!(matches!(&result, Err(StreamFault::Write(_))), "at {writes}");
+        assert!(output.has_refused, "at {writes}");
+        assert_eq!(output.late, 0, "at {writes}");
     }
     for symbol in ["_ZN1a1bE.x", "_RNvC1a1b.x", "a"] {
         let symbol = demangle(symbol);
@@ -211,40 +212,42 @@ fn nothing_is_written_behind_the_first_fault() -> Result<(), Fail> { let rt = Ho
             let mut output = OnceRefusingWriter::new(alloc, writes, ErrorKind::BrokenPipe);
             let mut sink = WriteSink::new(&mut output);
             let result = symbol.write_to(&mut sink, true);
-            assert_eq!( result.is_err(), sink.is_failed(), "at {writes}");
+            assert_eq!(result.is_err(), sink.is_failed(), "at {writes}");
             assert_eq!(
                 sink.into_fault().is_some(),
                 output.has_refused,
                 "at {writes}"
             );
-            assert_eq!( output.late, 0, "at {writes}");
+            assert_eq!(output.late, 0, "at {writes}");
         }
     }
     Ok(())
 }
 
 #[test]
-fn a_hundred_thousand_lines_are_copied() -> Result<(), Fail> { let rt = HostRuntime;
+fn a_hundred_thousand_lines_are_copied() -> Result<(), Fail> {
+    let rt = HostRuntime;
     let alloc = rt.alloc();
     let text = "x _ZN3fooE\n".repeat_in(alloc, 100_000)?;
     let wanted = "x foo\n".repeat_in(alloc, 100_000)?;
     let mut input = text.as_str().as_bytes();
     let mut output = Vec::new(alloc);
     demangle_stream(alloc, &mut input, &mut output, true)?;
-    assert!( output.as_slice() == wanted.as_str().as_bytes());
+    assert!(output.as_slice() == wanted.as_str().as_bytes());
     Ok(())
 }
 
 #[test]
-fn a_line_comes_in_ten_thousand_parts() -> Result<(), Fail> { let rt = HostRuntime;
+fn a_line_comes_in_ten_thousand_parts() -> Result<(), Fail> {
+    let rt = HostRuntime;
     let alloc = rt.alloc();
     let text = "x _ZN3fooE, ".repeat_in(alloc, 1_000)?;
     let wanted = "x foo, ".repeat_in(alloc, 1_000)?;
     let parts: Vec<&[u8]> = text.as_str().as_bytes().chunks(1).collect_in(alloc)?;
     let mut input = PartsReader::new(parts.as_slice(), usize::MAX, ErrorKind::Other);
-    assert!( text.as_str().len() > 10_000);
+    assert!(text.as_str().len() > 10_000);
     let mut output = Vec::new(alloc);
     demangle_stream(alloc, &mut input, &mut output, true)?;
-    assert!( output.as_slice() == wanted.as_str().as_bytes());
+    assert!(output.as_slice() == wanted.as_str().as_bytes());
     Ok(())
 }

@@ -1,15 +1,16 @@
 // Made from crates/demangle_vectors/src/tests/formats.rt by packaging/crate/erase.py: edit that file instead.
 //! Tests of `Display` and `Debug`.
+use crate::rustc_demangle::demangle;
 use crate::support::format;
 use crate::support::rt::HostRuntime;
 use crate::support::string::String;
-use crate::rustc_demangle::demangle;
+use crate::support::test::Fail;
 use core::fmt;
 use core::fmt::Write;
-use crate::support::test::Fail;
 
 #[test]
-fn the_alternate_flag_leaves_out_the_hash() -> Result<(), Fail> { let rt = HostRuntime;
+fn the_alternate_flag_leaves_out_the_hash() -> Result<(), Fail> {
+    let rt = HostRuntime;
     let alloc = rt.alloc();
     for (symbol, plain, alt) in [
         (
@@ -28,22 +29,23 @@ fn the_alternate_flag_leaves_out_the_hash() -> Result<(), Fail> { let rt = HostR
         ("no symbol.llvm.AB", "no symbol", "no symbol"),
     ] {
         let symbol = demangle(symbol);
-        assert_eq!( format!(in alloc; "{}", symbol)?.as_str(), plain);
-        assert_eq!( format!(in alloc; "{:?}", symbol)?.as_str(), plain);
-        assert_eq!( format!(in alloc; "{:>40}", symbol)?.as_str(), plain);
-        assert_eq!( format!(in alloc; "{:*^+040.2}", symbol)?.as_str(), plain);
-        assert_eq!( format!(in alloc; "{:#}", symbol)?.as_str(), alt);
-        assert_eq!( format!(in alloc; "{:>40?}", symbol)?.as_str(), plain);
-        assert_eq!( format!(in alloc; "{:40?}", symbol)?.as_str(), plain);
-        assert_eq!( format!(in alloc; "{:.3?}", symbol)?.as_str(), plain);
-        assert_eq!( format!(in alloc; "{:#?}", symbol)?.as_str(), alt);
-        assert_eq!( format!(in alloc; "{:#>40.3?}", symbol)?.as_str(), plain);
+        assert_eq!(format!(in alloc; "{}", symbol)?.as_str(), plain);
+        assert_eq!(format!(in alloc; "{:?}", symbol)?.as_str(), plain);
+        assert_eq!(format!(in alloc; "{:>40}", symbol)?.as_str(), plain);
+        assert_eq!(format!(in alloc; "{:*^+040.2}", symbol)?.as_str(), plain);
+        assert_eq!(format!(in alloc; "{:#}", symbol)?.as_str(), alt);
+        assert_eq!(format!(in alloc; "{:>40?}", symbol)?.as_str(), plain);
+        assert_eq!(format!(in alloc; "{:40?}", symbol)?.as_str(), plain);
+        assert_eq!(format!(in alloc; "{:.3?}", symbol)?.as_str(), plain);
+        assert_eq!(format!(in alloc; "{:#?}", symbol)?.as_str(), alt);
+        assert_eq!(format!(in alloc; "{:#>40.3?}", symbol)?.as_str(), plain);
     }
     Ok(())
 }
 
 #[test]
-fn a_symbol_of_ten_thousand_bytes_is_written_whole() -> Result<(), Fail> { let rt = HostRuntime;
+fn a_symbol_of_ten_thousand_bytes_is_written_whole() -> Result<(), Fail> {
+    let rt = HostRuntime;
     let alloc = rt.alloc();
     let mut symbol = String::from_str(alloc, "_ZN3foo")?;
     let mut wanted = String::from_str(alloc, "foo")?;
@@ -53,15 +55,9 @@ fn a_symbol_of_ten_thousand_bytes_is_written_whole() -> Result<(), Fail> { let r
     }
     symbol.push_str("E")?;
     let symbol = demangle(symbol.as_str());
-    assert_eq!( format!(in alloc; "{}", symbol)?.as_str(), wanted.as_str());
-    assert_eq!(
-        format!(in alloc; "{:#}", symbol)?.as_str(),
-        wanted.as_str()
-    );
-    assert_eq!(
-        format!(in alloc; "{:?}", symbol)?.as_str(),
-        wanted.as_str()
-    );
+    assert_eq!(format!(in alloc; "{}", symbol)?.as_str(), wanted.as_str());
+    assert_eq!(format!(in alloc; "{:#}", symbol)?.as_str(), wanted.as_str());
+    assert_eq!(format!(in alloc; "{:?}", symbol)?.as_str(), wanted.as_str());
     Ok(())
 }
 
@@ -85,11 +81,7 @@ fn a_refused_piece_is_an_error() {
     let symbol = demangle("_ZN1a1bE.x");
     for left in 0..5usize {
         let mut text = Refusing { left };
-        assert_eq!(
-            write!(text, "{}", symbol).is_ok(),
-            left == 4,
-            "with {left}"
-        );
+        assert_eq!(write!(text, "{}", symbol).is_ok(), left == 4, "with {left}");
         let mut text = Refusing { left };
         assert_eq!(
             write!(text, "{:?}", symbol).is_ok(),
@@ -98,5 +90,5 @@ fn a_refused_piece_is_an_error() {
         );
     }
     let mut text = Refusing { left: 0 };
-    assert!( write!(text, "{}", demangle("_ZNE")).is_ok());
+    assert!(write!(text, "{}", demangle("_ZNE")).is_ok());
 }

@@ -1,13 +1,14 @@
 // Made from crates/demangle_vectors/src/tests/hostile.rt by packaging/crate/erase.py: edit that file instead.
 //! Tests of symbols that are made to do harm.
+use super::{assert_prints, assert_refused, print_symbol};
 use crate::support::format;
 use crate::support::rt::HostRuntime;
 use crate::support::string::RepeatIn;
-use super::{assert_prints, assert_refused, print_symbol};
 use crate::support::test::Fail;
 
 #[test]
-fn lengths_without_bound_are_refused() { let rt = HostRuntime;
+fn lengths_without_bound_are_refused() {
+    let rt = HostRuntime;
     for text in [
         "_ZN1000000000000000000000000000000aE",
         "_ZN18446744073709551616aE",
@@ -21,14 +22,16 @@ fn lengths_without_bound_are_refused() { let rt = HostRuntime;
 }
 
 #[test]
-fn control_characters_are_kept() { let rt = HostRuntime;
+fn control_characters_are_kept() {
+    let rt = HostRuntime;
     assert_prints(&rt, "_ZN1\0E", "\0", "\0");
     assert_prints(&rt, "_ZN1\x7fE", "\x7f", "\x7f");
     assert_prints(&rt, "_ZN3a\nbE", "a\nb", "a\nb");
 }
 
 #[test]
-fn a_million_elements_print_up_to_the_limit() -> Result<(), Fail> { let rt = HostRuntime;
+fn a_million_elements_print_up_to_the_limit() -> Result<(), Fail> {
+    let rt = HostRuntime;
     let alloc = rt.alloc();
     let elements = "1a".repeat_in(alloc, 1_000_000)?;
     let symbol = format!(in alloc; "_ZN{}E", elements.as_str())?;
@@ -36,13 +39,14 @@ fn a_million_elements_print_up_to_the_limit() -> Result<(), Fail> { let rt = Hos
     let wanted = format!(in alloc; "a{}{{size limit reached}}", path.as_str())?;
     for include_hash in [true, false] {
         let text = print_symbol(alloc, symbol.as_str(), include_hash)?;
-        assert!( text.as_slice() == wanted.as_bytes());
+        assert!(text.as_slice() == wanted.as_bytes());
     }
     Ok(())
 }
 
 #[test]
-fn a_million_special_characters_print_as_they_should() -> Result<(), Fail> { let rt = HostRuntime;
+fn a_million_special_characters_print_as_they_should() -> Result<(), Fail> {
+    let rt = HostRuntime;
     let alloc = rt.alloc();
     for (len, unit, count, printed_unit) in [
         (1_000_000, "$", 1_000_000, "$"),
@@ -54,13 +58,14 @@ fn a_million_special_characters_print_as_they_should() -> Result<(), Fail> { let
         let symbol = format!(in alloc; "_ZN{len}{}E", element.as_str())?;
         let wanted = printed_unit.repeat_in(alloc, count)?;
         let text = print_symbol(alloc, symbol.as_str(), true)?;
-        assert!( text.as_slice() == wanted.as_bytes(), "of {unit}");
+        assert!(text.as_slice() == wanted.as_bytes(), "of {unit}");
     }
     Ok(())
 }
 
 #[test]
-fn a_million_zeros_are_one_length() -> Result<(), Fail> { let rt = HostRuntime;
+fn a_million_zeros_are_one_length() -> Result<(), Fail> {
+    let rt = HostRuntime;
     let alloc = rt.alloc();
     let zeros = "0".repeat_in(alloc, 1_000_000)?;
     let zeros = zeros.as_str();
@@ -70,6 +75,6 @@ fn a_million_zeros_are_one_length() -> Result<(), Fail> { let rt = HostRuntime;
         b"a".as_slice()
     );
     let empty = format!(in alloc; "_ZN{zeros}E")?;
-    assert!( print_symbol(alloc, empty.as_str(), true)?.is_empty());
+    assert!(print_symbol(alloc, empty.as_str(), true)?.is_empty());
     Ok(())
 }

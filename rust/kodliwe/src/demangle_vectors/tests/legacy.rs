@@ -1,10 +1,11 @@
 // Made from crates/demangle_vectors/src/tests/legacy.rt by packaging/crate/erase.py: edit that file instead.
 //! Tests of legacy symbols.
-use crate::support::rt::HostRuntime;
 use super::assert_prints;
+use crate::support::rt::HostRuntime;
 
 #[test]
-fn paths_print_their_elements() { let rt = HostRuntime;
+fn paths_print_their_elements() {
+    let rt = HostRuntime;
     for (symbol, path) in [
         ("_ZN003fooE", "foo"),
         ("_ZNE", ""),
@@ -16,7 +17,8 @@ fn paths_print_their_elements() { let rt = HostRuntime;
 }
 
 #[test]
-fn escapes_give_their_characters() { let rt = HostRuntime;
+fn escapes_give_their_characters() {
+    let rt = HostRuntime;
     for (symbol, path) in [
         ("_ZN14$u00000000041$E", "A"),
         ("_ZN4_$C$E", ","),
@@ -30,7 +32,8 @@ fn escapes_give_their_characters() { let rt = HostRuntime;
 }
 
 #[test]
-fn unknown_escapes_leave_the_rest_as_it_is() { let rt = HostRuntime;
+fn unknown_escapes_leave_the_rest_as_it_is() {
+    let rt = HostRuntime;
     for (symbol, path) in [
         ("_ZN10a$XX$b..cdE", "a$XX$b..cd"),
         ("_ZN5a$u7$E", "a$u7$"),
@@ -47,7 +50,8 @@ fn unknown_escapes_leave_the_rest_as_it_is() { let rt = HostRuntime;
 }
 
 #[test]
-fn a_last_hash_is_printed_in_the_plain_form_alone() { let rt = HostRuntime;
+fn a_last_hash_is_printed_in_the_plain_form_alone() {
+    let rt = HostRuntime;
     for (symbol, plain, alt) in [
         (
             "_ZN3foo17h05af221e174051e9E",
@@ -63,7 +67,8 @@ fn a_last_hash_is_printed_in_the_plain_form_alone() { let rt = HostRuntime;
 }
 
 #[test]
-fn suffixes_follow_the_path() { let rt = HostRuntime;
+fn suffixes_follow_the_path() {
+    let rt = HostRuntime;
     for (symbol, plain, alt) in [
         ("_ZN3fooE.x", "foo.x", "foo.x"),
         ("_ZNE.", ".", "."),

@@ -1,11 +1,11 @@
 // Made from crates/demangle_vectors/src/tests/limits.rt by packaging/crate/erase.py: edit that file instead.
 //! Tests of symbols under a size limit.
-use crate::support::format;
-use crate::support::rt::HostRuntime;
-use crate::support::string::RepeatIn;
 use super::assert_prints_long;
 use crate::rustc_demangle::sink::{ArraySink, TextSink};
 use crate::rustc_demangle::{Looks, demangle};
+use crate::support::format;
+use crate::support::rt::HostRuntime;
+use crate::support::string::RepeatIn;
 use crate::support::test::Fail;
 
 /// Returns `true` if a text prints as `text` under a limit, with its looks counted and without.
@@ -69,14 +69,15 @@ fn a_hash_that_is_left_out_counts_nothing() {
         (21, "foo::{size limit reached}"),
         (22, "foo::h05af221e174051e9"),
     ] {
-        assert!( limited_is(symbol, true, limit, text), "at {limit}");
+        assert!(limited_is(symbol, true, limit, text), "at {limit}");
     }
-    assert!( limited_is(symbol, false, 2, "{size limit reached}"));
-    assert!( limited_is(symbol, false, 3, "foo"));
+    assert!(limited_is(symbol, false, 2, "{size limit reached}"));
+    assert!(limited_is(symbol, false, 3, "foo"));
 }
 
 #[test]
-fn a_million_bytes_are_printed_and_no_more() -> Result<(), Fail> { let rt = HostRuntime;
+fn a_million_bytes_are_printed_and_no_more() -> Result<(), Fail> {
+    let rt = HostRuntime;
     let alloc = rt.alloc();
     let million = "a".repeat_in(alloc, 1_000_000)?;
     let million = million.as_str();
@@ -91,7 +92,8 @@ fn a_million_bytes_are_printed_and_no_more() -> Result<(), Fail> { let rt = Host
 }
 
 #[test]
-fn the_marker_is_one_piece() -> Result<(), Fail> { let rt = HostRuntime;
+fn the_marker_is_one_piece() -> Result<(), Fail> {
+    let rt = HostRuntime;
     let alloc = rt.alloc();
     let million = "a".repeat_in(alloc, 1_000_000)?;
     let million = million.as_str();
@@ -99,13 +101,13 @@ fn the_marker_is_one_piece() -> Result<(), Fail> { let rt = HostRuntime;
     let symbol = demangle(longer.as_str());
     for include_hash in [true, false] {
         let mut sink: ArraySink<10> = ArraySink::new();
-        assert!( symbol.write_to(&mut sink, include_hash).is_err());
-        assert!( sink.is_failed());
-        assert_eq!( sink.as_str(), "");
+        assert!(symbol.write_to(&mut sink, include_hash).is_err());
+        assert!(sink.is_failed());
+        assert_eq!(sink.as_str(), "");
         let mut sink: ArraySink<20> = ArraySink::new();
-        assert!( symbol.write_to(&mut sink, include_hash).is_ok());
-        assert!( !sink.is_failed());
-        assert_eq!( sink.as_str(), "{size limit reached}");
+        assert!(symbol.write_to(&mut sink, include_hash).is_ok());
+        assert!(!sink.is_failed());
+        assert_eq!(sink.as_str(), "{size limit reached}");
     }
     Ok(())
 }
@@ -115,11 +117,11 @@ fn the_marker_fits_or_is_refused() {
     let symbol = demangle("_ZN3foo3barE");
     for include_hash in [true, false] {
         let mut sink: ArraySink<25> = ArraySink::new();
-        assert!( symbol.write_limited(&mut sink, include_hash, 5).is_ok());
-        assert_eq!( sink.as_str(), "foo::{size limit reached}");
+        assert!(symbol.write_limited(&mut sink, include_hash, 5).is_ok());
+        assert_eq!(sink.as_str(), "foo::{size limit reached}");
         let mut sink: ArraySink<24> = ArraySink::new();
-        assert!( symbol.write_limited(&mut sink, include_hash, 5).is_err());
-        assert!( sink.is_failed());
-        assert_eq!( sink.as_str(), "foo::");
+        assert!(symbol.write_limited(&mut sink, include_hash, 5).is_err());
+        assert!(sink.is_failed());
+        assert_eq!(sink.as_str(), "foo::");
     }
 }

@@ -1,11 +1,12 @@
 // Made from crates/demangle_vectors/src/tests/refused.rt by packaging/crate/erase.py: edit that file instead.
 //! Tests of texts that are not symbols.
-use crate::support::rt::HostRuntime;
 use super::assert_refused;
 use crate::demangle_vectors::printed_is;
+use crate::support::rt::HostRuntime;
 
 #[test]
-fn texts_that_no_grammar_spells_print_themselves() { let rt = HostRuntime;
+fn texts_that_no_grammar_spells_print_themselves() {
+    let rt = HostRuntime;
     for text in [
         "",
         "é",
@@ -24,7 +25,8 @@ fn texts_that_no_grammar_spells_print_themselves() { let rt = HostRuntime;
 }
 
 #[test]
-fn symbols_with_a_suffix_that_is_not_allowed_print_themselves() { let rt = HostRuntime;
+fn symbols_with_a_suffix_that_is_not_allowed_print_themselves() {
+    let rt = HostRuntime;
     for text in [
         "_ZN3fooE.a b",
         "_ZN3fooEx",
@@ -43,7 +45,8 @@ fn symbols_with_a_suffix_that_is_not_allowed_print_themselves() { let rt = HostR
 }
 
 #[test]
-fn an_ending_of_thin_lto_is_taken_off_any_text() { let rt = HostRuntime;
+fn an_ending_of_thin_lto_is_taken_off_any_text() {
+    let rt = HostRuntime;
     for (text, printed) in [
         ("foo.llvm.AB", "foo"),
         ("foo.llvm.", "foo"),
@@ -58,7 +61,7 @@ fn an_ending_of_thin_lto_is_taken_off_any_text() { let rt = HostRuntime;
 
 #[test]
 fn printed_is_says_no() {
-    assert!( !printed_is("_ZN3foo17h05af221e174051e9E", true, "foo"));
-    assert!( !printed_is("_ZN3fooE", true, "fo"));
-    assert!( !printed_is("_ZN3fooE", true, "fooo"));
+    assert!(!printed_is("_ZN3foo17h05af221e174051e9E", true, "foo"));
+    assert!(!printed_is("_ZN3fooE", true, "fo"));
+    assert!(!printed_is("_ZN3fooE", true, "fooo"));
 }

@@ -1,14 +1,14 @@
 // Made from crates/demangle_vectors/src/tests/repeats.rt by packaging/crate/erase.py: edit that file instead.
 //! Tests of repeated symbols, with chunks of all sizes and several limits.
-use crate::support::rt::HostRuntime;
-use crate::support::vec::CollectIn;
-use crate::support::vec::Vec;
 use crate::rustc_demangle::{BytesFilter, SymbolMemo, demangle_bytes_limited};
 use crate::support::alloc::{AllocError, Global};
-use std::io::ErrorKind;
 use crate::support::process::Abort;
+use crate::support::rt::HostRuntime;
 use crate::support::test::Fail;
+use crate::support::vec::CollectIn;
+use crate::support::vec::Vec;
 use crate::test_doubles::streams::{PartsReader, RefusingWriter};
+use std::io::ErrorKind;
 
 /// The number of times that each text is repeated.
 const TIMES: usize = 5;
@@ -125,7 +125,8 @@ fn repeated(alloc: Global, text: &[u8]) -> Result<Vec<u8>, AllocError> {
 }
 
 #[test]
-fn a_repeated_run_is_written_alike() -> Result<(), Fail> { let rt = HostRuntime;
+fn a_repeated_run_is_written_alike() -> Result<(), Fail> {
+    let rt = HostRuntime;
     let alloc = rt.alloc();
     for (run, limit, plain, alt) in ROWS {
         let text = repeated(alloc, run)?;
@@ -159,7 +160,8 @@ fn tuple_of(alloc: Global, text: &[u8], times: usize) -> Result<Vec<u8>, AllocEr
 }
 
 #[test]
-fn a_long_text_is_written_whole_each_time() -> Result<(), Fail> { let rt = HostRuntime;
+fn a_long_text_is_written_whole_each_time() -> Result<(), Fail> {
+    let rt = HostRuntime;
     let alloc = rt.alloc();
     let mut printed = Vec::from_slice(alloc, b"a::<")?;
     let mut tuple = tuple_of(alloc, b"u64", 16)?;
@@ -185,7 +187,8 @@ fn a_long_text_is_written_whole_each_time() -> Result<(), Fail> { let rt = HostR
 }
 
 #[test]
-fn runs_that_take_turns_keep_their_texts() -> Result<(), Fail> { let rt = HostRuntime;
+fn runs_that_take_turns_keep_their_texts() -> Result<(), Fail> {
+    let rt = HostRuntime;
     let alloc = rt.alloc();
     for include_hash in [true, false] {
         let mut text = Vec::new(alloc);
@@ -214,7 +217,8 @@ fn runs_that_take_turns_keep_their_texts() -> Result<(), Fail> { let rt = HostRu
 }
 
 #[test]
-fn filters_share_a_memo() -> Result<(), Fail> { let rt = HostRuntime;
+fn filters_share_a_memo() -> Result<(), Fail> {
+    let rt = HostRuntime;
     let alloc = rt.alloc();
     let mut memo = SymbolMemo::new(alloc, false, 1_000_000);
     let mut output = Vec::new(alloc);
@@ -229,12 +233,13 @@ fn filters_share_a_memo() -> Result<(), Fail> { let rt = HostRuntime;
             }
         }
     }
-    assert_eq!( output.as_slice(), repeated(alloc, b"<foo>")?.as_slice());
+    assert_eq!(output.as_slice(), repeated(alloc, b"<foo>")?.as_slice());
     Ok(())
 }
 
 #[test]
-fn a_repeated_symbol_is_one_write() -> Result<(), Fail> { let rt = HostRuntime;
+fn a_repeated_symbol_is_one_write() -> Result<(), Fail> {
+    let rt = HostRuntime;
     let alloc = rt.alloc();
     let text = repeated(alloc, b"_RNvC5crate4main.llvm.0@1")?;
     // The symbol is written piece by piece when it is found first.
@@ -256,12 +261,12 @@ fn a_repeated_symbol_is_one_write() -> Result<(), Fail> { let rt = HostRuntime;
         let mut input = text.as_slice();
         let mut output = RefusingWriter::new(alloc, b"", taken, true)?;
         let result = demangle_bytes_limited(alloc, &mut input, &mut output, true, 1_000_000);
-        assert_eq!( result.is_ok(), taken == writes.len(), "at {taken}");
+        assert_eq!(result.is_ok(), taken == writes.len(), "at {taken}");
         let mut wanted = Vec::new(alloc);
         for write in writes.iter().take(taken) {
             wanted.extend_from_slice(write)?;
         }
-        assert_eq!( output.held(), wanted.as_slice(), "at {taken}");
+        assert_eq!(output.held(), wanted.as_slice(), "at {taken}");
     }
     Ok(())
 }

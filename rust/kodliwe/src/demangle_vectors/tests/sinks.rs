@@ -1,12 +1,12 @@
 // Made from crates/demangle_vectors/src/tests/sinks.rt by packaging/crate/erase.py: edit that file instead.
 //! Tests of sinks that take a part of the text, and of their contents then.
-use crate::support::rt::HostRuntime;
 use crate::rustc_demangle::sink::{ArraySink, TextSink, WriteSink};
 use crate::rustc_demangle::{demangle, demangle_stream};
-use std::io;
-use std::io::{ErrorKind, Write};
+use crate::support::rt::HostRuntime;
 use crate::support::test::Fail;
 use crate::test_doubles::RefusingSink;
+use std::io;
+use std::io::{ErrorKind, Write};
 
 /// Counts the texts that are written completely, their bytes, and the flushes.
 #[derive(Default)]
@@ -39,13 +39,13 @@ fn a_full_sink_holds_the_pieces_before_the_refused_one() {
     let symbol = demangle("_ZN1a1bE");
     for include_hash in [true, false] {
         let mut sink: ArraySink<4> = ArraySink::new();
-        assert!( symbol.write_to(&mut sink, include_hash).is_ok());
-        assert_eq!( sink.as_str(), "a::b");
-        assert!( !sink.is_failed());
+        assert!(symbol.write_to(&mut sink, include_hash).is_ok());
+        assert_eq!(sink.as_str(), "a::b");
+        assert!(!sink.is_failed());
         let mut sink: ArraySink<2> = ArraySink::new();
-        assert!( symbol.write_to(&mut sink, include_hash).is_err());
-        assert_eq!( sink.as_str(), "a");
-        assert!( sink.is_failed());
+        assert!(symbol.write_to(&mut sink, include_hash).is_err());
+        assert_eq!(sink.as_str(), "a");
+        assert!(sink.is_failed());
     }
 }
 
@@ -57,9 +57,9 @@ fn each_piece_is_refused_in_turn() {
         for include_hash in [true, false] {
             let mut sink = RefusingSink::new(pieces.saturating_add(1));
             let result = symbol.write_to(&mut sink, include_hash);
-            assert_eq!( result.is_ok(), pieces == 4, "after {pieces}");
-            assert_eq!( sink.is_failed(), pieces != 4, "after {pieces}");
-            assert_eq!( sink.as_str(), *text, "after {pieces}");
+            assert_eq!(result.is_ok(), pieces == 4, "after {pieces}");
+            assert_eq!(sink.is_failed(), pieces != 4, "after {pieces}");
+            assert_eq!(sink.as_str(), *text, "after {pieces}");
         }
     }
 }
@@ -71,9 +71,9 @@ fn each_piece_of_a_disambiguator_is_refused_in_turn() {
     for (pieces, text) in texts.iter().enumerate() {
         let mut sink = RefusingSink::new(pieces.saturating_add(1));
         let result = symbol.write_to(&mut sink, true);
-        assert_eq!( result.is_ok(), pieces == 4, "after {pieces}");
-        assert_eq!( sink.is_failed(), pieces != 4, "after {pieces}");
-        assert_eq!( sink.as_str(), *text, "after {pieces}");
+        assert_eq!(result.is_ok(), pieces == 4, "after {pieces}");
+        assert_eq!(sink.is_failed(), pieces != 4, "after {pieces}");
+        assert_eq!(sink.as_str(), *text, "after {pieces}");
     }
 }
 
@@ -91,7 +91,7 @@ fn empty_pieces_are_taken_where_no_other_is() {
             demangle(symbol).write_to(&mut sink, true).is_ok(),
             "{symbol}"
         );
-        assert!( sink.into_fault().is_none(), "{symbol}");
+        assert!(sink.into_fault().is_none(), "{symbol}");
     }
 }
 
@@ -100,23 +100,24 @@ fn a_write_sink_holds_the_fault_of_its_writer() {
     let mut bytes = [0; 4];
     let mut room = bytes.as_mut_slice();
     let mut sink = WriteSink::new(&mut room);
-    assert!( demangle("_ZN1a3bcdE").write_to(&mut sink, true).is_err());
-    assert!( sink.is_failed());
+    assert!(demangle("_ZN1a3bcdE").write_to(&mut sink, true).is_err());
+    assert!(sink.is_failed());
     let fault = sink.into_fault();
-    assert!( matches!(&fault, Some(fault) if fault.kind() == ErrorKind::WriteZero));
-    assert!( bytes.starts_with(b"a::"));
+    assert!(matches!(&fault, Some(fault) if fault.kind() == ErrorKind::WriteZero));
+    assert!(bytes.starts_with(b"a::"));
 }
 
 #[test]
-fn a_write_sink_writes_each_piece_once_and_flushes_nothing() -> Result<(), Fail> { let rt = HostRuntime;
+fn a_write_sink_writes_each_piece_once_and_flushes_nothing() -> Result<(), Fail> {
+    let rt = HostRuntime;
     for (symbol, texts, bytes) in [("_ZN1a1bE.x", 4, 6), ("_ZN1a0E", 2, 3), ("_ZNE", 0, 0)] {
         let mut writer = CountingWriter::default();
         let mut sink = WriteSink::new(&mut writer);
-        assert!( demangle(symbol).write_to(&mut sink, true).is_ok());
-        assert!( sink.into_fault().is_none());
-        assert_eq!( writer.texts, texts, "of {symbol}");
-        assert_eq!( writer.bytes, bytes, "of {symbol}");
-        assert_eq!( writer.flushes, 0, "of {symbol}");
+        assert!(demangle(symbol).write_to(&mut sink, true).is_ok());
+        assert!(sink.into_fault().is_none());
+        assert_eq!(writer.texts, texts, "of {symbol}");
+        assert_eq!(writer.bytes, bytes, "of {symbol}");
+        assert_eq!(writer.flushes, 0, "of {symbol}");
     }
     let mut writer = CountingWriter::default();
     demangle_stream(
@@ -125,6 +126,6 @@ fn a_write_sink_writes_each_piece_once_and_flushes_nothing() -> Result<(), Fail>
         &mut writer,
         true,
     )?;
-    assert_eq!( (writer.texts, writer.bytes, writer.flushes), (5, 7, 0));
+    assert_eq!((writer.texts, writer.bytes, writer.flushes), (5, 7, 0));
     Ok(())
 }

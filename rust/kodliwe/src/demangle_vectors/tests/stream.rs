@@ -1,14 +1,14 @@
 // Made from crates/demangle_vectors/src/tests/stream.rt by packaging/crate/erase.py: edit that file instead.
 //! Tests of the stream's output for lines, and with a reader or a writer that fails.
-use crate::support::rt::HostRuntime;
-use crate::support::vec::Vec;
 use crate::rustc_demangle::{StreamFault, demangle_bytes, demangle_stream, demangle_stream_named};
 use crate::support::alloc::Global;
+use crate::support::process::Abort;
+use crate::support::rt::HostRuntime;
+use crate::support::test::Fail;
+use crate::support::vec::Vec;
+use crate::test_doubles::streams::{NotingWriter, PartsReader, RefusingWriter};
 use std::io;
 use std::io::{BufRead, ErrorKind, Read};
-use crate::support::process::Abort;
-use crate::support::test::Fail;
-use crate::test_doubles::streams::{NotingWriter, PartsReader, RefusingWriter};
 
 /// Texts, and the stream's output for them, with the hash and without it.
 pub(super) const ROWS: [(&[u8], &[u8]); 20] = [
@@ -48,13 +48,14 @@ fn assert_writes(
     let mut input = text;
     let mut output = Vec::new(alloc);
     demangle_stream(alloc, &mut input, &mut output, include_hash)?;
-    assert_eq!( output.as_slice(), wanted, "of {text:?}");
-    assert!( input.is_empty(), "of {text:?}");
+    assert_eq!(output.as_slice(), wanted, "of {text:?}");
+    assert!(input.is_empty(), "of {text:?}");
     Ok(())
 }
 
 #[test]
-fn symbols_are_replaced_in_lines() -> Result<(), Fail> { let rt = HostRuntime;
+fn symbols_are_replaced_in_lines() -> Result<(), Fail> {
+    let rt = HostRuntime;
     for (text, wanted) in ROWS {
         assert_writes(&rt, rt.alloc(), text, true, wanted)?;
         assert_writes(&rt, rt.alloc(), text, false, wanted)?;
@@ -63,7 +64,8 @@ fn symbols_are_replaced_in_lines() -> Result<(), Fail> { let rt = HostRuntime;
 }
 
 #[test]
-fn a_run_ends_at_each_byte_that_it_may_not_have() -> Result<(), Fail> { let rt = HostRuntime;
+fn a_run_ends_at_each_byte_that_it_may_not_have() -> Result<(), Fail> {
+    let rt = HostRuntime;
     let alloc = rt.alloc();
     for byte in 0..128u8 {
         let goes_on = byte.is_ascii_alphanumeric() || byte == b'$' || byte == b'_';
@@ -82,14 +84,16 @@ fn a_run_ends_at_each_byte_that_it_may_not_have() -> Result<(), Fail> { let rt =
 }
 
 #[test]
-fn the_stream_leaves_out_a_hash() -> Result<(), Fail> { let rt = HostRuntime;
+fn the_stream_leaves_out_a_hash() -> Result<(), Fail> {
+    let rt = HostRuntime;
     let text = b"<_ZN3foo17h05af221e174051e9E>\n".as_slice();
     assert_writes(&rt, rt.alloc(), text, true, b"<foo::h05af221e174051e9>\n")?;
     assert_writes(&rt, rt.alloc(), text, false, b"<foo>\n")
 }
 
 #[test]
-fn the_reader_fails() -> Result<(), Fail> { let rt = HostRuntime;
+fn the_reader_fails() -> Result<(), Fail> {
+    let rt = HostRuntime;
     let alloc = rt.alloc();
     let cases: [(&[u8], &[u8]); 3] = [
         (b"x _ZN3fooE\n", b"x foo\n"),
@@ -104,18 +108,19 @@ fn the_reader_fails() -> Result<(), Fail> { let rt = HostRuntime;
         assert!(
             matches!(&result, Err(StreamFault::Read(error)) if error.kind() == ErrorKind::Other)
         );
-        assert_eq!( output.as_slice(), wanted, "after {text:?}");
+        assert_eq!(output.as_slice(), wanted, "after {text:?}");
         let mut input = PartsReader::new(&parts, 1, ErrorKind::OutOfMemory);
         let mut output = Vec::new(alloc);
         let result = demangle_stream_named(alloc, &mut input, &mut output, true);
-        assert!( matches!(&result, Err(StreamFault::Memory)));
-        assert_eq!( output.as_slice(), wanted, "after {text:?}");
+        assert!(matches!(&result, Err(StreamFault::Memory)));
+        assert_eq!(output.as_slice(), wanted, "after {text:?}");
     }
     Ok(())
 }
 
 #[test]
-fn the_reader_fails_at_each_filling() -> Result<(), Fail> { let rt = HostRuntime;
+fn the_reader_fails_at_each_filling() -> Result<(), Fail> {
+    let rt = HostRuntime;
     let alloc = rt.alloc();
     let parts: [&[u8]; 4] = [b"x _ZN", b"3fooE\n_ZN3", b"barE", b"\n"];
     let written: [&[u8]; 6] = [
@@ -132,17 +137,18 @@ fn the_reader_fails_at_each_filling() -> Result<(), Fail> { let rt = HostRuntime
         let result = demangle_stream(alloc, &mut input, &mut output, true);
         let kind = result.map_err(|error| error.kind());
         if fills < 5 {
-            assert_eq!( kind, Err(ErrorKind::Other), "at {fills}");
+            assert_eq!(kind, Err(ErrorKind::Other), "at {fills}");
         } else {
-            assert_eq!( kind, Ok(()));
+            assert_eq!(kind, Ok(()));
         }
-        assert_eq!( output.as_slice(), *wanted, "at {fills}");
+        assert_eq!(output.as_slice(), *wanted, "at {fills}");
     }
     Ok(())
 }
 
 #[test]
-fn a_line_is_not_utf8() -> Result<(), Fail> { let rt = HostRuntime;
+fn a_line_is_not_utf8() -> Result<(), Fail> {
+    let rt = HostRuntime;
     let alloc = rt.alloc();
     let cases: [(&[u8], &[u8]); 3] = [
         (b"x _RCx _ZN3fooE\n\xFF", b"x _RCx foo\n"),
@@ -153,8 +159,8 @@ fn a_line_is_not_utf8() -> Result<(), Fail> { let rt = HostRuntime;
         let mut input = text;
         let mut output = Vec::new(alloc);
         let result = demangle_stream_named(alloc, &mut input, &mut output, true);
-        assert!( matches!(&result, Err(StreamFault::NotUtf8)), "of {text:?}");
-        assert_eq!( output.as_slice(), wanted, "of {text:?}");
+        assert!(matches!(&result, Err(StreamFault::NotUtf8)), "of {text:?}");
+        assert_eq!(output.as_slice(), wanted, "of {text:?}");
     }
     Ok(())
 }
@@ -190,7 +196,8 @@ pub(super) const TAIL: [&[u8]; 17] = [
 ];
 
 #[test]
-fn lines_have_symbols_of_both_schemes() -> Result<(), Fail> { let rt = HostRuntime;
+fn lines_have_symbols_of_both_schemes() -> Result<(), Fail> {
+    let rt = HostRuntime;
     let alt = b"foo.llvm moocow <mio::sys::unix::selector::epoll::Selector>::select foo.llvm";
     assert_writes(&rt, rt.alloc(), LINE, false, alt.as_slice())?;
     let plain =
@@ -218,27 +225,29 @@ fn assert_held(rt: &impl Abort, alloc: Global, include_hash: bool) -> Result<(),
         let result = demangle_stream(alloc, &mut input, &mut output, include_hash);
         let kind = result.map_err(|error| error.kind());
         if writes < wanted_writes.len() {
-            assert_eq!( kind, Err(ErrorKind::BrokenPipe), "at {writes}");
+            assert_eq!(kind, Err(ErrorKind::BrokenPipe), "at {writes}");
         } else {
-            assert_eq!( kind, Ok(()));
+            assert_eq!(kind, Ok(()));
         }
         let mut wanted = Vec::from_slice(alloc, b"old")?;
         for write in wanted_writes.iter().take(writes) {
             wanted.extend_from_slice(write)?;
         }
-        assert_eq!( output.held(), wanted.as_slice(), "at {writes}");
+        assert_eq!(output.held(), wanted.as_slice(), "at {writes}");
     }
     Ok(())
 }
 
 #[test]
-fn the_writer_fails_at_each_write() -> Result<(), Fail> { let rt = HostRuntime;
+fn the_writer_fails_at_each_write() -> Result<(), Fail> {
+    let rt = HostRuntime;
     assert_held(&rt, rt.alloc(), true)?;
     assert_held(&rt, rt.alloc(), false)
 }
 
 #[test]
-fn each_text_and_piece_is_a_write() -> Result<(), Fail> { let rt = HostRuntime;
+fn each_text_and_piece_is_a_write() -> Result<(), Fail> {
+    let rt = HostRuntime;
     let alloc = rt.alloc();
     let cases: [(&[u8], &[&[u8]]); 6] = [
         (b"x _RCx _ZN3fooE", &[b"x ", b"_RCx", b" ", b"foo"]),
@@ -261,19 +270,17 @@ fn each_text_and_piece_is_a_write() -> Result<(), Fail> { let rt = HostRuntime;
         let mut input = text;
         let mut output = NotingWriter::new(alloc);
         demangle_stream(alloc, &mut input, &mut output, true)?;
-        assert_eq!( output.writes().len(), wanted.len(), "of {text:?}");
+        assert_eq!(output.writes().len(), wanted.len(), "of {text:?}");
         for (write, want) in output.writes().iter().zip(wanted.iter()) {
-            assert_eq!( write.as_slice(), *want, "of {text:?}");
+            assert_eq!(write.as_slice(), *want, "of {text:?}");
         }
     }
     Ok(())
 }
 
-<<<<<<< HEAD
-/// Returns one part a given number of times.
-=======
 #[test]
-fn each_text_of_any_bytes_is_a_write() -> Result<(), Fail> { let rt = HostRuntime;
+fn each_text_of_any_bytes_is_a_write() -> Result<(), Fail> {
+    let rt = HostRuntime;
     let alloc = rt.alloc();
     let cases: [(&[u8], &[&[u8]]); 3] = [
         (b"x _RCx _ZN3fooE", &[b"x ", b"_RCx", b" ", b"foo"]),
@@ -291,17 +298,16 @@ fn each_text_of_any_bytes_is_a_write() -> Result<(), Fail> { let rt = HostRuntim
     for (text, wanted) in cases {
         let mut input = text;
         let mut output = NotingWriter::new(alloc);
-        assert!( demangle_bytes(alloc, &mut input, &mut output, true).is_ok());
-        assert_eq!( output.writes().len(), wanted.len(), "of {text:?}");
+        assert!(demangle_bytes(alloc, &mut input, &mut output, true).is_ok());
+        assert_eq!(output.writes().len(), wanted.len(), "of {text:?}");
         for (write, want) in output.writes().iter().zip(wanted.iter()) {
-            assert_eq!( write.as_slice(), *want, "of {text:?}");
+            assert_eq!(write.as_slice(), *want, "of {text:?}");
         }
     }
     Ok(())
 }
 
-/// Hands out one part, so many times.
->>>>>>> w36
+/// Returns one part a given number of times.
 struct RepeatingReader<'a> {
     part: &'a [u8],
     left: u32,
@@ -330,7 +336,8 @@ impl BufRead for RepeatingReader<'_> {
 }
 
 #[test]
-fn a_line_may_come_in_many_parts() -> Result<(), Fail> { let rt = HostRuntime;
+fn a_line_may_come_in_many_parts() -> Result<(), Fail> {
+    let rt = HostRuntime;
     let alloc = rt.alloc();
     let mut input = RepeatingReader {
         part: b"x",
@@ -338,19 +345,20 @@ fn a_line_may_come_in_many_parts() -> Result<(), Fail> { let rt = HostRuntime;
     };
     let mut output = Vec::new(alloc);
     demangle_stream(alloc, &mut input, &mut output, true)?;
-    assert_eq!( output.len(), 200_000usize);
+    assert_eq!(output.len(), 200_000usize);
     Ok(())
 }
 
 #[test]
-fn bytes_may_come_in_many_parts() -> Result<(), Fail> { let rt = HostRuntime;
+fn bytes_may_come_in_many_parts() -> Result<(), Fail> {
+    let rt = HostRuntime;
     let alloc = rt.alloc();
     let mut input = RepeatingReader {
         part: b"x ",
         left: 300_000,
     };
     let mut output = Vec::new(alloc);
-    assert!( demangle_bytes(alloc, &mut input, &mut output, true).is_ok());
-    assert_eq!( output.len(), 600_000usize);
+    assert!(demangle_bytes(alloc, &mut input, &mut output, true).is_ok());
+    assert_eq!(output.len(), 600_000usize);
     Ok(())
 }

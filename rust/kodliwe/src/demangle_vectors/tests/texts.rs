@@ -1,13 +1,15 @@
 // Made from crates/demangle_vectors/src/tests/texts.rt by packaging/crate/erase.py: edit that file instead.
 //! Tests of texts and bytes in memory, which are written to sinks and slices.
-use crate::support::rt::HostRuntime;
 use super::stream::ROWS;
 use crate::rustc_demangle::sink::{ArraySink, TextSink};
-use crate::rustc_demangle::{demangle_slice, demangle_text, demangle_text_limited, run_len, run_start};
+use crate::rustc_demangle::{
+    demangle_slice, demangle_text, demangle_text_limited, run_len, run_start,
+};
 use crate::support::process::Abort;
-use core::str;
+use crate::support::rt::HostRuntime;
 use crate::support::test::Fail;
 use crate::test_doubles::RefusingSink;
+use core::str;
 
 #[test]
 fn a_text_is_put_into_a_sink() -> Result<(), Fail> {
@@ -19,7 +21,7 @@ fn a_text_is_put_into_a_sink() -> Result<(), Fail> {
                 demangle_text(text, &mut sink, include_hash).is_ok(),
                 "{text}"
             );
-            assert_eq!( sink.as_str().as_bytes(), wanted, "{text}");
+            assert_eq!(sink.as_str().as_bytes(), wanted, "{text}");
         }
     }
     Ok(())
@@ -29,11 +31,11 @@ fn a_text_is_put_into_a_sink() -> Result<(), Fail> {
 fn a_text_leaves_out_a_hash() {
     let text = "<_ZN3foo17h05af221e174051e9E>\n";
     let mut sink: ArraySink<64> = ArraySink::new();
-    assert!( demangle_text(text, &mut sink, true).is_ok());
-    assert_eq!( sink.as_str(), "<foo::h05af221e174051e9>\n");
+    assert!(demangle_text(text, &mut sink, true).is_ok());
+    assert_eq!(sink.as_str(), "<foo::h05af221e174051e9>\n");
     let mut sink: ArraySink<64> = ArraySink::new();
-    assert!( demangle_text(text, &mut sink, false).is_ok());
-    assert_eq!( sink.as_str(), "<foo>\n");
+    assert!(demangle_text(text, &mut sink, false).is_ok());
+    assert_eq!(sink.as_str(), "<foo>\n");
 }
 
 #[test]
@@ -53,9 +55,9 @@ fn each_piece_of_a_text_is_refused_in_turn() {
     for (pieces, wanted) in texts.iter().enumerate() {
         let mut sink = RefusingSink::new(pieces.saturating_add(1));
         let result = demangle_text(text, &mut sink, true);
-        assert_eq!( result.is_ok(), pieces == 8, "after {pieces}");
-        assert_eq!( sink.is_failed(), pieces != 8, "after {pieces}");
-        assert_eq!( sink.as_str(), *wanted, "after {pieces}");
+        assert_eq!(result.is_ok(), pieces == 8, "after {pieces}");
+        assert_eq!(sink.is_failed(), pieces != 8, "after {pieces}");
+        assert_eq!(sink.as_str(), *wanted, "after {pieces}");
     }
 }
 
@@ -63,8 +65,8 @@ fn each_piece_of_a_text_is_refused_in_turn() {
 fn a_limit_cuts_each_symbol_of_a_text() {
     let mut sink: ArraySink<64> = ArraySink::new();
     let text = "_ZN3foo3barE, _ZN1aE.x";
-    assert!( demangle_text_limited(text, &mut sink, true, 3).is_ok());
-    assert_eq!( sink.as_str(), "foo{size limit reached}, a.x");
+    assert!(demangle_text_limited(text, &mut sink, true, 3).is_ok());
+    assert_eq!(sink.as_str(), "foo{size limit reached}, a.x");
 }
 
 /// Asserts the output for bytes in a slice with room for it, and in smaller ones.
@@ -73,9 +75,9 @@ fn assert_fills(rt: &impl Abort, text: &[u8], wanted: &[u8]) {
         let mut bytes = [7; 128];
         let memory = bytes.get_mut(..size).unwrap_or(&mut []);
         let len = demangle_slice(text, memory, true, 1_000_000);
-        assert_eq!( len, Some(wanted.len()), "of {text:?}");
+        assert_eq!(len, Some(wanted.len()), "of {text:?}");
         let kept = wanted.len().min(size);
-        assert_eq!( bytes.get(..kept), wanted.get(..kept), "of {text:?}");
+        assert_eq!(bytes.get(..kept), wanted.get(..kept), "of {text:?}");
         assert!(
             bytes.iter().skip(kept).all(|byte| *byte == 7),
             "of {text:?}"
@@ -84,7 +86,8 @@ fn assert_fills(rt: &impl Abort, text: &[u8], wanted: &[u8]) {
 }
 
 #[test]
-fn any_bytes_are_written_into_memory() { let rt = HostRuntime;
+fn any_bytes_are_written_into_memory() {
+    let rt = HostRuntime;
     for (text, wanted) in ROWS {
         assert_fills(&rt, text, wanted);
     }
@@ -97,7 +100,7 @@ fn any_bytes_are_written_into_memory() { let rt = HostRuntime;
 fn a_limit_cuts_each_symbol_of_bytes() {
     let mut bytes = [0; 64];
     let len = demangle_slice(b"\xE9_ZN3foo3barE _ZN1aE", &mut bytes, true, 3);
-    assert_eq!( len, Some(26));
+    assert_eq!(len, Some(26));
     assert_eq!(
         bytes.get(..26),
         Some(b"\xE9foo{size limit reached} a".as_slice())
@@ -117,7 +120,7 @@ fn runs_are_found() {
         (b"0Az-", None, 3),
     ];
     for (text, start, len) in cases {
-        assert_eq!( run_start(text), start, "in {text:?}");
-        assert_eq!( run_len(text), len, "of {text:?}");
+        assert_eq!(run_start(text), start, "in {text:?}");
+        assert_eq!(run_len(text), len, "of {text:?}");
     }
 }

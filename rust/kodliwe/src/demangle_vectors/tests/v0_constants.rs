@@ -1,10 +1,10 @@
 // Made from crates/demangle_vectors/src/tests/v0_constants.rt by packaging/crate/erase.py: edit that file instead.
 //! Tests of v0 symbols: constants.
-use crate::support::format;
-use crate::support::rt::HostRuntime;
 use super::{assert_prints, assert_refused};
 use crate::support::alloc::Global;
+use crate::support::format;
 use crate::support::process::Abort;
+use crate::support::rt::HostRuntime;
 use crate::support::test::Fail;
 
 /// Asserts the printed form of a constant as the only argument of a path, with the types of its
@@ -24,7 +24,8 @@ pub fn assert_constant(
 }
 
 #[test]
-fn numbers_have_their_type_in_the_plain_form_alone() -> Result<(), Fail> { let rt = HostRuntime;
+fn numbers_have_their_type_in_the_plain_form_alone() -> Result<(), Fail> {
+    let rt = HostRuntime;
     for (constant, plain, alt) in [
         ("j_", "0usize", "0"),
         ("j0_", "0usize", "0"),
@@ -45,7 +46,8 @@ fn numbers_have_their_type_in_the_plain_form_alone() -> Result<(), Fail> { let r
 }
 
 #[test]
-fn numbers_of_up_to_128_bits_are_decimal() -> Result<(), Fail> { let rt = HostRuntime;
+fn numbers_of_up_to_128_bits_are_decimal() -> Result<(), Fail> {
+    let rt = HostRuntime;
     for (constant, plain, alt) in [
         (
             "o00ff00ff00ff00ff00ff_",
@@ -84,7 +86,8 @@ fn numbers_of_up_to_128_bits_are_decimal() -> Result<(), Fail> { let rt = HostRu
 }
 
 #[test]
-fn longer_numbers_keep_their_nibbles() -> Result<(), Fail> { let rt = HostRuntime;
+fn longer_numbers_keep_their_nibbles() -> Result<(), Fail> {
+    let rt = HostRuntime;
     for (constant, plain, alt) in [
         (
             "o100000000000000000000000000000000_",
@@ -108,7 +111,8 @@ fn longer_numbers_keep_their_nibbles() -> Result<(), Fail> { let rt = HostRuntim
 }
 
 #[test]
-fn truth_values_and_placeholders() -> Result<(), Fail> { let rt = HostRuntime;
+fn truth_values_and_placeholders() -> Result<(), Fail> {
+    let rt = HostRuntime;
     for (constant, text) in [("b_", "false"), ("b00_", "false"), ("b0001_", "true")] {
         assert_constant(&rt, rt.alloc(), constant, text, text)?;
     }
@@ -116,7 +120,8 @@ fn truth_values_and_placeholders() -> Result<(), Fail> { let rt = HostRuntime;
 }
 
 #[test]
-fn references() -> Result<(), Fail> { let rt = HostRuntime;
+fn references() -> Result<(), Fail> {
+    let rt = HostRuntime;
     for (constant, plain, alt) in [
         ("Qh1_", "{&mut 1u8}", "{&mut 1}"),
         ("RQh1_", "{&&mut 1u8}", "{&&mut 1}"),
@@ -128,7 +133,8 @@ fn references() -> Result<(), Fail> { let rt = HostRuntime;
 }
 
 #[test]
-fn arrays_and_tuples() -> Result<(), Fail> { let rt = HostRuntime;
+fn arrays_and_tuples() -> Result<(), Fail> {
+    let rt = HostRuntime;
     for (constant, plain, alt) in [("Ae61_E", "{[*\"a\"]}", "{[*\"a\"]}")] {
         assert_constant(&rt, rt.alloc(), constant, plain, alt)?;
     }
@@ -136,7 +142,8 @@ fn arrays_and_tuples() -> Result<(), Fail> { let rt = HostRuntime;
 }
 
 #[test]
-fn values_of_structs_and_enums() -> Result<(), Fail> { let rt = HostRuntime;
+fn values_of_structs_and_enums() -> Result<(), Fail> {
+    let rt = HostRuntime;
     for (constant, plain, alt) in [
         ("VC1aTE", "{a()}", "{a()}"),
         ("VC1aSE", "{a {  }}", "{a {  }}"),
@@ -149,7 +156,8 @@ fn values_of_structs_and_enums() -> Result<(), Fail> { let rt = HostRuntime;
 }
 
 #[test]
-fn a_constant_over_a_failed_path_stays_open() -> Result<(), Fail> { let rt = HostRuntime;
+fn a_constant_over_a_failed_path_stays_open() -> Result<(), Fail> {
+    let rt = HostRuntime;
     for (constant, text) in [
         ("VIC1aL0_EU", "{a::<'{invalid syntax}>?"),
         ("AVIC1aL0_EUE", "{[a::<'{invalid syntax}>?]}"),
@@ -160,7 +168,8 @@ fn a_constant_over_a_failed_path_stays_open() -> Result<(), Fail> { let rt = Hos
 }
 
 #[test]
-fn constants_that_are_none_are_refused() { let rt = HostRuntime;
+fn constants_that_are_none_are_refused() {
+    let rt = HostRuntime;
     for text in [
         "_RIC0Kb2_E",
         "_RIC0Kb10_E",

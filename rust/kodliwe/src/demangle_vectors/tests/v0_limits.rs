@@ -1,22 +1,23 @@
 // Made from crates/demangle_vectors/src/tests/v0_limits.rt by packaging/crate/erase.py: edit that file instead.
 //! Tests of v0 symbols at their limits: depth, the length of a name, and the size of the output.
-use crate::support::format;
-use crate::support::rt::HostRuntime;
-use crate::support::string::RepeatIn;
-use crate::support::string::String;
-use crate::support::vec::Vec;
 use super::{assert_prints, assert_prints_long, assert_refused, print_symbol, repeat_between};
 use crate::rustc_demangle::sink::WriteSink;
 use crate::rustc_demangle::{demangle, try_demangle};
 use crate::support::alloc::{AllocError, Global};
+use crate::support::format;
+use crate::support::rt::HostRuntime;
+use crate::support::string::RepeatIn;
+use crate::support::string::String;
 use crate::support::test::Fail;
+use crate::support::vec::Vec;
 
 const MARKER: &str = "{size limit reached}";
 
 const TOO_DEEP: &str = "{recursion limit reached}";
 
 #[test]
-fn types_stand_up_to_500_deep() -> Result<(), Fail> { let rt = HostRuntime;
+fn types_stand_up_to_500_deep() -> Result<(), Fail> {
+    let rt = HostRuntime;
     let alloc = rt.alloc();
     let deep = repeat_between(alloc, "_RMC0", "R", 499, "u")?;
     let text = repeat_between(alloc, "<", "&", 499, "()>")?;
@@ -27,7 +28,8 @@ fn types_stand_up_to_500_deep() -> Result<(), Fail> { let rt = HostRuntime;
 }
 
 #[test]
-fn paths_stand_up_to_500_deep() -> Result<(), Fail> { let rt = HostRuntime;
+fn paths_stand_up_to_500_deep() -> Result<(), Fail> {
+    let rt = HostRuntime;
     let alloc = rt.alloc();
     let names = "1b".repeat_in(alloc, 499)?;
     let deep = repeat_between(alloc, "_R", "Nv", 499, "C1a")?;
@@ -41,7 +43,8 @@ fn paths_stand_up_to_500_deep() -> Result<(), Fail> { let rt = HostRuntime;
 }
 
 #[test]
-fn constants_stand_up_to_500_deep() -> Result<(), Fail> { let rt = HostRuntime;
+fn constants_stand_up_to_500_deep() -> Result<(), Fail> {
+    let rt = HostRuntime;
     let alloc = rt.alloc();
     let deep = repeat_between(alloc, "_RIC0K", "R", 498, "h0_E")?;
     let plain = repeat_between(alloc, "::<{", "&", 498, "0u8}>")?;
@@ -53,7 +56,8 @@ fn constants_stand_up_to_500_deep() -> Result<(), Fail> { let rt = HostRuntime;
 }
 
 #[test]
-fn patterns_stand_up_to_500_deep() -> Result<(), Fail> { let rt = HostRuntime;
+fn patterns_stand_up_to_500_deep() -> Result<(), Fail> {
+    let rt = HostRuntime;
     let alloc = rt.alloc();
     let ends = "E".repeat_in(alloc, 498)?;
     let deep = repeat_between(alloc, "_RMC0Wm", "O", 498, "N")?;
@@ -66,7 +70,8 @@ fn patterns_stand_up_to_500_deep() -> Result<(), Fail> { let rt = HostRuntime;
 }
 
 #[test]
-fn depth_is_given_back() -> Result<(), Fail> { let rt = HostRuntime;
+fn depth_is_given_back() -> Result<(), Fail> {
+    let rt = HostRuntime;
     let alloc = rt.alloc();
     for (leaf, printed_leaf) in [("p", ", _"), ("Rp", ", &_"), ("C1x", ", x")] {
         let symbol = repeat_between(alloc, "_RIC0p", leaf, 1_000, "E")?;
@@ -77,7 +82,8 @@ fn depth_is_given_back() -> Result<(), Fail> { let rt = HostRuntime;
 }
 
 #[test]
-fn a_target_stands_one_deeper_than_its_reference() -> Result<(), Fail> { let rt = HostRuntime;
+fn a_target_stands_one_deeper_than_its_reference() -> Result<(), Fail> {
+    let rt = HostRuntime;
     let alloc = rt.alloc();
     let head = format!(in alloc; "{TOO_DEEP}::?")?;
     let text = repeat_between(alloc, head.as_str(), "::a", 166, "")?;
@@ -89,7 +95,8 @@ fn a_target_stands_one_deeper_than_its_reference() -> Result<(), Fail> { let rt 
 }
 
 #[test]
-fn a_target_inside_a_long_name_meets_the_limit_of_depth() -> Result<(), Fail> { let rt = HostRuntime;
+fn a_target_inside_a_long_name_meets_the_limit_of_depth() -> Result<(), Fail> {
+    let rt = HostRuntime;
     let alloc = rt.alloc();
     let symbol = repeat_between(alloc, "_RIC100000", "R", 100_000, "B7_E")?;
     let end = format!(in alloc; "{TOO_DEEP}>")?;
@@ -97,17 +104,18 @@ fn a_target_inside_a_long_name_meets_the_limit_of_depth() -> Result<(), Fail> { 
     let text = repeat_between(alloc, "", "R", 100_000, arguments.as_str())?;
     assert_prints_long(&rt, alloc, symbol.as_str(), text.as_str())?;
     let symbol = repeat_between(alloc, "RIC20tRYIMYNRYFG05_EB5_B_B6_", "R", 100, "B_E")?;
-    assert!( try_demangle(symbol.as_str()).is_ok());
+    assert!(try_demangle(symbol.as_str()).is_ok());
     for include_hash in [true, false] {
         let text = print_symbol(alloc, symbol.as_str(), include_hash)?;
         let text = String::from_utf8_lossy(alloc, text.as_slice())?;
-        assert!( text.as_str().contains(TOO_DEEP));
+        assert!(text.as_str().contains(TOO_DEEP));
     }
     Ok(())
 }
 
 #[test]
-fn a_decoded_name_has_up_to_128_characters() -> Result<(), Fail> { let rt = HostRuntime;
+fn a_decoded_name_has_up_to_128_characters() -> Result<(), Fail> {
+    let rt = HostRuntime;
     let alloc = rt.alloc();
     let longest = repeat_between(alloc, "_RCu131", "a", 127, "_ecn")?;
     let text = repeat_between(alloc, "", "a", 127, "ü")?;
@@ -134,11 +142,12 @@ fn lifetimes(alloc: Global, last: usize) -> Result<String, AllocError> {
 }
 
 #[test]
-fn lifetimes_are_printed_up_to_the_limit() -> Result<(), Fail> { let rt = HostRuntime;
+fn lifetimes_are_printed_up_to_the_limit() -> Result<(), Fail> {
+    let rt = HostRuntime;
     let alloc = rt.alloc();
     let lifetimes = lifetimes(alloc, 111_113)?;
     let text = format!(in alloc; "{lifetimes}, '_{MARKER}")?;
-    assert_eq!( text.as_str().len(), 1_000_015);
+    assert_eq!(text.as_str().len(), 1_000_015);
     assert_prints_long(&rt, alloc, "_RMC0FGZZZ_Eu", text.as_str())?;
     assert_prints_long(&rt, alloc, "_RMC0FGZZZZZZZZZZ_Eu", text.as_str())?;
     let text = format!(in alloc; "{text}.x")?;
@@ -146,13 +155,13 @@ fn lifetimes_are_printed_up_to_the_limit() -> Result<(), Fail> { let rt = HostRu
     let refused = "_RMC0FGZZZZZZZZZZZ_Eu";
     assert_refused(&rt, refused, refused);
     let text = format!(in alloc; "{lifetimes}, '_111114{MARKER}")?;
-    assert_eq!( text.as_str().len(), 1_000_021);
+    assert_eq!(text.as_str().len(), 1_000_021);
     for include_hash in [true, false] {
         let mut output = Vec::new(alloc);
         let mut sink = WriteSink::new(&mut output);
         let result = demangle("_RMC0FGZZZ_Eu").write_limited(&mut sink, include_hash, 1_000_001);
-        assert!( result.is_ok());
-        assert!( output.as_slice() == text.as_bytes());
+        assert!(result.is_ok());
+        assert!(output.as_slice() == text.as_bytes());
     }
     Ok(())
 }
@@ -179,39 +188,42 @@ fn pairs_text(alloc: Global, pairs: usize) -> Result<String, AllocError> {
 }
 
 #[test]
-fn pairs_of_pairs_are_printed() -> Result<(), Fail> { let rt = HostRuntime;
+fn pairs_of_pairs_are_printed() -> Result<(), Fail> {
+    let rt = HostRuntime;
     let alloc = rt.alloc();
     let symbol = pairs_symbol(alloc, 6)?;
-    assert_eq!( symbol.as_str(), "_RMC0TTTTTTpB8_EB7_EB6_EB5_EB4_EB3_E");
+    assert_eq!(symbol.as_str(), "_RMC0TTTTTTpB8_EB7_EB6_EB5_EB4_EB3_E");
     for (pairs, len) in [(6, 318), (17, 655_358)] {
         let symbol = pairs_symbol(alloc, pairs)?;
         let text = pairs_text(alloc, pairs)?;
-        assert_eq!( text.as_str().len(), len);
+        assert_eq!(text.as_str().len(), len);
         assert_prints_long(&rt, alloc, symbol.as_str(), text.as_str())?;
     }
     Ok(())
 }
 
 #[test]
-fn pairs_of_pairs_are_cut_at_the_limit() -> Result<(), Fail> { let rt = HostRuntime;
+fn pairs_of_pairs_are_cut_at_the_limit() -> Result<(), Fail> {
+    let rt = HostRuntime;
     let alloc = rt.alloc();
     let symbol = pairs_symbol(alloc, 18)?;
     let whole = pairs_text(alloc, 18)?;
     let kept = whole.as_str().get(..999_999).ok_or("shorter")?;
-    assert!( kept.as_bytes().ends_with(b"_))))))".as_slice()));
+    assert!(kept.as_bytes().ends_with(b"_))))))".as_slice()));
     let text = format!(in alloc; "{kept}{MARKER}")?;
-    assert_eq!( text.as_str().len(), 1_000_019);
+    assert_eq!(text.as_str().len(), 1_000_019);
     assert_prints_long(&rt, alloc, symbol.as_str(), text.as_str())?;
     Ok(())
 }
 
 #[test]
-fn references_to_references_end_at_the_limit() -> Result<(), Fail> { let rt = HostRuntime;
+fn references_to_references_end_at_the_limit() -> Result<(), Fail> {
+    let rt = HostRuntime;
     let symbol = "RYFG_FGyyEvRYFF_EvRYFFEvERLB_B_B_ERLRjB_B_B_";
-    assert!( try_demangle(symbol).is_ok());
+    assert!(try_demangle(symbol).is_ok());
     for include_hash in [true, false] {
         let text = print_symbol(rt.alloc(), symbol, include_hash)?;
-        assert!( text.ends_with(MARKER.as_bytes()));
+        assert!(text.ends_with(MARKER.as_bytes()));
     }
     Ok(())
 }

@@ -1,11 +1,12 @@
 // Made from crates/demangle_vectors/src/tests/v0_literals.rt by packaging/crate/erase.py: edit that file instead.
 //! Tests of v0 symbols: characters and strings.
-use crate::support::rt::HostRuntime;
 use super::v0_constants::assert_constant;
+use crate::support::rt::HostRuntime;
 use crate::support::test::Fail;
 
 #[test]
-fn characters_are_quoted() -> Result<(), Fail> { let rt = HostRuntime;
+fn characters_are_quoted() -> Result<(), Fail> {
+    let rt = HostRuntime;
     for (constant, text) in [
         ("c27_", "'\\''"),
         ("c_", "'\\0'"),
@@ -24,7 +25,8 @@ fn characters_are_quoted() -> Result<(), Fail> { let rt = HostRuntime;
 }
 
 #[test]
-fn characters_past_ascii_are_escaped_by_their_category() -> Result<(), Fail> { let rt = HostRuntime;
+fn characters_past_ascii_are_escaped_by_their_category() -> Result<(), Fail> {
+    let rt = HostRuntime;
     for (constant, text) in [
         ("ca0_", "'\\u{a0}'"),
         ("cad_", "'\\u{ad}'"),
@@ -44,7 +46,8 @@ fn characters_past_ascii_are_escaped_by_their_category() -> Result<(), Fail> { l
 }
 
 #[test]
-fn strings_are_quoted() -> Result<(), Fail> { let rt = HostRuntime;
+fn strings_are_quoted() -> Result<(), Fail> {
+    let rt = HostRuntime;
     for (constant, text) in [
         ("e22_", "{*\"\\\"\"}"),
         ("e5c_", "{*\"\\\\\"}"),

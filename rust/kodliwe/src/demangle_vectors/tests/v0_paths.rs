@@ -1,10 +1,11 @@
 // Made from crates/demangle_vectors/src/tests/v0_paths.rt by packaging/crate/erase.py: edit that file instead.
 //! Tests of v0 symbols: names and paths.
-use crate::support::rt::HostRuntime;
 use super::{assert_prints, assert_refused};
+use crate::support::rt::HostRuntime;
 
 #[test]
-fn a_crate_has_a_disambiguator_in_the_plain_form_alone() { let rt = HostRuntime;
+fn a_crate_has_a_disambiguator_in_the_plain_form_alone() {
+    let rt = HostRuntime;
     for (symbol, plain, alt) in [
         ("_RCs_3foo", "foo[1]", "foo"),
         ("_RCslYGhA16ahyd_1a", "a[ffffffffffffffff]", "a"),
@@ -16,7 +17,8 @@ fn a_crate_has_a_disambiguator_in_the_plain_form_alone() { let rt = HostRuntime;
 }
 
 #[test]
-fn nested_names_have_two_colons_between() { let rt = HostRuntime;
+fn nested_names_have_two_colons_between() {
+    let rt = HostRuntime;
     for (symbol, plain, alt) in [
         ("_RNvC1a0", "a", "a"),
         ("_RNvCs_1as_1b", "a[1]::b", "a::b"),
@@ -31,7 +33,8 @@ fn nested_names_have_two_colons_between() { let rt = HostRuntime;
 }
 
 #[test]
-fn special_namespaces_have_a_number() { let rt = HostRuntime;
+fn special_namespaces_have_a_number() {
+    let rt = HostRuntime;
     for (symbol, text) in [
         ("_RNCC1a0", "a::{closure#0}"),
         ("_RNSC1as_4vtbl", "a::{shim:vtbl#1}"),
@@ -44,7 +47,8 @@ fn special_namespaces_have_a_number() { let rt = HostRuntime;
 }
 
 #[test]
-fn implementations_have_no_path() { let rt = HostRuntime;
+fn implementations_have_no_path() {
+    let rt = HostRuntime;
     for (symbol, text) in [
         ("_RXC0uC1t", "<() as t>"),
         ("_RMC0u", "<()>"),
@@ -57,7 +61,8 @@ fn implementations_have_no_path() { let rt = HostRuntime;
 }
 
 #[test]
-fn a_value_has_two_colons_before_its_arguments() { let rt = HostRuntime;
+fn a_value_has_two_colons_before_its_arguments() {
+    let rt = HostRuntime;
     for (symbol, text) in [
         ("_RIC1aE", "a::<>"),
         ("_RIC1auE", "a::<()>"),
@@ -70,7 +75,8 @@ fn a_value_has_two_colons_before_its_arguments() { let rt = HostRuntime;
 }
 
 #[test]
-fn constants_can_be_arguments() { let rt = HostRuntime;
+fn constants_can_be_arguments() {
+    let rt = HostRuntime;
     for (symbol, plain, alt) in [
         ("_RIC1aKj0_E", "a::<0usize>", "a::<0>"),
         (
@@ -84,7 +90,8 @@ fn constants_can_be_arguments() { let rt = HostRuntime;
 }
 
 #[test]
-fn names_in_punycode_are_decoded() { let rt = HostRuntime;
+fn names_in_punycode_are_decoded() {
+    let rt = HostRuntime;
     for (symbol, text) in [
         ("_RCu9bcher_kva", "bücher"),
         ("_RCu3tda", "ü"),
@@ -102,7 +109,8 @@ fn names_in_punycode_are_decoded() { let rt = HostRuntime;
 }
 
 #[test]
-fn names_that_are_no_punycode_print_as_they_are() { let rt = HostRuntime;
+fn names_that_are_no_punycode_print_as_they_are() {
+    let rt = HostRuntime;
     for (symbol, text) in [
         ("_RCu3a_A", "punycode{a-A}"),
         ("_RCu1t", "punycode{t}"),
@@ -114,14 +122,16 @@ fn names_that_are_no_punycode_print_as_they_are() { let rt = HostRuntime;
 }
 
 #[test]
-fn each_prefix_is_read() { let rt = HostRuntime;
+fn each_prefix_is_read() {
+    let rt = HostRuntime;
     for (symbol, text) in [("_RC1a", "a"), ("RC1a", "a"), ("__RC1a", "a")] {
         assert_prints(&rt, symbol, text, text);
     }
 }
 
 #[test]
-fn an_instantiating_crate_is_not_printed() { let rt = HostRuntime;
+fn an_instantiating_crate_is_not_printed() {
+    let rt = HostRuntime;
     for (symbol, text) in [
         ("_RC1aC1b", "a"),
         ("_RC1aC1b.x", "a.x"),
@@ -132,7 +142,8 @@ fn an_instantiating_crate_is_not_printed() { let rt = HostRuntime;
 }
 
 #[test]
-fn suffixes_follow_the_path() { let rt = HostRuntime;
+fn suffixes_follow_the_path() {
+    let rt = HostRuntime;
     for (symbol, text) in [
         ("_RC1a.llvm.ab", "a.llvm.ab"),
         ("_RC1a.x", "a.x"),
@@ -143,7 +154,8 @@ fn suffixes_follow_the_path() { let rt = HostRuntime;
 }
 
 #[test]
-fn damaged_paths_print_themselves() { let rt = HostRuntime;
+fn damaged_paths_print_themselves() {
+    let rt = HostRuntime;
     for text in [
         "_R",
         "R",
@@ -172,7 +184,8 @@ fn damaged_paths_print_themselves() { let rt = HostRuntime;
 }
 
 #[test]
-fn numbers_of_more_than_64_bits_are_refused() { let rt = HostRuntime;
+fn numbers_of_more_than_64_bits_are_refused() {
+    let rt = HostRuntime;
     for text in [
         "_RCslYGhA16ahye_1a",
         "_RBlYGhA16ahye_",
@@ -185,7 +198,8 @@ fn numbers_of_more_than_64_bits_are_refused() { let rt = HostRuntime;
 }
 
 #[test]
-fn punycode_without_a_digit_is_refused() { let rt = HostRuntime;
+fn punycode_without_a_digit_is_refused() {
+    let rt = HostRuntime;
     for text in ["_RCu1_", "_RCu1__", "_RCu2a_", "_RCu0"] {
         assert_refused(&rt, text, text);
     }

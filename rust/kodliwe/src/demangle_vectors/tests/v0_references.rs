@@ -1,10 +1,11 @@
 // Made from crates/demangle_vectors/src/tests/v0_references.rt by packaging/crate/erase.py: edit that file instead.
 //! Tests of v0 symbols: back references, and the output for a damaged target.
-use crate::support::rt::HostRuntime;
 use super::{assert_prints, assert_refused};
+use crate::support::rt::HostRuntime;
 
 #[test]
-fn references_print_their_targets() { let rt = HostRuntime;
+fn references_print_their_targets() {
+    let rt = HostRuntime;
     for (symbol, text) in [
         (
             "_RIC1aDIC1buEEL_DB4_p1XhEL_E",
@@ -18,7 +19,8 @@ fn references_print_their_targets() { let rt = HostRuntime;
 }
 
 #[test]
-fn constants_are_referred_to() { let rt = HostRuntime;
+fn constants_are_referred_to() {
+    let rt = HostRuntime;
     for (symbol, plain, alt) in [
         ("_RIC1aKj7_KB4_E", "a::<7usize, 7usize>", "a::<7, 7>"),
         (
@@ -32,7 +34,8 @@ fn constants_are_referred_to() { let rt = HostRuntime;
 }
 
 #[test]
-fn pairs_of_pairs() { let rt = HostRuntime;
+fn pairs_of_pairs() {
+    let rt = HostRuntime;
     for (symbol, text) in [
         ("_RMC0TThEB3_E", "<((u8,), (u8,))>"),
         ("_RMC0TTThEB4_EB3_E", "<(((u8,), (u8,)), ((u8,), (u8,)))>"),
@@ -46,7 +49,8 @@ fn pairs_of_pairs() { let rt = HostRuntime;
 }
 
 #[test]
-fn lifetimes_are_those_of_the_reference() { let rt = HostRuntime;
+fn lifetimes_are_those_of_the_reference() {
+    let rt = HostRuntime;
     for (symbol, text) in [
         ("_RIC5RL0_hFG_B2_EuE", "RL0_h::<for<'a> fn(&'a u8)>"),
         ("_RIC5RL0_hB2_uE", "RL0_h::<&'{invalid syntax} ?, ()>"),
@@ -56,7 +60,8 @@ fn lifetimes_are_those_of_the_reference() { let rt = HostRuntime;
 }
 
 #[test]
-fn names_and_crates_can_be_targets() { let rt = HostRuntime;
+fn names_and_crates_can_be_targets() {
+    let rt = HostRuntime;
     for (symbol, text) in [
         ("_RIC2C5B2_E.zz", "C5::<B2_E.>.zz"),
         ("_RIC2C6B2_EC1b", "C6::<B2_EC1>"),
@@ -67,7 +72,8 @@ fn names_and_crates_can_be_targets() { let rt = HostRuntime;
 }
 
 #[test]
-fn a_list_with_a_failed_element_is_closed() { let rt = HostRuntime;
+fn a_list_with_a_failed_element_is_closed() {
+    let rt = HostRuntime;
     for (symbol, text) in [
         ("_RIC3TZpB2_E", "TZp::<({invalid syntax},)>"),
         ("_RIC1aB1_E", "a::<{invalid syntax}>"),
@@ -78,14 +84,16 @@ fn a_list_with_a_failed_element_is_closed() { let rt = HostRuntime;
 }
 
 #[test]
-fn a_value_over_a_failed_path_stays_open() { let rt = HostRuntime;
+fn a_value_over_a_failed_path_stays_open() {
+    let rt = HostRuntime;
     for (symbol, text) in [("_RIC3VZpKB2_E", "VZp::<{{invalid syntax}?>")] {
         assert_prints(&rt, symbol, text, text);
     }
 }
 
 #[test]
-fn what_failed_inside_a_pattern_or_a_dynamic_type_is_marked() { let rt = HostRuntime;
+fn what_failed_inside_a_pattern_or_a_dynamic_type_is_marked() {
+    let rt = HostRuntime;
     for (symbol, text) in [
         (
             "_RIC5WmOZEB2_E",
@@ -102,7 +110,8 @@ fn what_failed_inside_a_pattern_or_a_dynamic_type_is_marked() { let rt = HostRun
 }
 
 #[test]
-fn an_open_trait_path_stays_open_behind_its_reference() { let rt = HostRuntime;
+fn an_open_trait_path_stays_open_behind_its_reference() {
+    let rt = HostRuntime;
     for (symbol, plain, alt) in [
         (
             "_RYTC20DIC1aDC1bEL_Ep1xmEL_B4_EC1b",
@@ -140,7 +149,8 @@ fn an_open_trait_path_stays_open_behind_its_reference() { let rt = HostRuntime;
 }
 
 #[test]
-fn references_ahead_are_refused() { let rt = HostRuntime;
+fn references_ahead_are_refused() {
+    let rt = HostRuntime;
     for text in [
         "_RB_",
         "_RIC1aB4_E",

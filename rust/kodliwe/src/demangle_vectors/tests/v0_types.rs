@@ -1,10 +1,11 @@
 // Made from crates/demangle_vectors/src/tests/v0_types.rt by packaging/crate/erase.py: edit that file instead.
 //! Tests of v0 symbols: types, functions, binders and patterns.
-use crate::support::rt::HostRuntime;
 use super::{assert_prints, assert_refused};
+use crate::support::rt::HostRuntime;
 
 #[test]
-fn basic_types_have_their_names() { let rt = HostRuntime;
+fn basic_types_have_their_names() {
+    let rt = HostRuntime;
     for (symbol, text) in [
         ("_RMC0b", "<bool>"),
         ("_RMC0c", "<char>"),
@@ -33,7 +34,8 @@ fn basic_types_have_their_names() { let rt = HostRuntime;
 }
 
 #[test]
-fn references_and_pointers() { let rt = HostRuntime;
+fn references_and_pointers() {
+    let rt = HostRuntime;
     for (symbol, text) in [
         ("_RMC0Rh", "<&u8>"),
         ("_RMC0Qh", "<&mut u8>"),
@@ -49,7 +51,8 @@ fn references_and_pointers() { let rt = HostRuntime;
 }
 
 #[test]
-fn arrays_have_a_length() { let rt = HostRuntime;
+fn arrays_have_a_length() {
+    let rt = HostRuntime;
     for (symbol, plain, alt) in [
         ("_RMC0Ahj3_", "<[u8; 3usize]>", "<[u8; 3]>"),
         (
@@ -64,7 +67,8 @@ fn arrays_have_a_length() { let rt = HostRuntime;
 }
 
 #[test]
-fn tuples() { let rt = HostRuntime;
+fn tuples() {
+    let rt = HostRuntime;
     for (symbol, text) in [
         ("_RMC0TE", "<()>"),
         ("_RMC0ThE", "<(u8,)>"),
@@ -76,7 +80,8 @@ fn tuples() { let rt = HostRuntime;
 }
 
 #[test]
-fn functions() { let rt = HostRuntime;
+fn functions() {
+    let rt = HostRuntime;
     for (symbol, text) in [
         ("_RMC0FEu", "<fn()>"),
         ("_RMC0FhEh", "<fn(u8) -> u8>"),
@@ -95,7 +100,8 @@ fn functions() { let rt = HostRuntime;
 }
 
 #[test]
-fn an_argument_is_splat() { let rt = HostRuntime;
+fn an_argument_is_splat() {
+    let rt = HostRuntime;
     for (symbol, text) in [
         ("_RMC0wh", "<#[splat] u8>"),
         ("_RMC0FwThmEEu", "<fn(#[splat] (u8, u32))>"),
@@ -106,7 +112,8 @@ fn an_argument_is_splat() { let rt = HostRuntime;
 }
 
 #[test]
-fn binders_name_their_lifetimes() { let rt = HostRuntime;
+fn binders_name_their_lifetimes() {
+    let rt = HostRuntime;
     for (symbol, text) in [
         ("_RMC0FG_RL0_hEu", "<for<'a> fn(&'a u8)>"),
         ("_RMC0FG0_RL0_RL1_hEu", "<for<'a, 'b> fn(&'b &'a u8)>"),
@@ -125,7 +132,8 @@ fn binders_name_their_lifetimes() { let rt = HostRuntime;
 }
 
 #[test]
-fn dynamic_types() { let rt = HostRuntime;
+fn dynamic_types() {
+    let rt = HostRuntime;
     for (symbol, text) in [
         ("_RMC0DEL_", "<dyn >"),
         ("_RMC0DC1aEL_", "<dyn a>"),
@@ -140,7 +148,8 @@ fn dynamic_types() { let rt = HostRuntime;
 }
 
 #[test]
-fn patterns() { let rt = HostRuntime;
+fn patterns() {
+    let rt = HostRuntime;
     for (symbol, plain, alt) in [
         (
             "_RMC0WmORm1_m2_Rm5_m6_E",
@@ -161,7 +170,8 @@ fn patterns() { let rt = HostRuntime;
 }
 
 #[test]
-fn a_lifetime_out_of_scope_is_marked() { let rt = HostRuntime;
+fn a_lifetime_out_of_scope_is_marked() {
+    let rt = HostRuntime;
     for (symbol, text) in [
         ("_RMC0RL0_u", "<&'{invalid syntax} ?>"),
         (
@@ -179,7 +189,8 @@ fn a_lifetime_out_of_scope_is_marked() { let rt = HostRuntime;
 }
 
 #[test]
-fn damaged_types_print_themselves() { let rt = HostRuntime;
+fn damaged_types_print_themselves() {
+    let rt = HostRuntime;
     for text in [
         "_RMC0",
         "_RMC0DE",

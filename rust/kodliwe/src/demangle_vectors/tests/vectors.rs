@@ -1,13 +1,13 @@
 // Made from crates/demangle_vectors/src/tests/vectors.rt by packaging/crate/erase.py: edit that file instead.
 //! The vectors of the Rust crate's tests.
-use crate::support::format;
-use crate::support::rt::HostRuntime;
-use crate::support::string::String;
-use crate::support::vec::Vec;
 use super::v0_constants::assert_constant;
 use super::{assert_prints, assert_refused, repeat_between};
 use crate::support::alloc::{AllocError, Global};
+use crate::support::format;
+use crate::support::rt::HostRuntime;
+use crate::support::string::String;
 use crate::support::test::Fail;
+use crate::support::vec::Vec;
 
 /// Legacy symbols, with their texts with the hash and without it.
 const LEGACY: &[(&str, &str, &str)] = &[
@@ -255,19 +255,27 @@ pub fn texts(alloc: Global) -> Result<Vec<String>, AllocError> {
     for leaf in ["p", "Rp", "C1x"] {
         texts.push(repeat_between(alloc, "_RIC0p", leaf, 1_000, "E")?)?;
     }
-    texts.push(repeat_between(alloc, "RIC20tRYIMYNRYFG05_EB5_B_B6_", "R", 100, "B_E")?)?;
+    texts.push(repeat_between(
+        alloc,
+        "RIC20tRYIMYNRYFG05_EB5_B_B6_",
+        "R",
+        100,
+        "B_E",
+    )?)?;
     Ok(texts)
 }
 
 #[test]
-fn symbols_print_their_paths() { let rt = HostRuntime;
+fn symbols_print_their_paths() {
+    let rt = HostRuntime;
     for (symbol, plain, alt) in LEGACY.iter().chain(V0) {
         assert_prints(&rt, symbol, plain, alt);
     }
 }
 
 #[test]
-fn constants_print_their_values() -> Result<(), Fail> { let rt = HostRuntime;
+fn constants_print_their_values() -> Result<(), Fail> {
+    let rt = HostRuntime;
     for (constant, plain, alt) in CONSTANTS {
         assert_constant(&rt, rt.alloc(), constant, plain, alt)?;
     }
@@ -275,7 +283,8 @@ fn constants_print_their_values() -> Result<(), Fail> { let rt = HostRuntime;
 }
 
 #[test]
-fn what_is_refused_prints_itself() { let rt = HostRuntime;
+fn what_is_refused_prints_itself() {
+    let rt = HostRuntime;
     for text in REFUSED {
         assert_refused(&rt, text, text);
     }

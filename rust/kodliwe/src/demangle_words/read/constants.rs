@@ -1,23 +1,16 @@
 // Made from crates/demangle_words/src/read/constants.rt by packaging/crate/erase.py: edit that file instead.
 //! The values of constants.
 
-
-
-
-
-
+use crate::demangle_symbol::cursor::Looks;
+use crate::demangle_symbol::literal::{character_of, is_string, truth_of};
 use crate::demangle_words::read::{TokenReader, WordRead, invalid_token, token_read};
 use crate::demangle_words::stretch::Stretch;
 use crate::demangle_words::texts::Mark;
-use crate::demangle_symbol::cursor::Looks;
-use crate::demangle_symbol::literal::{character_of, is_string, truth_of};
 
 impl TokenReader<'_> {
     /// Reads a number, by its nibbles.
     #[inline(always)]
-    pub(super) fn read_number(&self, place: usize, looks: &mut Looks) -> WordRead
-        
-    {
+    pub(super) fn read_number(&self, place: usize, looks: &mut Looks) -> WordRead {
         let Ok((part, next)) = self.symbol.hex_nibbles(place, looks) else {
             return invalid_token();
         };
@@ -27,9 +20,7 @@ impl TokenReader<'_> {
 
     /// Reads `false` or `true`, by its nibbles.
     #[inline(always)]
-    pub(super) fn read_bool(&self, place: usize, looks: &mut Looks) -> WordRead
-        
-    {
+    pub(super) fn read_bool(&self, place: usize, looks: &mut Looks) -> WordRead {
         let Ok((part, next)) = self.symbol.hex_nibbles(place, looks) else {
             return invalid_token();
         };
@@ -42,9 +33,7 @@ impl TokenReader<'_> {
 
     /// Reads a character, by the nibbles of its code.
     #[inline(always)]
-    pub(super) fn read_character(&self, place: usize, looks: &mut Looks) -> WordRead
-        
-    {
+    pub(super) fn read_character(&self, place: usize, looks: &mut Looks) -> WordRead {
         let Ok((part, next)) = self.symbol.hex_nibbles(place, looks) else {
             return invalid_token();
         };
@@ -56,9 +45,7 @@ impl TokenReader<'_> {
 
     /// Reads a string, by the nibbles of its UTF-8 bytes.
     #[inline(always)]
-    pub(super) fn read_literal(&self, place: usize, looks: &mut Looks) -> WordRead
-        
-    {
+    pub(super) fn read_literal(&self, place: usize, looks: &mut Looks) -> WordRead {
         let Ok((part, next)) = self.symbol.hex_nibbles(place, looks) else {
             return invalid_token();
         };

@@ -1,21 +1,14 @@
 // Made from crates/demangle_words/src/read/functions.rt by packaging/crate/erase.py: edit that file instead.
 //! The qualifiers of function types: `unsafe`, and the ABI.
 
-
-
-
-
-
+use crate::demangle_symbol::cursor::{Ident, Looks};
 use crate::demangle_words::read::{TokenReader, WordRead, invalid_token, token_read};
 use crate::demangle_words::stretch::{Abi, Stretch};
-use crate::demangle_symbol::cursor::{Ident, Looks};
 
 impl TokenReader<'_> {
     /// Returns the qualifiers of a function type whose ABI has this name. The name is invalid if its
     /// ASCII part is empty or its Punycode part is not.
-    fn abi_named(&self, is_unsafe: bool, ident: Ident, next: usize) -> WordRead
-        
-    {
+    fn abi_named(&self, is_unsafe: bool, ident: Ident, next: usize) -> WordRead {
         // The Rust crate rejects both: an ABI's name is ASCII, with `_` in place of its `-`.
         if ident.ascii.from == ident.ascii.to || ident.punycode.from < ident.punycode.to {
             return invalid_token();
@@ -25,9 +18,7 @@ impl TokenReader<'_> {
     }
 
     /// Reads the ABI of a function type, which is Rust's if none is named.
-    fn read_abi(&self, is_unsafe: bool, place: usize, looks: &mut Looks) -> WordRead
-        
-    {
+    fn read_abi(&self, is_unsafe: bool, place: usize, looks: &mut Looks) -> WordRead {
         if !self.symbol.is_at(b'K', place, looks) {
             return token_read(Stretch::FunctionHead(is_unsafe, Abi::Rust), place);
         }
@@ -42,9 +33,7 @@ impl TokenReader<'_> {
 
     /// Reads the qualifiers of a function type: whether it is unsafe, and its ABI.
     #[inline(always)]
-    pub(super) fn read_function_qualifiers(&self, place: usize, looks: &mut Looks) -> WordRead
-        
-    {
+    pub(super) fn read_function_qualifiers(&self, place: usize, looks: &mut Looks) -> WordRead {
         if self.symbol.is_at(b'U', place, looks) {
             self.read_abi(true, place + 1, looks)
         } else {

@@ -1,21 +1,21 @@
 // Made from crates/demangle_words/src/read/lifetimes.rt by packaging/crate/erase.py: edit that file instead.
 //! Lifetimes, by their index.
 
-
-
-
-
+use crate::demangle_symbol::cursor::Looks;
 use crate::demangle_words::read::{TokenReader, WordRead, invalid_token, token_read};
 use crate::demangle_words::stretch::Stretch;
-use crate::demangle_symbol::cursor::Looks;
 
 impl TokenReader<'_> {
     /// Returns the token of a lifetime whose index is not 0. If tokens are printed, an index that
     /// exceeds the lifetimes in scope is an error.
     #[inline(always)]
-    fn checked_lifetime(&self, index: u64, next: usize, named: Stretch, fault: Stretch) -> WordRead
-        
-    {
+    fn checked_lifetime(
+        &self,
+        index: u64,
+        next: usize,
+        named: Stretch,
+        fault: Stretch,
+    ) -> WordRead {
         // The Rust crate counts no binders if it prints nothing, so it then checks no lifetime.
         if !self.is_printing {
             token_read(Stretch::Nothing, next)
@@ -29,9 +29,7 @@ impl TokenReader<'_> {
 
     /// Reads a lifetime, by its index: `_` for 0.
     #[inline(always)]
-    pub(super) fn read_lifetime(&self, place: usize, looks: &mut Looks) -> WordRead
-        
-    {
+    pub(super) fn read_lifetime(&self, place: usize, looks: &mut Looks) -> WordRead {
         let Ok((index, next)) = self.symbol.integer_62(place, looks) else {
             return invalid_token();
         };
@@ -46,9 +44,7 @@ impl TokenReader<'_> {
 
     /// Reads the lifetime of a dyn type, which may not be missing. That of index 0 is not printed.
     #[inline(always)]
-    pub(super) fn read_dyn_lifetime(&self, place: usize, looks: &mut Looks) -> WordRead
-        
-    {
+    pub(super) fn read_dyn_lifetime(&self, place: usize, looks: &mut Looks) -> WordRead {
         if !self.symbol.is_at(b'L', place, looks) {
             return invalid_token();
         }

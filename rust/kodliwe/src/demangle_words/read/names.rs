@@ -1,18 +1,9 @@
 // Made from crates/demangle_words/src/read/names.rt by packaging/crate/erase.py: edit that file instead.
 //! Names, and disambiguators.
 
-
-
-
-
-
-
-
-
-
+use crate::demangle_symbol::cursor::{Ident, Looks, Symbol};
 use crate::demangle_words::read::{TokenReader, WordRead, invalid_token, token_read};
 use crate::demangle_words::stretch::Stretch;
-use crate::demangle_symbol::cursor::{Ident, Looks, Symbol};
 
 /// Reads a disambiguator and the name after it. Returns the name, the disambiguator and the place
 /// after both, or `None` if they are not spelled there.
@@ -21,9 +12,7 @@ pub fn numbered_name(
     symbol: &Symbol<'_>,
     place: usize,
     looks: &mut Looks,
-) -> Option<(Ident, u64, usize)>
-    
-{
+) -> Option<(Ident, u64, usize)> {
     let Ok((number, at)) = symbol.disambiguator(place, looks) else {
         return None;
     };
@@ -36,9 +25,7 @@ pub fn numbered_name(
 impl TokenReader<'_> {
     /// Reads the name of a field, whose disambiguator is not printed.
     #[inline(always)]
-    pub(super) fn read_field(&self, place: usize, looks: &mut Looks) -> WordRead
-        
-    {
+    pub(super) fn read_field(&self, place: usize, looks: &mut Looks) -> WordRead {
         match numbered_name(self.symbol, place, looks) {
             Some((ident, _, next)) => token_read(Stretch::FieldName(ident), next),
             None => invalid_token(),
@@ -47,9 +34,7 @@ impl TokenReader<'_> {
 
     /// Reads the name of an associated type that a trait's arguments bind.
     #[inline(always)]
-    pub(super) fn read_binding(&self, place: usize, looks: &mut Looks) -> WordRead
-        
-    {
+    pub(super) fn read_binding(&self, place: usize, looks: &mut Looks) -> WordRead {
         match self.symbol.ident(place, looks) {
             Ok((ident, next)) => token_read(Stretch::BindingName(ident), next),
             Err(_) => invalid_token(),

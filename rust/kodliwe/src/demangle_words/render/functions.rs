@@ -1,16 +1,10 @@
 // Made from crates/demangle_words/src/render/functions.rt by packaging/crate/erase.py: edit that file instead.
 //! The qualifiers of function types: `unsafe`, and the ABI.
 
-
-
-
-
-
-
-use crate::demangle_words::source::Source;
-use crate::demangle_words::stretch::Abi;
 use crate::demangle_sink::{SinkRefused, SizeLimitedFmtAdapter, TextSink, put_each};
 use crate::demangle_symbol::cursor::{Looks, Part};
+use crate::demangle_words::source::Source;
+use crate::demangle_words::stretch::Abi;
 
 impl Source<'_> {
     /// Prints a part of the symbol, and `-` after it.
@@ -18,9 +12,7 @@ impl Source<'_> {
         &self,
         part: Part,
         out: &mut SizeLimitedFmtAdapter<'_, S>,
-    ) -> Result<(), SinkRefused>
-        
-    {
+    ) -> Result<(), SinkRefused> {
         self.symbol.span(part).write_to(out)?;
         out.put("-")
     }
@@ -31,9 +23,7 @@ impl Source<'_> {
         name: Part,
         out: &mut SizeLimitedFmtAdapter<'_, S>,
         looks: &mut Looks,
-    ) -> Result<(), SinkRefused>
-        
-    {
+    ) -> Result<(), SinkRefused> {
         let mut from = name.from;
         for at in name.from..name.to {
             if self.symbol.is_at(b'_', at, looks) {
@@ -51,9 +41,7 @@ impl Source<'_> {
         name: Part,
         out: &mut SizeLimitedFmtAdapter<'_, S>,
         looks: &mut Looks,
-    ) -> Result<(), SinkRefused>
-        
-    {
+    ) -> Result<(), SinkRefused> {
         out.put("extern \"")?;
         self.put_abi_name(name, out, looks)?;
         out.put("\" ")
@@ -65,9 +53,7 @@ impl Source<'_> {
         abi: Abi,
         out: &mut SizeLimitedFmtAdapter<'_, S>,
         looks: &mut Looks,
-    ) -> Result<(), SinkRefused>
-        
-    {
+    ) -> Result<(), SinkRefused> {
         match abi {
             Abi::Rust => Ok(()),
             Abi::C => put_each(&["extern \"", "C", "\" "], out),
@@ -83,9 +69,7 @@ impl Source<'_> {
         abi: Abi,
         out: &mut SizeLimitedFmtAdapter<'_, S>,
         looks: &mut Looks,
-    ) -> Result<(), SinkRefused>
-        
-    {
+    ) -> Result<(), SinkRefused> {
         if !is_unsafe {
             return self.put_abi(abi, out, looks);
         }

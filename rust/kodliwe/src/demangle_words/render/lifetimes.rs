@@ -1,10 +1,6 @@
 // Made from crates/demangle_words/src/render/lifetimes.rt by packaging/crate/erase.py: edit that file instead.
 //! The names of lifetimes, and binders.
 
-
-
-
-
 use crate::demangle_sink::{SinkRefused, SizeLimitedFmtAdapter, TextSink, put_char, put_each};
 use crate::support::itoa::Buffer;
 
@@ -12,9 +8,7 @@ use crate::support::itoa::Buffer;
 fn put_letter<S: TextSink>(
     number: u128,
     out: &mut SizeLimitedFmtAdapter<'_, S>,
-) -> Result<(), SinkRefused>
-    
-{
+) -> Result<(), SinkRefused> {
     if number < 26 {
         return put_char(char::from(b'a' + number as u8), out);
     }
@@ -28,9 +22,7 @@ fn put_letter<S: TextSink>(
 pub(super) fn put_lifetime<S: TextSink>(
     number: u128,
     out: &mut SizeLimitedFmtAdapter<'_, S>,
-) -> Result<(), SinkRefused>
-    
-{
+) -> Result<(), SinkRefused> {
     out.put("'")?;
     put_letter(number, out)
 }
@@ -40,9 +32,7 @@ pub(super) fn put_lifetime<S: TextSink>(
 pub(super) fn put_spaced_lifetime<S: TextSink>(
     number: u128,
     out: &mut SizeLimitedFmtAdapter<'_, S>,
-) -> Result<(), SinkRefused>
-    
-{
+) -> Result<(), SinkRefused> {
     put_lifetime(number, out)?;
     out.put(" ")
 }
@@ -53,9 +43,7 @@ pub(super) fn put_prefixed_lifetime<S: TextSink>(
     before: &str,
     number: u128,
     out: &mut SizeLimitedFmtAdapter<'_, S>,
-) -> Result<(), SinkRefused>
-    
-{
+) -> Result<(), SinkRefused> {
     out.put(before)?;
     put_lifetime(number, out)
 }
@@ -67,9 +55,7 @@ pub(super) fn put_binder<S: TextSink>(
     first: u128,
     count: u64,
     out: &mut SizeLimitedFmtAdapter<'_, S>,
-) -> Result<(), SinkRefused>
-    
-{
+) -> Result<(), SinkRefused> {
     if count == 0 {
         return Ok(());
     }

@@ -1,16 +1,10 @@
 // Made from crates/demangle_words/src/render/names.rt by packaging/crate/erase.py: edit that file instead.
 //! Names, with the texts before and after them.
 
-
-
-
-
-
-
-use crate::demangle_words::render::numbers;
-use crate::demangle_words::source::Source;
 use crate::demangle_sink::{SinkRefused, SizeLimitedFmtAdapter, TextSink, put_char};
 use crate::demangle_symbol::cursor::{Ident, Looks};
+use crate::demangle_words::render::numbers;
+use crate::demangle_words::source::Source;
 
 /// A name in a namespace.
 #[derive(Clone, Copy)]
@@ -28,9 +22,7 @@ fn put_disambiguator<S: TextSink>(
     number: u64,
     include_hash: bool,
     out: &mut SizeLimitedFmtAdapter<'_, S>,
-) -> Result<(), SinkRefused>
-    
-{
+) -> Result<(), SinkRefused> {
     if !include_hash {
         return Ok(());
     }
@@ -46,9 +38,7 @@ fn put_disambiguator<S: TextSink>(
 fn put_special_kind<S: TextSink>(
     namespace: u8,
     out: &mut SizeLimitedFmtAdapter<'_, S>,
-) -> Result<(), SinkRefused>
-    
-{
+) -> Result<(), SinkRefused> {
     match namespace {
         b'C' => out.put("closure"),
         b'S' => out.put("shim"),
@@ -60,9 +50,7 @@ fn put_special_kind<S: TextSink>(
 fn put_index<S: TextSink>(
     number: u64,
     out: &mut SizeLimitedFmtAdapter<'_, S>,
-) -> Result<(), SinkRefused>
-    
-{
+) -> Result<(), SinkRefused> {
     numbers::put_decimal(number as u128, out)
 }
 
@@ -70,9 +58,7 @@ fn put_index<S: TextSink>(
 fn put_special_suffix<S: TextSink>(
     number: u64,
     out: &mut SizeLimitedFmtAdapter<'_, S>,
-) -> Result<(), SinkRefused>
-    
-{
+) -> Result<(), SinkRefused> {
     out.put("#")?;
     put_index(number, out)?;
     out.put("}")
@@ -87,18 +73,14 @@ impl Source<'_> {
         number: u64,
         out: &mut SizeLimitedFmtAdapter<'_, S>,
         looks: &mut Looks,
-    ) -> Result<(), SinkRefused>
-        
-    {
+    ) -> Result<(), SinkRefused> {
         name.write_to(self.symbol, out, looks)?;
         put_disambiguator(number, self.include_hash, out)
     }
 
     /// Returns `true` if both parts of a name are empty.
     #[inline(always)]
-    fn is_empty_name(&self, name: &Ident) -> bool
-        
-    {
+    fn is_empty_name(&self, name: &Ident) -> bool {
         if self.symbol.span(name.ascii).len() > 0 {
             return false;
         }
@@ -113,9 +95,7 @@ impl Source<'_> {
         name: &Ident,
         out: &mut SizeLimitedFmtAdapter<'_, S>,
         looks: &mut Looks,
-    ) -> Result<(), SinkRefused>
-        
-    {
+    ) -> Result<(), SinkRefused> {
         // A name may be empty, as a closure's is. Then the text before it is omitted too.
         if self.is_empty_name(name) {
             return Ok(());
@@ -132,9 +112,7 @@ impl Source<'_> {
         name: NamespacedName,
         out: &mut SizeLimitedFmtAdapter<'_, S>,
         looks: &mut Looks,
-    ) -> Result<(), SinkRefused>
-        
-    {
+    ) -> Result<(), SinkRefused> {
         out.put("::{")?;
         put_special_kind(name.namespace, out)?;
         self.put_prefixed_name(":", &name.ident, out, looks)?;
@@ -149,9 +127,7 @@ impl Source<'_> {
         name: NamespacedName,
         out: &mut SizeLimitedFmtAdapter<'_, S>,
         looks: &mut Looks,
-    ) -> Result<(), SinkRefused>
-        
-    {
+    ) -> Result<(), SinkRefused> {
         match name.namespace {
             b'A'..=b'Z' => self.put_special_name(name, out, looks),
             _ => self.put_prefixed_name("::", &name.ident, out, looks),
@@ -165,9 +141,7 @@ impl Source<'_> {
         name: &Ident,
         out: &mut SizeLimitedFmtAdapter<'_, S>,
         looks: &mut Looks,
-    ) -> Result<(), SinkRefused>
-        
-    {
+    ) -> Result<(), SinkRefused> {
         name.write_to(self.symbol, out, looks)?;
         out.put(" = ")
     }

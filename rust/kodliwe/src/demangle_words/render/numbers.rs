@@ -1,16 +1,10 @@
 // Made from crates/demangle_words/src/render/numbers.rt by packaging/crate/erase.py: edit that file instead.
 //! Numbers, and the types of numeric constants.
 
-
-
-
-
-
-
-use crate::demangle_words::source::Source;
-use crate::demangle_words::texts::{basic_mark, text};
 use crate::demangle_sink::{SinkRefused, SizeLimitedFmtAdapter, TextSink};
 use crate::demangle_symbol::cursor::Part;
+use crate::demangle_words::source::Source;
+use crate::demangle_words::texts::{basic_mark, text};
 use crate::support::itoa::Buffer;
 use core::str;
 
@@ -37,9 +31,7 @@ static DIGIT_PAIRS_16: [u8; 512] = *b"\
 
 /// Writes all 16 hexadecimal digits of a number, and returns how many leading zeros to omit.
 #[inline(always)]
-fn write_hexadecimal(number: u64, text: &mut [u8; 16]) -> usize
-    
-{
+fn write_hexadecimal(number: u64, text: &mut [u8; 16]) -> usize {
     let mut pairs = 8;
     let mut rest = number;
     while pairs > 0 {
@@ -58,9 +50,7 @@ fn write_hexadecimal(number: u64, text: &mut [u8; 16]) -> usize
 pub(super) fn put_hexadecimal<S: TextSink>(
     number: u64,
     out: &mut SizeLimitedFmtAdapter<'_, S>,
-) -> Result<(), SinkRefused>
-    
-{
+) -> Result<(), SinkRefused> {
     let mut text = [0; 16];
     let start = write_hexadecimal(number, &mut text);
     // SAFETY: digits are ASCII.
@@ -71,9 +61,7 @@ pub(super) fn put_hexadecimal<S: TextSink>(
 pub(super) fn put_decimal<S: TextSink>(
     number: u128,
     out: &mut SizeLimitedFmtAdapter<'_, S>,
-) -> Result<(), SinkRefused>
-    
-{
+) -> Result<(), SinkRefused> {
     let mut buffer = Buffer::new();
     out.put(buffer.format(number))
 }
@@ -84,9 +72,7 @@ impl Source<'_> {
         &self,
         nibbles: Part,
         out: &mut SizeLimitedFmtAdapter<'_, S>,
-    ) -> Result<(), SinkRefused>
-        
-    {
+    ) -> Result<(), SinkRefused> {
         // All the nibbles are printed as they are spelled, leading zeros too.
         out.put("0x")?;
         self.symbol.span(nibbles).write_to(out)
@@ -98,9 +84,7 @@ impl Source<'_> {
         value: Option<u128>,
         nibbles: Part,
         out: &mut SizeLimitedFmtAdapter<'_, S>,
-    ) -> Result<(), SinkRefused>
-        
-    {
+    ) -> Result<(), SinkRefused> {
         match value {
             Some(number) => put_decimal(number, out),
             None => self.put_nibbles(nibbles, out),
@@ -112,9 +96,7 @@ impl Source<'_> {
         &self,
         tag: u8,
         out: &mut SizeLimitedFmtAdapter<'_, S>,
-    ) -> Result<(), SinkRefused>
-        
-    {
+    ) -> Result<(), SinkRefused> {
         if !self.include_hash {
             return Ok(());
         }
@@ -132,9 +114,7 @@ impl Source<'_> {
         nibbles: Part,
         tag: u8,
         out: &mut SizeLimitedFmtAdapter<'_, S>,
-    ) -> Result<(), SinkRefused>
-        
-    {
+    ) -> Result<(), SinkRefused> {
         self.put_number(value, nibbles, out)?;
         self.put_type_name(tag, out)
     }

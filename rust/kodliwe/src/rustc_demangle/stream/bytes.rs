@@ -1,32 +1,23 @@
 // Made from crates/rustc_demangle/src/stream/bytes.rt by packaging/crate/erase.py: edit that file instead.
 //! The demangling of any bytes that come from a reader.
 
-
-
-
-
-use crate::support::vec::Vec;
 use crate::rustc_demangle::stream::carrying::{finish, take_some};
 use crate::rustc_demangle::stream::fault::{StreamFault, read_fault};
 use crate::rustc_demangle::stream::memo::SymbolMemo;
 use crate::rustc_demangle::value::MAX_SIZE;
 use crate::support::alloc::{Allocator, Global};
+use crate::support::vec::Vec;
 use std::io;
 use std::io::{BufRead, Write};
-
 
 /// A filter of any bytes, which keeps the run that the bytes so far end with.
 pub struct BytesFilter<A: Allocator> {
     carried: Vec<u8, A>,
 }
 
-
-
 impl<A: Allocator> BytesFilter<A> {
     /// A filter that has had no bytes.
-    pub fn new(alloc: A) -> Self
-        
-    {
+    pub fn new(alloc: A) -> Self {
         BytesFilter {
             carried: Vec::new(alloc),
         }
@@ -43,9 +34,7 @@ impl<A: Allocator> BytesFilter<A> {
         input: &mut R,
         output: &mut W,
         memo: &mut SymbolMemo,
-    ) -> Result<bool, StreamFault>
-        
-    {
+    ) -> Result<bool, StreamFault> {
         let shown = match input.fill_buf() {
             Ok(shown) => shown,
             Err(error) => return Err(read_fault(error)),
@@ -66,9 +55,7 @@ fn take_steps<R: BufRead, W: Write, A: Allocator>(
     input: &mut R,
     output: &mut W,
     memo: &mut SymbolMemo,
-) -> Result<(), StreamFault>
-    
-{
+) -> Result<(), StreamFault> {
     for _ in 0..=u64::MAX {
         if !filter.step(input, output, memo)? {
             return Ok(());
@@ -94,9 +81,7 @@ pub fn demangle_bytes_limited<R: BufRead, W: Write>(
     output: &mut W,
     include_hash: bool,
     limit: usize,
-) -> Result<(), StreamFault>
-    
-{
+) -> Result<(), StreamFault> {
     let mut filter = BytesFilter::new(alloc);
     let mut memo = SymbolMemo::new(alloc, include_hash, limit);
     take_steps(&mut filter, input, output, &mut memo)
@@ -109,8 +94,6 @@ pub fn demangle_bytes<R: BufRead, W: Write>(
     input: &mut R,
     output: &mut W,
     include_hash: bool,
-) -> Result<(), StreamFault>
-    
-{
+) -> Result<(), StreamFault> {
     demangle_bytes_limited(alloc, input, output, include_hash, MAX_SIZE)
 }

@@ -1,22 +1,15 @@
 // Made from crates/rustc_demangle/src/stream/carrying.rt by packaging/crate/erase.py: edit that file instead.
 //! Any bytes, filtered part by part: what is known is written, and an open run is carried.
 
-
-
-
-
-
-use crate::support::vec::Vec;
 use crate::rustc_demangle::runs::{begins_run, run_len, run_start, run_text};
 use crate::rustc_demangle::stream::fault::StreamFault;
 use crate::rustc_demangle::stream::memo::SymbolMemo;
 use crate::support::alloc::Allocator;
+use crate::support::vec::Vec;
 use std::io::Write;
 
 /// Writes bytes by one call of the writer, and none by none.
-fn keep_bytes<W: Write>(bytes: &[u8], output: &mut W) -> Result<(), StreamFault>
-    
-{
+fn keep_bytes<W: Write>(bytes: &[u8], output: &mut W) -> Result<(), StreamFault> {
     if bytes.is_empty() {
         return Ok(());
     }
@@ -27,9 +20,11 @@ fn keep_bytes<W: Write>(bytes: &[u8], output: &mut W) -> Result<(), StreamFault>
 }
 
 /// Writes what stands for a run.
-fn pass_run<W: Write>(run: &[u8], output: &mut W, memo: &mut SymbolMemo) -> Result<(), StreamFault>
-    
-{
+fn pass_run<W: Write>(
+    run: &[u8],
+    output: &mut W,
+    memo: &mut SymbolMemo,
+) -> Result<(), StreamFault> {
     match memo.write_run(run_text(run), output) {
         Ok(()) => Ok(()),
         Err(error) => Err(StreamFault::Write(error)),
@@ -41,9 +36,7 @@ pub(super) fn finish<W: Write, A: Allocator>(
     carried: &mut Vec<u8, A>,
     output: &mut W,
     memo: &mut SymbolMemo,
-) -> Result<(), StreamFault>
-    
-{
+) -> Result<(), StreamFault> {
     let written = if begins_run(carried.as_slice()) {
         pass_run(carried.as_slice(), output, memo)
     } else {
@@ -54,9 +47,7 @@ pub(super) fn finish<W: Write, A: Allocator>(
 }
 
 /// Puts bytes behind the carried text.
-fn carry<A: Allocator>(carried: &mut Vec<u8, A>, bytes: &[u8]) -> Result<(), StreamFault>
-    
-{
+fn carry<A: Allocator>(carried: &mut Vec<u8, A>, bytes: &[u8]) -> Result<(), StreamFault> {
     if carried.extend_from_slice(bytes).is_err() {
         return Err(StreamFault::Memory);
     }
@@ -64,9 +55,7 @@ fn carry<A: Allocator>(carried: &mut Vec<u8, A>, bytes: &[u8]) -> Result<(), Str
 }
 
 /// How many bytes at the end of a text, in which no run begins, may be the beginning of one.
-fn beginning_len(text: &[u8]) -> usize
-    
-{
+fn beginning_len(text: &[u8]) -> usize {
     if text.ends_with(b"_") {
         1
     } else if text.ends_with(b"_Z") {
@@ -77,9 +66,7 @@ fn beginning_len(text: &[u8]) -> usize
 }
 
 /// Whether the beginning of a run goes on with this byte.
-fn goes_on(carried: &[u8], byte: u8) -> bool
-    
-{
+fn goes_on(carried: &[u8], byte: u8) -> bool {
     if carried.len() == 1 {
         (byte == b'R') | (byte == b'Z')
     } else {
@@ -93,9 +80,7 @@ fn take_byte<W: Write, A: Allocator>(
     shown: &[u8],
     output: &mut W,
     memo: &mut SymbolMemo,
-) -> Result<usize, StreamFault>
-    
-{
+) -> Result<usize, StreamFault> {
     if goes_on(carried.as_slice(), shown[0]) {
         carry(carried, &shown[..1])?;
         return Ok(1);
@@ -110,9 +95,7 @@ fn take_run<W: Write, A: Allocator>(
     shown: &[u8],
     output: &mut W,
     memo: &mut SymbolMemo,
-) -> Result<usize, StreamFault>
-    
-{
+) -> Result<usize, StreamFault> {
     let len = run_len(shown);
     carry(carried, &shown[..len])?;
     if len < shown.len() {
@@ -127,9 +110,7 @@ fn take_text<W: Write, A: Allocator>(
     shown: &[u8],
     output: &mut W,
     memo: &mut SymbolMemo,
-) -> Result<usize, StreamFault>
-    
-{
+) -> Result<usize, StreamFault> {
     let Some(start) = run_start(shown) else {
         let (kept, beginning) = shown.split_at(shown.len() - beginning_len(shown));
         // Carried before anything is written: where memory is refused, the same step can be made
@@ -156,9 +137,7 @@ pub(super) fn take_some<W: Write, A: Allocator>(
     shown: &[u8],
     output: &mut W,
     memo: &mut SymbolMemo,
-) -> Result<usize, StreamFault>
-    
-{
+) -> Result<usize, StreamFault> {
     if carried.is_empty() {
         return take_text(carried, shown, output, memo);
     }

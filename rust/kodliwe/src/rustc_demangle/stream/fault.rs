@@ -1,7 +1,6 @@
 // Made from crates/rustc_demangle/src/stream/fault.rt by packaging/crate/erase.py: edit that file instead.
 //! Why the stream stopped.
 
-
 use std::io;
 
 /// Why the stream stopped.
@@ -20,9 +19,7 @@ pub enum StreamFault {
 impl StreamFault {
     /// The fault as an `io::Error`: that of the reader or the writer as it was, else a new one of
     /// its kind.
-    pub fn into_io(self) -> io::Error
-        
-    {
+    pub fn into_io(self) -> io::Error {
         match self {
             StreamFault::Read(error) => error,
             StreamFault::Write(error) => error,
@@ -35,9 +32,7 @@ impl StreamFault {
 }
 
 /// The fault of an error that arose while a line was read.
-pub(super) fn read_fault(error: io::Error) -> StreamFault
-    
-{
+pub(super) fn read_fault(error: io::Error) -> StreamFault {
     if error.kind() == io::ErrorKind::OutOfMemory {
         StreamFault::Memory
     } else {

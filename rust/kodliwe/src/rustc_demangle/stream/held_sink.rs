@@ -1,10 +1,6 @@
 // Made from crates/rustc_demangle/src/stream/held_sink.rt by packaging/crate/erase.py: edit that file instead.
 //! A sink into held bytes.
 
-
-
-
-
 use crate::demangle_sink::{SinkRefused, TextSink};
 use crate::held_bytes::Held;
 
@@ -16,9 +12,7 @@ pub(super) struct HeldSink<'h> {
 
 impl<'h> HeldSink<'h> {
     /// Returns a sink into these bytes, which has not failed.
-    pub(super) fn new(held: &'h mut Held) -> Self
-        
-    {
+    pub(super) fn new(held: &'h mut Held) -> Self {
         HeldSink {
             held,
             failed: false,
@@ -27,8 +21,6 @@ impl<'h> HeldSink<'h> {
 }
 
 impl<'h> TextSink for HeldSink<'h> {
-
-
     #[inline(always)]
     fn put(&mut self, s: &str) -> Result<(), SinkRefused> {
         if self.held.push(s.as_bytes()) {
@@ -41,5 +33,4 @@ impl<'h> TextSink for HeldSink<'h> {
     fn is_failed(&self) -> bool {
         self.failed
     }
-
 }

@@ -1,14 +1,9 @@
 // Made from crates/rustc_demangle/src/stream/line.rt by packaging/crate/erase.py: edit that file instead.
 //! A line with its symbols demangled.
 
-
-
-
-
-
+use crate::demangle_sink::WriteSink;
 use crate::rustc_demangle::text::demangle_text;
 use crate::rustc_demangle::value::Demangle;
-use crate::demangle_sink::WriteSink;
 use std::io;
 use std::io::Write;
 
@@ -18,9 +13,7 @@ fn write_symbol<W: Write>(
     output: &mut W,
     include_hash: bool,
     limit: usize,
-) -> io::Result<()>
-    
-{
+) -> io::Result<()> {
     let mut sink = WriteSink::new(output);
     // Where it is refused, the sink has a fault.
     let _ = symbol.write_limited(&mut sink, include_hash, limit);
@@ -31,9 +24,7 @@ fn write_symbol<W: Write>(
 }
 
 /// Writes what is no symbol, by one call of the writer.
-fn write_kept<W: Write>(text: &str, output: &mut W) -> io::Result<()>
-    
-{
+fn write_kept<W: Write>(text: &str, output: &mut W) -> io::Result<()> {
     output.write_all(text.as_bytes())
 }
 
@@ -43,9 +34,7 @@ pub(super) fn write_run<W: Write>(
     output: &mut W,
     include_hash: bool,
     limit: usize,
-) -> io::Result<()>
-    
-{
+) -> io::Result<()> {
     let symbol = Demangle::read_run(run);
     if symbol.has_style() {
         write_symbol(&symbol, output, include_hash, limit)
@@ -60,9 +49,7 @@ pub(super) fn demangle_line<W: Write>(
     line: &str,
     output: &mut W,
     include_hash: bool,
-) -> io::Result<()>
-    
-{
+) -> io::Result<()> {
     let mut sink = WriteSink::new(output);
     // Where it is refused, the sink has a fault.
     let _ = demangle_text(line, &mut sink, include_hash);

@@ -1,16 +1,10 @@
 // Made from crates/rustc_demangle/src/stream/memo.rt by packaging/crate/erase.py: edit that file instead.
 //! A memo of the symbols that a filter printed.
 
-
-
-
-
-
-
+use crate::held_bytes::Held;
 use crate::rustc_demangle::stream::held_sink::HeldSink;
 use crate::rustc_demangle::stream::line::write_run;
 use crate::rustc_demangle::value::Demangle;
-use crate::held_bytes::Held;
 use crate::support::alloc::Global;
 use std::io;
 use std::io::Write;
@@ -88,12 +82,8 @@ pub struct SymbolMemo {
     probe: Probe,
 }
 
-
-
 /// Prints a symbol into held bytes, or returns `false` if they have no room for it.
-fn print_held(symbol: &Demangle<'_>, held: &mut Held, form: Form) -> bool
-    
-{
+fn print_held(symbol: &Demangle<'_>, held: &mut Held, form: Form) -> bool {
     let mut sink = HeldSink::new(held);
     symbol
         .write_limited(&mut sink, form.include_hash, form.limit)
@@ -126,9 +116,7 @@ fn is_looked_up(run: &[u8]) -> bool {
 
 /// Prints a run, and remembers its text.
 #[inline(never)]
-fn print_new(run: &str, hash: u64, form: Form, store: &mut Store) -> Printed
-    
-{
+fn print_new(run: &str, hash: u64, form: Form, store: &mut Store) -> Printed {
     let symbol = Demangle::read_run(run);
     if !symbol.has_style() {
         let kept = run.as_bytes();
@@ -149,9 +137,7 @@ fn print_new(run: &str, hash: u64, form: Form, store: &mut Store) -> Printed
 impl SymbolMemo {
     /// Returns a memo of symbols that are printed with the hash or without it, and each cut at
     /// `limit` bytes before its suffix.
-    pub fn new(alloc: Global, include_hash: bool, limit: usize) -> Self
-        
-    {
+    pub fn new(alloc: Global, include_hash: bool, limit: usize) -> Self {
         SymbolMemo {
             form: Form {
                 include_hash,
@@ -170,9 +156,7 @@ impl SymbolMemo {
 
     /// Writes the text of a run that the memo has not. It is remembered if the run came before.
     #[inline(always)]
-    fn write_new<W: Write>(&mut self, run: &str, hash: u64, output: &mut W) -> io::Result<()>
-        
-    {
+    fn write_new<W: Write>(&mut self, run: &str, hash: u64, output: &mut W) -> io::Result<()> {
         let Form {
             include_hash,
             limit,
@@ -189,9 +173,7 @@ impl SymbolMemo {
     }
 
     /// Writes the text of a run: what the symbol prints if the run is one, and otherwise the run.
-    pub(super) fn write_run<W: Write>(&mut self, run: &str, output: &mut W) -> io::Result<()>
-        
-    {
+    pub(super) fn write_run<W: Write>(&mut self, run: &str, output: &mut W) -> io::Result<()> {
         if !is_looked_up(run.as_bytes()) || !self.probe.is_on() {
             return write_run(run, output, self.form.include_hash, self.form.limit);
         }

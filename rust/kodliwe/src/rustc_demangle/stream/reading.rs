@@ -1,22 +1,15 @@
 // Made from crates/rustc_demangle/src/stream/reading.rt by packaging/crate/erase.py: edit that file instead.
 //! A line from a reader, by the reader's fillings.
 
-
-
-
-
-
-use crate::support::vec::Vec;
 use crate::rustc_demangle::stream::fault::{StreamFault, read_fault};
-use crate::support::memchr::memchr;
 use crate::support::alloc::Allocator;
+use crate::support::memchr::memchr;
+use crate::support::vec::Vec;
 use std::io;
 use std::io::BufRead;
 
 /// The length up to and including the first line feed, or the whole length.
-fn len_through_feed(bytes: &[u8]) -> usize
-    
-{
+fn len_through_feed(bytes: &[u8]) -> usize {
     match memchr(b'\n', bytes) {
         Some(at) => at + 1,
         None => bytes.len(),
@@ -27,9 +20,7 @@ fn len_through_feed(bytes: &[u8]) -> usize
 fn take_filling<R: BufRead, A: Allocator>(
     input: &mut R,
     line: &mut Vec<u8, A>,
-) -> Result<bool, StreamFault>
-    
-{
+) -> Result<bool, StreamFault> {
     let available = match input.fill_buf() {
         Ok(available) => available,
         Err(error) => return Err(read_fault(error)),
@@ -47,9 +38,7 @@ fn take_filling<R: BufRead, A: Allocator>(
 pub(super) fn read_line<R: BufRead, A: Allocator>(
     input: &mut R,
     line: &mut Vec<u8, A>,
-) -> Result<(), StreamFault>
-    
-{
+) -> Result<(), StreamFault> {
     for _ in 0..u64::MAX {
         if take_filling(input, line)? {
             return Ok(());
