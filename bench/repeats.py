@@ -229,7 +229,8 @@ def main():
                 a_line = "-" if given.no_instructions else "{:,.0f}".format(counted(words, file.name))
                 rate, times = megabytes / max(least[program], 1e-6), least["kodliwe"] / max(least[program], 1e-6)
                 print(
-                    "| %s, %.0f MB | %s | %.0f | %.3f | %d | %s |" % (name, megabytes, program, rate, times, most_memory(words, file.name), a_line),
+                    "| %s, %.0f MB | %s | %.0f | %.3f | %d | %s |"
+                    % (name, megabytes, program, rate, times, most_memory(words, file.name), a_line),
                     flush=True,
                 )
 

@@ -1,6 +1,6 @@
 # bash completion for kodliwe
 _kodliwe() {
-    local word=${COMP_WORDS[COMP_CWORD]} before=${COMP_WORDS[COMP_CWORD-1]} option= i
+    local word=${COMP_WORDS[COMP_CWORD]} before=${COMP_WORDS[COMP_CWORD-1]} option="" i
     COMPREPLY=()
     for ((i = 1; i < COMP_CWORD; i++)); do
         if [[ ${COMP_WORDS[i]} == -- ]]; then
@@ -10,7 +10,7 @@ _kodliwe() {
     # Where = ends a word, as bash has it, --input=F is the three words --input, = and F.
     if [[ $word == = ]]; then
         word=
-    elif [[ $before == = && COMP_CWORD -ge 2 ]]; then
+    elif [[ $before == = ]] && ((COMP_CWORD >= 2)); then
         before=${COMP_WORDS[COMP_CWORD-2]}
     elif [[ $word == --*=* ]]; then
         before=${word%%=*} option=${word%%=*}= word=${word#*=}

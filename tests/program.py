@@ -547,7 +547,7 @@ def completions():
         ("--limit = c", []),
         ("-- --input = cr", []),
     ]:
-        lines = 'source %s/kodliwe.bash; COMP_WORDS=(kodliwe %s); COMP_CWORD=$((${#COMP_WORDS[@]} - 1)); _kodliwe' % (folder, asked)
+        lines = "source %s/kodliwe.bash; COMP_WORDS=(kodliwe %s); COMP_CWORD=$((${#COMP_WORDS[@]} - 1)); _kodliwe" % (folder, asked)
         same(subprocess.check_output(["bash", "-c", lines + '; echo "${COMPREPLY[@]}"']).decode().split(), wanted)
     subprocess.run(["zsh", "-n", folder + "/_kodliwe"], check=True)
     with open(folder + "/_kodliwe") as file:

@@ -38,20 +38,25 @@ impl<W: Write + Drop> Output<W> {
         self.buffer.get_ref()
     }
 
-    /// Hands on what is held. What the buffer refuses stays held.
+    /// Hands on what is held, and goes on if a signal interrupts it. What the buffer refuses stays
+    /// held.
     fn hand_on(&mut self) -> io::Result<()>
         ensures empty { OnOk result (self.new.held ≡ []) }
         ensures bytes { Keeps (output_contents W.contents self.old)
             (output_contents W.contents self.new) }
     {
-        'handing: while !self.held.is_empty() {
+        'handing: for _ in 0..=u64::MAX {
+            if self.held.is_empty() {
+                return Ok(());
+            }
             match self.buffer.write(self.held.as_slice()) {
                 Ok(0) => return Err(io::Error::from(ErrorKind::WriteZero)),
                 Ok(taken) => self.held.remove_front(taken),
+                Err(error) if error.kind() == ErrorKind::Interrupted => {}
                 Err(error) => return Err(error),
             }
         }
-        Ok(())
+        Err(io::Error::other("too many signals"))
     }
 
     /// Hands on what is held, and then holds the piece, or hands it on where it is too long.

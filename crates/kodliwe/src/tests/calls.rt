@@ -109,13 +109,19 @@ fn calls_are_made_again_after_ten_interruptions(rt: HostRuntime) -> Result<(), F
     assert_eq!(rt; ended, Ended::Complete);
     assert!(rt; errors.is_empty());
     assert_eq!(rt; writer.held(), FILTERED_LOG);
-    let mut writer = StutteringWriter::new(alloc, 10);
-    let mut output = Output::new(BufWriter::with_capacity(alloc, BUFFER, &mut writer)?);
-    let (ended, errors) = run_one(alloc, ChunkReader::new(LOG, 5), &mut output, false)?;
-    drop(output);
-    assert_eq!(rt; ended, Ended::Complete);
-    assert!(rt; errors.is_empty());
-    assert_eq!(rt; writer.held(), FILTERED_LOG);
+    for case in cases(alloc)?.iter() {
+        for capacity in CAPACITIES {
+            let mut writer = StutteringWriter::new(alloc, 10);
+            let mut output = Output::new(BufWriter::with_capacity(alloc, capacity, &mut writer)?);
+            let reader = ChunkReader::new(case.text.as_slice(), case.read);
+            let (ended, errors) = run_one(alloc, reader, &mut output, false)?;
+            drop(output);
+            assert_eq!(rt; ended, Ended::Complete, "over {capacity}");
+            assert!(rt; errors.is_empty());
+            let is_wanted = writer.held() == case.wanted.as_slice();
+            assert!(rt; is_wanted, "over {capacity}");
+        }
+    }
     Ok(())
 }
 

@@ -33,8 +33,8 @@ struct Packed {
     point: Point,
     in_value: bool,
     letter: u8,
-    /// Always 0. A frame without padding is cleared and copied as two whole words.
-    spare: u8,
+    /// Always 0. With it the frame has no unused bytes, so it is cleared and copied as two words.
+    _padding: u8,
 }
 
 const _: () = assert!(mem::size_of::<Packed>() == 16);
@@ -50,7 +50,7 @@ impl Default for Packed {
             point: Point::InherentPath,
             in_value: false,
             letter: 0,
-            spare: 0,
+            _padding: 0,
         }
     }
 }
@@ -66,7 +66,7 @@ fn pack(frame: Frame) -> Packed {
         point: frame.point,
         in_value: frame.in_value,
         letter: frame.letter,
-        spare: 0,
+        _padding: 0,
     }
 }
 

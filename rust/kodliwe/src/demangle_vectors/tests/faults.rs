@@ -2,7 +2,9 @@
 //! Tests of errors of readers and writers. The caller gets their kind and text, and nothing is
 //! written after one.
 use crate::rustc_demangle::sink::{TextSink, WriteSink};
-use crate::rustc_demangle::{StreamFault, demangle, demangle_stream, demangle_stream_named};
+use crate::rustc_demangle::{
+    StreamFault, demangle, demangle_bytes, demangle_stream, demangle_stream_named,
+};
 use crate::support::alloc::{AllocError, Global};
 use crate::support::format;
 use crate::support::rt::HostRuntime;
@@ -83,6 +85,36 @@ fn the_error_of_a_reader_reaches_the_caller() -> Result<(), Fail> {
     assert_eq!(kind, ErrorKind::ConnectionReset);
     assert_eq!(text.as_str(), RESET);
     assert_eq!(output.as_slice(), b"x foo\nx foo\n".as_slice());
+    Ok(())
+}
+
+#[test]
+fn the_errors_of_a_run_over_bytes_reach_the_caller() -> Result<(), Fail> {
+    let rt = HostRuntime;
+    let alloc = rt.alloc();
+    let parts = [b"x _ZN3fooE\n_ZN3ba".as_slice()];
+    let mut output = Vec::new(alloc);
+    let mut input = PartsReader::new(&parts, 1, ErrorKind::ConnectionReset);
+    let result = demangle_bytes(alloc, &mut input, &mut output, true);
+    let Err(StreamFault::Read(error)) = result else {
+        return Err("no fault of the reader".into());
+    };
+    let (kind, text) = told(alloc, &error)?;
+    assert_eq!(kind, ErrorKind::ConnectionReset);
+    assert_eq!(text.as_str(), RESET);
+    // The writes are `x `, `foo` and the line feed.
+    for writes in 0..3usize {
+        let mut output = OnceRefusingWriter::new(alloc, writes, ErrorKind::BrokenPipe);
+        let mut input = b"x _ZN3fooE\n".as_slice();
+        let result = demangle_bytes(alloc, &mut input, &mut output, true);
+        let Err(StreamFault::Write(error)) = result else {
+            return Err("no fault of the writer".into());
+        };
+        let (kind, text) = told(alloc, &error)?;
+        assert_eq!(kind, ErrorKind::BrokenPipe);
+        assert_eq!(text.as_str(), GONE, "at {writes}");
+        assert_eq!(output.late, 0usize, "at {writes}");
+    }
     Ok(())
 }
 

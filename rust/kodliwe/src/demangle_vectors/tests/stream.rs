@@ -278,6 +278,35 @@ fn each_text_and_piece_is_a_write() -> Result<(), Fail> {
     Ok(())
 }
 
+#[test]
+fn each_text_of_any_bytes_is_a_write() -> Result<(), Fail> {
+    let rt = HostRuntime;
+    let alloc = rt.alloc();
+    let cases: [(&[u8], &[&[u8]]); 3] = [
+        (b"x _RCx _ZN3fooE", &[b"x ", b"_RCx", b" ", b"foo"]),
+        (b"_RCx_a_longer_run y", &[b"_RCx_a_longer_run", b" y"]),
+        (
+            b"y _ZN3fo\nx _R_a_longer_run_that_is_no_symbol",
+            &[
+                b"y ",
+                b"_ZN3fo",
+                b"\nx ",
+                b"_R_a_longer_run_that_is_no_symbol",
+            ],
+        ),
+    ];
+    for (text, wanted) in cases {
+        let mut input = text;
+        let mut output = NotingWriter::new(alloc);
+        assert!(demangle_bytes(alloc, &mut input, &mut output, true).is_ok());
+        assert_eq!(output.writes().len(), wanted.len(), "of {text:?}");
+        for (write, want) in output.writes().iter().zip(wanted.iter()) {
+            assert_eq!(write.as_slice(), *want, "of {text:?}");
+        }
+    }
+    Ok(())
+}
+
 /// Returns one part a given number of times.
 struct RepeatingReader<'a> {
     part: &'a [u8],

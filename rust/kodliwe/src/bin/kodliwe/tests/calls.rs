@@ -113,13 +113,19 @@ fn calls_are_made_again_after_ten_interruptions() -> Result<(), Fail> {
     assert_eq!(ended, Ended::Complete);
     assert!(errors.is_empty());
     assert_eq!(writer.held(), FILTERED_LOG);
-    let mut writer = StutteringWriter::new(alloc, 10);
-    let mut output = Output::new(BufWriter::with_capacity(alloc, BUFFER, &mut writer)?);
-    let (ended, errors) = run_one(alloc, ChunkReader::new(LOG, 5), &mut output, false)?;
-    drop(output);
-    assert_eq!(ended, Ended::Complete);
-    assert!(errors.is_empty());
-    assert_eq!(writer.held(), FILTERED_LOG);
+    for case in cases(alloc)?.iter() {
+        for capacity in CAPACITIES {
+            let mut writer = StutteringWriter::new(alloc, 10);
+            let mut output = Output::new(BufWriter::with_capacity(alloc, capacity, &mut writer)?);
+            let reader = ChunkReader::new(case.text.as_slice(), case.read);
+            let (ended, errors) = run_one(alloc, reader, &mut output, false)?;
+            drop(output);
+            assert_eq!(ended, Ended::Complete, "over {capacity}");
+            assert!(errors.is_empty());
+            let is_wanted = writer.held() == case.wanted.as_slice();
+            assert!(is_wanted, "over {capacity}");
+        }
+    }
     Ok(())
 }
 
