@@ -223,25 +223,32 @@ def check_client(name):
     return call
 
 
-def calls_program():
-    """Builds a program that has both libraries."""
+def has_streams():
+    """Returns whether the published crate has `demangle_stream`. Debian's release has none."""
+    with open(os.path.join(published(), "Cargo.toml"), encoding="utf-8") as file:
+        return re.search(r"^std = ", file.read(), re.M) is not None
+
+
+def calls_program(name="calls", source=os.path.join(HERE, "calls.rs"), **variables):
+    """Builds a program that has both libraries, under these variables, and returns its path."""
     copy = os.path.join(WORK, "published")
     shutil.rmtree(copy, ignore_errors=True)
     shutil.copytree(published(), copy)
     manifest = os.path.join(copy, "Cargo.toml")
     with open(manifest, encoding="utf-8") as file:
         text = file.read()
+    std = '"std"' if has_streams() else ""
     with open(manifest, "w", encoding="utf-8") as file:
         file.write(text.replace('name = "rustc-demangle"', 'name = "rustc-demangle-published"', 1))
     place = folder(
-        "calls",
-        f'edition = "2021"\n\n[[bin]]\nname = "calls"\npath = "{HERE}/calls.rs"\n\n[dependencies]\n'
+        name,
+        f'edition = "2021"\n\n[[bin]]\nname = "{name}"\npath = "{source}"\n\n[dependencies]\n'
         f'ours = {{ package = "rustc-demangle", path = "{OURS}", features = ["std"] }}\n'
-        f'theirs = {{ package = "rustc-demangle-published", path = "{copy}", features = ["std"] }}\n\n'
+        f'theirs = {{ package = "rustc-demangle-published", path = "{copy}", features = [{std}] }}\n\n'
         '[profile.release]\nopt-level = 3\nlto = "fat"\ncodegen-units = 1\ndebug = 1\n',
     )
-    common.cargo(place, "build", "--release", target=TARGET)
-    return os.path.join(TARGET, "release", "calls")
+    common.cargo(place, "build", "--release", target=TARGET, **variables)
+    return os.path.join(TARGET, "release", name)
 
 
 def check_answers():

@@ -1,5 +1,6 @@
 //! `demangle_bytes`, which remembers what symbols print, gives what `demangle_slice` does, which
 //! remembers nothing: whatever chunks the reader shows, and however often a symbol comes.
+#![cfg(feature = "std")]
 use std::io::{self, BufRead, Read};
 
 const SYMBOLS: [&str; 18] = [
