@@ -37,7 +37,7 @@ fn by_lines(
     Ok(wanted)
 }
 
-/// Filters one reader. Returns the result, and what was written to the output and as errors.
+/// Filters one reader into `output`. Returns how that ended, and what was written as errors.
 fn run_one<R: Read + Drop, W: Write>(
     alloc: Global,
     reader: R,

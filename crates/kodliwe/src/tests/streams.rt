@@ -5,7 +5,8 @@ use std::cell::Cell;
 use std::io;
 use std::io::{ErrorKind, Read, Write};
 
-/// Returns a text in reads of at most `size` bytes, and can fail at a given read.
+/// A reader of a text that gives at most `most` bytes at a read, and can fail after a number of
+/// reads.
 #[derive(Drop)]
 pub struct ChunkReader<'a> {
     rest: &'a [u8],
@@ -39,8 +40,7 @@ impl<'a> ChunkReader<'a> {
         }
     }
 
-    /// Returns such a reader, of whose reads every second one is interrupted, beginning with the
-    /// first.
+    /// Returns such a reader with every second read interrupted, beginning with the first.
     pub fn interrupted(self) -> ChunkReader<'a> {
         ChunkReader {
             rest: self.rest,
@@ -72,8 +72,8 @@ impl Read for ChunkReader<'_> {
     }
 }
 
-/// Collects what is written, with a limit of bytes for each write. It can fail after a number of
-/// calls; writes and flushes are counted.
+/// A writer that collects what it gets, at most `most` bytes of a write. It can fail after a number
+/// of calls; writes and flushes are counted.
 #[derive(Drop)]
 pub struct CallsWriter {
     held: Vec<u8>,
@@ -105,8 +105,7 @@ impl CallsWriter {
         self.fails_once = true;
     }
 
-    /// Returns such a writer, of whose calls every second one is interrupted, beginning with the
-    /// first.
+    /// Returns such a writer with every second call interrupted, beginning with the first.
     pub fn interrupted(mut self) -> CallsWriter {
         self.interrupted = Some(true);
         self
@@ -154,7 +153,8 @@ impl Write for CallsWriter {
     }
 }
 
-/// Collects what is written. A number of interruptions comes before each call that it accepts.
+/// A writer that collects what it gets. A number of interruptions comes before each call that it
+/// accepts.
 #[derive(Drop)]
 pub struct StutteringWriter {
     held: Vec<u8>,
@@ -197,7 +197,7 @@ impl Write for StutteringWriter {
     }
 }
 
-/// Collects what is written, and shares with its reader whether that was flushed.
+/// A writer that collects what it gets, and shares with its reader whether that was flushed.
 #[derive(Drop)]
 pub struct WatchedWriter<'a> {
     held: Vec<u8>,
@@ -227,7 +227,7 @@ impl Write for WatchedWriter<'_> {
     }
 }
 
-/// Returns a text in reads of 12 bytes, and fails if it is read while something is not flushed.
+/// A reader of a text in reads of 12 bytes. It fails if it is read while something is not flushed.
 #[derive(Drop)]
 pub struct WatchingReader<'a> {
     reader: ChunkReader<'a>,

@@ -63,7 +63,7 @@ fn memory_is_refused(rt: HostRuntime) -> Result<(), Fail> {
     Ok(())
 }
 
-/// Returns a text in chunks of one byte. Records the chunks before which the heap had grown.
+/// A reader of a text in chunks of one byte. It records the chunks before which the heap had grown.
 #[derive(Drop)]
 struct WatchingReader<'a> {
     text: &'a [u8],
