@@ -112,7 +112,7 @@ pub enum Next<'a> {
     Symbol,
 }
 
-/// What to do after an argument is read.
+/// The action after an argument is read.
 #[derive(Clone, Copy, Drop)]
 pub enum Taken<'a> {
     Next(Next<'a>),

@@ -2,12 +2,12 @@
 use Rattle.std.specs.Prelude.{◌≡◌, ◌≢◌, ◌+◌, ◌<◌, ◌⊎◌, ◌++◌, ℕ, List, [], ◌∷◌, ◌==◌, if◌then◌else◌, length, All}
 use Rattle.std.specs.List.{concat}
 
--- the lines with a byte added before the first one
+-- the lines with a byte added at the start of the first one
 abbrev pub onto_first : ℕ → List (List ℕ) → List (List ℕ)
 onto_first b [] = (b ∷ []) ∷ []
 onto_first b (line ∷ rest) = (b ∷ line) ∷ rest
 
--- the lines with a byte added before them; a line feed is a separate line
+-- the lines of a byte and the text after it, which has these lines; a line feed is a line by itself
 abbrev pub lines_from : ℕ → List (List ℕ) → List (List ℕ)
 lines_from b rest = if b == 10 then (b ∷ []) ∷ rest else onto_first b rest
 

@@ -13,7 +13,7 @@ pub struct ChunkReader<'a> {
     most: usize,
     reads_left: usize,
     kind: ErrorKind,
-    /// Whether every second read is interrupted, and whether the next one is.
+    /// Whether every other read is interrupted, and whether the next one is.
     interrupted: Option<bool>,
 }
 
@@ -40,7 +40,7 @@ impl<'a> ChunkReader<'a> {
         }
     }
 
-    /// Returns such a reader with every second read interrupted, beginning with the first.
+    /// Returns such a reader with every other read interrupted, from the first one on.
     pub fn interrupted(self) -> ChunkReader<'a> {
         ChunkReader {
             rest: self.rest,
@@ -105,7 +105,7 @@ impl CallsWriter {
         self.fails_once = true;
     }
 
-    /// Returns such a writer with every second call interrupted, beginning with the first.
+    /// Returns such a writer with every other call interrupted, from the first one on.
     pub fn interrupted(mut self) -> CallsWriter {
         self.interrupted = Some(true);
         self

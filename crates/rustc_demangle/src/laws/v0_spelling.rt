@@ -27,8 +27,8 @@ pub fn reading_accepts_what_is_spelled()
         (v0_of symbol ≡ Some (inner, suffix)) ↔ IsV0 symbol inner suffix }
 {}
 
-/// Parsing with output ends at the same offset as parsing without output, or fails. It fails only
-/// at a lifetime outside back references that names none in scope.
+/// Parsing with output ends at the same place as parsing without output, or fails. It fails only at
+/// a lifetime outside back references that names none in scope.
 #[tactic(auto, using(demangle_grammar::proofs::Accepted::printing_is_spelling, demangle_grammar::proofs::Accepted::printing_ends, demangle_grammar::proofs::Rules::named_freely))]
 pub fn printing_ends_where_reading_does()
     ensures named { (symbol : List ℕ) (kind : Kind) (value : Bool) (i j depth lifetimes : ℕ) →
@@ -45,8 +45,8 @@ pub fn printing_ends_where_reading_does()
         × (Spells symbol named depth lifetimes (items kind value) i j → ⊥)) }
 {}
 
-/// A production without a back reference, and with no lifetime except that of index 0, prints no
-/// error.
+/// A production without a back reference, and with no lifetime except that of index 0, is printed
+/// without a stop such as `{invalid syntax}`.
 #[tactic(auto, using(demangle_grammar::proofs::Whole::read_whole, demangle_grammar::proofs::Rules::simply_named))]
 pub fn simple_units_have_no_stop()
     ensures whole { (symbol : List ℕ) (kind : Kind) (value : Bool) (i j depth lifetimes : ℕ) →

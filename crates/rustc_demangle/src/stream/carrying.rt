@@ -214,8 +214,8 @@ fn take_text<W: Write, A: Allocator>(
     Ok(start + len)
 }
 
-/// Filters a prefix of the available bytes, and returns its length. What is certain is written, and
-/// an unfinished run stays pending. Fails if the writer fails or memory can't be allocated.
+/// Filters a prefix of the available bytes, and returns its length. Writes all that is certain; an
+/// unfinished run stays pending. Fails if the writer fails or memory can't be allocated.
 pub(super) fn take_some<W: Write, A: Allocator>(
     carried: &mut Vec<u8, A>,
     shown: &[u8],
