@@ -7,7 +7,7 @@ abbrev pub onto_first : ℕ → List (List ℕ) → List (List ℕ)
 onto_first b [] = (b ∷ []) ∷ []
 onto_first b (line ∷ rest) = (b ∷ line) ∷ rest
 
--- the lines of a byte and the text after it, which has these lines; a line feed is a line by itself
+-- the lines of the byte `b` and a text after it that has the lines `rest`; a line feed is a line by itself
 abbrev pub lines_from : ℕ → List (List ℕ) → List (List ℕ)
 lines_from b rest = if b == 10 then (b ∷ []) ∷ rest else onto_first b rest
 

@@ -1,4 +1,4 @@
--- The symbol of a text, without the suffix that ThinLTO appends. The suffixes that a symbol may have.
+-- The symbol of a text, without the suffix that ThinLTO appends, and the suffixes that a symbol may have.
 use Rattle.std.specs.Prelude.{◌≡◌, ℕ, ◌≤◌, Bool, true, ◌&&◌, ◌||◌, ◌==◌, nat_le, nat_eq, List, [], ◌∷◌, ◌++◌, drop, length, codes, if◌then◌else◌}
 use Rattle.std.specs.List.{starts_with, list_all}
 use Rattle.std.specs.Char.{is_ascii_digit}

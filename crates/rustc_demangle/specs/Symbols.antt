@@ -46,9 +46,9 @@ abbrev pub kept_of : List ℕ → Bool → ℕ → ℕ
 kept_of text hash limit = option_map_or (λ read. kept read.0 limit) (pieces_of hash text) 0
 
 -- The change of the look counter by printing a text, for Ok and for Err. Let `n` be the length of the text, and `w`
--- the number of bytes that are kept. The counter never decreases. It increases by at most 100,000 x (w + 1) x (n +
--- 1), and for a legacy symbol by at most 16 x (n + 1). It increases by at least 1 for a v0 symbol, and by nothing for
--- a text that is not a symbol.
+-- the number of bytes that are kept. The counter never decreases. It increases by at most 100,000 x (w + 1) x
+-- (n + 1), and for a legacy symbol by at most 16 x (n + 1). It increases by at least 1 for a v0 symbol, and by
+-- nothing for a text that is not a symbol.
 pub record PrintingLooks (text : List ℕ) (hash : Bool) (limit old new : ℕ) : Type 0 where
   pub grows : old ≤ new
   pub most : new ≤ old + 100000 * (kept_of text hash limit + 1) * (length text + 1)

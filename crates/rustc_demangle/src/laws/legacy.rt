@@ -18,8 +18,8 @@ pub fn legacy_is_read()
 /// An element prints exactly the pieces that the relation gives it.
 ///
 /// These are the pieces of its units in sequence. Each unit has one form: `..`, a single `.`, an
-/// escape between two `$`, or plain bytes up to one of these. The rest, with which no unit starts,
-/// is printed unchanged.
+/// escape between two `$`, or plain bytes up to one of these. A rest that starts with no unit is
+/// printed unchanged.
 pub fn elements_are_unescaped()
     ensures read { (element : List ℕ) → IsUnescaped element (unescaped element) }
     ensures once { (element : List ℕ) (pieces : List (List ℕ)) → IsUnescaped element pieces →

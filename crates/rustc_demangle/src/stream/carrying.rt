@@ -173,8 +173,8 @@ fn take_run<W: Write, A: Allocator>(
 /// Filters a chunk when nothing is pending, and returns how many bytes it used.
 ///
 /// Writes everything up to the end of the first run. If the chunk ends inside a run, or may end
-/// with the start of one, that part becomes pending. Fails if the writer fails or memory can't be
-/// allocated.
+/// with the start of one, that part becomes pending. The text before it is written. Fails if the
+/// writer fails or memory can't be allocated.
 fn take_text<W: Write, A: Allocator>(
     carried: &mut Vec<u8, A>,
     shown: &[u8],
