@@ -17,11 +17,11 @@ const TEXT: &[u8] = b"__ZN3fooE x\n_RCs_3foo \xFF _ZN3foo4headE\n_R_ZN3fooE \
 /// The text without hashes.
 const FILTERED: &[u8] = b"_foo x\nfoo \xFF foo\n_R_ZN3fooE foo@@16 foo";
 
-/// The capacity in bytes of the buffer below an output.
+/// The capacities, in bytes, of the buffer below an output.
 const CAPACITIES: [usize; 4] = [0, 1, 5, BUFFER];
 
-/// Returns the filtered text that is certain after this many bytes are read: all except the run
-/// that may continue.
+/// The filtered text that is certain after this many bytes are read: all except the run that may
+/// continue.
 const KNOWN_AT: [(usize, &[u8]); 14] = [
     (2, b"_"),
     (10, b"foo "),

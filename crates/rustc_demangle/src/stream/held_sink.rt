@@ -7,7 +7,7 @@ ghost use Rattle.held_bytes.specs.declared.TheConstants.{CAPACITY};
 use demangle_sink::{SinkRefused, TextSink};
 use held_bytes::Held;
 
-/// Appends each piece to held bytes. It fails if they have no room for a piece.
+/// A sink that appends each piece to held bytes. It fails if they have no room for a piece.
 #[derive(Drop)]
 pub(super) struct HeldSink<'h> {
     held: &'h mut Held,

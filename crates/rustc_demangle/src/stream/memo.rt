@@ -26,7 +26,7 @@ const MAX_MISSES: u32 = 4096;
 /// The number of runs for which a memo stays off.
 const PAUSE: u32 = 32_768;
 
-/// Turns a memo off for a while if few symbols repeat.
+/// A counter that turns a memo off for a while if few symbols repeat.
 #[derive(Clone, Copy)]
 struct Probe {
     misses: u32,
@@ -75,7 +75,7 @@ struct Store {
     printed: Held,
 }
 
-/// Remembers the printed text of symbols, so that a filter does not parse a repeated symbol again.
+/// A memo of printed symbols, with which a filter does not parse a repeated symbol again.
 ///
 /// It belongs to one form of printing: with or without the hash, and one limit. It uses at most 4.5
 /// MB of memory: 32 KB if no symbol repeats, and none if there are no symbols. If memory can't be
