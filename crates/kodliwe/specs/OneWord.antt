@@ -1,4 +1,4 @@
--- What one word of the command line is, and what it does.
+-- The kind of one argument, and its effect.
 use Rattle.std.specs.Prelude.{◌≡◌, ℕ, false, nat_eq, List, ◌∷◌, codes, Some, None}
 use Rattle.std.specs.List.{starts_with}
 use Rattle.kodliwe.specs.declared.words.Word.{Word}
@@ -9,7 +9,7 @@ use Rattle.kodliwe.specs.declared.words.Taken.{Taken}
 use Rattle.kodliwe.specs.declared.words.Taken.TheVariants as taken
 use Rattle.kodliwe.specs.CommandLine.{short_name, long_name, IsAlone, HasValue, IsUnknown, Options, Answer, help, version, Place, anything, a_value, a_symbol, Asks}
 
--- what a word is, in front of --
+-- the kind of an argument before `--`
 abbrev pub IsWord : List ℕ → Word → Type 0
 IsWord word kind.Symbol = starts_with nat_eq word (codes "-") ≡ false
 IsWord word kind.Stdin = word ≡ codes "-"
@@ -21,13 +21,14 @@ IsWord word kind.Help = IsAlone (codes "-h") (codes "--help") word
 IsWord word kind.Version = IsAlone (codes "-V") (codes "--version") word
 IsWord word kind.Unknown = IsUnknown word
 
--- the place that a word leaves
+-- the meaning of the next argument
 abbrev pub place_of : Next → Place
 place_of next.Anything = anything
 place_of (next.Value option word) = a_value option word.now
 place_of next.Symbol = a_symbol
 
--- what one word does: it changes the options and leaves a place for the next, or is an answer, whatever stands behind it
+-- The effect of one argument, whatever follows it. It changes the options and determines the meaning of the next
+-- argument, or it is the result.
 abbrev pub Takes : Place → Options → List ℕ → Options → Taken → Type 0
 Takes place old word new (taken.Next place_behind) = (words : List (List ℕ)) (answer : Answer)
     → Asks (place_of place_behind) new words answer → Asks place old (word ∷ words) answer

@@ -1,4 +1,4 @@
-//! An output that holds short pieces before it hands them on.
+//! Collects short pieces before they are written.
 ghost use Rattle.std.specs.Prelude.{◌≡◌, [], IsTrue, OnOk};
 ghost use Rattle.std.specs.Io.Buffered.{writer_inner};
 ghost use Rattle.std.specs.Io.KnownBytes.{Appends, Keeps};
@@ -8,18 +8,18 @@ use held_bytes::Held;
 use std::io;
 use std::io::{BufWriter, ErrorKind, Write};
 
-/// A buffered writer, and the bytes that are held for it. What is held is handed on where there is
-/// no room for the next piece, and by a flush.
+/// A buffered writer, and the bytes that are held for it. Held bytes are written if there is no
+/// room for the next piece, and by a flush.
 #[derive(Drop)]
 pub struct Output<W: Write + Drop> {
     held: Held,
     buffer: BufWriter<W>,
-    /// Why a piece was refused.
+    /// Why the last piece was not written.
     fault: Option<io::Error>,
 }
 
 impl<W: Write + Drop> Output<W> {
-    /// An output into this buffer, with nothing held.
+    /// Returns an output into this buffer, with nothing held.
     pub fn new(buffer: BufWriter<W>) -> Self
         ensures none { result.held ≡ [] }
         ensures buffer { result.buffer ≡ buffer }
@@ -31,15 +31,15 @@ impl<W: Write + Drop> Output<W> {
         }
     }
 
-    /// The writer below the buffer.
+    /// Returns the writer below the buffer.
     pub fn get_ref(&self) -> &W
         ensures { result.now ≡ writer_inner self.now.buffer }
     {
         self.buffer.get_ref()
     }
 
-    /// Hands on what is held, and goes on if a signal interrupts it. What the buffer refuses stays
-    /// held.
+    /// Writes the held bytes, and continues if a signal interrupts that. Fails if the buffer fails;
+    /// bytes that it did not accept stay held.
     fn hand_on(&mut self) -> io::Result<()>
         ensures empty { OnOk result (self.new.held ≡ []) }
         ensures bytes { Keeps (output_contents W.contents self.old)
@@ -59,7 +59,8 @@ impl<W: Write + Drop> Output<W> {
         Err(io::Error::other("too many signals"))
     }
 
-    /// Hands on what is held, and then holds the piece, or hands it on where it is too long.
+    /// Writes the held bytes, and then holds the piece, or writes it if it is too long. Fails if
+    /// the buffer fails.
     fn hold(&mut self, piece: &[u8]) -> io::Result<()>
         ensures { OnOk result (Appends (output_contents W.contents self.old)
             (output_contents W.contents self.new) piece.now) }
@@ -71,8 +72,8 @@ impl<W: Write + Drop> Output<W> {
         self.buffer.write_all(piece)
     }
 
-    /// Writes a piece for which there is no room, and keeps the error where that fails: so no
-    /// caller makes room for an error at each piece.
+    /// Writes a piece for which there is no room. Returns `false` after an error, and stores it: so
+    /// callers need no room for an error at each piece.
     #[cold]
     #[inline(never)]
     fn write_on(&mut self, piece: &[u8]) -> bool
@@ -88,7 +89,7 @@ impl<W: Write + Drop> Output<W> {
         }
     }
 
-    /// Why the last piece was refused.
+    /// Returns why the last piece was not written, and removes that error.
     #[cold]
     #[inline(never)]
     fn take_fault(&mut self) -> io::Error {

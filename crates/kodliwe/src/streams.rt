@@ -1,10 +1,10 @@
-//! What the program reads and writes: files and standard streams.
+//! The program's inputs: files, standard input, and symbols in memory.
 use crate::words::Source;
 use std::fs::{File, Files};
 use std::io::{Read, Stdin, Write};
 use std::{fs, io};
 
-/// A file that is opened where it is first read.
+/// A file that is opened when it is first read.
 #[derive(Drop)]
 pub struct LazyFile<'a, F: Files> {
     files: &'a F,
@@ -24,7 +24,7 @@ impl<F: Files> Read for LazyFile<'_, F> {
     }
 }
 
-/// What of a text in memory is not read yet.
+/// A text in memory, as a reader. The first `taken` bytes are read.
 #[derive(Drop)]
 pub struct Text {
     bytes: Vec<u8>,
@@ -40,7 +40,7 @@ impl Read for Text {
     }
 }
 
-/// A source, as a reader.
+/// A source as a reader.
 #[derive(Drop)]
 pub enum SourceReader<'a, F: Files> {
     Stdin(Stdin),
@@ -49,7 +49,7 @@ pub enum SourceReader<'a, F: Files> {
 }
 
 impl<'a, F: Files> SourceReader<'a, F> {
-    /// Reads this source.
+    /// Returns a reader of this source. A file is not opened yet.
     pub fn new(files: &'a F, stdin: Stdin, source: Source<'a>) -> SourceReader<'a, F> {
         match source {
             Source::Stdin => SourceReader::Stdin(stdin),
@@ -73,7 +73,7 @@ impl<F: Files> Read for SourceReader<'_, F> {
     }
 }
 
-/// What a source is called where it can't be read.
+/// Returns the name of a source in an error message.
 pub fn source_name<'a>(source: &Source<'a>) -> &'a str {
     match source {
         Source::Stdin => "standard input",

@@ -1,4 +1,4 @@
-//! The texts of the program.
+//! The texts that the program prints.
 
 pub const VERSION: &str = "\
 kodliwe 0.1.0

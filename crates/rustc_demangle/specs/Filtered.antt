@@ -6,34 +6,36 @@ use Rattle.std.specs.Char.{is_ascii_alphanumeric}
 use Rattle.rustc_demangle.specs.Stripped.{stripped}
 use Rattle.rustc_demangle.specs.Symbols.{IsSymbol, pieces_of, handed, printed, most_bytes}
 
--- `$`, `.`, `_`, an ASCII letter or an ASCII digit
+-- A run is a candidate symbol: the longest sequence of run bytes that starts with `_ZN` or `_R`. A run byte is `$`,
+-- `.`, `_`, an ASCII letter or an ASCII digit.
 abbrev pub is_run : ℕ → Bool
 is_run c = (c == 36 || c == 46) || c == 95 || is_ascii_alphanumeric c
 
--- `_ZN` or `_R` stands in front
+-- the text starts with `_ZN` or `_R`
 abbrev pub begins_run : List ℕ → Bool
 begins_run s = starts_with nat_eq s (codes "_ZN") || starts_with nat_eq s (codes "_R")
 
--- the text has neither `_ZN` nor `_R` anywhere
+-- the text contains neither `_ZN` nor `_R`
 abbrev pub HasNoStart : List ℕ → Type 0
 HasNoStart s = (before rest : List ℕ) → s ≡ before ++ rest → begins_run rest ≡ false
 
--- the text goes on with no run character
+-- the text is empty, or its first byte is not a run byte
 abbrev pub NoRunFirst : List ℕ → Type 0
 NoRunFirst [] = Unit {0}
 NoRunFirst (c ∷ s) = is_run c ≡ false
 
--- it begins with `_ZN` or `_R`, has run characters alone, and none follows it
+-- `run` is a run, if `behind` is the text that follows it
 pub record IsRun (run behind : List ℕ) : Type 0 where
   pub begins : begins_run run ≡ true
   pub all : list_all is_run run ≡ true
   pub longest : NoRunFirst behind
 
--- what stands for a run: what its symbol prints, if it is one, else the whole run
+-- `text` replaces a run: it is the printed symbol if the run is a symbol, and the run itself otherwise
 abbrev pub StandsFor : Bool → List ℕ → List ℕ → Type 0
 StandsFor hash run text = (IsSymbol (stripped run) × (text ≡ printed (stripped run) hash)) ⊎ ((IsSymbol (stripped run) → ⊥) × (text ≡ run))
 
--- The line is runs, each with the text behind it up to the next, and `out` has in place of each run what stands for it.
+-- The line is a sequence of runs, each with the plain text up to the next run. `out` is the line with each run
+-- replaced.
 abbrev pub AreReplaced : Bool → List (List ℕ × List ℕ) → List ℕ → List ℕ → Type 0
 AreReplaced hash [] line out = (line ≡ []) × (out ≡ [])
 AreReplaced hash ((run, kept) ∷ parts) line out =
@@ -41,7 +43,7 @@ AreReplaced hash ((run, kept) ∷ parts) line out =
     × (line ≡ run ++ (kept ++ rest)) × (out ≡ text ++ (kept ++ rest_out))
     × IsRun run (kept ++ rest) × StandsFor hash run text × HasNoStart kept × AreReplaced hash parts rest rest_out
 
--- The line is a text without `_ZN` and `_R`, and then such runs: `out` has what stands for each, and all else as it is.
+-- The line is plain text followed by such a sequence. `out` keeps the plain text and replaces the runs.
 pub record IsFiltered (hash : Bool) (line out : List ℕ) : Type 0 where
   pub kept : List ℕ
   pub rest : List ℕ
@@ -52,15 +54,15 @@ pub record IsFiltered (hash : Bool) (line out : List ℕ) : Type 0 where
   pub no_start : HasNoStart kept
   pub runs : AreReplaced hash parts rest rest_out
 
--- what stands for a run, computed: what its symbol prints within the limit, if it is one, else the whole run
+-- the replacement of a run as a function, with a size limit for each symbol
 abbrev pub replacement_within : Bool → ℕ → List ℕ → List ℕ
 replacement_within hash limit run = option_map_or (λ _. concat (handed (stripped run) hash limit)) (pieces_of hash (stripped run)) run
 
--- the same within the limit of every call that takes none
+-- `replacement_within` with the default limit
 abbrev pub replacement : Bool → List ℕ → List ℕ
 replacement hash run = replacement_within hash most_bytes run
 
--- the line behind its first `skip` bytes, with what stands for each run by such a function
+-- the line without its first `skip` bytes, with each run replaced by the result of `stands`
 unfoldable pub filtered_by : (List ℕ → List ℕ) → ℕ → List ℕ → List ℕ
 filtered_by stands skip [] = []
 filtered_by stands (suc skip) (c ∷ s) = filtered_by stands skip s
@@ -69,10 +71,10 @@ filtered_by stands zero (c ∷ s) = elim (begins_run (c ∷ s)) [
   | false ↦ c ∷ filtered_by stands zero s
 ]
 
--- any bytes with what stands for each run within a limit for each symbol
+-- any bytes with each run replaced, with a size limit for each symbol
 abbrev pub filtered_within : Bool → ℕ → List ℕ → List ℕ
 filtered_within hash limit = filtered_by (replacement_within hash limit) zero
 
--- the one `out` with `IsFiltered hash line out`
+-- the only `out` for which `IsFiltered hash line out` holds
 abbrev pub filtered : Bool → List ℕ → List ℕ
 filtered hash = filtered_within hash most_bytes

@@ -3,12 +3,12 @@ use Rattle.std.specs.Prelude.{◌≡◌, ℕ, true, false, List, [], ◌∷◌, 
 use Rattle.rustc_demangle.specs.Symbols.{handed}
 use Rattle.demangle_legacy.specs.Unescaped.{unescaped, is_hash, joined_pieces}
 
--- the pieces of an element that stands behind others: `::` in front of it where there are any
+-- the pieces of an element after others: if there are any, `::` comes first
 abbrev pub pieces_behind : List (List ℕ) → List ℕ → List (List ℕ)
 pieces_behind [] element = unescaped element
 pieces_behind (_ ∷ _) element = codes "::" ∷ unescaped element
 
--- Without the hash the text hands over what it hands over with it, but for its last element and the `::` before that.
+-- Without the hash, the text prints the same pieces except for its last element and the `::` before that.
 pub record LeavesHashOut (text : List ℕ) (elements : List (List ℕ)) (suffix : List ℕ) (limit : ℕ) : Type 0 where
   pub front : List (List ℕ)
   pub last : List ℕ

@@ -1,4 +1,4 @@
--- What a reader of the public contracts believes, in reading order.
+-- The definitions that a reader of the public contracts has to believe, in reading order.
 pub mod Stripped
 pub mod Symbols
 pub mod PathEnds

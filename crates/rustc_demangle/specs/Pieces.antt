@@ -1,4 +1,4 @@
--- The pieces of a text whose symbols are demangled, as they are handed to a sink.
+-- The pieces that a sink gets for a text with its symbols demangled.
 use Rattle.std.specs.Prelude.{ℕ, zero, suc, Bool, true, false, List, [], ◌∷◌, ◌++◌}
 use Rattle.std.specs.List.{prefix_len, take_while}
 use Rattle.std.specs.Option.{option_map_or}
@@ -7,11 +7,12 @@ use Rattle.rustc_demangle.specs.Symbols.{pieces_of, handed}
 use Rattle.rustc_demangle.specs.Lines.{onto_first}
 use Rattle.rustc_demangle.specs.Filtered.{is_run, begins_run}
 
--- what stands for a run: the pieces of its symbol within the limit, if it is one, else the whole run
+-- the pieces that replace a run: those of its symbol within the limit, or the run itself if it is not a symbol
 abbrev pub run_pieces : Bool → ℕ → List ℕ → List (List ℕ)
 run_pieces hash limit run = option_map_or (λ _. handed (stripped run) hash limit) (pieces_of hash (stripped run)) (run ∷ [])
 
--- of the text behind its first `skip` bytes: what is kept up to the next run, which may be nothing, what stands for the run, and so on
+-- The pieces of the text without its first `skip` bytes. The plain text up to the next run is one piece, which may be
+-- empty. The pieces of that run follow, and so on.
 unfoldable pub filtered_pieces_from : Bool → ℕ → ℕ → List ℕ → List (List ℕ)
 filtered_pieces_from hash limit skip [] = [] ∷ []
 filtered_pieces_from hash limit (suc skip) (c ∷ s) = filtered_pieces_from hash limit skip s

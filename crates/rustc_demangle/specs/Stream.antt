@@ -1,4 +1,4 @@
--- What holds where the stream stopped.
+-- Promises of the line stream, also after an error.
 use Rattle.std.specs.Prelude.{◌≡◌, ◌<◌, ℕ, List, Bool, true, false, [], length, take, slice_index_or, flat_map, All, IsUtf8, Some, IfSome, Ok, Err}
 use Rattle.std.specs.declared.result.Result.{Result}
 use Rattle.std.specs.Io.BufRead.{take_through, DropsThrough}
@@ -12,43 +12,44 @@ use Rattle.rustc_demangle.specs.Filtered.{filtered}
 use Rattle.rustc_demangle.specs.declared.stream.fault.StreamFault.{StreamFault}
 use Rattle.rustc_demangle.specs.declared.stream.fault.StreamFault.TheVariants.{Read, NotUtf8, Write, Memory}
 
--- a reader's error is want of memory exactly by its kind
+-- a reader's error becomes `Memory` exactly if its kind is `OutOfMemory`
 abbrev pub IsReadFault : Error → StreamFault → Type 0
 IsReadFault error (Read e) = (e ≡ error) × (error_kind error ≡ OutOfMemory → ⊥)
 IsReadFault error NotUtf8 = ⊥
 IsReadFault error (Write e) = ⊥
 IsReadFault error Memory = error_kind error ≡ OutOfMemory
 
--- a fault while a line was read: want of memory is never called the reader's error
+-- an error while a line is read; a failed allocation is never reported as `Read`
 abbrev pub IsReadingFault : StreamFault → Type 0
 IsReadingFault (Read e) = error_kind e ≡ OutOfMemory → ⊥
 IsReadingFault NotUtf8 = ⊥
 IsReadingFault (Write e) = ⊥
 IsReadingFault Memory = Unit {0}
 
--- the fault as an `io::Error`
+-- the error as an `io::Error`
 abbrev pub GivesError : StreamFault → Error → Type 0
 GivesError (Read e) error = error ≡ e
 GivesError NotUtf8 error = error_kind error ≡ InvalidData
 GivesError (Write e) error = error ≡ e
 GivesError Memory error = error_kind error ≡ OutOfMemory
 
--- what is written for lines
+-- the output for lines
 abbrev pub output_of : Bool → List (List ℕ) → List ℕ
 output_of hash parts = flat_map (filtered hash) parts
 
--- the writer holds its old bytes and the output of the first k lines, which are UTF-8, and nothing else
+-- The writer appended the output of the first `k` lines and nothing more. These lines are UTF-8.
 pub record WroteLines (text : List ℕ) (hash : Bool) (old new : Option (List ℕ)) (k : ℕ) : Type 0 where
   pub utf8 : All IsUtf8 (take k (lines text))
   pub wrote : Appends old new (output_of hash (take k (lines text)))
 
--- the text was UTF-8, the writer's bytes grew by the output of each of its lines and by nothing else, and nothing of it is left
+-- The text is UTF-8 and read to its end. The writer appended the output of each of its lines and nothing more.
 pub record Finished (text : List ℕ) (hash : Bool) (left old new : Option (List ℕ)) : Type 0 where
   pub utf8 : IsUtf8 text
   pub wrote : Appends old new (output_of hash (lines text))
   pub at_end : left ≡ Some []
 
--- what holds after each fault, where the stream began with the text
+-- The promise after each error, for a stream that started with this text. It says nothing about the output after an
+-- error of the writer.
 abbrev pub Stopped : StreamFault → List ℕ → Bool → Option (List ℕ) → Option (List ℕ) → Type 0
 Stopped (Read e) text hash old new = (error_kind e ≡ OutOfMemory → ⊥) × (k : ℕ) × WroteLines text hash old new k
 Stopped NotUtf8 text hash old new = (k : ℕ) × WroteLines text hash old new k
@@ -56,7 +57,8 @@ Stopped NotUtf8 text hash old new = (k : ℕ) × WroteLines text hash old new k
 Stopped (Write e) text hash old new = Unit {0}
 Stopped Memory text hash old new = (k : ℕ) × WroteLines text hash old new k
 
--- a line was read and what the filter gives for it was written, or nothing was left, or nothing was written
+-- A line was read and its output was written, or the input was at its end, or an error occurred. Nothing was written
+-- in the last two cases, except if the writer failed.
 abbrev pub LineCopied : Result Bool StreamFault → Bool → Option (List ℕ) → Option (List ℕ) → Option (List ℕ) → Option (List ℕ) → Type 0
 LineCopied (Ok true) hash left next old new = DropsThrough left next 10 × IfSome left (λ text. (0 < length text)
     × IsUtf8 (take_through 10 text) × Appends old new (filtered hash (take_through 10 text)))

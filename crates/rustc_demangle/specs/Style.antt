@@ -1,5 +1,5 @@
 -- Internal: no public contract cites this.
--- How a demangled symbol holds what was read of it.
+-- The parsed form of a demangled symbol.
 use Rattle.std.specs.Prelude.{◌≡◌, ℕ, ◌+◌, ◌*◌, ◌≤◌, Bool, true, List, Option, None, Some, length}
 use Rattle.rustc_demangle.specs.declared.value.DemangleStyle.{DemangleStyle}
 use Rattle.rustc_demangle.specs.declared.value.DemangleStyle.TheVariants.{Legacy, V0}
@@ -16,22 +16,22 @@ abbrev pub style_pieces : Bool → DemangleStyle → List (List ℕ)
 style_pieces hash (Legacy symbol) = legacy_pieces hash (elements_of symbol)
 style_pieces hash (V0 symbol) = path_texts symbol hash
 
--- how many bytes it has behind its prefix
+-- the number of bytes after the prefix
 abbrev pub style_len : DemangleStyle → ℕ
 style_len (Legacy symbol) = length symbol
 style_len (V0 symbol) = length symbol
 
--- the most looks of printing it within a limit
+-- the most looks that printing within a limit makes
 abbrev pub style_looks : Bool → ℕ → DemangleStyle → ℕ
 style_looks hash limit (Legacy symbol) = 16 * (length symbol + 1)
 style_looks hash limit (V0 symbol) = 100000 * (kept (path_texts symbol hash) limit + 1) * (length symbol + 1)
 
--- the least looks of printing it
+-- the fewest looks that printing makes
 abbrev pub style_least : DemangleStyle → ℕ
 style_least (Legacy symbol) = 0
 style_least (V0 symbol) = 1
 
--- the scheme reads the text so
+-- the scheme parses the text to this symbol and this suffix
 abbrev pub IsReadAs : List ℕ → DemangleStyle → List ℕ → Type 0
 IsReadAs text (Legacy symbol) suffix = legacy_of text ≡ Some (elements_of symbol, suffix)
 IsReadAs text (V0 symbol) suffix = v0_of text ≡ Some (symbol, suffix)
@@ -46,7 +46,7 @@ pub record HasStyle (text : List ℕ) (style : DemangleStyle) (suffix : List ℕ
   pub allowed : is_allowed suffix ≡ true
   pub inner : style_len style ≤ length text
 
--- the text has this style and suffix, or none
+-- the text has this style and suffix, or it has no style
 abbrev pub IsStyled : Option DemangleStyle → List ℕ → List ℕ → Type 0
 IsStyled None text suffix = HasNoStyle text
 IsStyled (Some style) text suffix = HasStyle text style suffix

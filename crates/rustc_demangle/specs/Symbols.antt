@@ -1,4 +1,4 @@
--- Which texts are Rust symbols, and what printing one hands over.
+-- The texts that are Rust symbols, and the pieces that they print.
 use Rattle.std.specs.Prelude.{◌≡◌, ◌⊎◌, ℕ, ◌+◌, ◌*◌, ◌≤◌, Bool, true, List, [], ◌∷◌, ◌++◌, length, Option, None, Some, option_map, if◌then◌else◌}
 use Rattle.std.specs.List.{concat}
 use Rattle.std.specs.Option.{option_map_or, option_or}
@@ -21,12 +21,13 @@ IsV0Symbol text = (inner : List ℕ) × (suffix : List ℕ) × IsV0 text inner s
 abbrev pub IsSymbol : List ℕ → Type 0
 IsSymbol text = IsLegacySymbol text ⊎ IsV0Symbol text
 
--- what was read, if the suffix behind it is allowed
+-- the result of a parse, if the suffix after it is allowed
 abbrev pub if_allowed : {A : Type 0} → Option (A × List ℕ) → Option (A × List ℕ)
 if_allowed None = None
 if_allowed (Some (x, suffix)) = if is_allowed suffix then Some (x, suffix) else None
 
--- the pieces and the suffix of what a scheme reads, with the hash or without it; no text has a prefix of both schemes
+-- The pieces and the suffix of a text in the scheme that accepts it, with or without the hash. No text has a prefix
+-- of both schemes.
 abbrev pub read_of : Bool → List ℕ → Option (List (List ℕ) × List ℕ)
 read_of hash text = option_or (option_map (λ read. (legacy_pieces hash read.0, read.1)) (legacy_of text))
     (option_map (λ read. (path_texts read.0 hash, read.1)) (v0_of text))
@@ -35,17 +36,19 @@ read_of hash text = option_or (option_map (λ read. (legacy_pieces hash read.0, 
 abbrev pub pieces_of : Bool → List ℕ → Option (List (List ℕ) × List ℕ)
 pieces_of hash text = if_allowed (read_of hash text)
 
--- the pieces of a symbol within the limit, the marker where they are not all, and the suffix; any other text as one piece
+-- The pieces of a symbol within the limit, then the marker if some are left out, then the suffix. Any other text is
+-- one piece.
 abbrev pub handed : List ℕ → Bool → ℕ → List (List ℕ)
 handed text hash limit = option_map_or (λ read. cut read.0 limit ++ read.1 ∷ []) (pieces_of hash text) (text ∷ [])
 
--- how many bytes of a symbol are handed over before the marker and the suffix
+-- the number of bytes that a symbol prints before the marker and the suffix
 abbrev pub kept_of : List ℕ → Bool → ℕ → ℕ
 kept_of text hash limit = option_map_or (λ read. kept read.0 limit) (pieces_of hash text) 0
 
--- How printing moves the counter of looks, for Ok and for Err, of a text of n bytes of which w are
--- kept: never down, and up by at most 100,000 x (w + 1) x (n + 1); for a legacy symbol by at most
--- 16 x (n + 1); for a v0 symbol by at least 1; for a text that is no symbol by nothing.
+-- The change of the look counter by printing a text, for Ok and for Err. Let `n` be the length of the text, and `w`
+-- the number of bytes that are kept. The counter never decreases. It increases by at most 100,000 x (w + 1) x
+-- (n + 1), and for a legacy symbol by at most 16 x (n + 1). It increases by at least 1 for a v0 symbol, and by
+-- nothing for a text that is not a symbol.
 pub record PrintingLooks (text : List ℕ) (hash : Bool) (limit old new : ℕ) : Type 0 where
   pub grows : old ≤ new
   pub most : new ≤ old + 100000 * (kept_of text hash limit + 1) * (length text + 1)
@@ -53,7 +56,7 @@ pub record PrintingLooks (text : List ℕ) (hash : Bool) (limit old new : ℕ) :
   pub v0 : IsV0Symbol text → old + 1 ≤ new
   pub unread : (IsSymbol text → ⊥) → new ≡ old
 
--- the limit of every call that takes none
+-- the default limit
 abbrev pub most_bytes : ℕ
 most_bytes = 1000000
 

@@ -1,4 +1,4 @@
-//! How a demangled symbol is formatted.
+//! Formats a demangled symbol.
 ghost use Rattle.std.specs.Prelude.{Some, true, not};
 ghost use Rattle.std.specs.Fmt.{DisplaysOnOk, WritesStyledOnOk, formatter_spec, spec_alternate};
 ghost use Rattle.rustc_demangle.specs.Symbols.{printed};
@@ -7,8 +7,8 @@ use crate::value::Demangle;
 use demangle_sink::FmtSink;
 use std::fmt;
 
-/// Prints with the hash, and under `{:#}` without it. Width, fill, sign and precision have no
-/// effect. It fails where the formatter refuses a piece.
+/// Prints with the hash, and with `{:#}` without it. Width, fill, sign and precision have no
+/// effect. Fails if the formatter rejects a piece.
 impl fmt::Display for Demangle<'_> {
     ghost output = { λ symbol. Some (printed symbol true) };
 
@@ -24,7 +24,7 @@ impl fmt::Display for Demangle<'_> {
     }
 }
 
-/// As `Display`, whatever the options.
+/// Prints as `Display` does, whatever the options.
 impl fmt::Debug for Demangle<'_> {
     ghost debug_output = { λ symbol. Some (printed symbol true) };
 

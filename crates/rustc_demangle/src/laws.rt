@@ -1,5 +1,5 @@
-//! What follows from the definitions that the contracts name. Each law is the contract of a
-//! function that does nothing.
+//! Laws about the definitions that the contracts name. Each law is the contract of a function that
+//! does nothing.
 pub mod filtering;
 pub mod legacy;
 pub mod names;

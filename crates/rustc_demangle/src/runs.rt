@@ -1,4 +1,4 @@
-//! Where the runs of a text stand, which may be symbols.
+//! Finds the runs of a text. A run is a candidate symbol.
 ghost use Rattle.std.specs.Prelude.{◌≡◌, ◌∷◌, ℕ, List, ◌+◌, ◌<◌, ◌≤◌, true, false, length, drop, slice_index, IfSome, IfNone, IsTrue};
 ghost use Rattle.std.specs.List.{prefix_len, list_all};
 ghost use Rattle.rustc_demangle.specs.Filtered.{is_run, begins_run};
@@ -6,14 +6,14 @@ ghost use Rattle.rustc_demangle.specs.Filtered.{is_run, begins_run};
 use memchr::memchr;
 use std::str;
 
-/// Whether a run begins here.
+/// Returns whether the text starts with a run's prefix.
 pub(crate) fn begins_run(text: &[u8]) -> bool
     ensures { result ≡ begins_run text.now }
 {
     text.starts_with(b"_ZN") || text.starts_with(b"_R")
 }
 
-/// Whether a run may begin with these two bytes.
+/// Returns whether these two bytes may start a run.
 #[inline(always)]
 fn is_mark(first: u8, second: u8) -> bool
     ensures { result ≡ false → (more : List ℕ) → begins_run (first ∷ second ∷ more) ≡ false }
@@ -21,7 +21,7 @@ fn is_mark(first: u8, second: u8) -> bool
     (first == b'_') & ((second == b'R') | (second == b'Z'))
 }
 
-/// Whether a run may begin in the group that begins here.
+/// Returns whether a run may start in the group of bytes at `from`.
 #[inline(always)]
 fn has_mark<const N: usize>(text: &[u8], from: usize) -> bool
     requires { from + N < length text.now }
@@ -35,7 +35,7 @@ fn has_mark<const N: usize>(text: &[u8], from: usize) -> bool
     any
 }
 
-/// Where the whole groups end, from a place on, in which no run begins.
+/// Returns the end of the complete groups after `from` in which no run starts.
 #[inline(always)]
 fn unmarked_end<const N: usize>(text: &[u8], from: usize) -> usize
     requires size { 0 < N }
@@ -51,7 +51,8 @@ fn unmarked_end<const N: usize>(text: &[u8], from: usize) -> usize
     at
 }
 
-/// Where the next run begins: the first place where `_ZN` or `_R` stands.
+/// Returns the offset of the next run: the first `_ZN` or `_R`. Returns `None` if the text contains
+/// neither.
 pub fn run_start(text: &[u8]) -> Option<usize>
     ensures some { IfSome result (λ n. (n < length text.now) × (begins_run (drop n text.now) ≡ true)
         × ((k : ℕ) → k < n → begins_run (drop k text.now) ≡ false)) }
@@ -59,19 +60,20 @@ pub fn run_start(text: &[u8]) -> Option<usize>
         ((k : ℕ) → k < length text.now → begins_run (drop k text.now) ≡ false) }
 {
     let mut from = 0;
-    // Each beginning of a run has `_` in front, and a single byte is found many at a time.
+    // A run starts with `_`, and a search for a single byte is fast.
     while let Some(ahead) = memchr(b'_', &text[from..]) {
         let at = from + ahead;
         if begins_run(&text[at..]) {
             return Some(at);
         }
-        // Of a text with many `_` whole groups are passed by vectors, and not each `_` by itself.
+        // A text with many `_` is skipped in complete groups with vector instructions, and not one
+        // `_` at a time.
         from = unmarked_end::<32>(text, at + 1);
     }
     None
 }
 
-/// Whether a run may have this byte.
+/// Returns whether this is a run byte.
 #[inline(always)]
 fn is_run(byte: u8) -> bool
     ensures { result ≡ is_run byte }
@@ -79,14 +81,14 @@ fn is_run(byte: u8) -> bool
     (byte == b'$') | (byte == b'.') | (byte == b'_') | byte.is_ascii_alphanumeric()
 }
 
-/// Whether a run may have each byte of the group that begins here.
+/// Returns whether the group at `from` has only run bytes.
 #[inline(always)]
 fn is_run_group<const N: usize>(text: &[u8], from: usize) -> bool
     requires { from + N ≤ length text.now }
     ensures { IsTrue result → (k : ℕ) → from ≤ k → k < from + N →
         is_run (slice_index text.now k) ≡ true }
 {
-    // An array has no check of bounds in the loop, so the compiler makes vectors of it.
+    // An array needs no bounds check in the loop, so the compiler vectorizes it.
     let Some(group) = text[from..].first_chunk::<N>() else {
         return false;
     };
@@ -97,7 +99,7 @@ fn is_run_group<const N: usize>(text: &[u8], from: usize) -> bool
     all
 }
 
-/// Where the whole groups of a run end, from a place on.
+/// Returns the end of the complete groups after `from` that have only run bytes.
 #[inline(always)]
 fn groups_end<const N: usize>(text: &[u8], from: usize) -> usize
     requires size { 0 < N }
@@ -113,12 +115,12 @@ fn groups_end<const N: usize>(text: &[u8], from: usize) -> usize
     at
 }
 
-/// How long a run is that begins here: up to the first byte that is no ASCII letter, no digit and
-/// none of `$`, `.` and `_`.
+/// Returns the length of the run at the start of the text. It ends before the first byte that is
+/// not an ASCII letter, a digit, `$`, `.` or `_`.
 pub fn run_len(text: &[u8]) -> usize
     ensures { result ≡ prefix_len is_run text.now }
 {
-    // The compiler tests groups of these sizes by vectors: at most seven bytes of a run are left.
+    // The compiler vectorizes groups of these sizes, so at most seven bytes of a run remain.
     let mut at = groups_end::<16>(text, 0);
     at = groups_end::<8>(text, at);
     while at < text.len() && is_run(text[at]) {
@@ -127,7 +129,7 @@ pub fn run_len(text: &[u8]) -> usize
     at
 }
 
-/// The text of a run, which is ASCII.
+/// Returns the text of a run, which is ASCII.
 pub(crate) fn run_text(run: &[u8]) -> &str
     requires { list_all is_run run.now ≡ true }
     ensures { result.now ≡ run.now }

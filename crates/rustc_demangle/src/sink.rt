@@ -1,2 +1,2 @@
-//! Sinks: what takes the text that is printed, a piece at a time.
+//! Sinks, which accept the printed text one piece at a time.
 pub use demangle_sink::{ArraySink, SinkRefused, SliceSink, TextSink, WriteSink};

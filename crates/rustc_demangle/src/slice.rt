@@ -1,4 +1,4 @@
-//! Any bytes in memory with their symbols demangled.
+//! Demangles the symbols of any bytes in memory.
 ghost use Rattle.std.specs.Prelude.{◌≡◌, ◌<◌, length, false, IfSome, IfNone};
 ghost use Rattle.std.specs.List.{concat};
 ghost use Rattle.demangle_sink.specs.Slice.{overlay};
@@ -10,7 +10,8 @@ use crate::runs::{run_len, run_start, run_text};
 use crate::text::put_run;
 use demangle_sink::{SinkRefused, SliceSink, TextSink};
 
-/// Puts bytes, which need not be UTF-8, with each symbol of them demangled.
+/// Writes bytes, which need not be UTF-8, with each symbol of them demangled. Fails if the sink
+/// fails.
 fn put_slice<'b>(
     text: &[u8],
     out: &mut SliceSink<'b>,
@@ -32,7 +33,8 @@ fn put_slice<'b>(
     out.put_bytes(rest)
 }
 
-/// Writes any bytes into memory with each symbol of them demangled, by their pieces.
+/// Writes the pieces of any bytes into memory, with each symbol demangled. Returns their size, or
+/// `None` if it exceeds `usize::MAX`.
 fn write_slice(text: &[u8], out: &mut [u8], include_hash: bool, limit: usize) -> Option<usize>
     ensures size { IfSome result
         (λ n. n ≡ length (concat (filtered_pieces include_hash limit text.now))) }
@@ -48,13 +50,14 @@ fn write_slice(text: &[u8], out: &mut [u8], include_hash: bool, limit: usize) ->
     }
 }
 
-/// Writes any bytes into memory with each symbol of them demangled, as much as there is room for,
-/// and counts all that they are then, those that found no room among them.
+/// Writes any bytes into memory with each symbol of them demangled, as far as there is room.
+/// Returns the size of the complete output, including the bytes for which there was no room.
 ///
-/// A symbol is looked for and cut at `limit` bytes as `demangle_text_limited` does; all other bytes
-/// are written as they are. The count does not depend on the size of the memory, whose bytes behind
-/// what is written stay as they were. `None` where the count is past `usize::MAX`. It takes no
-/// memory of its own.
+/// Symbols are found, and cut at `limit` bytes, as by `demangle_text_limited`. All other bytes are
+/// written unchanged. The size does not depend on the size of the memory. The memory after the
+/// written bytes stays unchanged. It does not allocate.
+///
+/// Returns `None` if the size exceeds `usize::MAX`.
 pub fn demangle_slice(
     text: &[u8],
     out: &mut [u8],

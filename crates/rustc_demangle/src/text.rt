@@ -1,4 +1,4 @@
-//! A text in memory with its symbols demangled.
+//! Demangles the symbols of a text in memory.
 ghost use Rattle.std.specs.Prelude.{◌≡◌, true, false, OnOk};
 ghost use Rattle.std.specs.List.{list_all};
 ghost use Rattle.demangle_sink.specs.Hands.{Hands};
@@ -12,7 +12,8 @@ use crate::value::{Demangle, MAX_SIZE};
 use demangle_sink::{SinkRefused, TextSink, put_piece};
 use demangle_symbol::cursor::Looks;
 
-/// Puts what stands for a run: the pieces of its symbol, if it is one, else the run.
+/// Writes the replacement of a run: the pieces of its symbol, or the run itself if it is not a
+/// symbol. Fails if the sink fails.
 pub(crate) fn put_run<S: TextSink>(
     run: &str,
     out: &mut S,
@@ -31,7 +32,7 @@ pub(crate) fn put_run<S: TextSink>(
     }
 }
 
-/// Puts a text with each symbol of it demangled, in one pass over it.
+/// Writes a text with each symbol of it demangled, in one pass over it. Fails if the sink fails.
 fn put_text<S: TextSink>(
     text: &str,
     out: &mut S,
@@ -53,15 +54,19 @@ fn put_text<S: TextSink>(
     put_piece(rest, out)
 }
 
-/// Puts a text into a sink with each symbol of it demangled and cut at `limit` bytes before its
-/// suffix, as `Demangle::write_limited` cuts it.
+/// Writes a text into a sink with each symbol of it demangled. Each symbol is cut at `limit` bytes
+/// before its suffix, as by `Demangle::write_limited`.
 ///
-/// A symbol is looked for where `_ZN` or `_R` stands, up to the next character that is no ASCII
-/// letter, no digit and none of `$`, `.` and `_`. The text between two such runs is one piece, a
-/// run that is no symbol another, and each piece is handed to the sink by one `put`. It is refused
-/// exactly where the sink failed in this call: then the sink was handed nothing more, and one that
-/// keeps what it took holds the pieces in front of the refused one. Where all of it is within the
-/// sink's room, it is taken, and the room falls by its bytes. It takes no memory.
+/// A candidate symbol, or run, starts with `_ZN` or `_R`. It continues up to the next character
+/// that is not an ASCII letter, a digit, `$`, `.` or `_`. The text between two runs is one piece,
+/// and a run that is not a symbol is another. Each piece is passed to the sink by one `put`. If all
+/// pieces fit into the sink's room, the call succeeds, and the room decreases by their bytes. It
+/// does not allocate.
+///
+/// # Errors
+///
+/// Fails exactly if the sink failed during this call. The sink then gets no further piece. A sink
+/// that keeps what it took holds the pieces before the rejected one.
 pub fn demangle_text_limited<S: TextSink>(
     text: &str,
     out: &mut S,
@@ -75,8 +80,8 @@ pub fn demangle_text_limited<S: TextSink>(
     put_text(text, out, include_hash, limit)
 }
 
-/// Puts a text into a sink with each symbol of it demangled, cut at 1,000,000 bytes before its
-/// suffix, as `demangle_text_limited` does.
+/// Writes a text into a sink with each symbol of it demangled, as `demangle_text_limited` does.
+/// Each symbol is cut at 1,000,000 bytes before its suffix.
 pub fn demangle_text<S: TextSink>(
     text: &str,
     out: &mut S,

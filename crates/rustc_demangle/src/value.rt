@@ -1,4 +1,4 @@
-//! A demangled symbol, and how it prints.
+//! A demangled symbol and its printing.
 ghost use Rattle.std.specs.Prelude.{◌≡◌, ◌+◌, ◌-◌, ◌*◌, ◌≤◌, length, true, false, IsTrue, IsAscii, IfSome, IfNone, None};
 ghost use Rattle.std.specs.List.{list_all};
 ghost use Rattle.demangle_sink.specs.Cut.{cut};
@@ -18,11 +18,10 @@ use demangle_sink::{SinkRefused, SizeLimitedFmtAdapter, TextSink, put_piece};
 use demangle_symbol::cursor::{Looks, Symbol};
 use std::marker::Model;
 
-/// The most bytes that a call with no limit of its own prints of a symbol, before the marker and
-/// the suffix.
+/// The default limit: the most bytes of a symbol before the marker and the suffix.
 pub(crate) const MAX_SIZE: usize = 1_000_000;
 
-/// The scheme of a symbol, and what was read of it.
+/// The scheme of a symbol, and its parsed form.
 #[derive(Drop)]
 pub(crate) enum DemangleStyle<'a> {
     Legacy(demangle_legacy::Demangle<'a>),
@@ -30,7 +29,7 @@ pub(crate) enum DemangleStyle<'a> {
 }
 
 impl DemangleStyle<'_> {
-    /// Prints the symbol without its suffix.
+    /// Prints the symbol without its suffix. Fails if the sink or the size limit rejects a piece.
     fn write_to<S: TextSink>(
         &self,
         out: &mut SizeLimitedFmtAdapter<'_, S>,
@@ -51,8 +50,8 @@ impl DemangleStyle<'_> {
     }
 }
 
-/// A text, demangled where it is a Rust symbol. It prints the path that the symbol names, and any
-/// other text as it is.
+/// A text that is demangled if it is a Rust symbol. It prints the path that the symbol names. A
+/// text that is not a symbol prints unchanged.
 #[derive(Drop)]
 pub struct Demangle<'a> {
     style: Option<DemangleStyle<'a>>,
@@ -72,7 +71,7 @@ impl<'a> Model for Demangle<'a> {
     ghost invariant = { λ d. IsStyled d.style d.original.now d.suffix.now };
 }
 
-/// Prints a symbol without its suffix into a sink, cut at the limit.
+/// Prints a symbol without its suffix into a sink, cut at the limit. Fails if the sink fails.
 fn write_cut<S: TextSink>(
     style: &DemangleStyle<'_>,
     out: &mut S,
@@ -89,7 +88,8 @@ fn write_cut<S: TextSink>(
 {
     let mut limited = SizeLimitedFmtAdapter::new(out, limit);
     let result = style.write_to(&mut limited, include_hash, looks);
-    // The limit and the sink stop the printing alike; only a sink that takes more gets the marker.
+    // Printing stops in the same way at the limit and if the sink fails. Only a sink that has not
+    // failed gets the marker.
     if limited.is_over() {
         put_piece("{size limit reached}", out)
     } else {
@@ -98,16 +98,16 @@ fn write_cut<S: TextSink>(
 }
 
 impl<'a> Demangle<'a> {
-    /// The symbol as it was, without an ending that ThinLTO appended.
+    /// Returns the original symbol without the suffix that ThinLTO appends.
     pub fn as_str(&self) -> &'a str
         ensures { result.now ≡ self.now }
     {
         self.original
     }
 
-    /// How many bytes of the symbol stand in front of its suffix; 0 where the text is no symbol.
+    /// Returns the number of bytes before the symbol's suffix, or 0 if the text is not a symbol.
     ///
-    /// `write_with_path_len` prints the symbol by it without reading where its path ends.
+    /// `write_with_path_len` uses it to print the symbol without parsing the end of its path again.
     pub fn path_len(&self) -> usize
         ensures { result ≡ path_len_of self.now }
     {
@@ -117,7 +117,8 @@ impl<'a> Demangle<'a> {
         }
     }
 
-    /// Prints into a sink, by what it was handed.
+    /// Writes the pieces of the symbol into a sink, cut at `limit` bytes before the suffix, and
+    /// counts its looks. Fails if the sink fails.
     pub(crate) fn hand_over<S: TextSink>(
         &self,
         out: &mut S,
@@ -139,11 +140,14 @@ impl<'a> Demangle<'a> {
 
     /// Prints into a sink, cut at `limit` bytes before the suffix, and counts its looks.
     ///
-    /// A piece that would go past the limit ends the path, and `{size limit reached}` and the
-    /// suffix follow it. A text that is no symbol has no limit. It is refused exactly where the
-    /// sink failed in this call: then the sink was handed nothing more, and one that keeps what it
-    /// took holds the pieces in front of the refused one. Where all of it is within the sink's
-    /// room, it is taken, and the room falls by its bytes.
+    /// The path ends before a piece that would exceed the limit. Then `{size limit reached}` and
+    /// the suffix follow. A text that is not a symbol has no limit. If all pieces fit into the
+    /// sink's room, the call succeeds, and the room decreases by their bytes.
+    ///
+    /// # Errors
+    ///
+    /// Fails exactly if the sink failed during this call. The sink then gets no further piece. A
+    /// sink that keeps what it took holds the pieces before the rejected one.
     pub fn write_limited_counted<S: TextSink>(
         &self,
         out: &mut S,
@@ -189,11 +193,12 @@ impl<'a> Demangle<'a> {
         self.write_limited_counted(out, include_hash, MAX_SIZE, looks)
     }
 
-    /// Prints into a sink, cut at 1,000,000 bytes before the suffix, with the hash of a legacy
-    /// symbol or without it.
+    /// Prints into a sink, cut at 1,000,000 bytes before the suffix, with or without the hash of a
+    /// legacy symbol. It does not allocate.
     ///
-    /// It is refused exactly where the sink failed in this call, as `write_limited_counted` says,
-    /// and takes no memory.
+    /// # Errors
+    ///
+    /// Fails exactly if the sink failed during this call, as `write_limited_counted` says.
     pub fn write_to<S: TextSink>(&self, out: &mut S, include_hash: bool) -> Result<(), SinkRefused>
         requires { S.failed out.old ≡ false }
         ensures { Writes S.TextSink out.old (handed self.now include_hash most_bytes)
@@ -203,15 +208,15 @@ impl<'a> Demangle<'a> {
     }
 }
 
-/// Whether a byte is a printable ASCII character that is no space.
+/// Returns whether a byte is a printable ASCII character other than a space.
 fn is_graphic(byte: u8) -> bool
     ensures { result ≡ is_graphic byte }
 {
     matches!(byte, 0x21..=0x7E)
 }
 
-/// Whether a suffix is allowed: nothing, or `.` and graphic characters alone. It is one look for
-/// each byte.
+/// Returns whether a suffix is allowed: empty, or `.` followed only by graphic characters. It makes
+/// at most one look for each byte.
 #[tactic(auto, using(crate::proofs::SuffixSteps::suffix_steps))]
 fn is_allowed(suffix: &str, looks: &mut Looks) -> bool
     ensures allowed { result ≡ is_allowed suffix.now }
@@ -236,8 +241,8 @@ fn is_allowed(suffix: &str, looks: &mut Looks) -> bool
     true
 }
 
-/// What a scheme reads of a text, and what it leaves. `is_ascii` says that the text is known to be
-/// ASCII.
+/// Parses a text in one of the schemes, and returns the symbol and the rest of the text. Returns
+/// `None` if neither scheme accepts it. `is_ascii` says that the text is known to be ASCII.
 fn read_style<'a>(
     text: &'a str,
     is_ascii: bool,
@@ -252,8 +257,8 @@ fn read_style<'a>(
     ensures least { is_ascii ≡ false →
         IfSome result (λ _. looks.old + (length text.now - 4) ≤ looks.new) }
 {
-    // No text has the prefixes of both schemes, so the order shows in nothing that is printed; the
-    // prefixes of v0 are told by fewer bytes.
+    // No text has a prefix of both schemes, so the order does not change what is printed. The
+    // prefixes of v0 are recognized from fewer bytes.
     if let Ok((symbol, suffix)) = demangle_v0::demangle(text, is_ascii, looks) {
         return Some((DemangleStyle::V0(symbol), suffix));
     }
@@ -263,7 +268,7 @@ fn read_style<'a>(
     }
 }
 
-/// The style of a text and its suffix, if it is a symbol.
+/// Returns the style and the suffix of a text, or `None` if it is not a symbol.
 fn style_of<'a>(
     text: &'a str,
     is_ascii: bool,
@@ -286,7 +291,8 @@ fn style_of<'a>(
 }
 
 impl<'a> Demangle<'a> {
-    /// The text, read as a symbol where it is one. `is_ascii` says that it is known to be ASCII.
+    /// Parses a text as a symbol, and keeps it as it is if it is not one. `is_ascii` says that it
+    /// is known to be ASCII.
     pub(crate) fn read(text: &'a str, is_ascii: bool, looks: &mut Looks) -> Demangle<'a>
         requires { IsTrue is_ascii → IsAscii text.now }
         ensures text { result ≡ text.now }
@@ -309,7 +315,7 @@ impl<'a> Demangle<'a> {
         }
     }
 
-    /// The run, read as a symbol where it is one. A run is ASCII.
+    /// Parses a run as a symbol, and keeps it as it is if it is not one. A run is ASCII.
     pub(crate) fn read_run(run: &'a str) -> Demangle<'a>
         requires { list_all is_run run.now ≡ true }
         ensures { result ≡ stripped run.now }
@@ -317,7 +323,7 @@ impl<'a> Demangle<'a> {
         Demangle::read(without_thin_lto(run), true, &mut Looks::new())
     }
 
-    /// Whether it is a symbol.
+    /// Returns whether the text is a symbol.
     pub(crate) fn has_style(&self) -> bool
         ensures yes { IsTrue result → IsSymbol self.now }
         ensures no { result ≡ false → IsSymbol self.now → ⊥ }
@@ -326,7 +332,7 @@ impl<'a> Demangle<'a> {
     }
 }
 
-/// Prints a text into a sink, by what it was handed, where its path has `path_len` bytes.
+/// Prints a text into a sink; its path has `path_len` bytes. Fails if the sink fails.
 fn hand_over_with<S: TextSink>(
     text: &str,
     path_len: usize,
@@ -343,21 +349,24 @@ fn hand_over_with<S: TextSink>(
         let read = Demangle::read(text, false, &mut looks);
         return read.hand_over(out, include_hash, limit, &mut looks);
     };
-    // A caller may hand in any number.
+    // The caller may pass any number.
     let suffix = &text[path_len.min(text.len())..];
     let style = DemangleStyle::V0(symbol);
     write_cut(&style, out, include_hash, limit, &mut looks)?;
     put_piece(suffix, out)
 }
 
-/// Prints a symbol as `Demangle::write_limited` does, without reading again where its path ends:
-/// `path_len` is what `Demangle::path_len` answered of the same text.
+/// Prints a symbol as `Demangle::write_limited` does, without parsing the end of its path again.
+/// `path_len` is the result of `Demangle::path_len` for the same text.
 ///
-/// An ending that ThinLTO appended is taken off first. Whatever the text and the number are, it
-/// ends, and hands over no more than the limit, the marker and the text have bytes: of an ASCII
-/// text with a v0 prefix the first path as far as it is spelled, and the text from `path_len` on; of
-/// any other text what `demangle` prints of it. It is refused exactly where the sink failed in this
-/// call, and takes no memory.
+/// A suffix that ThinLTO appended is removed first. For every text and every number, the call ends,
+/// and it prints at most the bytes of the limit, the marker and the text. An ASCII text with a v0
+/// prefix prints its first path as far as the grammar accepts it, and then the text from `path_len`
+/// on. Any other text prints as `demangle` prints it. It does not allocate.
+///
+/// # Errors
+///
+/// Fails exactly if the sink failed during this call.
 pub fn write_with_path_len<S: TextSink>(
     text: &str,
     path_len: usize,

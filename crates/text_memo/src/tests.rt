@@ -1,4 +1,4 @@
-//! What a memo returns, for keys that share a hash, long ones and full memory.
+//! Tests a memo with keys that share a hash, long keys and full memory.
 use super::{MAX_KEY, MAX_TEXT, Noted, TextMemo, hash_of};
 use std::test::Fail;
 
@@ -39,7 +39,7 @@ fn keys_of_one_hash_have_their_own_texts(rt: HostRuntime) -> Result<(), Fail> {
     assert!(rt; has_text(&memo, b"first", b"one"));
     assert!(rt; has_text(&memo, b"third", b"three"));
     assert!(rt; memo.get(b"fifth", 7).is_none());
-    // A pair has two entries: the older one is let go.
+    // A pair has two entries, and the older one is removed.
     memo.insert(b"fifth", b"", 7);
     assert!(rt; memo.get(b"first", 7).is_none());
     assert!(rt; has_text(&memo, b"third", b"three"));
@@ -69,10 +69,10 @@ fn a_key_is_noted(rt: HostRuntime) -> Result<(), Fail> {
     let mut memo = TextMemo::new(rt.alloc());
     assert_eq!(rt; memo.note(2), Noted::New);
     assert_eq!(rt; memo.note(2), Noted::Again);
-    // Another key in the same place takes it.
+    // Another key with the same index replaces the mark.
     assert_eq!(rt; memo.note(4), Noted::New);
     assert_eq!(rt; memo.note(2), Noted::New);
-    // One whose text is too long keeps it.
+    // The mark of a key with a long text stays.
     memo.note_too_long(2);
     assert_eq!(rt; memo.note(2), Noted::TooLong);
     assert_eq!(rt; memo.note(4), Noted::New);

@@ -1,4 +1,4 @@
-//! What the lines of a text are, and what is written for them.
+//! Laws about the lines of a text and their output.
 ghost use Rattle.std.specs.Prelude.{◌≡◌, ◌↔◌, ◌++◌, ℕ, List, Bool, Some, OnOk, IfErr, IsUtf8};
 ghost use Rattle.std.specs.List.{concat};
 ghost use Rattle.rustc_demangle.specs.Filtered.{HasNoStart, IsFiltered, filtered, filtered_within};
@@ -10,14 +10,14 @@ ghost use Rattle.rustc_demangle.specs.Symbols.{handed};
 use crate::stream::{StreamFault, demangle_stream_named};
 use std::alloc::Global;
 
-/// The lines of a text are the only parts of their form that join to it.
+/// The lines of a text are its only division into parts of their form.
 #[tactic(auto, using(crate::proofs::LineLaws::only_lines))]
 pub fn lines_are_the_only_division()
     ensures { (text : List ℕ) → OnlyLines text }
 {}
 
-/// What is computed of a line is what its division into kept texts and runs gives, and nothing else
-/// is.
+/// The computed output of a line is the output of its division into plain texts and runs. No other
+/// output is.
 pub fn filtered_is_the_only_text()
     ensures { (hash : Bool) → (line out : List ℕ) →
         (out ≡ filtered hash line) ↔ IsFiltered hash line out }
@@ -30,18 +30,18 @@ pub fn pieces_join_to_the_filtered_text()
         concat (filtered_pieces hash limit text) ≡ filtered_within hash limit text }
 {}
 
-/// A text that is filtered whole is its lines, each filtered.
+/// A filtered text is the text of its filtered lines.
 #[tactic(auto, using(crate::proofs::WholeText::whole_is_lines))]
 pub fn text_is_filtered_by_lines()
     ensures { (hash : Bool) → (text : List ℕ) → filtered hash text ≡ output_of hash (lines text) }
 {}
 
-/// A line without `_ZN` and `_R` passes unchanged.
+/// A line without `_ZN` and `_R` is not changed.
 pub fn line_without_symbols_passes()
     ensures { (hash : Bool) → (line : List ℕ) → HasNoStart line → filtered hash line ≡ line }
 {}
 
-/// Where all succeeds, as many line feeds are written as were read.
+/// If everything succeeds, the output has the same number of line feeds as the input.
 pub fn as_many_lines_are_written()
     ensures printed { (text : List ℕ) → (hash : Bool) → (limit : ℕ) → feeds text ≡ 0 →
         feeds (concat (handed text hash limit)) ≡ 0 }
@@ -49,8 +49,8 @@ pub fn as_many_lines_are_written()
         feeds (output_of hash (lines text)) ≡ feeds text }
 {}
 
-/// Demangles a text in memory: the stream's contract over a reader and a writer that tell what they
-/// hold.
+/// Demangles a text in memory. It shows the stream's contract with a reader and a writer whose
+/// contents are known.
 pub fn demangle_in_memory(
     alloc: Global,
     text: &[u8],

@@ -4,7 +4,7 @@ ghost use Rattle.demangle_legacy.specs.Legacy.{IsLegacy, legacy_of};
 ghost use Rattle.demangle_legacy.specs.Unescaped.{unescaped};
 ghost use Rattle.demangle_legacy.specs.Unescaping.{IsUnescaped};
 
-/// A text is read as a legacy symbol exactly where the grammar spells it, and in one way at most.
+/// A text is parsed as a legacy symbol exactly if the grammar spells it, and in at most one way.
 pub fn legacy_is_read()
     ensures read { (text : List ℕ) (elements : List (List ℕ)) (suffix : List ℕ) →
         legacy_of text ≡ Some (elements, suffix) → IsLegacy text elements suffix }
@@ -15,9 +15,11 @@ pub fn legacy_is_read()
         (elements ≡ others) × (suffix ≡ other) }
 {}
 
-/// An element prints exactly the pieces that the relation gives it: those of its units, one after
-/// another, each of one form (`..`, a single `.`, an escape between two `$`, plain bytes up to one
-/// of these), and then a rest with which no unit begins, as it stands.
+/// An element prints exactly the pieces that the relation gives it.
+///
+/// These are the pieces of its units in sequence. Each unit has one form: `..`, a single `.`, an
+/// escape between two `$`, or plain bytes up to one of these. A rest that starts with no unit is
+/// printed unchanged.
 pub fn elements_are_unescaped()
     ensures read { (element : List ℕ) → IsUnescaped element (unescaped element) }
     ensures once { (element : List ℕ) (pieces : List (List ℕ)) → IsUnescaped element pieces →

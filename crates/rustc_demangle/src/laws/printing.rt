@@ -1,4 +1,4 @@
-//! What texts print, with the hash or without it, and within a limit.
+//! Laws of printing, with or without the hash, and within a limit.
 ghost use Rattle.std.specs.Prelude.{◌≡◌, ◌⊎◌, ℕ, ◌+◌, ◌≤◌, Bool, true, false, IsAscii, List, [], ◌∷◌, length, Some, IsOk, OnOk, if◌then◌else◌};
 ghost use Rattle.std.specs.List.{concat, list_all};
 ghost use Rattle.demangle_sink.specs.Array.{text_of};
@@ -12,8 +12,8 @@ ghost use Rattle.demangle_legacy.specs.Unescaped.{legacy_pieces};
 use crate::value::Demangle;
 use demangle_sink::{ArraySink, SinkRefused, TextSink};
 
-/// A text is cut off from its first `.llvm.` on, where only characters of ThinLTO's endings follow.
-/// Twice is as once.
+/// A text is cut at its first `.llvm.` if only characters of a ThinLTO suffix follow. Stripping a
+/// text twice is the same as stripping it once.
 pub fn stripped_is_cut_once()
     ensures cut { (text front ending : List ℕ) → IsCut text front ending →
         stripped text ≡ (if list_all is_thin_lto ending then front else text) }
@@ -22,7 +22,7 @@ pub fn stripped_is_cut_once()
     ensures twice { (text : List ℕ) → stripped (stripped text) ≡ stripped text }
 {}
 
-/// A text that is no symbol hands over itself, in one piece and without a limit.
+/// A text that is not a symbol prints itself, in one piece and without a limit.
 pub fn no_symbol_prints_itself()
     ensures handed { (text : List ℕ) → (IsSymbol text → ⊥) → (hash : Bool) → (limit : ℕ) →
         handed text hash limit ≡ text ∷ [] }
@@ -30,29 +30,29 @@ pub fn no_symbol_prints_itself()
         kept_of text hash limit ≡ 0 }
 {}
 
-/// A symbol hands over at most the bytes of the limit, the 20 of the marker, and its suffix.
+/// A symbol prints at most the bytes of the limit, the 20 of the marker, and its suffix.
 pub fn symbol_stays_within_limit()
     ensures { (text : List ℕ) → (hash : Bool) → (limit : ℕ) → (pieces : List (List ℕ)) →
         (suffix : List ℕ) → pieces_of hash text ≡ Some (pieces, suffix) →
         size (handed text hash limit) ≤ limit + 20 + length suffix }
 {}
 
-/// A symbol prints at most the bytes of the limit, the 20 of the marker, and as many as it has
-/// itself.
+/// A symbol prints at most the bytes of the limit, the 20 of the marker, and the number of its own
+/// bytes.
 #[tactic(auto, using(crate::proofs::SymbolLaws::length_handed))]
 pub fn symbol_text_is_bounded()
     ensures { (text : List ℕ) → (hash : Bool) → (limit : ℕ) → IsSymbol text →
         length (concat (handed text hash limit)) ≤ limit + 20 + length text }
 {}
 
-/// A text that is a symbol once it is stripped is ASCII.
+/// A text is ASCII if it is a symbol after stripping.
 #[tactic(auto, using(crate::proofs::SymbolLaws::symbols_ascii))]
 pub fn symbols_are_ascii()
     ensures { (text : List ℕ) → IsSymbol (stripped text) → IsAscii text }
 {}
 
-/// A legacy symbol whose pieces are within the limit hands over the same without the hash, or all
-/// but its last element and the `::` before that.
+/// The hash is the last element of a legacy symbol. If its pieces are within the limit, omitting
+/// the hash changes nothing, or omits only that element and the `::` before it.
 pub fn hash_is_the_last_element()
     ensures { (text : List ℕ) → (elements : List (List ℕ)) → (suffix : List ℕ) → (limit : ℕ) →
         IsLegacy text elements suffix → is_allowed suffix ≡ true →
@@ -61,8 +61,8 @@ pub fn hash_is_the_last_element()
         ⊎ LeavesHashOut text elements suffix limit }
 {}
 
-/// What is printed twice under the same flag is the same text, and where there is room for it, it
-/// is printed.
+/// Prints a symbol twice with the same flag. The texts are equal, and printing succeeds if there is
+/// room for them. Fails if a sink fails.
 pub fn prints_the_same<const N: usize, const M: usize>(
     symbol: &Demangle<'_>,
     include_hash: bool,

@@ -1,4 +1,4 @@
-//! What a symbol of each scheme hands over.
+//! Laws about the output of each scheme.
 ghost use Rattle.std.specs.Prelude.{◌≡◌, ◌⊎◌, ℕ, Bool, true, List, [], ◌∷◌, ◌++◌, codes};
 ghost use Rattle.demangle_sink.specs.Cut.{cut, kept};
 ghost use Rattle.demangle_legacy.specs.Legacy.{IsLegacy};
@@ -9,8 +9,8 @@ ghost use Rattle.rustc_demangle.specs.Symbols.{handed, kept_of, IsSymbol};
 ghost use Rattle.demangle_legacy.specs.Unescaped.{legacy_pieces};
 ghost use Rattle.demangle_grammar.specs.V0.{IsV0};
 
-/// A legacy symbol with an allowed suffix hands over the pieces of its elements, cut at the limit,
-/// and then its suffix.
+/// A legacy symbol with an allowed suffix prints the pieces of its elements, cut at the limit, and
+/// then its suffix.
 pub fn legacy_symbol_prints_its_elements()
     ensures handed { (text : List ℕ) → (elements : List (List ℕ)) → (suffix : List ℕ) →
         (hash : Bool) → (limit : ℕ) → IsLegacy text elements suffix → is_allowed suffix ≡ true →
@@ -20,8 +20,8 @@ pub fn legacy_symbol_prints_its_elements()
         kept_of text hash limit ≡ kept (legacy_pieces hash elements) limit }
 {}
 
-/// A v0 symbol with an allowed suffix hands over what its tree gives, cut at the limit, and then
-/// its suffix.
+/// A v0 symbol with an allowed suffix prints the pieces of its tree, cut at the limit, and then its
+/// suffix.
 pub fn v0_symbol_prints_its_tree()
     ensures handed { (text inner suffix : List ℕ) → (hash : Bool) → (limit : ℕ) →
         IsV0 text inner suffix → is_allowed suffix ≡ true →
@@ -37,8 +37,8 @@ pub fn no_symbol_is_of_both_schemes()
         IsLegacy text elements suffix → IsV0 text inner other → ⊥ }
 {}
 
-/// A symbol that begins with an underscore begins a run there or behind it, as one of macOS does,
-/// which has an underscore more. So a stream looks at every symbol that begins with one, whatever
+/// A symbol that starts with an underscore starts a run there or after the underscore. A symbol of
+/// macOS has one more underscore. So a stream examines every symbol that starts with one, whatever
 /// its scheme.
 pub fn each_symbol_behind_an_underscore_begins_a_run()
     ensures { (text : List ℕ) → IsSymbol (codes "_" ++ text) →

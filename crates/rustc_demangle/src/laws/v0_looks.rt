@@ -1,4 +1,4 @@
-//! How many looks reading a v0 symbol takes.
+//! Laws about the number of looks of parsing a v0 symbol.
 ghost use Rattle.std.specs.Prelude.{◌≡◌, ℕ, ◌+◌, ◌-◌, ◌*◌, ◌≤◌, Bool, true, List, length, take, None};
 ghost use Rattle.demangle_grammar.specs.Accepting.{accepting_looks};
 ghost use Rattle.demangle_grammar.specs.Cost.{bytes_of, looks_of, Pays};
@@ -6,8 +6,9 @@ ghost use Rattle.demangle_sink.specs.Cut.{size};
 ghost use Rattle.demangle_grammar.specs.Items.{Items, Kind, a_path};
 ghost use Rattle.demangle_grammar.specs.Reading.{Surroundings, max_depth, stretches, read_at, path_texts, run};
 
-/// However large the tree of a symbol is, the looks up to a stretch, and for it, are bounded by the
-/// bytes that were handed over before it; and so for each unit, by the depths that are left to it.
+/// The looks up to and including a token are bounded by the bytes that were printed before it,
+/// however large the symbol's tree is. The same holds for each production, by the depths that
+/// remain for it.
 pub fn printing_looks_stay_linear()
     ensures printing { (symbol : List ℕ) (plain : Bool) (k : ℕ) →
         let all = stretches plain (read_at symbol true a_path 0 0 0 true).tree in
@@ -25,13 +26,13 @@ pub fn printing_looks_stay_linear()
         ≡ size (path_texts symbol plain) }
 {}
 
-/// Accepting a symbol takes at most 32 looks for each of its bytes, and 32 more.
+/// Accepting a symbol makes at most 32 looks for each of its bytes, and 32 more.
 #[tactic(auto, using(demangle_grammar::proofs::LooksLaw::accepting_costs))]
 pub fn accepting_looks_stay_linear()
     ensures { (symbol : List ℕ) → accepting_looks symbol ≤ 32 * (length symbol + 1) }
 {}
 
-/// Once a reading failed, what goes on takes no look.
+/// After a parse failed, the rest of it makes no look.
 #[tactic(auto, using(demangle_grammar::proofs::LooksLaw::failed_looks))]
 pub fn failed_readings_look_at_nothing()
     ensures { (p : Items) (s : Surroundings) (plain : Bool) →

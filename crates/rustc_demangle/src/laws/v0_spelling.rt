@@ -1,4 +1,4 @@
-//! Which bytes are v0 symbols, and where their readings end.
+//! Laws about the bytes that are v0 symbols, and where they end.
 ghost use Rattle.std.specs.Prelude.{◌≡◌, ◌↔◌, ◌⊎◌, ℕ, ◌≤◌, Bool, true, false, List, length, Some, None};
 ghost use Rattle.demangle_grammar.specs.Items.{Items, Kind};
 ghost use Rattle.demangle_grammar.specs.Table.{items};
@@ -6,7 +6,7 @@ ghost use Rattle.demangle_grammar.specs.Reading.{IsWhole, max_depth, read_at, su
 ghost use Rattle.demangle_grammar.specs.V0.{IsV0, v0_of};
 ghost use Rattle.demangle_grammar.specs.Spelling.{Rule, freely, named, simple, Spells, IsPaths};
 
-/// What a v0 symbol is made of ends at one place at most, for each place at which it begins.
+/// A production of a v0 symbol has at most one end for each start.
 #[tactic(auto, using(demangle_grammar::proofs::Unique::unique, demangle_grammar::proofs::Accepted::one_suffix))]
 pub fn units_end_once()
     ensures unit { (symbol : List ℕ) (rule : Rule) (depth lifetimes : ℕ) (p : Items) (i j k : ℕ) →
@@ -15,7 +15,7 @@ pub fn units_end_once()
     ensures symbol { (inner : List ℕ) (j k : ℕ) → IsPaths inner j → IsPaths inner k → j ≡ k }
 {}
 
-/// Reading without printing accepts exactly what is spelled.
+/// Parsing without output accepts exactly the bytes that the grammar spells.
 #[tactic(auto, using(demangle_grammar::proofs::Accepted::reading_is_spelling))]
 pub fn reading_accepts_what_is_spelled()
     ensures unit { (symbol : List ℕ) (kind : Kind) (value : Bool) (i j depth lifetimes : ℕ) →
@@ -27,8 +27,8 @@ pub fn reading_accepts_what_is_spelled()
         (v0_of symbol ≡ Some (inner, suffix)) ↔ IsV0 symbol inner suffix }
 {}
 
-/// A printed reading ends where the unprinted one does, or failed. It fails only at a lifetime
-/// outside references that names none in force.
+/// Parsing with output ends at the same place as parsing without output, or fails. It fails only at
+/// a lifetime outside back references that names none in scope.
 #[tactic(auto, using(demangle_grammar::proofs::Accepted::printing_is_spelling, demangle_grammar::proofs::Accepted::printing_ends, demangle_grammar::proofs::Rules::named_freely))]
 pub fn printing_ends_where_reading_does()
     ensures named { (symbol : List ℕ) (kind : Kind) (value : Bool) (i j depth lifetimes : ℕ) →
@@ -45,8 +45,8 @@ pub fn printing_ends_where_reading_does()
         × (Spells symbol named depth lifetimes (items kind value) i j → ⊥)) }
 {}
 
-/// What is spelled without a reference, and with no lifetime but that of index 0, hands over no
-/// stop.
+/// A production without a back reference, and with no lifetime except that of index 0, is printed
+/// without a stop such as `{invalid syntax}`.
 #[tactic(auto, using(demangle_grammar::proofs::Whole::read_whole, demangle_grammar::proofs::Rules::simply_named))]
 pub fn simple_units_have_no_stop()
     ensures whole { (symbol : List ℕ) (kind : Kind) (value : Bool) (i j depth lifetimes : ℕ) →

@@ -1,9 +1,9 @@
-//! What the words of v0 symbols spell.
+//! Laws about the primitives of v0 symbols.
 ghost use Rattle.std.specs.Prelude.{◌≡◌, ◌↔◌, ℕ, ◌+◌, List, Some, slice_range};
 ghost use Rattle.demangle_symbol.specs.Words.{Name, namespace_at, Namespace, integer_at, Integer, optional_at, OptInteger, backref_at, Backref, identifier_at, Identifier, nibbles_at, Hex};
 
-/// A word's function gives a value and the place behind the word exactly where its relation holds
-/// of both.
+/// A primitive's function returns a value and the place after the primitive exactly if its relation
+/// holds for both.
 pub fn words_are_read_as_spelled()
     ensures namespace { (s : List ℕ) (i j b : ℕ) →
         (namespace_at s i ≡ Some (b, j)) ↔ (Namespace s i b × (j ≡ i + 1)) }

@@ -1,4 +1,4 @@
-//! A sink into held bytes.
+//! A sink that appends to held bytes.
 ghost use Rattle.std.specs.Prelude.{◌≡◌, ◌-◌, [], ◌++◌, length, Some, true, false, refl};
 ghost use Rattle.std.proofs.Common.{sym, ap, ◌∙◌};
 ghost use Rattle.std.proofs.lemmas.List.{append-nil, append_assoc};
@@ -7,7 +7,7 @@ ghost use Rattle.held_bytes.specs.declared.TheConstants.{CAPACITY};
 use demangle_sink::{SinkRefused, TextSink};
 use held_bytes::Held;
 
-/// Appends each piece to held bytes. It fails if they have no room for a piece.
+/// A sink that appends each piece to held bytes. It fails if they have no room for a piece.
 #[derive(Drop)]
 pub(super) struct HeldSink<'h> {
     held: &'h mut Held,
@@ -15,7 +15,7 @@ pub(super) struct HeldSink<'h> {
 }
 
 impl<'h> HeldSink<'h> {
-    /// Returns a sink into these bytes, which has not failed.
+    /// Returns a sink that appends to these bytes. It has not failed.
     pub(super) fn new(held: &'h mut Held) -> Self
         ensures same_bytes { result.held.ghost_name ≡ held.entry.ghost_name }
         ensures bytes { result.held.now ≡ held.old }

@@ -1,4 +1,4 @@
-//! A line from a reader, by the reader's fillings.
+//! Reads a line from a reader, in the reader's chunks.
 ghost use Rattle.std.specs.Prelude.{◌≡◌, ◌≢◌, true, All, ◌++◌, take, ◌-◌, ◌<◌, ◌≤◌, length, Ok, IfSome, OnOk, OnSome, IfErr};
 ghost use Rattle.std.specs.Io.KnownBytes.{Consumes, IsAtEnd};
 ghost use Rattle.std.specs.Io.BufRead.{take_through, DropsThrough};
@@ -11,7 +11,8 @@ use std::alloc::Allocator;
 use std::io;
 use std::io::BufRead;
 
-/// The length up to and including the first line feed, or the whole length.
+/// Returns the length up to and including the first line feed, or the complete length if there is
+/// none.
 fn len_through_feed(bytes: &[u8]) -> usize
     ensures bound { result ≤ length bytes.now }
     ensures some { 0 < length bytes.now → 0 < result }
@@ -24,7 +25,8 @@ fn len_through_feed(bytes: &[u8]) -> usize
     }
 }
 
-/// Takes one filling, up to and including its first line feed. `true` where the line is whole.
+/// Appends one chunk to the line, up to and including the chunk's first line feed. Returns whether
+/// the line is complete, and fails if the reader fails or memory can't be allocated.
 fn take_filling<R: BufRead, A: Allocator>(
     input: &mut R,
     line: &mut Vec<u8, A>,
@@ -54,7 +56,8 @@ fn take_filling<R: BufRead, A: Allocator>(
     Ok(is_whole)
 }
 
-/// Appends the rest of a line to the buffer, its line feed included.
+/// Appends the rest of a line to the buffer, including its line feed. Fails if the reader fails or
+/// memory can't be allocated.
 pub(super) fn read_line<R: BufRead, A: Allocator>(
     input: &mut R,
     line: &mut Vec<u8, A>,

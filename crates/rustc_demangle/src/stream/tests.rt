@@ -1,4 +1,4 @@
-//! The stream where memory is refused, and its faults as errors.
+//! Tests the stream when memory can't be allocated, and its errors as `io::Error`.
 use super::{BytesFilter, StreamFault, SymbolMemo, copy_lines, demangle_stream};
 use linked_list_allocator::LocalHeap;
 use std::alloc::Global;
@@ -25,7 +25,7 @@ const TWICE_COPIED: &[u8] =
     b"foo.llvm moocow <mio::sys::unix::selector::epoll::Selector>::select foo.llvm\n\
     foo.llvm moocow <mio::sys::unix::selector::epoll::Selector>::select foo.llvm\n";
 
-/// Which ways copies ended.
+/// Which outcomes the copies had.
 #[derive(Clone, Copy, Default)]
 struct Copies {
     refused_first: bool,
@@ -34,7 +34,8 @@ struct Copies {
     other: bool,
 }
 
-/// Each size of a heap lets the buffer grow so far; each refusal leaves whole lines.
+/// Checks that each heap size lets the buffer grow to its own limit, and that each failure leaves
+/// complete lines.
 fn copied_in_heaps(alloc: Global, text: &[u8], first: &[u8], whole: &[u8]) -> Result<Copies, Fail> {
     let mut copies = Copies::default();
     for units in 1..64usize {
@@ -62,8 +63,7 @@ fn memory_is_refused(rt: HostRuntime) -> Result<(), Fail> {
     Ok(())
 }
 
-/// Hands out a text a byte at a filling, and notes at which of its fillings more of the heap came
-/// into use.
+/// A reader of a text in chunks of one byte. It records the chunks before which the heap had grown.
 #[derive(Drop)]
 struct WatchingReader<'a> {
     text: &'a [u8],
@@ -113,7 +113,7 @@ impl BufRead for WatchingReader<'_> {
     }
 }
 
-/// At which fillings a copy asks for memory, where each request is met.
+/// Returns the chunks at which a copy allocates, if each allocation succeeds.
 fn requests_of(alloc: Global, text: &[u8], whole: &[u8]) -> Result<Vec<usize>, Fail> {
     let heap = LocalHeap::new(alloc, 4_096)?;
     let mut line = Vec::new(&heap);
@@ -126,14 +126,14 @@ fn requests_of(alloc: Global, text: &[u8], whole: &[u8]) -> Result<Vec<usize>, F
     Ok(input.requests)
 }
 
-/// At which fillings memory is refused, in heaps of all sizes. A refused copy has written the lines
-/// before that filling alone.
+/// Returns the chunks at which an allocation fails, in heaps of all sizes. Asserts that a copy that
+/// failed wrote only the lines before that chunk.
 fn refusals_of(alloc: Global, text: &[u8], first: &[u8], whole: &[u8]) -> Result<Vec<usize>, Fail> {
     let mut refusals = Vec::new(alloc);
     for units in 1..64usize {
         let heap = LocalHeap::new(alloc, units * 16)?;
-        // The smallest heap has room for one block of 16 bytes: this byte takes it, so the first
-        // request is refused.
+        // The smallest heap has room for one block of 16 bytes. This byte uses it, so the first
+        // allocation fails.
         let mut held = Vec::new(&heap);
         held.push(0u8)?;
         let mut line = Vec::new(&heap);
@@ -176,7 +176,7 @@ fn each_request_for_memory_is_refused_once(rt: HostRuntime) -> Result<(), Fail> 
 
 const RUNS: &[u8] = b"\xE9 _RC1a _ZN3fooE _ZN3foo3barE.a_long_suffix_that_wants_more \xE9";
 
-/// What is written of them in front of each run, and of all.
+/// The output before each run, and the complete output.
 const WRITTEN: [&[u8]; 4] = [
     b"\xE9 ",
     b"\xE9 a ",
@@ -184,10 +184,10 @@ const WRITTEN: [&[u8]; 4] = [
     b"\xE9 a foo foo::bar.a_long_suffix_that_wants_more \xE9",
 ];
 
-/// Which of these texts is written in a heap of this size, by fillings of a byte.
+/// Returns the index of the text that is written in a heap of this size, from chunks of one byte.
 fn written_in_heap(alloc: Global, size: usize) -> Result<usize, Fail> {
     let heap = LocalHeap::new(alloc, size)?;
-    // As above, the first request is refused in the smallest heap.
+    // As above, the first allocation fails in the smallest heap.
     let mut held = Vec::new(&heap);
     held.push(0u8)?;
     let mut filter = BytesFilter::new(&heap);
@@ -223,7 +223,7 @@ fn memory_is_refused_to_an_open_run(rt: HostRuntime) -> Result<(), Fail> {
             *is_at = true;
         }
     }
-    // The second run is no longer than the first, so it asks for no memory.
+    // The second run is not longer than the first, so it needs no allocation.
     assert_eq!(rt; is_written, [true, false, true, true]);
     Ok(())
 }
