@@ -71,7 +71,7 @@ checked_at m p s = record m { point = p; state = s }
 abbrev pub reading_of : {N : ℕ} → Parser N → Reading
 reading_of m = record { point = m.point; state = m.state }
 
--- A new parser: of a path of the same symbol, or of the same parse without its frames.
+-- A new parser, for a path of the same symbol, or for the same parse without its frames.
 
 abbrev pub path_parser : {N : ℕ} → Parser N → Bool → ℕ → ℕ → Parser N
 path_parser m include_hash i n = record { source = record { symbol = m.source.symbol; include_hash = include_hash }; point = point.Path; state = first_state i; stack = []; looks = n }

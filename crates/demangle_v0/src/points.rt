@@ -92,7 +92,7 @@ pub enum Point {
     Bindings,
     OpenBindings,
     BindingName,
-    /// What a binding binds.
+    /// The value of a binding.
     Bound,
     DynLifetime,
     // pattern

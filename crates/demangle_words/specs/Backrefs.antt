@@ -49,7 +49,7 @@ abbrev pub AbiIn : List ℕ → Abi → Type 0
 AbiIn b (abi.Named part) = PartIn b part
 AbiIn b _ = Unit {0}
 
--- The parts of the token are in the symbol, those of a literal spell a text, and the number of each lifetime of a binder has
+-- The parts of the token are in the symbol, and those of a literal spell a text. The number of each lifetime of a binder has
 -- 128 bits.
 abbrev pub LiesIn : List ℕ → Stretch → Type 0
 LiesIn b (CrateName a d) = LiesWithin b a
