@@ -95,8 +95,8 @@ followed_by o rest = behind (node o.tree) (rest o.place)
 abbrev pub Level : Type 0
 Level = Bool → Kind → Bool → ℕ → ℕ → Outcome
 
--- the context of a production: the symbol, whether to print, the productions of its own depth and of the depths below, and
--- the lifetimes in scope
+-- the context of a production: the symbol, whether to print, the productions of its own depth and of deeper ones, and the
+-- lifetimes in scope
 pub record Surroundings : Type 0 where
   pub symbol : List ℕ
   pub printed : Bool

@@ -1,4 +1,4 @@
-//! Back references, which point to a path, type or constant before them.
+//! Back references, whose target is a path, type or constant before them.
 ghost use Rattle.std.specs.Prelude.{Ok};
 ghost use Rattle.demangle_v0.specs.Parsers.{Followed, MayGo, Went};
 
