@@ -1,4 +1,4 @@
--- The looks of accepting a v0 symbol.
+-- The looks that accepting a v0 symbol makes.
 use Rattle.std.specs.Prelude.{ℕ, ◌+◌, ◌-◌, false, true, if◌then◌else◌, List, length, Some, None}
 use Rattle.demangle_grammar.specs.Items.{a_path}
 use Rattle.demangle_grammar.specs.Cost.{looks_of}
@@ -7,18 +7,18 @@ use Rattle.demangle_grammar.specs.Reading.{Place, Outcome, stretches, read_at, g
 abbrev pub looks_in : Outcome → ℕ
 looks_in o = looks_of (stretches true o.tree)
 
--- of the suffix: its bytes, and that it ends
+-- the looks at the suffix: one at each of its bytes, and one at its end
 abbrev pub suffix_looks : List ℕ → Place → ℕ
 suffix_looks symbol None = 0
 suffix_looks symbol (Some j) = length symbol + 1 - j
 
--- behind the first path: whether a second one begins, that one, and the suffix
+-- the looks after the first path: whether a second one begins, that one, and the suffix
 abbrev pub second_looks : List ℕ → Place → ℕ
 second_looks symbol None = 0
 second_looks symbol (Some j) = 1 +
     (if goes_on_at symbol j then (let o = read_at symbol false a_path j 0 0 true in looks_in o + suffix_looks symbol o.place)
     else suffix_looks symbol (Some j))
 
--- of the whole symbol
+-- the looks at the whole symbol
 unfoldable pub accepting_looks : List ℕ → ℕ
 accepting_looks symbol = let o = read_at symbol false a_path 0 0 0 true in looks_in o + second_looks symbol o.place

@@ -4,7 +4,7 @@ use Rattle.std.specs.Prelude.{ℕ, zero, suc, ◌+◌, List, [], ◌∷◌, ◌+
 use Rattle.demangle_grammar.specs.Items.{Text}
 use Rattle.demangle_grammar.specs.Reading.{letter_of}
 
--- m lifetimes from the number n on, behind others, and the end
+-- m lifetimes from the number n on, after other ones, and the end of the binder
 unfoldable pub more_texts : ℕ → ℕ → List Text
 more_texts zero n = codes "> " ∷ []
 more_texts (suc m) n = codes ", " ∷ codes "'" ∷ (letter_of n ++ more_texts m (n + 1))

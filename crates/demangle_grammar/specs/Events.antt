@@ -1,16 +1,16 @@
 -- Internal: no public contract cites this.
--- What a tree hands over and the looks that it allows, in order.
+-- The trace of a tree: the texts that it prints and the looks that it allows, in order.
 use Rattle.std.specs.Prelude.{ℕ, Bool, true, false, ◌&&◌, List, [], ◌∷◌, ◌++◌, codes}
 use Rattle.demangle_grammar.specs.Items.{Text}
 use Rattle.demangle_grammar.specs.Cost.{StretchCost}
 use Rattle.demangle_grammar.specs.Reading.{Tree, nothing, piece, plain_piece, node, looked, hidden, invalid_syntax, too_deep, unread, Place, Outcome, Surroundings, level_of, levels, hands, looks}
 
--- a text that is handed over, or so many looks that may be made
+-- a text that is printed, or a number of looks that are allowed
 pub data Event : Type 0 where
   shows : Text → Event
   allows : ℕ → Event
 
--- a text, if it is handed over
+-- a text, if it is printed, and the events after it
 abbrev pub shown_if : Bool → Text → List Event → List Event
 shown_if true t xs = shows t ∷ xs
 shown_if false t xs = xs
@@ -23,7 +23,7 @@ abbrev pub allowed_all : List ℕ → List Event → List Event
 allowed_all [] xs = xs
 allowed_all (k ∷ ks) xs = allows k ∷ allowed_all ks xs
 
--- in the plain form or the other; handed over or only read
+-- the events in the plain form or in the other; printed or only read
 abbrev pub events : Bool → Bool → Tree → List Event
 events plain out nothing = []
 events plain out (piece t rest) = shown_if out t (events plain out rest)
@@ -35,18 +35,18 @@ events plain out invalid_syntax = shown_if out (codes "{invalid syntax}") []
 events plain out too_deep = shown_if out (codes "{recursion limit reached}") []
 events plain out unread = shown_if out (codes "?") []
 
--- the texts alone
+-- only the texts
 abbrev pub shown_in : List Event → List Text
 shown_in [] = []
 shown_in (shows t ∷ xs) = t ∷ shown_in xs
 shown_in (allows k ∷ xs) = shown_in xs
 
--- the same as stretches, which an account pays
+-- an event as a cost, for which the look budget pays
 abbrev pub stretch_of : Event → StretchCost
 stretch_of (shows t) = hands t
 stretch_of (allows k) = looks k
 
--- what is heard of a reading: its events, the place where it ends, and, of a dyn trait path, whether it is open
+-- the trace of a parse: its events, the place after it and, for a dyn trait path, whether its `<` is open
 pub record Heard : Type 0 where
   pub events : List Event
   pub place : Place
@@ -58,18 +58,18 @@ of plain out o = record { events = events plain out o.tree; place = o.place; is_
 abbrev pub nothing_heard : Place → Bool → Heard
 nothing_heard i o = record { events = []; place = i; is_open = o }
 
--- h, and then what k hears behind it
+-- the trace h, and then the trace k after it
 abbrev pub and_then : Heard → (Place → Bool → Heard) → Heard
 and_then h k = let g = k h.place h.is_open in record g { events = h.events ++ g.events }
 
--- so many looks are allowed before it
+-- the trace h, before which these looks are allowed
 abbrev pub with_looks : List ℕ → Heard → Heard
 with_looks ks h = record h { events = allowed_all ks h.events }
 
--- these texts stand before it, if they are handed over
+-- the trace h, before which these texts are printed, if texts are printed at all
 abbrev pub with_texts : Bool → List Text → Heard → Heard
 with_texts out ts h = record h { events = said_all out ts h.events }
 
--- what a unit at this depth is read in, printed or not
+-- the context of a production with `left` depths below its own, printed or not
 abbrev pub around : List ℕ → Bool → ℕ → ℕ → Surroundings
 around b out left lifetimes = record { symbol = b; printed = out; here = level_of b (levels b left); deeper = levels b left; lifetimes = lifetimes }

@@ -1,4 +1,4 @@
--- What a unit of a v0 symbol is made of, read and handed over from the left.
+-- The items of the productions of v0 symbols, in the order in which they are read and printed.
 use Rattle.std.specs.Prelude.{ℕ, Bool, List}
 use Rattle.demangle_symbol.specs.Words.{Name}
 
@@ -6,49 +6,50 @@ use Rattle.demangle_symbol.specs.Words.{Name}
 abbrev pub Text : Type 0
 Text = List ℕ
 
--- the units that are begun by name; a reference stands for one of them
+-- the productions that start by name; a back reference replaces one of them
 pub data Kind : Type 0 where
   a_path a_type a_constant a_pattern a_trait_path : Kind
 
+-- the rest of a production
 pub data Items : Type 0 where
-  -- the unit ends; it ends by a fault
+  -- the production ends, without an error or with one
   done : Items
   invalid : Items
-  -- a piece; a piece of the plain form alone
+  -- prints a piece, in both forms or only in the plain one
   say : Text → Items → Items
   say_plain : Text → Items → Items
-  -- a word is read, and its value says how it goes on; `optional` has its tag
+  -- reads a primitive, whose value determines the items after it; `optional` has its tag
   byte : (ℕ → Items) → Items
   namespace : (ℕ → Items) → Items
   integer : (ℕ → Items) → Items
   optional : ℕ → (ℕ → Items) → Items
   identifier : (Name → Items) → Items
   nibbles : (List ℕ → Items) → Items
-  -- the next byte says how it goes on, and is not read
+  -- the next byte determines the items after it, and is not consumed
   peek : (ℕ → Items) → Items
-  -- where this byte stands next it is read, and the first goes on; else, and while failed, the second
+  -- the first if this byte is next, which is then consumed; otherwise, and after an error, the second
   next : ℕ → Items → Items → Items
-  -- the first where the reading is sound, the second where it failed
+  -- the first if there was no error so far, otherwise the second
   sound : Items → Items → Items
-  -- turns of the first up to an `E`, which is read, or until the reading failed; and then the second
+  -- repetitions of the first up to an `E`, which is consumed, or up to an error; then the second
   until_end : Items → Items → Items
   -- the depth is raised
   raise : Items → Items
-  -- a unit of these items, and what follows it; a unit by its name (in value position or not), and what follows it
+  -- a production of these items and the rest; a production by its name (in value position or not) and the rest
   unit : Items → Items → Items
   child : Kind → Bool → Items → Items
   -- a path that is read and not printed
   skip : Items → Items
-  -- the word of a back reference, and its target
+  -- the primitive of a back reference, and its target
   target : Kind → Bool → Items
-  -- the lifetime of an index
+  -- the lifetime with this index
   lifetime : ℕ → Items → Items
-  -- so many new lifetimes are named, and in force up to the end of the unit
+  -- this many new lifetimes are named; they are in scope up to the end of the production
   binder : ℕ → Items → Items
   -- the rest of a dyn trait path that leaves its `<` open
   opens : Items → Items
   -- a dyn trait path, and bindings to these items
   dyn_trait : Items → Items
-  -- Bindings, where a `<` is open or not, as many as begin with `p`: each hands over `<` where none is open yet, else `, `,
-  -- then its name, whose fault ends the unit, ` = `, and these items. `>` follows where one is open.
+  -- Bindings, as many as begin with `p`; the flag says whether a `<` is open. Each prints `<` if none is open yet, otherwise
+  -- `, `, then its name and ` = `, then these items. An error in its name ends the production. `>` follows if one is open.
   bindings : Bool → Items → Items

@@ -1,4 +1,4 @@
--- Reading a v0 symbol, and what it hands over.
+-- How a v0 symbol is read, and what it prints.
 use Rattle.std.specs.Prelude.{ℕ, zero, suc, ◌+◌, ◌-◌, ◌*◌, Bool, true, false, if◌then◌else◌, nat_lt, nat_le, ◌==◌, List, [], ◌∷◌, ◌++◌, length, map, slice_get, Option, Some, None, codes, decimal}
 use Prim.Native.Char.{code}
 use Rattle.demangle_symbol.specs.Digits.{is_byte}
@@ -9,19 +9,19 @@ use Rattle.demangle_grammar.specs.Items.{Text, Kind, a_path, a_trait_path, Items
 use Rattle.demangle_grammar.specs.Table.{items}
 use Rattle.demangle_grammar.specs.Cost.{StretchCost}
 
--- what a unit hands over: pieces and units in order, perhaps with a stop at the end
+-- the output of a production: pieces and nested productions in order, perhaps with an error text at the end
 pub data Tree : Type 0 where
   nothing : Tree
   piece : Text → Tree → Tree
   plain_piece : Text → Tree → Tree
   node : Tree → Tree → Tree
-  -- so many looks may be made
+  -- this many looks may be made
   looked : ℕ → Tree → Tree
-  -- a unit that is read and not handed over
+  -- a production that is read and not printed
   hidden : Tree → Tree → Tree
   invalid_syntax too_deep unread : Tree
 
--- the texts that are handed over, in the plain form or in the other
+-- the texts that are printed, in the plain form or in the other
 abbrev pub pieces : Bool → Tree → List Text
 pieces plain nothing = []
 pieces plain (piece t rest) = t ∷ pieces plain rest
@@ -33,7 +33,7 @@ pieces plain invalid_syntax = codes "{invalid syntax}" ∷ []
 pieces plain too_deep = codes "{recursion limit reached}" ∷ []
 pieces plain unread = codes "?" ∷ []
 
--- no stop is handed over
+-- no error text is printed
 abbrev pub IsWhole : Tree → Type 0
 IsWhole nothing = Unit {0}
 IsWhole (piece t rest) = IsWhole rest
@@ -51,11 +51,11 @@ hands t = record { bytes = length t; looks = 0 }
 abbrev pub looks : ℕ → StretchCost
 looks k = record { bytes = 0; looks = k }
 
--- what is not handed over
+-- the costs of a part that is not printed: its looks only
 abbrev pub looks_alone : List StretchCost → List StretchCost
 looks_alone xs = map (λ x. looks x.looks) xs
 
--- the pieces and the looks in order
+-- the costs of the pieces and the looks, in order
 abbrev pub stretches : Bool → Tree → List StretchCost
 stretches plain nothing = []
 stretches plain (piece t rest) = hands t ∷ stretches plain rest
@@ -67,11 +67,11 @@ stretches plain invalid_syntax = hands (codes "{invalid syntax}") ∷ []
 stretches plain too_deep = hands (codes "{recursion limit reached}") ∷ []
 stretches plain unread = hands (codes "?") ∷ []
 
--- where a reading stands; none is failed
+-- an offset into the symbol after its prefix, or `None` after an error
 abbrev pub Place : Type 0
 Place = Option ℕ
 
--- what a unit hands over, where the reading stands behind it, and, of a dyn trait path, whether its `<` is open
+-- the result of a production: its output, the place after it and, for a dyn trait path, whether its `<` is open
 pub record Outcome : Type 0 where
   pub tree : Tree
   pub place : Place
@@ -86,17 +86,17 @@ stands i = record { tree = nothing; place = i; is_open = false }
 abbrev pub behind : (Tree → Tree) → Outcome → Outcome
 behind f o = record o { tree = f o.tree }
 
--- a unit, and what goes on from where it ended
+-- a production, and the rest from the place after it
 abbrev pub followed_by : Outcome → (Place → Outcome) → Outcome
 followed_by o rest = behind (node o.tree) (rest o.place)
 
--- how the units of one depth are read: to be printed (then references are followed and lifetimes checked) or not, the
--- kind, the value position, the lifetimes in force, the place
+-- How the productions of one depth are read. The arguments are: whether to print, the kind, the value position, the lifetimes
+-- in scope, and the place. References are followed and lifetimes are checked only to print.
 abbrev pub Level : Type 0
 Level = Bool → Kind → Bool → ℕ → ℕ → Outcome
 
--- what a unit is read in: the symbol, to be printed or not, the units of its own depth, those of the depths below it, and
--- the lifetimes in force
+-- the context of a production: the symbol, whether to print, the productions of its own depth and of deeper ones, and the
+-- lifetimes in scope
 pub record Surroundings : Type 0 where
   pub symbol : List ℕ
   pub printed : Bool
@@ -104,9 +104,9 @@ pub record Surroundings : Type 0 where
   pub deeper : List Level
   pub lifetimes : ℕ
 
--- Words.
+-- Primitives.
 
--- a word was read from place i on, of a symbol of n bytes: how it goes on, or the fault, which may lie at the symbol's end
+-- a primitive at place i of a symbol of n bytes: the rest after it, or an error, which may be at the symbol's end
 abbrev pub word_outcome : {A : Type 0} → ℕ → ℕ → (A → Place → Outcome) → Read A → Outcome
 word_outcome n i rest None = fault (looked (4 * (n - i + 1)) invalid_syntax)
 word_outcome n i rest (Some r) = behind (looked (4 * (r.1 - i + 1))) (rest r.0 (Some r.1))
@@ -115,7 +115,7 @@ abbrev pub word : {A : Type 0} → Surroundings → Place → (List ℕ → ℕ 
 word s None reads rest = fault unread
 word s (Some i) reads rest = word_outcome (length s.symbol) i rest (reads s.symbol i)
 
--- the next byte, which is not read
+-- the next byte, which is not consumed
 abbrev pub peek_outcome : (ℕ → Outcome) → Option ℕ → Outcome
 peek_outcome rest None = fault (looked 1 invalid_syntax)
 peek_outcome rest (Some b) = behind (looked 1) (rest b)
@@ -124,20 +124,20 @@ abbrev pub stands_at : Surroundings → ℕ → Place → Bool
 stands_at s b None = false
 stands_at s b (Some i) = is_byte s.symbol i b
 
--- the byte stands there, and is read; or not
+-- the first if the byte is next, which is then consumed; otherwise the second
 abbrev pub byte_choice : Bool → (Place → Outcome) → (Place → Outcome) → Place → Outcome
 byte_choice c there other None = other None
 byte_choice true there other (Some i) = behind (looked 1) (there (Some (i + 1)))
 byte_choice false there other (Some i) = behind (looked 1) (other (Some i))
 
--- Units.
+-- Productions.
 
--- one depth on, if there is one
+-- one depth deeper, if there is one
 abbrev pub one_depth_on : List Level → (Level → List Level → Place → Outcome) → Place → Outcome
 one_depth_on [] rest i = fault too_deep
 one_depth_on (level ∷ levels) rest i = rest level levels i
 
--- turns up to an `E`, which is read, or until the reading failed; at most n
+-- repetitions up to an `E`, which is consumed, or up to an error; at most n
 unfoldable pub turns : ℕ → List ℕ → (Place → Outcome) → Place → Outcome
 turns n symbol turn None = stands None
 turns zero symbol turn (Some i) = fault invalid_syntax
@@ -159,12 +159,12 @@ abbrev pub all_pieces : List Text → Tree → Tree
 all_pieces [] rest = rest
 all_pieces (t ∷ ts) rest = piece t (all_pieces ts rest)
 
--- `>` where it is open
+-- `>` if the bracket is open
 abbrev pub angle_if_open : Bool → Place → Outcome
 angle_if_open true i = behind (piece (codes ">")) (stands i)
 angle_if_open false i = stands i
 
--- what a binding hands over before what it is bound to
+-- the text before the name of a binding
 abbrev pub binding_separator : Bool → Tree → Tree
 binding_separator true rest = piece (codes ", ") rest
 binding_separator false rest = piece (codes "<") rest
@@ -172,7 +172,7 @@ binding_separator false rest = piece (codes "<") rest
 abbrev pub name_equals : Name → Tree → Tree
 name_equals a rest = all_pieces (name_pieces a) (piece (codes " = ") rest)
 
--- bindings, as long as a `p` stands next, and `>` where it is open; at most n
+-- bindings as long as a `p` is next, then `>` if the bracket is open; at most n
 unfoldable pub bound_by : ℕ → Surroundings → (Place → Outcome) → Bool → Place → Outcome
 bound_by n s turn open_ None = angle_if_open open_ None
 bound_by zero s turn open_ (Some i) = fault invalid_syntax
@@ -180,29 +180,29 @@ bound_by (suc n) s turn open_ (Some i) = byte_choice (is_byte s.symbol i (code "
     (λ j. behind (binding_separator open_) (word s j identifier_at (λ a k. behind (name_equals a) (followed_by (turn k) (bound_by n s turn true)))))
     (angle_if_open open_) (Some i)
 
--- a unit, and what goes on from where it ended, told whether it is open
+-- a production, and the rest from the place after it, which depends on whether the bracket is open
 abbrev pub followed_open : Outcome → (Bool → Place → Outcome) → Outcome
 followed_open o rest = behind (node o.tree) (rest o.is_open o.place)
 
--- References.
+-- Back references.
 
--- what is taken of a target, where references are followed; the reading goes on behind the reference's word
+-- the target, if references are followed; reading then continues after the reference itself
 abbrev pub target_read : Bool → (ℕ → Outcome) → ℕ → Place → Outcome
 target_read true reads t end = let o = reads t in record { tree = node o.tree nothing; place = end; is_open = o.is_open }
 target_read false reads t end = stands end
 
--- a target is one depth on, if there is one
+-- a target is one depth deeper, if there is one
 abbrev pub target_of : List Level → (Level → Outcome) → Outcome
 target_of [] reads = fault too_deep
 target_of (level ∷ levels) reads = reads level
 
 -- Lifetimes.
 
--- the name of the lifetime of a number
+-- the name of the lifetime with this number
 abbrev pub letter_of : ℕ → List Text
 letter_of n = if nat_lt n 26 then ((97 + n) ∷ []) ∷ [] else codes "_" ∷ decimal n ∷ []
 
--- the lifetime of index k with so many in force
+-- the lifetime of index k, with `lifetimes` of them in scope
 abbrev pub lifetime_named : ℕ → ℕ → Place → Outcome
 lifetime_named lifetimes k i =
     if k == 0 then behind (piece (codes "_")) (stands i)
@@ -213,7 +213,7 @@ abbrev pub lifetime_at : Bool → ℕ → ℕ → Place → Outcome
 lifetime_at false lifetimes k i = stands i
 lifetime_at true lifetimes k i = behind (piece (codes "'")) (lifetime_named lifetimes k i)
 
--- m new lifetimes from the number n on, behind others
+-- m new lifetimes from the number n on, after other ones
 abbrev pub new_lifetimes : ℕ → ℕ → Tree → Tree
 new_lifetimes zero n rest = rest
 new_lifetimes (suc m) n rest = piece (codes ", ") (piece (codes "'") (all_pieces (letter_of n) (new_lifetimes m (n + 1) rest)))
@@ -230,7 +230,7 @@ binder_at true m n rest = binder_of m n rest
 
 -- All items.
 
--- reading items from a place on
+-- the outcome of reading items from a place on
 unfoldable pub run : Items → Surroundings → Place → Outcome
 run done s i = stands i
 run invalid s i = fault invalid_syntax
@@ -259,12 +259,12 @@ run (opens p) s i = record (run p s i) { is_open = true }
 run (dyn_trait p) s i = followed_open (unit_outcome s a_trait_path false i) (bound_by (suc (length s.symbol)) s (run p s))
 run (bindings open_ p) s i = bound_by (suc (length s.symbol)) s (run p s) open_ i
 
--- no unit is begun
+-- no production starts here
 abbrev pub nowhere : Level
 nowhere printed kind value lifetimes i = fault invalid_syntax
 
--- The units of a depth, over those of the depths below it. Paths, types and constants begin nothing before they raise the
--- depth; a pattern and a dyn trait path begin constants, types and paths at their own.
+-- The productions of a depth, over those of the depths below it. Paths, types and constants start others only after they raise
+-- the depth. A pattern and a dyn trait path start constants, types and paths at their own depth.
 unfoldable pub level_of : List ℕ → List Level → Level
 level_of symbol deeper printed kind value lifetimes i =
     let at : Level → Bool → ℕ → Surroundings = λ here pr ls. record { symbol = symbol; printed = pr; here = here; deeper = deeper; lifetimes = ls } in
@@ -276,22 +276,22 @@ unfoldable pub levels : List ℕ → ℕ → List Level
 levels symbol zero = []
 levels symbol (suc n) = let deeper : List Level = levels symbol n in level_of symbol deeper ∷ deeper
 
--- a unit at a place and a depth
+-- the outcome of a production at a place and a depth
 unfoldable pub read_at : List ℕ → Bool → Kind → ℕ → ℕ → ℕ → Bool → Outcome
 read_at symbol printed kind i depth lifetimes value = level_of symbol (levels symbol (max_depth - depth)) printed kind value lifetimes i
 
--- what a symbol hands over: its first path, to be printed, in value position and with no lifetime in force
+-- the texts of a symbol: its first path, printed in value position and with no lifetimes in scope
 unfoldable pub path_texts : List ℕ → Bool → List Text
 path_texts symbol plain = pieces plain (read_at symbol true a_path 0 0 0 true).tree
 
--- the place behind the unit, if it is spelled
+-- the place after the production, if it is spelled
 unfoldable pub unit_end : List ℕ → Kind → ℕ → ℕ → Place
 unit_end symbol kind i depth = (read_at symbol false kind i depth 0 true).place
 
--- a second path begins there
+-- whether a second path begins there
 abbrev pub goes_on_at : List ℕ → ℕ → Bool
 goes_on_at symbol j = some_or false (slice_get symbol j) is_upper
 
--- the place where the suffix begins: behind one path, or behind a second one that begins with `A` to `Z`
+-- the place at which the suffix begins: after one path, or after a second one that begins with `A` to `Z`
 unfoldable pub suffix_place : List ℕ → Place
 suffix_place symbol = then_if_some (unit_end symbol a_path 0 0) (λ j. if goes_on_at symbol j then unit_end symbol a_path j 0 else Some j)

@@ -1,4 +1,4 @@
--- Which bytes units of a v0 symbol are spelled with. No reference is followed.
+-- The bytes that spell the productions of a v0 symbol. No reference is followed.
 use Rattle.std.specs.Prelude.{◌≡◌, ◌⊎◌, ℕ, ◌+◌, ◌<◌, ◌≤◌, Bool, true, false, List, Some, slice_get}
 use Prim.Native.Char.{code}
 use Rattle.demangle_symbol.specs.Digits.{is_byte}
@@ -7,12 +7,12 @@ use Rattle.demangle_grammar.specs.Items.{Text, Kind, a_path, a_trait_path, Items
 use Rattle.demangle_grammar.specs.Table.{items}
 use Rattle.demangle_grammar.specs.Reading.{max_depth, goes_on_at}
 
--- What is asked of what is printed: nothing; that each lifetime outside references names one in force; that there is no
--- reference, and no lifetime but that of index 0.
+-- The rule for what is printed. `freely` requires nothing. `named` requires that each lifetime outside references is in scope.
+-- `simple` allows no reference, and no lifetime other than that of index 0.
 pub data Rule : Type 0 where
   freely named simple : Rule
 
--- with so many lifetimes in force there may be one of this index
+-- whether a lifetime of index k is allowed, with m lifetimes in scope
 abbrev pub MayName : Rule → ℕ → ℕ → Type 0
 MayName freely m k = Unit {0}
 MayName named m k = k ≤ m
@@ -23,7 +23,7 @@ MayRefer freely = Unit {0}
 MayRefer named = Unit {0}
 MayRefer simple = ⊥
 
--- Spells symbol r d m p i j: from i up to j stand the items p, at depth d, with m lifetimes in force, by the rule r
+-- `Spells symbol r d m p i j`: the bytes from i to j spell the items p, at depth d, with m lifetimes in scope, by the rule r
 pub data Spells (symbol : List ℕ) : Rule → ℕ → ℕ → Items → ℕ → ℕ → Type 0 where
   end_ : {r : Rule} {d m i : ℕ} → Spells symbol r d m done i i
   say_ : {r : Rule} {p : Items} {d m i j : ℕ} {t : Text} → Spells symbol r d m p i j → Spells symbol r d m (say t p) i j
@@ -38,27 +38,27 @@ pub data Spells (symbol : List ℕ) : Rule → ℕ → ℕ → Items → ℕ →
   there : {r : Rule} {p q : Items} {d m i j b : ℕ} → is_byte symbol i b ≡ true → Spells symbol r d m p (i + 1) j → Spells symbol r d m (next b p q) i j
   other : {r : Rule} {p q : Items} {d m i j b : ℕ} → is_byte symbol i b ≡ false → Spells symbol r d m q i j → Spells symbol r d m (next b p q) i j
   sound_ : {r : Rule} {p q : Items} {d m i j : ℕ} → Spells symbol r d m p i j → Spells symbol r d m (sound p q) i j
-  -- turns up to an `E`
+  -- repetitions up to an `E`
   over_ : {r : Rule} {p q : Items} {d m i j : ℕ} → is_byte symbol i (code "E") ≡ true → Spells symbol r d m q (i + 1) j → Spells symbol r d m (until_end p q) i j
   turn_ : {r : Rule} {p q : Items} {d m i k j : ℕ} → is_byte symbol i (code "E") ≡ false → Spells symbol r d m p i k → Spells symbol r d m (until_end p q) k j → Spells symbol r d m (until_end p q) i j
   raise_ : {r : Rule} {p : Items} {d m i j : ℕ} → d < max_depth → Spells symbol r (d + 1) m p i j → Spells symbol r d m (raise p) i j
   unit_ : {r : Rule} {p q : Items} {d m i k j : ℕ} → Spells symbol r d m p i k → Spells symbol r d m q k j → Spells symbol r d m (unit p q) i j
   child_ : {r : Rule} {p : Items} {d m i k j : ℕ} {kind : Kind} {value : Bool} → Spells symbol r d m (items kind value) i k → Spells symbol r d m p k j → Spells symbol r d m (child kind value p) i j
   skip_ : {r : Rule} {p : Items} {d m i k j : ℕ} → Spells symbol freely d m (items a_path false) i k → Spells symbol r d m p k j → Spells symbol r d m (skip p) i j
-  -- a reference is its word alone: its target begins before it, and there is one more depth
+  -- a reference spells only itself: its target begins before it, and there is one more depth
   target_ : {r : Rule} {d m i j : ℕ} {kind : Kind} {value : Bool} (v : ℕ) → MayRefer r → backref_at symbol i ≡ Some (v, j) → d < max_depth → Spells symbol r d m (target kind value) i j
   lifetime_ : {r : Rule} {p : Items} {d m i j k : ℕ} → MayName r m k → Spells symbol r d m p i j → Spells symbol r d m (lifetime k p) i j
   binder_ : {r : Rule} {p : Items} {d m i j n : ℕ} → Spells symbol r d (m + n) p i j → Spells symbol r d m (binder n p) i j
   opens_ : {r : Rule} {p : Items} {d m i j : ℕ} → Spells symbol r d m p i j → Spells symbol r d m (opens p) i j
-  -- a dyn trait path, and then bindings, each behind a `p` and its name
+  -- a dyn trait path, and then bindings, each after a `p` and its name
   dyn_ : {r : Rule} {p : Items} {d m i k j : ℕ} → Spells symbol r d m (items a_trait_path false) i k → Spells symbol r d m (bindings false p) k j → Spells symbol r d m (dyn_trait p) i j
   past_ : {r : Rule} {p : Items} {d m i : ℕ} {o : Bool} → is_byte symbol i (code "p") ≡ false → Spells symbol r d m (bindings o p) i i
   bound_ : {r : Rule} {p : Items} {d m i k l j : ℕ} {o : Bool} (a : Name) → is_byte symbol i (code "p") ≡ true → identifier_at symbol (i + 1) ≡ Some (a, k) → Spells symbol r d m p k l → Spells symbol r d m (bindings true p) l j → Spells symbol r d m (bindings o p) i j
 
--- from i up to j stands a path, at depth 0
+-- the bytes from i to j spell a path, at depth 0
 abbrev pub IsPath : List ℕ → ℕ → ℕ → Type 0
 IsPath symbol i j = Spells symbol freely 0 0 (items a_path true) i j
 
--- the suffix begins at k: behind one path, or behind two where `A` to `Z` stands behind the first
+-- the suffix begins at k: after one path, or after two if the byte after the first is `A` to `Z`
 abbrev pub IsPaths : List ℕ → ℕ → Type 0
 IsPaths inner k = (j : ℕ) × IsPath inner 0 j × (((goes_on_at inner j ≡ false) × (k ≡ j)) ⊎ ((goes_on_at inner j ≡ true) × IsPath inner j k))

@@ -1,4 +1,4 @@
--- The productions of v0 symbols (RFC 2603), and what each hands over.
+-- The productions of v0 symbols (RFC 2603), and what each prints.
 use Rattle.std.specs.Prelude.{ℕ, Bool, true, false, ◌||◌, if◌then◌else◌, ◌==◌, List, [], ◌∷◌, ◌++◌, Option, Some, None, codes, decimal}
 use Rattle.std.specs.Fmt.{digits}
 use lib.Utf8.{scalar}
@@ -13,7 +13,7 @@ abbrev pub is_among : ℕ → List ℕ → Bool
 is_among b [] = false
 is_among b (c ∷ cs) = b == c || is_among b cs
 
--- the items in the row of the tag b, or else these
+-- the items in the row of the tag b; without such a row, `other`
 abbrev pub row_of : ℕ → Items → List (String × Items) → Items
 row_of b other [] = other
 row_of b other (r ∷ rs) = if is_among b (codes r.0) then r.1 else row_of b other rs
@@ -28,19 +28,19 @@ abbrev pub say_all : List Text → Items → Items
 say_all [] p = p
 say_all (t ∷ ts) p = say t (say_all ts p)
 
--- at an `E`, which is read, or once the reading failed, p
+-- p at an `E`, which is consumed, or after an error; otherwise q
 abbrev pub at_end : Items → Items → Items
 at_end p q = next (code "E") p (sound q p)
 
--- further elements, each behind the text, up to `E`
+-- further elements up to `E`, each after the text, and then p
 abbrev pub more : String → Items → Items → Items
 more text element p = until_end (says text element) p
 
--- elements up to `E` with the text between, and then p
+-- elements up to `E` with the text between them, and then p
 abbrev pub list : String → Items → Items → Items
 list text element p = at_end p (unit element (more text element p))
 
--- the same with `, ` between, and `,` behind one that stands alone
+-- the same with `, ` between them, and with `,` after a single one
 abbrev pub tuple : Items → Items → Items
 tuple element p = at_end p (unit element (at_end (says "," p) (more ", " element p)))
 
@@ -109,7 +109,7 @@ row_text tag (r ∷ rs) = if is_among tag (codes r.0) then Some (codes r.1) else
 abbrev pub in_binder : Items → Items
 in_binder p = optional (code "G") (λ m. binder m p)
 
--- the parts between `_`, with `-` between them, behind what was read of the first
+-- the parts between `_`, with `-` between them; `part` is the read prefix of the first
 abbrev pub hyphenated_abi : List ℕ → List ℕ → List Text
 hyphenated_abi part [] = part ∷ []
 hyphenated_abi part (b ∷ bs) = if b == code "_" then part ∷ codes "-" ∷ hyphenated_abi [] bs else hyphenated_abi (part ++ b ∷ []) bs
@@ -127,11 +127,11 @@ function unsafe =
     (identifier (λ a. if is_empty a.ascii then invalid else if is_empty a.punycode then signature unsafe (extern a.ascii) else invalid)))
     (signature unsafe [])
 
--- what a binding names: a constant or a type
+-- the value of a binding: a constant or a type
 abbrev pub binding_value : Items
 binding_value = next (code "K") (child a_constant false done) type_inside
 
--- the rows, where the tag is still to be read
+-- the rows, each of which first reads its tag
 abbrev pub after_tag : List (String × Items) → List (String × Items)
 after_tag [] = []
 after_tag (r ∷ rs) = (r.0, byte (λ _. r.1)) ∷ after_tag rs
@@ -182,7 +182,7 @@ pattern_of tag = row_of tag invalid pattern_rows
 
 -- Constants.
 
--- `{` before and `}` behind, outside value position
+-- `{` before and `}` after the items, outside value position
 abbrev pub braces : Bool → (Items → Items) → Items
 braces value inside = if value then inside done else says "{" (inside (says "}" done))
 
@@ -235,7 +235,7 @@ constant_rows value tag =
 abbrev pub constant : Bool → ℕ → Items
 constant value tag = row_of tag invalid (constant_rows value tag)
 
--- what a unit begins with
+-- the items of a production, by its kind
 abbrev pub items : Kind → Bool → Items
 items a_path value = raise (byte (path value))
 items a_type value = next (code "w") (says "#[splat] " type_tagged) type_tagged

@@ -1,5 +1,5 @@
 -- Internal: no public contract cites this.
--- How many looks several allowances are together.
+-- The sum of several allowances of looks.
 use Rattle.std.specs.Prelude.{ℕ, ◌+◌, List, [], ◌∷◌}
 
 abbrev pub total : List ℕ → ℕ

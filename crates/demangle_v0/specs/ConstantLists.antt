@@ -1,5 +1,5 @@
 -- Internal: no public contract cites this.
--- What constants stand in, one behind the other: the points of their readings.
+-- The continuations of lists of constants.
 use Rattle.demangle_grammar.specs.Items.{Items}
 use Rattle.demangle_grammar.specs.Table.{constant_inside, field}
 use Rattle.demangle_words.specs.declared.texts.Mark.{Mark}
@@ -9,21 +9,21 @@ use Rattle.demangle_v0.specs.declared.points.Point.TheVariants as point
 use Rattle.demangle_v0.specs.declared.points.constant_lists.ConstantList.{ConstantList}
 use Rattle.demangle_v0.specs.declared.points.constant_lists.ConstantList.TheVariants as list
 
--- where the first is read, or the end
+-- the continuation at the first element or the end
 abbrev pub first_point : ConstantList → Point
 first_point list.Array = point.FirstArrayConstant
 first_point list.Tuple = point.FirstTupleConstant
 first_point list.TupleVariant = point.FirstVariantConstant
 first_point list.Fields = point.FirstField
 
--- behind the first
+-- the continuation after the first element
 abbrev pub second_point : ConstantList → Point
 second_point list.Array = point.NextArrayConstant
 second_point list.Tuple = point.SecondTupleConstant
 second_point list.TupleVariant = point.NextVariantConstant
 second_point list.Fields = point.NextField
 
--- behind another
+-- the continuation after a further element
 abbrev pub next_point : ConstantList → Point
 next_point list.Array = point.NextArrayConstant
 next_point list.Tuple = point.NextTupleConstant

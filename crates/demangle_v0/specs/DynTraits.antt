@@ -1,5 +1,5 @@
 -- Internal: no public contract cites this.
--- Dyn types, behind their tag.
+-- Dyn types, after their tag.
 use Rattle.std.specs.Prelude.{false}
 use Rattle.demangle_grammar.specs.Items.{Items, done, unit, dyn_trait}
 use Rattle.demangle_grammar.specs.Table.{says, list, in_binder, binding_value}

@@ -6,22 +6,22 @@ use Rattle.demangle_grammar.specs.Table.{disambiguator, says}
 use Rattle.demangle_v0.specs.declared.points.Point.{Point}
 use Rattle.demangle_v0.specs.declared.points.Point.TheVariants as point
 
--- behind `M`, or `X` where the impl is of a trait
+-- the items after `M`, or after `X` if the impl is of a trait
 abbrev pub impl_items : Bool → Items
 impl_items false = disambiguator (λ _. skip (says "<" (child a_type false (says ">" done))))
 impl_items true = disambiguator (λ _. skip (says "<" (child a_type false (says " as " (child a_path false (says ">" done))))))
 
--- the impl's own path
+-- the continuation at the impl path
 abbrev pub skip_point : Bool → Point
 skip_point false = point.InherentPath
 skip_point true = point.ImplPath
 
--- and what stands behind it
+-- the continuation after it
 abbrev pub self_point : Bool → Point
 self_point false = point.InherentType
 self_point true = point.SelfType
 
--- where an impl's own path is to be read
+-- whether an impl path is next
 abbrev pub is_skip : Point → Bool
 is_skip point.InherentPath = true
 is_skip point.ImplPath = true

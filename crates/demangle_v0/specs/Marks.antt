@@ -1,5 +1,5 @@
 -- Internal: no public contract cites this.
--- Points that do no more than leave a mark.
+-- The continuations that only queue a fixed text.
 use Rattle.std.specs.Prelude.{Bool, true, false, Option, Some, None}
 use Rattle.demangle_words.specs.declared.texts.Mark.{Mark}
 use Rattle.demangle_words.specs.declared.texts.Mark.TheVariants as mark

@@ -1,5 +1,5 @@
 -- Internal: no public contract cites this.
--- The frames that lie packed in a stack.
+-- The frames as a stack stores them.
 use Rattle.std.specs.Prelude.{◌+◌, ◌*◌, ◌^◌}
 use Rattle.demangle_v0.specs.declared.points.frames.Frame.{Frame}
 use Rattle.demangle_v0.specs.declared.points.frames.Packed.{Packed}

@@ -1,5 +1,5 @@
 -- Internal: no public contract cites this.
--- What points do to a parser.
+-- The effect of continuations on a parser.
 use Rattle.std.specs.Prelude.{◌≡◌, ℕ, ◌+◌, ◌-◌, Bool, false, Option, List, [], ◌∷◌, ◌++◌, length, Some, Result, Ok}
 use Rattle.demangle_grammar.specs.Events.{Heard}
 use Rattle.demangle_grammar.specs.Reading.{Place}
@@ -26,7 +26,7 @@ use Rattle.demangle_v0.specs.declared.points.read.Halt.{Halt}
 use Rattle.demangle_v0.specs.declared.points.read.Reading.{Reading}
 use Rattle.demangle_v0.specs.declared.printing.Left.{Left}
 
--- What is done to one.
+-- Changes to a parser.
 
 abbrev pub pushed : {N : ℕ} → Parser N → Frame → Parser N
 pushed m f = record m { stack = m.stack ++ f ∷ [] }
@@ -46,18 +46,18 @@ moved m i n = record m { state = record m.state { place = i }; looks = n }
 abbrev pub restacked : {N : ℕ} → Parser N → List Frame → Parser N
 restacked m now = record m { stack = now }
 
--- with this text pending, and outside value position a frame for the closing brace
+-- with this text pending and, outside value position, a frame for the closing brace
 abbrev pub braced : {N : ℕ} → Parser N → Option Mark → Parser N
 braced m x = record m { state = record m.state { mark = x }; stack = pushed_on m.stack (brace_behind m.state) }
 
 abbrev pub restated : {N : ℕ} → Parser N → State → ℕ → Parser N
 restated m s n = record m { state = s; looks = n }
 
--- further lifetimes are in force
+-- further lifetimes are in scope
 abbrev pub binding : {N : ℕ} → Parser N → ℕ → Parser N
 binding m number = record m { state = record m.state { lifetimes = m.state.lifetimes + number } }
 
--- The token of this kind that is read there, and may be printed or not.
+-- The token of this kind at the parser's place, if tokens are printed or if not.
 abbrev pub token_group : {N : ℕ} → Bool → Parser N → Word → Group
 token_group is_printed m w = word_group m.source.symbol.now w m.state.letter is_printed m.state.lifetimes m.state.place
 
@@ -71,7 +71,7 @@ checked_at m p s = record m { point = p; state = s }
 abbrev pub reading_of : {N : ℕ} → Parser N → Reading
 reading_of m = record { point = m.point; state = m.state }
 
--- A new parser: of a path of the same symbol, or of the same parse without its frames.
+-- A new parser, for a path of the same symbol, or for the same parse without its frames.
 
 abbrev pub path_parser : {N : ℕ} → Parser N → Bool → ℕ → ℕ → Parser N
 path_parser m include_hash i n = record { source = record { symbol = m.source.symbol; include_hash = include_hash }; point = point.Path; state = first_state i; stack = []; looks = n }
@@ -79,7 +79,7 @@ path_parser m include_hash i n = record { source = record { symbol = m.source.sy
 abbrev pub emptied : {N M : ℕ} → Parser N → Parser M
 emptied m = record { source = m.source; point = m.point; state = m.state; stack = []; looks = m.looks }
 
--- What a point does.
+-- The effect of a continuation.
 
 abbrev pub env_of : {N : ℕ} {V : Type 0} → Ghosts V → Parser N → Env V
 env_of output m = env output m.source.symbol.now m.source.include_hash
@@ -87,7 +87,7 @@ env_of output m = env output m.source.symbol.now m.source.include_hash
 abbrev pub turn_of : {N : ℕ} {V : Type 0} → Parser N → V → Turn V
 turn_of m v = turn m.state m.stack v m.looks
 
--- no point changes what is read
+-- no continuation changes the symbol, or whether hashes are printed
 abbrev pub Same : {N : ℕ} → Parser N → Parser N → Type 0
 Same m k = (k.source.symbol ≡ m.source.symbol) × (k.source.include_hash ≡ m.source.include_hash)
 
@@ -95,84 +95,84 @@ pub record DoesPart {N : ℕ} {V : Type 0} (output : Ghosts V) (part : Part) (m 
   pub does : Does (env_of output m) (turn_of m v) part result (turn_of k w)
   pub same : Same m k
 
--- at a point, with an output
+-- when a continuation may run with an output, and its effect
 abbrev pub May : {N : ℕ} {V : Type 0} → Ghosts V → Point → Parser N → V → Type 0
 May {N} output p m v = MayStep (env_of output m) p N (turn_of m v)
 
 abbrev pub Did : {N : ℕ} {V : Type 0} → Ghosts V → Point → Parser N → V → Result Point Stop → Parser N → V → Type 0
 Did output p m v result k w = DoesPart output (whole (env_of output m) p m.state) m v result k w
 
--- with these items, which are left of one
+-- the effect of these items, which remain of a production
 abbrev pub DidRest : {N : ℕ} {V : Type 0} → Ghosts V → Items → ℕ → ℕ → ℕ → Parser N → V → Result Point Stop → Parser N → V → Type 0
 DidRest output items words weight above m v result k w = DoesPart output (rest (env_of output m) items words weight above m.state) m v result k w
 
--- where a token may be printed
+-- when a token may be printed
 abbrev pub MayPrint : {N : ℕ} {V : Type 0} → Ghosts V → Parser N → V → Type 0
 MayPrint output m v = MayEmit (env_of output m) m.state v
 
--- at a reference to a unit that begins at this point
+-- the effect of a back reference to a production that starts with this continuation
 abbrev pub Followed : {N : ℕ} {V : Type 0} → Ghosts V → Point → Parser N → V → Result Point Stop → Parser N → Type 0
 Followed output p m v result k =
     (shut : Bool) (kind : Kind) (value : Bool) → IsUnit m.source.symbol.now m.source.include_hash p m.state.in_value m.state.letter m.state.lifetimes shut kind value
     → DoesPart output (target_part (env_of output m) shut kind value m.state) m v result k v
 
--- An output that is handed nothing, and may print or not.
+-- An output that never receives a token, whether it prints or not.
 abbrev pub unheard : Bool → Ghosts (Unit {0})
 unheard is_printed = record { is_printed = is_printed; ready = λ v. Unit {0}; prints = λ v texts result w. ⊥ }
 
--- at a point that hands nothing over
+-- when a continuation may run that emits nothing, and its effect
 abbrev pub MayGo : {N : ℕ} → Point → Parser N → Type 0
 MayGo {N} p m = MayRead p N m.state m.stack
 
 abbrev pub Went : {N : ℕ} → Point → Parser N → Result Point Stop → Parser N → Type 0
 Went p m result k = (is_printed : Bool) → Did (unheard is_printed) p m tt result k tt
 
--- the same of one that is only read where nothing is printed
+-- the effect of a continuation that is only used if nothing is printed
 abbrev pub WentSilent : {N : ℕ} → Point → Parser N → Result Point Stop → Parser N → Type 0
 WentSilent p m result k = Did (unheard false) p m tt result k tt
 
 abbrev pub WentRest : {N : ℕ} → Items → ℕ → ℕ → ℕ → Parser N → Result Point Stop → Parser N → Type 0
 WentRest items words weight above m result k = (is_printed : Bool) → DidRest (unheard is_printed) items words weight above m tt result k tt
 
--- What the loops do.
+-- The effect of the loops.
 
--- there is room for all frames that the rest can need, and the lifetimes fit
+-- the stack has room for all frames that the rest can need, and the lifetimes fit
 abbrev pub IsValid : {N : ℕ} → Parser N → Type 0
 IsValid m = Valid m.point m.state m.stack
 
--- nothing but the count of looks changes
+-- only the count of looks changes
 abbrev pub Recounted : {N : ℕ} → Parser N → Parser N → Type 0
 Recounted m k = k ≡ looked m k.looks
 
--- what is still read without output
+-- the remaining trace, without output
 abbrev pub unread_of : {N : ℕ} → Parser N → Heard
 unread_of m = reading_rest m.source.symbol.now m.source.include_hash false m.point m.state m.stack
 
--- `k` is where a parse without output of `m` stops, above the lowest `base` frames
+-- without output, `m` is parsed until it stops at `k`, above the lowest `base` frames
 abbrev pub ReadSteps : {N : ℕ} → ℕ → Parser N → Halt → Parser N → Type 0
 ReadSteps base m result k = (below above : List Frame) → m.stack ≡ below ++ above → length below ≡ base → AllInner above
     → ReadOn (silently m.source.symbol.now m.source.include_hash) below m.point (silent_turn m.state above m.looks) result k.point (silent_turn k.state k.stack k.looks)
 
--- the impl path was read: to its end
+-- the impl path was read to its end
 abbrev pub SkipsOver : {N : ℕ} → Parser N → Parser N → Type 0
 SkipsOver m k = (q : Bool) → m.point ≡ skip_point q → Skipped m.source.symbol.now m.source.include_hash q m.state m.stack m.looks k.point k.state k.stack k.looks
 
--- until the stack was full
+-- the impl path was read until the stack was full
 abbrev pub SkipsFull : {N : ℕ} → Parser N → Left → Parser N → Type 0
 SkipsFull {N} m x k = SkipsTo m.source.symbol.now m.source.include_hash (reading_of m) m.stack m.looks x N (reading_of k) k.stack k.looks
 
--- the same, of what was left of it, if it was read so far
+-- the same for the rest of an impl path that was read in part
 abbrev pub FinishesSkip : {N : ℕ} → Parser N → Left → Option Left → Parser N → Type 0
 FinishesSkip {N} m x result k = Finishes m.source.symbol.now m.source.include_hash N x (reading_of m) m.stack m.looks result (reading_of k) k.stack k.looks
 
 abbrev pub printing_of : {N : ℕ} {S : Type 0} → Sinks S → Parser N → Env (SizeLimitedFmtAdapter S)
 printing_of sink m = printing sink m.source.symbol.now m.source.include_hash
 
--- what is left can be printed
+-- the unfinished part can be printed
 abbrev pub LeftValid : {N : ℕ} → ℕ → Result (Option Left) SinkRefused → Parser N → Type 0
 LeftValid n result m = ValidLeft m.source.symbol.now m.source.include_hash n result (reading_of m) m.stack m.looks
 
--- the looks that are certain: of what is next, and of what is left
+-- the looks that are made in any case: by the next step, and by the unfinished part
 abbrev pub first_looks_of : {N : ℕ} → Parser N → ℕ
 first_looks_of m = first_looks m.point m.state
 
@@ -183,11 +183,11 @@ left_looks result m = looks_left result (reading_of m)
 abbrev pub PrintsSteps : {N : ℕ} {S : Type 0} → Sinks S → Parser N → SizeLimitedFmtAdapter S → Result (Option Left) SinkRefused → Parser N → SizeLimitedFmtAdapter S → Type 0
 PrintsSteps sink m v result k w = RanOn (printing_of sink m) m.point (turn_of m v) result (reading_of k) k.stack w k.looks
 
--- until nothing was left
+-- `m` printed until nothing was left
 abbrev pub PrintsAll : {N : ℕ} {S : Type 0} → Sinks S → Parser N → SizeLimitedFmtAdapter S → Result (Unit {0}) SinkRefused → Parser N → SizeLimitedFmtAdapter S → Type 0
 PrintsAll sink m v result k w = Ended (printing_of sink m) m.point (turn_of m v) result w k.looks
 
--- the same, of what was left of a printing
+-- the same for the unfinished part of a text
 abbrev pub PrintsOn : {N : ℕ} {S : Type 0} → Sinks S → Parser N → Left → SizeLimitedFmtAdapter S → Result (Option Left) SinkRefused → Parser N → SizeLimitedFmtAdapter S → Type 0
 PrintsOn {S = S} sink m x v result k w = (p : Point) (began : Turn (SizeLimitedFmtAdapter S)) → RanOn (printing_of sink m) p began (Ok (Some x)) (reading_of m) m.stack v m.looks
     → RanOn (printing_of sink m) p began result (reading_of k) k.stack w k.looks

@@ -1,5 +1,5 @@
 -- Internal: no public contract cites this.
--- Steps on a whole stack of frames.
+-- The effect of steps on a whole stack of frames.
 use Rattle.std.specs.Prelude.{◌≡◌, ℕ, ◌+◌, ◌≤◌, ◌<◌, min, Bool, true, false, Option, Some, None, List, [], ◌∷◌, ◌++◌, length, Result, Ok, Err, IsOk}
 use Rattle.demangle_grammar.specs.Events.{Heard}
 use Rattle.demangle_words.specs.Texts.{text}
@@ -25,8 +25,9 @@ use Rattle.demangle_v0.specs.declared.printing.Left.TheVariants as left
 use Rattle.demangle_words.specs.declared.output.Output.{Ghosts}
 use Rattle.demangle_words.specs.declared.output.Silent.{Silent}
 
--- A step, whose mark was handed over.
+-- One step, after its pending text is written.
 
+-- writes the pending text, if there is one; this cannot fail if nothing is printed
 abbrev pub Puts : {V : Type 0} → Ghosts V → Option Mark → V → Result (Unit {0}) SinkRefused → V → Type 0
 Puts output None v result w = (result ≡ Ok tt) × (w ≡ v)
 Puts output (Some m) v result w = output.prints v (text m ∷ []) result w × (output.is_printed ≡ false → IsOk result)
@@ -38,16 +39,16 @@ abbrev pub Steps : {V : Type 0} → Env V → Point → Turn V → Result Point 
 Steps env p before (Ok q) after = Continued env (whole env p before.state) before q after × (after.state.mark ≡ None)
 Steps env p before (Err e) after = Halted env (whole env p before.state) before after × Kept before.stack after.stack
 
--- a record, so that a lemma finds its arguments
+-- `Steps` as a record, so that a lemma finds its arguments
 pub record Stepped {V : Type 0} (env : Env V) (p : Point) (before : Turn V) (result : Result Point SinkRefused) (after : Turn V) : Type 0 where
   pub steps : Steps env p before result after
 
--- Where a unit is over, the frame on top goes on, if there is one above so many.
+-- Unless the continuation is `End`, nothing changes. After `End` the top frame resumes, if there are more than `base` frames.
 pub data Resumes (base : ℕ) (p : Point) (s : State) (stack : List Frame) (q : Point) (t : State) (now : List Frame) : Type 0 where
   stays : (p ≡ point.End → ⊥) → q ≡ p → t ≡ s → now ≡ stack → Resumes base p s stack q t now
   pops : (f : Frame) → p ≡ point.End → base < length stack → stack ≡ now ++ f ∷ [] → q ≡ f.point → t ≡ resumed_of s f → Resumes base p s stack q t now
 
--- the looks that are made for certain: at the tag of a path, if the depth can be raised
+-- the looks that a path makes in any case: one at its tag, unless parsing has failed or no depth is left
 abbrev pub looks_at_tag : ℕ → Place → ℕ
 looks_at_tag left None = 0
 looks_at_tag left (Some i) = min left 1
@@ -56,11 +57,11 @@ abbrev pub first_looks : Point → State → ℕ
 first_looks point.Path s = looks_at_tag s.depth_left s.place
 first_looks _ s = 0
 
--- where the path at a place is begun
+-- the state before the path at place i is read
 abbrev pub first_state : ℕ → State
 first_state i = record { in_value = true; letter = 0; depth_left = max_depth; lifetimes = 0; place = Some i; is_open = false; mark = None }
 
--- What holds wherever a reading stands: there is room for all that can ever stand on its stack, and the lifetimes fit.
+-- The invariant of every parse: the stack has room for all frames that it can ever hold, and the lifetimes fit.
 
 abbrev pub frame_height : Frame → ℕ
 frame_height f = height_at f.point f.depth_left
@@ -75,26 +76,26 @@ pub record Valid (p : Point) (s : State) (stack : List Frame) : Type 0 where
   pub all_fit : AllFit stack
   pub unmarked : s.mark ≡ None
 
--- Steps, one behind another.
+-- Several steps in sequence.
 
--- what is left to be heard
+-- the remaining trace of a parse
 abbrev pub left_of : {V : Type 0} → Env V → Point → Turn V → Heard
 left_of env p t = reading_rest env.symbol env.include_hash env.output.is_printed p t.state t.stack
 
--- an output was handed these texts in turn
+-- the output received the texts of these parts, in order
 abbrev pub Emitted : {V : Type 0} → Env V → List Bit → V → V → Type 0
 Emitted env [] v w = v ≡ w
 Emitted env (pays k ∷ bits) v w = Emitted env bits v w
 Emitted {V = V} env (puts ts ∷ bits) v w = (mid : V) × env.output.prints v ts (Ok tt) mid × Emitted env bits mid w
 
--- they went from one turn to the other
+-- steps lead from `before` to `after`, and make no more looks than their trace allows
 pub record Ran {V : Type 0} (env : Env V) (p : Point) (before : Turn V) (q : Point) (after : Turn V) : Type 0 where
   pub bits : List Bit
   pub emits : Emitted env bits before.output after.output
   pub reads : left_of env p before ≡ heard_bits env.output.is_printed bits (left_of env q after)
   pub enough : after.looks ≤ before.looks + bits_looks bits
 
--- and one more was refused, or failed
+-- after such steps one more failed: the output rejected a piece, or the parse failed without output
 pub record Broke {V : Type 0} (env : Env V) (p : Point) (before : Turn V) (output : V) (looks : ℕ) : Type 0 where
   pub at : Point
   pub mid : Turn V
@@ -105,7 +106,7 @@ pub record Broke {V : Type 0} (env : Env V) (p : Point) (before : Turn V) (outpu
   pub same_output : end.output ≡ output
   pub same_looks : end.looks ≡ looks
 
--- A reading that prints nothing, above other frames.
+-- A parse without output, above other frames.
 
 abbrev pub silently : List ℕ → Bool → Env Silent
 silently b include_hash = env (record { is_printed = false; ready = λ v. Unit {0}; prints = λ v texts result w. Unit {0} }) b include_hash
@@ -113,7 +114,7 @@ silently b include_hash = env (record { is_printed = false; ready = λ v. Unit {
 abbrev pub silent_turn : State → List Frame → ℕ → Turn Silent
 silent_turn s stack n = turn s stack (record {}) n
 
--- it has these frames, above those below
+-- the parse leads from `before` to `after`; its own frames are above the frames `below`
 pub record Reads {V : Type 0} (env : Env V) (below : List Frame) (p : Point) (before : Turn V) (q : Point) (after : Turn V) : Type 0 where
   pub frames : List Frame
   pub is_stack : after.stack ≡ below ++ frames
@@ -128,9 +129,9 @@ ReadsOn env below p before halt.Failed q after = (d : Broke env p before after.o
 pub record ReadOn {V : Type 0} (env : Env V) (below : List Frame) (p : Point) (before : Turn V) (result : Halt) (q : Point) (after : Turn V) : Type 0 where
   pub reads : ReadsOn env below p before result q after
 
--- The own path of an impl, which is read and not printed.
+-- The impl path, which is read and not printed.
 
--- where it is begun
+-- the state at its start
 abbrev pub silent_of : State → State
 silent_of s = record s { in_value = false }
 
@@ -140,11 +141,11 @@ own_path s = record { point = point.Path; state = silent_of s }
 abbrev pub own_heard : List ℕ → Bool → State → Heard
 own_heard b include_hash s = reading_rest b include_hash false point.Path (silent_of s) []
 
--- the same behind it
+-- the state after it
 abbrev pub state_at : State → Place → State
 state_at s i = record s { place = i }
 
--- it was read from so many looks to so many, and printing goes on behind it
+-- the impl path was read, the count of looks went from `began` to `looks`, and printing continues after the path
 pub record Skipped (b : List ℕ) (include_hash of_trait : Bool) (s : State) (below : List Frame) (began : ℕ) (p : Point) (t : State) (now : List Frame) (looks : ℕ) : Type 0 where
   pub at : p ≡ self_point of_trait
   pub place : Place
@@ -153,11 +154,11 @@ pub record Skipped (b : List ℕ) (include_hash of_trait : Bool) (s : State) (be
   pub is_stack : now ≡ below
   pub enough : looks ≤ began + allowed_in (own_heard b include_hash s).events
 
--- it was read so far, from so many looks on
+-- the impl path was read up to `inner`; the count of looks was `began` at its start
 abbrev pub ReadsOwn : List ℕ → Bool → List Frame → State → ℕ → Reading → List Frame → ℕ → Type 0
 ReadsOwn b include_hash below s began inner now looks = Reads (silently b include_hash) below point.Path (silent_turn (silent_of s) [] began) inner.point (silent_turn inner.state now looks)
 
--- the same, above so many frames
+-- the same, above a stack of `base` frames
 pub record Skipping (b : List ℕ) (include_hash : Bool) (base : ℕ) (began : ℕ) (inner printing : Reading) (now : List Frame) (looks : ℕ) : Type 0 where
   pub below : List Frame
   pub height : length below ≡ base
@@ -166,7 +167,7 @@ pub record Skipping (b : List ℕ) (include_hash : Bool) (base : ℕ) (began : �
   pub valid : Valid printing.point printing.state below
   pub reads : ReadsOwn b include_hash below printing.state began inner now looks
 
--- it was read from where printing is, until a stack of at least `n` frames was full
+-- the impl path at the checkpoint `printing` was read until the stack, of at least `n` frames, was full
 pub record SkipsTo (b : List ℕ) (include_hash : Bool) (printing : Reading) (below : List Frame) (began : ℕ) (x : Left) (n : ℕ) (inner : Reading) (now : List Frame) (looks : ℕ) : Type 0 where
   pub base : ℕ
   pub is_left : x ≡ left.OwnPath base printing
@@ -175,11 +176,12 @@ pub record SkipsTo (b : List ℕ) (include_hash : Bool) (printing : Reading) (be
   pub valid : Valid inner.point inner.state now
   pub full : n ≤ length now
 
--- A reading that prints.
+-- A parse that prints.
 
 abbrev pub printing : {S : Type 0} → Sinks S → List ℕ → Bool → Env (SizeLimitedFmtAdapter S)
 printing sink b include_hash = env (record { is_printed = true; ready = λ v. Ready sink v; prints = λ v texts result w. Prints sink v texts result w }) b include_hash
 
+-- printing stopped in an impl path, which was read up to `inner`
 pub record Midway {V : Type 0} (env : Env V) (p : Point) (before : Turn V) (base : ℕ) (inner r : Reading) (now : List Frame) (w : V) (looks : ℕ) : Type 0 where
   pub began : ℕ
   pub skips : Skipping env.symbol env.include_hash base began inner r now looks
@@ -194,20 +196,20 @@ RansOn env p before (Err e) r now w looks = Broke env p before w looks
 pub record RanOn {V : Type 0} (env : Env V) (p : Point) (before : Turn V) (result : Result (Option Left) SinkRefused) (r : Reading) (now : List Frame) (w : V) (looks : ℕ) : Type 0 where
   pub ran : RansOn env p before result r now w looks
 
--- what is left stands in a stack of at least so many frames
+-- the unfinished part is valid, in a stack of at least `n` frames
 abbrev pub ValidLeft : List ℕ → Bool → ℕ → Result (Option Left) SinkRefused → Reading → List Frame → ℕ → Type 0
 ValidLeft b include_hash n (Ok None) r stack looks = Unit {0}
 ValidLeft b include_hash n (Ok (Some left.Stack)) r stack looks = Valid r.point r.state stack × (n ≤ length stack)
 ValidLeft b include_hash n (Ok (Some (left.OwnPath base r))) inner stack looks = (began : ℕ) × Skipping b include_hash base began inner r stack looks × Valid inner.point inner.state stack × (n ≤ length stack)
 ValidLeft b include_hash n (Err e) r stack looks = Unit {0}
 
--- the own path of an impl that was read so far was read to its end, if there was one
+-- the unfinished impl path, if there was one, was read to its end
 abbrev pub Passed : List ℕ → Bool → Left → Reading → List Frame → ℕ → Reading → List Frame → ℕ → Type 0
 Passed b include_hash left.Stack r stack old to now new = (to ≡ r) × (now ≡ stack) × (new ≤ old)
 Passed b include_hash (left.OwnPath base r) inner stack old to now new = (below : List Frame) (q : Bool) (began : ℕ) → ReadsOwn b include_hash below r.state began inner stack old → length below ≡ base → r.point ≡ skip_point q
     → Skipped b include_hash q r.state below began to.point to.state now new
 
--- the same, where the stack of so many frames may be full before
+-- the same, or the stack of at least `n` frames was full before that
 abbrev pub Finishes : List ℕ → Bool → ℕ → Left → Reading → List Frame → ℕ → Option Left → Reading → List Frame → ℕ → Type 0
 Finishes b include_hash n x r stack old None to now new = Passed b include_hash x r stack old to now new
 Finishes b include_hash n left.Stack r stack old (Some y) to now new = ⊥
@@ -215,14 +217,14 @@ Finishes b include_hash n (left.OwnPath base r) inner stack old (Some left.Stack
 Finishes b include_hash n (left.OwnPath base r) inner stack old (Some (left.OwnPath height to)) more now new = (height ≡ base) × (to ≡ r) × Valid more.point more.state now × (n ≤ length now)
     × ((below : List Frame) (began : ℕ) → ReadsOwn b include_hash below r.state began inner stack old → length below ≡ base → ReadsOwn b include_hash below r.state began more now new)
 
--- the looks that what is left makes for certain
+-- the looks that the unfinished part makes in any case
 abbrev pub looks_left : Result (Option Left) SinkRefused → Reading → ℕ
 looks_left (Ok None) r = 0
 looks_left (Ok (Some left.Stack)) r = first_looks r.point r.state
 looks_left (Ok (Some (left.OwnPath base r))) inner = 0
 looks_left (Err e) r = 0
 
--- how it ended: all was printed, or it was refused
+-- the end: all was printed, or a piece was rejected
 abbrev pub EndedSo : {V : Type 0} → Env V → Point → Turn V → Result (Unit {0}) SinkRefused → V → ℕ → Type 0
 EndedSo env p before (Ok u) w looks = (t : State) × Ran env p before point.End (turn t [] w looks)
 EndedSo env p before (Err e) w looks = Broke env p before w looks

@@ -1,5 +1,5 @@
 -- Internal: no public contract cites this.
--- What the points of a reading stand for, and what one point does.
+-- The remaining grammar of each continuation, and the effect of its step.
 use Rattle.std.specs.Prelude.{◌≡◌, ℕ, ◌+◌, ◌-◌, ◌*◌, ◌^◌, ◌<◌, ◌≤◌, ◌==◌, nat_le, ◌⊎◌, if◌then◌else◌, Bool, true, false, Option, Some, None, List, [], ◌∷◌, ◌++◌, length, IsOk, IsAscii, Result, Ok, Err}
 use Prim.Native.Char.{code}
 use Rattle.demangle_symbol.specs.Digits.{is_byte}
@@ -25,26 +25,29 @@ use Rattle.demangle_v0.specs.declared.points.Stop.TheVariants.{Refused, Fault}
 use Rattle.demangle_words.specs.declared.output.Output.{Ghosts}
 use Rattle.demangle_sink.specs.declared.SinkRefused.{SinkRefused}
 
--- What is still to be read.
+-- The remaining grammar.
 
--- what stands behind the parameters of a function
+-- the return type of a function
 abbrev pub returns : Items
 returns = next (code "u") done (says " -> " type_inside)
 
--- the bindings of a dyn trait, whose bracket is open or not, and the dyn traits behind it
+-- the bindings of a dyn trait, then the remaining dyn traits; `o` says whether the `<` is open
 abbrev pub bindings_left : Bool → Items
 bindings_left o = unit (bindings o binding_value) (more " + " (dyn_trait binding_value) done)
 
--- A step reads at most so many words.
+-- the most primitives that one step reads: integers, identifiers, hexadecimal strings and single bytes
 abbrev pub most_words : ℕ
 most_words = 8
 
--- What a point stands for: the items that are left of its unit, or none where it is a whole unit, an end, or bindings whose
--- bracket the state knows; how many words its step may read; its weight; and how much higher than its children it stands.
+-- The specification of a continuation.
 pub record Entry : Type 0 where
+  -- the items still to be parsed; `None` for the start of a production, `End`, `Bindings` and `AfterBackref`
   pub items : Option Items
+  -- the most primitives that its step reads
   pub words : ℕ
+  -- its weight in the termination measure
   pub weight : ℕ
+  -- the most frames that it adds at its own depth
   pub above : ℕ
 
 abbrev pub of_unit : ℕ → ℕ → ℕ → Entry
@@ -53,8 +56,10 @@ of_unit words weight above = record { items = None; words = words; weight = weig
 abbrev pub of_rest : ℕ → ℕ → ℕ → Items → Entry
 of_rest words weight above items = record { items = Some items; words = words; weight = weight; above = above }
 
--- in value position or not, by its letter; a point that may go on without a look is heavier than what it goes on to, and puts
--- on the stack
+-- The entry of each continuation. `v` is the value position and `n` the letter of the state.
+--
+-- A step that makes no look must lower the measure. So a continuation weighs more than the next one and the frame that
+-- its step pushes, taken together.
 abbrev pub entry_at : Point → Bool → ℕ → Entry
 entry_at point.End v n = of_unit most_words 1 0
 entry_at point.Path v n = of_unit most_words 1 1
@@ -135,7 +140,7 @@ entry_at point.CloseBrace v n = of_rest most_words 1 2 (says "}" done)
 abbrev pub rest_at : Point → Bool → ℕ → Items
 rest_at p v n = some_or done (entry_at p v n).items (λ items. items)
 
--- Lists are over at their `E`, which is read, or where the reading has failed.
+-- A list ends at its `E`, which is read. It also ends if parsing has failed.
 
 abbrev pub is_list_over : List ℕ → Place → Bool
 is_list_over b None = true
@@ -149,22 +154,22 @@ abbrev pub list_costs : Place → List ℕ
 list_costs None = []
 list_costs (Some i) = 1 ∷ []
 
--- the points of a reference, mutable or not: its lifetime, and what stands behind that
+-- the continuations of a reference, mutable or not: its lifetime, and the rest after that
 abbrev pub lifetime_point : Bool → Point
 lifetime_point is_mut = if is_mut then point.MutReferenceLifetime else point.ReferenceLifetime
 
 abbrev pub behind_reference : Bool → Point
 behind_reference is_mut = if is_mut then point.Mut else point.«Type»
 
--- what the lifetime of an index above 0 hands over, and the place behind it
+-- the token of a lifetime whose index is above 0, and the place after it
 abbrev pub spaced_lifetime : ℕ → ℕ → ℕ → Stretch × Place
 spaced_lifetime lifetimes k j = if nat_le k lifetimes then (SpacedLifetime (lifetimes - k), Some j) else (SpacedFault, None)
 
--- no bracket of a dyn trait path is open behind it
+-- the trace, after which no bracket of a dyn trait path is open
 abbrev pub none_open : Heard → Heard
 none_open h = record h { is_open = false }
 
--- what a point still reads of its unit
+-- the remaining trace of a continuation: the rest of its production
 unfoldable pub unit_rest_at : List ℕ → Bool → Bool → Point → Bool → ℕ → ℕ → ℕ → Place → Bool → Heard
 unit_rest_at b include_hash out point.End v c left n i o = nothing_heard i o
 unit_rest_at b include_hash out point.AfterBackref v c left n i o = nothing_heard (Some n) o
@@ -179,14 +184,14 @@ unit_rest_at b include_hash out point.NextOpenArgument v c left n i o = of inclu
 unit_rest_at b include_hash out point.Bindings v c left n i o = none_open (of include_hash out (run (bindings_left o) (around b out left n) i))
 unit_rest_at b include_hash out p v c left n i o = none_open (of include_hash out (run (rest_at p v c) (around b out left n) i))
 
--- what a reading that stands so still reads of its unit
+-- the remaining trace of the production that a parse is in
 abbrev pub unit_rest_of : List ℕ → Bool → Bool → Point → State → Heard
 unit_rest_of b include_hash out p s = unit_rest_at b include_hash out p s.in_value s.letter s.depth_left s.lifetimes s.place s.is_open
 
 abbrev pub unit_rest : List ℕ → Bool → Bool → Frame → Place → Bool → Heard
 unit_rest b include_hash out f i o = unit_rest_at b include_hash out f.point f.in_value f.letter f.depth_left f.number i o
 
--- what a stack still reads; the last frame goes first
+-- the remaining trace of a stack; the last frame comes first
 unfoldable pub stack_rest : List ℕ → Bool → Bool → List Frame → Place → Bool → Heard
 stack_rest b include_hash out [] i o = nothing_heard i o
 stack_rest b include_hash out (f ∷ above) i o = and_then (stack_rest b include_hash out above i o) (unit_rest b include_hash out f)
@@ -202,7 +207,7 @@ frame_at p s = frame_of p s.in_value s.letter s.depth_left s.lifetimes
 
 -- Parts of a step.
 
--- so many looks are allowed, or texts are handed over
+-- a part of a step: it allows these looks, or it prints these texts
 pub data Bit : Type 0 where
   pays : List ℕ → Bit
   puts : List Text → Bit
@@ -222,7 +227,7 @@ bits_texts [] = []
 bits_texts (pays k ∷ bits) = bits_texts bits
 bits_texts (puts ts ∷ bits) = ts ++ bits_texts bits
 
--- the text that a step leaves to be handed over
+-- the pending text, which the step still has to print
 abbrev pub mark_texts : Option Mark → List Text
 mark_texts None = []
 mark_texts (Some m) = text m ∷ []
@@ -231,7 +236,7 @@ abbrev pub pushed_on : List Frame → Option Frame → List Frame
 pushed_on stack None = stack
 pushed_on stack (Some f) = stack ++ f ∷ []
 
--- no reference is followed
+-- whether a continuation can run without output, which follows no back reference
 abbrev pub is_inner : Point → Bool
 is_inner point.AfterBackref = false
 is_inner _ = true
@@ -248,7 +253,7 @@ unfoldable pub then_frame : List ℕ → Bool → Bool → Option Frame → Hear
 then_frame b include_hash out None h = h
 then_frame b include_hash out (Some f) h = and_then h (unit_rest b include_hash out f)
 
--- How much there is still to do, how high frames may stand, and how many lifetimes may be in force.
+-- The termination measure, the greatest height of frames, and the lifetimes in scope.
 
 abbrev pub weight_at : Point → ℕ
 weight_at p = (entry_at p false 0).weight
@@ -257,7 +262,7 @@ abbrev pub weight_of : Option Frame → ℕ
 weight_of None = 0
 weight_of (Some f) = weight_at f.point + 1
 
--- where the unit is over, nothing is left to do
+-- the weight of what is next; none if the production is complete
 abbrev pub way_weight : Point → ℕ
 way_weight point.End = 0
 way_weight p = weight_at p
@@ -282,14 +287,14 @@ abbrev pub count_of : Option Frame → ℕ
 count_of None = 0
 count_of (Some f) = 1
 
--- so many frames can stand at once: at most eight a depth, and eight more at the outermost
+-- the most frames on a stack: eight at each depth, and eight more at the outermost
 abbrev pub most_frames : ℕ
 most_frames = 8 * max_depth + 8
 
 abbrev pub words_at : Point → ℕ
 words_at p = (entry_at p false 0).words
 
--- how many binders may still be met at the point's own depth
+-- the number of binders that may follow at the continuation's own depth
 abbrev pub binders_at : Point → ℕ
 binders_at point.DynBinder = 1
 binders_at _ = 0
@@ -297,7 +302,7 @@ binders_at _ = 0
 abbrev pub most_lifetimes : ℕ
 most_lifetimes = 2 ^ 64 * max_depth
 
--- each depth that is left may have a binder, of at most 2^64 - 1 lifetimes
+-- each remaining depth may have a binder, of at most 2^64 - 1 lifetimes
 abbrev pub Fits : Point → ℕ → ℕ → Type 0
 Fits point.End left n = Unit {0}
 Fits point.AfterBackref left n = n < 2 ^ 64
@@ -309,7 +314,7 @@ FitsFrame (Some f) = Fits f.point f.depth_left f.number
 
 -- Steps.
 
--- what stands before a step, and behind it
+-- the machine, before or after a step: state, stack, output and count of looks
 pub record Turn (V : Type 0) : Type 0 where
   pub state : State
   pub stack : List Frame
@@ -319,7 +324,7 @@ pub record Turn (V : Type 0) : Type 0 where
 abbrev pub turn : {V : Type 0} → State → List Frame → V → ℕ → Turn V
 turn s stack v n = record { state = s; stack = stack; output = v; looks = n }
 
--- what it is done in
+-- the context of a step: its output, the symbol, and whether hashes are printed
 pub record Env (V : Type 0) : Type 1 where
   pub output : Ghosts V
   pub symbol : List ℕ
@@ -328,7 +333,7 @@ pub record Env (V : Type 0) : Type 1 where
 abbrev pub env : {V : Type 0} → Ghosts V → List ℕ → Bool → Env V
 env output b include_hash = record { output = output; symbol = b; include_hash = include_hash }
 
--- what is heard of a point, or of what is left of one, with how many words may be read of it, its weight and its height
+-- a continuation, or a remaining part of one: the most primitives to read, its trace, its weight and its height
 pub record Part : Type 0 where
   pub words : ℕ
   pub heard : Heard
@@ -338,7 +343,7 @@ pub record Part : Type 0 where
 abbrev pub part : ℕ → Heard → ℕ → ℕ → Part
 part words h weight height = record { words = words; heard = h; weight = weight; height = height }
 
--- a stretch, if the output was handed one
+-- the texts of a token, if one was emitted
 abbrev pub emitted_texts : {V : Type 0} → Env V → Option Stretch → List Text
 emitted_texts env None = []
 emitted_texts env (Some s) = texts_of env.symbol env.include_hash s
@@ -347,8 +352,8 @@ abbrev pub Emits : {V : Type 0} → Env V → Option Stretch → V → V → Typ
 Emits env None v w = v ≡ w
 Emits env (Some s) v w = env.output.prints v (texts_of env.symbol env.include_hash s) (Ok tt) w
 
--- The point was left for another, and a frame may have been put on the stack. One stretch is handed over: to the output, or as
--- the mark that is left.
+-- The step continues at another continuation, and may have pushed a frame. It prints at most one text: a token that goes to
+-- the output, or the pending text.
 pub record Continued {V : Type 0} (env : Env V) (part : Part) (before : Turn V) (to : Point) (after : Turn V) : Type 0 where
   pub front : List ℕ
   pub emitted : Option Stretch
@@ -369,7 +374,7 @@ pub record Continued {V : Type 0} (env : Env V) (part : Part) (before : Turn V) 
   pub inner_fits : Fits to after.state.depth_left after.state.lifetimes
   pub quiet : env.output.is_printed ≡ false → IsInner pushed
 
--- The unit ends with this text, which is still to be handed over.
+-- The production ends with this text, which is still to be printed.
 pub record Faulted {V : Type 0} (env : Env V) (part : Part) (before : Turn V) (m : Mark) (after : Turn V) : Type 0 where
   pub front : List ℕ
   pub emits : before.output ≡ after.output
@@ -380,8 +385,8 @@ pub record Faulted {V : Type 0} (env : Env V) (part : Part) (before : Turn V) (m
   pub enough : after.looks ≤ before.looks + total front
   pub lighter : 1 ≤ part.weight + 100 * total front
 
--- The output refused the stretch, or, where it does not speak, the reading failed. At most two looks were made too early, and
--- none where it does not speak.
+-- The output rejected the token or, if nothing is printed, parsing failed. At most two looks were made too early, and none if
+-- nothing is printed.
 pub record Halted {V : Type 0} (env : Env V) (part : Part) (before after : Turn V) : Type 0 where
   pub front : List ℕ
   pub emitted : Stretch
@@ -394,7 +399,7 @@ pub record Halted {V : Type 0} (env : Env V) (part : Part) (before after : Turn 
   pub exact : env.output.is_printed ≡ false → after.looks ≤ before.looks + total front
   pub fails : env.output.is_printed ≡ false → rest.place ≡ None
 
--- frames may have been put on the stack
+-- frames may have been pushed
 abbrev pub Kept : List Frame → List Frame → Type 0
 Kept stack now = (more : List Frame) × (now ≡ stack ++ more)
 
@@ -403,12 +408,12 @@ Comes env part before (Ok p) after = Continued env part before p after
 Comes env part before (Err (Fault m)) after = Faulted env part before m after
 Comes env part before (Err Refused) after = Halted env part before after × Kept before.stack after.stack
 
--- these looks were made, among those that are allowed
+-- these looks were made, no more than are allowed
 pub record Paid (before : ℕ) (costs : List ℕ) (after : ℕ) : Type 0 where
   pub grows : before ≤ after
   pub within : after ≤ before + total costs
 
--- the looks of one step: no more than those of the words that it may read, and none where the reading has failed
+-- the most looks of one step: those of the primitives that it may read, and none after an error
 abbrev pub own_by : ℕ → List ℕ → Place → ℕ
 own_by k b None = 0
 own_by k b (Some i) = 4 * (length b - i) + k
@@ -416,7 +421,7 @@ own_by k b (Some i) = 4 * (length b - i) + k
 abbrev pub own_looks : List ℕ → Place → ℕ
 own_looks b i = own_by 20 b i
 
--- what is done at a point, or with what is left of one
+-- the effect of a continuation, or of a remaining part of one
 pub record Does {V : Type 0} (env : Env V) (before : Turn V) (part : Part) (result : Result Point Stop) (after : Turn V) : Type 0 where
   pub comes : Comes env part before result after
   pub grows : before.looks ≤ after.looks
@@ -424,35 +429,35 @@ pub record Does {V : Type 0} (env : Env V) (before : Turn V) (part : Part) (resu
   pub ready : env.output.ready before.output → IsOk result → env.output.ready after.output
   pub sound : env.output.ready before.output → (m : Mark) → result ≡ Err (Fault m) → env.output.ready after.output
 
--- a whole point
+-- a whole continuation
 abbrev pub whole : {V : Type 0} → Env V → Point → State → Part
 whole env p s = part (words_at p) (unit_rest_of env.symbol env.include_hash env.output.is_printed p s) (weight_at p) (height_at p s.depth_left)
 
--- these items, which are left of a unit, with how many words may be read of them, their weight, and how much higher than its children they stand
+-- these remaining items of a production; `above` is the most frames that they add at their own depth
 abbrev pub rest : {V : Type 0} → Env V → Items → ℕ → ℕ → ℕ → State → Part
 rest env items words weight above s = part words (none_open (of env.include_hash env.output.is_printed (run items (around env.symbol env.output.is_printed s.depth_left s.lifetimes) s.place))) weight (8 * s.depth_left + above)
 
--- What a point does.
+-- The effect of a continuation.
 abbrev pub PointDoes : {V : Type 0} → Env V → Point → Turn V → Result Point Stop → Turn V → Type 0
 PointDoes env p before result after = Does env before (whole env p before.state) result after
 
--- the same of what is left of one
+-- the effect of a remaining part of one
 abbrev pub RestDoes : {V : Type 0} → Env V → Items → ℕ → ℕ → ℕ → Turn V → Result Point Stop → Turn V → Type 0
 RestDoes env items words weight above before result after = Does env before (rest env items words weight above before.state) result after
 
--- When a point may do it: there is room for a frame, and the lifetimes fit.
+-- When a continuation may run: no text is pending, there is room for a frame, and the lifetimes fit.
 pub record MayRead (p : Point) (most : ℕ) (s : State) (stack : List Frame) : Type 0 where
   pub unmarked : s.mark ≡ None
   pub room : length stack < most
   pub fits : Fits p s.depth_left s.lifetimes
 
--- the same of one that has no frame to put on the stack, and where no lifetimes have to fit
+-- when a token may be emitted; this needs no room for a frame, and no lifetimes have to fit
 pub record MayEmit {V : Type 0} (env : Env V) (s : State) (v : V) : Type 0 where
   pub ascii : env.output.is_printed ≡ true → IsAscii env.symbol
   pub ready : env.output.ready v
   pub unmarked : s.mark ≡ None
 
--- the same, where it may be heard
+-- when a continuation may run and emit a token
 pub record MayStep {V : Type 0} (env : Env V) (p : Point) (most : ℕ) (before : Turn V) : Type 0 where
   pub ascii : env.output.is_printed ≡ true → IsAscii env.symbol
   pub ready : env.output.ready before.output
@@ -460,6 +465,6 @@ pub record MayStep {V : Type 0} (env : Env V) (p : Point) (most : ℕ) (before :
   pub room : length before.stack < most
   pub fits : Fits p before.state.depth_left before.state.lifetimes
 
--- where a frame goes on
+-- the state with which a frame resumes
 abbrev pub resumed_of : State → Frame → State
 resumed_of s f = record s { in_value = f.in_value; letter = f.letter; depth_left = f.depth_left; lifetimes = f.number }

@@ -1,5 +1,5 @@
 -- Internal: no public contract cites this.
--- The units to which references lead.
+-- The productions to which back references lead.
 use Rattle.std.specs.Prelude.{◌≡◌, ℕ, ◌+◌, ◌*◌, ◌≤◌, Bool, true, false, Some, List}
 use Rattle.demangle_grammar.specs.Events.{Heard, of, around}
 use Rattle.demangle_grammar.specs.Items.{Kind, target}
@@ -9,18 +9,18 @@ use Rattle.demangle_v0.specs.declared.points.Point.{Point}
 use Rattle.demangle_v0.specs.declared.points.State.{State}
 use Rattle.demangle_v0.specs.declared.points.Point.TheVariants as point
 
--- a dyn trait path may leave its bracket open, other units do not
+-- a dyn trait path may leave its bracket open, other productions do not
 abbrev pub none_open_if : Bool → Heard → Heard
 none_open_if true h = none_open h
 none_open_if false h = h
 
--- a point at which a unit of this kind is begun
+-- a continuation with which a production of this kind starts
 pub record IsUnit (b : List ℕ) (include_hash : Bool) (p : Point) (in_value : Bool) (letter lifetimes : ℕ) (shut : Bool) (k : Kind) (value : Bool) : Type 0 where
   pub same : (left t : ℕ) → unit_rest_at b include_hash true p in_value letter left lifetimes (Some t) false ≡ none_open_if shut (of include_hash true (level_of b (levels b left) true k value lifetimes t))
   pub light : weight_at p ≤ 2
   pub low : (left : ℕ) → height_at p left ≤ 8 * left + 2
   pub fits : (left : ℕ) → Fits point.Path left lifetimes → Fits p left lifetimes
 
--- what is heard of a reference to a unit of this kind
+-- a back reference to a production of this kind, as a part
 abbrev pub target_part : {V : Type 0} → Env V → Bool → Kind → Bool → State → Part
 target_part env shut k value s = part 1 (none_open_if shut (of env.include_hash env.output.is_printed (run (target k value) (around env.symbol env.output.is_printed s.depth_left s.lifetimes) s.place))) 1 (8 * s.depth_left + 2)

@@ -13,7 +13,7 @@ use crate::points::read::Halt;
 use demangle_symbol::cursor::{Looks, Symbol};
 
 impl Parser<'_, FULL_STACK> {
-    /// Reads the rest. Returns where it ends.
+    /// Reads the rest. Returns the place after it, or `None` after an error.
     #[inline(always)]
     fn read_to_end(&mut self) -> Option<usize>
         requires valid { IsValid self.old }
@@ -31,7 +31,8 @@ impl Parser<'_, FULL_STACK> {
 }
 
 impl Parser<'_, MIDDLE_STACK> {
-    /// Reads the rest in a stack with room for every frame. Returns where it ends.
+    /// Reads the rest in a stack with room for every frame. Returns the place after it, or `None`
+    /// after an error.
     #[inline(never)]
     fn read_in_full_stack(&mut self) -> Option<usize>
         requires valid { IsValid self.old }
@@ -47,7 +48,8 @@ impl Parser<'_, MIDDLE_STACK> {
         end
     }
 
-    /// Reads the rest, in the largest stack if this one is full. Returns where it ends.
+    /// Reads the rest, in the largest stack if this one is full. Returns the place after it, or
+    /// `None` after an error.
     #[inline(always)]
     fn read_to_end(&mut self) -> Option<usize>
         requires valid { IsValid self.old }
@@ -65,8 +67,8 @@ impl Parser<'_, MIDDLE_STACK> {
 }
 
 impl Parser<'_, SHORT_STACK> {
-    /// Reads the rest in a larger stack, and if that is full too, in the largest. Returns where it
-    /// ends.
+    /// Reads the rest in a larger stack, and if that is full too, in the largest. Returns the place
+    /// after it, or `None` after an error.
     #[inline(never)]
     fn read_in_middle_stack(&mut self) -> Option<usize>
         requires valid { IsValid self.old }
@@ -83,7 +85,8 @@ impl Parser<'_, SHORT_STACK> {
         end
     }
 
-    /// Reads the path at a place, above no frames. Returns where it ends, and leaves no frames then.
+    /// Reads the path at a place, with no frames on the stack. Returns the place after it, and then
+    /// leaves no frames. Returns `None` after an error.
     fn path_end(&mut self, place: usize) -> Option<usize>
         requires empty { self.old.stack ≡ [] }
         requires hash { self.old.source.include_hash ≡ true }
@@ -106,7 +109,8 @@ impl Parser<'_, SHORT_STACK> {
         }
     }
 
-    /// Reads one path or two. Returns where the suffix after them begins.
+    /// Reads one path or two. Returns the place of the suffix after them, or `None` after an
+    /// error.
     fn suffix(&mut self) -> Option<usize>
         requires empty { self.old.stack ≡ [] }
         requires hash { self.old.source.include_hash ≡ true }
@@ -127,7 +131,7 @@ impl Parser<'_, SHORT_STACK> {
     }
 }
 
-/// Returns where the suffix begins, after one path or two, if they have no syntax error.
+/// Returns the place of the suffix after one path or two, or `None` if they have an error.
 pub fn suffix_at(symbol: &Symbol<'_>, looks: &mut Looks) -> Option<usize>
     ensures value { result ≡ suffix_place symbol.now }
     ensures grows { looks.old ≤ looks.new }
@@ -140,7 +144,7 @@ pub fn suffix_at(symbol: &Symbol<'_>, looks: &mut Looks) -> Option<usize>
     end
 }
 
-/// Returns whether a path begins at a place.
+/// Returns `true` if a path begins at a place.
 pub fn begins_path(symbol: &Symbol<'_>, place: usize, looks: &mut Looks) -> bool
     ensures value { result ≡ goes_on_at symbol.now place }
     ensures look { looks.new ≡ looks.old + 1 }

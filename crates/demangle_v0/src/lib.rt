@@ -16,7 +16,7 @@ mod value;
 
 pub use value::Demangle;
 
-/// Returns what is after the prefix of a v0 symbol.
+/// Returns the text after the prefix of a v0 symbol, or `None` without such a prefix.
 #[tactic(auto, using(demangle_symbol::proofs::Prefixes::behind_answer))]
 fn inner_of(s: &str) -> Option<&str>
     ensures inner { option_map (λ x. x.now) result ≡ v0_inner s.now }
@@ -34,8 +34,8 @@ fn inner_of(s: &str) -> Option<&str>
     s.strip_prefix("__R")
 }
 
-/// Returns the text as a symbol, if it is ASCII and has a prefix of the v0 scheme. No path is read:
-/// the first one prints up to its first syntax error.
+/// Returns the text as a symbol, if it is ASCII and has a prefix of the v0 scheme. Otherwise it
+/// returns `None`. No path is read: the first one prints up to its first syntax error.
 pub fn ascii_symbol<'s>(s: &'s str, looks: &mut Looks) -> Option<Demangle<'s>>
     ensures some { IfSome result (λ symbol. v0_inner s.now ≡ Some symbol) }
     ensures ascii { OnSome result (IsAscii s.now) }
@@ -53,8 +53,8 @@ pub fn ascii_symbol<'s>(s: &'s str, looks: &mut Looks) -> Option<Demangle<'s>>
     }
 }
 
-/// Returns what is after the prefix of a v0 symbol, if it is ASCII. It is not tested if the text is
-/// known to be ASCII.
+/// Returns the text after the prefix of a v0 symbol, if it is ASCII, and otherwise `None`. This is
+/// not tested if `is_ascii` says that the text is known to be ASCII.
 fn ascii_inner_of<'s>(s: &'s str, is_ascii: bool, looks: &mut Looks) -> Option<&'s str>
     requires { IsTrue is_ascii → IsAscii s.now }
     ensures some { IfSome result (λ x. Some x.now ≡ v0_inner s.now) }
@@ -78,8 +78,10 @@ fn ascii_inner_of<'s>(s: &'s str, is_ascii: bool, looks: &mut Looks) -> Option<&
     Some(inner)
 }
 
-/// Reads a v0 symbol. Returns the symbol and the suffix after its paths. `is_ascii` says that the text
-/// is known to be ASCII.
+/// Reads a v0 symbol. Returns the symbol and the suffix after its paths. `is_ascii` says that the
+/// text is known to be ASCII.
+///
+/// Fails if the prefix is missing, the text is not ASCII, or a path is missing or has an error.
 pub fn demangle<'s>(
     s: &'s str,
     is_ascii: bool,

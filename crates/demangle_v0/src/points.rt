@@ -47,7 +47,7 @@ pub enum Point {
     InherentPath,
     /// The path of a trait impl. It is parsed but not printed.
     ImplPath,
-    /// The production is complete. The frame on top of the stack says what follows.
+    /// The production is complete. The frame on top of the stack has what follows.
     End,
     // path
     Path,
@@ -92,7 +92,7 @@ pub enum Point {
     Bindings,
     OpenBindings,
     BindingName,
-    /// What a binding binds.
+    /// The value of a binding.
     Bound,
     DynLifetime,
     // pattern

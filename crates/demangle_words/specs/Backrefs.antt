@@ -1,5 +1,5 @@
 -- Internal: no public contract cites this.
--- References as they are read, and stretches that lie in a symbol.
+-- Back references as they are read, and tokens whose parts are in a symbol.
 use Rattle.std.specs.Prelude.{ℕ, zero, suc, ◌+◌, ◌-◌, ◌*◌, ◌^◌, ◌≤◌, ◌<◌, Some, None, List, [], ◌∷◌, length, IsSome}
 use Rattle.demangle_symbol.specs.Words.{Read, backref_at}
 use Rattle.demangle_symbol.specs.Idents.{LiesWithin}
@@ -16,9 +16,9 @@ use Rattle.demangle_words.specs.declared.stretch.Stretch.TheVariants.{CrateName,
 use Rattle.demangle_words.specs.declared.reference.Reference.{Reference}
 use Rattle.demangle_words.specs.declared.reference.Reference.TheVariants.{Faulty, Target}
 
--- References.
+-- Back references.
 
--- where a reference leads, and what may be looked at for it
+-- the result of reading a back reference, and the looks that are allowed for it
 pub record Referred : Type 0 where
   pub refers : Reference
   pub costs : List ℕ
@@ -41,7 +41,7 @@ IsDeep (Target _ _) left = 0 < left
 
 -- Steps.
 
--- a part of the symbol
+-- the part is in the symbol
 abbrev pub PartIn : List ℕ → Part → Type 0
 PartIn b part = (part.from ≤ part.to) × (part.to ≤ length b)
 
@@ -49,8 +49,8 @@ abbrev pub AbiIn : List ℕ → Abi → Type 0
 AbiIn b (abi.Named part) = PartIn b part
 AbiIn b _ = Unit {0}
 
--- the parts of the stretch are parts of the symbol, those of a literal spell a text, and the number of each lifetime of a
--- binder has 128 bits
+-- The parts of the token are in the symbol, and those of a literal spell a text. The number of each lifetime of a binder has
+-- 128 bits.
 abbrev pub LiesIn : List ℕ → Stretch → Type 0
 LiesIn b (CrateName a d) = LiesWithin b a
 LiesIn b (FieldName a) = LiesWithin b a

@@ -1,5 +1,5 @@
 -- Internal: no public contract cites this.
--- The texts of parts of a stretch.
+-- The texts of the parts of a token.
 use Rattle.std.specs.Prelude.{ℕ, ◌-◌, ◌==◌, Bool, false, if◌then◌else◌, Option, List, [], ◌∷◌, ◌++◌, codes}
 use Rattle.std.specs.Fmt.{digits}
 use Prim.Native.Char.{code}
@@ -19,15 +19,15 @@ disambiguator_texts include_hash d = if d == 0 then [] else if_plain include_has
 abbrev pub crate_texts : Bool → Name → ℕ → List Text
 crate_texts include_hash a d = name_pieces a ++ disambiguator_texts include_hash d
 
--- a name behind a text, if it is not empty
+-- a name after a text, or nothing if the name is empty
 abbrev pub name_behind : Text → Name → List Text
 name_behind before a = if is_nameless a then [] else before ∷ name_pieces a
 
--- what the special namespace n holds
+-- the name of the special namespace n
 abbrev pub kind_text : ℕ → Text
 kind_text n = if n == code "C" then codes "closure" else if n == code "S" then codes "shim" else n ∷ []
 
--- how many looks are left for printing an ABI
+-- how many looks are left to print an ABI
 abbrev pub abi_looks : Abi → ℕ
 abi_looks (Named part) = part.to - part.from
 abi_looks _ = 0

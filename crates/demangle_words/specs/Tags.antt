@@ -1,5 +1,5 @@
 -- Internal: no public contract cites this.
--- What begins with a tag.
+-- The items after each tag.
 use Rattle.std.specs.Prelude.{ℕ, Bool, true, false, if◌then◌else◌, ◌==◌, List, [], ◌∷◌}
 use Prim.Native.Char.{code}
 use Prim.Native.String.{String}
@@ -21,7 +21,7 @@ use Rattle.demangle_words.specs.declared.tags.PatternKind.TheVariants as pattern
 abbrev pub path_kinds : List (String × PathKind)
 path_kinds = ("C", kind.CrateRoot) ∷ ("N", kind.Nested) ∷ ("M", kind.InherentImpl) ∷ ("X", kind.TraitImpl) ∷ ("Y", kind.TraitDefinition) ∷ ("I", kind.Generic) ∷ ("B", kind.Reference) ∷ []
 
--- the items behind the tag
+-- the items after the tag of a path
 abbrev pub path_of : Bool → PathKind → Items
 path_of v kind.CrateRoot = path v (code "C")
 path_of v kind.Nested = path v (code "N")
@@ -40,7 +40,7 @@ constructed_types =
 abbrev pub type_kinds : ℕ → List (String × TypeKind)
 type_kinds tag = ("RQ", (if tag == code "Q" then type_kind.MutReference else type_kind.SharedReference)) ∷ constructed_types
 
--- the lifetime of a reference, whose `L` was read, and what stands behind it
+-- the lifetime of a reference, whose `L` was read, and the items after it
 abbrev pub lifetime_before : Items → Items
 lifetime_before rest = integer (λ k. if k == 0 then rest else lifetime k (says " " rest))
 
@@ -48,7 +48,7 @@ lifetime_before rest = integer (λ k. if k == 0 then rest else lifetime k (says 
 abbrev pub reference_to : Bool → Items
 reference_to is_mut = let rest = says_if is_mut "mut " type_inside in says "&" (next (code "L") (lifetime_before rest) rest)
 
--- the items behind the tag
+-- the items after the tag of a constructed type
 abbrev pub constructed_of : ConstructedType → Items
 constructed_of constructed.ConstPointer = says "*" (says "const " type_inside)
 constructed_of constructed.MutPointer = says "*" (says "mut " type_inside)
@@ -71,7 +71,7 @@ constant_kinds =
     ("p", constant_kind.Placeholder) ∷ ("htmyoj", constant_kind.Unsigned) ∷ ("aslxni", constant_kind.Signed) ∷ ("b", constant_kind.Bool) ∷ ("c", constant_kind.Char) ∷ ("e", constant_kind.Text)
     ∷ ("R", constant_kind.Shared) ∷ ("Q", constant_kind.Mut) ∷ ("A", constant_kind.Array) ∷ ("T", constant_kind.Tuple) ∷ ("V", constant_kind.Variant) ∷ ("B", constant_kind.Reference) ∷ []
 
--- the items behind the tag
+-- the items after the tag of a constant
 abbrev pub constant_of : Bool → ℕ → ConstantKind → Items
 constant_of v tag constant_kind.Placeholder = constant v (code "p")
 constant_of v tag constant_kind.Unsigned = integer_constant tag
@@ -89,7 +89,7 @@ constant_of v tag constant_kind.Reference = constant v (code "B")
 abbrev pub variant_kinds : List (String × VariantKind)
 variant_kinds = ("U", variant_kind.Unit) ∷ ("T", variant_kind.Tuple) ∷ ("S", variant_kind.Fields) ∷ []
 
--- `}` behind a variant outside value position
+-- `}` after a variant outside value position
 abbrev pub closes : Bool → Items
 closes v = if v then done else says "}" done
 

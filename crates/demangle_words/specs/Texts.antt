@@ -1,5 +1,5 @@
 -- Internal: no public contract cites this.
--- The fixed texts, what is found by a tag, and what each word reads, as items of the table.
+-- The fixed texts, the search for a tag in a list of rows, and the items of the table that each kind of token reads.
 use Rattle.std.specs.Prelude.{ℕ, Bool, true, false, if◌then◌else◌, ◌==◌, Option, Some, None, List, [], ◌∷◌, codes}
 use Prim.Native.Char.{code}
 use Prim.Native.String.{String}
@@ -79,8 +79,7 @@ found b (r ∷ rs) = if is_among b (codes r.0) then Some r.1 else found b rs
 abbrev pub basic_marks : List (String × Mark)
 basic_marks = ("b", mark.Bool) ∷ ("c", mark.Char) ∷ ("e", mark.Str) ∷ ("u", mark.Unit) ∷ ("a", mark.I8) ∷ ("s", mark.I16) ∷ ("l", mark.I32) ∷ ("x", mark.I64) ∷ ("n", mark.I128) ∷ ("i", mark.Isize) ∷ ("h", mark.U8) ∷ ("t", mark.U16) ∷ ("m", mark.U32) ∷ ("y", mark.U64) ∷ ("o", mark.U128) ∷ ("j", mark.Usize) ∷ ("f", mark.F32) ∷ ("d", mark.F64) ∷ ("z", mark.Never) ∷ ("p", mark.Placeholder) ∷ ("v", mark.Ellipsis) ∷ []
 
--- in a special namespace
--- what a function prints before its parameters
+-- the text of a function before its parameters
 abbrev pub says_head : Bool → List Text → Items → Items
 says_head unsafe abi p = says_if unsafe "unsafe " (say_all abi p)
 
@@ -98,7 +97,7 @@ abbrev pub says_char : Items → Option ℕ → Items
 says_char p None = invalid
 says_char p (Some c) = if lib.Utf8.scalar c then say_all (literal (code "'") (c ∷ [])) p else invalid
 
--- a word, and the items behind it; a number has a tag
+-- a token of this kind, and the items after it; a number has a tag
 abbrev pub word_items : Word → ℕ → Items → Items
 word_items word.FieldName tag p = disambiguator (λ _. identifier (λ a. says_name a p))
 word_items word.BindingName tag p = identifier (λ a. says_name a (says " = " p))

@@ -1,5 +1,5 @@
 -- Internal: no public contract cites this.
--- The words: what they hand over, and the looks that are allowed for them.
+-- The tokens: their texts, and the looks that are allowed for them.
 use Rattle.std.specs.Prelude.{ℕ, ◌+◌, ◌-◌, ◌*◌, ◌==◌, nat_le, Bool, true, false, if◌then◌else◌, Option, Some, None, List, [], ◌∷◌, ◌++◌, length, slice_range, codes, decimal}
 use Rattle.std.specs.Fmt.{digits}
 use Prim.Native.Char.{code}
@@ -30,7 +30,7 @@ use Rattle.demangle_words.specs.declared.read.WordRead.TheVariants.{Goes, Stops}
 abbrev pub bytes_in : List ℕ → Part → List ℕ
 bytes_in b part = slice_range b part.from part.to
 
--- The pieces of a stretch.
+-- The texts of a token.
 
 abbrev pub abi_texts : List ℕ → Abi → List Text
 abi_texts b abi.Rust = []
@@ -55,7 +55,7 @@ abbrev pub lifetime_texts : Option ℕ → List Text
 lifetime_texts None = codes "_" ∷ []
 lifetime_texts (Some n) = letter_of n
 
--- of the plain form alone
+-- texts of the plain form only
 abbrev pub if_plain : Bool → List Text → List Text
 if_plain true ts = ts
 if_plain false ts = []
@@ -80,7 +80,7 @@ texts_of b include_hash (Literal part) = some_or [] (string_of (bytes_in b part)
 texts_of b include_hash (Binder n m) = binder_texts m n
 texts_of b include_hash (BindingName a) = name_pieces (name_in b a) ++ codes " = " ∷ []
 
--- how many looks are left for printing it
+-- how many looks are left to print a token
 abbrev pub looks_later : Stretch → ℕ
 looks_later (CrateName a d) = name_size a
 looks_later (FieldName a) = name_size a
@@ -90,13 +90,13 @@ looks_later (Literal part) = part.to - part.from
 looks_later (BindingName a) = name_size a
 looks_later _ = 0
 
--- Words.
+-- Reading tokens.
 
 abbrev pub read_stretch : WordRead → Stretch
 read_stretch (Goes x j) = x
 read_stretch (Stops m) = Fixed m
 
--- what was read, and what may be looked at for it
+-- the result of reading a token, and the looks that are allowed for it
 pub record Group : Type 0 where
   pub reads : WordRead
   pub costs : List ℕ
@@ -110,7 +110,7 @@ faulty = record { reads = Stops mark.Invalid; costs = [] }
 abbrev pub with_cost : ℕ → Group → Group
 with_cost k g = record { reads = g.reads; costs = k ∷ g.costs }
 
--- a word at i, and how it goes on
+-- a primitive at i, and the result after it
 abbrev pub behind_word : {A : Type 0} → ℕ → ℕ → Read A → (A → ℕ → Group) → Group
 behind_word n i None f = with_cost (4 * (n - i + 1)) faulty
 behind_word n i (Some r) f = with_cost (4 * (r.1 - i + 1)) (f r.0 r.1)
@@ -118,7 +118,7 @@ behind_word n i (Some r) f = with_cost (4 * (r.1 - i + 1)) (f r.0 r.1)
 abbrev pub byte_group : Bool → Group → Group → Group
 byte_group c g h = with_cost 1 (if c then g else h)
 
--- a name behind a disambiguator
+-- a name after a disambiguator
 abbrev pub named_group : List ℕ → ℕ → (Ident → ℕ → Stretch) → Group
 named_group b i f = behind_word (length b) i (optional_at 115 b i) (λ d j. behind_word (length b) j (ident_at b j) (λ a k. goes (f a d) (Some k)))
 
@@ -134,7 +134,7 @@ field_group b i = named_group b i (λ a d. FieldName a)
 abbrev pub binding_group : List ℕ → ℕ → Group
 binding_group b i = behind_word (length b) i (ident_at b i) (λ a j. goes (BindingName a) (Some j))
 
--- a lifetime is checked where it is handed over
+-- a lifetime is checked only if it is printed
 abbrev pub if_in_force : Bool → ℕ → ℕ → ℕ → Stretch → Stretch → Group
 if_in_force false lifetimes k j named fault = goes Nothing (Some j)
 if_in_force true lifetimes k j named fault = if nat_le k lifetimes then goes named (Some j) else goes fault None
@@ -198,7 +198,7 @@ word_at b word.Bool tag out lifetimes i = bool_group b i
 word_at b word.Character tag out lifetimes i = character_group b i
 word_at b word.Literal tag out lifetimes i = literal_group b i
 
--- where the reading has failed
+-- the result after an error
 abbrev pub word_failed : Word → WordRead
 word_failed word.DynLifetime = Stops mark.Invalid
 word_failed word.FunctionHead = Goes (FunctionHead false abi.Rust) None

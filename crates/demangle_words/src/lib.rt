@@ -1,5 +1,5 @@
-//! The tokens of v0 symbols (RFC 2603) and their fixed texts: how a token is read, where a back
-//! reference leads, and how a token is printed.
+//! The tokens of v0 symbols (RFC 2603) and their fixed texts: how tokens and back references are
+//! read, and how a token is printed.
 #![tactic(auto)]
 
 pub mod output;

@@ -1,4 +1,4 @@
-//! Where the parser sends its tokens: a sink, or nowhere.
+//! The outputs to which the parser sends its tokens: a sink, or none.
 ghost use Rattle.std.specs.Prelude.{◌≡◌, ◌+◌, ◌≤◌, ℕ, List, Bool, Result, true, false, IsAscii, IsOk, OnOk};
 ghost use Rattle.demangle_words.specs.WordReads.{texts_of, looks_later};
 ghost use Rattle.demangle_sink.specs.Limit.{Prints, Ready};

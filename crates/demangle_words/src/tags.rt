@@ -1,9 +1,9 @@
-//! What begins with a tag.
+//! The tags, and the kinds of paths, types, constants, variants and patterns that they begin.
 ghost use Rattle.std.specs.Prelude.{◌≡◌};
 ghost use Rattle.demangle_words.specs.Texts.{found};
 ghost use Rattle.demangle_words.specs.Tags.{path_kinds, type_kinds, constant_kinds, variant_kinds, pattern_kinds};
 
-/// What begins with the tag of a path.
+/// The kind of a path.
 #[derive(Clone, Copy)]
 pub enum PathKind {
     CrateRoot,
@@ -15,7 +15,7 @@ pub enum PathKind {
     Reference,
 }
 
-/// Which path begins with a tag.
+/// Returns the kind of the path that begins with a tag, or `None` if no path does.
 #[inline(always)]
 pub fn path_kind(tag: u8) -> Option<PathKind>
     ensures { result ≡ found tag path_kinds }
@@ -32,7 +32,7 @@ pub fn path_kind(tag: u8) -> Option<PathKind>
     }
 }
 
-/// What begins with the tag of a type that is no basic one.
+/// The kind of a type that is not basic.
 #[derive(Clone, Copy)]
 pub enum TypeKind {
     SharedReference,
@@ -40,7 +40,7 @@ pub enum TypeKind {
     Constructed(ConstructedType),
 }
 
-/// A type that is made of others, and no reference.
+/// A type that consists of other types and is not a reference type.
 #[derive(Clone, Copy)]
 pub enum ConstructedType {
     ConstPointer,
@@ -54,7 +54,8 @@ pub enum ConstructedType {
     Pattern,
 }
 
-/// Which type begins with a tag, that is no basic type.
+/// Returns the kind of the type that begins with a tag. The result is `None` for any other tag, such
+/// as that of a basic type or a path.
 #[inline(always)]
 pub fn type_kind(tag: u8) -> Option<TypeKind>
     ensures { result ≡ found tag (type_kinds tag) }
@@ -76,7 +77,7 @@ pub fn type_kind(tag: u8) -> Option<TypeKind>
     Some(TypeKind::Constructed(constructed))
 }
 
-/// What begins with the tag of a constant.
+/// The kind of a constant.
 #[derive(Clone, Copy)]
 pub enum ConstantKind {
     Placeholder,
@@ -93,7 +94,7 @@ pub enum ConstantKind {
     Reference,
 }
 
-/// Which constant begins with a tag.
+/// Returns the kind of the constant that begins with a tag, or `None` if no constant does.
 #[inline(always)]
 pub fn constant_kind(tag: u8) -> Option<ConstantKind>
     ensures { result ≡ found tag constant_kinds }
@@ -115,7 +116,7 @@ pub fn constant_kind(tag: u8) -> Option<ConstantKind>
     }
 }
 
-/// What a variant holds.
+/// The kind of a variant, by its fields.
 #[derive(Clone, Copy)]
 pub enum VariantKind {
     Unit,
@@ -123,7 +124,7 @@ pub enum VariantKind {
     Fields,
 }
 
-/// Which fields of a variant begin with a tag.
+/// Returns the kind of a variant by the tag of its fields, or `None` if no fields have this tag.
 #[inline(always)]
 pub fn variant_kind(tag: u8) -> Option<VariantKind>
     ensures { result ≡ found tag variant_kinds }
@@ -136,7 +137,7 @@ pub fn variant_kind(tag: u8) -> Option<VariantKind>
     }
 }
 
-/// What begins with the tag of a pattern.
+/// The kind of a pattern.
 #[derive(Clone, Copy)]
 pub enum PatternKind {
     Range,
@@ -144,7 +145,7 @@ pub enum PatternKind {
     NotNull,
 }
 
-/// Which pattern begins with a tag.
+/// Returns the kind of the pattern that begins with a tag, or `None` if no pattern does.
 #[inline(always)]
 pub fn pattern_kind(tag: u8) -> Option<PatternKind>
     ensures { result ≡ found tag pattern_kinds }

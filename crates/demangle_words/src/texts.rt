@@ -1,8 +1,8 @@
-//! The fixed texts of v0 symbols, and the words.
+//! The fixed texts of v0 symbols, and the kinds of tokens.
 ghost use Rattle.std.specs.Prelude.{◌≡◌};
 ghost use Rattle.demangle_words.specs.Texts.{text, found, basic_marks};
 
-/// The fixed texts.
+/// A fixed text, such as `, ` or `{invalid syntax}`.
 #[derive(Clone, Copy)]
 pub enum Mark {
     Invalid,
@@ -63,7 +63,7 @@ pub enum Mark {
     True,
 }
 
-/// The words.
+/// The kind of a token that is read from a symbol.
 #[derive(Clone, Copy)]
 pub enum Word {
     FieldName,
@@ -77,7 +77,7 @@ pub enum Word {
     Literal,
 }
 
-/// The text of a mark.
+/// Returns the characters of a fixed text.
 #[inline(always)]
 pub fn text(mark: Mark) -> &'static str
     ensures { result.now ≡ text mark }
@@ -142,7 +142,7 @@ pub fn text(mark: Mark) -> &'static str
     }
 }
 
-/// The text of a basic type.
+/// Returns the text of the basic type with this tag, or `None` if there is no such type.
 pub fn basic_mark(tag: u8) -> Option<Mark>
     ensures { result ≡ found tag basic_marks }
 {

@@ -1,4 +1,4 @@
-//! Binders: lifetimes that a function type or dyn traits bring into force.
+//! Binders: lifetimes that a function type or dyn traits bring into scope.
 ghost use Rattle.std.specs.Prelude.{◌≡◌, ◌^◌, ◌<◌, ◌≤◌, IsOk, OnOk, false};
 ghost use Rattle.demangle_grammar.specs.Binders.{binder_texts};
 ghost use Rattle.demangle_v0.specs.Parsers.{MayPrint, binding};
@@ -10,7 +10,7 @@ use demangle_words::output::Output;
 use demangle_words::stretch::Stretch;
 
 impl<const N: usize> Parser<'_, N> {
-    /// Brings `number` further lifetimes into force, and prints them.
+    /// Brings `number` further lifetimes into scope, and prints them.
     ///
     /// Fails if the output does.
     #[inline(always)]

@@ -97,7 +97,7 @@ impl<const N: usize> Parser<'_, N> {
         list.element()
     }
 
-    /// Starts the second element of a tuple, or leaves the comma that follows a single element.
+    /// Starts the second element of a tuple, or queues the comma that follows a single element.
     #[inline(always)]
     pub(super) fn second_tuple_constant(&mut self) -> Point
         requires may { MayGo Point.SecondTupleConstant self.old }

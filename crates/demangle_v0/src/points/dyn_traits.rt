@@ -17,8 +17,8 @@ impl<const N: usize> Parser<'_, N> {
         requires may { MayGo Point.DynBinder self.old }
         ensures did { WentRest dyn_type 5 4 5 self.old (Ok result) self.new }
     {
-        // The lifetime of the type follows the traits, outside their binder: the frame has the
-        // lifetimes that are in force without it.
+        // The lifetime of the type follows the traits, outside their binder. So the frame has only
+        // the lifetimes that are in scope without it.
         self.push(Point::DynLifetime);
         self.put(Mark::Dyn);
         Point::DynBinder

@@ -8,7 +8,7 @@ use crate::points::Point;
 use crate::points::parser::Parser;
 use demangle_words::texts::Mark;
 
-/// What such a continuation does.
+/// A fixed text to queue, and what follows it.
 #[derive(Clone, Copy)]
 pub struct Left {
     /// The text that it queues.
@@ -19,7 +19,7 @@ pub struct Left {
     in_value: bool,
 }
 
-/// Returns what `point` does, or `None` if it does more than queue a fixed text.
+/// Returns what `point` queues, or `None` if it does more than queue a fixed text.
 #[inline(always)]
 fn left_at(point: Point) -> Option<Left>
     ensures { result ≡ left_at point }

@@ -8,7 +8,7 @@ use crate::points::{Point, State};
 use demangle_symbol::cursor::MAX_DEPTH;
 use demangle_words::output::Silent;
 
-/// A checkpoint: where a parse continues, in a symbol and above frames that are kept elsewhere.
+/// A checkpoint: a continuation and its state. The symbol and the frames are kept elsewhere.
 #[derive(Clone, Copy)]
 pub struct Reading {
     pub point: Point,
@@ -16,7 +16,7 @@ pub struct Reading {
 }
 
 impl State {
-    /// Returns the state in which the path at a place begins.
+    /// Returns the checkpoint before the path at a place.
     #[inline(always)]
     pub(super) fn at_path(place: usize) -> Self
         ensures { result ≡ first_state place }
@@ -40,7 +40,7 @@ pub enum Halt {
     Over,
     /// The stack is full.
     Full,
-    /// The symbol has a syntax error there.
+    /// The parser found an error.
     Failed,
 }
 
@@ -54,7 +54,7 @@ impl<const N: usize> Parser<'_, N> {
         self.state = State::at_path(place);
     }
 
-    /// Returns the place at which the parser is, unless it found a syntax error.
+    /// Returns the place of the next byte, or `None` after an error.
     #[inline(always)]
     pub(crate) fn place(&self) -> Option<usize>
         ensures { result ≡ self.now.state.place }

@@ -1,4 +1,4 @@
-//! Back references, which point to a path, type or constant before them.
+//! Back references, whose target is a path, type or constant before them.
 ghost use Rattle.std.specs.Prelude.{Ok};
 ghost use Rattle.demangle_v0.specs.Parsers.{Followed, MayGo, Went};
 
@@ -11,8 +11,8 @@ use demangle_words::reference::{Reference, refer};
 impl<const N: usize> Parser<'_, N> {
     /// Reads a back reference after its `B`, and continues at its target if `output` prints.
     ///
-    /// `unit` is the continuation at which the target begins. The frame on top of the stack then
-    /// says where the reference ends.
+    /// `unit` is the continuation at which the target begins. The frame on top of the stack then has
+    /// the place after the reference.
     #[inline(always)]
     pub(super) fn follow_backref<V: Output>(
         &mut self,

@@ -1,4 +1,4 @@
-//! Steps: what is done at a continuation, the fixed text that it leaves, and what is next.
+//! Steps: each runs a continuation, prints the fixed text that it queued, and returns what is next.
 ghost use Rattle.std.specs.Prelude.{◌≡◌, ◌+◌, ◌≤◌, true, false, IfSome, IfNone, IsOk, OnOk, length, IsAscii};
 ghost use Rattle.demangle_v0.specs.Impls.{is_skip};
 ghost use Rattle.demangle_v0.specs.Parsers.{May, Same, env_of, restated, turn_of};
@@ -13,7 +13,7 @@ use demangle_words::output::Output;
 use demangle_words::stretch::Stretch;
 
 impl State {
-    /// Restores what a frame keeps.
+    /// Restores the state that a frame saved.
     #[inline(always)]
     fn resume(&mut self, frame: Frame)
         ensures { self.new ≡ resumed_of self.old frame }
@@ -26,7 +26,7 @@ impl State {
 }
 
 impl<const N: usize> Parser<'_, N> {
-    /// Prints the fixed text that a continuation left, if there is one.
+    /// Prints the fixed text that a continuation queued, if there is one.
     #[inline(always)]
     fn flush_pending_text<V: Output>(&mut self, output: &mut V) -> Result<(), SinkRefused>
         requires ascii { V.is_printed ≡ true → IsAscii self.old.source.symbol.now }
@@ -48,10 +48,10 @@ impl<const N: usize> Parser<'_, N> {
         }
     }
 
-    /// Reads and prints what a continuation says, and prints the fixed text that it left. Returns the
-    /// next continuation.
+    /// Runs a continuation, which may read and print a token, and prints the fixed text that it
+    /// queued. Returns the next continuation.
     ///
-    /// Fails if the output refuses a piece. An output that prints never gets an impl path, which is
+    /// Fails if the output does. A parse that prints never runs an impl path here, because that is
     /// not printed.
     #[inline(always)]
     pub(crate) fn step<V: Output>(

@@ -11,7 +11,7 @@ use demangle_words::tags::{VariantKind, variant_kind};
 use demangle_words::texts::{Mark, Word};
 
 impl<const N: usize> Parser<'_, N> {
-    /// Ends a variant without fields, and leaves its closing brace outside value position.
+    /// Ends a variant without fields, and queues its closing brace outside value position.
     #[inline(always)]
     fn unit_variant(&mut self) -> Point
         requires unmarked { self.old.state.mark ≡ None }
@@ -26,7 +26,7 @@ impl<const N: usize> Parser<'_, N> {
         Point::End
     }
 
-    /// Leaves the text that opens a variant's fields, and returns `fields`.
+    /// Queues the text that opens a variant's fields, and returns `fields`.
     ///
     /// Outside value position it also pushes a frame for the variant's closing brace.
     #[inline(always)]

@@ -1,4 +1,4 @@
-//! Symbols behind their prefix, with what they print with the hash and without it.
+//! Symbols without their prefix, with their texts with the hash and without it.
 
 pub const CONSTANTS: &[(&str, &str, &str)] = &[
     ("IC1aL_uKpE", "a::<'_, (), _>", "a::<'_, (), _>"),
