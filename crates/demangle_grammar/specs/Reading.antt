@@ -91,7 +91,7 @@ abbrev pub followed_by : Outcome → (Place → Outcome) → Outcome
 followed_by o rest = behind (node o.tree) (rest o.place)
 
 -- How the productions of one depth are read. The arguments are: whether to print, the kind, the value position, the lifetimes
--- in scope, and the place. References are followed and lifetimes are checked only to print.
+-- in scope, and the place. References are followed and lifetimes checked only when printing.
 abbrev pub Level : Type 0
 Level = Bool → Kind → Bool → ℕ → ℕ → Outcome
 

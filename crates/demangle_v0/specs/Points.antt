@@ -433,7 +433,7 @@ pub record Does {V : Type 0} (env : Env V) (before : Turn V) (part : Part) (resu
 abbrev pub whole : {V : Type 0} → Env V → Point → State → Part
 whole env p s = part (words_at p) (unit_rest_of env.symbol env.include_hash env.output.is_printed p s) (weight_at p) (height_at p s.depth_left)
 
--- these remaining items of a production; `above` is the most frames that they add at their own depth
+-- these remaining items of a production, with the most primitives to read, their weight, and the most frames that they add
 abbrev pub rest : {V : Type 0} → Env V → Items → ℕ → ℕ → ℕ → State → Part
 rest env items words weight above s = part words (none_open (of env.include_hash env.output.is_printed (run items (around env.symbol env.output.is_printed s.depth_left s.lifetimes) s.place))) weight (8 * s.depth_left + above)
 
