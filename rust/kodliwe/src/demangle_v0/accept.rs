@@ -7,7 +7,7 @@ use crate::demangle_v0::points::parser::Parser;
 use crate::demangle_v0::points::read::Halt;
 
 impl Parser<'_, FULL_STACK> {
-    /// Reads the rest. Returns where it ends.
+    /// Reads the rest. Returns the place after it, or `None` after an error.
     #[inline(always)]
     fn read_to_end(&mut self) -> Option<usize> {
         match self.read_steps(0) {
@@ -19,7 +19,8 @@ impl Parser<'_, FULL_STACK> {
 }
 
 impl Parser<'_, MIDDLE_STACK> {
-    /// Reads the rest in a stack with room for every frame. Returns where it ends.
+    /// Reads the rest in a stack with room for every frame. Returns the place after it, or `None`
+    /// after an error.
     #[inline(never)]
     fn read_in_full_stack(&mut self) -> Option<usize> {
         let mut parser: Parser<FULL_STACK> = self.without_frames();
@@ -29,7 +30,8 @@ impl Parser<'_, MIDDLE_STACK> {
         end
     }
 
-    /// Reads the rest, in the largest stack if this one is full. Returns where it ends.
+    /// Reads the rest, in the largest stack if this one is full. Returns the place after it, or
+    /// `None` after an error.
     #[inline(always)]
     fn read_to_end(&mut self) -> Option<usize> {
         match self.read_steps(0) {
@@ -41,8 +43,8 @@ impl Parser<'_, MIDDLE_STACK> {
 }
 
 impl Parser<'_, SHORT_STACK> {
-    /// Reads the rest in a larger stack, and if that is full too, in the largest. Returns where it
-    /// ends.
+    /// Reads the rest in a larger stack, and if that is full too, in the largest. Returns the place
+    /// after it, or `None` after an error.
     #[inline(never)]
     fn read_in_middle_stack(&mut self) -> Option<usize> {
         let mut parser: Parser<MIDDLE_STACK> = self.without_frames();
@@ -52,7 +54,8 @@ impl Parser<'_, SHORT_STACK> {
         end
     }
 
-    /// Reads the path at a place, above no frames. Returns where it ends, and leaves no frames then.
+    /// Reads the path at a place, with no frames on the stack. Returns the place after it, and then
+    /// leaves no frames. Returns `None` after an error.
     fn path_end(&mut self, place: usize) -> Option<usize> {
         self.start_path(place);
         match self.read_steps(0) {
@@ -66,7 +69,8 @@ impl Parser<'_, SHORT_STACK> {
         }
     }
 
-    /// Reads one path or two. Returns where the suffix after them begins.
+    /// Reads one path or two. Returns the place of the suffix after them, or `None` after an
+    /// error.
     fn suffix(&mut self) -> Option<usize> {
         let Some(end) = self.path_end(0) else {
             return None;
@@ -80,7 +84,7 @@ impl Parser<'_, SHORT_STACK> {
     }
 }
 
-/// Returns where the suffix begins, after one path or two, if they have no syntax error.
+/// Returns the place of the suffix after one path or two, or `None` if they have an error.
 pub fn suffix_at(symbol: &Symbol<'_>, looks: &mut Looks) -> Option<usize> {
     let mut parser: Parser<SHORT_STACK> = Parser::at_path(symbol, true, 0, looks);
     let end = parser.suffix();
@@ -88,7 +92,7 @@ pub fn suffix_at(symbol: &Symbol<'_>, looks: &mut Looks) -> Option<usize> {
     end
 }
 
-/// Returns whether a path begins at a place.
+/// Returns `true` if a path begins at a place.
 pub fn begins_path(symbol: &Symbol<'_>, place: usize, looks: &mut Looks) -> bool {
     match symbol.byte(place, looks) {
         Some(b'A'..=b'Z') => true,

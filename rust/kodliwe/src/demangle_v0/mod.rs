@@ -14,7 +14,7 @@ mod value;
 
 pub use value::Demangle;
 
-/// Returns what is after the prefix of a v0 symbol.
+/// Returns the text after the prefix of a v0 symbol, or `None` without such a prefix.
 fn inner_of(s: &str) -> Option<&str> {
     if let Some(inner) = s.strip_prefix("_R") {
         return Some(inner);
@@ -27,8 +27,8 @@ fn inner_of(s: &str) -> Option<&str> {
     s.strip_prefix("__R")
 }
 
-/// Returns the text as a symbol, if it is ASCII and has a prefix of the v0 scheme. No path is read:
-/// the first one prints up to its first syntax error.
+/// Returns the text as a symbol, if it is ASCII and has a prefix of the v0 scheme. Otherwise it
+/// returns `None`. No path is read: the first one prints up to its first syntax error.
 pub fn ascii_symbol<'s>(s: &'s str, looks: &mut Looks) -> Option<Demangle<'s>> {
     let text = Symbol::new(s);
     if !text.is_ascii(looks) {
@@ -40,8 +40,8 @@ pub fn ascii_symbol<'s>(s: &'s str, looks: &mut Looks) -> Option<Demangle<'s>> {
     }
 }
 
-/// Returns what is after the prefix of a v0 symbol, if it is ASCII. It is not tested if the text is
-/// known to be ASCII.
+/// Returns the text after the prefix of a v0 symbol, if it is ASCII, and otherwise `None`. This is
+/// not tested if `is_ascii` says that the text is known to be ASCII.
 fn ascii_inner_of<'s>(s: &'s str, is_ascii: bool, looks: &mut Looks) -> Option<&'s str> {
     let Some(inner) = inner_of(s) else {
         return None;
@@ -55,8 +55,10 @@ fn ascii_inner_of<'s>(s: &'s str, is_ascii: bool, looks: &mut Looks) -> Option<&
     Some(inner)
 }
 
-/// Reads a v0 symbol. Returns the symbol and the suffix after its paths. `is_ascii` says that the text
-/// is known to be ASCII.
+/// Reads a v0 symbol. Returns the symbol and the suffix after its paths. `is_ascii` says that the
+/// text is known to be ASCII.
+///
+/// Fails if the prefix is missing, the text is not ASCII, or a path is missing or has an error.
 pub fn demangle<'s>(
     s: &'s str,
     is_ascii: bool,

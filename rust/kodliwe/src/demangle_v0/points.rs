@@ -47,80 +47,141 @@ pub enum Point {
     InherentPath,
     /// The path of a trait impl. It is parsed but not printed.
     ImplPath,
-    /// The production is complete. The frame on top of the stack says what follows.
+    /// The production is complete. The frame on top of the stack has what follows.
     End,
     // path
     Path,
+    /// The name of a nested path, after the path that it is in.
     Nested,
+    /// The `<` and the self type of an inherent impl.
     InherentType,
+    /// The `<` and the self type before a trait.
     SelfType,
+    /// The ` as ` and the trait after a self type.
     As,
+    /// A `>`, with which a path ends.
     CloseAngle,
+    /// The generic arguments of a path, with `::` before them in value position.
     Generic,
+    /// The `<` before generic arguments.
     OpenArguments,
+    /// The first generic argument, or the end of the list.
     FirstArgument,
+    /// A further generic argument, or the end of the list.
     NextArgument,
+    /// A lifetime that is a generic argument, after its `L`.
     Lifetime,
     // type
     Type,
+    /// A type after its `w` (`#[splat]`).
     TaggedType,
+    /// The `; ` and the length of an array type.
     ArrayLength,
+    /// A `]`, with which a type ends.
     CloseBracket,
+    /// The first type of a tuple, or the end of the tuple.
     FirstTupleType,
+    /// The second type of a tuple, or the end of the tuple after one type.
     SecondTupleType,
+    /// A further type of a tuple, or the end of the tuple.
     NextTupleType,
+    /// A `)`, with which a tuple type or constant ends.
     CloseParen,
+    /// The lifetime of a `&` type, after its `L`.
     ReferenceLifetime,
+    /// The lifetime of a `&mut` type, after its `L`.
     MutReferenceLifetime,
+    /// The `mut ` and the type of a reference or pointer.
     Mut,
+    /// The `const ` and the type of a pointer.
     Const,
+    /// The ` is ` and the pattern of a pattern type.
     PatternIs,
     // fn-sig
+    /// `unsafe` and the ABI.
     FunctionHead,
+    /// The `fn(` before the parameters.
     OpenParameters,
+    /// The first parameter, or the end of the parameters.
     FirstParameter,
+    /// A further parameter, or the end of the parameters.
     NextParameter,
+    /// The return type, if it is not `()`.
     Returns,
     // dyn-bounds
+    /// The binder of dyn traits. The traits follow.
     DynBinder,
+    /// The first dyn trait, or the end of the traits.
     FirstDynTrait,
+    /// A further dyn trait, or the end of the traits.
     NextDynTrait,
+    /// The path of a dyn trait.
     TraitPath,
+    /// The `<` before the arguments of a dyn trait path.
     OpenTraitPath,
+    /// The first argument of a dyn trait path, or the end of the arguments.
     FirstOpenArgument,
+    /// A further argument of a dyn trait path, or the end of the arguments.
     NextOpenArgument,
+    /// Associated type bindings, such as `Item = u8`.
     Bindings,
+    /// Further bindings. The `<` is open.
     OpenBindings,
+    /// The name of a binding, after its `p`.
     BindingName,
-    /// What a binding binds.
+    /// The value of a binding.
     Bound,
+    /// The lifetime of a dyn type, after its traits.
     DynLifetime,
     // pattern
     Pattern,
+    /// The `..=` and the end of a range.
     RangeEnd,
+    /// A further alternative of a pattern, or the end of the pattern.
     NextPattern,
     // const
     Constant,
+    /// The nibbles of a number, whose type tag is the letter of the state.
     Number,
+    /// The `*` before a string.
     TextConstant,
+    /// The nibbles of a string.
     Literal,
+    /// The `&` and the constant of a reference.
     ReferenceConstant,
+    /// The `&` before `mut ` and the constant of a reference.
     MutReferenceConstant,
+    /// The `mut ` and the constant of a reference.
     MutableConstant,
+    /// The `[` of an array.
     ArrayConstant,
+    /// The first element of an array, or its end.
     FirstArrayConstant,
+    /// A further element of an array, or its end.
     NextArrayConstant,
+    /// The `(` of a tuple.
     TupleConstant,
+    /// The first element of a tuple, or its end.
     FirstTupleConstant,
+    /// The second element of a tuple, or its end after one element.
     SecondTupleConstant,
+    /// A further element of a tuple, or its end.
     NextTupleConstant,
+    /// The fields of a variant, after its path.
     Variant,
+    /// The first unnamed field of a variant, or the end of its fields.
     FirstVariantConstant,
+    /// A further unnamed field of a variant, or the end of its fields.
     NextVariantConstant,
+    /// The first named field of a variant, or the end of its fields.
     FirstField,
+    /// A further named field of a variant, or the end of its fields.
     NextField,
+    /// The name of a field. Its value follows.
     Field,
+    /// The `: ` and the value of a field.
     FieldColon,
+    /// A `}`, with which a constant ends.
     CloseBrace,
     /// The target of a back reference is complete. Parsing continues after the reference.
     AfterBackref,

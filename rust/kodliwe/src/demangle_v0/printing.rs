@@ -8,20 +8,20 @@ use crate::demangle_v0::points::parser::Parser;
 use crate::demangle_v0::points::read::Reading;
 use crate::demangle_v0::points::skip::is_skipped;
 
-/// What is left to print when the stack is full.
+/// The rest that is left to print when the stack is full.
 #[derive(Clone, Copy)]
 pub enum Left {
-    /// What the parser and its frames say.
+    /// The rest is that of the parser and its frames.
     Stack,
-    /// The same, which is an impl path above that many frames; after it printing continues at the
-    /// checkpoint.
+    /// The same, and the parser is in an impl path, which began above that many frames. After the
+    /// path, printing continues at the checkpoint.
     OwnPath(usize, Reading),
 }
 
 impl<const N: usize> Parser<'_, N> {
     /// Prints until nothing is left or the stack is full.
     ///
-    /// Fails at the first piece that the limit or the sink refuses.
+    /// Fails at the first piece that the limit or the sink rejects.
     #[inline(never)]
     fn print_steps<S: TextSink>(
         &mut self,
@@ -49,9 +49,9 @@ impl<const N: usize> Parser<'_, N> {
         Ok(Some(Left::Stack))
     }
 
-    /// Prints what is left until nothing is or the stack is full.
+    /// Prints what is left until nothing is left or the stack is full.
     ///
-    /// Fails at the first piece that the limit or the sink refuses.
+    /// Fails at the first piece that the limit or the sink rejects.
     fn print_unfinished<S: TextSink>(
         &mut self,
         left: Left,
@@ -66,6 +66,8 @@ impl<const N: usize> Parser<'_, N> {
 
 impl Parser<'_, MIDDLE_STACK> {
     /// Prints what is left in a stack with room for every frame.
+    ///
+    /// Fails at the first piece that the limit or the sink rejects.
     #[inline(never)]
     fn print_in_full_stack<S: TextSink>(
         &mut self,
@@ -81,6 +83,8 @@ impl Parser<'_, MIDDLE_STACK> {
     }
 
     /// Prints what is left, in the largest stack if this one is full.
+    ///
+    /// Fails at the first piece that the limit or the sink rejects.
     #[inline(always)]
     fn print_to_end<S: TextSink>(
         &mut self,
@@ -96,6 +100,8 @@ impl Parser<'_, MIDDLE_STACK> {
 
 impl Parser<'_, SHORT_STACK> {
     /// Prints what is left in a larger stack, and if that is full too, in the largest.
+    ///
+    /// Fails at the first piece that the limit or the sink rejects.
     #[inline(never)]
     fn print_in_middle_stack<S: TextSink>(
         &mut self,
@@ -111,7 +117,7 @@ impl Parser<'_, SHORT_STACK> {
 
     /// Prints until nothing is left, in larger stacks if this one is full.
     ///
-    /// Fails at the first piece that the limit or the sink refuses.
+    /// Fails at the first piece that the limit or the sink rejects.
     #[inline(always)]
     pub(crate) fn print_path<S: TextSink>(
         &mut self,

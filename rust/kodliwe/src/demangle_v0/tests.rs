@@ -1,5 +1,5 @@
 // Made from crates/demangle_v0/src/tests.rt by packaging/crate/erase.py: edit that file instead.
-//! What each step prints.
+//! Tests of the texts that each step prints.
 
 use crate::demangle_sink::{ArraySink, SinkRefused, SizeLimitedFmtAdapter, TextSink};
 use crate::demangle_symbol::cursor::{Looks, Symbol};
@@ -18,7 +18,7 @@ use crate::support::vec_in as vec;
 
 mod rows;
 
-/// Keeps the text that it took, and counts the pieces that are not empty.
+/// A sink that stores its text, and counts the pieces that are not empty.
 struct CountingSink {
     text: ArraySink<131072>,
     pieces: usize,
@@ -46,7 +46,7 @@ impl TextSink for CountingSink {
     }
 }
 
-/// Prints into a counting sink, and counts the tokens that are not empty.
+/// An output that prints into a counting sink, and counts the tokens that are not empty.
 struct CountingVoice<'s> {
     out: SizeLimitedFmtAdapter<'s, CountingSink>,
     stretches: usize,
@@ -89,8 +89,9 @@ impl<'s> Output for CountingVoice<'s> {
     }
 }
 
-/// Returns whether a step that printed that many tokens, the last of them this one, may have added
-/// this text in that many pieces that are not empty.
+/// Returns whether one step may have added this text, in that many pieces that are not empty.
+///
+/// The step printed `stretches` tokens, the last of which is `last`.
 fn is_of_one_step(stretches: usize, last: Stretch, added: &str, pieces: usize) -> bool {
     if stretches > 1 {
         return false;
@@ -102,7 +103,7 @@ fn is_of_one_step(stretches: usize, last: Stretch, added: &str, pieces: usize) -
     }
 }
 
-/// Returns whether the steps of a printing print at most one token each, and this text together.
+/// Returns whether each step of a parse prints at most one token, and all steps print this text.
 fn steps_print(inner: &str, include_hash: bool, wanted: &str) -> bool {
     let symbol = Symbol::new(inner);
     let mut looks = Looks::new();
@@ -155,7 +156,7 @@ fn goes_on(parser: &mut Parser<'_, FULL_STACK>, sink: &mut CountingSink) -> Opti
     Some(false)
 }
 
-/// Returns whether the steps print each of these symbols so, in both forms.
+/// Returns whether the steps print the texts of each of these symbols, in both forms.
 fn all_step(rows: &[(&str, &str, &str)]) -> bool {
     for &(inner, include_hash, alt) in rows {
         if !steps_print(inner, true, include_hash) || !steps_print(inner, false, alt) {

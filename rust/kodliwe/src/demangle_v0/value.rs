@@ -19,7 +19,7 @@ impl<'s> Demangle<'s> {
 
     /// Prints the first path, with the hash or without it.
     ///
-    /// Fails at the first piece that the limit or the sink refuses.
+    /// Fails at the first piece that the limit or the sink rejects.
     pub fn write_to<S: TextSink>(
         &self,
         out: &mut SizeLimitedFmtAdapter<'_, S>,

@@ -1,6 +1,6 @@
 // Made from crates/demangle_words/src/lib.rt by packaging/crate/erase.py: edit that file instead.
-//! The tokens of v0 symbols (RFC 2603) and their fixed texts: how a token is read, where a back
-//! reference leads, and how a token is printed.
+//! The tokens of v0 symbols (RFC 2603) and their fixed texts: how tokens and back references are
+//! read, and how a token is printed.
 pub mod output;
 pub mod read;
 pub mod reference;

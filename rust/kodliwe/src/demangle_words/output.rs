@@ -1,5 +1,5 @@
 // Made from crates/demangle_words/src/output.rt by packaging/crate/erase.py: edit that file instead.
-//! Where the parser sends its tokens: a sink, or nowhere.
+//! The outputs to which the parser sends its tokens: a sink, or none.
 
 use crate::demangle_sink::{SinkRefused, SizeLimitedFmtAdapter, TextSink};
 use crate::demangle_symbol::cursor::Looks;

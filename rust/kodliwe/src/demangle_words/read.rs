@@ -33,6 +33,8 @@ pub struct TokenReader<'s> {
 
 impl TokenReader<'_> {
     /// Reads a token at a place, which is `None` after an error.
+    ///
+    /// Returns the token and the place after it, or the error text with which the production ends.
     #[inline(always)]
     pub fn read_word(&self, word: Word, place: Option<usize>, looks: &mut Looks) -> WordRead {
         let Some(at) = place else {
@@ -52,7 +54,7 @@ impl TokenReader<'_> {
     }
 }
 
-/// Returns what takes the place of a token after an error.
+/// Returns the outcome for a token that is not read, because there was an error before it.
 #[inline(always)]
 fn token_after_error(word: Word) -> WordRead {
     match word {

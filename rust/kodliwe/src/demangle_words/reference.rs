@@ -4,26 +4,30 @@
 use crate::demangle_symbol::cursor::{Looks, MAX_DEPTH, ParseError, Symbol};
 use crate::demangle_words::texts::Mark;
 
-/// Where a reference leads.
+/// The result of reading a back reference.
 #[derive(Clone, Copy)]
 pub enum Reference {
+    /// The reference is not followed. The production ends with this error text.
     Faulty(Mark),
-    /// To a target, and then behind the reference.
+    /// The place of the target, and the place after the reference.
     Target(usize, usize),
 }
 
-/// Reads where a reference leads, behind its `B`.
+/// Reads a back reference after its `B`. `left` is how many more levels of nesting are allowed.
+///
+/// Returns the places of its target and after it. If the reference is invalid, if no level is left,
+/// or after an error, it returns the error text.
 #[inline(always)]
 pub fn refer(symbol: &Symbol<'_>, left: u16, place: Option<usize>, looks: &mut Looks) -> Reference {
     let Some(at) = place else {
         return Reference::Faulty(Mark::AfterError);
     };
-    // No `B` stands in front of the symbol.
+    // No `B` is before the symbol's first byte.
     if at == 0 {
         return Reference::Faulty(Mark::Invalid);
     }
-    // What is left of the depth is never more than all of it: the difference ends at 0 so that no
-    // caller has to show that.
+    // The remaining depth is never more than the whole depth. The difference saturates at 0 so that
+    // no caller has to show that.
     let depth = MAX_DEPTH.saturating_sub(u32::from(left));
     match symbol.backref(at, depth, looks) {
         Ok((target, behind)) => Reference::Target(target, behind),

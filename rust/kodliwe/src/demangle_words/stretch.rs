@@ -1,40 +1,53 @@
 // Made from crates/demangle_words/src/stretch.rt by packaging/crate/erase.py: edit that file instead.
-//! What one step hands over, but for a mark.
+//! Tokens: what a step prints at once, if it is not a pending text.
 use crate::demangle_symbol::cursor::{Ident, Part};
 use crate::demangle_words::texts::Mark;
 
 /// The ABI of a function type.
 #[derive(Clone, Copy)]
 pub enum Abi {
+    /// The ABI of Rust. It is not printed.
     Rust,
+    /// The ABI of C.
     C,
+    /// The ABI with this name.
     Named(Part),
 }
 
-/// What one step hands over: the pieces of one text, word, literal or binder.
+/// A token: the pieces of one text, primitive, literal or binder, which a step prints at once.
 #[derive(Clone, Copy)]
 pub enum Stretch {
+    /// A token without text.
     Nothing,
+    /// A fixed text.
     Fixed(Mark),
     /// The name of a crate, and its disambiguator.
     CrateName(Ident, u64),
+    /// The name of a field.
     FieldName(Ident),
-    /// A name in a namespace, and its disambiguator.
+    /// The letter of a namespace, a disambiguator, and the name in the namespace.
     NestedName(u8, u64, Ident),
+    /// A name after an error: `::?`.
     NestedAfterError,
-    /// The number of a lifetime, if it has one.
+    /// A lifetime, with its number if it has one.
     Lifetime(Option<u128>),
+    /// A lifetime that is not in scope.
     LifetimeFault,
+    /// The number of a reference's lifetime, which is printed with a space after it.
     SpacedLifetime(u128),
+    /// A reference's lifetime that is not in scope.
     SpacedFault,
+    /// The number of a dyn type's lifetime, which is printed after ` + `.
     DynLifetime(u128),
+    /// A dyn type's lifetime that is not in scope.
     DynLifetimeFault,
     /// Whether a function is unsafe, and its ABI.
     FunctionHead(bool, Abi),
     /// The value of a number, if it has one, its nibbles and the tag of its type.
     Number(Option<u128>, Part, u8),
+    /// The value of a character constant.
     Character(char),
-    /// The nibbles of a text.
+    /// The nibbles of a string constant.
     Literal(Part),
     /// The number of the first new lifetime, and how many there are.
     Binder(u128, u64),

@@ -1,7 +1,7 @@
 // Made from crates/demangle_words/src/tags.rt by packaging/crate/erase.py: edit that file instead.
-//! What begins with a tag.
+//! The tags, and the kinds of paths, types, constants, variants and patterns that they begin.
 
-/// What begins with the tag of a path.
+/// The kind of a path.
 #[derive(Clone, Copy)]
 pub enum PathKind {
     CrateRoot,
@@ -13,7 +13,7 @@ pub enum PathKind {
     Reference,
 }
 
-/// Which path begins with a tag.
+/// Returns the kind of the path that begins with a tag, or `None` if no path does.
 #[inline(always)]
 pub fn path_kind(tag: u8) -> Option<PathKind> {
     match tag {
@@ -28,7 +28,7 @@ pub fn path_kind(tag: u8) -> Option<PathKind> {
     }
 }
 
-/// What begins with the tag of a type that is no basic one.
+/// The kind of a type that is not basic.
 #[derive(Clone, Copy)]
 pub enum TypeKind {
     SharedReference,
@@ -36,7 +36,7 @@ pub enum TypeKind {
     Constructed(ConstructedType),
 }
 
-/// A type that is made of others, and no reference.
+/// A type that consists of other types and is not a reference type.
 #[derive(Clone, Copy)]
 pub enum ConstructedType {
     ConstPointer,
@@ -50,7 +50,8 @@ pub enum ConstructedType {
     Pattern,
 }
 
-/// Which type begins with a tag, that is no basic type.
+/// Returns the kind of the type that begins with a tag. The result is `None` for any other tag, such
+/// as that of a basic type or a path.
 #[inline(always)]
 pub fn type_kind(tag: u8) -> Option<TypeKind> {
     let constructed = match tag {
@@ -70,7 +71,7 @@ pub fn type_kind(tag: u8) -> Option<TypeKind> {
     Some(TypeKind::Constructed(constructed))
 }
 
-/// What begins with the tag of a constant.
+/// The kind of a constant.
 #[derive(Clone, Copy)]
 pub enum ConstantKind {
     Placeholder,
@@ -87,7 +88,7 @@ pub enum ConstantKind {
     Reference,
 }
 
-/// Which constant begins with a tag.
+/// Returns the kind of the constant that begins with a tag, or `None` if no constant does.
 #[inline(always)]
 pub fn constant_kind(tag: u8) -> Option<ConstantKind> {
     match tag {
@@ -107,7 +108,7 @@ pub fn constant_kind(tag: u8) -> Option<ConstantKind> {
     }
 }
 
-/// What a variant holds.
+/// The kind of a variant, by its fields.
 #[derive(Clone, Copy)]
 pub enum VariantKind {
     Unit,
@@ -115,7 +116,7 @@ pub enum VariantKind {
     Fields,
 }
 
-/// Which fields of a variant begin with a tag.
+/// Returns the kind of a variant by the tag of its fields, or `None` if no fields have this tag.
 #[inline(always)]
 pub fn variant_kind(tag: u8) -> Option<VariantKind> {
     match tag {
@@ -126,7 +127,7 @@ pub fn variant_kind(tag: u8) -> Option<VariantKind> {
     }
 }
 
-/// What begins with the tag of a pattern.
+/// The kind of a pattern.
 #[derive(Clone, Copy)]
 pub enum PatternKind {
     Range,
@@ -134,7 +135,7 @@ pub enum PatternKind {
     NotNull,
 }
 
-/// Which pattern begins with a tag.
+/// Returns the kind of the pattern that begins with a tag, or `None` if no pattern does.
 #[inline(always)]
 pub fn pattern_kind(tag: u8) -> Option<PatternKind> {
     match tag {

@@ -1,7 +1,7 @@
 // Made from crates/demangle_words/src/texts.rt by packaging/crate/erase.py: edit that file instead.
-//! The fixed texts of v0 symbols, and the words.
+//! The fixed texts of v0 symbols, and the kinds of tokens.
 
-/// The fixed texts.
+/// A fixed text, such as `, ` or `{invalid syntax}`.
 #[derive(Clone, Copy)]
 pub enum Mark {
     Invalid,
@@ -62,7 +62,7 @@ pub enum Mark {
     True,
 }
 
-/// The words.
+/// The kind of a token that is read from a symbol.
 #[derive(Clone, Copy)]
 pub enum Word {
     FieldName,
@@ -76,7 +76,7 @@ pub enum Word {
     Literal,
 }
 
-/// The text of a mark.
+/// Returns the characters of a fixed text.
 #[inline(always)]
 pub fn text(mark: Mark) -> &'static str {
     match mark {
@@ -139,7 +139,7 @@ pub fn text(mark: Mark) -> &'static str {
     }
 }
 
-/// The text of a basic type.
+/// Returns the text of the basic type with this tag, or `None` if there is no such type.
 pub fn basic_mark(tag: u8) -> Option<Mark> {
     match tag {
         b'b' => Some(Mark::Bool),

@@ -1,12 +1,12 @@
 // Made from crates/rustc_demangle/src/display.rt by packaging/crate/erase.py: edit that file instead.
-//! How a demangled symbol is formatted.
+//! Formats a demangled symbol.
 
 use crate::demangle_sink::FmtSink;
 use crate::rustc_demangle::value::Demangle;
 use core::fmt;
 
-/// Prints with the hash, and under `{:#}` without it. Width, fill, sign and precision have no
-/// effect. It fails where the formatter refuses a piece.
+/// Prints with the hash, and with `{:#}` without it. Width, fill, sign and precision have no
+/// effect. Fails if the formatter rejects a piece.
 impl fmt::Display for Demangle<'_> {
     fn fmt(&self, f: &mut fmt::Formatter<'_>) -> fmt::Result {
         let include_hash = !f.alternate();
@@ -18,7 +18,7 @@ impl fmt::Display for Demangle<'_> {
     }
 }
 
-/// As `Display`, whatever the options.
+/// Prints as `Display` does, whatever the options.
 impl fmt::Debug for Demangle<'_> {
     fn fmt(&self, f: &mut fmt::Formatter<'_>) -> fmt::Result {
         fmt::Display::fmt(self, f)

@@ -1,5 +1,5 @@
 // Made from crates/rustc_demangle/src/lib.rt by packaging/crate/erase.py: edit that file instead.
-//! Demangling of Rust symbols.
+//! Demangles Rust symbols.
 
 mod display;
 pub mod laws;
@@ -24,30 +24,30 @@ use strip::without_thin_lto;
 pub use text::{demangle_text, demangle_text_limited};
 pub use value::{Demangle, write_with_path_len};
 
-/// The refusal of a text that is no Rust symbol.
+/// The error for a text that is not a Rust symbol.
 #[derive(Debug, Clone)]
 pub struct TryDemangleError {
     _priv: (),
 }
 
-/// Reads a text as a Rust symbol, in the legacy scheme or in v0 (Rust RFC 2603), and counts its
+/// Parses a text as a Rust symbol, in the legacy scheme or in v0 (Rust RFC 2603), and counts its
 /// looks.
 ///
-/// An ending that ThinLTO appended is taken off first. A text that is no symbol is kept as it is.
-/// It takes no memory.
+/// A suffix that ThinLTO appended is removed first. A text that is not a symbol is kept as it is.
+/// It does not allocate.
 pub fn demangle_counted<'a>(s: &'a str, looks: &mut Looks) -> Demangle<'a> {
     Demangle::read(without_thin_lto(s), false, looks)
 }
 
-/// Reads a text as a Rust symbol, in the legacy scheme or in v0 (Rust RFC 2603).
+/// Parses a text as a Rust symbol, in the legacy scheme or in v0 (Rust RFC 2603).
 ///
-/// An ending that ThinLTO appended is taken off first. A text that is no symbol is kept as it is.
-/// It takes no memory.
+/// A suffix that ThinLTO appended is removed first. A text that is not a symbol is kept as it is.
+/// It does not allocate.
 pub fn demangle(s: &str) -> Demangle<'_> {
     demangle_counted(s, &mut Looks::new())
 }
 
-/// Reads a text as a Rust symbol, or refuses it where it is none.
+/// Parses a text as a Rust symbol, as `demangle` does. Fails if it is not a symbol.
 pub fn try_demangle(s: &str) -> Result<Demangle<'_>, TryDemangleError> {
     let symbol = demangle(s);
     if symbol.has_style() {

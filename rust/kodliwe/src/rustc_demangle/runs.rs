@@ -1,21 +1,21 @@
 // Made from crates/rustc_demangle/src/runs.rt by packaging/crate/erase.py: edit that file instead.
-//! Where the runs of a text stand, which may be symbols.
+//! Finds the runs of a text. A run is a candidate symbol.
 
 use crate::support::memchr::memchr;
 use core::str;
 
-/// Whether a run begins here.
+/// Returns whether the text starts with a run's prefix.
 pub(crate) fn begins_run(text: &[u8]) -> bool {
     text.starts_with(b"_ZN") || text.starts_with(b"_R")
 }
 
-/// Whether a run may begin with these two bytes.
+/// Returns whether these two bytes may start a run.
 #[inline(always)]
 fn is_mark(first: u8, second: u8) -> bool {
     (first == b'_') & ((second == b'R') | (second == b'Z'))
 }
 
-/// Whether a run may begin in the group that begins here.
+/// Returns whether a run may start in the group of bytes at `from`.
 #[inline(always)]
 fn has_mark<const N: usize>(text: &[u8], from: usize) -> bool {
     let mut any = false;
@@ -25,7 +25,7 @@ fn has_mark<const N: usize>(text: &[u8], from: usize) -> bool {
     any
 }
 
-/// Where the whole groups end, from a place on, in which no run begins.
+/// Returns the end of the complete groups after `from` in which no run starts.
 #[inline(always)]
 fn unmarked_end<const N: usize>(text: &[u8], from: usize) -> usize {
     let mut at = from;
@@ -35,31 +35,33 @@ fn unmarked_end<const N: usize>(text: &[u8], from: usize) -> usize {
     at
 }
 
-/// Where the next run begins: the first place where `_ZN` or `_R` stands.
+/// Returns the offset of the next run: the first `_ZN` or `_R`. Returns `None` if the text contains
+/// neither.
 pub fn run_start(text: &[u8]) -> Option<usize> {
     let mut from = 0;
-    // Each beginning of a run has `_` in front, and a single byte is found many at a time.
+    // A run starts with `_`, and a search for a single byte is fast.
     while let Some(ahead) = memchr(b'_', &text[from..]) {
         let at = from + ahead;
         if begins_run(&text[at..]) {
             return Some(at);
         }
-        // Of a text with many `_` whole groups are passed by vectors, and not each `_` by itself.
+        // A text with many `_` is skipped in complete groups with vector instructions, and not one
+        // `_` at a time.
         from = unmarked_end::<32>(text, at + 1);
     }
     None
 }
 
-/// Whether a run may have this byte.
+/// Returns whether this is a run byte.
 #[inline(always)]
 fn is_run(byte: u8) -> bool {
     (byte == b'$') | (byte == b'.') | (byte == b'_') | byte.is_ascii_alphanumeric()
 }
 
-/// Whether a run may have each byte of the group that begins here.
+/// Returns whether the group at `from` has only run bytes.
 #[inline(always)]
 fn is_run_group<const N: usize>(text: &[u8], from: usize) -> bool {
-    // An array has no check of bounds in the loop, so the compiler makes vectors of it.
+    // An array needs no bounds check in the loop, so the compiler vectorizes it.
     let Some(group) = text[from..].first_chunk::<N>() else {
         return false;
     };
@@ -70,7 +72,7 @@ fn is_run_group<const N: usize>(text: &[u8], from: usize) -> bool {
     all
 }
 
-/// Where the whole groups of a run end, from a place on.
+/// Returns the end of the complete groups after `from` that have only run bytes.
 #[inline(always)]
 fn groups_end<const N: usize>(text: &[u8], from: usize) -> usize {
     let mut at = from;
@@ -80,10 +82,10 @@ fn groups_end<const N: usize>(text: &[u8], from: usize) -> usize {
     at
 }
 
-/// How long a run is that begins here: up to the first byte that is no ASCII letter, no digit and
-/// none of `$`, `.` and `_`.
+/// Returns the length of the run at the start of the text. It ends before the first byte that is
+/// not an ASCII letter, a digit, `$`, `.` or `_`.
 pub fn run_len(text: &[u8]) -> usize {
-    // The compiler tests groups of these sizes by vectors: at most seven bytes of a run are left.
+    // The compiler vectorizes groups of these sizes, so at most seven bytes of a run remain.
     let mut at = groups_end::<16>(text, 0);
     at = groups_end::<8>(text, at);
     while at < text.len() && is_run(text[at]) {
@@ -92,7 +94,7 @@ pub fn run_len(text: &[u8]) -> usize {
     at
 }
 
-/// The text of a run, which is ASCII.
+/// Returns the text of a run, which is ASCII.
 pub(crate) fn run_text(run: &[u8]) -> &str {
     // SAFETY: a run is ASCII.
     unsafe { str::from_utf8_unchecked(run) }

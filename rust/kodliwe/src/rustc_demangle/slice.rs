@@ -1,11 +1,12 @@
 // Made from crates/rustc_demangle/src/slice.rt by packaging/crate/erase.py: edit that file instead.
-//! Any bytes in memory with their symbols demangled.
+//! Demangles the symbols of any bytes in memory.
 
 use crate::demangle_sink::{SinkRefused, SliceSink};
 use crate::rustc_demangle::runs::{run_len, run_start, run_text};
 use crate::rustc_demangle::text::put_run;
 
-/// Puts bytes, which need not be UTF-8, with each symbol of them demangled.
+/// Writes bytes, which need not be UTF-8, with each symbol of them demangled. Fails if the sink
+/// fails.
 fn put_slice<'b>(
     text: &[u8],
     out: &mut SliceSink<'b>,
@@ -23,7 +24,8 @@ fn put_slice<'b>(
     out.put_bytes(rest)
 }
 
-/// Writes any bytes into memory with each symbol of them demangled, by their pieces.
+/// Writes the pieces of any bytes into memory, with each symbol demangled. Returns their size, or
+/// `None` if it exceeds `usize::MAX`.
 fn write_slice(text: &[u8], out: &mut [u8], include_hash: bool, limit: usize) -> Option<usize> {
     let mut sink = SliceSink::new(out);
     match put_slice(text, &mut sink, include_hash, limit) {
@@ -32,13 +34,14 @@ fn write_slice(text: &[u8], out: &mut [u8], include_hash: bool, limit: usize) ->
     }
 }
 
-/// Writes any bytes into memory with each symbol of them demangled, as much as there is room for,
-/// and counts all that they are then, those that found no room among them.
+/// Writes any bytes into memory with each symbol of them demangled, as far as there is room.
+/// Returns the size of the complete output, including the bytes for which there was no room.
 ///
-/// A symbol is looked for and cut at `limit` bytes as `demangle_text_limited` does; all other bytes
-/// are written as they are. The count does not depend on the size of the memory, whose bytes behind
-/// what is written stay as they were. `None` where the count is past `usize::MAX`. It takes no
-/// memory of its own.
+/// Symbols are found, and cut at `limit` bytes, as by `demangle_text_limited`. All other bytes are
+/// written unchanged. The size does not depend on the size of the memory. The memory after the
+/// written bytes stays unchanged. It does not allocate.
+///
+/// Returns `None` if the size exceeds `usize::MAX`.
 pub fn demangle_slice(
     text: &[u8],
     out: &mut [u8],

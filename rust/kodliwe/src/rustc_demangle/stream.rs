@@ -1,5 +1,5 @@
 // Made from crates/rustc_demangle/src/stream.rt by packaging/crate/erase.py: edit that file instead.
-//! The demangling of a text that comes from a reader.
+//! Demangles a text that comes from a reader.
 
 use crate::support::alloc::{Allocator, Global};
 use crate::support::vec::Vec;
@@ -21,7 +21,9 @@ use line::demangle_line;
 pub use memo::SymbolMemo;
 use reading::read_line;
 
-/// Reads a line whole and then writes it demangled, or answers `false` at the end of the input.
+/// Reads a line completely and then writes it demangled. Returns `false` at the end of the input.
+/// Fails if the reader or the writer fails, if the line is not UTF-8, or if memory can't be
+/// allocated.
 fn copy_line<R: BufRead, W: Write, A: Allocator>(
     input: &mut R,
     output: &mut W,
@@ -42,7 +44,7 @@ fn copy_line<R: BufRead, W: Write, A: Allocator>(
     }
 }
 
-/// Copies lines up to the end of the input, with a buffer for the line.
+/// Copies lines up to the end of the input, with `line` as the buffer. Fails as `copy_line` does.
 fn copy_lines<R: BufRead, W: Write, A: Allocator>(
     input: &mut R,
     output: &mut W,
@@ -59,12 +61,14 @@ fn copy_lines<R: BufRead, W: Write, A: Allocator>(
 
 /// Writes the input with each symbol of it demangled.
 ///
-/// A symbol is looked for where `_ZN` or `_R` stands, up to the next character that is no ASCII
-/// letter, no digit and none of `$`, `.` and `_`. What is no symbol is written as it was. A line is
-/// read whole before any of it is written.
+/// A candidate symbol starts with `_ZN` or `_R`. It continues up to the next character that is not
+/// an ASCII letter, a digit, `$`, `.` or `_`. A candidate that is not a symbol is written
+/// unchanged. A line is read completely before any of it is written.
 ///
-/// It is refused where the reader or the writer answers an error, where a line is not UTF-8, and
-/// where the buffer of the line is refused memory.
+/// # Errors
+///
+/// Fails if the reader or the writer returns an error, if a line is not UTF-8, or if memory for the
+/// line can't be allocated.
 pub fn demangle_stream_named<R: BufRead, W: Write>(
     alloc: Global,
     input: &mut R,
@@ -75,9 +79,10 @@ pub fn demangle_stream_named<R: BufRead, W: Write>(
     copy_lines(input, output, &mut line, include_hash)
 }
 
-/// Writes the input with each symbol of it demangled, as `demangle_stream_named` does, and gives
-/// its fault as an `io::Error`, by `StreamFault::into_io`. A caller that has to know what was
-/// written before a fault calls these two.
+/// Writes the input with each symbol of it demangled, as `demangle_stream_named` does.
+///
+/// The error is an `io::Error`, made by `StreamFault::into_io`. A caller that has to know what was
+/// written before an error calls these two functions.
 pub fn demangle_stream<R: BufRead, W: Write>(
     alloc: Global,
     input: &mut R,

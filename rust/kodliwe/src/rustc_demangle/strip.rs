@@ -1,27 +1,28 @@
 // Made from crates/rustc_demangle/src/strip.rt by packaging/crate/erase.py: edit that file instead.
-//! Symbols as ThinLTO leaves them.
+//! Removes the suffix that ThinLTO appends to symbols.
 
 use crate::support::memchr::memrchr;
 
-/// Returns whether all of it may follow `.llvm.`.
+/// Returns whether this text may follow `.llvm.`.
 fn is_thin_lto(ending: &str) -> bool {
     ending
         .bytes()
         .all(|b| matches!(b, b'A'..=b'F' | b'0'..=b'9' | b'@'))
 }
 
-/// Returns whether a text may have an ending of ThinLTO: whether its last `.` ends a `.llvm.`.
+/// Returns whether a text may have a ThinLTO suffix: whether its last `.` ends a `.llvm.`.
 fn may_be_thin_lto(text: &str) -> bool {
     let bytes = text.as_bytes();
-    // What may follow `.llvm.` has no `.`. Most symbols have none at all, or one near their end.
+    // The characters after `.llvm.` contain no `.`. Most symbols have no `.` at all, or one near
+    // their end.
     let Some(dot) = memrchr(b'.', bytes) else {
         return false;
     };
     dot >= 5 && bytes[dot - 5..].starts_with(b".llvm.")
 }
 
-/// Returns the text without an ending that ThinLTO appends: from its first `.llvm.` on, if only `A`
-/// to `F`, digits and `@` follow that.
+/// Returns the text without the suffix that ThinLTO appends. The suffix starts at the first
+/// `.llvm.`, and only `A` to `F`, digits and `@` follow that.
 pub(crate) fn without_thin_lto(text: &str) -> &str {
     if !may_be_thin_lto(text) {
         return text;

@@ -1,12 +1,13 @@
 // Made from crates/rustc_demangle/src/text.rt by packaging/crate/erase.py: edit that file instead.
-//! A text in memory with its symbols demangled.
+//! Demangles the symbols of a text in memory.
 
 use crate::demangle_sink::{SinkRefused, TextSink, put_piece};
 use crate::demangle_symbol::cursor::Looks;
 use crate::rustc_demangle::runs::{run_len, run_start};
 use crate::rustc_demangle::value::{Demangle, MAX_SIZE};
 
-/// Puts what stands for a run: the pieces of its symbol, if it is one, else the run.
+/// Writes the replacement of a run: the pieces of its symbol, or the run itself if it is not a
+/// symbol. Fails if the sink fails.
 pub(crate) fn put_run<S: TextSink>(
     run: &str,
     out: &mut S,
@@ -21,7 +22,7 @@ pub(crate) fn put_run<S: TextSink>(
     }
 }
 
-/// Puts a text with each symbol of it demangled, in one pass over it.
+/// Writes a text with each symbol of it demangled, in one pass over it. Fails if the sink fails.
 fn put_text<S: TextSink>(
     text: &str,
     out: &mut S,
@@ -39,15 +40,19 @@ fn put_text<S: TextSink>(
     put_piece(rest, out)
 }
 
-/// Puts a text into a sink with each symbol of it demangled and cut at `limit` bytes before its
-/// suffix, as `Demangle::write_limited` cuts it.
+/// Writes a text into a sink with each symbol of it demangled. Each symbol is cut at `limit` bytes
+/// before its suffix, as by `Demangle::write_limited`.
 ///
-/// A symbol is looked for where `_ZN` or `_R` stands, up to the next character that is no ASCII
-/// letter, no digit and none of `$`, `.` and `_`. The text between two such runs is one piece, a
-/// run that is no symbol another, and each piece is handed to the sink by one `put`. It is refused
-/// exactly where the sink failed in this call: then the sink was handed nothing more, and one that
-/// keeps what it took holds the pieces in front of the refused one. Where all of it is within the
-/// sink's room, it is taken, and the room falls by its bytes. It takes no memory.
+/// A candidate symbol, or run, starts with `_ZN` or `_R`. It continues up to the next character
+/// that is not an ASCII letter, a digit, `$`, `.` or `_`. The text between two runs is one piece,
+/// and a run that is not a symbol is another. Each piece is passed to the sink by one `put`. If all
+/// pieces fit into the sink's room, the call succeeds, and the room decreases by their bytes. It
+/// does not allocate.
+///
+/// # Errors
+///
+/// Fails exactly if the sink failed during this call. The sink then gets no further piece. A sink
+/// that keeps what it took holds the pieces before the rejected one.
 pub fn demangle_text_limited<S: TextSink>(
     text: &str,
     out: &mut S,
@@ -57,8 +62,8 @@ pub fn demangle_text_limited<S: TextSink>(
     put_text(text, out, include_hash, limit)
 }
 
-/// Puts a text into a sink with each symbol of it demangled, cut at 1,000,000 bytes before its
-/// suffix, as `demangle_text_limited` does.
+/// Writes a text into a sink with each symbol of it demangled, as `demangle_text_limited` does.
+/// Each symbol is cut at 1,000,000 bytes before its suffix.
 pub fn demangle_text<S: TextSink>(
     text: &str,
     out: &mut S,

@@ -1,22 +1,21 @@
 // Made from crates/rustc_demangle/src/value.rt by packaging/crate/erase.py: edit that file instead.
-//! A demangled symbol, and how it prints.
+//! A demangled symbol and its printing.
 
 use crate::demangle_sink::{SinkRefused, SizeLimitedFmtAdapter, TextSink, put_piece};
 use crate::demangle_symbol::cursor::{Looks, Symbol};
 use crate::rustc_demangle::strip::without_thin_lto;
 
-/// The most bytes that a call with no limit of its own prints of a symbol, before the marker and
-/// the suffix.
+/// The default limit: the most bytes of a symbol before the marker and the suffix.
 pub(crate) const MAX_SIZE: usize = 1_000_000;
 
-/// The scheme of a symbol, and what was read of it.
+/// The scheme of a symbol, and its parsed form.
 pub(crate) enum DemangleStyle<'a> {
     Legacy(crate::demangle_legacy::Demangle<'a>),
     V0(crate::demangle_v0::Demangle<'a>),
 }
 
 impl DemangleStyle<'_> {
-    /// Prints the symbol without its suffix.
+    /// Prints the symbol without its suffix. Fails if the sink or the size limit rejects a piece.
     fn write_to<S: TextSink>(
         &self,
         out: &mut SizeLimitedFmtAdapter<'_, S>,
@@ -30,15 +29,15 @@ impl DemangleStyle<'_> {
     }
 }
 
-/// A text, demangled where it is a Rust symbol. It prints the path that the symbol names, and any
-/// other text as it is.
+/// A text that is demangled if it is a Rust symbol. It prints the path that the symbol names. A
+/// text that is not a symbol prints unchanged.
 pub struct Demangle<'a> {
     style: Option<DemangleStyle<'a>>,
     original: &'a str,
     suffix: &'a str,
 }
 
-/// Prints a symbol without its suffix into a sink, cut at the limit.
+/// Prints a symbol without its suffix into a sink, cut at the limit. Fails if the sink fails.
 fn write_cut<S: TextSink>(
     style: &DemangleStyle<'_>,
     out: &mut S,
@@ -48,7 +47,8 @@ fn write_cut<S: TextSink>(
 ) -> Result<(), SinkRefused> {
     let mut limited = SizeLimitedFmtAdapter::new(out, limit);
     let result = style.write_to(&mut limited, include_hash, looks);
-    // The limit and the sink stop the printing alike; only a sink that takes more gets the marker.
+    // Printing stops in the same way at the limit and if the sink fails. Only a sink that has not
+    // failed gets the marker.
     if limited.is_over() {
         put_piece("{size limit reached}", out)
     } else {
@@ -57,14 +57,14 @@ fn write_cut<S: TextSink>(
 }
 
 impl<'a> Demangle<'a> {
-    /// The symbol as it was, without an ending that ThinLTO appended.
+    /// Returns the original symbol without the suffix that ThinLTO appends.
     pub fn as_str(&self) -> &'a str {
         self.original
     }
 
-    /// How many bytes of the symbol stand in front of its suffix; 0 where the text is no symbol.
+    /// Returns the number of bytes before the symbol's suffix, or 0 if the text is not a symbol.
     ///
-    /// `write_with_path_len` prints the symbol by it without reading where its path ends.
+    /// `write_with_path_len` uses it to print the symbol without parsing the end of its path again.
     pub fn path_len(&self) -> usize {
         match &self.style {
             Some(_) => self.original.len() - self.suffix.len(),
@@ -72,7 +72,8 @@ impl<'a> Demangle<'a> {
         }
     }
 
-    /// Prints into a sink, by what it was handed.
+    /// Writes the pieces of the symbol into a sink, cut at `limit` bytes before the suffix, and
+    /// counts its looks. Fails if the sink fails.
     pub(crate) fn hand_over<S: TextSink>(
         &self,
         out: &mut S,
@@ -89,11 +90,14 @@ impl<'a> Demangle<'a> {
 
     /// Prints into a sink, cut at `limit` bytes before the suffix, and counts its looks.
     ///
-    /// A piece that would go past the limit ends the path, and `{size limit reached}` and the
-    /// suffix follow it. A text that is no symbol has no limit. It is refused exactly where the
-    /// sink failed in this call: then the sink was handed nothing more, and one that keeps what it
-    /// took holds the pieces in front of the refused one. Where all of it is within the sink's
-    /// room, it is taken, and the room falls by its bytes.
+    /// The path ends before a piece that would exceed the limit. Then `{size limit reached}` and
+    /// the suffix follow. A text that is not a symbol has no limit. If all pieces fit into the
+    /// sink's room, the call succeeds, and the room decreases by their bytes.
+    ///
+    /// # Errors
+    ///
+    /// Fails exactly if the sink failed during this call. The sink then gets no further piece. A
+    /// sink that keeps what it took holds the pieces before the rejected one.
     pub fn write_limited_counted<S: TextSink>(
         &self,
         out: &mut S,
@@ -125,11 +129,12 @@ impl<'a> Demangle<'a> {
         self.write_limited_counted(out, include_hash, MAX_SIZE, looks)
     }
 
-    /// Prints into a sink, cut at 1,000,000 bytes before the suffix, with the hash of a legacy
-    /// symbol or without it.
+    /// Prints into a sink, cut at 1,000,000 bytes before the suffix, with or without the hash of a
+    /// legacy symbol. It does not allocate.
     ///
-    /// It is refused exactly where the sink failed in this call, as `write_limited_counted` says,
-    /// and takes no memory.
+    /// # Errors
+    ///
+    /// Fails exactly if the sink failed during this call, as `write_limited_counted` says.
     pub fn write_to<S: TextSink>(
         &self,
         out: &mut S,
@@ -139,13 +144,13 @@ impl<'a> Demangle<'a> {
     }
 }
 
-/// Whether a byte is a printable ASCII character that is no space.
+/// Returns whether a byte is a printable ASCII character other than a space.
 fn is_graphic(byte: u8) -> bool {
     matches!(byte, 0x21..=0x7E)
 }
 
-/// Whether a suffix is allowed: nothing, or `.` and graphic characters alone. It is one look for
-/// each byte.
+/// Returns whether a suffix is allowed: empty, or `.` followed only by graphic characters. It makes
+/// at most one look for each byte.
 fn is_allowed(suffix: &str, looks: &mut Looks) -> bool {
     let symbol = Symbol::new(suffix);
     if symbol.len() == 0 {
@@ -165,15 +170,15 @@ fn is_allowed(suffix: &str, looks: &mut Looks) -> bool {
     true
 }
 
-/// What a scheme reads of a text, and what it leaves. `is_ascii` says that the text is known to be
-/// ASCII.
+/// Parses a text in one of the schemes, and returns the symbol and the rest of the text. Returns
+/// `None` if neither scheme accepts it. `is_ascii` says that the text is known to be ASCII.
 fn read_style<'a>(
     text: &'a str,
     is_ascii: bool,
     looks: &mut Looks,
 ) -> Option<(DemangleStyle<'a>, &'a str)> {
-    // No text has the prefixes of both schemes, so the order shows in nothing that is printed; the
-    // prefixes of v0 are told by fewer bytes.
+    // No text has a prefix of both schemes, so the order does not change what is printed. The
+    // prefixes of v0 are recognized from fewer bytes.
     if let Ok((symbol, suffix)) = crate::demangle_v0::demangle(text, is_ascii, looks) {
         return Some((DemangleStyle::V0(symbol), suffix));
     }
@@ -183,7 +188,7 @@ fn read_style<'a>(
     }
 }
 
-/// The style of a text and its suffix, if it is a symbol.
+/// Returns the style and the suffix of a text, or `None` if it is not a symbol.
 fn style_of<'a>(
     text: &'a str,
     is_ascii: bool,
@@ -198,7 +203,8 @@ fn style_of<'a>(
 }
 
 impl<'a> Demangle<'a> {
-    /// The text, read as a symbol where it is one. `is_ascii` says that it is known to be ASCII.
+    /// Parses a text as a symbol, and keeps it as it is if it is not one. `is_ascii` says that it
+    /// is known to be ASCII.
     pub(crate) fn read(text: &'a str, is_ascii: bool, looks: &mut Looks) -> Demangle<'a> {
         match style_of(text, is_ascii, looks) {
             Some((style, suffix)) => Demangle {
@@ -214,18 +220,18 @@ impl<'a> Demangle<'a> {
         }
     }
 
-    /// The run, read as a symbol where it is one. A run is ASCII.
+    /// Parses a run as a symbol, and keeps it as it is if it is not one. A run is ASCII.
     pub(crate) fn read_run(run: &'a str) -> Demangle<'a> {
         Demangle::read(without_thin_lto(run), true, &mut Looks::new())
     }
 
-    /// Whether it is a symbol.
+    /// Returns whether the text is a symbol.
     pub(crate) fn has_style(&self) -> bool {
         self.style.is_some()
     }
 }
 
-/// Prints a text into a sink, by what it was handed, where its path has `path_len` bytes.
+/// Prints a text into a sink; its path has `path_len` bytes. Fails if the sink fails.
 fn hand_over_with<S: TextSink>(
     text: &str,
     path_len: usize,
@@ -238,21 +244,24 @@ fn hand_over_with<S: TextSink>(
         let read = Demangle::read(text, false, &mut looks);
         return read.hand_over(out, include_hash, limit, &mut looks);
     };
-    // A caller may hand in any number.
+    // The caller may pass any number.
     let suffix = &text[path_len.min(text.len())..];
     let style = DemangleStyle::V0(symbol);
     write_cut(&style, out, include_hash, limit, &mut looks)?;
     put_piece(suffix, out)
 }
 
-/// Prints a symbol as `Demangle::write_limited` does, without reading again where its path ends:
-/// `path_len` is what `Demangle::path_len` answered of the same text.
+/// Prints a symbol as `Demangle::write_limited` does, without parsing the end of its path again.
+/// `path_len` is the result of `Demangle::path_len` for the same text.
 ///
-/// An ending that ThinLTO appended is taken off first. Whatever the text and the number are, it
-/// ends, and hands over no more than the limit, the marker and the text have bytes: of an ASCII
-/// text with a v0 prefix the first path as far as it is spelled, and the text from `path_len` on; of
-/// any other text what `demangle` prints of it. It is refused exactly where the sink failed in this
-/// call, and takes no memory.
+/// A suffix that ThinLTO appended is removed first. For every text and every number, the call ends,
+/// and it prints at most the bytes of the limit, the marker and the text. An ASCII text with a v0
+/// prefix prints its first path as far as the grammar accepts it, and then the text from `path_len`
+/// on. Any other text prints as `demangle` prints it. It does not allocate.
+///
+/// # Errors
+///
+/// Fails exactly if the sink failed during this call.
 pub fn write_with_path_len<S: TextSink>(
     text: &str,
     path_len: usize,

@@ -1,5 +1,6 @@
 // Made from crates/text_memo/src/lib.rt by packaging/crate/erase.py: edit that file instead.
-//! A memo of bounded memory for a function from texts to texts: some keys, and the text of each.
+//! A memo, in bounded memory, for a function from texts to texts. It remembers the text for some
+//! keys.
 
 use crate::support::alloc::Global;
 use crate::support::vec::Vec;
@@ -10,7 +11,7 @@ mod tests;
 /// The number of pairs of entries. The hash of a key chooses its pair.
 const PAIRS: usize = 4096;
 
-/// The number of places for marks of keys.
+/// The number of slots for the marks of keys.
 const MARKS: usize = 8192;
 
 /// The longest key of an entry.
@@ -19,13 +20,14 @@ pub const MAX_KEY: usize = 512;
 /// The longest text of an entry.
 pub const MAX_TEXT: usize = 2048;
 
-/// The most bytes of keys and texts. All entries are let go before there would be more.
+/// The most bytes of keys and texts. All entries are removed before this would be exceeded.
 const MAX_BYTES: usize = 4_194_304;
 
-/// The memory that is taken for the first entry. It doubles when it is full, up to `MAX_BYTES`.
+/// The number of bytes that the first entry allocates. It doubles when they are full, up to
+/// `MAX_BYTES`.
 const FIRST_BYTES: usize = 65_536;
 
-/// An entry: the place of a key among the bytes. Its text follows it.
+/// An entry: the offset of a key in `bytes`. Its text follows it.
 #[derive(Clone, Copy)]
 struct Entry {
     start: u32,
@@ -35,14 +37,14 @@ struct Entry {
     mark: u32,
 }
 
-/// The entries of the keys that share a part of their hash.
+/// The two entries for the keys that share a part of their hash.
 #[derive(Clone, Copy)]
 struct Pair {
     newer: Entry,
     older: Entry,
 }
 
-/// No entry: no key is empty.
+/// A free entry, since a key is never empty.
 const NO_ENTRY: Entry = Entry {
     start: 0,
     key_len: 0,
@@ -59,23 +61,23 @@ const NO_PAIR: Pair = Pair {
 /// How a key was noted before. Another key may have the same mark.
 #[derive(Clone, Copy, Debug, PartialEq, Eq)]
 pub enum Noted {
-    /// It was not, or it is no longer.
+    /// It was not noted, or its mark was replaced.
     New,
-    /// It came before.
+    /// It was noted before.
     Again,
     /// Its text is too long for an entry.
     TooLong,
 }
 
-/// A memo: keys, and the text of each.
+/// A memo of keys and their texts.
 pub struct TextMemo {
     pairs: Vec<Pair>,
     bytes: Vec<u8>,
-    /// A mark is even if its key came once, and odd if its key's text is too long.
+    /// A mark is even if its key was noted once, and odd if its key's text is too long.
     marks: Vec<u32>,
 }
 
-/// Mixes sixteen bytes into a hash.
+/// Returns a hash with sixteen bytes mixed in.
 #[inline(always)]
 fn mixed(hash: u64, bytes: u128) -> u64 {
     let low = (bytes % 18_446_744_073_709_551_616) as u64 ^ hash;
@@ -94,20 +96,20 @@ pub fn hash_of(key: &[u8]) -> u64 {
             hash = mixed(hash, u128::from_le_bytes(*bytes));
         }
     }
-    // The last sixteen bytes, some of which may be read a second time.
+    // The last sixteen bytes. Some of them may be mixed in a second time.
     if let Some(last) = key.last_chunk::<16>() {
         hash = mixed(hash, u128::from_le_bytes(*last));
     }
     hash
 }
 
-/// Returns the place of a key's pair.
+/// Returns the index of a key's pair.
 #[inline(always)]
 fn pair_place(hash: u64) -> usize {
     ((hash / 4_294_967_296) % 4096) as usize
 }
 
-/// Returns the place of a key's mark.
+/// Returns the index of a key's mark.
 #[inline(always)]
 fn mark_place(hash: u64) -> usize {
     ((hash / 1_099_511_627_776) % 8192) as usize
@@ -120,7 +122,7 @@ fn mark_of(hash: u64) -> u32 {
 }
 
 impl TextMemo {
-    /// Returns a memo without entries. It takes no memory before a key is noted.
+    /// Returns a memo without entries. It does not allocate before a key is noted.
     pub fn new(alloc: Global) -> Self {
         TextMemo {
             pairs: Vec::new(alloc),
@@ -129,7 +131,7 @@ impl TextMemo {
         }
     }
 
-    /// Returns the text of an entry, if it is the entry of this key.
+    /// Returns the text of an entry, or `None` if the entry has another key.
     #[inline(always)]
     fn text_at(&self, entry: &Entry, key: &[u8], mark: u32) -> Option<&[u8]> {
         if entry.mark != mark || entry.key_len as usize != key.len() {
@@ -150,7 +152,7 @@ impl TextMemo {
         }
     }
 
-    /// Returns the text of a key, if the memo has an entry of it. `hash` is the key's.
+    /// Returns the text of a key, or `None` if the memo has no entry for it. `hash` is the key's.
     #[inline(always)]
     pub fn get(&self, key: &[u8], hash: u64) -> Option<&[u8]> {
         let place = pair_place(hash);
@@ -165,8 +167,8 @@ impl TextMemo {
         }
     }
 
-    /// Notes that a key came, and returns how it was noted before. So a caller can leave out keys
-    /// that come once. `hash` is the key's.
+    /// Notes a key, and returns how it was noted before. So a caller can leave out keys that come
+    /// once. `hash` is the key's.
     #[inline(always)]
     pub fn note(&mut self, hash: u64) -> Noted {
         let place = mark_place(hash);
@@ -184,7 +186,7 @@ impl TextMemo {
                 Noted::TooLong
             };
         }
-        // The mark of a long text stays: so each place makes a caller read one of these in vain.
+        // The mark of a long text stays, so a caller prints it in vain at most once for each slot.
         if noted & 1 == 0 {
             self.marks[place] = mark_of(hash);
         }
@@ -199,8 +201,8 @@ impl TextMemo {
         }
     }
 
-    /// Makes room for an entry of `len` bytes, or returns `false` if memory is refused. All entries
-    /// are let go if their bytes would be too many.
+    /// Makes room for an entry of `len` bytes, or returns `false` if memory can't be allocated. All
+    /// entries are removed if there would be too many bytes.
     fn make_room(&mut self, len: usize) -> bool {
         if self.bytes.len() > MAX_BYTES - len {
             self.pairs.clear();
@@ -212,12 +214,12 @@ impl TextMemo {
         self.pairs.len() == PAIRS || self.pairs.resize(PAIRS, NO_PAIR).is_ok()
     }
 
-    /// Appends a key and its text to the bytes, or returns `false` if memory is refused.
+    /// Appends a key and its text to the bytes, or returns `false` if memory can't be allocated.
     fn append(&mut self, key: &[u8], text: &[u8]) -> bool {
         self.bytes.extend_from_slice(key).is_ok() && self.bytes.extend_from_slice(text).is_ok()
     }
 
-    /// Makes an entry the newer one of a pair. The older one of that pair is let go.
+    /// Makes an entry the newer one of a pair, and removes the older one.
     fn put(&mut self, entry: Entry, place: usize) {
         if place < self.pairs.len() {
             let older = self.pairs[place].newer;
@@ -228,9 +230,10 @@ impl TextMemo {
         }
     }
 
-    /// Makes an entry of a key and its text, and lets an older entry go for it. It changes nothing
-    /// that `get` returns if the key or the text is too long, or if memory is refused. `hash` is the
-    /// key's.
+    /// Remembers the text of a key, and may remove older entries for it. `hash` is the key's.
+    ///
+    /// It changes no result of `get` if the key or the text is too long, or if memory can't be
+    /// allocated.
     #[inline(never)]
     pub fn insert(&mut self, key: &[u8], text: &[u8], hash: u64) {
         if key.len() > MAX_KEY || text.len() > MAX_TEXT {

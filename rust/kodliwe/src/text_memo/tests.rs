@@ -1,5 +1,5 @@
 // Made from crates/text_memo/src/tests.rt by packaging/crate/erase.py: edit that file instead.
-//! What a memo returns, for keys that share a hash, long ones and full memory.
+//! Tests a memo with keys that share a hash, long keys and full memory.
 use super::{MAX_KEY, MAX_TEXT, Noted, TextMemo, hash_of};
 use crate::support::rt::HostRuntime;
 use crate::support::test::Fail;
@@ -43,7 +43,7 @@ fn keys_of_one_hash_have_their_own_texts() -> Result<(), Fail> {
     assert!(has_text(&memo, b"first", b"one"));
     assert!(has_text(&memo, b"third", b"three"));
     assert!(memo.get(b"fifth", 7).is_none());
-    // A pair has two entries: the older one is let go.
+    // A pair has two entries, and the older one is removed.
     memo.insert(b"fifth", b"", 7);
     assert!(memo.get(b"first", 7).is_none());
     assert!(has_text(&memo, b"third", b"three"));
@@ -75,10 +75,10 @@ fn a_key_is_noted() -> Result<(), Fail> {
     let mut memo = TextMemo::new(rt.alloc());
     assert_eq!(memo.note(2), Noted::New);
     assert_eq!(memo.note(2), Noted::Again);
-    // Another key in the same place takes it.
+    // Another key with the same index replaces the mark.
     assert_eq!(memo.note(4), Noted::New);
     assert_eq!(memo.note(2), Noted::New);
-    // One whose text is too long keeps it.
+    // The mark of a key with a long text stays.
     memo.note_too_long(2);
     assert_eq!(memo.note(2), Noted::TooLong);
     assert_eq!(memo.note(4), Noted::New);

@@ -1,5 +1,5 @@
 // Made from crates/kodliwe/src/fault.rt by packaging/crate/erase.py: edit that file instead.
-//! The lines that tell of faults.
+//! Writes error messages.
 use kodliwe::rustc_demangle::StreamFault;
 use kodliwe::support::alloc::{AllocError, Global};
 use kodliwe::support::format;
@@ -9,13 +9,14 @@ use std::io::Write;
 
 pub const OUT_OF_MEMORY: &str = "kodliwe: out of memory\n";
 
-/// A fault, and the name of the input that was read then.
+/// An error, and the name of the input that was read when it occurred.
 pub struct InputFault<'a> {
     pub name: &'a str,
     pub fault: StreamFault,
 }
 
-/// Why a call failed, without the number that `std` puts behind the system's text.
+/// Returns why a call failed, without the number that `std` adds after the system's text. Fails if
+/// memory can't be allocated.
 fn reason(alloc: Global, error: &io::Error) -> Result<String, AllocError> {
     let text = format!(in alloc; "{error}")?;
     match text.as_str().split_once(" (os error ") {
@@ -38,7 +39,7 @@ fn has_unprintable(text: &str) -> bool {
 }
 
 /// Returns a text in quotes. If it has a character that is not printable, it is escaped as in
-/// Rust's literals.
+/// Rust's literals. Fails if memory can't be allocated.
 pub fn quoted(alloc: Global, text: &str) -> Result<String, AllocError> {
     if has_unprintable(text) {
         format!(in alloc; "'{}'", text.escape_debug())
@@ -47,8 +48,8 @@ pub fn quoted(alloc: Global, text: &str) -> Result<String, AllocError> {
     }
 }
 
-/// Returns a name as a message shows it: in quotes if it is empty or has a character that is not
-/// printable.
+/// Returns a name as a message shows it. It is in quotes if it is empty or has a character that is
+/// not printable. Fails if memory can't be allocated.
 pub fn shown_name(alloc: Global, name: &str) -> Result<String, AllocError> {
     if name.is_empty() || has_unprintable(name) {
         quoted(alloc, name)
@@ -57,15 +58,16 @@ pub fn shown_name(alloc: Global, name: &str) -> Result<String, AllocError> {
     }
 }
 
-/// Returns the line for a call that failed on something that has a name.
+/// Returns the line for a call that failed on something with a name. Fails if memory can't be
+/// allocated.
 fn line_of(alloc: Global, name: &str, error: &io::Error) -> Result<String, AllocError> {
     let name = shown_name(alloc, name)?;
     let reason = reason(alloc, error)?;
     format!(in alloc; "kodliwe: {name}: {reason}\n")
 }
 
-/// Writes the line of a call that failed on something that has a name, by one call of the writer.
-/// A fault of `errors` is ignored.
+/// Writes the line for a call that failed on something with a name, by one call of the writer. An
+/// error of `errors` is ignored.
 pub fn report_call<E: Write>(alloc: Global, errors: &mut E, name: &str, error: &io::Error) {
     let _ = match line_of(alloc, name, error) {
         Ok(line) => errors.write_all(line.as_bytes()),
@@ -73,7 +75,7 @@ pub fn report_call<E: Write>(alloc: Global, errors: &mut E, name: &str, error: &
     };
 }
 
-/// Writes the line of a fault, as `report_call` does.
+/// Writes the line for an error, as `report_call` does.
 pub fn report<E: Write>(alloc: Global, errors: &mut E, fault: &InputFault<'_>) {
     match &fault.fault {
         StreamFault::Read(error) => report_call(alloc, errors, fault.name, error),

@@ -28,7 +28,8 @@ use std::io;
 use std::io::Write;
 use std::process::ExitCode;
 
-/// The words behind the program's name.
+/// Returns the arguments after the program's name. Fails if one is not UTF-8 or memory can't be
+/// allocated.
 fn arguments(rt: &(impl Env + AllocGlobal)) -> io::Result<Vec<String>> {
     let words = env::args(rt)?;
     Ok(words.skip(1).collect_in::<Vec<String>>(rt.alloc())?)

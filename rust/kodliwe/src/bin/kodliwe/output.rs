@@ -1,22 +1,22 @@
 // Made from crates/kodliwe/src/output.rt by packaging/crate/erase.py: edit that file instead.
-//! An output that holds short pieces before it hands them on.
+//! Collects short pieces before they are written.
 
 use kodliwe::held_bytes::Held;
 use kodliwe::support::io::BufWriter;
 use std::io;
 use std::io::{ErrorKind, Write};
 
-/// A buffered writer, and the bytes that are held for it. What is held is handed on where there is
-/// no room for the next piece, and by a flush.
+/// A buffered writer, and the bytes that are held for it. Held bytes are written if there is no
+/// room for the next piece, and by a flush.
 pub struct Output<W: Write> {
     held: Held,
     buffer: BufWriter<W>,
-    /// Why a piece was refused.
+    /// Why the last piece was not written.
     fault: Option<io::Error>,
 }
 
 impl<W: Write> Output<W> {
-    /// An output into this buffer, with nothing held.
+    /// Returns an output into this buffer, with nothing held.
     pub fn new(buffer: BufWriter<W>) -> Self {
         Output {
             held: Held::new(),
@@ -25,13 +25,13 @@ impl<W: Write> Output<W> {
         }
     }
 
-    /// The writer below the buffer.
+    /// Returns the writer below the buffer.
     pub fn get_ref(&self) -> &W {
         self.buffer.get_ref()
     }
 
-    /// Hands on what is held, and goes on if a signal interrupts it. What the buffer refuses stays
-    /// held.
+    /// Writes the held bytes, and continues if a signal interrupts that. Fails if the buffer fails;
+    /// bytes that it did not accept stay held.
     fn hand_on(&mut self) -> io::Result<()> {
         'handing: for _ in 0..=u64::MAX {
             if self.held.is_empty() {
@@ -47,7 +47,8 @@ impl<W: Write> Output<W> {
         Err(io::Error::other("too many signals"))
     }
 
-    /// Hands on what is held, and then holds the piece, or hands it on where it is too long.
+    /// Writes the held bytes, and then holds the piece, or writes it if it is too long. Fails if
+    /// the buffer fails.
     fn hold(&mut self, piece: &[u8]) -> io::Result<()> {
         self.hand_on()?;
         if self.held.push(piece) {
@@ -56,8 +57,8 @@ impl<W: Write> Output<W> {
         self.buffer.write_all(piece)
     }
 
-    /// Writes a piece for which there is no room, and keeps the error where that fails: so no
-    /// caller makes room for an error at each piece.
+    /// Writes a piece for which there is no room. Returns `false` after an error, and stores it: so
+    /// callers need no room for an error at each piece.
     #[cold]
     #[inline(never)]
     fn write_on(&mut self, piece: &[u8]) -> bool {
@@ -70,7 +71,7 @@ impl<W: Write> Output<W> {
         }
     }
 
-    /// Why the last piece was refused.
+    /// Returns why the last piece was not written, and removes that error.
     #[cold]
     #[inline(never)]
     fn take_fault(&mut self) -> io::Error {

@@ -1,5 +1,5 @@
 // Made from crates/kodliwe/src/program.rt by packaging/crate/erase.py: edit that file instead.
-//! The program, over any file system and standard streams.
+//! Runs the program on any file system and standard streams.
 
 use crate::fault::{OUT_OF_MEMORY, quoted, report_call, shown_name};
 use crate::output::Output;
@@ -27,18 +27,18 @@ pub struct Host<'a, F: Files, W: Write, E: Write> {
     pub errors: E,
 }
 
-/// Writes a line to `errors`, and answers the status. A fault of `errors` is ignored.
+/// Writes a line to `errors`, and returns the status. An error of `errors` is ignored.
 fn tell<E: Write>(errors: &mut E, line: &str, status: u8) -> u8 {
     let _ = errors.write_all(line.as_bytes());
     status
 }
 
-/// Returns the name of an option that a word is, which may have the option's value in it.
+/// Returns the name of the option in an argument, which may include the option's value.
 fn option_name<'a>(word: &str, short: &'a str, long: &'a str) -> &'a str {
     if word.starts_with("--") { long } else { short }
 }
 
-/// Returns the line for words that are not valid.
+/// Returns the line for arguments that are not valid. Fails if memory can't be allocated.
 fn usage_line(alloc: Global, fault: WordsFault<'_>) -> Result<String, AllocError> {
     match fault {
         WordsFault::Unknown(word) => {
@@ -66,7 +66,7 @@ fn usage_line(alloc: Global, fault: WordsFault<'_>) -> Result<String, AllocError
     }
 }
 
-/// Writes the line for words that are not valid, and returns the status.
+/// Writes the line for arguments that are not valid, and returns the status.
 fn refuse_words<E: Write>(alloc: Global, errors: &mut E, fault: WordsFault<'_>) -> u8 {
     match usage_line(alloc, fault) {
         Ok(line) => tell(errors, line.as_str(), 2),
@@ -74,7 +74,8 @@ fn refuse_words<E: Write>(alloc: Global, errors: &mut E, fault: WordsFault<'_>) 
     }
 }
 
-/// Writes one text. Where whoever reads the output closed it, that is no fault.
+/// Writes one text, and returns the status. It is not an error if the reader of the output has
+/// closed it.
 fn write_text<W: Write, E: Write>(alloc: Global, text: &str, output: &mut W, errors: &mut E) -> u8 {
     match output.write_all(text.as_bytes()) {
         Ok(()) => 0,
@@ -86,7 +87,7 @@ fn write_text<W: Write, E: Write>(alloc: Global, text: &str, output: &mut W, err
     }
 }
 
-/// Returns readers of the sources, in order.
+/// Returns readers of the sources, in order. Fails if memory can't be allocated.
 fn open_inputs<'a, F: Files>(
     alloc: Global,
     files: &'a F,
@@ -102,7 +103,7 @@ fn open_inputs<'a, F: Files>(
     Ok(inputs)
 }
 
-/// Adds standard input if there are no sources.
+/// Adds standard input if there are no sources. Fails if memory can't be allocated.
 fn add_default(sources: &mut Vec<Source<'_>>) -> Result<(), AllocError> {
     if sources.is_empty() {
         sources.push(Source::Stdin)?;
@@ -110,7 +111,7 @@ fn add_default(sources: &mut Vec<Source<'_>>) -> Result<(), AllocError> {
     Ok(())
 }
 
-/// What is filtered, and how.
+/// The inputs to filter, and the options.
 struct Filtering<'a, F: Files> {
     alloc: Global,
     files: &'a F,
@@ -136,7 +137,8 @@ impl<F: Files> Filtering<'_, F> {
         run(alloc, inputs, &mut output, errors, include_hash, limit).status()
     }
 
-    /// Filters into a file, and gives it its name once it is whole. Returns the exit status.
+    /// Filters into a file, and gives it its name when it is complete. Removes it after an error.
+    /// Returns the exit status.
     fn replace<E: Write>(
         self,
         file: F::File,
@@ -196,8 +198,7 @@ impl<F: Files> Filtering<'_, F> {
     }
 }
 
-/// Writes a line that was made, or that there was no memory for it. An error of `errors` is
-/// ignored.
+/// Writes a line, or says that there was no memory for it. An error of `errors` is ignored.
 fn write_line<E: Write>(errors: &mut E, line: Result<String, AllocError>) {
     let _ = match line {
         Ok(line) => errors.write_all(line.as_bytes()),
@@ -205,13 +206,13 @@ fn write_line<E: Write>(errors: &mut E, line: Result<String, AllocError>) {
     };
 }
 
-/// Returns the note for a word that names a file.
+/// Returns the note for an argument that names a file. Fails if memory can't be allocated.
 fn file_note(alloc: Global, word: &str) -> Result<String, AllocError> {
     let name = quoted(alloc, word)?;
     format!(in alloc; "kodliwe: note: {name} is a file; use -i to read it\n")
 }
 
-/// Writes a note if a word names a regular file.
+/// Writes a note if an argument names a regular file.
 fn note_file<F: Files, E: Write>(alloc: Global, files: &F, errors: &mut E, word: Option<&str>) {
     let Some(word) = word else {
         return;
@@ -225,7 +226,7 @@ fn note_file<F: Files, E: Write>(alloc: Global, files: &F, errors: &mut E, word:
     }
 }
 
-/// Returns the line for an input that is the output.
+/// Returns the line for an input that is the output. Fails if memory can't be allocated.
 fn same_file_line(alloc: Global, name: &str) -> Result<String, AllocError> {
     let name = shown_name(alloc, name)?;
     format!(in alloc; "kodliwe: {name}: input file is output file\n")
@@ -247,7 +248,7 @@ fn reads_output<F: Files, E: Write>(
     }
 }
 
-/// Filters what the words ask for, and returns the exit status.
+/// Filters the texts that the arguments request, and returns the exit status.
 fn filter<'a, F: Files, W: Write, E: Write>(host: Host<'a, F, W, E>, request: Request<'a>) -> u8 {
     let Host {
         alloc,
@@ -284,13 +285,13 @@ fn filter<'a, F: Files, W: Write, E: Write>(host: Host<'a, F, W, E>, request: Re
         Target::File(path) => filtering.write_file(path, &mut errors),
     };
     if status == 0 {
-        // A user who gives a word that has no symbol may have meant a file.
+        // A user who gives an argument without a symbol may have meant a file.
         note_file(alloc, files, &mut errors, plain_word);
     }
     status
 }
 
-/// Runs the program on the words after its name, and returns the exit status.
+/// Runs the program on the arguments after its name, and returns the exit status.
 pub fn start<'a, F: Files, W: Write, E: Write>(host: Host<'a, F, W, E>, words: &'a [String]) -> u8 {
     let request = match read_words(host.alloc, words) {
         Ok(Asked::Filter(request)) => return filter(host, request),
@@ -310,7 +311,7 @@ pub fn start<'a, F: Files, W: Write, E: Write>(host: Host<'a, F, W, E>, words: &
     }
 }
 
-/// What is told where the words can't be had.
+/// Returns the line and the exit status if the arguments can't be read.
 pub fn words_fault(error: &io::Error) -> (&'static str, u8) {
     if error.kind() == ErrorKind::OutOfMemory {
         (OUT_OF_MEMORY, 1)

@@ -1,5 +1,5 @@
 // Made from crates/kodliwe/src/replacing.rt by packaging/crate/erase.py: edit that file instead.
-//! A file that is written whole or not at all.
+//! Writes a file completely or not at all.
 use kodliwe::support::alloc::Global;
 use kodliwe::support::format;
 use kodliwe::support::fs::{File, Files, OpenFile, OpenOptions};
@@ -7,19 +7,20 @@ use kodliwe::support::string::String;
 use std::io;
 use std::io::ErrorKind;
 
-/// The name under which a file is written, and the name that it gets once it is whole.
+/// The temporary name of a file, and the name that it gets when it is complete.
 pub struct Replacement {
     unfinished: String,
     path: String,
 }
 
 impl Replacement {
-    /// Gives the file its name, in place of the file that had it.
+    /// Gives the file its name, and so replaces the file that had it. Fails if the file can't be
+    /// renamed.
     pub fn finish(&self, files: &impl Files) -> io::Result<()> {
         files.rename(self.unfinished.as_str(), self.path.as_str())
     }
 
-    /// Removes the file. A fault is ignored.
+    /// Removes the file. An error is ignored.
     pub fn give_up(&self, files: &impl Files) {
         let _ = files.remove_file(self.unfinished.as_str());
     }
@@ -27,13 +28,13 @@ impl Replacement {
 
 /// Why an output was not opened.
 pub struct OpenFault {
-    /// Whether the folder of the file is what failed, and not the file.
+    /// Whether the folder of the file failed, and not the file.
     pub is_in_folder: bool,
     pub error: io::Error,
 }
 
 impl OpenFault {
-    /// Returns the fault of a call on the file itself.
+    /// Returns the error of a call on the file itself.
     fn of_file(error: io::Error) -> OpenFault {
         OpenFault {
             is_in_folder: false,
@@ -41,8 +42,8 @@ impl OpenFault {
         }
     }
 
-    /// Returns the fault of a call that looks for the file, or makes one next to it. If the folder
-    /// can't be used, that is what failed.
+    /// Returns the error of a call that looks for the file, or creates one next to it. It is
+    /// attributed to the folder if the folder can't be used.
     fn in_folder(error: io::Error) -> OpenFault {
         let is_in_folder = matches!(
             error.kind(),
@@ -67,10 +68,11 @@ pub fn folder_of(path: &str) -> &str {
     }
 }
 
-/// How many names are tried for a file that is not whole yet.
+/// The number of temporary names that are tried.
 const TRIES: u32 = 100;
 
-/// Makes a file beside `path`, under a name that no file has.
+/// Creates a file next to `path`, with a name that no file has. Fails if each name is in use, the
+/// file can't be created, or memory can't be allocated.
 fn create_beside<F: Files>(
     alloc: Global,
     files: &F,
@@ -87,7 +89,7 @@ fn create_beside<F: Files>(
     Err(io::Error::from(ErrorKind::AlreadyExists))
 }
 
-/// Makes a file in place of one that is not there.
+/// Creates a file for a path that does not exist. Fails as `create_beside` does.
 fn open_new<F: Files>(
     alloc: Global,
     files: &F,
@@ -98,7 +100,8 @@ fn open_new<F: Files>(
     Ok((file, Some(replacement)))
 }
 
-/// Makes a file next to one that is there, through any links to it.
+/// Creates a file next to an existing one, of which any links are followed. Fails as
+/// `create_beside` does, or if the links can't be followed.
 fn open_next_to<F: Files>(
     alloc: Global,
     files: &F,
@@ -109,8 +112,9 @@ fn open_next_to<F: Files>(
     create_beside(alloc, files, path)
 }
 
-/// Opens a file to be written. One that is there, and is no device and no pipe, is replaced once
-/// the new one is whole, which has its permissions.
+/// Opens a file for writing. An existing file that is not a device or a pipe is replaced when the
+/// new file is complete. The new file has its permissions. Fails if the file or its folder can't be
+/// used, or memory can't be allocated.
 pub fn open_output<F: Files>(
     alloc: Global,
     files: &F,

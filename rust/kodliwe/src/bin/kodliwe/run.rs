@@ -1,5 +1,5 @@
 // Made from crates/kodliwe/src/run.rt by packaging/crate/erase.py: edit that file instead.
-//! The program's work over any readers and any writer.
+//! Filters any readers into any writer.
 
 use crate::fault::{InputFault, report};
 use kodliwe::rustc_demangle::{BytesFilter, StreamFault, SymbolMemo};
@@ -9,30 +9,30 @@ use kodliwe::support::vec::Vec;
 use std::io;
 use std::io::{BufRead, ErrorKind, Read, Write};
 
-/// How many bytes are read at once.
+/// The size in bytes of the buffers.
 pub const BUFFER: usize = 65_536;
 
-/// A reader, and its name in the line of a fault.
+/// A reader, and its name in an error message.
 pub struct Input<'a, R> {
     pub name: &'a str,
     pub reader: R,
 }
 
-/// How a run ended.
+/// How filtering ended.
 #[derive(Clone, Copy, Debug, PartialEq, Eq)]
 pub enum Ended {
-    /// All was written.
+    /// The complete output was written.
     Complete,
-    /// Who reads the output has closed it.
+    /// The reader of the output has closed it.
     Closed,
-    /// An input can't be read, or memory was refused.
+    /// An input can't be read, or memory can't be allocated.
     Unread,
     /// The output can't be written.
     Unwritten,
 }
 
 impl Ended {
-    /// The exit status.
+    /// Returns the exit status.
     pub fn status(self) -> u8 {
         match self {
             Ended::Complete | Ended::Closed => 0,
@@ -41,7 +41,7 @@ impl Ended {
     }
 }
 
-/// Flushes, and again where a signal interrupted it.
+/// Flushes the output, and repeats that if a signal interrupts it. Fails if the writer fails.
 fn flush<W: Write>(output: &mut W) -> Result<(), StreamFault> {
     for _ in 0..=u64::MAX {
         match output.flush() {
@@ -53,7 +53,8 @@ fn flush<W: Write>(output: &mut W) -> Result<(), StreamFault> {
     Err(StreamFault::Write(io::Error::other("too many signals")))
 }
 
-/// Flushes the output where the next step reads.
+/// Flushes the output if the next step reads, so that nothing is held while the program waits.
+/// Fails if the writer fails.
 fn pause<R: Read, W: Write, B: Allocator>(
     input: &BufReader<R, B>,
     output: &mut W,
@@ -65,7 +66,8 @@ fn pause<R: Read, W: Write, B: Allocator>(
     }
 }
 
-/// A step, which takes nothing where a signal interrupted the reader.
+/// Makes a step of the filter, and returns `false` at the end of the input. A step uses nothing if
+/// a signal interrupts the reader. Fails as the step does.
 fn step<R: BufRead, W: Write, A: Allocator>(
     filter: &mut BytesFilter<A>,
     input: &mut R,
@@ -78,7 +80,8 @@ fn step<R: BufRead, W: Write, A: Allocator>(
     }
 }
 
-/// Flushes the output where more is to be read, and takes a step.
+/// Flushes the output if the next step reads, and then makes that step. Returns `false` at the end
+/// of the input. Fails if one of the two fails.
 fn turn<R: Read, W: Write, A: Allocator, B: Allocator>(
     filter: &mut BytesFilter<A>,
     input: &mut BufReader<R, B>,
@@ -89,7 +92,8 @@ fn turn<R: Read, W: Write, A: Allocator, B: Allocator>(
     step(filter, input, output, memo)
 }
 
-/// Filters what a reader holds, up to its end. The output is flushed before each reading.
+/// Filters the remaining input of a reader. The output is flushed before each read. Fails if the
+/// reader or the writer fails, or if memory can't be allocated.
 fn filter_steps<R: Read, W: Write, A: Allocator, B: Allocator>(
     filter: &mut BytesFilter<A>,
     input: &mut BufReader<R, B>,
@@ -104,7 +108,7 @@ fn filter_steps<R: Read, W: Write, A: Allocator, B: Allocator>(
     Err(StreamFault::Read(io::Error::other("too many steps")))
 }
 
-/// Filters what one reader holds.
+/// Filters the remaining input of one reader through a buffer. Fails as `filter_steps` does.
 fn filter_reader<R: Read, W: Write>(
     alloc: Global,
     reader: R,
@@ -118,7 +122,8 @@ fn filter_reader<R: Read, W: Write>(
     filter_steps(&mut filter, &mut input, output, memo)
 }
 
-/// Filters what each reader holds, in order and with one memo, and flushes the output.
+/// Filters the remaining input of each reader, in order and with one memo, and then flushes the
+/// output. Stops at the first error, and returns it with the name of its input.
 fn filter_inputs<'a, R: Read, W: Write>(
     alloc: Global,
     inputs: Vec<Input<'a, R>>,
@@ -138,7 +143,7 @@ fn filter_inputs<'a, R: Read, W: Write>(
     }
 }
 
-/// How a run ended that a fault stopped.
+/// Returns how filtering ended after an error.
 fn end_of(fault: &StreamFault) -> Ended {
     match fault {
         StreamFault::Write(error) => {
@@ -152,13 +157,14 @@ fn end_of(fault: &StreamFault) -> Ended {
     }
 }
 
-/// Filters the inputs in order, each by itself and each path cut at `limit` bytes, and writes a
-/// line where an input can't be read, the output can't be written, or memory is refused.
+/// Filters the inputs in order, each on its own, with each path cut at `limit` bytes. Writes a line
+/// if an input can't be read, the output can't be written, or memory can't be allocated.
 ///
-/// `Complete`: the bytes that the writer tells grew by what the filter gives for all that the
-/// readers still held. `Unread`: by what it gives for the inputs in front of one and for a front of
-/// that one, which cuts no symbol. Nothing is known of what a writer took in a call that it
-/// refused. What was written before is flushed in any case. A fault of `errors` is ignored.
+/// On `Complete`, the writer appended the filtered form of all that the readers still held. On
+/// `Unread`, it appended the filtered inputs before one input, and a filtered prefix of that one.
+/// The prefix is not cut inside a symbol. Nothing is known of the bytes that a writer accepted in a
+/// call that failed. All that was written before is flushed in any case. An error of `errors` is
+/// ignored.
 pub fn run<R: Read, W: Write, E: Write>(
     alloc: Global,
     inputs: Vec<Input<'_, R>>,

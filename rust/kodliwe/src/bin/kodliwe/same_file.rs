@@ -1,19 +1,19 @@
 // Made from crates/kodliwe/src/same_file.rt by packaging/crate/erase.py: edit that file instead.
-//! Whether an input is the file that standard output writes to.
+//! Finds an input that is the file to which standard output writes.
 use crate::streams::source_name;
 use crate::words::Source;
 use kodliwe::support::fs::Files;
 use kodliwe::support::os::unix::fs::MetadataExt;
 
-/// What tells a file from each other one, whatever its names are.
+/// The identity of a file, whatever its names are.
 #[derive(Clone, Copy)]
 struct FileId {
     device: u64,
     inode: u64,
 }
 
-/// Returns which regular file a path leads to. Returns `None` if it leads to something else, or if
-/// the system does not tell.
+/// Returns the regular file to which a path leads. Returns `None` if it leads to something else, or
+/// if the system does not identify it.
 fn regular_file<F: Files>(files: &F, path: &str) -> Option<FileId> {
     match files.metadata(path) {
         Ok(found) if found.is_file() && found.ino() != 0 => Some(FileId {

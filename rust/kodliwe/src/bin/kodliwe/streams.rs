@@ -1,5 +1,5 @@
 // Made from crates/kodliwe/src/streams.rt by packaging/crate/erase.py: edit that file instead.
-//! What the program reads and writes: files and standard streams.
+//! The program's inputs: files, standard input, and symbols in memory.
 use crate::words::Source;
 use kodliwe::support::fs;
 use kodliwe::support::fs::{File, Files};
@@ -8,7 +8,7 @@ use kodliwe::support::vec::Vec;
 use std::io;
 use std::io::{Read, Write};
 
-/// A file that is opened where it is first read.
+/// A file that is opened when it is first read.
 pub struct LazyFile<'a, F: Files> {
     files: &'a F,
     path: &'a str,
@@ -27,7 +27,7 @@ impl<F: Files> Read for LazyFile<'_, F> {
     }
 }
 
-/// What of a text in memory is not read yet.
+/// A text in memory, as a reader. The first `taken` bytes are read.
 pub struct Text {
     bytes: Vec<u8>,
     taken: usize,
@@ -42,7 +42,7 @@ impl Read for Text {
     }
 }
 
-/// A source, as a reader.
+/// A source as a reader.
 pub enum SourceReader<'a, F: Files> {
     Stdin(Stdin),
     File(LazyFile<'a, F>),
@@ -50,7 +50,7 @@ pub enum SourceReader<'a, F: Files> {
 }
 
 impl<'a, F: Files> SourceReader<'a, F> {
-    /// Reads this source.
+    /// Returns a reader of this source. A file is not opened yet.
     pub fn new(files: &'a F, stdin: Stdin, source: Source<'a>) -> SourceReader<'a, F> {
         match source {
             Source::Stdin => SourceReader::Stdin(stdin),
@@ -74,7 +74,7 @@ impl<F: Files> Read for SourceReader<'_, F> {
     }
 }
 
-/// What a source is called where it can't be read.
+/// Returns the name of a source in an error message.
 pub fn source_name<'a>(source: &Source<'a>) -> &'a str {
     match source {
         Source::Stdin => "standard input",

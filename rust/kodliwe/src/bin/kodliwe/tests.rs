@@ -1,6 +1,6 @@
 // Made from crates/kodliwe/src/tests.rt by packaging/crate/erase.py: edit that file instead.
-//! The run over readers and writers that fail, and the words. What the filter gives for a text is
-//! tested with the library, by which this is compared.
+//! Tests the program's work with readers and writers that fail, and the parsing of arguments. The
+//! filter itself is tested in the library; here its output is the expected value.
 use crate::program::{Host, start};
 use crate::run::{Ended, Input, run};
 use crate::words::{Asked, Target, read_words};
@@ -21,7 +21,7 @@ use streams::{CallsWriter, ChunkReader, WatchedWriter, WatchingReader};
 mod calls;
 mod streams;
 
-/// What a log may have: both schemes, what only begins as one, a byte of Latin-1, NUL, long runs.
+/// The text of a log: both schemes, partial symbols, a byte of Latin-1, NUL, and long runs.
 const LOG: &[u8] = b"a _ZN3foo17h05af221e174051e9E\r\n\n_ _Z _R _ZN __R \
     _RNvC5crate4main.llvm.0 _RCs_3foo \xE9t\xE9 \0_ZN3fooE\0 _ZN1a1bE._ZN1cE _Z_ZN1a1bE$x\n_ZN3barE";
 
@@ -29,7 +29,7 @@ const LOG: &[u8] = b"a _ZN3foo17h05af221e174051e9E\r\n\n_ _Z _R _ZN __R \
 const FILTERED_LOG: &[u8] = b"a foo\r\n\n_ _Z _R _ZN __R \
     crate::main foo \xE9t\xE9 \0foo\0 a::b._ZN1cE _Z_ZN1a1bE$x\nbar";
 
-/// What the line filter writes of a text, which has to be UTF-8, with hashes or without.
+/// Returns the output of the line filter for a text, which has to be UTF-8, with or without hashes.
 fn by_lines(
     rt: &impl Abort,
     alloc: Global,
@@ -43,7 +43,7 @@ fn by_lines(
     Ok(wanted)
 }
 
-/// Runs over one reader, and answers what it wrote as errors too.
+/// Filters one reader into `output`. Returns how that ended, and what was written as errors.
 fn run_one<R: Read, W: Write>(
     alloc: Global,
     reader: R,
@@ -60,7 +60,7 @@ fn run_one<R: Read, W: Write>(
     Ok((ended, errors))
 }
 
-/// Asserts what a run over fillings of so many bytes writes.
+/// Asserts the output for chunks of this many bytes.
 fn assert_writes(
     rt: &impl Abort,
     alloc: Global,
@@ -154,7 +154,7 @@ fn what_is_finished_is_flushed_before_more_is_read() -> Result<(), Fail> {
     Ok(())
 }
 
-/// The words, as the program gets them.
+/// Returns the arguments as the program gets them.
 fn owned_words(alloc: Global, words: &[&str]) -> Result<Vec<String>, AllocError> {
     let mut owned = Vec::new(alloc);
     for word in words.iter() {
@@ -163,7 +163,7 @@ fn owned_words(alloc: Global, words: &[&str]) -> Result<Vec<String>, AllocError>
     Ok(owned)
 }
 
-/// Runs the program on these words, and asserts what it writes.
+/// Runs the program on these arguments, and asserts what it writes.
 fn assert_program<R: Abort + Files>(
     rt: &R,
     alloc: Global,
@@ -381,7 +381,7 @@ fn names_that_would_not_show_are_quoted() -> Result<(), Fail> {
     Ok(())
 }
 
-/// Asserts that these words ask for this output, with the hash kept and this limit.
+/// Asserts that these arguments request this output, with the hash kept and this limit.
 fn assert_request(
     rt: &impl Abort,
     alloc: Global,

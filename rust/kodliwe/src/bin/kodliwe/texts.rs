@@ -1,5 +1,5 @@
 // Made from crates/kodliwe/src/texts.rt by packaging/crate/erase.py: edit that file instead.
-//! The texts of the program.
+//! The texts that the program prints.
 
 pub const VERSION: &str = "\
 kodliwe 0.1.0

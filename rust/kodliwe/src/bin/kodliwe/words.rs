@@ -1,61 +1,63 @@
 // Made from crates/kodliwe/src/words.rt by packaging/crate/erase.py: edit that file instead.
-//! The words of the command line.
+//! Parses the command-line arguments.
 
 use kodliwe::rustc_demangle::{demangle_bytes, run_start};
 use kodliwe::support::alloc::{AllocError, Global};
 use kodliwe::support::string::String;
 use kodliwe::support::vec::Vec;
 
-/// The most bytes of a path, where no word says another number.
+/// The default limit on the bytes of a path.
 const LIMIT: usize = 1_000_000;
 
-/// Text to filter, in the place that the command line gives it.
+/// A text to filter, in the order of the arguments.
 pub enum Source<'a> {
     Stdin,
     File(&'a str),
-    /// Symbols in a row, each with a line feed behind it.
+    /// Consecutive symbols, each followed by a line feed.
     Symbols(Vec<u8>),
 }
 
-/// A place to write to, as the command line names it.
+/// The output that the arguments name.
 #[derive(Clone, Copy, Debug, PartialEq, Eq)]
 pub enum Target<'a> {
     Stdout,
     File(&'a str),
 }
 
-/// What to filter, and how.
+/// The texts to filter, and the options.
 pub struct Request<'a> {
-    /// The texts to filter, in the order of the words. If it is empty, standard input is filtered.
+    /// The texts to filter, in the order of the arguments. If it is empty, standard input is
+    /// filtered.
     pub sources: Vec<Source<'a>>,
     /// The value of `-o`, if it was given.
     pub output: Option<Target<'a>>,
     pub include_hash: bool,
     /// The largest number of bytes of a path.
     pub limit: usize,
-    /// The first word that is a SYMBOL and that the filter does not change.
+    /// The first SYMBOL that the filter does not change.
     pub plain_word: Option<&'a str>,
 }
 
-/// What the words ask for.
+/// The action that the arguments request.
 pub enum Asked<'a> {
     Help,
     Version,
     Filter(Request<'a>),
 }
 
-/// Why words are refused.
+/// Why the arguments are invalid.
 #[derive(Clone, Copy)]
 pub enum WordsFault<'a> {
-    /// No option is written as this word.
+    /// This argument starts with `-` but is not an option.
     Unknown(&'a str),
-    /// The option that this word is has no FILE behind it.
+    /// The option in this argument has no FILE after it.
     NoFile(&'a str),
-    /// The option that this word is has no number of bytes in it or behind it.
+    /// The option in this argument has no number of bytes in it or after it.
     NoNumber(&'a str),
-    /// The value of the option that the first word is, the second text, is not a number of bytes.
+    /// The first text is an option's argument, and the second its value, which is not a number of
+    /// bytes.
     BadNumber(&'a str, &'a str),
-    /// The option that this word is was given before.
+    /// The option in this argument was given before.
     SecondOutput(&'a str),
     Memory,
 }
@@ -74,13 +76,13 @@ pub enum ValuedOption {
     Limit,
 }
 
-/// What one word is, in front of `--`.
+/// The kind of one argument before `--`.
 #[derive(Clone, Copy)]
 pub enum Word<'a> {
     Symbol,
     Stdin,
     End,
-    /// An option, with its value where the word has it.
+    /// An option, with its value if the argument includes it.
     Valued(ValuedOption, Option<&'a str>),
     Hash,
     Help,
@@ -88,16 +90,16 @@ pub enum Word<'a> {
     Unknown,
 }
 
-/// What the next word is taken for.
+/// The meaning of the next argument.
 #[derive(Clone, Copy)]
 pub enum Next<'a> {
     Anything,
-    /// The value of the option that this word was.
+    /// The value of the option in this argument.
     Value(ValuedOption, &'a str),
     Symbol,
 }
 
-/// What a word that was taken leaves to do.
+/// The action after an argument is read.
 #[derive(Clone, Copy)]
 pub enum Taken<'a> {
     Next(Next<'a>),
@@ -105,8 +107,8 @@ pub enum Taken<'a> {
     Version,
 }
 
-/// Whether a word is the option `short` or `long`, and the value that it has within itself, as
-/// `-iFILE` or `--input=FILE`.
+/// Returns whether an argument is the option `short` or `long`, and the value if the argument
+/// includes it, as `-iFILE` or `--input=FILE`.
 fn option_value<'a>(word: &'a str, short: &str, long: &str) -> Option<Option<&'a str>> {
     if word == short || word == long {
         return Some(None);
@@ -122,7 +124,7 @@ fn option_value<'a>(word: &'a str, short: &str, long: &str) -> Option<Option<&'a
     }
 }
 
-/// Reads one word, in front of `--`.
+/// Returns the kind of an argument before `--`.
 fn read_word(word: &str) -> Word<'_> {
     if !word.starts_with("-") {
         return Word::Symbol;
@@ -155,7 +157,7 @@ fn read_word(word: &str) -> Word<'_> {
 }
 
 impl<'a> Request<'a> {
-    /// A request for which no word was read.
+    /// Returns a request with the default options and nothing to filter.
     fn new(alloc: Global) -> Request<'a> {
         Request {
             sources: Vec::new(alloc),
@@ -166,7 +168,7 @@ impl<'a> Request<'a> {
         }
     }
 
-    /// Adds a symbol, as a line of its own.
+    /// Adds a symbol as a separate line. Fails if memory can't be allocated.
     fn add_symbol(&mut self, alloc: Global, symbol: &'a str) -> Result<(), AllocError> {
         if self.plain_word.is_none() && !has_symbol(alloc, symbol)? {
             self.plain_word = Some(symbol);
@@ -184,7 +186,7 @@ impl<'a> Request<'a> {
         Ok(())
     }
 
-    /// Adds a file, which is standard input where it is named `-`.
+    /// Adds a file, or standard input if its name is `-`. Fails if memory can't be allocated.
     fn add_file(&mut self, file: &'a str) -> Result<(), AllocError> {
         let source = if file == "-" {
             Source::Stdin
@@ -195,7 +197,7 @@ impl<'a> Request<'a> {
         Ok(())
     }
 
-    /// Sets the place to write to. Fails if it was set before, by the option that `word` is.
+    /// Sets the output. Fails if the output was set before; `word` is the option's argument.
     fn set_output(&mut self, word: &'a str, value: &'a str) -> Result<(), WordsFault<'a>> {
         if self.output.is_some() {
             return Err(WordsFault::SecondOutput(word));
@@ -208,7 +210,8 @@ impl<'a> Request<'a> {
         Ok(())
     }
 
-    /// Takes the value of an option, which `word` was.
+    /// Applies the value of an option; `word` is the option's argument. Fails if the value is not
+    /// valid, if the output was set before, or if memory can't be allocated.
     fn take_value(
         &mut self,
         option: ValuedOption,
@@ -228,7 +231,8 @@ impl<'a> Request<'a> {
         Ok(())
     }
 
-    /// Takes a word that is an option, with its value where the word has it.
+    /// Applies an option, or waits for its value if the argument does not include it. Fails as
+    /// `take_value` does.
     fn take_option(
         &mut self,
         option: ValuedOption,
@@ -242,7 +246,8 @@ impl<'a> Request<'a> {
         Ok(Taken::Next(Next::Anything))
     }
 
-    /// Takes a word in front of `--` that is no option's value.
+    /// Applies an argument before `--` that is not an option's value. Fails if the argument is not
+    /// valid or memory can't be allocated.
     fn take_first(&mut self, alloc: Global, word: &'a str) -> Result<Taken<'a>, WordsFault<'a>> {
         match read_word(word) {
             Word::Symbol => self.add_symbol(alloc, word)?,
@@ -257,7 +262,7 @@ impl<'a> Request<'a> {
         Ok(Taken::Next(Next::Anything))
     }
 
-    /// Takes one word.
+    /// Applies one argument. Fails if it is not valid or memory can't be allocated.
     fn take_word(
         &mut self,
         alloc: Global,
@@ -278,7 +283,8 @@ impl<'a> Request<'a> {
     }
 }
 
-/// Returns whether a text has a symbol, which the filter replaces.
+/// Returns whether a text contains a symbol, which the filter would replace. Fails if memory can't
+/// be allocated.
 fn has_symbol(alloc: Global, text: &str) -> Result<bool, AllocError> {
     if run_start(text.as_bytes()).is_none() {
         return Ok(false);
@@ -290,14 +296,14 @@ fn has_symbol(alloc: Global, text: &str) -> Result<bool, AllocError> {
     }
 }
 
-/// Adds a text and a line feed.
+/// Appends a text and a line feed. Fails if memory can't be allocated.
 fn push_line(lines: &mut Vec<u8>, text: &str) -> Result<(), AllocError> {
     lines.extend_from_slice(text.as_bytes())?;
     lines.push(b'\n')?;
     Ok(())
 }
 
-/// The refusal of an option behind which no word stands.
+/// Returns the error for an option without a value after it.
 fn lacking(option: ValuedOption, word: &str) -> WordsFault<'_> {
     match option {
         ValuedOption::Input | ValuedOption::Output => WordsFault::NoFile(word),
@@ -305,12 +311,16 @@ fn lacking(option: ValuedOption, word: &str) -> WordsFault<'_> {
     }
 }
 
-/// Reads the words behind the program's name.
+/// Parses the arguments after the program's name.
 ///
-/// Options and symbols may stand in any order; behind `--` each word is a symbol. Of `--help` and
-/// `--version` the first holds, and no word behind it is read. It is refused at the first word that
-/// begins with `-` and is no option, at an option without its FILE or its number of BYTES, at a
-/// second `-o`, and where memory is refused.
+/// Options and symbols may come in any order. After `--` each argument is a symbol. The first
+/// `--help` or `--version` is the result, and no argument after it is read.
+///
+/// # Errors
+///
+/// Fails at the first argument that starts with `-` and is not an option. Fails at an option
+/// without its FILE or its number of BYTES, and at a second `-o`. Fails if memory can't be
+/// allocated.
 pub fn read_words<'a>(alloc: Global, words: &'a [String]) -> Result<Asked<'a>, WordsFault<'a>> {
     let mut request = Request::new(alloc);
     let mut next = Next::Anything;

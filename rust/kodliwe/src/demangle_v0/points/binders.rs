@@ -1,5 +1,5 @@
 // Made from crates/demangle_v0/src/points/binders.rt by packaging/crate/erase.py: edit that file instead.
-//! Binders: lifetimes that a function type or dyn traits bring into force.
+//! Binders: lifetimes that a function type or dyn traits bring into scope.
 
 use crate::demangle_sink::SinkRefused;
 use crate::demangle_v0::points::parser::Parser;
@@ -7,7 +7,7 @@ use crate::demangle_words::output::Output;
 use crate::demangle_words::stretch::Stretch;
 
 impl<const N: usize> Parser<'_, N> {
-    /// Brings `number` further lifetimes into force, and prints them.
+    /// Brings `number` further lifetimes into scope, and prints them.
     ///
     /// Fails if the output does.
     #[inline(always)]

@@ -81,7 +81,7 @@ impl<const N: usize> Parser<'_, N> {
         list.element()
     }
 
-    /// Starts the second element of a tuple, or leaves the comma that follows a single element.
+    /// Starts the second element of a tuple, or queues the comma that follows a single element.
     #[inline(always)]
     pub(super) fn second_tuple_constant(&mut self) -> Point {
         if self.ends_list() {

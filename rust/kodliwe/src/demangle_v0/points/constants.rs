@@ -24,7 +24,7 @@ impl<const N: usize> Parser<'_, N> {
 
     /// Returns `constant`, and puts it in braces if the constant is outside value position.
     ///
-    /// It leaves the opening brace and pushes a frame for the closing one.
+    /// It queues the opening brace and pushes a frame for the closing one.
     #[inline(always)]
     fn with_braces(&mut self, constant: Point) -> Point {
         // An expression that is not a literal needs braces in Rust as an argument of a path.
@@ -37,7 +37,7 @@ impl<const N: usize> Parser<'_, N> {
 
     /// Reads a number that may be negative, after its tag.
     ///
-    /// It leaves the `-` of a negative number, whose digits the next step reads.
+    /// It queues the `-` of a negative number, whose digits the next step reads.
     #[inline(always)]
     fn signed_number<V: Output>(&mut self, tag: u8, output: &mut V) -> Result<Point, Stop> {
         let at = self.state.at()?;

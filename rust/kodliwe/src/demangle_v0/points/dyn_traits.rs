@@ -11,8 +11,8 @@ impl<const N: usize> Parser<'_, N> {
     /// Queues the `dyn ` of a dyn type, after its `D`. The binder of its traits follows.
     #[inline(always)]
     pub(super) fn dyn_type(&mut self) -> Point {
-        // The lifetime of the type follows the traits, outside their binder: the frame has the
-        // lifetimes that are in force without it.
+        // The lifetime of the type follows the traits, outside their binder. So the frame has only
+        // the lifetimes that are in scope without it.
         self.push(Point::DynLifetime);
         self.put(Mark::Dyn);
         Point::DynBinder

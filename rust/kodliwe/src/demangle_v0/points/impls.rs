@@ -12,7 +12,7 @@ impl<const N: usize> Parser<'_, N> {
         let Some(at) = self.state.place else {
             return Err(Stop::Fault(Mark::AfterError));
         };
-        // The disambiguator tells the impls of a module apart, and is not printed.
+        // The disambiguator distinguishes the impls of a module, and is not printed.
         let Ok((_, next)) = self.source.symbol.opt_integer_62(b's', at, &mut self.looks) else {
             return Err(Stop::Fault(Mark::Invalid));
         };

@@ -5,7 +5,7 @@ use crate::demangle_v0::points::Point;
 use crate::demangle_v0::points::parser::Parser;
 use crate::demangle_words::texts::Mark;
 
-/// What such a continuation does.
+/// A fixed text to queue, and what follows it.
 #[derive(Clone, Copy)]
 pub struct Left {
     /// The text that it queues.
@@ -16,7 +16,7 @@ pub struct Left {
     in_value: bool,
 }
 
-/// Returns what `point` does, or `None` if it does more than queue a fixed text.
+/// Returns what `point` queues, or `None` if it does more than queue a fixed text.
 #[inline(always)]
 fn left_at(point: Point) -> Option<Left> {
     let (mark, next, in_value) = match point {

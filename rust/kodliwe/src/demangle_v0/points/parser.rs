@@ -39,7 +39,7 @@ impl<'m, const N: usize> Parser<'m, N> {
         }
     }
 
-    /// Returns a parser that continues where this one is, but has no frames. Moves the count of looks
+    /// Returns a parser in the same state as this one, but without frames. Moves the count of looks
     /// into it.
     // The caller appends the frames: a parser that is returned with its frames would be copied.
     #[inline(always)]
@@ -68,13 +68,13 @@ impl<const N: usize> Parser<'_, N> {
         self.stack.push(Frame { letter, ..frame });
     }
 
-    /// Leaves a fixed text, which is printed at the end of the step.
+    /// Queues a fixed text, which is printed at the end of the step.
     #[inline(always)]
     pub(super) fn put(&mut self, mark: Mark) {
         self.state.mark = Some(mark);
     }
 
-    /// Leaves the fixed text with which the production ends.
+    /// Queues the fixed text with which the production ends.
     #[inline(always)]
     pub(super) fn end_with(&mut self, mark: Mark) -> Point {
         self.state.mark = Some(mark);

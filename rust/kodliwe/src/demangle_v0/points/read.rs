@@ -6,7 +6,7 @@ use crate::demangle_v0::points::parser::Parser;
 use crate::demangle_v0::points::{Point, State};
 use crate::demangle_words::output::Silent;
 
-/// A checkpoint: where a parse continues, in a symbol and above frames that are kept elsewhere.
+/// A checkpoint: a continuation and its state. The symbol and the frames are kept elsewhere.
 #[derive(Clone, Copy)]
 pub struct Reading {
     pub point: Point,
@@ -14,7 +14,7 @@ pub struct Reading {
 }
 
 impl State {
-    /// Returns the state in which the path at a place begins.
+    /// Returns the checkpoint before the path at a place.
     #[inline(always)]
     pub(super) fn at_path(place: usize) -> Self {
         State {
@@ -36,7 +36,7 @@ pub enum Halt {
     Over,
     /// The stack is full.
     Full,
-    /// The symbol has a syntax error there.
+    /// The parser found an error.
     Failed,
 }
 
@@ -48,7 +48,7 @@ impl<const N: usize> Parser<'_, N> {
         self.state = State::at_path(place);
     }
 
-    /// Returns the place at which the parser is, unless it found a syntax error.
+    /// Returns the place of the next byte, or `None` after an error.
     #[inline(always)]
     pub(crate) fn place(&self) -> Option<usize> {
         self.state.place

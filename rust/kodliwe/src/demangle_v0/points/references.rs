@@ -1,5 +1,5 @@
 // Made from crates/demangle_v0/src/points/references.rt by packaging/crate/erase.py: edit that file instead.
-//! Back references, which point to a path, type or constant before them.
+//! Back references, whose target is a path, type or constant before them.
 
 use crate::demangle_v0::points::frames::Frame;
 use crate::demangle_v0::points::parser::Parser;
@@ -10,8 +10,8 @@ use crate::demangle_words::reference::{Reference, refer};
 impl<const N: usize> Parser<'_, N> {
     /// Reads a back reference after its `B`, and continues at its target if `output` prints.
     ///
-    /// `unit` is the continuation at which the target begins. The frame on top of the stack then
-    /// says where the reference ends.
+    /// `unit` is the continuation at which the target begins. The frame on top of the stack then has
+    /// the place after the reference.
     #[inline(always)]
     pub(super) fn follow_backref<V: Output>(
         &mut self,

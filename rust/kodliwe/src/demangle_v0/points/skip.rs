@@ -36,8 +36,8 @@ impl<const N: usize> Parser<'_, N> {
         };
     }
 
-    /// Reads the rest of an impl path, if one was read so far, and continues after it. Returns what
-    /// is left to print if the stack is full before.
+    /// Reads the rest of an impl path, if `left` is in one, and continues after it. Returns what is
+    /// left to print if the stack is full before the path ends.
     // It is not inlined, so that the loop of printing stays small.
     #[inline(never)]
     pub(crate) fn finish_impl_path(&mut self, left: Left) -> Option<Left> {
@@ -59,7 +59,7 @@ impl<const N: usize> Parser<'_, N> {
     }
 
     /// Reads the impl path at which the parser is, and continues after it. Returns what is left to
-    /// print if the stack is full before.
+    /// print if the stack is full before the path ends.
     #[inline(always)]
     pub(crate) fn skip_impl_path(&mut self) -> Option<Left> {
         let base = self.stack.len();

@@ -1,5 +1,5 @@
 // Made from crates/demangle_v0/src/points/step.rt by packaging/crate/erase.py: edit that file instead.
-//! Steps: what is done at a continuation, the fixed text that it leaves, and what is next.
+//! Steps: each runs a continuation, prints the fixed text that it queued, and returns what is next.
 
 use crate::demangle_sink::SinkRefused;
 use crate::demangle_v0::points::frames::Frame;
@@ -9,7 +9,7 @@ use crate::demangle_words::output::Output;
 use crate::demangle_words::stretch::Stretch;
 
 impl State {
-    /// Restores what a frame keeps.
+    /// Restores the state that a frame saved.
     #[inline(always)]
     fn resume(&mut self, frame: Frame) {
         self.in_value = frame.in_value;
@@ -20,7 +20,7 @@ impl State {
 }
 
 impl<const N: usize> Parser<'_, N> {
-    /// Prints the fixed text that a continuation left, if there is one.
+    /// Prints the fixed text that a continuation queued, if there is one.
     #[inline(always)]
     fn flush_pending_text<V: Output>(&mut self, output: &mut V) -> Result<(), SinkRefused> {
         let mark = self.state.mark;
@@ -34,10 +34,10 @@ impl<const N: usize> Parser<'_, N> {
         }
     }
 
-    /// Reads and prints what a continuation says, and prints the fixed text that it left. Returns the
-    /// next continuation.
+    /// Runs a continuation, which may read and print a token, and prints the fixed text that it
+    /// queued. Returns the next continuation.
     ///
-    /// Fails if the output refuses a piece. An output that prints never gets an impl path, which is
+    /// Fails if the output does. A parse that prints never runs an impl path here, because that is
     /// not printed.
     #[inline(always)]
     pub(crate) fn step<V: Output>(

@@ -28,7 +28,7 @@ fn spaced_lifetime(lifetimes: u128, index: u64, next: usize) -> (Stretch, Option
 }
 
 impl<const N: usize> Parser<'_, N> {
-    /// Leaves the `&` of a reference, and reads the `L` if a lifetime follows.
+    /// Queues the `&` of a reference, and reads the `L` if a lifetime follows.
     #[inline(always)]
     pub(super) fn reference_type(&mut self, is_mut: bool) -> Point {
         self.put(Mark::Ampersand);

@@ -1,5 +1,5 @@
 // Made from crates/demangle_v0/src/points/types.rt by packaging/crate/erase.py: edit that file instead.
-//! The points of types.
+//! Continuations of types.
 
 use crate::demangle_v0::points::parser::Parser;
 use crate::demangle_v0::points::{Point, Stop};
@@ -7,7 +7,7 @@ use crate::demangle_words::output::Output;
 use crate::demangle_words::tags::{ConstructedType, TypeKind, type_kind};
 use crate::demangle_words::texts::{Mark, basic_mark};
 
-/// Whether a type is begun, and not only gone on with behind its `w`.
+/// Returns `true` if the type begins here. Otherwise its `w` was read, and the rest follows.
 #[inline(always)]
 pub(super) fn is_begun(point: Point) -> bool {
     match point {
@@ -17,7 +17,10 @@ pub(super) fn is_begun(point: Point) -> bool {
 }
 
 impl<const N: usize> Parser<'_, N> {
-    /// Reads a type. If the type begins here, reads its `w` if it has one, and leaves the rest.
+    /// Reads a type up to its first nested type or path.
+    ///
+    /// If the type begins here and has a `w`, only the `w` is read, and the rest is left for the
+    /// next step. Fails after an error, at the end of the symbol, and if no depth is left.
     #[inline(always)]
     pub(super) fn type_<V: Output>(
         &mut self,
@@ -30,19 +33,19 @@ impl<const N: usize> Parser<'_, N> {
         let Some(tag) = self.source.symbol.byte(at, &mut self.looks) else {
             return Err(Stop::Fault(Mark::Invalid));
         };
-        // A basic type raises no depth, so it is read at the limit too.
+        // A basic type does not raise the depth, so it can be read at the limit.
         if let Some(mark) = basic_mark(tag) {
             self.state.place = Some(at + 1);
             return Ok(self.end_with(mark));
         }
-        // A `w` is no basic type, so it is looked for only after those.
+        // `w` is not a basic type, so it is only tested after those.
         if is_begun && tag == b'w' {
             self.state.place = Some(at + 1);
             self.put(Mark::Splat);
             return Ok(Point::TaggedType);
         }
         self.enter()?;
-        // Any other tag is a path's, which is read again from that tag on, and raises the depth
+        // Any other tag is a path's. The path is read again from that tag on, and raises the depth
         // once more.
         let Some(kind) = type_kind(tag) else {
             self.state.in_value = false;
@@ -52,8 +55,8 @@ impl<const N: usize> Parser<'_, N> {
         self.type_behind_tag(kind, output)
     }
 
-    /// A type that is no basic one, behind its tag.
-    // References are the commonest, and lie deepest in one another: theirs alone is no call.
+    /// Starts a type that is not basic, after its tag.
+    // References are the most common types and nest deepest, so only they do not need a call.
     #[inline(always)]
     fn type_behind_tag<V: Output>(
         &mut self,
@@ -63,12 +66,12 @@ impl<const N: usize> Parser<'_, N> {
         match kind {
             TypeKind::SharedReference => Ok(self.reference_type(false)),
             TypeKind::MutReference => Ok(self.reference_type(true)),
-            // A copy, so that what others answer need not lie where the call writes its answer.
+            // A copy, so that the other results need not be at the address to which the call writes.
             TypeKind::Constructed(kind) => Ok(self.constructed_type(kind, output)?),
         }
     }
 
-    /// A type that is made of others and no reference, behind its tag.
+    /// Starts a type that consists of others and is not a reference, after its tag.
     #[inline(never)]
     fn constructed_type<V: Output>(
         &mut self,
@@ -108,7 +111,7 @@ impl<const N: usize> Parser<'_, N> {
         }
     }
 
-    /// Puts a frame on the stack that does nothing but print, where that is heard.
+    /// Pushes a frame that does nothing but print, if `output` prints.
     #[inline(always)]
     pub(super) fn push_printing<V: Output>(&mut self, point: Point, output: &V) {
         if output.is_printing() {
@@ -116,7 +119,7 @@ impl<const N: usize> Parser<'_, N> {
         }
     }
 
-    /// The length of an array, behind its type.
+    /// Queues the `; ` after the element type of an array. Its length follows.
     #[inline(always)]
     pub(super) fn array_length<V: Output>(&mut self, output: &mut V) -> Point {
         self.push_printing(Point::CloseBracket, output);

@@ -9,7 +9,7 @@ use crate::demangle_words::tags::{VariantKind, variant_kind};
 use crate::demangle_words::texts::{Mark, Word};
 
 impl<const N: usize> Parser<'_, N> {
-    /// Ends a variant without fields, and leaves its closing brace outside value position.
+    /// Ends a variant without fields, and queues its closing brace outside value position.
     #[inline(always)]
     fn unit_variant(&mut self) -> Point {
         self.state.is_open = false;
@@ -20,7 +20,7 @@ impl<const N: usize> Parser<'_, N> {
         Point::End
     }
 
-    /// Leaves the text that opens a variant's fields, and returns `fields`.
+    /// Queues the text that opens a variant's fields, and returns `fields`.
     ///
     /// Outside value position it also pushes a frame for the variant's closing brace.
     #[inline(always)]

@@ -1,5 +1,5 @@
 // Made from crates/demangle_v0/src/tests/rows.rt by packaging/crate/erase.py: edit that file instead.
-//! Symbols behind their prefix, with what they print with the hash and without it.
+//! Symbols without their prefix, with their texts with the hash and without it.
 
 pub const CONSTANTS: &[(&str, &str, &str)] = &[
     ("IC1aL_uKpE", "a::<'_, (), _>", "a::<'_, (), _>"),

@@ -34,7 +34,7 @@ fn put_disambiguator<S: TextSink>(
     out.put("]")
 }
 
-/// Prints what a special namespace holds.
+/// Prints the kind of a special namespace: `closure`, `shim`, or the letter of any other.
 fn put_special_kind<S: TextSink>(
     namespace: u8,
     out: &mut SizeLimitedFmtAdapter<'_, S>,
@@ -54,7 +54,7 @@ fn put_index<S: TextSink>(
     numbers::put_decimal(number as u128, out)
 }
 
-/// Prints what a special name ends in: `#`, its disambiguator and `}`.
+/// Prints the end of a special name: `#`, its disambiguator and `}`.
 fn put_special_suffix<S: TextSink>(
     number: u64,
     out: &mut SizeLimitedFmtAdapter<'_, S>,

@@ -1,5 +1,5 @@
 // Made from crates/rustc_demangle/src/stream/bytes.rt by packaging/crate/erase.py: edit that file instead.
-//! The demangling of any bytes that come from a reader.
+//! Demangles any bytes that come from a reader.
 
 use crate::rustc_demangle::stream::carrying::{finish, take_some};
 use crate::rustc_demangle::stream::fault::{StreamFault, read_fault};
@@ -10,25 +10,28 @@ use crate::support::vec::Vec;
 use std::io;
 use std::io::{BufRead, Write};
 
-/// A filter of any bytes, which keeps the run that the bytes so far end with.
+/// A filter of any bytes. It buffers the unfinished run at the end of the bytes so far.
 pub struct BytesFilter<A: Allocator> {
     carried: Vec<u8, A>,
 }
 
 impl<A: Allocator> BytesFilter<A> {
-    /// A filter that has had no bytes.
+    /// Returns a filter that has read no bytes.
     pub fn new(alloc: A) -> Self {
         BytesFilter {
             carried: Vec::new(alloc),
         }
     }
 
-    /// Takes some of the bytes that the reader shows and writes what is known of them. Returns
-    /// `false` at the end of the input, after the text of the carried run is written. The memo says
-    /// how symbols are printed, and remembers their texts.
+    /// Filters some of the reader's available bytes, and writes what is certain. Returns `false` at
+    /// the end of the input, after the pending run is written. The memo determines how symbols are
+    /// printed, and remembers their texts.
     ///
-    /// If the reader fails or memory is refused, nothing is taken and nothing is written: the same
-    /// step can be made again, as after a read that was interrupted.
+    /// # Errors
+    ///
+    /// Fails if the reader or the writer fails, or if memory can't be allocated. If the reader or
+    /// an allocation fails, nothing is consumed and nothing is written. The caller can then repeat
+    /// the step, for example after an interrupted read.
     pub fn step<R: BufRead, W: Write>(
         &mut self,
         input: &mut R,
@@ -49,7 +52,7 @@ impl<A: Allocator> BytesFilter<A> {
     }
 }
 
-/// Takes steps up to the end of the input.
+/// Makes steps up to the end of the input. Fails as `BytesFilter::step` does.
 fn take_steps<R: BufRead, W: Write, A: Allocator>(
     filter: &mut BytesFilter<A>,
     input: &mut R,
@@ -64,17 +67,22 @@ fn take_steps<R: BufRead, W: Write, A: Allocator>(
     Err(StreamFault::Read(io::Error::other("too many steps")))
 }
 
-/// Writes the input, which may be any bytes, with each symbol of it demangled and cut at `limit`
-/// bytes before its suffix.
+/// Writes the input, which may be any bytes, with each symbol of it demangled. Each symbol is cut
+/// at `limit` bytes before its suffix.
 ///
-/// A symbol is looked for where `_ZN` or `_R` stands, up to the next byte that is no ASCII letter,
-/// no digit and none of `$`, `.` and `_`. What is no symbol is written as it was. It reads in the
-/// reader's chunks and not by lines: what a chunk has between two such runs is one write. It keeps in
-/// memory the run that the bytes so far end with, and a `SymbolMemo`. So a symbol that comes again is
-/// one write. The first time its pieces are a write each.
+/// A candidate symbol, or run, starts with `_ZN` or `_R`. It continues up to the next byte that is
+/// not an ASCII letter, a digit, `$`, `.` or `_`. A run that is not a symbol is written unchanged.
 ///
-/// It fails if the reader or the writer fails, or if memory is refused to the buffer of the run. It
-/// never fails because the bytes are not UTF-8, nor because memory is refused to the memo.
+/// The input is read in the reader's chunks and not by lines. The bytes of a chunk between two runs
+/// are one write. Memory holds the unfinished run at the end of the bytes so far, and a
+/// `SymbolMemo`. So a repeated symbol is one write. The first time, each of its pieces is one
+/// write.
+///
+/// # Errors
+///
+/// Fails if the reader or the writer fails, or if memory for the run can't be allocated. It never
+/// fails because the bytes are not UTF-8. It never fails because memory for the memo can't be
+/// allocated.
 pub fn demangle_bytes_limited<R: BufRead, W: Write>(
     alloc: Global,
     input: &mut R,
@@ -88,7 +96,7 @@ pub fn demangle_bytes_limited<R: BufRead, W: Write>(
 }
 
 /// Writes the input, which may be any bytes, with each symbol of it demangled, as
-/// `demangle_bytes_limited` does, and cut at 1,000,000 bytes.
+/// `demangle_bytes_limited` does. Each symbol is cut at 1,000,000 bytes.
 pub fn demangle_bytes<R: BufRead, W: Write>(
     alloc: Global,
     input: &mut R,

@@ -1,5 +1,6 @@
 // Made from crates/rustc_demangle/src/stream/carrying.rt by packaging/crate/erase.py: edit that file instead.
-//! Any bytes, filtered part by part: what is known is written, and an open run is carried.
+//! Filters bytes that arrive in chunks. Plain text and finished runs are written, and an unfinished
+//! run is buffered.
 
 use crate::rustc_demangle::runs::{begins_run, run_len, run_start, run_text};
 use crate::rustc_demangle::stream::fault::StreamFault;
@@ -8,7 +9,8 @@ use crate::support::alloc::Allocator;
 use crate::support::vec::Vec;
 use std::io::Write;
 
-/// Writes bytes by one call of the writer, and none by none.
+/// Writes bytes with one call of the writer, or with none if there are no bytes. Fails if the
+/// writer fails.
 fn keep_bytes<W: Write>(bytes: &[u8], output: &mut W) -> Result<(), StreamFault> {
     if bytes.is_empty() {
         return Ok(());
@@ -19,7 +21,7 @@ fn keep_bytes<W: Write>(bytes: &[u8], output: &mut W) -> Result<(), StreamFault>
     }
 }
 
-/// Writes what stands for a run.
+/// Writes the replacement of a run. Fails if the writer fails.
 fn pass_run<W: Write>(
     run: &[u8],
     output: &mut W,
@@ -31,7 +33,8 @@ fn pass_run<W: Write>(
     }
 }
 
-/// Writes what the filter gives for a carried text, to which nothing more comes.
+/// Writes the filtered form of the pending text, which is complete. Clears the text, even if the
+/// writer fails.
 pub(super) fn finish<W: Write, A: Allocator>(
     carried: &mut Vec<u8, A>,
     output: &mut W,
@@ -46,7 +49,8 @@ pub(super) fn finish<W: Write, A: Allocator>(
     written
 }
 
-/// Puts bytes behind the carried text.
+/// Appends bytes to the pending text. Fails if memory can't be allocated, and then leaves it
+/// unchanged.
 fn carry<A: Allocator>(carried: &mut Vec<u8, A>, bytes: &[u8]) -> Result<(), StreamFault> {
     if carried.extend_from_slice(bytes).is_err() {
         return Err(StreamFault::Memory);
@@ -54,7 +58,8 @@ fn carry<A: Allocator>(carried: &mut Vec<u8, A>, bytes: &[u8]) -> Result<(), Str
     Ok(())
 }
 
-/// How many bytes at the end of a text, in which no run begins, may be the beginning of one.
+/// Returns how many bytes at the end of a text may start a run that the next chunk continues. The
+/// text must contain no start of a run.
 fn beginning_len(text: &[u8]) -> usize {
     if text.ends_with(b"_") {
         1
@@ -65,7 +70,7 @@ fn beginning_len(text: &[u8]) -> usize {
     }
 }
 
-/// Whether the beginning of a run goes on with this byte.
+/// Returns whether a pending `_` or `_Z` may still start a run when this byte follows.
 fn goes_on(carried: &[u8], byte: u8) -> bool {
     if carried.len() == 1 {
         (byte == b'R') | (byte == b'Z')
@@ -74,7 +79,9 @@ fn goes_on(carried: &[u8], byte: u8) -> bool {
     }
 }
 
-/// Takes one byte behind the beginning of a run, or none and writes that beginning.
+/// Appends one byte to a pending `_` or `_Z` and returns 1, if it may still start a run. Otherwise
+/// writes the pending bytes as plain text and returns 0. Fails if the writer fails or memory can't
+/// be allocated.
 fn take_byte<W: Write, A: Allocator>(
     carried: &mut Vec<u8, A>,
     shown: &[u8],
@@ -89,7 +96,9 @@ fn take_byte<W: Write, A: Allocator>(
     Ok(0)
 }
 
-/// Takes what goes on with the carried run, and writes what stands for it where it ends.
+/// Appends the bytes that continue the pending run, and returns their number. Writes the run's
+/// replacement if the run ends before the chunk does. Fails if the writer fails or memory can't be
+/// allocated.
 fn take_run<W: Write, A: Allocator>(
     carried: &mut Vec<u8, A>,
     shown: &[u8],
@@ -104,7 +113,11 @@ fn take_run<W: Write, A: Allocator>(
     Ok(len)
 }
 
-/// Takes all up to the end of the first run, or what is no beginning of one and opens the rest.
+/// Filters a chunk when nothing is pending, and returns how many bytes it used.
+///
+/// Writes everything up to the end of the first run. If the chunk ends inside a run, or may end
+/// with the start of one, that part becomes pending. The text before it is written. Fails if the
+/// writer fails or memory can't be allocated.
 fn take_text<W: Write, A: Allocator>(
     carried: &mut Vec<u8, A>,
     shown: &[u8],
@@ -113,8 +126,8 @@ fn take_text<W: Write, A: Allocator>(
 ) -> Result<usize, StreamFault> {
     let Some(start) = run_start(shown) else {
         let (kept, beginning) = shown.split_at(shown.len() - beginning_len(shown));
-        // Carried before anything is written: where memory is refused, the same step can be made
-        // again.
+        // Buffered before anything is written. If memory can't be allocated, the caller can repeat
+        // the step.
         carry(carried, beginning)?;
         keep_bytes(kept, output)?;
         return Ok(shown.len());
@@ -131,7 +144,8 @@ fn take_text<W: Write, A: Allocator>(
     Ok(start + len)
 }
 
-/// Takes some of the bytes that a reader shows, writes what is known, and keeps what is carried.
+/// Filters a prefix of the available bytes, and returns its length. Writes all that is certain; an
+/// unfinished run stays pending. Fails if the writer fails or memory can't be allocated.
 pub(super) fn take_some<W: Write, A: Allocator>(
     carried: &mut Vec<u8, A>,
     shown: &[u8],

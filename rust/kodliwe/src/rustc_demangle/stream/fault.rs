@@ -5,20 +5,20 @@ use std::io;
 
 /// Why the stream stopped.
 pub enum StreamFault {
-    /// The reader answered this error, or there were more lines, or parts of one line, than can be
-    /// counted.
+    /// The reader returned this error. Or there were more lines, or more parts of one line, than
+    /// can be counted.
     Read(io::Error),
     /// A line is not UTF-8.
     NotUtf8,
-    /// The writer answered this error.
+    /// The writer returned this error.
     Write(io::Error),
-    /// The buffer of the line was refused memory, or the reader answered that it was.
+    /// Memory for the line can't be allocated, or the reader reported that of itself.
     Memory,
 }
 
 impl StreamFault {
-    /// The fault as an `io::Error`: that of the reader or the writer as it was, else a new one of
-    /// its kind.
+    /// Converts the error to an `io::Error`: the unchanged error of the reader or the writer, and
+    /// otherwise a new one of its kind.
     pub fn into_io(self) -> io::Error {
         match self {
             StreamFault::Read(error) => error,
@@ -31,7 +31,7 @@ impl StreamFault {
     }
 }
 
-/// The fault of an error that arose while a line was read.
+/// Returns the reason for an error of the reader.
 pub(super) fn read_fault(error: io::Error) -> StreamFault {
     if error.kind() == io::ErrorKind::OutOfMemory {
         StreamFault::Memory

@@ -1,5 +1,5 @@
 // Made from crates/rustc_demangle/src/stream/line.rt by packaging/crate/erase.py: edit that file instead.
-//! A line with its symbols demangled.
+//! Writes lines and runs with their symbols demangled.
 
 use crate::demangle_sink::WriteSink;
 use crate::rustc_demangle::text::demangle_text;
@@ -7,7 +7,7 @@ use crate::rustc_demangle::value::Demangle;
 use std::io;
 use std::io::Write;
 
-/// Writes what a symbol prints, each piece by a call of its own.
+/// Writes a symbol, with a separate write for each piece. Fails if the writer fails.
 fn write_symbol<W: Write>(
     symbol: &Demangle<'_>,
     output: &mut W,
@@ -15,7 +15,7 @@ fn write_symbol<W: Write>(
     limit: usize,
 ) -> io::Result<()> {
     let mut sink = WriteSink::new(output);
-    // Where it is refused, the sink has a fault.
+    // If it fails, the sink holds the writer's error.
     let _ = symbol.write_limited(&mut sink, include_hash, limit);
     match sink.into_fault() {
         Some(error) => Err(error),
@@ -23,12 +23,13 @@ fn write_symbol<W: Write>(
     }
 }
 
-/// Writes what is no symbol, by one call of the writer.
+/// Writes a run that is not a symbol, by one call of the writer. Fails if the writer fails.
 fn write_kept<W: Write>(text: &str, output: &mut W) -> io::Result<()> {
     output.write_all(text.as_bytes())
 }
 
-/// Writes what stands for a run: what it prints where it is a symbol, else the run.
+/// Writes the replacement of a run: the printed symbol, or the run itself if it is not a symbol.
+/// Fails if the writer fails.
 pub(super) fn write_run<W: Write>(
     run: &str,
     output: &mut W,
@@ -43,15 +44,15 @@ pub(super) fn write_run<W: Write>(
     }
 }
 
-/// Writes a line with each symbol of it demangled, each kept text and each piece by a call of its
-/// own.
+/// Writes a line with each symbol of it demangled. Each plain text and each piece is a separate
+/// write. Fails if the writer fails.
 pub(super) fn demangle_line<W: Write>(
     line: &str,
     output: &mut W,
     include_hash: bool,
 ) -> io::Result<()> {
     let mut sink = WriteSink::new(output);
-    // Where it is refused, the sink has a fault.
+    // If it fails, the sink holds the writer's error.
     let _ = demangle_text(line, &mut sink, include_hash);
     match sink.into_fault() {
         Some(error) => Err(error),

@@ -1,5 +1,5 @@
 // Made from crates/rustc_demangle/src/stream/memo.rt by packaging/crate/erase.py: edit that file instead.
-//! A memo of the symbols that a filter printed.
+//! Remembers the symbols that a filter printed.
 
 use crate::held_bytes::Held;
 use crate::rustc_demangle::stream::held_sink::HeldSink;
@@ -11,17 +11,17 @@ use std::io::Write;
 
 use crate::text_memo::{MAX_KEY, Noted, TextMemo, hash_of};
 
-/// Each lookup that finds nothing counts as one, and one that finds a text takes off this many. So
-/// the count grows if fewer than one lookup in twenty finds a text.
+/// A lookup that finds nothing adds one to the count, and one that finds a text subtracts this. So
+/// the count increases if fewer than one lookup in twenty finds a text.
 const HIT_WORTH: u32 = 19;
 
 /// The count at which a memo is turned off.
 const MAX_MISSES: u32 = 4096;
 
-/// The number of runs for which a memo is off, until it is tried again.
+/// The number of runs for which a memo stays off.
 const PAUSE: u32 = 32_768;
 
-/// Turns a memo off for a while if few symbols repeat.
+/// A counter that turns a memo off for a while if few symbols repeat.
 #[derive(Clone, Copy)]
 struct Probe {
     misses: u32,
@@ -56,8 +56,7 @@ impl Probe {
     }
 }
 
-/// How symbols are printed: with the hash or without it, and each cut at `limit` bytes before its
-/// suffix.
+/// How symbols are printed: with or without the hash, each cut at `limit` bytes before its suffix.
 #[derive(Clone, Copy)]
 struct Form {
     include_hash: bool,
@@ -70,12 +69,12 @@ struct Store {
     printed: Held,
 }
 
-/// Remembers what symbols print, so that a filter does not read a repeated symbol again.
+/// A memo of printed symbols, with which a filter does not parse a repeated symbol again.
 ///
-/// It belongs to one form of printing: with the hash or without it, and one limit. It takes at most
-/// 4.5 MB of memory: 32 KB if no symbol repeats, and none if there are no symbols. If memory is
-/// refused, symbols are read as without a memo. It turns itself off for a while if few symbols
-/// repeat.
+/// It belongs to one form of printing: with or without the hash, and one limit. It uses at most 4.5
+/// MB of memory: 32 KB if no symbol repeats, and none if there are no symbols. If memory can't be
+/// allocated, symbols are parsed as without a memo. The memo turns itself off for a while if few
+/// symbols repeat.
 pub struct SymbolMemo {
     form: Form,
     store: Store,
@@ -95,14 +94,15 @@ fn print_held(symbol: &Demangle<'_>, held: &mut Held, form: Form) -> bool {
 enum Printed {
     /// The run is a symbol, and its text is held.
     Symbol,
-    /// The run is no symbol, and its text is the run.
+    /// The run is not a symbol, and its text is the run.
     NoSymbol,
     /// The text of the run is too long.
     TooLong,
 }
 
-/// Returns whether a run is looked up: if it begins as a v0 symbol, or ends with the hash of a
-/// legacy one or with the digit of a suffix, and is not too long. Most other runs are no symbols.
+/// Returns whether a run is looked up. It must start as a v0 symbol, or end with the hash of a
+/// legacy symbol or the digit of a suffix. It must not be too short or too long. Most other runs
+/// are not symbols.
 #[inline(always)]
 fn is_looked_up(run: &[u8]) -> bool {
     if run.len() < 20 || run.len() > MAX_KEY {
@@ -114,7 +114,7 @@ fn is_looked_up(run: &[u8]) -> bool {
         | run[end - 1].is_ascii_digit()
 }
 
-/// Prints a run, and remembers its text.
+/// Prints a run, and remembers its text, or that it is too long.
 #[inline(never)]
 fn print_new(run: &str, hash: u64, form: Form, store: &mut Store) -> Printed {
     let symbol = Demangle::read_run(run);
@@ -135,8 +135,8 @@ fn print_new(run: &str, hash: u64, form: Form, store: &mut Store) -> Printed {
 }
 
 impl SymbolMemo {
-    /// Returns a memo of symbols that are printed with the hash or without it, and each cut at
-    /// `limit` bytes before its suffix.
+    /// Returns a memo of symbols that are printed with or without the hash, each cut at `limit`
+    /// bytes before its suffix.
     pub fn new(alloc: Global, include_hash: bool, limit: usize) -> Self {
         SymbolMemo {
             form: Form {
@@ -154,7 +154,8 @@ impl SymbolMemo {
         }
     }
 
-    /// Writes the text of a run that the memo has not. It is remembered if the run came before.
+    /// Writes the text of a run that is not in the memo. The text is remembered if the run came
+    /// before. Fails if the writer fails.
     #[inline(always)]
     fn write_new<W: Write>(&mut self, run: &str, hash: u64, output: &mut W) -> io::Result<()> {
         let Form {
@@ -172,7 +173,8 @@ impl SymbolMemo {
         }
     }
 
-    /// Writes the text of a run: what the symbol prints if the run is one, and otherwise the run.
+    /// Writes the replacement of a run: the printed symbol, or the run itself if it is not a
+    /// symbol. Fails if the writer fails.
     pub(super) fn write_run<W: Write>(&mut self, run: &str, output: &mut W) -> io::Result<()> {
         if !is_looked_up(run.as_bytes()) || !self.probe.is_on() {
             return write_run(run, output, self.form.include_hash, self.form.limit);

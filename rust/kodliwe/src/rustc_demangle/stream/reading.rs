@@ -1,5 +1,5 @@
 // Made from crates/rustc_demangle/src/stream/reading.rt by packaging/crate/erase.py: edit that file instead.
-//! A line from a reader, by the reader's fillings.
+//! Reads a line from a reader, in the reader's chunks.
 
 use crate::rustc_demangle::stream::fault::{StreamFault, read_fault};
 use crate::support::alloc::Allocator;
@@ -8,7 +8,8 @@ use crate::support::vec::Vec;
 use std::io;
 use std::io::BufRead;
 
-/// The length up to and including the first line feed, or the whole length.
+/// Returns the length up to and including the first line feed, or the complete length if there is
+/// none.
 fn len_through_feed(bytes: &[u8]) -> usize {
     match memchr(b'\n', bytes) {
         Some(at) => at + 1,
@@ -16,7 +17,8 @@ fn len_through_feed(bytes: &[u8]) -> usize {
     }
 }
 
-/// Takes one filling, up to and including its first line feed. `true` where the line is whole.
+/// Appends one chunk to the line, up to and including the chunk's first line feed. Returns whether
+/// the line is complete, and fails if the reader fails or memory can't be allocated.
 fn take_filling<R: BufRead, A: Allocator>(
     input: &mut R,
     line: &mut Vec<u8, A>,
@@ -34,7 +36,8 @@ fn take_filling<R: BufRead, A: Allocator>(
     Ok(is_whole)
 }
 
-/// Appends the rest of a line to the buffer, its line feed included.
+/// Appends the rest of a line to the buffer, including its line feed. Fails if the reader fails or
+/// memory can't be allocated.
 pub(super) fn read_line<R: BufRead, A: Allocator>(
     input: &mut R,
     line: &mut Vec<u8, A>,

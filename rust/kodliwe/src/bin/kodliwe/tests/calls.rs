@@ -1,5 +1,5 @@
 // Made from crates/kodliwe/src/tests/calls.rt by packaging/crate/erase.py: edit that file instead.
-//! Inputs and outputs of which each call fails in turn.
+//! Tests inputs and outputs that fail, once for each of their calls.
 use super::streams::{CallsWriter, ChunkReader, StutteringWriter};
 use super::{FILTERED_LOG, LOG, run_one};
 use crate::fault::report_call;
@@ -22,10 +22,11 @@ const TEXT: &[u8] = b"__ZN3fooE x\n_RCs_3foo \xFF _ZN3foo4headE\n_R_ZN3fooE \
 /// The text without hashes.
 const FILTERED: &[u8] = b"_foo x\nfoo \xFF foo\n_R_ZN3fooE foo@@16 foo";
 
-/// How many bytes the buffer below an output has room for.
+/// The capacities, in bytes, of the buffer below an output.
 const CAPACITIES: [usize; 4] = [0, 1, 5, BUFFER];
 
-/// What is known of the filtered text once so many bytes were read: all but the run that is open.
+/// The filtered text that is certain after this many bytes are read: all except the run that may
+/// continue.
 const KNOWN_AT: [(usize, &[u8]); 14] = [
     (2, b"_"),
     (10, b"foo "),
@@ -43,7 +44,7 @@ const KNOWN_AT: [(usize, &[u8]); 14] = [
     (76, b" "),
 ];
 
-/// What is known of the filtered text once so many bytes were read.
+/// Returns the filtered text that is certain after this many bytes are read.
 fn known_of(alloc: Global, count: usize) -> Result<Vec<u8>, AllocError> {
     let mut known = Vec::new(alloc);
     for (least, piece) in KNOWN_AT {
@@ -75,7 +76,7 @@ fn a_reader_that_fails_at_any_read_is_told_by_its_name() -> Result<(), Fail> {
     ];
     for (kind, line) in faults {
         for most in [1, 6, 50] {
-            // The last one of these reads would tell the end.
+            // The last one of these reads would report the end.
             for reads in 0..=TEXT.len().div_ceil(most) {
                 let reader = ChunkReader::new(TEXT, most).failing(reads, kind);
                 let mut output = Vec::new(alloc);
@@ -146,7 +147,7 @@ fn a_writer_that_fails_at_any_call_is_told() -> Result<(), Fail> {
     let alloc = rt.alloc();
     let text: &[u8] = b"x _ZN1a1bE y\n_ZN3fooE\n";
     let wanted: &[u8] = b"x a::b y\nfoo\n";
-    // Two bytes a write, and a flush before each reading and at the end.
+    // Two bytes a write, and a flush before each read and at the end.
     for calls in 0..100 {
         let mut output = CallsWriter::new(alloc, calls, ErrorKind::StorageFull, 2);
         let (ended, errors) = run_one(alloc, ChunkReader::new(text, 4), &mut output, false)?;
@@ -167,14 +168,14 @@ fn a_writer_that_fails_at_any_call_is_told() -> Result<(), Fail> {
     Ok(())
 }
 
-/// A text and what it is without hashes. It is read by so many bytes.
+/// A text, its filtered form without hashes, and the number of bytes of a read.
 struct Case {
     text: Vec<u8>,
     wanted: Vec<u8>,
     read: usize,
 }
 
-/// The text, and one with more symbols and with a longer piece than an output holds.
+/// Returns the text, and one with more symbols and with a longer piece than an output holds.
 fn cases(alloc: Global) -> Result<[Case; 2], AllocError> {
     let short = Case {
         text: Vec::from_slice(alloc, TEXT)?,
@@ -200,7 +201,7 @@ fn cases(alloc: Global) -> Result<[Case; 2], AllocError> {
     Ok([short, long])
 }
 
-/// Runs over the text into an output that lies over this writer, with room for so many bytes.
+/// Filters the text into an output over this writer, with a buffer of this many bytes.
 fn run_into(
     alloc: Global,
     case: &Case,
@@ -212,7 +213,7 @@ fn run_into(
     Ok(run_one(alloc, reader, &mut output, false)?)
 }
 
-/// Asserts what a run told that was refused a write or a flush.
+/// Asserts what was reported when a write or a flush failed.
 fn assert_unwritten(rt: &impl Abort, ended: Ended, errors: &[u8], calls: usize) {
     assert_eq!(ended, Ended::Unwritten, "at {calls}");
     assert_eq!(ended.status(), 1);
@@ -220,8 +221,8 @@ fn assert_unwritten(rt: &impl Abort, ended: Ended, errors: &[u8], calls: usize) 
     assert_eq!(errors, line, "at {calls}");
 }
 
-/// Asserts that all is written into a writer that takes so many bytes at a write. Answers how many
-/// calls it got.
+/// Asserts that everything is written into a writer that accepts this many bytes at a write.
+/// Returns how many calls it got.
 fn assert_complete(
     rt: &impl Abort,
     alloc: Global,
@@ -260,7 +261,7 @@ fn an_output_that_fails_at_any_call_holds_a_beginning() -> Result<(), Fail> {
         for capacity in CAPACITIES {
             let all = assert_complete(&rt, alloc, case, capacity, 100)?;
             for calls in 0..all {
-                // It takes the calls behind the one that it refuses.
+                // It accepts the calls after the one that fails.
                 let mut writer = CallsWriter::new(alloc, calls, ErrorKind::StorageFull, 100);
                 writer.fail_once();
                 let (ended, errors) = run_into(alloc, case, &mut writer, capacity)?;
@@ -279,7 +280,7 @@ fn a_last_flush_that_fails_is_told() -> Result<(), Fail> {
     let alloc = rt.alloc();
     for case in cases(alloc)?.iter() {
         for capacity in CAPACITIES {
-            // The last call is the flush behind all writes.
+            // The last call is the flush after all writes.
             let calls = assert_complete(&rt, alloc, case, capacity, 100)?.saturating_sub(1);
             let mut writer = CallsWriter::new(alloc, calls, ErrorKind::StorageFull, 100);
             let (ended, errors) = run_into(alloc, case, &mut writer, capacity)?;

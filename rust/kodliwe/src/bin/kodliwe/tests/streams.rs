@@ -1,23 +1,25 @@
 // Made from crates/kodliwe/src/tests/streams.rt by packaging/crate/erase.py: edit that file instead.
-//! Readers and writers that hand out little at a time, fail, or watch when the output is flushed.
+//! Readers and writers that transfer a few bytes at a time, fail, or check when the output is
+//! flushed.
 use core::cell::Cell;
 use kodliwe::support::alloc::Global;
 use kodliwe::support::vec::Vec;
 use std::io;
 use std::io::{ErrorKind, Read, Write};
 
-/// Hands out a text, at most so many bytes at a read, and fails at the read after so many.
+/// A reader of a text that gives at most `most` bytes at a read, and can fail after a number of
+/// reads.
 pub struct ChunkReader<'a> {
     rest: &'a [u8],
     most: usize,
     reads_left: usize,
     kind: ErrorKind,
-    /// Whether each second read is interrupted, and whether the next one is.
+    /// Whether every other read is interrupted, and whether the next one is.
     interrupted: Option<bool>,
 }
 
 impl<'a> ChunkReader<'a> {
-    /// Hands out at most so many bytes at a read.
+    /// Returns a reader that gives at most this many bytes at a read.
     pub fn new(text: &'a [u8], most: usize) -> ChunkReader<'a> {
         ChunkReader {
             rest: text,
@@ -28,7 +30,7 @@ impl<'a> ChunkReader<'a> {
         }
     }
 
-    /// The same, which fails at the read after so many.
+    /// Returns such a reader, which fails after this many reads.
     pub fn failing(self, reads: usize, kind: ErrorKind) -> ChunkReader<'a> {
         ChunkReader {
             rest: self.rest,
@@ -39,7 +41,7 @@ impl<'a> ChunkReader<'a> {
         }
     }
 
-    /// The same, each second read of which is interrupted, from the first on.
+    /// Returns such a reader with every other read interrupted, from the first one on.
     pub fn interrupted(self) -> ChunkReader<'a> {
         ChunkReader {
             rest: self.rest,
@@ -71,21 +73,21 @@ impl Read for ChunkReader<'_> {
     }
 }
 
-/// Holds what is written, at most so many bytes of a write, and fails from the call after so many
-/// on, writes and flushes counted.
+/// A writer that collects what it gets, at most `most` bytes of a write. It can fail after a number
+/// of calls; writes and flushes are counted.
 pub struct CallsWriter {
     held: Vec<u8>,
     calls: usize,
     calls_left: usize,
     kind: ErrorKind,
     most: usize,
-    /// Whether it fails at one call, and takes those behind it.
+    /// Whether it fails at one call only, and accepts the later ones.
     fails_once: bool,
     interrupted: Option<bool>,
 }
 
 impl CallsWriter {
-    /// Takes so many calls, and so many bytes of a write.
+    /// Returns a writer that accepts this many calls, and this many bytes of a write.
     pub fn new(alloc: Global, calls: usize, kind: ErrorKind, most: usize) -> CallsWriter {
         CallsWriter {
             held: Vec::new(alloc),
@@ -98,23 +100,23 @@ impl CallsWriter {
         }
     }
 
-    /// Has it take the calls behind the one at which it fails.
+    /// Lets it accept the calls after the one at which it fails.
     pub fn fail_once(&mut self) {
         self.fails_once = true;
     }
 
-    /// The same, each second call of which is interrupted, from the first on.
+    /// Returns such a writer with every other call interrupted, from the first one on.
     pub fn interrupted(mut self) -> CallsWriter {
         self.interrupted = Some(true);
         self
     }
 
-    /// What was written.
+    /// Returns what was written.
     pub fn held(&self) -> &[u8] {
         self.held.as_slice()
     }
 
-    /// How many calls were taken.
+    /// Returns how many calls were accepted.
     pub fn calls(&self) -> usize {
         self.calls
     }
@@ -151,7 +153,8 @@ impl Write for CallsWriter {
     }
 }
 
-/// Holds what is written. So many interruptions come before each call that it takes.
+/// A writer that collects what it gets. A number of interruptions comes before each call that it
+/// accepts.
 pub struct StutteringWriter {
     held: Vec<u8>,
     each: u32,
@@ -193,7 +196,7 @@ impl Write for StutteringWriter {
     }
 }
 
-/// Holds what is written, and tells its reader whether that was flushed.
+/// A writer that collects what it gets, and shares with its reader whether that was flushed.
 pub struct WatchedWriter<'a> {
     held: Vec<u8>,
     is_unflushed: &'a Cell<bool>,
@@ -222,7 +225,7 @@ impl Write for WatchedWriter<'_> {
     }
 }
 
-/// Hands out a text by 12 bytes, and fails where it is read while something is not flushed.
+/// A reader of a text in reads of 12 bytes. It fails if it is read while something is not flushed.
 pub struct WatchingReader<'a> {
     reader: ChunkReader<'a>,
     is_unflushed: &'a Cell<bool>,
