@@ -39,6 +39,9 @@ pub data Items : Type 0 where
   child : Kind → Bool → Items → Items
   -- a path that is read and not printed
   skip : Items → Items
+  -- the arguments of a path, and what follows them: where arguments are folded they are read and not printed, and `_` is
+  -- handed over for them
+  folded : Items → Items → Items
   -- the word of a back reference, and its target
   target : Kind → Bool → Items
   -- the lifetime of an index
