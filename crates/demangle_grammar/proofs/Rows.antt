@@ -14,7 +14,7 @@ use Rattle.demangle_symbol.specs.Words.{then_if_some, byte_at, namespace_at, int
 use Rattle.demangle_symbol.specs.Punycode.{bias_after, adapted_bias, deltas, insertions, puny}
 use Rattle.demangle_symbol.specs.Names.{is_empty, name_pieces}
 use Rattle.demangle_symbol.specs.Literals.{literal, string_of}
-use Rattle.demangle_grammar.specs.Reading.{Form, turns, bound_by, run, level_of, levels, read_at, path_texts, unit_end, suffix_place}
+use Rattle.demangle_grammar.specs.Reading.{Form, form, turns, bound_by, run, level_of, levels, read_at, path_texts, unit_end, suffix_place}
 use Rattle.demangle_grammar.specs.V0.{v0_in, v0_of}
 
 -- each text that is not empty, with `¦` behind it
@@ -36,9 +36,6 @@ is_allowed (b ∷ bs) = nat_eq b 46 && list_all (λ c. nat_le 33 c && nat_le c 1
 unfoldable pub shows : Form → String → Option (List ℕ)
 unfolding digits encode_utf8 chars is_utf8 ucd_category ucd_derived is_byte number byte_at namespace_at integer_at optional_at backref_at identifier_at nibbles_at hex_number number_of length_end length_value tail_len bias_after adapted_bias deltas insertions puny name_pieces literal string_of turns bound_by run level_of levels read_at path_texts unit_end suffix_place v0_in v0_of
 shows form symbol = then_if_some (v0_of (codes symbol)) (λ v. if is_allowed v.1 then Some (marked (path_texts v.0 form ++ v.1 ∷ [])) else None)
-
-abbrev form : (include_hash fold_arguments : Bool) → Form
-form include_hash fold_arguments = record { include_hash = include_hash; fold_arguments = fold_arguments }
 
 -- a symbol, and what it hands over
 data Row : Type 0 where

@@ -292,6 +292,9 @@ pub record Form : Type 0 where
   pub include_hash : Bool
   pub fold_arguments : Bool
 
+abbrev pub form : (include_hash fold_arguments : Bool) → Form
+form include_hash fold_arguments = record { include_hash = include_hash; fold_arguments = fold_arguments }
+
 -- what a symbol hands over: its first path, to be printed, in value position and with no lifetime in force
 unfoldable pub path_texts : List ℕ → Form → List Text
 path_texts symbol form = pieces form.include_hash (read_at symbol form.fold_arguments true a_path 0 0 0 true).tree

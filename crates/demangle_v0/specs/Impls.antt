@@ -20,9 +20,3 @@ skip_point true = point.ImplPath
 abbrev pub self_point : Bool → Point
 self_point false = point.InherentType
 self_point true = point.SelfType
-
--- where an impl's own path is to be read
-abbrev pub is_skip : Point → Bool
-is_skip point.InherentPath = true
-is_skip point.ImplPath = true
-is_skip p = false

@@ -42,11 +42,15 @@ mod variants;
 /// `CloseAngle`.
 #[derive(Clone, Copy)]
 pub enum Point {
-    // These three come first because the loops test for them, and a range takes one comparison.
+    // These five come first because the loops test for them, and a range takes one comparison.
     /// The path of an inherent impl. It is parsed but not printed.
     InherentPath,
     /// The path of a trait impl. It is parsed but not printed.
     ImplPath,
+    /// The first argument of a path, or the end of its arguments. They may be folded.
+    FirstArgument,
+    /// The first argument of a dyn trait path, or the end of its arguments. They may be folded.
+    FirstOpenArgument,
     /// The production is complete. The frame on top of the stack says what follows.
     End,
     // path
@@ -58,7 +62,8 @@ pub enum Point {
     CloseAngle,
     Generic,
     OpenArguments,
-    FirstArgument,
+    /// A path's arguments were parsed, and are printed as `_`.
+    FoldedArguments,
     NextArgument,
     Lifetime,
     // type
@@ -87,7 +92,8 @@ pub enum Point {
     NextDynTrait,
     TraitPath,
     OpenTraitPath,
-    FirstOpenArgument,
+    /// A dyn trait path's arguments were parsed, and are printed as `_`.
+    FoldedTraitArguments,
     NextOpenArgument,
     Bindings,
     OpenBindings,

@@ -15,8 +15,8 @@ use demangle_sink::{SinkRefused, SizeLimitedFmtAdapter, TextSink};
 pub enum Left {
     /// What the parser and its frames say.
     Stack,
-    /// The same, which is an impl path above that many frames; after it printing continues at the
-    /// checkpoint.
+    /// The same, which is not printed and stands above that many frames; after it printing continues
+    /// at the checkpoint.
     OwnPath(usize, Reading),
 }
 
@@ -46,8 +46,9 @@ impl<const N: usize> Parser<'_, N> {
                 self.point = Point::End;
                 return Ok(None);
             };
-            // An impl path only identifies the impl. It is read and not printed.
-            if is_skipped(at) {
+            // An impl path only identifies the impl, and arguments may be folded. They are read and
+            // not printed.
+            if is_skipped(at, self.source.fold_arguments) {
                 self.point = at;
                 let skipped = self.skip_impl_path();
                 if let Some(left) = skipped {

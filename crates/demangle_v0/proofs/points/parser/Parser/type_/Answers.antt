@@ -14,7 +14,7 @@ returns-in_err-at g c =
     record {
       did = rw (stops c.from_residual.result c.from_residual.ensures.1 failed.1) (record {
         does = type_either c.args.is_begun (λ _. unread c.requires.may.unmarked (rw failed.0 refl) (omega arith)) (λ _. unread c.requires.may.unmarked (rw failed.0 refl) (omega arith));
-        same = (refl, refl);
+        same = (refl, refl, refl);
       });
     }
 
@@ -24,7 +24,7 @@ returns-then-is_splat g c = let y = c.is_splat.ensures.yes c.if-is_splat.true in
     does = type_either c.args.is_begun
         (λ e. type_splats c.in_ok-at.at c.in_ok-at.ensures.ok y.1 (record { grows = c.is_splat.ensures.grows; within = omega (arith, c.is_splat.ensures.begun e) }) c.requires.may.fits)
         (λ e. absurd (false≢true (sym e ∙ y.0)));
-    same = (refl, refl);
+    same = (refl, refl, refl);
   });
 }
 
