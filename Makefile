@@ -19,6 +19,9 @@ PROGRAMS := kodliwe demangle_filter
 HEADERS := include/kodliwe.h include/rustc_demangle.h
 MANUALS := docs/kodliwe.1 docs/demangle_filter.1
 LICENCES := LICENSE LICENSE-MIT-rustc-demangle LICENSE-APACHE-rustc-demangle
+# README.md, documents and examples are in DOCDIR by the same paths as here, so that the links between them work.
+DOCUMENTS := $(addprefix docs/,C.md CLUSTER.md DIFFERENCES.md GUARANTEES.md PERFORMANCE.md)
+EXAMPLES := $(addprefix examples/,backtrace.c dask_logs.py paths.c)
 
 PREFIX ?= /usr/local
 DESTDIR ?=
@@ -30,6 +33,13 @@ MANDIR ?= $(DATADIR)/man
 DOCDIR ?= $(DATADIR)/doc/kodliwe
 # The place of the tree that kodliwe.pc names. A tree that can be moved names it by the file's own place.
 PC_PREFIX ?= $(PREFIX)
+# Where pkg-config and the loader look without being told. Anywhere else, `make install` prints what a user has to set.
+SYSTEM := /usr /usr/local
+define SAY_PATHS
+echo 'To build with the library, and to run what uses the shared one:'; \
+	echo '  export PKG_CONFIG_PATH=$(LIBDIR)/pkgconfig$${PKG_CONFIG_PATH:+:$$PKG_CONFIG_PATH}'; \
+	echo '  export LD_LIBRARY_PATH=$(LIBDIR)$${LD_LIBRARY_PATH:+:$$LD_LIBRARY_PATH}'
+endef
 FLAGS ?=
 CC ?= cc
 STRIP ?= strip
@@ -54,8 +64,8 @@ CRATES := kodliwe-$(VERSION).crate rustc-demangle-0.1.28.crate
 .NOTPARALLEL:
 
 all: libraries
-	@echo "echo 'worker 1: called _ZN3foo17h05af221e174051e9E' | $(BUILD)/kodliwe"
-	@echo 'worker 1: called _ZN3foo17h05af221e174051e9E' | $(BUILD)/kodliwe
+	@echo "echo 'worker 1: called _RNvC3foo3bar' | $(BUILD)/kodliwe"
+	@echo 'worker 1: called _RNvC3foo3bar' | $(BUILD)/kodliwe
 
 libraries: $(PROGRAMS:%=$(BUILD)/%) $(BUILD)/libkodliwe.a $(BUILD)/$(SHARED)
 
@@ -83,7 +93,7 @@ $(BUILD)/$(SHARED): $(BUILD)/libkodliwe.a packaging/libkodliwe.map
 	@$(STRIP) --strip-unneeded $@
 
 install: libraries
-	$(INSTALL) -d $(DESTDIR)$(BINDIR) $(DESTDIR)$(LIBDIR)/pkgconfig $(DESTDIR)$(INCLUDEDIR) $(DESTDIR)$(MANDIR)/man1 $(DESTDIR)$(DOCDIR) \
+	$(INSTALL) -d $(DESTDIR)$(BINDIR) $(DESTDIR)$(LIBDIR)/pkgconfig $(DESTDIR)$(INCLUDEDIR) $(DESTDIR)$(MANDIR)/man1 $(DESTDIR)$(DOCDIR)/docs $(DESTDIR)$(DOCDIR)/examples \
 		$(DESTDIR)$(DATADIR)/bash-completion/completions $(DESTDIR)$(DATADIR)/zsh/site-functions $(DESTDIR)$(DATADIR)/fish/vendor_completions.d
 	$(INSTALL) -m 755 $(PROGRAMS:%=$(BUILD)/%) $(DESTDIR)$(BINDIR)
 	$(INSTALL) -m 644 $(BUILD)/libkodliwe.a $(BUILD)/$(SHARED) $(DESTDIR)$(LIBDIR)
@@ -97,7 +107,11 @@ install: libraries
 	$(INSTALL) -m 644 completions/kodliwe.bash $(DESTDIR)$(DATADIR)/bash-completion/completions/kodliwe
 	$(INSTALL) -m 644 completions/_kodliwe $(DESTDIR)$(DATADIR)/zsh/site-functions/_kodliwe
 	$(INSTALL) -m 644 completions/kodliwe.fish $(DESTDIR)$(DATADIR)/fish/vendor_completions.d/kodliwe.fish
-	$(INSTALL) -m 644 README.md $(LICENCES) docs/C.md docs/GUARANTEES.md $(DESTDIR)$(DOCDIR)
+	$(INSTALL) -m 644 README.md $(LICENCES) $(DESTDIR)$(DOCDIR)
+	$(INSTALL) -m 644 $(DOCUMENTS) $(DESTDIR)$(DOCDIR)/docs
+	$(INSTALL) -m 644 $(EXAMPLES) $(DESTDIR)$(DOCDIR)/examples
+	@packaging/links $(DESTDIR)$(DOCDIR)
+	@$(if $(DESTDIR)$(filter $(SYSTEM),$(PREFIX)),:,$(SAY_PATHS))
 
 uninstall:
 	rm -f $(PROGRAMS:%=$(DESTDIR)$(BINDIR)/%) $(DESTDIR)$(LIBDIR)/libkodliwe.a $(DESTDIR)$(LIBDIR)/$(SHARED) \

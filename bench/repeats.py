@@ -10,15 +10,16 @@ one pair    40 symbols that a memo of kodliwe keeps in one pair of entries, in t
 long texts  a symbol of 159 bytes that prints 1,000,020 bytes, up to the limit.
 long run    a symbol of 1,000,000 bytes.
 plain       lines without a symbol.
+underscores lines without a symbol that have many underscores.
 
 With --objdump PATH and --nm PATH it also takes what `objdump -d` and `nm` print of a program or a library, and with --text FILE a file.
 For each text and program it prints megabytes a second of processor time (the least of --rounds runs, all programs in turn), the most
 memory, and instructions a line of the first 20,000 lines, counted by callgrind, less those of a run on no input.
-Build kodliwe first, by `rt run` in crates/kodliwe.
+Build the programs first, by `make`.
 """
 import argparse, itertools, os, random, re, subprocess, tempfile
 
-from common import CORPUS, KODLIWE, further, instructions, need_kodliwe, need_valgrind
+from measuring import CORPUS, KODLIWE, further, instructions, need_programs, need_valgrind
 
 DIGITS = "0123456789abcdefghijklmnopqrstuvwxyzABCDEFGHIJKLMNOPQRSTUVWXYZ"
 COUNTED_LINES = 20_000
@@ -42,7 +43,8 @@ def variant(symbol, chance):
     """The same symbol of another build: with another hash, or other disambiguators of its crates."""
     digits = "".join(chance.choices("0123456789abcdef", k=16))
     legacy = re.sub(r"17h[0-9a-f]{16}E", "17h%sE" % digits, symbol)
-    return re.sub(r"Cs[0-9A-Za-z]{11}_", lambda _: "Cs%s_" % "".join(chance.choices(DIGITS[1:36], k=11)), legacy)
+    # A disambiguator is below 2^64: of eleven digits, the first is at most 21.
+    return re.sub(r"Cs[0-9A-Za-z]{11}_", lambda _: "Cs%s%s_" % (chance.choice(DIGITS[1:21]), "".join(chance.choices(DIGITS, k=10))), legacy)
 
 
 def variants(count):
@@ -126,6 +128,10 @@ def plain(size):
     return (b"no symbol on this line, only a few words and numbers %d\n" % n for n in range(size // 60))
 
 
+def underscores(size):
+    return (b"some_names_of_c __with_many_ _Regions_ and_ more_of_%d_\n" % n for n in range(size // 60))
+
+
 def output_of(command):
     run = subprocess.run(command, stdout=subprocess.PIPE, check=True)
     return [run.stdout]
@@ -141,6 +147,7 @@ def texts(given):
         yield "long texts", long_texts(size)
         yield "long run", long_run(size)
         yield "plain", plain(size)
+        yield "underscores", underscores(size // 4)
     for path in given.objdump:
         yield "objdump -d " + os.path.basename(path), output_of(["objdump", "-d", path])
     for path in given.nm:
@@ -150,26 +157,40 @@ def texts(given):
 
 
 def spent(words, path):
-    """The processor time of one run, in it and in the system, and its most memory in KB."""
+    """The processor time of one run, in it and in the system."""
     pid = os.fork()
     if pid == 0:
         os.dup2(os.open(path, os.O_RDONLY), 0)
         os.dup2(os.open(os.devnull, os.O_WRONLY), 1)
         os.execvp(words[0], words)
     _, _, usage = os.wait4(pid, 0)
-    return usage.ru_utime + usage.ru_stime, usage.ru_maxrss
+    return usage.ru_utime + usage.ru_stime
+
+
+def most_memory(words, path):
+    """The most memory of one run in KB, as the system told it last before the run ended.
+
+    What `wait4` tells counts this script too, which the run was forked from.
+    """
+    most = 0
+    with open(path, "rb") as file:
+        run = subprocess.Popen(words, stdin=file, stdout=subprocess.DEVNULL)
+    while run.poll() is None:
+        with open("/proc/%d/status" % run.pid) as status:
+            for line in status:
+                if line.startswith("VmHWM:"):
+                    most = int(line.split()[1])
+    return most
 
 
 def measure(programs, path, rounds):
-    """The least time and the most memory of each program, over runs in turn."""
+    """The least time of each program, over runs in turn."""
     least = {name: None for name, _ in programs}
-    most = {name: 0 for name, _ in programs}
     for _ in range(rounds):
         for name, words in programs:
-            seconds, memory = spent(words, path)
+            seconds = spent(words, path)
             least[name] = seconds if least[name] is None else min(least[name], seconds)
-            most[name] = max(most[name], memory)
-    return least, most
+    return least
 
 
 def counted(words, path):
@@ -191,7 +212,7 @@ def main():
     parser.add_argument("--no-instructions", action="store_true")
     parser.add_argument("--also", type=further, action="append", default=[], metavar="NAME=COMMAND")
     given = parser.parse_args()
-    need_kodliwe()
+    need_programs()
     if not given.no_instructions:
         need_valgrind()
     programs = [("kodliwe", [KODLIWE])] + given.also
@@ -203,12 +224,12 @@ def main():
                 file.write(part)
             file.flush()
             megabytes = os.path.getsize(file.name) / 1_000_000
-            least, most = measure(programs, file.name, given.rounds)
+            least = measure(programs, file.name, given.rounds)
             for program, words in programs:
                 a_line = "-" if given.no_instructions else "{:,.0f}".format(counted(words, file.name))
                 rate, times = megabytes / max(least[program], 1e-6), least["kodliwe"] / max(least[program], 1e-6)
                 print(
-                    "| %s, %.0f MB | %s | %.0f | %.3f | %d | %s |" % (name, megabytes, program, rate, times, most[program], a_line),
+                    "| %s, %.0f MB | %s | %.0f | %.3f | %d | %s |" % (name, megabytes, program, rate, times, most_memory(words, file.name), a_line),
                     flush=True,
                 )
 

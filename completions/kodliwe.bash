@@ -1,16 +1,24 @@
 # bash completion for kodliwe
 _kodliwe() {
-    local word=${COMP_WORDS[COMP_CWORD]} before=${COMP_WORDS[COMP_CWORD-1]} i
+    local word=${COMP_WORDS[COMP_CWORD]} before=${COMP_WORDS[COMP_CWORD-1]} option= i
     COMPREPLY=()
     for ((i = 1; i < COMP_CWORD; i++)); do
         if [[ ${COMP_WORDS[i]} == -- ]]; then
             return
         fi
     done
+    # Where = ends a word, as bash has it, --input=F is the three words --input, = and F.
+    if [[ $word == = ]]; then
+        word=
+    elif [[ $before == = && COMP_CWORD -ge 2 ]]; then
+        before=${COMP_WORDS[COMP_CWORD-2]}
+    elif [[ $word == --*=* ]]; then
+        before=${word%%=*} option=${word%%=*}= word=${word#*=}
+    fi
     case $before in
         -i | --input | -o | --output)
             compopt -o filenames 2>/dev/null
-            mapfile -t COMPREPLY < <(compgen -f -- "$word")
+            mapfile -t COMPREPLY < <(compgen -P "$option" -f -- "$word")
             return
             ;;
     esac

@@ -5,4 +5,4 @@ complete -c kodliwe -s o -l output -r -F -d 'Write this file, once all of it is 
 complete -c kodliwe -l hash -d 'Keep the hashes of legacy symbols'
 complete -c kodliwe -s l -l limit -x -d 'Cut each path at this many bytes'
 complete -c kodliwe -s h -l help -d 'Print the help'
-complete -c kodliwe -s V -l version -d 'Print the version'
+complete -c kodliwe -s V -l version -d 'Print the version, the logic and the licence'

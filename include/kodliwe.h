@@ -1,23 +1,29 @@
-/* kodliwe.h: the paths that Rust symbols name, in the legacy scheme (_ZN..E) and in v0 (_R.., Rust RFC 2603).
+/* kodliwe.h: demangles Rust symbols, of the legacy scheme (_ZN..E) and of v0 (_R.., Rust RFC 2603).
  *
- * It wants C99 or C++, or C89 and a compiler that has <stdbool.h>, as gcc and clang do: bool is the one thing in it that
- * C89 lacks.
+ * The header needs C99 or C++. It also works with C89 and a compiler that has <stdbool.h>, such as gcc and clang. The type
+ * bool is the only thing in it that C89 lacks.
  *
- * Link with libdemangle_c.a, which `rt lib` makes in crates/demangle_c/out. It wants memcpy, memmove and memset, and
- * nothing else. No call allocates, locks, does I/O, or touches a global, errno or thread-local data, so each may be made
- * from any thread, and in a signal handler.
+ * Link with libkodliwe.so or libkodliwe.a, as `pkg-config --cflags --libs kodliwe` says. The shared library needs only the
+ * C library. The archive needs memcpy, memmove, memset and strlen; only rustc_demangle needs the last.
  *
- * What the prover showed of the calls is in docs/C.md. What stays with the caller:
+ * No call allocates, locks, does I/O, or touches a global, errno or thread-local data. So each may be made from any thread,
+ * and in a signal handler.
+ *
+ * docs/C.md says which properties of the calls are proved. The caller must ensure the following:
  *
  *   - symbol points to symbol_len bytes that can be read, and out to out_size bytes that can be read and written.
- *     Neither is NULL, also where its size is 0.
- *   - They do not overlap, and no other thread writes to either, or reads out, during the call.
- *   - A size is at most PTRDIFF_MAX, as of every object in C.
- *   - The stack has room. 8 KiB suffice for every symbol that a compiler made: of 1,400 real ones none made a call touch
- *     more than 5.6 KB. A v0 symbol that is made to be deep makes it touch 14.4 KB, and need not be long (_RNvB_1a has 8
- *     bytes), or up to 77.8 KB where it leaves over 512 units open at once. So where symbols are a stranger's, see to 96 KiB,
- *     also for a handler on a stack of its own (sigaltstack; examples/backtrace.c).
- *   - Time grows with the limit, not with out_size: where symbols may be hostile or time counts, as in a handler, call
+ *     Neither is NULL, even if its size is 0.
+ *
+ *   - They do not overlap. During the call, no other thread writes to either, or reads out.
+ *
+ *   - A size is at most PTRDIFF_MAX, as for every object in C.
+ *
+ *   - The stack has room. 8 KiB suffice for every symbol that a compiler made: of 1,400 real ones, none made a call touch
+ *     more than 5.6 KB. For a v0 symbol made to be deep, a call touches 14.4 KB. Such a symbol can be short: _RNvB_1a has
+ *     8 bytes. For one that leaves over 512 productions open at once, a call touches up to 77.8 KB. If symbols come from
+ *     strangers, provide 96 KiB. The same holds for a handler with its own stack (sigaltstack; examples/backtrace.c).
+ *
+ *   - Time grows with the limit, not with out_size. If symbols may be hostile or time matters, as in a handler, call
  *     kodliwe_demangle_limited with out_size as the limit.
  */
 #ifndef KODLIWE_H
@@ -30,65 +36,69 @@
 extern "C" {
 #endif
 
-/* Whether the bytes are a Rust symbol, once an ending of ThinLTO (.llvm.) is taken off. Nothing is printed for it. */
+/* Returns whether the bytes are a Rust symbol, after a suffix of ThinLTO (.llvm.) is removed. Prints nothing. */
 bool kodliwe_is_symbol(const char *symbol, size_t symbol_len);
 
-/* How many bytes the symbol has without an ending of ThinLTO (.llvm.), and 0 where the bytes are no Rust symbol. Nothing
- * is printed for it. */
+/* Returns the number of bytes of the symbol without a suffix of ThinLTO (.llvm.), or 0 if the bytes are not a Rust symbol.
+ * Prints nothing. */
 size_t kodliwe_symbol_len(const char *symbol, size_t symbol_len);
 
-/* Writes the path that a Rust symbol names into out, as a C string.
+/* Writes the path of a Rust symbol to out, as a C string.
  *
- * Returns 0 where the bytes are no Rust symbol; out is then untouched. Else it returns how many bytes the whole path and
- * its NUL want, whatever out_size is:
+ * Returns 0 if the bytes are not a Rust symbol. out is then unchanged. Otherwise returns the number of bytes of the whole
+ * path and its NUL. The number does not depend on out_size:
  *
- *   - at most out_size: out holds the whole path and its NUL;
- *   - more: out holds the first out_size - 1 bytes of the path, which may end inside a UTF-8 character, and a NUL; at an
- *     out_size of 0, nothing.
+ *   - If it is at most out_size, out holds the whole path and its NUL.
  *
- * No byte of out behind the NUL is changed. include_hash: with the hash of a legacy symbol, as Rust's {}, or without it,
- * as {:#}, which also leaves out the disambiguators of v0.
+ *   - If it is more, out holds the first out_size - 1 bytes of the path and a NUL. They may end within a UTF-8 character.
+ *     If out_size is 0, nothing is written.
  *
- * A path ends after at most 1,000,000 bytes; {size limit reached} and the symbol's suffix then follow. */
+ * No byte of out after the NUL is changed.
+ *
+ * If include_hash is true, the path has the hash of a legacy symbol, as with Rust's {}. Otherwise the hash is omitted, as
+ * with {:#}, and so are the disambiguators of v0.
+ *
+ * A path is cut after at most 1,000,000 bytes. {size limit reached} and the symbol's suffix then follow. */
 size_t kodliwe_demangle(const char *symbol, size_t symbol_len, char *out, size_t out_size, bool include_hash);
 
-/* The same, where a path ends after at most limit bytes (1,000,000 for a larger limit), at the end of a piece that it is
- * printed in. Whatever the limit, what is returned is at most limit + 21 + symbol_len. */
+/* Does the same with another limit: a path is cut after at most limit bytes, at the end of a piece of its text. A limit
+ * above 1,000,000 counts as 1,000,000. The result is at most limit + 21 + symbol_len. */
 size_t kodliwe_demangle_limited(const char *symbol, size_t symbol_len, char *out, size_t out_size, bool include_hash,
                                 size_t limit);
 
-/* The same, of the path's bytes from start on: out gets the rest of the path, or its first out_size - 1 bytes, and a NUL;
- * the NUL alone where start is at or past the path's end. What is returned is of the whole path, whatever start is. So any
- * path is printed in parts through a buffer of any size; each call reads the symbol anew.
+/* Does the same for the bytes of the path from start. The rest of the path, or its first out_size - 1 bytes, and a NUL are
+ * written to out. If start is at or after the path's end, out gets only the NUL. The result is the number for the whole path,
+ * whatever start is. So a buffer of any size prints any path in parts. Each call reads the symbol again.
  *
- *     for (start = 0; (want = kodliwe_demangle_part(s, len, part, sizeof part, false, limit, start)) > start + 1;
+ *     for (start = 0; (size = kodliwe_demangle_part(s, len, part, sizeof part, false, limit, start)) > start + 1;
  *          start += sizeof part - 1)
  *         fputs(part, stdout); */
 size_t kodliwe_demangle_part(const char *symbol, size_t symbol_len, char *out, size_t out_size, bool include_hash,
                              size_t limit, size_t start);
 
-/* How many bytes of the symbol stand in front of its suffix and of an ending of ThinLTO, and 0 where the bytes are no Rust
- * symbol. Nothing is printed for it. */
+/* Returns the number of bytes of the symbol before its suffix and before a suffix of ThinLTO. Returns 0 if the bytes are not
+ * a Rust symbol. Prints nothing. */
 size_t kodliwe_path_len(const char *symbol, size_t symbol_len);
 
-/* Writes and returns what kodliwe_demangle_part does, and does not read again where the path ends: path_len is what
- * kodliwe_path_len returned of the same bytes, and not 0. With it a v0 symbol is gone over once for each path that is
- * printed, and not twice.
+/* Writes and returns the same as kodliwe_demangle_part, without searching again for the end of the path. The argument
+ * path_len is the nonzero result of kodliwe_path_len for the same bytes. A v0 symbol is then read once for each path that
+ * is printed, and not twice.
  *
- * With other bytes or another number it still returns, reads and writes nothing outside the two ranges, and returns at most
- * limit + 21 + symbol_len; what out holds then is not said. */
+ * With other bytes or another number, the call still returns. It reads and writes nothing outside the two ranges, and the
+ * result is at most limit + 21 + symbol_len. The contents of out are then unspecified. */
 size_t kodliwe_print_part(const char *symbol, size_t symbol_len, size_t path_len, char *out, size_t out_size,
                           bool include_hash, size_t limit, size_t start);
 
-/* Writes a text into out with each Rust symbol in it replaced by its path, as a C string: a line of a log, a backtrace or a
- * whole file, in a handler too. The text is any bytes; all but the symbols stays as it is.
+/* Writes a text to out, as a C string, with each Rust symbol in it replaced by its path. The text may be a line of a log, a
+ * backtrace or a whole file, and the call may be made in a handler. The text is any bytes. Bytes outside symbols stay
+ * unchanged.
  *
- * A symbol is looked for where _ZN or _R stands, up to the next byte that is no ASCII letter, no digit and none of $, . and _.
- * Its path is cut as by kodliwe_demangle_limited.
+ * A candidate symbol starts at _ZN or _R. It ends before the next byte that is not an ASCII letter, a digit, $, . or _. Its
+ * path is cut as by kodliwe_demangle_limited.
  *
- * Returns how many bytes the whole text and its NUL want then, whatever out_size is, and lays as much of it into out as
- * kodliwe_demangle does of a path. It is never 0. It is SIZE_MAX where the number is none that a size_t holds, which wants
- * a text of 10^13 bytes; what out holds then is not said. */
+ * Returns the number of bytes of the whole new text and its NUL, whatever out_size is. It writes as much of the text to out
+ * as kodliwe_demangle does of a path. The result is never 0. It is SIZE_MAX if a size_t cannot hold the number, which needs
+ * a text of 10^13 bytes. The contents of out are then unspecified. */
 size_t kodliwe_demangle_text(const char *text, size_t text_len, char *out, size_t out_size, bool include_hash,
                              size_t limit);
 

@@ -1,7 +1,7 @@
-/* rustc_demangle.h: the call of the C interface of the Rust crate rustc-demangle, over kodliwe.h.
+/* rustc_demangle.h: the C function of the Rust crate rustc-demangle, implemented with kodliwe.h.
  *
- * Here it is a function of the file that includes this header. Programs that look it up by its name in a library find it in
- * bindings/c/rustc_demangle.c, which declares RUSTC_DEMANGLE_EXPORTED. */
+ * The file that includes this header defines the function. A program that looks it up by its name, as by dlsym, finds it in
+ * libkodliwe.so and libkodliwe.a too. Only the build of these defines RUSTC_DEMANGLE_EXPORTED. */
 #ifndef RUSTC_DEMANGLE_H
 #define RUSTC_DEMANGLE_H
 
@@ -23,10 +23,11 @@
 extern "C" {
 #endif
 
-/* Writes the path that the symbol names, without its hash, and a NUL into out.
+/* Writes the path of the symbol, without its hash, and a NUL to out.
  *
- * Returns 1 where mangled, a C string, is a Rust symbol and the whole path with its NUL fits in out_size bytes, else 0.
- * At 0 out holds the path's front and a NUL where it was too small, and is untouched where mangled is no symbol. */
+ * Returns 1 if mangled, a C string, is a Rust symbol and the whole path with its NUL fits in out_size bytes. Otherwise
+ * returns 0. If out was too small, it then holds the first bytes of the path and a NUL. If mangled is not a symbol, out is
+ * unchanged. */
 RUSTC_DEMANGLE_LINKAGE int rustc_demangle(const char *mangled, char *out, size_t out_size) {
     char none;
     size_t want = kodliwe_demangle(mangled, strlen(mangled), out_size ? out : &none, out_size, false);

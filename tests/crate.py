@@ -24,7 +24,9 @@ import sys
 import tarfile
 
 import rust_common as common
-from rust_common import OUT, ROOT, RUST, cargo, check, run
+import texts
+from common import ROOT, RUST, run
+from rust_common import OUT, cargo, check
 
 RELEASE = os.path.join(OUT, "target", "release")
 LICENCES = {"LICENSE", "LICENSE-MIT-rustc-demangle", "LICENSE-APACHE-rustc-demangle"}
@@ -100,16 +102,16 @@ def check_lints(rust=RUST):
 def compare_corpus(words):
     """Compares a build of answers.rs with the stored rows, and returns how many there are."""
     rows = [row for row in common.rows() if common.is_utf8(row[1])]
-    records = b"".join(common.record(symbol, limit) for _, symbol, limit, _ in rows)
+    records = b"".join(texts.record(symbol, limit) for _, symbol, limit, _ in rows)
     fields = common.fields_of(run([*words, "records"], input=records))
     check(len(fields) == 5 * len(rows) > 20_000, f"{len(fields)} fields for {len(rows)} rows")
     for at, (kind, symbol, limit, wanted) in enumerate(rows):
         status, as_str, plain, alt, pieces = fields[5 * at : 5 * at + 5]
-        forms = [common.column(plain), common.column(alt)]
+        forms = [texts.column(plain), texts.column(alt)]
         if kind == "pieces":
-            forms = [b"\\|".join(map(common.escaped, form.split(b"\x1f"))) for form in pieces.split(b"\x1e")]
+            forms = [b"\\|".join(map(texts.escaped, form.split(b"\x1f"))) for form in pieces.split(b"\x1e")]
         if kind == "answer":
-            text = b"=" if as_str == symbol else common.escaped(as_str)
+            text = b"=" if as_str == symbol else texts.escaped(as_str)
             forms = [status, text, *forms]
         check(forms == wanted, f"{kind} of {symbol[:80]!r} under {limit}: {forms!r:.300}")
     return len(rows)
@@ -199,7 +201,7 @@ def undefined_of(archive):
     for member in text.split("\n\n"):
         if re.search(r" T path_of$", member, re.M):
             return set(re.findall(r"^ +U (\S+)$", member, re.M))
-    raise common.Failure("no object of the archive has the function")
+    raise AssertionError("no object of the archive has the function")
 
 
 def check_package():

@@ -121,6 +121,10 @@ def main():
     parser.add_argument("--write", action="store_true", help="write the missing lines")
     options = parser.parse_args()
     said = {}
+    if options.gate and not os.path.exists(options.gate):
+        print("no %s: `rt ci` or `rt must-fail` writes it" % options.gate)
+        print("0 passed, 1 failed")
+        return 1
     if options.gate:
         with open(options.gate, encoding="utf-8", errors="replace") as file:
             said = {(found[1], found[2]): found[3] for found in map(SAID.search, file.read().splitlines()) if found}

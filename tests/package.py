@@ -4,6 +4,8 @@
 It takes what `make` built, and prints a line for each of these:
 
   installed   `make install` into an empty folder: the files, and nothing else
+  settings    examples/paths.c, built and run with the two variables that `make install` prints
+  documents   each link of an installed document leads to an installed file, or to the web
   exports     the shared library's name, and that it exports the calls of the headers alone
   c, static   examples/paths.c by `gcc $(pkg-config ..)`, over the shared library and over the archive
   loaded      rustc_demangle, found by its name in the loaded library
@@ -99,6 +101,21 @@ def wanted(lib="lib"):
     }
 
 
+def dead_links(folder):
+    """Returns the links of a folder's Markdown files that lead to no file of the folder."""
+    found = []
+    for name in sorted(files(folder)):
+        if not name.endswith(".md"):
+            continue
+        with open(os.path.join(folder, name), encoding="utf-8") as file:
+            targets = re.findall(r"\]\(([^()\s]*)\)", file.read())
+        for target in targets:
+            path = os.path.normpath(os.path.join(os.path.dirname(name), target.split("#")[0]))
+            if not target.startswith(("http", "#")) and path not in files(folder):
+                found.append("%s: %s" % (name, target))
+    return found
+
+
 def equal(found, expected):
     if found != expected:
         raise AssertionError("%r in place of %r" % (found, expected))
@@ -165,7 +182,7 @@ class Installed:
         line = ("worker 1: called %s\n" % SYMBOL).encode()
         equal(run([os.path.join(self.tree, "bin", "kodliwe")], line), "worker 1: called foo\n")
         equal(run([os.path.join(self.tree, "bin", "kodliwe"), "--hash"], line), "worker 1: called foo::h05af221e174051e9\n")
-        equal(run([os.path.join(self.tree, "bin", "kodliwe"), "--version"]), "kodliwe 0.1.0\n")
+        equal(run([os.path.join(self.tree, "bin", "kodliwe"), "--version"]).splitlines()[0], "kodliwe 0.1.0")
         equal(run([os.path.join(self.tree, "bin", "demangle_filter"), "--no-hash"], line), "worker 1: called foo\n")
 
     def manual(self):
@@ -187,8 +204,15 @@ class Installed:
         if "--limit" not in found:
             raise AssertionError("fish completes nothing")
 
+    def documents(self):
+        folder = os.path.join(self.tree, "share", "doc", "kodliwe")
+        if "docs/C.md" not in files(folder):
+            raise AssertionError("no document C.md")
+        equal(dead_links(folder), [])
+
     def parts(self):
         return [
+            ("documents", self.documents),
             ("exports", self.exports),
             ("c", self.c),
             ("static", self.static),
@@ -268,11 +292,20 @@ def main():
     with tempfile.TemporaryDirectory() as work:
         tree = os.path.join(work, "tree")
 
+        said = []
+
         def installed():
-            make("install", "PREFIX=" + tree)
+            said.append(make("install", "PREFIX=" + tree))
             equal({name for name in files(tree) if not name.startswith("share/doc/")}, wanted())
 
+        def settings():
+            lines = re.findall(r"^  (export .*)$", said[0], re.M)
+            equal(len(lines), 2)
+            lines.append('gcc examples/paths.c $(pkg-config --cflags --libs kodliwe) -o "$1" && "$1" ' + SYMBOL)
+            equal(run(["bash", "-ec", "\n".join(lines), "bash", os.path.join(work, "paths")], cwd=ROOT), PATH + "\n")
+
         table.step("installed", installed)
+        table.step("settings", settings)
         for name, part in Installed(tree, work).parts():
             table.step(name, part)
 
@@ -292,7 +325,7 @@ def main():
             run(["sha256sum", "--check", "--quiet", "SHA256SUMS"], cwd=DIST)
             moved = Installed(os.path.join(place, os.listdir(place)[0]), work)
             run(["sha256sum", "--check", "--quiet", "share/doc/kodliwe/SHA256SUMS"], cwd=moved.tree)
-            moved.c(), moved.static(), moved.program()
+            moved.c(), moved.static(), moved.program(), moved.documents()
 
         table.step("tarball", tarball)
         table.step("package", lambda: package(work))

@@ -21,7 +21,7 @@ It prints a line for each of these, and at last how many passed:
   interrupted   a signal that is caught interrupts reading and writing, and nothing is lost
   memory        a run under each limit of address space ends with all of the text or with one line and status 1
   requests      each request of memory refused, alone or with all behind it, ends it with one line and status 1, what was written
-                begins the output, and the file of --output is as it was, with no other beside it
+                begins the output, and the file of --output is as it was, with no other beside it; without its memo a run is whole
   guarded       each of fsync, rename, fchmod and statx refused under --output: one line, status 1, the file is as it was, and no other
                 is beside it; the file is synchronized before it gets its name
   names         99 names for the unfinished file are taken, and then a hundred
@@ -31,12 +31,15 @@ It prints a line for each of these, and at last how many passed:
   long          a line of 1 GB without a line feed, within 8 MB of memory
   help          --help has at most 24 lines of 80 columns, and names every option
   manual        docs/kodliwe.1 has each option and is laid out without a warning
-  completions   bash, zsh and fish offer each option
+  completions   bash, zsh and fish offer each option, and bash the files of an option after its =
   filter        the output is that of demangle_filter over the stored corpus and hostile symbols
+  same file     an input that is the file of standard output is an error before anything is read; with --output it is replaced
+  terminal      a terminal as standard input is noted if there are no words
+  version       --version has the version, the logic of the kit and the licence
 
 `make` builds the programs. The last line is 'N passed, N failed'. A missing tool is a failure.
 """
-import argparse, os, re, resource, shutil, signal, socket, stat, subprocess, sys, tempfile, threading, time
+import argparse, os, pty, re, resource, shutil, signal, socket, stat, subprocess, sys, tempfile, threading, time
 
 from common import CORPUS, FILTER, KODLIWE, ROOT, Tally, built, same, tool
 from texts import hostile
@@ -251,55 +254,64 @@ def memory():
     same(ended, {0, 1})
 
 
-# Refuses the requests of memory from FIRST to LAST, and writes into the file COUNT how many there were.
+# Refuses the requests of memory from FIRST to LAST. It writes into the file COUNT how many there were, and the size of the first that it
+# refused.
 REFUSING = r"""
 #define _GNU_SOURCE
 #include <dlfcn.h>
 #include <stdio.h>
 #include <stdlib.h>
 
-static unsigned long count, first, last;
+static unsigned long count, first, last, refused;
 
 __attribute__((constructor)) static void begin(void) {
     first = strtoul(getenv("FIRST"), NULL, 10);
     last = strtoul(getenv("LAST"), NULL, 10);
-    count = 0;
+    count = refused = 0;
 }
 
-static int is_refused(void) {
+static int is_refused(size_t size) {
     ++count;
-    return first <= count && count <= last;
+    if (count < first || last < count)
+        return 0;
+    refused = refused ? refused : size;
+    return 1;
 }
 
 void *malloc(size_t size) {
     void *(*real)(size_t) = (void *(*)(size_t))dlsym(RTLD_NEXT, "malloc");
-    return is_refused() ? NULL : real(size);
+    return is_refused(size) ? NULL : real(size);
 }
 
 void *realloc(void *old, size_t size) {
     void *(*real)(void *, size_t) = (void *(*)(void *, size_t))dlsym(RTLD_NEXT, "realloc");
-    return is_refused() ? NULL : real(old, size);
+    return is_refused(size) ? NULL : real(old, size);
 }
 
 __attribute__((destructor)) static void end(void) {
     unsigned long made = count;
     last = 0;
     FILE *file = fopen(getenv("COUNT"), "w");
-    fprintf(file, "%lu", made);
+    fprintf(file, "%lu %lu", made, refused);
     fclose(file);
 }
 """
 
 
 def run_refusing(first, last, words, text):
-    """What a run gave that was refused these requests of memory, with the files of its folder, and how many it made."""
+    """Returns what a run gave that was refused these requests of memory, with the files of its folder; how many it made; and the size of
+    the first that was refused."""
     shutil.rmtree("refusing", ignore_errors=True)
     os.mkdir("refusing")
     write("refusing/in", b"_ZN1bE\n")
     write("refusing/out", b"old")
     env = dict(LD_PRELOAD=os.path.abspath("refuse.so"), FIRST=str(first), LAST=str(last), COUNT="count")
     found = run(*words, text=text, env=env)
-    return (*found, {name: read("refusing/" + name) for name in os.listdir("refusing")}), int(read("count"))
+    return (*found, {name: read("refusing/" + name) for name in os.listdir("refusing")}), *map(int, read("count").split())
+
+
+# The size of the request for a memo's marks. A run whose memo is refused them is whole: it only finds no symbol again.
+MEMO_MARKS = 4 * 8192
 
 
 def requests():
@@ -322,14 +334,14 @@ def requests():
     ]
     tried = 0
     for words, text in cases:
-        whole, count = run_refusing(1, 0, words, text)
+        whole, count, _ = run_refusing(1, 0, words, text)
         refused = {("kodliwe: %sout of memory\n" % name, 1) for name in ["", *(word + ": " for word in words)]}
         # The end of the words' memory that is not used is given back: where that is refused, nothing is lost.
         for most, ends in [(0, lambda number: 10**9), (1, lambda number: number)]:
             unharmed = 0
             for number in range(1, count + 1):
-                found, _ = run_refusing(number, ends(number), words, text)
-                unharmed += found == whole
+                found, _, size = run_refusing(number, ends(number), words, text)
+                unharmed += found == whole and size != MEMO_MARKS
                 assert found == whole or (
                     whole[0].startswith(found[0]) and found[1:3] in refused and found[3] == {"in": b"_ZN1bE\n", "out": b"old"}
                 ), "%r, request %d: %.300r" % (words, number, found)
@@ -524,6 +536,19 @@ def completions():
     tool("bash"), tool("zsh"), tool("fish")
     asked = 'source %s/kodliwe.bash; COMP_WORDS=(kodliwe -); COMP_CWORD=1; _kodliwe; echo "${COMPREPLY[@]}"' % folder
     same(subprocess.check_output(["bash", "-c", asked]).decode().split(), OPTIONS)
+    # Bash ends a word at =, unless COMP_WORDBREAKS has none.
+    for name in ["crash.txt", "cry", "other"]:
+        write(name, b"")
+    for asked, wanted in [
+        ("--input = cr", ["crash.txt", "cry"]),
+        ("--output =", ["crash.txt", "cry", "other"]),
+        ("--input=cr", ["--input=crash.txt", "--input=cry"]),
+        ("-i ot", ["other"]),
+        ("--limit = c", []),
+        ("-- --input = cr", []),
+    ]:
+        lines = 'source %s/kodliwe.bash; COMP_WORDS=(kodliwe %s); COMP_CWORD=$((${#COMP_WORDS[@]} - 1)); _kodliwe' % (folder, asked)
+        same(subprocess.check_output(["bash", "-c", lines + '; echo "${COMPREPLY[@]}"']).decode().split(), wanted)
     subprocess.run(["zsh", "-n", folder + "/_kodliwe"], check=True)
     with open(folder + "/_kodliwe") as file:
         text = file.read()
@@ -545,6 +570,63 @@ def filter_():
             wanted = subprocess.run([FILTER, *words], input=text, stdout=subprocess.PIPE, check=True, timeout=120).stdout
             found = run(*ours, text=text)
             assert found == (wanted, "", 0), "the output differs, with %r" % ours
+
+
+def run_onto(name, *words, text=None):
+    """Runs over a file that standard output appends to. Returns what it told, its status, and the file."""
+    with open(name, "ab") as output, open(text or os.devnull, "rb") as stdin:
+        ran = subprocess.run([KODLIWE, *words], stdin=stdin, stdout=output, stderr=subprocess.PIPE, timeout=20)
+    return ran.stderr.decode(), ran.returncode, read(name)
+
+
+def same_file():
+    line = "kodliwe: %s: input file is output file\n"
+    old = b"_ZN1aE\n"
+    write("same", old)
+    write("other", b"_ZN1bE\n")
+    os.link("same", "hard")
+    os.symlink("same", "soft")
+    for name in ["same", "./same", "hard", "soft"]:
+        same(run_onto("same", "-i", name), (line % name, 1, old))
+    # Nothing is read or written before, whatever the place of the input is.
+    same(run_onto("same", FOO, "-i", "other", "-i", "same"), (line % "same", 1, old))
+    same(run_onto("same", "-o", "-", "-i", "same"), (line % "same", 1, old))
+    same(run_onto("same", text="same"), (line % "standard input", 1, old))
+    same(run_onto("same", "-", FOO, text="same"), (line % "standard input", 1, old))
+    # Standard input is not read if there are words, and --output replaces the file.
+    same(run_onto("same", FOO, text="same"), ("", 0, old + b"foo\n"))
+    same(run_onto("same", "-o", "same", "-i", "same"), ("", 0, b"a\nfoo\n"))
+    same(run_onto("copy", "-i", "same"), ("", 0, b"a\nfoo\n"))
+    # What is no regular file may be both.
+    with open("/dev/null", "r+b") as device:
+        ran = subprocess.run([KODLIWE, "-i", "/dev/null"], stdin=device, stdout=device, stderr=subprocess.PIPE, timeout=20)
+    same((ran.stderr, ran.returncode), (b"", 0))
+    # An empty file is the output too: the shell may have emptied it.
+    write("empty", b"")
+    same(run_onto("empty", "-i", "empty"), (line % "empty", 1, b""))
+
+
+def terminal():
+    note = b"kodliwe: reading standard input; press Ctrl-D to end\n"
+    for words, told in [([], note), (["--hash"], note), (["-"], b""), (["-i", "-"], b"")]:
+        ours, its = pty.openpty()
+        ran = subprocess.Popen([KODLIWE, *words], stdin=its, stdout=subprocess.PIPE, stderr=subprocess.PIPE)
+        os.close(its)
+        os.write(ours, b"_ZN1aE\n\x04")
+        same((*ran.communicate(timeout=20), ran.returncode), (b"a\n", told, 0))
+        os.close(ours)
+    ours, its = pty.openpty()
+    ran = subprocess.run([KODLIWE, FOO], stdin=its, stdout=subprocess.PIPE, stderr=subprocess.PIPE, timeout=20)
+    os.close(ours), os.close(its)
+    same((ran.stdout, ran.stderr, ran.returncode), (b"foo\n", b"", 0))
+
+
+def version():
+    text, told, status = run("--version")
+    same((told, status), ("", 0))
+    lines = text.decode().splitlines()
+    logic = subprocess.check_output([tool("rt"), "version"]).decode().split()[-1]
+    same(lines, ["kodliwe 0.1.0", "Proved with Rattle, logic %s" % logic, "Licence: MIT"])
 
 
 CHECKS = [
@@ -574,6 +656,9 @@ CHECKS = [
     manual,
     completions,
     filter_,
+    same_file,
+    terminal,
+    version,
 ]
 
 

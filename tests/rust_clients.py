@@ -29,7 +29,9 @@ import subprocess
 import sys
 
 import rust_common as common
-from rust_common import HERE, OUT, RUST, check, run
+import texts
+from common import RUST, run
+from rust_common import HERE, OUT, check
 
 OURS = os.path.join(RUST, "rustc-demangle")
 DEBIAN = "/usr/share/cargo/registry"
@@ -251,9 +253,9 @@ def check_answers():
     differ = 0
     for at, (_, text, _, (status, as_str, *forms)) in enumerate(rows):
         ours, theirs = fields[8 * at : 8 * at + 4], fields[8 * at + 4 : 8 * at + 8]
-        stored = text if as_str == b"=" else common.unescaped(as_str)
+        stored = text if as_str == b"=" else texts.unescaped(as_str)
         right = ours[0] == bytes([status == b"OK"]) and ours[1] == stored
-        check(right and list(map(common.column, ours[2:])) == forms, f"{text[:80]!r}")
+        check(right and list(map(texts.column, ours[2:])) == forms, f"{text[:80]!r}")
         check(ours[:2] == theirs[:2], f"{text[:80]!r} is read otherwise")
         differ += ours != theirs
     for include_hash in ("true", "false"):

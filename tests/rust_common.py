@@ -1,54 +1,34 @@
-"""What the tests of the Rust crate share: steps, cargo, the corpus and damaged symbols."""
+"""What the tests of the Rust crate share beside tests/common.py and tests/texts.py: cargo, the corpus by rows and damaged symbols."""
 
 import hashlib
 import os
 import re
-import shutil
 import struct
 import subprocess
 import sys
 
-ROOT = os.path.dirname(os.path.dirname(os.path.abspath(__file__)))
+from common import CORPUS, ROOT, Tally, run, tool
+from texts import NO_LIMIT, unescaped
+
 HERE = os.path.join(ROOT, "tests", "crate")
-RUST = os.path.join(ROOT, "rust")
 OUT = os.path.join(ROOT, "out", "crate")
-CORPUS = os.path.join(ROOT, "crates", "demangle_corpus", "stdin")
-NO_LIMIT = 2**64 - 1
 DAMAGED, CHUNK = 50_000, 1_000
 
 
-class Failure(Exception):
-    """A check that failed."""
-
-
 def check(holds, text):
-    if not holds:
-        raise Failure(text)
-
-
-def run(command, status=0, **more):
-    """Runs a command and returns its output; another status than the given one is a failure."""
-    if shutil.which(command[0]) is None:
-        raise Failure(f"this machine has no {command[0]}")
-    ran = subprocess.run(command, stdout=subprocess.PIPE, stderr=subprocess.PIPE, check=False, **more)
-    if ran.returncode != status:
-        said = (ran.stderr + ran.stdout)[-2500:].decode(errors="replace")
-        raise Failure(f"{' '.join(map(str, command))[:300]}: status {ran.returncode}\n{said}")
-    return ran.stdout
+    """Fails with a text if something does not hold."""
+    assert holds, text
 
 
 def cargo(folder, *words, target=None, status=0, **variables):
     """Runs cargo in a folder, without a network, and returns all that it said."""
     env = dict(os.environ, CARGO_NET_OFFLINE="true", CARGO_TERM_COLOR="never", **variables)
     env["CARGO_TARGET_DIR"] = target or os.path.join(OUT, "target")
-    if shutil.which("cargo") is None:
-        raise Failure("this machine has no cargo")
     ran = subprocess.run(
-        ["cargo", *words], cwd=folder, env=env, check=False,
+        [tool("cargo", "cargo"), *words], cwd=folder, env=env, check=False,
         stdout=subprocess.PIPE, stderr=subprocess.STDOUT, encoding="utf-8",
     )  # fmt: skip
-    if (ran.returncode == 0) != (status == 0):
-        raise Failure(f"cargo {' '.join(words)}: status {ran.returncode}\n{ran.stdout[-2500:]}")
+    check((ran.returncode == 0) == (status == 0), f"cargo {' '.join(words)}: status {ran.returncode}\n{ran.stdout[-2500:]}")
     return ran.stdout
 
 
@@ -77,26 +57,6 @@ def answers_program(rust, target=None):
     return os.path.join(target or os.path.join(OUT, "target"), "release", "answers")
 
 
-def unescaped(text):
-    """Returns the text of a corpus column."""
-    signs = {b"n": b"\n", b"t": b"\t", b"r": b"\r", b"0": b"\0"}
-    return re.sub(rb"\\(.)", lambda found: signs.get(found[1], found[1]), text)
-
-
-def column(text):
-    """Returns a text as a column of the corpus."""
-    if len(text) > 2000:
-        return b"#len=%d sha256=%s" % (len(text), hashlib.sha256(text).hexdigest().encode())
-    return escaped(text)
-
-
-def escaped(text):
-    signs = ((b"\\", b"\\\\"), (b"\n", b"\\n"), (b"\t", b"\\t"), (b"\r", b"\\r"), (b"\0", b"\\0"))
-    for sign, shown in signs:
-        text = text.replace(sign, shown)
-    return text
-
-
 def rows():
     """Yields the corpus rows: kind, symbol, limit and the stored columns."""
     with open(CORPUS, "rb") as file:
@@ -109,10 +69,6 @@ def rows():
             yield "pieces", unescaped(fields[1]), NO_LIMIT, fields[2:4]
         elif len(fields) == 5:
             yield "answer", unescaped(fields[0]), NO_LIMIT, fields[1:5]
-
-
-def record(text, limit=NO_LIMIT):
-    return struct.pack("<IQ", len(text), limit) + text
 
 
 def fields_of(output):
@@ -173,16 +129,8 @@ def digests(lines):
 
 
 def steps(checks, arguments):
-    """Runs checks by their names, prints a line for each, and returns the status."""
-    passed = failed = 0
+    """Runs checks, or those that are named, prints a line for each, and returns the status."""
+    tally = Tally(arguments)
     for name, call in checks:
-        if arguments and name not in arguments:
-            continue
-        try:
-            print(f"{name}: {call()}", flush=True)
-            passed += 1
-        except (Failure, OSError, subprocess.SubprocessError, ValueError) as failure:
-            print(f"{name}: FAILED: {failure}", flush=True)
-            failed += 1
-    print(f"{passed} passed, {failed} failed")
-    return 1 if failed or not passed else 0
+        tally.step(name, call)
+    return tally.end()

@@ -18,7 +18,8 @@ import sys
 
 import rust_common as common
 import crate
-from rust_common import OUT, ROOT, RUST, check, run
+from common import ROOT, RUST, run
+from rust_common import OUT, check
 
 PLACE = os.path.join(ROOT, "out", "targets")
 TREE = os.path.join(PLACE, "root")

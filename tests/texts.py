@@ -106,13 +106,18 @@ def unescaped(text):
     return re.sub(rb"\\(.)", lambda m: {b"n": b"\n", b"t": b"\t", b"r": b"\r", b"0": b"\0"}.get(m[1], m[1]), text)
 
 
+def escaped(text):
+    """Returns a text with the escapes of a column of the corpus."""
+    for raw, shown in ((b"\\", b"\\\\"), (b"\n", b"\\n"), (b"\t", b"\\t"), (b"\r", b"\\r"), (b"\0", b"\\0")):
+        text = text.replace(raw, shown)
+    return text
+
+
 def column(text):
     """Returns a text as a column of the corpus has it."""
     if len(text) > 2000:
         return b"#len=%d sha256=%s" % (len(text), hashlib.sha256(text).hexdigest().encode())
-    for raw, shown in ((b"\\", b"\\\\"), (b"\n", b"\\n"), (b"\t", b"\\t"), (b"\r", b"\\r"), (b"\0", b"\\0")):
-        text = text.replace(raw, shown)
-    return text
+    return escaped(text)
 
 
 def stored():
@@ -136,7 +141,7 @@ def stored():
 
 
 def record(symbol, limit=NO_LIMIT):
-    """Returns a symbol as the programs of tests/c_library read it."""
+    """Returns a symbol as the programs of tests/c_library and tests/crate read it."""
     return struct.pack("<IQ", len(symbol), limit) + symbol
 
 

@@ -1,42 +1,42 @@
-// Kodliwe's WebAssembly module for JavaScript: kodliwe.load(bytes) answers its calls.
+// Kodliwe's WebAssembly module for JavaScript: kodliwe.load(bytes) returns its calls.
 "use strict";
 
-// One function without a free name, so that page.js can start a worker from its source: a page
-// that was opened as a file may load scripts by <script> alone.
+// A single function without free names, so that page.js can start a worker from its source. A page
+// that was opened as a file may load scripts only by <script>.
 function kodliweEngine() {
   const PAGE = 65536;
-  const MARKER = 21; // `{size limit reached}` and the 0 behind it
-  const MOST = 1_000_000; // bytes of one path, where no other limit is given
-  const NOT_ASCII = 0x80; // stands for a character that no symbol has
+  const MARKER = 21; // bytes of `{size limit reached}` and the 0 after it
+  const MOST = 1_000_000; // bytes of one path, if no other limit is given
+  const NOT_ASCII = 0x80; // replaces any character that a symbol cannot contain
   const encoder = new TextEncoder();
   const decoder = new TextDecoder("utf-8", { ignoreBOM: true });
 
-  // a module of nothing but a 64-bit memory
+  // a module that has only a 64-bit memory
   const MEMORY64 = new Uint8Array([0, 0x61, 0x73, 0x6d, 1, 0, 0, 0, 5, 3, 1, 4, 1]);
 
-  /** Whether this browser has 64-bit WebAssembly memory, without which the module does not run. */
+  /** Returns true if this browser has 64-bit WebAssembly memory. The module needs it. */
   function isSupported() {
     return typeof WebAssembly === "object" && WebAssembly.validate(MEMORY64);
   }
 
-  /** The bytes of the module from the text that module.js has: gzip, in base64. */
+  /** Returns the bytes of the module. The text is that of module.js: gzip, in base64. */
   async function unpack(text) {
     const packed = Uint8Array.from(atob(text), (it) => it.charCodeAt(0));
     const stream = new Blob([packed]).stream().pipeThrough(new DecompressionStream("gzip"));
     return new Uint8Array(await new Response(stream).arrayBuffer());
   }
 
-  /** The module's calls for texts; bytes are those of kodliwe.wasm. */
+  /** Returns the module's calls for texts. The bytes are those of kodliwe.wasm. */
   async function load(bytes) {
     const { instance } = await WebAssembly.instantiate(bytes, {});
     return callsOf(instance.exports);
   }
 
   function callsOf(wasm) {
-    const base = Number(wasm.__heap_base.value); // all from here on is ours
+    const base = Number(wasm.__heap_base.value); // the memory from here is free for texts
     let view = new Uint8Array(wasm.memory.buffer);
 
-    // Node.js 20 counts the pages of a 64-bit memory by a number, and not as later engines do.
+    // Node.js 20 takes the number of pages of a 64-bit memory as a number, later engines as a BigInt.
     function grow(pages) {
       try {
         wasm.memory.grow(BigInt(pages));
@@ -46,7 +46,7 @@ function kodliweEngine() {
       }
     }
 
-    // Room for so many bytes from the base on. Growing makes the view before it void.
+    // Ensures that there are `size` bytes after the base. If the memory grows, it needs a new view.
     function reserve(size) {
       const lacking = base + size - wasm.memory.buffer.byteLength;
       if (lacking > 0) grow(Math.ceil(lacking / PAGE));
@@ -55,8 +55,8 @@ function kodliweEngine() {
 
     const read = (at, size) => decoder.decode(view.subarray(at, at + size));
 
-    // Puts a text at the base, one byte for each UTF-16 unit, so that places in the memory are
-    // places in the text. Symbols are ASCII: of any other unit only that it is none is kept.
+    // Writes a text to the base, one byte for each UTF-16 code unit. So an index in the memory is an
+    // index in the text. Symbols are ASCII, so any other code unit becomes NOT_ASCII.
     function putUnits(text) {
       reserve(text.length);
       const { read: taken, written } = encoder.encodeInto(text, view.subarray(base, base + text.length));
@@ -67,31 +67,32 @@ function kodliweEngine() {
       }
     }
 
-    // What the symbol at a place prints, or null where it is none; `behind` is free memory.
+    // Returns the path of the symbol at `at`, or null if it is not a symbol. Memory from `behind` is free.
     function pathAt(at, size, behind, hash, limit) {
-      const room = Math.min(limit, MOST) + MARKER + size; // no path needs more
+      const room = Math.min(limit, MOST) + MARKER + size; // enough for any path
       reserve(behind - base + room);
       const size64 = wasm.kodliwe_demangle_limited(
         BigInt(at), BigInt(size), BigInt(behind), BigInt(room), hash ? 1 : 0, BigInt(limit));
       return size64 === 0n ? null : read(behind, Number(size64) - 1);
     }
 
-    /** The path of a symbol, or null where the text is none. */
+    /** Returns the path of a symbol, or null if the text is not a symbol. */
     function demangle(symbol, { hash = false, limit = MOST } = {}) {
       putUnits(symbol);
       return pathAt(base, symbol.length, base + symbol.length, hash, limit);
     }
 
-    /** Whether the text is a symbol. Nothing is printed. */
+    /** Returns true if the text is a symbol. Prints nothing. */
     function isSymbol(text) {
       putUnits(text);
       return wasm.kodliwe_is_symbol(BigInt(base), BigInt(text.length)) !== 0;
     }
 
     /**
-     * The symbols of a text in order, each { start, end, path } with places in UTF-16 units; path
-     * is null of what only begins like a symbol. limit() is asked for the most bytes of each path.
-     * Another call takes the module's memory over: the symbols behind are then not to be taken.
+     * Yields the symbols of a text in order, each as { start, end, path }. The start and the end
+     * count UTF-16 code units. The path is null if a candidate only starts like a symbol. The call
+     * limit() returns the most bytes of each path. Another call of the module overwrites its
+     * memory. After one, the later symbols must not be used.
      */
     function* symbols(text, { hash = false, limit = () => MOST } = {}) {
       putUnits(text);
@@ -105,7 +106,7 @@ function kodliweEngine() {
       }
     }
 
-    // The text in parts, for one with lone surrogates, which UTF-8 does not have.
+    // Demangles a text in parts. It is for texts with lone surrogates, which UTF-8 cannot represent.
     function joined(text, options) {
       let kept = 0;
       let result = "";
@@ -117,7 +118,7 @@ function kodliweEngine() {
       return result + text.slice(kept);
     }
 
-    /** A text with its symbols demangled, by one call of the module. */
+    /** Returns a text with its symbols demangled, by one call of the module. */
     function demangleText(text, { hash = false, limit = MOST } = {}) {
       if (!text.isWellFormed()) return joined(text, { hash, limit });
       reserve(text.length * 3);

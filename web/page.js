@@ -1,18 +1,18 @@
-// The page: a text, with its symbols demangled beside it. The work is done by a worker (worker.js),
-// and what it answers is shown in blocks of lines, which are laid out only where they are seen.
+// The page shows a text next to the same text with its symbols demangled. A worker (worker.js) does
+// the work. Its results are shown in blocks of lines, and the browser lays out only those in view.
 "use strict";
 
 (() => {
-  // A text of more characters, or with a longer line, is shown and not edited: of a text area
-  // browsers lay out anew all of a line, and some all of its lines, at each key.
+  // A text of more characters, or with a longer line, is shown but not edited. At each key, browsers
+  // lay out the whole line of a text area, and some browsers all of its lines.
   const EDITED = 100_000;
   const EDITED_LINE = 20_000;
-  const LARGEST = 32_000_000; // characters, or bytes of a file
-  const SLICE = 8; // milliseconds of showing, between which keys are heard
-  const TOLD = 600; // characters of a name in the line below
-  const STILL = 600; // milliseconds until a screen reader is told
-  const LINKED = 30_000; // characters of a symbol in a link
-  const FRAMES = 12; // in which a symbol is brought into view
+  const LARGEST = 32_000_000; // the most characters of a text, or bytes of a file
+  const SLICE = 8; // milliseconds of work on the display between two chances for a key
+  const TOLD = 600; // the most characters of a name in the line below the panes
+  const STILL = 600; // milliseconds without a change before a screen reader is notified
+  const LINKED = 30_000; // the most characters of a symbol in a link
+  const FRAMES = 12; // the number of frames in which a symbol is scrolled into view again
   const EXAMPLE = `thread 'main' panicked at src/parse.rs:88:14:
 called \`Option::unwrap()\` on a \`None\` value
 stack backtrace:
@@ -27,11 +27,11 @@ stack backtrace:
   const [input, hash, wrap, copy, download, clear] = ["input", "hash", "wrap", "copy", "download", "clear"].map($);
   const commas = (number) => number.toLocaleString("en");
 
-  // ---- What is told
+  // ---- Messages
 
   let waiting = 0;
 
-  // Speaks once the page has been still for a moment, so that a screen reader is not flooded.
+  // Sets the status after a moment without a change, so that a screen reader is not flooded.
   function say(text) {
     clearTimeout(waiting);
     waiting = setTimeout(() => { $("status").textContent = text; }, STILL);
@@ -47,7 +47,7 @@ stack backtrace:
 
   // ---- Panes
 
-  // The place of the first element of which a test holds, in a row that is false before it.
+  // Returns the index of the first element that passes a test. No element before it may pass.
   function firstOf(row, test) {
     let low = 0, high = row.length;
     while (low < high) {
@@ -57,8 +57,8 @@ stack backtrace:
     return low;
   }
 
-  // A text in blocks { text, marks, rows, isOpen }, as the worker makes them. A block's marks are
-  // made of elements once it comes into view.
+  // A text in blocks { text, marks, rows, isOpen }, as the worker makes them. A block gets elements
+  // for its marks when it comes into view.
   class Pane {
     constructor(element) {
       this.element = element;
@@ -70,8 +70,8 @@ stack backtrace:
     }
 
     begin() {
-      this.reached = 0; // so many blocks are of the text that is shown now
-      this.isDivided = false; // whether a line of it takes several rows
+      this.reached = 0; // the number of blocks that belong to the current text
+      this.isDivided = false; // whether a line of it has several rows
     }
 
     clear() {
@@ -81,7 +81,7 @@ stack backtrace:
       this.begin();
     }
 
-    // Takes the next block; one that is there already stays.
+    // Adds the next block. If the same block is already there, it stays.
     take(block) {
       const old = this.blocks[this.reached];
       this.isDivided ||= block.isOpen || block.breaks.length > 0;
@@ -95,7 +95,7 @@ stack backtrace:
         }
         this.blocks[this.reached] = block;
       } else {
-        [old.from, old.to] = [block.from, block.to]; // the text before it may have changed
+        [old.from, old.to] = [block.from, block.to]; // the text before the block may have changed
       }
       this.reached++;
     }
@@ -111,7 +111,7 @@ stack backtrace:
       if (!block.isMade) this.observer.observe(element);
     }
 
-    // Takes off what is left of an earlier text.
+    // Removes the remaining blocks of an earlier text.
     end() {
       for (const { element } of this.blocks.splice(this.reached)) {
         this.observer.unobserve(element);
@@ -154,7 +154,7 @@ stack backtrace:
       return this.blocks.map((it) => it.text).join("");
     }
 
-    // The places in the row of blocks that have a part of a symbol.
+    // Yields the blocks that contain a part of a symbol, in order.
     *blocksOf(number) {
       const last = ({ marks }) => (marks.length ? marks[marks.length - 3] : -1);
       const marked = this.blocks.filter((it) => it.marks.length);
@@ -174,7 +174,7 @@ stack backtrace:
       return text;
     }
 
-    // Returns the first symbol that ends after a place in the text, or -1. Only blocks of the input know their places.
+    // Returns the first symbol that ends after an index in the text, or -1. Only blocks of the input have indices.
     firstAfter(place) {
       const at = firstOf(this.blocks, (it) => it.to > place);
       for (const { from, marks } of this.blocks.slice(at, this.reached)) {
@@ -185,7 +185,7 @@ stack backtrace:
       return -1;
     }
 
-    // Returns the symbol that a place in the text is in, or at an end of, or -1.
+    // Returns the symbol that contains an index in the text or ends there, or -1.
     symbolAt(place) {
       const block = this.blocks[firstOf(this.blocks, (it) => it.to >= place)];
       for (let n = 0; block && n < block.marks.length; n += 3) {
@@ -195,7 +195,7 @@ stack backtrace:
       return -1;
     }
 
-    // Marks a symbol as the one that is told.
+    // Highlights the symbol that is shown below the panes.
     point(number) {
       this.current = number;
       for (const it of this.element.querySelectorAll("mark.current")) it.classList.remove("current");
@@ -210,7 +210,7 @@ stack backtrace:
       this.scrollTo(block.element.querySelector(`mark[data-number="${number}"]`).getClientRects()[0]);
     }
 
-    // Scrolls a place into view, as little as may be; a name may be wider than the pane.
+    // Scrolls a rectangle into view, as little as possible. A name may be wider than the pane.
     scrollTo(place) {
       const box = this.element.getBoundingClientRect();
       if (place.top < box.top || place.bottom > box.bottom) {
@@ -234,15 +234,15 @@ stack backtrace:
 
   // ---- The text
 
-  let held = null; // { text, name } where the text is shown, null where it is in the text area
-  let lineEnd = "\n"; // what the text area's line feeds stand for
+  let held = null; // { text, name } if the text is only shown, null if it is in the text area
+  let lineEnd = "\n"; // the line end that a line feed of the text area represents
   let worker = null;
-  let turn = 0; // answers to what was asked before it are dropped
+  let turn = 0; // the number of the latest job; results of earlier jobs are dropped
   let asked = { text: "", isNew: true };
   let symbols = 0;
-  let cut = new Set(); // the numbers of the paths that end in the marker
-  let isFinished = false; // whether all of the text is shown
-  let sought = -1; // the first symbol that ends after this place is to be brought into view, unless it is -1
+  let cut = new Set(); // the numbers of the paths that end with the marker
+  let isFinished = false; // whether the whole result is shown
+  let sought = -1; // the first symbol that ends after this index is to be scrolled into view, unless it is -1
 
   const isArea = () => held === null;
 
@@ -256,7 +256,7 @@ stack backtrace:
     return true;
   }
 
-  // The line end of a text, or null where it has several kinds, or carriage returns alone.
+  // Returns the line end of a text, or null if it has several kinds or only carriage returns.
   function lineEndOf(text) {
     if (!text.includes("\r")) return "\n";
     return /\r(?!\n)|(?<!\r)\n/.test(text) ? null : "\r\n";
@@ -292,14 +292,14 @@ stack backtrace:
     $("held").textContent = "";
   }
 
-  // Takes a text in place of the one that was there: into the text area, where that loses nothing.
+  // Replaces the text. The new text is put into the text area if that loses nothing, and is only shown otherwise.
   function set(text, name) {
     if (isTooLarge(text.length, name)) return;
     tell("");
     const ends = lineEndOf(text);
     if (ends !== null && isEdited(text)) {
       if (!isArea()) {
-        shown.clear(); // else all of what was held would be laid out under the text area
+        shown.clear(); // otherwise the whole earlier text would be laid out under the text area
         release();
       }
       input.value = text;
@@ -314,9 +314,9 @@ stack backtrace:
     ask(true, 0);
   }
 
-  let pastedAt = -1; // where a paste put its text that the text area takes by itself
+  let pastedAt = -1; // the index of a pasted text that the text area inserts by itself
 
-  // Takes what the text area has after an edit.
+  // Reads the text area after an edit.
   function edited() {
     const place = pastedAt;
     pastedAt = -1;
@@ -342,7 +342,7 @@ stack backtrace:
       const before = input.value.slice(0, input.selectionStart), behind = input.value.slice(input.selectionEnd);
       const isWhole = before + behind === "";
       if (isEdited(before + text + behind) && ends !== null && !text.includes("\0")) {
-        if (isWhole) lineEnd = ends; // else it takes the line ends that the text has
+        if (isWhole) lineEnd = ends; // otherwise the pasted text gets the line ends of the text
         if (text !== "") pastedAt = before.length;
         return;
       }
@@ -359,8 +359,8 @@ stack backtrace:
 
   // ---- Files
 
-  // The text of a file's bytes: UTF-8, or UTF-16 with its mark, as some shells write; else
-  // Windows-1252, which has a character for every byte.
+  // Returns the text of a file's bytes. They are read as UTF-8, or as UTF-16 after its byte order mark, as
+  // some shells write it. Any others are read as Windows-1252, which has a character for every byte.
   function decoded(bytes) {
     const [first, second] = bytes;
     const named = first === 0xff && second === 0xfe ? "utf-16le" : first === 0xfe && second === 0xff ? "utf-16be" : "utf-8";
@@ -369,7 +369,7 @@ stack backtrace:
         const text = new TextDecoder(label, { fatal: true, ignoreBOM: label === "utf-8" }).decode(bytes);
         return { text, label };
       } catch {
-        // the next takes it
+        // the next encoding is tried
       }
     }
     throw new Error("no text");
@@ -398,7 +398,7 @@ stack backtrace:
     return `${stem || "text"}.demangled${ending ?? ".txt"}`;
   }
 
-  // ---- Asking the worker, and showing what it answers
+  // ---- The worker's jobs, and the display of their results
 
   function ask(isNew, place = -1) {
     const text = held ? held.text : input.value;
@@ -417,7 +417,7 @@ stack backtrace:
     output.element.ariaBusy = "true";
   }
 
-  // What was answered is shown in slices, so that a key never waits for all of it.
+  // Results are shown in slices, so that a key never waits for all of them.
   const answers = [];
 
   const pause = () => new Promise((done) => {
@@ -493,8 +493,8 @@ stack backtrace:
 
   // ---- Pointing at a symbol, choosing it, and stepping to it
 
-  let current = -1; // the symbol that is told
-  let chosen = -1; // the one that was clicked, was stepped to, or has the text cursor: it is told again once the pointer leaves
+  let current = -1; // the symbol that is shown below the panes
+  let chosen = -1; // the symbol that was clicked, stepped to, or has the text cursor; it is shown again when the pointer leaves
 
   function point(number) {
     if (number === current) return;
@@ -518,10 +518,10 @@ stack backtrace:
     say(`${commas(current + 1)} of ${commas(symbols)}: ${$("mangled").textContent} is ${$("path").textContent}`);
   }
 
-  let revealed = 0; // calls of reveal
+  let revealed = 0; // the number of calls of reveal
 
-  // Brings a symbol into view in both panes. A block has its size only some frames after it is seen, and that may
-  // move the symbol: so it is brought again in some frames.
+  // Scrolls a symbol into view in both panes. A block gets its size only some frames after it comes into view, which
+  // may move the symbol. So the call scrolls again in the next frames.
   function reveal(number) {
     const [call, before] = [++revealed, turn];
     let frames = FRAMES;
@@ -536,7 +536,7 @@ stack backtrace:
     bring();
   }
 
-  // Brings the symbol that is sought into view, once both panes have it.
+  // Scrolls the sought symbol into view when both panes have it.
   function seek() {
     const number = sought === -1 ? -1 : shown.firstAfter(sought);
     if (number === -1 || output.blocksOf(number).next().done) return;
@@ -546,7 +546,7 @@ stack backtrace:
     requestAnimationFrame(() => { if (turn === before) reveal(number); });
   }
 
-  // A text area lies over the marks, so they are looked for under the pointer.
+  // The text area covers the marks, so they are searched at the pointer's position.
   const markUnder = ({ clientX, clientY }) => document.elementsFromPoint(clientX, clientY).find((it) => it.localName === "mark");
 
   function pointed(event) {
@@ -569,7 +569,7 @@ stack backtrace:
     if (number !== -1) choose(number);
   }
 
-  // ---- Scrolling: the marks under the text area follow it, and the panes one another
+  // ---- Scrolling: the marks under the text area follow it, and the panes follow each other
 
   function scrolled(one, other) {
     if (one.hidden) return;
@@ -581,13 +581,13 @@ stack backtrace:
     const one = event.currentTarget;
     if (one === input) scrolled(input, shown.element);
     if (!one.matches(":hover, :focus")) return;
-    if (wrap.checked || shown.isDivided || output.isDivided) return; // their rows are not the same lines
+    if (wrap.checked || shown.isDivided || output.isDivided) return; // their rows are different lines
     const source = isArea() ? input : shown.element;
     const other = one === output.element ? source : output.element;
     if (other.scrollTop !== one.scrollTop) other.scrollTop = one.scrollTop;
   }
 
-  // ---- Wrapping: by default where the page is narrow
+  // ---- Wrapping, which is on by default if the page is narrow
 
   const narrow = matchMedia("(width < 700px)");
 
@@ -598,7 +598,7 @@ stack backtrace:
     if (current !== -1) reveal(current);
   }
 
-  // Gives the marks under the text area its width, without its scroll bar, and its place.
+  // Gives the marks under the text area its width, without its scroll bar, and its position.
   function fit() {
     if (input.hidden) return;
     shown.element.style.setProperty("--inner", `${input.clientWidth}px`);
@@ -612,7 +612,7 @@ stack backtrace:
 
   // ---- Copying
 
-  // A selection is copied as the text is, not as it is divided into blocks.
+  // A selection is copied as the original text, without the division into blocks.
   function copied(event) {
     event.clipboardData.setData("text/plain", withEnds(getSelection().toString() && getSelection().getRangeAt(0).toString()));
     event.preventDefault();
@@ -623,7 +623,7 @@ stack backtrace:
     say(text);
   }
 
-  // Copies a text in a browser that does so only of a selection.
+  // Copies a text in a browser that copies only a selection.
   function copySelected(text, element) {
     const put = (event) => {
       event.clipboardData.setData("text/plain", text);
@@ -638,7 +638,7 @@ stack backtrace:
     return isCopied;
   }
 
-  // Copies a text. If the browser lets no script copy, it selects the element that shows the text.
+  // Copies a text. If the browser does not let a script copy, selects the element that shows the text.
   async function copyText(text, element, what) {
     try {
       await navigator.clipboard.writeText(text);
@@ -655,7 +655,7 @@ stack backtrace:
   const copyResult = () => copyText(withEnds(output.text()), output.element, "The result");
   const copyPath = () => copyText(output.textOf(current), $("path"), "The path");
 
-  // ---- Links: #symbol=.. shows a symbol. What follows # is sent to no server.
+  // ---- Links: #symbol=.. shows a symbol. The text after # is not sent to any server.
 
   function linked() {
     const [, given] = /^#symbol=(.*)$/s.exec(location.hash) ?? [];
@@ -672,7 +672,7 @@ stack backtrace:
     if (symbol !== null) set(symbol, "The symbol of the link");
   }
 
-  // Writes the link of the symbol that is told into the address, and copies it.
+  // Writes the link of the shown symbol to the address bar, and copies it.
   async function link() {
     const symbol = shown.textOf(current);
     if (symbol.length > LINKED) {
@@ -698,13 +698,13 @@ stack backtrace:
     say(`Downloaded as ${link.download}.`);
   }
 
-  // ---- What is kept for the next visit: the two switches
+  // ---- The two switches, which are stored for the next visit
 
   function kept(name, otherwise) {
     try {
       return localStorage.getItem(`kodliwe-${name}`) ?? otherwise;
     } catch {
-      return otherwise; // this browser keeps nothing for the page
+      return otherwise; // this browser stores nothing for the page
     }
   }
 

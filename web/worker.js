@@ -1,21 +1,21 @@
-// What the page's worker does: it demangles a text and divides it, and what is shown, into blocks.
+// The page's worker. It demangles a text, and divides the text and the result into blocks.
 "use strict";
 
-// One function without a free name but its argument, as kodliweEngine is: page.js makes the worker
-// of both.
+// A single function whose only free name is its argument, like kodliweEngine. page.js makes the
+// worker from both.
 function kodliweWorker(kodliwe) {
-  const LINES = 100; // the most lines of a block,
-  const CHARS = 8_192; // and about the most characters
-  const ROW = 1_024; // a longer line goes on in the next row
-  const LIMIT = 16_384; // bytes of one path, before `{size limit reached}`;
-  const FEW = 256; // that many once all paths have
-  const MANY = 1_000_000; // so many characters and eight for each of the text's
+  const LINES = 100; // the most lines of a block
+  const CHARS = 8_192; // about the most characters of a block
+  const ROW = 1_024; // the characters of a row; a longer line continues in the next row
+  const LIMIT = 16_384; // the most bytes of one path, before `{size limit reached}`
+  const FEW = 256; // the most bytes of one path after all paths together
+  const MANY = 1_000_000; // have this many characters and 8 times those of the text
   const MARKER = "{size limit reached}";
-  const STRETCH = 262_144; // characters without a symbol that are gone through at a time
-  const SLICE = 40; // milliseconds between two looks whether another text has come
+  const STRETCH = 262_144; // the most characters without a symbol that are processed at once
+  const SLICE = 40; // milliseconds between two checks for a newer text
 
   let calls = null;
-  let latest = null; // the text that is asked for last
+  let latest = null; // the job that was requested last
 
   const pause = () => new Promise((done) => {
     const channel = new MessageChannel();
@@ -23,13 +23,13 @@ function kodliweWorker(kodliwe) {
     channel.port2.postMessage(0);
   });
 
-  // whether a division here would part the two halves of a character
+  // returns true if a division here would separate the two halves of a character
   const isLow = (text, at) => (text.charCodeAt(at) & 0xfc00) === 0xdc00;
 
-  // Gathers text and marks, and hands them on as blocks { text, marks, breaks, rows, isOpen }. Marks
-  // are triples of the symbol's number, where it begins and where it ends in the block; at the
-  // breaks a row ends within a line, as an open block's last row does. Where isWhole says so no
-  // line is divided.
+  // Collects text and marks, and passes them to `hand` as blocks { text, marks, breaks, rows, isOpen }.
+  // A mark is a triple: the number of the symbol, its start and its end in the block. A row ends
+  // within a line at each break, and at the end of an open block. If isWhole is true, no line is
+  // divided.
   function blocks(hand, isWhole) {
     const most = isWhole ? Infinity : ROW;
     let parts = [], marks = [], breaks = [], chars = 0, rows = 0, row = 0;
@@ -56,7 +56,7 @@ function kodliweWorker(kodliwe) {
       rows++;
       row = 0;
     }
-    // text within one line
+    // Adds text that is within one line.
     function add(text, number) {
       for (let from = 0; from < text.length;) {
         if (row >= most) divide();
@@ -71,7 +71,7 @@ function kodliweWorker(kodliwe) {
       row = 0;
       if (++rows >= LINES || chars >= CHARS) end(false);
     }
-    let feedAt = -1; // where the next line feed of the text is, which plain goes through in order
+    let feedAt = -1; // the index of the next line feed in the text; `plain` reads the text in order
     function plain(text, from, to) {
       for (let at = from; at < to;) {
         if (feedAt < at) feedAt = text.indexOf("\n", at);
@@ -82,7 +82,7 @@ function kodliweWorker(kodliwe) {
         at = stop + 1;
       }
     }
-    // behind a last line feed stands one more line, which is empty
+    // Ends the text. After a last line feed there is one more line, which is empty.
     function last() {
       if (row === 0 && parts.length > 0) end(false);
       end(false);
@@ -98,7 +98,7 @@ function kodliweWorker(kodliwe) {
       postMessage({ turn: job.turn, ...news, count, isFew, isDone });
       news = { input: [], output: [], cut: [] };
     };
-    // The page has the text: of its blocks only where they lie is told.
+    // The page has the text, so a block of it is reported only by its start and its end.
     const input = blocks(({ text: part, ...rest }) => {
       news.input.push({ from, to: from + part.length, ...rest });
       from += part.length;
@@ -108,7 +108,7 @@ function kodliweWorker(kodliwe) {
     const limit = () => (printed < most ? LIMIT : FEW);
     let kept = 0;
     let until = performance.now() + SLICE / 2;
-    // Whether this is still what is asked for; what was found is told, and a newer text heard of.
+    // Returns true if this job is still the latest. Reports its results so far, and lets a newer job arrive.
     async function isWanted() {
       if (performance.now() < until) return true;
       send(false);
@@ -116,7 +116,7 @@ function kodliweWorker(kodliwe) {
       until = performance.now() + SLICE;
       return job === latest;
     }
-    // Keeps the text up to a place, and answers whether this is still asked for.
+    // Copies the text up to an index. Returns true if this job is still the latest.
     async function keep(to) {
       while (to - kept > STRETCH) {
         plain(kept + STRETCH);
@@ -132,7 +132,7 @@ function kodliweWorker(kodliwe) {
     }
     for (const { start, end, path } of calls.symbols(text, { hash, limit })) {
       if (path !== null) {
-        // A wait costs more than most symbols do: only a long stretch waits.
+        // A wait costs more than most symbols do, so only a long text without symbols waits.
         if (start - kept > STRETCH && !(await keep(start))) return;
         plain(start);
         input.add(text.slice(start, end), count);
@@ -143,7 +143,7 @@ function kodliweWorker(kodliwe) {
         printed += path.length;
         count++;
       }
-      // The module's memory is one: what was asked for later has taken it over.
+      // All jobs share the module's memory, so a newer job has overwritten the text.
       if (performance.now() >= until && !(await isWanted())) return;
     }
     if (!(await keep(text.length))) return;

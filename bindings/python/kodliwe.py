@@ -1,4 +1,4 @@
-"""The paths that Rust symbols name, in the legacy scheme (``_ZN..E``) and in v0 (``_R..``, Rust RFC 2603).
+"""Demangles Rust symbols, of the legacy scheme (``_ZN..E``) and of v0 (``_R..``, Rust RFC 2603).
 
     >>> import kodliwe
     >>> kodliwe.demangle("_ZN3foo17h05af221e174051e9E")
@@ -6,14 +6,19 @@
     >>> kodliwe.demangle_text("worker 1: called _RNvC3foo3bar")
     'worker 1: called foo::bar'
 
-These are calls of the proved library for C, through ctypes. The shared library ``libkodliwe.so`` is the one that
-``KODLIWE_LIB`` names (the file, or its folder). Without this variable it is the first of these that is there: the one
-beside this module, the one in ``lib`` of the PREFIX that has this module, the one of this Python's prefix, that of
-``/usr/local``, and the one that the system's loader finds. It is looked for once, at the first call. If there is none,
-each call raises ``OSError``.
+The functions call the proved library for C, through ctypes. The variable ``KODLIWE_LIB`` names the shared library
+``libkodliwe.so``, or its folder. Without this variable, these are tried in order:
 
-A text is ``str`` or ``bytes``, and the result is of the same type. All that is no symbol is kept as it is, be it UTF-8 or
-not. The calls may be made from any thread. ``python3 -m kodliwe --help`` says how the module is used as a program.
+- the library next to this module,
+- the one in ``lib`` of the PREFIX in which this module is installed,
+- the one in the prefix of this Python,
+- the one in ``/usr/local``,
+- the one that the system's loader finds.
+
+The module searches for the library once, at the first call. If there is none, each call raises ``OSError``.
+
+A text is ``str`` or ``bytes``, and the result has the same type. Anything that is not a symbol stays unchanged, whether it is
+UTF-8 or not. The calls may be made from any thread. ``python3 -m kodliwe --help`` says how the module is used as a program.
 """
 
 import ctypes
@@ -27,11 +32,11 @@ from typing import Any, AnyStr, Callable, Iterator, List, NamedTuple, Optional, 
 __all__ = ["MAX_SIZE", "demangle", "demangle_text", "is_symbol", "strip_thin_lto", "try_demangle"]
 __version__ = "0.1.0"
 
-#: The most bytes that are printed of a symbol, before ``{size limit reached}`` and its suffix.
+#: The most bytes that are printed for a symbol, before ``{size limit reached}`` and its suffix.
 MAX_SIZE = 1_000_000
 
 _NAMES = ("libkodliwe.so", "libkodliwe.so.0", "libkodliwe.so." + __version__, "libkodliwe.dylib")
-# Enough for the path of any usual symbol, so that one call prints it. Longer paths get memory of their own.
+# Enough for the path of any usual symbol, so that one call prints it. A longer path gets a separate buffer.
 _ROOM = 1 << 16
 
 
@@ -67,7 +72,7 @@ def _candidates() -> Iterator[str]:
     yield from ([found] if found else []) + list(_NAMES[:2])
 
 
-# What `_load` found: the library, or why there is none. It looks once, since `find_library` starts other programs.
+# The result of `_load`: the library, or the error. It searches once, since `find_library` starts other programs.
 _found: List[Union[ctypes.CDLL, str]] = []
 
 
@@ -81,7 +86,7 @@ def _load() -> ctypes.CDLL:
 
 
 def _looked_for() -> Union[ctypes.CDLL, str]:
-    """Returns the library that is found first, or why there is none."""
+    """Returns the first library that is found, or a text that says why there is none."""
     tried = []
     for path in _candidates():
         try:
@@ -112,8 +117,8 @@ def _calls() -> _Calls:
 
 
 class _Rooms(threading.local):
-    """Has memory of this thread, which its calls use again and again. A call takes it away while it uses it, so that a handler
-    of a signal may make a call during another."""
+    """Has buffers of this thread, which its calls reuse. A call removes a buffer while it uses it. So a signal handler may make a
+    call during another."""
 
     def __init__(self) -> None:
         self.free: List[Tuple[Any, int]] = []
@@ -123,7 +128,7 @@ _rooms = _Rooms()
 
 
 def _written(call: Callable[..., int], text: bytes, include_hash: bool, limit: int) -> Optional[bytes]:
-    """Returns what a call writes for a text, without the NUL after it, or None if the call returns 0."""
+    """Returns the bytes that a call writes for a text, without the NUL, or None if the call returns 0."""
     free = _rooms.free
     buffer, size = free.pop() if free else (ctypes.create_string_buffer(_ROOM), _ROOM)
     answer: Optional[bytes]
@@ -159,30 +164,30 @@ def _limit(limit: int) -> int:
 
 
 def is_symbol(text: AnyStr) -> bool:
-    """Returns whether the text is a Rust symbol, once an ending of ThinLTO (``.llvm.``) is taken off. Prints no path."""
+    """Returns whether the text is a Rust symbol, after a suffix of ThinLTO (``.llvm.``) is removed. Prints no path."""
     symbol = _encoded(text)
     return _calls().is_symbol(symbol, len(symbol))
 
 
 def strip_thin_lto(text: AnyStr) -> Optional[AnyStr]:
-    """Returns a Rust symbol without the ending (``.llvm.``) that ThinLTO appended to it, or whole if it has none.
+    """Returns a Rust symbol without the suffix (``.llvm.``) that ThinLTO appended to it. A symbol without one is unchanged.
 
-    Returns None if the text is no Rust symbol. Prints no path.
+    Returns None if the text is not a Rust symbol. Prints no path.
     """
     symbol = _encoded(text)
     size = _calls().symbol_len(symbol, len(symbol))
-    # A symbol and its ending are ASCII, so that its characters are its bytes.
+    # A symbol and its suffix are ASCII, so each byte is one character.
     return text[:size] if size else None
 
 
 def try_demangle(text: AnyStr, hash: bool = False, limit: int = MAX_SIZE) -> Optional[AnyStr]:
-    """Returns the path that a Rust symbol names, as ``demangle`` does, or None if the text is no Rust symbol."""
+    """Returns the path of a Rust symbol, as ``demangle`` does, or None if the text is not a Rust symbol."""
     path = _written(_calls().demangle, _encoded(text), hash, _limit(limit))
     return None if path is None else _as_given(text, path)
 
 
 def demangle(text: AnyStr, hash: bool = False, limit: int = MAX_SIZE) -> AnyStr:
-    """Returns the path that a Rust symbol names, and any other text as it is.
+    """Returns the path of a Rust symbol, and any other text unchanged.
 
     ``hash`` keeps the hash of a legacy symbol, and the disambiguators of v0. A path ends after at most ``limit`` bytes, and
     after a million of them at most. ``{size limit reached}`` and the symbol's suffix then follow.
@@ -192,10 +197,10 @@ def demangle(text: AnyStr, hash: bool = False, limit: int = MAX_SIZE) -> AnyStr:
 
 
 def demangle_text(text: AnyStr, hash: bool = False, limit: int = MAX_SIZE) -> AnyStr:
-    """Returns the text with each Rust symbol in it replaced by its path, and all else as it is.
+    """Returns the text with each Rust symbol in it replaced by its path, and the rest unchanged.
 
-    A symbol is looked for where ``_ZN`` or ``_R`` is, up to the next byte that is no ASCII letter, no digit and none of
-    ``$``, ``.`` and ``_``. ``hash`` and ``limit`` are those of ``demangle``, for each symbol.
+    A candidate symbol starts at ``_ZN`` or ``_R``. It ends before the next character that is not an ASCII letter, a digit,
+    ``$``, ``.`` or ``_``. The arguments ``hash`` and ``limit`` are those of ``demangle``, for each symbol.
     """
     given = _encoded(text)
     filtered = _written(_calls().demangle_text, given, hash, _limit(limit))
@@ -233,7 +238,7 @@ class _Fault(Exception):
 
 
 class _Words(NamedTuple):
-    """What the words of the command line ask for: ``inputs`` has files and symbols in their order, ``text`` what is printed alone."""
+    """The parsed arguments. ``inputs`` has files and symbols in their order; if ``text`` is not empty, only it is printed."""
 
     inputs: List[Tuple[bool, str]]
     hash: bool = False
@@ -242,7 +247,7 @@ class _Words(NamedTuple):
 
 
 def _split(word: str) -> Tuple[str, Optional[str]]:
-    """Returns the long name of an option and the value in the same word, if it has one."""
+    """Returns the long name of an option and the value in the same argument, if it has one."""
     for short, name in (("-i", "--input"), ("-l", "--limit")):
         if word in (short, name):
             return name, None
@@ -254,7 +259,7 @@ def _split(word: str) -> Tuple[str, Optional[str]]:
 
 
 def _value(word: str, name: str, value: Optional[str], rest: Iterator[str]) -> str:
-    """Returns the value of an option, from its word or the next. Fails if there is none."""
+    """Returns the value of an option, from its argument or the next. Fails if there is none."""
     given = next(rest, None) if value is None else value
     if given is None:
         needs = "FILE" if name == "--input" else "number of BYTES"
@@ -263,14 +268,14 @@ def _value(word: str, name: str, value: Optional[str], rest: Iterator[str]) -> s
 
 
 def _bytes(word: str, value: str) -> int:
-    """Returns the number of bytes that a word gives. Fails if it is none."""
+    """Returns the number of bytes that an argument gives. Fails if it is not a number below 2^64."""
     if not (value.isascii() and value.isdigit() and int(value) < 1 << 64):
         raise _Fault("option '%s': '%s' is not a number of bytes below 2^64; try 'python3 -m kodliwe --help'" % (word, value), 2)
     return int(value)
 
 
 def _parsed(words: List[str]) -> _Words:
-    """Reads the words of the command line. Fails at the first that is wrong."""
+    """Parses the arguments. Fails at the first that is wrong."""
     found, rest = _Words([]), iter(words)
     for word in rest:
         name, value = _split(word)
@@ -292,7 +297,7 @@ def _parsed(words: List[str]) -> _Words:
 
 
 def _lines(file: str) -> Iterator[bytes]:
-    """Yields what a file has so far, up to a line's end, as soon as it is there. Fails if it can't be read."""
+    """Yields the lines of a file, as many at a time as are available. Fails if it can't be read."""
     kept: List[bytes] = []
     try:
         stream = open(0, "rb", buffering=0, closefd=False) if file == "-" else open(file, "rb", buffering=0)
@@ -317,7 +322,7 @@ def _print(text: bytes) -> None:
         sys.stdout.buffer.write(text)
         sys.stdout.buffer.flush()
     except OSError as error:
-        os.dup2(os.open(os.devnull, os.O_WRONLY), sys.stdout.fileno())  # what is not written yet is not tried again at the end
+        os.dup2(os.open(os.devnull, os.O_WRONLY), sys.stdout.fileno())  # so that Python does not try again at exit
         is_closed = isinstance(error, BrokenPipeError)
         raise _Fault("" if is_closed else "write failed: %s" % error.strerror, 0 if is_closed else 1) from error
 

@@ -1,4 +1,4 @@
-"""Packs the one module as a wheel (PEP 517, PEP 427), with Python alone. So `pip install` needs no other package, and no network.
+"""Packs the module as a wheel (PEP 517, PEP 427), only with Python. So `pip install` needs no other package and no network.
 
 In the wheel the module is a package of the same name, since only a package can say that it has types (PEP 561).
 
@@ -27,7 +27,7 @@ Description-Content-Type: text/markdown
 WHEEL = "Wheel-Version: 1.0\nGenerator: kodliwe\nRoot-Is-Purelib: true\nTag: py3-none-any\n"
 MAIN = b"import sys\n\nfrom kodliwe import _main\n\nsys.exit(_main(sys.argv[1:]))\n"
 HERE = os.path.dirname(os.path.abspath(__file__))
-# Times in what is packed, so that two packings are the same.
+# The time of each packed file. It is fixed, so that two packings are the same.
 TIME = (1980, 1, 1, 0, 0, 0)
 
 

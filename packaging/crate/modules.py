@@ -9,13 +9,13 @@ from rules import erase, refuse_left_overs, says_nothing
 CORE = {"cell", "convert", "default", "fmt", "marker", "mem", "num", "ops", "slice", "str"}
 # Paths below `std` that the package's module `support` has in Rattle's form.
 SUPPORT_STD = {
-    ("alloc",), ("env",), ("fs",), ("rt",), ("snapshot",), ("test",),
-    ("io", "BufReader"), ("io", "BufWriter"), ("io", "Stdin"), ("process", "Abort"),
+    ("alloc",), ("env",), ("fs",), ("os",), ("rt",), ("snapshot",), ("test",),
+    ("io", "BufReader"), ("io", "BufWriter"), ("io", "IsTerminal"), ("io", "Stdin"), ("process", "Abort"),
 }  # fmt: skip
 # Crates of the kit that `support` has.
 SUPPORT_CRATES = {"arrayvec", "itoa", "memchr", "unicode"}
 # Modules that need Rust's `std`: a module that imports from one needs it too.
-NEEDS_STD = {"alloc", "env", "fs", "io", "process", "rt", "test"}
+NEEDS_STD = {"alloc", "env", "fs", "io", "os", "process", "rt", "test"}
 # Names of Rattle's prelude that Rust's does not have or has otherwise, and their place in `support`.
 PRELUDE = {
     "Vec": "vec::Vec",

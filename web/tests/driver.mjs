@@ -1,5 +1,5 @@
-// Drives headless Chromium by its own protocol (CDP) and Firefox by WebDriver BiDi, over the
-// loopback alone: start(kind) answers a browser with one open page, and the same calls for both.
+// Drives headless Chromium by its own protocol (CDP) and Firefox by WebDriver BiDi, only over the
+// loopback. The call start(kind) returns a browser with one open page. Both have the same methods.
 import { spawn, spawnSync } from "node:child_process";
 import fs from "node:fs";
 import net from "node:net";
@@ -14,7 +14,7 @@ const SIZE = { width: 1280, height: 800 };
 
 export const sleep = (milliseconds) => new Promise((done) => setTimeout(done, milliseconds));
 
-/** The program of this kind of browser that the machine has, or undefined. */
+/** Returns the program for this kind of browser on this machine, or undefined. */
 export function program(kind) {
   const found = (name) => spawnSync("sh", ["-c", `command -v ${name}`]).status === 0;
   return PROGRAMS[kind].find(found);
@@ -40,7 +40,7 @@ async function retried(call) {
   }
 }
 
-// A connection that sends commands and keeps the events that come.
+// Opens a connection that sends commands and stores the events that arrive.
 async function connect(url) {
   const socket = await retried(() => new Promise((done, fail) => {
     const it = new WebSocket(url);
@@ -72,7 +72,7 @@ function launch(command, words) {
     try {
       process.kill(-child.pid, "SIGTERM");
     } catch {
-      // it has ended already
+      // the process has already ended
     }
     await sleep(500);
     fs.rmSync(folder, { recursive: true, force: true, maxRetries: 5 });
@@ -194,7 +194,7 @@ async function startFirefox(command, { downloads, preferences = "" } = {}) {
   const wire = await connect(`ws://127.0.0.1:${port}/session`);
   const { send, events } = wire;
   const session = await send("session.new", { capabilities: {} });
-  // of the first window, which is not active, keys press no button
+  // the first window is not active, so keys would not press its buttons
   const { context } = await send("browsingContext.create", { type: "window" });
   const target = { context };
   await send("browsingContext.activate", target);
@@ -249,7 +249,7 @@ async function startFirefox(command, { downloads, preferences = "" } = {}) {
   };
 }
 
-/** A browser of this kind, with an empty page. */
+/** Starts a browser of this kind with an empty page. */
 export function start(kind, options = {}) {
   const command = program(kind);
   return kind === "chromium" ? startChromium(command) : startFirefox(command, options);

@@ -8,7 +8,7 @@ import { testPage } from "./page.mjs";
 const { values, positionals } = parseArgs({ options: { shots: { type: "string" } }, allowPositionals: true });
 let passed = 0, failed = 0;
 
-// Counts a test: whether it is right, or a call that returns this. What the call throws is a failure.
+// Counts a test. Its result is given, or returned by a call. If the call throws, the test has failed.
 function check(name, isRight, told = "") {
   if (typeof isRight === "function") {
     try {

@@ -1,4 +1,4 @@
-// The module over the stored corpus, hostile symbols and odd texts, and beside the program.
+// Tests the module with the stored corpus, hostile symbols and odd texts, and compares it with the program.
 import { spawnSync } from "node:child_process";
 import { createHash } from "node:crypto";
 import fs from "node:fs";
@@ -13,13 +13,13 @@ const BUILT = `${root}crates/demangle_web/out/kodliwe.wasm`;
 
 const LETTERS = { n: "\n", r: "\r", t: "\t", "\\": "\\", "|": "|" };
 
-// A field of the corpus without its escapes (docs/CORPUS.md).
+// Returns a field of the corpus without its escapes (docs/CORPUS.md).
 function plain(field) {
   return field.replace(/\\(x[0-9a-fA-F]{2}|u\{[0-9a-fA-F]+\}|[nrt\\|])/g, (_, it) =>
     LETTERS[it] ?? String.fromCodePoint(parseInt(it.replace(/^[xu]\{?/, ""), 16)));
 }
 
-// Whether a text is what a field says: the text, or its length and its sum.
+// Returns true if a text matches a field, which is the text, or its length and its digest.
 function isField(text, field) {
   const sum = /^#len=(\d+) sha256=([0-9a-f]+)$/.exec(field);
   if (!sum) return text === plain(field);

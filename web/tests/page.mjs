@@ -1,4 +1,4 @@
-// The page in a browser: from a file and from a server on the loopback.
+// Tests the page in a browser, from a file and from a server on the loopback.
 import { createHash } from "node:crypto";
 import fs from "node:fs";
 import http from "node:http";
@@ -12,14 +12,14 @@ import { HOSTILE, HOSTILE_LINE, HOSTILE_LINES, LOG, LOG_LINE, ODD, ODD_RESULT } 
 const require = createRequire(import.meta.url);
 const WEB = fileURLToPath(new URL("../", import.meta.url));
 const FILE = `file://${WEB}index.html`;
-// Milliseconds that the page may keep a key waiting, until what it did is painted, beyond what it does over a short text.
+// The most milliseconds that a key may wait longer than over a short text, until its effect is painted.
 const PAUSE = 200;
 const SHORT = "_ZN3fooE\n";
-const TRIES = 4; // of these the best counts
+const TRIES = 4; // the best of these counts
 
 const TYPES = { ".html": "text/html", ".js": "text/javascript", ".css": "text/css", ".svg": "image/svg+xml" };
 
-// Serves the folder, and notes what was asked for. Under /old/ 64-bit memory is hidden.
+// Serves the folder and records the requests. Under /old/ 64-bit memory is hidden.
 function serve() {
   const asked = [];
   const server = http.createServer((request, response) => {
@@ -39,8 +39,8 @@ function serve() {
   });
 }
 
-// Notes the time of each key and input event. A busy thread of the page beside it notes how long it takes
-// for the same work again and again: on a busy machine it takes longer, and so does the page.
+// Records the time of each key and input event. Meanwhile a busy thread of the page repeats the same work and
+// records how long it takes. On a busy machine both the thread and the page take longer.
 const PROBE = `
   window.events = [];
   window.units = [];
@@ -59,7 +59,7 @@ const PROBE = `
     }\`])));
   busy.onmessage = ({ data }) => { for (const unit of data) units.push(unit.map((it) => it - performance.timeOrigin)); };
   0`;
-// The longest event, times the share of a core that a busy thread had meanwhile.
+// Returns the duration of the longest event, times the share of a core that the busy thread had meanwhile.
 const OWN = `(() => {
   busy.terminate();
   const least = Math.min(...units.map(([from, to]) => to - from));
@@ -117,7 +117,7 @@ export async function testPage(kind, check, shots) {
     await done();
   };
 
-  // Whether a test comes out true within some seconds: the page scrolls in its next frames.
+  // Returns true if a test becomes true within some seconds, since the page scrolls in its next frames.
   const until = async (test, seconds = 5) => {
     for (let turn = 0; turn < seconds * 20; turn++) {
       if (await test()) return true;
@@ -126,10 +126,10 @@ export async function testPage(kind, check, shots) {
     return false;
   };
 
-  // Whether the text area is where the marks under it are.
+  // Returns true if the text area and the marks under it are scrolled to the same position.
   const isLevel = () => evaluate(`input.hidden || (input.scrollTop === shown.scrollTop && input.scrollLeft === shown.scrollLeft)`);
 
-  // Whether the first part of a symbol comes into view in both panes, and stays.
+  // Returns true if the first part of a symbol comes into view in both panes and stays there.
   const isBrought = async (number) => {
     const isThere = () => evaluate(`["shown", "output"].every((id) => {
       const box = document.getElementById(id).getBoundingClientRect();
@@ -144,7 +144,7 @@ export async function testPage(kind, check, shots) {
   const wide = `${"wide ".repeat(80)}`;
   const lines = (count) => Array.from({ length: count }, (_, n) => `${n} ${n % 7 ? "" : wide}\n`).join("");
 
-  // Whether each mark in view is under the same characters of the text area; how many are.
+  // Returns how many marks are in view, and whether each is under the same characters of the text area.
   const alignment = () => evaluate(`(() => {
     const box = input.getBoundingClientRect();
     let count = 0;
@@ -176,7 +176,7 @@ export async function testPage(kind, check, shots) {
       say(`runs from ${name}`, (await output()).includes("std::panicking::begin_panic\n") && (await value("fault")) === "");
     }
     for (const part of [typing, wording, bringing, wrapping, linking, choosing, switching, copying, stepping, files, staying, pictures]) {
-      // what one part throws ends no other
+      // an error of one part does not end the others
       await part().catch((error) => say(`the part ${part.name} ends`, false, error.stack));
     }
     await visit(`${site.url}old/index.html`);
@@ -207,7 +207,7 @@ export async function testPage(kind, check, shots) {
     say("pastes", await wait('document.getElementById("output").textContent === "see foo::bar\\nend"', 5), await output());
   }
 
-  // The mouse over a mark, which may lie under the text area.
+  // Moves the mouse over a mark, which may be under the text area.
   async function pointing(id) {
     await browser.mouse(5, 5);
     const place = JSON.parse(await evaluate(`(() => { const it = document.querySelector("#${id} mark").getBoundingClientRect(); return JSON.stringify([it.x + it.width / 2, it.y + it.height / 2]); })()`));
@@ -217,13 +217,13 @@ export async function testPage(kind, check, shots) {
     say(`and marks it in both`, (await evaluate('document.querySelectorAll("mark.current").length')) === 2);
   }
 
-  // Opens the page anew, with both switches off and an empty text area, which has the keyboard.
+  // Opens the page again, with both switches off and an empty text area that has the focus.
   async function empty() {
     await evaluate("localStorage.clear(); 0");
     await visit(FILE);
     await evaluate('document.getElementById("input").focus(); 0');
     await fresh();
-    await type("x"); // without a key a browser lets no script write into the clipboard
+    await type("x"); // a browser lets a script write to the clipboard only after a key
     await wait('document.body.dataset.done && document.getElementById("output").textContent === "x"');
     await fresh();
     await click("clear");
@@ -454,7 +454,7 @@ export async function testPage(kind, check, shots) {
     say("a path past 16,384 bytes says so", (await output()).endsWith("{size limit reached}") && (await value("cut")) === "1 path ends in {size limit reached}, past 16,384 bytes.", await value("cut"));
   }
 
-  // The milliseconds of the key that waits longest, of some that are pressed over a text.
+  // Presses some keys over a text, and returns the milliseconds of the one that waits longest.
   async function longest(text, isWrapped) {
     await visit(FILE);
     if ((await value("wrap", "checked")) !== isWrapped) await click("wrap");

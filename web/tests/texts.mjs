@@ -1,7 +1,7 @@
 // Texts for the tests.
 const DIGITS = "0123456789abcdefghijklmnopqrstuvwxyzABCDEFGHIJKLMNOPQRSTUVWXYZ";
 
-// A symbol whose path doubles with each of 58 tuples, past every limit.
+// A symbol whose path doubles with each of 58 tuples, and so exceeds every limit.
 export const HOSTILE = `_RMC0${"T".repeat(58)}p${[...Array(58).keys()].map((n) => `B${DIGITS[60 - n]}_E`).join("")}`;
 
 const named = (n) => {
@@ -14,6 +14,6 @@ export const LOG_LINE = LOG.replaceAll("\n", " ");
 export const HOSTILE_LINES = `${HOSTILE}\n`.repeat(5000);
 export const HOSTILE_LINE = `${HOSTILE} `.repeat(5000);
 
-// What a text loses first: halves of characters, NUL, both line ends, a mark in front.
+// Characters that a text loses easily: halves of characters, NUL, both line ends, and a byte order mark.
 export const ODD = "\ufeffa\ud800 _ZN3foo3barE\udc00\r\n\0_RNvC3foo3bar\0\n\u{1f600}é _ZN3fooE\r";
 export const ODD_RESULT = "\ufeffa\ud800 foo::bar\udc00\r\n\0foo::bar\0\n\u{1f600}é foo\r";

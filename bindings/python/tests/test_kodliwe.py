@@ -1,4 +1,4 @@
-"""The calls of kodliwe, over the library that KODLIWE_LIB names. Expected paths are those of the Rust crate rustc-demangle."""
+"""Tests the calls of kodliwe with the library that KODLIWE_LIB names. The expected paths are from the crate rustc-demangle."""
 
 import doctest
 import os
@@ -19,7 +19,7 @@ sys.path.insert(0, os.path.dirname(MODULE))
 import kodliwe  # noqa: E402
 
 LEGACY = "_ZN3foo17h05af221e174051e9E"
-# Its text doubles with each of 18 tuples, past every limit.
+# A symbol whose text doubles with each of 18 tuples, and so exceeds every limit.
 TREE = "_RMC0TTTTTTTTTTTTTTTTTTpBk_EBj_EBi_EBh_EBg_EBf_EBe_EBd_EBc_EBb_EBa_EB9_EB8_EB7_EB6_EB5_EB4_EB3_E"
 
 
@@ -28,7 +28,7 @@ def unescaped(text: bytes) -> bytes:
 
 
 def stored():
-    """Symbols of the corpus with their paths with the hash and without it, and the texts that are refused."""
+    """Returns symbols of the corpus with their paths, with and without the hash, and the texts that are rejected."""
     symbols, refused = [], []
     with open(CORPUS, "rb") as corpus:
         for line in corpus:
@@ -48,7 +48,7 @@ def run(code, *arguments, given=b"", **environment):
 
 
 def setUpModule():
-    """Fails once, with what `_load` says, if there is no library."""
+    """Fails once, with the error of `_load`, if there is no library."""
     kodliwe._load()
 
 
@@ -276,7 +276,7 @@ class Program(unittest.TestCase):
                 file.write(b"x _ZN3fooE\n" * 20_000 + b"a" * 200_000 + b" _ZN3fooE")
             filtered = b"x foo\n" * 20_000 + b"a" * 200_000 + b" foo"
             for words in (("-i", name), ("-i" + name,), ("--input", name), ("--input=" + name,)):
-                # assertEqual would look for the difference of long texts for minutes
+                # assertEqual would search for the difference of long texts for minutes
                 self.assertTrue(self.ran("1", *words, "2") == (0, b"1\n" + filtered + b"2\n", ""), words)
             self.assertEqual(self.ran("1", "-i", name + "x", "2"), (1, b"1\n", "kodliwe: %sx: No such file or directory\n" % name))
             self.assertEqual(self.ran("-i", folder), (1, b"", "kodliwe: %s: Is a directory\n" % folder))

@@ -1,4 +1,4 @@
--- A symbol without its ending is a beginning of it.
+-- A symbol without its suffix of ThinLTO is a prefix of it.
 use Rattle.std.proofs.Common.{◌≡◌, ℕ, List, length, take, ap, ◌∙◌}
 use Rattle.std.proofs.Math.Seq.{take-append_seam}
 use Rattle.rustc_demangle.specs.Stripped.{stripped}

@@ -1,4 +1,4 @@
-//! The demangler for C, C++ and every language that calls C: a static library, with
+//! The demangler as a static library for C, C++ and every language that calls C. Its header is
 //! include/kodliwe.h.
 #![tactic(auto)]
 
@@ -19,8 +19,8 @@ use demangle_path::{MAX_SIZE, put_end, symbol_of, text_of, write_part, write_tex
 use rustc_demangle::sink::SliceSink;
 use rustc_demangle::write_with_path_len;
 
-/// Writes the bytes from `start` on of a path that has `path_len` bytes in the text into memory, as
-/// much as there is room for, and counts all bytes of the path.
+/// Writes a path from its byte `start` to memory, as far as the memory reaches. The path has
+/// `path_len` bytes in the text. Returns the number of bytes of the whole printed path.
 #[tactic(auto, using(demangle_path::proofs::Ending::laid_part))]
 fn write_path_with(
     text: &str,
@@ -43,10 +43,10 @@ fn write_path_with(
     }
 }
 
-/// Whether the bytes are a Rust symbol, in the legacy scheme or in v0 (Rust RFC 2603), once an
-/// ending of ThinLTO is taken off.
+/// Returns `true` if the bytes are a Rust symbol, after a suffix of ThinLTO is removed.
 ///
-/// It prints nothing, so that a lister of symbols can ask it of each. It takes no memory.
+/// A symbol may be legacy or v0 (Rust RFC 2603). The call prints nothing and does not allocate, so
+/// a program that lists symbols can call it for each.
 #[unsafe(no_mangle)]
 pub extern "C" fn kodliwe_is_symbol(symbol: &[u8]) -> bool
     ensures { IsTrue result ↔ NamesRust symbol.now }
@@ -54,10 +54,10 @@ pub extern "C" fn kodliwe_is_symbol(symbol: &[u8]) -> bool
     symbol_of(symbol).is_some()
 }
 
-/// How many bytes of a Rust symbol stand before an ending that ThinLTO appended, all of them where
-/// there is none; 0 where the bytes are no symbol.
+/// Returns the number of bytes of a Rust symbol before a suffix that ThinLTO appended. Without such
+/// a suffix, that is the length of the symbol. Returns 0 if the bytes are not a symbol.
 ///
-/// It prints nothing, and takes no memory.
+/// The call prints nothing and does not allocate.
 #[unsafe(no_mangle)]
 #[tactic(auto, using(crate::proofs::Stripped::stripped_take))]
 pub extern "C" fn kodliwe_symbol_len(symbol: &[u8]) -> usize
@@ -71,10 +71,10 @@ pub extern "C" fn kodliwe_symbol_len(symbol: &[u8]) -> usize
     }
 }
 
-/// How many bytes of a Rust symbol stand in front of its suffix and of an ending that ThinLTO
-/// appended; 0 where the bytes are no symbol.
+/// Returns the number of bytes of a Rust symbol before its suffix and before a suffix that ThinLTO
+/// appended. Returns 0 if the bytes are not a symbol.
 ///
-/// `kodliwe_print_part` prints the symbol by it. It prints nothing, and takes no memory.
+/// `kodliwe_print_part` needs this number. The call prints nothing and does not allocate.
 #[unsafe(no_mangle)]
 #[tactic(auto, using(rustc_demangle::proofs::PathEndLaws::path_len_positive))]
 pub extern "C" fn kodliwe_path_len(symbol: &[u8]) -> usize
@@ -89,16 +89,19 @@ pub extern "C" fn kodliwe_path_len(symbol: &[u8]) -> usize
     }
 }
 
-/// Writes the path that a Rust symbol names into memory from its byte `start` on, with a 0 behind
-/// it, and answers how many bytes the whole path and a 0 want.
+/// Writes the path of a Rust symbol to memory, from the path's byte `start`, with a 0 after it.
+/// Returns the number of bytes of the whole path and a 0.
 ///
-/// The path is cut at `limit` bytes, and at 1,000,000 at most, before `{size limit reached}` and
-/// the symbol's suffix. The answer is 0 where the bytes are no symbol; the memory is then as it
-/// was. Else the answer depends on neither the size of the memory nor `start`. The memory holds the
-/// rest of the path from `start` on and a 0 where they fit, and as much of that rest as fits before
-/// a 0 where they do not; the rest is empty where `start` is at or past the path's end. No byte
-/// behind the 0 is changed, and memory of size 0 stays as it was. It takes no memory of its own, so
-/// that a caller prints any path in parts through a buffer of its own.
+/// The path is cut at `limit` bytes, and at 1,000,000 at most. `{size limit reached}` and the
+/// symbol's suffix follow a cut path.
+///
+/// If the bytes are not a symbol, the call returns 0 and leaves the memory unchanged. Otherwise the
+/// result depends neither on the size of the memory nor on `start`. The memory receives the path
+/// from `start` and a 0, if they fit. If they do not, it receives as much as fits before a 0. That
+/// rest of the path is empty if `start` is at or after the path's end. No byte after the 0 is
+/// changed, and memory of size 0 stays unchanged.
+///
+/// The call does not allocate. So a caller can print any path in parts through its own buffer.
 #[unsafe(no_mangle)]
 pub extern "C" fn kodliwe_demangle_part(
     symbol: &[u8],
@@ -117,12 +120,13 @@ pub extern "C" fn kodliwe_demangle_part(
     write_part(symbol, out, include_hash, limit, start)
 }
 
-/// Writes the path as `kodliwe_demangle_part` does, and answers the same, without reading again
-/// where it ends: `path_len` is what `kodliwe_path_len` answered of these bytes, and not 0.
+/// Writes a path as `kodliwe_demangle_part` does, and returns the same number, without searching
+/// again for the end of the path. `path_len` is the nonzero result of `kodliwe_path_len` for these
+/// bytes.
 ///
-/// Bytes or a number that are others do no harm: the call ends, changes no byte behind the memory,
-/// and answers no more than the limit, the marker, the symbol and the 0 have bytes. What the memory
-/// then holds is not said. It takes no memory of its own.
+/// Other bytes or another number do no harm. The call then ends, changes no byte after the memory,
+/// and returns at most the size of the limit, the marker, the symbol and the 0. The contents of the
+/// memory are then unspecified. The call does not allocate.
 #[unsafe(no_mangle)]
 pub extern "C" fn kodliwe_print_part(
     symbol: &[u8],
@@ -148,7 +152,7 @@ pub extern "C" fn kodliwe_print_part(
     wanted + 1
 }
 
-/// Writes the path as `kodliwe_demangle_part` does, from its first byte on.
+/// Writes a path as `kodliwe_demangle_part` does, from its first byte.
 #[unsafe(no_mangle)]
 pub extern "C" fn kodliwe_demangle_limited(
     symbol: &[u8],
@@ -166,7 +170,7 @@ pub extern "C" fn kodliwe_demangle_limited(
     kodliwe_demangle_part(symbol, out, include_hash, limit, 0)
 }
 
-/// Writes the path as `kodliwe_demangle_limited` does, cut at 1,000,000 bytes.
+/// Writes a path as `kodliwe_demangle_limited` does, cut at 1,000,000 bytes.
 #[unsafe(no_mangle)]
 pub extern "C" fn kodliwe_demangle(symbol: &[u8], out: &mut [u8], include_hash: bool) -> usize
     ensures none { (NamesRust symbol.now → ⊥) → (result ≡ 0) × (out.new ≡ out.old) }
@@ -177,14 +181,17 @@ pub extern "C" fn kodliwe_demangle(symbol: &[u8], out: &mut [u8], include_hash: 
     kodliwe_demangle_limited(symbol, out, include_hash, MAX_SIZE)
 }
 
-/// Writes any bytes into memory with each Rust symbol in them replaced by its path, with a 0 behind
-/// it all, and answers how many bytes that is.
+/// Writes bytes to memory with each Rust symbol replaced by its path, and a 0 after them. Returns
+/// the number of bytes of that text and the 0.
 ///
-/// A symbol is looked for where `_ZN` or `_R` stands, up to the next byte that is no ASCII letter,
-/// no digit and none of `$`, `.` and `_`; its path is cut as by `kodliwe_demangle_limited`, and all
-/// other bytes stay as they are. The answer does not depend on the size of the memory, which holds
-/// as much of the text as fits before a 0; no byte behind the 0 is changed. It is `usize::MAX` where
-/// no smaller number says it; what the memory then holds is not said. It takes no memory of its own.
+/// A candidate symbol starts at `_ZN` or `_R`. It ends before the next byte that is not an ASCII
+/// letter, a digit, `$`, `.` or `_`. Its path is cut as by `kodliwe_demangle_limited`. All other
+/// bytes stay unchanged.
+///
+/// The result does not depend on the size of the memory. The memory receives as much of the text as
+/// fits before a 0, and no byte after the 0 is changed. The result is `usize::MAX` if the number is
+/// not smaller than that. The contents of the memory are then unspecified. The call does not
+/// allocate.
 #[unsafe(no_mangle)]
 pub extern "C" fn kodliwe_demangle_text(
     text: &[u8],

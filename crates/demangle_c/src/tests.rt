@@ -1,10 +1,10 @@
-//! The calls, once for each kind of answer and of size. The texts are the Rust crate's.
+//! Tests of the calls, for each kind of result and of size. The texts are those of the Rust crate.
 use crate::{
     kodliwe_demangle, kodliwe_demangle_limited, kodliwe_demangle_part, kodliwe_demangle_text,
     kodliwe_is_symbol, kodliwe_path_len, kodliwe_print_part, kodliwe_symbol_len,
 };
 
-/// Its text doubles with each of 18 tuples, past every limit.
+/// A symbol whose text doubles with each of 18 tuples, and so exceeds every limit.
 const TREE: &[u8; 96] =
     b"_RMC0TTTTTTTTTTTTTTTTTTpBk_EBj_EBi_EBh_EBg_EBf_EBe_EBd_EBc_EBb_EBa_EB9_EB8_EB7_EB6_EB5_EB4_EB3_E";
 

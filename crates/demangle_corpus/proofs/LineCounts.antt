@@ -1,4 +1,4 @@
--- How many lines a loop over a reader's lines has counted.
+-- The number of lines that a loop over a reader's lines has counted.
 use Rattle.std.proofs.Common.{◌≡◌, ℕ, ◌+◌, ◌<◌, List, [], Option, Some, None, IfSome, length, refl, ap, subst, ◌∙◌, arith}
 use Rattle.std.specs.Prelude.{⊤}
 use Rattle.std.proofs.lemmas.Option.{MatchOption-at_some}
@@ -8,7 +8,7 @@ use Rattle.std.specs.Io.KnownBytes.{IsAtEnd}
 use Rattle.rustc_demangle.specs.Lines.{lines}
 use Rattle.rustc_demangle.proofs.LineDivision.{lines_step}
 
--- of the text that the reader held, so many lines were counted, and the others are left
+-- this number of lines of the reader's text was counted, and the others are left
 abbrev pub Counting : Option (List ℕ) → Option (List ℕ) → ℕ → Type 0
 Counting held left count = IfSome held (λ text. (rest : List ℕ) × (done : ℕ) × (left ≡ Some rest)
     × (done + length (lines rest) ≡ length (lines text)) × (count ≡ u64_saturate done))

@@ -1,4 +1,4 @@
-//! The library's answers, as they stand in columns.
+//! Calls the library and formats its results as columns of a corpus.
 use crate::case::{Answers, Forms};
 use crate::column::{escape, join_pieces, shorten};
 use crate::pieces_sink::PiecesSink;
@@ -6,7 +6,7 @@ use rustc_demangle::sink::WriteSink;
 use rustc_demangle::{Demangle, demangle, try_demangle};
 use std::alloc::{AllocError, Global};
 
-/// What a symbol prints, under a limit where there is one.
+/// Returns the column of a symbol's printed text, under a limit if there is one.
 fn printed_text(
     alloc: Global,
     symbol: &Demangle<'_>,
@@ -19,14 +19,14 @@ fn printed_text(
         Some(limit) => symbol.write_limited(&mut sink, include_hash, limit),
         None => symbol.write_to(&mut sink, include_hash),
     };
-    // A writer into memory fails for want of memory alone.
+    // A writer to memory fails only if an allocation fails.
     match sink.into_fault() {
         Some(_) => Err(AllocError),
         None => shorten(alloc, text.as_slice()),
     }
 }
 
-/// What a symbol prints in both forms, under a limit where there is one.
+/// Returns the columns of both forms of a symbol's printed text, under a limit if there is one.
 fn printed_forms(
     alloc: Global,
     symbol: &Demangle<'_>,
@@ -38,7 +38,7 @@ fn printed_forms(
     })
 }
 
-/// What the library says of a text.
+/// Returns the columns of the library's results for a text.
 pub fn answers_of(alloc: Global, text: &str) -> Result<Answers<Vec<u8>>, AllocError> {
     let symbol = demangle(text);
     let status: &[u8] = if try_demangle(text).is_ok() {
@@ -58,7 +58,7 @@ pub fn answers_of(alloc: Global, text: &str) -> Result<Answers<Vec<u8>>, AllocEr
     })
 }
 
-/// What the library prints of a text under a limit of so many bytes.
+/// Returns the columns of a text printed under a limit of `limit` bytes, in both forms.
 pub fn limited_forms(
     alloc: Global,
     text: &str,
@@ -67,17 +67,17 @@ pub fn limited_forms(
     printed_forms(alloc, &demangle(text), Some(limit))
 }
 
-/// The pieces that a symbol prints.
+/// Returns the column of the pieces of a symbol, in one form.
 fn pieces(alloc: Global, symbol: &Demangle<'_>, include_hash: bool) -> Result<Vec<u8>, AllocError> {
     let mut sink = PiecesSink::new(alloc);
     match symbol.write_to(&mut sink, include_hash) {
         Ok(()) => join_pieces(alloc, sink.pieces()),
-        // The sink refuses for want of memory alone.
+        // The sink rejects a piece only if an allocation fails.
         Err(_) => Err(AllocError),
     }
 }
 
-/// The pieces that the library prints of a text.
+/// Returns the columns of the pieces of a text, in both forms.
 pub fn pieces_forms(alloc: Global, text: &str) -> Result<Forms<Vec<u8>>, AllocError> {
     let symbol = demangle(text);
     Ok(Forms {

@@ -1,8 +1,8 @@
-//! The lines of the corpus.
+//! The lines of a corpus.
 use crate::column::unescape;
 use std::alloc::{AllocError, Global};
 
-/// What is printed, in both forms.
+/// Printed text in both forms.
 #[derive(Drop)]
 pub struct Forms<T> {
     /// With the hash.
@@ -11,29 +11,29 @@ pub struct Forms<T> {
     pub alt: T,
 }
 
-/// What is said of a symbol, as it stands in the columns of a line.
+/// The results for a symbol, as the columns of a line spell them.
 #[derive(Drop)]
 pub struct Answers<T> {
-    /// `OK` where the text is a symbol, else `ERR`.
+    /// `OK` if the text is a symbol, otherwise `ERR`.
     pub status: T,
-    /// What `as_str` gives, or `=` where that is the whole text.
+    /// The result of `as_str`, or `=` if that is the whole text.
     pub as_str: T,
     /// The path.
     pub printed: Forms<T>,
 }
 
-/// What a line says of its text.
+/// The expectation that a line states for its text.
 #[derive(Drop)]
 pub enum Wanted<'l> {
-    /// What every call answers.
+    /// The results of all calls.
     Answers(Answers<&'l [u8]>),
-    /// What is printed under a limit of so many bytes.
+    /// The text printed under a limit of this many bytes.
     Limited(usize, Forms<&'l [u8]>),
     /// The nonempty pieces that are printed.
     Pieces(Forms<&'l [u8]>),
 }
 
-/// A text, and what the Rust crate says of it.
+/// A text with the results of the Rust crate for it.
 #[derive(Drop)]
 pub struct Case<'l> {
     pub text: String,
@@ -41,8 +41,12 @@ pub struct Case<'l> {
 }
 
 impl<'l> Case<'l> {
-    /// Reads a line, or gives `None` where it is none, or its text has an unknown escape, or its
-    /// limit is no number.
+    /// Parses a line. Returns `None` if the line has another form, its text has an unknown escape,
+    /// or its limit is not a number.
+    ///
+    /// # Errors
+    ///
+    /// Returns `AllocError` if an allocation fails.
     pub fn parse(alloc: Global, line: &'l str) -> Result<Option<Case<'l>>, AllocError> {
         let columns: Vec<&'l str> = line.split('\t').collect(alloc)?;
         let (text, wanted) = match columns.as_slice() {
@@ -70,7 +74,7 @@ impl<'l> Case<'l> {
     }
 }
 
-/// The columns of both forms.
+/// Returns the columns of both forms as bytes.
 fn both_forms<'l>(plain: &'l str, alt: &'l str) -> Forms<&'l [u8]> {
     Forms {
         plain: plain.as_bytes(),

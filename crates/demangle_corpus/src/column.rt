@@ -1,12 +1,13 @@
-//! How a text stands in a column of the corpus.
+//! Escapes and shortens texts for the columns of a corpus.
 use hex;
 use sha2::{Digest, Sha256};
 use std::alloc::{AllocError, Global};
 
-/// A longer text stands as its length and its digest.
+/// The length of the longest text that a column spells out. A longer one is given by its length and
+/// digest.
 const LONGEST: usize = 2000;
 
-/// The letter that stands behind a backslash for a byte, if the byte is escaped.
+/// Returns the letter that follows a backslash for a byte, if the byte is escaped.
 fn escape_letter(byte: u8) -> Option<u8> {
     match byte {
         b'\n' => Some(b'n'),
@@ -18,7 +19,7 @@ fn escape_letter(byte: u8) -> Option<u8> {
     }
 }
 
-/// The character that a letter behind a backslash stands for.
+/// Returns the character that a letter after a backslash represents.
 fn escaped_char(letter: char) -> Option<char> {
     match letter {
         'n' => Some('\n'),
@@ -30,7 +31,7 @@ fn escaped_char(letter: char) -> Option<char> {
     }
 }
 
-/// The text in which line feeds, tabs, carriage returns, zeros and backslashes are escaped.
+/// Returns a text with its line feeds, tabs, carriage returns, zeros and backslashes escaped.
 pub fn escape(alloc: Global, text: &[u8]) -> Result<Vec<u8>, AllocError> {
     let mut column = Vec::new(alloc);
     for byte in text {
@@ -42,7 +43,8 @@ pub fn escape(alloc: Global, text: &[u8]) -> Result<Vec<u8>, AllocError> {
     Ok(column)
 }
 
-/// The text whose escaped form this is, or `None` where a backslash stands before anything else.
+/// Returns the text that has this escaped form, or `None` if a backslash precedes any other
+/// character.
 pub fn unescape(alloc: Global, column: &str) -> Result<Option<String>, AllocError> {
     let mut text = String::new(alloc);
     let mut is_escape = false;
@@ -62,7 +64,7 @@ pub fn unescape(alloc: Global, column: &str) -> Result<Option<String>, AllocErro
     Ok(if is_escape { None } else { Some(text) })
 }
 
-/// The escaped text, or the length and the SHA-256 of one of more than 2,000 bytes.
+/// Returns the escaped text, or the length and the SHA-256 if it has more than 2,000 bytes.
 pub fn shorten(alloc: Global, text: &[u8]) -> Result<Vec<u8>, AllocError> {
     if text.len() <= LONGEST {
         return escape(alloc, text);
@@ -72,7 +74,7 @@ pub fn shorten(alloc: Global, text: &[u8]) -> Result<Vec<u8>, AllocError> {
     Ok(format!(in alloc; "#len={len} sha256={digest}")?.into_bytes())
 }
 
-/// The escaped pieces, with `\|` between.
+/// Returns the escaped pieces with `\|` between them.
 pub fn join_pieces(alloc: Global, pieces: &[String]) -> Result<Vec<u8>, AllocError> {
     let mut column = Vec::new(alloc);
     for (number, piece) in pieces.iter().enumerate() {

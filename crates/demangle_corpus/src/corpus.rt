@@ -1,4 +1,4 @@
-//! The library's answers beside those of a corpus.
+//! Compares the library's results with those in a corpus.
 ghost use Rattle.std.specs.Prelude.{◌≡◌, ◌+◌, ◌*◌, ◌≤◌, IfOk, IfSome, length};
 ghost use Rattle.std.specs.Io.Iter.{u64_saturate};
 ghost use Rattle.rustc_demangle.specs.Lines.{lines};
@@ -10,7 +10,7 @@ use std::alloc::{AllocError, Global};
 use std::io::{BufRead, ErrorKind, Write};
 use std::{fmt, io};
 
-/// Why a corpus could not be gone through.
+/// The reason for which a corpus could not be compared completely.
 #[derive(Debug, Drop)]
 pub enum CorpusFault {
     Read,
@@ -34,7 +34,7 @@ impl fmt::Display for CorpusFault {
     }
 }
 
-/// How many lines there were, and how many differences.
+/// The number of lines and the number of differences.
 #[derive(Drop)]
 pub struct Counts {
     pub lines: u64,
@@ -49,7 +49,11 @@ impl fmt::Display for Counts {
     }
 }
 
-/// Writes a difference in a column, if there is one, and answers how many there are.
+/// Writes the difference in a column, if there is one. Returns the number of differences, 0 or 1.
+///
+/// # Errors
+///
+/// Returns the error of the output if a write fails.
 fn compare<W: Write>(
     column: &str,
     line: u64,
@@ -71,7 +75,7 @@ fn compare<W: Write>(
     Ok(1)
 }
 
-/// Writes the differences in what is printed, and answers how many there are.
+/// Writes the differences in the printed text. Returns their number, at most 2.
 fn compare_forms<W: Write>(
     line: u64,
     wanted: &Forms<&[u8]>,
@@ -87,7 +91,7 @@ fn compare_forms<W: Write>(
     Ok(plain + alt)
 }
 
-/// Writes the differences in what every call answers, and answers how many there are.
+/// Writes the differences in the results of all calls. Returns their number, at most 4.
 fn compare_answers<W: Write>(
     line: u64,
     wanted: &Answers<&[u8]>,
@@ -106,9 +110,9 @@ fn compare_answers<W: Write>(
     Ok(status + as_str + printed)
 }
 
-/// Asks the library about a line, writes each difference, and answers how many there are.
+/// Compares the library's results with a line and writes each difference. Returns their number.
 ///
-/// A line that can't be read is a difference.
+/// A line that can't be parsed counts as a difference.
 fn check_line<W: Write>(
     alloc: Global,
     number: u64,
@@ -136,7 +140,7 @@ fn check_line<W: Write>(
     differences.map_err(|_| CorpusFault::Write)
 }
 
-/// What an error in reading means.
+/// Converts an error of the input to the error of the comparison.
 fn read_fault(error: &io::Error) -> CorpusFault {
     if error.kind() == ErrorKind::OutOfMemory {
         CorpusFault::Memory
@@ -145,8 +149,13 @@ fn read_fault(error: &io::Error) -> CorpusFault {
     }
 }
 
-/// Asks the library about each line of a corpus, and writes each difference, of which a line has
-/// four at most, and then the counts.
+/// Compares the library's results with each line of a corpus. Writes each difference, at most four
+/// for a line, and then the counts.
+///
+/// # Errors
+///
+/// Returns `CorpusFault` if the input can't be read, the output can't be written, or an allocation
+/// fails.
 pub fn corpus_run<R: BufRead, W: Write>(
     alloc: Global,
     input: &mut R,

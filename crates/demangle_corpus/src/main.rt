@@ -1,4 +1,4 @@
-//! Compares the library's answers with those of the Rust crate, which stand on standard input.
+//! Compares the library's results with those of the Rust crate, which are read from standard input.
 #![tactic(auto)]
 
 mod answers;
@@ -13,8 +13,8 @@ use corpus::{CorpusFault, Counts, corpus_run};
 use std::io::{BufReader, BufWriter};
 use std::process::ExitCode;
 
-/// Compares what stands on standard input, and writes to standard output. Where there is no memory
-/// for a buffer, nothing is read.
+/// Compares the corpus on standard input and writes to standard output. Reads nothing if a buffer
+/// can't be allocated.
 fn run(rt: &HostRuntime) -> Result<Counts, CorpusFault> {
     let alloc = rt.alloc();
     let Ok(mut input) = BufReader::new(alloc, rt.stdin().lock()) else {

@@ -1,4 +1,4 @@
-//! A sink that keeps its pieces apart.
+//! A sink that stores its pieces separately.
 ghost use Rattle.std.specs.Prelude.{◌≡◌, [], ◌∷◌, ◌++◌, Some, true, false, map, OnOk, OnErr};
 ghost use Rattle.std.specs.List.{concat};
 ghost use Rattle.std.specs.String.{string_bytes};
@@ -9,7 +9,7 @@ ghost use Rattle.demangle_corpus.specs.PiecesSink.{taken_pieces};
 use rustc_demangle::sink::{SinkRefused, TextSink};
 use std::alloc::{AllocError, Global};
 
-/// Keeps each nonempty piece apart from the others. It refuses one where memory runs out.
+/// Stores each nonempty piece separately. A piece is rejected if an allocation fails.
 #[derive(Drop)]
 pub struct PiecesSink {
     alloc: Global,
@@ -18,7 +18,7 @@ pub struct PiecesSink {
 }
 
 impl PiecesSink {
-    /// A sink of no pieces, which has not failed.
+    /// Returns a sink without pieces. It has not failed.
     pub fn new(alloc: Global) -> PiecesSink
         ensures alive { ⟦<PiecesSink as TextSink>⟧.failed result ≡ false }
         ensures empty { taken_pieces result ≡ [] }
@@ -30,14 +30,14 @@ impl PiecesSink {
         }
     }
 
-    /// The pieces that it took.
+    /// Returns the pieces that the sink has taken.
     pub fn pieces(&self) -> &[String]
         ensures { map string_bytes result.now ≡ taken_pieces self.now }
     {
         self.pieces.as_slice()
     }
 
-    /// Keeps one piece more.
+    /// Appends a piece. If an allocation fails, the pieces stay unchanged.
     fn keep(&mut self, piece: &str) -> Result<(), AllocError>
         ensures ok { OnOk result (taken_pieces self.new ≡ taken_pieces self.old ++ piece.now ∷ []) }
         ensures err { OnErr result (taken_pieces self.new ≡ taken_pieces self.old) }

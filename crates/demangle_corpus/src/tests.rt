@@ -1,4 +1,4 @@
-//! What the comparison writes, over lines in memory.
+//! Tests of the text that a comparison of lines in memory writes.
 use crate::corpus::{CorpusFault, corpus_run};
 use std::alloc::{AllocError, Global};
 use std::test::Fail;
@@ -20,11 +20,11 @@ _ZN3foo17h05af221e174051e9E\tOK\t=\tfoo::h05af221e174051e9\tfoo
 \\pieces\t_ZN0E\t\t
 ";
 
-/// What stands in a column for 2,001 times `a`.
+/// The column for a text of 2,001 times `a`.
 const LONG: &str =
     "#len=2001 sha256=a0b153f094495e7397ecded317f606264cb1b8dd33e650ddd4be00c2674aa5e7";
 
-/// An element of so many `a`, and what is said of it.
+/// Returns the line of a symbol whose element is `len` times `a`, with this column.
 fn long_line(alloc: Global, len: usize, column: &str) -> Result<String, AllocError> {
     let element = String::from_utf8_lossy(alloc, vec![in alloc; b'a'; len]?.as_slice())?;
     format!(in alloc; "_ZN{len}{element}E\tOK\t=\t{column}\t{column}\n")

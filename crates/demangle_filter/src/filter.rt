@@ -1,4 +1,4 @@
-//! The program's work over any streams.
+//! The program, over any streams.
 ghost use Rattle.std.specs.Prelude.{◌≡◌, ◌≢◌, ◌==◌, ◌≤◌, [], ◌∷◌, codes, length, map, string_bytes, IfSome, OnOk};
 ghost use Rattle.rustc_demangle.specs.Stream.{Finished};
 
@@ -12,7 +12,7 @@ pub const OUT_OF_MEMORY: &str = "demangle_filter: out of memory\n";
 
 const WRITE_FAILED: &str = "demangle_filter: write failed\n";
 
-/// Writes one line of an error and answers the status.
+/// Writes one line to `errors` and returns the status. An error of the write is ignored.
 pub fn report<E: Write>(errors: &mut E, line: &str, status: u8) -> u8
     ensures { result ≡ status }
 {
@@ -20,7 +20,7 @@ pub fn report<E: Write>(errors: &mut E, line: &str, status: u8) -> u8
     status
 }
 
-/// What is told of a fault.
+/// Returns the line that reports a fault.
 fn line_of(fault: &StreamFault) -> &'static str {
     match fault {
         StreamFault::Read(_) => "demangle_filter: read failed\n",
@@ -30,9 +30,14 @@ fn line_of(fault: &StreamFault) -> &'static str {
     }
 }
 
-/// Demangles the input, and answers what is to be told if that failed.
+/// Demangles the input.
 ///
-/// The output is flushed in any case. That the flush failed goes before any other fault.
+/// The output is flushed in any case.
+///
+/// # Errors
+///
+/// Returns the line that reports the fault. If the flush fails, that fault is reported before any
+/// other.
 fn filter<R: BufRead, W: Write>(
     alloc: Global,
     input: &mut R,
@@ -50,9 +55,9 @@ fn filter<R: BufRead, W: Write>(
     copied.map_err(|fault| line_of(&fault))
 }
 
-/// Runs the program on the words behind its name, and answers the exit status.
+/// Runs the program with the arguments after its name. Returns the exit status.
 ///
-/// The words are looked at before anything is read. A fault of `errors` is ignored.
+/// The arguments are checked before anything is read. An error of `errors` is ignored.
 pub fn filter_run<R: BufRead, W: Write, E: Write>(
     alloc: Global,
     words: &[String],

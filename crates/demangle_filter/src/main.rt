@@ -13,7 +13,7 @@ use std::process::ExitCode;
 use std::rt::Env;
 use std::{env, io};
 
-/// The arguments behind the program's name.
+/// Returns the arguments after the program's name.
 fn arguments(rt: &(impl Env + AllocGlobal)) -> io::Result<Vec<String>> {
     let words = env::args(rt)?;
     Ok(words.skip(1).collect::<Vec<String>>(rt.alloc())?)

@@ -4,19 +4,19 @@ use std::cell::RefCell;
 use std::io;
 use std::io::{Read, Write};
 
-/// A writer, and the bytes that are held for it.
+/// A writer with the bytes that are buffered for it.
 #[derive(Drop)]
 struct Pending<W: Write + Drop> {
     held: Held,
     writer: W,
-    /// Whether the writer took something since it was last flushed.
+    /// Whether bytes were passed to the writer since its last flush.
     is_unflushed: bool,
-    /// The writer's error that the next flush answers.
+    /// The writer's error that the next flush returns.
     fault: Option<io::Error>,
 }
 
 impl<W: Write + Drop> Pending<W> {
-    /// Hands on what is held. Where the writer refuses it, it stays held.
+    /// Writes the buffered bytes. If the writer fails, they stay buffered.
     fn hand_on(&mut self) -> io::Result<()> {
         if !self.held.is_empty() {
             self.is_unflushed = true;
@@ -26,7 +26,8 @@ impl<W: Write + Drop> Pending<W> {
         Ok(())
     }
 
-    /// Hands on what is held, and then holds the piece, or hands it on where it is too long.
+    /// Writes the buffered bytes, then buffers the piece. A piece that is too long for the buffer
+    /// is written at once.
     fn write_all(&mut self, piece: &[u8]) -> io::Result<()> {
         self.hand_on()?;
         if self.held.push(piece) {
@@ -36,7 +37,7 @@ impl<W: Write + Drop> Pending<W> {
         self.writer.write_all(piece)
     }
 
-    /// Hands on what is held, and flushes the writer.
+    /// Writes the buffered bytes and flushes the writer.
     fn flush(&mut self) -> io::Result<()> {
         self.hand_on()?;
         self.is_unflushed = false;
@@ -44,15 +45,15 @@ impl<W: Write + Drop> Pending<W> {
     }
 }
 
-/// An output that a `PausingWriter` writes, and that a `PausingReader` flushes. What is written is
-/// held until there is no room for more.
+/// An output that a `PausingWriter` writes and that a `PausingReader` flushes. Bytes are buffered
+/// until there is no room for more.
 #[derive(Drop)]
 pub struct PausingOutput<W: Write + Drop> {
     pending: RefCell<Pending<W>>,
 }
 
 impl<W: Write + Drop> PausingOutput<W> {
-    /// An output into this writer, with nothing held.
+    /// Returns an output for this writer with an empty buffer.
     pub fn new(writer: W) -> Self {
         PausingOutput {
             pending: RefCell::new(Pending {
@@ -64,12 +65,12 @@ impl<W: Write + Drop> PausingOutput<W> {
         }
     }
 
-    /// Writes into the output.
+    /// Returns a writer to the output.
     pub fn writer(&self) -> PausingWriter<'_, W> {
         PausingWriter { output: self }
     }
 
-    /// Reads from the input, and flushes the output before each read.
+    /// Returns a reader of the input that flushes the output before each read.
     pub fn reader<R: Read + Drop>(&self, input: R) -> PausingReader<'_, R, W> {
         PausingReader {
             input,
@@ -77,7 +78,7 @@ impl<W: Write + Drop> PausingOutput<W> {
         }
     }
 
-    /// Holds the piece, unless there is no room for it.
+    /// Buffers the piece. Returns `false` if there is no room for it.
     #[inline(always)]
     fn hold(&self, piece: &[u8]) -> bool {
         match self.pending.try_borrow_mut() {
@@ -86,7 +87,7 @@ impl<W: Write + Drop> PausingOutput<W> {
         }
     }
 
-    /// Writes a piece for which there is no room, and keeps the error where that fails.
+    /// Writes a piece for which there is no room. Stores the error if that fails.
     #[cold]
     #[inline(never)]
     fn write_on(&self, piece: &[u8]) -> bool {
@@ -102,7 +103,7 @@ impl<W: Write + Drop> PausingOutput<W> {
         }
     }
 
-    /// Flushes what was written, and keeps the error where that fails.
+    /// Flushes the bytes that were written. Stores the error if that fails.
     fn pause(&self) -> io::Result<()> {
         let Ok(mut pending) = self.pending.try_borrow_mut() else {
             return Err(is_in_use());
@@ -118,17 +119,17 @@ impl<W: Write + Drop> PausingOutput<W> {
     }
 }
 
-/// The error of an output whose writer has failed before.
+/// Returns the error of an output whose writer has failed before.
 fn is_broken() -> io::Error {
     io::Error::other("the output is broken")
 }
 
-/// The error of an output that is borrowed already.
+/// Returns the error of an output that is already borrowed.
 fn is_in_use() -> io::Error {
     io::Error::other("the output is in use")
 }
 
-/// Writes into a `PausingOutput`.
+/// Writes to a `PausingOutput`.
 #[derive(Drop)]
 pub struct PausingWriter<'a, W: Write + Drop> {
     output: &'a PausingOutput<W>,
@@ -144,7 +145,7 @@ impl<W: Write + Drop> Write for PausingWriter<'_, W> {
         pending.writer.write(buf)
     }
 
-    /// Where the writer refuses it, the writer's own error is answered by the next flush.
+    /// Writes a piece. If the writer fails, the next flush returns the writer's own error.
     #[inline(always)]
     fn write_all(&mut self, buf: &[u8]) -> io::Result<()> {
         if self.output.hold(buf) || self.output.write_on(buf) {
@@ -153,8 +154,8 @@ impl<W: Write + Drop> Write for PausingWriter<'_, W> {
         Err(is_broken())
     }
 
-    /// Flushes the output. An error that came while a piece was written, or while the input was
-    /// waited for, is answered here.
+    /// Flushes the output. Returns an earlier error too, from the write of a piece or from the wait
+    /// for input.
     fn flush(&mut self) -> io::Result<()> {
         let Ok(mut pending) = self.output.pending.try_borrow_mut() else {
             return Err(is_in_use());
@@ -167,8 +168,10 @@ impl<W: Write + Drop> Write for PausingWriter<'_, W> {
     }
 }
 
-/// Put a buffer over it: then it is read only where the buffer is used up. Where the output can't
-/// be flushed, reading fails, and so does the next flush of the writer.
+/// Reads the input, and flushes the output before each read.
+///
+/// Put a buffer over it, so that it is read only when the buffer is empty. If the output can't be
+/// flushed, the read fails, and so does the next flush of the writer.
 #[derive(Drop)]
 pub struct PausingReader<'a, R: Read + Drop, W: Write + Drop> {
     input: R,

@@ -1,5 +1,5 @@
-//! What is the program's own: its words, statuses and texts, and when it flushes. What the stream
-//! writes is tested with the library.
+//! Tests of the program's own part: its arguments, statuses and texts, and the times of its
+//! flushes. The library's tests cover the demangled output.
 use crate::filter::filter_run;
 use crate::pausing::PausingOutput;
 use held_bytes::CAPACITY;
@@ -14,7 +14,7 @@ use test_doubles::streams::{NotingWriter, PartsReader, RefusingWriter};
 mod outputs;
 mod streams;
 
-/// The status of a run, and what it wrote as errors.
+/// The status of a run, and the text that it wrote to `errors`.
 #[derive(Drop)]
 struct Ended {
     status: u8,
@@ -36,7 +36,7 @@ fn run<R: BufRead, W: Write>(
     Ok(Ended { status, errors })
 }
 
-/// Asserts what a run over a text writes, which succeeds.
+/// Asserts that a run over a text succeeds and writes this output.
 fn assert_writes(
     rt: &impl Abort,
     alloc: Global,
@@ -169,7 +169,7 @@ fn a_flush_fails(rt: HostRuntime) -> Result<(), Fail> {
     Ok(())
 }
 
-/// Runs with an output that is flushed before more is read.
+/// Runs the program with an output that is flushed before more is read.
 fn run_pausing<R: Read + Drop, W: Write>(
     alloc: Global,
     input: R,
@@ -246,7 +246,7 @@ fn a_fault_of_the_errors_is_ignored(rt: HostRuntime) -> Result<(), Fail> {
     Ok(())
 }
 
-/// Writes one part by `write`, and answers how much of it was taken.
+/// Writes one part by `write`. Returns the number of its bytes that were taken.
 fn write_part<W: Write>(output: &mut W, part: &[u8]) -> Result<usize, ErrorKind> {
     let output = PausingOutput::new(output);
     output.writer().write(part).map_err(|error| error.kind())
@@ -262,7 +262,7 @@ fn a_part_goes_to_the_output_at_once(rt: HostRuntime) -> Result<(), Fail> {
     Ok(())
 }
 
-/// Asserts which parts the writer is handed, of what is written into an output of its own.
+/// Asserts the writes that the writer receives for these parts.
 fn assert_handed_on(
     rt: &impl Abort,
     alloc: Global,

@@ -1,4 +1,4 @@
--- The elements of a legacy symbol: what is read is what the grammar has, and the other way round.
+-- The elements of a legacy symbol: the functions read exactly the elements that the grammar spells.
 use Rattle.std.proofs.Common.{◌≡◌, ℕ, zero, suc, ◌+◌, ◌-◌, ◌^◌, ◌<◌, ◌≤◌, ◌≢◌, ◌⊎◌, inl, inr, ◌&&◌, Bool, true, false, cond, List, [], ◌∷◌, ◌++◌, length, take, drop, get_or, slice_range, Option, Some, None, refl, sym, ap, ◌∙◌, arith, subst, length-append, length-take, length-drop, eqb, ltb}
 use Rattle.std.specs.List.{list_all, prefix_len}
 use Rattle.std.proofs.lemmas.List.{take-append-drop, at_drop_more, at_drop_all, drop-drop}
@@ -27,7 +27,7 @@ and_right : (a b : Bool) → (a && b) ≡ true → b ≡ true
 and_right true b h = h
 and_right false b h = cc
 
--- when a text can be cut
+-- the condition for cutting a text
 
 cut_some : (d n : ℕ) (t : List ℕ) → d ≢ 0 → n ≤ length t → cut_at d n t ≡ Some (take n t, drop n t)
 cut_some zero n t some fits = absurd (some refl)
@@ -37,7 +37,7 @@ cut_past : (d n : ℕ) (t : List ℕ) → length t < n → cut_at d n t ≡ None
 cut_past zero n t past = refl
 cut_past (suc d) n t past = elim (leb_tells n (length t)) [ inl e ↦ let le : n ≤ length t = e.1 in absurd (omega arith) | inr e ↦ rw e.0 refl ]
 
--- what was cut
+-- the parts of a text that was cut
 record WasCut (d n : ℕ) (t : List ℕ) (u : List ℕ × List ℕ) : Type 0 where
   some : d ≢ 0
   fits : n ≤ length t
@@ -51,7 +51,7 @@ was_cut (suc d) n t u e = elim (leb_tells n (length t)) [
   | inr h ↦ let past : length t < n = omega (arith, h.1) in absurd (none_some u (sym (cut_past (suc d) n t past) ∙ e))
 ]
 
--- the digits in front
+-- the digits at the start
 
 digits_all : (s : List ℕ) → list_all is_digit_10 (take (prefix_len is_digit_10 s) s) ≡ true
 digits_all [] = refl
@@ -127,7 +127,7 @@ length_some : (word : List ℕ) → word ≢ [] → length word ≢ 0
 length_some [] h e = h refl
 length_some (c ∷ w) h e = absurd (omega (arith, e))
 
--- and the element that the grammar has in front is the one that is read
+-- and the first element of the grammar is the one that is read
 pub element_takes : (word e rest : List ℕ) → IsDigitWord word (length e) → NoDigitFirst (e ++ rest) → element_of (word ++ (e ++ rest)) ≡ Some (e, rest)
 unfolding element_of
 element_takes word e rest h stop =
@@ -140,14 +140,14 @@ element_takes word e rest h stop =
     ∙ ap (λ x. Some (x, drop (length e) (e ++ rest))) (take-append_seam e rest)
     ∙ ap (λ x. Some (e, x)) (drop-append_seam e rest)
 
--- what stands behind an element is shorter
+-- the text after an element is shorter
 pub element_shorter : (s : List ℕ) (u : List ℕ × List ℕ) → element_of s ≡ Some u → length u.1 < length s
 element_shorter s u e =
     let d = element_spelled s u e in
     let some = length_some d.word d.digits.0 in
     omega (arith, ap length d.whole, length-append d.word (u.0 ++ u.1), length-append u.0 u.1)
 
--- the element whose length stands at a place
+-- the element whose length is at a place
 
 element_cut : (s : List ℕ) (at : ℕ) → element_of (drop at s) ≡ cut_at (run_end is_digit_10 s at - at) (number 10 digit_10 (slice_range s at (run_end is_digit_10 s at))) (drop (run_end is_digit_10 s at) s)
 unfolding element_of
@@ -179,7 +179,7 @@ element_past s at j v h past =
     ∙ ap (λ m. cut_at (end - at) m (drop end s)) n
     ∙ cut_past (end - at) v (drop end s) (omega (arith, length-drop end s, e))
 
--- A number of 64 bits or more goes past the end of every symbol.
+-- A number of 64 bits or more exceeds the end of every symbol.
 pub element_none : (s : List ℕ) (at : ℕ) → length s < 2 ^ 64 → ((j v : ℕ) → v < 2 ^ 64 → Decimal s at j v → ⊥) → element_of (drop at s) ≡ None
 element_none s at small none = elim (option_cases (element_of (drop at s))) [
   | inl e ↦ e
@@ -209,7 +209,7 @@ within_more n s u h = rw (h, parts_within) refl
 no_element : (s : List ℕ) → length s ≤ 0 → element_of s ≡ None
 no_element s h = elim (option_cases (element_of s)) [ inl e ↦ e | inr e ↦ absurd (omega (arith, element_shorter s e.0 e.1)) ]
 
--- turns enough for the text's length give all
+-- with as many iterations as the text has bytes, all elements are read
 within_enough : (n m : ℕ) (s : List ℕ) → length s ≤ n → length s ≤ m → parts_within n s ≡ parts_within m s
 within_enough zero m s a b = let e = no_element s a in within_end zero s e ∙ sym (within_end m s e)
 within_enough (suc n) zero s a b = let e = no_element s b in within_end (suc n) s e ∙ sym (within_end zero s e)
@@ -247,7 +247,7 @@ within_zero : (s : List ℕ) → parts_within 0 s ≡ ([], s)
 unfolding parts_within
 within_zero s = refl
 
--- where nothing more is read
+-- the end of the elements
 spelled_end : (n : ℕ) (s x : List ℕ) → parts_within n s ≡ ([], s) → behind_E (parts_within n s).1 ≡ Some x → IsElements (parts_within n s).0 s x
 spelled_end n s x p h =
     let q : behind_E s ≡ Some x = ap (λ (r : List (List ℕ) × List ℕ). behind_E r.1) (sym p) ∙ h in
@@ -282,7 +282,7 @@ spelled_parts (e ∷ es) s x h =
     let t = ap element_of h.2 ∙ element_takes h.0 e h.1 h.3 h.4 in
     parts_more s (e, h.1) t ∙ ap (in_front e) (spelled_parts es h.1 x h.5)
 
--- the suffix, where no element is left
+-- the suffix, if no element is left
 
 pub no_byte_E : (s : List ℕ) (at : ℕ) → is_byte s at 69 ≡ false → behind_E (drop at s) ≡ None
 no_byte_E s at h = elim (lt_or_le at (length s)) [

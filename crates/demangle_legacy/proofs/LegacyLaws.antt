@@ -1,4 +1,4 @@
--- A text is read as a legacy symbol exactly where the grammar spells it.
+-- A text is read as a legacy symbol exactly if the grammar spells it.
 use Rattle.std.proofs.Common.{◌≡◌, ℕ, zero, suc, ◌<◌, inl, inr, ◌&&◌, Bool, true, false, cond, List, [], ◌∷◌, Option, Some, None, refl, sym, ap, ◌∙◌, arith, subst, option_map, IsSome}
 use Rattle.std.specs.Prelude.{IsAscii, option_and_then, is_some}
 use Rattle.std.specs.List.{list_all}
@@ -31,7 +31,7 @@ ascii_all (c ∷ s) h (suc i) = ascii_all s (and_parts (is_ascii c) (list_all is
 not_ascii : (s : List ℕ) → (IsAscii s → ⊥) → list_all is_ascii s ≡ false
 not_ascii s h = elim (bool_cases (list_all is_ascii s)) [ inl e ↦ absurd (h (ascii_all s e)) | inr e ↦ e ]
 
--- what `demangle` answers
+-- the result of `demangle`
 
 pub legacy_no_prefix : (s : List ℕ) → None ≡ inner_of s → legacy_of s ≡ None
 unfolding legacy_of

@@ -1,4 +1,4 @@
--- What stands behind the prefix of a legacy symbol.
+-- The text after the prefix of a legacy symbol.
 use Rattle.std.proofs.Common.{◌≡◌, ℕ, ◌⊎◌, inl, inr, List, ◌++◌, Option, Some, None, length, refl, ap, subst}
 use Rattle.std.specs.Prelude.{codes, IsAscii}
 use Rattle.std.specs.Option.{option_or}
@@ -8,7 +8,7 @@ use Rattle.demangle_legacy.specs.Legacy.{IsLegacyPrefix, inner_of}
 use Rattle.demangle_symbol.specs.Prefix.{behind_prefix}
 use Rattle.demangle_symbol.proofs.Prefixes.{behind_is}
 
--- each prefix is taken off
+-- each prefix is stripped
 
 pub inner_spelled : (p x : List ℕ) → IsLegacyPrefix p → inner_of (p ++ x) ≡ Some x
 unfolding inner_of
@@ -20,7 +20,7 @@ first_is : (a b : Option (List ℕ)) (x : List ℕ) → option_or a b ≡ Some x
 first_is None b x e = inr e
 first_is (Some y) b x e = inl e
 
--- and what was taken off is one
+-- and the stripped text is such a prefix
 pub inner_is : (s x : List ℕ) → inner_of s ≡ Some x → (prefix : List ℕ) × IsLegacyPrefix prefix × (s ≡ prefix ++ x)
 unfolding inner_of
 inner_is s x e = elim (first_is (behind_prefix (codes "_ZN") s) (option_or (behind_prefix (codes "ZN") s) (behind_prefix (codes "__ZN") s)) x e) [
@@ -31,7 +31,7 @@ inner_is s x e = elim (first_is (behind_prefix (codes "_ZN") s) (option_or (behi
   ]
 ]
 
--- it is ASCII where all of the text is
+-- the rest is ASCII if all of the text is
 pub inner_ascii : (s x : List ℕ) → inner_of s ≡ Some x → IsAscii s → IsAscii x
 inner_ascii s x e h =
     let p = inner_is s x e in

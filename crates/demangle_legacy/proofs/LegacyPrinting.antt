@@ -28,11 +28,11 @@ unfolding shown_elements
 shown_less true e h k = cc
 shown_less false e h k = ap (λ b. cond b [] (e ∷ [])) k
 
--- the pieces of the elements that are left at a place of the symbol: `::` stands before them but at place 0
+-- the pieces of the elements that are left at a place of the symbol, with `::` before them except at place 0
 abbrev pub left_pieces : Bool → ℕ → List (List ℕ) → List (List ℕ)
 left_pieces hash at left = cond (eqb at 0) (joined_pieces (shown_elements hash left)) (following_pieces (shown_elements hash left))
 
--- the elements from a place on
+-- the elements from a place
 
 pub elements_more : (s : List ℕ) (at from to : ℕ) → element_of (drop at s) ≡ Some (slice_range s from to, drop to s) → elements_of (drop at s) ≡ slice_range s from to ∷ elements_of (drop to s)
 elements_more s at from to h = ap (λ (r : List (List ℕ) × List ℕ). r.0) (parts_more (drop at s) (slice_range s from to, drop to s) h)
@@ -40,7 +40,7 @@ elements_more s at from to h = ap (λ (r : List (List ℕ) × List ℕ). r.0) (p
 pub elements_end : (s : List ℕ) (at : ℕ) → element_of (drop at s) ≡ None → elements_of (drop at s) ≡ []
 elements_end s at h = ap (λ (r : List (List ℕ) × List ℕ). r.0) (parts_end (drop at s) h)
 
--- an `E` stands behind the last element
+-- an `E` follows the last element
 pub elements_E : (s : List ℕ) (to : ℕ) → is_byte s to 69 ≡ true → elements_of (drop to s) ≡ []
 elements_E s to h =
     let is = get_or_from_slice_get s to 69 0 (is_byte_there s to 69 h) in
@@ -49,7 +49,7 @@ elements_E s to h =
 none_there : IsSome {T = List ℕ} None → ⊥
 none_there h = false≢true h
 
--- and no other byte does
+-- and no other byte follows it
 pub elements_left : (s : List ℕ) (to : ℕ) → IsSome (suffix_of s) → (parts_of s).1 ≡ (parts_of (drop to s)).1 → is_byte s to 69 ≡ false → 0 < length (elements_of (drop to s))
 elements_left s to some same h = elim (option_cases (element_of (drop to s))) [
   | inl e ↦
@@ -58,7 +58,7 @@ elements_left s to some same h = elim (option_cases (element_of (drop to s))) [
   | inr e ↦ omega (arith, ap (λ (r : List (List ℕ) × List ℕ). length r.0) (parts_more (drop to s) e.0 e.1))
 ]
 
--- one element more
+-- one more element
 
 pub left_first : (hash : Bool) (at : ℕ) (e : List ℕ) (es : List (List ℕ)) → ((not hash && is_hash e) ≡ false) ⊎ (0 < length es) → at ≡ 0 → left_pieces hash at (e ∷ es) ≡ unescaped e ++ following_pieces (shown_elements hash es)
 left_first hash at e es keeps first =
@@ -85,7 +85,7 @@ pub left_none : (hash : Bool) (at : ℕ) (es : List (List ℕ)) → es ≡ [] �
 unfolding shown_elements
 left_none hash at es e = ap (left_pieces hash at) e ∙ nothing at
 
--- the hash is left out
+-- the hash is omitted
 pub left_hash : (hash : Bool) (at : ℕ) (e : List ℕ) (es : List (List ℕ)) → hash ≡ false → is_hash e ≡ true → es ≡ [] → left_pieces hash at (e ∷ es) ≡ []
 left_hash hash at e es off h last =
     ap (λ t. left_pieces hash at (e ∷ t)) last
@@ -97,7 +97,7 @@ kept true last h n e left = inl refl
 kept false true h n e left = inl e
 kept false false h n e left = inr (left refl)
 
--- a turn of the printing: the element at a place of the symbol is printed
+-- an iteration of the printing: the element at a place of the symbol is printed
 module _ (s : List ℕ) (hash : Bool) (at from to : ℕ) (legacy : IsSome (suffix_of s)) (same : (parts_of s).1 ≡ (parts_of (drop at s)).1) (element : element_of (drop at s) ≡ Some (slice_range s from to, drop to s)) where
   pub same_behind : (parts_of s).1 ≡ (parts_of (drop to s)).1
   same_behind = same ∙ behind_more s at from to element
@@ -112,7 +112,7 @@ module _ (s : List ℕ) (hash : Bool) (at from to : ℕ) (legacy : IsSome (suffi
     pub turn_next : 0 < at → left_pieces hash at (elements_of (drop at s)) ≡ (codes "::" ∷ []) ++ (unescaped (slice_range s from to) ++ following_pieces (shown_elements hash (elements_of (drop to s))))
     turn_next later = ap (left_pieces hash at) (elements_more s at from to element) ∙ left_next hash at (slice_range s from to) (elements_of (drop to s)) keeps later
 
-    -- `::` was printed where others stand before it, and its own pieces are left
+    -- `::` was printed if other elements precede it, and the pieces of the element are left
     pub turn_begun : {S : Type 0} (sink : Ghosts S) (old mid new : SizeLimitedFmtAdapter S) (whole : List (List ℕ))
         → Printed sink old whole (left_pieces hash at (elements_of (drop at s))) mid
         → ((0 < at) × Prints sink mid (codes "::" ∷ []) (Ok tt) new) ⊎ ((at ≡ 0) × (new ≡ mid))
@@ -120,7 +120,7 @@ module _ (s : List ℕ) (hash : Bool) (at from to : ℕ) (legacy : IsSome (suffi
     turn_begun sink old mid new whole p (inl (later, put)) = printed_then sink old mid new whole _ _ _ p (turn_next later) put
     turn_begun sink old mid new whole p (inr (first, none)) = rw none (printed_left sink old mid whole _ _ p (turn_first first))
 
-  -- it is left out
+  -- the element is omitted
   pub turn_hash : (not hash && (is_byte s to 69 && is_hash (slice_range s from to))) ≡ true → left_pieces hash at (elements_of (drop at s)) ≡ []
   turn_hash out = hidden hash (is_byte s to 69) (is_hash (slice_range s from to)) refl refl refl out where
     hidden : (h last is : Bool) → h ≡ hash → last ≡ is_byte s to 69 → is ≡ is_hash (slice_range s from to) → (not h && (last && is)) ≡ true → left_pieces hash at (elements_of (drop at s)) ≡ []

@@ -1,4 +1,4 @@
--- Symbols with what they print, by computation: the definitions are those of the Rust crate here.
+-- Symbols with their printed texts, by computation. The definitions agree with the Rust crate here.
 use Rattle.std.proofs.Common.{◌≡◌, ℕ, Bool, true, false, List, [], ◌∷◌, ◌++◌, Option, Some, None, map, option_map, refl}
 use Rattle.std.specs.Prelude.{codes}
 use Prim.Native.String.{String}

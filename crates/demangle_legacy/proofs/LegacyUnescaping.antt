@@ -1,4 +1,4 @@
--- What an element prints is its units and its rest, and nothing else.
+-- An element prints exactly the pieces of its units and of its rest.
 use Rattle.std.proofs.Common.{◌≡◌, ℕ, zero, suc, ◌+◌, ◌<◌, ◌≤◌, ◌≢◌, ◌⊎◌, inl, inr, Bool, true, false, List, [], ◌∷◌, ◌++◌, length, take, drop, Option, Some, None, refl, sym, ap, ◌∙◌, arith, subst, eqb, ltb, option_map, append_assoc}
 use Rattle.std.specs.Prelude.{codes, position}
 use Rattle.std.specs.List.{position_or_len}
@@ -15,7 +15,7 @@ use Rattle.demangle_symbol.proofs.Options.{none_some, option_cases}
 some_same : {A : Type 0} (x y : A) → ◌≡◌ {A = Option A} (Some x) (Some y) → x ≡ y
 some_same x y e = cc
 
--- the first byte that passes
+-- the first byte that passes the test
 
 record Found (p : ℕ → Bool) (s : List ℕ) (n : ℕ) : Type 0 where
   front : List ℕ
@@ -69,7 +69,7 @@ at_first p front s none k =
     let lt : ltb (position_or_len p (front ++ s)) (length (front ++ s)) ≡ true = grind (arith, nat_tests) in
     rw lt (ap (λ i. Some i) n)
 
--- a unit is read where it stands
+-- a unit of the relation is read by the function
 
 abbrev Reads : List ℕ → List ℕ × ℕ → Type 0
 Reads text u = (unit : List ℕ) × (behind : List ℕ) × (text ≡ unit ++ behind) × (suc u.1 ≡ length unit) × IsUnit unit u.0 behind
@@ -134,7 +134,7 @@ plain_are c s u other e =
           subst (Reads (c ∷ s)) same (c ∷ f.front, f.byte ∷ f.behind, ap (λ t. c ∷ t) f.is, omega (arith, at), inr (inr (inr (ap (λ t. c ∷ t) (sym run), (λ k. cc), (other, f.none), f.here))))
     ]
 
--- what is read in front is a unit
+-- the unit that the function reads is one of the relation
 unit_is : (c : ℕ) (s : List ℕ) (u : List ℕ × ℕ) → leading_unit c s ≡ Some u → Reads (c ∷ s) u
 unit_is c s u e = elim (bool_cases (eqb c 46)) [
   | inl h ↦
@@ -148,7 +148,7 @@ unit_is c s u e = elim (bool_cases (eqb c 46)) [
   ]
 ]
 
--- a unit in front is what is read
+-- the function reads the first unit of the relation
 
 abbrev ReadAs : List ℕ → List ℕ → List ℕ → Type 0
 ReadAs unit piece behind = (c : ℕ) × (s : List ℕ) × (unit ≡ c ∷ s) × (leading_unit c (s ++ behind) ≡ Some (piece, length s))
@@ -190,7 +190,7 @@ unit_as unit piece behind (inr (inl h)) = dot_as unit piece behind h
 unit_as unit piece behind (inr (inr (inl h))) = escape_as unit piece behind h
 unit_as unit piece behind (inr (inr (inr h))) = plain_as unit piece behind h
 
--- all of a text
+-- the whole text
 
 abbrev pieces_by : ℕ → List ℕ → Option (List ℕ × ℕ) → List (List ℕ)
 pieces_by c s o = elim o [ None ↦ (c ∷ s) ∷ [] | Some u ↦ u.0 ∷ pieces_from (u.1) s ]
@@ -257,7 +257,7 @@ units_once (piece ∷ pieces) text (inr h) =
     ∙ ap (λ t. piece ∷ pieces_from 0 t) (sym (drop-append_seam r.1 behind))
     ∙ sym (ap (pieces_from 0) is ∙ pieces_unit r.0 (r.1 ++ behind) (piece, length r.1) r.3)
 
--- an element, with a `_` that is left out or without
+-- an element, with an omitted `_` or without one
 
 marked_is : (text : List ℕ) → Begins is_dollar text → unescaped (95 ∷ text) ≡ pieces_from 0 text
 unfolding begins_mark
@@ -298,7 +298,7 @@ unescaped_read element = elim (mark_of element) [
   | inr m ↦ inr (m.1, subst (λ ps. AreUnits ps element) (sym (unmarked element m.0)) (units_read (length element) element (omega arith)))
 ]
 
--- No others are.
+-- It has no other pieces.
 pub unescaped_once : (element : List ℕ) (pieces : List (List ℕ)) → IsUnescaped element pieces → pieces ≡ unescaped element
 unescaped_once element pieces (inl h) = units_once pieces h.0 h.2 ∙ sym (ap unescaped h.1.0 ∙ marked_is h.0 h.1.1)
 unescaped_once element pieces (inr h) = elim (mark_of element) [

@@ -1,4 +1,4 @@
--- The units of a legacy element, where they stand in a symbol.
+-- The units of a legacy element, by their places in a symbol.
 use Rattle.std.proofs.Common.{◌≡◌, ℕ, zero, suc, ◌+◌, ◌-◌, ◌*◌, ◌<◌, ◌≤◌, ◌≢◌, ◌⊎◌, inl, inr, ◌&&◌, Bool, true, false, not, cond, List, [], ◌∷◌, length, take, drop, get_or, slice_range, slice_index, Option, Some, None, refl, sym, ap, ◌∙◌, arith, eqb, option_map}
 use Rattle.std.specs.Prelude.{codes, position, option_and_then, nat_eq}
 use Rattle.std.specs.List.{slice_get, list_all, starts_with}
@@ -53,7 +53,7 @@ large_digits (d ∷ ds) h = ap (λ o. cond (list_all is_lower_hex (d ∷ ds)) o 
   both true = refl
   both false = refl
 
--- where the digits up to k spell too much already
+-- the digits up to k already spell a number that is too large
 pub digits_large : (s : List ℕ) (from k to b : ℕ) → from ≤ k → k < to → slice_get s k ≡ Some b → 0x110000 ≤ number 16 lower_hex (slice_range s from k) * 16 + lower_hex b → escape_of_digits (slice_range s from to) ≡ None
 digits_large s from k to b le lt here large =
     let more = number_more 16 lower_hex s from k b le here in
@@ -68,7 +68,7 @@ all_digits (d ∷ ds) some h = ap (λ b. cond b (escape_of_code (number 16 lower
 pub digits_all : (s : List ℕ) (from to : ℕ) → from < to → to ≤ length s → list_all is_lower_hex (slice_range s from to) ≡ true → escape_of_digits (slice_range s from to) ≡ escape_of_code (number 16 lower_hex (slice_range s from to))
 digits_all s from to lt within h = all_digits (slice_range s from to) (λ e. absurd (omega (arith, range_length s from to within, ap length e))) h
 
--- behind the last of them
+-- after the last of them
 pub digits_done : (s : List ℕ) (from to at code : ℕ) → from < to → to ≤ length s → at ≡ to → code ≡ number 16 lower_hex (slice_range s from at) → list_all is_lower_hex (slice_range s from to) ≡ list_all is_lower_hex (slice_range s at to) → escape_of_digits (slice_range s from to) ≡ escape_of_code code
 digits_done s from to at code lt within e n all =
     digits_all s from to lt within (all ∙ all_past is_lower_hex s at to (omega arith))
@@ -197,7 +197,7 @@ unit_no_run s at c to no_dot no_dollar none =
     unit_of_run c (slice_range s (at + 1) to) no_dot no_dollar
     ∙ ap (option_map (λ n. (c ∷ take n (slice_range s (at + 1) to), n))) (sym none)
 
--- the unit that the byte at a place begins
+-- the unit that starts with the byte at a place
 pub unit_there : (s : List ℕ) (at b n : ℕ) (rest : List ℕ) (o : Option (List ℕ × ℕ)) → slice_get s at ≡ Some b → b ≡ n → leading_unit n rest ≡ o → o ≡ leading_unit (slice_index s at) rest
 unit_there s at b n rest o here is e = sym e ∙ ap (λ c. leading_unit c rest) (sym is ∙ sym (get_or_from_slice_get s at b 0 here))
 
@@ -207,7 +207,7 @@ one_byte a n t e = ap (λ k. Some (t, k)) e
 pub a_full_stop : (n : ℕ) → n ≡ 0 → ◌≡◌ {A = Option (List ℕ × ℕ)} (Some (encode_utf8 46, n)) (Some (codes ".", 0))
 a_full_stop n e = ap (λ k. Some (encode_utf8 46, k)) e ∙ ap (λ t. Some (t, 0)) (sym full_stop)
 
--- where the units of an element begin
+-- the place of the first unit of an element
 
 pub pieces_skip : (k : ℕ) (s : List ℕ) → pieces_from k s ≡ pieces_from 0 (drop k s)
 unfolding pieces_from
@@ -260,7 +260,7 @@ first_plain s from to within long other =
       | inr h ↦ inr ((is_byte_not s (from + 1) 36 (omega arith) h).1)
     ]))
 
--- the pieces of an element from a place on
+-- the pieces of an element from a place
 
 pieces_unit : (c : ℕ) (s : List ℕ) (u : List ℕ × ℕ) → leading_unit c s ≡ Some u → pieces_from 0 (c ∷ s) ≡ u.0 ∷ pieces_from u.1 s
 unfolding pieces_from

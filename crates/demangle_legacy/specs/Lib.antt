@@ -1,4 +1,4 @@
--- What a reader of the public contracts believes, in reading order.
+-- The definitions that a reader of the public contracts must believe, in reading order.
 pub mod Legacy
 pub mod Unescaped
 pub mod Unescaping

@@ -1,10 +1,11 @@
-//! The elements of a legacy symbol.
+//! Reads the elements of a legacy symbol.
 ghost use Rattle.std.specs.Prelude.{◌≡◌, ◌+◌, ◌-◌, ◌*◌, ◌<◌, ◌≤◌, IfSome, IfNone, length, drop, slice_range, option_map};
 ghost use Rattle.demangle_legacy.specs.Legacy.{element_of, suffix_of};
 
 use demangle_symbol::cursor::{Looks, Part, Symbol};
 
-/// The element whose length stands at a place, if there is one.
+/// Returns the element whose length is spelled at a place. Returns `None` if there is no length, or
+/// if the element would end after the symbol.
 pub(super) fn element_at(symbol: &Symbol<'_>, at: usize, looks: &mut Looks) -> Option<Part>
     requires { at ≤ length symbol.now }
     ensures element { option_map
@@ -29,7 +30,7 @@ pub(super) fn element_at(symbol: &Symbol<'_>, at: usize, looks: &mut Looks) -> O
     })
 }
 
-/// The place behind the `E` that follows the elements, if it is there.
+/// Returns the place after the `E` that follows the elements, or `None` if there is no `E`.
 pub(super) fn end_of(symbol: &Symbol<'_>, looks: &mut Looks) -> Option<usize>
     ensures end { option_map (λ end. drop end symbol.now) result ≡ suffix_of symbol.now }
     ensures within { IfSome result (λ end. end ≤ length symbol.now) }

@@ -1,4 +1,4 @@
-//! Legacy symbols: `_ZN`, then elements behind their lengths, then `E`.
+//! Parses and prints legacy symbols: `_ZN`, then elements after their lengths, then `E`.
 #![tactic(auto)]
 
 ghost use Rattle.std.specs.Prelude.{◌≡◌, ◌+◌, ◌-◌, ◌*◌, ◌≤◌, IfOk, IfSome, IfNone, OnErr, Some, None, IsTrue, IsAscii, false, length, option_map};
@@ -15,7 +15,7 @@ mod value;
 
 pub use value::Demangle;
 
-/// What stands behind the prefix of a legacy symbol.
+/// Returns the text after the prefix of a legacy symbol, or `None` if it has no such prefix.
 #[tactic(auto, using(demangle_symbol::proofs::Prefixes::behind_answer), unfolding(crate::specs::Legacy::inner_of))]
 fn inner_of(s: &str) -> Option<&str>
     ensures inner { option_map (λ x. x.now) result ≡ inner_of s.now }
@@ -29,12 +29,12 @@ fn inner_of(s: &str) -> Option<&str>
     if let Some(inner) = s.strip_prefix("ZN") {
         return Some(inner);
     }
-    // On macOS, symbols have one underscore more.
+    // On macOS, symbols have an additional underscore.
     s.strip_prefix("__ZN")
 }
 
-/// What stands behind the prefix of a legacy symbol, where it is ASCII. It is not tested where the
-/// text is known to be ASCII.
+/// Returns the text after the prefix of a legacy symbol, if that text is ASCII. `is_ascii` says
+/// that the text is known to be ASCII. In that case it is not tested.
 fn ascii_inner_of<'s>(s: &'s str, is_ascii: bool, looks: &mut Looks) -> Option<&'s str>
     requires { IsTrue is_ascii → IsAscii s.now }
     ensures some { IfSome result (λ x. Some x.now ≡ inner_of s.now) }
@@ -58,8 +58,12 @@ fn ascii_inner_of<'s>(s: &'s str, is_ascii: bool, looks: &mut Looks) -> Option<&
     Some(inner)
 }
 
-/// Reads a legacy symbol: the symbol, and what follows its `E`. `is_ascii` says that the text is
-/// known to be ASCII.
+/// Parses a legacy symbol. Returns the symbol and the suffix after its `E`. `is_ascii` says that
+/// the text is known to be ASCII.
+///
+/// # Errors
+///
+/// Returns `Err` if the text is not a legacy symbol.
 pub fn demangle<'s>(
     s: &'s str,
     is_ascii: bool,
@@ -74,7 +78,7 @@ pub fn demangle<'s>(
     ensures least { is_ascii ≡ false →
         IfOk result (λ r. looks.old + (length s.now - 4) ≤ looks.new) }
 {
-    // A length counts bytes, so in other text an element could end within a character.
+    // A length counts bytes. In other text, an element could end within a character.
     let Some(inner) = ascii_inner_of(s, is_ascii, looks) else {
         return Err(());
     };

@@ -1,4 +1,4 @@
-//! How an element of a legacy symbol prints.
+//! Prints an element of a legacy symbol.
 ghost use Rattle.std.specs.Prelude.{◌≡◌, ◌+◌, ◌-◌, ◌*◌, ◌≤◌, ◌&&◌, not, [], ◌∷◌, IsAscii, length, slice_range};
 ghost use Rattle.demangle_symbol.specs.Digits.{is_byte};
 ghost use Rattle.demangle_sink.specs.Limit.{Prints, Ready};
@@ -9,7 +9,7 @@ use crate::units::{Unit, unit_at};
 use demangle_sink::{SinkRefused, SizeLimitedFmtAdapter, TextSink};
 use demangle_symbol::cursor::{Looks, Part, Symbol};
 
-/// Whether an element is `h` and hexadecimal digits alone.
+/// Returns `true` if an element is `h` followed only by hexadecimal digits.
 #[tactic(auto, using(crate::proofs::LegacyUnits::hash_steps))]
 fn is_hash(symbol: &Symbol<'_>, element: Part, looks: &mut Looks) -> bool
     requires { element.to ≤ length symbol.now }
@@ -27,8 +27,8 @@ fn is_hash(symbol: &Symbol<'_>, element: Part, looks: &mut Looks) -> bool
         let Some(byte) = symbol.byte(at, looks) else {
             return false;
         };
-        // Of either case, and any count of them, as in the Rust crate: rustc writes 16 in lower
-        // case.
+        // Digits of either case and any number of them are accepted, as in the Rust crate. rustc
+        // writes 16 lower case digits.
         if !byte.is_ascii_hexdigit() {
             return false;
         }
@@ -36,7 +36,8 @@ fn is_hash(symbol: &Symbol<'_>, element: Part, looks: &mut Looks) -> bool
     true
 }
 
-/// Whether an element is left out: where the form has no hash, a last one that is a hash.
+/// Returns `true` if an element is omitted: the form has no hash, and the element is the last one
+/// and is a hash.
 pub(super) fn is_left_out(
     symbol: &Symbol<'_>,
     element: Part,
@@ -52,7 +53,7 @@ pub(super) fn is_left_out(
     !include_hash && symbol.is_at(b'E', element.to, looks) && is_hash(symbol, element, looks)
 }
 
-/// Prints a unit of these bytes.
+/// Puts the text of the unit that these bytes spell.
 fn put_unit<S: TextSink>(
     symbol: &Symbol<'_>,
     unit: Unit,
@@ -73,7 +74,7 @@ fn put_unit<S: TextSink>(
     }
 }
 
-/// Where the units of an element begin: a `_` before a `$` is left out.
+/// Returns the place of the first unit of an element. A `_` before a `$` is omitted.
 fn first_unit(symbol: &Symbol<'_>, element: Part, looks: &mut Looks) -> usize
     requires order { element.from ≤ element.to }
     requires inside { element.to ≤ length symbol.now }
@@ -83,8 +84,7 @@ fn first_unit(symbol: &Symbol<'_>, element: Part, looks: &mut Looks) -> usize
     ensures grows { looks.old ≤ looks.new }
     ensures most { looks.new ≤ looks.old + 2 }
 {
-    // rustc sets a `_` before an element that would begin with an escape, which is no beginning of
-    // an identifier.
+    // An identifier cannot start with an escape. rustc puts a `_` before an element that would.
     if element.to - element.from >= 2
         && symbol.is_at(b'_', element.from, looks)
         && symbol.is_at(b'$', element.from + 1, looks)
@@ -95,7 +95,7 @@ fn first_unit(symbol: &Symbol<'_>, element: Part, looks: &mut Looks) -> usize
     }
 }
 
-/// Prints an element.
+/// Puts an element, with one piece for each unit.
 pub(super) fn put_element<S: TextSink>(
     symbol: &Symbol<'_>,
     element: Part,
@@ -113,7 +113,8 @@ pub(super) fn put_element<S: TextSink>(
 {
     let mut at = first_unit(symbol, element, looks);
     while at < element.to {
-        // From an escape that is none the rest of the element stands as it is, later escapes too.
+        // After an invalid escape, the rest of the element is printed unchanged, with its later
+        // escapes.
         let Some((unit, next)) = unit_at(symbol, at, element.to, looks) else {
             break;
         };

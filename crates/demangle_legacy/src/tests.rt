@@ -1,9 +1,9 @@
-//! Known symbols.
+//! Tests of known symbols.
 use crate::demangle;
 use demangle_sink::{ArraySink, SizeLimitedFmtAdapter};
 use demangle_symbol::cursor::Looks;
 
-/// Whether a text is read as a symbol that prints so, and leaves this suffix.
+/// Returns `true` if a text parses as a symbol, prints as `text` and leaves this suffix.
 fn prints(symbol: &str, include_hash: bool, text: &str, suffix: &str) -> bool {
     let mut looks = Looks::new();
     let Ok((read, left)) = demangle(symbol, false, &mut looks) else {

@@ -1,21 +1,21 @@
-//! The units that a legacy element is made of.
+//! Reads the units of a legacy element.
 ghost use Rattle.std.specs.Prelude.{◌≡◌, ◌≢◌, ◌+◌, ◌-◌, ◌*◌, ◌<◌, ◌≤◌, [], ◌∷◌, IfSome, MatchOption, true, false, length, slice_index, slice_range, option_map, position, encode_utf8};
 ghost use Rattle.demangle_legacy.specs.Unescaped.{escape_of, escape_of_code, escape_of_digits, is_dollar, is_lower_hex, is_special, lower_hex, leading_unit};
 ghost use Rattle.demangle_legacy.specs.Units.{text_of_unit};
 
 use demangle_symbol::cursor::{Looks, Part, Symbol};
 
-/// What a unit prints.
+/// The text that a unit prints.
 #[derive(Clone, Copy)]
 pub(super) enum Unit {
     /// `::`
     Separator,
     Char(char),
-    /// Its bytes as they stand.
+    /// The bytes of the unit, unchanged.
     Run,
 }
 
-/// The first `$` of a part.
+/// Returns the place of the first `$` of a part.
 #[tactic(auto, using(demangle_symbol::proofs::Ranges::place_steps))]
 fn dollar_in(symbol: &Symbol<'_>, part: Part, looks: &mut Looks) -> Option<usize>
     requires { part.to ≤ length symbol.now }
@@ -37,7 +37,7 @@ fn dollar_in(symbol: &Symbol<'_>, part: Part, looks: &mut Looks) -> Option<usize
     None
 }
 
-/// The first `$` or `.` of a part.
+/// Returns the place of the first `$` or `.` of a part.
 #[tactic(auto, using(demangle_symbol::proofs::Ranges::place_steps))]
 fn special_in(symbol: &Symbol<'_>, part: Part, looks: &mut Looks) -> Option<usize>
     requires { part.to ≤ length symbol.now }
@@ -59,7 +59,7 @@ fn special_in(symbol: &Symbol<'_>, part: Part, looks: &mut Looks) -> Option<usiz
     None
 }
 
-/// The value of a lower case hexadecimal digit, or `None` at any other byte.
+/// Returns the value of a lower case hexadecimal digit, or `None` for any other byte.
 fn lower_hex_of(byte: u8) -> Option<u8>
     ensures { MatchOption result (is_lower_hex byte ≡ false)
         (λ d. (is_lower_hex byte ≡ true) × (d ≡ lower_hex byte) × (d < 16)) }
@@ -71,18 +71,18 @@ fn lower_hex_of(byte: u8) -> Option<u8>
     }
 }
 
-/// The character of a code, if it may be escaped.
+/// Returns the character of a code, or `None` if the code may not be escaped.
 fn escaped_code(code: u32) -> Option<char>
     ensures { option_map encode_utf8 result ≡ escape_of_code code }
 {
     match char::from_u32(code) {
-        // The Rust crate leaves the escape of a control character as it is spelled.
+        // The Rust crate prints the escape of a control character unchanged.
         Some(c) if !c.is_control() => Some(c),
         _ => None,
     }
 }
 
-/// The character that `u` and these digits escape.
+/// Returns the character that `u` and these digits escape.
 #[tactic(auto, using(crate::proofs::LegacyUnits::digit_steps))]
 fn escaped_char(symbol: &Symbol<'_>, digits: Part, looks: &mut Looks) -> Option<char>
     requires { digits.to ≤ length symbol.now }
@@ -98,7 +98,7 @@ fn escaped_char(symbol: &Symbol<'_>, digits: Part, looks: &mut Looks) -> Option<
     for at in digits.from..digits.to {
         let digit = lower_hex_of(symbol.byte(at, looks)?)?;
         code = code * 16 + u32::from(digit);
-        // Tested at each digit, so that no count of digits overflows.
+        // The test at each digit prevents an overflow for any number of digits.
         if code > 0x10_ffff {
             return None;
         }
@@ -106,7 +106,7 @@ fn escaped_char(symbol: &Symbol<'_>, digits: Part, looks: &mut Looks) -> Option<
     escaped_code(code)
 }
 
-/// What two letters between `$` give.
+/// Returns the character for two letters between `$`, if they are an escape.
 #[tactic(auto, unfolding(crate::specs::Unescaped::escape_of))]
 fn letters(first: u8, second: u8) -> Option<char>
     requires { first ≢ 117 }
@@ -124,7 +124,7 @@ fn letters(first: u8, second: u8) -> Option<char>
     }
 }
 
-/// What a name between `$` gives.
+/// Returns the character for a name between `$`, if it is an escape.
 #[tactic(auto, using(crate::proofs::LegacyUnits::name_steps))]
 fn escape_in(symbol: &Symbol<'_>, name: Part, looks: &mut Looks) -> Option<char>
     requires { name.to ≤ length symbol.now }
@@ -153,7 +153,8 @@ fn escape_in(symbol: &Symbol<'_>, name: Part, looks: &mut Looks) -> Option<char>
     }
 }
 
-/// The unit at a place of an element that ends at `to`, and the place behind the unit.
+/// Returns the unit at a place of an element that ends at `to`, and the place after the unit.
+/// Returns `None` if no unit starts there.
 pub(super) fn unit_at(
     symbol: &Symbol<'_>,
     at: usize,

@@ -1,4 +1,4 @@
-//! A legacy symbol, and how it prints.
+//! The value of a parsed legacy symbol.
 ghost use Rattle.std.specs.Prelude.{◌≡◌, ◌+◌, ◌*◌, ◌≤◌, IsAscii, IsSome, length};
 ghost use Rattle.demangle_legacy.specs.Legacy.{elements_of, suffix_of};
 ghost use Rattle.demangle_sink.specs.Limit.{Prints, Ready};
@@ -10,7 +10,7 @@ use demangle_sink::{SinkRefused, SizeLimitedFmtAdapter, TextSink};
 use demangle_symbol::cursor::{Looks, Symbol};
 use std::marker::Model;
 
-/// A legacy symbol that was read.
+/// A legacy symbol that was parsed.
 #[derive(Drop)]
 pub struct Demangle<'s> {
     inner: Symbol<'s>,
@@ -24,7 +24,7 @@ impl<'s> Model for Demangle<'s> {
 
     ghost view = { λ s. s.inner };
 
-    // Its elements are there, up to their `E`.
+    // The symbol has all its elements and the `E` after them.
     ghost invariant = { λ s. IsAscii s.inner × IsSome (suffix_of s.inner) };
 }
 
@@ -37,7 +37,11 @@ impl<'s> Demangle<'s> {
         Demangle { inner }
     }
 
-    /// Prints the elements with `::` between, with the hash or without it.
+    /// Puts the elements with `::` between them. The hash is omitted unless `include_hash` is set.
+    ///
+    /// # Errors
+    ///
+    /// Returns `SinkRefused` if the sink or the size limit rejects a piece. No later piece is sent.
     pub fn write_to<S: TextSink>(
         &self,
         out: &mut SizeLimitedFmtAdapter<'_, S>,

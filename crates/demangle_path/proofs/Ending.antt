@@ -1,4 +1,4 @@
--- A 0 behind a text in memory.
+-- A 0 after a text in memory.
 use Rattle.std.proofs.Common.{◌≡◌, ℕ, suc, ◌+◌, ◌-◌, ◌<◌, ◌≤◌, List, [], ◌∷◌, ◌++◌, length, take, drop, sym, ap, ◌∙◌, arith, inl, inr, slice_set}
 use Prim.Native.Nat.{min}
 use Rattle.std.proofs.lemmas.List.{append-nil, append_assoc, take_all, take-take, take_at, drop_at, drop-drop, drop_all, set_split, length-append, length-take, length-drop}
@@ -7,11 +7,11 @@ use Rattle.std.proofs.lemmas.Bool.Decides.{leb_tells}
 use Rattle.rustc_demangle.specs.Slice.{overlay, overlay_from, Laid}
 use Rattle.demangle_path.specs.Naming.{c_string}
 
--- a text that is no longer than the memory stands in it whole
+-- a text that is not longer than the memory is completely in it
 overlay-within : (memory text : List ℕ) → length text ≤ length memory → overlay memory text ≡ text ++ drop (length text) memory
 overlay-within memory text h = ap (λ xs. xs ++ drop (length text) memory) (take_all (length memory) text h)
 
--- of another one, its beginning
+-- if the text is longer, the memory has a prefix of it
 overlay-past : (memory text : List ℕ) → length memory ≤ length text → overlay memory text ≡ take (length memory) text
 overlay-past memory text h = ap (λ xs. take (length memory) text ++ xs) (drop_all (length text) memory h) ∙ append-nil (take (length memory) text)
 
@@ -22,7 +22,7 @@ pub length-overlay : (memory text : List ℕ) → length (overlay memory text) �
 length-overlay memory text =
     omega (arith, length-append (take (length memory) text) (drop (length text) memory), length-take (length memory) text, length-drop (length text) memory)
 
--- a 0 behind a text that stands in memory, or at the memory's last byte, makes it a C string
+-- a 0 after a text in memory, or at the memory's last byte, makes it a C string
 pub ended : (memory text : List ℕ) (end : ℕ) → 0 < length memory → end ≡ min (length text) (length memory - 1)
     → slice_set (overlay memory text) end 0 ≡ overlay memory (c_string (length memory) text)
 ended memory text end some is = elim (leb_tells (length memory) (length text)) [
@@ -54,14 +54,14 @@ ended memory text end some is = elim (leb_tells (length memory) (length text)) [
       ∙ ap (overlay memory) (sym as_is)
 ]
 
--- what a sink laid that began at a place of a text, before which it had nothing
+-- the bytes that a sink wrote which had taken nothing, for a text from a start
 pub laid_part : (start : ℕ) (memory text new : List ℕ) (len : ℕ) → Laid start memory 0 text new len → new ≡ overlay memory (drop start text)
 laid_part start memory text new len laid =
     let front : 0 - start ≡ 0 = omega arith in
     let whole : start - 0 ≡ start = omega arith in
     laid.kept ∙ ap (λ n. overlay_from n memory (drop (start - 0) text)) front ∙ ap (λ n. overlay memory (drop n text)) whole
 
--- no memory has no room
+-- an empty memory has no room
 pub overlay-empty : (memory xs ys : List ℕ) → length memory ≡ 0 → overlay memory xs ≡ overlay memory ys
 overlay-empty memory xs ys e =
     overlay-past memory xs (omega (arith, e)) ∙ ap (λ n. take n xs) e ∙ sym (ap (λ n. take n ys) e) ∙ sym (overlay-past memory ys (omega (arith, e)))

@@ -1,5 +1,5 @@
-//! The path that a symbol's bytes name, as a C string in the caller's memory: what the calls for C
-//! and those for pages have in common.
+//! Writes the path of a symbol as a C string to the caller's memory. The calls for C and those for
+//! web pages share this code.
 #![tactic(auto)]
 
 ghost use Rattle.std.specs.Prelude.{◌≡◌, ◌+◌, ◌<◌, ◌≤◌, ℕ, List, length, drop, OnSome, IfSome, IfNone};
@@ -15,10 +15,10 @@ ghost use Rattle.demangle_path.specs.Naming.{NamesRust, path_within, c_string};
 use rustc_demangle::sink::SliceSink;
 use rustc_demangle::{Demangle, demangle_slice, try_demangle};
 
-/// The most bytes that are printed of a symbol, before the marker and the suffix.
+/// The most bytes that are printed for a symbol, without the marker and the suffix.
 pub const MAX_SIZE: usize = 1_000_000;
 
-/// The text that the bytes are: none where they are not UTF-8, and so no symbol.
+/// Returns the bytes as text, or `None` if they are not UTF-8. In that case they are not a symbol.
 #[tactic(auto, using(rustc_demangle::proofs::SymbolLaws::symbols_utf8))]
 pub fn text_of(bytes: &[u8]) -> Option<&str>
     ensures text { IfSome result (λ text. text.now ≡ bytes.now) }
@@ -30,8 +30,8 @@ pub fn text_of(bytes: &[u8]) -> Option<&str>
     Some(text)
 }
 
-/// The symbol that the bytes are, in the legacy scheme or in v0 (Rust RFC 2603), once an ending of
-/// ThinLTO is taken off: none where they are no symbol.
+/// Returns the symbol that the bytes are, after a suffix of ThinLTO is removed, or `None` if they
+/// are not a symbol. A symbol may be legacy or v0 (Rust RFC 2603).
 pub fn symbol_of(bytes: &[u8]) -> Option<Demangle<'_>>
     ensures symbol { OnSome result (NamesRust bytes.now) }
     ensures text { IfSome result (λ d. d ≡ stripped bytes.now) }
@@ -40,8 +40,8 @@ pub fn symbol_of(bytes: &[u8]) -> Option<Demangle<'_>>
     try_demangle(text_of(bytes)?).ok()
 }
 
-/// Writes the path's bytes from `start` on into memory, as much as there is room for, and counts all
-/// bytes of the path.
+/// Writes a path from its byte `start` to memory, as far as the memory reaches. Returns the number
+/// of bytes of the whole path.
 #[tactic(auto, using(crate::proofs::Ending::laid_part))]
 fn write_path(
     symbol: &Demangle<'_>,
@@ -62,8 +62,8 @@ fn write_path(
     }
 }
 
-/// Puts a 0 behind a text of this many bytes that was laid into memory, or at the memory's last
-/// byte; memory of size 0 stays as it was.
+/// Writes a 0 after a text of this length at the start of the memory, or to the last byte if the
+/// text fills the memory. Memory of size 0 stays unchanged.
 pub fn put_end(out: &mut [u8], len: usize)
     ensures { (memory text : List ℕ) → out.old ≡ overlay memory text → length text ≡ len →
         out.new ≡ overlay memory (c_string (length memory) text) }
@@ -74,13 +74,13 @@ pub fn put_end(out: &mut [u8], len: usize)
     }
 }
 
-/// Writes the path that a Rust symbol names into memory from its byte `start` on, with a 0 behind
-/// it, and answers how many bytes the whole path and a 0 want.
+/// Writes the path of a Rust symbol to memory, from the path's byte `start`, with a 0 after it.
+/// Returns the number of bytes of the whole path and a 0.
 ///
-/// The path is cut at `limit` bytes, and at `MAX_SIZE` at most, before `{size limit reached}` and
-/// the symbol's suffix. The answer is 0 where the bytes are no symbol; the memory is then as it was.
-/// Else the memory holds as much of the path from `start` on as fits before a 0, and no byte behind
-/// the 0 is changed. It takes no memory of its own.
+/// The path is cut at `limit` bytes, and at `MAX_SIZE` at most. `{size limit reached}` and the
+/// symbol's suffix follow a cut path. If the bytes are not a symbol, the call returns 0 and leaves
+/// the memory unchanged. Otherwise the memory receives as much of the path from `start` as fits
+/// before a 0, and no byte after the 0 is changed. The call does not allocate.
 pub fn write_part(
     symbol: &[u8],
     out: &mut [u8],
@@ -104,13 +104,13 @@ pub fn write_part(
     len + 1
 }
 
-/// Writes any bytes into memory with each Rust symbol in them replaced by its path, with a 0 behind
-/// it all, and answers how many bytes that is.
+/// Writes bytes to memory with each Rust symbol replaced by its path, and a 0 after them. Returns
+/// the number of bytes of that text and the 0.
 ///
-/// Each path is cut as by `write_part`. The answer does not depend on the size of the memory, which
-/// holds as much of the text as fits before a 0; no byte behind the 0 is changed. It is `usize::MAX`
-/// where no smaller number says it; what the memory then holds is not said. It takes no memory of
-/// its own.
+/// Each path is cut as by `write_part`. The result does not depend on the size of the memory. The
+/// memory receives as much of the text as fits before a 0, and no byte after the 0 is changed. The
+/// result is `usize::MAX` if the number is not smaller than that. The contents of the memory are
+/// then unspecified. The call does not allocate.
 pub fn write_text(text: &[u8], out: &mut [u8], include_hash: bool, limit: usize) -> usize
     ensures size { let filtered = filtered_within include_hash (min limit MAX_SIZE) text.now in
         length filtered < usize.MAX → result ≡ length filtered + 1 }

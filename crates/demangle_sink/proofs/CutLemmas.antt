@@ -1,4 +1,4 @@
--- Laws of pieces and of where a limit cuts them.
+-- Laws of pieces and of their prefix under a limit.
 use Rattle.std.proofs.Common.{◌≡◌, ℕ, ◌+◌, ◌-◌, ◌≤◌, ◌<◌, List, [], ◌∷◌, ◌++◌, length, true, refl, sym, ap, ◌∙◌, arith, leb, inl, inr}
 use Rattle.std.proofs.lemmas.List.{append-nil}
 use Rattle.std.proofs.lemmas.Bool.{le-leb}
@@ -36,7 +36,7 @@ fitting-within (x ∷ xs) l = elim (leb_tells (length x) l) [
   | inr e ↦ rw e.0 (omega arith)
 ]
 
--- what fits of a list begins what fits of a longer one
+-- the prefix within a limit of a list is a prefix of that of a longer list
 pub fitting-more : (xs ys : List (List ℕ)) (l : ℕ) → (zs : List (List ℕ)) × (front_within (xs ++ ys) l ≡ front_within xs l ++ zs)
 fitting-more xs ys l = elim (leb_tells (size xs) l) [
   | inl e ↦ (front_within ys (l - size xs), fitting-append xs ys l e.1 ∙ ap (λ zs. zs ++ front_within ys (l - size xs)) (sym (fitting-all xs l e.1)))

@@ -1,10 +1,10 @@
--- The bytes of a filling up to their first line feed.
+-- The bytes of a chunk up to the first line feed.
 use Rattle.std.proofs.Common.{◌≡◌, ◌≢◌, ℕ, ◌+◌, ◌<◌, List, [], ◌∷◌, ◌++◌, All, get_or, length, take, drop, sym, ap, ◌∙◌, append-nil}
 use Rattle.std.proofs.lemmas.List.{take-append-drop, take_more, drop_more}
 use Rattle.std.proofs.BufReadLemmas.{take_through-append}
 use Rattle.std.specs.Io.BufRead.{take_through}
 
--- bytes with no line feed are taken whole
+-- bytes without a line feed are all taken
 pub take_through-none : (xs : List ℕ) → All (λ x. x ≢ 10) xs → take_through 10 xs ≡ xs
 take_through-none xs h = ap (take_through 10) (sym (append-nil xs)) ∙ (take_through-append 10 xs [] h ∙ append-nil xs)
 

@@ -1,4 +1,4 @@
--- One piece handed to a sink, and one list of pieces after another.
+-- One piece that is put into a sink, and lists of pieces in sequence.
 use Rattle.std.proofs.Common.{◌≡◌, ℕ, ◌+◌, List, [], ◌∷◌, ◌++◌, length, Option, None, Some, true, false, Result, Ok, Err, IsOk, IsErr, OnOk, OnErr, refl, sym, ap, ◌∙◌, subst, arith}
 use Rattle.std.specs.List.{concat, FoldsTo}
 use Rattle.std.proofs.lemmas.List.{append_assoc, append-nil}
@@ -34,7 +34,7 @@ folds-append : {S : Type 0} (took : S → List ℕ → S → Type 0) (xs ys : Li
 folds-append took [] ys s t u h k = subst (λ v. FoldsTo took v ys u) (sym h) k
 folds-append took (x ∷ xs) ys s t u h k = (h.0, h.1, folds-append took xs ys h.0 t u h.2 k)
 
--- steps over the pieces take their bytes together
+-- steps over the pieces take their joined bytes
 pub folds-took : {S : Type 0} (took : S → List ℕ → S → Type 0)
     → ((s : S) → took s [] s)
     → ((s t u : S) (ps qs : List ℕ) → took s ps t → took t qs u → took s (ps ++ qs) u)
@@ -49,7 +49,7 @@ hands_nothing sink s alive = record {
   fits = λ _. record { alive = alive; room = sym (room-nothing (sink.room s)) };
 }
 
--- by what `put` promises
+-- by the contract of `put`
 pub hands_put : {S : Type 0} (sink : Ghosts S) (old : S) (s : List ℕ) (result : Result (Unit {0}) SinkRefused) (new : S)
     → OnOk result (sink.took old s new)
     → OnOk result (sink.failed new ≡ false)
@@ -84,7 +84,7 @@ hands_put sink old s (Err u) new taken alive failed kept fits = record {
       absurd (false≢true (fits g).0);
 }
 
--- where the first list was taken, the second goes on behind it
+-- if the first list was taken, the second follows it
 pub hands_then : {S : Type 0} (sink : Ghosts S) (old mid new : S) (xs ys : List (List ℕ)) (r result : Result (Unit {0}) SinkRefused)
     → Hands sink old xs r mid → IsOk r
     → Hands sink mid ys result new
@@ -113,7 +113,7 @@ hands_then sink old mid new xs ys r result first ok second = record {
       record { alive = two.alive; room = two.room ∙ (ap (room_after (size ys)) one.room ∙ (room-both (size xs) (size ys) room ∙ ap (λ n. room_after n room) (sym (size-append xs ys)))) };
 }
 
--- where the sink refused a piece of the first list, it is handed nothing of the second
+-- if the sink rejected a piece of the first list, it gets no piece of the second
 pub hands_stop : {S : Type 0} (sink : Ghosts S) (old new : S) (xs ys : List (List ℕ)) (r result : Result (Unit {0}) SinkRefused)
     → Hands sink old xs r new → IsErr r → IsErr result
     → Hands sink old (xs ++ ys) result new
@@ -139,7 +139,7 @@ hands_stop sink old new xs ys r (Err u) p err err' = record {
       absurd (true≢false (sym (p.refused err).failed ∙ one.alive));
 }
 
--- an Ok says that the bytes were taken
+-- an `Ok` says that the bytes were taken
 pub hands_text : {S : Type 0} (sink : Ghosts S) (old new : S) (list : List (List ℕ)) (result : Result (Unit {0}) SinkRefused)
     → ((s : S) → sink.took s [] s)
     → ((s t u : S) (ps qs : List ℕ) → sink.took s ps t → sink.took t qs u → sink.took s (ps ++ qs) u)
@@ -152,13 +152,13 @@ pub hands_refused : {S : Type 0} (sink : Ghosts S) (old new : S) (list : List (L
 hands_refused sink old new list (Ok u) h = tt
 hands_refused sink old new list (Err e) h = h.refused refl
 
--- what is within the room is taken
+-- a list within the room is taken
 pub hands_fits : {S : Type 0} (sink : Ghosts S) (old new : S) (list : List (List ℕ)) (result : Result (Unit {0}) SinkRefused)
     → Hands sink old list result new → IsWithin (size list) (sink.room old) → IsOk result
 hands_fits sink old new list (Ok u) h f = refl
 hands_fits sink old new list (Err e) h f = absurd (true≢false (sym (h.refused refl).failed ∙ (h.fits f).alive))
 
--- after an Err a sink that keeps holds a beginning
+-- after an `Err`, a sink that keeps has taken a prefix
 pub hands_kept : {S : Type 0} (sink : Ghosts S) (old new : S) (list : List (List ℕ)) (result : Result (Unit {0}) SinkRefused)
     → ((s : S) → sink.took s [] s)
     → ((s t u : S) (ps qs : List ℕ) → sink.took s ps t → sink.took t qs u → sink.took s (ps ++ qs) u)

@@ -1,4 +1,4 @@
--- Pieces that are printed one after another, and those that are left.
+-- The printing of pieces in sequence: the printed ones, and the rest.
 use Rattle.std.proofs.Common.{◌≡◌, ℕ, List, [], ◌++◌, Result, Ok, Err, IsErr, refl, sym, ap, ◌∙◌, subst, append_assoc}
 use Rattle.std.proofs.lemmas.List.{append-nil}
 use Rattle.demangle_sink.specs.declared.TextSink.{Ghosts}
@@ -27,7 +27,7 @@ module _ {S : Type 0} (sink : Ghosts S) where
     is = append_assoc p.front xs rest ∙ ap (λ t. p.front ++ t) (sym e) ∙ p.is;
   }
 
-  -- they were refused: the rest is not printed
+  -- the next pieces were rejected, so the rest is not printed
   pub printed_stop : (old mid new : SizeLimitedFmtAdapter S) (whole left xs rest : List (List ℕ)) (e : SinkRefused) (result : Result (Unit {0}) SinkRefused) → Printed sink old whole left mid → left ≡ xs ++ rest → Prints sink mid xs (Err e) new → IsErr result → Prints sink old whole result new
   printed_stop old mid new whole left xs rest e result p is more err =
       let joined : p.front ++ (xs ++ rest) ≡ whole = ap (λ t. p.front ++ t) (sym is) ∙ p.is in

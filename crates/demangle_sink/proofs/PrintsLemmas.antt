@@ -1,4 +1,4 @@
--- One piece printed under a limit, and one list of pieces after another.
+-- One piece printed under a limit, and lists of pieces in sequence.
 use Rattle.std.proofs.Common.{◌≡◌, ℕ, ◌-◌, ◌≤◌, ◌<◌, List, [], ◌∷◌, ◌++◌, length, Bool, true, false, Result, Ok, Err, IsOk, IsErr, refl, sym, ap, ◌∙◌, arith, inl, inr}
 use Rattle.std.proofs.lemmas.Bool.{false≢true, true≢false, le-leb}
 use Rattle.std.proofs.lemmas.Bool.Decides.{leb_tells}
@@ -11,7 +11,7 @@ use Rattle.demangle_sink.specs.Limit.{Ready, Prints, sink_result}
 use Rattle.demangle_sink.proofs.CutLemmas.{size-append, fitting-all, fitting-append, fitting-stop, fitting-more, fitting-none}
 use Rattle.demangle_sink.proofs.HandsLemmas.{hands_nothing, hands_then, hands_stop}
 
--- a piece within the limit is the sink's matter
+-- for a piece within the limit, the sink determines the result
 pub prints_put : {S : Type 0} (sink : Ghosts S) (old : SizeLimitedFmtAdapter S) (s : List ℕ) (result : Result (Unit {0}) SinkRefused) (new : SizeLimitedFmtAdapter S)
     → new.out.ghost_name ≡ old.out.ghost_name
     → length s ≤ old.remaining
@@ -30,7 +30,7 @@ prints_put sink old s result new same h left here hands =
       hands = rw (fit, here) hands;
     }
 
--- a piece past the limit is not handed on
+-- a piece that exceeds the limit is not passed to the sink
 pub prints_over : {S : Type 0} (sink : Ghosts S) (old : SizeLimitedFmtAdapter S) (s : List ℕ) (result : Result (Unit {0}) SinkRefused) (new : SizeLimitedFmtAdapter S)
     → new.out ≡ old.out
     → old.remaining < length s
@@ -68,7 +68,7 @@ prints_nothing sink out h = record {
   hands = rw h.fresh (hands_nothing sink out.out.now h.alive);
 }
 
--- where the first list was taken, the second goes on behind it
+-- if the first list was taken, the second follows it
 pub prints_then : {S : Type 0} (sink : Ghosts S) (old mid new : SizeLimitedFmtAdapter S) (xs ys : List (List ℕ)) (r result : Result (Unit {0}) SinkRefused)
     → Prints sink old xs r mid → IsOk r
     → Prints sink mid ys result new
@@ -88,7 +88,7 @@ prints_then sink old mid new xs ys r result first ok second =
       hands = rw fit (hands_then sink _ _ _ xs _ r _ h' ok second.hands);
     }
 
--- where the first list was not taken as a whole, nothing of the second is
+-- if the first list was not completely taken, nothing of the second is
 pub prints_stop : {S : Type 0} (sink : Ghosts S) (old new : SizeLimitedFmtAdapter S) (xs ys : List (List ℕ)) (r result : Result (Unit {0}) SinkRefused)
     → Prints sink old xs r new → IsErr r → IsErr result
     → Prints sink old (xs ++ ys) result new
@@ -116,7 +116,7 @@ cut-past xs l h = elim (leb_tells (size xs) l) [ inl e ↦ let le : size xs ≤ 
 pub cut-within : (xs : List (List ℕ)) (l : ℕ) → size xs ≤ l → cut xs l ≡ xs
 cut-within xs l h = rw (le-leb _ _ h) refl
 
--- where the limit was reached, the marker goes on behind
+-- if the limit was reached, the marker follows
 pub prints_cut_over : {S : Type 0} (sink : Ghosts S) (old new : SizeLimitedFmtAdapter S) (start mid after : S) (limit : ℕ) (xs : List (List ℕ)) (r result : Result (Unit {0}) SinkRefused)
     → old.out.now ≡ start → old.remaining ≡ limit
     → Prints sink old xs r new → new.is_over ≡ true → mid ≡ new.out.now
@@ -128,7 +128,7 @@ prints_cut_over sink old new start mid after limit xs r result at lim p over sam
     let h' : Hands sink start (front_within xs limit) (Ok tt) mid = rw (same, ← at, ← lim) h in
     rw (cut-past xs limit past) (hands_then sink _ _ _ _ _ (Ok tt) _ h' refl hands)
 
--- where it was not reached, nothing does
+-- if it was not reached, nothing follows
 pub prints_cut_all : {S : Type 0} (sink : Ghosts S) (old new : SizeLimitedFmtAdapter S) (start after : S) (limit : ℕ) (xs : List (List ℕ)) (r : Result (Unit {0}) SinkRefused)
     → old.out.now ≡ start → old.remaining ≡ limit
     → Prints sink old xs r new → new.is_over ≡ false → after ≡ new.out.now

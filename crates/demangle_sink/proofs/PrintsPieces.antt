@@ -12,7 +12,7 @@ pub piece_then : {S : Type 0} (sink : Ghosts S) (old mid new : SizeLimitedFmtAda
     → Prints sink old (x ∷ ys) result new
 piece_then sink old mid new x ys r result p ok q = prints_then sink old mid new (x ∷ []) ys r result p ok q
 
--- the piece in front of a list was not taken
+-- the first piece of a list was not taken
 pub piece_stop : {S : Type 0} (sink : Ghosts S) (old new : SizeLimitedFmtAdapter S) (x : List ℕ) (ys : List (List ℕ)) (r result : Result (Unit {0}) SinkRefused)
     → Prints sink old (x ∷ []) r new → IsErr r → IsErr result
     → Prints sink old (x ∷ ys) result new

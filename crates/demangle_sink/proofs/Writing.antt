@@ -1,4 +1,4 @@
--- What a printer that hands pieces to a sink promises its caller.
+-- The promise of a printer that puts pieces into a sink.
 use Rattle.std.proofs.Common.{◌≡◌, ℕ, List, [], ◌++◌, Result, false, Ok, Err, OnOk, refl}
 use Rattle.demangle_sink.specs.declared.TextSink.{Ghosts}
 use Rattle.demangle_sink.specs.declared.SinkRefused.{SinkRefused}
@@ -6,7 +6,7 @@ use Rattle.demangle_sink.specs.Hands.{Hands}
 use Rattle.demangle_sink.specs.Writes.{Writes}
 use Rattle.demangle_sink.proofs.HandsLemmas.{hands_text, hands_failed, hands_kept, hands_fits}
 
--- an Ok leaves the sink as one that has not failed
+-- after an `Ok`, the sink has not failed
 hands_alive : {S : Type 0} (sink : Ghosts S) (old new : S) (list : List (List ℕ)) (result : Result (Unit {0}) SinkRefused)
     → Hands sink old list result new → OnOk result (sink.failed new ≡ false)
 hands_alive sink old new list (Ok u) h = (h.all refl).alive

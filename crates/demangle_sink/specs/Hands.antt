@@ -1,4 +1,4 @@
--- What handing a list of pieces to a sink does.
+-- The effect of putting a list of pieces into a sink.
 use Rattle.std.specs.Prelude.{◌≡◌, ℕ, List, [], ◌∷◌, ◌++◌, length, true, false, Result, IsOk, IsErr}
 use Rattle.std.specs.List.{FoldsTo, concat}
 use Rattle.demangle_sink.specs.declared.TextSink.{Ghosts}
@@ -11,7 +11,7 @@ pub record Taken {S : Type 0} (sink : Ghosts S) (old : S) (list : List (List ℕ
   pub took : FoldsTo sink.took old list new
   pub alive : sink.failed new ≡ false
 
--- the sink took a beginning of the list, and the piece behind that is longer than the room then left
+-- the sink took a prefix of the list, and the next piece is longer than the room that was then left
 pub record StoppedWithin {S : Type 0} (sink : Ghosts S) (old : S) (list : List (List ℕ)) (new : S) : Type 0 where
   pub front : List (List ℕ)
   pub next : List ℕ
@@ -22,23 +22,23 @@ pub record StoppedWithin {S : Type 0} (sink : Ghosts S) (old : S) (list : List (
   pub kept : sink.took at [] new
   pub longer : IsWithin (length next) (sink.room new) → ⊥
 
--- the sink failed over the list; one that keeps took the pieces before the refused one
+-- the sink failed within the list; if it keeps, it took exactly the pieces before the rejected one
 pub record Refused {S : Type 0} (sink : Ghosts S) (old : S) (list : List (List ℕ)) (new : S) : Type 0 where
   pub failed : sink.failed new ≡ true
   pub kept : sink.keeps ≡ true → StoppedWithin sink old list new
 
--- the list is within the sink's room: then it has not failed, and its room fell by the list's bytes
+-- the list is within the sink's room, so the sink has not failed and its room fell by the bytes of the list
 pub record FitsRoom {S : Type 0} (sink : Ghosts S) (old : S) (list : List (List ℕ)) (new : S) : Type 0 where
   pub alive : sink.failed new ≡ false
   pub room : sink.room new ≡ room_after (size list) (sink.room old)
 
--- the list was handed to the sink in order, up to a refusal
+-- the list was put into the sink in order, up to a rejected piece
 pub record Hands {S : Type 0} (sink : Ghosts S) (old : S) (list : List (List ℕ)) (result : Result (Unit {0}) SinkRefused) (new : S) : Type 0 where
   pub all : IsOk result → Taken sink old list new
   pub refused : IsErr result → Refused sink old list new
   pub fits : IsWithin (size list) (sink.room old) → FitsRoom sink old list new
 
--- the sink's text grew by a beginning of the list, and the piece behind that is longer than the room then left
+-- the sink took the text of a prefix of the list, and the next piece is longer than the room that was then left
 pub record HoldsFront {S : Type 0} (sink : Ghosts S) (old : S) (list : List (List ℕ)) (new : S) : Type 0 where
   pub front : List (List ℕ)
   pub next : List ℕ

@@ -3,6 +3,6 @@
 use Rattle.std.specs.Prelude.{ℕ, List, map}
 use Rattle.std.specs.Borrow.{Bor}
 
--- the texts behind a slice of references
+-- the texts of a slice of references
 abbrev pub texts : List (Bor (List ℕ)) → List (List ℕ)
 texts pieces = map (λ piece. piece.now) pieces

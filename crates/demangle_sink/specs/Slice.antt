@@ -1,19 +1,19 @@
--- Memory that a text is laid into, and what a sink into it took.
+-- The bytes of a slice after a text was written to it, and the effect of a sink on the slice.
 use Rattle.std.specs.Prelude.{◌≡◌, ℕ, ◌+◌, ◌-◌, List, [], ◌∷◌, ◌++◌, length, take, drop, refl}
 use Rattle.std.proofs.Common.{zero, suc, sym, ap, ◌∙◌, arith}
 use Rattle.std.proofs.lemmas.List.{take-append-drop, drop_all, length-append, length-drop}
 
--- the memory with the text at its beginning, as far as it reaches, and behind it as it was
+-- the memory with the text written to its start, as far as it reaches; bytes after the text are unchanged
 abbrev pub overlay : List ℕ → List ℕ → List ℕ
 overlay memory text = take (length memory) text ++ drop (length text) memory
 
--- the same from a place on; what stands before the place is as it was
+-- the same from a place; bytes before the place are unchanged
 abbrev pub overlay_from : ℕ → List ℕ → List ℕ → List ℕ
 overlay_from place memory text = take place memory ++ overlay (drop place memory) text
 
--- A text of which the memory has the part from a start on took these bytes: those of them that
--- stand before the start were left out, the others were laid behind the part that there was, as far
--- as the memory reaches, and the text is longer by all of them.
+-- A sink took these bytes of a text, and `new` has the part of the text from byte `start`. Bytes before `start` were
+-- left out. The others were written after the part that was there, as far as the memory reaches. The length of the text
+-- rose by the number of all the bytes.
 pub record Laid (start : ℕ) (old : List ℕ) (old_len : ℕ) (bytes : List ℕ) (new : List ℕ) (new_len : ℕ) : Type 0 where
   pub counted : new_len ≡ old_len + length bytes
   pub kept : new ≡ overlay_from (old_len - start) old (drop (start - old_len) bytes)
@@ -21,12 +21,12 @@ pub record Laid (start : ℕ) (old : List ℕ) (old_len : ℕ) (bytes : List ℕ
 abbrev nothing : List ℕ
 nothing = []
 
--- no bytes change nothing
+-- writing no bytes changes nothing
 overlay-nothing : (memory : List ℕ) → overlay memory [] ≡ memory
 overlay-nothing [] = refl
 overlay-nothing (b ∷ memory) = refl
 
--- no memory has no room
+-- an empty memory has no room
 overlay-empty : (text : List ℕ) → overlay [] text ≡ []
 overlay-empty text = drop_all (length text) [] (omega arith)
 
@@ -38,7 +38,7 @@ overlay-joined memory [] ys = ap (λ m. overlay m ys) (overlay-nothing memory)
 overlay-joined [] (x ∷ xs) ys = overlay-empty ys
 overlay-joined (b ∷ memory) (x ∷ xs) ys = ap (λ zs. x ∷ zs) (overlay-joined memory xs ys)
 
--- bytes behind bytes are laid as both together
+-- writing two texts in sequence is writing both joined
 overlay_from-joined : (place end : ℕ) (memory xs ys : List ℕ) → end ≡ place + length xs
     → overlay_from end (overlay_from place memory xs) ys ≡ overlay_from place memory (xs ++ ys)
 overlay_from-joined zero end memory xs ys e = ap (λ n. overlay_from n (overlay memory xs) ys) (omega (arith, e)) ∙ overlay-joined memory xs ys

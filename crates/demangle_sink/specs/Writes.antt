@@ -1,4 +1,4 @@
--- What printing into a sink answers, and what it leaves.
+-- The result of printing into a sink, and the state of the sink afterwards.
 use Rattle.std.specs.Prelude.{◌≡◌, ℕ, List, true, false, Result, IsOk, OnOk, OnErr}
 use Rattle.std.specs.List.{concat}
 use Rattle.demangle_sink.specs.declared.TextSink.{Ghosts}
@@ -7,9 +7,9 @@ use Rattle.demangle_sink.specs.Cut.{size}
 use Rattle.demangle_sink.specs.Hands.{HoldsFront}
 use Rattle.demangle_sink.specs.Sink.{IsWithin, room_after}
 
--- The sink was handed these pieces. Ok: it took their text, and has not failed. Err: it has failed,
--- and one that keeps took those in front of the refused one. Where all of them are within its room
--- it is Ok, and the room fell by their bytes.
+-- These pieces were put into the sink. `Ok` means that it took their text and has not failed. `Err` means that it has
+-- failed; if it keeps, it took the pieces before the rejected one. If all pieces are within the sink's room, the result
+-- is `Ok` and the room fell by their bytes.
 pub record Writes {S : Type 0} (sink : Ghosts S) (old : S) (list : List (List ℕ))
     (result : Result (Unit {0}) SinkRefused) (new : S) : Type 0 where
   pub text : OnOk result (sink.took old (concat list) new)

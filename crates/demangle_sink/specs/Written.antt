@@ -1,5 +1,5 @@
 -- Internal: no public contract cites this.
--- What was written to a formatter.
+-- The text that was written to a formatter.
 use Rattle.std.specs.Prelude.{ℕ, List, [], ◌∷◌, ◌++◌, refl}
 use Rattle.std.specs.Fmt.{HasWrittenStyled, IsFlush}
 use Rattle.std.specs.List.{FoldsTo}
@@ -7,7 +7,7 @@ use Rattle.std.specs.declared.fmt.Formatter.{Formatter}
 use Rattle.std.proofs.Common.{◌∙◌, sym, subst}
 use Rattle.std.proofs.lemmas.List.Folds.{concat-append}
 
--- g is f after writing the bytes; it says nothing within an indented part of a `{:#?}`
+-- g is f after the bytes were written; within an indented part of a `{:#?}` it says nothing
 abbrev pub FmtTook : {W : Type 0} → (W → List ℕ → W → Type 0) → Formatter W → List ℕ → Formatter W → Type 0
 FmtTook took f bytes g = IsFlush f → HasWrittenStyled took f bytes g
 

@@ -1,4 +1,4 @@
-//! A sink into the value itself.
+//! A sink that stores the text in the value itself.
 ghost use Rattle.std.specs.Prelude.{◌≡◌, ◌-◌, [], ◌++◌, length, Some, true, false};
 ghost use Rattle.std.proofs.Common.{sym, ap, ◌∙◌};
 ghost use Rattle.std.proofs.lemmas.List.{append-nil, append_assoc};
@@ -7,8 +7,8 @@ ghost use Rattle.demangle_sink.specs.Array.{text_of};
 use crate::{SinkRefused, TextSink};
 use arrayvec::ArrayString;
 
-/// A text of at most `N` bytes, in the value itself. It refuses a piece that does not fit, and
-/// keeps what it took before.
+/// A text of at most `N` bytes, stored in the value itself. A piece that does not fit is rejected,
+/// and the text taken before stays.
 #[derive(Drop)]
 pub struct ArraySink<const N: usize> {
     text: ArrayString<N>,
@@ -16,7 +16,7 @@ pub struct ArraySink<const N: usize> {
 }
 
 impl<const N: usize> ArraySink<N> {
-    /// The empty text, which has not failed.
+    /// Returns an empty sink that has not failed.
     pub fn new() -> Self
         ensures alive { ⟦<ArraySink<N> as TextSink>⟧.failed result ≡ false }
         ensures empty { text_of result ≡ [] }
@@ -27,7 +27,7 @@ impl<const N: usize> ArraySink<N> {
         }
     }
 
-    /// The text that it took.
+    /// Returns the text that the sink has taken.
     pub fn as_str(&self) -> &str
         ensures { result.now ≡ text_of self.now }
     {

@@ -1,10 +1,14 @@
-//! Characters into a sink.
+//! Puts characters into a sink.
 ghost use Rattle.std.specs.Prelude.{[], ◌∷◌, map, encode_utf8};
 ghost use Rattle.demangle_sink.specs.Limit.{Prints, Ready};
 
 use crate::{SinkRefused, SizeLimitedFmtAdapter, TextSink};
 
-/// Puts one character, as one piece.
+/// Puts one character as one piece.
+///
+/// # Errors
+///
+/// Returns `SinkRefused` if the sink or the size limit rejects the piece.
 pub fn put_char<S: TextSink>(
     c: char,
     out: &mut SizeLimitedFmtAdapter<'_, S>,
@@ -15,7 +19,11 @@ pub fn put_char<S: TextSink>(
     out.put(c.encode_utf8(&mut [0; 4]))
 }
 
-/// Puts one character after another, each as one piece.
+/// Puts characters in order, each as one piece.
+///
+/// # Errors
+///
+/// Returns `SinkRefused` if the sink or the size limit rejects a piece. No later piece is sent.
 #[tactic(auto, using(crate::proofs::PrintsLemmas::prints_ready, crate::proofs::PrintsLemmas::prints_nothing))]
 pub fn put_chars<S: TextSink>(
     characters: &[char],

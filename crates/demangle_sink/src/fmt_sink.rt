@@ -1,4 +1,4 @@
-//! A sink into a formatter, and what prints through it.
+//! A sink that writes to a formatter.
 ghost use Rattle.std.specs.Prelude.{◌≡◌, Some, false, refl};
 ghost use Rattle.std.proofs.Common.{◌∙◌};
 ghost use Rattle.demangle_sink.specs.Written.{FmtTook, FmtTook-nothing, FmtTook-joined};
@@ -6,7 +6,7 @@ ghost use Rattle.demangle_sink.specs.Written.{FmtTook, FmtTook-nothing, FmtTook-
 use crate::{SinkRefused, TextSink};
 use std::fmt;
 
-/// Hands each piece to a formatter.
+/// A sink that passes each nonempty piece to a formatter.
 #[derive(Drop)]
 pub struct FmtSink<'f, W: fmt::Write> {
     out: &'f mut fmt::Formatter<W>,
@@ -14,7 +14,7 @@ pub struct FmtSink<'f, W: fmt::Write> {
 }
 
 impl<'f, W: fmt::Write> FmtSink<'f, W> {
-    /// A sink into this formatter, which has not failed.
+    /// Returns a sink for this formatter. It has not failed.
     pub fn new(out: &'f mut fmt::Formatter<W>) -> Self
         ensures same { result.out.ghost_name ≡ out.entry.ghost_name }
         ensures text { result.out.now ≡ out.old }

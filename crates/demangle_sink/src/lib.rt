@@ -1,4 +1,4 @@
-//! Sinks: what takes the text that is printed, a piece at a time.
+//! Sinks take printed text, one piece at a time.
 #![tactic(auto)]
 
 ghost use Rattle.std.specs.Prelude.{◌≡◌, ℕ, List, [], ◌++◌, length, Option, Bool, true, false, IsOk, OnOk, OnErr};
@@ -22,27 +22,32 @@ pub use pieces::put_each;
 pub use slice_sink::SliceSink;
 pub use write_sink::WriteSink;
 
-/// A sink refused a piece, and has failed from then on.
+/// The error of a sink that rejected a piece. The sink has failed and takes no further piece.
 #[derive(Debug, Clone, Copy)]
 pub struct SinkRefused;
 
-/// What takes pieces of text, until it refuses one.
+/// Takes pieces of text until it rejects one.
 ///
-/// A sink has a room: a piece within it is surely taken, and the room falls by the piece's bytes.
-/// An empty piece is always taken. A sink that keeps is unchanged by a piece that it refuses.
+/// A sink has a `room`. A piece within the room is always taken, and the room falls by the number
+/// of its bytes. An empty piece is always taken. If `keeps` is true, a rejected piece leaves the
+/// sink's text and room unchanged.
 pub trait TextSink {
-    // The second sink is the first after it took these bytes.
+    // Says that the second sink is the first after it took these bytes.
     ghost took: { Self → List ℕ → Self → Type 0 };
 
     ghost failed: { Self → Bool };
 
-    // How many more bytes are surely taken; `None` is no bound.
+    // The number of further bytes that are always taken. `None` means that there is no bound.
     ghost room: { Self → Option ℕ };
 
-    // Whether a refused piece leaves the sink's text and room as they were.
+    // Says whether a rejected piece leaves the text and the room of the sink unchanged.
     ghost keeps: { Bool };
 
-    /// Takes the piece, or refuses it and has failed from then on.
+    /// Takes a piece.
+    ///
+    /// # Errors
+    ///
+    /// Returns `SinkRefused` if the sink rejects the piece. The sink has failed from then on.
     fn put(&mut self, s: &str) -> Result<(), SinkRefused>
         requires { failed self.old ≡ false }
         ensures taken { OnOk result (took self.old s.now self.new) }
@@ -53,7 +58,7 @@ pub trait TextSink {
         ensures fits { IsWithin (length s.now) (room self.old) →
             IsOk result × (room self.new ≡ room_after (length s.now) (room self.old)) };
 
-    /// Whether it has refused a piece.
+    /// Returns `true` if the sink has rejected a piece.
     fn is_failed(&self) -> bool
         ensures { result ≡ failed self.now };
 

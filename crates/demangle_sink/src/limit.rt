@@ -1,21 +1,21 @@
-//! The limit of what is printed.
+//! Limits the size of the printed text.
 ghost use Rattle.std.specs.Prelude.{◌≡◌, [], ◌∷◌, false};
 ghost use Rattle.demangle_sink.specs.Hands.{Hands};
 ghost use Rattle.demangle_sink.specs.Limit.{Prints, Ready};
 
 use crate::{SinkRefused, TextSink};
 
-/// Hands pieces on while they are within the limit together.
+/// Passes pieces to a sink while their total size is within a limit.
 #[derive(Drop)]
 pub struct SizeLimitedFmtAdapter<'s, S: TextSink> {
     out: &'s mut S,
     remaining: usize,
-    /// Whether a piece did not fit.
+    /// Whether a piece exceeded the limit.
     is_over: bool,
 }
 
 impl<'s, S: TextSink> SizeLimitedFmtAdapter<'s, S> {
-    /// A sink into `out` for so many bytes.
+    /// Returns an adapter that passes at most `limit` bytes to `out`.
     pub fn new(out: &'s mut S, limit: usize) -> Self
         ensures same_sink { result.out.ghost_name ≡ out.entry.ghost_name }
         ensures text { result.out.now ≡ out.old }
@@ -29,14 +29,19 @@ impl<'s, S: TextSink> SizeLimitedFmtAdapter<'s, S> {
         }
     }
 
-    /// Whether a piece did not fit.
+    /// Returns `true` if a piece exceeded the limit.
     pub fn is_over(&self) -> bool
         ensures { result ≡ self.now.is_over }
     {
         self.is_over
     }
 
-    /// Hands a piece on, or refuses it where it goes past the limit, or where the sink does.
+    /// Passes a piece to the sink.
+    ///
+    /// # Errors
+    ///
+    /// Returns `SinkRefused` if the piece exceeds the limit, or if the sink rejects it. A piece
+    /// that exceeds the limit is not passed.
     #[inline(always)]
     pub fn put(&mut self, s: &str) -> Result<(), SinkRefused>
         requires { Ready S.TextSink self.old }
@@ -51,7 +56,11 @@ impl<'s, S: TextSink> SizeLimitedFmtAdapter<'s, S> {
     }
 }
 
-/// Hands one piece to a sink.
+/// Puts one piece into a sink, without a limit.
+///
+/// # Errors
+///
+/// Returns `SinkRefused` if the sink rejects the piece.
 pub fn put_piece<S: TextSink>(s: &str, out: &mut S) -> Result<(), SinkRefused>
     requires { S.failed out.old ≡ false }
     ensures { Hands S.TextSink out.old (s.now ∷ []) result out.new }

@@ -1,10 +1,14 @@
-//! Several pieces into a sink.
+//! Puts several pieces into a sink.
 ghost use Rattle.demangle_sink.specs.Limit.{Prints, Ready};
 ghost use Rattle.demangle_sink.specs.Pieces.{texts};
 
 use crate::{SinkRefused, SizeLimitedFmtAdapter, TextSink};
 
-/// Puts one piece after another.
+/// Puts pieces in order.
+///
+/// # Errors
+///
+/// Returns `SinkRefused` if the sink or the size limit rejects a piece. No later piece is sent.
 #[tactic(auto, using(crate::proofs::PrintsLemmas::prints_ready, crate::proofs::PrintsLemmas::prints_nothing))]
 pub fn put_each<S: TextSink>(
     pieces: &[&str],

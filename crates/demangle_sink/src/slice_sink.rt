@@ -1,4 +1,4 @@
-//! A sink into memory of the caller's.
+//! A sink that writes to a slice of the caller.
 ghost use Rattle.std.specs.Prelude.{◌≡◌, ◌-◌, [], drop, length, Some, true, false, refl, IsOk, OnOk, OnErr};
 ghost use Rattle.std.proofs.Common.{◌∙◌};
 ghost use Rattle.std.below.core.specs.declared.int.usize.TheConstants.{MAX};
@@ -7,23 +7,25 @@ ghost use Rattle.demangle_sink.specs.Slice.{overlay, overlay_from, Laid, Laid-no
 
 use crate::{SinkRefused, TextSink};
 
-/// Keeps a part of a text in the caller's bytes, as much as there is room for, and counts all of it.
+/// Writes a part of a text to the caller's bytes, as far as they reach, and counts all bytes of the
+/// text.
 ///
-/// The part begins at a place of the text, at its front if none is given. It stands from the first
-/// byte on, with nothing behind it; the bytes that it does not reach stay as they were. A character
-/// may be cut at the place, and where the memory ends. A piece is refused only where the count would
-/// go past `usize::MAX`, and changes nothing then.
+/// The part starts at a byte of the text, by default the first. It is written from the start of the
+/// slice, with nothing after it. Bytes of the slice after the part stay unchanged. A character may
+/// be cut at the start of the part and at the end of the slice. A piece is rejected only if the
+/// count would exceed `usize::MAX`. It then changes nothing.
 #[derive(Drop)]
 pub struct SliceSink<'b> {
     out: &'b mut [u8],
-    /// The text's first byte that is kept.
+    /// The index of the text's first byte that is written.
     start: usize,
     len: usize,
     failed: bool,
 }
 
 impl<'b> SliceSink<'b> {
-    /// A sink into these bytes for the front of a text, which took nothing and has not failed.
+    /// Returns a sink that writes the first bytes of a text to this slice. It has taken nothing and
+    /// has not failed.
     pub fn new(out: &'b mut [u8]) -> Self
         ensures same_memory { result.out.ghost_name ≡ out.entry.ghost_name }
         ensures bytes { result.out.now ≡ out.old }
@@ -34,8 +36,9 @@ impl<'b> SliceSink<'b> {
         SliceSink::starting_at(out, 0)
     }
 
-    /// A sink into these bytes for a text from the byte `start` on, counted from 0, which took
-    /// nothing and has not failed. A text that has no more bytes than that leaves them as they were.
+    /// Returns a sink that writes the text from byte `start`, counted from 0, to this slice. It has
+    /// taken nothing and has not failed. A text of at most `start` bytes leaves the slice
+    /// unchanged.
     pub fn starting_at(out: &'b mut [u8], start: usize) -> Self
         ensures same_memory { result.out.ghost_name ≡ out.entry.ghost_name }
         ensures bytes { result.out.now ≡ out.old }
@@ -51,14 +54,20 @@ impl<'b> SliceSink<'b> {
         }
     }
 
-    /// How many bytes the text has, those before the part and those that found no room among them.
+    /// Returns the number of bytes of the text. It includes bytes before the part and bytes that
+    /// did not fit.
     pub fn len(&self) -> usize
         ensures { result ≡ self.now.len }
     {
         self.len
     }
 
-    /// Takes bytes, which need not be UTF-8, as `put` takes a piece.
+    /// Takes bytes as `put` takes a piece. They need not be UTF-8.
+    ///
+    /// # Errors
+    ///
+    /// Returns `SinkRefused` if the count would exceed `usize::MAX`. The sink has failed from then
+    /// on, and the slice is unchanged.
     #[inline(always)]
     pub fn put_bytes(&mut self, bytes: &[u8]) -> Result<(), SinkRefused>
         requires { ⟦<SliceSink<'b> as TextSink>⟧.failed self.old ≡ false }
@@ -87,14 +96,14 @@ impl<'b> SliceSink<'b> {
     }
 }
 
-/// Lays what stands behind so many bytes at the memory's beginning, as far as it reaches.
+/// Writes the bytes after the first `before` ones to the start of the slice, as far as it reaches.
 fn lay_behind(out: &mut [u8], before: usize, bytes: &[u8])
     ensures { out.new ≡ overlay out.old (drop before bytes.now) }
 {
     lay(out, 0, &bytes[before.min(bytes.len())..]);
 }
 
-/// Lays bytes into memory from a place on, as far as it reaches.
+/// Writes bytes to the slice from a place, as far as it reaches.
 #[inline(always)]
 fn lay(out: &mut [u8], place: usize, bytes: &[u8])
     ensures { out.new ≡ overlay_from place out.old bytes.now }

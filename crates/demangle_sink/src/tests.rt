@@ -1,4 +1,4 @@
-//! What sinks take, and what the limit hands on.
+//! Tests of the pieces that sinks take and that the limit passes.
 use crate::{ArraySink, SizeLimitedFmtAdapter, TextSink, put_char, put_each};
 
 #[test]

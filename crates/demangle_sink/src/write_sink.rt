@@ -1,4 +1,4 @@
-//! A sink into a writer.
+//! A sink that writes to a writer.
 ghost use Rattle.std.specs.Prelude.{◌≡◌, Some, false, is_some, refl};
 ghost use Rattle.std.proofs.Common.{◌∙◌};
 ghost use Rattle.demangle_sink.specs.Writer.{writer_of, fault_of, Wrote, Wrote-nothing, Wrote-joined};
@@ -7,9 +7,9 @@ use crate::{SinkRefused, TextSink};
 use std::io;
 use std::io::Write;
 
-/// Hands each nonempty piece to a writer by one `write_all`, and keeps the error that the writer
-/// answered. It takes no memory of its own. After a refusal nothing is known of how much of the
-/// piece the writer took.
+/// A sink that passes each nonempty piece to a writer by one `write_all`. It stores the writer's
+/// error and does not allocate. After an error, the number of bytes of the piece that the writer
+/// took is unknown.
 #[derive(Drop)]
 pub struct WriteSink<'w, W: Write> {
     out: &'w mut W,
@@ -17,7 +17,7 @@ pub struct WriteSink<'w, W: Write> {
 }
 
 impl<'w, W: Write> WriteSink<'w, W> {
-    /// A sink into this writer, which has not failed.
+    /// Returns a sink for this writer. It has not failed.
     pub fn new(out: &'w mut W) -> Self
         ensures same_writer { (writer_of result).ghost_name ≡ out.entry.ghost_name }
         ensures contents { (writer_of result).now ≡ out.old }
@@ -26,7 +26,7 @@ impl<'w, W: Write> WriteSink<'w, W> {
         WriteSink { out, fault: None }
     }
 
-    /// The error that the writer answered, exactly where the sink has failed.
+    /// Returns the writer's error. It is `Some` exactly if the sink has failed.
     pub fn into_fault(self) -> Option<io::Error>
         ensures failed { is_some result ≡ ⟦<WriteSink<'w, W> as TextSink>⟧.failed self.entry }
         ensures fault { result ≡ fault_of self.entry }

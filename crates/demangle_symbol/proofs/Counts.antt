@@ -1,4 +1,4 @@
--- Where words end: behind their beginning, and within the symbol.
+-- The ends of primitives: after their start, and within the symbol.
 use Rattle.std.specs.Prelude.{ℕ, ◌≤◌, ◌<◌, ◌^◌, ◌==◌, ◌&&◌, ◌||◌, nat_lt, nat_le, not, slice_get}
 use Rattle.std.proofs.Common.{◌≡◌, Bool, true, false, cond, List, length, Option, Some, None, refl, ◌+◌, subst, arith}
 use Rattle.std.proofs.lemmas.Option.{slice_get_within}
@@ -7,7 +7,7 @@ use Rattle.demangle_symbol.specs.Digits.{run_end, is_byte}
 use Rattle.demangle_symbol.specs.Words.{Read, only_if, then_if_some, is_upper, is_lower, byte_at, namespace_at, is_digit_62, integer_value, integer_at, optional_at, backref_at, digits_from, length_end, name_from, name_len, name_of, tail_len, behind_byte, identifier_at, is_nibble, nibbles_at}
 use Rattle.demangle_symbol.proofs.Digits.{is_byte_within}
 
--- a word that begins at i ends at low or later, and within the bytes
+-- a primitive that starts at i ends at `low` or later, and within the bytes
 abbrev pub Placed : {A : Type 0} → ℕ → List ℕ → Read A → Type 0
 Placed low s None = Unit {0}
 Placed low s (Some r) = (low ≤ r.1) × (r.1 ≤ length s)
@@ -89,6 +89,6 @@ identifier_placed s i =
     let some : d < length_end s d = ltb-true d (length_end s d) (and_left (nat_lt d (length_end s d)) (nat_le j (length s)) both) in
     (omega (arith, first, second, some), leb-true j (length s) (and_right (nat_lt d (length_end s d)) (nat_le j (length s)) both)))
 
--- a word that was read
+-- a primitive that was read
 pub placed : {A : Type 0} (low : ℕ) (s : List ℕ) (r : Read A) → Placed low s r → (v : A) (j : ℕ) → r ≡ Some (v, j) → (low ≤ j) × (j ≤ length s)
 placed low s r h v j e = subst (Placed low s) e h

@@ -1,4 +1,4 @@
--- Deltas: one digit more, and what no digit takes back.
+-- Deltas: one more digit, and the sum never falls.
 use Rattle.std.proofs.Common.{◌≡◌, ℕ, zero, suc, ◌+◌, ◌-◌, ◌*◌, ◌/◌, ◌<◌, ◌≤◌, inl, inr, true, false, List, [], ◌∷◌, Option, Some, None, IfSome, refl, sym, arith, subst, ltb, option_map}
 use Rattle.std.specs.Prelude.{slice_index}
 use Rattle.std.proofs.lemmas.Bool.Decides.{nat_tests}
@@ -15,7 +15,7 @@ unfolding bias_after
 bias_end zero delta h = refl
 bias_end (suc n) delta h = let t : ltb 455 delta ≡ false = grind (arith, nat_tests) in rw (t, bias_after) refl
 
--- the reading behind one digit more of the same delta
+-- the state after one more digit of the same delta
 abbrev pub further : Reading → ℕ → Reading
 further r d = record r { sum = with_digit r d; weight = r.weight * (36 - threshold r.place r.bias); place = r.place + 36 }
 
@@ -53,7 +53,7 @@ less m n (Some ds) h k = omega arith
 none_at_least : (n : ℕ) (o : Option (List ℕ)) → o ≡ None → AtLeast n o
 none_at_least n o h = subst (AtLeast n) (sym h) tt
 
--- no digit takes back what the sum has
+-- no digit lowers the sum
 pub deltas_grow : (s : List ℕ) (r : Reading) → 36 < r.place → AtLeast r.sum (deltas r s)
 deltas_grow [] r h = none_at_least r.sum (deltas r []) (deltas_short r h)
 deltas_grow (c ∷ s) r h = elim (option_cases (digit_of c)) [
@@ -64,7 +64,7 @@ deltas_grow (c ∷ s) r h = elim (option_cases (digit_of c)) [
   ]
 ]
 
--- with one digit more
+-- with one more digit
 pub deltas_grow-digit : (s : List ℕ) (r : Reading) (c d : ℕ) → 36 ≤ r.place → digit_of c ≡ Some d → AtLeast (with_digit r d) (deltas r (c ∷ s))
 deltas_grow-digit s r c d h e = elim (cases_lt d (threshold r.place r.bias)) [
   | inl l ↦ subst (AtLeast (with_digit r d)) (sym (deltas_last r c d s e l)) (in_front (with_digit r d) (with_digit r d) (deltas (after_delta r d) s) (omega arith))

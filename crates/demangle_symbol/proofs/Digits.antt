@@ -1,4 +1,4 @@
--- How digits are read, a byte at a time.
+-- The reading of digits, byte by byte.
 use Rattle.std.proofs.Common.{◌≡◌, ℕ, ◌+◌, ◌-◌, ◌*◌, ◌^◌, ◌<◌, ◌≤◌, Bool, true, false, List, [], ◌∷◌, ◌++◌, length, map, drop, get_or, Option, Some, None, inl, inr, refl, sym, ap, ◌∙◌, arith}
 use Rattle.std.specs.List.{slice_get, slice_range}
 use Rattle.std.specs.Int.Digits.{number_from_digits}
@@ -12,7 +12,7 @@ use Rattle.std.proofs.lemmas.Bool.Decides.{nat_tests}
 use Rattle.demangle_symbol.specs.Digits.{run_end, number, is_digit_10, digit_10, Decimal, option_is, is_byte}
 use Rattle.demangle_symbol.specs.Idents.{DigitsUpTo}
 
--- a byte that passes is a part of the run
+-- a byte that passes the test belongs to the run
 pub run_more : (p : ℕ → Bool) (s : List ℕ) (k b : ℕ) → slice_get s k ≡ Some b → p b ≡ true → run_end p s k ≡ run_end p s (k + 1)
 run_more p s k b here passes =
     let within : k < length s = slice_get_within s k b here in
@@ -34,7 +34,7 @@ pub run_none : (p : ℕ → Bool) (s : List ℕ) (k : ℕ) → slice_get s k ≡
 run_none p s k none =
     elim ((slice_get_cases s k).1) [ inl h ↦ let some : slice_get s k ≡ Some h.0 = h.2 in absurd (cc) | inr h ↦ run_past p s k h.0 ]
 
--- one byte more of a part
+-- one more byte of a part
 pub range_more : (s : List ℕ) (i k b : ℕ) → i ≤ k → slice_get s k ≡ Some b → slice_range s i (k + 1) ≡ slice_range s i k ++ b ∷ []
 range_more s i k b le here =
     let within : k < length s = slice_get_within s k b here in
@@ -52,7 +52,7 @@ number_more base digit s i k b le here =
     ∙ ap (number_from_digits base) (map-append digit (slice_range s i k) (b ∷ []))
     ∙ number_push base (map digit (slice_range s i k)) (digit b)
 
--- more digits spell no smaller number
+-- more digits spell a number that is not smaller
 number_append : (base : ℕ) (digit : ℕ → ℕ) (xs ys : List ℕ) → 0 < base → number base digit xs ≤ number base digit (xs ++ ys)
 unfolding number
 number_append base digit xs ys some =
@@ -73,7 +73,7 @@ digits_none s i = record { order = omega arith; run = refl; value = sym (number_
 digit_passes : (d : ℕ) → d < 10 → is_digit_10 (d + 48) ≡ true
 digit_passes d h = grind (arith, nat_tests)
 
--- one digit more
+-- one more digit
 pub digits_more : (s : List ℕ) (i k n d : ℕ) → DigitsUpTo s i k n → slice_get s k ≡ Some (d + 48) → d < 10 → DigitsUpTo s i (k + 1) (n * 10 + d)
 digits_more s i k n d h here small = record {
   order = omega (arith, h.order);
@@ -86,12 +86,12 @@ digits_decimal s i k n h some stops =
     let e : run_end is_digit_10 s i ≡ k = h.run ∙ stops in
     record { some = omega (arith, e, some); next = sym e; value = h.value ∙ ap (λ j. number 10 digit_10 (slice_range s i j)) (sym e) }
 
--- they lie inside
+-- they are within the bytes
 pub digits_inside : (s : List ℕ) (i k n : ℕ) → DigitsUpTo s i k n → i < length s → k ≤ length s
 digits_inside s i k n h inside =
     omega (arith, h.run, prefix_len-le-length is_digit_10 (drop i s), length-drop i s)
 
--- no decimal number below 2 ^ 64 begins at i, where n is the number of the digits before k, and d the digit at k
+-- No decimal number below 2 ^ 64 starts at i, if n is the number of the digits before k and d the digit at k.
 pub no_decimal_large : (s : List ℕ) (i k n d : ℕ) → DigitsUpTo s i k n → slice_get s k ≡ Some (d + 48) → d < 10 → 2 ^ 64 ≤ n * 10 + d → (j v : ℕ) → v < 2 ^ 64 → Decimal s i j v → ⊥
 no_decimal_large s i k n d read here digit large j v small h =
     let more = digits_more s i k n d read here digit in

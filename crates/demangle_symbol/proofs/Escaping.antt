@@ -1,4 +1,4 @@
--- How the hexadecimal digits of a number are found, from the lowest on; and the pieces of a literal.
+-- The hexadecimal digits of a number, from the lowest; and the pieces of a literal.
 use Rattle.std.proofs.Common.{◌≡◌, ℕ, suc, ◌+◌, ◌-◌, ◌≤◌, ◌/◌, ◌%◌, ◌^◌, ◌<◌, true, false, eqb, List, [], ◌∷◌, ◌++◌, map, refl, ap, ◌∙◌, arith, append_assoc, length, drop, set}
 use Rattle.std.specs.Prelude.{encode_utf8, codes, flat_map}
 use Rattle.std.proofs.lemmas.List.{map-append, append-nil, drop-set}
@@ -15,7 +15,7 @@ onto_last k m n text e h = let t : eqb (n / 16) 0 ≡ true = grind (arith, nat_t
 pub onto_more : (k m n : ℕ) (text : List ℕ) → m ≡ suc k → 0 < n / 16 → digits_onto m 16 false n text ≡ digits_onto k 16 false (n / 16) (digit_glyph false (n % 16) ∷ text)
 onto_more k m n text e h = let t : eqb (n / 16) 0 ≡ false = grind (arith, nat_tests) in rw (e, t) refl
 
--- with each digit the number shrinks
+-- each digit makes the number smaller
 pub shrinks : (n k m : ℕ) → m ≡ k + 1 → n < 16 ^ m → n / 16 < 16 ^ k
 shrinks n k m e h =
     let h' : n < 16 ^ (k + 1) = rw (← e) h in
@@ -37,7 +37,7 @@ pub literal_one : (quote c : ℕ) → literal quote (c ∷ []) ≡ encode_utf8 q
 literal_one quote c =
     literal_pieces quote (c ∷ []) ∙ ap (λ x. encode_utf8 quote ∷ (map encode_utf8 x ++ encode_utf8 quote ∷ [])) (append-nil (literal_escape quote c))
 
--- a digit in front of those that stand at the end
+-- a digit before those that are at the end
 pub digit_before : (text : List ℕ) (at x g : ℕ) → 0 < at → at ≤ length text → x ≡ g → drop (at - 1) (set text (at - 1) x) ≡ g ∷ drop at text
 digit_before text at x g some le e =
     let next : at - 1 + 1 ≡ at = omega arith in

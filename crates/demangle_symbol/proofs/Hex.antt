@@ -1,4 +1,4 @@
--- How hex words and their numbers are read.
+-- The reading of hexadecimal strings and of their numbers.
 use Rattle.std.proofs.Common.{◌≡◌, ℕ, ◌+◌, ◌-◌, ◌*◌, ◌^◌, ◌<◌, ◌≤◌, true, false, eqb, ◌==◌, List, length, drop, get_or, Some, None, sym, refl, ap, ◌∙◌, arith, lit<}
 use Rattle.std.specs.List.{slice_get, slice_range}
 use Rattle.std.proofs.lemmas.Option.{get_or_from_slice_get, slice_get_past, slice_get_within}
@@ -22,7 +22,7 @@ no_hex_past s i k run past j end h =
     let some : slice_get s k ≡ Some 95 = ap (slice_get s) (sym e) ∙ h.ends in
     cc
 
--- the relation and the function say the same
+-- the relation and the function agree
 pub hex_read : (s : List ℕ) (i j end : ℕ) → Hex s i j end → nibbles_at s i ≡ Some (slice_range s i end, j)
 unfolding nibbles_at
 hex_read s i j end h =
@@ -47,7 +47,7 @@ pub ruleset hex_reads = (hex_read, hex_unread, hex_there, hex_not_there)
 
 pub ruleset hex_steps = (run_more, run_stops, run_past, no_hex_past)
 
--- the leading zeros of a part from place k on
+-- the leading zeros of a part from place k
 unfoldable pub zeros_from : List ℕ → ℕ → ℕ → ℕ → ℕ
 zeros_from s from to k = zeros (drop (k - from) (slice_range s from to))
 
@@ -86,7 +86,7 @@ number_zero s from k begun h none = omega (arith, number_more 16 nibble s from k
 
 pub ruleset zeros_steps = (zeros_start, zeros_end, zeros_more, zeros_stop, number_zero, number_none)
 
--- a byte of a hex word is a nibble
+-- a byte of a hexadecimal string before its `_` is a nibble
 pub nibble_there : (s : List ℕ) (i j end k b : ℕ) → Hex s i j end → i ≤ k → k < end → slice_get s k ≡ Some b → is_nibble b ≡ true
 nibble_there s i j end k b h begun left here =
     let e : i + (k - i) ≡ k = omega arith in

@@ -1,4 +1,4 @@
--- How identifiers are read, a byte at a time.
+-- The reading of identifiers, byte by byte.
 use Rattle.std.proofs.Common.{◌≡◌, ℕ, zero, suc, ltb, leb, subst, ◌+◌, ◌-◌, ◌*◌, ◌^◌, ◌<◌, ◌≤◌, ◌≢◌, Bool, true, false, not, eqb, ◌==◌, cond, List, [], ◌∷◌, ◌++◌, length, get_or, Some, None, sym, refl, ap, ◌∙◌, arith}
 use Rattle.std.specs.List.{slice_get, slice_range, prefix_len, suffix_len}
 use Rattle.std.proofs.lemmas.List.{reverse-append}
@@ -53,7 +53,7 @@ pub tail_none : (s : List ℕ) (i : ℕ) → tail_len s i i ≡ 0
 unfolding tail_len
 tail_none s i = ap (λ xs. suffix_len (λ b. not (b == 95)) xs) (between_none s i)
 
--- the tail of a list with one element more
+-- the tail of a list with one more element
 suffix_push : (p : ℕ → Bool) (xs : List ℕ) (x : ℕ) → suffix_len p (xs ++ x ∷ []) ≡ cond (p x) (1 + suffix_len p xs) 0
 suffix_push p xs x = ap (λ ys. prefix_len p ys) (reverse-append xs (x ∷ []))
 
@@ -83,8 +83,8 @@ behind_there : (t : Bool) (i : ℕ) → cond t (i + 1) i ≢ i → t ≡ true
 behind_there true i h = refl
 behind_there false i h = absurd (h refl)
 
--- No identifier begins at i, whose length would begin at d: there is no length at d, or it says too many bytes,
--- or there is a `u` and no Punycode part.
+-- No identifier starts at i, if its length would start at d and one of these holds. There is no length at d, or it says
+-- too many bytes, or there is a `u` but no Punycode part.
 pub no_ident_length : (s : List ℕ) (i d : ℕ) → d ≡ behind_byte 117 s i → length s < 2 ^ 64 → ((j v : ℕ) → v < 2 ^ 64 → Length s d j v → ⊥) → (j : ℕ) (ident : Ident) → IsIdent s i j ident → ⊥
 no_ident_length s i d d_is fits none j ident h =
     let there : Length s (behind_byte 117 s i) (length_end s (behind_byte 117 s i)) (length_value s (behind_byte 117 s i)) = record { some = h.some; next = refl; value = refl } in
@@ -108,7 +108,7 @@ no_ident_empty s i d e f len d_is there f_is other empty j ident h =
     let same : tail_len s f (f + len) ≡ tail_len s (name_from s i) j = ap (λ x. tail_len s x (f + len)) from ∙ ap (tail_len s (name_from s i)) (sym j_is) in
     omega arith
 
--- where its length begins
+-- the start of its length
 pub behind_u : (s : List ℕ) (i : ℕ) → is_byte s i 117 ≡ true → i + 1 ≡ behind_byte 117 s i
 behind_u s i h = rw h refl
 
@@ -128,7 +128,7 @@ punycode_most s i j inside order = go (is_byte s i 117) where
   go true = omega (arith, tail_most s (name_from s i) j inside order)
   go false = omega arith
 
--- the places of its parts
+-- the bounds of its parts
 parts_are : (a b c d : ℕ) (x : Ident) → x.ascii.from ≡ a → x.ascii.to ≡ b → x.punycode.from ≡ c → x.punycode.to ≡ d → record { ascii = record { from = a; to = b }; punycode = record { from = c; to = d } } ≡ x
 parts_are a b c d x e f g h = rw (sym e, sym f, sym g, sym h) refl
 
@@ -169,7 +169,7 @@ and_right : (a b : Bool) → (a && b) ≡ true → b ≡ true
 and_right true b p = p
 and_right false b p = absurd (cc)
 
--- behind a `u` something is left
+-- after a `u`, the part is not empty
 left_over : (u : Bool) (n : ℕ) → (u ≡ true → 0 < n) → not (u && n == 0) ≡ true
 left_over true n h = let some : 0 < n = h refl in let other : eqb n 0 ≡ false = grind (arith, nat_tests) in rw other refl
 left_over false n h = refl
@@ -182,7 +182,7 @@ left_over_some false n h e = absurd (cc)
 abbrev end_of : List ℕ → ℕ → ℕ
 end_of s i = name_from s i + name_len s i
 
--- what the function tests
+-- the test of the function
 abbrev some_test : List ℕ → ℕ → Bool
 some_test s i = ltb (digits_from s i) (length_end s (digits_from s i))
 
@@ -200,7 +200,7 @@ identifier_ends s i name h =
     (left_over (is_byte s i 117) (tail_len s (name_from s i) (end_of s i)) h.not_empty)
     ∙ ap (λ n. Some (n, end_of s i)) (sym h.value)
 
--- the relation and the function say the same
+-- the relation and the function agree
 pub identifier_read : (s : List ℕ) (i j : ℕ) (name : Name) → Identifier s i j name → identifier_at s i ≡ Some (name, j)
 identifier_read s i j name h =
     identifier_ends s i name (subst (λ k. Identifier s i k name) h.next h) ∙ ap (λ k. Some (name, k)) (sym h.next)

@@ -78,7 +78,7 @@ then_too_large n i cs (Some (d ∷ ds)) l h =
     let much : 0x11_0000 ≤ (i + d) / (length cs + 1) = le-div 0x11_0000 (i + d) (length cs + 1) (omega arith) (omega arith) in
     inserted_none n i cs d ds (inl (not_scalar (n + (i + d) / (length cs + 1)) (omega arith)))
 
--- one delta taken, as the code writes it
+-- one delta taken, as in the code
 pub then_turn : (n i : ℕ) (cs new s t : List ℕ) (d len bias bias2 c : ℕ) (first : Bool) → len ≡ length cs
     → deltas (next_delta (length cs) first bias) s ≡ option_map (λ ds. d ∷ ds) (deltas (next_delta (length cs + 1) false (adapted_bias d (length cs + 1) first)) t)
     → scalar (n + (i + d) / (len + 1)) ≡ true → length cs < 128 → c ≡ n + (i + d) / (len + 1) → new ≡ insert cs ((i + d) % (len + 1)) c → length new ≡ length cs + 1 → bias2 ≡ adapted_bias d (len + 1) first

@@ -1,4 +1,4 @@
--- How integers are read, a byte at a time.
+-- The reading of integers, byte by byte.
 use Rattle.std.proofs.Common.{◌≡◌, ℕ, ◌+◌, ◌*◌, ◌^◌, ◌<◌, ◌≤◌, inl, inr, Bool, true, false, ltb, nat_lt, List, length, Some, None, sym, refl, ap, ◌∙◌, arith, rules, lit<}
 use Rattle.std.specs.Prelude.{◌&&◌}
 use Rattle.std.specs.List.{slice_get, slice_range}
@@ -23,7 +23,7 @@ pub ruleset digit_reads = (digit_there, digit_small, run_stops, run_none)
 pub digits_none : (s : List ℕ) (i : ℕ) → Digits62UpTo s i i 0
 digits_none s i = record { order = omega arith; run = refl; value = sym (number_none 62 digit_62 s i) }
 
--- one digit more
+-- one more digit
 pub digits_more : (s : List ℕ) (i k n d : ℕ) → Digits62UpTo s i k n → Digit62 s k d → Digits62UpTo s i (k + 1) (n * 62 + d)
 digits_more s i k n d h digit = record {
   order = omega (arith, h.order);
@@ -45,7 +45,7 @@ digits_below n k small few =
     let bound : 62 ^ k ≤ 62 ^ 10 = pow-le-pow_right (lit< tt) few in
     omega arith
 
--- where the digits end
+-- the end of the digits
 ends_at : (s : List ℕ) (k : ℕ) → slice_get s k ≡ Some 95 → run_end is_digit_62 s k ≡ k
 ends_at s k here = run_stops is_digit_62 s k 95 here refl
 
@@ -75,7 +75,7 @@ digits_integer s i k n h some here fits =
       fits = fits;
     }
 
--- and where there is no integer
+-- and no integer
 pub no_integer_other : (s : List ℕ) (i k n : ℕ) → Digits62UpTo s i k n → run_end is_digit_62 s k ≡ k → (slice_get s k ≡ Some 95 → ⊥) → (j v : ℕ) → Integer s i j v → ⊥
 no_integer_other s i k n h stops other j v int =
     other (ap (slice_get s) (sym (h.run ∙ stops)) ∙ int.ends)
@@ -115,7 +115,7 @@ pub only_not : {A : Type 0} (b : Bool) (x : A) → (b ≡ true → ⊥) → only
 only_not true x h = absurd (h refl)
 only_not false x h = refl
 
--- the relation and the function say the same
+-- the relation and the function agree
 pub integer_read : (s : List ℕ) (i j v : ℕ) → Integer s i j v → integer_at s i ≡ Some (v, j)
 unfolding integer_at
 integer_read s i j v h =

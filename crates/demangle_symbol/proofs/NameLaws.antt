@@ -1,4 +1,4 @@
--- What holds of a name that can be decoded.
+-- Properties of a name that can be decoded.
 use Rattle.std.proofs.Common.{◌≡◌, ℕ, ◌+◌, ◌/◌, ◌%◌, ◌^◌, ◌<◌, ◌≤◌, ◌⊎◌, inl, inr, Bool, true, false, List, [], ◌∷◌, length, Option, Some, None, All, refl, sym, ap, ◌∙◌, arith}
 use Rattle.std.specs.Prelude.{option_and_then, insert}
 use lib.Utf8.{scalar}
@@ -12,7 +12,7 @@ bool_cases : (b : Bool) → (b ≡ true) ⊎ (b ≡ false)
 bool_cases true = inl refl
 bool_cases false = inr refl
 
--- what a step asks
+-- the conditions of a step
 step_asks : (n i : ℕ) (cs : List ℕ) (d : ℕ) (ds out : List ℕ) → insertions n i cs (d ∷ ds) ≡ Some out → (scalar (n + (i + d) / (length cs + 1)) ≡ true) × (length cs < 128)
 step_asks n i cs d ds out h = go (bool_cases (scalar (n + (i + d) / (length cs + 1)))) (cases_lt (length cs) 128) where
   go : (scalar (n + (i + d) / (length cs + 1)) ≡ true) ⊎ (scalar (n + (i + d) / (length cs + 1)) ≡ false) → (length cs < 128) ⊎ (128 ≤ length cs) → (scalar (n + (i + d) / (length cs + 1)) ≡ true) × (length cs < 128)

@@ -1,4 +1,4 @@
--- The pieces of a name by the places of its parts.
+-- The pieces of a name by the bounds of its parts.
 use Rattle.std.proofs.Common.{◌≡◌, ℕ, ◌<◌, ◌≤◌, true, false, List, [], ◌∷◌, length, map, Some, None, refl, ap}
 use Rattle.std.specs.Prelude.{encode_utf8, codes}
 use Rattle.std.specs.List.{slice_range}
@@ -8,7 +8,7 @@ use Rattle.demangle_symbol.specs.Punycode.{puny}
 use Rattle.demangle_symbol.specs.Idents.{ascii_front, name_in}
 use Rattle.demangle_sink.proofs.Parts.{part_first, part_past}
 
--- a part has bytes, or none
+-- a part has bytes, or is empty
 part_empty : (s : List ℕ) (i to : ℕ) → to ≤ i → is_empty (slice_range s i to) ≡ true
 part_empty s i to past = ap is_empty (part_past s i to past)
 

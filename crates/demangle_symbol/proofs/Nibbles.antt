@@ -23,14 +23,14 @@ use Rattle.demangle_symbol.proofs.Digits.{run_more}
 use Rattle.std.proofs.lemmas.List.{get_or-drop}
 use Rattle.std.proofs.lemmas.List.Sums.{prefix_len_passes, prefix_len-le-length}
 
--- the byte at a place of a hex word is a nibble
+-- the byte at a place of a hexadecimal string is a nibble
 pub nibble_in : (s : List ℕ) (rest : Part) (k : ℕ) → HexPart s rest → rest.from ≤ k → k < rest.to → (k < length s) × IsTrue (is_nibble (get_or s k 0))
 nibble_in s rest k h begun left =
     let within = hex_within s rest.from h.0 rest.to h.1 in
     let lt : k < length s = omega (arith, within) in
     (lt, nibble_there s rest.from h.0 rest.to k (get_or s k 0) h.1 begun left (slice_get-get_or s k 0 lt))
 
--- a run is that of each place in it
+-- a run from each place in it has the same end
 run_next : (p : ℕ → Bool) (s : List ℕ) (i : ℕ) → i < run_end p s i → run_end p s i ≡ run_end p s (i + 1)
 run_next p s i some =
     let here : i + 0 ≡ i = omega arith in
@@ -108,7 +108,7 @@ bytes_front (a ∷ b ∷ r) (suc k) h =
     ∙ step x (take k (pairs r)) (nibble_bytes (drop (2 * k) r))
     ∙ ap (λ n. option_map (λ bs. (x ∷ take k (pairs r)) ++ bs) (nibble_bytes (drop n (a ∷ b ∷ r)))) (sym e)
 
--- a character in front of bytes
+-- a character before bytes
 utf8_step : (c : ℕ) (bs : List ℕ) → IsScalar c → only_if (is_utf8 (encode_utf8 c ++ bs)) (chars (encode_utf8 c ++ bs)) ≡ option_map (λ cs. c ∷ cs) (only_if (is_utf8 bs) (chars bs))
 utf8_step c bs sc = go (is_utf8 bs) (is_utf8 (encode_utf8 c ++ bs)) refl refl where
   go : (t u : Bool) → is_utf8 bs ≡ t → is_utf8 (encode_utf8 c ++ bs) ≡ u → only_if u (chars (encode_utf8 c ++ bs)) ≡ option_map (λ cs. c ∷ cs) (only_if t (chars bs))
@@ -126,14 +126,14 @@ strings_step : (c : ℕ) (o : Option (List ℕ)) → IsScalar c
 strings_step c None sc = refl
 strings_step c (Some bs) sc = utf8_step c bs sc
 
--- a string that begins with a character
+-- a string that starts with a character
 pub string_front : (ns : List ℕ) (k c : ℕ) → 2 * k ≤ length ns → take k (pairs ns) ≡ encode_utf8 c → IsScalar c → string_of ns ≡ option_map (λ cs. c ∷ cs) (string_of (drop (2 * k) ns))
 unfolding string_of
 string_front ns k c h e sc =
     ap (λ o. then_if_some o (λ bs. only_if (is_utf8 bs) (chars bs))) (bytes_front ns k h ∙ ap (λ xs. option_map (λ bs. xs ++ bs) (nibble_bytes (drop (2 * k) ns))) e)
     ∙ strings_step c (nibble_bytes (drop (2 * k) ns)) sc
 
--- the bytes of a character in front
+-- the bytes of a character at the start
 take_char : (c : ℕ) (rest bs : List ℕ) → bs ≡ encode_utf8 c ++ rest → take (len_utf8 c) bs ≡ encode_utf8 c
 take_char c rest bs e = ap (take (len_utf8 c)) e ∙ take_at (encode_utf8 c) rest (len_utf8 c) (length-encode c)
 
@@ -147,7 +147,7 @@ and_left false b p = absurd (cc)
 char_len : (c : ℕ) (rest bs : List ℕ) → bs ≡ encode_utf8 c ++ rest → length bs ≡ len_utf8 c + length rest
 char_len c rest bs e = ap length e ∙ length-append (encode_utf8 c) rest ∙ ap (λ n. n + length rest) (length-encode c)
 
--- a text that is not empty begins with a whole character
+-- a text that is not empty starts with a complete character
 first_of_text : (bs : List ℕ) → IsUtf8 bs → 0 < length bs → (m : ℕ) × (0 < m) × (m ≤ 4) × (m ≤ length bs) × IsUtf8 (take m bs)
 first_of_text bs h some = go h.0 h.1.0 h.1.1 where
   go : (cs : List ℕ) → scalars cs ≡ true → encodes cs ≡ bs → (m : ℕ) × (0 < m) × (m ≤ 4) × (m ≤ length bs) × IsUtf8 (take m bs)
@@ -161,7 +161,7 @@ only_not : {A : Type 0} (b : Bool) (x : A) → (b ≡ true → ⊥) → only_if 
 only_not true x h = absurd (h refl)
 only_not false x h = refl
 
--- no character ends within the first k bytes, and no more are left, or a character has no more
+-- no character ends within the first k bytes, and there are no more bytes, or no character has more
 pub string_none : (ns : List ℕ) (k : ℕ) → 0 < length ns → ((m : ℕ) → 0 < m → m ≤ k → IsUtf8 (take m (pairs ns)) → ⊥) → (4 ≤ k) ⊎ (length ns < 2 * k + 2) → string_of ns ≡ None
 unfolding string_of
 string_none ns k some none stop = go (cases_lt (2 * length (pairs ns)) (length ns)) where
@@ -185,7 +185,7 @@ no_bytes : (rest : List ℕ) → length rest ≡ 0 → rest ≡ []
 no_bytes [] h = refl
 no_bytes (x ∷ rest) h = absurd (omega arith)
 
--- a text of n bytes that no shorter one begins is one character
+-- a text of n bytes is one character, if no shorter prefix is a text
 pub one_char : (t rest : List ℕ) (c n : ℕ) → t ≡ encode_utf8 c ++ rest → length t ≡ n → IsScalar c → ((m : ℕ) → 0 < m → m < n → IsUtf8 (take m t) → ⊥) → t ≡ encode_utf8 c
 one_char t rest c n e len sc none = go (cases_lt (len_utf8 c) n) where
   bounds : (0 < len_utf8 c) × (length t ≡ len_utf8 c + length rest)
@@ -198,13 +198,13 @@ one_char t rest c n e len sc none = go (cases_lt (len_utf8 c) n) where
       let nothing : rest ≡ [] = no_bytes rest (omega arith) in
       e ∙ ap (λ x. encode_utf8 c ++ x) nothing ∙ append-nil (encode_utf8 c)
 
--- what is left of a part behind its first k bytes
+-- the rest of a part after its first k bytes
 pub part_behind : (s : List ℕ) (i k to : ℕ) → i + k ≤ to → drop k (slice_range s i to) ≡ slice_range s (i + k) to
 part_behind s i k to le =
     let n : to - i ≡ k + (to - (i + k)) = omega arith in
     ap (λ m. drop k (take m (drop i s))) n ∙ drop-take k (to - (i + k)) (drop i s) ∙ ap (take (to - (i + k))) (drop-drop k i s)
 
--- one more byte of a part's
+-- one more byte of a part
 pub pair_more : (s : List ℕ) (from to k b : ℕ) → to ≤ length s → from + 2 * k + 2 ≤ to → b ≡ nibble (get_or s (from + 2 * k) 0) * 16 + nibble (get_or s (from + 2 * k + 1) 0)
     → take (k + 1) (pairs (slice_range s from to)) ≡ take k (pairs (slice_range s from to)) ++ b ∷ []
 pair_more s from to k b inside two is =
@@ -219,17 +219,17 @@ pair_more s from to k b inside two is =
     take_more (pairs ns) k 0 few
     ∙ ap (λ x. take k (pairs ns) ++ x ∷ []) (pair_at ns k le ∙ ap (λ x. nibble x * 16 + nibble (get_or ns (2 * k + 1) 0)) first ∙ ap (λ x. nibble (get_or s (from + 2 * k) 0) * 16 + nibble x) second ∙ sym is)
 
--- no character ends within one byte more
+-- no character ends within one more byte
 pub none_more : (bs : List ℕ) (k : ℕ) → ((m : ℕ) → 0 < m → m ≤ k → IsUtf8 (take m bs) → ⊥) → (IsUtf8 (take (k + 1) bs) → ⊥) → (m : ℕ) → 0 < m → m ≤ k + 1 → IsUtf8 (take m bs) → ⊥
 none_more bs k none last m some le u = go (cases_lt k m) where
   go : (k < m) ⊎ (m ≤ k) → ⊥
   go (inl lt) = let e : m ≡ k + 1 = omega arith in last (subst (λ x. IsUtf8 (take x bs)) e u)
   go (inr le') = none m some le' u
 
--- a byte more was read
+-- one more byte was read
 pub bytes_step : (bytes bs : List ℕ) (k v : ℕ) → k < length bytes → take k bytes ≡ take k bs → take (k + 1) bs ≡ take k bs ++ v ∷ [] → take (k + 1) (set bytes k v) ≡ take (k + 1) bs
 bytes_step bytes bs k v lt e f = take_more_set bytes k v lt ∙ ap (λ x. x ++ v ∷ []) e ∙ sym f
 
--- what is left of a hex word's nibbles is that of one
+-- the remaining nibbles of a hexadecimal string are those of one
 pub hex_later : (s : List ℕ) (from at to j : ℕ) → Hex s from j to → from ≤ at → at ≤ to → Hex s at j to
 hex_later s from at to j h begun left = record { nibbles = h.nibbles ∙ run_later is_nibble s from at begun (omega (arith, h.nibbles)); ends = h.ends; next = h.next }

@@ -1,4 +1,4 @@
--- Options are nothing or something, and not both.
+-- An option is `None` or `Some`, and not both.
 use Rattle.std.proofs.Common.{◌≡◌, ◌⊎◌, inl, inr, Option, Some, None, refl}
 
 pub option_cases : {A : Type 0} (o : Option A) → (o ≡ None) ⊎ ((x : A) × (o ≡ Some x))

@@ -1,4 +1,4 @@
--- What stands behind a prefix.
+-- The text after a prefix.
 use Rattle.std.proofs.Common.{◌≡◌, ℕ, inl, inr, Bool, true, false, cond, List, [], ◌∷◌, ◌++◌, Option, Some, None, refl, sym, ap, ◌∙◌, arith, eqb, option_map}
 use Rattle.std.specs.Prelude.{MatchOption}
 use Rattle.std.specs.Borrow.{Bor}
@@ -22,7 +22,7 @@ behind_is (c ∷ p) (d ∷ s) x e = at_test (eqb d c) refl e (behind_is p s x) w
   at_test true h e rest = ap (λ y. y ∷ s) (eqb-true d c h) ∙ ap (λ t. c ∷ t) (rest e)
   at_test false h e rest = absurd (none_some x e)
 
--- as `strip_prefix` answers
+-- the result of `strip_prefix`
 pub behind_answer : (p s : List ℕ) (r : Option (Bor (List ℕ))) → MatchOption r (FindsTextPrefix p s None) (λ x. StripsPrefix (FindsTextPrefix p) s x.now) → option_map (λ (x : Bor (List ℕ)). x.now) r ≡ behind_prefix p s
 behind_answer p s None h = elim (option_cases (behind_prefix p s)) [ inl e ↦ sym e | inr e ↦ absurd (h e.0 (behind_is p s e.0 e.1)) ]
 behind_answer p s (Some x) h =

@@ -1,4 +1,4 @@
--- A part of a symbol from a place up to another, a byte at a time from its front.
+-- A part of a symbol from a place to before another, byte by byte from its start.
 use Rattle.std.proofs.Common.{◌≡◌, ℕ, zero, suc, ◌+◌, ◌-◌, ◌<◌, ◌≤◌, ◌&&◌, Bool, true, false, not, cond, List, [], ◌∷◌, length, take, drop, get_or, slice_range, Some, None, refl, ap, ◌∙◌, arith, length-take, length-drop, eqb}
 use Rattle.demangle_symbol.specs.Digits.{is_byte}
 use Rattle.std.specs.Prelude.{position}
@@ -7,14 +7,14 @@ use Rattle.std.proofs.lemmas.List.{at_drop_more, drop-drop, drop-take}
 use Rattle.std.proofs.lemmas.Option.{slice_get-get_or, slice_get_within, get_or_from_slice_get}
 use Rattle.std.proofs.lemmas.Bool.Decides.{nat_tests}
 
--- a byte that is another
+-- a byte that is another one
 pub is_byte_not : (s : List ℕ) (k b : ℕ) → k < length s → is_byte s k b ≡ false → (slice_get s k ≡ Some (get_or s k 0)) × (eqb (get_or s k 0) b ≡ false)
 unfolding is_byte
 is_byte_not s k b within h =
     let here : slice_get s k ≡ Some (get_or s k 0) = slice_get-get_or s k 0 within in
     (here, rw here at h)
 
--- the byte at its front, and the rest
+-- the first byte, and the rest
 pub range_first : (s : List ℕ) (k to b : ℕ) → k < to → slice_get s k ≡ Some b → slice_range s k to ≡ b ∷ slice_range s (k + 1) to
 range_first s k to b lt here =
     let within : k < length s = slice_get_within s k b here in
@@ -22,7 +22,7 @@ range_first s k to b lt here =
     let n : to - k ≡ suc (to - (k + 1)) = omega arith in
     ap (λ m. take m (drop k s)) n ∙ at_drop_more (λ t. take (suc (to - (k + 1))) t) s k 0 within ∙ ap (λ x. x ∷ slice_range s (k + 1) to) is
 
--- nothing is left of it
+-- an empty part
 pub range_past : (s : List ℕ) (k to : ℕ) → to ≤ k → slice_range s k to ≡ []
 range_past s k to past =
     let n : to - k ≡ 0 = omega arith in
@@ -31,7 +31,7 @@ range_past s k to past =
 pub range_length : (s : List ℕ) (i j : ℕ) → j ≤ length s → length (slice_range s i j) ≡ j - i
 range_length s i j within = omega (arith, length-take (j - i) (drop i s), length-drop i s)
 
--- what is left of a part behind its first k bytes
+-- the rest of a part after its first k bytes
 pub range_drop : (s : List ℕ) (i k to : ℕ) → i + k ≤ to → drop k (slice_range s i to) ≡ slice_range s (i + k) to
 range_drop s i k to le =
     let n : to - i ≡ k + (to - (i + k)) = omega arith in
@@ -46,7 +46,7 @@ range_take s i j to le within = take_of_take (j - i) (to - i) (drop i s) (omega 
   take_of_take (suc n) (suc m) [] h = refl
   take_of_take (suc n) (suc m) (x ∷ xs) h = ap (λ t. x ∷ t) (take_of_take n m xs (omega arith))
 
--- where the first byte that passes stands
+-- the place of the first byte that passes the test
 pub place_found : (p : ℕ → Bool) (s : List ℕ) (k to b : ℕ) → k < to → slice_get s k ≡ Some b → p b ≡ true → position_or_len p (slice_range s k to) ≡ 0
 place_found p s k to b lt here passes = ap (position_or_len p) (range_first s k to b lt here) ∙ ap (λ t. cond (not t) (1 + position_or_len p (slice_range s (k + 1) to)) 0) passes
 
@@ -70,7 +70,7 @@ position_past p s from to n within le e =
       at_end : (xs : List ℕ) → position_or_len p xs ≡ n → length xs ≤ n → position p xs ≡ None
       at_end xs e lt = grind (arith, nat_tests)
 
--- whether all the bytes of a part pass
+-- all bytes of a part pass the test, or not
 pub all_more : (p : ℕ → Bool) (s : List ℕ) (k to b : ℕ) → k < to → slice_get s k ≡ Some b → p b ≡ true → list_all p (slice_range s k to) ≡ list_all p (slice_range s (k + 1) to)
 all_more p s k to b lt here passes = ap (list_all p) (range_first s k to b lt here) ∙ ap (λ t. t && list_all p (slice_range s (k + 1) to)) passes
 

@@ -1,4 +1,4 @@
--- The characters of a string constant, one after another, and their pieces.
+-- The characters of a string constant in order, and their pieces.
 use Rattle.std.proofs.Common.{◌≡◌, ℕ, ◌≤◌, true, false, List, [], ◌∷◌, ◌++◌, map, Option, Some, None, option_map, refl, sym, ap, ◌∙◌, append_assoc}
 use Rattle.std.specs.Prelude.{encode_utf8, flat_map, is_some, IsSome}
 use Rattle.std.specs.Str.{is_utf8}
@@ -11,7 +11,7 @@ use Rattle.demangle_symbol.specs.Nibbles.{nibbles_in, characters_of, character_p
 use Rattle.demangle_symbol.specs.declared.cursor.Part.{Part}
 use Rattle.demangle_sink.proofs.Parts.{part_past}
 
--- no nibbles are the empty text
+-- the empty list of nibbles spells the empty text
 string_empty : string_of [] ≡ Some []
 unfolding string_of
 string_empty =
@@ -25,7 +25,7 @@ same_some : (o p : Option (List ℕ)) (c : ℕ) → o ≡ option_map (λ cs. c �
 same_some o None c e = ap is_some e
 same_some o (Some cs) c e = ap is_some e
 
--- a character in front makes no difference to whether it is a text
+-- with a character removed from the start, the nibbles are a text exactly if they were one
 pub text_on : (s : List ℕ) (a b : Part) (c : ℕ) → string_of (nibbles_in s a) ≡ option_map (λ cs. c ∷ cs) (string_of (nibbles_in s b)) → is_some (string_of (nibbles_in s a)) ≡ is_some (string_of (nibbles_in s b))
 text_on s a b c e = same_some (string_of (nibbles_in s a)) (string_of (nibbles_in s b)) c e
 
@@ -35,20 +35,20 @@ first_char : (o p : Option (List ℕ)) (c : ℕ) → o ≡ option_map (λ cs. c 
 first_char o None c e h = let none : false ≡ true = sym (ap is_some e) ∙ h in absurd (cc)
 first_char o (Some cs) c e h = ap (λ x. some_or [] x (λ ds. ds)) e
 
--- the characters are the first and those that are left
+-- the characters are the first one and the remaining ones
 pub characters_front : (s : List ℕ) (a b : Part) (c : ℕ) → string_of (nibbles_in s a) ≡ option_map (λ cs. c ∷ cs) (string_of (nibbles_in s b)) → IsSome (string_of (nibbles_in s a)) → characters_of (nibbles_in s a) ≡ c ∷ characters_of (nibbles_in s b)
 characters_front s a b c e h = first_char (string_of (nibbles_in s a)) (string_of (nibbles_in s b)) c e h
 
 pub characters_done : (s : List ℕ) (rest : Part) → rest.to ≤ rest.from → characters_of (nibbles_in s rest) ≡ []
 characters_done s rest past = ap (λ o. some_or [] o (λ cs. cs)) (string_done s rest past)
 
--- the pieces of one character more
+-- the pieces of one more character
 pub character_pieces-push : (cs : List ℕ) (c : ℕ) → character_pieces (cs ++ c ∷ []) ≡ character_pieces cs ++ map encode_utf8 (literal_escape 34 c)
 character_pieces-push cs c =
     ap (map encode_utf8) (flat_map-append (literal_escape 34) cs (c ∷ []) ∙ ap (λ x. flat_map (literal_escape 34) cs ++ x) (append-nil (literal_escape 34 c)))
     ∙ map-append encode_utf8 (flat_map (literal_escape 34) cs) (literal_escape 34 c)
 
--- the pieces round one character
+-- the pieces before and after one character
 pub character_pieces-split : (cs rest : List ℕ) (c : ℕ) → character_pieces (cs ++ (c ∷ rest)) ≡ (character_pieces cs ++ map encode_utf8 (literal_escape 34 c)) ++ character_pieces rest
 character_pieces-split cs rest c =
     ap character_pieces (sym (append_assoc cs (c ∷ []) rest))
@@ -56,11 +56,11 @@ character_pieces-split cs rest c =
     ∙ map-append encode_utf8 (flat_map (literal_escape 34) (cs ++ c ∷ [])) (flat_map (literal_escape 34) rest)
     ∙ ap (λ x. x ++ character_pieces rest) (character_pieces-push cs c)
 
--- the text after one character more is one
+-- the rest after one more character is a text
 pub text_left : (s : List ℕ) (a b : Part) (c : ℕ) → string_of (nibbles_in s a) ≡ option_map (λ cs. c ∷ cs) (string_of (nibbles_in s b)) → IsSome (string_of (nibbles_in s a)) → IsSome (string_of (nibbles_in s b))
 text_left s a b c e h = sym (text_on s a b c e) ∙ h
 
--- the first character that is left comes behind those that are done
+-- the next remaining character follows those that are done
 pub characters_on : (s : List ℕ) (whole a b : Part) (done : List ℕ) (c : ℕ) → characters_of (nibbles_in s whole) ≡ done ++ characters_of (nibbles_in s a)
     → string_of (nibbles_in s a) ≡ option_map (λ cs. c ∷ cs) (string_of (nibbles_in s b)) → IsSome (string_of (nibbles_in s a))
     → characters_of (nibbles_in s whole) ≡ done ++ (c ∷ characters_of (nibbles_in s b))

@@ -1,4 +1,4 @@
--- Each word's function gives what its relation says, and nothing else.
+-- The function of each primitive returns exactly the values of its relation.
 use Rattle.std.specs.Prelude.{◌≡◌, ◌↔◌, IsTrue, ℕ, ◌+◌, ◌^◌, ◌<◌, ◌≤◌, ◌&&◌, ◌||◌, ◌==◌, Bool, true, false, not, List, length, Option, Some, None, nat_lt, nat_le, slice_get, slice_range}
 use Rattle.std.proofs.Common.{cond, refl, sym, ◌∙◌, ap, subst, arith, inl, inr}
 use Rattle.std.proofs.lemmas.Bool.{ltb-true, lt-ltb, leb-true, le-leb}
@@ -6,7 +6,7 @@ use Rattle.demangle_symbol.specs.Digits.{run_end, is_byte}
 use Rattle.demangle_symbol.specs.Words.{Name, Read, only_if, then_if_some, is_upper, is_lower, namespace_at, Namespace, is_digit_62, integer_value, integer_at, Integer, optional_at, OptInteger, backref_at, Backref, digits_from, length_end, name_from, name_len, name_of, tail_len, identifier_at, Identifier, is_nibble, nibbles_at, Hex}
 use Rattle.demangle_symbol.proofs.Digits.{is_byte_there}
 
--- a value and the place behind it
+-- a value and the place after it
 abbrev pair : {A : Type 0} → A → ℕ → A × ℕ
 pair a j = (a, j)
 
@@ -103,7 +103,7 @@ nibbles_law s i j ns =
       λ h. if_true (is_byte s stop 95) (slice_range s i stop) ns (stop + 1) j (byte_is s stop 95 (subst (λ z. slice_get s z ≡ Some 95) h.1.nibbles h.1.ends)) (subst (λ z. ns ≡ slice_range s i z) h.1.nibbles h.2) (subst (λ z. j ≡ z + 1) h.1.nibbles h.1.next),
     )
 
--- there is a Punycode part behind the `u`
+-- there is a Punycode part after the `u`
 some_tail : (u : Bool) (n : ℕ) → not (u && n == 0) ≡ true → u ≡ true → 0 < n
 some_tail true n h e = grind (arith, h)
 some_tail false n h e = cc e

@@ -3,16 +3,16 @@ use Rattle.std.specs.Prelude.{◌≡◌, ◌==◌, ℕ, ◌+◌, ◌-◌, ◌<�
 use Rattle.std.specs.List.{prefix_len}
 use Rattle.std.specs.Int.Digits.{number_from_digits}
 
--- where the longest run of bytes that pass the test ends, from place i on
+-- the end of the longest run of bytes from place i that pass the test
 abbrev pub run_end : (ℕ → Bool) → List ℕ → ℕ → ℕ
 run_end passes s i = i + prefix_len passes (drop i s)
 
--- whether it is there, and this number
+-- the option has a value, and the value is this number
 abbrev pub option_is : Option ℕ → ℕ → Bool
 option_is None b = false
 option_is (Some x) b = x == b
 
--- whether the byte at place i is b
+-- the byte at place i is b
 unfoldable pub is_byte : List ℕ → ℕ → ℕ → Bool
 is_byte s i b = option_is (slice_get s i) b
 
@@ -27,7 +27,7 @@ is_digit_10 b = nat_le 48 b && nat_le b 57
 abbrev pub digit_10 : ℕ → ℕ
 digit_10 b = b - 48
 
--- The bytes from i up to j spell the number v in decimal digits: all the digits that stand there, and at least one.
+-- The bytes from i to before j are all consecutive decimal digits from i, at least one. They spell the number v.
 pub record Decimal (s : List ℕ) (i j v : ℕ) : Type 0 where
   pub some : i < run_end is_digit_10 s i
   pub next : j ≡ run_end is_digit_10 s i

@@ -1,5 +1,5 @@
 -- Internal: no public contract cites this.
--- How a character of a literal is written, and the constants that a number stands for.
+-- The escaped form of a character in a literal, and the constants that a number represents.
 use Rattle.std.specs.Prelude.{ℕ, Bool, true, false, ◌==◌, if◌then◌else◌, List, [], ◌∷◌, ◌++◌, codes, Option, Some, None}
 use lib.Utf8.{scalar}
 use Rattle.std.specs.Fmt.{digits}
@@ -8,18 +8,18 @@ use Rattle.demangle_symbol.specs.Words.{only_if}
 use Rattle.demangle_symbol.specs.declared.literal.Escape.{Escape}
 use Rattle.demangle_symbol.specs.declared.literal.Escape.TheVariants.{Itself, Backslash, Code}
 
--- the characters that it is written with
+-- the characters of the escaped form
 abbrev pub escape_text : Escape → ℕ → List ℕ
 escape_text Itself c = c ∷ []
 escape_text (Backslash letter) c = code "\\" ∷ letter ∷ []
 escape_text Code c = codes "\\u{" ++ digits 16 false c ++ codes "}"
 
--- the character of this number, if it is a Unicode scalar value
+-- the character with this number, if the number is a Unicode scalar value
 abbrev pub character_of : Option ℕ → Option ℕ
 character_of None = None
 character_of (Some n) = only_if (scalar n) n
 
--- 0 is false and 1 is true
+-- 0 is false and 1 is true; no other number is a bool
 abbrev pub truth_of : Option ℕ → Option Bool
 truth_of None = None
 truth_of (Some n) = if n == 0 then Some false else if n == 1 then Some true else None

@@ -1,5 +1,5 @@
 -- Internal: no public contract cites this.
--- Decimal digits read so far, identifiers by the places of their parts, and back references by their faults.
+-- Decimal digits read so far, identifiers as the bounds of their parts, and back references with their errors.
 use Rattle.std.specs.Prelude.{◌≡◌, ℕ, ◌+◌, ◌-◌, ◌<◌, ◌≤◌, true, List, [], ◌∷◌, codes, length, slice_range, option_map, nat_lt, None, Some, Result, Ok, Err, if◌then◌else◌}
 use Rattle.demangle_symbol.specs.Digits.{is_byte, run_end, number, is_digit_10, digit_10}
 use Rattle.demangle_symbol.specs.Words.{Read, Name, identifier_at, max_depth, length_end, tail_len, digits_from, name_from, name_len, punycode_len, ascii_to}
@@ -8,7 +8,7 @@ use Rattle.demangle_symbol.specs.declared.cursor.ParseError.{ParseError}
 use Rattle.demangle_symbol.specs.declared.cursor.ParseError.TheVariants.{Invalid, RecursedTooDeep}
 use Rattle.demangle_symbol.specs.declared.cursor.ident.Ident.{Ident}
 
--- The bytes from i up to k are digits, and n is their number.
+-- The bytes from i to before k are digits, and n is the number that they spell.
 pub record DigitsUpTo (s : List ℕ) (i k n : ℕ) : Type 0 where
   pub order : i ≤ k
   pub run : run_end is_digit_10 s i ≡ run_end is_digit_10 s k
@@ -18,22 +18,22 @@ pub record DigitsUpTo (s : List ℕ) (i k n : ℕ) : Type 0 where
 abbrev pub name_in : List ℕ → Ident → Name
 name_in s ident = record { ascii = slice_range s ident.ascii.from ident.ascii.to; punycode = slice_range s ident.punycode.from ident.punycode.to }
 
--- how many bytes both parts have
+-- the number of bytes of both parts
 abbrev pub name_size : Ident → ℕ
 name_size ident = (ident.ascii.to - ident.ascii.from) + (ident.punycode.to - ident.punycode.from)
 
--- what stands between `punycode{` and the Punycode part of a name that can't be decoded
+-- the pieces between `punycode{` and the Punycode part of a name that can't be decoded
 abbrev pub ascii_front : Name → List (List ℕ)
 ascii_front a = if is_empty a.ascii then [] else a.ascii ∷ codes "-" ∷ []
 
--- both parts lie within these bytes
+-- both parts are within these bytes
 pub record LiesWithin (s : List ℕ) (ident : Ident) : Type 0 where
   pub ascii_order : ident.ascii.from ≤ ident.ascii.to
   pub ascii_inside : ident.ascii.to ≤ length s
   pub punycode_order : ident.punycode.from ≤ ident.punycode.to
   pub punycode_inside : ident.punycode.to ≤ length s
 
--- The bytes from i up to j spell an identifier whose parts stand at these places.
+-- The bytes from i to before j spell an identifier, and its parts have these bounds.
 pub record IsIdent (s : List ℕ) (i j : ℕ) (ident : Ident) : Type 0 where
   pub some : digits_from s i < length_end s (digits_from s i)
   pub next : j ≡ name_from s i + name_len s i
@@ -44,14 +44,15 @@ pub record IsIdent (s : List ℕ) (i j : ℕ) (ident : Ident) : Type 0 where
   pub punycode_to : ident.punycode.to ≡ j
   pub not_empty : is_byte s i 117 ≡ true → 0 < tail_len s (name_from s i) j
 
--- where the parts of the identifier from i up to j stand
+-- the bounds of the parts of the identifier from i to before j
 abbrev pub ident_parts : List ℕ → ℕ → ℕ → Ident
 ident_parts s i j = record { ascii = record { from = name_from s i; to = ascii_to s i j }; punycode = record { from = j - punycode_len s i j; to = j } }
 
 abbrev pub ident_at : List ℕ → ℕ → Read Ident
 ident_at s i = option_map (λ r. (ident_parts s i r.1, r.1)) (identifier_at s i)
 
--- how a back reference is answered at a depth: a word that is none is Invalid, and one at the greatest depth is too deep
+-- The result of reading a back reference at a depth. A primitive that is not a back reference is `Invalid`. At the
+-- greatest depth, a valid one is `RecursedTooDeep`.
 abbrev pub backref_answer : ℕ → Read ℕ → Result (ℕ × ℕ) ParseError
 backref_answer depth None = Err Invalid
 backref_answer depth (Some r) = if nat_lt depth max_depth then Ok r else Err RecursedTooDeep

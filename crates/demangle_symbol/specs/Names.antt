@@ -10,10 +10,10 @@ is_empty (b ∷ bs) = false
 abbrev pub is_nameless : Name → Bool
 is_nameless a = is_empty a.ascii && is_empty a.punycode
 
--- a name whose Punycode can't be decoded
+-- the pieces of a name whose Punycode can't be decoded
 abbrev pub fallback_pieces : Name → List (List ℕ)
 fallback_pieces a = codes "punycode{" ∷ (if is_empty a.ascii then [] else a.ascii ∷ codes "-" ∷ []) ++ a.punycode ∷ codes "}" ∷ []
 
--- a name without Punycode is one piece, and each decoded character is one
+-- a name without Punycode is one piece; each character of a decoded name is a piece
 unfoldable pub name_pieces : Name → List (List ℕ)
 name_pieces a = if is_empty a.punycode then a.ascii ∷ [] else some_or (fallback_pieces a) (puny a.ascii a.punycode) (λ cs. map encode_utf8 cs)

@@ -1,4 +1,4 @@
--- Punycode as RFC 3492 has it, over whole numbers, with `_` for `-` and lower case digits alone.
+-- Punycode as RFC 3492 defines it, over natural numbers. `_` replaces `-`, and digits are lower case.
 use Rattle.std.specs.Prelude.{ℕ, zero, suc, ◌+◌, ◌-◌, ◌*◌, ◌/◌, ◌%◌, min, max, Bool, true, false, ◌&&◌, nat_lt, nat_le, List, [], ◌∷◌, length, Option, Some, None, option_map, option_and_then, if◌then◌else◌, insert}
 use lib.Utf8.{scalar as is_scalar}
 
@@ -11,18 +11,19 @@ digit_of c =
 abbrev pub threshold : ℕ → ℕ → ℕ
 threshold k bias = min (max (k - bias) 1) 26
 
--- the RFC's loop, of at most n turns
+-- the RFC's loop, with at most n iterations
 unfoldable pub bias_after : ℕ → ℕ → ℕ
 bias_after zero delta = (36 * delta) / (delta + 38)
 bias_after (suc n) delta = elim (nat_lt 455 delta) [ true ↦ 36 + bias_after n (delta / 35) | false ↦ (36 * delta) / (delta + 38) ]
 
--- the bias behind a delta, where there are now `count` characters; the first delta is damped
+-- the bias after a delta; `count` is the number of characters with the new one, and the first delta is damped
 unfoldable pub adapted_bias : ℕ → ℕ → Bool → ℕ
 adapted_bias delta count first =
     let damped = delta / (if first then 700 else 2) in bias_after damped (damped + damped / count)
 
--- Where the reading of deltas stands: how many characters there are, whether no delta was read yet, and the bias;
--- within a delta its sum so far, the next digit's weight, and the place of that digit times 36.
+-- The state of the reading of deltas. `count` is the number of characters so far, and `first` says that no delta was
+-- read yet. Within a delta, `sum` is its value so far, `weight` the weight of the next digit, and `place` the number of
+-- that digit times 36, from 36.
 pub record Reading : Type 0 where
   pub count : ℕ
   pub first : Bool
@@ -48,7 +49,8 @@ deltas r (c ∷ s) = elim (digit_of c) [
   ]
 ]
 
--- Each delta gives a place and a character, from the place i and the character n before it.
+-- Each delta gives an index and a character. They are counted from the index i and the character n of the last
+-- insertion.
 unfoldable pub insertions : ℕ → ℕ → List ℕ → List ℕ → Option (List ℕ)
 insertions n i characters [] = if nat_lt 128 (length characters) then None else Some characters
 insertions n i characters (delta ∷ ds) =
@@ -57,6 +59,6 @@ insertions n i characters (delta ∷ ds) =
     let at = (i + delta) % size in
     elim (is_scalar c && nat_le size 128) [ true ↦ insertions c (at + 1) (insert characters at c) ds | false ↦ None ]
 
--- the characters of a name with these digits
+-- the characters of a name with this ASCII part and these digits, if it can be decoded
 unfoldable pub puny : List ℕ → List ℕ → Option (List ℕ)
 puny ascii digits = option_and_then (insertions 128 0 ascii) (deltas (next_delta (length ascii) true 72) digits)

@@ -1,4 +1,4 @@
-//! The bytes of a symbol, which only `byte` tells.
+//! Access to the bytes of a symbol. Only `Symbol::byte` reads one, and it counts each look.
 ghost use Rattle.std.specs.Prelude.{◌≡◌, ℕ, [], ◌∷◌, ◌+◌, ◌-◌, ◌*◌, ◌<◌, ◌≤◌, length, slice_get, slice_range, ◌^◌, IfOk, OnErr, IfErr, IfSome, IfNone, SomeIff, IsTrue, ◌↔◌};
 ghost use Rattle.std.specs.Str.{IsAscii};
 ghost use Rattle.demangle_symbol.specs.Digits.{is_byte, run_end, Decimal, is_digit_10};
@@ -21,21 +21,22 @@ pub use ident::Ident;
 pub use looks::Looks;
 pub use words::MAX_DEPTH;
 
-/// Why a symbol was not read, by the Rust crate's names.
+/// The reason for which a symbol could not be parsed. The variants have the names of the Rust
+/// crate.
 #[derive(Clone, Copy, Debug, PartialEq, Eq)]
 pub enum ParseError {
     Invalid,
     RecursedTooDeep,
 }
 
-/// A part of a symbol, from a place up to another.
+/// A part of a symbol: the bytes from place `from` up to, but without, place `to`.
 #[derive(Clone, Copy, Debug, PartialEq, Eq)]
 pub struct Part {
     pub from: usize,
     pub to: usize,
 }
 
-/// The bytes of a symbol behind its scheme's prefix.
+/// The bytes of a symbol after the prefix of its mangling scheme.
 #[derive(Drop)]
 pub struct Symbol<'s> {
     inner: &'s str,
@@ -49,7 +50,7 @@ impl<'s> Model for Symbol<'s> {
     ghost view = { λ s. s.inner.now };
 }
 
-/// A part of a symbol, that can only be measured or put into a sink.
+/// The text of a part of a symbol. It can only be measured or put into a sink.
 #[derive(Drop)]
 pub struct Span<'s> {
     text: &'s str,
@@ -64,14 +65,18 @@ impl<'s> Model for Span<'s> {
 }
 
 impl<'s> Span<'s> {
-    /// How many bytes it has.
+    /// Returns the number of bytes.
     pub fn len(&self) -> usize
         ensures { result ≡ length self.now }
     {
         self.text.len()
     }
 
-    /// Puts it into a sink. It is no look.
+    /// Puts the text into a sink as one piece. It makes no look.
+    ///
+    /// # Errors
+    ///
+    /// Returns `SinkRefused` if the sink or the size limit rejects the piece.
     #[inline(always)]
     pub fn write_to<S: TextSink>(
         &self,
@@ -85,21 +90,21 @@ impl<'s> Span<'s> {
 }
 
 impl<'s> Symbol<'s> {
-    /// The symbol whose bytes behind the prefix are these.
+    /// Returns the symbol that has these bytes after its prefix.
     pub fn new(inner: &'s str) -> Symbol<'s>
         ensures { result ≡ inner.now }
     {
         Symbol { inner }
     }
 
-    /// How many bytes it has. It is no look.
+    /// Returns the number of bytes. It makes no look.
     pub fn len(&self) -> usize
         ensures { result ≡ length self.now }
     {
         self.inner.len()
     }
 
-    /// The byte at a place, if there is one. It is one look.
+    /// Returns the byte at a place, or `None` after the end. It makes one look.
     pub fn byte(&self, place: usize, looks: &mut Looks) -> Option<u8>
         ensures byte { result ≡ slice_get self.now place }
         ensures look { looks.new ≡ looks.old + 1 }
@@ -111,7 +116,7 @@ impl<'s> Symbol<'s> {
         self.inner.as_bytes().get(place).copied()
     }
 
-    /// Whether all its bytes are ASCII. It is one look for each byte.
+    /// Returns `true` if all bytes are ASCII. It makes at most one look for each byte.
     pub fn is_ascii(&self, looks: &mut Looks) -> bool
         ensures ascii { IsTrue result ↔ IsAscii self.now }
         ensures grows { looks.old ≤ looks.new }
@@ -128,7 +133,7 @@ impl<'s> Symbol<'s> {
         all
     }
 
-    /// A part of it, to be measured or put into a sink. It is no look.
+    /// Returns the text of a part, to be measured or put into a sink. It makes no look.
     pub fn span(&self, part: Part) -> Span<'s>
         requires ascii { IsAscii self.now }
         requires order { part.from ≤ part.to }
@@ -140,7 +145,7 @@ impl<'s> Symbol<'s> {
         }
     }
 
-    /// Whether this byte stands at a place. It is one look.
+    /// Returns `true` if the byte at a place is `byte`. It makes one look.
     #[tactic(auto, unfolding(crate::specs::Digits::is_byte))]
     pub fn is_at(&self, byte: u8, place: usize, looks: &mut Looks) -> bool
         ensures there { result ≡ is_byte self.now place byte }
@@ -154,7 +159,11 @@ impl<'s> Symbol<'s> {
         }
     }
 
-    /// The number that decimal digits spell, and the place behind them.
+    /// Reads a decimal number and returns it with the place after its digits.
+    ///
+    /// # Errors
+    ///
+    /// Returns `Invalid` if there is no digit at the place, or if a `usize` cannot hold the number.
     #[tactic(auto, using(crate::proofs::Digits::decimal_steps))]
     pub fn decimal(&self, place: usize, looks: &mut Looks) -> Result<(usize, usize), ParseError>
         ensures ok { IfOk result (λ r. Decimal self.now place r.1 r.0) }
@@ -168,7 +177,8 @@ impl<'s> Symbol<'s> {
         self.decimal_from(0, place, place, looks)
     }
 
-    /// The same of digits that begin at `start`, of which `number` was read in front of `from`.
+    /// Reads the remaining digits of a decimal number and returns it with the place after them. The
+    /// number starts at `start`, and its digits before `from` have the value `number`.
     #[tactic(auto, using(crate::proofs::Digits::decimal_steps))]
     #[inline(always)]
     fn decimal_from(
@@ -196,8 +206,8 @@ impl<'s> Symbol<'s> {
                 }
                 return Ok((number, at));
             };
-            // A number that a `usize` cannot hold is an error, as in the Rust crate, and never wraps
-            // to a small one.
+            // If a `usize` cannot hold the number, that is an error, as in the Rust crate. The
+            // number never wraps to a small one.
             let Some(sum) = append_decimal(number, digit) else {
                 return Err(ParseError::Invalid);
             };
@@ -210,7 +220,8 @@ impl<'s> Symbol<'s> {
         Ok((number, end))
     }
 
-    /// The decimal digit at a place, if one stands there.
+    /// Returns the value of the decimal digit at a place, or `None` if another byte or the end is
+    /// there.
     #[tactic(auto, using(crate::proofs::Digits::run_stops, crate::proofs::Digits::run_none))]
     #[inline(always)]
     fn digit(&self, place: usize, looks: &mut Looks) -> Option<u8>
@@ -228,14 +239,14 @@ impl<'s> Symbol<'s> {
     }
 }
 
-/// The number with this digit behind its own, in a base, if it fits 64 bits.
+/// Returns the number with this digit appended in a base, or `None` if it does not fit 64 bits.
 pub(crate) fn append_digit(number: u64, base: u64, digit: u8) -> Option<u64>
     ensures { SomeIff result (number * base + digit < 2 ^ 64) (number * base + digit) }
 {
     number.checked_mul(base)?.checked_add(u64::from(digit))
 }
 
-/// Returns the number with this decimal digit after its own, if a `usize` holds it.
+/// Returns the number with this decimal digit appended, or `None` if a `usize` cannot hold it.
 #[inline(always)]
 fn append_decimal(number: usize, digit: u8) -> Option<usize>
     ensures { SomeIff result (number * 10 + digit < 2 ^ 64) (number * 10 + digit) }

@@ -1,5 +1,5 @@
-//! A symbol's bytes behind one accessor, the words that they spell, and the characters of names and
-//! literals.
+//! Reads the bytes of a symbol: one accessor, the primitives that they spell, and the characters of
+//! names and literals.
 #![tactic(auto)]
 
 pub mod cursor;

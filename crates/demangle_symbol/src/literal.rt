@@ -1,4 +1,4 @@
-//! Literals of characters and strings.
+//! Prints the literals of char and string constants.
 ghost use Rattle.std.specs.Prelude.{◌≡◌, ◌+◌, ◌<◌, [], ◌∷◌, ◌++◌, false, map, encode_utf8, codes};
 ghost use Rattle.std.specs.Fmt.{digits, digit_glyph};
 ghost use Rattle.demangle_sink.specs.Limit.{Prints, Ready};
@@ -15,18 +15,18 @@ mod tests;
 
 pub use strings::{is_string, put_string_literal};
 
-/// How a character is written in a literal.
+/// The way to write a character in a literal.
 #[derive(Clone, Copy)]
 enum Escape {
-    /// As it stands.
+    /// The character itself.
     Itself,
-    /// A backslash, and this character.
+    /// A backslash, then this character.
     Backslash(char),
     /// Its code in hexadecimal digits, between `\u{` and `}`.
     Code,
 }
 
-/// Whether a character of this category, past ASCII, is written by its code.
+/// Returns `true` if a character of this category, past ASCII, is written as its code.
 fn is_hidden_category(category: GeneralCategory) -> bool
     ensures { result ≡ is_hidden_category category }
 {
@@ -43,19 +43,19 @@ fn is_hidden_category(category: GeneralCategory) -> bool
     }
 }
 
-/// Whether a character past ASCII stands for itself.
+/// Returns `true` if a character past ASCII is written as itself.
 fn is_shown(c: char) -> bool
     ensures { result ≡ is_shown c }
 {
     c >= '\u{80}' && !is_hidden_category(GeneralCategory::for_char(c)) && !is_grapheme_extend(c)
 }
 
-/// How a character is written in a literal with this quote.
+/// Returns the way to write a character in a literal with this quote.
 fn literal_escape(quote: char, c: char) -> Escape
     ensures { escape_text result c ≡ literal_escape quote c }
 {
-    // Only the literal's own quote is escaped: `'` stands for itself in a string, and `"` as a
-    // character.
+    // Only the literal's own quote is escaped. A string literal contains `'` unescaped, and a char
+    // literal `"`.
     if c == quote || c == '\\' {
         return Escape::Backslash(c);
     }
@@ -75,7 +75,7 @@ fn literal_escape(quote: char, c: char) -> Escape
     }
 }
 
-/// A hexadecimal digit.
+/// Returns the byte of a hexadecimal digit.
 fn digit_byte(digit: u64) -> u8
     requires { digit < 16 }
     ensures { result ≡ digit_glyph false digit }
@@ -87,7 +87,7 @@ fn digit_byte(digit: u64) -> u8
     }
 }
 
-/// A hexadecimal digit, as a character.
+/// Returns the character of a hexadecimal digit.
 fn digit_char(digit: u64) -> char
     requires { digit < 16 }
     ensures { result ≡ digit_glyph false digit }
@@ -95,7 +95,7 @@ fn digit_char(digit: u64) -> char
     char::from(digit_byte(digit))
 }
 
-/// The hexadecimal digits of a number, the highest first.
+/// Returns the hexadecimal digits of a number, the highest first.
 fn hexadecimal(number: u64) -> ArrayVec<char, 16>
     ensures { result.items ≡ digits 16 false number }
 {
@@ -136,7 +136,7 @@ fn put_backslashed<S: TextSink>(
     put_char(letter, out)
 }
 
-/// Puts one character of a literal, each character that it is written with as one piece.
+/// Puts one character of a literal in its escaped form. Each character of that form is one piece.
 fn put_escaped<S: TextSink>(
     quote: char,
     c: char,
@@ -152,7 +152,11 @@ fn put_escaped<S: TextSink>(
     }
 }
 
-/// Puts the literal of a character: its quote, the character, and its quote.
+/// Puts the literal of a character: a quote, the character and a quote.
+///
+/// # Errors
+///
+/// Returns `SinkRefused` if the sink or the size limit rejects a piece. No later piece is sent.
 #[tactic(auto, using(demangle_sink::proofs::PrintsLemmas::prints_ready))]
 #[inline(never)]
 pub fn put_char_literal<S: TextSink>(
@@ -167,8 +171,8 @@ pub fn put_char_literal<S: TextSink>(
     put_char('\'', out)
 }
 
-/// The character of a char constant by the number of its hex word. There is none without a number,
-/// and where that is no Unicode scalar value.
+/// Returns the character of a char constant, given the number of its hexadecimal string. The result
+/// is `None` if there is no number or the number is not a Unicode scalar value.
 pub fn character_of(number: Option<u128>) -> Option<char>
     ensures { result ≡ character_of number }
 {
@@ -176,7 +180,8 @@ pub fn character_of(number: Option<u128>) -> Option<char>
     char::from_u32(code)
 }
 
-/// The value of a bool constant by the number of its hex word: 0 or 1, and no other.
+/// Returns the value of a bool constant, given the number of its hexadecimal string. Only 0 and 1
+/// have a value.
 pub fn truth_of(number: Option<u128>) -> Option<bool>
     ensures { result ≡ truth_of number }
 {

@@ -1,4 +1,5 @@
-//! Punycode (RFC 3492), with `_` for `-` and lower case digits alone.
+//! Decodes Punycode (RFC 3492) in the form of v0 names: `_` replaces `-`, and digits are lower
+//! case.
 ghost use Rattle.std.specs.Prelude.{◌≡◌, ℕ, ◌+◌, ◌-◌, ◌<◌, ◌≤◌, ◌∷◌, length, slice_index, slice_range, IfSome, IfNone, option_map, Bool, false};
 ghost use Rattle.demangle_symbol.specs.Idents.{LiesWithin, name_size};
 ghost use Rattle.demangle_symbol.specs.Punycode.{digit_of, threshold, adapted_bias, next_delta, deltas, puny};
@@ -10,14 +11,15 @@ mod printing;
 #[cfg(test)]
 mod tests;
 
-/// How many characters a decoded name has at most.
+/// The most characters that a decoded name may have.
 pub const SMALL_PUNYCODE_LEN: usize = 128;
 
-/// A delta above this gives no character, whatever stands before it: with at most 129 characters
-/// the number of the character rises by at least 0x110000.
+/// The largest delta that can give a character, whatever precedes it. A larger one raises the
+/// character number by at least 0x110000, since there are at most 129 characters.
 const MAX_DELTA: u64 = 0x11_0000 * 129 - 1;
 
-/// The value of a digit of Punycode, or `None` at any other byte, an upper case letter too.
+/// Returns the value of a Punycode digit, or `None` for any other byte. An upper case letter is not
+/// a digit.
 fn digit_of(byte: u8) -> Option<u64>
     ensures { result ≡ digit_of byte }
 {
@@ -28,7 +30,7 @@ fn digit_of(byte: u8) -> Option<u64>
     }
 }
 
-/// The digit at a place of the symbol.
+/// Returns the value of the digit at a place of the symbol, or `None` if another byte is there.
 fn digit_at(symbol: &Symbol<'_>, place: usize, looks: &mut Looks) -> Option<u64>
     requires { place < length symbol.now }
     ensures digit { result ≡ digit_of (slice_index symbol.now place) }
@@ -40,24 +42,26 @@ fn digit_at(symbol: &Symbol<'_>, place: usize, looks: &mut Looks) -> Option<u64>
     }
 }
 
-/// The threshold of a delta's digit, whose place is counted in steps of 36 from 36 on.
+/// Returns the threshold of a digit of a delta. `place` is 36 for the first digit, and 36 more for
+/// each later one.
 fn threshold(place: u64, bias: u64) -> u64
     ensures value { result ≡ threshold place bias }
     ensures low { 1 ≤ result }
     ensures high { result ≤ 26 }
 {
-    // Up to the bias RFC 3492 takes the least threshold, 1: there the difference ends at 0.
+    // RFC 3492 uses the least threshold, 1, for a place up to the bias. The difference is 0 there,
+    // as it saturates.
     place.saturating_sub(bias).max(1).min(26)
 }
 
-/// The bias behind a delta.
+/// Returns the bias after a delta. `count` is the number of characters with the new one.
 fn adapt(delta: u64, count: u64, first: bool) -> u64
     requires small { delta ≤ MAX_DELTA }
     requires some { 0 < count }
     ensures { result ≡ adapted_bias delta count first }
 {
-    // The parameters of RFC 3492 (5): damping 700, skew 38, thresholds 1 to 26, base 36; so 35 is
-    // the base less the least threshold, and 455 half of 35 x 26.
+    // The parameters of RFC 3492 (5) are: damping 700, skew 38, thresholds 1 to 26, base 36. So 35
+    // is the base minus the least threshold, and 455 is half of 35 x 26.
     let damped = if first { delta / 700 } else { delta / 2 };
     let mut delta = damped + damped / count;
     let mut place = 0;
@@ -68,7 +72,8 @@ fn adapt(delta: u64, count: u64, first: bool) -> u64
     place + 36 * delta / (delta + 38)
 }
 
-/// The delta that begins a part, and the place behind it.
+/// Reads the first delta of a part and returns it with the place after it. Returns `None` if a byte
+/// is not a digit, if the part ends too early, or if the delta is too large for any character.
 fn delta_at(symbol: &Symbol<'_>, digits: Part, bias: u64, looks: &mut Looks) -> Option<(u64, usize)>
     requires some { digits.from < digits.to }
     requires inside { digits.to ≤ length symbol.now }
@@ -100,15 +105,15 @@ fn delta_at(symbol: &Symbol<'_>, digits: Part, bias: u64, looks: &mut Looks) -> 
         if digit < last_below {
             return Some((sum, at + 1));
         }
-        // No overflow: a digit that does not end the delta is at least 1, so the sum, which is
-        // within the limit, is at least the weight.
+        // This cannot overflow. A digit that does not end the delta is at least 1. So the sum is at
+        // least the weight, and the sum is within the limit.
         weight *= 36 - last_below;
         place += 36;
     }
     None
 }
 
-/// The characters of an ASCII part, if they are not too many.
+/// Returns the characters of an ASCII part, or `None` if there are more than 128.
 #[tactic(auto, using(crate::proofs::Digits::range_more, demangle_sink::proofs::Parts::part_none))]
 fn ascii_characters(
     symbol: &Symbol<'_>,
@@ -135,8 +140,9 @@ fn ascii_characters(
     Some(characters)
 }
 
-/// The characters of a name with a Punycode part. There are none where a digit is bad, a delta is
-/// not finished, a value is no Unicode scalar value, or the characters are more than 128.
+/// Returns the characters of a name with a Punycode part. Returns `None` if a digit is invalid, a
+/// delta is incomplete, a value is not a Unicode scalar value, or there are more than 128
+/// characters.
 #[inline(never)]
 fn decode(
     symbol: &Symbol<'_>,
@@ -164,7 +170,7 @@ fn decode(
         let Some((delta, next)) = delta_at(symbol, digits, bias, looks) else {
             return None;
         };
-        // The Rust crate decodes into 128 characters, and prints a name of more of them undecoded.
+        // The Rust crate decodes into 128 characters. It prints a longer name undecoded.
         if characters.is_full() {
             return None;
         }

@@ -8,7 +8,7 @@ use Rattle.demangle_words.specs.declared.output.Output.{Ghosts}
 use Rattle.demangle_words.specs.declared.stretch.Stretch.{Stretch}
 use Rattle.demangle_sink.specs.declared.SinkRefused.{SinkRefused}
 use Rattle.demangle_v0.specs.PointRuns.{Stepped, ValidLeft}
-use Rattle.demangle_v0.specs.Parsers.{form_of, LeftValid, Same, DidRest, Did, Went as ParserWent, WentRest, WentSilent, WentUnfolded, unheard, env_of, reading_of}
+use Rattle.demangle_v0.specs.Parsers.{form_of, LeftValid, Same, DidRest, Did, Went, WentRest, WentSilent, WentUnfolded, unheard, env_of, reading_of}
 use Rattle.demangle_v0.specs.Points.{Comes, Does, Emits, Part, Turn, env, turn}
 use Rattle.demangle_v0.specs.declared.points.Point.{Point}
 use Rattle.demangle_v0.specs.declared.points.State.{State}
@@ -67,7 +67,7 @@ does_heard output b h v part s t stack now n m r d = record {
   sound = λ k _ _. k;
 }
 
-pub went : {N : ℕ} {V : Type 0} (output : Ghosts V) (v : V) (p : Point) {m k : Parser N} {r : Result Point Stop} → ParserWent p m r k → Did output p m v r k v
+pub went : {N : ℕ} {V : Type 0} (output : Ghosts V) (v : V) (p : Point) {m k : Parser N} {r : Result Point Stop} → Went p m r k → Did output p m v r k v
 went output v p {m} {k} {r} d = let x = d output.is_printed in record {
   does = does_heard output m.source.symbol.now (form_of m.source) v _ m.state k.state m.stack k.stack m.looks k.looks r x.does;
   same = x.same;

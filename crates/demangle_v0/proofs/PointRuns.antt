@@ -13,7 +13,7 @@ use Rattle.demangle_words.specs.declared.stretch.Stretch.TheVariants.{Fixed}
 use Rattle.demangle_v0.specs.Heights as heights
 use Rattle.demangle_grammar.specs.Reading.{Form, Place}
 use Rattle.demangle_grammar.proofs.Failed.{failed}
-use Rattle.demangle_v0.specs.Points.{most_frames, Bit, pays, puts, heard_bits, bits_looks, Env, Part, Turn, Emits, emitted_texts, mark_texts, pushed_on, then_frame, way_weight, weight_at, weight_of, weights, height_at, height_of, count_of, FitsFrame, Fits, rest_at, unit_rest, unit_rest_at, unit_rest_of, stack_rest, reading_rest, measure, is_inner, IsInner, AllInner, Went, Halted, Kept, PointDoes, bindings_left}
+use Rattle.demangle_v0.specs.Points.{most_frames, Bit, pays, puts, heard_bits, bits_looks, Env, Part, Turn, Emits, emitted_texts, mark_texts, pushed_on, then_frame, way_weight, weight_at, weight_of, weights, height_at, height_of, count_of, FitsFrame, Fits, rest_at, unit_rest, unit_rest_at, unit_rest_of, stack_rest, reading_rest, measure, is_inner, IsInner, AllInner, Continued, Halted, Kept, PointDoes, bindings_left}
 use Rattle.demangle_v0.specs.PointRuns.{Puts, unmarked_of, Stepped, Resumes, stays, pops, frame_height, AllFit, Valid, Emitted, left_of, Ran, Broke, Reads, ReadOn, first_looks}
 use Rattle.demangle_sink.specs.declared.SinkRefused.{SinkRefused}
 use Rattle.demangle_words.specs.declared.texts.Mark.{Mark}
@@ -83,8 +83,8 @@ kept_pushed stack now None k = ([], k ∙ sym (append-nil stack))
 kept_pushed stack now (Some f) k = (f ∷ [], k)
 
 module _ {V : Type 0} {e : Env V} where
-  put_way : {t u : Turn V} {q : Point} {part : Part} {x : V} {n : ℕ} (k : Option Mark) → k ≡ u.state.mark → (d : Went e part t q u) → (d.emitted ≡ None) ⊎ (u.state.mark ≡ None) → Puts e.output k u.output (Ok tt) x → n ≤ u.looks
-      → Went e part t q (record u { state = unmarked_of u.state; output = x; looks = n })
+  put_way : {t u : Turn V} {q : Point} {part : Part} {x : V} {n : ℕ} (k : Option Mark) → k ≡ u.state.mark → (d : Continued e part t q u) → (d.emitted ≡ None) ⊎ (u.state.mark ≡ None) → Puts e.output k u.output (Ok tt) x → n ≤ u.looks
+      → Continued e part t q (record u { state = unmarked_of u.state; output = x; looks = n })
   put_way {t} {u} {q} {part} None c d o p l = record {
     front = d.front;
     emitted = d.emitted;
@@ -132,7 +132,7 @@ module _ {V : Type 0} {e : Env V} where
   step_goes {u = u} d k l = record { steps = (put_way u.state.mark refl d.comes d.comes.one k l, refl) }
 
   -- the mark was refused
-  mark_refused : {t u : Turn V} {q : Point} {part : Part} {s : State} {x : V} {n : ℕ} {f : SinkRefused} (k : Option Mark) → k ≡ u.state.mark → (d : Went e part t q u) → (d.emitted ≡ None) ⊎ (u.state.mark ≡ None) → Puts e.output k u.output (Err f) x → n ≤ u.looks
+  mark_refused : {t u : Turn V} {q : Point} {part : Part} {s : State} {x : V} {n : ℕ} {f : SinkRefused} (k : Option Mark) → k ≡ u.state.mark → (d : Continued e part t q u) → (d.emitted ≡ None) ⊎ (u.state.mark ≡ None) → Puts e.output k u.output (Err f) x → n ≤ u.looks
       → Halted e part t (record u { state = s; output = x; looks = n })
   mark_refused {f = f} None c d o p l = absurd (err_ok f p.0)
   mark_refused (Some m) c d (inr o) p l = absurd (some_none m (c ∙ o))

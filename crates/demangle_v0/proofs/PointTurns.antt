@@ -9,7 +9,7 @@ use Rattle.demangle_grammar.specs.Events.{Heard, of, nothing_heard, and_then, wi
 use Rattle.demangle_words.specs.WordReads.{texts_of, Group, word_group}
 use Rattle.demangle_words.specs.Texts.{text, word_items}
 use Rattle.demangle_grammar.specs.Reading.{Place, unit_outcome, run}
-use Rattle.demangle_v0.specs.Points.{mark_texts, then_frame, way_weight, weight_at, weight_of, unit_rest, is_inner, height_of, count_of, FitsFrame, IsInner, Fits, height_at, pushed_on, unit_rest_of, Turn, Env, Part, part, Comes, Went, Does, Paid, own_looks, list_costs, unit_rest_at, RestDoes, none_open}
+use Rattle.demangle_v0.specs.Points.{mark_texts, then_frame, way_weight, weight_at, weight_of, unit_rest, is_inner, height_of, count_of, FitsFrame, IsInner, Fits, height_at, pushed_on, unit_rest_of, Turn, Env, Part, part, Comes, Continued, Does, Paid, own_looks, list_costs, unit_rest_at, RestDoes, none_open}
 use Rattle.demangle_sink.specs.declared.SinkRefused.{SinkRefused}
 use Rattle.demangle_words.specs.declared.texts.Mark.{Mark}
 use Rattle.demangle_words.specs.declared.texts.Mark.TheVariants as mark
@@ -183,7 +183,7 @@ module _ {V : Type 0} {e : Env V} where
   -- A stretch is handed over.
   pub went_by : {t : Turn V} {h : Heard} {words weight high : ℕ} (to : Point) (front : List ℕ) → length front ≤ words → (x : Stretch) {s : State} {v : V} {n : ℕ}
       → h ≡ with_looks front (with_texts e.output.is_printed (texts_of e.symbol e.form.include_hash x) (unit_rest_of e.symbol e.form e.output.is_printed to s)) → e.output.prints t.output (texts_of e.symbol e.form.include_hash x) (Ok tt) v → s.mark ≡ None
-      → n ≤ t.looks + total front → way_weight to + 1 ≤ weight + 100 * total front → height_at to s.depth_left ≤ high → Fits to s.depth_left s.lifetimes → Went e (part words h weight high) t to (record t { state = s; output = v; looks = n })
+      → n ≤ t.looks + total front → way_weight to + 1 ≤ weight + 100 * total front → height_at to s.depth_left ≤ high → Fits to s.depth_left s.lifetimes → Continued e (part words h weight high) t to (record t { state = s; output = v; looks = n })
   unfolding then_frame
   went_by to front c x r q k p w z f = record {
     front = front;

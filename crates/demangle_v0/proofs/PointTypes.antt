@@ -1,8 +1,9 @@
 -- The points of types.
 use Rattle.std.specs.Prelude.{if◌then◌else◌, ◌*◌, ◌==◌, slice_get, codes}
-use Rattle.std.proofs.Common.{inl, inr, ◌⊎◌, ◌≡◌, ℕ, ◌+◌, ◌-◌, ◌<◌, ◌≤◌, Bool, true, false, cond, Option, Some, None, List, [], ◌∷◌, ◌++◌, Result, Ok, Err, refl, arith, sym, ap, ◌∙◌}
+use Rattle.std.proofs.Common.{inl, inr, ◌⊎◌, ◌≡◌, ℕ, ◌+◌, ◌-◌, ◌<◌, ◌≤◌, ◌≢◌, Bool, true, false, cond, Option, Some, None, List, [], ◌∷◌, ◌++◌, Result, Ok, Err, refl, arith, sym, ap, ◌∙◌}
 use Rattle.std.proofs.lemmas.List.{append-nil}
-use Rattle.std.proofs.lemmas.Bool.{false≢true}
+use Rattle.std.proofs.lemmas.Option.{none-some}
+use Rattle.std.proofs.lemmas.Bool.{false≢true, false_from_ne_true, eqb-true, eq-eqb}
 use Prim.Native.Char.{code}
 use Prim.Native.String.{String}
 use Rattle.demangle_symbol.specs.Digits.{is_byte}
@@ -26,7 +27,7 @@ use Rattle.demangle_v0.specs.declared.points.Stop.TheVariants.{Fault}
 use Rattle.demangle_words.specs.declared.output.Output.{Ghosts}
 use Rattle.demangle_words.proofs.TagRows.{rows_of, basic_found}
 use Rattle.demangle_v0.proofs.PointSteps.{heard, child_last}
-use Rattle.demangle_v0.proofs.PointTurns.{Within, ends, enters, marks, moves, leaves, behind, behind_few}
+use Rattle.demangle_v0.proofs.PointTurns.{Within, ends, enters, marks, moves, leaves, behind_few}
 use Rattle.demangle_grammar.proofs.TypeReads.{row_at, splat_reads, type_reads, tag_missing, basic_reads, type_deep, constructed_reads, path_type_reads, row_reads}
 
 -- the point of a type that is begun, or gone on with behind its `w`
@@ -41,6 +42,24 @@ behind_within false = record { light = omega arith; low = λ left. omega arith; 
 lifetime_within : (q : Bool) → Within (lifetime_point q) 3 2
 lifetime_within true = record { light = omega arith; low = λ left. omega arith; fits = λ left n f. f }
 lifetime_within false = record { light = omega arith; low = λ left. omega arith; fits = λ left n f. f }
+
+-- What is a `w`, and what is none.
+
+pub splat_missing : (b : List ℕ) (i : ℕ) → None ≡ slice_get b i → is_byte b i (code "w") ≡ false
+unfolding is_byte
+splat_missing b i o = rw (sym o) refl
+
+pub splat_not : (b : List ℕ) (i x : ℕ) → Some x ≡ slice_get b i → x ≢ 119 → is_byte b i (code "w") ≡ false
+unfolding is_byte
+splat_not b i x o f = rw (sym o) (false_from_ne_true (x == 119) (λ h. f (eqb-true x 119 h)))
+
+pub splat_there : (b : List ℕ) (i x : ℕ) → Some x ≡ slice_get b i → x ≡ 119 → is_byte b i (code "w") ≡ true
+unfolding is_byte
+splat_there b i x o f = rw (sym o) (eq-eqb x 119 f)
+
+-- no basic type has that tag
+pub basic_no_splat : (x : ℕ) (m : Mark) → Some m ≡ found x basic_marks → x ≢ 119
+basic_no_splat x m f e = none-some m (sym (f ∙ ap (λ (t : ℕ). found t basic_marks) e))
 
 module _ {V : Type 0} (output : Ghosts V) (b : List ℕ) (form : Form) where
   -- one whose text behind it is not printed
@@ -185,9 +204,10 @@ module _ {V : Type 0} {e : Env V} where
       let s = t.state in
       behind_few (1 ∷ []) (omega arith) (rw at (ap none_open (type_reads e.form.include_hash e.form.fold_arguments e.output.is_printed e.symbol s.depth_left s.lifetimes false i o))) (record { grows = l; within = omega (arith, m) }) short (omega arith) (omega arith) (rw at at d)
 
-  -- behind looks that were not made
-  pub type_stays : {t u : Turn V} {r : Result Point Stop} {n : ℕ} → t.looks ≤ n → n ≤ t.looks → PointDoes e point.TaggedType (turn t.state t.stack t.output n) r u → PointDoes e point.TaggedType t r u
-  type_stays l m d = behind [] (omega arith) refl (record { grows = l; within = omega (arith, m) }) (omega (arith, m)) (omega arith) (omega arith) d
+  -- a tag that is no `w` is read in the same way, whether the type begins at it or before it
+  pub type_tagged : {t u : Turn V} {r : Result Point Stop} (q : Bool) (i : ℕ) → t.state.place ≡ Some i → (q ≡ true → is_byte e.symbol i (code "w") ≡ false) → PointDoes e point.TaggedType t r u → PointDoes e (if q then point.«Type» else point.TaggedType) t r u
+  type_tagged true i at o d = type_goes i at (o refl) (omega arith) (omega arith) d.own d
+  type_tagged false i at o d = d
 
   -- a type that is begun, or gone on with behind its `w`
   pub type_either : {t u : Turn V} {r : Result Point Stop} (q : Bool) → (q ≡ true → PointDoes e point.«Type» t r u) → (q ≡ false → PointDoes e point.TaggedType t r u) → PointDoes e (if q then point.«Type» else point.TaggedType) t r u

@@ -1,8 +1,7 @@
 -- Internal: no public contract cites this.
 -- What contracts of points say of a state.
-use Rattle.std.specs.Prelude.{ℕ, Bool, if◌then◌else◌, Option, Some, None, List}
+use Rattle.std.specs.Prelude.{Bool, if◌then◌else◌, Option, Some, None}
 use Prim.Native.Char.{code}
-use Rattle.demangle_symbol.specs.Digits.{is_byte}
 use Rattle.demangle_grammar.specs.Items.{Items}
 use Rattle.demangle_grammar.specs.Table.{constant, path}
 use Rattle.demangle_v0.specs.Points.{frame_of}
@@ -12,10 +11,6 @@ use Rattle.demangle_v0.specs.declared.points.rare.RarePoint.{RarePoint}
 use Rattle.demangle_v0.specs.declared.points.rare.RarePoint.TheVariants as rare
 use Rattle.demangle_v0.specs.declared.points.frames.Frame.{Frame}
 use Rattle.demangle_v0.specs.declared.points.State.{State}
-
--- the `w` before the tag of a type
-abbrev pub is_splat_at : List ℕ → ℕ → Bool
-is_splat_at b i = is_byte b i (code "w")
 
 -- what stands behind the `C` of a crate's path, and behind the `N` of a path of names
 abbrev pub crate_path : Bool → Items

@@ -7,7 +7,7 @@ use Rattle.demangle_v0.specs.Heights as heights
 use Rattle.demangle_v0.specs.Skips.{is_skip, own_point, after_skip}
 use Rattle.demangle_words.specs.declared.texts.Mark.{Mark}
 use Rattle.demangle_sink.specs.declared.SinkRefused.{SinkRefused}
-use Rattle.demangle_v0.specs.Points.{Bit, pays, puts, heard_bits, bits_looks, Env, env, whole, Turn, turn, Went, Halted, Kept, AllInner, Fits, reading_rest, height_at, most_frames, resumed_of}
+use Rattle.demangle_v0.specs.Points.{Bit, pays, puts, heard_bits, bits_looks, Env, env, whole, Turn, turn, Continued, Halted, Kept, AllInner, Fits, reading_rest, height_at, most_frames, resumed_of}
 use Rattle.demangle_grammar.specs.Running.{allowed_in}
 use Rattle.demangle_grammar.specs.Reading.{Form, Place, max_depth}
 use Rattle.demangle_sink.specs.Limit.{Prints, Ready}
@@ -35,7 +35,7 @@ abbrev pub unmarked_of : State → State
 unmarked_of s = record s { mark = None }
 
 abbrev pub Steps : {V : Type 0} → Env V → Point → Turn V → Result Point SinkRefused → Turn V → Type 0
-Steps env p before (Ok q) after = Went env (whole env p before.state) before q after × (after.state.mark ≡ None)
+Steps env p before (Ok q) after = Continued env (whole env p before.state) before q after × (after.state.mark ≡ None)
 Steps env p before (Err e) after = Halted env (whole env p before.state) before after × Kept before.stack after.stack
 
 -- a record, so that a lemma finds its arguments

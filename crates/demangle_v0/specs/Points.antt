@@ -352,7 +352,7 @@ Emits env (Some s) v w = env.output.prints v (texts_of env.symbol env.form.inclu
 
 -- The point was left for another, and a frame may have been put on the stack. One stretch is handed over: to the output, or as
 -- the mark that is left.
-pub record Went {V : Type 0} (env : Env V) (part : Part) (before : Turn V) (to : Point) (after : Turn V) : Type 0 where
+pub record Continued {V : Type 0} (env : Env V) (part : Part) (before : Turn V) (to : Point) (after : Turn V) : Type 0 where
   pub front : List ℕ
   pub emitted : Option Stretch
   pub back : List ℕ
@@ -402,7 +402,7 @@ abbrev pub Kept : List Frame → List Frame → Type 0
 Kept stack now = (more : List Frame) × (now ≡ stack ++ more)
 
 abbrev pub Comes : {V : Type 0} → Env V → Part → Turn V → Result Point Stop → Turn V → Type 0
-Comes env part before (Ok p) after = Went env part before p after
+Comes env part before (Ok p) after = Continued env part before p after
 Comes env part before (Err (Fault m)) after = Faulted env part before m after
 Comes env part before (Err Refused) after = Halted env part before after × Kept before.stack after.stack
 

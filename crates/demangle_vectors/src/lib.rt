@@ -1,4 +1,4 @@
-//! What symbols print, by vectors from the Rust crate, as tests of the library.
+//! Tests of the library with vectors of the Rust crate: symbols and their printed texts.
 #![tactic(auto)]
 
 ghost use Rattle.std.specs.Prelude.{◌≡◌, ◌≢◌, ◌≤◌, IsTrue, false};
@@ -12,7 +12,7 @@ mod tests;
 use rustc_demangle::demangle;
 use rustc_demangle::sink::ArraySink;
 
-/// Whether a text prints this, with the hash or without it, in at most 4,096 bytes.
+/// Returns `true` if a text prints as `text`, with the hash or without it, in at most 4,096 bytes.
 pub fn printed_is(symbol: &str, include_hash: bool, text: &str) -> bool
     ensures yes { IsTrue result → text.now ≡ printed (stripped symbol.now) include_hash }
     ensures no { size (handed (stripped symbol.now) include_hash most_bytes) ≤ 4096 →

@@ -1,4 +1,4 @@
-//! Vectors of the Rust crate and of the legacy scheme.
+//! Tests with vectors of the Rust crate and of the legacy scheme.
 use crate::printed_is;
 use rustc_demangle::sink::WriteSink;
 use rustc_demangle::{Demangle, demangle, try_demangle};
@@ -27,21 +27,21 @@ mod v0_references;
 mod v0_types;
 mod vectors;
 
-/// Asserts that a text is a symbol that prints these, with the hash and without it.
+/// Asserts that a text is a symbol that prints as these texts, with the hash and without it.
 fn assert_prints(rt: &impl Abort, symbol: &str, plain: &str, alt: &str) {
     assert!(rt; try_demangle(symbol).is_ok(), "{symbol} is a symbol");
     assert!(rt; printed_is(symbol, true, plain), "{symbol} with the hash");
     assert!(rt; printed_is(symbol, false, alt), "{symbol} without the hash");
 }
 
-/// Asserts that a text is no symbol, and prints this in both forms.
+/// Asserts that a text is not a symbol and prints as this text in both forms.
 fn assert_refused(rt: &impl Abort, text: &str, printed: &str) {
     assert!(rt; try_demangle(text).is_err(), "{text} is no symbol");
     assert!(rt; printed_is(text, true, printed), "{text} with the hash");
     assert!(rt; printed_is(text, false, printed), "{text} without the hash");
 }
 
-/// What a symbol prints, of any length.
+/// Returns the printed text of a symbol, of any length.
 fn printed_by(
     alloc: Global,
     symbol: &Demangle<'_>,
@@ -50,19 +50,19 @@ fn printed_by(
     let mut text = Vec::new(alloc);
     let mut sink = WriteSink::new(&mut text);
     let _ = symbol.write_to(&mut sink, include_hash);
-    // A writer into memory fails for want of memory alone.
+    // A writer to memory fails only if an allocation fails.
     match sink.into_fault() {
         Some(_) => Err(AllocError),
         None => Ok(text),
     }
 }
 
-/// What a text prints, of any length.
+/// Returns the printed form of a text, of any length.
 fn print_symbol(alloc: Global, symbol: &str, include_hash: bool) -> Result<Vec<u8>, AllocError> {
     printed_by(alloc, &demangle(symbol), include_hash)
 }
 
-/// Asserts that a text is a symbol that prints this in both forms, of any length.
+/// Asserts that a text is a symbol that prints as this text in both forms, of any length.
 fn assert_prints_long(
     rt: &impl Abort,
     alloc: Global,
@@ -77,7 +77,7 @@ fn assert_prints_long(
     Ok(())
 }
 
-/// A text so many times over, between two others.
+/// Returns a text repeated this many times between two others.
 fn repeat_between(
     alloc: Global,
     head: &str,

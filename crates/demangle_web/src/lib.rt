@@ -1,5 +1,5 @@
-//! The demangler for web pages: the calls of a WebAssembly module, which are those of the library
-//! for C that a page needs, and two that find the symbols of a text.
+//! The demangler as a WebAssembly module for web pages. It exports the calls of the library for C
+//! that a page needs, and two calls that find the symbols of a text.
 #![tactic(auto)]
 
 ghost use Rattle.std.specs.Prelude.{◌≡◌, ◌+◌, ◌<◌, ◌≤◌, ◌↔◌, ℕ, true, false, drop, length, IsTrue};
@@ -16,10 +16,10 @@ mod tests;
 use demangle_path::{MAX_SIZE, symbol_of, write_part, write_text};
 use rustc_demangle::{run_len, run_start};
 
-/// Whether the bytes are a Rust symbol, in the legacy scheme or in v0 (Rust RFC 2603), once an
-/// ending of ThinLTO is taken off.
+/// Returns `true` if the bytes are a Rust symbol, after a suffix of ThinLTO is removed.
 ///
-/// It prints nothing, so that a lister of symbols can ask it of each. It takes no memory.
+/// A symbol may be legacy or v0 (Rust RFC 2603). The call prints nothing and does not allocate, so
+/// a program that lists symbols can call it for each.
 #[unsafe(no_mangle)]
 pub extern "C" fn kodliwe_is_symbol(symbol: &[u8]) -> bool
     ensures { IsTrue result ↔ NamesRust symbol.now }
@@ -27,15 +27,17 @@ pub extern "C" fn kodliwe_is_symbol(symbol: &[u8]) -> bool
     symbol_of(symbol).is_some()
 }
 
-/// Writes the path that a Rust symbol names into memory, with a 0 behind it, and answers how many
-/// bytes the two want.
+/// Writes the path of a Rust symbol to memory, with a 0 after it. Returns the number of bytes of
+/// the path and the 0.
 ///
-/// The path is cut at `limit` bytes, and at 1,000,000 at most, before `{size limit reached}` and
-/// the symbol's suffix. The answer is 0 where the bytes are no symbol; the memory is then as it
-/// was. Else the answer does not depend on the size of the memory, which holds the path and its 0
-/// where the answer is at most that size, and as much of the path as fits before a 0 where it is
-/// more; no byte behind the 0 is changed, and memory of size 0 stays as it was. It takes no memory
-/// of its own.
+/// The path is cut at `limit` bytes, and at 1,000,000 at most. `{size limit reached}` and the
+/// symbol's suffix follow a cut path.
+///
+/// If the bytes are not a symbol, the call returns 0 and leaves the memory unchanged. Otherwise the
+/// result does not depend on the size of the memory. The memory receives the path and its 0 if the
+/// result is at most that size. If it is more, the memory receives as much of the path as fits before
+/// a 0. No byte after the 0 is changed, and memory of size 0 stays unchanged. The call does not
+/// allocate.
 #[unsafe(no_mangle)]
 pub extern "C" fn kodliwe_demangle_limited(
     symbol: &[u8],
@@ -53,14 +55,17 @@ pub extern "C" fn kodliwe_demangle_limited(
     write_part(symbol, out, include_hash, limit, 0)
 }
 
-/// Writes any bytes into memory with each Rust symbol in them replaced by its path, with a 0 behind
-/// it all, and answers how many bytes that is.
+/// Writes bytes to memory with each Rust symbol replaced by its path, and a 0 after them. Returns
+/// the number of bytes of that text and the 0.
 ///
-/// A symbol is looked for where `_ZN` or `_R` stands, up to the next byte that is no ASCII letter,
-/// no digit and none of `$`, `.` and `_`; its path is cut as by `kodliwe_demangle_limited`, and all
-/// other bytes stay as they are. The answer does not depend on the size of the memory, which holds
-/// as much of the text as fits before a 0; no byte behind the 0 is changed. It is `usize::MAX` where
-/// no smaller number says it; what the memory then holds is not said. It takes no memory of its own.
+/// A candidate symbol starts at `_ZN` or `_R`. It ends before the next byte that is not an ASCII
+/// letter, a digit, `$`, `.` or `_`. Its path is cut as by `kodliwe_demangle_limited`. All other
+/// bytes stay unchanged.
+///
+/// The result does not depend on the size of the memory. The memory receives as much of the text as
+/// fits before a 0, and no byte after the 0 is changed. The result is `usize::MAX` if the number is
+/// not smaller than that. The contents of the memory are then unspecified. The call does not
+/// allocate.
 #[unsafe(no_mangle)]
 pub extern "C" fn kodliwe_demangle_text(
     text: &[u8],
@@ -79,7 +84,8 @@ pub extern "C" fn kodliwe_demangle_text(
     write_text(text, out, include_hash, limit)
 }
 
-/// Where the next `_ZN` or `_R` stands in a text, or the text's size where there is none.
+/// Returns the index of the next `_ZN` or `_R` in a text, or the size of the text if it has
+/// neither.
 #[unsafe(no_mangle)]
 pub extern "C" fn kodliwe_run_start(text: &[u8]) -> usize
     ensures within { result ≤ length text.now }
@@ -92,8 +98,8 @@ pub extern "C" fn kodliwe_run_start(text: &[u8]) -> usize
     }
 }
 
-/// How many bytes stand in front that a symbol in a text may have: ASCII letters and digits, `$`,
-/// `.` and `_`.
+/// Returns the number of bytes at the start of a text that a symbol may contain. These are ASCII
+/// letters and digits, `$`, `.` and `_`.
 #[unsafe(no_mangle)]
 pub extern "C" fn kodliwe_run_len(text: &[u8]) -> usize
     ensures { result ≡ prefix_len is_run text.now }

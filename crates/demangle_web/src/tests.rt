@@ -1,4 +1,4 @@
-//! The calls, once for each kind of answer. The texts are the Rust crate's.
+//! Tests of the calls, for each kind of result. The texts are those of the Rust crate.
 use crate::{
     kodliwe_demangle_limited, kodliwe_demangle_text, kodliwe_is_symbol, kodliwe_run_len,
     kodliwe_run_start,

@@ -1,14 +1,14 @@
-//! Bytes that a program holds for a writer, so that pieces of a few bytes cost little.
+//! A buffer for bytes on their way to a writer, which makes pieces of a few bytes cheap.
 #![tactic(auto)]
 
 ghost use Rattle.std.specs.Prelude.{◌≡◌, ◌+◌, ◌==◌, ◌≤◌, [], ◌++◌, drop, length, IsTrue, IsFalse};
 
 use std::marker::Model;
 
-/// How many bytes can be held. They lie on the stack.
+/// The most bytes that the buffer holds. They are on the stack.
 pub const CAPACITY: usize = 2048;
 
-/// Copies a piece of `N` to `2 * N` bytes: its first `N`, and its last `N`, which may overlap.
+/// Copies a piece of `N` to `2 * N` bytes: its first `N` and its last `N`, which may overlap.
 #[inline(always)]
 fn copy_ends<const N: usize>(piece: &[u8], room: &mut [u8])
     requires least { N ≤ length piece.now }
@@ -20,8 +20,8 @@ fn copy_ends<const N: usize>(piece: &[u8], room: &mut [u8])
     *room.last_chunk_mut::<N>().unwrap() = *piece.last_chunk::<N>().unwrap();
 }
 
-/// Copies a piece to the front of the room. A call of the C library costs more than the copying of
-/// the few bytes that most pieces have.
+/// Copies a piece to the start of the room. Most pieces have a few bytes, and copying those costs
+/// less than a call of the C library.
 #[inline]
 fn copy(piece: &[u8], room: &mut [u8])
     requires { length piece.now ≤ length room.old }
@@ -42,7 +42,7 @@ fn copy(piece: &[u8], room: &mut [u8])
     }
 }
 
-/// At most `CAPACITY` bytes, in the order in which they came.
+/// At most `CAPACITY` bytes, in the order in which they were pushed.
 #[derive(Drop)]
 pub struct Held {
     bytes: [u8; CAPACITY],
@@ -61,7 +61,7 @@ impl Model for Held {
 }
 
 impl Held {
-    /// Holds no bytes.
+    /// Returns an empty buffer.
     pub fn new() -> Self
         ensures { result ≡ [] }
     {
@@ -71,21 +71,21 @@ impl Held {
         }
     }
 
-    /// The bytes that are held.
+    /// Returns the buffered bytes.
     pub fn as_slice(&self) -> &[u8]
         ensures { result.now ≡ self.now }
     {
         &self.bytes[..self.len]
     }
 
-    /// Whether no bytes are held.
+    /// Returns `true` if no bytes are buffered.
     pub fn is_empty(&self) -> bool
         ensures { result ≡ (length self.now == 0) }
     {
         self.len == 0
     }
 
-    /// Holds all of the piece, or answers `false` where there is no room for it.
+    /// Appends all of the piece. If there is no room for it, returns `false` and changes nothing.
     #[inline(always)]
     pub fn push(&mut self, piece: &[u8]) -> bool
         ensures room { length self.old + length piece.now ≤ CAPACITY → IsTrue result }
@@ -103,7 +103,7 @@ impl Held {
         true
     }
 
-    /// Lets go of the first `count` bytes.
+    /// Removes the first `count` bytes.
     pub fn remove_front(&mut self, count: usize)
         requires { count ≤ length self.old }
         ensures { self.new ≡ drop count self.old }
@@ -112,7 +112,7 @@ impl Held {
         self.len -= count;
     }
 
-    /// Lets go of the bytes that are held.
+    /// Removes all bytes.
     pub fn clear(&mut self)
         ensures { self.new ≡ [] }
     {

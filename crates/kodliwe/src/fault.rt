@@ -47,7 +47,7 @@ pub fn quoted(alloc: Global, text: &str) -> Result<String, AllocError> {
 
 /// Returns a name as a message shows it: in quotes if it is empty or has a character that is not
 /// printable.
-fn shown_name(alloc: Global, name: &str) -> Result<String, AllocError> {
+pub fn shown_name(alloc: Global, name: &str) -> Result<String, AllocError> {
     if name.is_empty() || has_unprintable(name) {
         quoted(alloc, name)
     } else {

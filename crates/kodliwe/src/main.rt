@@ -6,13 +6,14 @@ mod output;
 mod program;
 mod replacing;
 mod run;
+mod same_file;
 mod streams;
 #[cfg(test)]
 mod tests;
 mod texts;
 mod words;
 
-use program::{start, words_fault};
+use program::{Host, start, words_fault};
 use std::io::Write;
 use std::process::ExitCode;
 use std::rt::Env;
@@ -35,14 +36,12 @@ fn main(rt: HostRuntime) -> ExitCode {
             return ExitCode::from(status);
         }
     };
-    let stdout = rt.stdout().lock();
-    let status = start(
+    let host = Host {
         alloc,
-        words.as_slice(),
-        &rt,
-        rt.stdin(),
-        stdout,
-        &mut errors,
-    );
-    ExitCode::from(status)
+        files: &rt,
+        stdin: rt.stdin(),
+        stdout: rt.stdout().lock(),
+        errors,
+    };
+    ExitCode::from(start(host, words.as_slice()))
 }

@@ -1,17 +1,28 @@
 //! The program, over any file system and standard streams.
-ghost use Rattle.std.specs.Prelude.{◌≡◌, ◌<◌, length, IfOk};
+ghost use Rattle.std.specs.Prelude.{◌≡◌, ◌<◌, ◌∷◌, [], length, IfOk, OnOk};
 
-use crate::fault::{OUT_OF_MEMORY, quoted, report_call};
+use crate::fault::{OUT_OF_MEMORY, quoted, report_call, shown_name};
 use crate::output::Output;
-use crate::replacing::{folder_of, open_output};
+use crate::replacing::{Replacement, folder_of, open_output};
 use crate::run::{BUFFER, Ended, Input, run};
+use crate::same_file::input_that_is_output;
 use crate::streams::{SourceReader, source_name};
-use crate::texts::{HELP, VERSION};
+use crate::texts::{HELP, VERSION, WAITING};
 use crate::words::{Asked, Request, Source, Target, WordsFault, read_words};
 use std::alloc::{AllocError, Global};
 use std::fs::{Files, OpenFile};
 use std::io;
-use std::io::{BufWriter, ErrorKind, Stdin, Write};
+use std::io::{BufWriter, ErrorKind, IsTerminal, Stdin, Write};
+
+/// The files and streams that the program reads and writes, and its memory.
+#[derive(Drop)]
+pub struct Host<'a, F: Files, W: Write + Drop, E: Write + Drop> {
+    pub alloc: Global,
+    pub files: &'a F,
+    pub stdin: Stdin,
+    pub stdout: W,
+    pub errors: E,
+}
 
 /// Writes a line to `errors`, and answers the status. A fault of `errors` is ignored.
 fn tell<E: Write>(errors: &mut E, line: &str, status: u8) -> u8
@@ -74,17 +85,14 @@ fn write_text<W: Write, E: Write>(alloc: Global, text: &str, output: &mut W, err
     }
 }
 
-/// The readers of the sources, in order; of standard input where there is none.
+/// Returns readers of the sources, in order.
 fn open_inputs<'a, F: Files>(
     alloc: Global,
     files: &'a F,
     stdin: Stdin,
     sources: Vec<Source<'a>>,
 ) -> Result<Vec<Input<'a, SourceReader<'a, F>>>, AllocError>
-    ensures each { 0 < length sources.entry.items → IfOk result (λ inputs.
-        length inputs.items ≡ length sources.entry.items) }
-    ensures none { length sources.entry.items ≡ 0 → IfOk result (λ inputs.
-        length inputs.items ≡ 1) }
+    ensures { IfOk result (λ inputs. length inputs.items ≡ length sources.entry.items) }
 {
     let mut inputs = Vec::new(alloc);
     for source in sources {
@@ -92,63 +100,115 @@ fn open_inputs<'a, F: Files>(
         let reader = SourceReader::new(files, stdin, source);
         inputs.push(Input { name, reader })?;
     }
-    if inputs.is_empty() {
-        let name = source_name(&Source::Stdin);
-        let reader = SourceReader::new(files, stdin, Source::Stdin);
-        inputs.push(Input { name, reader })?;
-    }
     Ok(inputs)
 }
 
-/// Filters into a file, which takes the place of the one that has its name once it is whole.
-fn filter_into<'a, F: Files, E: Write>(
+/// Adds standard input if there are no sources.
+fn add_default(sources: &mut Vec<Source<'_>>) -> Result<(), AllocError>
+    ensures none { sources.old.items ≡ [] → OnOk result (sources.new.items
+        ≡ Source.Stdin ∷ []) }
+    ensures some { 0 < length sources.old.items → sources.new.items ≡ sources.old.items }
+{
+    if sources.is_empty() {
+        sources.push(Source::Stdin)?;
+    }
+    Ok(())
+}
+
+/// What is filtered, and how.
+#[derive(Drop)]
+struct Filtering<'a, F: Files> {
     alloc: Global,
     files: &'a F,
     inputs: Vec<Input<'a, SourceReader<'a, F>>>,
-    path: &str,
-    errors: &mut E,
     include_hash: bool,
     limit: usize,
-) -> u8 {
-    let (file, replacement) = match open_output(alloc, files, path) {
-        Ok(opened) => opened,
-        Err(fault) => {
-            let name = if fault.is_in_folder {
-                folder_of(path)
-            } else {
-                path
-            };
-            report_call(alloc, errors, name, &fault.error);
-            return 1;
-        }
-    };
-    let Ok(buffer) = BufWriter::with_capacity(alloc, BUFFER, file) else {
-        if let Some(replacement) = &replacement {
-            replacement.give_up(files);
-        }
-        return tell(errors, OUT_OF_MEMORY, 1);
-    };
-    let mut output = Output::new(buffer);
-    let ended = run(alloc, inputs, &mut output, errors, include_hash, limit);
-    let Some(replacement) = replacement else {
-        return ended.status();
-    };
-    if ended != Ended::Complete {
-        replacement.give_up(files);
-        return ended.status();
+}
+
+impl<F: Files> Filtering<'_, F> {
+    /// Filters into a writer, and returns the exit status.
+    fn write_to<W: Write + Drop, E: Write>(self, writer: W, errors: &mut E) -> u8 {
+        let Filtering {
+            alloc,
+            files: _,
+            inputs,
+            include_hash,
+            limit,
+        } = self;
+        let Ok(buffer) = BufWriter::with_capacity(alloc, BUFFER, writer) else {
+            return tell(errors, OUT_OF_MEMORY, 1);
+        };
+        let mut output = Output::new(buffer);
+        run(alloc, inputs, &mut output, errors, include_hash, limit).status()
     }
-    let finished = match output.get_ref().sync_all() {
-        Ok(()) => replacement.finish(files),
-        Err(error) => Err(error),
-    };
-    match finished {
-        Ok(()) => 0,
-        Err(error) => {
+
+    /// Filters into a file, and gives it its name once it is whole. Returns the exit status.
+    fn replace<E: Write>(
+        self,
+        file: F::File,
+        replacement: &Replacement,
+        path: &str,
+        errors: &mut E,
+    ) -> u8 {
+        let Filtering {
+            alloc,
+            files,
+            inputs,
+            include_hash,
+            limit,
+        } = self;
+        let Ok(buffer) = BufWriter::with_capacity(alloc, BUFFER, file) else {
             replacement.give_up(files);
-            report_call(alloc, errors, path, &error);
-            1
+            return tell(errors, OUT_OF_MEMORY, 1);
+        };
+        let mut output = Output::new(buffer);
+        let ended = run(alloc, inputs, &mut output, errors, include_hash, limit);
+        if ended != Ended::Complete {
+            replacement.give_up(files);
+            return ended.status();
+        }
+        let finished = match output.get_ref().sync_all() {
+            Ok(()) => replacement.finish(files),
+            Err(error) => Err(error),
+        };
+        match finished {
+            Ok(()) => 0,
+            Err(error) => {
+                replacement.give_up(files);
+                report_call(alloc, errors, path, &error);
+                1
+            }
         }
     }
+
+    /// Filters into the file that a path names, and returns the exit status.
+    fn write_file<E: Write>(self, path: &str, errors: &mut E) -> u8 {
+        let (file, replacement) = match open_output(self.alloc, self.files, path) {
+            Ok(opened) => opened,
+            Err(fault) => {
+                let name = if fault.is_in_folder {
+                    folder_of(path)
+                } else {
+                    path
+                };
+                report_call(self.alloc, errors, name, &fault.error);
+                return 1;
+            }
+        };
+        match replacement {
+            Some(replacement) => self.replace(file, &replacement, path, errors),
+            None => self.write_to(file, errors),
+        }
+    }
+}
+
+/// Writes a line that was made, or that there was no memory for it. An error of `errors` is
+/// ignored.
+fn write_line<E: Write>(errors: &mut E, line: Result<String, AllocError>) {
+    let _ = match line {
+        Ok(line) => errors.write_all(line.as_bytes()),
+        Err(_) => errors.write_all(OUT_OF_MEMORY.as_bytes()),
+    };
 }
 
 /// Returns the note for a word that names a file.
@@ -157,65 +217,108 @@ fn file_note(alloc: Global, word: &str) -> Result<String, AllocError> {
     format!(in alloc; "kodliwe: note: {name} is a file; use -i to read it\n")
 }
 
-/// Writes a note if a word names a regular file. An error of `errors` is ignored.
-fn note_file<F: Files, E: Write>(alloc: Global, files: &F, errors: &mut E, word: &str) {
+/// Writes a note if a word names a regular file.
+fn note_file<F: Files, E: Write>(alloc: Global, files: &F, errors: &mut E, word: Option<&str>) {
+    let Some(word) = word else {
+        return;
+    };
     let is_file = match files.metadata(word) {
         Ok(found) => found.is_file(),
         Err(_) => false,
     };
     if is_file {
-        let _ = match file_note(alloc, word) {
-            Ok(line) => errors.write_all(line.as_bytes()),
-            Err(_) => errors.write_all(OUT_OF_MEMORY.as_bytes()),
-        };
+        write_line(errors, file_note(alloc, word));
+    }
+}
+
+/// Returns the line for an input that is the output.
+fn same_file_line(alloc: Global, name: &str) -> Result<String, AllocError> {
+    let name = shown_name(alloc, name)?;
+    format!(in alloc; "kodliwe: {name}: input file is output file\n")
+}
+
+/// Returns whether a source is the file that standard output writes to, and writes a line if so.
+fn reads_output<F: Files, E: Write>(
+    alloc: Global,
+    files: &F,
+    errors: &mut E,
+    sources: &[Source<'_>],
+) -> bool {
+    match input_that_is_output(files, sources) {
+        Some(name) => {
+            write_line(errors, same_file_line(alloc, name));
+            true
+        }
+        None => false,
     }
 }
 
 /// Filters what the words ask for, and returns the exit status.
-fn filter<'a, F: Files, W: Write + Drop, E: Write>(
-    alloc: Global,
-    files: &'a F,
-    stdin: Stdin,
-    stdout: W,
-    errors: &mut E,
+fn filter<'a, F: Files, W: Write + Drop, E: Write + Drop>(
+    host: Host<'a, F, W, E>,
     request: Request<'a>,
 ) -> u8 {
-    let (include_hash, limit) = (request.include_hash, request.limit);
+    let Host {
+        alloc,
+        files,
+        stdin,
+        stdout,
+        mut errors,
+    } = host;
+    let target = request.output.unwrap_or(Target::Stdout);
     let plain_word = request.plain_word;
-    let Ok(inputs) = open_inputs(alloc, files, stdin, request.sources) else {
-        return tell(errors, OUT_OF_MEMORY, 1);
+    let mut sources = request.sources;
+    let is_default = sources.is_empty();
+    if add_default(&mut sources).is_err() {
+        return tell(&mut errors, OUT_OF_MEMORY, 1);
+    }
+    if target == Target::Stdout && reads_output(alloc, files, &mut errors, sources.as_slice()) {
+        return 1;
+    }
+    if is_default && stdin.is_terminal() {
+        let _ = errors.write_all(WAITING.as_bytes());
+    }
+    let Ok(inputs) = open_inputs(alloc, files, stdin, sources) else {
+        return tell(&mut errors, OUT_OF_MEMORY, 1);
     };
-    let status = if let Some(Target::File(path)) = request.output {
-        filter_into(alloc, files, inputs, path, errors, include_hash, limit)
-    } else if let Ok(buffer) = BufWriter::with_capacity(alloc, BUFFER, stdout) {
-        let mut output = Output::new(buffer);
-        run(alloc, inputs, &mut output, errors, include_hash, limit).status()
-    } else {
-        tell(errors, OUT_OF_MEMORY, 1)
+    let filtering = Filtering {
+        alloc,
+        files,
+        inputs,
+        include_hash: request.include_hash,
+        limit: request.limit,
     };
-    if let Some(word) = plain_word {
+    let status = match target {
+        Target::Stdout => filtering.write_to(stdout, &mut errors),
+        Target::File(path) => filtering.write_file(path, &mut errors),
+    };
+    if status == 0 {
         // A user who gives a word that has no symbol may have meant a file.
-        if status == 0 {
-            note_file(alloc, files, errors, word);
-        }
+        note_file(alloc, files, &mut errors, plain_word);
     }
     status
 }
 
-/// Runs the program on the words behind its name, and answers the exit status.
-pub fn start<'a, F: Files, W: Write + Drop, E: Write>(
-    alloc: Global,
+/// Runs the program on the words after its name, and returns the exit status.
+pub fn start<'a, F: Files, W: Write + Drop, E: Write + Drop>(
+    host: Host<'a, F, W, E>,
     words: &'a [String],
-    files: &'a F,
-    stdin: Stdin,
-    mut stdout: W,
-    errors: &mut E,
 ) -> u8 {
-    match read_words(alloc, words) {
-        Ok(Asked::Help) => write_text(alloc, HELP, &mut stdout, errors),
-        Ok(Asked::Version) => write_text(alloc, VERSION, &mut stdout, errors),
-        Ok(Asked::Filter(request)) => filter(alloc, files, stdin, stdout, errors, request),
-        Err(fault) => refuse_words(alloc, errors, fault),
+    let request = match read_words(host.alloc, words) {
+        Ok(Asked::Filter(request)) => return filter(host, request),
+        Ok(Asked::Help) => Ok(HELP),
+        Ok(Asked::Version) => Ok(VERSION),
+        Err(fault) => Err(fault),
+    };
+    let Host {
+        alloc,
+        mut stdout,
+        mut errors,
+        ..
+    } = host;
+    match request {
+        Ok(text) => write_text(alloc, text, &mut stdout, &mut errors),
+        Err(fault) => refuse_words(alloc, &mut errors, fault),
     }
 }
 

@@ -1,6 +1,6 @@
 //! The run over readers and writers that fail, and the words. What the filter gives for a text is
 //! tested with the library, by which this is compared.
-use crate::program::start;
+use crate::program::{Host, start};
 use crate::run::{Ended, Input, run};
 use crate::words::{Asked, Target, read_words};
 use rustc_demangle::demangle_stream_named;
@@ -165,7 +165,14 @@ fn assert_program<R: Abort + Files>(
     let owned = owned_words(alloc, words)?;
     let mut output = Vec::new(alloc);
     let mut errors = Vec::new(alloc);
-    let ended = start(alloc, owned.as_slice(), rt, stdin, &mut output, &mut errors);
+    let host = Host {
+        alloc,
+        files: rt,
+        stdin,
+        stdout: &mut output,
+        errors: &mut errors,
+    };
+    let ended = start(host, owned.as_slice());
     assert_eq!(rt; ended, status, "with {words:?}");
     assert_eq!(rt; output.as_slice(), wanted, "with {words:?}");
     assert_eq!(rt; errors.as_slice(), line, "with {words:?}");
@@ -498,7 +505,7 @@ fn the_help_fits_a_terminal(rt: HostRuntime) -> Result<(), Fail> {
         rt.stdin(),
         &["-V"],
         0,
-        b"kodliwe 0.1.0\n",
+        crate::texts::VERSION.as_bytes(),
         b"",
     )?;
     assert_program(
@@ -507,7 +514,7 @@ fn the_help_fits_a_terminal(rt: HostRuntime) -> Result<(), Fail> {
         rt.stdin(),
         &["--version", "-h"],
         0,
-        b"kodliwe 0.1.0\n",
+        crate::texts::VERSION.as_bytes(),
         b"",
     )?;
     for (number, line) in text.lines().enumerate() {

@@ -1,5 +1,5 @@
 -- The first `.llvm.` of a text.
-use Rattle.std.proofs.Common.{◌≡◌, ℕ, zero, suc, ◌<◌, ◌≤◌, inl, inr, Bool, true, false, cond, List, [], ◌∷◌, ◌++◌, length, take, drop, refl, sym, ap, ◌∙◌, arith, subst, nat_eq, eqb, get_or}
+use Rattle.std.proofs.Common.{◌≡◌, ℕ, zero, suc, ◌+◌, ◌-◌, ◌<◌, ◌≤◌, inl, inr, Bool, true, false, cond, List, [], ◌∷◌, ◌++◌, length, take, drop, refl, sym, ap, ◌∙◌, arith, subst, nat_eq, eqb, get_or}
 use Rattle.std.specs.Prelude.{codes, IsAscii}
 use Rattle.std.specs.List.{starts_with, list_all}
 use Rattle.std.specs.Cmp.Lexicographic.{bytes_decides}
@@ -9,7 +9,8 @@ use Rattle.std.proofs.lemmas.Str.{IsAscii-drop}
 use Rattle.std.proofs.lemmas.Str.Ascii.{IsAscii-nil, IsAscii-cons}
 use Rattle.memchr.specs.Find.{Nowhere, Passes, is_byte}
 use Rattle.rustc_demangle.specs.Stripped.{stripped, is_thin_lto}
-use Rattle.std.proofs.lemmas.Bool.{cases_Bool, true≢false}
+use Rattle.std.proofs.lemmas.Bool.{cases_Bool, cases_lt, true≢false}
+use Rattle.std.proofs.lemmas.List.Folds.{list_all_at}
 
 abbrev pub ending : List ℕ → List ℕ
 ending rest = 46 ∷ 108 ∷ 108 ∷ 118 ∷ 109 ∷ 46 ∷ rest
@@ -28,6 +29,45 @@ pub stripped_none : (s : List ℕ) → ((i : ℕ) → i ≤ length s → (rest :
 unfolding stripped
 stripped_none [] h = refl
 stripped_none (c ∷ s) h = ap (λ t. c ∷ t) (stripped_none s (λ i l. h (suc i) (omega arith))) ∙ sym (stripped_later c s (h 0 (omega arith)))
+
+begins_ending : (t rest : List ℕ) → t ≡ ending rest → starts_with nat_eq t (codes ".llvm.") ≡ true
+begins_ending t rest e = ap (λ z. starts_with nat_eq z (codes ".llvm.")) e
+
+-- a text without an ending that is cut off
+abbrev Uncut : List ℕ → Type 0
+Uncut s = (i : ℕ) (rest : List ℕ) → drop i s ≡ ending rest → list_all is_thin_lto rest ≡ true → ⊥
+
+uncut_here : (c : ℕ) (s : List ℕ) (b d : Bool) → starts_with nat_eq (c ∷ s) (codes ".llvm.") ≡ b → list_all is_thin_lto (drop 5 s) ≡ d → Uncut (c ∷ s) → s ≡ stripped s
+    → c ∷ s ≡ cond b (cond d [] (c ∷ s)) (c ∷ stripped s)
+uncut_here c s true true e t h below = absurd (h 0 (drop 5 s) (begins (c ∷ s) e) t)
+uncut_here c s true false e t h below = refl
+uncut_here c s false d e t h below = ap (λ z. c ∷ z) below
+
+stripped_uncut : (s : List ℕ) → Uncut s → s ≡ stripped s
+unfolding stripped
+stripped_uncut [] h = refl
+stripped_uncut (c ∷ s) h =
+    uncut_here c s (starts_with nat_eq (c ∷ s) (codes ".llvm.")) (list_all is_thin_lto (drop 5 s)) refl refl h (stripped_uncut s (λ i rest e t. h (suc i) rest e t))
+
+-- the last `.` does not end a `.llvm.`
+pub stripped_undotted_end : (s : List ℕ) (dot : ℕ) → dot < length s → get_or s dot 0 ≡ 46 → Nowhere (Passes (is_byte 46) s) (dot + 1) (length s)
+    → (5 ≤ dot → starts_with nat_eq (drop (dot - 5) s) (codes ".llvm.") ≡ false) → s ≡ stripped s
+stripped_undotted_end s dot low hit none other = stripped_uncut s (λ i rest e thin.
+    let size : length s - i ≡ 6 + length rest = omega (arith, length-drop i s, ap length e) in
+    let second : get_or s (i + 5) 0 ≡ 46 = sym (get_or-drop i s 5 0) ∙ ap (λ t. get_or t 5 0) e in
+    elim (cases_lt dot (i + 5)) [
+      | inl before ↦ none (i + 5) (omega (arith, before)) (omega (arith, size)) (ap (λ x. eqb x 46) second)
+      | inr after ↦ elim (cases_lt (i + 5) dot) [
+        | inr same ↦
+            let at : drop (dot - 5) s ≡ ending rest = ap (λ k. drop k s) (omega (arith, after, same)) ∙ e in
+            true≢false (sym (begins_ending (drop (dot - 5) s) rest at) ∙ other (omega (arith, after)))
+        | inl later ↦
+            let k = dot - (i + 6) in
+            let there : get_or rest k 0 ≡ 46 =
+            ap (λ t. get_or (drop 6 t) k 0) (sym e) ∙ get_or-drop 6 (drop i s) k 0 ∙ get_or-drop i s (6 + k) 0 ∙ ap (λ j. get_or s j 0) (omega (arith, later)) ∙ hit in
+            true≢false (sym thin ∙ list_all_at is_thin_lto rest k 0 (omega (arith, later, size, low)) (ap is_thin_lto there))
+      ]
+    ])
 
 -- no `.` at all
 pub stripped_undotted : (s : List ℕ) → Nowhere (Passes (is_byte 46) s) 0 (length s) → s ≡ stripped s

@@ -118,9 +118,8 @@ fn groups_end<const N: usize>(text: &[u8], from: usize) -> usize
 pub fn run_len(text: &[u8]) -> usize
     ensures { result ≡ prefix_len is_run text.now }
 {
-    // Groups of these sizes the compiler tests by vectors: at most seven bytes of a run are left.
-    let mut at = groups_end::<32>(text, 0);
-    at = groups_end::<16>(text, at);
+    // The compiler tests groups of these sizes by vectors: at most seven bytes of a run are left.
+    let mut at = groups_end::<16>(text, 0);
     at = groups_end::<8>(text, at);
     while at < text.len() && is_run(text[at]) {
         at += 1;

@@ -1,5 +1,5 @@
-//! Test doubles: readers and writers in memory, which fail where they are told to or tell what was
-//! done to them, and a sink that refuses a piece.
+//! Test doubles: readers and writers in memory that fail on demand or record their calls, and a
+//! sink that rejects a piece.
 #![tactic(auto)]
 
 mod refusing_sink;

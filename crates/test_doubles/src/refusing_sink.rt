@@ -1,4 +1,4 @@
-//! A sink that refuses a piece.
+//! A sink that rejects a piece.
 ghost use Rattle.std.specs.Prelude.{◌≡◌, ◌-◌, ◌<◌, [], ◌++◌, Some, true, false};
 ghost use Rattle.std.proofs.Common.{sym, ap, ◌∙◌};
 ghost use Rattle.std.proofs.lemmas.List.{append-nil, append_assoc};
@@ -6,18 +6,18 @@ ghost use Rattle.test_doubles.specs.Refusing.{taken_text, pieces_left};
 
 use demangle_sink::{ArraySink, SinkRefused, TextSink};
 
-/// Takes every empty piece, and refuses one of the nonempty ones; it keeps the text that it took,
+/// Takes every empty piece, and rejects one of the nonempty ones. It stores the text that it took,
 /// of at most 4,096 bytes.
 #[derive(Drop)]
 pub struct RefusingSink {
     text: ArraySink<4096>,
-    /// How many nonempty pieces are taken before the refused one.
+    /// The number of nonempty pieces that are taken before the rejected one.
     left: usize,
     failed: bool,
 }
 
 impl RefusingSink {
-    /// Refuses the nonempty piece of this number, counted from 1.
+    /// Returns a sink that rejects the nonempty piece with this number, counted from 1.
     pub fn new(number: usize) -> RefusingSink
         requires { 0 < number }
         ensures alive { ⟦<RefusingSink as TextSink>⟧.failed result ≡ false }
@@ -31,7 +31,7 @@ impl RefusingSink {
         }
     }
 
-    /// The text that it took.
+    /// Returns the text that the sink has taken.
     pub fn as_str(&self) -> &str
         ensures { result.now ≡ taken_text self.now }
     {

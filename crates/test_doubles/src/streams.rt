@@ -1,14 +1,13 @@
-//! Readers and writers in memory, for tests: they fail where they are told to, or tell what was
-//! done to them.
+//! Readers and writers in memory, for tests. They fail on demand, or record their calls.
 use std::alloc::{AllocError, Global};
 use std::io;
 use std::io::{BufRead, ErrorKind, Read, Write};
 
-/// What the errors of a `PartsReader` say.
+/// The text of the errors of a `PartsReader`.
 pub const RESET: &str = "reset by the other side";
 
-/// Hands out its parts, one at a filling, and fails at the filling after so many, with the kind
-/// that it is given and the text `RESET`.
+/// Returns its parts, one for each `fill_buf`. Fails after a given number of them, with a given
+/// kind and the text `RESET`.
 #[derive(Drop)]
 pub struct PartsReader<'a> {
     parts: &'a [&'a [u8]],
@@ -19,7 +18,7 @@ pub struct PartsReader<'a> {
 }
 
 impl<'a> PartsReader<'a> {
-    /// Hands out these parts, and fails with this kind at the filling after so many.
+    /// Returns a reader of these parts that takes `fills` calls and then fails with this kind.
     pub fn new(parts: &'a [&'a [u8]], fills: usize, fault: ErrorKind) -> PartsReader<'a> {
         PartsReader {
             parts,
@@ -66,8 +65,8 @@ impl BufRead for PartsReader<'_> {
     }
 }
 
-/// Holds what is written, and fails at the write after so many, and at a flush unless that is
-/// taken.
+/// Stores the bytes that are written. Fails after a given number of writes, and at a flush unless
+/// `takes_flush` is set.
 #[derive(Drop)]
 pub struct RefusingWriter {
     held: Vec<u8>,
@@ -76,7 +75,7 @@ pub struct RefusingWriter {
 }
 
 impl RefusingWriter {
-    /// Holds the old bytes, and takes so many writes.
+    /// Returns a writer that contains the old bytes and takes this number of writes.
     pub fn new(
         alloc: Global,
         old: &[u8],
@@ -90,7 +89,7 @@ impl RefusingWriter {
         })
     }
 
-    /// What was written, behind the old bytes.
+    /// Returns the old bytes and the bytes written after them.
     pub fn held(&self) -> &[u8] {
         self.held.as_slice()
     }
@@ -115,7 +114,7 @@ impl Write for RefusingWriter {
     }
 }
 
-/// Notes each write.
+/// Records each write.
 #[derive(Drop)]
 pub struct NotingWriter {
     writes: Vec<Vec<u8>>,
@@ -123,7 +122,7 @@ pub struct NotingWriter {
 }
 
 impl NotingWriter {
-    /// A writer with no writes noted.
+    /// Returns a writer that has recorded nothing.
     pub fn new(alloc: Global) -> NotingWriter {
         NotingWriter {
             writes: Vec::new(alloc),
@@ -131,7 +130,7 @@ impl NotingWriter {
         }
     }
 
-    /// The writes, from the first on.
+    /// Returns the writes in order.
     pub fn writes(&self) -> &[Vec<u8>] {
         self.writes.as_slice()
     }

@@ -1,16 +1,16 @@
 -- Internal: no public contract cites this.
--- What a memo remembers.
+-- The keys and texts that a memo remembers.
 use Rattle.std.specs.Prelude.{◌≡◌, ℕ, ◌+◌, ◌<◌, ◌≤◌, List, length, take, drop}
 use Rattle.std.specs.List.{All}
 use Rattle.text_memo.specs.declared.Entry.{Entry}
 use Rattle.text_memo.specs.declared.Pair.{Pair}
 use Rattle.text_memo.specs.declared.TextMemo.{TextMemo}
 
--- the key of an entry, among these bytes
+-- the key of an entry, within these bytes
 abbrev pub key_of : List ℕ → Entry → List ℕ
 key_of bytes entry = take entry.key_len (drop entry.start bytes)
 
--- the text after it
+-- the text of an entry, which follows the key
 abbrev pub text_of : List ℕ → Entry → List ℕ
 text_of bytes entry = take entry.text_len (drop (entry.start + entry.key_len) bytes)
 

@@ -190,8 +190,10 @@ impl TextMemo {
             Remembers text_for self.new }
     {
         let place = mark_place(hash);
+        if self.marks.is_empty() && self.marks.resize(MARKS, 0).is_err() {
+            return Noted::New;
+        }
         if place >= self.marks.len() {
-            let _ = self.marks.resize(MARKS, 0);
             return Noted::New;
         }
         let noted = self.marks[place];

@@ -67,8 +67,6 @@ fn long_keys_and_texts_have_no_entry(rt: HostRuntime) -> Result<(), Fail> {
 #[test]
 fn a_key_is_noted(rt: HostRuntime) -> Result<(), Fail> {
     let mut memo = TextMemo::new(rt.alloc());
-    // The first call takes the memory of the marks.
-    assert_eq!(rt; memo.note(2), Noted::New);
     assert_eq!(rt; memo.note(2), Noted::New);
     assert_eq!(rt; memo.note(2), Noted::Again);
     // Another key in the same place takes it.

@@ -6,7 +6,8 @@ use kodliwe::support::unicode::properties::{GeneralCategory, is_grapheme_extend}
 
 #[test]
 fn memchr_finds_the_first_of_any_places() {
-    for len in 0..40 {
+    // Up to three groups of 32 bytes and what is left of a fourth.
+    for len in 0..100 {
         assert_eq!(memchr(b'_', &vec![b'a'; len]), None, "{len}");
         for first in 0..len {
             for second in first..len {

@@ -1,5 +1,4 @@
-//! What the output holds and when it is written, where its writer takes a part of what it is
-//! handed, or refuses once.
+//! Tests of the output's buffer, with a writer that takes a part of a write or fails once.
 use super::{WRITE_FAILED, assert_failed, run_pausing};
 use crate::pausing::PausingOutput;
 use held_bytes::CAPACITY;
@@ -9,7 +8,7 @@ use std::io::{ErrorKind, Read, Write};
 use std::test::Fail;
 use test_doubles::streams::{PartsReader, RefusingWriter};
 
-/// Takes at most three bytes a write.
+/// Takes at most three bytes in one write.
 #[derive(Drop)]
 struct ShortWriter {
     held: Vec<u8>,
@@ -27,7 +26,7 @@ impl Write for ShortWriter {
     }
 }
 
-/// Refuses one write and one flush, each the one after so many, takes those that follow, and counts
+/// Fails one write and one flush, each after a given number of them. Takes all others, and counts
 /// the flushes that it took.
 #[derive(Drop)]
 struct OnceRefusingWriter {
@@ -136,7 +135,7 @@ fn a_write_that_fails_once_is_told(rt: HostRuntime) -> Result<(), Fail> {
     assert!(rt; writer.write_all(full.as_slice()).is_err());
     assert!(rt; writer.flush().is_err());
     drop(output);
-    // What was refused stays held, and the flush hands it on.
+    // The bytes of the failed write stay buffered, and the flush writes them.
     assert_eq!(rt; refusing.held.as_slice(), b"x".as_slice());
     Ok(())
 }

@@ -1,10 +1,10 @@
-//! Readers and writers that watch when the output is written and flushed.
+//! Readers and writers that check the times of writes and flushes.
 use std::cell::Cell;
 use std::io;
 use std::io::{ErrorKind, Read, Write};
 use test_doubles::streams::PartsReader;
 
-/// Holds what is written, and tells its reader whether that was flushed.
+/// Stores the bytes that are written, and shows its reader whether they were flushed.
 #[derive(Drop)]
 pub struct WatchedWriter<'a> {
     held: Vec<u8>,
@@ -34,7 +34,7 @@ impl Write for WatchedWriter<'_> {
     }
 }
 
-/// Hands out its parts, and fails where it is read while something that was written is not flushed.
+/// Returns its parts. Fails if it is read while written bytes are not flushed.
 #[derive(Drop)]
 pub struct WatchingReader<'a> {
     parts: PartsReader<'a>,
@@ -59,7 +59,7 @@ impl Read for WatchingReader<'_> {
     }
 }
 
-/// Counts what is written, and tells its reader that, and whether it was flushed.
+/// Counts the bytes that are written. Shows its reader the count, and whether they were flushed.
 #[derive(Drop)]
 pub struct CountingWriter<'a> {
     written: &'a Cell<usize>,
@@ -89,8 +89,8 @@ impl Write for CountingWriter<'_> {
     }
 }
 
-/// Hands out a text, at each read up to the next of its ends, and fails where it is read while the
-/// writer lacks some of what was handed out, or was not flushed since.
+/// Returns a text, at each read up to the next of its ends. Fails if it is read before the writer
+/// has received all bytes returned so far, or before they were flushed.
 #[derive(Drop)]
 pub struct CountingReader<'a> {
     text: &'a [u8],

@@ -1,4 +1,4 @@
-//! The hex words of a v0 symbol, and their numbers.
+//! Reads the hexadecimal strings of a v0 symbol, and their numbers.
 ghost use Rattle.std.specs.Prelude.{◌≡◌, ℕ, ◌+◌, ◌-◌, ◌<◌, ◌≤◌, length, true, false, slice_range, IfOk, OnErr, IfErr, MatchOption, option_map};
 ghost use Rattle.std.specs.Result.{result_ok};
 ghost use Rattle.demangle_symbol.specs.Digits.{number};
@@ -7,12 +7,15 @@ ghost use Rattle.demangle_symbol.specs.Words.{nibbles_at, number_of, Hex, is_nib
 
 use crate::cursor::{Looks, ParseError, Part, Symbol};
 
-/// How many nibbles a number may have behind its leading zeros.
+/// The most nibbles that a number may have after its leading zeros.
 pub const MAX_NIBBLES: usize = 32;
 
 impl<'s> Symbol<'s> {
-    /// The hex word at a place: its nibbles, and the place behind its `_`. It is Invalid where
-    /// another byte, or the end, comes before the `_`.
+    /// Reads a hexadecimal string. Returns the part of its nibbles and the place after its `_`.
+    ///
+    /// # Errors
+    ///
+    /// Returns `Invalid` if another byte, or the end, comes before the `_`.
     #[tactic(auto, using(crate::proofs::Hex::hex_steps, crate::proofs::Hex::hex_reads))]
     #[inline(never)]
     pub fn hex_nibbles(&self, place: usize, looks: &mut Looks) -> Result<(Part, usize), ParseError>
@@ -45,7 +48,7 @@ impl<'s> Symbol<'s> {
         Err(ParseError::Invalid)
     }
 
-    /// Where the leading zeros of a part end.
+    /// Returns the place after the leading zeros of a part.
     #[tactic(auto, using(crate::proofs::Hex::zeros_steps))]
     fn behind_zeros(&self, part: Part, looks: &mut Looks) -> usize
         requires order { part.from ≤ part.to }
@@ -64,7 +67,8 @@ impl<'s> Symbol<'s> {
         part.to
     }
 
-    /// The number of the nibbles of a hex word, if at most 32 are left behind its leading zeros.
+    /// Returns the number that the nibbles of a hexadecimal string spell. Returns `None` if more
+    /// than 32 nibbles follow the leading zeros.
     #[tactic(auto, using(crate::proofs::Hex::number_steps), unfolding(crate::specs::Words::number_of))]
     #[inline(never)]
     pub fn hex_number(&self, nibbles: Part, looks: &mut Looks) -> Option<u128>
@@ -73,7 +77,7 @@ impl<'s> Symbol<'s> {
         ensures grows { looks.old ≤ looks.new }
         ensures looks { looks.new ≤ looks.old + (nibbles.to - nibbles.from + 1) }
     {
-        // Zeros in front carry no value, so a number may have any count of them.
+        // Leading zeros have no value, so a number may have any number of them.
         let start = self.behind_zeros(nibbles, looks);
         if nibbles.to - start > MAX_NIBBLES {
             return None;
@@ -92,7 +96,7 @@ impl<'s> Symbol<'s> {
     }
 }
 
-/// The value of a lower case hexadecimal digit, or `None` at any other byte.
+/// Returns the value of a lower case hexadecimal digit, or `None` for any other byte.
 pub(crate) fn nibble_of(byte: u8) -> Option<u8>
     ensures { MatchOption result
         (is_nibble byte ≡ false) (λ d. (is_nibble byte ≡ true) × (d ≡ nibble byte) × (d < 16)) }

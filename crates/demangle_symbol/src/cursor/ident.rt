@@ -1,4 +1,4 @@
-//! The identifiers of a v0 symbol.
+//! Reads the identifiers of a v0 symbol.
 ghost use Rattle.std.specs.Prelude.{◌≡◌, ℕ, ◌+◌, ◌-◌, ◌*◌, ◌<◌, ◌≤◌, ◌^◌, length, true, IfOk, OnErr, IfErr, option_map};
 ghost use Rattle.std.specs.Result.{result_ok};
 ghost use Rattle.demangle_symbol.specs.Digits.{is_byte};
@@ -7,7 +7,7 @@ ghost use Rattle.demangle_symbol.specs.Idents.{IsIdent, LiesWithin, ident_at, na
 
 use crate::cursor::{Looks, ParseError, Part, Symbol};
 
-/// A name: its ASCII part, and its Punycode part, which is empty where it has none.
+/// The two parts of a name. A name without Punycode has an empty Punycode part.
 #[derive(Clone, Copy, Debug, PartialEq, Eq)]
 pub struct Ident {
     pub ascii: Part,
@@ -15,7 +15,7 @@ pub struct Ident {
 }
 
 impl<'s> Symbol<'s> {
-    /// The length at a place, and the place behind it.
+    /// Reads the length of an identifier and returns it with the place after its digits.
     #[tactic(auto, using(crate::proofs::Idents::length_steps))]
     #[inline(always)]
     fn length(&self, place: usize, looks: &mut Looks) -> Result<(usize, usize), ParseError>
@@ -27,15 +27,15 @@ impl<'s> Symbol<'s> {
         ensures err_looks { OnErr result (looks.new ≤ looks.old + (length self.now - place + 2)) }
         ensures within { IfOk result (λ r. (place < r.1) × (r.1 ≤ length self.now)) }
     {
-        // The grammar has no leading zeros: a first `0` is the whole length, and digits behind it
-        // are the name's.
+        // The grammar has no leading zeros. So a first `0` is the whole length, and digits after it
+        // belong to the name.
         if self.is_at(b'0', place, looks) {
             return Ok((0, place + 1));
         }
         let Some(first) = self.digit(place, looks) else {
             return Err(ParseError::Invalid);
         };
-        // Most names have fewer than 100 bytes.
+        // Most names have fewer than 100 bytes, so two digits are read without a loop.
         let one = usize::from(first);
         let Some(second) = self.digit(place + 1, looks) else {
             return Ok((one, place + 1));
@@ -47,7 +47,7 @@ impl<'s> Symbol<'s> {
         self.decimal_from(two * 10 + usize::from(third), place, place + 3, looks)
     }
 
-    /// Where the bytes behind the last `_` of a part begin, or the part where it has none.
+    /// Returns the place after the last `_` of a part, or the start of the part if it has no `_`.
     #[tactic(auto, using(crate::proofs::Idents::tail_steps))]
     fn tail(&self, from: usize, to: usize, looks: &mut Looks) -> usize
         requires order { from ≤ to }
@@ -65,8 +65,12 @@ impl<'s> Symbol<'s> {
         from
     }
 
-    /// The identifier at a place, and the place behind it. It is Invalid without a length, where
-    /// the length goes past the end, and where nothing is left for the Punycode part behind a `u`.
+    /// Reads an identifier and returns it with the place after it.
+    ///
+    /// # Errors
+    ///
+    /// Returns `Invalid` if there is no length, if the length exceeds the symbol, or if a `u` is
+    /// present and its Punycode part is empty.
     #[tactic(auto, using(crate::proofs::Idents::ident_steps, crate::proofs::Idents::ident_reads))]
     #[inline(always)]
     pub fn ident(&self, place: usize, looks: &mut Looks) -> Result<(Ident, usize), ParseError>
@@ -81,7 +85,7 @@ impl<'s> Symbol<'s> {
         ensures value { result_ok result ≡ ident_at self.now place }
         ensures fault { IfErr result (λ e. e ≡ ParseError.Invalid) }
         ensures grows { looks.old ≤ looks.new }
-        // With its bytes once more, to print it, it is within the same bound.
+        // Printing the name looks at its bytes once more. The bound includes those looks.
         ensures ok_looks { IfOk result
             (λ r. looks.new + name_size r.0 ≤ looks.old + 4 * (r.1 - place + 1)) }
         ensures err_looks { OnErr result
@@ -107,10 +111,10 @@ impl<'s> Symbol<'s> {
         Ok((name, to))
     }
 
-    /// A copy of the identifier at a place where a `u` stands, which was looked at before, and the
-    /// place behind it. It is Invalid where none is spelled there.
-    // A copy, so that other names need not lie where that call wrote its own; and apart, since
-    // memory for that is cleared where this begins.
+    /// Reads an identifier that starts with `u` and returns a copy of it, with the place after it.
+    /// The `u` was looked at before. Returns `Invalid` if no identifier is spelled there.
+    // The copy frees other names from the memory to which that call writes its result. The function
+    // is separate since that memory is cleared at its start.
     #[inline(always)]
     fn punycode_copy(&self, place: usize, looks: &mut Looks) -> Result<(Ident, usize), ParseError>
         requires u { is_byte self.now place 117 ≡ true }
@@ -138,9 +142,9 @@ impl<'s> Symbol<'s> {
         Ok((copy, to))
     }
 
-    /// The identifier at a place where a `u` stands, which was looked at before, and the place
-    /// behind it. It is Invalid where none is spelled there.
-    // Few have a `u`, and the code of those without stays short where this stands alone.
+    /// Reads an identifier that starts with `u` and returns it with the place after it. The `u` was
+    /// looked at before. Returns `Invalid` if no identifier is spelled there.
+    // Few identifiers have a `u`. A separate function keeps the code for the others short.
     #[tactic(auto, using(crate::proofs::Idents::ident_steps))]
     #[inline(never)]
     fn punycode_ident(&self, place: usize, looks: &mut Looks) -> Result<(Ident, usize), ParseError>
@@ -168,11 +172,11 @@ impl<'s> Symbol<'s> {
         }
         let to = from + len;
         let tail = self.tail(from, to, looks);
-        // An empty Punycode part is no form of a name: that name is spelled without the `u`.
+        // A name must not have an empty Punycode part. Such a name is spelled without the `u`.
         if tail == to {
             return Err(ParseError::Invalid);
         }
-        // The `_` between the two parts stands for the `-` of RFC 3492, and belongs to neither.
+        // The `_` between the two parts replaces the `-` of RFC 3492. It belongs to neither part.
         let ascii_end = if tail == from { from } else { tail - 1 };
         let name = Ident {
             ascii: Part {

@@ -1,18 +1,18 @@
-//! The count of looks, which takes no room.
+//! Counts looks at the bytes of a symbol. The count occupies no memory.
 ghost use Rattle.std.specs.Prelude.{◌≡◌, ◌+◌};
 
 use std::marker::Model;
 use std::mem;
 use std::snapshot::Snapshot;
 
-/// A number, counted by its steps from zero. No run holds one.
+/// A natural number as the number of steps from zero. No value exists at run time.
 #[derive(Drop)]
 enum Tally {
     Zero,
     More(Snapshot<Tally>),
 }
 
-/// How many looks were taken. It takes no bytes, and only `tick` raises it.
+/// The number of looks made. It occupies no bytes, and only `tick` raises it.
 #[derive(Drop)]
 pub struct Looks {
     count: Snapshot<Tally>,
@@ -29,7 +29,7 @@ impl Model for Looks {
 }
 
 impl Looks {
-    /// A count of no looks.
+    /// Returns a count of zero looks.
     pub fn new() -> Looks
         ensures { result ≡ 0 }
     {
@@ -38,7 +38,7 @@ impl Looks {
         }
     }
 
-    /// One look more.
+    /// Adds one look.
     pub(super) fn tick(&mut self)
         ensures { self.new ≡ self.old + 1 }
     {

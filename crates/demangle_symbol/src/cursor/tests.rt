@@ -1,4 +1,4 @@
-//! Words of known symbols.
+//! Tests of the primitives of known symbols.
 use crate::cursor::{Ident, Looks, ParseError, Symbol};
 use std::mem;
 
@@ -18,7 +18,7 @@ fn namespace(text: &str) -> Result<(u8, usize), ParseError> {
     Symbol::new(text).namespace(0, &mut Looks::new())
 }
 
-/// Where the parts of a name begin and end, and the place behind it.
+/// Returns the bounds of both parts of a name, and the place after it.
 fn parts(text: &str) -> Result<(usize, usize, usize, usize, usize), ParseError> {
     let (name, next) = Symbol::new(text).ident(0, &mut Looks::new())?;
     let Ident { ascii, punycode } = name;

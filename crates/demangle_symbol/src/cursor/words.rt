@@ -1,4 +1,4 @@
-//! The words of a v0 symbol that are numbers, letters and references.
+//! Reads the primitives of a v0 symbol that are numbers, letters and back references.
 ghost use Rattle.std.specs.Prelude.{◌≡◌, ℕ, ◌+◌, ◌-◌, ◌*◌, ◌<◌, ◌≤◌, ◌^◌, length, true, false, Some, slice_get, IfOk, OnErr, IfErr, IfSome, IfNone, MatchOption};
 ghost use Rattle.std.specs.Result.{result_ok};
 ghost use Rattle.demangle_symbol.specs.Words.{byte_at, integer_at, optional_at, namespace_at, backref_at, Integer, OptInteger, Namespace, Backref, behind_byte, is_digit_62, digit_62};
@@ -8,15 +8,18 @@ ghost use Rattle.demangle_symbol.specs.Integers.{Digit62, OneMore, one_more_at};
 
 use crate::cursor::{Looks, ParseError, Symbol, append_digit};
 
-/// How deep the units of a symbol may lie in one another.
+/// The greatest depth to which productions of a symbol may be nested.
 pub const MAX_DEPTH: u32 = 500;
 
-/// How many digits are taken with no check: 62^10 is below 2^60.
+/// The number of digits that are read without an overflow check. 62^10 is below 2^60.
 const UNCHECKED_DIGITS: usize = 10;
 
 impl<'s> Symbol<'s> {
-    /// The integer at a place, and the place behind it. It is Invalid where none is spelled there,
-    /// and where it is not below 2^64.
+    /// Reads an integer in base 62 and returns it with the place after it.
+    ///
+    /// # Errors
+    ///
+    /// Returns `Invalid` if no integer is spelled there, or if the integer is 2^64 or more.
     #[tactic(auto, using(crate::proofs::Integers::integer_steps))]
     #[inline(never)]
     pub fn integer_62(&self, place: usize, looks: &mut Looks) -> Result<(u64, usize), ParseError>
@@ -30,13 +33,13 @@ impl<'s> Symbol<'s> {
             (looks.new ≤ looks.old + 4 * (length self.now - place + 1)) }
         ensures within { IfOk result (λ r. (place < r.1) × (r.1 ≤ length self.now)) }
     {
-        // `_` alone is 0, so what digits spell is one less than the integer.
+        // `_` alone is 0, so the digits spell one less than the integer.
         let Some(first) = self.integer_digit(place, looks)? else {
             return Ok((0, place + 1));
         };
         let mut number = first;
-        // As many turns at any place, so that they are unrolled: each digit tells where the symbol
-        // ends.
+        // The number of iterations does not depend on the place, so the compiler can unroll them.
+        // Each digit read finds the end of the symbol itself.
         for step in 1..UNCHECKED_DIGITS {
             let at = place + step;
             let Some(digit) = self.integer_digit(at, looks)? else {
@@ -59,8 +62,8 @@ impl<'s> Symbol<'s> {
         Err(ParseError::Invalid)
     }
 
-    /// The digit of an integer at a place, or none where the `_` stands there that ends it. Any
-    /// other byte is Invalid.
+    /// Reads a digit of an integer. Returns `None` if the byte is the `_` that ends the integer,
+    /// and `Invalid` if it is any other byte.
     #[tactic(auto, using(crate::proofs::Integers::digit_reads))]
     #[inline(always)]
     fn integer_digit(&self, place: usize, looks: &mut Looks) -> Result<Option<u64>, ParseError>
@@ -74,13 +77,14 @@ impl<'s> Symbol<'s> {
         ensures within { IfOk result (λ _. place < length self.now) }
         ensures fits { length self.now < 2 ^ 63 }
     {
-        // It says that a symbol is shorter than 2^63 bytes.
+        // This call shows the proof that a symbol is shorter than 2^63 bytes.
         let _count = self.inner.as_bytes().len();
         let Some(byte) = self.byte(place, looks) else {
             return Err(ParseError::Invalid);
         };
-        // The digits go first: there are up to eleven, and one end behind them. The end is told by
-        // its byte, since a test of the table for it would be made in front of the digits' test.
+        // Digits are tested first, since an integer has up to eleven of them and one end. The end
+        // is recognized by its byte: a test by the table would be moved before the test of the
+        // digits.
         let digit = digit_62_of(byte);
         if digit < 62 {
             return Ok(Some(u64::from(digit)));
@@ -91,8 +95,12 @@ impl<'s> Symbol<'s> {
         Err(ParseError::Invalid)
     }
 
-    /// The integer behind a tag and one more, or 0 where the tag is not there. It is Invalid where
-    /// the tag has no integer behind it, and where the sum is not below 2^64.
+    /// Reads an optional integer and returns it with the place after it. The value is the integer
+    /// after the tag plus one, or 0 without the tag.
+    ///
+    /// # Errors
+    ///
+    /// Returns `Invalid` if the tag has no integer after it, or if the sum is 2^64 or more.
     #[tactic(auto, using(crate::proofs::Integers::optional_reads))]
     #[inline(always)]
     pub fn opt_integer_62(
@@ -118,10 +126,10 @@ impl<'s> Symbol<'s> {
         self.integer_behind_tag(place + 1, looks)
     }
 
-    /// The integer behind a tag, and one more. It is Invalid where none is spelled there, and where
-    /// the sum is not below 2^64.
-    // Apart, since memory for the call's answer is cleared where this begins, and most names have
-    // no tag.
+    /// Reads the integer after a tag. Returns the integer plus one, and the place after it. Returns
+    /// `Invalid` if no integer is spelled there, or if the sum is 2^64 or more.
+    // The function is separate since memory for the call's result is cleared at its start, and most
+    // names have no tag.
     #[tactic(auto, using(crate::proofs::Integers::one_more_reads))]
     #[inline(always)]
     fn integer_behind_tag(
@@ -142,15 +150,20 @@ impl<'s> Symbol<'s> {
         let Ok((number, next)) = self.integer_62(place, looks) else {
             return Err(ParseError::Invalid);
         };
-        // The tag left out is 0, so behind the tag an integer counts from 1 on.
+        // A missing tag means 0, so an integer after the tag counts from 1.
         let Some(value) = number.checked_add(1) else {
             return Err(ParseError::Invalid);
         };
         Ok((value, next))
     }
 
-    /// The disambiguator at a place, which is 0 where there is none. It is Invalid as for an
-    /// integer behind a tag.
+    /// Reads a disambiguator and returns it with the place after it. It is 0 if the tag `s` is
+    /// missing.
+    ///
+    /// # Errors
+    ///
+    /// Returns `Invalid` if the tag has no integer after it, or if the disambiguator is 2^64 or
+    /// more.
     #[inline(always)]
     pub fn disambiguator(&self, place: usize, looks: &mut Looks) -> Result<(u64, usize), ParseError>
         ensures ok { IfOk result (λ r. OptInteger 115 self.now place r.1 r.0) }
@@ -167,7 +180,11 @@ impl<'s> Symbol<'s> {
         self.opt_integer_62(b's', place, looks)
     }
 
-    /// The byte at a place, read as a word, and the place behind it. It is Invalid at the end.
+    /// Reads a byte and returns it with the place after it.
+    ///
+    /// # Errors
+    ///
+    /// Returns `Invalid` at the end of the symbol.
     #[tactic(auto, unfolding(crate::specs::Words::byte_at))]
     pub fn tag(&self, place: usize, looks: &mut Looks) -> Result<(u8, usize), ParseError>
         ensures read { result_ok result ≡ byte_at self.now place }
@@ -181,7 +198,11 @@ impl<'s> Symbol<'s> {
         Ok((byte, place + 1))
     }
 
-    /// The letter of a namespace, and the place behind it. Any other byte is Invalid.
+    /// Reads the letter of a namespace and returns it with the place after it.
+    ///
+    /// # Errors
+    ///
+    /// Returns `Invalid` if the byte is not an ASCII letter.
     #[tactic(auto, unfolding(crate::specs::Words::namespace_at))]
     pub fn namespace(&self, place: usize, looks: &mut Looks) -> Result<(u8, usize), ParseError>
         ensures ok { IfOk result (λ r. Namespace self.now place r.0 × (r.1 ≡ place + 1)) }
@@ -197,10 +218,13 @@ impl<'s> Symbol<'s> {
         }
     }
 
-    /// The target of a back reference whose `B` stands in front of `place`, and the place behind
-    /// its word. It is Invalid where no integer is spelled, and where the target does not lie in
-    /// front of the `B`. Then it is RecursedTooDeep where `depth`, that of the reference, has no
-    /// depth below it.
+    /// Reads a back reference whose `B` is directly before `place`. Returns its target and the
+    /// place after it. `depth` is the depth of the reference.
+    ///
+    /// # Errors
+    ///
+    /// Returns `Invalid` if no integer is spelled there, or if the target is not before the `B`.
+    /// Otherwise returns `RecursedTooDeep` if `depth` is the greatest depth.
     #[tactic(auto, unfolding(crate::specs::Words::backref_at))]
     #[inline(always)]
     pub fn backref(
@@ -227,9 +251,8 @@ impl<'s> Symbol<'s> {
             (λ r. (place < r.1) × (r.1 ≤ length self.now) × (r.0 + 1 < place)) }
     {
         let (target, next) = self.integer_62(place, looks)?;
-        // Only what stands in front of its `B` may be referred to, so that references lead to no
-        // circle. The target is looked at before the depth: a bad one is Invalid however deep it
-        // lies.
+        // A back reference may only name a place before its `B`, so references cannot form a cycle.
+        // The target is checked before the depth. So an invalid target is `Invalid` at any depth.
         if target >= place as u64 - 1 {
             return Err(ParseError::Invalid);
         }
@@ -239,7 +262,7 @@ impl<'s> Symbol<'s> {
         Ok((target as usize, next))
     }
 
-    /// The place behind an optional byte. It is one look.
+    /// Returns the place after an optional byte. It makes one look.
     pub fn skip(&self, byte: u8, place: usize, looks: &mut Looks) -> usize
         ensures place { result ≡ behind_byte byte self.now place }
         ensures within { place ≤ length self.now → result ≤ length self.now }
@@ -254,7 +277,7 @@ impl<'s> Symbol<'s> {
     }
 }
 
-/// The value of each digit in base 62, and 255 at each other byte.
+/// The value of each digit in base 62, and 255 for every other byte.
 #[rattlefmt::skip]
 static DIGITS_62: [u8; 256] = [
     255, 255, 255, 255, 255, 255, 255, 255, 255, 255, 255, 255, 255, 255, 255, 255,
@@ -275,7 +298,7 @@ static DIGITS_62: [u8; 256] = [
     255, 255, 255, 255, 255, 255, 255, 255, 255, 255, 255, 255, 255, 255, 255, 255,
 ];
 
-/// The value of a digit in base 62, and more at any other byte.
+/// Returns the value of a digit in base 62, and 62 or more for any other byte.
 #[inline(always)]
 fn digit_62_of(byte: u8) -> u8
     ensures digit { result < 62 → (is_digit_62 byte ≡ true) × (result ≡ digit_62 byte) }

@@ -1,4 +1,4 @@
-//! The characters of string constants, from their nibbles.
+//! Decodes the characters of string constants from their nibbles.
 ghost use Rattle.std.specs.Prelude.{◌≡◌, ℕ, ◌+◌, ◌-◌, ◌*◌, ◌<◌, ◌≤◌, List, ◌∷◌, ◌++◌, length, slice_index, IfSome, IfNone, IsSome, IsTrue, ◌↔◌, option_map, is_some, encode_utf8};
 ghost use Rattle.std.specs.Str.{IsUtf8};
 ghost use Rattle.std.specs.Char.{IsScalar};
@@ -12,14 +12,14 @@ use crate::literal::put_escaped;
 use demangle_sink::{SinkRefused, SizeLimitedFmtAdapter, TextSink, put_char};
 use std::str;
 
-/// The characters that the nibbles of a string constant spell, one after another.
+/// An iterator over the characters that the nibbles of a string constant spell.
 #[derive(Clone, Copy)]
 pub struct StrChars {
-    /// The nibbles that are left.
+    /// The nibbles not yet read.
     rest: Part,
 }
 
-/// The nibble at a place.
+/// Returns the value of the nibble at a place.
 fn nibble_at(symbol: &Symbol<'_>, place: usize, looks: &mut Looks) -> u8
     requires inside { place < length symbol.now }
     requires hex { IsTrue (is_nibble (slice_index symbol.now place)) }
@@ -36,7 +36,7 @@ fn nibble_at(symbol: &Symbol<'_>, place: usize, looks: &mut Looks) -> u8
     }
 }
 
-/// The byte of the two nibbles from a place on.
+/// Returns the byte that the two nibbles from a place spell.
 #[tactic(auto, using(crate::proofs::Nibbles::nibble_steps))]
 fn nibble_byte(symbol: &Symbol<'_>, rest: Part, place: usize, looks: &mut Looks) -> u8
     requires hex { HexPart symbol.now rest }
@@ -51,7 +51,7 @@ fn nibble_byte(symbol: &Symbol<'_>, rest: Part, place: usize, looks: &mut Looks)
     high * 16 + low
 }
 
-/// The first character of these bytes, if they are a text.
+/// Returns the first character of these bytes, or `None` if they are not UTF-8.
 fn first_char(bytes: &[u8]) -> Option<char>
     requires { 0 < length bytes.now }
     ensures scalar { IfSome result (λ c. IsScalar c) }
@@ -65,7 +65,8 @@ fn first_char(bytes: &[u8]) -> Option<char>
     text.chars().next()
 }
 
-/// The character that a part begins with, and the place behind it.
+/// Returns the first character of a part and the place after it. Returns `None` if the nibbles do
+/// not start with a character.
 fn char_at(symbol: &Symbol<'_>, rest: Part, looks: &mut Looks) -> Option<(char, usize)>
     requires hex { HexPart symbol.now rest }
     requires some { rest.from < rest.to }
@@ -93,21 +94,22 @@ fn char_at(symbol: &Symbol<'_>, rest: Part, looks: &mut Looks) -> Option<(char, 
 }
 
 impl StrChars {
-    /// The characters of these nibbles.
+    /// Returns an iterator over the characters of these nibbles.
     pub fn new(nibbles: Part) -> StrChars
         ensures { result.rest ≡ nibbles }
     {
         StrChars { rest: nibbles }
     }
 
-    /// Whether no nibbles are left.
+    /// Returns `true` if all nibbles have been read.
     pub fn is_done(&self) -> bool
         ensures { IsTrue result ↔ (self.now.rest.to ≤ self.now.rest.from) }
     {
         self.rest.to <= self.rest.from
     }
 
-    /// The next character, or none where the nibbles begin no character.
+    /// Returns the next character and removes its nibbles. Returns `None` if the nibbles do not
+    /// start with a character, and then changes nothing.
     #[tactic(auto, using(crate::proofs::Nibbles::hex_later))]
     pub fn next(&mut self, symbol: &Symbol<'_>, looks: &mut Looks) -> Option<char>
         requires hex { HexPart symbol.now self.old.rest }
@@ -134,7 +136,8 @@ impl StrChars {
     }
 }
 
-/// Whether the nibbles of a hex word spell a text: an even number of them, whose bytes are UTF-8.
+/// Returns `true` if the nibbles of a hexadecimal string spell a text: their number is even and
+/// their bytes are UTF-8.
 #[tactic(auto, using(crate::proofs::StringPieces::text_steps))]
 #[inline(never)]
 pub fn is_string(symbol: &Symbol<'_>, nibbles: Part, looks: &mut Looks) -> bool
@@ -152,7 +155,7 @@ pub fn is_string(symbol: &Symbol<'_>, nibbles: Part, looks: &mut Looks) -> bool
     true
 }
 
-/// Puts the characters of a string literal.
+/// Puts the characters of a string literal in their escaped form.
 #[tactic(auto, using(demangle_sink::proofs::PrintsLemmas::prints_ready, demangle_sink::proofs::PrintsLemmas::prints_nothing))]
 fn put_characters<S: TextSink>(
     symbol: &Symbol<'_>,
@@ -178,7 +181,11 @@ fn put_characters<S: TextSink>(
     Ok(())
 }
 
-/// Puts the literal of a string constant: its quote, the characters, and its quote.
+/// Puts the literal of a string constant: a quote, its characters and a quote.
+///
+/// # Errors
+///
+/// Returns `SinkRefused` if the sink or the size limit rejects a piece. No later piece is sent.
 #[tactic(auto, using(demangle_sink::proofs::PrintsLemmas::prints_ready))]
 #[inline(never)]
 pub fn put_string_literal<S: TextSink>(

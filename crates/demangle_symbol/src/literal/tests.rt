@@ -1,9 +1,9 @@
-//! Literals of known constants.
+//! Tests of the literals of known constants.
 use crate::cursor::{Looks, Symbol};
 use crate::literal::{character_of, is_string, put_char_literal, put_string_literal, truth_of};
 use demangle_sink::{ArraySink, SizeLimitedFmtAdapter};
 
-/// The number of a hex word.
+/// Returns the number of a hexadecimal string.
 fn number(word: &str) -> Option<u128> {
     let symbol = Symbol::new(word);
     let mut looks = Looks::new();
@@ -13,7 +13,7 @@ fn number(word: &str) -> Option<u128> {
     symbol.hex_number(nibbles, &mut looks)
 }
 
-/// Whether the char constant of this hex word prints so.
+/// Returns `true` if the char constant of this hexadecimal string prints as this text.
 fn prints_char(word: &str, text: &str) -> bool {
     let Some(c) = character_of(number(word)) else {
         return false;
@@ -26,7 +26,7 @@ fn prints_char(word: &str, text: &str) -> bool {
     sink.as_str() == text
 }
 
-/// Whether this hex word spells a string.
+/// Returns `true` if this hexadecimal string spells a string.
 fn spells(word: &str) -> bool {
     let symbol = Symbol::new(word);
     let mut looks = Looks::new();
@@ -36,7 +36,7 @@ fn spells(word: &str) -> bool {
     }
 }
 
-/// Whether the string constant of this hex word prints so.
+/// Returns `true` if the string constant of this hexadecimal string prints as this text.
 fn prints_string(word: &str, text: &str) -> bool {
     let symbol = Symbol::new(word);
     let mut looks = Looks::new();

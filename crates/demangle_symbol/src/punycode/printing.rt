@@ -1,4 +1,4 @@
-//! How names print.
+//! Prints names.
 ghost use Rattle.std.specs.Prelude.{◌+◌, ◌<◌, ◌≤◌, IsAscii};
 ghost use Rattle.demangle_symbol.specs.Idents.{LiesWithin, ascii_front, name_in, name_size};
 ghost use Rattle.demangle_sink.specs.Limit.{Prints, Ready};
@@ -9,7 +9,7 @@ use crate::punycode::decode;
 use demangle_sink::{SinkRefused, SizeLimitedFmtAdapter, TextSink, put_chars};
 
 impl Ident {
-    /// Puts the ASCII part and `-`, where it is not empty.
+    /// Puts the ASCII part and `-`. Puts nothing if the ASCII part is empty.
     #[tactic(auto, using(demangle_sink::proofs::PrintsLemmas::prints_ready, demangle_sink::proofs::PrintsLemmas::prints_nothing))]
     fn write_ascii<S: TextSink>(
         &self,
@@ -29,7 +29,7 @@ impl Ident {
         out.put("-")
     }
 
-    /// Puts the parts as they stand, where they can't be decoded.
+    /// Puts both parts undecoded, between `punycode{` and `}`.
     #[tactic(auto, using(demangle_sink::proofs::PrintsLemmas::prints_ready))]
     fn write_undecoded<S: TextSink>(
         &self,
@@ -48,10 +48,10 @@ impl Ident {
         out.put("}")
     }
 
-    /// Puts the decoded characters of a name with these parts, or the parts as they stand, behind
-    /// `punycode`, where they can't be decoded.
-    // Most names have no Punycode part, and their printing stays short where this stands alone; it
-    // takes no reference, so that they can lie in registers.
+    /// Puts the decoded characters of a name with these parts. If they cannot be decoded, puts both
+    /// parts undecoded, between `punycode{` and `}`.
+    // Most names have no Punycode part. A separate function keeps the code for them short. It takes
+    // the parts by value, so that they can stay in registers.
     #[inline(never)]
     fn write_decoded<S: TextSink>(
         ascii: Part,
@@ -78,8 +78,12 @@ impl Ident {
         }
     }
 
-    /// Puts a name: its ASCII part, where it has no Punycode part, or its decoded characters. Where
-    /// these can't be decoded it puts both parts between `punycode{` and `}`.
+    /// Puts a name: the ASCII part if there is no Punycode part, and otherwise the decoded
+    /// characters. If they cannot be decoded, puts both parts between `punycode{` and `}`.
+    ///
+    /// # Errors
+    ///
+    /// Returns `SinkRefused` if the sink or the size limit rejects a piece. No later piece is sent.
     #[inline(always)]
     pub fn write_to<S: TextSink>(
         &self,

@@ -1,8 +1,8 @@
-//! Names of known symbols.
+//! Tests of the names of known symbols.
 use crate::cursor::{Looks, Symbol};
 use demangle_sink::{ArraySink, SizeLimitedFmtAdapter};
 
-/// Whether the identifier at the front of a text prints so.
+/// Returns `true` if the identifier at the start of a text prints as this text.
 fn prints(identifier: &str, text: &str) -> bool {
     let symbol = Symbol::new(identifier);
     let mut looks = Looks::new();

@@ -1,4 +1,4 @@
-//! The frames that stand behind a child, and their stack.
+//! The frames, which store what follows a nested production, and their stack.
 ghost use Rattle.std.specs.Prelude.{◌≡◌, ◌^◌, ◌+◌, ◌<◌, ◌≤◌, [], ◌∷◌, ◌++◌, length, take, IfSome, IfNone};
 ghost use Rattle.demangle_v0.specs.Packing.{packed_frame};
 
@@ -10,22 +10,22 @@ use std::mem;
 
 const TWO_64: u128 = 1 << 64;
 
-/// What stands behind a child.
+/// A saved continuation, with the state that it needs.
 #[derive(Clone, Copy)]
 pub struct Frame {
-    /// Where its unit goes on.
+    /// The continuation.
     pub point: Point,
-    /// Whether the path or constant stands in value position.
+    /// Whether the path or constant is in value position.
     pub in_value: bool,
-    /// The letter of a namespace, or the tag of a number.
+    /// A namespace, or the type tag of a number.
     pub letter: u8,
-    /// How often the depth may be raised.
+    /// How many more levels of nesting are allowed.
     pub depth_left: u16,
-    /// The lifetimes in force; of `AfterBackref` the place behind a reference.
+    /// The number of lifetimes in scope. For `AfterBackref` it is the offset after the reference.
     pub number: u128,
 }
 
-/// A frame as it lies in the stack: 16 bytes.
+/// A frame as the stack stores it, in 16 bytes.
 #[derive(Clone, Copy)]
 struct Packed {
     low: u64,
@@ -34,12 +34,14 @@ struct Packed {
     point: Point,
     in_value: bool,
     letter: u8,
+    /// Always 0. A frame without padding is cleared and copied as two whole words.
+    spare: u8,
 }
 
 const _: () = prove!(mem::size_of::<Packed>() == 16);
 
 impl Default for Packed {
-    /// What lies where no frame stands.
+    /// Returns what the stack stores above its top.
     #[inline(always)]
     fn default() -> Self {
         Packed {
@@ -49,27 +51,29 @@ impl Default for Packed {
             point: Point::InherentPath,
             in_value: false,
             letter: 0,
+            spare: 0,
         }
     }
 }
 
-/// The frame as it lies in the stack.
+/// Returns a frame as the stack stores it.
 #[inline(always)]
 fn pack(frame: Frame) -> Packed
     ensures { frame.number < 2 ^ 80 → packed_frame result ≡ frame }
 {
     Packed {
         low: (frame.number % TWO_64) as u64,
-        // 80 bits hold all lifetimes that can be in force: fewer than 2^64 for each of 500 depths.
+        // 80 bits hold the number of all lifetimes in scope: fewer than 2^64 for each of 500 levels.
         high: (frame.number / TWO_64 % 0x10000) as u16,
         depth_left: frame.depth_left,
         point: frame.point,
         in_value: frame.in_value,
         letter: frame.letter,
+        spare: 0,
     }
 }
 
-/// The frame that lies so in the stack.
+/// Returns the frame that the stack stores so.
 #[inline(always)]
 fn unpack(packed: Packed) -> Frame
     ensures { result ≡ packed_frame packed }
@@ -83,17 +87,16 @@ fn unpack(packed: Packed) -> Frame
     }
 }
 
-/// How many frames a first stack holds, which is enough for all but deep symbols.
+/// The number of frames of a first stack. It is enough for all symbols that are not deep.
 pub const SHORT_STACK: usize = 48;
 
-/// How many frames a second stack holds: eight thousand bytes, where the last takes eight times
-/// that.
+/// The number of frames of a second stack. It takes 8 KiB, and the last takes 64 KiB.
 pub const MIDDLE_STACK: usize = 512;
 
-/// How many frames a stack holds in which there is room for all that can ever stand there.
+/// The number of frames of a last stack. No symbol needs more.
 pub const FULL_STACK: usize = 4096;
 
-/// The frames that stand, at most `N`, the topmost last.
+/// A stack of at most `N` frames. The last one is the top.
 #[derive(Drop)]
 pub struct FrameStack<const N: usize> {
     frames: ArrayVec<Packed, N>,
@@ -112,7 +115,7 @@ impl<const N: usize> Model for FrameStack<N> {
 }
 
 impl<const N: usize> FrameStack<N> {
-    /// A stack without frames.
+    /// Returns an empty stack.
     #[inline(always)]
     pub fn new() -> Self
         ensures { result ≡ [] }
@@ -122,7 +125,7 @@ impl<const N: usize> FrameStack<N> {
         }
     }
 
-    /// How many frames stand.
+    /// Returns the number of frames.
     #[inline(always)]
     pub fn len(&self) -> usize
         ensures { result ≡ length self.now }
@@ -130,7 +133,7 @@ impl<const N: usize> FrameStack<N> {
         self.frames.len()
     }
 
-    /// Puts a frame on top.
+    /// Pushes a frame.
     #[inline(always)]
     pub fn push(&mut self, frame: Frame)
         requires room { length self.old < N }
@@ -140,7 +143,7 @@ impl<const N: usize> FrameStack<N> {
         self.frames.push(pack(frame));
     }
 
-    /// Puts all frames of another stack on top.
+    /// Pushes all frames of another stack, in their order.
     pub fn append<const M: usize>(&mut self, other: &FrameStack<M>)
         requires room { length self.old + M ≤ N }
         ensures { self.new ≡ self.old ++ other.now }
@@ -148,14 +151,14 @@ impl<const N: usize> FrameStack<N> {
         let _ = self.frames.try_extend_from_slice(other.frames.as_slice());
     }
 
-    /// Keeps so many frames, those at the bottom.
+    /// Keeps only the lowest `count` frames.
     pub fn truncate(&mut self, count: usize)
         ensures { self.new ≡ take count self.old }
     {
         self.frames.truncate(count);
     }
 
-    /// Takes the topmost frame off, if one stands.
+    /// Removes the top frame and returns it, or returns `None` if the stack is empty.
     #[inline(always)]
     pub fn pop(&mut self) -> Option<Frame>
         ensures some { IfSome result (λ frame. self.old ≡ self.new ++ frame ∷ []) }

@@ -1,13 +1,11 @@
 //! The points of types.
-ghost use Rattle.std.specs.Prelude.{if◌then◌else◌, IsTrue, ◌≡◌, ◌+◌, ◌-◌, ◌<◌, ◌≤◌, Ok, length, true, false, ◌^◌, ◌++◌, ◌∷◌, []};
+ghost use Rattle.std.specs.Prelude.{if◌then◌else◌, ◌≡◌, ◌<◌, Ok, length, true, false, ◌^◌, ◌++◌, ◌∷◌, []};
 ghost use Rattle.demangle_v0.specs.Parsers.{Did, DidRest, May, restacked};
-ghost use Rattle.demangle_v0.specs.PointContracts.{is_splat_at};
-ghost use Rattle.demangle_v0.specs.Points.{own_by, frame_at};
+ghost use Rattle.demangle_v0.specs.Points.{frame_at};
 ghost use Rattle.demangle_words.specs.Tags.{constructed_of, type_of};
 
 use crate::points::parser::Parser;
 use crate::points::{Point, Stop};
-use demangle_symbol::cursor::{Looks, Symbol};
 use demangle_words::output::Output;
 use demangle_words::tags::{ConstructedType, TypeKind, type_kind};
 use demangle_words::texts::{Mark, basic_mark};
@@ -24,43 +22,13 @@ pub(super) fn is_begun(point: Point) -> bool
     }
 }
 
-/// Whether a type that is begun at a place has a `w` before its tag.
-#[inline(always)]
-fn is_splat(symbol: &Symbol<'_>, is_begun: bool, at: usize, looks: &mut Looks) -> bool
-    ensures yes { result ≡ true → (is_begun ≡ true) × (is_splat_at symbol.now at ≡ true) }
-    ensures no { result ≡ false → is_begun ≡ true → is_splat_at symbol.now at ≡ false }
-    ensures grows { looks.old ≤ looks.new }
-    ensures begun { is_begun ≡ true → looks.new ≤ looks.old + 1 }
-    ensures further { is_begun ≡ false → looks.new ≤ looks.old }
-    ensures within { IsTrue result → at < 2 ^ 64 - 1 }
-{
-    is_begun && symbol.is_at(b'w', at, looks)
-}
-
 impl<const N: usize> Parser<'_, N> {
-    /// A type, with the `w` before its tag where it is begun.
+    /// Reads a type. If the type begins here, reads its `w` if it has one, and leaves the rest.
     #[inline(always)]
     pub(super) fn type_<V: Output>(&mut self, is_begun: bool, output: &mut V) -> Result<Point, Stop>
         requires may { May V.Output Point.«Type» self.old output.old }
         ensures did { Did V.Output (if is_begun then Point.«Type» else Point.TaggedType) self.old
             output.old result self.new output.new }
-    {
-        let at = self.state.at()?;
-        if is_splat(self.source.symbol, is_begun, at, &mut self.looks) {
-            self.state.place = Some(at + 1);
-            self.put(Mark::Splat);
-            return Ok(Point::TaggedType);
-        }
-        self.tagged_type(output)
-    }
-
-    /// A type, from its tag on.
-    #[inline(always)]
-    fn tagged_type<V: Output>(&mut self, output: &mut V) -> Result<Point, Stop>
-        requires may { May V.Output Point.TaggedType self.old output.old }
-        ensures did { Did V.Output Point.TaggedType self.old output.old result self.new output.new }
-        ensures own { self.new.looks ≤ self.old.looks + own_by 18 self.old.source.symbol.now
-            self.old.state.place }
     {
         let Some(at) = self.state.place else {
             return Err(Stop::Fault(Mark::AfterError));
@@ -72,6 +40,12 @@ impl<const N: usize> Parser<'_, N> {
         if let Some(mark) = basic_mark(tag) {
             self.state.place = Some(at + 1);
             return Ok(self.end_with(mark));
+        }
+        // A `w` is no basic type, so it is looked for only after those.
+        if is_begun && tag == b'w' {
+            self.state.place = Some(at + 1);
+            self.put(Mark::Splat);
+            return Ok(Point::TaggedType);
         }
         self.enter()?;
         // Any other tag is a path's, which is read again from that tag on, and raises the depth

@@ -1,4 +1,4 @@
-//! Symbols that are cut off.
+//! Tests of symbols that are cut off.
 use super::printed_by;
 use super::vectors::texts;
 use rustc_demangle::{demangle, demangle_bytes, demangle_stream, try_demangle};
@@ -8,12 +8,12 @@ use std::process::Abort;
 use std::test::Fail;
 use test_doubles::streams::PartsReader;
 
-/// Asserts that a refused text prints itself, that an accepted one prints the same by both calls,
-/// and that what was stripped is not stripped again.
+/// Asserts the printed form of a text. A rejected text prints itself, an accepted one prints the
+/// same by both calls, and stripping a second time changes nothing.
 fn assert_printed(rt: &impl Abort, alloc: Global, text: &str) -> Result<(), Fail> {
     let symbol = demangle(text);
     let stripped = symbol.as_str();
-    // Where nothing was stripped, nothing is left to strip.
+    // If nothing was stripped, there is nothing more to strip.
     if stripped != text {
         assert_eq!(rt; demangle(stripped).as_str(), stripped);
     }
@@ -31,7 +31,7 @@ fn assert_printed(rt: &impl Abort, alloc: Global, text: &str) -> Result<(), Fail
     Ok(())
 }
 
-/// A digest of bytes (FNV-1a with 64 bits), over what was digested before.
+/// Returns a digest of bytes (FNV-1a with 64 bits) that continues an earlier digest.
 fn digest_of(before: u64, bytes: &[u8]) -> u64 {
     let mut digest = before;
     for byte in bytes {
@@ -40,17 +40,17 @@ fn digest_of(before: u64, bytes: &[u8]) -> u64 {
     digest
 }
 
-/// The digest of nothing.
+/// The digest of the empty text.
 const OF_NOTHING: u64 = 0xCBF2_9CE4_8422_2325;
 
-/// The digests of what the Rust crate's stream writes for the beginnings, with a line feed behind
-/// each: with the hash and without it.
+/// The digests of the output of the Rust crate's stream for the cut symbols, with the hash and
+/// without it. Each symbol has a line feed after it.
 const WRITTEN: [(bool, u64); 2] = [
     (true, 0xA761_CF34_3FBD_2746),
     (false, 0xC1DA_C274_FAC4_9C89),
 ];
 
-/// What the stream writes for a text.
+/// Returns the output of the stream for a text.
 fn filter_text(alloc: Global, text: &str, include_hash: bool) -> Result<Vec<u8>, Fail> {
     let mut input = text.as_bytes();
     let mut output = Vec::new(alloc);
@@ -62,7 +62,7 @@ fn filter_text(alloc: Global, text: &str, include_hash: bool) -> Result<Vec<u8>,
     }
 }
 
-/// What the filter of bytes writes for a text, of which it reads so many bytes at a filling.
+/// Returns the output of the filter of bytes for a text, read in chunks of `size` bytes.
 fn filter_parts(
     alloc: Global,
     text: &str,

@@ -1,4 +1,5 @@
-//! What is written of any bytes, by fillings of all sizes, and where a reader or a writer refuses.
+//! Tests of the output for any bytes: with chunks of all sizes, and with a reader or a writer that
+//! fails.
 use super::stream::{DISAMBIGUATOR, HEAD, LINE, ROWS, TAIL};
 use rustc_demangle::{
     BytesFilter, StreamFault, SymbolMemo, demangle_bytes, demangle_bytes_limited,
@@ -10,7 +11,7 @@ use std::process::Abort;
 use std::test::Fail;
 use test_doubles::streams::{PartsReader, RefusingWriter};
 
-/// Asserts what is written of bytes that come so many at a filling.
+/// Asserts the output for bytes that are read in chunks of `size`.
 fn assert_filters(
     rt: &impl Abort,
     alloc: Global,
@@ -96,7 +97,8 @@ fn each_symbol_is_cut_at_the_limit(rt: HostRuntime) -> Result<(), Fail> {
 fn bytes_before_a_fault_of_the_reader(rt: HostRuntime) -> Result<(), Fail> {
     let alloc = rt.alloc();
     let parts: [&[u8]; 4] = [b"x _ZN", b"3fooE\n_ZN3", b"barE", b"\n_"];
-    // The fourth part is filled twice: the run that it ends is written before any of it is taken.
+    // The fourth part is returned by two calls of `fill_buf`. The run that it ends is written
+    // before any of it is consumed.
     let written: [&[u8]; 7] = [
         b"",
         b"x ",
@@ -130,7 +132,7 @@ fn bytes_before_a_fault_of_the_reader(rt: HostRuntime) -> Result<(), Fail> {
     Ok(())
 }
 
-/// Hands out a text, two bytes at a filling, and is interrupted before each filling.
+/// Returns a text in chunks of two bytes, and is interrupted before each.
 #[derive(Drop)]
 struct InterruptedReader<'a> {
     text: &'a [u8],
@@ -193,7 +195,7 @@ fn the_writer_of_bytes_fails_at_each_write(rt: HostRuntime) -> Result<(), Fail> 
     let alloc = rt.alloc();
     let mut text = Vec::new(alloc);
     let mut wanted_writes: Vec<&[u8]> = Vec::new(alloc);
-    // The first symbol of all is remembered when it comes for the third time.
+    // The first symbol of a memo is remembered when it is found for the third time.
     for _ in 0..2 {
         text.extend_from_slice(LINE)?;
         text.push(b'\n')?;
@@ -201,7 +203,7 @@ fn the_writer_of_bytes_fails_at_each_write(rt: HostRuntime) -> Result<(), Fail> 
         wanted_writes.extend_from_slice(&DISAMBIGUATOR)?;
         wanted_writes.extend_from_slice(&TAIL)?;
     }
-    // A symbol that comes again is one write.
+    // A remembered symbol is one write.
     text.extend_from_slice(LINE)?;
     text.push(b'\n')?;
     wanted_writes.extend_from_slice(&HEAD[..3])?;
@@ -228,7 +230,7 @@ fn the_writer_of_bytes_fails_at_each_write(rt: HostRuntime) -> Result<(), Fail> 
     Ok(())
 }
 
-/// Takes one byte at each write.
+/// Takes one byte in each write.
 #[derive(Drop)]
 struct ByteWriter {
     held: Vec<u8>,

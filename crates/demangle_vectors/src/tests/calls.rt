@@ -1,4 +1,4 @@
-//! Each public call once, where it succeeds.
+//! Tests of each public call, with an input for which it succeeds.
 use rustc_demangle::sink::{ArraySink, SinkRefused, SliceSink, TextSink, WriteSink};
 use rustc_demangle::{
     Looks, StreamFault, demangle, demangle_counted, demangle_stream, demangle_stream_named,

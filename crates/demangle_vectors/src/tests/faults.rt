@@ -1,5 +1,5 @@
-//! Faults of readers and writers: the caller meets their kind and text, and nothing is written
-//! behind one.
+//! Tests of errors of readers and writers. The caller gets their kind and text, and nothing is
+//! written after one.
 use rustc_demangle::sink::{TextSink, WriteSink};
 use rustc_demangle::{StreamFault, demangle, demangle_stream, demangle_stream_named};
 use std::alloc::{AllocError, Global};
@@ -10,8 +10,8 @@ use test_doubles::streams::{PartsReader, RESET};
 
 const GONE: &str = "nobody reads any more";
 
-/// Takes so many writes, refuses one with an error of this kind and text, and counts those behind
-/// it.
+/// Takes a given number of writes, fails one with an error of this kind and text, and counts the
+/// later ones.
 #[derive(Drop)]
 struct OnceRefusingWriter {
     held: Vec<u8>,
@@ -52,7 +52,7 @@ impl Write for OnceRefusingWriter {
     }
 }
 
-/// The kind and the text of an error.
+/// Returns the kind and the text of an error.
 fn told(alloc: Global, error: &io::Error) -> Result<(ErrorKind, String), AllocError> {
     Ok((error.kind(), format!(in alloc; "{error}")?))
 }

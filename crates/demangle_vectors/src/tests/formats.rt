@@ -1,4 +1,4 @@
-//! What `Display` and `Debug` write.
+//! Tests of `Display` and `Debug`.
 use rustc_demangle::demangle;
 use std::fmt;
 use std::fmt::Write;
@@ -61,7 +61,7 @@ fn a_symbol_of_ten_thousand_bytes_is_written_whole(rt: HostRuntime) -> Result<()
     Ok(())
 }
 
-/// Takes so many texts, and refuses those behind them.
+/// Takes a given number of texts and then fails.
 #[derive(Drop)]
 struct Refusing {
     left: usize,

@@ -1,4 +1,4 @@
-//! Symbols that are meant to do harm.
+//! Tests of symbols that are made to do harm.
 use super::{assert_prints, assert_refused, print_symbol};
 use std::test::Fail;
 

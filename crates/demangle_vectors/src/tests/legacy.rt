@@ -1,4 +1,4 @@
-//! Legacy symbols.
+//! Tests of legacy symbols.
 use super::assert_prints;
 
 #[test]

@@ -1,10 +1,10 @@
-//! Symbols under a limit.
+//! Tests of symbols under a size limit.
 use super::assert_prints_long;
 use rustc_demangle::sink::{ArraySink, TextSink};
 use rustc_demangle::{Looks, demangle};
 use std::test::Fail;
 
-/// Whether a text prints this under a limit, with its looks counted and without.
+/// Returns `true` if a text prints as `text` under a limit, with its looks counted and without.
 fn limited_is(symbol: &str, include_hash: bool, limit: usize, text: &str) -> bool {
     let symbol = demangle(symbol);
     let mut sink: ArraySink<4096> = ArraySink::new();

@@ -1,4 +1,4 @@
-//! Texts that are no symbols.
+//! Tests of texts that are not symbols.
 use super::assert_refused;
 use crate::printed_is;
 

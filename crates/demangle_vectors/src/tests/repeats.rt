@@ -1,4 +1,4 @@
-//! What is written of symbols that come again, by chunks of all sizes and at several limits.
+//! Tests of repeated symbols, with chunks of all sizes and several limits.
 use rustc_demangle::{BytesFilter, SymbolMemo, demangle_bytes_limited};
 use std::alloc::{AllocError, Global};
 use std::io::ErrorKind;
@@ -6,13 +6,14 @@ use std::process::Abort;
 use std::test::Fail;
 use test_doubles::streams::{PartsReader, RefusingWriter};
 
-/// The number of times that each text comes.
+/// The number of times that each text is repeated.
 const TIMES: usize = 5;
 
-/// A symbol whose text is longer than a memo keeps.
+/// A symbol whose text is longer than a memo stores.
 const LONG: &[u8] = b"_RIC1aTyyyyyyyyyyyyyyyyETB3_B3_B3_ETBl_Bl_Bl_ETBw_Bw_Bw_EE";
 
-/// Runs that a memo looks up, what they print at a limit, with the hash and without it.
+/// Runs that a memo looks up, with a limit and the texts printed under it, with the hash and
+/// without it.
 const ROWS: [(&[u8], usize, &[u8], &[u8]); 11] = [
     (
         b"_ZN3foo17h05af221e174051e9E",
@@ -77,7 +78,7 @@ const ROWS: [(&[u8], usize, &[u8], &[u8]); 11] = [
     (LONG, 0, b"{size limit reached}", b"{size limit reached}"),
 ];
 
-/// A text, and what is written of it in one form.
+/// A text, and its output in one form.
 #[derive(Drop)]
 struct Case<'a> {
     text: &'a [u8],
@@ -87,7 +88,7 @@ struct Case<'a> {
 }
 
 impl Case<'_> {
-    /// Asserts what is written of the text in chunks of one size.
+    /// Asserts the output for the text in chunks of one size.
     fn assert_written(&self, rt: &impl Abort, alloc: Global, size: usize) -> Result<(), Fail> {
         let parts: Vec<&[u8]> = self.text.chunks(size.max(1)).collect(alloc)?;
         let mut input = PartsReader::new(parts.as_slice(), usize::MAX, ErrorKind::Other);
@@ -141,7 +142,7 @@ fn a_repeated_run_is_written_alike(rt: HostRuntime) -> Result<(), Fail> {
     Ok(())
 }
 
-/// Returns the text of a tuple of this text and of no other, so many times.
+/// Returns the text of a tuple that has this text as each of its `times` elements.
 fn tuple_of(alloc: Global, text: &[u8], times: usize) -> Result<Vec<u8>, AllocError> {
     let mut tuple = Vec::from_slice(alloc, b"(")?;
     for at in 0..times {
@@ -233,7 +234,7 @@ fn filters_share_a_memo(rt: HostRuntime) -> Result<(), Fail> {
 fn a_repeated_symbol_is_one_write(rt: HostRuntime) -> Result<(), Fail> {
     let alloc = rt.alloc();
     let text = repeated(alloc, b"_RNvC5crate4main.llvm.0@1")?;
-    // The first two times it is written piece by piece, since no other symbol came before it.
+    // The symbol is written piece by piece twice, since it is the first symbol of the memo.
     let writes: [&[u8]; 14] = [
         b"crate",
         b"::",

@@ -1,4 +1,4 @@
-//! Sinks that take a part, and what they hold then.
+//! Tests of sinks that take a part of the text, and of their contents then.
 use rustc_demangle::sink::{ArraySink, TextSink, WriteSink};
 use rustc_demangle::{demangle, demangle_stream};
 use std::io;
@@ -6,7 +6,7 @@ use std::io::{ErrorKind, Write};
 use std::test::Fail;
 use test_doubles::RefusingSink;
 
-/// Counts the texts that are written whole, the bytes of them, and the flushes.
+/// Counts the texts that are written completely, their bytes, and the flushes.
 #[derive(Drop, Default)]
 struct CountingWriter {
     texts: usize,

@@ -1,4 +1,4 @@
-//! What the stream writes of lines, and where a reader or a writer refuses.
+//! Tests of the stream's output for lines, and with a reader or a writer that fails.
 use rustc_demangle::{StreamFault, demangle_bytes, demangle_stream, demangle_stream_named};
 use std::alloc::Global;
 use std::io;
@@ -7,7 +7,7 @@ use std::process::Abort;
 use std::test::Fail;
 use test_doubles::streams::{NotingWriter, PartsReader, RefusingWriter};
 
-/// Texts, and what the stream writes of them, with the hash and without it.
+/// Texts, and the stream's output for them, with the hash and without it.
 pub(super) const ROWS: [(&[u8], &[u8]); 20] = [
     (b"", b""),
     (b"\n", b"\n"),
@@ -34,7 +34,7 @@ pub(super) const ROWS: [(&[u8], &[u8]); 20] = [
     (b"_ZN3fooE.a~ _ZN3fooE.llvm.AG", b"foo.a~ foo.llvm.AG"),
 ];
 
-/// Asserts what the stream writes of a text, with the hash or without it.
+/// Asserts the stream's output for a text, with the hash or without it.
 fn assert_writes(
     rt: &impl Abort,
     alloc: Global,
@@ -156,12 +156,12 @@ fn a_line_is_not_utf8(rt: HostRuntime) -> Result<(), Fail> {
     Ok(())
 }
 
-/// A line of symbols of both schemes.
+/// A line with symbols of both schemes.
 pub(super) const LINE: &[u8] = b"_ZN3fooE.llvm moocow \
     _RNvMNtNtNtNtCs8a2262Dv4r_3mio3sys4unix8selector5epollNtB2_8Selector6select _ZN3fooE.llvm";
 
-/// The writes of that line up to its disambiguator, which only the plain form shows, behind it, and
-/// of a line feed.
+/// The writes for `LINE` in three parts. Only the plain form has the disambiguator. The line feed
+/// is the last write.
 pub(super) const HEAD: [&[u8]; 5] = [b"foo", b".llvm", b" moocow ", b"<", b"mio"];
 
 pub(super) const DISAMBIGUATOR: [&[u8]; 3] = [b"[", b"1888792e1a78739", b"]"];
@@ -195,8 +195,8 @@ fn lines_have_symbols_of_both_schemes(rt: HostRuntime) -> Result<(), Fail> {
     assert_writes(&rt, rt.alloc(), LINE, true, plain.as_slice())
 }
 
-/// Asserts that a writer that refuses its write of each number in turn holds those before it, over
-/// that line twice.
+/// Asserts the contents of a writer that fails at a write of each number, for `LINE` twice. It must
+/// contain exactly the writes before the failed one.
 fn assert_held(rt: &impl Abort, alloc: Global, include_hash: bool) -> Result<(), Fail> {
     let mut text = Vec::new(alloc);
     let mut wanted_writes: Vec<&[u8]> = Vec::new(alloc);
@@ -266,7 +266,7 @@ fn each_text_and_piece_is_a_write(rt: HostRuntime) -> Result<(), Fail> {
     Ok(())
 }
 
-/// Hands out one part, so many times.
+/// Returns one part a given number of times.
 #[derive(Drop)]
 struct RepeatingReader<'a> {
     part: &'a [u8],

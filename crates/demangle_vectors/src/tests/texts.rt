@@ -1,4 +1,4 @@
-//! Texts and bytes in memory, into sinks and into memory.
+//! Tests of texts and bytes in memory, which are written to sinks and slices.
 use super::stream::ROWS;
 use rustc_demangle::sink::{ArraySink, TextSink};
 use rustc_demangle::{demangle_slice, demangle_text, demangle_text_limited, run_len, run_start};
@@ -65,7 +65,7 @@ fn a_limit_cuts_each_symbol_of_a_text(rt: HostRuntime) {
     assert_eq!(rt; sink.as_str(), "foo{size limit reached}, a.x");
 }
 
-/// Asserts what is written of bytes into memory that has room for it, and into less.
+/// Asserts the output for bytes in a slice with room for it, and in smaller ones.
 fn assert_fills(rt: &impl Abort, text: &[u8], wanted: &[u8]) {
     for size in 0..=wanted.len().saturating_add(1).min(128) {
         let mut bytes = [7; 128];

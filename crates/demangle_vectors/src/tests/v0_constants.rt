@@ -1,11 +1,11 @@
-//! Symbols of the v0 scheme: constants.
+//! Tests of v0 symbols: constants.
 use super::{assert_prints, assert_refused};
 use std::alloc::Global;
 use std::process::Abort;
 use std::test::Fail;
 
-/// Asserts what a constant prints as the one argument of a path, with the types of its numbers and
-/// without them.
+/// Asserts the printed form of a constant as the only argument of a path, with the types of its
+/// numbers and without them.
 pub fn assert_constant(
     rt: &impl Abort,
     alloc: Global,

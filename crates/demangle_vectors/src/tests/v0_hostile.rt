@@ -1,4 +1,4 @@
-//! Symbols of the v0 scheme that are long.
+//! Tests of v0 symbols that are long.
 use super::{assert_prints_long, print_symbol, repeat_between};
 use rustc_demangle::try_demangle;
 use std::test::Fail;

@@ -1,4 +1,4 @@
-//! Symbols of the v0 scheme at their limits: depth, the length of a name, and how much is printed.
+//! Tests of v0 symbols at their limits: depth, the length of a name, and the size of the output.
 use super::{assert_prints, assert_prints_long, assert_refused, print_symbol, repeat_between};
 use rustc_demangle::sink::WriteSink;
 use rustc_demangle::{demangle, try_demangle};
@@ -112,8 +112,8 @@ fn a_decoded_name_has_up_to_128_characters(rt: HostRuntime) -> Result<(), Fail> 
     Ok(())
 }
 
-/// A binder's lifetimes up to the one of this number, which is 26 at least, without the end of the
-/// binder.
+/// Returns the lifetimes of a binder up to the one of this number, which is at least 26. The end of
+/// the binder is left out.
 fn lifetimes(alloc: Global, last: usize) -> Result<String, AllocError> {
     let mut text = String::new(alloc);
     text.push_str("<for<'a")?;
@@ -151,8 +151,7 @@ fn lifetimes_are_printed_up_to_the_limit(rt: HostRuntime) -> Result<(), Fail> {
     Ok(())
 }
 
-/// A symbol of so many pairs in one another, of which each has the first of its halves as the
-/// second, too.
+/// Returns a symbol of nested pairs. The second half of each pair is a back reference to the first.
 fn pairs_symbol(alloc: Global, pairs: usize) -> Result<String, AllocError> {
     const DIGITS: &[u8] = b"0123456789abcdefghijklmnopqrstuvwxyz";
     let mut symbol = repeat_between(alloc, "_RMC0", "T", pairs, "p")?;
@@ -164,7 +163,7 @@ fn pairs_symbol(alloc: Global, pairs: usize) -> Result<String, AllocError> {
     Ok(symbol)
 }
 
-/// What such a symbol prints without a limit.
+/// Returns the text of such a symbol without a limit.
 fn pairs_text(alloc: Global, pairs: usize) -> Result<String, AllocError> {
     let mut text = format!(in alloc; "_")?;
     for _ in 0..pairs {

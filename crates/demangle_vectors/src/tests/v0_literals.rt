@@ -1,4 +1,4 @@
-//! Symbols of the v0 scheme: characters and strings.
+//! Tests of v0 symbols: characters and strings.
 use super::v0_constants::assert_constant;
 use std::test::Fail;
 

@@ -1,4 +1,4 @@
-//! Symbols of the v0 scheme: names and paths.
+//! Tests of v0 symbols: names and paths.
 use super::{assert_prints, assert_refused};
 
 #[test]
@@ -86,8 +86,7 @@ fn names_in_punycode_are_decoded(rt: HostRuntime) {
     for (symbol, text) in [
         ("_RCu9bcher_kva", "bücher"),
         ("_RCu3tda", "ü"),
-        // The deltas of 455 and of 456 are the last that is not damped once more, and the first
-        // that is.
+        // A delta of 455 is the last that is not divided again, and one of 456 the first that is.
         ("_RCu11ab_cja24e9f", "abéƟǇ"),
         ("_RCu8_9ca22dpd", "éșɁ"),
         ("_RCu8gdel_5qa", "gödel"),

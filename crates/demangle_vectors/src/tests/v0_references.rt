@@ -1,4 +1,4 @@
-//! Symbols of the v0 scheme: back references, and what a damaged target prints.
+//! Tests of v0 symbols: back references, and the output for a damaged target.
 use super::{assert_prints, assert_refused};
 
 #[test]

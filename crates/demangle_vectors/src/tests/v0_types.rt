@@ -1,4 +1,4 @@
-//! Symbols of the v0 scheme: types, functions, binders and patterns.
+//! Tests of v0 symbols: types, functions, binders and patterns.
 use super::{assert_prints, assert_refused};
 
 #[test]

@@ -4,7 +4,7 @@ use super::{assert_prints, assert_refused, repeat_between};
 use std::alloc::{AllocError, Global};
 use std::test::Fail;
 
-/// Symbols of the legacy scheme, with what they print with the hash and without it.
+/// Legacy symbols, with their texts with the hash and without it.
 const LEGACY: &[(&str, &str, &str)] = &[
     ("_ZN4testE", "test", "test"),
     ("_ZN4test1a2bcE", "test::a::bc", "test::a::bc"),
@@ -96,7 +96,7 @@ const LEGACY: &[(&str, &str, &str)] = &[
     ),
 ];
 
-/// Symbols of the v0 scheme, with the same.
+/// v0 symbols, with their texts with the hash and without it.
 const V0: &[(&str, &str, &str)] = &[
     ("_RNvC6_123foo3bar", "123foo::bar", "123foo::bar"),
     ("_RC4f128", "f128", "f128"),
@@ -145,7 +145,7 @@ const V0: &[(&str, &str, &str)] = &[
     ),
 ];
 
-/// Constants, with what they print as the one argument of a path.
+/// Constants, with their texts as the only argument of a path.
 const CONSTANTS: &[(&str, &str, &str)] = &[
     ("p", "_", "_"),
     ("hb_", "11u8", "11"),
@@ -216,7 +216,7 @@ const CONSTANTS: &[(&str, &str, &str)] = &[
     ),
 ];
 
-/// Texts that are no symbols.
+/// Texts that are not symbols.
 const REFUSED: &[&str] = &[
     "test",
     "_ZN4test",
@@ -235,7 +235,7 @@ const LONG: &[&str] = &[
     "RYFG_FGyyEvRYFF_EvRYFFEvERLB_B_B_ERLRjB_B_B_",
 ];
 
-/// All symbols of the Rust crate's tests, and the texts there that are none.
+/// Returns all symbols of the Rust crate's tests, and the texts there that are not symbols.
 pub fn texts(alloc: Global) -> Result<Vec<String>, AllocError> {
     let mut texts = Vec::new(alloc);
     for (symbol, _, _) in LEGACY.iter().chain(V0) {

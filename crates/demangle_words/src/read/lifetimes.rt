@@ -31,7 +31,8 @@ impl TokenReader<'_> {
     /// Reads a lifetime, by its index: `_` for 0.
     #[inline(always)]
     pub(super) fn read_lifetime(&self, place: usize, looks: &mut Looks) -> WordRead
-        ensures value { result ≡ (lifetime_group self.now.symbol.now self.now.is_printing self.now.lifetimes place).reads }
+        ensures value { result ≡ (lifetime_group self.now.symbol.now self.now.is_printing
+            self.now.lifetimes place).reads }
         ensures grows { looks.old ≤ looks.new }
         ensures looks { looks.new + looks_later (read_stretch result) ≤ looks.old + total
             (lifetime_group self.now.symbol.now self.now.is_printing self.now.lifetimes place).costs }
@@ -52,7 +53,8 @@ impl TokenReader<'_> {
     /// Reads the lifetime of a dyn type, which may not be missing. That of index 0 is not printed.
     #[inline(always)]
     pub(super) fn read_dyn_lifetime(&self, place: usize, looks: &mut Looks) -> WordRead
-        ensures value { result ≡ (dyn_group self.now.symbol.now self.now.is_printing self.now.lifetimes place).reads }
+        ensures value { result ≡ (dyn_group self.now.symbol.now self.now.is_printing
+            self.now.lifetimes place).reads }
         ensures grows { looks.old ≤ looks.new }
         ensures looks { looks.new + looks_later (read_stretch result) ≤ looks.old + total (dyn_group
             self.now.symbol.now self.now.is_printing self.now.lifetimes place).costs }

@@ -126,14 +126,16 @@ enum Printed {
 }
 
 /// Returns whether a run is looked up: if it begins as a v0 symbol, or ends with the hash of a
-/// legacy one, and is not too long. Most other runs are no symbols.
+/// legacy one or with the digit of a suffix, and is not too long. Most other runs are no symbols.
 #[inline(always)]
 fn is_looked_up(run: &[u8]) -> bool {
     if run.len() < 20 || run.len() > MAX_KEY {
         return false;
     }
     let end = run.len();
-    (run[1] == b'R') | ((run[end - 1] == b'E') & (run[end - 18] == b'h') & (run[end - 19] == b'7'))
+    (run[1] == b'R')
+        | ((run[end - 1] == b'E') & (run[end - 18] == b'h') & (run[end - 19] == b'7'))
+        | run[end - 1].is_ascii_digit()
 }
 
 /// Prints a run, and remembers its text.
@@ -149,6 +151,8 @@ fn print_new(run: &str, hash: u64, form: Form, store: &mut Store) -> Printed
 {
     let symbol = Demangle::read_run(run);
     if !symbol.has_style() {
+        let kept = run.as_bytes();
+        store.texts.insert(kept, kept, hash);
         return Printed::NoSymbol;
     }
     store.printed.clear();

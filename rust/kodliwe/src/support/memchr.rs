@@ -1,11 +1,43 @@
 //! The search for a byte, with the interface of the crate `memchr`.
 
+/// How many bytes are tested at once, by a processor's vectors.
+const GROUP: usize = 32;
 const LOW: usize = usize::MAX / 255;
 const HIGH: usize = LOW * 128;
 const SIZE: usize = size_of::<usize>();
 
-/// Where the byte first stands.
+/// Returns the place of the first such byte.
 pub fn memchr(needle: u8, text: &[u8]) -> Option<usize> {
+    let mut rest = text;
+    while let Some((group, after)) = rest.split_first_chunk() {
+        if has_byte(needle, group) {
+            break;
+        }
+        rest = after;
+    }
+    // What is left is shorter than a group, or begins with one that has the byte.
+    if rest.len() < GROUP
+        && text
+            .last_chunk()
+            .is_some_and(|group| !has_byte(needle, group))
+    {
+        return None;
+    }
+    Some(text.len() - rest.len() + find_by_words(needle, rest)?)
+}
+
+/// Returns whether the byte is in a group.
+#[inline(always)]
+fn has_byte(needle: u8, group: &[u8; GROUP]) -> bool {
+    // A loop that ends early would not be made of vectors.
+    group
+        .iter()
+        .fold(false, |found, byte| found | (*byte == needle))
+}
+
+/// Returns the place of the first such byte in a short text.
+#[inline(always)]
+fn find_by_words(needle: u8, text: &[u8]) -> Option<usize> {
     let pattern = LOW * usize::from(needle);
     let mut at = 0;
     // A word has the byte where a byte of the difference is zero; the lowest such bit is exact.
@@ -20,5 +52,5 @@ pub fn memchr(needle: u8, text: &[u8]) -> Option<usize> {
     text[at..]
         .iter()
         .position(|byte| *byte == needle)
-        .map(|behind| at + behind)
+        .map(|after| at + after)
 }

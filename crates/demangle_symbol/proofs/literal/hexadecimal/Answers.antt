@@ -3,7 +3,7 @@ use Rattle.std.specs.Fmt.{digits, digits_onto, digit_glyph}
 use Rattle.demangle_symbol.proofs.Escaping.{onto_last, onto_more, shrinks}
 use Rattle.demangle_symbol.proofs.literal.hexadecimal.Goals as goal
 
--- the text behind one more digit
+-- the text after one more digit
 glyphs : (d n : ℕ) (text new : List ℕ) → new ≡ d ∷ text → d ≡ digit_glyph false n → new ≡ digit_glyph false n ∷ text
 glyphs d n text new e f = e ∙ ap (λ x. x ∷ text) f
 

@@ -5,7 +5,7 @@ use Rattle.std.proofs.lemmas.List.{drop-take}
 use Rattle.std.proofs.lemmas.List.Edits.{take-paste}
 use Rattle.held_bytes.proofs.Held.remove_front.Goals as goal
 
--- what is moved to the front of a list is what stood behind its first n
+-- the bytes that are moved to the start of a list are those after its first n
 moved : (xs : List ℕ) (len n : ℕ) → n ≤ len → len ≤ length xs → take (len - n) (copy_within xs n len 0) ≡ drop n (take len xs)
 moved xs len n within fits =
     let left = len - n in

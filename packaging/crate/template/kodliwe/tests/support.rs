@@ -1,12 +1,13 @@
 //! The parts of `support` that take the place of proved code.
 use kodliwe::support::arrayvec::{ArrayString, ArrayVec};
 use kodliwe::support::itoa::Buffer;
-use kodliwe::support::memchr::memchr;
+use kodliwe::support::memchr::{memchr, memrchr};
 use kodliwe::support::unicode::properties::{GeneralCategory, is_grapheme_extend};
 
 #[test]
 fn memchr_finds_the_first_of_any_places() {
-    for len in 0..40 {
+    // Up to three groups of 32 bytes and what is left of a fourth.
+    for len in 0..100 {
         assert_eq!(memchr(b'_', &vec![b'a'; len]), None, "{len}");
         for first in 0..len {
             for second in first..len {
@@ -15,6 +16,23 @@ fn memchr_finds_the_first_of_any_places() {
                     text[first] = b'_';
                     text[second] = b'_';
                     assert_eq!(memchr(b'_', &text), Some(first), "{len} {second} {other}");
+                }
+            }
+        }
+    }
+}
+
+#[test]
+fn memrchr_finds_the_last_of_any_places() {
+    for len in 0..40usize {
+        for other in [b'-', b'/', 0, 0x7F, 0x80, 0xAE, 0xFF] {
+            assert_eq!(memrchr(b'.', &vec![other; len]), None, "{len} {other}");
+            for last in 0..len {
+                for first in 0..=last {
+                    let mut text = vec![other; len];
+                    text[first] = b'.';
+                    text[last] = b'.';
+                    assert_eq!(memrchr(b'.', &text), Some(last), "{len} {first} {other}");
                 }
             }
         }

@@ -2,7 +2,7 @@ use Rattle.std.proofs.Common.{◌≡◌, ℕ, ◌+◌, ◌*◌, ◌^◌, ◌<◌
 use Rattle.demangle_symbol.proofs.Integers.{digits_more, digits_fit, digits_below, digits_integer, no_integer_large, no_integer_past, integer_read, integer_unread}
 use Rattle.demangle_symbol.proofs.cursor.Symbol.integer_62.Goals as goal
 
--- a digit behind fewer than ten
+-- a digit after fewer than ten
 digit_fits : (n d k : ℕ) → n < 62 ^ k → d < 62 → k ≤ 9 → n * 62 + d < 2 ^ 64
 digit_fits n d k small digit few = omega (arith, digits_below (n * 62 + d) (k + 1) (digits_fit n d k small digit) (omega arith))
 

@@ -9,7 +9,7 @@ use Rattle.demangle_symbol.proofs.cursor.words.digit_62_of.Goals as goal
 abbrev mark : ℕ → ℕ
 mark b = cond (is_digit_62 b) (digit_62 b) 255
 
--- the table has the mark of each byte
+-- the table has the value of each byte
 table_is : DIGITS_62 ≡ map mark (range_with_len 0 256)
 table_is = refl
 
