@@ -3,7 +3,7 @@ use Rattle.std.specs.Prelude.{ℕ, ◌-◌, Bool, true, List, [], ◌∷◌, ◌
 use Rattle.std.specs.List.{list_all}
 use Rattle.std.specs.Option.{option_map_or}
 use Rattle.demangle_sink.specs.Cut.{cut}
-use Rattle.demangle_grammar.specs.Reading.{path_texts}
+use Rattle.demangle_grammar.specs.Reading.{form, path_texts}
 use Rattle.demangle_grammar.specs.V0.{v0_inner}
 use Rattle.rustc_demangle.specs.Symbols.{pieces_of, handed}
 
@@ -18,4 +18,4 @@ v0_ascii text = if list_all (λ b. nat_lt b 128) text then v0_inner text else No
 -- Of ASCII with a v0 prefix the first path as far as it is spelled, within the limit, and then all
 -- but so many bytes of the text; of any other text what is handed over anyway.
 abbrev pub handed_with : List ℕ → ℕ → Bool → ℕ → List (List ℕ)
-handed_with text len hash limit = option_map_or (λ inner. cut (path_texts inner hash) limit ++ drop len text ∷ []) (v0_ascii text) (handed text hash limit)
+handed_with text len hash limit = option_map_or (λ inner. cut (path_texts inner (form hash false)) limit ++ drop len text ∷ []) (v0_ascii text) (handed text hash limit)
