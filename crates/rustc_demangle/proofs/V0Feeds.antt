@@ -1,5 +1,5 @@
 -- A v0 symbol without line feeds prints none.
-use Rattle.std.proofs.Common.{◌≡◌, ℕ, zero, suc, ◌-◌, Bool, true, List, Some}
+use Rattle.std.proofs.Common.{false, ◌≡◌, ℕ, zero, suc, ◌-◌, Bool, true, List, Some}
 use Rattle.std.specs.List.{concat}
 use Rattle.rustc_demangle.specs.Lines.{feeds}
 use Rattle.demangle_grammar.specs.Items.{Kind, a_path}

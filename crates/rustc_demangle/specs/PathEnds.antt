@@ -1,5 +1,5 @@
 -- Where the path of a symbol ends, and what is printed of a text of which that is known.
-use Rattle.std.specs.Prelude.{ℕ, ◌-◌, Bool, true, List, [], ◌∷◌, ◌++◌, length, drop, Option, None, nat_lt, if◌then◌else◌}
+use Rattle.std.specs.Prelude.{false, ℕ, ◌-◌, Bool, true, List, [], ◌∷◌, ◌++◌, length, drop, Option, None, nat_lt, if◌then◌else◌}
 use Rattle.std.specs.List.{list_all}
 use Rattle.std.specs.Option.{option_map_or}
 use Rattle.demangle_sink.specs.Cut.{cut}

@@ -1,6 +1,6 @@
 -- Internal: no public contract cites this.
 -- How a demangled symbol holds what was read of it.
-use Rattle.std.specs.Prelude.{◌≡◌, ℕ, ◌+◌, ◌*◌, ◌≤◌, Bool, true, List, Option, None, Some, length}
+use Rattle.std.specs.Prelude.{false, ◌≡◌, ℕ, ◌+◌, ◌*◌, ◌≤◌, Bool, true, List, Option, None, Some, length}
 use Rattle.rustc_demangle.specs.declared.value.DemangleStyle.{DemangleStyle}
 use Rattle.rustc_demangle.specs.declared.value.DemangleStyle.TheVariants.{Legacy, V0}
 use Rattle.demangle_sink.specs.Cut.{kept}

@@ -1,5 +1,5 @@
 //! What a symbol of each scheme hands over.
-ghost use Rattle.std.specs.Prelude.{◌≡◌, ◌⊎◌, ℕ, Bool, true, List, [], ◌∷◌, ◌++◌, codes};
+ghost use Rattle.std.specs.Prelude.{false, ◌≡◌, ◌⊎◌, ℕ, Bool, true, List, [], ◌∷◌, ◌++◌, codes};
 ghost use Rattle.demangle_sink.specs.Cut.{cut, kept};
 ghost use Rattle.demangle_legacy.specs.Legacy.{IsLegacy};
 ghost use Rattle.demangle_grammar.specs.Reading.{form, path_texts};
