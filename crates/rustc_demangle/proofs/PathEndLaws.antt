@@ -50,7 +50,7 @@ path_len_positive text (inl (elements, suffix, legacy, allowed)) =
     let prefix : 0 < length legacy.0 = legacy_prefix-len legacy.0 legacy.3 in
     omega (arith, len, below, prefix, ap length legacy.2, length-append legacy.0 legacy.1)
 path_len_positive text (inr (inner, suffix, v0, allowed)) =
-    let len = path_len-some text (path_texts inner true) suffix (pieces-v0 true text inner suffix (v0_is_read text inner suffix v0) allowed) in
+    let len = path_len-some text (path_texts inner (form true false)) suffix (pieces-v0 true text inner suffix (v0_is_read text inner suffix v0) allowed) in
     let prefix : 0 < length v0.0 = v0_prefix-len v0.0 v0.2 in
     let part = v0.5 in
     omega (arith, len, prefix, ap length v0.1, length-append v0.0 inner, ap length part.2, length-drop part.0 inner)
@@ -114,7 +114,7 @@ handed_with-symbol text hash limit (inr (inner, suffix, v0, allowed)) =
     let whole : text ≡ (v0.0 ++ take part.0 inner) ++ suffix =
     v0.1 ∙ ap (λ x. v0.0 ++ x) (sym (take-append-drop part.0 inner)) ∙ sym (append_assoc v0.0 (take part.0 inner) (drop part.0 inner))
     ∙ ap (λ x. (v0.0 ++ take part.0 inner) ++ x) (sym part.2) in
-    let len = path_len-some text (path_texts inner true) suffix (pieces-v0 true text inner suffix read allowed) in
+    let len = path_len-some text (path_texts inner (form true false)) suffix (pieces-v0 true text inner suffix read allowed) in
     handed_with-some text (path_len_of text) hash limit inner some
     ∙ ap (λ s. cut (path_texts inner (form hash false)) limit ++ s ∷ []) (ap (λ n. drop n text) len ∙ behind_front text (v0.0 ++ take part.0 inner) suffix whole)
     ∙ sym (handed-some_of text hash limit (path_texts inner (form hash false), suffix) (pieces-v0 hash text inner suffix read allowed))
