@@ -144,8 +144,9 @@ def for_tests_only(path):
     """Returns the items of a source that are there for its tests alone."""
     with open(path, encoding="utf-8") as file:
         text = file.read()
-    pattern = r"^#\[cfg\(test\)\]\n(?:macro_rules!|mod) \w+ \{\n.*?^\}\n"
-    items = re.findall(pattern, text, re.M | re.S)
+    # A copy of the source may lack the last line feed.
+    pattern = r"^#\[cfg\(test\)\]\n(?:macro_rules!|mod) \w+ \{\n.*?^\}$"
+    items = [item + "\n" for item in re.findall(pattern, text, re.M | re.S)]
     check(any("mod tests {" in item for item in items), f"no tests are in {path}")
     return "\n".join(items)
 
