@@ -148,12 +148,22 @@ def runner(target):
 
 
 def long_lengths():
-    """Returns symbols whose lengths are 2^32 + n: on 32 bits a cast would lose the 2^32."""
-    big = 2**32
+    """Returns symbols whose lengths are 2^32 + n or 5 * 2^32 + n.
+
+    On 32 bits a cast or a sum that wraps reads the first as n, and a product that wraps the second.
+    """
     return [
-        b"_ZN%da1bE" % (big + 1), b"_ZN1a%dbE" % (big + 1), b"_RNvC%da1b" % (big + 1),
-        b"_RNvC1a%db" % (big + 1), b"_RNvC%d_a1b" % (big + 1), b"_ZN%dabcE" % (big + 3),
-    ]  # fmt: skip
+        text
+        for big in (2**32, 5 * 2**32)
+        for text in (
+            b"_ZN%da1bE" % (big + 1),
+            b"_ZN1a%dbE" % (big + 1),
+            b"_RNvC%da1b" % (big + 1),
+            b"_RNvC1a%db" % (big + 1),
+            b"_RNvC%d_a1b" % (big + 1),
+            b"_ZN%dabcE" % (big + 3),
+        )
+    ]
 
 
 def check_target(target):
@@ -180,7 +190,7 @@ def check_target(target):
         said = run(program, input=b"at _ZN3foo3barE:7\n")
         check(said == b"at foo::bar:7\n", repr(said))
         kind = subprocess.run(["file", "-b", words[-1]], stdout=subprocess.PIPE, check=False).stdout
-        return f"{rows} stored rows and 6 lengths past 2^32 ({kind.decode()[:60].strip()})"
+        return f"{rows} stored rows and 12 lengths past 2^32 ({kind.decode()[:60].strip()})"
 
     return call
 
