@@ -44,6 +44,12 @@ impl<const N: usize> Parser<'_, N> {
             self.state.place = Some(at + 1);
             return Ok(self.end_with(mark));
         }
+        // References nest deepest, so their tag is tested before those of the other types.
+        if tag == b'R' {
+            self.enter()?;
+            self.state.place = Some(at + 1);
+            return Ok(self.reference_type(false));
+        }
         // `w` is not a basic type, so it is only tested after those.
         if is_begun && tag == b'w' {
             self.state.place = Some(at + 1);
