@@ -62,8 +62,9 @@ splat_there b i x o f = rw (sym o) (eq-eqb x 119 f)
 pub basic_no_splat : (x : ℕ) (m : Mark) → Some m ≡ found x basic_marks → x ≢ 119
 basic_no_splat x m f e = none-some m (sym (f ∙ ap (λ (t : ℕ). found t basic_marks) e))
 
-pub reference_no_splat : (x : ℕ) → x ≡ code "R" → x ≢ 119
-reference_no_splat x e f = omega (arith, e, f)
+-- nor does a type of the table
+pub kind_no_splat : (x : ℕ) (k : TypeKind) → Some k ≡ found x (type_kinds x) → x ≢ 119
+kind_no_splat x k f e = none-some k (sym (f ∙ ap (λ (t : ℕ). found t (type_kinds t)) e))
 
 -- that tag is the one of a shared reference
 pub shared_kind : (x : ℕ) → x ≡ code "R" → Some kind.SharedReference ≡ found x (type_kinds x)
