@@ -18,6 +18,7 @@ use Rattle.demangle_v0.specs.Points.{Turn, turn, Env, part, Does, Paid, RestDoes
 use Rattle.demangle_words.specs.declared.texts.Mark.{Mark}
 use Rattle.demangle_words.specs.declared.texts.Mark.TheVariants as mark
 use Rattle.demangle_words.specs.declared.tags.TypeKind.{TypeKind}
+use Rattle.demangle_words.specs.declared.tags.TypeKind.TheVariants as kind
 use Rattle.demangle_v0.specs.declared.points.Point.{Point}
 use Rattle.demangle_v0.specs.declared.points.Point.TheVariants as point
 use Rattle.demangle_v0.specs.declared.points.frames.Frame.{Frame}
@@ -60,6 +61,14 @@ splat_there b i x o f = rw (sym o) (eq-eqb x 119 f)
 -- no basic type has that tag
 pub basic_no_splat : (x : ℕ) (m : Mark) → Some m ≡ found x basic_marks → x ≢ 119
 basic_no_splat x m f e = none-some m (sym (f ∙ ap (λ (t : ℕ). found t basic_marks) e))
+
+-- nor does a type of the table
+pub kind_no_splat : (x : ℕ) (k : TypeKind) → Some k ≡ found x (type_kinds x) → x ≢ 119
+kind_no_splat x k f e = none-some k (sym (f ∙ ap (λ (t : ℕ). found t (type_kinds t)) e))
+
+-- that tag is the one of a shared reference
+pub shared_kind : (x : ℕ) → x ≡ code "R" → Some kind.SharedReference ≡ found x (type_kinds x)
+shared_kind x e = rw e refl
 
 module _ {V : Type 0} (output : Ghosts V) (b : List ℕ) (include_hash : Bool) where
   -- one whose text behind it is not printed

@@ -32,9 +32,8 @@ struct Packed {
     depth_left: u16,
     point: Point,
     in_value: bool,
-    letter: u8,
-    /// Always 0. With it the frame has no unused bytes, so it is cleared and copied as two words.
-    _padding: u8,
+    /// A byte. In two bytes, it leaves none unused, so a frame is cleared and copied as two words.
+    letter: u16,
 }
 
 const _: () = assert!(mem::size_of::<Packed>() == 16);
@@ -50,7 +49,6 @@ impl Default for Packed {
             point: Point::InherentPath,
             in_value: false,
             letter: 0,
-            _padding: 0,
         }
     }
 }
@@ -65,8 +63,7 @@ fn pack(frame: Frame) -> Packed {
         depth_left: frame.depth_left,
         point: frame.point,
         in_value: frame.in_value,
-        letter: frame.letter,
-        _padding: 0,
+        letter: u16::from(frame.letter),
     }
 }
 
@@ -76,7 +73,7 @@ fn unpack(packed: Packed) -> Frame {
     Frame {
         point: packed.point,
         in_value: packed.in_value,
-        letter: packed.letter,
+        letter: (packed.letter % 256) as u8,
         depth_left: packed.depth_left,
         number: u128::from(packed.high) * TWO_64 + u128::from(packed.low),
     }

@@ -38,19 +38,26 @@ impl<const N: usize> Parser<'_, N> {
             self.state.place = Some(at + 1);
             return Ok(self.end_with(mark));
         }
-        // `w` is not a basic type, so it is only tested after those.
-        if is_begun && tag == b'w' {
+        // References nest deepest, so their tag is tested before those of the other types.
+        if tag == b'R' {
+            self.enter()?;
             self.state.place = Some(at + 1);
-            self.put(Mark::Splat);
-            return Ok(Point::TaggedType);
+            return Ok(self.reference_type(false));
         }
-        self.enter()?;
-        // Any other tag is a path's. The path is read again from that tag on, and raises the depth
-        // once more.
         let Some(kind) = type_kind(tag) else {
+            // `w` does not raise the depth either.
+            if is_begun && tag == b'w' {
+                self.state.place = Some(at + 1);
+                self.put(Mark::Splat);
+                return Ok(Point::TaggedType);
+            }
+            // Any other tag is a path's. The path is read again from that tag on, and raises the
+            // depth once more.
+            self.enter()?;
             self.state.in_value = false;
             return Ok(Point::Path);
         };
+        self.enter()?;
         self.state.place = Some(at + 1);
         self.type_behind_tag(kind, output)
     }

@@ -2,9 +2,11 @@ use Rattle.std.proofs.Common.{arith, refl, sym, ◌∙◌, ◌≡◌, ◌≢◌,
 use Rattle.demangle_grammar.specs.Reading.{run}
 use Rattle.demangle_v0.specs.Points.{unit_rest_at}
 use Rattle.demangle_v0.proofs.Faults.{stops}
+use Rattle.demangle_v0.proofs.Parsers.{went_rest}
+use Rattle.demangle_words.specs.declared.tags.TypeKind.TheVariants as kind
 use Rattle.demangle_v0.proofs.PointTurns.{unread}
 use Rattle.std.proofs.lemmas.Bool.{false≢true}
-use Rattle.demangle_v0.proofs.PointTypes.{splat_missing, splat_not, splat_there, basic_no_splat, type_splats, type_tagged, type_either, no_tag, basic_ends, tag_deep, path_follows, tag_goes}
+use Rattle.demangle_v0.proofs.PointTypes.{splat_missing, splat_not, splat_there, basic_no_splat, kind_no_splat, shared_kind, type_splats, type_tagged, type_either, no_tag, basic_ends, tag_deep, path_follows, tag_goes}
 use Rattle.demangle_v0.proofs.points.parser.Parser.type_.Goals as goal
 use Rattle.demangle_v0.proofs.points.parser.Parser.type_.Goals.{else-is_begun-via-then-is_begun+else-tag-eq119, else-is_begun-via-else-is_begun}
 
@@ -42,6 +44,33 @@ returns-in-Some-basic_mark g c =
       });
     }
 
+pub returns-in_err-enter : goal.returns-in_err-enter
+returns-in_err-enter g c =
+    let deep = c.in_err-enter.ensures.deep in
+    let x = c.in-Some-byte.tag in
+    record {
+      did = rw deep.2 (record {
+        does = rw (stops c.from_residual.result c.from_residual.ensures.1 deep.1) (type_tagged c.args.is_begun c.in-Some.at c.in-Some.is
+            (λ _. splat_not c.args.self.now.source.symbol.now c.in-Some.at x c.in-Some-byte.ensures.byte (kind_no_splat x kind.SharedReference (shared_kind x c.if-tag-eq82.true)))
+            (tag_deep c.in-Some.at x c.in-Some.is c.in-Some-byte.ensures.byte c.in_default-basic_mark.ensures deep.0 c.byte.ensures.look c.requires.may.unmarked));
+        same = (refl, refl);
+      });
+    }
+
+pub returns-then-tag-eq82 : goal.returns-then-tag-eq82
+returns-then-tag-eq82 g c =
+    let ok = c.in_ok-enter.ensures.ok in
+    let d = rw ok.1 at (went_rest g.V.Output c.args.output.now _ 5 50 9 c.reference_type.ensures.did) in
+    let x = c.in-Some-byte.tag in
+    record {
+      did = record {
+        does = type_tagged c.args.is_begun c.in-Some.at c.in-Some.is
+            (λ _. splat_not c.args.self.now.source.symbol.now c.in-Some.at x c.in-Some-byte.ensures.byte (kind_no_splat x kind.SharedReference (shared_kind x c.if-tag-eq82.true)))
+            (tag_goes c.in-Some.at x kind.SharedReference c.in-Some.is c.in-Some-byte.ensures.byte c.in_default-basic_mark.ensures ok.0 (shared_kind x c.if-tag-eq82.true) c.byte.ensures.look (rw c.in-Some.is (omega (arith, c.byte.ensures.look, c.in-Some-byte.ensures.within, d.does.own))) d.does);
+        same = d.same;
+      };
+    }
+
 pub returns-then-tag-eq119 : goal.returns-then-tag-eq119
 returns-then-tag-eq119 g c = record {
   did = rw c.put.ensures (record {
@@ -54,9 +83,9 @@ returns-then-tag-eq119 g c = record {
   });
 }
 
-pub returns-in_err-enter : goal.returns-in_err-enter
-returns-in_err-enter g c =
-    let deep = c.in_err-enter.ensures.deep in
+pub returns-in_err-enter-2 : goal.returns-in_err-enter-2
+returns-in_err-enter-2 g c =
+    let deep = c.in_err-enter-2.ensures.deep in
     let x = c.in-Some-byte.tag in
     let plain : c.args.is_begun ≡ true → x ≢ 119 = λ e. elim c.else-is_begun.branch [
       | else-is_begun-via-then-is_begun+else-tag-eq119 w ↦ w.if-tag-eq119.false
@@ -64,7 +93,7 @@ returns-in_err-enter g c =
     ] in
     record {
       did = rw deep.2 (record {
-        does = rw (stops c.from_residual.result c.from_residual.ensures.1 deep.1) (type_tagged c.args.is_begun c.in-Some.at c.in-Some.is
+        does = rw (stops c.from_residual-in_err-enter-2.result c.from_residual-in_err-enter-2.ensures.1 deep.1) (type_tagged c.args.is_begun c.in-Some.at c.in-Some.is
             (λ e. splat_not c.args.self.now.source.symbol.now c.in-Some.at x c.in-Some-byte.ensures.byte (plain e))
             (tag_deep c.in-Some.at x c.in-Some.is c.in-Some-byte.ensures.byte c.in_default-basic_mark.ensures deep.0 c.byte.ensures.look c.requires.may.unmarked));
         same = (refl, refl);
@@ -73,7 +102,7 @@ returns-in_err-enter g c =
 
 pub returns-in_default-type_kind : goal.returns-in_default-type_kind
 returns-in_default-type_kind g c =
-    let ok = c.in_ok-enter.ensures.ok in
+    let ok = c.in_ok-enter-2.ensures.ok in
     let x = c.in-Some-byte.tag in
     let plain : c.args.is_begun ≡ true → x ≢ 119 = λ e. elim c.else-is_begun.branch [
       | else-is_begun-via-then-is_begun+else-tag-eq119 w ↦ w.if-tag-eq119.false
@@ -88,19 +117,28 @@ returns-in_default-type_kind g c =
       });
     }
 
+pub returns-in_err-enter-3 : goal.returns-in_err-enter-3
+returns-in_err-enter-3 g c =
+    let deep = c.in_err-enter-3.ensures.deep in
+    let x = c.in-Some-byte.tag in
+    record {
+      did = rw deep.2 (record {
+        does = rw (stops c.from_residual-in_err-enter-3.result c.from_residual-in_err-enter-3.ensures.1 deep.1) (type_tagged c.args.is_begun c.in-Some.at c.in-Some.is
+            (λ _. splat_not c.args.self.now.source.symbol.now c.in-Some.at x c.in-Some-byte.ensures.byte (kind_no_splat x c.in-Some-type_kind.kind c.in-Some-type_kind.ensures))
+            (tag_deep c.in-Some.at x c.in-Some.is c.in-Some-byte.ensures.byte c.in_default-basic_mark.ensures deep.0 c.byte.ensures.look c.requires.may.unmarked));
+        same = (refl, refl);
+      });
+    }
+
 pub returns : goal.returns
 returns g c =
-    let ok = c.in_ok-enter.ensures.ok in
+    let ok = c.in_ok-enter-3.ensures.ok in
     let d = rw ok.1 at c.type_behind_tag.ensures.did in
     let x = c.in-Some-byte.tag in
-    let plain : c.args.is_begun ≡ true → x ≢ 119 = λ e. elim c.else-is_begun.branch [
-      | else-is_begun-via-then-is_begun+else-tag-eq119 w ↦ w.if-tag-eq119.false
-      | else-is_begun-via-else-is_begun w ↦ absurd (false≢true (sym w.if-is_begun.false ∙ e))
-    ] in
     record {
       did = record {
         does = type_tagged c.args.is_begun c.in-Some.at c.in-Some.is
-            (λ e. splat_not c.args.self.now.source.symbol.now c.in-Some.at x c.in-Some-byte.ensures.byte (plain e))
+            (λ _. splat_not c.args.self.now.source.symbol.now c.in-Some.at x c.in-Some-byte.ensures.byte (kind_no_splat x c.in-Some-type_kind.kind c.in-Some-type_kind.ensures))
             (tag_goes c.in-Some.at x c.in-Some-type_kind.kind c.in-Some.is c.in-Some-byte.ensures.byte c.in_default-basic_mark.ensures ok.0 c.in-Some-type_kind.ensures c.byte.ensures.look (rw c.in-Some.is (omega (arith, c.byte.ensures.look, c.in-Some-byte.ensures.within, d.does.own))) d.does);
         same = d.same;
       };
