@@ -91,7 +91,7 @@ def one_pair(size):
     found = {}
     for n in itertools.count():
         key = (symbol % n).encode()
-        place = (hash_of(key) >> 32) % 4096
+        place = (hash_of(key) >> 32) % 8192
         found.setdefault(place, []).append(key)
         if len(found[place]) == 40:
             text = b"\n".join(found[place]) + b"\n"

@@ -24,7 +24,7 @@ use Rattle.demangle_sink.specs.declared.TextSink.{Ghosts as Sinks}
 use Rattle.demangle_sink.specs.declared.SinkRefused.{SinkRefused}
 use Rattle.demangle_sink.specs.declared.limit.SizeLimitedFmtAdapter.{SizeLimitedFmtAdapter}
 use Rattle.demangle_v0.specs.Points.{Bit, pays, puts, heard_bits, bits_looks, bits_texts, Env, Turn, turn, unit_rest_at, stack_rest, reading_rest}
-use Rattle.demangle_v0.specs.PointRuns.{Valid, Emitted, Ran, Broke, ReadsOwn, Skipped, SkipsTo, printing, RanOn, Passed, ValidLeft, Finishes, Ended, first_state, own_heard}
+use Rattle.demangle_v0.specs.PointRuns.{Valid, Emitted, Ran, Broke, ReadsOwn, Skipped, SkipsTo, printing, RanOn, Passed, ValidLeft, Finishes, Ended, EndedAt, first_state, own_heard}
 use Rattle.demangle_v0.specs.declared.points.Point.{Point}
 use Rattle.demangle_v0.specs.declared.points.Point.TheVariants as point
 use Rattle.demangle_v0.specs.declared.points.frames.Frame.{Frame}
@@ -185,6 +185,10 @@ module _ {S : Type 0} (sink : Sinks S) (b : List ℕ) (include_hash : Bool) wher
       let both = prints_then sink v d.mid.output d.end.output fronts texts (Ok tt) (Err d.halts.refusal) (emitted_prints v d.mid.output (front_of d) ready (broke_emits d)) refl d.halts.prints in
       let all : (fronts ++ texts) ++ shown_in (behind_broke d).events ≡ path_texts b include_hash = append_assoc fronts texts (shown_in (behind_broke d).events) ∙ front_shown d in
       rw (sym all, sym d.same_output) (prints_stop sink v d.end.output (fronts ++ texts) (shown_in (behind_broke d).events) (Err d.halts.refusal) (Err f) both refl refl)
+
+  -- all was printed, and the place where that ended is known
+  pub prints_to : {v w : SizeLimitedFmtAdapter S} {m n place : ℕ} → Ready sink v → EndedAt (printing sink b include_hash) point.Path (begun v m) place w n → Prints sink v (path_texts b include_hash) (Ok tt) w
+  prints_to ready z = prints_so (Ok tt) ready (record { ended = (z.state, z.ran) })
 
   -- The looks of a run are paid for by what it handed over.
 

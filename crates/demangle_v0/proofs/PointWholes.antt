@@ -1,20 +1,24 @@
 -- Readings of a whole path.
 use Rattle.std.specs.Prelude.{◌*◌}
-use Rattle.std.proofs.Common.{inl, inr, ◌⊎◌, ◌≡◌, ℕ, ◌+◌, ◌≤◌, Bool, true, false, None, List, [], length, refl, arith, sym, ap, ◌∙◌, subst}
+use Rattle.std.proofs.Common.{inl, inr, ◌⊎◌, ◌≡◌, ℕ, ◌+◌, ◌≤◌, Bool, true, false, None, Some, List, [], ◌∷◌, ◌++◌, length, refl, arith, sym, ap, ◌∙◌, subst}
 use Rattle.demangle_grammar.specs.Accepting.{looks_in}
-use Rattle.demangle_grammar.specs.Events.{Heard}
+use Rattle.demangle_grammar.specs.Events.{Event, Heard, allows, events}
 use Rattle.demangle_grammar.specs.Items.{a_path}
-use Rattle.demangle_grammar.specs.Reading.{max_depth, unit_end, read_at, level_of, levels}
+use Rattle.demangle_grammar.specs.Reading.{Tree, nothing, piece, plain_piece, node, looked, hidden, max_depth, unit_end, read_at, level_of, levels}
 use Rattle.demangle_grammar.specs.Running.{allowed_in}
-use Rattle.demangle_v0.specs.Points.{most_frames, Turn, AllInner, unit_rest_at, unit_rest_of, stack_rest, reading_rest}
-use Rattle.demangle_v0.specs.PointRuns.{Valid, frame_height, Ran, ReadOn, first_state, silently, silent_turn}
+use Rattle.demangle_v0.specs.Points.{most_frames, Turn, turn, AllInner, unit_rest_at, unit_rest_of, stack_rest, reading_rest}
+use Rattle.demangle_v0.specs.PointRuns.{Valid, frame_height, EndedAt, Ran, ReadOn, first_state, printing, silently, silent_turn}
+use Rattle.demangle_sink.specs.declared.TextSink.{Ghosts as Sinks}
+use Rattle.demangle_sink.specs.declared.limit.SizeLimitedFmtAdapter.{SizeLimitedFmtAdapter}
 use Rattle.demangle_v0.specs.declared.points.Point.{Point}
 use Rattle.demangle_v0.specs.declared.points.Point.TheVariants as point
 use Rattle.demangle_v0.specs.declared.points.frames.Frame.{Frame}
 use Rattle.demangle_v0.specs.declared.points.State.{State}
 use Rattle.demangle_v0.specs.declared.points.read.Halt.{Halt}
 use Rattle.demangle_v0.specs.declared.points.read.Halt.TheVariants as halt
+use Rattle.demangle_grammar.proofs.Accepted.{printing_is_spelling, reading_is_spelling}
 use Rattle.demangle_grammar.proofs.FailedRows.{allowed_looks}
+use Rattle.demangle_grammar.proofs.Rules.{named_freely}
 use Rattle.demangle_grammar.proofs.Hearing.{and_then_ended}
 use Rattle.demangle_words.specs.declared.output.Silent.{Silent}
 use Rattle.demangle_v0.proofs.Heights.{stands_first}
@@ -35,13 +39,29 @@ pub over_place : (b : List ℕ) (include_hash : Bool) (s : State) → (reading_r
 unfolding unit_rest_at stack_rest
 over_place b include_hash s = refl
 
-pub first_place : (b : List ℕ) (i : ℕ) → (reading_rest b true false point.Path (first_state i) []).place ≡ unit_end b a_path i 0
+pub first_place : (b : List ℕ) (include_hash : Bool) (i : ℕ) → (reading_rest b include_hash false point.Path (first_state i) []).place ≡ unit_end b a_path i 0
 unfolding unit_rest_at unit_end read_at
-first_place b i = ap (λ (h : Heard). h.place) (owed_alone b true false point.Path (first_state i))
+first_place b include_hash i = ap (λ (h : Heard). h.place) (owed_alone b include_hash false point.Path (first_state i))
 
-pub first_allowed : (b : List ℕ) (i : ℕ) → allowed_in (reading_rest b true false point.Path (first_state i) []).events ≡ looks_in (read_at b false a_path i 0 0 true)
+-- a tree that is not printed has the same events in either form
+silent_events : (plain : Bool) (t : Tree) → events plain false t ≡ events true false t
+silent_events true t = refl
+silent_events false nothing = refl
+silent_events false (piece t rest) = silent_events false rest
+silent_events false (plain_piece t rest) = silent_events false rest
+silent_events false (node inside rest) =
+    ap (λ xs. xs ++ events false false rest) (silent_events false inside) ∙ ap (λ xs. events true false inside ++ xs) (silent_events false rest)
+silent_events false (looked k rest) = ap (λ (xs : List Event). allows k ∷ xs) (silent_events false rest)
+silent_events false (hidden inside rest) =
+    ap (λ xs. xs ++ events false false rest) (silent_events false inside) ∙ ap (λ xs. events true false inside ++ xs) (silent_events false rest)
+silent_events false _ = refl
+
+pub first_allowed : (b : List ℕ) (include_hash : Bool) (i : ℕ) → allowed_in (reading_rest b include_hash false point.Path (first_state i) []).events ≡ looks_in (read_at b false a_path i 0 0 true)
 unfolding unit_rest_at read_at
-first_allowed b i = ap (λ (h : Heard). allowed_in h.events) (owed_alone b true false point.Path (first_state i)) ∙ allowed_looks true false (level_of b (levels b max_depth) false a_path true 0 i).tree
+first_allowed b include_hash i =
+    let tree = (level_of b (levels b max_depth) false a_path true 0 i).tree in
+    ap (λ (h : Heard). allowed_in h.events) (owed_alone b include_hash false point.Path (first_state i))
+    ∙ (ap allowed_in (silent_events include_hash tree) ∙ allowed_looks true false tree)
 
 -- What a silent reading tells of its place and its looks.
 
@@ -76,3 +96,23 @@ module _ {b : List ℕ} {include_hash : Bool} {p q : Point} {s : State} {stack :
 
   pub full_looks : ReadOn (silently b include_hash) [] p (silent_turn s stack m) halt.Full q u → u.looks + allowed_in (reading_rest b include_hash false q u.state u.stack).events ≤ m + allowed_in (reading_rest b include_hash false p s stack).events
   full_looks r = ran_looks (full_ran r)
+
+-- Printing ends where a silent reading does.
+
+printed_place : (b : List ℕ) (include_hash : Bool) (s : State) → (reading_rest b include_hash true point.End s []).place ≡ s.place
+unfolding unit_rest_at stack_rest
+printed_place b include_hash s = refl
+
+first_printed : (b : List ℕ) (include_hash : Bool) → (reading_rest b include_hash true point.Path (first_state 0) []).place ≡ (read_at b true a_path 0 0 0 true).place
+unfolding unit_rest_at read_at
+first_printed b include_hash = ap (λ (h : Heard). h.place) (owed_alone b include_hash true point.Path (first_state 0))
+
+read_end : (b : List ℕ) (j : ℕ) → (read_at b true a_path 0 0 0 true).place ≡ Some j → Some j ≡ unit_end b a_path 0 0
+unfolding unit_end
+read_end b j e =
+    sym ((reading_is_spelling b a_path true 0 j 0 0 (omega arith) (omega arith)).1 (named_freely ((printing_is_spelling b a_path true 0 j 0 0 (omega arith) (omega arith)).0 e)))
+
+pub printed_end : {S : Type 0} (sink : Sinks S) (b : List ℕ) (include_hash : Bool) {v w : SizeLimitedFmtAdapter S} {m n place : ℕ} →
+    EndedAt (printing sink b include_hash) point.Path (turn (first_state 0) [] v m) place w n → Some place ≡ unit_end b a_path 0 0
+printed_end sink b include_hash {place = place} z =
+    read_end b place (sym (first_printed b include_hash) ∙ (sym (ran_place z.ran) ∙ (printed_place b include_hash z.state ∙ z.at)))

@@ -14,7 +14,7 @@ use Rattle.demangle_sink.specs.declared.limit.SizeLimitedFmtAdapter.{SizeLimited
 use Rattle.demangle_v0.specs.Impls.{skip_point}
 use Rattle.demangle_v0.specs.PointContracts.{brace_behind}
 use Rattle.demangle_v0.specs.Points.{AllInner, Does, Env, MayEmit, MayRead, MayStep, Part, Turn, env, pushed_on, reading_rest, rest, turn, whole}
-use Rattle.demangle_v0.specs.PointRuns.{Valid, ReadOn, Skipped, SkipsTo, RanOn, ValidLeft, Finishes, Ended, first_looks, first_state, looks_left, printing, silently, silent_turn}
+use Rattle.demangle_v0.specs.PointRuns.{Valid, ReadOn, Skipped, SkipsTo, RanOn, ValidLeft, Finishes, Ended, EndedAt, first_looks, first_state, looks_left, printing, silently, silent_turn}
 use Rattle.demangle_v0.specs.References.{IsUnit, target_part}
 use Rattle.demangle_v0.specs.declared.points.Point.{Point}
 use Rattle.demangle_v0.specs.declared.points.Point.TheVariants as point
@@ -186,6 +186,10 @@ PrintsSteps sink m v result k w = RanOn (printing_of sink m) m.point (turn_of m 
 -- `m` printed until nothing was left
 abbrev pub PrintsAll : {N : ℕ} {S : Type 0} → Sinks S → Parser N → SizeLimitedFmtAdapter S → Result (Unit {0}) SinkRefused → Parser N → SizeLimitedFmtAdapter S → Type 0
 PrintsAll sink m v result k w = Ended (printing_of sink m) m.point (turn_of m v) result w k.looks
+
+-- the same, and parsing ended at this place
+abbrev pub PrintsTo : {N : ℕ} {S : Type 0} → Sinks S → Parser N → SizeLimitedFmtAdapter S → ℕ → Parser N → SizeLimitedFmtAdapter S → Type 0
+PrintsTo sink m v place k w = EndedAt (printing_of sink m) m.point (turn_of m v) place w k.looks
 
 -- the same for the unfinished part of a text
 abbrev pub PrintsOn : {N : ℕ} {S : Type 0} → Sinks S → Parser N → Left → SizeLimitedFmtAdapter S → Result (Option Left) SinkRefused → Parser N → SizeLimitedFmtAdapter S → Type 0

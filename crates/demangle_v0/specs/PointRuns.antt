@@ -231,3 +231,9 @@ EndedSo env p before (Err e) w looks = Broke env p before w looks
 
 pub record Ended {V : Type 0} (env : Env V) (p : Point) (before : Turn V) (result : Result (Unit {0}) SinkRefused) (w : V) (looks : ℕ) : Type 0 where
   pub ended : EndedSo env p before result w looks
+
+-- all was printed, and parsing ended at this place
+pub record EndedAt {V : Type 0} (env : Env V) (p : Point) (before : Turn V) (place : ℕ) (w : V) (looks : ℕ) : Type 0 where
+  pub state : State
+  pub at : state.place ≡ Some place
+  pub ran : Ran env p before point.End (turn state [] w looks)

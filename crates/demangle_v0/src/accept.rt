@@ -1,15 +1,17 @@
 //! Acceptance of v0 symbols: parses without output.
-ghost use Rattle.std.specs.Prelude.{◌≡◌, ◌+◌, ◌≤◌, [], false, true, IsSome};
+ghost use Rattle.std.specs.Prelude.{◌≡◌, ◌+◌, ◌≤◌, [], false, true, IsAscii, IfSome, IsSome, Ok, Some};
 ghost use Rattle.demangle_grammar.specs.Items.{a_path};
 ghost use Rattle.demangle_v0.specs.Parsers.{IsValid, Recounted, Same, unread_of};
 ghost use Rattle.demangle_v0.specs.Points.{AllInner};
-ghost use Rattle.demangle_grammar.specs.Reading.{goes_on_at, unit_end, suffix_place, read_at};
+ghost use Rattle.demangle_grammar.specs.Reading.{goes_on_at, path_texts, unit_end, suffix_place, read_at};
 ghost use Rattle.demangle_grammar.specs.Running.{allowed_in};
 ghost use Rattle.demangle_grammar.specs.Accepting.{looks_in, suffix_looks, accepting_looks};
+ghost use Rattle.demangle_sink.specs.Limit.{Prints, Ready};
 
 use crate::points::frames::{FULL_STACK, MIDDLE_STACK, SHORT_STACK};
 use crate::points::parser::Parser;
 use crate::points::read::Halt;
+use demangle_sink::{SizeLimitedFmtAdapter, TextSink};
 use demangle_symbol::cursor::{Looks, Symbol};
 
 impl Parser<'_, FULL_STACK> {
@@ -89,7 +91,6 @@ impl Parser<'_, SHORT_STACK> {
     /// leaves no frames. Returns `None` after an error.
     fn path_end(&mut self, place: usize) -> Option<usize>
         requires empty { self.old.stack ≡ [] }
-        requires hash { self.old.source.include_hash ≡ true }
         ensures value { result ≡ unit_end self.old.source.symbol.now a_path place 0 }
         ensures empty { IsSome result → self.new.stack ≡ [] }
         ensures grows { self.old.looks ≤ self.new.looks }
@@ -113,7 +114,6 @@ impl Parser<'_, SHORT_STACK> {
     /// error.
     fn suffix(&mut self) -> Option<usize>
         requires empty { self.old.stack ≡ [] }
-        requires hash { self.old.source.include_hash ≡ true }
         ensures value { result ≡ suffix_place self.old.source.symbol.now }
         ensures grows { self.old.looks ≤ self.new.looks }
         ensures looks { self.new.looks + suffix_looks self.old.source.symbol.now result ≤ self.old.looks +
@@ -153,4 +153,31 @@ pub fn begins_path(symbol: &Symbol<'_>, place: usize, looks: &mut Looks) -> bool
         Some(b'A'..=b'Z') => true,
         _ => false,
     }
+}
+
+/// Prints the first path of a symbol, and reads a second one. Returns the place of the suffix after
+/// them.
+///
+/// Returns `None` after a syntax error, if the limit or the sink rejects a piece, or if the first
+/// stack is too short. Then an unknown part of the path may be printed.
+pub fn print_to_suffix<S: TextSink>(
+    symbol: &Symbol<'_>,
+    out: &mut SizeLimitedFmtAdapter<'_, S>,
+    include_hash: bool,
+    looks: &mut Looks,
+) -> Option<usize>
+    requires ascii { IsAscii symbol.now }
+    requires ready { Ready S.TextSink out.old }
+    ensures value { IfSome result (λ place. Some place ≡ suffix_place symbol.now) }
+    ensures prints { IfSome result (λ _. Prints S.TextSink out.old
+        (path_texts symbol.now include_hash) (Ok tt) out.new) }
+{
+    let mut parser: Parser<SHORT_STACK> = Parser::at_path(symbol, include_hash, 0, looks);
+    let Some(end) = parser.print_to_place(out) else {
+        return None;
+    };
+    if begins_path(symbol, end, &mut parser.looks) {
+        return parser.path_end(end);
+    }
+    Some(end)
 }

@@ -1,10 +1,13 @@
 //! v0 symbols (RFC 2603): a prefix, one path or two, then a suffix.
 #![tactic(auto)]
 
-ghost use Rattle.std.specs.Prelude.{◌≡◌, ◌+◌, ◌-◌, ◌*◌, ◌≤◌, IfOk, IfSome, IfNone, OnErr, OnSome, Some, None, IsTrue, IsAscii, false, length, option_map};
+ghost use Rattle.std.specs.Prelude.{◌≡◌, ◌+◌, ◌-◌, ◌*◌, ◌≤◌, IfOk, IfSome, IfNone, OnErr, OnSome, Ok, Some, None, IsTrue, IsAscii, false, length, option_map};
+ghost use Rattle.demangle_grammar.specs.Reading.{path_texts};
 ghost use Rattle.demangle_grammar.specs.V0.{v0_inner, v0_of};
+ghost use Rattle.demangle_sink.specs.Limit.{Prints, Ready};
 
-use crate::accept::{begins_path, suffix_at};
+use crate::accept::{begins_path, print_to_suffix, suffix_at};
+use demangle_sink::{SizeLimitedFmtAdapter, TextSink};
 use demangle_symbol::cursor::{Looks, ParseError, Symbol};
 
 mod accept;
@@ -107,4 +110,36 @@ pub fn demangle<'s>(
         return Err(ParseError::Invalid);
     };
     Ok((Demangle::new(symbol), &inner[end..]))
+}
+
+/// Reads a v0 symbol and prints its first path, in one pass over the path. Returns the symbol and
+/// the suffix after its paths. The text must be ASCII.
+///
+/// Returns `None` if the text is not a v0 symbol. Also returns `None` if a lifetime or a reference of
+/// the path has an error, if the limit or the sink rejects a piece, or if the path is nested deeply.
+/// Then an unknown part of the path may be printed, and `demangle` says whether the text is a
+/// symbol.
+pub fn demangle_printed<'s, S: TextSink>(
+    s: &'s str,
+    out: &mut SizeLimitedFmtAdapter<'_, S>,
+    include_hash: bool,
+    looks: &mut Looks,
+) -> Option<(Demangle<'s>, &'s str)>
+    requires ascii { IsAscii s.now }
+    requires ready { Ready S.TextSink out.old }
+    ensures some { IfSome result (λ r. v0_of s.now ≡ Some (r.0, r.1.now)) }
+    ensures prints { IfSome result (λ r. Prints S.TextSink out.old
+        (path_texts r.0 include_hash) (Ok tt) out.new) }
+{
+    let Some(inner) = ascii_inner_of(s, true, looks) else {
+        return None;
+    };
+    let symbol = Symbol::new(inner);
+    if !begins_path(&symbol, 0, looks) {
+        return None;
+    }
+    let Some(end) = print_to_suffix(&symbol, out, include_hash, looks) else {
+        return None;
+    };
+    Some((Demangle::new(symbol), &inner[end..]))
 }

@@ -1,7 +1,7 @@
 //! Printing: steps, each of which prints what it reads as soon as it is known.
-ghost use Rattle.std.specs.Prelude.{◌≡◌, ◌+◌, ◌≤◌, IsAscii, IsOk, Ok, Some};
+ghost use Rattle.std.specs.Prelude.{◌≡◌, ◌+◌, ◌≤◌, [], IsAscii, IfSome, IsOk, Ok, Some};
 ghost use Rattle.demangle_sink.specs.Limit.{Ready};
-ghost use Rattle.demangle_v0.specs.Parsers.{EndsPrinting, IsValid, LeftValid, PrintsAll, PrintsOn, PrintsSteps, Same, first_looks_of, left_looks};
+ghost use Rattle.demangle_v0.specs.Parsers.{EndsPrinting, IsValid, LeftValid, PrintsAll, PrintsOn, PrintsSteps, PrintsTo, Same, first_looks_of, left_looks};
 
 use crate::points::Point;
 use crate::points::frames::{FULL_STACK, MIDDLE_STACK, SHORT_STACK};
@@ -178,6 +178,32 @@ impl Parser<'_, SHORT_STACK> {
         match self.print_steps(out)? {
             None => Ok(()),
             Some(left) => self.print_in_middle_stack(left, out),
+        }
+    }
+
+    /// Prints until nothing is left, and leaves no frames. Returns the place after that.
+    ///
+    /// Returns `None` after a syntax error, if the limit or the sink rejects a piece, or if the
+    /// stack is full.
+    #[inline(always)]
+    pub(crate) fn print_to_place<S: TextSink>(
+        &mut self,
+        out: &mut SizeLimitedFmtAdapter<'_, S>,
+    ) -> Option<usize>
+        requires ascii { IsAscii self.old.source.symbol.now }
+        requires ready { Ready S.TextSink out.old }
+        requires valid { IsValid self.old }
+        ensures printed { IfSome result (λ place.
+            PrintsTo S.TextSink self.old out.old place self.new out.new) }
+        ensures empty { IfSome result (λ _. self.new.stack ≡ []) }
+        ensures same { Same self.old self.new }
+    {
+        match self.print_steps(out) {
+            Ok(None) => {
+                self.stack.truncate(0);
+                self.place()
+            }
+            Ok(Some(_)) | Err(_) => None,
         }
     }
 }

@@ -43,3 +43,12 @@ no_run_on xs at end k before behind lt = elim (cases_lt k (at + 1)) [
   | inl low ↦ before k low
   | inr high ↦ behind k high lt
 ]
+
+-- no run begins at two bytes that are not its first ones
+pub no_run_at : (xs : List ℕ) (k a b : ℕ) → k + 1 < length xs → a ≡ get_or xs k 0 → b ≡ get_or xs (k + 1) 0 → ((more : List ℕ) → begins_run (a ∷ b ∷ more) ≡ false) → begins_run (drop k xs) ≡ false
+no_run_at xs k a b lt first second none =
+    let next : b ≡ get_or xs (suc k) 0 = second ∙ ap (λ i. get_or xs i 0) (omega arith) in
+    ap begins_run (drop-cons xs k 0 (omega (arith, lt)))
+    ∙ (ap (λ s. begins_run (get_or xs k 0 ∷ s)) (drop-cons xs (suc k) 0 (omega (arith, lt)))
+    ∙ (ap (λ x. begins_run (x ∷ get_or xs (suc k) 0 ∷ drop (suc (suc k)) xs)) (sym first)
+    ∙ (ap (λ x. begins_run (a ∷ x ∷ drop (suc (suc k)) xs)) (sym next) ∙ none (drop (suc (suc k)) xs))))

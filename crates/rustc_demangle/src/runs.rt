@@ -21,6 +21,9 @@ fn is_mark(first: u8, second: u8) -> bool
     (first == b'_') & ((second == b'R') | (second == b'Z'))
 }
 
+/// The number of bytes at the start of a text that are searched in groups at first.
+const NEAR: usize = 128;
+
 /// Returns whether a run may start in the group of bytes at `from`.
 #[inline(always)]
 fn has_mark<const N: usize>(text: &[u8], from: usize) -> bool
@@ -28,16 +31,24 @@ fn has_mark<const N: usize>(text: &[u8], from: usize) -> bool
     ensures { result ≡ false → (k : ℕ) → from ≤ k → k < from + N →
         begins_run (drop k text.now) ≡ false }
 {
+    // Arrays need no bounds check in the loop, so the compiler vectorizes it.
+    let Some(firsts) = text[from..].first_chunk::<N>() else {
+        return true;
+    };
+    let Some(seconds) = text[from + 1..].first_chunk::<N>() else {
+        return true;
+    };
     let mut any = false;
     for k in 0..N {
-        any |= is_mark(text[from + k], text[from + k + 1]);
+        any |= is_mark(firsts[k], seconds[k]);
     }
     any
 }
 
-/// Returns the end of the complete groups after `from` in which no run starts.
+/// Returns the end of the complete groups after `from` in which no run starts. No group starts at
+/// `to` or after it.
 #[inline(always)]
-fn unmarked_end<const N: usize>(text: &[u8], from: usize) -> usize
+fn unmarked_end<const N: usize>(text: &[u8], from: usize, to: usize) -> usize
     requires size { 0 < N }
     requires within { from ≤ length text.now }
     ensures forward { from ≤ result }
@@ -45,7 +56,7 @@ fn unmarked_end<const N: usize>(text: &[u8], from: usize) -> usize
     ensures none { (k : ℕ) → from ≤ k → k < result → begins_run (drop k text.now) ≡ false }
 {
     let mut at = from;
-    while text.len() - at > N && !has_mark::<N>(text, at) {
+    while at < to && text.len() - at > N && !has_mark::<N>(text, at) {
         at += N;
     }
     at
@@ -59,7 +70,10 @@ pub fn run_start(text: &[u8]) -> Option<usize>
     ensures none { IfNone result
         ((k : ℕ) → k < length text.now → begins_run (drop k text.now) ≡ false) }
 {
-    let mut from = 0;
+    // In a text with many runs, the next one is near. Groups skip each `_` before it without a
+    // call.
+    let near = unmarked_end::<32>(text, 0, NEAR);
+    let mut from = near;
     // A run starts with `_`, and a search for a single byte is fast.
     while let Some(ahead) = memchr(b'_', &text[from..]) {
         let at = from + ahead;
@@ -68,7 +82,7 @@ pub fn run_start(text: &[u8]) -> Option<usize>
         }
         // A text with many `_` is skipped in complete groups with vector instructions, and not one
         // `_` at a time.
-        from = unmarked_end::<32>(text, at + 1);
+        from = unmarked_end::<32>(text, at + 1, text.len());
     }
     None
 }

@@ -5,7 +5,7 @@ ghost use Rattle.demangle_sink.specs.Cut.{cut};
 ghost use Rattle.demangle_sink.specs.Hands.{Hands};
 ghost use Rattle.demangle_legacy.specs.Legacy.{legacy_of};
 ghost use Rattle.demangle_sink.specs.Limit.{Prints, Ready};
-ghost use Rattle.rustc_demangle.specs.Filtered.{is_run};
+ghost use Rattle.rustc_demangle.specs.Filtered.{is_run, replacement_within};
 ghost use Rattle.rustc_demangle.specs.PathEnds.{path_len_of, handed_with};
 ghost use Rattle.rustc_demangle.specs.Stripped.{is_allowed, is_graphic, stripped};
 ghost use Rattle.rustc_demangle.specs.Style.{style_pieces, style_len, style_looks, style_least, IsReadAs, HasNoStyle, HasStyle};
@@ -330,6 +330,35 @@ impl<'a> Demangle<'a> {
     {
         self.style.is_some()
     }
+}
+
+/// Prints a run that is a v0 symbol, in one pass over its first path. A run is ASCII.
+///
+/// Returns `false` if the run is not a v0 symbol, as `demangle_v0::demangle_printed` does. Then an
+/// unknown part of the symbol may be in the sink, and `Demangle::read_run` says what the run is.
+pub(crate) fn print_v0_run<S: TextSink>(
+    run: &str,
+    out: &mut S,
+    include_hash: bool,
+    limit: usize,
+) -> bool
+    requires run { list_all is_run run.now ≡ true }
+    requires alive { S.failed out.old ≡ false }
+    ensures { IsTrue result →
+        S.took out.old (replacement_within include_hash limit run.now) out.new }
+{
+    let text = without_thin_lto(run);
+    let mut looks = Looks::new();
+    let mut limited = SizeLimitedFmtAdapter::new(out, limit);
+    let read = demangle_v0::demangle_printed(text, &mut limited, include_hash, &mut looks);
+    let Some((_, suffix)) = read else {
+        return false;
+    };
+    if !is_allowed(suffix, &mut looks) {
+        return false;
+    }
+    let put = put_piece(suffix, out);
+    put.is_ok()
 }
 
 /// Prints a text into a sink; its path has `path_len` bytes. Fails if the sink fails.

@@ -8,7 +8,7 @@ ghost use Rattle.text_memo.specs.Memo.{Remembers};
 
 use crate::stream::held_sink::HeldSink;
 use crate::stream::line::write_run;
-use crate::value::Demangle;
+use crate::value::{Demangle, print_v0_run};
 use held_bytes::Held;
 use std::alloc::Global;
 use std::io;
@@ -113,6 +113,23 @@ fn print_held(symbol: &Demangle<'_>, held: &mut Held, form: Form) -> bool
         .is_ok()
 }
 
+/// Prints a v0 symbol into held bytes before it is known whether the run is one. Returns `false` if
+/// that is still unknown, or if the bytes have no room for the text. Then the bytes may have a part
+/// of it.
+fn print_first(run: &str, held: &mut Held, form: Form) -> bool
+    requires run { list_all is_run run.now ≡ true }
+    requires some { 1 < length run.now }
+    ensures { IsTrue result →
+        held.new ≡ replacement_within form.include_hash form.limit run.now }
+{
+    if run.as_bytes()[1] != b'R' {
+        return false;
+    }
+    held.clear();
+    let mut sink = HeldSink::new(held);
+    print_v0_run(run, &mut sink, form.include_hash, form.limit)
+}
+
 /// How the text of a run was found.
 #[derive(Clone, Copy)]
 enum Printed {
@@ -128,7 +145,9 @@ enum Printed {
 /// legacy symbol or the digit of a suffix. It must not be too short or too long. Most other runs
 /// are not symbols.
 #[inline(always)]
-fn is_looked_up(run: &[u8]) -> bool {
+fn is_looked_up(run: &[u8]) -> bool
+    ensures { IsTrue result → 1 < length run.now }
+{
     if run.len() < 20 || run.len() > MAX_KEY {
         return false;
     }
@@ -142,6 +161,7 @@ fn is_looked_up(run: &[u8]) -> bool {
 #[inline(never)]
 fn print_new(run: &str, hash: u64, form: Form, store: &mut Store) -> Printed
     requires run { list_all is_run run.now ≡ true }
+    requires some { 1 < length run.now }
     requires remembers { Remembers (replacement_within form.include_hash form.limit) store.old.texts }
     ensures symbol { result ≡ Printed.Symbol →
         store.new.printed ≡ replacement_within form.include_hash form.limit run.now }
@@ -149,6 +169,12 @@ fn print_new(run: &str, hash: u64, form: Form, store: &mut Store) -> Printed
         run.now ≡ replacement_within form.include_hash form.limit run.now }
     ensures remembers { Remembers (replacement_within form.include_hash form.limit) store.new.texts }
 {
+    if print_first(run, &mut store.printed, form) {
+        store
+            .texts
+            .insert(run.as_bytes(), store.printed.as_slice(), hash);
+        return Printed::Symbol;
+    }
     let symbol = Demangle::read_run(run);
     if !symbol.has_style() {
         let kept = run.as_bytes();
@@ -188,11 +214,27 @@ impl SymbolMemo {
         }
     }
 
+    /// Writes the text of a run that is not remembered. Fails if the writer fails.
+    #[inline(never)]
+    fn write_once<W: Write>(&mut self, run: &str, output: &mut W) -> io::Result<()>
+        requires all { list_all is_run run.now ≡ true }
+        requires some { 1 < length run.now }
+        ensures text { OnOk result (Appends (W.contents output.old) (W.contents output.new)
+            (replacement_within self.old.0 self.old.1 run.now)) }
+        ensures same { self.new ≡ self.old }
+    {
+        if print_first(run, &mut self.store.printed, self.form) {
+            return output.write_all(self.store.printed.as_slice());
+        }
+        write_run(run, output, self.form.include_hash, self.form.limit)
+    }
+
     /// Writes the text of a run that is not in the memo. The text is remembered if the run came
     /// before. Fails if the writer fails.
     #[inline(always)]
     fn write_new<W: Write>(&mut self, run: &str, hash: u64, output: &mut W) -> io::Result<()>
-        requires { list_all is_run run.now ≡ true }
+        requires all { list_all is_run run.now ≡ true }
+        requires some { 1 < length run.now }
         ensures text { OnOk result (Appends (W.contents output.old) (W.contents output.new)
             (replacement_within self.old.0 self.old.1 run.now)) }
         ensures same { self.new ≡ self.old }
@@ -203,7 +245,8 @@ impl SymbolMemo {
         } = self.form;
         match self.store.texts.note(hash) {
             Noted::Again => {}
-            Noted::New | Noted::TooLong => return write_run(run, output, include_hash, limit),
+            Noted::New => return self.write_once(run, output),
+            Noted::TooLong => return write_run(run, output, include_hash, limit),
         }
         match print_new(run, hash, self.form, &mut self.store) {
             Printed::Symbol => output.write_all(self.store.printed.as_slice()),
@@ -221,8 +264,11 @@ impl SymbolMemo {
             (replacement_within self.old.0 self.old.1 run.now)) }
         ensures same { self.new ≡ self.old }
     {
-        if !is_looked_up(run.as_bytes()) || !self.probe.is_on() {
+        if !is_looked_up(run.as_bytes()) {
             return write_run(run, output, self.form.include_hash, self.form.limit);
+        }
+        if !self.probe.is_on() {
+            return self.write_once(run, output);
         }
         let hash = hash_of(run.as_bytes());
         if let Some(text) = self.store.texts.get(run.as_bytes(), hash) {

@@ -15,9 +15,9 @@ returns-clause-symbol c = λ _.
 pub returns-clause-remembers : goal.returns-clause-remembers
 returns-clause-remembers c =
     c.insert-2.ensures (replacement_within c.args.form.include_hash c.args.form.limit) c.requires.remembers
-    (c.as_slice.ensures ∙ c.print_held.ensures c.if-not-print_held.false
+    (c.as_slice-2.ensures ∙ c.print_held.ensures c.if-not-print_held.false
     ∙ symbol_replaced c.args.run.now c.read_run-symbol.result c.args.form.include_hash c.args.form.limit c.read_run-symbol.ensures (c.has_style.ensures.yes c.if-not-has_style.false)
-    ∙ ap (replacement_within c.args.form.include_hash c.args.form.limit) (sym c.as_bytes.ensures.value))
+    ∙ ap (replacement_within c.args.form.include_hash c.args.form.limit) (sym c.as_bytes-2.ensures.value))
 
 pub returns-then-not-print_held-clause-remembers : goal.returns-then-not-print_held-clause-remembers
 returns-then-not-print_held-clause-remembers c = c.note_too_long.ensures (replacement_within c.args.form.include_hash c.args.form.limit) c.requires.remembers
@@ -28,5 +28,10 @@ returns-then-not-has_style-clause-remembers c =
     let limit = c.args.form.limit in
     let same : c.args.run.now ≡ replacement_within hash limit c.args.run.now =
     run_kept c.args.run.now c.read_run-symbol.result hash limit c.read_run-symbol.ensures (c.has_style.ensures.no c.if-not-has_style.true) in
-    c.insert.ensures (replacement_within hash limit) c.requires.remembers
+    c.insert-then-not-has_style.ensures (replacement_within hash limit) c.requires.remembers
     (subst (λ t. t ≡ replacement_within hash limit t) (sym c.as_bytes-kept.ensures.value) same)
+
+pub returns-then-print_first-clause-remembers : goal.returns-then-print_first-clause-remembers
+returns-then-print_first-clause-remembers c =
+    let stands = replacement_within c.args.form.include_hash c.args.form.limit in
+    c.insert.ensures stands c.requires.remembers (c.as_slice.ensures ∙ c.print_first.ensures c.if-print_first.true ∙ ap stands (sym c.as_bytes.ensures.value))

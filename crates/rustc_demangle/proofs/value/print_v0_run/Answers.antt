@@ -1,0 +1,50 @@
+use Rattle.std.specs.Prelude.{IsAscii}
+use Rattle.std.specs.List.{concat}
+use Rattle.std.proofs.Common.{◌≡◌, ℕ, Bool, true, List, [], ◌∷◌, ◌++◌, Result, Ok, Err, is_ok, OnOk, Some, refl, sym, subst, ap, ◌∙◌, inr, rules}
+use Rattle.std.proofs.lemmas.Bool.{false≢true}
+use Rattle.demangle_grammar.specs.Reading.{path_texts}
+use Rattle.demangle_grammar.specs.V0.{v0_of}
+use Rattle.demangle_grammar.proofs.V0Reading.{read_is_v0}
+use Rattle.demangle_sink.specs.Cut.{cut}
+use Rattle.demangle_sink.specs.declared.SinkRefused.{SinkRefused}
+use Rattle.demangle_sink.proofs.HandsLemmas.{hands_then, hands_text}
+use Rattle.demangle_sink.proofs.PrintsLemmas.{prints_cut_all}
+use Rattle.rustc_demangle.specs.Filtered.{replacement_within}
+use Rattle.rustc_demangle.specs.Stripped.{is_allowed, stripped}
+use Rattle.rustc_demangle.specs.Symbols.{IsSymbol}
+use Rattle.rustc_demangle.proofs.BytesSteps.{all_ascii}
+use Rattle.rustc_demangle.proofs.MemoSteps.{symbol_replaced}
+use Rattle.rustc_demangle.proofs.PrintingLaws.{handed-some_of}
+use Rattle.rustc_demangle.proofs.Stripping.{IsAscii-stripped}
+use Rattle.rustc_demangle.proofs.SymbolSteps.{pieces-v0}
+use Rattle.rustc_demangle.proofs.value.print_v0_run.Goals as goal
+
+-- what a v0 symbol prints replaces its run
+v0_replaced : (run text inner suffix : List ℕ) (hash : Bool) (limit : ℕ) → text ≡ stripped run → v0_of text ≡ Some (inner, suffix) → is_allowed suffix ≡ true
+    → concat (cut (path_texts inner hash) limit ++ suffix ∷ []) ≡ replacement_within hash limit run
+v0_replaced run text inner suffix hash limit same read allowed =
+    let whole = handed-some_of text hash limit (path_texts inner hash, suffix) (pieces-v0 hash text inner suffix read allowed) in
+    let is : IsSymbol text = inr (inner, suffix, read_is_v0 text inner suffix read, allowed) in
+    sym (ap concat whole) ∙ symbol_replaced run text hash limit same is
+
+pub demangle_printed-read-requires-clause-ascii : goal.demangle_printed-read-requires-clause-ascii
+demangle_printed-read-requires-clause-ascii g c = subst IsAscii (sym c.without_thin_lto-text.ensures) (IsAscii-stripped c.args.run.now (all_ascii c.args.run.now c.requires.run))
+
+pub returns : goal.returns
+returns g c = λ is.
+    let laws = g.met.S.TextSink in
+    let printed = c.demangle_printed-read.new.out in
+    let suffix = c.in-Some.suffix.now in
+    let put = c.put_piece-put.result in
+    let prints = c.in-Some.ensures.prints in
+    let both =
+    hands_then g.S.TextSink c.args.out.now _ c.put_piece-put.new.out _ (suffix ∷ []) (Ok tt) put
+    (prints_cut_all g.S.TextSink c.new-limited.result printed _ _ _ _ (Ok tt) c.new-limited.ensures.text c.new-limited.ensures.left prints (prints.open_ refl) (search rules))
+    refl c.put_piece-put.ensures in
+    let took = hands_text g.S.TextSink c.args.out.now c.put_piece-put.new.out _ put laws.took_nothing laws.took_joined both in
+    let text = v0_replaced c.args.run.now c.without_thin_lto-text.result.now c.in-Some.field-0-0 suffix c.args.include_hash c.args.limit c.without_thin_lto-text.ensures c.in-Some.ensures.some (sym c.if-not-is_allowed.ensures.allowed) in
+    subst (λ t. g.S.TextSink.took c.args.out.now t c.put_piece-put.new.out) text (when_ok put (sym c.is_ok.ensures.value ∙ is) took)
+  where
+    when_ok : {P : Type 0} (r : Result (Unit {0}) SinkRefused) → is_ok r ≡ true → OnOk r P → P
+    when_ok (Ok u) e p = p
+    when_ok (Err f) e p = absurd (false≢true e)
