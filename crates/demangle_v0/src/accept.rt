@@ -11,6 +11,7 @@ use crate::points::frames::{FULL_STACK, MIDDLE_STACK, SHORT_STACK};
 use crate::points::parser::Parser;
 use crate::points::read::Halt;
 use demangle_symbol::cursor::{Looks, Symbol};
+use demangle_words::source::Source;
 
 impl Parser<'_, FULL_STACK> {
     /// Reads the rest. Returns the place after it, or `None` after an error.
@@ -90,10 +91,11 @@ impl Parser<'_, SHORT_STACK> {
     fn path_end(&mut self, place: usize) -> Option<usize>
         requires empty { self.old.stack ≡ [] }
         requires hash { self.old.source.include_hash ≡ true }
+        requires whole { self.old.source.fold_arguments ≡ false }
         ensures value { result ≡ unit_end self.old.source.symbol.now a_path place 0 }
         ensures empty { IsSome result → self.new.stack ≡ [] }
         ensures grows { self.old.looks ≤ self.new.looks }
-        ensures looks { self.new.looks ≤ self.old.looks + looks_in (read_at self.old.source.symbol.now false
+        ensures looks { self.new.looks ≤ self.old.looks + looks_in (read_at self.old.source.symbol.now false false
             a_path place 0 0 true) }
         ensures same { Same self.old self.new }
     {
@@ -114,6 +116,7 @@ impl Parser<'_, SHORT_STACK> {
     fn suffix(&mut self) -> Option<usize>
         requires empty { self.old.stack ≡ [] }
         requires hash { self.old.source.include_hash ≡ true }
+        requires whole { self.old.source.fold_arguments ≡ false }
         ensures value { result ≡ suffix_place self.old.source.symbol.now }
         ensures grows { self.old.looks ≤ self.new.looks }
         ensures looks { self.new.looks + suffix_looks self.old.source.symbol.now result ≤ self.old.looks +
@@ -138,7 +141,12 @@ pub fn suffix_at(symbol: &Symbol<'_>, looks: &mut Looks) -> Option<usize>
     ensures looks { looks.new + suffix_looks symbol.now result ≤ looks.old + accepting_looks
         symbol.now }
 {
-    let mut parser: Parser<SHORT_STACK> = Parser::at_path(symbol, true, 0, looks);
+    let source = Source {
+        symbol,
+        include_hash: true,
+        fold_arguments: false,
+    };
+    let mut parser: Parser<SHORT_STACK> = Parser::at_path(source, 0, looks);
     let end = parser.suffix();
     *looks = parser.looks;
     end

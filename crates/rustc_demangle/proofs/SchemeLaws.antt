@@ -1,9 +1,9 @@
 -- What a symbol of each scheme hands over, and where its run begins, by the relations of the schemes.
-use Rattle.std.proofs.Common.{◌≡◌, ◌⊎◌, inl, inr, ℕ, Bool, true, List, [], ◌∷◌, ◌++◌, drop, get_or, codes, Some, sym, ap, ◌∙◌, arith}
+use Rattle.std.proofs.Common.{false, ◌≡◌, ◌⊎◌, inl, inr, ℕ, Bool, true, List, [], ◌∷◌, ◌++◌, drop, get_or, codes, Some, sym, ap, ◌∙◌, arith}
 use Rattle.std.specs.Option.{option_map_or}
 use Rattle.demangle_sink.specs.Cut.{cut, kept}
 use Rattle.demangle_legacy.specs.Legacy.{IsLegacy, IsLegacyPrefix}
-use Rattle.demangle_grammar.specs.Reading.{path_texts}
+use Rattle.demangle_grammar.specs.Reading.{form, path_texts}
 use Rattle.rustc_demangle.specs.Stripped.{is_allowed}
 use Rattle.rustc_demangle.specs.Filtered.{begins_run}
 use Rattle.rustc_demangle.specs.Symbols.{IsSymbol, pieces_of, handed, kept_of}
@@ -24,7 +24,7 @@ pieces_spelled : (hash : Bool) (text : List ℕ) (elements : List (List ℕ)) (s
 pieces_spelled hash text elements suffix is allowed = pieces-legacy hash text elements suffix (legacy_spelled text elements suffix is) allowed
 
 pieces_rendered : (hash : Bool) (text inner suffix : List ℕ) → IsV0 text inner suffix → is_allowed suffix ≡ true
-    → pieces_of hash text ≡ Some (path_texts inner hash, suffix)
+    → pieces_of hash text ≡ Some (path_texts inner (form hash false), suffix)
 pieces_rendered hash text inner suffix is allowed = pieces-v0 hash text inner suffix (v0_is_read text inner suffix is) allowed
 
 pub legacy-handed : (text : List ℕ) (elements : List (List ℕ)) (suffix : List ℕ) (hash : Bool) (limit : ℕ) → IsLegacy text elements suffix → is_allowed suffix ≡ true
@@ -38,14 +38,14 @@ legacy-kept text elements suffix hash limit is allowed =
     kept_by text hash limit (legacy_pieces hash elements, suffix) (pieces_spelled hash text elements suffix is allowed)
 
 pub v0-handed : (text inner suffix : List ℕ) (hash : Bool) (limit : ℕ) → IsV0 text inner suffix → is_allowed suffix ≡ true
-    → handed text hash limit ≡ cut (path_texts inner hash) limit ++ suffix ∷ []
+    → handed text hash limit ≡ cut (path_texts inner (form hash false)) limit ++ suffix ∷ []
 v0-handed text inner suffix hash limit is allowed =
-    handed_of text hash limit (path_texts inner hash, suffix) (pieces_rendered hash text inner suffix is allowed)
+    handed_of text hash limit (path_texts inner (form hash false), suffix) (pieces_rendered hash text inner suffix is allowed)
 
 pub v0-kept : (text inner suffix : List ℕ) (hash : Bool) (limit : ℕ) → IsV0 text inner suffix → is_allowed suffix ≡ true
-    → kept_of text hash limit ≡ kept (path_texts inner hash) limit
+    → kept_of text hash limit ≡ kept (path_texts inner (form hash false)) limit
 v0-kept text inner suffix hash limit is allowed =
-    kept_by text hash limit (path_texts inner hash, suffix) (pieces_rendered hash text inner suffix is allowed)
+    kept_by text hash limit (path_texts inner (form hash false), suffix) (pieces_rendered hash text inner suffix is allowed)
 
 pub one-scheme : (text : List ℕ) (elements : List (List ℕ)) (inner suffix other : List ℕ) → IsLegacy text elements suffix → IsV0 text inner other → ⊥
 one-scheme text elements inner suffix other legacy v0 =

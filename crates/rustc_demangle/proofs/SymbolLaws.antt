@@ -8,7 +8,7 @@ use Rattle.std.proofs.lemmas.Str.Ascii.{IsAscii-nil, IsAscii-cons}
 use Rattle.std.proofs.lemmas.Bool.Decides.{nat_tests}
 use Rattle.demangle_sink.specs.Cut.{size}
 use Rattle.demangle_legacy.specs.Legacy.{IsLegacyPrefix}
-use Rattle.demangle_grammar.specs.Reading.{path_texts}
+use Rattle.demangle_grammar.specs.Reading.{form, path_texts}
 use Rattle.rustc_demangle.specs.Stripped.{stripped, is_thin_lto}
 use Rattle.rustc_demangle.specs.Symbols.{IsSymbol, handed}
 use Rattle.demangle_legacy.specs.Unescaped.{legacy_pieces}
@@ -84,7 +84,7 @@ size_symbol text hash limit (inl (elements, suffix, legacy, allowed)) =
     omega (arith, size-handed text hash limit (legacy_pieces hash elements) suffix (pieces-legacy hash text elements suffix read allowed), suffix-shorter text elements suffix read)
 size_symbol text hash limit (inr (inner, suffix, v0, allowed)) =
     let read = v0_is_read text inner suffix v0 in
-    omega (arith, size-handed text hash limit (path_texts inner hash) suffix (pieces-v0 hash text inner suffix read allowed), v0_suffix-shorter text inner suffix read)
+    omega (arith, size-handed text hash limit (path_texts inner (form hash false)) suffix (pieces-v0 hash text inner suffix read allowed), v0_suffix-shorter text inner suffix read)
 
 pub length_handed : (text : List ℕ) (hash : Bool) (limit : ℕ) → IsSymbol text → length (concat (handed text hash limit)) ≤ limit + 20 + length text
 length_handed text hash limit is = omega (arith, length-concat (handed text hash limit), size_symbol text hash limit is)

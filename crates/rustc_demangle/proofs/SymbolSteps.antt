@@ -8,7 +8,7 @@ use Rattle.demangle_sink.specs.Cut.{cut, kept}
 use Rattle.demangle_legacy.specs.Legacy.{IsElements, inner_of, legacy_of, elements_of}
 use Rattle.rustc_demangle.specs.Stripped.{is_allowed}
 use Rattle.demangle_legacy.specs.Unescaped.{legacy_pieces}
-use Rattle.demangle_grammar.specs.Reading.{path_texts}
+use Rattle.demangle_grammar.specs.Reading.{form, path_texts}
 use Rattle.demangle_grammar.specs.V0.{IsV0, IsV0Prefix, v0_of}
 use Rattle.rustc_demangle.specs.Symbols.{IsLegacySymbol, IsV0Symbol, IsSymbol, kept_of, if_allowed, read_of, pieces_of, handed, PrintingLooks}
 use Rattle.rustc_demangle.specs.Style.{style_pieces, style_looks, style_least, IsReadAs, HasNoStyle, HasStyle, IsStyled}
@@ -48,7 +48,7 @@ abbrev legacy_parts : Bool → List (List ℕ) × List ℕ → List (List ℕ) �
 legacy_parts hash read = (legacy_pieces hash read.0, read.1)
 
 abbrev v0_parts : Bool → List ℕ × List ℕ → List (List ℕ) × List ℕ
-v0_parts hash read = (path_texts read.0 hash, read.1)
+v0_parts hash read = (path_texts read.0 (form hash false), read.1)
 
 -- what a legacy symbol hands over
 pub pieces-legacy : (hash : Bool) (text : List ℕ) (elements : List (List ℕ)) (suffix : List ℕ) → legacy_of text ≡ Some (elements, suffix) → is_allowed suffix ≡ true
@@ -59,11 +59,11 @@ pieces-legacy hash text elements suffix e allowed =
 
 -- what a v0 symbol hands over
 pub pieces-v0 : (hash : Bool) (text inner suffix : List ℕ) → v0_of text ≡ Some (inner, suffix) → is_allowed suffix ≡ true
-    → pieces_of hash text ≡ Some (path_texts inner hash, suffix)
+    → pieces_of hash text ≡ Some (path_texts inner (form hash false), suffix)
 pieces-v0 hash text inner suffix e allowed =
     ap (λ read. if_allowed (option_or (option_map (legacy_parts hash) read) (option_map (v0_parts hash) (v0_of text)))) (no_legacy text inner suffix (read_is_v0 text inner suffix e))
     ∙ ap (λ read. if_allowed (option_map (v0_parts hash) read)) e
-    ∙ ap (λ b. cond b (Some (path_texts inner hash, suffix)) None) allowed
+    ∙ ap (λ b. cond b (Some (path_texts inner (form hash false), suffix)) None) allowed
 
 -- a text that no scheme reads, or with another suffix, hands over itself
 pub no_pieces : (hash : Bool) (text : List ℕ) → legacy_of text ≡ None → v0_of text ≡ None → pieces_of hash text ≡ None
@@ -80,7 +80,7 @@ pub no_pieces-v0 : (hash : Bool) (text inner suffix : List ℕ) → v0_of text �
 no_pieces-v0 hash text inner suffix e other =
     ap (λ read. if_allowed (option_or (option_map (legacy_parts hash) read) (option_map (v0_parts hash) (v0_of text)))) (no_legacy text inner suffix (read_is_v0 text inner suffix e))
     ∙ ap (λ read. if_allowed (option_map (v0_parts hash) read)) e
-    ∙ ap (λ b. cond b (Some (path_texts inner hash, suffix)) None) other
+    ∙ ap (λ b. cond b (Some (path_texts inner (form hash false), suffix)) None) other
 
 pub none≢some : {x : List (List ℕ) × List ℕ} → None ≡ Some x → ⊥
 none≢some h = cc
@@ -102,7 +102,7 @@ pub pieces-symbol : (hash : Bool) (text : List ℕ) → IsSymbol text → (r : L
 pieces-symbol hash text (inl (elements, suffix, legacy, allowed)) =
     ((legacy_pieces hash elements, suffix), pieces-legacy hash text elements suffix (legacy_spelled text elements suffix legacy) allowed)
 pieces-symbol hash text (inr (inner, suffix, v0, allowed)) =
-    ((path_texts inner hash, suffix), pieces-v0 hash text inner suffix (v0_is_read text inner suffix v0) allowed)
+    ((path_texts inner (form hash false), suffix), pieces-v0 hash text inner suffix (v0_is_read text inner suffix v0) allowed)
 
 -- the pieces of a text with a style
 pub styled-pieces : (hash : Bool) (text : List ℕ) (style : DemangleStyle) (suffix : List ℕ) → HasStyle text style suffix → pieces_of hash text ≡ Some (style_pieces hash style, suffix)
@@ -129,7 +129,7 @@ style_looks-most text hash limit (Legacy symbol) suffix has =
 style_looks-most text hash limit (V0 symbol) suffix has =
     let inner : length symbol ≤ length text = has.inner in
     let same = kept_of-some text hash limit (V0 symbol) suffix has in
-    mul-le (100000 * (kept (path_texts symbol hash) limit + 1)) (length symbol + 1) (100000 * (kept_of text hash limit + 1)) (length text + 1) (omega (arith, same)) (omega arith)
+    mul-le (100000 * (kept (path_texts symbol (form hash false)) limit + 1)) (length symbol + 1) (100000 * (kept_of text hash limit + 1)) (length text + 1) (omega (arith, same)) (omega arith)
 
 style_looks-legacy : (text : List ℕ) (hash : Bool) (limit : ℕ) (style : DemangleStyle) (suffix : List ℕ) → HasStyle text style suffix → IsLegacySymbol text
     → style_looks hash limit style ≤ 16 * (length text + 1)

@@ -1,11 +1,11 @@
 -- Internal: no public contract cites this.
 -- The parsed form of a demangled symbol.
-use Rattle.std.specs.Prelude.{◌≡◌, ℕ, ◌+◌, ◌*◌, ◌≤◌, Bool, true, List, Option, None, Some, length}
+use Rattle.std.specs.Prelude.{false, ◌≡◌, ℕ, ◌+◌, ◌*◌, ◌≤◌, Bool, true, List, Option, None, Some, length}
 use Rattle.rustc_demangle.specs.declared.value.DemangleStyle.{DemangleStyle}
 use Rattle.rustc_demangle.specs.declared.value.DemangleStyle.TheVariants.{Legacy, V0}
 use Rattle.demangle_sink.specs.Cut.{kept}
 use Rattle.demangle_legacy.specs.Legacy.{legacy_of, elements_of}
-use Rattle.demangle_grammar.specs.Reading.{path_texts}
+use Rattle.demangle_grammar.specs.Reading.{form, path_texts}
 use Rattle.rustc_demangle.specs.Stripped.{is_allowed}
 use Rattle.rustc_demangle.specs.Symbols.{pieces_of}
 use Rattle.demangle_legacy.specs.Unescaped.{legacy_pieces}
@@ -14,7 +14,7 @@ use Rattle.demangle_grammar.specs.V0.{v0_of}
 -- the pieces of a symbol of this style
 abbrev pub style_pieces : Bool → DemangleStyle → List (List ℕ)
 style_pieces hash (Legacy symbol) = legacy_pieces hash (elements_of symbol)
-style_pieces hash (V0 symbol) = path_texts symbol hash
+style_pieces hash (V0 symbol) = path_texts symbol (form hash false)
 
 -- the number of bytes after the prefix
 abbrev pub style_len : DemangleStyle → ℕ
@@ -24,7 +24,7 @@ style_len (V0 symbol) = length symbol
 -- the most looks that printing within a limit makes
 abbrev pub style_looks : Bool → ℕ → DemangleStyle → ℕ
 style_looks hash limit (Legacy symbol) = 16 * (length symbol + 1)
-style_looks hash limit (V0 symbol) = 100000 * (kept (path_texts symbol hash) limit + 1) * (length symbol + 1)
+style_looks hash limit (V0 symbol) = 100000 * (kept (path_texts symbol (form hash false)) limit + 1) * (length symbol + 1)
 
 -- the fewest looks that printing makes
 abbrev pub style_least : DemangleStyle → ℕ

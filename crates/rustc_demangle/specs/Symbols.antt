@@ -1,10 +1,10 @@
 -- The texts that are Rust symbols, and the pieces that they print.
-use Rattle.std.specs.Prelude.{◌≡◌, ◌⊎◌, ℕ, ◌+◌, ◌*◌, ◌≤◌, Bool, true, List, [], ◌∷◌, ◌++◌, length, Option, None, Some, option_map, if◌then◌else◌}
+use Rattle.std.specs.Prelude.{false, ◌≡◌, ◌⊎◌, ℕ, ◌+◌, ◌*◌, ◌≤◌, Bool, true, List, [], ◌∷◌, ◌++◌, length, Option, None, Some, option_map, if◌then◌else◌}
 use Rattle.std.specs.List.{concat}
 use Rattle.std.specs.Option.{option_map_or, option_or}
 use Rattle.demangle_sink.specs.Cut.{cut, kept}
 use Rattle.demangle_legacy.specs.Legacy.{IsLegacy, legacy_of}
-use Rattle.demangle_grammar.specs.Reading.{path_texts}
+use Rattle.demangle_grammar.specs.Reading.{form, path_texts}
 use Rattle.rustc_demangle.specs.Stripped.{is_allowed}
 use Rattle.demangle_legacy.specs.Unescaped.{legacy_pieces}
 use Rattle.demangle_grammar.specs.V0.{IsV0, v0_of}
@@ -30,7 +30,7 @@ if_allowed (Some (x, suffix)) = if is_allowed suffix then Some (x, suffix) else 
 -- of both schemes.
 abbrev pub read_of : Bool → List ℕ → Option (List (List ℕ) × List ℕ)
 read_of hash text = option_or (option_map (λ read. (legacy_pieces hash read.0, read.1)) (legacy_of text))
-    (option_map (λ read. (path_texts read.0 hash, read.1)) (v0_of text))
+    (option_map (λ read. (path_texts read.0 (form hash false), read.1)) (v0_of text))
 
 -- the pieces and the suffix of a symbol
 abbrev pub pieces_of : Bool → List ℕ → Option (List (List ℕ) × List ℕ)

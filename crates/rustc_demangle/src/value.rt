@@ -45,7 +45,7 @@ impl DemangleStyle<'_> {
     {
         match self {
             DemangleStyle::Legacy(symbol) => symbol.write_to(out, include_hash, looks),
-            DemangleStyle::V0(symbol) => symbol.write_to(out, include_hash, looks),
+            DemangleStyle::V0(symbol) => symbol.write_to(out, include_hash, false, looks),
         }
     }
 }

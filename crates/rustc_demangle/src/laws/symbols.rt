@@ -1,8 +1,8 @@
 //! Laws about the output of each scheme.
-ghost use Rattle.std.specs.Prelude.{◌≡◌, ◌⊎◌, ℕ, Bool, true, List, [], ◌∷◌, ◌++◌, codes};
+ghost use Rattle.std.specs.Prelude.{false, ◌≡◌, ◌⊎◌, ℕ, Bool, true, List, [], ◌∷◌, ◌++◌, codes};
 ghost use Rattle.demangle_sink.specs.Cut.{cut, kept};
 ghost use Rattle.demangle_legacy.specs.Legacy.{IsLegacy};
-ghost use Rattle.demangle_grammar.specs.Reading.{path_texts};
+ghost use Rattle.demangle_grammar.specs.Reading.{form, path_texts};
 ghost use Rattle.rustc_demangle.specs.Stripped.{is_allowed};
 ghost use Rattle.rustc_demangle.specs.Filtered.{begins_run};
 ghost use Rattle.rustc_demangle.specs.Symbols.{handed, kept_of, IsSymbol};
@@ -25,10 +25,10 @@ pub fn legacy_symbol_prints_its_elements()
 pub fn v0_symbol_prints_its_tree()
     ensures handed { (text inner suffix : List ℕ) → (hash : Bool) → (limit : ℕ) →
         IsV0 text inner suffix → is_allowed suffix ≡ true →
-        handed text hash limit ≡ cut (path_texts inner hash) limit ++ suffix ∷ [] }
+        handed text hash limit ≡ cut (path_texts inner (form hash false)) limit ++ suffix ∷ [] }
     ensures kept { (text inner suffix : List ℕ) → (hash : Bool) → (limit : ℕ) →
         IsV0 text inner suffix → is_allowed suffix ≡ true →
-        kept_of text hash limit ≡ kept (path_texts inner hash) limit }
+        kept_of text hash limit ≡ kept (path_texts inner (form hash false)) limit }
 {}
 
 /// No text is a symbol of both schemes.
