@@ -235,3 +235,8 @@ reader_same m n held old new same = subst (λ (v : Bool × ℕ). IfSome held (λ
 pub stopped_same : (m n : Bool × ℕ) (fault : StreamFault) (held old new : Option (List ℕ)) → m ≡ n → IfSome held (λ text. BytesStopped (filtered_within m.0 m.1) fault text old new)
     → IfSome held (λ text. BytesStopped (filtered_within n.0 n.1) fault text old new)
 stopped_same m n fault held old new same = subst (λ (v : Bool × ℕ). IfSome held (λ text. BytesStopped (filtered_within v.0 v.1) fault text old new)) same
+
+-- the first of the readers that are left, where another one wraps it
+pub first_wrapped : {R : Type 0} (remaining : R → Option (List ℕ)) (now : List (Option (List ℕ))) (first wrapped : R)
+    (held : List (Option (List ℕ))) → now ≡ remaining first ∷ held → wrapped ≡ first → now ≡ remaining wrapped ∷ held
+first_wrapped remaining now first wrapped held e same = e ∙ ap (λ r. remaining r ∷ held) (sym same)

@@ -7,6 +7,7 @@ ghost use Rattle.rustc_demangle.specs.Bytes.{IsWriting, StepEnded, StepRefused, 
 ghost use Rattle.kodliwe.specs.Run.{TurnTook, WroteAll, WroteFront, RunStopped, IsClosedPipe};
 
 use crate::fault::{InputFault, report};
+use crate::noting::NotingReader;
 use rustc_demangle::{BytesFilter, StreamFault, SymbolMemo};
 use std::alloc::{Allocator, Global};
 use std::io;
@@ -15,7 +16,17 @@ use std::io::{BufRead, BufReader, ErrorKind, Read, Write};
 /// The size in bytes of the buffers.
 pub const BUFFER: usize = 65_536;
 
-/// A reader, and its name in an error message.
+/// The memory and the options of a run.
+#[derive(Clone, Copy)]
+pub struct Settings {
+    pub alloc: Global,
+    /// Whether the hashes of symbols stay.
+    pub include_hash: bool,
+    /// The number of bytes at which a path is cut.
+    pub limit: usize,
+}
+
+/// A reader, and its name in a message.
 #[derive(Drop)]
 pub struct Input<'a, R: Drop> {
     pub name: &'a str,
@@ -180,24 +191,28 @@ fn filter_reader<R: Read + Drop, W: Write>(
 }
 
 /// Filters the remaining input of each reader, in order and with one memo, and then flushes the
-/// output. Stops at the first error, and returns it with the name of its input.
-fn filter_inputs<'a, R: Read + Drop, W: Write>(
-    alloc: Global,
+/// output. Writes a note on each input that is compressed or encoded. Stops at the first error, and
+/// returns it with the name of its input.
+fn filter_inputs<'a, R: Read + Drop, W: Write, E: Write>(
+    settings: Settings,
     inputs: Vec<Input<'a, R>>,
     output: &mut W,
-    memo: &mut SymbolMemo,
+    errors: &mut E,
 ) -> Result<(), InputFault<'a>>
-    ensures ok { OnOk result (WroteAll (filtered_within memo.old.0 memo.old.1)
+    ensures ok { OnOk result (WroteAll (filtered_within settings.include_hash settings.limit)
         (map (λ input. R.remaining input.reader) inputs.entry.items)
         (W.contents output.old) (W.contents output.new)) }
     ensures err { IfErr result (λ stop. RunStopped stop.fault
-        (filtered_within memo.old.0 memo.old.1)
+        (filtered_within settings.include_hash settings.limit)
         (map (λ input. R.remaining input.reader) inputs.entry.items)
         (W.contents output.old) (W.contents output.new)) }
 {
+    let alloc = settings.alloc;
+    let mut memo = SymbolMemo::new(alloc, settings.include_hash, settings.limit);
     for input in inputs {
         let Input { name, reader } = input;
-        match filter_reader(alloc, reader, output, memo) {
+        let noting = NotingReader::new(alloc, name, reader, errors);
+        match filter_reader(alloc, noting, output, &mut memo) {
             Ok(()) => {}
             Err(fault) => return Err(InputFault { name, fault }),
         }
@@ -228,8 +243,9 @@ fn end_of(fault: &StreamFault) -> Ended
     }
 }
 
-/// Filters the inputs in order, each on its own, with each path cut at `limit` bytes. Writes a line
-/// if an input can't be read, the output can't be written, or memory can't be allocated.
+/// Filters the inputs in order, each on its own, with each path cut at the limit. Writes a line if
+/// an input can't be read, the output can't be written, or memory can't be allocated. Writes a note
+/// on each input that is compressed or encoded.
 ///
 /// On `Complete`, the writer appended the filtered form of all that the readers still held. On
 /// `Unread`, it appended the filtered inputs before one input, and a filtered prefix of that one.
@@ -237,22 +253,21 @@ fn end_of(fault: &StreamFault) -> Ended
 /// call that failed. All that was written before is flushed in any case. An error of `errors` is
 /// ignored.
 pub fn run<R: Read + Drop, W: Write, E: Write>(
-    alloc: Global,
+    settings: Settings,
     inputs: Vec<Input<'_, R>>,
     output: &mut W,
     errors: &mut E,
-    include_hash: bool,
-    limit: usize,
 ) -> Ended
-    ensures complete { result ≡ Ended.Complete → WroteAll (filtered_within include_hash limit)
+    ensures complete { result ≡ Ended.Complete → WroteAll
+        (filtered_within settings.include_hash settings.limit)
         (map (λ input. R.remaining input.reader) inputs.entry.items)
         (W.contents output.old) (W.contents output.new) }
-    ensures unread { result ≡ Ended.Unread → WroteFront (filtered_within include_hash limit)
+    ensures unread { result ≡ Ended.Unread → WroteFront
+        (filtered_within settings.include_hash settings.limit)
         (map (λ input. R.remaining input.reader) inputs.entry.items)
         (W.contents output.old) (W.contents output.new) }
 {
-    let mut memo = SymbolMemo::new(alloc, include_hash, limit);
-    let Err(stop) = filter_inputs(alloc, inputs, output, &mut memo) else {
+    let Err(stop) = filter_inputs(settings, inputs, output, errors) else {
         return Ended::Complete;
     };
     let ended = end_of(&stop.fault);
@@ -260,7 +275,7 @@ pub fn run<R: Read + Drop, W: Write, E: Write>(
         let _ = flush(output);
     }
     if ended != Ended::Closed {
-        report(alloc, errors, &stop);
+        report(settings.alloc, errors, &stop);
     }
     ended
 }

@@ -1,7 +1,7 @@
 //! Tests the program's work with readers and writers that fail, and the parsing of arguments. The
 //! filter itself is tested in the library; here its output is the expected value.
 use crate::program::{Host, start};
-use crate::run::{Ended, Input, run};
+use crate::run::{Ended, Input, Settings, run};
 use crate::words::{Asked, Target, read_words};
 use rustc_demangle::demangle_stream_named;
 use std::alloc::{AllocError, Global};
@@ -13,6 +13,7 @@ use std::test::Fail;
 use streams::{CallsWriter, ChunkReader, WatchedWriter, WatchingReader};
 
 mod calls;
+mod notes;
 mod streams;
 
 /// The text of a log: both schemes, partial symbols, a byte of Latin-1, NUL, and long runs.
@@ -50,7 +51,12 @@ fn run_one<R: Read + Drop, W: Write>(
         reader,
     })?;
     let mut errors = Vec::new(alloc);
-    let ended = run(alloc, inputs, output, &mut errors, include_hash, 1_000_000);
+    let settings = Settings {
+        alloc,
+        include_hash,
+        limit: 1_000_000,
+    };
+    let ended = run(settings, inputs, output, &mut errors);
     Ok((ended, errors))
 }
 
@@ -110,7 +116,12 @@ fn inputs_are_filtered_each_by_itself(rt: HostRuntime) -> Result<(), Fail> {
     }
     let mut output = Vec::new(alloc);
     let mut errors = Vec::new(alloc);
-    let ended = run(alloc, inputs, &mut output, &mut errors, false, 1_000_000);
+    let settings = Settings {
+        alloc,
+        include_hash: false,
+        limit: 1_000_000,
+    };
+    let ended = run(settings, inputs, &mut output, &mut errors);
     assert_eq!(rt; ended, Ended::Complete);
     assert_eq!(rt; output.as_slice(), b"x _ZN3fooE\nfoobar\n".as_slice());
     Ok(())

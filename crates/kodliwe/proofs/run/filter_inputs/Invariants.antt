@@ -6,7 +6,9 @@ use Rattle.kodliwe.proofs.run.filter_inputs.Given as goal
 
 abbrev pub invariant-loop-input : goal.invariant-loop-input
 invariant-loop-input g l =
-    Filtering (replacement_within l.initial.memo.0 l.initial.memo.1) (map (λ input. g.R.Read.remaining input.reader) l.fn.inputs.items)
+    Filtering (replacement_within l.fn.settings.include_hash l.fn.settings.limit)
+    (map (λ input. g.R.Read.remaining input.reader) l.fn.inputs.items)
     (map (λ input. g.R.Read.remaining input.reader) (into_iter_items l.input-iterator))
     (g.W.Write.contents l.initial.output) (g.W.Write.contents l.output)
-    × (into_iter_len l.input-iterator ≡ length (into_iter_items l.input-iterator)) × (l.memo ≡ l.initial.memo)
+    × (into_iter_len l.input-iterator ≡ length (into_iter_items l.input-iterator))
+    × (l.memo ≡ (l.fn.settings.include_hash, l.fn.settings.limit))
