@@ -4,6 +4,7 @@
 It prints a line for each of these, and at last how many passed:
 
   log           a byte of Latin-1 and a NUL in a log stay, and the symbols around them are demangled
+  folded        -f and --fold print _ for generic arguments, of repeated symbols too, with the hash and without it
   inputs        several inputs in the order of the words, one of them without its last line feed
   words         -- and symbols that begin with -; 10,000 symbols as words
   unknown       a word that is no option ends it with status 2 before anything is read
@@ -47,7 +48,7 @@ from common import CORPUS, FILTER, KODLIWE, ROOT, Tally, built, same, tool
 from texts import hostile
 
 FOO = "_ZN3foo17h05af221e174051e9E"
-OPTIONS = ["-i", "--input", "-o", "--output", "--hash", "-l", "--limit", "-h", "--help", "-V", "--version"]
+OPTIONS = ["-i", "--input", "-o", "--output", "--hash", "-f", "--fold", "-l", "--limit", "-h", "--help", "-V", "--version"]
 
 
 def run(*words, text=b"", **more):
@@ -72,6 +73,17 @@ def log():
     wanted = b"a foo\r\ncaf\xe9 \0 crate::main\0bar\n\xffa"
     same(run(text=text), (wanted, "", 0))
     same(run("--hash", text=text), (wanted.replace(b"foo", b"foo::h05af221e174051e9"), "", 0))
+
+
+def folded():
+    text = b"_RINvC3foo3barhE \xff_RNvMC3fooINtB2_3BarlE3baz _ZN3foo12Bar$LT$T$GT$17h05af221e174051e9E\n" * 3
+    wanted = b"foo::bar::<_> \xff<foo::Bar<_>>::baz foo::Bar<T>\n" * 3
+    for option in ["-f", "--fold"]:
+        same(run(option, text=text), (wanted, "", 0))
+        same(run("_RINvC3foo3barhE", option), (b"foo::bar::<_>\n", "", 0))
+    same(run("--hash", "-f", text=text), (wanted.replace(b"Bar<T>", b"Bar<T>::h05af221e174051e9"), "", 0))
+    same(run(text=text), (wanted.replace(b"::<_>", b"::<u8>").replace(b"Bar<_>", b"Bar<i32>"), "", 0))
+    same(run("-f", "-l", "11", "_RINvC3foo3barhE"), (b"foo::bar::<{size limit reached}\n", "", 0))
 
 
 def inputs():
@@ -694,6 +706,7 @@ def version():
 
 CHECKS = [
     log,
+    folded,
     inputs,
     words,
     unknown,

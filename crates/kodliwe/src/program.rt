@@ -9,6 +9,7 @@ use crate::same_file::input_that_is_output;
 use crate::streams::{SourceReader, source_name};
 use crate::texts::{HELP, VERSION, WAITING};
 use crate::words::{Asked, Request, Source, Target, WordsFault, read_words};
+use rustc_demangle::Format;
 use std::alloc::{AllocError, Global};
 use std::fs::{Files, OpenFile};
 use std::io;
@@ -118,13 +119,17 @@ fn add_default(sources: &mut Vec<Source<'_>>) -> Result<(), AllocError>
 
 /// Returns the settings that the arguments request.
 fn settings_of(alloc: Global, request: &Request<'_>) -> Settings
-    ensures hash { result.include_hash ≡ request.now.include_hash }
-    ensures limit { result.limit ≡ request.now.limit }
+    ensures hash { result.format.include_hash ≡ request.now.include_hash }
+    ensures fold { result.format.fold_arguments ≡ request.now.fold_arguments }
+    ensures limit { result.format.limit ≡ request.now.limit }
 {
     Settings {
         alloc,
-        include_hash: request.include_hash,
-        limit: request.limit,
+        format: Format {
+            include_hash: request.include_hash,
+            fold_arguments: request.fold_arguments,
+            limit: request.limit,
+        },
     }
 }
 

@@ -2,13 +2,13 @@
 ghost use Rattle.std.specs.Prelude.{◌≡◌, ◌++◌, [], true, false, Ok, IfSome, OnOk, IfErr, map};
 ghost use Rattle.std.specs.Io.KnownBytes.{Appends, Keeps};
 ghost use Rattle.std.specs.Io.Buffered.{reader_remaining};
-ghost use Rattle.rustc_demangle.specs.Filtered.{filtered_within};
+ghost use Rattle.rustc_demangle.specs.Filtered.{filtered_in};
 ghost use Rattle.rustc_demangle.specs.Bytes.{IsWriting, StepEnded, StepRefused, BytesStopped};
 ghost use Rattle.kodliwe.specs.Run.{TurnTook, WroteAll, WroteFront, RunStopped, IsClosedPipe};
 
 use crate::fault::{InputFault, report};
 use crate::noting::NotingReader;
-use rustc_demangle::{BytesFilter, StreamFault, SymbolMemo};
+use rustc_demangle::{BytesFilter, Format, StreamFault, SymbolMemo};
 use std::alloc::{Allocator, Global};
 use std::io;
 use std::io::{BufRead, BufReader, ErrorKind, Read, Write};
@@ -20,10 +20,8 @@ pub const BUFFER: usize = 65_536;
 #[derive(Clone, Copy)]
 pub struct Settings {
     pub alloc: Global,
-    /// Whether the hashes of symbols stay.
-    pub include_hash: bool,
-    /// The number of bytes at which a path is cut.
-    pub limit: usize,
+    /// How symbols are printed.
+    pub format: Format,
 }
 
 /// A reader, and its name in a message.
@@ -101,10 +99,10 @@ fn step<R: BufRead, W: Write, A: Allocator>(
     output: &mut W,
     memo: &mut SymbolMemo,
 ) -> Result<bool, StreamFault>
-    ensures took { result ≡ Ok true → TurnTook (filtered_within memo.old.0 memo.old.1)
+    ensures took { result ≡ Ok true → TurnTook (filtered_in memo.old)
         filter.old filter.new (R.remaining input.old) (R.remaining input.new)
         (W.contents output.old) (W.contents output.new) }
-    ensures ended { result ≡ Ok false → StepEnded (filtered_within memo.old.0 memo.old.1)
+    ensures ended { result ≡ Ok false → StepEnded (filtered_in memo.old)
         filter.old filter.new (R.remaining input.old) (R.remaining input.new)
         (W.contents output.old) (W.contents output.new) }
     ensures refused { IfErr result (λ fault. StepRefused fault filter.old filter.new
@@ -126,16 +124,16 @@ fn turn<R: Read, W: Write, A: Allocator, B: Allocator>(
     output: &mut W,
     memo: &mut SymbolMemo,
 ) -> Result<bool, StreamFault>
-    ensures took { result ≡ Ok true → TurnTook (filtered_within memo.old.0 memo.old.1)
+    ensures took { result ≡ Ok true → TurnTook (filtered_in memo.old)
         filter.old filter.new
         (reader_remaining R.remaining input.old) (reader_remaining R.remaining input.new)
         (W.contents output.old) (W.contents output.new) }
-    ensures ended { result ≡ Ok false → StepEnded (filtered_within memo.old.0 memo.old.1)
+    ensures ended { result ≡ Ok false → StepEnded (filtered_in memo.old)
         filter.old filter.new
         (reader_remaining R.remaining input.old) (reader_remaining R.remaining input.new)
         (W.contents output.old) (W.contents output.new) }
     ensures refused { IfErr result (λ fault. IfSome (reader_remaining R.remaining input.old)
-        (λ text. BytesStopped (filtered_within memo.old.0 memo.old.1) fault (filter.old ++ text)
+        (λ text. BytesStopped (filtered_in memo.old) fault (filter.old ++ text)
         (W.contents output.old) (W.contents output.new))) }
     ensures same { memo.new ≡ memo.old }
 {
@@ -154,9 +152,9 @@ fn filter_steps<R: Read, W: Write, A: Allocator, B: Allocator>(
     requires { filter.old ≡ [] }
     ensures ok { OnOk result (IfSome (reader_remaining R.remaining input.old) (λ text.
         Appends (W.contents output.old) (W.contents output.new)
-        (filtered_within memo.old.0 memo.old.1 text))) }
+        (filtered_in memo.old text))) }
     ensures err { IfErr result (λ fault. IfSome (reader_remaining R.remaining input.old) (λ text.
-        BytesStopped (filtered_within memo.old.0 memo.old.1) fault text
+        BytesStopped (filtered_in memo.old) fault text
         (W.contents output.old) (W.contents output.new))) }
     ensures same { memo.new ≡ memo.old }
 {
@@ -177,9 +175,9 @@ fn filter_reader<R: Read + Drop, W: Write>(
 ) -> Result<(), StreamFault>
     ensures ok { OnOk result (IfSome (R.remaining reader) (λ text.
         Appends (W.contents output.old) (W.contents output.new)
-        (filtered_within memo.old.0 memo.old.1 text))) }
+        (filtered_in memo.old text))) }
     ensures err { IfErr result (λ fault. IfSome (R.remaining reader) (λ text.
-        BytesStopped (filtered_within memo.old.0 memo.old.1) fault text
+        BytesStopped (filtered_in memo.old) fault text
         (W.contents output.old) (W.contents output.new))) }
     ensures same { memo.new ≡ memo.old }
 {
@@ -199,16 +197,16 @@ fn filter_inputs<'a, R: Read + Drop, W: Write, E: Write>(
     output: &mut W,
     errors: &mut E,
 ) -> Result<(), InputFault<'a>>
-    ensures ok { OnOk result (WroteAll (filtered_within settings.include_hash settings.limit)
+    ensures ok { OnOk result (WroteAll (filtered_in settings.format)
         (map (λ input. R.remaining input.reader) inputs.entry.items)
         (W.contents output.old) (W.contents output.new)) }
     ensures err { IfErr result (λ stop. RunStopped stop.fault
-        (filtered_within settings.include_hash settings.limit)
+        (filtered_in settings.format)
         (map (λ input. R.remaining input.reader) inputs.entry.items)
         (W.contents output.old) (W.contents output.new)) }
 {
     let alloc = settings.alloc;
-    let mut memo = SymbolMemo::new(alloc, settings.include_hash, settings.limit);
+    let mut memo = SymbolMemo::with_format(alloc, settings.format);
     for input in inputs {
         let Input { name, reader } = input;
         let noting = NotingReader::new(alloc, name, reader, errors);
@@ -259,11 +257,11 @@ pub fn run<R: Read + Drop, W: Write, E: Write>(
     errors: &mut E,
 ) -> Ended
     ensures complete { result ≡ Ended.Complete → WroteAll
-        (filtered_within settings.include_hash settings.limit)
+        (filtered_in settings.format)
         (map (λ input. R.remaining input.reader) inputs.entry.items)
         (W.contents output.old) (W.contents output.new) }
     ensures unread { result ≡ Ended.Unread → WroteFront
-        (filtered_within settings.include_hash settings.limit)
+        (filtered_in settings.format)
         (map (λ input. R.remaining input.reader) inputs.entry.items)
         (W.contents output.old) (W.contents output.new) }
 {

@@ -2,6 +2,7 @@
 use super::run_one;
 use super::streams::ChunkReader;
 use crate::run::{BUFFER, Ended, Input, Settings, run};
+use rustc_demangle::Format;
 use std::alloc::Global;
 use std::process::Abort;
 use std::test::Fail;
@@ -112,8 +113,11 @@ fn each_input_is_noted_by_its_name(rt: HostRuntime) -> Result<(), Fail> {
     }
     let settings = Settings {
         alloc,
-        include_hash: false,
-        limit: 1_000_000,
+        format: Format {
+            include_hash: false,
+            fold_arguments: false,
+            limit: 1_000_000,
+        },
     };
     let mut output = Vec::new(alloc);
     let mut errors = Vec::new(alloc);

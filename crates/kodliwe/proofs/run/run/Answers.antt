@@ -1,12 +1,12 @@
 use Rattle.std.proofs.Common.{map}
-use Rattle.rustc_demangle.specs.Filtered.{replacement_within}
+use Rattle.rustc_demangle.specs.Filtered.{replacement_in}
 use Rattle.kodliwe.proofs.RunLemmas.{front_kept, front_joined, not_writing}
 use Rattle.kodliwe.proofs.run.run.Goals.{then-eq, else-eq}
 use Rattle.kodliwe.proofs.run.run.Goals as goal
 
 pub returns-then-ne-clause-unread : goal.returns-then-ne-clause-unread
 returns-then-ne-clause-unread g c = λ e.
-    let h = replacement_within c.args.settings.include_hash c.args.settings.limit in
+    let h = replacement_in c.args.settings.format in
     let all = map (λ input. g.R.Read.remaining input.reader) c.args.inputs.items in
     let old = g.W.Write.contents c.args.output.now in
     let mid = g.W.Write.contents c.filter_inputs.new.output in
