@@ -224,8 +224,7 @@ pub extern "C" fn kodliwe_demangle_text_folded(
     ensures text { let filtered = filtered_in (folded include_hash (min limit MAX_SIZE)) text.now in
         length filtered < usize.MAX →
         out.new ≡ overlay out.old (c_string (length out.old) filtered) }
-    ensures past {
-        usize.MAX ≤ length (filtered_in (folded include_hash (min limit MAX_SIZE)) text.now) →
+    ensures past { usize.MAX ≤ length (filtered_in (folded include_hash (min limit MAX_SIZE)) text.now) →
         result ≡ usize.MAX }
 {
     let format = Format {

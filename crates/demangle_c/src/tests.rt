@@ -41,7 +41,10 @@ fn arguments_are_folded(rt: HostRuntime) {
 fn arguments_in_a_text_are_folded(rt: HostRuntime) {
     let mut out = [9; 40];
     let text = b"\xFF _RNvMC3fooINtB2_3BarlE3baz!";
-    assert_eq!(rt; kodliwe_demangle_text_folded(text, &mut out, false, 1_000), 22);
+    assert_eq!(rt;
+        kodliwe_demangle_text_folded(text, &mut out, false, 1_000),
+        22
+    );
     assert!(rt; out.starts_with(b"\xFF <foo::Bar<_>>::baz!\0\x09\x09"));
 }
 

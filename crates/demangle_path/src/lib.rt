@@ -146,17 +146,14 @@ pub fn write_text(text: &[u8], out: &mut [u8], include_hash: bool, limit: usize)
 /// Writes a text as `write_text` does, with each symbol printed in a format. The limit of the format is
 /// `MAX_SIZE` at most.
 pub fn write_text_formatted(text: &[u8], out: &mut [u8], format: Format) -> usize
-    ensures size {
-        let capped = record format { limit = min format.limit MAX_SIZE } in
+    ensures size { let capped = record format { limit = min format.limit MAX_SIZE } in
         let filtered = filtered_in capped text.now in
         length filtered < usize.MAX → result ≡ length filtered + 1 }
-    ensures text {
-        let capped = record format { limit = min format.limit MAX_SIZE } in
+    ensures text { let capped = record format { limit = min format.limit MAX_SIZE } in
         let filtered = filtered_in capped text.now in
         length filtered < usize.MAX →
         out.new ≡ overlay out.old (c_string (length out.old) filtered) }
-    ensures past {
-        let capped = record format { limit = min format.limit MAX_SIZE } in
+    ensures past { let capped = record format { limit = min format.limit MAX_SIZE } in
         usize.MAX ≤ length (filtered_in capped text.now) → result ≡ usize.MAX }
 {
     let limit = format.limit.min(MAX_SIZE);

@@ -44,7 +44,10 @@ fn arguments_are_folded(rt: HostRuntime) {
         ("_RINvC3foo3barhE.cold", "foo::bar::<_>.cold"),
     ] {
         for include_hash in [true, false] {
-            assert!(rt; folded_is(symbol, include_hash, 1_000_000, text), "{symbol}");
+            assert!(rt;
+                folded_is(symbol, include_hash, 1_000_000, text),
+                "{symbol}"
+            );
         }
     }
 }
@@ -61,7 +64,10 @@ fn arguments_are_neither_followed_nor_checked(rt: HostRuntime) {
         ),
     ] {
         for include_hash in [true, false] {
-            assert!(rt; folded_is(symbol, include_hash, 1_000_000, text), "{symbol}");
+            assert!(rt;
+                folded_is(symbol, include_hash, 1_000_000, text),
+                "{symbol}"
+            );
         }
     }
 }
@@ -96,8 +102,14 @@ fn all_else_prints_as_without_folding(rt: HostRuntime) {
         ),
         ("foo", "foo", "foo"),
     ] {
-        assert!(rt; folded_is(symbol, true, 1_000_000, plain), "{symbol} with the hash");
-        assert!(rt; folded_is(symbol, false, 1_000_000, alt), "{symbol} without the hash");
+        assert!(rt;
+            folded_is(symbol, true, 1_000_000, plain),
+            "{symbol} with the hash"
+        );
+        assert!(rt;
+            folded_is(symbol, false, 1_000_000, alt),
+            "{symbol} without the hash"
+        );
     }
 }
 
@@ -105,8 +117,14 @@ fn all_else_prints_as_without_folding(rt: HostRuntime) {
 fn folding_accepts_the_same_symbols(rt: HostRuntime) {
     for text in ["_RINvC1a1bh", "_RINvC1a1bRE", "_RINvC1a1b@E"] {
         assert_refused(&rt, text, text);
-        assert!(rt; folded_is(text, true, 1_000_000, text), "{text} with the hash");
-        assert!(rt; folded_is(text, false, 1_000_000, text), "{text} without the hash");
+        assert!(rt;
+            folded_is(text, true, 1_000_000, text),
+            "{text} with the hash"
+        );
+        assert!(rt;
+            folded_is(text, false, 1_000_000, text),
+            "{text} without the hash"
+        );
     }
 }
 
@@ -122,7 +140,10 @@ fn a_limit_cuts_folded_pieces(rt: HostRuntime) {
         (12, "foo::bar::<_{size limit reached}.x"),
         (13, "foo::bar::<_>.x"),
     ] {
-        assert!(rt; folded_is("_RINvC3foo3barhE.x", false, limit, text), "at {limit}");
+        assert!(rt;
+            folded_is("_RINvC3foo3barhE.x", false, limit, text),
+            "at {limit}"
+        );
     }
 }
 
