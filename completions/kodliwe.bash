@@ -26,7 +26,7 @@ _kodliwe() {
         return
     fi
     if [[ $word == -* ]]; then
-        mapfile -t COMPREPLY < <(compgen -W '-i --input -o --output --hash -l --limit -h --help -V --version' -- "$word")
+        mapfile -t COMPREPLY < <(compgen -W '-i --input -o --output --hash -f --fold -l --limit -h --help -V --version' -- "$word")
     fi
 }
 complete -F _kodliwe kodliwe

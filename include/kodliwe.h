@@ -89,6 +89,12 @@ size_t kodliwe_path_len(const char *symbol, size_t symbol_len);
 size_t kodliwe_print_part(const char *symbol, size_t symbol_len, size_t path_len, char *out, size_t out_size,
                           bool include_hash, size_t limit, size_t start);
 
+/* Does the same as kodliwe_demangle_limited, with _ for each list of generic arguments: foo::bar::<_> for every foo::bar. So all
+ * instances of a generic function have one name. Only v0 symbols are folded, because the arguments of a legacy symbol are parts
+ * of names. The result is at most limit + 21 + symbol_len. */
+size_t kodliwe_demangle_folded(const char *symbol, size_t symbol_len, char *out, size_t out_size, bool include_hash,
+                               size_t limit);
+
 /* Writes a text to out, as a C string, with each Rust symbol in it replaced by its path. The text may be a line of a log, a
  * backtrace or a whole file, and the call may be made in a handler. The text is any bytes. Bytes outside symbols stay
  * unchanged.
@@ -101,6 +107,10 @@ size_t kodliwe_print_part(const char *symbol, size_t symbol_len, size_t path_len
  * a text of 10^13 bytes. The contents of out are then unspecified. */
 size_t kodliwe_demangle_text(const char *text, size_t text_len, char *out, size_t out_size, bool include_hash,
                              size_t limit);
+
+/* Does the same with _ for each list of generic arguments, as kodliwe_demangle_folded does. */
+size_t kodliwe_demangle_text_folded(const char *text, size_t text_len, char *out, size_t out_size, bool include_hash,
+                                    size_t limit);
 
 #ifdef __cplusplus
 }

@@ -30,9 +30,11 @@ from texts import NO_LIMIT, REAL, chained, column, damaged, hostile, into_name, 
 HERE = os.path.join(ROOT, "tests", "c_library")
 CALLS = [
     "kodliwe_demangle",
+    "kodliwe_demangle_folded",
     "kodliwe_demangle_limited",
     "kodliwe_demangle_part",
     "kodliwe_demangle_text",
+    "kodliwe_demangle_text_folded",
     "kodliwe_is_symbol",
     "kodliwe_path_len",
     "kodliwe_print_part",

@@ -33,9 +33,11 @@ DIST = os.path.join(ROOT, "out", "dist")
 SYMBOL, PATH = "_ZN3foo17h05af221e174051e9E", "foo"
 CALLS = {
     "kodliwe_demangle",
+    "kodliwe_demangle_folded",
     "kodliwe_demangle_limited",
     "kodliwe_demangle_part",
     "kodliwe_demangle_text",
+    "kodliwe_demangle_text_folded",
     "kodliwe_is_symbol",
     "kodliwe_path_len",
     "kodliwe_print_part",

@@ -4,6 +4,7 @@
 It prints a line for each of these, and at last how many passed:
 
   log           a byte of Latin-1 and a NUL in a log stay, and the symbols around them are demangled
+  folded        -f and --fold print _ for generic arguments, of repeated symbols too, with the hash and without it
   inputs        several inputs in the order of the words, one of them without its last line feed
   words         -- and symbols that begin with -; 10,000 symbols as words
   unknown       a word that is no option ends it with status 2 before anything is read
@@ -26,7 +27,7 @@ It prints a line for each of these, and at last how many passed:
                 is beside it; the file is synchronized before it gets its name
   names         99 names for the unfinished file are taken, and then a hundred
   waiting       an input that would have to wait is told, and not read for ever
-  one call      each line of a fault is written by one call
+  one call      each line of a fault or a note is written by one call
   large         300,000 symbols, runs of 3 MB, a line of 5 MB, a word of 130,000 bytes, a thousand files, a limit of 0
   long          a line of 1 GB without a line feed, within 8 MB of memory
   help          --help has at most 24 lines of 80 columns, and names every option
@@ -35,17 +36,19 @@ It prints a line for each of these, and at last how many passed:
   filter        the output is that of demangle_filter over the stored corpus and hostile symbols
   same file     an input that is the file of standard output is an error before anything is read; with --output it is replaced
   terminal      a terminal as standard input is noted if there are no words
+  marked        an input that begins as gzip, zstd, xz or UTF-16 is noted once, and copied with the status as it is; no other is noted,
+                and none is read further for it
   version       --version has the version, the logic of the kit and the licence
 
 `make` builds the programs. The last line is 'N passed, N failed'. A missing tool is a failure.
 """
-import argparse, os, pty, re, resource, shutil, signal, socket, stat, subprocess, sys, tempfile, threading, time
+import argparse, gzip, lzma, os, pty, re, resource, select, shutil, signal, socket, stat, subprocess, sys, tempfile, threading, time
 
 from common import CORPUS, FILTER, KODLIWE, ROOT, Tally, built, same, tool
 from texts import hostile
 
 FOO = "_ZN3foo17h05af221e174051e9E"
-OPTIONS = ["-i", "--input", "-o", "--output", "--hash", "-l", "--limit", "-h", "--help", "-V", "--version"]
+OPTIONS = ["-i", "--input", "-o", "--output", "--hash", "-f", "--fold", "-l", "--limit", "-h", "--help", "-V", "--version"]
 
 
 def run(*words, text=b"", **more):
@@ -70,6 +73,17 @@ def log():
     wanted = b"a foo\r\ncaf\xe9 \0 crate::main\0bar\n\xffa"
     same(run(text=text), (wanted, "", 0))
     same(run("--hash", text=text), (wanted.replace(b"foo", b"foo::h05af221e174051e9"), "", 0))
+
+
+def folded():
+    text = b"_RINvC3foo3barhE \xff_RNvMC3fooINtB2_3BarlE3baz _ZN3foo12Bar$LT$T$GT$17h05af221e174051e9E\n" * 3
+    wanted = b"foo::bar::<_> \xff<foo::Bar<_>>::baz foo::Bar<T>\n" * 3
+    for option in ["-f", "--fold"]:
+        same(run(option, text=text), (wanted, "", 0))
+        same(run("_RINvC3foo3barhE", option), (b"foo::bar::<_>\n", "", 0))
+    same(run("--hash", "-f", text=text), (wanted.replace(b"Bar<T>", b"Bar<T>::h05af221e174051e9"), "", 0))
+    same(run(text=text), (wanted.replace(b"::<_>", b"::<u8>").replace(b"Bar<_>", b"Bar<i32>"), "", 0))
+    same(run("-f", "-l", "11", "_RINvC3foo3barhE"), (b"foo::bar::<{size limit reached}\n", "", 0))
 
 
 def inputs():
@@ -451,8 +465,9 @@ def waiting():
 
 
 def one_call():
-    """Writes each line of a fault by one call: a socket of datagrams keeps apart what two calls write."""
-    for words in [["-i", "none.txt"], ["--frob"], ["-l", "x"], ["-o", "none/out", FOO]]:
+    """Writes each line of a fault or a note by one call: a socket of datagrams keeps apart what two calls write."""
+    write("packed", MARKED[0][0])
+    for words in [["-i", "none.txt"], ["--frob"], ["-l", "x"], ["-o", "none/out", FOO], ["-i", "packed"]]:
         ours, its = socket.socketpair(socket.AF_UNIX, socket.SOCK_DGRAM)
         subprocess.run([KODLIWE, *words], stdin=subprocess.DEVNULL, stdout=subprocess.DEVNULL, stderr=its, timeout=20)
         its.close()
@@ -621,6 +636,66 @@ def terminal():
     same((ran.stdout, ran.stderr, ran.returncode), (b"foo\n", b"", 0))
 
 
+# Texts that are compressed or encoded, how many bytes show that, and what the note says. No Rust symbol is in them.
+# The frame of zstd is an empty one, as `zstd` writes it.
+MARKED = [
+    (gzip.compress(b"text"), 2, "compressed (gzip); decompress it first"),
+    (bytes.fromhex("28b52ffd240001000099e9d851"), 4, "compressed (zstd); decompress it first"),
+    (lzma.compress(b"text"), 6, "compressed (xz); decompress it first"),
+    ("\ufefftext".encode("utf-16-le"), 2, "encoded (UTF-16); convert it to UTF-8 first"),
+    ("\ufefftext".encode("utf-16-be"), 2, "encoded (UTF-16); convert it to UTF-8 first"),
+]
+# Their neighbours: almost a mark, a mark of something else, and UTF-8's own.
+UNMARKED = [b"", b"\x1f\x8c\x08", b"\x8b\x1f", b"\xff\xff\xfe", b"\xfe\xfe", b"PK\x03\x04", b"BZh9", "\ufefftext".encode()]
+
+
+def run_pieces(*pieces):
+    """Returns what a run told over a pipe that stays open until all that was sent is copied, each piece by itself."""
+    ran = subprocess.Popen([KODLIWE], stdin=subprocess.PIPE, stdout=subprocess.PIPE, stderr=subprocess.PIPE)
+    for piece in pieces:
+        ran.stdin.write(piece)
+        ran.stdin.flush()
+        assert select.select([ran.stdout], [], [], 20)[0], "%r is not copied before more is sent" % piece
+        same(os.read(ran.stdout.fileno(), 100), piece)
+    out, told = ran.communicate(timeout=120)
+    same((out, ran.returncode), (b"", 0))
+    return told.decode()
+
+
+def marked():
+    note = "kodliwe: note: %s looks %s\n"
+    for text, least, remark in MARKED:
+        found = note % ("standard input", remark)
+        same(run(text=text), (text, found, 0))
+        same(run("-i", "-", text=text[:least]), (text[:least], found, 0))
+        same(run("-i", write("packed", text)), (text, note % ("packed", remark), 0))
+        same(run("-o", "copy", "-i", "./packed"), (b"", note % ("./packed", remark), 0))
+        same(read("copy"), text)
+        # The symbols are replaced as before.
+        same(run(text=text + b" _ZN1aE"), (text + b" a", found, 0))
+        # Each input is noted once, by its name.
+        words = ["-i", "packed", FOO, "-", "-i", "packed", "-i", write("line\nfeed", text)]
+        notes = "".join(note % (name, remark) for name in ["packed", "standard input", "packed", "'line\\nfeed'"])
+        same(run(*words, text=text), (text + b"foo\n" + 3 * text, notes, 0))
+        for size in range(least):
+            same(run(text=text[:size]), (text[:size], "", 0))
+            same(run("-i", write("begun", text[:size])), (text[:size], "", 0))
+        for before in [b"x", b"\n", b"x" * 65536, b"x" * 131072]:
+            same(run("-i", write("behind", before + text)), (before + text, "", 0))
+        # A pipe shows all of a mark in one read or is not noted, and nothing is read further for it.
+        same(run_pieces(text[:least], b" more"), found)
+        same(run_pieces(text[:1], text[1:least]), "")
+    for text in UNMARKED:
+        same(run(text=text), (text, "", 0))
+        same(run("-i", write("plain", text)), (text, "", 0))
+    # An error after the note, and a standard error that is closed.
+    packed = write("packed", MARKED[0][0])
+    lines = note % ("packed", MARKED[0][2]) + "kodliwe: none: No such file or directory\n"
+    same(run("-i", "packed", "-i", "none"), (MARKED[0][0], lines, 1))
+    ran = subprocess.run([KODLIWE, "-i", packed], stdout=subprocess.PIPE, preexec_fn=lambda: os.close(2), timeout=120)
+    same((ran.stdout, ran.returncode), (MARKED[0][0], 0))
+
+
 def version():
     text, told, status = run("--version")
     same((told, status), ("", 0))
@@ -631,6 +706,7 @@ def version():
 
 CHECKS = [
     log,
+    folded,
     inputs,
     words,
     unknown,
@@ -658,6 +734,7 @@ CHECKS = [
     filter_,
     same_file,
     terminal,
+    marked,
     version,
 ]
 

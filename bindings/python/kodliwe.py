@@ -45,6 +45,8 @@ class _Calls(NamedTuple):
     symbol_len: Callable[..., int]
     demangle: Callable[..., int]
     demangle_text: Callable[..., int]
+    demangle_folded: Callable[..., int]
+    demangle_text_folded: Callable[..., int]
 
 
 def _prefixes() -> List[str]:
@@ -105,15 +107,16 @@ def _calls() -> _Calls:
     library.kodliwe_is_symbol.restype = flag
     library.kodliwe_symbol_len.argtypes = [text, size]
     library.kodliwe_symbol_len.restype = size
-    for call in (library.kodliwe_demangle_limited, library.kodliwe_demangle_text):
-        call.argtypes = [text, size, ctypes.c_void_p, size, flag, size]
-        call.restype = size
-    return _Calls(
-        library.kodliwe_is_symbol,
-        library.kodliwe_symbol_len,
+    printing = (
         library.kodliwe_demangle_limited,
         library.kodliwe_demangle_text,
+        library.kodliwe_demangle_folded,
+        library.kodliwe_demangle_text_folded,
     )
+    for call in printing:
+        call.argtypes = [text, size, ctypes.c_void_p, size, flag, size]
+        call.restype = size
+    return _Calls(library.kodliwe_is_symbol, library.kodliwe_symbol_len, *printing)
 
 
 class _Rooms(threading.local):
@@ -180,30 +183,35 @@ def strip_thin_lto(text: AnyStr) -> Optional[AnyStr]:
     return text[:size] if size else None
 
 
-def try_demangle(text: AnyStr, hash: bool = False, limit: int = MAX_SIZE) -> Optional[AnyStr]:
+def try_demangle(text: AnyStr, hash: bool = False, limit: int = MAX_SIZE, fold: bool = False) -> Optional[AnyStr]:
     """Returns the path of a Rust symbol, as ``demangle`` does, or None if the text is not a Rust symbol."""
-    path = _written(_calls().demangle, _encoded(text), hash, _limit(limit))
+    calls = _calls()
+    path = _written(calls.demangle_folded if fold else calls.demangle, _encoded(text), hash, _limit(limit))
     return None if path is None else _as_given(text, path)
 
 
-def demangle(text: AnyStr, hash: bool = False, limit: int = MAX_SIZE) -> AnyStr:
+def demangle(text: AnyStr, hash: bool = False, limit: int = MAX_SIZE, fold: bool = False) -> AnyStr:
     """Returns the path of a Rust symbol, and any other text unchanged.
 
     ``hash`` keeps the hash of a legacy symbol, and the disambiguators of v0. A path ends after at most ``limit`` bytes, and
-    after a million of them at most. ``{size limit reached}`` and the symbol's suffix then follow.
+    after a million of them at most. ``{size limit reached}`` and the symbol's suffix then follow. ``fold`` prints ``_`` for each
+    list of generic arguments of a v0 symbol, so all instances of a function have one name.
+
+    >>> demangle("_RINvC3foo3barhE", fold=True)
+    'foo::bar::<_>'
     """
-    path = try_demangle(text, hash, limit)
+    path = try_demangle(text, hash, limit, fold)
     return text if path is None else path
 
 
-def demangle_text(text: AnyStr, hash: bool = False, limit: int = MAX_SIZE) -> AnyStr:
+def demangle_text(text: AnyStr, hash: bool = False, limit: int = MAX_SIZE, fold: bool = False) -> AnyStr:
     """Returns the text with each Rust symbol in it replaced by its path, and the rest unchanged.
 
     A candidate symbol starts at ``_ZN`` or ``_R``. It ends before the next character that is not an ASCII letter, a digit,
-    ``$``, ``.`` or ``_``. The arguments ``hash`` and ``limit`` are those of ``demangle``, for each symbol.
+    ``$``, ``.`` or ``_``. The arguments ``hash``, ``limit`` and ``fold`` are those of ``demangle``, for each symbol.
     """
-    given = _encoded(text)
-    filtered = _written(_calls().demangle_text, given, hash, _limit(limit))
+    given, calls = _encoded(text), _calls()
+    filtered = _written(calls.demangle_text_folded if fold else calls.demangle_text, given, hash, _limit(limit))
     assert filtered is not None  # the call never returns 0
     return _as_given(text, filtered)
 
@@ -218,6 +226,7 @@ standard input is read.
 Options:
   -i, --input FILE    Read FILE; - is standard input. May be given several times
       --hash          Keep the hashes of legacy symbols (foo::h05af221e174051e9)
+  -f, --fold          Print generic arguments as _ (Vec<_> for Vec<u8>)
   -l, --limit BYTES   Cut each path at BYTES (1000000 if not given)
   -h, --help          Print this help
   -V, --version       Print the version
@@ -243,6 +252,7 @@ class _Words(NamedTuple):
     inputs: List[Tuple[bool, str]]
     hash: bool = False
     limit: int = MAX_SIZE
+    fold: bool = False
     text: str = ""
 
 
@@ -255,7 +265,7 @@ def _split(word: str) -> Tuple[str, Optional[str]]:
             return name, word[len(name) + 1 :]
         if word.startswith(short):
             return name, word[len(short) :]
-    return {"-h": "--help", "-V": "--version"}.get(word, word), None
+    return {"-f": "--fold", "-h": "--help", "-V": "--version"}.get(word, word), None
 
 
 def _value(word: str, name: str, value: Optional[str], rest: Iterator[str]) -> str:
@@ -285,6 +295,8 @@ def _parsed(words: List[str]) -> _Words:
             found.inputs.append((word == "-", word))
         elif name == "--hash":
             found = found._replace(hash=True)
+        elif name == "--fold":
+            found = found._replace(fold=True)
         elif name == "--input":
             found.inputs.append((True, _value(word, name, value, rest)))
         elif name == "--limit":
@@ -338,7 +350,7 @@ def _filter(words: _Words) -> None:
         raise _Fault(str(error), 1) from error
     for is_file, name in words.inputs:
         for text in _lines(name) if is_file else [os.fsencode(name) + b"\n"]:
-            _print(demangle_text(text, words.hash, words.limit))
+            _print(demangle_text(text, words.hash, words.limit, words.fold))
 
 
 def _main(words: List[str]) -> int:

@@ -59,6 +59,16 @@ class Demangle(unittest.TestCase):
         self.assertEqual(kodliwe.demangle(LEGACY.encode()), b"foo")
         self.assertEqual(kodliwe.demangle("_RNvC3foo3bar.llvm.0AB@1"), "foo::bar")
 
+    def test_arguments_are_folded(self):
+        symbol = "_RNvMC3fooINtB2_3BarlE3baz"
+        self.assertEqual(kodliwe.demangle(symbol), "<foo::Bar<i32>>::baz")
+        self.assertEqual(kodliwe.demangle(symbol, fold=True), "<foo::Bar<_>>::baz")
+        self.assertEqual(kodliwe.demangle(LEGACY, hash=True, fold=True), "foo::h05af221e174051e9")
+        self.assertEqual(kodliwe.demangle("_RINvC3foo3barhE", limit=11, fold=True), "foo::bar::<{size limit reached}")
+        self.assertEqual(kodliwe.try_demangle("main", fold=True), None)
+        self.assertEqual(kodliwe.demangle_text("a %s b" % symbol, fold=True), "a <foo::Bar<_>>::baz b")
+        self.assertEqual(kodliwe.demangle_text(b"\xff _RINvC3foo3barhE", fold=True), b"\xff foo::bar::<_>")
+
     def test_what_is_no_symbol_is_given_back(self):
         for text in ("main", "", "_ZN3foo", "ä", "\udcff", "\ud800_ZN3fooE", "a\0b"):
             self.assertIs(kodliwe.demangle(text), text)

@@ -6,18 +6,22 @@ ghost use Rattle.std.specs.Prelude.{◌≡◌, ◌+◌, ◌<◌, ◌≤◌, ◌�
 ghost use Prim.Native.Nat.{min};
 ghost use Rattle.std.specs.List.{concat};
 ghost use Rattle.rustc_demangle.specs.Cut.{size};
-ghost use Rattle.rustc_demangle.specs.Filtered.{filtered_within};
+ghost use Rattle.rustc_demangle.specs.Filtered.{filtered_in, filtered_within};
 ghost use Rattle.rustc_demangle.specs.PathEnds.{path_len_of, handed_with};
 ghost use Rattle.rustc_demangle.specs.Slice.{overlay};
 ghost use Rattle.rustc_demangle.specs.Stripped.{stripped};
-ghost use Rattle.demangle_path.specs.Naming.{NamesRust, path_named, path_within, c_string};
+ghost use Rattle.rustc_demangle.specs.Symbols.{folded};
+ghost use Rattle.demangle_path.specs.Naming.{NamesRust, path_in, path_named, path_within, c_string};
 
 #[cfg(test)]
 mod tests;
 
-use demangle_path::{MAX_SIZE, put_end, symbol_of, text_of, write_part, write_text};
+use demangle_path::{
+    MAX_SIZE, put_end, symbol_of, text_of, write_part, write_part_formatted, write_text,
+    write_text_formatted,
+};
 use rustc_demangle::sink::SliceSink;
-use rustc_demangle::write_with_path_len;
+use rustc_demangle::{Format, write_with_path_len};
 
 /// Writes a path from its byte `start` to memory, as far as the memory reaches. The path has
 /// `path_len` bytes in the text. Returns the number of bytes of the whole printed path.
@@ -179,6 +183,56 @@ pub extern "C" fn kodliwe_demangle(symbol: &[u8], out: &mut [u8], include_hash: 
         out.new ≡ overlay out.old (c_string (length out.old) (path_named symbol.now include_hash)) }
 {
     kodliwe_demangle_limited(symbol, out, include_hash, MAX_SIZE)
+}
+
+/// Writes a path as `kodliwe_demangle_limited` does, with `_` for each list of generic arguments.
+///
+/// So all instances of a generic function have one name. A legacy symbol prints completely, because
+/// its arguments are parts of names.
+#[unsafe(no_mangle)]
+pub extern "C" fn kodliwe_demangle_folded(
+    symbol: &[u8],
+    out: &mut [u8],
+    include_hash: bool,
+    limit: usize,
+) -> usize
+    ensures none { (NamesRust symbol.now → ⊥) → (result ≡ 0) × (out.new ≡ out.old) }
+    ensures size { NamesRust symbol.now →
+        result ≡ length (path_in symbol.now (folded include_hash (min limit MAX_SIZE))) + 1 }
+    ensures text { NamesRust symbol.now →
+        let path = path_in symbol.now (folded include_hash (min limit MAX_SIZE)) in
+        out.new ≡ overlay out.old (c_string (length out.old) path) }
+{
+    let format = Format {
+        include_hash,
+        fold_arguments: true,
+        limit,
+    };
+    write_part_formatted(symbol, out, format, 0)
+}
+
+/// Writes a text as `kodliwe_demangle_text` does, with `_` for each list of generic arguments.
+#[unsafe(no_mangle)]
+pub extern "C" fn kodliwe_demangle_text_folded(
+    text: &[u8],
+    out: &mut [u8],
+    include_hash: bool,
+    limit: usize,
+) -> usize
+    ensures size { let filtered = filtered_in (folded include_hash (min limit MAX_SIZE)) text.now in
+        length filtered < usize.MAX → result ≡ length filtered + 1 }
+    ensures text { let filtered = filtered_in (folded include_hash (min limit MAX_SIZE)) text.now in
+        length filtered < usize.MAX →
+        out.new ≡ overlay out.old (c_string (length out.old) filtered) }
+    ensures past { usize.MAX ≤ length (filtered_in (folded include_hash (min limit MAX_SIZE)) text.now) →
+        result ≡ usize.MAX }
+{
+    let format = Format {
+        include_hash,
+        fold_arguments: true,
+        limit,
+    };
+    write_text_formatted(text, out, format)
 }
 
 /// Writes bytes to memory with each Rust symbol replaced by its path, and a 0 after them. Returns

@@ -1,7 +1,8 @@
 //! Tests of the calls, for each kind of result and of size. The texts are those of the Rust crate.
 use crate::{
-    kodliwe_demangle, kodliwe_demangle_limited, kodliwe_demangle_part, kodliwe_demangle_text,
-    kodliwe_is_symbol, kodliwe_path_len, kodliwe_print_part, kodliwe_symbol_len,
+    kodliwe_demangle, kodliwe_demangle_folded, kodliwe_demangle_limited, kodliwe_demangle_part,
+    kodliwe_demangle_text, kodliwe_demangle_text_folded, kodliwe_is_symbol, kodliwe_path_len,
+    kodliwe_print_part, kodliwe_symbol_len,
 };
 
 /// A symbol whose text doubles with each of 18 tuples, and so exceeds every limit.
@@ -22,6 +23,29 @@ fn the_hash_is_left_out(rt: HostRuntime) {
     let want = kodliwe_demangle(b"_ZN3foo17h05af221e174051e9E", &mut out, false);
     assert_eq!(rt; want, 4);
     assert!(rt; out.starts_with(b"foo\0\x09\x09"));
+}
+
+#[test]
+fn arguments_are_folded(rt: HostRuntime) {
+    let mut out = [9; 40];
+    let symbol = b"_RNvMC3fooINtB2_3BarlE3baz";
+    assert_eq!(rt; kodliwe_demangle_folded(symbol, &mut out, false, 1_000), 19);
+    assert!(rt; out.starts_with(b"<foo::Bar<_>>::baz\0\x09\x09"));
+    assert_eq!(rt; kodliwe_demangle_folded(b"main", &mut out, false, 1_000), 0);
+    let mut cut = [9; 40];
+    assert_eq!(rt; kodliwe_demangle_folded(symbol, &mut cut, true, 1), 22);
+    assert!(rt; cut.starts_with(b"<{size limit reached}\0\x09"));
+}
+
+#[test]
+fn arguments_in_a_text_are_folded(rt: HostRuntime) {
+    let mut out = [9; 40];
+    let text = b"\xFF _RNvMC3fooINtB2_3BarlE3baz!";
+    assert_eq!(rt;
+        kodliwe_demangle_text_folded(text, &mut out, false, 1_000),
+        22
+    );
+    assert!(rt; out.starts_with(b"\xFF <foo::Bar<_>>::baz!\0\x09\x09"));
 }
 
 #[test]

@@ -5,20 +5,20 @@ use Rattle.demangle_symbol.specs.Words.{then_if_some}
 use Rattle.demangle_grammar.specs.Items.{Kind, a_path}
 use Rattle.demangle_grammar.specs.Table.{items}
 use Rattle.demangle_grammar.specs.Reading.{Place, max_depth, read_at, unit_end, suffix_place, goes_on_at}
-use Rattle.demangle_grammar.specs.Spelling.{freely, named, Spells, IsPath, IsPaths}
-use Rattle.demangle_grammar.proofs.Rules.{named_freely}
-use Rattle.demangle_grammar.proofs.Spelled.{read_spelt}
+use Rattle.demangle_grammar.specs.Spelling.{freely, Spells, IsPath, IsPaths}
+use Rattle.demangle_grammar.proofs.Rules.{freely_laxest, relaxed}
+use Rattle.demangle_grammar.proofs.Spelled.{rule, read_spelt}
 use Rattle.demangle_grammar.proofs.Unique.{unique}
 use Rattle.demangle_grammar.proofs.TableCost.{fits}
 use Rattle.demangle_grammar.proofs.Complete.{spells_read, grows}
 
 spelled_path : (symbol : List ℕ) (i j : ℕ) → unit_end symbol a_path i 0 ≡ Some j → IsPath symbol i j
 unfolding unit_end
-spelled_path symbol i j e = read_spelt symbol false a_path true i j 0 0 (omega arith) e
+spelled_path symbol i j e = read_spelt symbol false false a_path true i j 0 0 (omega arith) e
 
 path_spelled : (symbol : List ℕ) (i j : ℕ) → i ≤ length symbol → IsPath symbol i j → unit_end symbol a_path i 0 ≡ Some j
 unfolding unit_end
-path_spelled symbol i j b e = spells_read symbol false a_path true i j 0 0 (omega arith) b e
+path_spelled symbol i j b e = spells_read symbol false false a_path true i j 0 0 (omega arith) b e
 
 -- the place behind the second path, if one begins
 second : List ℕ → ℕ → Place
@@ -56,12 +56,13 @@ one_suffix symbol j k p q = some_one (sym (all_accepted symbol j p) ∙ all_acce
     some_one : {x y : ℕ} → Some x ≡ Some y → x ≡ y
     some_one e = cc e
 
--- Unprinted, a reading ends exactly where the unit is spelled; printed, where it is spelled with each lifetime named.
-pub reading_is_spelling : (symbol : List ℕ) (kind : Kind) (value : Bool) (i j d m : ℕ) → d ≤ max_depth → i ≤ length symbol → ((read_at symbol false kind i d m value).place ≡ Some j) ↔ Spells symbol freely d m (items kind value) i j
-reading_is_spelling symbol kind value i j d m h b = (read_spelt symbol false kind value i j d m h, spells_read symbol false kind value i j d m h b)
+-- Parsing without output ends exactly where the grammar ends the production. Parsing with output does so if each lifetime is in
+-- scope, except for lifetimes in folded arguments.
+pub reading_is_spelling : (symbol : List ℕ) (folds : Bool) (kind : Kind) (value : Bool) (i j d m : ℕ) → d ≤ max_depth → i ≤ length symbol → ((read_at symbol folds false kind i d m value).place ≡ Some j) ↔ Spells symbol freely d m (items kind value) i j
+reading_is_spelling symbol folds kind value i j d m h b = (read_spelt symbol folds false kind value i j d m h, spells_read symbol folds false kind value i j d m h b)
 
-pub printing_is_spelling : (symbol : List ℕ) (kind : Kind) (value : Bool) (i j d m : ℕ) → d ≤ max_depth → i ≤ length symbol → ((read_at symbol true kind i d m value).place ≡ Some j) ↔ Spells symbol named d m (items kind value) i j
-printing_is_spelling symbol kind value i j d m h b = (read_spelt symbol true kind value i j d m h, spells_read symbol true kind value i j d m h b)
+pub printing_is_spelling : (symbol : List ℕ) (folds : Bool) (kind : Kind) (value : Bool) (i j d m : ℕ) → d ≤ max_depth → i ≤ length symbol → ((read_at symbol folds true kind i d m value).place ≡ Some j) ↔ Spells symbol (rule true folds) d m (items kind value) i j
+printing_is_spelling symbol folds kind value i j d m h b = (read_spelt symbol folds true kind value i j d m h, spells_read symbol folds true kind value i j d m h b)
 
 pub accepted_is_spelled : (inner : List ℕ) (k : ℕ) → (suffix_place inner ≡ Some k) ↔ IsPaths inner k
 accepted_is_spelled inner k = (accepted inner k, all_accepted inner k)
@@ -70,10 +71,10 @@ none_some : {x : ℕ} → None ≡ Some x → ⊥
 none_some e = cc e
 
 -- what is spelled and not read when printed has a lifetime that names none
-pub printing_ends : (symbol : List ℕ) (kind : Kind) (value : Bool) (i j d m : ℕ) → d ≤ max_depth → i ≤ length symbol → Spells symbol freely d m (items kind value) i j →
-    ((read_at symbol true kind i d m value).place ≡ Some j) ⊎ (((read_at symbol true kind i d m value).place ≡ None) × (Spells symbol named d m (items kind value) i j → ⊥))
-printing_ends symbol kind value i j d m h b a = go (read_at symbol true kind i d m value).place refl
+pub printing_ends : (symbol : List ℕ) (folds : Bool) (kind : Kind) (value : Bool) (i j d m : ℕ) → d ≤ max_depth → i ≤ length symbol → Spells symbol freely d m (items kind value) i j →
+    ((read_at symbol folds true kind i d m value).place ≡ Some j) ⊎ (((read_at symbol folds true kind i d m value).place ≡ None) × (Spells symbol (rule true folds) d m (items kind value) i j → ⊥))
+printing_ends symbol folds kind value i j d m h b a = go (read_at symbol folds true kind i d m value).place refl
   where
-    go : (x : Place) → (read_at symbol true kind i d m value).place ≡ x → (x ≡ Some j) ⊎ ((x ≡ None) × (Spells symbol named d m (items kind value) i j → ⊥))
-    go None e = inr (refl, λ n. none_some (sym e ∙ spells_read symbol true kind value i j d m h b n))
-    go (Some k) e = inl (ap Some (unique (named_freely (read_spelt symbol true kind value i k d m h e)) a))
+    go : (x : Place) → (read_at symbol folds true kind i d m value).place ≡ x → (x ≡ Some j) ⊎ ((x ≡ None) × (Spells symbol (rule true folds) d m (items kind value) i j → ⊥))
+    go None e = inr (refl, λ n. none_some (sym e ∙ spells_read symbol folds true kind value i j d m h b n))
+    go (Some k) e = inl (ap Some (unique (relaxed freely (freely_laxest (rule true folds)) (read_spelt symbol folds true kind value i k d m h e)) a))

@@ -2,9 +2,9 @@
 use Rattle.std.specs.Prelude.{ℕ, zero, suc, ◌≤◌, ◌*◌, ◌||◌, ◌&&◌, if◌then◌else◌, ◌==◌, nat_le, nat_lt, IsTrue, codes}
 use Rattle.std.proofs.Common.{◌≡◌, Bool, true, false, cond, List, [], ◌∷◌, length, Some, None, refl, sym, ◌+◌, ◌-◌, subst, arith}
 use Rattle.demangle_symbol.specs.Words.{Name}
-use Rattle.demangle_grammar.specs.Items.{Text, Kind, a_path, a_type, a_constant, a_pattern, a_trait_path, Items, done, invalid, say, say_plain, byte, namespace, integer, optional, identifier, nibbles, peek, next, sound, until_end, raise, unit, child, skip, target, lifetime, binder, opens, dyn_trait, bindings}
+use Rattle.demangle_grammar.specs.Items.{Text, Kind, a_path, a_type, a_pattern, a_trait_path, Items, done, invalid, say, say_plain, byte, namespace, integer, optional, identifier, nibbles, peek, next, sound, until_end, raise, unit, child, skip, folded, target, lifetime, binder, opens, dyn_trait, bindings}
 use Rattle.demangle_grammar.specs.Cost.{StretchCost, Pays}
-use Rattle.demangle_grammar.specs.Reading.{Tree, nothing, piece, plain_piece, Place, Outcome, Level, Surroundings, followed_by, stretches, hands, run, one_depth_on, turns, angle_if_open, bound_by, unit_outcome, lifetime_at, lifetime_named, letter_of, all_pieces, new_lifetimes, binder_of, binder_at}
+use Rattle.demangle_grammar.specs.Reading.{Tree, nothing, piece, plain_piece, Place, Outcome, Level, Surroundings, followed_by, folded_by, looks_alone, stretches, hands, run, one_depth_on, turns, angle_if_open, bound_by, unit_outcome, lifetime_at, lifetime_named, letter_of, all_pieces, new_lifetimes, binder_of, binder_at}
 use Rattle.demangle_grammar.proofs.PaysRules.{Pays-more, Pays-append}
 
 -- the credit that a unit is begun with, and the credit that it leaves
@@ -57,6 +57,7 @@ Fits c r e k g (raise p) = Fits c 2 e k g p
 Fits c r e k g (unit p q) = (l : ℕ) × Fits c r l k g p × Fits c r e l false q
 Fits c r e k g (child kind value p) = (start kind ≤ k) × IsTrue (is_below r kind && g) × Fits c r e 8 false p
 Fits c r e k g (skip p) = IsTrue (is_below r a_path) × Fits c r e 8 g p
+Fits c r e k g (folded p q) = (l : ℕ) × Fits c r l k g p × Fits c r e l false q
 Fits c r e k g (target kind value) = IsTrue ((if c then is_closed kind else true) && g) × (e ≤ k + 24)
 Fits c r e k g (lifetime n p) = Fits c r e k g p
 Fits c r e k g (binder n p) = Fits c r e k g p
@@ -147,6 +148,17 @@ pub idle_closed : (plain : Bool) (r : ℕ) (o : Bool) → Idle plain r (angle_if
 idle_closed plain r true = (refl, free_piece plain r (codes ">") nothing (omega arith))
 idle_closed plain r false = (refl, omega arith)
 
+-- a part that is read and not printed
+pub unheard_pays : (r a b : ℕ) (xs : List StretchCost) → Pays 0 a xs b → Pays r a (looks_alone xs) b
+unheard_pays r a b [] h = h
+unheard_pays r a b (x ∷ xs) h = (h.0, Pays-more r (a - x.looks + 0 * x.bytes) (a - x.looks + r * 0) b b 0 (looks_alone xs) (omega arith) (omega arith) (unheard_pays r (a - x.looks + 0 * x.bytes) b xs h.1))
+
+idle_folded : (plain : Bool) (r : ℕ) (c : Bool) (x y : Outcome) (f : Place → Outcome) → Idle plain 0 x → Idle plain r y → Idle plain r (f None) → Idle plain r (folded_by c x y f)
+idle_folded plain r true x y f h k d =
+    let q : Idle plain r (f x.place) = subst (λ z. Idle plain r (f z)) (sym h.0) d in
+    (q.0, Pays-append r 0 0 0 (looks_alone (stretches plain x.tree)) (stretches plain (piece (codes "_") (f x.place).tree)) (unheard_pays r 0 0 (stretches plain x.tree) h.1) (free_piece plain r (codes "_") (f x.place).tree q.1))
+idle_folded plain r false x y f h k d = idle_followed plain r y f k d
+
 pub idle : (plain : Bool) (r : ℕ) (p : Items) (s : Surroundings) → Idle plain r (run p s None)
 unfolding run turns bound_by
 idle plain r done s = (refl, omega arith)
@@ -159,6 +171,7 @@ idle plain r (raise p) s = idle_raised plain r s.deeper (λ l ls. run p (record 
 idle plain r (unit p q) s = idle_followed plain r (run p s None) (run q s) (idle plain r p s) (idle plain r q s)
 idle plain r (child kind value p) s = idle_followed plain r (unit_outcome s kind value None) (run p s) (refl, (omega arith, omega arith)) (idle plain r p s)
 idle plain r (skip p) s = idle plain r p s
+idle plain r (folded p q) s = idle_folded plain r (s.printed && s.folds) (run p (record s { printed = false }) None) (run p s None) (run q s) (idle plain 0 p (record s { printed = false })) (idle plain r p s) (idle plain r q s)
 idle plain r (lifetime k p) s = idle_followed plain r (lifetime_at s.printed s.lifetimes k None) (run p s) (idle_lifetime plain r s.printed s.lifetimes k) (idle plain r p s)
 idle plain r (binder m p) s = let q : Idle plain r (run p (record s { lifetimes = s.lifetimes + m }) None) = idle plain r p (record s { lifetimes = s.lifetimes + m }) in (q.0, free_binder plain r s.printed m s.lifetimes (run p (record s { lifetimes = s.lifetimes + m }) None).tree q.1)
 idle plain r (opens p) s = let q : Idle plain r (run p s None) = idle plain r p s in (q.0, q.1)

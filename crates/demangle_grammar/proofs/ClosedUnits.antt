@@ -1,13 +1,13 @@
 -- Only a dyn trait path can leave its `<` open: any other unit may end in its last child.
-use Rattle.std.specs.Prelude.{T, IsTrue, ℕ, zero, suc, slice_get}
+use Rattle.std.specs.Prelude.{T, IsTrue, ℕ, zero, suc, ◌&&◌, slice_get}
 use Rattle.std.proofs.Common.{◌≡◌, Bool, true, false, List, [], ◌∷◌, length, Option, Some, None, refl, subst, sym, ap, ◌∙◌, ◌+◌}
 use Rattle.std.proofs.lemmas.List.{append-nil}
 use Prim.Native.Char.{code}
 use Rattle.demangle_symbol.specs.Digits.{is_byte}
 use Rattle.demangle_symbol.specs.Words.{Name, Read, byte_at, namespace_at, integer_at, optional_at, backref_at, identifier_at, nibbles_at}
-use Rattle.demangle_grammar.specs.Items.{Kind, a_path, a_trait_path, Items, done, invalid, say, say_plain, byte, namespace, integer, optional, identifier, nibbles, peek, next, sound, until_end, raise, unit, child, skip, target, lifetime, binder, opens, dyn_trait, bindings}
+use Rattle.demangle_grammar.specs.Items.{Kind, a_path, a_trait_path, Items, done, say, say_plain, byte, namespace, integer, optional, identifier, nibbles, peek, next, sound, until_end, raise, unit, child, skip, folded, target, lifetime, binder, opens, dyn_trait, bindings}
 use Rattle.demangle_grammar.specs.Table.{items}
-use Rattle.demangle_grammar.specs.Reading.{stands_at, Place, Outcome, Level, Surroundings, behind, followed_by, binding_separator, name_equals, word, run, turns, word_outcome, peek_outcome, byte_choice, one_depth_on, bound_by, unit_outcome, target_of, target_read, lifetime_at, angle_if_open, level_of, levels, nowhere}
+use Rattle.demangle_grammar.specs.Reading.{stands_at, Place, Outcome, Level, Surroundings, behind, followed_by, binding_separator, name_equals, word, run, turns, word_outcome, peek_outcome, byte_choice, one_depth_on, bound_by, unit_outcome, folded_by, target_of, target_read, lifetime_at, angle_if_open, level_of, levels, nowhere}
 use Rattle.demangle_grammar.proofs.Account.{start, rank, is_closed, Fits, first}
 use Rattle.demangle_grammar.proofs.TableCost.{fits}
 use Rattle.demangle_grammar.specs.Events.{of, events, around}
@@ -63,6 +63,10 @@ target_closed pr [] kind value m t end c a = refl
 target_closed true (l ∷ ls) kind value m t end c a = a.0 true kind value m t c
 target_closed false (l ∷ ls) kind value m t end c a = refl
 
+folded_closed : (c : Bool) (x y : Outcome) (f : Place → Outcome) → ((i : Place) → (f i).is_open ≡ false) → (folded_by c x y f).is_open ≡ false
+folded_closed true x y f h = h x.place
+folded_closed false x y f h = h y.place
+
 closes : (p : Items) (s : Surroundings) (r e k : ℕ) (g : Bool) → Fits true r e k g p → AllClosed s.deeper → (i : Place) → (run p s i).is_open ≡ false
 unfolding run
 closes (say t p) s r e k g c a i = closes p s _ _ _ _ c a i
@@ -83,6 +87,7 @@ closes (unit p q) s r e k g c a i = closes q s _ _ _ _ c.2 a (run p s i).place
 closes (child kind value p) s r e k g c a i = closes p s _ _ _ _ c.2 a (unit_outcome s kind value i).place
 closes (skip p) s r e k g c a None = closes p s _ _ _ _ c.1 a None
 closes (skip p) s r e k g c a (Some i) = closes p s _ _ _ _ c.1 a (s.here false a_path false s.lifetimes i).place
+closes (folded p q) s r e k g c a i = folded_closed (s.printed && s.folds) (run p (record s { printed = false }) i) (run p s i) (run q s) (λ j. closes q s _ _ _ _ c.2 a j)
 closes (target kind value) s r e k g c a i = word_closed s i backref_at (λ t j. target_of s.deeper (λ level. target_read s.printed (level true kind value s.lifetimes) t j)) (λ t j. target_closed s.printed s.deeper kind value s.lifetimes t j (first (is_closed kind) g c.0) a)
 closes (lifetime n p) s r e k g c a i = closes p s _ _ _ _ c a (lifetime_at s.printed s.lifetimes n i).place
 closes (binder n p) s r e k g c a i = closes p (record s { lifetimes = s.lifetimes + n }) _ _ _ _ c a i
@@ -93,25 +98,25 @@ closes _ s r e k g c a i = refl
 
 -- The levels.
 
-level_closed : (b : List ℕ) (ls : List Level) → AllClosed ls → (pr : Bool) (kind : Kind) (value : Bool) (m i : ℕ) → IsTrue (is_closed kind) → (level_of b ls pr kind value m i).is_open ≡ false
+level_closed : (b : List ℕ) (folds : Bool) (ls : List Level) → AllClosed ls → (pr : Bool) (kind : Kind) (value : Bool) (m i : ℕ) → IsTrue (is_closed kind) → (level_of b folds ls pr kind value m i).is_open ≡ false
 unfolding level_of
-level_closed b ls a pr kind value m i c =
-    let inner : Level = λ pr k v o j. run (items k v) (record { symbol = b; printed = pr; here = nowhere; deeper = ls; lifetimes = o }) (Some j) in
-    closes (items kind value) (record { symbol = b; printed = pr; here = inner; deeper = ls; lifetimes = m }) _ _ _ _ (subst (λ x. Fits x (rank kind) 8 (start kind) true (items kind value)) c (fits kind value)) a (Some i)
+level_closed b folds ls a pr kind value m i c =
+    let inner : Level = λ pr k v o j. run (items k v) (record { symbol = b; folds = folds; printed = pr; here = nowhere; deeper = ls; lifetimes = o }) (Some j) in
+    closes (items kind value) (record { symbol = b; folds = folds; printed = pr; here = inner; deeper = ls; lifetimes = m }) _ _ _ _ (subst (λ x. Fits x (rank kind) 8 (start kind) true (items kind value)) c (fits kind value)) a (Some i)
 
-levels_closed : (b : List ℕ) (left : ℕ) → AllClosed (levels b left)
+levels_closed : (b : List ℕ) (folds : Bool) (left : ℕ) → AllClosed (levels b folds left)
 unfolding levels
-levels_closed b zero = tt
-levels_closed b (suc left) = (level_closed b (levels b left) (levels_closed b left), levels_closed b left)
+levels_closed b folds zero = tt
+levels_closed b folds (suc left) = (level_closed b folds (levels b folds left) (levels_closed b folds left), levels_closed b folds left)
 
-pub unit_closed : (b : List ℕ) (out : Bool) (left m : ℕ) (kind : Kind) (value : Bool) (i : Place) → IsClosed kind → (unit_outcome (around b out left m) kind value i).is_open ≡ false
-unit_closed b out left m kind value None c = refl
-unit_closed b out left m kind value (Some i) c = level_closed b (levels b left) (levels_closed b left) out kind value m i (so (is_closed kind) c)
+pub unit_closed : (b : List ℕ) (folds out : Bool) (left m : ℕ) (kind : Kind) (value : Bool) (i : Place) → IsClosed kind → (unit_outcome (around b folds out left m) kind value i).is_open ≡ false
+unit_closed b folds out left m kind value None c = refl
+unit_closed b folds out left m kind value (Some i) c = level_closed b folds (levels b folds left) (levels_closed b folds left) out kind value m i (so (is_closed kind) c)
 
 -- what is heard of a child that is the last of its unit
-pub last_child : (plain out : Bool) (b : List ℕ) (left m : ℕ) (kind : Kind) (value : Bool) (i : Place) → IsClosed kind → of plain out (run (child kind value done) (around b out left m) i) ≡ of plain out (unit_outcome (around b out left m) kind value i)
+pub last_child : (plain folds out : Bool) (b : List ℕ) (left m : ℕ) (kind : Kind) (value : Bool) (i : Place) → IsClosed kind → of plain out (run (child kind value done) (around b folds out left m) i) ≡ of plain out (unit_outcome (around b folds out left m) kind value i)
 unfolding run
-last_child plain out b left m kind value i c =
-    let o = unit_outcome (around b out left m) kind value i in
+last_child plain folds out b left m kind value i c =
+    let o = unit_outcome (around b folds out left m) kind value i in
     ap (λ xs. record { events = xs; place = o.place; is_open = false }) (append-nil (events plain out o.tree))
-    ∙ ap (λ x. record { events = events plain out o.tree; place = o.place; is_open = x }) (sym (unit_closed b out left m kind value i c))
+    ∙ ap (λ x. record { events = events plain out o.tree; place = o.place; is_open = x }) (sym (unit_closed b folds out left m kind value i c))

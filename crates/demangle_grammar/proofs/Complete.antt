@@ -1,17 +1,17 @@
 -- What is spelled so is read; and what is spelled without a reference, printed or not, hands over no stop.
-use Rattle.std.specs.Prelude.{ℕ, IsTrue, ◌*◌, zero, suc, ◌<◌, ◌≤◌, ◌==◌, nat_le, codes}
+use Rattle.std.specs.Prelude.{ℕ, IsTrue, ◌*◌, ◌&&◌, zero, suc, ◌<◌, ◌≤◌, ◌==◌, nat_le, codes}
 use Prim.Native.Char.{code}
 use Rattle.std.proofs.Common.{◌≡◌, Bool, true, false, cond, List, [], ◌∷◌, length, Option, Some, refl, sym, ◌+◌, ◌-◌, subst, arith}
 use Rattle.std.proofs.lemmas.Bool.{le-leb, ltb-true}
 use Rattle.demangle_symbol.specs.Digits.{is_byte}
 use Rattle.demangle_symbol.specs.Words.{Name, Read, optional_at, identifier_at}
 use Rattle.demangle_symbol.specs.Names.{name_pieces}
-use Rattle.demangle_grammar.specs.Items.{Text, Kind, a_path, a_type, a_constant, a_pattern, a_trait_path, Items, done, invalid, say, say_plain, byte, namespace, integer, optional, identifier, nibbles, peek, next, sound, until_end, raise, unit, child, skip, target, lifetime, binder, opens, dyn_trait, bindings}
+use Rattle.demangle_grammar.specs.Items.{Text, Kind, a_path, a_pattern, a_trait_path, Items, done, invalid, say, say_plain, byte, namespace, integer, optional, identifier, nibbles, peek, next, sound, until_end, raise, unit, child, skip, folded, target, lifetime, binder, opens, dyn_trait, bindings}
 use Rattle.demangle_grammar.specs.Table.{items}
-use Rattle.demangle_grammar.specs.Reading.{Tree, nothing, IsWhole, binder_at, new_lifetimes, invalid_syntax, piece, Place, fault, all_pieces, letter_of, lifetime_at, Outcome, Level, Surroundings, run, turns, stands, behind, word, followed_by, unit_outcome, angle_if_open, binding_separator, name_equals, bound_by, target_of, target_read, word_outcome, peek_outcome, byte_choice, one_depth_on, max_depth, level_of, levels, nowhere, read_at}
-use Rattle.demangle_grammar.specs.Spelling.{Rule, freely, MayName, MayRefer, Spells, end_, say_, plain_, byte_, namespace_, integer_, optional_, identifier_, nibbles_, peek_, there, other, sound_, over_, turn_, raise_, unit_, child_, skip_, target_, lifetime_, binder_, opens_, dyn_, past_, bound_}
-use Rattle.demangle_grammar.proofs.Spelled.{rule}
-use Rattle.demangle_grammar.proofs.Rules.{IsLaxer, itself}
+use Rattle.demangle_grammar.specs.Reading.{Tree, nothing, IsWhole, binder_at, new_lifetimes, invalid_syntax, piece, Place, fault, all_pieces, letter_of, lifetime_at, Outcome, Level, Surroundings, run, turns, stands, behind, word, followed_by, unit_outcome, folded_by, angle_if_open, binding_separator, name_equals, bound_by, target_of, target_read, word_outcome, peek_outcome, byte_choice, one_depth_on, max_depth, level_of, levels, nowhere, read_at}
+use Rattle.demangle_grammar.specs.Spelling.{Rule, freely, of_arguments, MayName, MayRefer, Spells, end_, say_, plain_, byte_, namespace_, integer_, optional_, identifier_, nibbles_, peek_, there, other, sound_, over_, turn_, raise_, unit_, child_, skip_, folded_, target_, lifetime_, binder_, opens_, dyn_, past_, bound_}
+use Rattle.demangle_grammar.proofs.Spelled.{rule, rule_names}
+use Rattle.demangle_grammar.proofs.Rules.{IsLaxer, itself, freely_laxest, inside_laxer, refers_outside}
 use Rattle.demangle_grammar.proofs.Account.{rank, is_below, Fits, first}
 use Rattle.demangle_grammar.proofs.TableCost.{fits}
 use Rattle.demangle_symbol.proofs.Digits.{is_byte_within}
@@ -48,6 +48,7 @@ grows c r e k g f (raise_ l a) b = grows _ _ _ _ _ f a b
 grows c r e k g f (unit_ a n) b = let x = grows _ _ _ _ _ f.1 a b in let y = grows _ _ _ _ _ f.2 n x.1 in (omega (arith, x.0, y.0), y.1, omega (arith, x.0, x.2, y.0, y.2))
 grows c r e k g f (child_ {kind = kind} {value = value} a n) b = let x = grows _ _ _ _ _ (fits kind value) a b in let y = grows _ _ _ _ _ f.2 n x.1 in (omega (arith, x.0, y.0), y.1, omega (arith, f.0, x.0, x.2, y.0, y.2))
 grows c r e k g f (skip_ a n) b = let x = grows true 0 8 0 true (fits a_path false) a b in let y = grows _ _ _ _ _ f.1 n x.1 in (omega (arith, x.0, y.0), y.1, omega (arith, x.0, x.2, y.0, y.2))
+grows c r e k g f (folded_ a n) b = let x = grows _ _ _ _ _ f.1 a b in let y = grows _ _ _ _ _ f.2 n x.1 in (omega (arith, x.0, y.0), y.1, omega (arith, x.0, x.2, y.0, y.2))
 grows {symbol} {i = i} c r e k g f (target_ v u w l) b = after_word symbol i _ _ e k _ (backref_placed symbol i) v w (λ y. (omega arith, y, omega (arith, f.1)))
 grows c r e k g f (lifetime_ u a) b = grows _ _ _ _ _ f a b
 grows c r e k g f (binder_ a) b = grows _ _ _ _ _ f a b
@@ -66,18 +67,18 @@ abbrev pub IsRead : List ℕ → Rule → Bool → ℕ → ℕ → Items → (�
 IsRead symbol w x d m p f = (i j : ℕ) → i ≤ length symbol → Spells symbol w d m p i j → Reads w x j (f i)
 
 -- units of a rank below r are read
-abbrev pub ReadAt : ℕ → List ℕ → ℕ → Level → Type 0
-ReadAt r symbol d l = (w : Rule) (x : Bool) → IsLaxer w (rule x) → (kind : Kind) (value : Bool) (n : ℕ) → IsTrue (is_below r kind) → IsRead symbol w x d n (items kind value) (l x kind value n)
+abbrev pub ReadAt : ℕ → List ℕ → Bool → ℕ → Level → Type 0
+ReadAt r symbol folds d l = (w : Rule) (x : Bool) → IsLaxer w (rule x folds) → (kind : Kind) (value : Bool) (n : ℕ) → IsTrue (is_below r kind) → IsRead symbol w x d n (items kind value) (l x kind value n)
 
-abbrev pub ReadBelow : List ℕ → ℕ → List Level → Type 0
-ReadBelow symbol d [] = max_depth ≤ d
-ReadBelow symbol d (l ∷ ls) = ReadAt 2 symbol (d + 1) l × ReadBelow symbol (d + 1) ls
+abbrev pub ReadBelow : List ℕ → Bool → ℕ → List Level → Type 0
+ReadBelow symbol folds d [] = max_depth ≤ d
+ReadBelow symbol folds d (l ∷ ls) = ReadAt 2 symbol folds (d + 1) l × ReadBelow symbol folds (d + 1) ls
 
 -- what is known of the surroundings
 pub record Knows (w : Rule) (r : ℕ) (s : Surroundings) (d : ℕ) : Type 0 where
-  pub laxer : IsLaxer w (rule s.printed)
-  pub here : ReadAt r s.symbol d s.here
-  pub below : ReadBelow s.symbol d s.deeper
+  pub laxer : IsLaxer w (rule s.printed s.folds)
+  pub here : ReadAt r s.symbol s.folds d s.here
+  pub below : ReadBelow s.symbol s.folds d s.deeper
 
 pieces_whole : (ts : List Text) (t : Tree) → IsWhole t → IsWhole (all_pieces ts t)
 pieces_whole [] t h = h
@@ -116,9 +117,9 @@ module _ (w : Rule) (x : Bool) where
   opened_reads true j y h = h
   opened_reads false j y h = h
 
-  raised_reads : (symbol : List ℕ) (d : ℕ) (ls : List Level) (f : Level → List Level → Place → Outcome) (i j : ℕ) → ReadBelow symbol d ls → d < max_depth → ((l : Level) (ls : List Level) → ReadAt 2 symbol (d + 1) l → ReadBelow symbol (d + 1) ls → Reads w x j (f l ls (Some i))) → Reads w x j (one_depth_on ls f (Some i))
-  raised_reads symbol d [] f i j m l h = absurd (omega (arith, m, l))
-  raised_reads symbol d (y ∷ ls) f i j m l h = h y ls m.0 m.1
+  raised_reads : (symbol : List ℕ) (folds : Bool) (d : ℕ) (ls : List Level) (f : Level → List Level → Place → Outcome) (i j : ℕ) → ReadBelow symbol folds d ls → d < max_depth → ((l : Level) (ls : List Level) → ReadAt 2 symbol folds (d + 1) l → ReadBelow symbol folds (d + 1) ls → Reads w x j (f l ls (Some i))) → Reads w x j (one_depth_on ls f (Some i))
+  raised_reads symbol folds d [] f i j m l h = absurd (omega (arith, m, l))
+  raised_reads symbol folds d (y ∷ ls) f i j m l h = h y ls m.0 m.1
 
   -- the turns end, and it goes on from there
   turns_read : (n : ℕ) (symbol : List ℕ) (d m : ℕ) (p q : Items) (f : Place → Outcome) (c : Bool) (r l : ℕ) → 1 ≤ l → Fits c r l (l - 1) false p → IsRead symbol w x d m p (λ i. f (Some i)) → (i j : ℕ) → suc (length symbol) ≤ n + i → i ≤ length symbol
@@ -146,19 +147,31 @@ module _ (w : Rule) (x : Bool) where
       let after : Reads w x j all = goes_on (bound_by n s f true) (f (Some y)) z j (h y z w'.1 b') (bound_read n s d m p f c r e k g u h true true z j (omega (arith, l, w'.0, further.0)) further.1 a') in
       (after.0, λ q. pieces_whole (name_pieces a) (piece (codes " = ") all.tree) (after.1 q)))))
 
-target_reads : (w : Rule) (symbol : List ℕ) (d : ℕ) (x : Bool) (ls : List Level) (f : Level → ℕ → Outcome) (t k : ℕ) → MayRefer w → ReadBelow symbol d ls → d < max_depth → Reads w x k (target_of ls (λ l. target_read x (f l) t (Some k)))
-target_reads w symbol d x [] f t k u m l = absurd (omega (arith, m, l))
-target_reads w symbol d true (y ∷ ls) f t k u m l = (refl, λ q. absurd (cc (q u)))
-target_reads w symbol d false (y ∷ ls) f t k u m l = (refl, λ _. tt)
+target_reads : (w : Rule) (symbol : List ℕ) (folds : Bool) (d : ℕ) (x : Bool) (ls : List Level) (f : Level → ℕ → Outcome) (t k : ℕ) → MayRefer w → ReadBelow symbol folds d ls → d < max_depth → Reads w x k (target_of ls (λ l. target_read x (f l) t (Some k)))
+target_reads w symbol folds d x [] f t k u m l = absurd (omega (arith, m, l))
+target_reads w symbol folds d true (y ∷ ls) f t k u m l = (refl, λ q. absurd (cc (q u)))
+target_reads w symbol folds d false (y ∷ ls) f t k u m l = (refl, λ _. tt)
 
-lifetime_reads : (w : Rule) (x : Bool) (m k i : ℕ) → MayName (rule x) m k → Reads w x i (lifetime_at x m k (Some i))
-lifetime_reads w false m k i h = (refl, λ _. tt)
-lifetime_reads w true m k i h = go (k == 0) (nat_le k m) (le-leb k m h)
+lifetime_reads : (w : Rule) (folds x : Bool) (m k i : ℕ) → MayName (rule x folds) m k → Reads w x i (lifetime_at x m k (Some i))
+lifetime_reads w folds false m k i h = (refl, λ _. tt)
+lifetime_reads w folds true m k i h = go (k == 0) (nat_le k m) (le-leb k m (rule_names folds m k h))
   where
     go : (a b : Bool) → b ≡ true → Reads w true i (cond a (behind (piece (codes "_")) (stands (Some i))) (cond b (behind (all_pieces (letter_of (m - k))) (stands (Some i))) (fault invalid_syntax)))
     go true b p = (refl, λ _. tt)
     go false true p = (refl, λ _. pieces_whole (letter_of (m - k)) nothing tt)
     go false false p = cc p
+
+-- generic arguments, by the rule of the list; if they are folded, no rule applies
+inside : (w : Rule) (x folds : Bool) → x && folds ≡ false → IsLaxer w (rule x folds) → IsLaxer (of_arguments w) (rule x folds)
+inside w true true e h = absurd (cc e)
+inside w true false e h = inside_laxer w (rule true false) h
+inside w false folds e h = inside_laxer w freely h
+
+-- generic arguments, folded or not
+folded_reads : (w : Rule) (x folds : Bool) (o p : Outcome) (f : Place → Outcome) (k j : ℕ) → o.place ≡ Some k → (x && folds ≡ false → Reads (of_arguments w) x k p) → Reads w x j (f (Some k)) → Reads w x j (folded_by (x && folds) o p f)
+folded_reads w true true o p f k j e g h = subst (λ z. Reads w true j (f z)) (sym e) h
+folded_reads w true false o p f k j e g h = let y = g refl in goes_on w true f p k j (y.0, λ q. y.1 (λ m. q (refers_outside w m))) h
+folded_reads w false folds o p f k j e g h = let y = g refl in goes_on w false f p k j (y.0, λ q. y.1 (λ m. refl)) h
 
 pub reads : {w : Rule} (p : Items) {r : ℕ} (s : Surroundings) (d : ℕ) (c : Bool) (e k : ℕ) (g : Bool) → Fits c r e k g p → Knows w r s d → (i j : ℕ) → i ≤ length s.symbol → Spells s.symbol w d s.lifetimes p i j → Reads w s.printed j (run p s (Some i))
 unfolding run
@@ -179,7 +192,7 @@ reads (sound p q) s d c e k g a n i j z (sound_ x) = reads p s d _ _ _ _ a.2 n i
 reads {w} (until_end p q) {r} s d c e k g a n i j z x =
     let end = turns_read w s.printed (suc (length s.symbol)) s.symbol d s.lifetimes p q (run p s) c r a.0 a.2 a.3 (reads p s d _ _ _ _ a.3 n) i j (omega arith) z x in
     goes_on w s.printed (run q s) (turns (suc (length s.symbol)) s.symbol (run p s) (Some i)) end.0 j end.1 (reads q s d _ _ _ _ a.4 n end.0 j end.2 end.3)
-reads {w} (raise p) s d c e k g a n i j z (raise_ u x) = raised_reads w s.printed s.symbol d s.deeper (λ l ls. run p (record s { here = l; deeper = ls })) i j n.below u
+reads {w} (raise p) s d c e k g a n i j z (raise_ u x) = raised_reads w s.printed s.symbol s.folds d s.deeper (λ l ls. run p (record s { here = l; deeper = ls })) i j n.below u
     (λ l ls h m. reads p (record s { here = l; deeper = ls }) (d + 1) _ _ _ _ a (record { laxer = n.laxer; here = h; below = m }) i j z x)
 reads {w} (unit p q) s d c e k g a n i j z (unit_ {k = l} y x) =
     goes_on w s.printed (run q s) (run p s (Some i)) l j (reads p s d _ _ _ _ a.1 n i l z y) (reads q s d _ _ _ _ a.2 n l j (grows _ _ _ _ _ a.1 y z).1 x)
@@ -187,9 +200,14 @@ reads {w} (child kind value p) {r} s d c e k g a n i j z (child_ {k = l} y x) =
     goes_on w s.printed (run p s) (unit_outcome s kind value (Some i)) l j (n.here w s.printed n.laxer kind value s.lifetimes (first (is_below r kind) g a.1) i l z y) (reads p s d _ _ _ _ a.2 n l j (grows _ _ _ _ _ (fits kind value) y z).1 x)
 reads {w} (skip p) s d c e k g a n i j z (skip_ {k = l} y x) =
     subst (λ v. Reads w s.printed j (run p s v)) (sym (n.here freely false (itself freely) a_path false s.lifetimes a.0 i l z y).0) (reads p s d _ _ _ _ a.1 n l j (grows true 0 8 0 true (fits a_path false) y z).1 x)
+reads {w} (folded p q) s d c e k g a n i j z (folded_ {k = l} y x) =
+    let still = record s { printed = false } in
+    let silently = reads p still d _ _ _ _ a.1 (record { laxer = freely_laxest (of_arguments w); here = n.here; below = n.below }) i l z y in
+    folded_reads w s.printed s.folds (run p still (Some i)) (run p s (Some i)) (run q s) l j silently.0
+    (λ u. reads p s d _ _ _ _ a.1 (record { laxer = inside w s.printed s.folds u n.laxer; here = n.here; below = n.below }) i l z y) (reads q s d _ _ _ _ a.2 n l j (grows _ _ _ _ _ a.1 y z).1 x)
 reads {w} (target kind value) s d c e k g a n i j z (target_ v u y l) = word_reads w s.printed s.symbol (i + 1) i _ (λ t k. target_of s.deeper (λ level. target_read s.printed (level true kind value s.lifetimes) t k)) _ (backref_placed s.symbol i) v _ y
-    (λ _. target_reads w s.symbol d s.printed s.deeper (λ level. level true kind value s.lifetimes) v _ u n.below l)
-reads {w} (lifetime t p) s d c e k g a n i j z (lifetime_ u x) = goes_on w s.printed (run p s) (lifetime_at s.printed s.lifetimes t (Some i)) i j (lifetime_reads w s.printed s.lifetimes t i (n.laxer.names s.lifetimes t u)) (reads p s d _ _ _ _ a n i j z x)
+    (λ _. target_reads w s.symbol s.folds d s.printed s.deeper (λ level. level true kind value s.lifetimes) v _ u n.below l)
+reads {w} (lifetime t p) s d c e k g a n i j z (lifetime_ u x) = goes_on w s.printed (run p s) (lifetime_at s.printed s.lifetimes t (Some i)) i j (lifetime_reads w s.folds s.printed s.lifetimes t i (n.laxer.names s.lifetimes t u)) (reads p s d _ _ _ _ a n i j z x)
 reads (binder t p) s d c e k g a n i j z (binder_ x) =
     let y = reads p (record s { lifetimes = s.lifetimes + t }) d _ _ _ _ a (record { laxer = n.laxer; here = n.here; below = n.below }) i j z x in (y.0, λ q. binder_whole s.printed t s.lifetimes _ (y.1 q))
 reads (opens p) s d c e k g a n i j z (opens_ x) = reads p s d _ _ _ _ a.1 n i j z x
@@ -214,23 +232,23 @@ below_rank (suc r) _ h = omega arith
 pub lowest : (kind k l : Kind) → IsTrue (is_below (rank kind) k) → IsTrue (is_below (rank k) l) → ⊥
 lowest kind k l h e = let x = below_rank (rank kind) k h in let y = below_rank (rank k) l e in let z = below_rank 2 kind (all_below kind) in omega (arith, x, y, z)
 
-level_reads : (symbol : List ℕ) (d : ℕ) (ls : List Level) → ReadBelow symbol d ls → ReadAt 2 symbol d (level_of symbol ls)
+level_reads : (symbol : List ℕ) (folds : Bool) (d : ℕ) (ls : List Level) → ReadBelow symbol folds d ls → ReadAt 2 symbol folds d (level_of symbol folds ls)
 unfolding run level_of
-level_reads symbol d ls m w x h kind value n r i j b e =
-    let at : Level → Bool → ℕ → Surroundings = λ here pr k. record { symbol = symbol; printed = pr; here = here; deeper = ls; lifetimes = k } in
+level_reads symbol folds d ls m w x h kind value n r i j b e =
+    let at : Level → Bool → ℕ → Surroundings = λ here pr k. record { symbol = symbol; folds = folds; printed = pr; here = here; deeper = ls; lifetimes = k } in
     let inner : Level = λ pr k v o j. run (items k v) (at nowhere pr o) (Some j) in
-    let low : ReadAt (rank kind) symbol d inner = λ w y h k v o r. reads (items k v) (at nowhere y o) d _ _ _ _ (fits k v) (record { laxer = h; here = λ _ _ _ l _ _ q. absurd (lowest kind k l r q); below = m }) in
+    let low : ReadAt (rank kind) symbol folds d inner = λ w y h k v o r. reads (items k v) (at nowhere y o) d _ _ _ _ (fits k v) (record { laxer = h; here = λ _ _ _ l _ _ q. absurd (lowest kind k l r q); below = m }) in
     reads (items kind value) (at inner x n) d _ _ _ _ (fits kind value) (record { laxer = h; here = low; below = m }) i j b e
 
-levels_read : (symbol : List ℕ) (n d : ℕ) → n + d ≡ max_depth → ReadBelow symbol d (levels symbol n)
+levels_read : (symbol : List ℕ) (folds : Bool) (n d : ℕ) → n + d ≡ max_depth → ReadBelow symbol folds d (levels symbol folds n)
 unfolding levels
-levels_read symbol zero d e = omega arith
-levels_read symbol (suc n) d e = (level_reads symbol (d + 1) (levels symbol n) (levels_read symbol n (d + 1) (omega arith)), levels_read symbol n (d + 1) (omega arith))
+levels_read symbol folds zero d e = omega arith
+levels_read symbol folds (suc n) d e = (level_reads symbol folds (d + 1) (levels symbol folds n) (levels_read symbol folds n (d + 1) (omega arith)), levels_read symbol folds n (d + 1) (omega arith))
 
 -- by a rule no stricter than what is read asks for
-pub unit_reads : (symbol : List ℕ) (w : Rule) (x : Bool) (kind : Kind) (value : Bool) (i j d n : ℕ) → IsLaxer w (rule x) → d ≤ max_depth → i ≤ length symbol → Spells symbol w d n (items kind value) i j → Reads w x j (read_at symbol x kind i d n value)
+pub unit_reads : (symbol : List ℕ) (folds : Bool) (w : Rule) (x : Bool) (kind : Kind) (value : Bool) (i j d n : ℕ) → IsLaxer w (rule x folds) → d ≤ max_depth → i ≤ length symbol → Spells symbol w d n (items kind value) i j → Reads w x j (read_at symbol folds x kind i d n value)
 unfolding read_at
-unit_reads symbol w x kind value i j d n l h b e = level_reads symbol d (levels symbol (max_depth - d)) (levels_read symbol (max_depth - d) d (omega arith)) w x l kind value n (all_below kind) i j b e
+unit_reads symbol folds w x kind value i j d n l h b e = level_reads symbol folds d (levels symbol folds (max_depth - d)) (levels_read symbol folds (max_depth - d) d (omega arith)) w x l kind value n (all_below kind) i j b e
 
-pub spells_read : (symbol : List ℕ) (c : Bool) (kind : Kind) (value : Bool) (i j d n : ℕ) → d ≤ max_depth → i ≤ length symbol → Spells symbol (rule c) d n (items kind value) i j → (read_at symbol c kind i d n value).place ≡ Some j
-spells_read symbol c kind value i j d n h b e = (unit_reads symbol (rule c) c kind value i j d n (itself (rule c)) h b e).0
+pub spells_read : (symbol : List ℕ) (folds c : Bool) (kind : Kind) (value : Bool) (i j d n : ℕ) → d ≤ max_depth → i ≤ length symbol → Spells symbol (rule c folds) d n (items kind value) i j → (read_at symbol folds c kind i d n value).place ≡ Some j
+spells_read symbol folds c kind value i j d n h b e = (unit_reads symbol folds (rule c folds) c kind value i j d n (itself (rule c folds)) h b e).0

@@ -51,83 +51,83 @@ no_path : (s : Surroundings) (v : Bool) (i : ℕ) → length s.symbol ≤ i → 
 unfolding run
 no_path s v i h = no_raise s.deeper (λ l ls. run (byte (path v)) (record s { here = l; deeper = ls })) i (λ l ls. no_tag (path v) (record s { here = l; deeper = ls }) i h)
 
-abbrev at : List ℕ → Bool → List Level → ℕ → Surroundings
-at b pr ls n = record { symbol = b; printed = pr; here = λ pr k v m j. run (items k v) (record { symbol = b; printed = pr; here = nowhere; deeper = ls; lifetimes = m }) (Some j); deeper = ls; lifetimes = n }
+abbrev at : List ℕ → Bool → Bool → List Level → ℕ → Surroundings
+at b folds pr ls n = record { symbol = b; folds = folds; printed = pr; here = λ pr k v m j. run (items k v) (record { symbol = b; folds = folds; printed = pr; here = nowhere; deeper = ls; lifetimes = m }) (Some j); deeper = ls; lifetimes = n }
 
-no_unit : (b : List ℕ) (ls : List Level) (kind : Kind) (pr v : Bool) (n i : ℕ) → length b ≤ i → (level_of b ls pr kind v n i).place ≡ None
+no_unit : (b : List ℕ) (folds : Bool) (ls : List Level) (kind : Kind) (pr v : Bool) (n i : ℕ) → length b ≤ i → (level_of b folds ls pr kind v n i).place ≡ None
 unfolding run level_of
-no_unit b ls a_path pr v n i h = no_path (at b pr ls n) v i h
-no_unit b ls a_type pr v n i h = no_fork (is_byte b i (code "w")) _ _ i (no_byte b i (code "w") h) (rw (slice_get_past b i h) refl)
-no_unit b ls a_constant pr v n i h = no_tag (λ tag. raise (constant v tag)) (at b pr ls n) i h
-no_unit b ls a_pattern pr v n i h = no_tag pattern_of (at b pr ls n) i h
-no_unit b ls a_trait_path pr v n i h = no_fork (is_byte b i (code "B")) _ _ i (no_byte b i (code "B") h) (no_fork (is_byte b i (code "I")) _ _ i (no_byte b i (code "I") h) (no_path (at b pr ls n) false i h))
+no_unit b folds ls a_path pr v n i h = no_path (at b folds pr ls n) v i h
+no_unit b folds ls a_type pr v n i h = no_fork (is_byte b i (code "w")) _ _ i (no_byte b i (code "w") h) (rw (slice_get_past b i h) refl)
+no_unit b folds ls a_constant pr v n i h = no_tag (λ tag. raise (constant v tag)) (at b folds pr ls n) i h
+no_unit b folds ls a_pattern pr v n i h = no_tag pattern_of (at b folds pr ls n) i h
+no_unit b folds ls a_trait_path pr v n i h = no_fork (is_byte b i (code "B")) _ _ i (no_byte b i (code "B") h) (no_fork (is_byte b i (code "I")) _ _ i (no_byte b i (code "I") h) (no_path (at b folds pr ls n) false i h))
 
 -- what lists are of, with so many depths left and lifetimes in force
-pub record Element (b : List ℕ) (out : Bool) (left n : ℕ) (p : Items) : Type 0 where
-  pub advances : Advances b (run p (around b out left n))
-  pub beyond : (i : ℕ) → length b ≤ i → (run p (around b out left n) (Some i)).place ≡ None
+pub record Element (b : List ℕ) (folds out : Bool) (left n : ℕ) (p : Items) : Type 0 where
+  pub advances : Advances b (run p (around b folds out left n))
+  pub beyond : (i : ℕ) → length b ≤ i → (run p (around b folds out left n) (Some i)).place ≡ None
 
-moving : (b : List ℕ) (out : Bool) (left n : ℕ) (p : Items) (c : Bool) (r e k : ℕ) (g : Bool) → Fits c r e k g p → k < e → left ≤ max_depth → Advances b (run p (around b out left n))
-moving b out left n p c r e k g f m l =
-    advances p (around b out left n) (max_depth - left) c r e k g f m
-    (level_spelt b (max_depth - left) (levels b left) (levels_spelt b left (max_depth - left) (omega arith)))
-    (levels_spelt b left (max_depth - left) (omega arith))
+moving : (b : List ℕ) (folds out : Bool) (left n : ℕ) (p : Items) (c : Bool) (r e k : ℕ) (g : Bool) → Fits c r e k g p → k < e → left ≤ max_depth → Advances b (run p (around b folds out left n))
+moving b folds out left n p c r e k g f m l =
+    advances p (around b folds out left n) (max_depth - left) c r e k g f m
+    (level_spelt b folds (max_depth - left) (levels b folds left) (levels_spelt b folds left (max_depth - left) (omega arith)))
+    (levels_spelt b folds left (max_depth - left) (omega arith))
 
-module _ (b : List ℕ) (out : Bool) (left n : ℕ) (l : left ≤ max_depth) where
-  pub type_element : Element b out left n type_inside
+module _ (b : List ℕ) (folds out : Bool) (left n : ℕ) (l : left ≤ max_depth) where
+  pub type_element : Element b folds out left n type_inside
   unfolding run
-  type_element = record { advances = moving b out left n type_inside true 2 8 2 true (typed_cheap 8 2 (omega arith) (omega arith)) (omega arith) l; beyond = λ i h. no_unit b (levels b left) a_type out false n i h }
+  type_element = record { advances = moving b folds out left n type_inside true 2 8 2 true (typed_cheap 8 2 (omega arith) (omega arith)) (omega arith) l; beyond = λ i h. no_unit b folds (levels b folds left) a_type out false n i h }
 
-  pub constant_element : Element b out left n constant_inside
+  pub constant_element : Element b folds out left n constant_inside
   unfolding run
-  constant_element = record { advances = moving b out left n constant_inside true 2 8 0 true (inside_cheap 8 0 (omega arith)) (omega arith) l; beyond = λ i h. no_unit b (levels b left) a_constant out true n i h }
+  constant_element = record { advances = moving b folds out left n constant_inside true 2 8 0 true (inside_cheap 8 0 (omega arith)) (omega arith) l; beyond = λ i h. no_unit b folds (levels b folds left) a_constant out true n i h }
 
-  pub pattern_element : Element b out left n (child a_pattern false done)
+  pub pattern_element : Element b folds out left n (child a_pattern false done)
   unfolding run
-  pattern_element = record { advances = moving b out left n (child a_pattern false done) true 2 8 0 true (omega arith, refl, omega arith) (omega arith) l; beyond = λ i h. no_unit b (levels b left) a_pattern out false n i h }
+  pattern_element = record { advances = moving b folds out left n (child a_pattern false done) true 2 8 0 true (omega arith, refl, omega arith) (omega arith) l; beyond = λ i h. no_unit b folds (levels b folds left) a_pattern out false n i h }
 
-  pub argument_element : Element b out left n argument
+  pub argument_element : Element b folds out left n argument
   unfolding run
   argument_element = record {
-    advances = moving b out left n argument true 1 7 6 true (argument_fits true 0) (omega arith) l;
+    advances = moving b folds out left n argument true 1 7 6 true (argument_fits true 0) (omega arith) l;
     beyond = λ i h. no_fork (is_byte b i (code "L")) _ _ i (no_byte b i (code "L") h)
-        (no_fork (is_byte b i (code "K")) _ _ i (no_byte b i (code "K") h) (no_unit b (levels b left) a_type out false n i h));
+        (no_fork (is_byte b i (code "K")) _ _ i (no_byte b i (code "K") h) (no_unit b folds (levels b folds left) a_type out false n i h));
   }
 
-  pub field_element : Element b out left n field
+  pub field_element : Element b folds out left n field
   unfolding run
-  field_element = record { advances = moving b out left n field true 2 7 6 true field_cheap (omega arith) l; beyond = past }
+  field_element = record { advances = moving b folds out left n field true 2 7 6 true field_cheap (omega arith) l; beyond = past }
     where
-      past : (i : ℕ) → length b ≤ i → (run field (around b out left n) (Some i)).place ≡ None
+      past : (i : ℕ) → length b ≤ i → (run field (around b folds out left n) (Some i)).place ≡ None
       past i h =
-          let at = around b out left n in
+          let at = around b folds out left n in
           let reads : ℕ → Place → Outcome = λ _. run (identifier (λ a. says_name a (says ": " constant_inside))) at in
           subst (λ r. (word_outcome (length b) i reads r).place ≡ None) (sym (no_tagged 115 b i h))
           (no_word (length b) i (λ a. run (says_name a (says ": " constant_inside)) at) (identifier_at b i) (placed_none i b (identifier_at b i) (identifier_placed b i) h))
 
-  pub dyn_trait_element : Element b out left n (dyn_trait binding_value)
+  pub dyn_trait_element : Element b folds out left n (dyn_trait binding_value)
   unfolding run
-  dyn_trait_element = record { advances = moving b out left n (dyn_trait binding_value) true 2 7 6 true trait_cheap (omega arith) l; beyond = past }
+  dyn_trait_element = record { advances = moving b folds out left n (dyn_trait binding_value) true 2 7 6 true trait_cheap (omega arith) l; beyond = past }
     where
-      past : (i : ℕ) → length b ≤ i → (run (dyn_trait binding_value) (around b out left n) (Some i)).place ≡ None
+      past : (i : ℕ) → length b ≤ i → (run (dyn_trait binding_value) (around b folds out left n) (Some i)).place ≡ None
       past i h =
-          let at = around b out left n in
-          let o = level_of b (levels b left) out a_trait_path false n i in
-          subst (λ x. (bound_by (suc (length b)) at (run binding_value at) o.is_open x).place ≡ None) (sym (no_unit b (levels b left) a_trait_path out false n i h)) (bound_failed (suc (length b)) at (run binding_value at) o.is_open)
+          let at = around b folds out left n in
+          let o = level_of b folds (levels b folds left) out a_trait_path false n i in
+          subst (λ x. (bound_by (suc (length b)) at (run binding_value at) o.is_open x).place ≡ None) (sym (no_unit b folds (levels b folds left) a_trait_path out false n i h)) (bound_failed (suc (length b)) at (run binding_value at) o.is_open)
 
   -- what a binding is bound to
-  pub bound_keeps : Keeps b (run binding_value (around b out left n))
-  bound_keeps i h = within_later b i (i + 1) (run binding_value (around b out left n) (Some i)).place (omega arith) (moving b out left n binding_value true 1 7 5 true (argument_fits true 0).2 (omega arith) l i h)
+  pub bound_keeps : Keeps b (run binding_value (around b folds out left n))
+  bound_keeps i h = within_later b i (i + 1) (run binding_value (around b folds out left n) (Some i)).place (omega arith) (moving b folds out left n binding_value true 1 7 5 true (argument_fits true 0).2 (omega arith) l i h)
 
 -- a turn of an element that stands behind a text, and all turns again
-pub element_on : (b : List ℕ) (out : Bool) (left n : ℕ) (p : Items) (text : Text) (i : ℕ) → Element b out left n p → is_byte b i (code "E") ≡ false →
-    let f : Place → Outcome = run (say text p) (around b out left n) in
+pub element_on : (b : List ℕ) (folds out : Bool) (left n : ℕ) (p : Items) (text : Text) (i : ℕ) → Element b folds out left n p → is_byte b i (code "E") ≡ false →
+    let f : Place → Outcome = run (say text p) (around b folds out left n) in
     all_turns b f (Some i) ≡ behind (looked 1) (followed_by (f (Some i)) (all_turns b f))
 unfolding run turns
-element_on b out left n p text i el e = go (nat_le i (length b)) refl
+element_on b folds out left n p text i el e = go (nat_le i (length b)) refl
   where
     f : Place → Outcome
-    f = run (say text p) (around b out left n)
+    f = run (say text p) (around b folds out left n)
 
     go : (c : Bool) → nat_le i (length b) ≡ c → all_turns b f (Some i) ≡ behind (looked 1) (followed_by (f (Some i)) (all_turns b f))
     go true c = turns_on b f i el.advances (leb-true _ _ c) e

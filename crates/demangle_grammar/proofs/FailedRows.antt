@@ -3,7 +3,7 @@ use Rattle.std.specs.Prelude.{◌+◌}
 use Rattle.std.proofs.Common.{◌≡◌, Bool, true, false, List, [], ◌∷◌, ◌++◌, refl, arith}
 use Rattle.demangle_grammar.specs.Cost.{StretchCost, looks_of}
 use Rattle.demangle_grammar.specs.Items.{Text}
-use Rattle.demangle_grammar.specs.Reading.{Tree, nothing, piece, plain_piece, node, looked, hidden, invalid_syntax, too_deep, unread, stretches, looks_alone}
+use Rattle.demangle_grammar.specs.Reading.{Tree, nothing, piece, plain_piece, node, looked, hidden, stretches, looks_alone}
 use Rattle.demangle_grammar.specs.Events.{Event, shows, allows, shown_if, events}
 use Rattle.demangle_grammar.specs.Running.{allowed_in}
 

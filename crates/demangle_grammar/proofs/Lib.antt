@@ -29,3 +29,4 @@ pub mod Unique
 pub mod UnitReads
 pub mod V0Reading
 pub mod Whole
+pub mod Folded

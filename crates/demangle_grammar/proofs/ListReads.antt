@@ -71,20 +71,20 @@ module _ (plain out : Bool) (s : Surroundings) where
   argument_type i k e f = rw (e, f) (ap (with_looks (1 ∷ 1 ∷ [])) (child_followed plain out a_type false s (Some i) k))
 
 -- one more element, behind a text
-module _ (plain out : Bool) (b : List ℕ) (left n : ℕ) where
-  pub more_on : (text : String) (element p : Items) (i : ℕ) → Element b out left n element → is_byte b i (code "E") ≡ false
-      → let s = around b out left n in of plain out (run (more text element p) s (Some i)) ≡ with_looks (1 ∷ []) (with_texts out (codes text ∷ []) (followed (of plain out (run element s (Some i))) (λ j. of plain out (run (more text element p) s j))))
+module _ (plain folds out : Bool) (b : List ℕ) (left n : ℕ) where
+  pub more_on : (text : String) (element p : Items) (i : ℕ) → Element b folds out left n element → is_byte b i (code "E") ≡ false
+      → let s = around b folds out left n in of plain out (run (more text element p) s (Some i)) ≡ with_looks (1 ∷ []) (with_texts out (codes text ∷ []) (followed (of plain out (run element s (Some i))) (λ j. of plain out (run (more text element p) s j))))
   unfolding run
   more_on text element p i el e =
-      let s = around b out left n in
+      let s = around b folds out left n in
       let f : Place → Outcome = run (says text element) s in
       let o = run element s (Some i) in
       let w = all_turns b f o.place in
       let z = run p s w.place in
-      ap (λ (y : Outcome). of plain out (followed_by y (run p s))) (element_on b out left n element (codes text) i el e)
+      ap (λ (y : Outcome). of plain out (followed_by y (run p s))) (element_on b folds out left n element (codes text) i el e)
       ∙ ap (λ xs. heard_as (allows 1 ∷ xs) (of plain out z)) (joined out (codes text) (events plain out o.tree) (events plain out w.tree) (events plain out z.tree))
 
   -- of a tuple, behind its first
-  pub second_on : (element p : Items) (i : ℕ) → Element b out left n element → is_byte b i (code "E") ≡ false
-      → let s = around b out left n in of plain out (run (at_end (says "," p) (more ", " element p)) s (Some i)) ≡ with_looks (1 ∷ 1 ∷ []) (with_texts out (codes ", " ∷ []) (followed (of plain out (run element s (Some i))) (λ j. of plain out (run (more ", " element p) s j))))
-  second_on element p i el e = end_on plain out (around b out left n) (says "," p) (more ", " element p) i e ∙ ap (with_looks (1 ∷ [])) (more_on ", " element p i el e)
+  pub second_on : (element p : Items) (i : ℕ) → Element b folds out left n element → is_byte b i (code "E") ≡ false
+      → let s = around b folds out left n in of plain out (run (at_end (says "," p) (more ", " element p)) s (Some i)) ≡ with_looks (1 ∷ 1 ∷ []) (with_texts out (codes ", " ∷ []) (followed (of plain out (run element s (Some i))) (λ j. of plain out (run (more ", " element p) s j))))
+  second_on element p i el e = end_on plain out (around b folds out left n) (says "," p) (more ", " element p) i e ∙ ap (with_looks (1 ∷ [])) (more_on ", " element p i el e)

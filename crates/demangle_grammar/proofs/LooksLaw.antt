@@ -5,15 +5,15 @@ use Rattle.demangle_grammar.specs.Items.{Items, Kind, a_path}
 use Rattle.demangle_grammar.specs.Cost.{StretchCost, bytes_of, looks_of, Pays}
 use Rattle.demangle_sink.specs.Cut.{size}
 use Rattle.demangle_sink.proofs.CutLemmas.{size-append}
-use Rattle.demangle_grammar.specs.Reading.{Outcome}
-use Rattle.demangle_grammar.specs.Reading.{Tree, nothing, piece, plain_piece, node, looked, hidden, invalid_syntax, too_deep, unread, Place, Surroundings, max_depth, run, stretches, looks, pieces, looks_alone, goes_on_at, read_at, path_texts}
+use Rattle.demangle_grammar.specs.Reading.{Form, Outcome}
+use Rattle.demangle_grammar.specs.Reading.{Tree, nothing, piece, plain_piece, node, looked, hidden, Place, Surroundings, max_depth, run, stretches, looks, pieces, looks_alone, goes_on_at, read_at, path_texts}
 use Rattle.demangle_grammar.specs.Accepting.{looks_in, suffix_looks, second_looks, accepting_looks}
 use Rattle.demangle_grammar.proofs.PaysRules.{Pays-bound, Pays-whole}
 use Rattle.demangle_grammar.proofs.Account.{Ends, Idle, start, idle}
 use Rattle.demangle_grammar.proofs.Paid.{ends_pay, money, read_paid, spelling_paid, small}
 
-abbrev pub path_stretches : List ℕ → Bool → List StretchCost
-path_stretches symbol plain = stretches plain (read_at symbol true a_path 0 0 0 true).tree
+abbrev pub path_stretches : List ℕ → Form → List StretchCost
+path_stretches symbol form = stretches form.include_hash (read_at symbol form.fold_arguments true a_path 0 0 0 true).tree
 
 -- in a symbol of so many bytes: the looks that each byte printed pays for, and those allowed before the first
 abbrev pub looks_a_byte : ℕ → ℕ
@@ -22,23 +22,23 @@ looks_a_byte n = 34 * max_depth * (n + 1)
 abbrev pub looks_before : ℕ → ℕ
 looks_before n = 34 * (max_depth + 1) * (n + 1)
 
-pub printing_pays : (symbol : List ℕ) (plain : Bool) → Pays (looks_a_byte (length symbol)) (looks_before (length symbol)) (path_stretches symbol plain) 0
-printing_pays symbol plain =
-    let o : Outcome = read_at symbol true a_path 0 0 0 true in
-    ends_pay (length symbol) (looks_a_byte (length symbol)) 0 (0 + money (length symbol) (max_depth - 0)) 8 (looks_before (length symbol)) 0 (stretches plain o.tree) o.place (omega arith)
-    (read_paid plain (looks_a_byte (length symbol)) symbol a_path 0 0 0 true (omega arith) (omega arith))
+pub printing_pays : (symbol : List ℕ) (form : Form) → Pays (looks_a_byte (length symbol)) (looks_before (length symbol)) (path_stretches symbol form) 0
+printing_pays symbol form =
+    let o : Outcome = read_at symbol form.fold_arguments true a_path 0 0 0 true in
+    ends_pay (length symbol) (looks_a_byte (length symbol)) 0 (0 + money (length symbol) (max_depth - 0)) 8 (looks_before (length symbol)) 0 (stretches form.include_hash o.tree) o.place (omega arith)
+    (read_paid form.include_hash (looks_a_byte (length symbol)) symbol form.fold_arguments a_path 0 0 0 true (omega arith) (omega arith))
 
-pub printing_looks : (symbol : List ℕ) (plain : Bool) (k : ℕ) →
-    looks_of (take (suc k) (path_stretches symbol plain)) ≤ 100000 * (bytes_of (take k (path_stretches symbol plain)) + 1) * (length symbol + 1)
-printing_looks symbol plain k = omega (arith, Pays-bound (looks_a_byte (length symbol)) (looks_before (length symbol)) 0 (path_stretches symbol plain) k (printing_pays symbol plain))
+pub printing_looks : (symbol : List ℕ) (form : Form) (k : ℕ) →
+    looks_of (take (suc k) (path_stretches symbol form)) ≤ 100000 * (bytes_of (take k (path_stretches symbol form)) + 1) * (length symbol + 1)
+printing_looks symbol form k = omega (arith, Pays-bound (looks_a_byte (length symbol)) (looks_before (length symbol)) 0 (path_stretches symbol form) k (printing_pays symbol form))
 
 -- the looks of a reading without references, by where it ends
 abbrev pub Costs : ℕ → ℕ → ℕ → Place → Type 0
 Costs n i c None = c ≤ 32 * (n + 1 - i)
 Costs n i c (Some j) = (i ≤ j) × (j ≤ n) × (c + 8 ≤ 32 * (j - i))
 
-costs : (symbol : List ℕ) (i : ℕ) → i ≤ length symbol → Costs (length symbol) i (looks_in (read_at symbol false a_path i 0 0 true)) (read_at symbol false a_path i 0 0 true).place
-costs symbol i l = go (read_at symbol false a_path i 0 0 true).tree (read_at symbol false a_path i 0 0 true).place (spelling_paid true symbol a_path i 0 0 true l)
+costs : (symbol : List ℕ) (i : ℕ) → i ≤ length symbol → Costs (length symbol) i (looks_in (read_at symbol false false a_path i 0 0 true)) (read_at symbol false false a_path i 0 0 true).place
+costs symbol i l = go (read_at symbol false false a_path i 0 0 true).tree (read_at symbol false false a_path i 0 0 true).place (spelling_paid true symbol false a_path i 0 0 true l)
   where
     go : (t : Tree) (x : Place) → Ends (length symbol) 0 i (0 + 0) 8 (stretches true t) x → Costs (length symbol) i (looks_of (stretches true t)) x
     go t None h = let w : looks_of (stretches true t) + 0 ≤ 32 * (length symbol + 1 - i) + (0 + 0) + 0 * bytes_of (stretches true t) = Pays-whole 0 (32 * (length symbol + 1 - i) + (0 + 0)) 0 (stretches true t) h in omega (arith, w)
@@ -52,9 +52,9 @@ with_suffix symbol j c (Some k) l h = omega (arith, l, h.0, h.1, h.2)
 second_costs : (symbol : List ℕ) (j : ℕ) → j ≤ length symbol → second_looks symbol (Some j) ≤ 1 + 32 * (length symbol + 1 - j)
 second_costs symbol j l = go (goes_on_at symbol j)
   where
-    go : (c : Bool) → 1 + (cond c (looks_in (read_at symbol false a_path j 0 0 true) + suffix_looks symbol (read_at symbol false a_path j 0 0 true).place) (suffix_looks symbol (Some j))) ≤ 1 + 32 * (length symbol + 1 - j)
-    go true = let w : looks_in (read_at symbol false a_path j 0 0 true) + suffix_looks symbol (read_at symbol false a_path j 0 0 true).place ≤ 32 * (length symbol + 1 - j) =
-        with_suffix symbol j (looks_in (read_at symbol false a_path j 0 0 true)) (read_at symbol false a_path j 0 0 true).place l (costs symbol j l) in omega (arith, w)
+    go : (c : Bool) → 1 + (cond c (looks_in (read_at symbol false false a_path j 0 0 true) + suffix_looks symbol (read_at symbol false false a_path j 0 0 true).place) (suffix_looks symbol (Some j))) ≤ 1 + 32 * (length symbol + 1 - j)
+    go true = let w : looks_in (read_at symbol false false a_path j 0 0 true) + suffix_looks symbol (read_at symbol false false a_path j 0 0 true).place ≤ 32 * (length symbol + 1 - j) =
+        with_suffix symbol j (looks_in (read_at symbol false false a_path j 0 0 true)) (read_at symbol false false a_path j 0 0 true).place l (costs symbol j l) in omega (arith, w)
     go false = omega (arith, l)
 
 both_cost : (symbol : List ℕ) (c : ℕ) (x : Place) → Costs (length symbol) 0 c x → c + second_looks symbol x ≤ 32 * (length symbol + 1)
@@ -63,19 +63,19 @@ both_cost symbol c (Some j) h = let w : second_looks symbol (Some j) ≤ 1 + 32 
 
 pub accepting_costs : (symbol : List ℕ) → accepting_looks symbol ≤ 32 * (length symbol + 1)
 unfolding accepting_looks
-accepting_costs symbol = both_cost symbol (looks_in (read_at symbol false a_path 0 0 0 true)) (read_at symbol false a_path 0 0 0 true).place (costs symbol 0 (omega arith))
+accepting_costs symbol = both_cost symbol (looks_in (read_at symbol false false a_path 0 0 0 true)) (read_at symbol false false a_path 0 0 0 true).place (costs symbol 0 (omega arith))
 
 -- any unit, at any depth
-pub unit_looks : (symbol : List ℕ) (plain : Bool) (kind : Kind) (i d m : ℕ) (value : Bool) (k : ℕ) → i ≤ length symbol → d ≤ max_depth →
-    looks_of (take (suc k) (stretches plain (read_at symbol true kind i d m value).tree)) ≤ 34 * (length symbol + 1) * (max_depth + 1 - d) * (bytes_of (take k (stretches plain (read_at symbol true kind i d m value).tree)) + 1)
-unit_looks symbol plain kind i d m value k l b =
+pub unit_looks : (symbol : List ℕ) (folds plain : Bool) (kind : Kind) (i d m : ℕ) (value : Bool) (k : ℕ) → i ≤ length symbol → d ≤ max_depth →
+    looks_of (take (suc k) (stretches plain (read_at symbol folds true kind i d m value).tree)) ≤ 34 * (length symbol + 1) * (max_depth + 1 - d) * (bytes_of (take k (stretches plain (read_at symbol folds true kind i d m value).tree)) + 1)
+unit_looks symbol folds plain kind i d m value k l b =
     let deeper : max_depth + 1 - d ≡ (max_depth - d) + 1 = omega (arith, b) in
     rw deeper (sum (length symbol) (max_depth - d) _ _ (Pays-bound (34 * (length symbol + 1) * (max_depth - d)) (32 * (length symbol + 1) + (start kind + money (length symbol) (max_depth - d))) 0 (stretches plain o.tree) k
     (ends_pay (length symbol) (34 * (length symbol + 1) * (max_depth - d)) i (start kind + money (length symbol) (max_depth - d)) 8 _ 0 (stretches plain o.tree) o.place (omega arith)
-    (read_paid plain (34 * (length symbol + 1) * (max_depth - d)) symbol kind i d m value (rate (length symbol) (max_depth - d)) l))))
+    (read_paid plain (34 * (length symbol + 1) * (max_depth - d)) symbol folds kind i d m value (rate (length symbol) (max_depth - d)) l))))
   where
     o : Outcome
-    o = read_at symbol true kind i d m value
+    o = read_at symbol folds true kind i d m value
 
     rate : (n e : ℕ) → money n e ≤ 34 * (n + 1) * e
     rate n e = omega arith
@@ -109,6 +109,6 @@ tree_bytes plain (looked k rest) = omega (arith, tree_bytes plain rest)
 tree_bytes plain (hidden x rest) = omega (arith, tree_bytes plain rest, bytes_unheard (stretches plain x), bytes_append (looks_alone (stretches plain x)) (stretches plain rest))
 tree_bytes plain _ = omega arith
 
-pub rendered_bytes : (symbol : List ℕ) (plain : Bool) → bytes_of (stretches plain (read_at symbol true a_path 0 0 0 true).tree) ≡ size (path_texts symbol plain)
+pub rendered_bytes : (symbol : List ℕ) (form : Form) → bytes_of (stretches form.include_hash (read_at symbol form.fold_arguments true a_path 0 0 0 true).tree) ≡ size (path_texts symbol form)
 unfolding path_texts
-rendered_bytes symbol plain = tree_bytes plain (read_at symbol true a_path 0 0 0 true).tree
+rendered_bytes symbol form = tree_bytes form.include_hash (read_at symbol form.fold_arguments true a_path 0 0 0 true).tree

@@ -7,15 +7,15 @@ use Prim.Native.Char.{code}
 use Rattle.demangle_symbol.specs.Digits.{is_byte}
 use Rattle.demangle_symbol.specs.Words.{Read, only_if, then_if_some, byte_at, namespace_at, integer_at, optional_at, backref_at, identifier_at, nibbles_at}
 use Rattle.demangle_symbol.specs.Names.{name_pieces}
-use Rattle.demangle_grammar.specs.Items.{Text, Kind, a_path, a_type, a_constant, a_pattern, a_trait_path, Items, done, invalid, say, say_plain, byte, namespace, integer, optional, identifier, nibbles, peek, next, sound, until_end, raise, unit, child, skip, target, lifetime, binder, opens, dyn_trait, bindings}
+use Rattle.demangle_grammar.specs.Items.{Text, Kind, a_path, a_trait_path, Items, done, invalid, say, say_plain, byte, namespace, integer, optional, identifier, nibbles, peek, next, sound, until_end, raise, unit, child, skip, folded, target, lifetime, binder, opens, dyn_trait, bindings}
 use Rattle.demangle_grammar.specs.Table.{items}
 use Rattle.demangle_grammar.specs.Cost.{StretchCost, Pays}
-use Rattle.demangle_grammar.specs.Reading.{Tree, nothing, piece, plain_piece, node, looked, looks_alone, Place, Outcome, Level, Surroundings, stands, behind, word, followed_by, stretches, run, word_outcome, peek_outcome, byte_choice, one_depth_on, max_depth, turns, angle_if_open, binding_separator, name_equals, bound_by, unit_outcome, behind_hidden, target_of, target_read, lifetime_at, lifetime_named, letter_of, all_pieces, binder_at, level_of, levels, nowhere, read_at}
+use Rattle.demangle_grammar.specs.Reading.{Tree, nothing, piece, plain_piece, node, looked, looks_alone, Place, Outcome, Level, Surroundings, stands, behind, word, followed_by, stretches, run, word_outcome, peek_outcome, byte_choice, one_depth_on, max_depth, turns, angle_if_open, binding_separator, name_equals, bound_by, unit_outcome, behind_hidden, folded_by, target_of, target_read, lifetime_at, lifetime_named, letter_of, all_pieces, binder_at, level_of, levels, nowhere, read_at}
 use Rattle.demangle_grammar.proofs.PaysRules.{Pays-more, Pays-append}
 use Rattle.demangle_symbol.proofs.Counts.{Placed, byte_placed, namespace_placed, integer_placed, optional_placed, backref_placed, identifier_placed, nibbles_placed}
 use Rattle.demangle_grammar.proofs.Complete.{there_placed}
 use Rattle.demangle_grammar.proofs.TableCost.{fits}
-use Rattle.demangle_grammar.proofs.Account.{start, is_below, is_closed, is_some_text, Fits, Ends, Paid, Idle, idle, idle_closed, paid_hands, paid_binder, paid_pieces}
+use Rattle.demangle_grammar.proofs.Account.{start, is_below, is_closed, is_some_text, Fits, Ends, Paid, Idle, idle, idle_closed, free_piece, unheard_pays, paid_hands, paid_binder, paid_pieces}
 
 -- The rules for a place and its stretches.
 
@@ -154,20 +154,34 @@ lifetime_paid plain n r i from true m k l =
     (choice_paid plain n r i from from (nat_le k m) _ _ (omega arith, l, paid_pieces plain r (32 * (i - i) + from) from (letter_of (m - k)) nothing (omega arith)) (omega arith, omega arith)) in
     says plain n r i from from from (codes "'") o.tree o.place (omega arith) inner
 
--- a path that is skipped
-unheard_pays : (r a b : ℕ) (xs : List StretchCost) → Pays 0 a xs b → Pays r a (looks_alone xs) b
-unheard_pays r a b [] h = h
-unheard_pays r a b (x ∷ xs) h = (h.0, Pays-more r (a - x.looks + 0 * x.bytes) (a - x.looks + r * 0) b b 0 (looks_alone xs) (omega arith) (omega arith) (unheard_pays r (a - x.looks + 0 * x.bytes) b xs h.1))
-
-hushed_paid : (plain : Bool) (n r i from mid to : ℕ) (o : Outcome) (f : Place → Outcome) → Paid plain n 0 i 0 8 o →
-    ((j : ℕ) → i ≤ j → j ≤ n → Paid plain n r j (8 + mid) to (f (Some j))) → Idle plain r (f None) → mid ≤ from → Paid plain n r i from to (behind_hidden o f)
-hushed_paid plain n r i from mid to o f h k d l = go o.tree o.place h
+-- a part that is read and not printed
+hushed_paid : (plain : Bool) (n r i from a b mid to : ℕ) (o : Outcome) (f : Place → Outcome) → Paid plain n 0 i a b o →
+    ((j : ℕ) → i ≤ j → j ≤ n → Paid plain n r j (b + mid) to (f (Some j))) → Idle plain r (f None) → a + mid ≤ from → Paid plain n r i from to (behind_hidden o f)
+hushed_paid plain n r i from a b mid to o f h k d l = go o.tree o.place h
   where
-    go : (t : Tree) (x : Place) → Ends n 0 i 0 8 (stretches plain t) x → Paid plain n r i from to (behind_hidden (record { tree = t; place = x; is_open = false }) f)
+    go : (t : Tree) (x : Place) → Ends n 0 i a b (stretches plain t) x → Paid plain n r i from to (behind_hidden (record { tree = t; place = x; is_open = false }) f)
     go t None h = joined_idle n r i from to (looks_alone (stretches plain t)) (stretches plain (f None).tree) (f None).place d.0
-        (Pays-more r (32 * (n + 1 - i) + 0) (32 * (n + 1 - i) + from) 0 0 0 (looks_alone (stretches plain t)) (omega arith) (omega arith) (unheard_pays r (32 * (n + 1 - i) + 0) 0 (stretches plain t) h)) d.1
-    go t (Some j) h = joined n r i j from (8 + mid) to (looks_alone (stretches plain t)) (stretches plain (f (Some j)).tree) (f (Some j)).place h.0 h.1
-        (Pays-more r (32 * (j - i) + 0) (32 * (j - i) + from) 8 (8 + mid) mid (looks_alone (stretches plain t)) (omega (arith, l)) (omega arith) (unheard_pays r (32 * (j - i) + 0) 8 (stretches plain t) h.2)) (k j h.0 h.1)
+        (Pays-more r (32 * (n + 1 - i) + a) (32 * (n + 1 - i) + from) 0 0 0 (looks_alone (stretches plain t)) (omega (arith, l)) (omega arith) (unheard_pays r (32 * (n + 1 - i) + a) 0 (stretches plain t) h)) d.1
+    go t (Some j) h = joined n r i j from (b + mid) to (looks_alone (stretches plain t)) (stretches plain (f (Some j)).tree) (f (Some j)).place h.0 h.1
+        (Pays-more r (32 * (j - i) + a) (32 * (j - i) + from) b (b + mid) mid (looks_alone (stretches plain t)) (omega (arith, l)) (omega arith) (unheard_pays r (32 * (j - i) + a) b (stretches plain t) h.2)) (k j h.0 h.1)
+
+-- generic arguments, folded or not
+folded_paid : (plain : Bool) (n r i from k l to : ℕ) (c : Bool) (x y : Outcome) (f : Place → Outcome) → k ≤ from → Paid plain n 0 i k l x → Paid plain n r i from l y →
+    ((j : ℕ) → i ≤ j → j ≤ n → Paid plain n r j l to (f (Some j))) → Idle plain r (f None) → Paid plain n r i from to (folded_by c x y f)
+folded_paid plain n r i from k l to true x y f b h e g d =
+    hushed_paid plain n r i from k l 0 to x (λ z. behind (piece (codes "_")) (f z)) h
+    (λ j p q. says plain n r j (l + 0) l to (codes "_") (f (Some j)).tree (f (Some j)).place (omega arith) (g j p q))
+    (d.0, free_piece plain r (codes "_") (f None).tree d.1) (omega (arith, b))
+folded_paid plain n r i from k l to false x y f b h e g d = then_paid plain n r i from l to y f e g d
+
+purse_none : (g : Bool) (k R : ℕ) → k + purse g 0 ≤ k + purse g R
+purse_none true k R = omega arith
+purse_none false k R = omega arith
+
+-- the deeper levels, if nothing is printed
+deeper_hidden : (plain : Bool) (n r : ℕ) (fl : Bool) (R : ℕ) (ls : List Level) → Deeper plain n r fl R ls → Deeper plain n 0 false 0 ls
+deeper_hidden plain n r fl R [] d = tt
+deeper_hidden plain n r fl R (l ∷ ls) d = (0, omega arith, (λ f. cc f), d.4, d.4, deeper_hidden plain n r fl d.0 ls d.5)
 
 pub small : (kind : Kind) → start kind ≤ 2
 small a_path = omega arith
@@ -295,8 +309,14 @@ paid plain r R (unit p q) s c z e k g a m i l = then_paid plain (length s.symbol
 paid plain r R (child kind value p) s c z e k g a m i l = then_paid plain (length s.symbol) r i (k + purse g R) 8 e (unit_outcome s kind value (Some i)) (run p s)
     (more (length s.symbol) r i (k + purse g R) (start kind + R) 8 8 (stretches plain (unit_outcome s kind value (Some i)).tree) (unit_outcome s kind value (Some i)).place (let y : R ≤ purse g R = purse_true (is_below z kind) g R a.1 in omega (arith, a.0, y)) (omega arith) (m.here kind value s.lifetimes i l))
     (λ j _ b. paid plain r R p s c z e 8 false a.2 m j b) (idle plain r p s)
-paid plain r R (skip p) s c z e k g a m i l = hushed_paid plain (length s.symbol) r i (k + purse g R) (purse g R) e (s.here false a_path false s.lifetimes i) (run p s) (m.hidden a_path false s.lifetimes i l)
+paid plain r R (skip p) s c z e k g a m i l = hushed_paid plain (length s.symbol) r i (k + purse g R) 0 8 (purse g R) e (s.here false a_path false s.lifetimes i) (run p s) (m.hidden a_path false s.lifetimes i l)
     (λ j _ b. paid plain r R p s c z e 8 g a.1 m j b) (idle plain r p s) (omega arith)
+paid plain r R (folded p q) s c z e k g a m i l =
+    let still = record s { printed = false } in
+    folded_paid plain (length s.symbol) r i (k + purse g R) (k + purse g 0) a.0 e (s.printed && s.folds) (run p still (Some i)) (run p s (Some i)) (run q s) (purse_none g k R)
+    (paid plain 0 0 p still c z a.0 k g a.1 (record { enough = omega arith; here = m.hidden; hidden = m.hidden; deeper = deeper_hidden plain (length s.symbol) r s.printed R s.deeper m.deeper }) i l)
+    (paid plain r R p s c z a.0 k g a.1 m i l)
+    (λ j _ b. more (length s.symbol) r j a.0 (a.0 + 0) e e (stretches plain (run q s (Some j)).tree) (run q s (Some j)).place (omega arith) (omega arith) (paid plain r R q s c z e a.0 false a.2 m j b)) (idle plain r q s)
 paid plain r R (target kind value) s c z e k g a m i l =
     word_paid plain (length s.symbol) r i (k + purse g R) (k + 24 + R) e 1 s.symbol (backref_at s.symbol i)
     (λ t j. target_of s.deeper (λ level. target_read s.printed (level true kind value s.lifetimes) t j)) refl l (backref_placed s.symbol i)
@@ -321,11 +341,11 @@ paid plain r R (bindings o p) s c z e k g a m i l =
 
 -- The levels.
 
-level_paid : (plain : Bool) (r R : ℕ) (symbol : List ℕ) (ls : List Level) (fl : Bool) → R ≤ r →
-    Deeper plain (length symbol) r fl R ls → Deeper plain (length symbol) 0 false 0 ls → LevelPays plain (length symbol) r R fl (level_of symbol ls)
+level_paid : (plain : Bool) (r R : ℕ) (symbol : List ℕ) (folds : Bool) (ls : List Level) (fl : Bool) → R ≤ r →
+    Deeper plain (length symbol) r fl R ls → Deeper plain (length symbol) 0 false 0 ls → LevelPays plain (length symbol) r R fl (level_of symbol folds ls)
 unfolding run level_of
-level_paid plain r R symbol ls fl b d e kind value m i l =
-    let at : Level → Bool → ℕ → Surroundings = λ here f k. record { symbol = symbol; printed = f; here = here; deeper = ls; lifetimes = k } in
+level_paid plain r R symbol folds ls fl b d e kind value m i l =
+    let at : Level → Bool → ℕ → Surroundings = λ here f k. record { symbol = symbol; folds = folds; printed = f; here = here; deeper = ls; lifetimes = k } in
     let inner : Level = λ f k v o j. run (items k v) (at nowhere f o) (Some j) in
     paid plain r R (items kind value) (at inner fl m) _ _ 8 (start kind) true (fits kind value)
     (record {
@@ -341,39 +361,39 @@ level_paid plain r R symbol ls fl b d e kind value m i l =
 abbrev pub money : ℕ → ℕ → ℕ
 money n m = (32 * (n + 1) + 2) * m
 
-levels_hidden : (plain : Bool) (symbol : List ℕ) (m : ℕ) → Deeper plain (length symbol) 0 false 0 (levels symbol m)
+levels_hidden : (plain : Bool) (symbol : List ℕ) (folds : Bool) (m : ℕ) → Deeper plain (length symbol) 0 false 0 (levels symbol folds m)
 unfolding levels
-levels_hidden plain symbol zero = tt
-levels_hidden plain symbol (suc m) =
-    let q : Deeper plain (length symbol) 0 false 0 (levels symbol m) = levels_hidden plain symbol m in
-    let w : LevelPays plain (length symbol) 0 0 false (level_of symbol (levels symbol m)) = level_paid plain 0 0 symbol (levels symbol m) false (omega arith) q q in
+levels_hidden plain symbol folds zero = tt
+levels_hidden plain symbol folds (suc m) =
+    let q : Deeper plain (length symbol) 0 false 0 (levels symbol folds m) = levels_hidden plain symbol folds m in
+    let w : LevelPays plain (length symbol) 0 0 false (level_of symbol folds (levels symbol folds m)) = level_paid plain 0 0 symbol folds (levels symbol folds m) false (omega arith) q q in
     (0, omega arith, (λ f. cc f), w, w, q)
 
-levels_paid : (plain : Bool) (r : ℕ) (symbol : List ℕ) (m : ℕ) → money (length symbol) m ≤ r → Deeper plain (length symbol) r true (money (length symbol) m) (levels symbol m)
+levels_paid : (plain : Bool) (r : ℕ) (symbol : List ℕ) (folds : Bool) (m : ℕ) → money (length symbol) m ≤ r → Deeper plain (length symbol) r true (money (length symbol) m) (levels symbol folds m)
 unfolding levels
-levels_paid plain r symbol zero b = tt
-levels_paid plain r symbol (suc m) b =
+levels_paid plain r symbol folds zero b = tt
+levels_paid plain r symbol folds (suc m) b =
     let c : money (length symbol) m ≤ r = omega (arith, b) in
-    let q : Deeper plain (length symbol) r true (money (length symbol) m) (levels symbol m) = levels_paid plain r symbol m c in
-    let z : Deeper plain (length symbol) 0 false 0 (levels symbol m) = levels_hidden plain symbol m in (
+    let q : Deeper plain (length symbol) r true (money (length symbol) m) (levels symbol folds m) = levels_paid plain r symbol folds m c in
+    let z : Deeper plain (length symbol) 0 false 0 (levels symbol folds m) = levels_hidden plain symbol folds m in (
       money (length symbol) m,
       omega arith,
       (λ _. omega arith),
-      level_paid plain r (money (length symbol) m) symbol (levels symbol m) true c q z,
-      level_paid plain 0 0 symbol (levels symbol m) false (omega arith) z z,
+      level_paid plain r (money (length symbol) m) symbol folds (levels symbol folds m) true c q z,
+      level_paid plain 0 0 symbol folds (levels symbol folds m) false (omega arith) z z,
       q,
     )
 
 -- to be printed
-pub read_paid : (plain : Bool) (r : ℕ) (symbol : List ℕ) (kind : Kind) (i d m : ℕ) (value : Bool) → money (length symbol) (max_depth - d) ≤ r → i ≤ length symbol →
-    Paid plain (length symbol) r i (start kind + money (length symbol) (max_depth - d)) 8 (read_at symbol true kind i d m value)
+pub read_paid : (plain : Bool) (r : ℕ) (symbol : List ℕ) (folds : Bool) (kind : Kind) (i d m : ℕ) (value : Bool) → money (length symbol) (max_depth - d) ≤ r → i ≤ length symbol →
+    Paid plain (length symbol) r i (start kind + money (length symbol) (max_depth - d)) 8 (read_at symbol folds true kind i d m value)
 unfolding read_at
-read_paid plain r symbol kind i d m value b l =
-    level_paid plain r (money (length symbol) (max_depth - d)) symbol (levels symbol (max_depth - d)) true b (levels_paid plain r symbol (max_depth - d) b) (levels_hidden plain symbol (max_depth - d)) kind value m i l
+read_paid plain r symbol folds kind i d m value b l =
+    level_paid plain r (money (length symbol) (max_depth - d)) symbol folds (levels symbol folds (max_depth - d)) true b (levels_paid plain r symbol folds (max_depth - d) b) (levels_hidden plain symbol folds (max_depth - d)) kind value m i l
 
 -- not to be printed
-pub spelling_paid : (plain : Bool) (symbol : List ℕ) (kind : Kind) (i d m : ℕ) (value : Bool) → i ≤ length symbol →
-    Paid plain (length symbol) 0 i (start kind + 0) 8 (read_at symbol false kind i d m value)
+pub spelling_paid : (plain : Bool) (symbol : List ℕ) (folds : Bool) (kind : Kind) (i d m : ℕ) (value : Bool) → i ≤ length symbol →
+    Paid plain (length symbol) 0 i (start kind + 0) 8 (read_at symbol folds false kind i d m value)
 unfolding read_at
-spelling_paid plain symbol kind i d m value l = let q : Deeper plain (length symbol) 0 false 0 (levels symbol (max_depth - d)) = levels_hidden plain symbol (max_depth - d) in
-    level_paid plain 0 0 symbol (levels symbol (max_depth - d)) false (omega arith) q q kind value m i l
+spelling_paid plain symbol folds kind i d m value l = let q : Deeper plain (length symbol) 0 false 0 (levels symbol folds (max_depth - d)) = levels_hidden plain symbol folds (max_depth - d) in
+    level_paid plain 0 0 symbol folds (levels symbol folds (max_depth - d)) false (omega arith) q q kind value m i l

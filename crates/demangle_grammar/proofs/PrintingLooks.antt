@@ -4,7 +4,7 @@ use Rattle.std.proofs.Common.{◌≡◌, ◌+◌, ◌-◌, Bool, true, false, Li
 use Rattle.std.proofs.lemmas.List.{map-append, append-nil}
 use Rattle.demangle_grammar.specs.Cost.{StretchCost, Pays}
 use Rattle.demangle_grammar.specs.Events.{Event, events}
-use Rattle.demangle_grammar.specs.Reading.{Tree, nothing, piece, plain_piece, node, looked, hidden, invalid_syntax, too_deep, unread, stretches, looks_alone, looks}
+use Rattle.demangle_grammar.specs.Reading.{Tree, nothing, piece, plain_piece, node, looked, hidden, stretches, looks_alone, looks}
 use Rattle.demangle_grammar.proofs.PaysRules.{Pays-more}
 use Rattle.demangle_grammar.proofs.PrintingSteps.{weighed}
 

@@ -3,7 +3,7 @@ use Rattle.std.specs.Prelude.{map}
 use Rattle.std.proofs.Common.{◌≡◌, ℕ, Bool, true, false, List, [], ◌∷◌, ◌++◌, refl, ap, ◌∙◌}
 use Rattle.demangle_grammar.specs.Cost.{StretchCost}
 use Rattle.demangle_grammar.specs.Items.{Text}
-use Rattle.demangle_grammar.specs.Reading.{Tree, nothing, piece, plain_piece, node, looked, hidden, invalid_syntax, too_deep, unread, pieces, looks, hands}
+use Rattle.demangle_grammar.specs.Reading.{Tree, piece, plain_piece, node, looked, hidden, pieces, looks, hands}
 use Rattle.demangle_grammar.specs.Events.{Event, shows, allows, shown_if, said_all, allowed_all, events, shown_in, stretch_of}
 
 shown_append : (xs ys : List Event) → shown_in (xs ++ ys) ≡ shown_in xs ++ shown_in ys

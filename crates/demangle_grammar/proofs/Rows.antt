@@ -14,7 +14,7 @@ use Rattle.demangle_symbol.specs.Words.{then_if_some, byte_at, namespace_at, int
 use Rattle.demangle_symbol.specs.Punycode.{bias_after, adapted_bias, deltas, insertions, puny}
 use Rattle.demangle_symbol.specs.Names.{is_empty, name_pieces}
 use Rattle.demangle_symbol.specs.Literals.{literal, string_of}
-use Rattle.demangle_grammar.specs.Reading.{turns, bound_by, run, level_of, levels, read_at, path_texts, unit_end, suffix_place}
+use Rattle.demangle_grammar.specs.Reading.{Form, form, turns, bound_by, run, level_of, levels, read_at, path_texts, unit_end, suffix_place}
 use Rattle.demangle_grammar.specs.V0.{v0_in, v0_of}
 
 -- each text that is not empty, with `¦` behind it
@@ -33,9 +33,9 @@ is_allowed [] = true
 is_allowed (b ∷ bs) = nat_eq b 46 && list_all (λ c. nat_le 33 c && nat_le c 126) bs
 
 -- what a symbol hands over, and its suffix
-unfoldable pub shows : Bool → String → Option (List ℕ)
+unfoldable pub shows : Form → String → Option (List ℕ)
 unfolding digits encode_utf8 chars is_utf8 ucd_category ucd_derived is_byte number byte_at namespace_at integer_at optional_at backref_at identifier_at nibbles_at hex_number number_of length_end length_value tail_len bias_after adapted_bias deltas insertions puny name_pieces literal string_of turns bound_by run level_of levels read_at path_texts unit_end suffix_place v0_in v0_of
-shows plain symbol = then_if_some (v0_of (codes symbol)) (λ v. if is_allowed v.1 then Some (marked (path_texts v.0 plain ++ v.1 ∷ [])) else None)
+shows form symbol = then_if_some (v0_of (codes symbol)) (λ v. if is_allowed v.1 then Some (marked (path_texts v.0 form ++ v.1 ∷ [])) else None)
 
 -- a symbol, and what it hands over
 data Row : Type 0 where
@@ -44,22 +44,38 @@ data Row : Type 0 where
   -- with hashes and the types of numbers, and without them
   Forms : String → String → String → Row
   Refused : String → Row
+  -- the same three, with folded arguments
+  Folded : String → String → Row
+  FoldedForms : String → String → String → Row
+  FoldedRefused : String → Row
 
 abbrev symbol_of : Row → String
 symbol_of (Alike symbol _) = symbol
 symbol_of (Forms symbol _ _) = symbol
 symbol_of (Refused symbol) = symbol
+symbol_of (Folded symbol _) = symbol
+symbol_of (FoldedForms symbol _ _) = symbol
+symbol_of (FoldedRefused symbol) = symbol
+
+abbrev folds_in : Row → Bool
+folds_in (Folded _ _) = true
+folds_in (FoldedForms _ _ _) = true
+folds_in (FoldedRefused _) = true
+folds_in _ = false
 
 -- what the symbol hands over in both forms, and what the row says of it
 unfoldable shown : Row → Option (List ℕ) × Option (List ℕ)
 unfolding shows
-shown row = (shows true (symbol_of row), shows false (symbol_of row))
+shown row = (shows (form true (folds_in row)) (symbol_of row), shows (form false (folds_in row)) (symbol_of row))
 
 unfoldable wanted : Row → Option (List ℕ) × Option (List ℕ)
 unfolding marked_text
 wanted (Alike _ text) = (Some (marked_text text), Some (marked_text text))
 wanted (Forms _ plain alternate) = (Some (marked_text plain), Some (marked_text alternate))
 wanted (Refused _) = (None, None)
+wanted (Folded _ text) = (Some (marked_text text), Some (marked_text text))
+wanted (FoldedForms _ plain alternate) = (Some (marked_text plain), Some (marked_text alternate))
+wanted (FoldedRefused _) = (None, None)
 
 abbrev HandOver : List Row → Type 0
 HandOver rows = map shown rows ≡ map wanted rows
@@ -472,3 +488,56 @@ field_disambiguators_hand_over : HandOver (
     [])
 unfolding shows marked_text shown wanted
 field_disambiguators_hand_over = refl
+
+-- Folded arguments. The pieces are those of the same crate with a change: it reads the arguments of a path without printing
+-- them, as it reads an impl path, and prints `_` for them.
+folded_arguments_hand_over : HandOver (
+    -- In value position, and not in value position.
+    Folded "_RINvC3foo3barhE" "foo¦::¦bar¦::¦<¦_¦>¦" ∷
+    Folded "_RNvMC3fooINtB2_3BarlE3baz" "<¦foo¦::¦Bar¦<¦_¦>¦>¦::¦baz¦" ∷
+    Folded "_RNvNtINtC1a1bhE1c1d" "a¦::¦b¦::¦<¦_¦>¦::¦c¦::¦d¦" ∷
+    Folded "_RYINtC1a1bhENtC1c1d" "<¦a¦::¦b¦<¦_¦>¦ as ¦c¦::¦d¦>¦" ∷
+    Folded "_RXC1aINtC1b1chEINtC1d1elE" "<¦b¦::¦c¦<¦_¦>¦ as ¦d¦::¦e¦<¦_¦>¦>¦" ∷
+    Folded "_RMC0AhVINvC1a1bhEU" "<¦[¦u8¦; ¦a¦::¦b¦::¦<¦_¦>¦]¦>¦" ∷
+    FoldedForms "_RINbNbCskIICzLVDPPb_5alloc5alloc8box_freeDINbNiB4_5boxed5FnBoxuEp6OutputuEL_ECs1iopQbuBiw2_3std" "alloc¦[¦f15a878b47eb696b¦]¦::¦alloc¦::¦box_free¦::¦<¦_¦>¦" "alloc¦::¦alloc¦::¦box_free¦::¦<¦_¦>¦" ∷
+    FoldedForms "_RNCINvCs4fqI2P2rA04_1a1bhE0" "a¦[¦317d481089b8c8fe¦]¦::¦b¦::¦<¦_¦>¦::{¦closure¦#¦0¦}¦" "a¦::¦b¦::¦<¦_¦>¦::{¦closure¦#¦0¦}¦" ∷
+    -- An empty list, a list of several arguments, and nested lists.
+    Folded "_RINvC1a1bE" "a¦::¦b¦::¦<¦_¦>¦" ∷
+    Folded "_RMC0INtC1a1bE" "<¦a¦::¦b¦<¦_¦>¦>¦" ∷
+    Folded "_RINvC1a1bhKj7b_L_E" "a¦::¦b¦::¦<¦_¦>¦" ∷
+    Folded "_RINvC1a1bINtC1c1dINtC1e1fhEEINtC1g1hlEE" "a¦::¦b¦::¦<¦_¦>¦" ∷
+    Folded "_RIIC1ahElE" "a¦::¦<¦_¦>¦::¦<¦_¦>¦" ∷
+    Folded "_RIC0WmRm1_m9_E" "::¦<¦_¦>¦" ∷
+    -- A lifetime that is not in scope, and a reference to a bad target: neither is looked up.
+    Folded "_RINvC1a1bL0_E" "a¦::¦b¦::¦<¦_¦>¦" ∷
+    Folded "_RINvC1a1bRL0_hE" "a¦::¦b¦::¦<¦_¦>¦" ∷
+    Folded "_RNvMC3fooINtC1a1bL0_hE1c" "<¦a¦::¦b¦<¦_¦>¦>¦::¦c¦" ∷
+    Folded "_RINvC1a1bB3_E" "a¦::¦b¦::¦<¦_¦>¦" ∷
+    Folded "_RMC0FG_RL0_INtC1a1bRL0_hEEINtC1c1dhE" "<¦for<¦'¦a¦> ¦fn(¦&¦'¦a¦ ¦a¦::¦b¦<¦_¦>¦)¦ -> ¦c¦::¦d¦<¦_¦>¦>¦" ∷
+    -- Dyn traits, with bindings and without.
+    Folded "_RMC0DINtC1a1bhEEL_" "<¦dyn ¦a¦::¦b¦<¦_¦>¦>¦" ∷
+    Folded "_RMC0DINtC1a1bEEL_" "<¦dyn ¦a¦::¦b¦<¦_¦>¦>¦" ∷
+    Folded "_RMC0DINtC1a1bhEp4Itemhp3OutlEL_" "<¦dyn ¦a¦::¦b¦<¦_¦, ¦Item¦ = ¦u8¦, ¦Out¦ = ¦i32¦>¦>¦" ∷
+    Folded "_RMC0DINtC1a1bEp4ItemhEL_" "<¦dyn ¦a¦::¦b¦<¦_¦, ¦Item¦ = ¦u8¦>¦>¦" ∷
+    Folded "_RMC0DNtC1a1bp4ItemINtC1c1dhEEL_" "<¦dyn ¦a¦::¦b¦<¦Item¦ = ¦c¦::¦d¦<¦_¦>¦>¦>¦" ∷
+    Folded "_RMC0DINtC1a1bRL0_hEp4ItemhEL_" "<¦dyn ¦a¦::¦b¦<¦_¦, ¦Item¦ = ¦u8¦>¦>¦" ∷
+    Folded "_RMC0TDINtC1a1bhEEL_DB5_p1xmEL_E" "<¦(¦dyn ¦a¦::¦b¦<¦_¦>¦, ¦dyn ¦a¦::¦b¦<¦x¦ = ¦u32¦>¦)¦>¦" ∷
+    -- In the target of a reference.
+    Folded "_RMC0TINtC1a1bhEB3_E" "<¦(¦a¦::¦b¦<¦_¦>¦, ¦a¦::¦b¦<¦_¦>¦)¦>¦" ∷
+    Folded "_RMC0TINtC1a1bhEB4_E" "<¦(¦a¦::¦b¦<¦_¦>¦, ¦a¦::¦b¦)¦>¦" ∷
+    Folded "_RYTC6IC1ah@B3_EC1b" "<¦(¦IC1ah@¦, ¦a¦<¦_¦>¦)¦ as ¦b¦>¦" ∷
+    Folded "_RYTC6IC1aB@B3_EC1b" "<¦(¦IC1aB@¦, ¦a¦<¦_¦>¦)¦ as ¦b¦>¦" ∷
+    Folded "_RYTC3IC@B3_EC1b" "<¦(¦IC@¦, ¦{invalid syntax}¦<¦_¦>¦)¦ as ¦b¦>¦" ∷
+    Folded "_RYTC4IC1aB3_EC1b" "<¦(¦IC1a¦, ¦a¦<¦_¦>¦)¦ as ¦b¦>¦" ∷
+    Folded "_RYTC4I@@@DB3_p1xmEL_EC1b" "<¦(¦I@@@¦, ¦dyn ¦{invalid syntax}¦<¦_¦, ¦x¦ = ¦u32¦>¦)¦ as ¦b¦>¦" ∷
+    Folded "_RMIC1ahEINtC1b1clE" "<¦b¦::¦c¦<¦_¦>¦>¦" ∷
+    -- Symbols without arguments, and texts that are not symbols.
+    Folded "_RC4f128" "f128¦" ∷
+    Folded "_RNvC6_123foo3bar" "123foo¦::¦bar¦" ∷
+    Folded "_RMC0TRhShOhE" "<¦(¦&¦u8¦, ¦[¦u8¦]¦, ¦*¦mut ¦u8¦)¦>¦" ∷
+    FoldedRefused "_RINvC1a1bh" ∷
+    FoldedRefused "_RINvC1a1b@E" ∷
+    FoldedRefused "_RINvC1a1bRE" ∷
+    [])
+unfolding shows marked_text shown wanted
+folded_arguments_hand_over = refl

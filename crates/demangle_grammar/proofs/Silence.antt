@@ -6,25 +6,25 @@ use Prim.Native.String.{String}
 use Rattle.demangle_symbol.specs.Digits.{is_byte}
 use Rattle.demangle_symbol.specs.Words.{Name, Read, byte_at, namespace_at, integer_at, optional_at, identifier_at, nibbles_at}
 use Rattle.demangle_symbol.specs.Names.{name_pieces}
-use Rattle.demangle_grammar.specs.Items.{Text, Kind, a_path, a_type, a_constant, a_pattern, a_trait_path, Items, done, invalid, say, say_plain, byte, namespace, integer, optional, identifier, nibbles, peek, next, sound, until_end, raise, unit, child, skip, target, lifetime, binder, opens, dyn_trait, bindings}
+use Rattle.demangle_grammar.specs.Items.{Text, Kind, a_path, a_constant, a_trait_path, Items, done, invalid, say, say_plain, byte, namespace, integer, optional, identifier, nibbles, peek, next, sound, until_end, raise, unit, child, skip, folded, target, lifetime, binder, opens, dyn_trait, bindings}
 use Rattle.demangle_grammar.specs.Table.{items, is_among, row_of, path, path_rows, constant, constant_rows, variant, variant_rows, says}
 use Rattle.demangle_grammar.specs.Reading.{looked}
 use Rattle.demangle_grammar.specs.Reading.{Tree, piece, Place, Outcome, Level, Surroundings, stands, fault, unread, run, turns, word_outcome, bound_by, followed_by, followed_open, behind, binding_separator, name_equals, angle_if_open, all_pieces, word, byte_choice, peek_outcome, level_of, levels, nowhere}
 use Rattle.demangle_grammar.specs.Events.{Event, shown_if, Heard, of, events, and_then, with_looks}
 
-abbrev pub at : List ℕ → Bool → Level → List Level → ℕ → Surroundings
-at b pr here deeper m = record { symbol = b; printed = pr; here = here; deeper = deeper; lifetimes = m }
+abbrev pub at : List ℕ → Bool → Bool → Level → List Level → ℕ → Surroundings
+at b folds pr here deeper m = record { symbol = b; folds = folds; printed = pr; here = here; deeper = deeper; lifetimes = m }
 
 -- surroundings in which nothing is printed
-abbrev silent : List ℕ → Level → List Level → ℕ → Surroundings
-silent b here deeper m = at b false here deeper m
+abbrev silent : List ℕ → Bool → Level → List Level → ℕ → Surroundings
+silent b folds here deeper m = at b folds false here deeper m
 
 -- What is told of readings is told alike of their words, choices and turns, if it is behind a look.
 module _ {X : Type 0} (tell : Outcome → X) (look : (k : ℕ) (o o' : Outcome) → tell o ≡ tell o' → tell (behind (looked k) o) ≡ tell (behind (looked k) o')) where
-  pub worded : {A : Type 0} (b : List ℕ) (pr : Bool) (l l' : Level) (ls : List Level) (m n : ℕ) (reads : List ℕ → ℕ → Read A) (f g : A → Place → Outcome) → ((v : A) (x : Place) → tell (f v x) ≡ tell (g v x)) → (j : Place)
-      → tell (word (at b pr l ls m) j reads f) ≡ tell (word (at b pr l' ls n) j reads g)
-  worded b pr l l' ls m n reads f g h None = refl
-  worded b pr l l' ls m n reads f g h (Some j) = go (reads b j)
+  pub worded : {A : Type 0} (b : List ℕ) (folds pr : Bool) (l l' : Level) (ls : List Level) (m n : ℕ) (reads : List ℕ → ℕ → Read A) (f g : A → Place → Outcome) → ((v : A) (x : Place) → tell (f v x) ≡ tell (g v x)) → (j : Place)
+      → tell (word (at b folds pr l ls m) j reads f) ≡ tell (word (at b folds pr l' ls n) j reads g)
+  worded b folds pr l l' ls m n reads f g h None = refl
+  worded b folds pr l l' ls m n reads f g h (Some j) = go (reads b j)
     where
       go : (r : Read _) → tell (word_outcome (length b) j f r) ≡ tell (word_outcome (length b) j g r)
       go None = refl
@@ -68,6 +68,7 @@ mute (raise p) = raise (mute p)
 mute (unit p q) = unit (mute p) (mute q)
 mute (child kind value p) = child kind false (mute p)
 mute (skip p) = skip (mute p)
+mute (folded p q) = folded (mute p) (mute q)
 mute (target kind value) = target kind false
 mute (lifetime k p) = mute p
 mute (binder k p) = mute p
@@ -111,63 +112,64 @@ module _ (plain : Bool) where
   alike_opened true x = refl
   alike_opened false x = refl
 
-  alike_bound : (k : ℕ) (b : List ℕ) (here : Level) (deeper : List Level) (m n : ℕ) (f g : Place → Outcome) → ((x : Place) → Alike plain (f x) (g x)) → (o : Bool) (i : Place) → Alike plain (bound_by k (silent b here deeper m) f o i) (bound_by k (silent b here deeper n) g o i)
+  alike_bound : (k : ℕ) (b : List ℕ) (folds : Bool) (here : Level) (deeper : List Level) (m n : ℕ) (f g : Place → Outcome) → ((x : Place) → Alike plain (f x) (g x)) → (o : Bool) (i : Place) → Alike plain (bound_by k (silent b folds here deeper m) f o i) (bound_by k (silent b folds here deeper n) g o i)
   unfolding bound_by
-  alike_bound k b here deeper m n f g h o None = refl
-  alike_bound zero b here deeper m n f g h o (Some i) = refl
-  alike_bound (suc k) b here deeper m n f g h o (Some i) =
-      let s = silent b here deeper m in
-      let t = silent b here deeper n in
+  alike_bound k b folds here deeper m n f g h o None = refl
+  alike_bound zero b folds here deeper m n f g h o (Some i) = refl
+  alike_bound (suc k) b folds here deeper m n f g h o (Some i) =
+      let s = silent b folds here deeper m in
+      let t = silent b folds here deeper n in
       let one : Name → Place → Outcome = λ a x. behind (name_equals a) (followed_by (f x) (bound_by k s f true)) in
       let other : Name → Place → Outcome = λ a x. behind (name_equals a) (followed_by (g x) (bound_by k t g true)) in
       forked (of plain false) look (is_byte b i (code "p"))
       (λ j. behind (binding_separator o) (word s j identifier_at one)) (λ j. behind (binding_separator o) (word t j identifier_at other)) (angle_if_open o) (angle_if_open o) (Some i)
       (λ j. alike_opened o (word s j identifier_at one)
-      ∙ (worded (of plain false) look b false here here deeper m n identifier_at one other
+      ∙ (worded (of plain false) look b folds false here here deeper m n identifier_at one other
       (λ a x. alike_named a (followed_by (f x) (bound_by k s f true))
-      ∙ (alike_followed (f x) (g x) (bound_by k s f true) (bound_by k t g true) (h x) (alike_bound k b here deeper m n f g h true)
+      ∙ (alike_followed (f x) (g x) (bound_by k s f true) (bound_by k t g true) (h x) (alike_bound k b folds here deeper m n f g h true)
       ∙ sym (alike_named a (followed_by (g x) (bound_by k t g true))))) j
       ∙ sym (alike_opened o (word t j identifier_at other)))) (λ x. refl)
 
-  alike_open : (k : ℕ) (b : List ℕ) (here : Level) (deeper : List Level) (m n : ℕ) (f g : Place → Outcome) → ((x : Place) → Alike plain (f x) (g x)) → (o o' : Outcome) → Alike plain o o'
-      → Alike plain (followed_open o (bound_by k (silent b here deeper m) f)) (followed_open o' (bound_by k (silent b here deeper n) g))
-  alike_open k b here deeper m n f g h o o' e =
-      ap (λ (z : Heard). and_then z (λ x p. of plain false (bound_by k (silent b here deeper m) f p x))) e
-      ∙ ap (λ (z : Heard). and_then (of plain false o') (λ _ _. z)) (alike_bound k b here deeper m n f g h o'.is_open o'.place)
+  alike_open : (k : ℕ) (b : List ℕ) (folds : Bool) (here : Level) (deeper : List Level) (m n : ℕ) (f g : Place → Outcome) → ((x : Place) → Alike plain (f x) (g x)) → (o o' : Outcome) → Alike plain o o'
+      → Alike plain (followed_open o (bound_by k (silent b folds here deeper m) f)) (followed_open o' (bound_by k (silent b folds here deeper n) g))
+  alike_open k b folds here deeper m n f g h o o' e =
+      ap (λ (z : Heard). and_then z (λ x p. of plain false (bound_by k (silent b folds here deeper m) f p x))) e
+      ∙ ap (λ (z : Heard). and_then (of plain false o') (λ _ _. z)) (alike_bound k b folds here deeper m n f g h o'.is_open o'.place)
 
-  muted : (p : Items) (b : List ℕ) (here : Level) (deeper : List Level) (m n : ℕ) → Uniform plain here → AllUniform plain deeper → (i : Place) → Alike plain (run p (silent b here deeper m) i) (run (mute p) (silent b here deeper n) i)
+  muted : (p : Items) (b : List ℕ) (folds : Bool) (here : Level) (deeper : List Level) (m n : ℕ) → Uniform plain here → AllUniform plain deeper → (i : Place) → Alike plain (run p (silent b folds here deeper m) i) (run (mute p) (silent b folds here deeper n) i)
   unfolding run
-  muted (say t p) b here deeper m n h a i = muted p b here deeper m n h a i
-  muted (say_plain t p) b here deeper m n h a i = let o = run p (silent b here deeper m) i in ap (λ xs. record { events = xs; place = o.place; is_open = o.is_open }) (said_plain plain t (events plain false o.tree)) ∙ muted p b here deeper m n h a i
-  muted (byte f) b here deeper m n h a i = worded (of plain false) look b false here here deeper m n byte_at (λ v. run (f v) (silent b here deeper m)) (λ v. run (mute (f v)) (silent b here deeper n)) (λ v. muted (f v) b here deeper m n h a) i
-  muted (namespace f) b here deeper m n h a i = worded (of plain false) look b false here here deeper m n namespace_at (λ v. run (f v) (silent b here deeper m)) (λ v. run (mute (f v)) (silent b here deeper n)) (λ v. muted (f v) b here deeper m n h a) i
-  muted (integer f) b here deeper m n h a i = worded (of plain false) look b false here here deeper m n integer_at (λ v. run (f v) (silent b here deeper m)) (λ v. run (mute (f v)) (silent b here deeper n)) (λ v. muted (f v) b here deeper m n h a) i
-  muted (optional tag f) b here deeper m n h a i = worded (of plain false) look b false here here deeper m n (optional_at tag) (λ v. run (f v) (silent b here deeper m)) (λ v. run (mute (f v)) (silent b here deeper n)) (λ v. muted (f v) b here deeper m n h a) i
-  muted (identifier f) b here deeper m n h a i = worded (of plain false) look b false here here deeper m n identifier_at (λ v. run (f v) (silent b here deeper m)) (λ v. run (mute (f v)) (silent b here deeper n)) (λ v. muted (f v) b here deeper m n h a) i
-  muted (nibbles f) b here deeper m n h a i = worded (of plain false) look b false here here deeper m n nibbles_at (λ v. run (f v) (silent b here deeper m)) (λ v. run (mute (f v)) (silent b here deeper n)) (λ v. muted (f v) b here deeper m n h a) i
-  muted (peek f) b here deeper m n h a (Some i) = peeked (of plain false) look (λ v. run (f v) (silent b here deeper m) (Some i)) (λ v. run (mute (f v)) (silent b here deeper n) (Some i)) (slice_get b i) (λ v. muted (f v) b here deeper m n h a (Some i))
-  muted (next c p q) b here deeper m n h a None = muted q b here deeper m n h a None
-  muted (next c p q) b here deeper m n h a (Some i) = forked (of plain false) look (is_byte b i c) (run p (silent b here deeper m)) (run (mute p) (silent b here deeper n)) (run q (silent b here deeper m)) (run (mute q) (silent b here deeper n)) (Some i)
-      (muted p b here deeper m n h a) (muted q b here deeper m n h a)
-  muted (sound p q) b here deeper m n h a None = muted q b here deeper m n h a None
-  muted (sound p q) b here deeper m n h a (Some i) = muted p b here deeper m n h a (Some i)
-  muted (until_end p q) b here deeper m n h a i = alike_followed (turns (suc (length b)) b (run p (silent b here deeper m)) i) (turns (suc (length b)) b (run (mute p) (silent b here deeper n)) i) (run q (silent b here deeper m)) (run (mute q) (silent b here deeper n))
-      (turned (of plain false) look alike_followed (suc (length b)) b (run p (silent b here deeper m)) (run (mute p) (silent b here deeper n)) (muted p b here deeper m n h a) i) (muted q b here deeper m n h a)
-  muted (raise p) b here (l ∷ ls) m n h a i = muted p b l ls m n a.0 a.1 i
-  muted (unit p q) b here deeper m n h a i = alike_followed (run p (silent b here deeper m) i) (run (mute p) (silent b here deeper n) i) (run q (silent b here deeper m)) (run (mute q) (silent b here deeper n)) (muted p b here deeper m n h a i) (muted q b here deeper m n h a)
-  muted (child kind value p) b here deeper m n h a None = alike_followed (fault unread) (fault unread) (run p (silent b here deeper m)) (run (mute p) (silent b here deeper n)) refl (muted p b here deeper m n h a)
-  muted (child kind value p) b here deeper m n h a (Some i) = alike_followed (here false kind value m i) (here false kind false n i) (run p (silent b here deeper m)) (run (mute p) (silent b here deeper n)) (h kind value false m n i) (muted p b here deeper m n h a)
-  muted (skip p) b here deeper m n h a None = muted p b here deeper m n h a None
-  muted (skip p) b here deeper m n h a (Some i) = alike_followed (here false a_path false m i) (here false a_path false n i) (run p (silent b here deeper m)) (run (mute p) (silent b here deeper n)) (h a_path false false m n i) (muted p b here deeper m n h a)
-  muted (target kind value) b here [] m n h a (Some i) = refl
-  muted (target kind value) b here (l ∷ ls) m n h a (Some i) = refl
-  muted (lifetime k p) b here deeper m n h a i = muted p b here deeper m n h a i
-  muted (binder k p) b here deeper m n h a i = muted p b here deeper (m + k) n h a i
-  muted (opens p) b here deeper m n h a i = ap (λ (z : Heard). record z { is_open = true }) (muted p b here deeper m n h a i)
-  muted (dyn_trait p) b here deeper m n h a None = alike_open (suc (length b)) b here deeper m n (run p (silent b here deeper m)) (run (mute p) (silent b here deeper n)) (muted p b here deeper m n h a) (fault unread) (fault unread) refl
-  muted (dyn_trait p) b here deeper m n h a (Some i) = alike_open (suc (length b)) b here deeper m n (run p (silent b here deeper m)) (run (mute p) (silent b here deeper n)) (muted p b here deeper m n h a) (here false a_trait_path false m i) (here false a_trait_path false n i) (h a_trait_path false false m n i)
-  muted (bindings o p) b here deeper m n h a i = alike_bound (suc (length b)) b here deeper m n (run p (silent b here deeper m)) (run (mute p) (silent b here deeper n)) (muted p b here deeper m n h a) o i
-  muted _ b here deeper m n h a i = refl
+  muted (say t p) b folds here deeper m n h a i = muted p b folds here deeper m n h a i
+  muted (say_plain t p) b folds here deeper m n h a i = let o = run p (silent b folds here deeper m) i in ap (λ xs. record { events = xs; place = o.place; is_open = o.is_open }) (said_plain plain t (events plain false o.tree)) ∙ muted p b folds here deeper m n h a i
+  muted (byte f) b folds here deeper m n h a i = worded (of plain false) look b folds false here here deeper m n byte_at (λ v. run (f v) (silent b folds here deeper m)) (λ v. run (mute (f v)) (silent b folds here deeper n)) (λ v. muted (f v) b folds here deeper m n h a) i
+  muted (namespace f) b folds here deeper m n h a i = worded (of plain false) look b folds false here here deeper m n namespace_at (λ v. run (f v) (silent b folds here deeper m)) (λ v. run (mute (f v)) (silent b folds here deeper n)) (λ v. muted (f v) b folds here deeper m n h a) i
+  muted (integer f) b folds here deeper m n h a i = worded (of plain false) look b folds false here here deeper m n integer_at (λ v. run (f v) (silent b folds here deeper m)) (λ v. run (mute (f v)) (silent b folds here deeper n)) (λ v. muted (f v) b folds here deeper m n h a) i
+  muted (optional tag f) b folds here deeper m n h a i = worded (of plain false) look b folds false here here deeper m n (optional_at tag) (λ v. run (f v) (silent b folds here deeper m)) (λ v. run (mute (f v)) (silent b folds here deeper n)) (λ v. muted (f v) b folds here deeper m n h a) i
+  muted (identifier f) b folds here deeper m n h a i = worded (of plain false) look b folds false here here deeper m n identifier_at (λ v. run (f v) (silent b folds here deeper m)) (λ v. run (mute (f v)) (silent b folds here deeper n)) (λ v. muted (f v) b folds here deeper m n h a) i
+  muted (nibbles f) b folds here deeper m n h a i = worded (of plain false) look b folds false here here deeper m n nibbles_at (λ v. run (f v) (silent b folds here deeper m)) (λ v. run (mute (f v)) (silent b folds here deeper n)) (λ v. muted (f v) b folds here deeper m n h a) i
+  muted (peek f) b folds here deeper m n h a (Some i) = peeked (of plain false) look (λ v. run (f v) (silent b folds here deeper m) (Some i)) (λ v. run (mute (f v)) (silent b folds here deeper n) (Some i)) (slice_get b i) (λ v. muted (f v) b folds here deeper m n h a (Some i))
+  muted (next c p q) b folds here deeper m n h a None = muted q b folds here deeper m n h a None
+  muted (next c p q) b folds here deeper m n h a (Some i) = forked (of plain false) look (is_byte b i c) (run p (silent b folds here deeper m)) (run (mute p) (silent b folds here deeper n)) (run q (silent b folds here deeper m)) (run (mute q) (silent b folds here deeper n)) (Some i)
+      (muted p b folds here deeper m n h a) (muted q b folds here deeper m n h a)
+  muted (sound p q) b folds here deeper m n h a None = muted q b folds here deeper m n h a None
+  muted (sound p q) b folds here deeper m n h a (Some i) = muted p b folds here deeper m n h a (Some i)
+  muted (until_end p q) b folds here deeper m n h a i = alike_followed (turns (suc (length b)) b (run p (silent b folds here deeper m)) i) (turns (suc (length b)) b (run (mute p) (silent b folds here deeper n)) i) (run q (silent b folds here deeper m)) (run (mute q) (silent b folds here deeper n))
+      (turned (of plain false) look alike_followed (suc (length b)) b (run p (silent b folds here deeper m)) (run (mute p) (silent b folds here deeper n)) (muted p b folds here deeper m n h a) i) (muted q b folds here deeper m n h a)
+  muted (raise p) b folds here (l ∷ ls) m n h a i = muted p b folds l ls m n a.0 a.1 i
+  muted (unit p q) b folds here deeper m n h a i = alike_followed (run p (silent b folds here deeper m) i) (run (mute p) (silent b folds here deeper n) i) (run q (silent b folds here deeper m)) (run (mute q) (silent b folds here deeper n)) (muted p b folds here deeper m n h a i) (muted q b folds here deeper m n h a)
+  muted (child kind value p) b folds here deeper m n h a None = alike_followed (fault unread) (fault unread) (run p (silent b folds here deeper m)) (run (mute p) (silent b folds here deeper n)) refl (muted p b folds here deeper m n h a)
+  muted (child kind value p) b folds here deeper m n h a (Some i) = alike_followed (here false kind value m i) (here false kind false n i) (run p (silent b folds here deeper m)) (run (mute p) (silent b folds here deeper n)) (h kind value false m n i) (muted p b folds here deeper m n h a)
+  muted (skip p) b folds here deeper m n h a None = muted p b folds here deeper m n h a None
+  muted (skip p) b folds here deeper m n h a (Some i) = alike_followed (here false a_path false m i) (here false a_path false n i) (run p (silent b folds here deeper m)) (run (mute p) (silent b folds here deeper n)) (h a_path false false m n i) (muted p b folds here deeper m n h a)
+  muted (folded p q) b folds here deeper m n h a i = alike_followed (run p (silent b folds here deeper m) i) (run (mute p) (silent b folds here deeper n) i) (run q (silent b folds here deeper m)) (run (mute q) (silent b folds here deeper n)) (muted p b folds here deeper m n h a i) (muted q b folds here deeper m n h a)
+  muted (target kind value) b folds here [] m n h a (Some i) = refl
+  muted (target kind value) b folds here (l ∷ ls) m n h a (Some i) = refl
+  muted (lifetime k p) b folds here deeper m n h a i = muted p b folds here deeper m n h a i
+  muted (binder k p) b folds here deeper m n h a i = muted p b folds here deeper (m + k) n h a i
+  muted (opens p) b folds here deeper m n h a i = ap (λ (z : Heard). record z { is_open = true }) (muted p b folds here deeper m n h a i)
+  muted (dyn_trait p) b folds here deeper m n h a None = alike_open (suc (length b)) b folds here deeper m n (run p (silent b folds here deeper m)) (run (mute p) (silent b folds here deeper n)) (muted p b folds here deeper m n h a) (fault unread) (fault unread) refl
+  muted (dyn_trait p) b folds here deeper m n h a (Some i) = alike_open (suc (length b)) b folds here deeper m n (run p (silent b folds here deeper m)) (run (mute p) (silent b folds here deeper n)) (muted p b folds here deeper m n h a) (here false a_trait_path false m i) (here false a_trait_path false n i) (h a_trait_path false false m n i)
+  muted (bindings o p) b folds here deeper m n h a i = alike_bound (suc (length b)) b folds here deeper m n (run p (silent b folds here deeper m)) (run (mute p) (silent b folds here deeper n)) (muted p b folds here deeper m n h a) o i
+  muted _ b folds here deeper m n h a i = refl
 
 -- The table.
 
@@ -213,24 +215,24 @@ items_alike kind _ _ = refl
 
 -- The levels.
 
-unit_uniform : (plain : Bool) (b : List ℕ) (here : Level) (deeper : List Level) → Uniform plain here → AllUniform plain deeper → (kind : Kind) (v w : Bool) (m n : ℕ) (i : Place)
-    → of plain false (run (items kind v) (silent b here deeper m) i) ≡ of plain false (run (items kind w) (silent b here deeper n) i)
-unit_uniform plain b here deeper h a kind v w m n i =
-    muted plain (items kind v) b here deeper m 0 h a i
-    ∙ (ap (λ (p : Items). of plain false (run p (silent b here deeper 0) i)) (items_alike kind v w)
-    ∙ sym (muted plain (items kind w) b here deeper n 0 h a i))
+unit_uniform : (plain : Bool) (b : List ℕ) (folds : Bool) (here : Level) (deeper : List Level) → Uniform plain here → AllUniform plain deeper → (kind : Kind) (v w : Bool) (m n : ℕ) (i : Place)
+    → of plain false (run (items kind v) (silent b folds here deeper m) i) ≡ of plain false (run (items kind w) (silent b folds here deeper n) i)
+unit_uniform plain b folds here deeper h a kind v w m n i =
+    muted plain (items kind v) b folds here deeper m 0 h a i
+    ∙ (ap (λ (p : Items). of plain false (run p (silent b folds here deeper 0) i)) (items_alike kind v w)
+    ∙ sym (muted plain (items kind w) b folds here deeper n 0 h a i))
 
-level_uniform : (plain : Bool) (b : List ℕ) (ls : List Level) → AllUniform plain ls → Uniform plain (level_of b ls)
+level_uniform : (plain : Bool) (b : List ℕ) (folds : Bool) (ls : List Level) → AllUniform plain ls → Uniform plain (level_of b folds ls)
 unfolding level_of
-level_uniform plain b ls a kind v w m n i =
-    let inner : Level = λ pr k u o j. run (items k u) (record { symbol = b; printed = pr; here = nowhere; deeper = ls; lifetimes = o }) (Some j) in
-    unit_uniform plain b inner ls (λ k x y o o' j. unit_uniform plain b nowhere ls (λ _ _ _ _ _ _. refl) a k x y o o' (Some j)) a kind v w m n (Some i)
+level_uniform plain b folds ls a kind v w m n i =
+    let inner : Level = λ pr k u o j. run (items k u) (record { symbol = b; folds = folds; printed = pr; here = nowhere; deeper = ls; lifetimes = o }) (Some j) in
+    unit_uniform plain b folds inner ls (λ k x y o o' j. unit_uniform plain b folds nowhere ls (λ _ _ _ _ _ _. refl) a k x y o o' (Some j)) a kind v w m n (Some i)
 
-pub levels_uniform : (plain : Bool) (b : List ℕ) (left : ℕ) → AllUniform plain (levels b left)
+pub levels_uniform : (plain : Bool) (b : List ℕ) (folds : Bool) (left : ℕ) → AllUniform plain (levels b folds left)
 unfolding levels
-levels_uniform plain b zero = tt
-levels_uniform plain b (suc left) = (level_uniform plain b (levels b left) (levels_uniform plain b left), levels_uniform plain b left)
+levels_uniform plain b folds zero = tt
+levels_uniform plain b folds (suc left) = (level_uniform plain b folds (levels b folds left) (levels_uniform plain b folds left), levels_uniform plain b folds left)
 
 -- a unit that is not printed: no lifetimes in force and no value position are heard
-pub silent_unit : (plain : Bool) (b : List ℕ) (left : ℕ) (kind : Kind) (v w : Bool) (m n i : ℕ) → of plain false (level_of b (levels b left) false kind v m i) ≡ of plain false (level_of b (levels b left) false kind w n i)
-silent_unit plain b left kind v w m n i = level_uniform plain b (levels b left) (levels_uniform plain b left) kind v w m n i
+pub silent_unit : (plain : Bool) (b : List ℕ) (folds : Bool) (left : ℕ) (kind : Kind) (v w : Bool) (m n i : ℕ) → of plain false (level_of b folds (levels b folds left) false kind v m i) ≡ of plain false (level_of b folds (levels b folds left) false kind w n i)
+silent_unit plain b folds left kind v w m n i = level_uniform plain b folds (levels b folds left) (levels_uniform plain b folds left) kind v w m n i

@@ -33,17 +33,17 @@ pub silent_allowed : (plain : Bool) (o : Outcome) (k : Place → Bool → Heard)
 silent_allowed plain o k = let g = k o.place o.is_open in ap (λ xs. record { events = xs; place = g.place; is_open = g.is_open }) (only_allowed (events plain false o.tree) g.events (quiet_events plain o.tree))
 
 -- a path that is not printed, with so many depths left
-abbrev pub path_heard : Bool → List ℕ → ℕ → Bool → ℕ → ℕ → Heard
-path_heard plain b left value m i = of plain false (level_of b (levels b left) false a_path value m i)
+abbrev pub path_heard : Bool → List ℕ → Bool → ℕ → Bool → ℕ → ℕ → Heard
+path_heard plain b folds left value m i = of plain false (level_of b folds (levels b folds left) false a_path value m i)
 
 -- Where it is skipped, the looks that its reading allows are allowed there, and it goes on where its reading ends: with
 -- any lifetimes in force in that reading, and in value position or not.
-pub skip_reads : (plain out : Bool) (b : List ℕ) (left n : ℕ) (value : Bool) (m : ℕ) (p : Items) (i : ℕ)
-    → of plain out (run (skip p) (around b out left n) (Some i)) ≡ with_looks (allowances (path_heard plain b left value m i).events) (of plain out (run p (around b out left n) (path_heard plain b left value m i).place))
+pub skip_reads : (plain out : Bool) (b : List ℕ) (folds : Bool) (left n : ℕ) (value : Bool) (m : ℕ) (p : Items) (i : ℕ)
+    → of plain out (run (skip p) (around b folds out left n) (Some i)) ≡ with_looks (allowances (path_heard plain b folds left value m i).events) (of plain out (run p (around b folds out left n) (path_heard plain b folds left value m i).place))
 unfolding run
-skip_reads plain out b left n value m p i =
-    ap (λ (h : Heard). and_then h (λ j _. of plain out (run p (around b out left n) j))) (silent_unit plain b left a_path false value n m i)
-    ∙ silent_allowed plain (level_of b (levels b left) false a_path value m i) (λ j _. of plain out (run p (around b out left n) j))
+skip_reads plain out b folds left n value m p i =
+    ap (λ (h : Heard). and_then h (λ j _. of plain out (run p (around b folds out left n) j))) (silent_unit plain b folds left a_path false value n m i)
+    ∙ silent_allowed plain (level_of b folds (levels b folds left) false a_path value m i) (λ j _. of plain out (run p (around b folds out left n) j))
 
 pub skip_failed : (plain out : Bool) (p : Items) (s : Surroundings) → of plain out (run (skip p) s None) ≡ of plain out (run p s None)
 unfolding run

@@ -7,9 +7,9 @@ use lib.Utf8.{scalar}
 use Rattle.demangle_symbol.specs.Words.{Name, number_of, is_upper, some_or}
 use Rattle.demangle_symbol.specs.Names.{name_pieces, is_empty, is_nameless}
 use Rattle.demangle_symbol.specs.Literals.{literal, string_of}
-use Rattle.demangle_grammar.specs.Items.{Text, Kind, a_path, a_type, a_constant, a_pattern, a_trait_path, Items, done, invalid, say, say_plain, byte, namespace, integer, optional, identifier, nibbles, peek, next, sound, until_end, raise, unit, child, skip, target, lifetime, binder, opens, dyn_trait, bindings}
+use Rattle.demangle_grammar.specs.Items.{Text, Kind, a_path, a_type, a_constant, a_pattern, a_trait_path, Items, done, invalid, say, say_plain, byte, namespace, integer, optional, identifier, nibbles, peek, next, sound, until_end, raise, unit, child, skip, folded, target, lifetime, binder, opens, dyn_trait, bindings}
 use Rattle.demangle_grammar.specs.Table.{at_end, more}
-use Rattle.demangle_grammar.specs.Table.{variant, type_inside, constant_inside, says_if, extern, binding_value, type_tagged, braces, integer_constant, string, truth, character, argument, list, tuple, says, in_special, in_namespace, path_rows, pattern_rows, variant_rows, constant_rows, field, function, signature, items, type_rows, row_of, after_tag, row_text, basic_types, type_behind_tag, say_all, is_among}
+use Rattle.demangle_grammar.specs.Table.{variant, type_inside, constant_inside, says_if, extern, binding_value, type_tagged, braces, integer_constant, string, truth, character, argument, arguments, list, tuple, says, in_special, in_namespace, path_rows, pattern_rows, variant_rows, constant_rows, field, function, signature, items, type_rows, row_of, after_tag, row_text, basic_types, type_behind_tag, say_all, is_among}
 use Rattle.demangle_grammar.proofs.Account.{start, rank, is_below, is_closed, is_some_text, Fits}
 
 abbrev Cheap : ℕ → ℕ → Bool → Items → Type 0
@@ -46,6 +46,7 @@ cheaper z r (raise p) e e' k k' g g' b c d x = cheaper z 2 p e e' k k' g g' b c 
 cheaper z r (unit p q) e e' k k' g g' b c d x = (x.0, cheaper z r p x.0 x.0 k k' g g' (omega arith) c d x.1, cheaper z r q e e' x.0 x.0 false false b (omega arith) (λ z. z) x.2)
 cheaper z r (child kind value p) e e' k k' g g' b c d x = (omega (arith, c, x.0), and_true (is_below r kind) g g' d x.1, cheaper z r p e e' 8 8 false false b (omega arith) (λ z. z) x.2)
 cheaper z r (skip p) e e' k k' g g' b c d x = (x.0, cheaper z r p e e' 8 8 g g' b (omega arith) d x.1)
+cheaper z r (folded p q) e e' k k' g g' b c d x = (x.0, cheaper z r p x.0 x.0 k k' g g' (omega arith) c d x.1, cheaper z r q e e' x.0 x.0 false false b (omega arith) (λ z. z) x.2)
 cheaper z r (target kind value) e e' k k' g g' b c d x = (and_true (cond z (is_closed kind) true) g g' d x.0, omega (arith, b, c, x.1))
 cheaper z r (lifetime n p) e e' k k' g g' b c d x = cheaper z r p e e' k k' g g' b c d x
 cheaper z r (binder n p) e e' k k' g g' b c d x = cheaper z r p e e' k k' g g' b c d x
@@ -144,8 +145,8 @@ path_cheap value =
     ▸ (
       omega arith,
       refl,
-      let after : Cheap 8 8 true (list ", " argument (says ">" done)) = list_fits true 2 8 8 ", " argument (says ">" done) refl (omega arith) (argument_fits true 1) (omega arith) in
-          if_cheap 8 8 false value "::" (says "<" (list ", " argument (says ">" done))) after after,
+      let after : Cheap 8 8 true (arguments (says ">" done)) = (31, list_fits true 2 31 8 ", " argument done refl (omega arith) (argument_fits true 1) (omega arith), omega arith) in
+          if_cheap 8 8 false value "::" (says "<" (arguments (says ">" done))) after after,
     )
     ▸ (refl, omega arith)
     ▸ tt
@@ -256,4 +257,4 @@ fits a_path value = λ tag. row_fits (Cheap 8 24 true) tag invalid (path_rows va
 fits a_type value = (omega arith, cheaper true 0 type_tagged 8 8 1 33 true true (omega arith) (omega arith) (λ z. z) tagged_fits, tagged_fits)
 fits a_constant value = λ tag. row_fits (Cheap 8 24 true) tag invalid (constant_rows value tag) tt (constants_cheap value tag)
 fits a_pattern value = λ tag. row_fits (Fits true 1 8 24 true) tag invalid pattern_rows tt patterns_fit
-fits a_trait_path value = (omega arith, (refl, omega arith), (omega arith, (omega arith, refl, list_fits false 1 8 8 ", " argument (opens done) refl (omega arith) (argument_fits false 0) (refl, omega arith)), (omega arith, refl, omega arith)))
+fits a_trait_path value = (omega arith, (refl, omega arith), (omega arith, (omega arith, refl, (31, list_fits false 1 31 8 ", " argument done refl (omega arith) (argument_fits false 0) (omega arith), (refl, omega arith))), (omega arith, refl, omega arith)))

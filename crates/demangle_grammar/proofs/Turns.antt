@@ -56,7 +56,7 @@ turns_on symbol f i a l e =
     (covers_next symbol (length symbol) i (f (Some i)).place w (omega arith)) (covers_next symbol (suc (length symbol)) i (f (Some i)).place w (omega arith))))
 
 -- items that end with more credit than they began with move
-pub advances : (p : Items) (s : Surroundings) (d : ℕ) (c : Bool) (r e k : ℕ) (g : Bool) → Fits c r e k g p → k < e → SpeltAt s.symbol d s.here → SpeltBelow s.symbol d s.deeper → Advances s.symbol (run p s)
+pub advances : (p : Items) (s : Surroundings) (d : ℕ) (c : Bool) (r e k : ℕ) (g : Bool) → Fits c r e k g p → k < e → SpeltAt s.symbol s.folds d s.here → SpeltBelow s.symbol s.folds d s.deeper → Advances s.symbol (run p s)
 advances p s d c r e k g f m h b i l = go (run p s (Some i)).place refl
   where
     go : (x : Place) → (run p s (Some i)).place ≡ x → Within s.symbol (i + 1) x

@@ -71,31 +71,31 @@ if_so c text = if c then codes text ∷ [] else []
 abbrev pub mark_of : Bool → Text
 mark_of o = if o then codes ", " else codes "<"
 
-module _ (plain : Bool) (b : List ℕ) (left n : ℕ) (p : Items) where
-  pub lifetime_named : (k j : ℕ) → (k == 0) ≡ false → nat_le k n ≡ true → of plain true (run (lifetime k p) (around b true left n) (Some j)) ≡ with_texts true (codes "'" ∷ letter_of (n - k)) (of plain true (run p (around b true left n) (Some j)))
+module _ (plain folds : Bool) (b : List ℕ) (left n : ℕ) (p : Items) where
+  pub lifetime_named : (k j : ℕ) → (k == 0) ≡ false → nat_le k n ≡ true → of plain true (run (lifetime k p) (around b folds true left n) (Some j)) ≡ with_texts true (codes "'" ∷ letter_of (n - k)) (of plain true (run p (around b folds true left n) (Some j)))
   unfolding run
-  lifetime_named k j e f = rw (e, f) (let h = of plain true (run p (around b true left n) (Some j)) in ap (λ xs. heard_as xs h) (ap (λ xs. shown_if true (codes "'") xs) (pieces_then plain true (letter_of (n - k)) h.events)))
+  lifetime_named k j e f = rw (e, f) (let h = of plain true (run p (around b folds true left n) (Some j)) in ap (λ xs. heard_as xs h) (ap (λ xs. shown_if true (codes "'") xs) (pieces_then plain true (letter_of (n - k)) h.events)))
 
-  pub lifetime_wrong : (k j : ℕ) → (k == 0) ≡ false → nat_le k n ≡ false → of plain true (run (lifetime k p) (around b true left n) (Some j)) ≡ with_texts true (codes "'" ∷ codes "{invalid syntax}" ∷ []) (of plain true (run p (around b true left n) None))
+  pub lifetime_wrong : (k j : ℕ) → (k == 0) ≡ false → nat_le k n ≡ false → of plain true (run (lifetime k p) (around b folds true left n) (Some j)) ≡ with_texts true (codes "'" ∷ codes "{invalid syntax}" ∷ []) (of plain true (run p (around b folds true left n) None))
   unfolding run
   lifetime_wrong k j e f = rw (e, f) refl
 
 -- Types.
 
-module _ (plain out : Bool) (b : List ℕ) (left n : ℕ) where
+module _ (plain folds out : Bool) (b : List ℕ) (left n : ℕ) where
   abbrev s : Surroundings
-  s = around b out left n
+  s = around b folds out left n
 
   abbrev fault_of : String → Heard
   fault_of text = with_texts out (codes text ∷ []) (nothing_heard None false)
 
   pub splat_reads : (value : Bool) (i : ℕ) → is_byte b i (code "w") ≡ true → of plain out (unit_outcome s a_type value (Some i)) ≡ with_looks (1 ∷ []) (with_texts out (codes "#[splat] " ∷ []) (of plain out (run type_tagged s (Some (i + 1)))))
   unfolding run
-  splat_reads value i e = ap (of plain out) (begins b out left n a_type value i) ∙ rw e refl
+  splat_reads value i e = ap (of plain out) (begins b folds out left n a_type value i) ∙ rw e refl
 
   pub type_reads : (value : Bool) (i : ℕ) → is_byte b i (code "w") ≡ false → of plain out (unit_outcome s a_type value (Some i)) ≡ with_looks (1 ∷ []) (of plain out (run type_tagged s (Some i)))
   unfolding run
-  type_reads value i e = ap (of plain out) (begins b out left n a_type value i) ∙ rw e refl
+  type_reads value i e = ap (of plain out) (begins b folds out left n a_type value i) ∙ rw e refl
 
   pub tag_missing : (i : ℕ) → slice_get b i ≡ None → of plain out (run type_tagged s (Some i)) ≡ with_looks (1 ∷ []) (fault_of "{invalid syntax}")
   unfolding run
@@ -111,16 +111,16 @@ module _ (plain out : Bool) (b : List ℕ) (left n : ℕ) where
   tagged_so i c e f = rw (e, f) refl
 
   pub type_deep : (i c : ℕ) → slice_get b i ≡ Some c → row_text c basic_types ≡ None → left ≡ 0 → of plain out (run type_tagged s (Some i)) ≡ with_looks (1 ∷ []) (fault_of "{recursion limit reached}")
-  type_deep i c e f l = tagged_so i c e f ∙ ap (λ (o : Outcome). with_looks (1 ∷ []) (of plain out o)) (raise_deep b out left n (type_behind_tag c) (Some i) l)
+  type_deep i c e f l = tagged_so i c e f ∙ ap (λ (o : Outcome). with_looks (1 ∷ []) (of plain out o)) (raise_deep b folds out left n (type_behind_tag c) (Some i) l)
 
   -- a type that is made of others, one depth on
-  pub constructed_reads : (i c : ℕ) → slice_get b i ≡ Some c → row_text c basic_types ≡ None → 0 < left → of plain out (run type_tagged s (Some i)) ≡ with_looks (1 ∷ []) (of plain out (run (type_behind_tag c) (around b out (left - 1) n) (Some i)))
-  constructed_reads i c e f l = tagged_so i c e f ∙ ap (λ (o : Outcome). with_looks (1 ∷ []) (of plain out o)) (raise_on b out left n (type_behind_tag c) (Some i) l)
+  pub constructed_reads : (i c : ℕ) → slice_get b i ≡ Some c → row_text c basic_types ≡ None → 0 < left → of plain out (run type_tagged s (Some i)) ≡ with_looks (1 ∷ []) (of plain out (run (type_behind_tag c) (around b folds out (left - 1) n) (Some i)))
+  constructed_reads i c e f l = tagged_so i c e f ∙ ap (λ (o : Outcome). with_looks (1 ∷ []) (of plain out o)) (raise_on b folds out left n (type_behind_tag c) (Some i) l)
 
   pub path_type_reads : (i : Place) (c : ℕ) → row_at c (type_rows c) ≡ None → of plain out (run (type_behind_tag c) s i) ≡ of plain out (unit_outcome s a_path false i)
   path_type_reads i c e =
       ap (λ (p : Items). of plain out (run p s i)) (row_after c (child a_path false done) (type_rows c) ∙ ap (λ (r : Option Items). some_or (child a_path false done) r (λ p. byte (λ _. p))) e)
-      ∙ last_child plain out b left n a_path false i tt
+      ∙ last_child plain folds out b left n a_path false i tt
 
   pub row_reads : (i c : ℕ) (p : Items) → slice_get b i ≡ Some c → row_at c (type_rows c) ≡ Some p → of plain out (run (type_behind_tag c) s (Some i)) ≡ with_looks (4 * (i + 1 - i + 1) ∷ []) (of plain out (run p s (Some (i + 1))))
   unfolding run byte_at
@@ -129,9 +129,9 @@ module _ (plain out : Bool) (b : List ℕ) (left n : ℕ) where
       ∙ rw e refl
 
   pub binder_reads : (p : Items) (i j m : ℕ) → optional_at (code "G") b i ≡ Some (m, j)
-      → of plain out (run (in_binder p) s (Some i)) ≡ with_looks (4 * (j - i + 1) ∷ []) (with_texts out (binder_texts m n) (of plain out (run p (around b out left (n + m)) (Some j))))
+      → of plain out (run (in_binder p) s (Some i)) ≡ with_looks (4 * (j - i + 1) ∷ []) (with_texts out (binder_texts m n) (of plain out (run p (around b folds out left (n + m)) (Some j))))
   unfolding run
-  binder_reads p i j m e = rw e (let h = of plain out (run p (around b out left (n + m)) (Some j)) in ap (λ xs. with_looks (4 * (j - i + 1) ∷ []) (heard_as xs h)) (binder_said plain out m n (run p (around b out left (n + m)) (Some j)).tree))
+  binder_reads p i j m e = rw e (let h = of plain out (run p (around b folds out left (n + m)) (Some j)) in ap (λ xs. with_looks (4 * (j - i + 1) ∷ []) (heard_as xs h)) (binder_said plain out m n (run p (around b folds out left (n + m)) (Some j)).tree))
 
   pub bindings_failed : (o : Bool) → of plain out (run (bindings o binding_value) s None) ≡ with_texts out (if_so o ">") (nothing_heard None false)
   unfolding run bound_by
@@ -153,7 +153,7 @@ module _ (plain out : Bool) (b : List ℕ) (left n : ℕ) where
       → of plain out (run (bindings o binding_value) s (Some i)) ≡ with_looks (1 ∷ []) (with_texts out (mark_of o ∷ []) (with_looks (4 * (j - (i + 1) + 1) ∷ []) (with_texts out (name_pieces a ++ codes " = " ∷ [])
       (followed (of plain out (run binding_value s (Some j))) (λ x. of plain out (run (bindings true binding_value) s x))))))
   unfolding run
-  binding_reads o i j a l e f = ap (of plain out) (bindings_on s (run binding_value s) o i j a (bound_keeps b out left n l) e f) ∙ mark o
+  binding_reads o i j a l e f = ap (of plain out) (bindings_on s (run binding_value s) o i j a (bound_keeps b folds out left n l) e f) ∙ mark o
     where
       h : Heard
       h = followed (of plain out (run binding_value s (Some j))) (λ x. of plain out (run (bindings true binding_value) s x))
@@ -169,8 +169,8 @@ module _ (plain out : Bool) (b : List ℕ) (left n : ℕ) where
   -- what a binding names
   pub bound_constant : (i : ℕ) → is_byte b i (code "K") ≡ true → of plain out (run binding_value s (Some i)) ≡ with_looks (1 ∷ []) (of plain out (unit_outcome s a_constant false (Some (i + 1))))
   unfolding run
-  bound_constant i e = rw e (ap (with_looks (1 ∷ [])) (last_child plain out b left n a_constant false (Some (i + 1)) tt))
+  bound_constant i e = rw e (ap (with_looks (1 ∷ [])) (last_child plain folds out b left n a_constant false (Some (i + 1)) tt))
 
   pub bound_type : (i : ℕ) → is_byte b i (code "K") ≡ false → of plain out (run binding_value s (Some i)) ≡ with_looks (1 ∷ []) (of plain out (unit_outcome s a_type false (Some i)))
   unfolding run
-  bound_type i e = rw e (ap (with_looks (1 ∷ [])) (last_child plain out b left n a_type false (Some i) tt))
+  bound_type i e = rw e (ap (with_looks (1 ∷ [])) (last_child plain folds out b left n a_type false (Some i) tt))

@@ -3,7 +3,7 @@ use Rattle.std.specs.Prelude.{ℕ}
 use Rattle.std.proofs.Common.{◌≡◌, Bool, true, false, List, Option, Some, refl, sym, ◌∙◌, ap, subst}
 use Rattle.demangle_symbol.specs.Words.{Name}
 use Rattle.demangle_grammar.specs.Items.{Items, until_end, bindings}
-use Rattle.demangle_grammar.specs.Spelling.{Rule, Spells, end_, say_, plain_, byte_, namespace_, integer_, optional_, identifier_, nibbles_, peek_, there, other, sound_, over_, turn_, raise_, unit_, child_, skip_, target_, lifetime_, binder_, opens_, dyn_, past_, bound_}
+use Rattle.demangle_grammar.specs.Spelling.{Rule, Spells, end_, say_, plain_, byte_, namespace_, integer_, optional_, identifier_, nibbles_, peek_, there, other, sound_, over_, turn_, raise_, unit_, child_, skip_, folded_, target_, lifetime_, binder_, opens_, dyn_, past_, bound_}
 
 true_or_false : {A : Type 0} {b : Bool} → b ≡ true → b ≡ false → A
 true_or_false p q = cc (sym p ∙ q)
@@ -43,6 +43,7 @@ unique (raise_ l a) (raise_ y b) = unique a b
 unique {symbol} {r} {d} {m} {k = k} (unit_ {q = q} a c) (unit_ b e) = unique c (subst (λ x. Spells symbol r d m q x k) (sym (unique a b)) e)
 unique {symbol} {r} {d} {m} {k = k} (child_ {p = q} a c) (child_ b e) = unique c (subst (λ x. Spells symbol r d m q x k) (sym (unique a b)) e)
 unique {symbol} {r} {d} {m} {k = k} (skip_ {p = q} a c) (skip_ b e) = unique c (subst (λ x. Spells symbol r d m q x k) (sym (unique a b)) e)
+unique {symbol} {r} {d} {m} {k = k} (folded_ {q = q} a c) (folded_ b e) = unique c (subst (λ x. Spells symbol r d m q x k) (sym (unique a b)) e)
 unique (target_ v u e l) (target_ w u' g l') = ap (λ (x : ℕ × ℕ). x.1) (sym (same e g))
 unique (lifetime_ u a) (lifetime_ u' b) = unique a b
 unique (binder_ a) (binder_ b) = unique a b

@@ -16,9 +16,9 @@ suffix_looks symbol (Some j) = length symbol + 1 - j
 abbrev pub second_looks : List ℕ → Place → ℕ
 second_looks symbol None = 0
 second_looks symbol (Some j) = 1 +
-    (if goes_on_at symbol j then (let o = read_at symbol false a_path j 0 0 true in looks_in o + suffix_looks symbol o.place)
+    (if goes_on_at symbol j then (let o = read_at symbol false false a_path j 0 0 true in looks_in o + suffix_looks symbol o.place)
     else suffix_looks symbol (Some j))
 
 -- the looks at the whole symbol
 unfoldable pub accepting_looks : List ℕ → ℕ
-accepting_looks symbol = let o = read_at symbol false a_path 0 0 0 true in looks_in o + second_looks symbol o.place
+accepting_looks symbol = let o = read_at symbol false false a_path 0 0 0 true in looks_in o + second_looks symbol o.place

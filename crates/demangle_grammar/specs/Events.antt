@@ -70,6 +70,6 @@ with_looks ks h = record h { events = allowed_all ks h.events }
 abbrev pub with_texts : Bool → List Text → Heard → Heard
 with_texts out ts h = record h { events = said_all out ts h.events }
 
--- the context of a production with `left` depths below its own, printed or not
-abbrev pub around : List ℕ → Bool → ℕ → ℕ → Surroundings
-around b out left lifetimes = record { symbol = b; printed = out; here = level_of b (levels b left); deeper = levels b left; lifetimes = lifetimes }
+-- the context of a production with `left` depths below its own, with arguments folded or not, printed or not
+abbrev pub around : List ℕ → Bool → Bool → ℕ → ℕ → Surroundings
+around b folds out left lifetimes = record { symbol = b; folds = folds; printed = out; here = level_of b folds (levels b folds left); deeper = levels b folds left; lifetimes = lifetimes }

@@ -40,6 +40,8 @@ pub data Items : Type 0 where
   child : Kind → Bool → Items → Items
   -- a path that is read and not printed
   skip : Items → Items
+  -- generic arguments, and the rest; if arguments are folded, they are read and not printed, and `_` is printed for them
+  folded : Items → Items → Items
   -- the primitive of a back reference, and its target
   target : Kind → Bool → Items
   -- the lifetime with this index

@@ -1,11 +1,11 @@
 -- How a v0 symbol is read, and what it prints.
-use Rattle.std.specs.Prelude.{ℕ, zero, suc, ◌+◌, ◌-◌, ◌*◌, Bool, true, false, if◌then◌else◌, nat_lt, nat_le, ◌==◌, List, [], ◌∷◌, ◌++◌, length, map, slice_get, Option, Some, None, codes, decimal}
+use Rattle.std.specs.Prelude.{ℕ, zero, suc, ◌+◌, ◌-◌, ◌*◌, Bool, true, false, ◌&&◌, if◌then◌else◌, nat_lt, nat_le, ◌==◌, List, [], ◌∷◌, ◌++◌, length, map, slice_get, Option, Some, None, codes, decimal}
 use Prim.Native.Char.{code}
 use Rattle.demangle_symbol.specs.Digits.{is_byte}
 use Rattle.demangle_symbol.specs.Words.{Name, Read, is_upper, then_if_some, some_or, byte_at, namespace_at, integer_at, optional_at, backref_at, identifier_at, nibbles_at}
 use Rattle.demangle_symbol.specs.Names.{name_pieces}
 pub use Rattle.demangle_symbol.specs.Words.{max_depth}
-use Rattle.demangle_grammar.specs.Items.{Text, Kind, a_path, a_trait_path, Items, done, invalid, say, say_plain, byte, namespace, integer, optional, identifier, nibbles, peek, next, sound, until_end, raise, unit, child, skip, target, lifetime, binder, opens, dyn_trait, bindings}
+use Rattle.demangle_grammar.specs.Items.{Text, Kind, a_path, a_trait_path, Items, done, invalid, say, say_plain, byte, namespace, integer, optional, identifier, nibbles, peek, next, sound, until_end, raise, unit, child, skip, folded, target, lifetime, binder, opens, dyn_trait, bindings}
 use Rattle.demangle_grammar.specs.Table.{items}
 use Rattle.demangle_grammar.specs.Cost.{StretchCost}
 
@@ -95,10 +95,11 @@ followed_by o rest = behind (node o.tree) (rest o.place)
 abbrev pub Level : Type 0
 Level = Bool → Kind → Bool → ℕ → ℕ → Outcome
 
--- the context of a production: the symbol, whether to print, the productions of its own depth and of deeper ones, and the
--- lifetimes in scope
+-- the context of a production: the symbol, whether to fold arguments, whether to print, the productions of its own depth and
+-- of deeper ones, and the lifetimes in scope
 pub record Surroundings : Type 0 where
   pub symbol : List ℕ
+  pub folds : Bool
   pub printed : Bool
   pub here : Level
   pub deeper : List Level
@@ -154,6 +155,11 @@ behind_hidden o rest = behind (hidden o.tree) (rest o.place)
 abbrev pub hidden_path : Surroundings → (Place → Outcome) → Place → Outcome
 hidden_path s rest None = rest None
 hidden_path s rest (Some i) = behind_hidden (s.here false a_path false s.lifetimes i) rest
+
+-- folded arguments, which are read and not printed, or other ones, which are printed; then the rest from the place after them
+abbrev pub folded_by : Bool → (unprinted printed : Outcome) → (Place → Outcome) → Outcome
+folded_by true unprinted printed rest = behind_hidden unprinted (λ i. behind (piece (codes "_")) (rest i))
+folded_by false unprinted printed rest = followed_by printed rest
 
 abbrev pub all_pieces : List Text → Tree → Tree
 all_pieces [] rest = rest
@@ -252,6 +258,7 @@ run (raise p) s i = one_depth_on s.deeper (λ level levels. run p (record s { he
 run (unit p q) s i = followed_by (run p s i) (run q s)
 run (child kind value p) s i = followed_by (unit_outcome s kind value i) (run p s)
 run (skip p) s i = hidden_path s (run p s) i
+run (folded p q) s i = folded_by (s.printed && s.folds) (run p (record s { printed = false }) i) (run p s i) (run q s)
 run (target kind value) s i = word s i backref_at (λ t j. target_of s.deeper (λ level. target_read s.printed (level true kind value s.lifetimes) t j))
 run (lifetime k p) s i = followed_by (lifetime_at s.printed s.lifetimes k i) (run p s)
 run (binder m p) s i = behind (binder_at s.printed m s.lifetimes) (run p (record s { lifetimes = s.lifetimes + m }) i)
@@ -265,28 +272,36 @@ nowhere printed kind value lifetimes i = fault invalid_syntax
 
 -- The productions of a depth, over those of the depths below it. Paths, types and constants start others only after they raise
 -- the depth. A pattern and a dyn trait path start constants, types and paths at their own depth.
-unfoldable pub level_of : List ℕ → List Level → Level
-level_of symbol deeper printed kind value lifetimes i =
-    let at : Level → Bool → ℕ → Surroundings = λ here pr ls. record { symbol = symbol; printed = pr; here = here; deeper = deeper; lifetimes = ls } in
+unfoldable pub level_of : List ℕ → Bool → List Level → Level
+level_of symbol folds deeper printed kind value lifetimes i =
+    let at : Level → Bool → ℕ → Surroundings = λ here pr ls. record { symbol = symbol; folds = folds; printed = pr; here = here; deeper = deeper; lifetimes = ls } in
     let inner : Level = λ pr k v ls j. run (items k v) (at nowhere pr ls) (Some j) in
     run (items kind value) (at inner printed lifetimes) (Some i)
 
 -- the levels of the last n depths, the least deep one first
-unfoldable pub levels : List ℕ → ℕ → List Level
-levels symbol zero = []
-levels symbol (suc n) = let deeper : List Level = levels symbol n in level_of symbol deeper ∷ deeper
+unfoldable pub levels : List ℕ → Bool → ℕ → List Level
+levels symbol folds zero = []
+levels symbol folds (suc n) = let deeper : List Level = levels symbol folds n in level_of symbol folds deeper ∷ deeper
 
 -- the outcome of a production at a place and a depth
-unfoldable pub read_at : List ℕ → Bool → Kind → ℕ → ℕ → ℕ → Bool → Outcome
-read_at symbol printed kind i depth lifetimes value = level_of symbol (levels symbol (max_depth - depth)) printed kind value lifetimes i
+unfoldable pub read_at : List ℕ → Bool → Bool → Kind → ℕ → ℕ → ℕ → Bool → Outcome
+read_at symbol folds printed kind i depth lifetimes value = level_of symbol folds (levels symbol folds (max_depth - depth)) printed kind value lifetimes i
 
--- the texts of a symbol: its first path, printed in value position and with no lifetimes in scope
-unfoldable pub path_texts : List ℕ → Bool → List Text
-path_texts symbol plain = pieces plain (read_at symbol true a_path 0 0 0 true).tree
+-- the form in which a symbol is printed: with hashes or without, and with folded arguments or without
+pub record Form : Type 0 where
+  pub include_hash : Bool
+  pub fold_arguments : Bool
+
+abbrev pub form : (include_hash fold_arguments : Bool) → Form
+form include_hash fold_arguments = record { include_hash = include_hash; fold_arguments = fold_arguments }
+
+-- the texts of a symbol in a form: its first path, printed in value position and with no lifetimes in scope
+unfoldable pub path_texts : List ℕ → Form → List Text
+path_texts symbol form = pieces form.include_hash (read_at symbol form.fold_arguments true a_path 0 0 0 true).tree
 
 -- the place after the production, if it is spelled
 unfoldable pub unit_end : List ℕ → Kind → ℕ → ℕ → Place
-unit_end symbol kind i depth = (read_at symbol false kind i depth 0 true).place
+unit_end symbol kind i depth = (read_at symbol false false kind i depth 0 true).place
 
 -- whether a second path begins there
 abbrev pub goes_on_at : List ℕ → ℕ → Bool

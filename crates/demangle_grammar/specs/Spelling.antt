@@ -3,24 +3,32 @@ use Rattle.std.specs.Prelude.{◌≡◌, ◌⊎◌, ℕ, ◌+◌, ◌<◌, ◌�
 use Prim.Native.Char.{code}
 use Rattle.demangle_symbol.specs.Digits.{is_byte}
 use Rattle.demangle_symbol.specs.Words.{Name, byte_at, namespace_at, integer_at, optional_at, backref_at, identifier_at, nibbles_at}
-use Rattle.demangle_grammar.specs.Items.{Text, Kind, a_path, a_trait_path, Items, done, say, say_plain, byte, namespace, integer, optional, identifier, nibbles, peek, next, sound, until_end, raise, unit, child, skip, target, lifetime, binder, opens, dyn_trait, bindings}
+use Rattle.demangle_grammar.specs.Items.{Text, Kind, a_path, a_trait_path, Items, done, say, say_plain, byte, namespace, integer, optional, identifier, nibbles, peek, next, sound, until_end, raise, unit, child, skip, folded, target, lifetime, binder, opens, dyn_trait, bindings}
 use Rattle.demangle_grammar.specs.Table.{items}
 use Rattle.demangle_grammar.specs.Reading.{max_depth, goes_on_at}
 
 -- The rule for what is printed. `freely` requires nothing. `named` requires that each lifetime outside references is in scope.
--- `simple` allows no reference, and no lifetime other than that of index 0.
+-- `named_outside` requires the same, except for generic arguments, which are folded. `simple` allows no reference, and no
+-- lifetime other than that of index 0.
 pub data Rule : Type 0 where
-  freely named simple : Rule
+  freely named named_outside simple : Rule
+
+-- the rule for generic arguments
+abbrev pub of_arguments : Rule → Rule
+of_arguments named_outside = freely
+of_arguments r = r
 
 -- whether a lifetime of index k is allowed, with m lifetimes in scope
 abbrev pub MayName : Rule → ℕ → ℕ → Type 0
 MayName freely m k = Unit {0}
 MayName named m k = k ≤ m
+MayName named_outside m k = k ≤ m
 MayName simple m k = k ≡ 0
 
 abbrev pub MayRefer : Rule → Type 0
 MayRefer freely = Unit {0}
 MayRefer named = Unit {0}
+MayRefer named_outside = Unit {0}
 MayRefer simple = ⊥
 
 -- `Spells symbol r d m p i j`: the bytes from i to j spell the items p, at depth d, with m lifetimes in scope, by the rule r
@@ -45,6 +53,7 @@ pub data Spells (symbol : List ℕ) : Rule → ℕ → ℕ → Items → ℕ →
   unit_ : {r : Rule} {p q : Items} {d m i k j : ℕ} → Spells symbol r d m p i k → Spells symbol r d m q k j → Spells symbol r d m (unit p q) i j
   child_ : {r : Rule} {p : Items} {d m i k j : ℕ} {kind : Kind} {value : Bool} → Spells symbol r d m (items kind value) i k → Spells symbol r d m p k j → Spells symbol r d m (child kind value p) i j
   skip_ : {r : Rule} {p : Items} {d m i k j : ℕ} → Spells symbol freely d m (items a_path false) i k → Spells symbol r d m p k j → Spells symbol r d m (skip p) i j
+  folded_ : {r : Rule} {p q : Items} {d m i k j : ℕ} → Spells symbol (of_arguments r) d m p i k → Spells symbol r d m q k j → Spells symbol r d m (folded p q) i j
   -- a reference spells only itself: its target begins before it, and there is one more depth
   target_ : {r : Rule} {d m i j : ℕ} {kind : Kind} {value : Bool} (v : ℕ) → MayRefer r → backref_at symbol i ≡ Some (v, j) → d < max_depth → Spells symbol r d m (target kind value) i j
   lifetime_ : {r : Rule} {p : Items} {d m i j k : ℕ} → MayName r m k → Spells symbol r d m p i j → Spells symbol r d m (lifetime k p) i j

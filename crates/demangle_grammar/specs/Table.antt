@@ -7,7 +7,7 @@ use Prim.Native.String.{String}
 use Rattle.demangle_symbol.specs.Words.{is_upper, some_or, Name, number_of}
 use Rattle.demangle_symbol.specs.Names.{name_pieces, is_empty, is_nameless}
 use Rattle.demangle_symbol.specs.Literals.{literal, string_of}
-use Rattle.demangle_grammar.specs.Items.{Text, Kind, a_path, a_type, a_constant, a_pattern, a_trait_path, Items, done, invalid, say, say_plain, byte, namespace, integer, optional, identifier, nibbles, peek, next, sound, until_end, raise, unit, child, skip, target, lifetime, binder, opens, dyn_trait}
+use Rattle.demangle_grammar.specs.Items.{Text, Kind, a_path, a_type, a_constant, a_pattern, a_trait_path, Items, done, invalid, say, say_plain, byte, namespace, integer, optional, identifier, nibbles, peek, next, sound, until_end, raise, unit, child, skip, folded, target, lifetime, binder, opens, dyn_trait}
 
 abbrev pub is_among : ℕ → List ℕ → Bool
 is_among b [] = false
@@ -61,6 +61,10 @@ argument =
     next (code "L") (integer (λ k. lifetime k done))
     (next (code "K") (child a_constant false done) type_inside)
 
+-- the generic arguments of a path up to `E`, and then p
+abbrev pub arguments : Items → Items
+arguments p = folded (list ", " argument done) p
+
 -- Paths.
 
 abbrev pub in_special : ℕ → ℕ → Name → Items
@@ -87,7 +91,7 @@ path_rows value = (
     ∷ ("M", disambiguator (λ _. skip (says "<" (child a_type false (says ">" done)))))
     ∷ ("X", disambiguator (λ _. skip (says "<" (child a_type false (says " as " (child a_path false (says ">" done)))))))
     ∷ ("Y", says "<" (child a_type false (says " as " (child a_path false (says ">" done)))))
-    ∷ ("I", child a_path value (says_if value "::" (says "<" (list ", " argument (says ">" done)))))
+    ∷ ("I", child a_path value (says_if value "::" (says "<" (arguments (says ">" done)))))
     ∷ ("B", target a_path value)
     ∷ []
 
@@ -167,7 +171,7 @@ type_tagged = peek (λ tag. some_or (raise (type_behind_tag tag)) (row_text tag 
 abbrev pub trait_path : Items
 trait_path =
     next (code "B") (target a_trait_path false)
-    (next (code "I") (child a_path false (says "<" (list ", " argument (opens done))))
+    (next (code "I") (child a_path false (says "<" (arguments (opens done))))
     (child a_path false done))
 
 abbrev pub pattern_rows : List (String × Items)

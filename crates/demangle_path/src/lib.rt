@@ -6,14 +6,14 @@ ghost use Rattle.std.specs.Prelude.{◌≡◌, ◌+◌, ◌<◌, ◌≤◌, ℕ,
 ghost use Prim.Native.Nat.{min};
 ghost use Rattle.std.specs.List.{concat};
 ghost use Rattle.rustc_demangle.specs.Cut.{size};
-ghost use Rattle.rustc_demangle.specs.Filtered.{filtered_within};
+ghost use Rattle.rustc_demangle.specs.Filtered.{filtered_in, filtered_within};
 ghost use Rattle.rustc_demangle.specs.Slice.{overlay};
 ghost use Rattle.rustc_demangle.specs.Stripped.{stripped};
-ghost use Rattle.rustc_demangle.specs.Symbols.{handed};
-ghost use Rattle.demangle_path.specs.Naming.{NamesRust, path_within, c_string};
+ghost use Rattle.rustc_demangle.specs.Symbols.{handed_in};
+ghost use Rattle.demangle_path.specs.Naming.{NamesRust, path_in, path_within, c_string};
 
 use rustc_demangle::sink::SliceSink;
-use rustc_demangle::{Demangle, demangle_slice, try_demangle};
+use rustc_demangle::{Demangle, Format, demangle_slice_formatted, try_demangle};
 
 /// The most bytes that are printed for a symbol, without the marker and the suffix.
 pub const MAX_SIZE: usize = 1_000_000;
@@ -43,20 +43,13 @@ pub fn symbol_of(bytes: &[u8]) -> Option<Demangle<'_>>
 /// Writes a path from its byte `start` to memory, as far as the memory reaches. Returns the number
 /// of bytes of the whole path.
 #[tactic(auto, using(crate::proofs::Ending::laid_part))]
-fn write_path(
-    symbol: &Demangle<'_>,
-    out: &mut [u8],
-    include_hash: bool,
-    limit: usize,
-    start: usize,
-) -> usize
-    requires { size (handed symbol.now include_hash limit) ≤ usize.MAX }
-    ensures len { result ≡ length (concat (handed symbol.now include_hash limit)) }
-    ensures bytes { out.new ≡
-        overlay out.old (drop start (concat (handed symbol.now include_hash limit))) }
+fn write_path(symbol: &Demangle<'_>, out: &mut [u8], format: Format, start: usize) -> usize
+    requires { size (handed_in symbol.now format) ≤ usize.MAX }
+    ensures len { result ≡ length (concat (handed_in symbol.now format)) }
+    ensures bytes { out.new ≡ overlay out.old (drop start (concat (handed_in symbol.now format))) }
 {
     let mut sink = SliceSink::starting_at(out, start);
-    match symbol.write_limited(&mut sink, include_hash, limit) {
+    match symbol.write_formatted(&mut sink, format) {
         Ok(()) => sink.len(),
         Err(_) => unreachable!(),
     }
@@ -95,11 +88,33 @@ pub fn write_part(
         let path = path_within symbol.now include_hash (min limit MAX_SIZE) in
         out.new ≡ overlay out.old (c_string (length out.old) (drop start path)) }
 {
+    let format = Format {
+        include_hash,
+        fold_arguments: false,
+        limit,
+    };
+    write_part_formatted(symbol, out, format, start)
+}
+
+/// Writes a path as `write_part` does, in a format. The limit of the format is `MAX_SIZE` at most.
+pub fn write_part_formatted(symbol: &[u8], out: &mut [u8], format: Format, start: usize) -> usize
+    ensures none { (NamesRust symbol.now → ⊥) → (result ≡ 0) × (out.new ≡ out.old) }
+    ensures size { NamesRust symbol.now →
+        let path = path_in symbol.now (record format { limit = min format.limit MAX_SIZE }) in
+        result ≡ length path + 1 }
+    ensures text { NamesRust symbol.now →
+        let path = path_in symbol.now (record format { limit = min format.limit MAX_SIZE }) in
+        out.new ≡ overlay out.old (c_string (length out.old) (drop start path)) }
+{
     let Some(demangled) = symbol_of(symbol) else {
         return 0;
     };
-    let most = limit.min(MAX_SIZE);
-    let len = write_path(&demangled, out, include_hash, most, start);
+    let most = format.limit.min(MAX_SIZE);
+    let capped = Format {
+        limit: most,
+        ..format
+    };
+    let len = write_path(&demangled, out, capped, start);
     put_end(out, len.saturating_sub(start));
     len + 1
 }
@@ -120,7 +135,29 @@ pub fn write_text(text: &[u8], out: &mut [u8], include_hash: bool, limit: usize)
     ensures past { usize.MAX ≤ length (filtered_within include_hash (min limit MAX_SIZE) text.now) →
         result ≡ usize.MAX }
 {
-    let Some(len) = demangle_slice(text, out, include_hash, limit.min(MAX_SIZE)) else {
+    let format = Format {
+        include_hash,
+        fold_arguments: false,
+        limit,
+    };
+    write_text_formatted(text, out, format)
+}
+
+/// Writes a text as `write_text` does, with each symbol printed in a format. The limit of the format is
+/// `MAX_SIZE` at most.
+pub fn write_text_formatted(text: &[u8], out: &mut [u8], format: Format) -> usize
+    ensures size { let capped = record format { limit = min format.limit MAX_SIZE } in
+        let filtered = filtered_in capped text.now in
+        length filtered < usize.MAX → result ≡ length filtered + 1 }
+    ensures text { let capped = record format { limit = min format.limit MAX_SIZE } in
+        let filtered = filtered_in capped text.now in
+        length filtered < usize.MAX →
+        out.new ≡ overlay out.old (c_string (length out.old) filtered) }
+    ensures past { let capped = record format { limit = min format.limit MAX_SIZE } in
+        usize.MAX ≤ length (filtered_in capped text.now) → result ≡ usize.MAX }
+{
+    let limit = format.limit.min(MAX_SIZE);
+    let Some(len) = demangle_slice_formatted(text, out, Format { limit, ..format }) else {
         return usize::MAX;
     };
     put_end(out, len);

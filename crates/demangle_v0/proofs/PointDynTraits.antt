@@ -24,13 +24,14 @@ use Rattle.demangle_v0.specs.declared.points.State.{State}
 use Rattle.demangle_v0.specs.declared.points.Stop.{Stop}
 use Rattle.demangle_grammar.proofs.ClosedUnits.{last_child, unit_closed}
 use Rattle.demangle_grammar.proofs.Elements.{dyn_trait_element}
+use Rattle.demangle_grammar.proofs.Folded.{unfolded}
 use Rattle.demangle_grammar.proofs.Hearing.{handing_both, and_then_assoc, handing_then, allowing_then}
 use Rattle.demangle_grammar.proofs.ListReads.{followed}
 use Rattle.demangle_grammar.proofs.PathReads.{trait_path_reads, trait_path_refers, trait_path_generic, trait_path_plain}
 use Rattle.demangle_grammar.proofs.TypeReads.{if_so, says_all, bound_constant, bound_type, mark_of, bindings_failed, bindings_over, binding_stops, binding_reads}
-use Rattle.demangle_v0.proofs.PointArguments.{told, arguments_heard}
+use Rattle.demangle_v0.proofs.PointArguments.{IsWhole, told, arguments_heard}
 use Rattle.demangle_v0.proofs.PointLists.{left_of, open_at, shut_at, NotOver, one_look, paid_on, over_heard, on_heard, list_ends}
-use Rattle.demangle_v0.proofs.PointTurns.{behind, leaves, marks}
+use Rattle.demangle_v0.proofs.PointTurns.{alike, behind, leaves, marks}
 
 abbrev pub first_traits : Items
 first_traits = list " + " (dyn_trait binding_value) done
@@ -74,44 +75,44 @@ first_text false = refl
 
 module _ {V : Type 0} (e : Env V) (s : State) where
   abbrev about : Surroundings
-  about = around e.symbol e.output.is_printed s.depth_left s.lifetimes
+  about = around e.symbol e.form.fold_arguments e.output.is_printed s.depth_left s.lifetimes
 
   -- a frame that the state leaves
   abbrev frame_rest : Point → Place → Bool → Heard
-  frame_rest p = unit_rest e.symbol e.include_hash e.output.is_printed (frame_at p s)
+  frame_rest p = unit_rest e.symbol e.form e.output.is_printed (frame_at p s)
 
   -- a dyn trait, and further ones
-  trait_then : (i : ℕ) → followed (open_at e (dyn_trait binding_value) s (Some i)) (shut_at e next_traits s) ≡ and_then (of e.include_hash e.output.is_printed (unit_outcome about a_trait_path false (Some i))) (frame_rest point.Bindings)
+  trait_then : (i : ℕ) → followed (open_at e (dyn_trait binding_value) s (Some i)) (shut_at e next_traits s) ≡ and_then (of e.form.include_hash e.output.is_printed (unit_outcome about a_trait_path false (Some i))) (frame_rest point.Bindings)
   unfolding run unit_rest_at
-  trait_then i = and_then_assoc (of e.include_hash e.output.is_printed (unit_outcome about a_trait_path false (Some i))) (λ j o. open_at e (bindings o binding_value) s j) (λ j _. shut_at e next_traits s j)
+  trait_then i = and_then_assoc (of e.form.include_hash e.output.is_printed (unit_outcome about a_trait_path false (Some i))) (λ j o. open_at e (bindings o binding_value) s j) (λ j _. shut_at e next_traits s j)
 
   trait_heard : (first : Bool) (i : ℕ) → Fits point.NextDynTrait s.depth_left s.lifetimes → is_byte e.symbol i (code "E") ≡ false → shut_at e (left_traits first) s (Some i)
-      ≡ with_looks (1 ∷ []) (with_texts e.output.is_printed (mark_texts (separator first mark.Plus)) (and_then (of e.include_hash e.output.is_printed (unit_outcome about a_trait_path false (Some i))) (frame_rest point.Bindings)))
-  trait_heard true i f h = ap none_open (on_heard e s true " + " mark.Plus refl (dyn_trait binding_value) done next_traits i (dyn_trait_element e.symbol e.output.is_printed s.depth_left s.lifetimes (omega (arith, f))) h) ∙ ap (with_looks (1 ∷ [])) (trait_then i)
+      ≡ with_looks (1 ∷ []) (with_texts e.output.is_printed (mark_texts (separator first mark.Plus)) (and_then (of e.form.include_hash e.output.is_printed (unit_outcome about a_trait_path false (Some i))) (frame_rest point.Bindings)))
+  trait_heard true i f h = ap none_open (on_heard e s true " + " mark.Plus refl (dyn_trait binding_value) done next_traits i (dyn_trait_element e.symbol e.form.fold_arguments e.output.is_printed s.depth_left s.lifetimes (omega (arith, f))) h) ∙ ap (with_looks (1 ∷ [])) (trait_then i)
   trait_heard false i f h =
-      ap none_open (on_heard e s false " + " mark.Plus refl (dyn_trait binding_value) done next_traits i (dyn_trait_element e.symbol e.output.is_printed s.depth_left s.lifetimes (omega (arith, f))) h)
+      ap none_open (on_heard e s false " + " mark.Plus refl (dyn_trait binding_value) done next_traits i (dyn_trait_element e.symbol e.form.fold_arguments e.output.is_printed s.depth_left s.lifetimes (omega (arith, f))) h)
       ∙ ap (λ (h : Heard). with_looks (1 ∷ []) (with_texts e.output.is_printed (text mark.Plus ∷ []) h)) (trait_then i)
 
   -- Paths of dyn traits.
 
-  refers_reads : (i : ℕ) → s.place ≡ Some i → is_byte e.symbol i (code "B") ≡ true → unit_rest_of e.symbol e.include_hash e.output.is_printed point.TraitPath s ≡ with_looks (1 ∷ []) (open_at e (target a_trait_path false) s (Some (i + 1)))
+  refers_reads : (i : ℕ) → s.place ≡ Some i → is_byte e.symbol i (code "B") ≡ true → unit_rest_of e.symbol e.form e.output.is_printed point.TraitPath s ≡ with_looks (1 ∷ []) (open_at e (target a_trait_path false) s (Some (i + 1)))
   unfolding unit_rest_at
-  refers_reads i at h = rw at (trait_path_reads e.include_hash e.output.is_printed e.symbol s.depth_left s.lifetimes false i ∙ trait_path_refers e.include_hash e.output.is_printed e.symbol s.depth_left s.lifetimes i h)
+  refers_reads i at h = rw at (trait_path_reads e.form.include_hash e.form.fold_arguments e.output.is_printed e.symbol s.depth_left s.lifetimes false i ∙ trait_path_refers e.form.include_hash e.form.fold_arguments e.output.is_printed e.symbol s.depth_left s.lifetimes i h)
 
   generic_reads : (i : ℕ) → s.place ≡ Some i → is_byte e.symbol i (code "B") ≡ false → is_byte e.symbol i (code "I") ≡ true
-      → unit_rest_of e.symbol e.include_hash e.output.is_printed point.TraitPath s
-      ≡ with_looks (1 ∷ 1 ∷ []) (and_then (none_open (of e.include_hash e.output.is_printed (unit_outcome about a_path false (Some (i + 1))))) (unit_rest e.symbol e.include_hash e.output.is_printed (record (frame_at point.OpenTraitPath s) { in_value = false })))
+      → unit_rest_of e.symbol e.form e.output.is_printed point.TraitPath s
+      ≡ with_looks (1 ∷ 1 ∷ []) (and_then (none_open (of e.form.include_hash e.output.is_printed (unit_outcome about a_path false (Some (i + 1))))) (unit_rest e.symbol e.form e.output.is_printed (record (frame_at point.OpenTraitPath s) { in_value = false })))
   unfolding unit_rest_at
-  generic_reads i at h k = rw at (trait_path_reads e.include_hash e.output.is_printed e.symbol s.depth_left s.lifetimes false i ∙ trait_path_generic e.include_hash e.output.is_printed e.symbol s.depth_left s.lifetimes i h k)
+  generic_reads i at h k = rw at (trait_path_reads e.form.include_hash e.form.fold_arguments e.output.is_printed e.symbol s.depth_left s.lifetimes false i ∙ trait_path_generic e.form.include_hash e.form.fold_arguments e.output.is_printed e.symbol s.depth_left s.lifetimes i h k)
 
   plain_reads : (i : ℕ) → s.place ≡ Some i → is_byte e.symbol i (code "B") ≡ false → is_byte e.symbol i (code "I") ≡ false
-      → unit_rest_of e.symbol e.include_hash e.output.is_printed point.TraitPath s ≡ with_looks (1 ∷ 1 ∷ []) (none_open (of e.include_hash e.output.is_printed (unit_outcome about a_path false (Some i))))
+      → unit_rest_of e.symbol e.form e.output.is_printed point.TraitPath s ≡ with_looks (1 ∷ 1 ∷ []) (none_open (of e.form.include_hash e.output.is_printed (unit_outcome about a_path false (Some i))))
   unfolding unit_rest_at
   plain_reads i at h k =
-      let g = of e.include_hash e.output.is_printed (unit_outcome about a_path false (Some i)) in
-      rw at (trait_path_reads e.include_hash e.output.is_printed e.symbol s.depth_left s.lifetimes false i
-      ∙ (trait_path_plain e.include_hash e.output.is_printed e.symbol s.depth_left s.lifetimes i h k
-      ∙ ap (λ (x : Bool). with_looks (1 ∷ 1 ∷ []) (record { events = g.events; place = g.place; is_open = x })) (unit_closed e.symbol e.output.is_printed s.depth_left s.lifetimes a_path false (Some i) tt)))
+      let g = of e.form.include_hash e.output.is_printed (unit_outcome about a_path false (Some i)) in
+      rw at (trait_path_reads e.form.include_hash e.form.fold_arguments e.output.is_printed e.symbol s.depth_left s.lifetimes false i
+      ∙ (trait_path_plain e.form.include_hash e.form.fold_arguments e.output.is_printed e.symbol s.depth_left s.lifetimes i h k
+      ∙ ap (λ (x : Bool). with_looks (1 ∷ 1 ∷ []) (record { events = g.events; place = g.place; is_open = x })) (unit_closed e.symbol e.form.fold_arguments e.output.is_printed s.depth_left s.lifetimes a_path false (Some i) tt)))
 
   -- Bindings, and the dyn traits behind them.
 
@@ -129,14 +130,14 @@ module _ {V : Type 0} (e : Env V) (s : State) where
   failed_reads : (o : Bool) → shut_at e (bindings_left o) s None ≡ with_texts e.output.is_printed (mark_texts (end_mark o)) (nothing_heard None false)
   failed_reads o =
       left_reads o None
-      ∙ (ap (λ (h : Heard). and_then h traits) (bindings_failed e.include_hash e.output.is_printed e.symbol s.depth_left s.lifetimes o)
+      ∙ (ap (λ (h : Heard). and_then h traits) (bindings_failed e.form.include_hash e.form.fold_arguments e.output.is_printed e.symbol s.depth_left s.lifetimes o)
       ∙ (handing_then e.output.is_printed (if_so o ">") (nothing_heard None false) traits
       ∙ (ap (with_texts e.output.is_printed (if_so o ">")) traits_failed ∙ ap (λ ts. with_texts e.output.is_printed ts (nothing_heard None false)) (end_text o))))
 
   over_reads : (o : Bool) (i : ℕ) → is_byte e.symbol i (code "p") ≡ false → shut_at e (bindings_left o) s (Some i) ≡ with_looks (1 ∷ []) (with_texts e.output.is_printed (mark_texts (end_mark o)) (traits (Some i) false))
   over_reads o i h =
       left_reads o (Some i)
-      ∙ (ap (λ (h : Heard). and_then h traits) (bindings_over e.include_hash e.output.is_printed e.symbol s.depth_left s.lifetimes o i h)
+      ∙ (ap (λ (h : Heard). and_then h traits) (bindings_over e.form.include_hash e.form.fold_arguments e.output.is_printed e.symbol s.depth_left s.lifetimes o i h)
       ∙ (allowing_then (1 ∷ []) (with_texts e.output.is_printed (if_so o ">") (nothing_heard (Some i) false)) traits
       ∙ (ap (with_looks (1 ∷ [])) (handing_then e.output.is_printed (if_so o ">") (nothing_heard (Some i) false) traits)
       ∙ ap (λ ts. with_looks (1 ∷ []) (with_texts e.output.is_printed ts (traits (Some i) false))) (end_text o))))
@@ -156,7 +157,7 @@ module _ {V : Type 0} (e : Env V) (s : State) where
   name_said : (a : Name) (j : Place) → open_at e (says_name a (says " = " behind_name)) s j ≡ with_texts e.output.is_printed (name_pieces a ++ codes " = " ∷ []) (open_at e behind_name s j)
   unfolding run
   name_said a j =
-      says_all e.include_hash e.output.is_printed (name_pieces a) (says " = " behind_name) about j
+      says_all e.form.include_hash e.output.is_printed (name_pieces a) (says " = " behind_name) about j
       ∙ sym (handing_both e.output.is_printed (name_pieces a) (codes " = " ∷ []) (open_at e behind_name s j))
 
   a_name : (i j : ℕ) (a : Name) → identifier_at e.symbol i ≡ Some (a, j)
@@ -185,23 +186,30 @@ module _ {V : Type 0} (e : Env V) (s : State) where
 
       go : (r : Read Name) → identifier_at e.symbol (i + 1) ≡ r → and_then (open_at e (bindings o binding_value) s (Some i)) traits ≡ with_looks (1 ∷ []) (with_texts e.output.is_printed (mark_of o ∷ []) (name_heard (i + 1)))
       go None f =
-          marked (4 * (length e.symbol - (i + 1) + 1)) (codes "{invalid syntax}" ∷ []) (nothing_heard None false) (nothing_heard None false) (binding_stops e.include_hash e.output.is_printed e.symbol s.depth_left s.lifetimes o i p f) traits_failed (no_name (i + 1) f)
+          marked (4 * (length e.symbol - (i + 1) + 1)) (codes "{invalid syntax}" ∷ []) (nothing_heard None false) (nothing_heard None false) (binding_stops e.form.include_hash e.form.fold_arguments e.output.is_printed e.symbol s.depth_left s.lifetimes o i p f) traits_failed (no_name (i + 1) f)
       go (Some r) f =
           let m : Place → Bool → Heard = λ x _. open_at e (bindings true binding_value) s x in
-          marked (4 * (r.1 - (i + 1) + 1)) (name_pieces r.0 ++ codes " = " ∷ []) (and_then (open_at e binding_value s (Some r.1)) m) (shut_at e behind_name s (Some r.1)) (binding_reads e.include_hash e.output.is_printed e.symbol s.depth_left s.lifetimes o i r.1 r.0 l p f)
+          marked (4 * (r.1 - (i + 1) + 1)) (name_pieces r.0 ++ codes " = " ∷ []) (and_then (open_at e binding_value s (Some r.1)) m) (shut_at e behind_name s (Some r.1)) (binding_reads e.form.include_hash e.form.fold_arguments e.output.is_printed e.symbol s.depth_left s.lifetimes o i r.1 r.0 l p f)
           (and_then_assoc (open_at e binding_value s (Some r.1)) m traits ∙ further (Some r.1)) (a_name (i + 1) r.1 r.0 f)
 
   -- What is bound.
 
   bound_reads : (i : Place) (front : List ℕ) (g : Heard) → s.place ≡ i → open_at e binding_value s i ≡ with_looks front g
-      → unit_rest_of e.symbol e.include_hash e.output.is_printed point.Bound s ≡ with_looks front (and_then (none_open g) (frame_rest point.OpenBindings))
+      → unit_rest_of e.symbol e.form e.output.is_printed point.Bound s ≡ with_looks front (and_then (none_open g) (frame_rest point.OpenBindings))
   unfolding unit_rest_at
   bound_reads i front g at h = rw at
       (behind_reads i ∙ (ap (λ (h : Heard). followed h (shut_at e (bindings_left true) s)) h ∙ allowing_then front g (λ x _. shut_at e (bindings_left true) s x)))
 
-  no_bound : open_at e binding_value s None ≡ of e.include_hash e.output.is_printed (unit_outcome about a_type false None)
+  no_bound : open_at e binding_value s None ≡ of e.form.include_hash e.output.is_printed (unit_outcome about a_type false None)
   unfolding run
-  no_bound = last_child e.include_hash e.output.is_printed e.symbol s.depth_left s.lifetimes a_type false None tt
+  no_bound = last_child e.form.include_hash e.form.fold_arguments e.output.is_printed e.symbol s.depth_left s.lifetimes a_type false None tt
+
+  -- The arguments of a dyn trait path, unfolded.
+
+  open_so : (first : Bool) → IsWhole e s first → unit_rest_of e.symbol e.form e.output.is_printed (open_point first) s ≡ open_at e (left_open first) s s.place
+  unfolding unit_rest_at
+  open_so true w = unfolded e.form.include_hash (opens done) about s.place w
+  open_so false w = refl
 
 module _ {V : Type 0} {e : Env V} where
   pub dyn_opens : {t : Turn V} {stack : List Frame} → Fits point.DynBinder t.state.depth_left t.state.lifetimes → stack ≡ t.stack ++ frame_at point.DynLifetime t.state ∷ []
@@ -251,23 +259,23 @@ module _ {V : Type 0} {e : Env V} where
 
   -- The arguments of a dyn trait path.
 
-  open_as : {t u : Turn V} {r : Result Point Stop} (first : Bool) → Does e t (part 8 (open_at e (left_open first) t.state t.state.place) 1 (8 * t.state.depth_left + 2)) r u → PointDoes e (open_point first) t r u
+  open_as : {t u : Turn V} {r : Result Point Stop} (first : Bool) → IsWhole e t.state first → Does e t (part 8 (open_at e (left_open first) t.state t.state.place) 1 (8 * t.state.depth_left + 2)) r u → PointDoes e (open_point first) t r u
   unfolding unit_rest_at
-  open_as true d = d
-  open_as false d = d
+  open_as {t} true w d = alike (omega arith) (open_so e t.state true w) (omega arith) (omega arith) d
+  open_as false w d = d
 
-  pub open_over : {t : Turn V} {j : Place} {n : ℕ} (first : Bool) → is_list_over e.symbol t.state.place ≡ true → j ≡ behind_list e.symbol t.state.place → Paid t.looks (list_costs t.state.place) n → t.state.mark ≡ None
+  pub open_over : {t : Turn V} {j : Place} {n : ℕ} (first : Bool) → IsWhole e t.state first → is_list_over e.symbol t.state.place ≡ true → j ≡ behind_list e.symbol t.state.place → Paid t.looks (list_costs t.state.place) n → t.state.mark ≡ None
       → PointDoes e (open_point first) t (Ok point.End) (record t { state = record t.state { place = j; is_open = true }; looks = n })
   unfolding run unit_rest_at
-  open_over {t} first h k p m = open_as first (list_ends point.End (omega arith) (rw (k, m) (over_heard e t.state first ", " argument (opens done) next_open t.state.place h)) p (omega arith) (omega arith) tt)
+  open_over {t} first w h k p m = open_as first w (list_ends point.End (omega arith) (rw (k, m) (over_heard e t.state first ", " argument (opens done) next_open t.state.place h)) p (omega arith) (omega arith) tt)
 
-  pub open_on : {t : Turn V} {m : Option Mark} {stack : List Frame} {n : ℕ} (first : Bool) (i : ℕ) → t.state.place ≡ Some i → is_byte e.symbol i (code "E") ≡ false → Paid t.looks (1 ∷ argument_costs e.symbol i) n → m ≡ separator first mark.Comma
+  pub open_on : {t : Turn V} {m : Option Mark} {stack : List Frame} {n : ℕ} (first : Bool) (i : ℕ) → IsWhole e t.state first → t.state.place ≡ Some i → is_byte e.symbol i (code "E") ≡ false → Paid t.looks (1 ∷ argument_costs e.symbol i) n → m ≡ separator first mark.Comma
       → Fits point.NextOpenArgument t.state.depth_left t.state.lifetimes → stack ≡ t.stack ++ frame_at point.NextOpenArgument t.state ∷ []
       → PointDoes e (open_point first) t (Ok (argument_point e.symbol i)) (record t { state = record t.state { in_value = false; place = Some (argument_place e.symbol i); mark = m }; stack = stack; looks = n })
   unfolding then_frame unit_rest_at
-  open_on {t} first i at h p c f r =
+  open_on {t} first i whole at h p c f r =
       let w = told e.symbol i in
-      open_as first (leaves (argument_point e.symbol i) (1 ∷ []) (argument_costs e.symbol i) (omega (arith, w.few)) (Some (frame_at point.NextOpenArgument t.state)) (rw (c, at) (arguments_heard e t.state first (opens done) i f h))
+      open_as first whole (leaves (argument_point e.symbol i) (1 ∷ []) (argument_costs e.symbol i) (omega (arith, w.few)) (Some (frame_at point.NextOpenArgument t.state)) (rw (c, at) (arguments_heard e t.state first (opens done) i f h))
       r p w.most (rw at (omega (arith, p.within, w.most))) (omega (arith, w.within.light)) (omega arith) (omega (arith, w.within.low t.state.depth_left)) f (w.within.fits t.state.depth_left t.state.lifetimes f) (λ _. refl))
 
   -- Bindings.
@@ -292,7 +300,7 @@ module _ {V : Type 0} {e : Env V} where
 
   -- What is bound.
 
-  binds : {t : Turn V} {stack : List Frame} {j : Place} {n : ℕ} (to : Point) (i : Place) (ks : List ℕ) (g : Heard) → length ks ≤ 8 → total ks ≤ 2 → t.state.place ≡ i → open_at e binding_value t.state i ≡ with_looks ks g → none_open g ≡ unit_rest_of e.symbol e.include_hash e.output.is_printed to (record t.state { in_value = false; place = j })
+  binds : {t : Turn V} {stack : List Frame} {j : Place} {n : ℕ} (to : Point) (i : Place) (ks : List ℕ) (g : Heard) → length ks ≤ 8 → total ks ≤ 2 → t.state.place ≡ i → open_at e binding_value t.state i ≡ with_looks ks g → none_open g ≡ unit_rest_of e.symbol e.form e.output.is_printed to (record t.state { in_value = false; place = j })
       → Paid t.looks ks n → n ≤ t.looks + own_looks e.symbol t.state.place → t.state.mark ≡ None → way_weight to ≤ 1 → height_at to t.state.depth_left ≤ 8 * t.state.depth_left + 1 → Fits point.Bound t.state.depth_left t.state.lifetimes → Fits to t.state.depth_left t.state.lifetimes
       → stack ≡ t.stack ++ frame_at point.OpenBindings t.state ∷ [] → PointDoes e point.Bound t (Ok to) (record t { state = record t.state { in_value = false; place = j }; stack = stack; looks = n })
   unfolding then_frame
@@ -307,9 +315,9 @@ module _ {V : Type 0} {e : Env V} where
   pub bound_constant_on : {t : Turn V} {stack : List Frame} {n : ℕ} (i : ℕ) → t.state.place ≡ Some i → is_byte e.symbol i (code "K") ≡ true → n ≡ t.looks + 1 → t.state.mark ≡ None → Fits point.Bound t.state.depth_left t.state.lifetimes → stack ≡ t.stack ++ frame_at point.OpenBindings t.state ∷ []
       → PointDoes e point.Bound t (Ok point.Constant) (record t { state = record t.state { in_value = false; place = Some (i + 1) }; stack = stack; looks = n })
   unfolding unit_rest_at
-  bound_constant_on {t} i at h l m f r = binds point.Constant (Some i) (1 ∷ []) _ (omega arith) (omega arith) at (bound_constant e.include_hash e.output.is_printed e.symbol t.state.depth_left t.state.lifetimes i h) refl (one_look l) (rw at (omega (arith, l))) m (omega arith) (omega arith) f f r
+  bound_constant_on {t} i at h l m f r = binds point.Constant (Some i) (1 ∷ []) _ (omega arith) (omega arith) at (bound_constant e.form.include_hash e.form.fold_arguments e.output.is_printed e.symbol t.state.depth_left t.state.lifetimes i h) refl (one_look l) (rw at (omega (arith, l))) m (omega arith) (omega arith) f f r
 
   pub bound_type_on : {t : Turn V} {stack : List Frame} {n : ℕ} (i : ℕ) → t.state.place ≡ Some i → is_byte e.symbol i (code "K") ≡ false → n ≡ t.looks + 1 → t.state.mark ≡ None → Fits point.Bound t.state.depth_left t.state.lifetimes → stack ≡ t.stack ++ frame_at point.OpenBindings t.state ∷ []
       → PointDoes e point.Bound t (Ok point.«Type») (record t { state = record t.state { in_value = false }; stack = stack; looks = n })
   unfolding unit_rest_at
-  bound_type_on {t} i at h l m f r = binds point.«Type» (Some i) (1 ∷ []) _ (omega arith) (omega arith) at (bound_type e.include_hash e.output.is_printed e.symbol t.state.depth_left t.state.lifetimes i h) (rw at refl) (one_look l) (rw at (omega (arith, l))) m (omega arith) (omega arith) f f r
+  bound_type_on {t} i at h l m f r = binds point.«Type» (Some i) (1 ∷ []) _ (omega arith) (omega arith) at (bound_type e.form.include_hash e.form.fold_arguments e.output.is_printed e.symbol t.state.depth_left t.state.lifetimes i h) (rw at refl) (one_look l) (rw at (omega (arith, l))) m (omega arith) (omega arith) f f r

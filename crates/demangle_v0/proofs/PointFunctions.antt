@@ -53,18 +53,18 @@ module _ {V : Type 0} {e : Env V} where
       → PointDoes e point.Returns t (Ok point.«Type») (record t { state = record t.state { mark = Some mark.Arrow }; looks = n })
   unfolding run unit_rest_at
   returns_type {t} i at z l f =
-      moves point.«Type» (1 ∷ []) (omega arith) (rw (at, z) (ap (λ (h : Heard). with_looks (1 ∷ []) (with_texts e.output.is_printed (text mark.Arrow ∷ []) h)) (child_last e.output e.symbol e.include_hash a_type false t.state.depth_left t.state.lifetimes (Some i))))
+      moves point.«Type» (1 ∷ []) (omega arith) (rw (at, z) (ap (λ (h : Heard). with_looks (1 ∷ []) (with_texts e.output.is_printed (text mark.Arrow ∷ []) h)) (child_last e.output e.symbol e.form a_type false t.state.depth_left t.state.lifetimes (Some i))))
       (record { grows = omega (arith, l); within = omega (arith, l) }) (rw at (omega (arith, l))) (omega arith) (omega arith) f
 
 -- Binders.
 
 -- a part of a point that begins with a binder
 abbrev pub binder_part : {V : Type 0} → Env V → ℕ → Items → State → ℕ → ℕ → Part
-binder_part e words p s weight high = part words (heard e.output e.symbol e.include_hash (in_binder p) s.depth_left s.lifetimes s.place) weight high
+binder_part e words p s weight high = part words (heard e.output e.symbol e.form (in_binder p) s.depth_left s.lifetimes s.place) weight high
 
 binder_so : {V : Type 0} (e : Env V) (p : Items) (left n i j m : ℕ) → Some (m, j) ≡ optional_at (code "G") e.symbol i
-    → heard e.output e.symbol e.include_hash (in_binder p) left n (Some i) ≡ with_looks (4 * (j - i + 1) ∷ []) (with_texts e.output.is_printed (binder_texts m n) (heard e.output e.symbol e.include_hash p left (n + m) (Some j)))
-binder_so e p left n i j m o = ap none_open (binder_reads e.include_hash e.output.is_printed e.symbol left n p i j m (sym o))
+    → heard e.output e.symbol e.form (in_binder p) left n (Some i) ≡ with_looks (4 * (j - i + 1) ∷ []) (with_texts e.output.is_printed (binder_texts m n) (heard e.output e.symbol e.form p left (n + m) (Some j)))
+binder_so e p left n i j m o = ap none_open (binder_reads e.form.include_hash e.form.fold_arguments e.output.is_printed e.symbol left n p i j m (sym o))
 
 module _ {V : Type 0} {e : Env V} where
   pub binder_unread : {t : Turn V} {words weight high : ℕ} (p : Items) → t.state.mark ≡ None → t.state.place ≡ None → 1 ≤ weight → Does e t (binder_part e words p t.state weight high) (Err (Fault mark.AfterError)) t
@@ -79,7 +79,7 @@ module _ {V : Type 0} {e : Env V} where
   -- no lifetime
   pub binder_none : {t u : Turn V} {r : Result Point Stop} {words words' weight high weight' high' : ℕ} {s : State} {n : ℕ} → 1 + words' ≤ words → (p : Items) (i j m : ℕ) → t.state.place ≡ Some i → Some (m, j) ≡ optional_at (code "G") e.symbol i → m ≡ 0 → Paid t.looks (4 * (j - i + 1) ∷ []) n
       → u.looks ≤ t.looks + own_looks e.symbol t.state.place → weight' ≤ weight + 100 → high' ≤ high
-      → Does e (record t { state = s; looks = n }) (part words' (heard e.output e.symbol e.include_hash p t.state.depth_left t.state.lifetimes (Some j)) weight' high') r u → Does e t (binder_part e words p t.state weight high) r u
+      → Does e (record t { state = s; looks = n }) (part words' (heard e.output e.symbol e.form p t.state.depth_left t.state.lifetimes (Some j)) weight' high') r u → Does e t (binder_part e words p t.state weight high) r u
   unfolding binder_texts
   binder_none {t} few p i j m at o z l short w x d =
       let add : t.state.lifetimes + 0 ≡ t.state.lifetimes = omega arith in
@@ -87,7 +87,7 @@ module _ {V : Type 0} {e : Env V} where
 
   pub binder_goes : {t : Turn V} {words weight high n : ℕ} {s : State} {v : V} → 1 ≤ words → (to : Point) (p : Items) (i j m : ℕ) → t.state.place ≡ Some i → Some (m, j) ≡ optional_at (code "G") e.symbol i → Paid t.looks (4 * (j - i + 1) ∷ []) n → n ≤ t.looks + own_looks e.symbol t.state.place
       → e.output.prints t.output (binder_texts m t.state.lifetimes) (Ok tt) v → e.output.ready v → s.mark ≡ None
-      → heard e.output e.symbol e.include_hash p t.state.depth_left (t.state.lifetimes + m) (Some j) ≡ unit_rest_of e.symbol e.include_hash e.output.is_printed to s → way_weight to ≤ weight + 99 → height_at to s.depth_left ≤ high → Fits to s.depth_left s.lifetimes
+      → heard e.output e.symbol e.form p t.state.depth_left (t.state.lifetimes + m) (Some j) ≡ unit_rest_of e.symbol e.form e.output.is_printed to s → way_weight to ≤ weight + 99 → height_at to s.depth_left ≤ high → Fits to s.depth_left s.lifetimes
       → Does e t (binder_part e words p t.state weight high) (Ok to) (record t { state = s; output = v; looks = n })
   binder_goes {t} few to p i j m at o l short q y k h w x f =
       tells to (4 * (j - i + 1) ∷ []) (omega (arith, few)) (Binder t.state.lifetimes m)
@@ -96,4 +96,4 @@ module _ {V : Type 0} {e : Env V} where
   pub binder_refused : {t : Turn V} {words weight high n : ℕ} {s : State} {v : V} {f : SinkRefused} → 1 ≤ words → (p : Items) (i j m : ℕ) → t.state.place ≡ Some i → Some (m, j) ≡ optional_at (code "G") e.symbol i → Paid t.looks (4 * (j - i + 1) ∷ []) n → n ≤ t.looks + own_looks e.symbol t.state.place
       → e.output.prints t.output (binder_texts m t.state.lifetimes) (Err f) v → (e.output.is_printed ≡ false → IsOk (refused f)) → Does e t (binder_part e words p t.state weight high) (Err Refused) (record t { state = s; output = v; looks = n })
   binder_refused {t} few p i j m at o l short q k =
-      halts (4 * (j - i + 1) ∷ []) (omega (arith, few)) (Binder t.state.lifetimes m) (heard e.output e.symbol e.include_hash p t.state.depth_left (t.state.lifetimes + m) (Some j)) (rw at (binder_so e p t.state.depth_left t.state.lifetimes i j m o)) q (λ z. absurd (false≢true (k z))) l short
+      halts (4 * (j - i + 1) ∷ []) (omega (arith, few)) (Binder t.state.lifetimes m) (heard e.output e.symbol e.form p t.state.depth_left (t.state.lifetimes + m) (Some j)) (rw at (binder_so e p t.state.depth_left t.state.lifetimes i j m o)) q (λ z. absurd (false≢true (k z))) l short

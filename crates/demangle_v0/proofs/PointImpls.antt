@@ -6,7 +6,7 @@ use Rattle.demangle_symbol.specs.Words.{optional_at}
 use Rattle.demangle_grammar.specs.Events.{and_then}
 use Rattle.demangle_v0.specs.Impls.{impl_items, skip_point, self_point}
 use Rattle.demangle_v0.specs.Points.{frame_at, Turn, Env, Paid, RestDoes, PointDoes, frame_of, unit_rest, unit_rest_at, Fits}
-use Rattle.demangle_grammar.specs.Reading.{Place, run}
+use Rattle.demangle_grammar.specs.Reading.{Form, Place, run}
 use Rattle.demangle_words.specs.declared.texts.Mark.TheVariants as mark
 use Rattle.demangle_v0.specs.declared.points.Point.TheVariants as point
 use Rattle.demangle_v0.specs.declared.points.frames.Frame.{Frame}
@@ -15,13 +15,13 @@ use Rattle.demangle_v0.proofs.PointTurns.{unread, ends, enters, moves}
 use Rattle.demangle_v0.proofs.WordLooks.{optional_there}
 
 -- The impl's own path, where it is not printed.
-skip_heard : (b : List ℕ) (include_hash q : Bool) (v : Bool) (c left n : ℕ) (i : Place) (o : Bool)
-    → unit_rest_at b include_hash false (skip_point q) v c left n i o ≡ and_then (unit_rest_at b include_hash false point.Path false c left n i o) (unit_rest b include_hash false (frame_of (self_point q) v c left n))
+skip_heard : (b : List ℕ) (form : Form) (q : Bool) (v : Bool) (c left n : ℕ) (i : Place) (o : Bool)
+    → unit_rest_at b form false (skip_point q) v c left n i o ≡ and_then (unit_rest_at b form false point.Path false c left n i o) (unit_rest b form false (frame_of (self_point q) v c left n))
 unfolding unit_rest_at run
-skip_heard b include_hash true v c left n None o = refl
-skip_heard b include_hash true v c left n (Some i) o = refl
-skip_heard b include_hash false v c left n None o = refl
-skip_heard b include_hash false v c left n (Some i) o = refl
+skip_heard b form true v c left n None o = refl
+skip_heard b form true v c left n (Some i) o = refl
+skip_heard b form false v c left n None o = refl
+skip_heard b form false v c left n (Some i) o = refl
 
 module _ {V : Type 0} {e : Env V} where
   -- Behind the tag of an impl.
@@ -44,8 +44,8 @@ module _ {V : Type 0} {e : Env V} where
   -- where it is not printed
   pub skip_goes : {t : Turn V} {stack : List Frame} (q : Bool) → e.output.is_printed ≡ false → t.state.mark ≡ None → Fits point.Path t.state.depth_left t.state.lifetimes → stack ≡ t.stack ++ frame_at (self_point q) t.state ∷ []
       → PointDoes e (skip_point q) t (Ok point.Path) (record t { state = record t.state { in_value = false }; stack = stack })
-  skip_goes {t} true silent k f r = let s = t.state in enters point.Path (frame_at point.SelfType s) (rw (silent, k) (skip_heard e.symbol e.include_hash true s.in_value s.letter s.depth_left s.lifetimes s.place s.is_open)) r (omega arith) (omega arith) (omega arith) f f refl
-  skip_goes {t} false silent k f r = let s = t.state in enters point.Path (frame_at point.InherentType s) (rw (silent, k) (skip_heard e.symbol e.include_hash false s.in_value s.letter s.depth_left s.lifetimes s.place s.is_open)) r (omega arith) (omega arith) (omega arith) f f refl
+  skip_goes {t} true silent k f r = let s = t.state in enters point.Path (frame_at point.SelfType s) (rw (silent, k) (skip_heard e.symbol e.form true s.in_value s.letter s.depth_left s.lifetimes s.place s.is_open)) r (omega arith) (omega arith) (omega arith) f f refl
+  skip_goes {t} false silent k f r = let s = t.state in enters point.Path (frame_at point.InherentType s) (rw (silent, k) (skip_heard e.symbol e.form false s.in_value s.letter s.depth_left s.lifetimes s.place s.is_open)) r (omega arith) (omega arith) (omega arith) f f refl
 
   -- Behind the impl's own path.
 

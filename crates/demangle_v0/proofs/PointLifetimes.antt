@@ -8,7 +8,7 @@ use Rattle.demangle_grammar.specs.Events.{Heard, of, with_looks, with_texts, aro
 use Rattle.demangle_words.specs.WordReads.{texts_of}
 use Rattle.demangle_grammar.specs.Table.{type_inside, says, says_if}
 use Rattle.demangle_words.specs.Tags.{lifetime_before}
-use Rattle.demangle_grammar.specs.Reading.{Place, letter_of, run}
+use Rattle.demangle_grammar.specs.Reading.{Form, Place, letter_of, run}
 use Rattle.demangle_v0.specs.Points.{Turn, Env, Paid, RestDoes, PointDoes, own_looks, then_frame, none_open, Fits, behind_reference, lifetime_point, spaced_lifetime}
 use Rattle.demangle_sink.specs.declared.SinkRefused.{SinkRefused}
 use Rattle.demangle_words.specs.declared.texts.Mark.TheVariants as mark
@@ -26,48 +26,48 @@ use Rattle.demangle_v0.proofs.PointTypes.{behind_so, behind_within, lifetime_so}
 use Rattle.demangle_grammar.proofs.TypeReads.{says_all, lifetime_named, lifetime_wrong}
 use Rattle.demangle_grammar.proofs.Hearing.{said_both}
 
-module _ {V : Type 0} (output : Ghosts V) (b : List ℕ) (include_hash : Bool) where
+module _ {V : Type 0} (output : Ghosts V) (b : List ℕ) (form : Form) where
   -- The lifetime of a reference.
 
   abbrev named_heard : Bool → ℕ → ℕ → Place → Heard
-  named_heard q left n i = heard output b include_hash (lifetime_before (says_if q "mut " type_inside)) left n i
+  named_heard q left n i = heard output b form (lifetime_before (says_if q "mut " type_inside)) left n i
 
   -- one that is not named, or not printed
-  named_nothing : (q : Bool) (left n i j : ℕ) → Some (0, j) ≡ integer_at b i → named_heard q left n (Some i) ≡ with_looks (4 * (j - i + 1) ∷ []) (heard output b include_hash (says_if q "mut " type_inside) left n (Some j))
+  named_nothing : (q : Bool) (left n i j : ℕ) → Some (0, j) ≡ integer_at b i → named_heard q left n (Some i) ≡ with_looks (4 * (j - i + 1) ∷ []) (heard output b form (says_if q "mut " type_inside) left n (Some j))
   unfolding run
   named_nothing q left n i j e = rw (sym e) refl
 
-  lifetime_behind : (q : Bool) (left n i j k : ℕ) → Some (k, j) ≡ integer_at b i → (k ≡ 0 → ⊥) → named_heard q left n (Some i) ≡ with_looks (4 * (j - i + 1) ∷ []) (heard output b include_hash (lifetime k (says " " (says_if q "mut " type_inside))) left n (Some j))
+  lifetime_behind : (q : Bool) (left n i j k : ℕ) → Some (k, j) ≡ integer_at b i → (k ≡ 0 → ⊥) → named_heard q left n (Some i) ≡ with_looks (4 * (j - i + 1) ∷ []) (heard output b form (lifetime k (says " " (says_if q "mut " type_inside))) left n (Some j))
   unfolding run
   lifetime_behind q left n i j k e z = rw (sym e, ne_eqb k 0 z) refl
 
-  silent_so : (q : Bool) (left n j k : ℕ) (out : Bool) → out ≡ false → none_open (of include_hash out (run (lifetime k (says " " (says_if q "mut " type_inside))) (around b out left n) (Some j))) ≡ none_open (of include_hash out (run (says_if q "mut " type_inside) (around b out left n) (Some j)))
+  silent_so : (q : Bool) (left n j k : ℕ) (out : Bool) → out ≡ false → none_open (of form.include_hash out (run (lifetime k (says " " (says_if q "mut " type_inside))) (around b form.fold_arguments out left n) (Some j))) ≡ none_open (of form.include_hash out (run (says_if q "mut " type_inside) (around b form.fold_arguments out left n) (Some j)))
   unfolding run
   silent_so q left n j k true s = absurd (false≢true (sym s))
   silent_so q left n j k false s = refl
 
   -- one that is printed
   spaced_so : (left n k j : ℕ) (p : Items) (out : Bool) → out ≡ true → (k ≡ 0 → ⊥)
-      → of include_hash out (run (lifetime k (says " " p)) (around b out left n) (Some j)) ≡ with_texts out (texts_of b include_hash (spaced_lifetime n k j).0) (of include_hash out (run p (around b out left n) (spaced_lifetime n k j).1))
+      → of form.include_hash out (run (lifetime k (says " " p)) (around b form.fold_arguments out left n) (Some j)) ≡ with_texts out (texts_of b form.include_hash (spaced_lifetime n k j).0) (of form.include_hash out (run p (around b form.fold_arguments out left n) (spaced_lifetime n k j).1))
   spaced_so left n k j p false s z = absurd (false≢true s)
   spaced_so left n k j p true s z = go (nat_le k n) refl
     where
       h : Heard
-      h = of include_hash true (run p (around b true left n) (Some j))
+      h = of form.include_hash true (run p (around b form.fold_arguments true left n) (Some j))
 
-      space : (x : Place) → of include_hash true (run (says " " p) (around b true left n) x) ≡ with_texts true (codes " " ∷ []) (of include_hash true (run p (around b true left n) x))
-      space = says_all include_hash true (codes " " ∷ []) p (around b true left n)
+      space : (x : Place) → of form.include_hash true (run (says " " p) (around b form.fold_arguments true left n) x) ≡ with_texts true (codes " " ∷ []) (of form.include_hash true (run p (around b form.fold_arguments true left n) x))
+      space = says_all form.include_hash true (codes " " ∷ []) p (around b form.fold_arguments true left n)
 
-      go : (x : Bool) → nat_le k n ≡ x → of include_hash true (run (lifetime k (says " " p)) (around b true left n) (Some j)) ≡ with_texts true (texts_of b include_hash (spaced_lifetime n k j).0) (of include_hash true (run p (around b true left n) (spaced_lifetime n k j).1))
-      go true e = rw e (lifetime_named include_hash b left n (says " " p) k j (ne_eqb k 0 z) e ∙ ap (with_texts true (codes "'" ∷ letter_of (n - k))) (space (Some j))
+      go : (x : Bool) → nat_le k n ≡ x → of form.include_hash true (run (lifetime k (says " " p)) (around b form.fold_arguments true left n) (Some j)) ≡ with_texts true (texts_of b form.include_hash (spaced_lifetime n k j).0) (of form.include_hash true (run p (around b form.fold_arguments true left n) (spaced_lifetime n k j).1))
+      go true e = rw e (lifetime_named form.include_hash form.fold_arguments b left n (says " " p) k j (ne_eqb k 0 z) e ∙ ap (with_texts true (codes "'" ∷ letter_of (n - k))) (space (Some j))
           ∙ ap (λ xs. record { events = xs; place = h.place; is_open = h.is_open }) (sym (said_both true (codes "'" ∷ letter_of (n - k)) (codes " " ∷ []) h.events)))
-      go false e = rw e (lifetime_wrong include_hash b left n (says " " p) k j (ne_eqb k 0 z) e ∙ ap (with_texts true (codes "'" ∷ codes "{invalid syntax}" ∷ [])) (space None))
+      go false e = rw e (lifetime_wrong form.include_hash form.fold_arguments b left n (says " " p) k j (ne_eqb k 0 z) e ∙ ap (with_texts true (codes "'" ∷ codes "{invalid syntax}" ∷ [])) (space None))
 
   spaced_heard : (q : Bool) (left n i j k : ℕ) (s : Stretch) (x : Place) → Some (k, j) ≡ integer_at b i → (k ≡ 0 → ⊥) → output.is_printed ≡ true → (s, x) ≡ spaced_lifetime n k j
-      → named_heard q left n (Some i) ≡ with_looks (4 * (j - i + 1) ∷ []) (with_texts output.is_printed (texts_of b include_hash s) (heard output b include_hash (says_if q "mut " type_inside) left n x))
+      → named_heard q left n (Some i) ≡ with_looks (4 * (j - i + 1) ∷ []) (with_texts output.is_printed (texts_of b form.include_hash s) (heard output b form (says_if q "mut " type_inside) left n x))
   spaced_heard q left n i j k s x e z y g =
       lifetime_behind q left n i j k e z ∙ ap (λ (h : Heard). with_looks (4 * (j - i + 1) ∷ []) (none_open h)) (spaced_so left n k j (says_if q "mut " type_inside) output.is_printed y z)
-      ∙ ap (λ (r : Stretch × Place). with_looks (4 * (j - i + 1) ∷ []) (with_texts output.is_printed (texts_of b include_hash r.0) (heard output b include_hash (says_if q "mut " type_inside) left n r.1))) (sym g)
+      ∙ ap (λ (r : Stretch × Place). with_looks (4 * (j - i + 1) ∷ []) (with_texts output.is_printed (texts_of b form.include_hash r.0) (heard output b form (says_if q "mut " type_inside) left n r.1))) (sym g)
 
 -- the index of a lifetime was read
 pub record Indexed {V : Type 0} (e : Env V) (t : Turn V) (i k j n : ℕ) : Type 0 where
@@ -79,8 +79,8 @@ pub record Indexed {V : Type 0} (e : Env V) (t : Turn V) (i k j n : ℕ) : Type 
 
 module _ {V : Type 0} {e : Env V} where
   as_lifetime : {t u : Turn V} {r : Result Point Stop} (q : Bool) → RestDoes e (lifetime_before (says_if q "mut " type_inside)) 8 2 2 t r u → PointDoes e (lifetime_point q) t r u
-  as_lifetime {t} true d = let s = t.state in alike (omega arith) (sym (lifetime_so e.output e.symbol e.include_hash true s.in_value s.letter s.depth_left s.lifetimes s.place s.is_open)) (omega arith) (omega arith) d
-  as_lifetime {t} false d = let s = t.state in alike (omega arith) (sym (lifetime_so e.output e.symbol e.include_hash false s.in_value s.letter s.depth_left s.lifetimes s.place s.is_open)) (omega arith) (omega arith) d
+  as_lifetime {t} true d = let s = t.state in alike (omega arith) (sym (lifetime_so e.output e.symbol e.form true s.in_value s.letter s.depth_left s.lifetimes s.place s.is_open)) (omega arith) (omega arith) d
+  as_lifetime {t} false d = let s = t.state in alike (omega arith) (sym (lifetime_so e.output e.symbol e.form false s.in_value s.letter s.depth_left s.lifetimes s.place s.is_open)) (omega arith) (omega arith) d
 
   pub lifetime_unread : {t : Turn V} (q : Bool) → t.state.place ≡ None → t.state.mark ≡ None → PointDoes e (lifetime_point q) t (Err (Fault mark.AfterError)) t
   unfolding run
@@ -95,39 +95,39 @@ module _ {V : Type 0} {e : Env V} where
 
   -- one that is not named, or not printed
   unsaid : {t : Turn V} {i k j n : ℕ} (q : Bool) → Indexed e t i k j n
-      → named_heard e.output e.symbol e.include_hash q t.state.depth_left t.state.lifetimes (Some i) ≡ with_looks (4 * (j - i + 1) ∷ []) (heard e.output e.symbol e.include_hash (says_if q "mut " type_inside) t.state.depth_left t.state.lifetimes (Some j))
+      → named_heard e.output e.symbol e.form q t.state.depth_left t.state.lifetimes (Some i) ≡ with_looks (4 * (j - i + 1) ∷ []) (heard e.output e.symbol e.form (says_if q "mut " type_inside) t.state.depth_left t.state.lifetimes (Some j))
       → PointDoes e (lifetime_point q) t (Ok (behind_reference q)) (record t { state = record t.state { place = Some j }; looks = n })
   unfolding then_frame
   unsaid {t} {i} {k} {j} q x o =
       let s = t.state in
       let w = behind_within q in
       as_lifetime q (leaves (behind_reference q) (4 * (j - i + 1) ∷ []) [] (omega arith) None
-      (ap (λ (z : Place). named_heard e.output e.symbol e.include_hash q s.depth_left s.lifetimes z) x.at ∙ (o ∙ rw x.unmarked (ap (with_looks (4 * (j - i + 1) ∷ [])) (behind_so e.output e.symbol e.include_hash q s.in_value s.letter s.depth_left s.lifetimes (Some j) s.is_open)))) refl x.paid (omega arith) (short x)
+      (ap (λ (z : Place). named_heard e.output e.symbol e.form q s.depth_left s.lifetimes z) x.at ∙ (o ∙ rw x.unmarked (ap (with_looks (4 * (j - i + 1) ∷ [])) (behind_so e.output e.symbol e.form q s.in_value s.letter s.depth_left s.lifetimes (Some j) s.is_open)))) refl x.paid (omega arith) (short x)
       (omega (arith, w.light)) (omega arith) (omega (arith, w.low s.depth_left)) tt (w.fits s.depth_left s.lifetimes x.fits) (λ _. tt))
 
   pub lifetime_unnamed : {t : Turn V} {n : ℕ} (q : Bool) (i k j : ℕ) → Indexed e t i k j n → k ≡ 0 → PointDoes e (lifetime_point q) t (Ok (behind_reference q)) (record t { state = record t.state { place = Some j }; looks = n })
-  lifetime_unnamed {t} q i k j x z = unsaid q x (named_nothing e.output e.symbol e.include_hash q t.state.depth_left t.state.lifetimes i j (rw z at x.is))
+  lifetime_unnamed {t} q i k j x z = unsaid q x (named_nothing e.output e.symbol e.form q t.state.depth_left t.state.lifetimes i j (rw z at x.is))
 
   pub lifetime_unheard : {t : Turn V} {n : ℕ} (q : Bool) (i k j : ℕ) → Indexed e t i k j n → (k ≡ 0 → ⊥) → e.output.is_printed ≡ false → PointDoes e (lifetime_point q) t (Ok (behind_reference q)) (record t { state = record t.state { place = Some j }; looks = n })
   lifetime_unheard {t} q i k j x z m =
       let s = t.state in
-      unsaid q x (lifetime_behind e.output e.symbol e.include_hash q s.depth_left s.lifetimes i j k x.is z ∙ ap (with_looks (4 * (j - i + 1) ∷ [])) (silent_so e.output e.symbol e.include_hash q s.depth_left s.lifetimes j k e.output.is_printed m))
+      unsaid q x (lifetime_behind e.output e.symbol e.form q s.depth_left s.lifetimes i j k x.is z ∙ ap (with_looks (4 * (j - i + 1) ∷ [])) (silent_so e.output e.symbol e.form q s.depth_left s.lifetimes j k e.output.is_printed m))
 
   -- one that is printed
   emitted : {t : Turn V} {i k j n : ℕ} (q : Bool) (y : Stretch) (x : Place) → Indexed e t i k j n → (k ≡ 0 → ⊥) → e.output.is_printed ≡ true → (y, x) ≡ spaced_lifetime t.state.lifetimes k j
-      → named_heard e.output e.symbol e.include_hash q t.state.depth_left t.state.lifetimes t.state.place ≡ with_looks (4 * (j - i + 1) ∷ []) (with_texts e.output.is_printed (texts_of e.symbol e.include_hash y) (heard e.output e.symbol e.include_hash (says_if q "mut " type_inside) t.state.depth_left t.state.lifetimes x))
-  emitted {t} {i} {k} {j} q y x d z m g = let s = t.state in ap (λ (p : Place). named_heard e.output e.symbol e.include_hash q s.depth_left s.lifetimes p) d.at ∙ spaced_heard e.output e.symbol e.include_hash q s.depth_left s.lifetimes i j k y x d.is z m g
+      → named_heard e.output e.symbol e.form q t.state.depth_left t.state.lifetimes t.state.place ≡ with_looks (4 * (j - i + 1) ∷ []) (with_texts e.output.is_printed (texts_of e.symbol e.form.include_hash y) (heard e.output e.symbol e.form (says_if q "mut " type_inside) t.state.depth_left t.state.lifetimes x))
+  emitted {t} {i} {k} {j} q y x d z m g = let s = t.state in ap (λ (p : Place). named_heard e.output e.symbol e.form q s.depth_left s.lifetimes p) d.at ∙ spaced_heard e.output e.symbol e.form q s.depth_left s.lifetimes i j k y x d.is z m g
 
   pub lifetime_tells : {t : Turn V} {v : V} {n : ℕ} (q : Bool) (i k j : ℕ) (y : Stretch) (x : Place) → Indexed e t i k j n → (k ≡ 0 → ⊥) → e.output.is_printed ≡ true → (y, x) ≡ spaced_lifetime t.state.lifetimes k j
-      → e.output.prints t.output (texts_of e.symbol e.include_hash y) (Ok tt) v → e.output.ready v → PointDoes e (lifetime_point q) t (Ok (behind_reference q)) (record t { state = record t.state { place = x }; output = v; looks = n })
+      → e.output.prints t.output (texts_of e.symbol e.form.include_hash y) (Ok tt) v → e.output.ready v → PointDoes e (lifetime_point q) t (Ok (behind_reference q)) (record t { state = record t.state { place = x }; output = v; looks = n })
   lifetime_tells {t} q i k j y x d z m g r ready =
       let s = t.state in
       let w = behind_within q in
       as_lifetime q (tells (behind_reference q) (4 * (j - i + 1) ∷ []) (omega arith) y
-      (emitted q y x d z m g ∙ ap (λ (h : Heard). with_looks (4 * (j - i + 1) ∷ []) (with_texts e.output.is_printed (texts_of e.symbol e.include_hash y) h)) (behind_so e.output e.symbol e.include_hash q s.in_value s.letter s.depth_left s.lifetimes x s.is_open))
+      (emitted q y x d z m g ∙ ap (λ (h : Heard). with_looks (4 * (j - i + 1) ∷ []) (with_texts e.output.is_printed (texts_of e.symbol e.form.include_hash y) h)) (behind_so e.output e.symbol e.form q s.in_value s.letter s.depth_left s.lifetimes x s.is_open))
       r ready d.unmarked d.paid (short d) (omega (arith, w.light)) (w.low s.depth_left) (w.fits s.depth_left s.lifetimes d.fits))
 
   pub lifetime_refused : {t : Turn V} {s : State} {v : V} {n : ℕ} {f : SinkRefused} (q : Bool) (i k j : ℕ) (y : Stretch) (x : Place) → Indexed e t i k j n → (k ≡ 0 → ⊥) → e.output.is_printed ≡ true → (y, x) ≡ spaced_lifetime t.state.lifetimes k j
-      → e.output.prints t.output (texts_of e.symbol e.include_hash y) (Err f) v → PointDoes e (lifetime_point q) t (Err Refused) (record t { state = s; output = v; looks = n })
+      → e.output.prints t.output (texts_of e.symbol e.form.include_hash y) (Err f) v → PointDoes e (lifetime_point q) t (Err Refused) (record t { state = s; output = v; looks = n })
   lifetime_refused {t} q i k j y x d z m g r =
-      as_lifetime q (halts (4 * (j - i + 1) ∷ []) (omega arith) y (heard e.output e.symbol e.include_hash (says_if q "mut " type_inside) t.state.depth_left t.state.lifetimes x) (emitted q y x d z m g) r (λ h. absurd (false≢true (sym h ∙ m))) d.paid (short d))
+      as_lifetime q (halts (4 * (j - i + 1) ∷ []) (omega arith) y (heard e.output e.symbol e.form (says_if q "mut " type_inside) t.state.depth_left t.state.lifetimes x) (emitted q y x d z m g) r (λ h. absurd (false≢true (sym h ∙ m))) d.paid (short d))

@@ -35,7 +35,7 @@ then_of first text x z rest = if first then rest else more text x z
 
 -- what is heard of these items from a place on, with the bracket as they leave it
 abbrev pub open_at : {V : Type 0} → Env V → Items → State → Place → Heard
-open_at e p s i = of e.include_hash e.output.is_printed (run p (around e.symbol e.output.is_printed s.depth_left s.lifetimes) i)
+open_at e p s i = of e.form.include_hash e.output.is_printed (run p (around e.symbol e.form.fold_arguments e.output.is_printed s.depth_left s.lifetimes) i)
 
 -- the same, where none is open behind them
 abbrev pub shut_at : {V : Type 0} → Env V → Items → State → Place → Heard
@@ -62,12 +62,12 @@ paid_on i p = record { grows = p.grows; within = omega (arith, p.within, list_fe
 
 module _ {V : Type 0} (e : Env V) (s : State) where
   pub end_heard : (p q : Items) (i : Place) → is_list_over e.symbol i ≡ true → open_at e (at_end p q) s i ≡ with_looks (list_costs i) (open_at e p s (behind_list e.symbol i))
-  end_heard p q None h = end_failed e.include_hash e.output.is_printed (around e.symbol e.output.is_printed s.depth_left s.lifetimes) p q
-  end_heard p q (Some i) h = rw h (end_over e.include_hash e.output.is_printed (around e.symbol e.output.is_printed s.depth_left s.lifetimes) p q i h)
+  end_heard p q None h = end_failed e.form.include_hash e.output.is_printed (around e.symbol e.form.fold_arguments e.output.is_printed s.depth_left s.lifetimes) p q
+  end_heard p q (Some i) h = rw h (end_over e.form.include_hash e.output.is_printed (around e.symbol e.form.fold_arguments e.output.is_printed s.depth_left s.lifetimes) p q i h)
 
   more_heard : (text : String) (x z : Items) (i : Place) → is_list_over e.symbol i ≡ true → open_at e (more text x z) s i ≡ with_looks (list_costs i) (open_at e z s (behind_list e.symbol i))
-  more_heard text x z None h = more_failed e.include_hash e.output.is_printed (around e.symbol e.output.is_printed s.depth_left s.lifetimes) text x z
-  more_heard text x z (Some i) h = rw h (more_over e.include_hash e.output.is_printed (around e.symbol e.output.is_printed s.depth_left s.lifetimes) text x z i h)
+  more_heard text x z None h = more_failed e.form.include_hash e.output.is_printed (around e.symbol e.form.fold_arguments e.output.is_printed s.depth_left s.lifetimes) text x z
+  more_heard text x z (Some i) h = rw h (more_over e.form.include_hash e.output.is_printed (around e.symbol e.form.fold_arguments e.output.is_printed s.depth_left s.lifetimes) text x z i h)
 
   -- its end
   pub over_heard : (first : Bool) (text : String) (x z rest : Items) (i : Place) → is_list_over e.symbol i ≡ true → open_at e (left_of first text x z rest) s i ≡ with_looks (list_costs i) (open_at e z s (behind_list e.symbol i))
@@ -75,16 +75,16 @@ module _ {V : Type 0} (e : Env V) (s : State) where
   over_heard false text x z rest i h = more_heard text x z i h
 
   -- one of them, behind the separator that this mark prints
-  pub on_heard : (first : Bool) (sep : String) (m : Mark) → text m ≡ codes sep → (x z rest : Items) (i : ℕ) → Element e.symbol e.output.is_printed s.depth_left s.lifetimes x → is_byte e.symbol i (code "E") ≡ false
+  pub on_heard : (first : Bool) (sep : String) (m : Mark) → text m ≡ codes sep → (x z rest : Items) (i : ℕ) → Element e.symbol e.form.fold_arguments e.output.is_printed s.depth_left s.lifetimes x → is_byte e.symbol i (code "E") ≡ false
       → open_at e (left_of first sep x z rest) s (Some i) ≡ with_looks (1 ∷ []) (with_texts e.output.is_printed (mark_texts (separator first m)) (followed (open_at e x s (Some i)) (open_at e (then_of first sep x z rest) s)))
   unfolding run
-  on_heard true sep m q x z rest i el h = end_on e.include_hash e.output.is_printed (around e.symbol e.output.is_printed s.depth_left s.lifetimes) z (unit x rest) i h
-  on_heard false sep m q x z rest i el h = rw q (more_on e.include_hash e.output.is_printed e.symbol s.depth_left s.lifetimes sep x z i el h)
+  on_heard true sep m q x z rest i el h = end_on e.form.include_hash e.output.is_printed (around e.symbol e.form.fold_arguments e.output.is_printed s.depth_left s.lifetimes) z (unit x rest) i h
+  on_heard false sep m q x z rest i el h = rw q (more_on e.form.include_hash e.form.fold_arguments e.output.is_printed e.symbol s.depth_left s.lifetimes sep x z i el h)
 
 module _ {V : Type 0} {e : Env V} where
   -- The list is over, and another point goes on.
   pub list_ends : {t : Turn V} {h : Heard} {words weight high : ℕ} (to : Point) {s : State} {n : ℕ} → 1 ≤ words
-      → h ≡ with_looks (list_costs t.state.place) (with_texts e.output.is_printed (mark_texts s.mark) (unit_rest_of e.symbol e.include_hash e.output.is_printed to s)) → Paid t.looks (list_costs t.state.place) n
+      → h ≡ with_looks (list_costs t.state.place) (with_texts e.output.is_printed (mark_texts s.mark) (unit_rest_of e.symbol e.form e.output.is_printed to s)) → Paid t.looks (list_costs t.state.place) n
       → way_weight to + 1 ≤ weight → height_at to s.depth_left ≤ high → Fits to s.depth_left s.lifetimes → Does e t (part words h weight high) (Ok to) (record t { state = s; looks = n })
   unfolding then_frame
   list_ends {t} to few r p w x f =
@@ -92,24 +92,24 @@ module _ {V : Type 0} {e : Env V} where
 
 -- x is a unit at this point, in value position or not
 pub record Units {V : Type 0} (e : Env V) (q : Point) (v : State → Bool) (x : Items) : Type 0 where
-  pub at : (s : State) (i : ℕ) (m : Option Mark) → shut_at e x s (Some i) ≡ unit_rest_of e.symbol e.include_hash e.output.is_printed q (record s { in_value = v s; place = Some i; mark = m })
-  pub element : (left n : ℕ) → left ≤ max_depth → Element e.symbol e.output.is_printed left n x
+  pub at : (s : State) (i : ℕ) (m : Option Mark) → shut_at e x s (Some i) ≡ unit_rest_of e.symbol e.form e.output.is_printed q (record s { in_value = v s; place = Some i; mark = m })
+  pub element : (left n : ℕ) → left ≤ max_depth → Element e.symbol e.form.fold_arguments e.output.is_printed left n x
   pub within : Within q 3 1
 
 module _ {V : Type 0} (e : Env V) where
   pub type_units : Units e point.«Type» (λ s. s.in_value) type_inside
   unfolding unit_rest_at
-  type_units = record { at = λ s i m. child_last e.output e.symbol e.include_hash a_type false s.depth_left s.lifetimes (Some i); element = λ left n. type_element e.symbol e.output.is_printed left n; within = record { light = omega arith; low = λ left. omega arith; fits = λ left n f. f } }
+  type_units = record { at = λ s i m. child_last e.output e.symbol e.form a_type false s.depth_left s.lifetimes (Some i); element = λ left n. type_element e.symbol e.form.fold_arguments e.output.is_printed left n; within = record { light = omega arith; low = λ left. omega arith; fits = λ left n f. f } }
 
   pub constant_units : Units e point.Constant (λ _. true) constant_inside
   unfolding unit_rest_at
-  constant_units = record { at = λ s i m. child_last e.output e.symbol e.include_hash a_constant true s.depth_left s.lifetimes (Some i); element = λ left n. constant_element e.symbol e.output.is_printed left n; within = record { light = omega arith; low = λ left. omega arith; fits = λ left n f. f } }
+  constant_units = record { at = λ s i m. child_last e.output e.symbol e.form a_constant true s.depth_left s.lifetimes (Some i); element = λ left n. constant_element e.symbol e.form.fold_arguments e.output.is_printed left n; within = record { light = omega arith; low = λ left. omega arith; fits = λ left n f. f } }
 
 -- a list of x before z, at these points: where one may begin, that of one, in value position or not, and that behind one
 pub record Listed {V : Type 0} (e : Env V) (p q f : Point) (v : State → Bool) (first : Bool) (x z rest : Items) : Type 0 where
   pub units : Units e q v x
-  pub at_p : (s : State) → unit_rest_of e.symbol e.include_hash e.output.is_printed p s ≡ shut_at e (left_of first ", " x z rest) s s.place
-  pub at_f : (s : State) (j : Place) (o : Bool) → unit_rest e.symbol e.include_hash e.output.is_printed (frame_at f s) j o ≡ shut_at e (then_of first ", " x z rest) s j
+  pub at_p : (s : State) → unit_rest_of e.symbol e.form e.output.is_printed p s ≡ shut_at e (left_of first ", " x z rest) s s.place
+  pub at_f : (s : State) (j : Place) (o : Bool) → unit_rest e.symbol e.form e.output.is_printed (frame_at f s) j o ≡ shut_at e (then_of first ", " x z rest) s j
   pub words : words_at p ≡ 8
   pub weight : 1 ≤ weight_at p
   pub light : weight_at f ≤ 3
@@ -118,17 +118,17 @@ pub record Listed {V : Type 0} (e : Env V) (p q f : Point) (v : State → Bool) 
   pub fits : (left n : ℕ) → Fits point.«Type» left n → Fits f left n
   pub inner : is_inner f ≡ true
 
-pub of_units : {V : Type 0} {e : Env V} {p q f : Point} {v : State → Bool} {first : Bool} {x z rest : Items} → Units e q v x → ((s : State) → unit_rest_of e.symbol e.include_hash e.output.is_printed p s ≡ shut_at e (left_of first ", " x z rest) s s.place)
-    → ((s : State) (j : Place) (o : Bool) → unit_rest e.symbol e.include_hash e.output.is_printed (frame_at f s) j o ≡ shut_at e (then_of first ", " x z rest) s j) → words_at p ≡ 8 → 1 ≤ weight_at p → weight_at f ≤ 3 → ((left : ℕ) → height_at p left ≡ 8 * left + 2)
+pub of_units : {V : Type 0} {e : Env V} {p q f : Point} {v : State → Bool} {first : Bool} {x z rest : Items} → Units e q v x → ((s : State) → unit_rest_of e.symbol e.form e.output.is_printed p s ≡ shut_at e (left_of first ", " x z rest) s s.place)
+    → ((s : State) (j : Place) (o : Bool) → unit_rest e.symbol e.form e.output.is_printed (frame_at f s) j o ≡ shut_at e (then_of first ", " x z rest) s j) → words_at p ≡ 8 → 1 ≤ weight_at p → weight_at f ≤ 3 → ((left : ℕ) → height_at p left ≡ 8 * left + 2)
     → ((left : ℕ) → height_at f left ≤ 8 * left + 2) → ((left n : ℕ) → Fits point.«Type» left n → Fits f left n) → is_inner f ≡ true → Listed e p q f v first x z rest
 of_units u a f k w l h g y i = record { units = u; at_p = a; at_f = f; words = k; weight = w; light = l; high = h; low = g; fits = y; inner = i }
 
 module _ {V : Type 0} {e : Env V} {p q f : Point} {v : State → Bool} {first : Bool} {x z rest : Items} (l : Listed e p q f v first x z rest) where
   -- an element, and what stands behind it
-  one_then : (s : State) (i : ℕ) (m : Option Mark) → none_open (followed (open_at e x s (Some i)) (open_at e (then_of first ", " x z rest) s)) ≡ and_then (unit_rest_of e.symbol e.include_hash e.output.is_printed q (record s { in_value = v s; place = Some i; mark = m })) (unit_rest e.symbol e.include_hash e.output.is_printed (frame_at f s))
+  one_then : (s : State) (i : ℕ) (m : Option Mark) → none_open (followed (open_at e x s (Some i)) (open_at e (then_of first ", " x z rest) s)) ≡ and_then (unit_rest_of e.symbol e.form e.output.is_printed q (record s { in_value = v s; place = Some i; mark = m })) (unit_rest e.symbol e.form e.output.is_printed (frame_at f s))
   one_then s i m =
       let y = shut_at e x s (Some i) in
-      ap (λ (h : Heard). and_then y (λ _ _. h)) (sym (l.at_f s y.place y.is_open)) ∙ ap (λ (h : Heard). and_then h (unit_rest e.symbol e.include_hash e.output.is_printed (frame_at f s))) (l.units.at s i m)
+      ap (λ (h : Heard). and_then y (λ _ _. h)) (sym (l.at_f s y.place y.is_open)) ∙ ap (λ (h : Heard). and_then h (unit_rest e.symbol e.form e.output.is_printed (frame_at f s))) (l.units.at s i m)
 
   -- One is entered, behind these looks and this mark.
   pub list_enters : {t : Turn V} {h : Heard} {weight high : ℕ} {j : Place} {m : Option Mark} {stack : List Frame} {n : ℕ} (i : NotOver e.symbol t.state.place) (ks : List ℕ) → length ks ≤ 8 → 1 ≤ total ks
@@ -153,7 +153,7 @@ module _ {V : Type 0} {e : Env V} {p q f : Point} {v : State → Bool} {first : 
 
   -- The list is over, and another point goes on.
   pub list_closes : {t : Turn V} {to : Point} {s : State} {j : Place} {n : ℕ} → is_list_over e.symbol t.state.place ≡ true → j ≡ behind_list e.symbol t.state.place → Paid t.looks (list_costs t.state.place) n
-      → shut_at e z t.state j ≡ with_texts e.output.is_printed (mark_texts s.mark) (unit_rest_of e.symbol e.include_hash e.output.is_printed to s) → way_weight to + 1 ≤ weight_at p → height_at to s.depth_left ≤ 8 * t.state.depth_left + 2 → Fits to s.depth_left s.lifetimes
+      → shut_at e z t.state j ≡ with_texts e.output.is_printed (mark_texts s.mark) (unit_rest_of e.symbol e.form e.output.is_printed to s) → way_weight to + 1 ≤ weight_at p → height_at to s.depth_left ≤ 8 * t.state.depth_left + 2 → Fits to s.depth_left s.lifetimes
       → PointDoes e p t (Ok to) (record t { state = s; looks = n })
   list_closes {t} {to} h k p c w y g =
       let over = over_heard e t.state first ", " x z rest t.state.place h in
@@ -179,5 +179,5 @@ pub second_goes : {V : Type 0} {e : Env V} {p q f : Point} {v : State → Bool} 
 second_goes {e = e} {x = x} l {t = t} c h k p g y r =
     let s = t.state in
     let i = on e.symbol s.place h in
-    let so = second_on e.include_hash e.output.is_printed e.symbol s.depth_left s.lifetimes x (says ")" done) i.0 (l.units.element s.depth_left s.lifetimes (omega (arith, y))) i.2 in
+    let so = second_on e.form.include_hash e.form.fold_arguments e.output.is_printed e.symbol s.depth_left s.lifetimes x (says ")" done) i.0 (l.units.element s.depth_left s.lifetimes (omega (arith, y))) i.2 in
     list_enters l i (1 ∷ 1 ∷ []) (omega arith) (omega arith) (c ∙ (ap (λ (o : Place). shut_at e (at_end (says "," (says ")" done)) (more ", " x (says ")" done))) s o) i.1 ∙ ap none_open so)) k p g y r

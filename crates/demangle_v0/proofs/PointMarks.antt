@@ -28,9 +28,10 @@ module _ {V : Type 0} (e : Env V) (t : Turn V) where
   each point.CloseParen = λ _. marks point.End refl (omega arith) (omega arith) tt
   each point.CloseAngle = λ _. marks point.End refl (omega arith) (omega arith) tt
   each point.Mut = λ f. marks_child point.«Type» a_type false refl refl (omega arith) (omega arith) f
-  each point.TextConstant = λ f. marks point.Literal (ap (with_texts e.output.is_printed (text mark.Star ∷ [])) (last_unit e.output e.symbol e.include_hash string _ _ _)) (omega arith) (omega arith) f
+  each point.TextConstant = λ f. marks point.Literal (ap (with_texts e.output.is_printed (text mark.Star ∷ [])) (last_unit e.output e.symbol e.form string _ _ _)) (omega arith) (omega arith) f
   each point.ReferenceConstant = λ f. marks_child point.Constant a_constant true refl refl (omega arith) (omega arith) f
   each point.OpenArguments = λ f. marks point.FirstArgument refl (omega arith) (omega arith) f
+  each point.FoldedArguments = λ f. marks point.CloseAngle refl (omega arith) (omega arith) f
   each point.Const = λ f. marks_child point.«Type» a_type false refl refl (omega arith) (omega arith) f
   each point.PatternIs = λ f. marks_child point.Pattern a_pattern false refl refl (omega arith) (omega arith) f
   each point.OpenParameters = λ f. marks point.FirstParameter refl (omega arith) (omega arith) f

@@ -11,7 +11,7 @@ use Rattle.demangle_words.specs.WordReads.{texts_of}
 use Rattle.demangle_words.specs.declared.stretch.Stretch.{Stretch}
 use Rattle.demangle_words.specs.declared.stretch.Stretch.TheVariants.{Fixed}
 use Rattle.demangle_v0.specs.Heights as heights
-use Rattle.demangle_grammar.specs.Reading.{Place}
+use Rattle.demangle_grammar.specs.Reading.{Form, Place}
 use Rattle.demangle_grammar.proofs.Failed.{failed}
 use Rattle.demangle_v0.specs.Points.{most_frames, Bit, pays, puts, heard_bits, bits_looks, Env, Part, Turn, Emits, emitted_texts, mark_texts, pushed_on, then_frame, way_weight, weight_at, weight_of, weights, height_at, height_of, count_of, FitsFrame, Fits, rest_at, unit_rest, unit_rest_at, unit_rest_of, stack_rest, reading_rest, measure, is_inner, IsInner, AllInner, Continued, Halted, Kept, PointDoes, bindings_left}
 use Rattle.demangle_v0.specs.PointRuns.{Puts, unmarked_of, Stepped, Resumes, stays, pops, frame_height, AllFit, Valid, Emitted, left_of, Ran, Broke, Reads, ReadOn, first_looks}
@@ -28,17 +28,17 @@ use Rattle.demangle_v0.proofs.Standing.{above_pop}
 use Rattle.demangle_v0.proofs.PointSteps.{refused, bits_append, looks_append}
 use Rattle.demangle_v0.proofs.PointTurns.{went_by}
 
-pub unit_rest_failed : (b : List ℕ) (include_hash out : Bool) (p : Point) (v : Bool) (c left n : ℕ) (o : Bool) → is_inner p ≡ true → (unit_rest_at b include_hash out p v c left n None o).place ≡ None
+pub unit_rest_failed : (b : List ℕ) (form : Form) (out : Bool) (p : Point) (v : Bool) (c left n : ℕ) (o : Bool) → is_inner p ≡ true → (unit_rest_at b form out p v c left n None o).place ≡ None
 unfolding unit_rest_at
-unit_rest_failed b include_hash out point.End v c left n o h = refl
-unit_rest_failed b include_hash out point.Path v c left n o h = refl
-unit_rest_failed b include_hash out point.«Type» v c left n o h = refl
-unit_rest_failed b include_hash out point.TraitPath v c left n o h = refl
-unit_rest_failed b include_hash out point.Bindings v c left n o h = failed (bindings_left o) (around b out left n)
-unit_rest_failed b include_hash out point.Pattern v c left n o h = refl
-unit_rest_failed b include_hash out point.Constant v c left n o h = refl
-unit_rest_failed b include_hash out point.AfterBackref v c left n o h = absurd (false≢true h)
-unit_rest_failed b include_hash out p v c left n o h = failed (rest_at p v c) (around b out left n)
+unit_rest_failed b form out point.End v c left n o h = refl
+unit_rest_failed b form out point.Path v c left n o h = refl
+unit_rest_failed b form out point.«Type» v c left n o h = refl
+unit_rest_failed b form out point.TraitPath v c left n o h = refl
+unit_rest_failed b form out point.Bindings v c left n o h = failed (bindings_left o) (around b form.fold_arguments out left n)
+unit_rest_failed b form out point.Pattern v c left n o h = refl
+unit_rest_failed b form out point.Constant v c left n o h = refl
+unit_rest_failed b form out point.AfterBackref v c left n o h = absurd (false≢true h)
+unit_rest_failed b form out p v c left n o h = failed (rest_at p v c) (around b form.fold_arguments out left n)
 
 -- A step, whose mark is handed over.
 
@@ -52,7 +52,7 @@ module _ {V : Type 0} (e : Env V) where
   -- what a step took, in turn
   abbrev bits_of : List ℕ → Option Stretch → List ℕ → List Bit
   bits_of front None back = pays front ∷ pays back ∷ []
-  bits_of front (Some s) back = pays front ∷ puts (texts_of e.symbol e.include_hash s) ∷ pays back ∷ []
+  bits_of front (Some s) back = pays front ∷ puts (texts_of e.symbol e.form.include_hash s) ∷ pays back ∷ []
 
   abbrev taken : List ℕ → Option Stretch → Option Mark → List ℕ → Heard → Heard
   taken front emitted m back h = with_looks front (with_texts e.output.is_printed (emitted_texts e emitted) (with_texts e.output.is_printed (mark_texts m) (with_looks back h)))
@@ -76,7 +76,7 @@ module _ {V : Type 0} (e : Env V) where
 
 -- what stands behind a step
 abbrev gone : {V : Type 0} → Env V → Option Frame → Point → State → Heard
-gone e f q s = then_frame e.symbol e.include_hash e.output.is_printed f (unit_rest_of e.symbol e.include_hash e.output.is_printed q s)
+gone e f q s = then_frame e.symbol e.form e.output.is_printed f (unit_rest_of e.symbol e.form e.output.is_printed q s)
 
 kept_pushed : (stack now : List Frame) (p : Option Frame) → now ≡ pushed_on stack p → Kept stack now
 kept_pushed stack now None k = ([], k ∙ sym (append-nil stack))
@@ -193,15 +193,15 @@ module _ {V : Type 0} {e : Env V} where
 
 -- What a stack still reads.
 
-pub stack_rest_push : (b : List ℕ) (include_hash out : Bool) (stack : List Frame) (f : Frame) (i : Place) (o : Bool) → stack_rest b include_hash out (stack ++ f ∷ []) i o ≡ and_then (unit_rest b include_hash out f i o) (stack_rest b include_hash out stack)
+pub stack_rest_push : (b : List ℕ) (form : Form) (out : Bool) (stack : List Frame) (f : Frame) (i : Place) (o : Bool) → stack_rest b form out (stack ++ f ∷ []) i o ≡ and_then (unit_rest b form out f i o) (stack_rest b form out stack)
 unfolding stack_rest
-stack_rest_push b include_hash out [] f i o = sym (and_then_ended (unit_rest b include_hash out f i o))
-stack_rest_push b include_hash out (g ∷ stack) f i o = ap (λ (h : Heard). and_then h (unit_rest b include_hash out g)) (stack_rest_push b include_hash out stack f i o) ∙ and_then_assoc (unit_rest b include_hash out f i o) (stack_rest b include_hash out stack) (unit_rest b include_hash out g)
+stack_rest_push b form out [] f i o = sym (and_then_ended (unit_rest b form out f i o))
+stack_rest_push b form out (g ∷ stack) f i o = ap (λ (h : Heard). and_then h (unit_rest b form out g)) (stack_rest_push b form out stack f i o) ∙ and_then_assoc (unit_rest b form out f i o) (stack_rest b form out stack) (unit_rest b form out g)
 
-followed_stack : (b : List ℕ) (include_hash out : Bool) (stack : List Frame) (p : Option Frame) (h : Heard) → and_then (then_frame b include_hash out p h) (stack_rest b include_hash out stack) ≡ and_then h (stack_rest b include_hash out (pushed_on stack p))
+followed_stack : (b : List ℕ) (form : Form) (out : Bool) (stack : List Frame) (p : Option Frame) (h : Heard) → and_then (then_frame b form out p h) (stack_rest b form out stack) ≡ and_then h (stack_rest b form out (pushed_on stack p))
 unfolding then_frame
-followed_stack b include_hash out stack None h = refl
-followed_stack b include_hash out stack (Some f) h = and_then_assoc h (unit_rest b include_hash out f) (stack_rest b include_hash out stack) ∙ ap (λ (z : Heard). and_then h (λ _ _. z)) (sym (stack_rest_push b include_hash out stack f h.place h.is_open))
+followed_stack b form out stack None h = refl
+followed_stack b form out stack (Some f) h = and_then_assoc h (unit_rest b form out f) (stack_rest b form out stack) ∙ ap (λ (z : Heard). and_then h (λ _ _. z)) (sym (stack_rest_push b form out stack f h.place h.is_open))
 
 pub bits_then : (out : Bool) (bits : List Bit) (h : Heard) (k : Place → Bool → Heard) → and_then (heard_bits out bits h) k ≡ heard_bits out bits (and_then h k)
 bits_then out [] h k = refl
@@ -249,12 +249,12 @@ inner_below : (stack : List Frame) (f : Frame) → AllInner (stack ++ f ∷ []) 
 inner_below [] f h = tt
 inner_below (g ∷ stack) f h = (h.0, inner_below stack f h.1)
 
-stack_rest_failed : (b : List ℕ) (include_hash out : Bool) (stack : List Frame) (i : Place) (o : Bool) → AllInner stack → i ≡ None → (stack_rest b include_hash out stack i o).place ≡ None
+stack_rest_failed : (b : List ℕ) (form : Form) (out : Bool) (stack : List Frame) (i : Place) (o : Bool) → AllInner stack → i ≡ None → (stack_rest b form out stack i o).place ≡ None
 unfolding stack_rest
-stack_rest_failed b include_hash out [] i o h e = e
-stack_rest_failed b include_hash out (f ∷ stack) i o h e =
-    let r = stack_rest b include_hash out stack i o in
-    subst (λ (j : Place). (unit_rest b include_hash out f j r.is_open).place ≡ None) (sym (stack_rest_failed b include_hash out stack i o h.1 e)) (unit_rest_failed b include_hash out f.point f.in_value f.letter f.depth_left f.number r.is_open h.0)
+stack_rest_failed b form out [] i o h e = e
+stack_rest_failed b form out (f ∷ stack) i o h e =
+    let r = stack_rest b form out stack i o in
+    subst (λ (j : Place). (unit_rest b form out f j r.is_open).place ≡ None) (sym (stack_rest_failed b form out stack i o h.1 e)) (unit_rest_failed b form out f.point f.in_value f.letter f.depth_left f.number r.is_open h.0)
 
 -- What holds wherever a reading stands.
 
@@ -303,10 +303,10 @@ first_resumes (pops f e l r d k) = rw e (omega arith)
 
 -- Where a unit is over and another goes on.
 
-pub resumes_heard : (b : List ℕ) (include_hash out : Bool) {base : ℕ} {p q : Point} {s t : State} {stack now : List Frame} → Resumes base p s stack q t now → reading_rest b include_hash out p s stack ≡ reading_rest b include_hash out q t now
+pub resumes_heard : (b : List ℕ) (form : Form) (out : Bool) {base : ℕ} {p q : Point} {s t : State} {stack now : List Frame} → Resumes base p s stack q t now → reading_rest b form out p s stack ≡ reading_rest b form out q t now
 unfolding unit_rest_at
-resumes_heard b include_hash out (stays other e k r) = rw (e, k, r) refl
-resumes_heard b include_hash out {s = s} {now = now} (pops f e l r d k) = rw (e, r, d, k) (stack_rest_push b include_hash out now f s.place s.is_open)
+resumes_heard b form out (stays other e k r) = rw (e, k, r) refl
+resumes_heard b form out {s = s} {now = now} (pops f e l r d k) = rw (e, r, d, k) (stack_rest_push b form out now f s.place s.is_open)
 
 light : (p : Point) → (p ≡ point.End → ⊥) → way_weight p ≡ weight_at p
 light point.End h = absurd (h refl)
@@ -332,7 +332,7 @@ module _ {V : Type 0} {e : Env V} where
 
   -- where a unit is over and another goes on
   pub ran_resumes : {base : ℕ} {p q : Point} {t : Turn V} {s : State} {mid : List Frame} → Resumes base p t.state t.stack q s mid → Ran e p t q (record t { state = s; stack = mid })
-  ran_resumes k = record { bits = []; emits = refl; reads = resumes_heard e.symbol e.include_hash e.output.is_printed k; enough = omega arith }
+  ran_resumes k = record { bits = []; emits = refl; reads = resumes_heard e.symbol e.form e.output.is_printed k; enough = omega arith }
 
   -- what a step does over more frames
   step_heard : {p q : Point} {t u : Turn V} (z : Stepped e p t (Ok q) u) (above : List Frame)
@@ -342,10 +342,10 @@ module _ {V : Type 0} {e : Env V} where
       let out = e.output.is_printed in
       let x = gone e d.pushed q u.state in
       let bits = bits_of e d.front d.emitted d.back in
-      let one : unit_rest_of e.symbol e.include_hash out p t.state ≡ heard_bits out bits x =
-      subst (λ (m : Option Mark). unit_rest_of e.symbol e.include_hash out p t.state ≡ taken e d.front d.emitted m d.back x) z.steps.1 d.reads ∙ sym (bits_heard e d.front d.emitted d.back x) in
-      ap (λ (h : Heard). and_then h (stack_rest e.symbol e.include_hash out above)) one
-      ∙ (bits_then out bits x (stack_rest e.symbol e.include_hash out above) ∙ ap (heard_bits out bits) (followed_stack e.symbol e.include_hash out above d.pushed (unit_rest_of e.symbol e.include_hash out q u.state)))
+      let one : unit_rest_of e.symbol e.form out p t.state ≡ heard_bits out bits x =
+      subst (λ (m : Option Mark). unit_rest_of e.symbol e.form out p t.state ≡ taken e d.front d.emitted m d.back x) z.steps.1 d.reads ∙ sym (bits_heard e d.front d.emitted d.back x) in
+      ap (λ (h : Heard). and_then h (stack_rest e.symbol e.form out above)) one
+      ∙ (bits_then out bits x (stack_rest e.symbol e.form out above) ∙ ap (heard_bits out bits) (followed_stack e.symbol e.form out above d.pushed (unit_rest_of e.symbol e.form out q u.state)))
 
   ran_step : {p q : Point} {t u : Turn V} (z : Stepped e p t (Ok q) u) (above : List Frame) → Ran e p (record t { stack = above }) q (record u { stack = pushed_on above z.steps.0.pushed })
   ran_step z above = let d = z.steps.0 in record {
@@ -375,16 +375,16 @@ module _ {V : Type 0} {e : Env V} where
 
   -- what stands behind a refused stretch
   abbrev pub behind_broke : {p : Point} {t : Turn V} {v : V} {n : ℕ} → Broke e p t v n → Heard
-  behind_broke d = and_then d.halts.rest (stack_rest e.symbol e.include_hash e.output.is_printed d.stack)
+  behind_broke d = and_then d.halts.rest (stack_rest e.symbol e.form e.output.is_printed d.stack)
 
   abbrev pub front_of : {p : Point} {t : Turn V} {v : V} {n : ℕ} → Broke e p t v n → List Bit
   front_of d = d.ran.bits ++ pays d.halts.front ∷ []
 
-  pub broke_heard : {p : Point} {t : Turn V} {v : V} {n : ℕ} (d : Broke e p t v n) → left_of e p t ≡ heard_bits e.output.is_printed (front_of d) (with_texts e.output.is_printed (texts_of e.symbol e.include_hash d.halts.emitted) (behind_broke d))
+  pub broke_heard : {p : Point} {t : Turn V} {v : V} {n : ℕ} (d : Broke e p t v n) → left_of e p t ≡ heard_bits e.output.is_printed (front_of d) (with_texts e.output.is_printed (texts_of e.symbol e.form.include_hash d.halts.emitted) (behind_broke d))
   broke_heard d =
       let out = e.output.is_printed in
-      let texts = texts_of e.symbol e.include_hash d.halts.emitted in
-      let above = stack_rest e.symbol e.include_hash out d.stack in
+      let texts = texts_of e.symbol e.form.include_hash d.halts.emitted in
+      let above = stack_rest e.symbol e.form out d.stack in
       let front = pays d.halts.front ∷ [] in
       d.ran.reads
       ∙ (ap (heard_bits out d.ran.bits) (ap (λ (h : Heard). and_then h above) d.halts.reads ∙ (bits_then out front (with_texts out texts d.halts.rest) above ∙ ap (heard_bits out front) (handing_then out texts d.halts.rest above)))
@@ -400,9 +400,9 @@ module _ {V : Type 0} {e : Env V} where
   pub broke_fails : {p : Point} {t : Turn V} {v : V} {n : ℕ} → e.output.is_printed ≡ false → (d : Broke e p t v n) → AllInner d.stack → ((left_of e p t).place ≡ None) × (n ≤ t.looks + allowed_in (left_of e p t).events)
   broke_fails silent d i =
       let out = e.output.is_printed in
-      let texts = texts_of e.symbol e.include_hash d.halts.emitted in
+      let texts = texts_of e.symbol e.form.include_hash d.halts.emitted in
       let rest = with_texts out texts (behind_broke d) in (
-        ap (λ (h : Heard). h.place) (broke_heard d) ∙ (place_bits out (front_of d) rest ∙ stack_rest_failed e.symbol e.include_hash out d.stack d.halts.rest.place d.halts.rest.is_open i (d.halts.fails silent)),
+        ap (λ (h : Heard). h.place) (broke_heard d) ∙ (place_bits out (front_of d) rest ∙ stack_rest_failed e.symbol e.form out d.stack d.halts.rest.place d.halts.rest.is_open i (d.halts.fails silent)),
         omega (
           arith,
           d.same_looks,
@@ -419,13 +419,13 @@ module _ {V : Type 0} {e : Env V} where
 
   -- one turn of a reading is less work
   pub turn_less : {base : ℕ} {p q r : Point} {s : State} {stack : List Frame} {t u : Turn V} → Resumes base p s stack q t.state t.stack → Stepped e q t (Ok r) u
-      → measure e.symbol e.include_hash e.output.is_printed r u.state u.stack < measure e.symbol e.include_hash e.output.is_printed p s stack
+      → measure e.symbol e.form e.output.is_printed r u.state u.stack < measure e.symbol e.form e.output.is_printed p s stack
   turn_less {r = r} {t = t} {u = u} x z =
       let d = z.steps.0 in
       omega (
         arith,
         resume_light x,
-        ap (λ (h : Heard). allowed_in h.events) (resumes_heard e.symbol e.include_hash e.output.is_printed x),
+        ap (λ (h : Heard). allowed_in h.events) (resumes_heard e.symbol e.form e.output.is_printed x),
         ap (λ (h : Heard). allowed_in h.events) (step_heard z t.stack),
         allowed_bits e.output.is_printed (bits_of e d.front d.emitted d.back) (left_of e r (record u { stack = pushed_on t.stack d.pushed })),
         ap (λ (ys : List Frame). allowed_in (left_of e r (record u { stack = ys })).events) d.is_stack,

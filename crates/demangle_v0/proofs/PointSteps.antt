@@ -6,7 +6,7 @@ use Rattle.demangle_grammar.specs.Totals.{total}
 use Rattle.demangle_grammar.specs.Events.{Event, allows, allowed_all, Heard, of, events, nothing_heard, with_looks, with_texts, around}
 use Rattle.demangle_words.specs.WordReads.{Group, word_group}
 use Rattle.demangle_words.specs.Texts.{word_items}
-use Rattle.demangle_grammar.specs.Reading.{Place, run, unit_outcome}
+use Rattle.demangle_grammar.specs.Reading.{Form, Place, run, unit_outcome}
 use Rattle.demangle_v0.specs.Points.{Bit, pays, puts, heard_bits, bits_looks, way_weight, weight_at, none_open, Kept}
 use Rattle.demangle_sink.specs.declared.SinkRefused.{SinkRefused}
 use Rattle.demangle_words.specs.declared.texts.Word.{Word}
@@ -51,15 +51,15 @@ way_light p = omega arith
 abbrev pub refused : SinkRefused → Result (Unit {0}) SinkRefused
 refused e = Err e
 
-module _ {V : Type 0} (output : Ghosts V) (b : List ℕ) (include_hash : Bool) where
+module _ {V : Type 0} (output : Ghosts V) (b : List ℕ) (form : Form) where
   -- what is heard of a unit's rest
   abbrev pub heard : Items → ℕ → ℕ → Place → Heard
-  heard p left n i = none_open (of include_hash output.is_printed (run p (around b output.is_printed left n) i))
+  heard p left n i = none_open (of form.include_hash output.is_printed (run p (around b form.fold_arguments output.is_printed left n) i))
 
   -- a child with which a unit ends
-  pub child_last : (k : Kind) (v : Bool) (left n : ℕ) (i : Place) → heard (child k v done) left n i ≡ none_open (of include_hash output.is_printed (unit_outcome (around b output.is_printed left n) k v i))
+  pub child_last : (k : Kind) (v : Bool) (left n : ℕ) (i : Place) → heard (child k v done) left n i ≡ none_open (of form.include_hash output.is_printed (unit_outcome (around b form.fold_arguments output.is_printed left n) k v i))
   unfolding run
-  child_last k v left n i = let o = unit_outcome (around b output.is_printed left n) k v i in ap (λ xs. record { events = xs; place = o.place; is_open = false }) (append-nil (events include_hash output.is_printed o.tree))
+  child_last k v left n i = let o = unit_outcome (around b form.fold_arguments output.is_printed left n) k v i in ap (λ xs. record { events = xs; place = o.place; is_open = false }) (append-nil (events form.include_hash output.is_printed o.tree))
 
   -- What is read as a group, and what stands behind it.
 
@@ -69,14 +69,14 @@ module _ {V : Type 0} (output : Ghosts V) (b : List ℕ) (include_hash : Bool) w
 
   -- a group, and what is heard behind it
   abbrev pub group_then : Group → (Place → Heard) → Heard
-  group_then g k = grouped b include_hash output.is_printed g k
+  group_then g k = grouped b form.include_hash output.is_printed g k
 
   -- a group with which the unit ends
   abbrev pub group_heard : Group → Heard
   group_heard g = group_then g ended
 
   -- no bracket is open behind a word, where none is behind the rest
-  word_shut : (ks : List ℕ) (r : WordRead) (k : Place → Heard) → none_open (with_looks ks (word_then b include_hash output.is_printed r k)) ≡ with_looks ks (word_then b include_hash output.is_printed r (λ j. none_open (k j)))
+  word_shut : (ks : List ℕ) (r : WordRead) (k : Place → Heard) → none_open (with_looks ks (word_then b form.include_hash output.is_printed r k)) ≡ with_looks ks (word_then b form.include_hash output.is_printed r (λ j. none_open (k j)))
   word_shut ks (reads.Goes x j) k = refl
   word_shut ks (reads.Stops m) k = refl
 
@@ -86,8 +86,8 @@ module _ {V : Type 0} (output : Ghosts V) (b : List ℕ) (include_hash : Bool) w
 
   -- a word is read as its group
   pub word_so : (x : Word) (c : ℕ) (p : Items) (left n : ℕ) (i : Place) → heard (word_items x c p) left n i ≡ group_then (word_group b x c output.is_printed n i) (heard p left n)
-  word_so x c p left n i = group_shut _ (word_group b x c output.is_printed n i) (λ j. of include_hash output.is_printed (run p (around b output.is_printed left n) j)) (word_read b include_hash left output.is_printed n x c p i)
+  word_so x c p left n i = group_shut _ (word_group b x c output.is_printed n i) (λ j. of form.include_hash output.is_printed (run p (around b form.fold_arguments output.is_printed left n) j)) (word_read b form.include_hash form.fold_arguments left output.is_printed n x c p i)
 
   -- what is heard of a group that was read so
-  pub group_so : (h : Heard) (g : Group) (k : Place → Heard) (r : WordRead) → h ≡ group_then g k → r ≡ g.reads → h ≡ with_looks g.costs (word_then b include_hash output.is_printed r k)
-  group_so h g k r so e = so ∙ ap (λ (z : WordRead). with_looks g.costs (word_then b include_hash output.is_printed z k)) (sym e)
+  pub group_so : (h : Heard) (g : Group) (k : Place → Heard) (r : WordRead) → h ≡ group_then g k → r ≡ g.reads → h ≡ with_looks g.costs (word_then b form.include_hash output.is_printed r k)
+  group_so h g k r so e = so ∙ ap (λ (z : WordRead). with_looks g.costs (word_then b form.include_hash output.is_printed z k)) (sym e)

@@ -75,8 +75,8 @@ module _ {V : Type 0} {e : Env V} where
           (record { grows = omega arith; within = omega arith }) (omega arith) (omega arith) (omega (arith, w)) (omega arith) (omega (arith, l, h a.depth_left)) tt f (λ _. tt))
       go false j =
           rw r.0 (leaves p [] [] (omega arith) (Some (frame_of point.CloseBrace false a.letter a.depth_left a.lifetimes))
-          (rw j (outer ∙ (ap (λ (h : Heard). with_texts e.output.is_printed (mark_texts (g false)) (none_open h)) (extended_reads e.include_hash e.output.is_printed (says "}" done) (around e.symbol e.output.is_printed a.depth_left a.lifetimes) q y a.place)
-          ∙ ap (λ (h : Heard). with_texts e.output.is_printed (mark_texts (g false)) (and_then h (λ j o. unit_rest_at e.symbol e.include_hash e.output.is_printed point.CloseBrace false a.letter a.depth_left a.lifetimes j o))) (sym (i false a.letter a.depth_left a.lifetimes a.place a.is_open)))))
+          (rw j (outer ∙ (ap (λ (h : Heard). with_texts e.output.is_printed (mark_texts (g false)) (none_open h)) (extended_reads e.form.include_hash e.output.is_printed (says "}" done) (around e.symbol e.form.fold_arguments e.output.is_printed a.depth_left a.lifetimes) q y a.place)
+          ∙ ap (λ (h : Heard). with_texts e.output.is_printed (mark_texts (g false)) (and_then h (λ j o. unit_rest_at e.symbol e.form e.output.is_printed point.CloseBrace false a.letter a.depth_left a.lifetimes j o))) (sym (i false a.letter a.depth_left a.lifetimes a.place a.is_open)))))
           (rw j at r.1) (record { grows = omega arith; within = omega arith }) (omega arith) (omega arith) (omega (arith, w)) (omega (arith, l)) (omega (arith, l, h a.depth_left)) k f (λ _. refl))
 
   pub text_braced : DidBraced e kind.Text point.TextConstant
@@ -112,7 +112,7 @@ module _ {V : Type 0} {e : Env V} where
   shared_goes {t} i at c l f r =
       let a = t.state in
       behind_few {words' = 0} {s = a} (1 ∷ []) (omega arith)
-      (rw at (ap none_open (reference_reads e.include_hash e.output.is_printed e.symbol a.depth_left a.lifetimes a.in_value i (sym c))))
+      (rw at (ap none_open (reference_reads e.form.include_hash e.form.fold_arguments e.output.is_printed e.symbol a.depth_left a.lifetimes a.in_value i (sym c))))
       (record { grows = omega (arith, l); within = omega (arith, l) }) (rw at (omega (arith, l))) (omega arith) (omega arith) (referred_braced f r)
 
   pub shared_text : {t u : Turn V} {r : Result Point Stop} {n : ℕ} (i : ℕ) → t.state.place ≡ Some i → true ≡ is_byte e.symbol i (code "e") → n ≡ t.looks + 1 → u.looks ≤ t.looks + own_looks e.symbol t.state.place
@@ -120,7 +120,7 @@ module _ {V : Type 0} {e : Env V} where
   unfolding unit_rest_at
   shared_text {t} i at c l short d =
       let a = t.state in
-      behind_few (1 ∷ []) (omega arith) (rw at (ap none_open (text_reads e.include_hash e.output.is_printed e.symbol a.depth_left a.lifetimes a.in_value i (sym c)))) (record { grows = omega (arith, l); within = omega (arith, l) }) short (omega arith) (omega arith) d
+      behind_few (1 ∷ []) (omega arith) (rw at (ap none_open (text_reads e.form.include_hash e.form.fold_arguments e.output.is_printed e.symbol a.depth_left a.lifetimes a.in_value i (sym c)))) (record { grows = omega (arith, l); within = omega (arith, l) }) short (omega arith) (omega arith) d
 
   -- Numbers.
 
@@ -134,7 +134,7 @@ module _ {V : Type 0} {e : Env V} where
   unfolding then_frame unit_rest_at
   signed_minus {t} c i at o l f =
       let a = t.state in
-      leaves point.Number (1 ∷ []) [] (omega arith) None (rw at (ap none_open (minus_reads e.include_hash e.output.is_printed e.symbol a.depth_left a.lifetimes c i (sym o)))) refl
+      leaves point.Number (1 ∷ []) [] (omega arith) None (rw at (ap none_open (minus_reads e.form.include_hash e.form.fold_arguments e.output.is_printed e.symbol a.depth_left a.lifetimes c i (sym o)))) refl
       (record { grows = omega (arith, l); within = omega (arith, l) }) (omega arith) (rw at (omega (arith, l))) (omega arith) (omega arith) (omega arith) tt f (λ _. tt)
 
   pub signed_plus : {t u : Turn V} {r : Result Point Stop} {n : ℕ} (c i : ℕ) → t.state.place ≡ Some i → false ≡ is_byte e.symbol i (code "n") → n ≡ t.looks + 1 → u.looks ≤ t.looks + own_looks e.symbol t.state.place
@@ -142,7 +142,7 @@ module _ {V : Type 0} {e : Env V} where
   unfolding unit_rest_at
   signed_plus {t} c i at o l short d =
       let a = t.state in
-      behind_few (1 ∷ []) (omega arith) (rw at (ap none_open (plus_reads e.include_hash e.output.is_printed e.symbol a.depth_left a.lifetimes c i (sym o)))) (record { grows = omega (arith, l); within = omega (arith, l) }) short (omega arith) (omega arith) (rw at at d)
+      behind_few (1 ∷ []) (omega arith) (rw at (ap none_open (plus_reads e.form.include_hash e.form.fold_arguments e.output.is_printed e.symbol a.depth_left a.lifetimes c i (sym o)))) (record { grows = omega (arith, l); within = omega (arith, l) }) short (omega arith) (omega arith) (rw at at d)
 
   -- A variant's path.
 
@@ -161,17 +161,17 @@ module _ {V : Type 0} {e : Env V} where
   unfolding unit_rest_at
   constant_untagged {t} i at o l k =
       let a = t.state in
-      ends mark.Invalid (4 * (length e.symbol - i + 1) ∷ []) (omega arith) k (rw at (ap none_open (constant_missing e.include_hash e.output.is_printed e.symbol a.depth_left a.lifetimes a.in_value i (sym o)))) (record { grows = omega (arith, l); within = omega (arith, l) }) (rw at (omega (arith, l))) (omega arith)
+      ends mark.Invalid (4 * (length e.symbol - i + 1) ∷ []) (omega arith) k (rw at (ap none_open (constant_missing e.form.include_hash e.form.fold_arguments e.output.is_printed e.symbol a.depth_left a.lifetimes a.in_value i (sym o)))) (record { grows = omega (arith, l); within = omega (arith, l) }) (rw at (omega (arith, l))) (omega arith)
 
   pub constant_too_deep : {t : Turn V} {n : ℕ} (i c j : ℕ) → t.state.place ≡ Some i → t.state.depth_left ≡ 0 → Some (c, j) ≡ byte_at e.symbol i → n ≡ t.looks + 1 → t.state.mark ≡ None → PointDoes e point.Constant t (Err (Fault mark.Recursion)) (record t { looks = n })
   unfolding unit_rest_at
   constant_too_deep {t} i c j at z o l k =
       let a = t.state in
-      ends mark.Recursion (4 * (j - i + 1) ∷ []) (omega arith) k (rw at (ap none_open (constant_deep e.include_hash e.output.is_printed e.symbol a.depth_left a.lifetimes a.in_value i c j (sym o) z))) (record { grows = omega (arith, l); within = omega (arith, l) }) (rw at (omega (arith, l))) (omega arith)
+      ends mark.Recursion (4 * (j - i + 1) ∷ []) (omega arith) k (rw at (ap none_open (constant_deep e.form.include_hash e.form.fold_arguments e.output.is_printed e.symbol a.depth_left a.lifetimes a.in_value i c j (sym o) z))) (record { grows = omega (arith, l); within = omega (arith, l) }) (rw at (omega (arith, l))) (omega arith)
 
   pub constant_tagged : {t u : Turn V} {r : Result Point Stop} {n : ℕ} (i c j : ℕ) → t.state.place ≡ Some i → 0 < t.state.depth_left → Some (c, j) ≡ byte_at e.symbol i → n ≡ t.looks + 1 → u.looks ≤ t.looks + own_looks e.symbol t.state.place
       → RestDoes e (constant t.state.in_value c) 6 6 9 (record t { state = record t.state { depth_left = t.state.depth_left - 1; place = Some j }; looks = n }) r u → PointDoes e point.Constant t r u
   unfolding unit_rest_at
   constant_tagged {t} i c j at z o l short d =
       let a = t.state in
-      behind_few (4 * (j - i + 1) ∷ []) (omega arith) (rw at (ap none_open (constant_reads e.include_hash e.output.is_printed e.symbol a.depth_left a.lifetimes a.in_value i c j (sym o) z))) (record { grows = omega (arith, l); within = omega (arith, l) }) short (omega arith) (omega (arith, z)) d
+      behind_few (4 * (j - i + 1) ∷ []) (omega arith) (rw at (ap none_open (constant_reads e.form.include_hash e.form.fold_arguments e.output.is_printed e.symbol a.depth_left a.lifetimes a.in_value i c j (sym o) z))) (record { grows = omega (arith, l); within = omega (arith, l) }) short (omega arith) (omega (arith, z)) d

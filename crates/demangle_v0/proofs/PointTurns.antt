@@ -107,7 +107,7 @@ comes_behind e t u h k words words' weight high weight' high' s n (Err Refused) 
 module _ {V : Type 0} {e : Env V} where
   -- The point is left for another, by these looks before the mark and behind it, and with this frame.
   pub leaves : {t : Turn V} {h : Heard} {words weight high : ℕ} (to : Point) (front back : List ℕ) → length front + length back ≤ words → (pushed : Option Frame) {s : State} {stack : List Frame} {n : ℕ}
-      → h ≡ with_looks front (with_texts e.output.is_printed (mark_texts s.mark) (with_looks back (then_frame e.symbol e.include_hash e.output.is_printed pushed (unit_rest_of e.symbol e.include_hash e.output.is_printed to s))))
+      → h ≡ with_looks front (with_texts e.output.is_printed (mark_texts s.mark) (with_looks back (then_frame e.symbol e.form e.output.is_printed pushed (unit_rest_of e.symbol e.form e.output.is_printed to s))))
       → stack ≡ pushed_on t.stack pushed → Paid t.looks (front ++ back) n → total back ≤ 2 → n ≤ t.looks + own_looks e.symbol t.state.place
       → way_weight to + weight_of pushed + 1 ≤ weight + 100 * (total front + total back)
       → height_of pushed ≤ high → height_at to s.depth_left + count_of pushed ≤ high → FitsFrame pushed → Fits to s.depth_left s.lifetimes → (e.output.is_printed ≡ false → IsInner pushed)
@@ -139,7 +139,7 @@ module _ {V : Type 0} {e : Env V} where
   }
 
   -- with no frame
-  pub moves : {t : Turn V} {h : Heard} {words weight high n : ℕ} (to : Point) (ks : List ℕ) → length ks ≤ words → {s : State} → h ≡ with_looks ks (with_texts e.output.is_printed (mark_texts s.mark) (unit_rest_of e.symbol e.include_hash e.output.is_printed to s))
+  pub moves : {t : Turn V} {h : Heard} {words weight high n : ℕ} (to : Point) (ks : List ℕ) → length ks ≤ words → {s : State} → h ≡ with_looks ks (with_texts e.output.is_printed (mark_texts s.mark) (unit_rest_of e.symbol e.form e.output.is_printed to s))
       → Paid t.looks ks n → n ≤ t.looks + own_looks e.symbol t.state.place → way_weight to + 1 ≤ weight + 100 * total ks → height_at to s.depth_left ≤ high → Fits to s.depth_left s.lifetimes
       → Does e t (part words h weight high) (Ok to) (record t { state = s; looks = n })
   unfolding then_frame
@@ -147,22 +147,22 @@ module _ {V : Type 0} {e : Env V} where
 
   -- by no looks
   pub enters : {t : Turn V} {h : Heard} {words weight high : ℕ} (to : Point) (f : Frame) {s : State} {stack : List Frame}
-      → h ≡ with_texts e.output.is_printed (mark_texts s.mark) (and_then (unit_rest_of e.symbol e.include_hash e.output.is_printed to s) (unit_rest e.symbol e.include_hash e.output.is_printed f)) → stack ≡ t.stack ++ f ∷ []
+      → h ≡ with_texts e.output.is_printed (mark_texts s.mark) (and_then (unit_rest_of e.symbol e.form e.output.is_printed to s) (unit_rest e.symbol e.form e.output.is_printed f)) → stack ≡ t.stack ++ f ∷ []
       → way_weight to + weight_at f.point + 2 ≤ weight → height_at f.point f.depth_left ≤ high → height_at to s.depth_left + 1 ≤ high → Fits f.point f.depth_left f.number → Fits to s.depth_left s.lifetimes → is_inner f.point ≡ true
       → Does e t (part words h weight high) (Ok to) (record t { state = s; stack = stack })
   unfolding then_frame
   enters to f r q w x y z g i = leaves to [] [] (omega arith) (Some f) r q paid_none (omega arith) (omega arith) (omega (arith, w)) (omega (arith, x)) (omega (arith, y)) z g (λ _. i)
 
   -- by no looks and with no frame
-  pub marks : {t : Turn V} {h : Heard} {words weight high : ℕ} (to : Point) {s : State} → h ≡ with_texts e.output.is_printed (mark_texts s.mark) (unit_rest_of e.symbol e.include_hash e.output.is_printed to s)
+  pub marks : {t : Turn V} {h : Heard} {words weight high : ℕ} (to : Point) {s : State} → h ≡ with_texts e.output.is_printed (mark_texts s.mark) (unit_rest_of e.symbol e.form e.output.is_printed to s)
       → way_weight to + 1 ≤ weight → height_at to s.depth_left ≤ high → Fits to s.depth_left s.lifetimes → Does e t (part words h weight high) (Ok to) (record t { state = s })
   marks to r w x f = moves to [] (omega arith) r paid_none (omega arith) (omega (arith, w)) x f
 
   -- a child, behind a mark
-  pub marks_child : {t : Turn V} {h : Heard} {words weight high : ℕ} (to : Point) (k : Kind) (v : Bool) {s : State} → h ≡ with_texts e.output.is_printed (mark_texts s.mark) (heard e.output e.symbol e.include_hash (child k v done) s.depth_left s.lifetimes s.place)
-      → none_open (of e.include_hash e.output.is_printed (unit_outcome (around e.symbol e.output.is_printed s.depth_left s.lifetimes) k v s.place)) ≡ unit_rest_of e.symbol e.include_hash e.output.is_printed to s
+  pub marks_child : {t : Turn V} {h : Heard} {words weight high : ℕ} (to : Point) (k : Kind) (v : Bool) {s : State} → h ≡ with_texts e.output.is_printed (mark_texts s.mark) (heard e.output e.symbol e.form (child k v done) s.depth_left s.lifetimes s.place)
+      → none_open (of e.form.include_hash e.output.is_printed (unit_outcome (around e.symbol e.form.fold_arguments e.output.is_printed s.depth_left s.lifetimes) k v s.place)) ≡ unit_rest_of e.symbol e.form e.output.is_printed to s
       → way_weight to + 1 ≤ weight → height_at to s.depth_left ≤ high → Fits to s.depth_left s.lifetimes → Does e t (part words h weight high) (Ok to) (record t { state = s })
-  marks_child to k v {s} q r w x f = marks to (q ∙ ap (with_texts e.output.is_printed (mark_texts s.mark)) (child_last e.output e.symbol e.include_hash k v s.depth_left s.lifetimes s.place ∙ r)) w x f
+  marks_child to k v {s} q r w x f = marks to (q ∙ ap (with_texts e.output.is_printed (mark_texts s.mark)) (child_last e.output e.symbol e.form k v s.depth_left s.lifetimes s.place ∙ r)) w x f
 
   -- The unit ends with a fault.
   pub ends : {t : Turn V} {h : Heard} {words weight high : ℕ} (m : Mark) (front : List ℕ) → length front ≤ words → {s : State} {n : ℕ} → s.mark ≡ None
@@ -182,7 +182,7 @@ module _ {V : Type 0} {e : Env V} where
 
   -- A stretch is handed over.
   pub went_by : {t : Turn V} {h : Heard} {words weight high : ℕ} (to : Point) (front : List ℕ) → length front ≤ words → (x : Stretch) {s : State} {v : V} {n : ℕ}
-      → h ≡ with_looks front (with_texts e.output.is_printed (texts_of e.symbol e.include_hash x) (unit_rest_of e.symbol e.include_hash e.output.is_printed to s)) → e.output.prints t.output (texts_of e.symbol e.include_hash x) (Ok tt) v → s.mark ≡ None
+      → h ≡ with_looks front (with_texts e.output.is_printed (texts_of e.symbol e.form.include_hash x) (unit_rest_of e.symbol e.form e.output.is_printed to s)) → e.output.prints t.output (texts_of e.symbol e.form.include_hash x) (Ok tt) v → s.mark ≡ None
       → n ≤ t.looks + total front → way_weight to + 1 ≤ weight + 100 * total front → height_at to s.depth_left ≤ high → Fits to s.depth_left s.lifetimes → Continued e (part words h weight high) t to (record t { state = s; output = v; looks = n })
   unfolding then_frame
   went_by to front c x r q k p w z f = record {
@@ -206,14 +206,14 @@ module _ {V : Type 0} {e : Env V} where
   }
 
   pub tells : {t : Turn V} {h : Heard} {words weight high : ℕ} (to : Point) (front : List ℕ) → length front ≤ words → (x : Stretch) {s : State} {v : V} {n : ℕ}
-      → h ≡ with_looks front (with_texts e.output.is_printed (texts_of e.symbol e.include_hash x) (unit_rest_of e.symbol e.include_hash e.output.is_printed to s)) → e.output.prints t.output (texts_of e.symbol e.include_hash x) (Ok tt) v → e.output.ready v → s.mark ≡ None
+      → h ≡ with_looks front (with_texts e.output.is_printed (texts_of e.symbol e.form.include_hash x) (unit_rest_of e.symbol e.form e.output.is_printed to s)) → e.output.prints t.output (texts_of e.symbol e.form.include_hash x) (Ok tt) v → e.output.ready v → s.mark ≡ None
       → Paid t.looks front n → n ≤ t.looks + own_looks e.symbol t.state.place → way_weight to + 1 ≤ weight + 100 * total front → height_at to s.depth_left ≤ high → Fits to s.depth_left s.lifetimes
       → Does e t (part words h weight high) (Ok to) (record t { state = s; output = v; looks = n })
   tells to front c x r q y k p short w z f = record { comes = went_by to front c x r q k p.within w z f; grows = p.grows; own = short; ready = λ _ _. y; sound = λ _ _ _. y }
 
   -- The output refuses it.
   pub halts : {t : Turn V} {h : Heard} {words weight high : ℕ} (front : List ℕ) → length front ≤ words → (x : Stretch) (rest : Heard) {s : State} {v : V} {n : ℕ} {r : SinkRefused}
-      → h ≡ with_looks front (with_texts e.output.is_printed (texts_of e.symbol e.include_hash x) rest) → e.output.prints t.output (texts_of e.symbol e.include_hash x) (Err r) v
+      → h ≡ with_looks front (with_texts e.output.is_printed (texts_of e.symbol e.form.include_hash x) rest) → e.output.prints t.output (texts_of e.symbol e.form.include_hash x) (Err r) v
       → (e.output.is_printed ≡ false → rest.place ≡ None) → Paid t.looks front n → n ≤ t.looks + own_looks e.symbol t.state.place
       → Does e t (part words h weight high) (Err Refused) (record t { state = s; output = v; looks = n })
   halts {t} front c x rest {r = f} r q i p short = record {
@@ -243,52 +243,52 @@ word_of e x s = word_group e.symbol x s.letter e.output.is_printed s.lifetimes s
 
 -- a part of a point that begins with a word
 abbrev pub word_part : {V : Type 0} → Env V → ℕ → Word → Items → State → ℕ → ℕ → Part
-word_part e words x p s weight high = part words (heard e.output e.symbol e.include_hash (word_items x s.letter p) s.depth_left s.lifetimes s.place) weight high
+word_part e words x p s weight high = part words (heard e.output e.symbol e.form (word_items x s.letter p) s.depth_left s.lifetimes s.place) weight high
 
 -- What is read as a group.
 module _ {V : Type 0} {e : Env V} where
-  pub group_tells : {t : Turn V} {h : Heard} {words weight high : ℕ} {s : State} {v : V} {n : ℕ} (to : Point) (g : Group) → length g.costs ≤ words → (k : Place → Heard) (y : Stretch) (j : Place) → h ≡ group_then e.output e.symbol e.include_hash g k → reads.Goes y j ≡ g.reads → Paid t.looks g.costs n
-      → n ≤ t.looks + own_looks e.symbol t.state.place → e.output.prints t.output (texts_of e.symbol e.include_hash y) (Ok tt) v → e.output.ready v → s.mark ≡ None → k j ≡ unit_rest_of e.symbol e.include_hash e.output.is_printed to s
+  pub group_tells : {t : Turn V} {h : Heard} {words weight high : ℕ} {s : State} {v : V} {n : ℕ} (to : Point) (g : Group) → length g.costs ≤ words → (k : Place → Heard) (y : Stretch) (j : Place) → h ≡ group_then e.output e.symbol e.form g k → reads.Goes y j ≡ g.reads → Paid t.looks g.costs n
+      → n ≤ t.looks + own_looks e.symbol t.state.place → e.output.prints t.output (texts_of e.symbol e.form.include_hash y) (Ok tt) v → e.output.ready v → s.mark ≡ None → k j ≡ unit_rest_of e.symbol e.form e.output.is_printed to s
       → way_weight to + 1 ≤ weight → height_at to s.depth_left ≤ high → Fits to s.depth_left s.lifetimes → Does e t (part words h weight high) (Ok to) (record t { state = s; output = v; looks = n })
   group_tells to g c k y j so r p short q x m o w z f =
-      tells to g.costs c y (group_so e.output e.symbol e.include_hash _ g k (reads.Goes y j) so r ∙ ap (λ (z : Heard). with_looks g.costs (with_texts e.output.is_printed (texts_of e.symbol e.include_hash y) z)) o) q x m p short (omega (arith, w)) z f
+      tells to g.costs c y (group_so e.output e.symbol e.form _ g k (reads.Goes y j) so r ∙ ap (λ (z : Heard). with_looks g.costs (with_texts e.output.is_printed (texts_of e.symbol e.form.include_hash y) z)) o) q x m p short (omega (arith, w)) z f
 
-  pub group_halts : {t : Turn V} {h : Heard} {words weight high : ℕ} {s : State} {v : V} {n : ℕ} {f : SinkRefused} (g : Group) → length g.costs ≤ words → (k : Place → Heard) (y : Stretch) (j : Place) → h ≡ group_then e.output e.symbol e.include_hash g k → reads.Goes y j ≡ g.reads → Paid t.looks g.costs n
-      → n ≤ t.looks + own_looks e.symbol t.state.place → e.output.prints t.output (texts_of e.symbol e.include_hash y) (Err f) v → (e.output.is_printed ≡ false → IsOk (refused f)) → Does e t (part words h weight high) (Err Refused) (record t { state = s; output = v; looks = n })
-  group_halts g c k y j so r p short q x = halts g.costs c y (k j) (group_so e.output e.symbol e.include_hash _ g k (reads.Goes y j) so r) q (λ z. absurd (false≢true (x z))) p short
+  pub group_halts : {t : Turn V} {h : Heard} {words weight high : ℕ} {s : State} {v : V} {n : ℕ} {f : SinkRefused} (g : Group) → length g.costs ≤ words → (k : Place → Heard) (y : Stretch) (j : Place) → h ≡ group_then e.output e.symbol e.form g k → reads.Goes y j ≡ g.reads → Paid t.looks g.costs n
+      → n ≤ t.looks + own_looks e.symbol t.state.place → e.output.prints t.output (texts_of e.symbol e.form.include_hash y) (Err f) v → (e.output.is_printed ≡ false → IsOk (refused f)) → Does e t (part words h weight high) (Err Refused) (record t { state = s; output = v; looks = n })
+  group_halts g c k y j so r p short q x = halts g.costs c y (k j) (group_so e.output e.symbol e.form _ g k (reads.Goes y j) so r) q (λ z. absurd (false≢true (x z))) p short
 
-  pub group_faults : {t : Turn V} {h : Heard} {words weight high : ℕ} {n : ℕ} (g : Group) → length g.costs ≤ words → (k : Place → Heard) (m : Mark) → h ≡ group_then e.output e.symbol e.include_hash g k → reads.Stops m ≡ g.reads → Paid t.looks g.costs n
+  pub group_faults : {t : Turn V} {h : Heard} {words weight high : ℕ} {n : ℕ} (g : Group) → length g.costs ≤ words → (k : Place → Heard) (m : Mark) → h ≡ group_then e.output e.symbol e.form g k → reads.Stops m ≡ g.reads → Paid t.looks g.costs n
       → n ≤ t.looks + own_looks e.symbol t.state.place → t.state.mark ≡ None → 1 ≤ weight → Does e t (part words h weight high) (Err (Fault m)) (record t { looks = n })
-  group_faults g c k m so r p short x w = ends m g.costs c x (group_so e.output e.symbol e.include_hash _ g k (reads.Stops m) so r) p short w
+  group_faults g c k m so r p short x w = ends m g.costs c x (group_so e.output e.symbol e.form _ g k (reads.Stops m) so r) p short w
 
   -- Words behind which the unit goes on.
 
-  pub word_goes : {t : Turn V} {words weight high : ℕ} {s : State} {v : V} {n : ℕ} → 4 ≤ words → (to : Point) (x : Word) (p : Items) (y : Stretch) (j : Place) → reads.Goes y j ≡ (word_of e x t.state).reads → Paid t.looks (word_of e x t.state).costs n → e.output.prints t.output (texts_of e.symbol e.include_hash y) (Ok tt) v → e.output.ready v → s.mark ≡ None
-      → heard e.output e.symbol e.include_hash p t.state.depth_left t.state.lifetimes j ≡ unit_rest_of e.symbol e.include_hash e.output.is_printed to s → way_weight to + 1 ≤ weight → height_at to s.depth_left ≤ high → Fits to s.depth_left s.lifetimes
+  pub word_goes : {t : Turn V} {words weight high : ℕ} {s : State} {v : V} {n : ℕ} → 4 ≤ words → (to : Point) (x : Word) (p : Items) (y : Stretch) (j : Place) → reads.Goes y j ≡ (word_of e x t.state).reads → Paid t.looks (word_of e x t.state).costs n → e.output.prints t.output (texts_of e.symbol e.form.include_hash y) (Ok tt) v → e.output.ready v → s.mark ≡ None
+      → heard e.output e.symbol e.form p t.state.depth_left t.state.lifetimes j ≡ unit_rest_of e.symbol e.form e.output.is_printed to s → way_weight to + 1 ≤ weight → height_at to s.depth_left ≤ high → Fits to s.depth_left s.lifetimes
       → Does e t (word_part e words x p t.state weight high) (Ok to) (record t { state = s; output = v; looks = n })
   word_goes {t} few to x p y j r q k z m o w l f =
-      group_tells to (word_of e x t.state) (omega (arith, few, group_few e.symbol x t.state.letter e.output.is_printed t.state.lifetimes t.state.place)) (heard e.output e.symbol e.include_hash p t.state.depth_left t.state.lifetimes) y j (word_so e.output e.symbol e.include_hash x t.state.letter p t.state.depth_left t.state.lifetimes t.state.place) r q
+      group_tells to (word_of e x t.state) (omega (arith, few, group_few e.symbol x t.state.letter e.output.is_printed t.state.lifetimes t.state.place)) (heard e.output e.symbol e.form p t.state.depth_left t.state.lifetimes) y j (word_so e.output e.symbol e.form x t.state.letter p t.state.depth_left t.state.lifetimes t.state.place) r q
       (omega (arith, q.within, group_short e.symbol x t.state.letter e.output.is_printed t.state.lifetimes t.state.place)) k z m o w l f
 
-  pub word_refuses : {t : Turn V} {words weight high : ℕ} {s : State} {v : V} {n : ℕ} {f : SinkRefused} → 4 ≤ words → (x : Word) (p : Items) (y : Stretch) (j : Place) → reads.Goes y j ≡ (word_of e x t.state).reads → Paid t.looks (word_of e x t.state).costs n → e.output.prints t.output (texts_of e.symbol e.include_hash y) (Err f) v → (e.output.is_printed ≡ false → IsOk (refused f))
+  pub word_refuses : {t : Turn V} {words weight high : ℕ} {s : State} {v : V} {n : ℕ} {f : SinkRefused} → 4 ≤ words → (x : Word) (p : Items) (y : Stretch) (j : Place) → reads.Goes y j ≡ (word_of e x t.state).reads → Paid t.looks (word_of e x t.state).costs n → e.output.prints t.output (texts_of e.symbol e.form.include_hash y) (Err f) v → (e.output.is_printed ≡ false → IsOk (refused f))
       → Does e t (word_part e words x p t.state weight high) (Err Refused) (record t { state = s; output = v; looks = n })
   word_refuses {t} few x p y j r q k z =
-      group_halts (word_of e x t.state) (omega (arith, few, group_few e.symbol x t.state.letter e.output.is_printed t.state.lifetimes t.state.place)) (heard e.output e.symbol e.include_hash p t.state.depth_left t.state.lifetimes) y j (word_so e.output e.symbol e.include_hash x t.state.letter p t.state.depth_left t.state.lifetimes t.state.place) r q
+      group_halts (word_of e x t.state) (omega (arith, few, group_few e.symbol x t.state.letter e.output.is_printed t.state.lifetimes t.state.place)) (heard e.output e.symbol e.form p t.state.depth_left t.state.lifetimes) y j (word_so e.output e.symbol e.form x t.state.letter p t.state.depth_left t.state.lifetimes t.state.place) r q
       (omega (arith, q.within, group_short e.symbol x t.state.letter e.output.is_printed t.state.lifetimes t.state.place)) k z
 
   pub word_stops : {t : Turn V} {words weight high : ℕ} {n : ℕ} → 4 ≤ words → (x : Word) (p : Items) (m : Mark) → reads.Stops m ≡ (word_of e x t.state).reads → Paid t.looks (word_of e x t.state).costs n → t.state.mark ≡ None → 1 ≤ weight → Does e t (word_part e words x p t.state weight high) (Err (Fault m)) (record t { looks = n })
   word_stops {t} few x p m r q k w =
-      group_faults (word_of e x t.state) (omega (arith, few, group_few e.symbol x t.state.letter e.output.is_printed t.state.lifetimes t.state.place)) (heard e.output e.symbol e.include_hash p t.state.depth_left t.state.lifetimes) m (word_so e.output e.symbol e.include_hash x t.state.letter p t.state.depth_left t.state.lifetimes t.state.place) r q
+      group_faults (word_of e x t.state) (omega (arith, few, group_few e.symbol x t.state.letter e.output.is_printed t.state.lifetimes t.state.place)) (heard e.output e.symbol e.form p t.state.depth_left t.state.lifetimes) m (word_so e.output e.symbol e.form x t.state.letter p t.state.depth_left t.state.lifetimes t.state.place) r q
       (omega (arith, q.within, group_short e.symbol x t.state.letter e.output.is_printed t.state.lifetimes t.state.place)) k w
 
   -- Words with which a unit ends.
 
-  pub word_ends : {t : Turn V} {v : V} {n : ℕ} (x : Word) (y : Stretch) (j : Place) → reads.Goes y j ≡ (word_of e x t.state).reads → Paid t.looks (word_of e x t.state).costs n → e.output.prints t.output (texts_of e.symbol e.include_hash y) (Ok tt) v → e.output.ready v → t.state.mark ≡ None
+  pub word_ends : {t : Turn V} {v : V} {n : ℕ} (x : Word) (y : Stretch) (j : Place) → reads.Goes y j ≡ (word_of e x t.state).reads → Paid t.looks (word_of e x t.state).costs n → e.output.prints t.output (texts_of e.symbol e.form.include_hash y) (Ok tt) v → e.output.ready v → t.state.mark ≡ None
       → RestDoes e (word_items x t.state.letter done) 4 1 0 t (Ok point.End) (record t { state = record t.state { place = j; is_open = false }; output = v; looks = n })
   unfolding run unit_rest_at
   word_ends x y j r p q k m = word_goes (omega arith) point.End x done y j r p q k m refl (omega arith) (omega arith) tt
 
-  pub word_halts : {t : Turn V} {s : State} {v : V} {n : ℕ} {f : SinkRefused} (x : Word) (y : Stretch) (j : Place) → reads.Goes y j ≡ (word_of e x t.state).reads → Paid t.looks (word_of e x t.state).costs n → e.output.prints t.output (texts_of e.symbol e.include_hash y) (Err f) v → (e.output.is_printed ≡ false → IsOk (refused f))
+  pub word_halts : {t : Turn V} {s : State} {v : V} {n : ℕ} {f : SinkRefused} (x : Word) (y : Stretch) (j : Place) → reads.Goes y j ≡ (word_of e x t.state).reads → Paid t.looks (word_of e x t.state).costs n → e.output.prints t.output (texts_of e.symbol e.form.include_hash y) (Err f) v → (e.output.is_printed ≡ false → IsOk (refused f))
       → RestDoes e (word_items x t.state.letter done) 4 1 0 t (Err Refused) (record t { state = s; output = v; looks = n })
   word_halts x = word_refuses (omega arith) x done
 
@@ -296,10 +296,10 @@ module _ {V : Type 0} {e : Env V} where
   word_faults x m r p k = word_stops (omega arith) x done m r p k (omega arith)
 
   -- one that hands nothing over
-  pub word_bare : {t u : Turn V} {r : Result Point Stop} {words words' weight high weight' high' : ℕ} {s : State} {n : ℕ} → 4 + words' ≤ words → (x : Word) (p : Items) (y : Stretch) (j : Place) → reads.Goes y j ≡ (word_of e x t.state).reads → texts_of e.symbol e.include_hash y ≡ [] → Paid t.looks (word_of e x t.state).costs n
-      → u.looks ≤ t.looks + own_looks e.symbol t.state.place → weight' ≤ weight → high' ≤ high → Does e (record t { state = s; looks = n }) (part words' (heard e.output e.symbol e.include_hash p t.state.depth_left t.state.lifetimes j) weight' high') r u → Does e t (word_part e words x p t.state weight high) r u
+  pub word_bare : {t u : Turn V} {r : Result Point Stop} {words words' weight high weight' high' : ℕ} {s : State} {n : ℕ} → 4 + words' ≤ words → (x : Word) (p : Items) (y : Stretch) (j : Place) → reads.Goes y j ≡ (word_of e x t.state).reads → texts_of e.symbol e.form.include_hash y ≡ [] → Paid t.looks (word_of e x t.state).costs n
+      → u.looks ≤ t.looks + own_looks e.symbol t.state.place → weight' ≤ weight → high' ≤ high → Does e (record t { state = s; looks = n }) (part words' (heard e.output e.symbol e.form p t.state.depth_left t.state.lifetimes j) weight' high') r u → Does e t (word_part e words x p t.state weight high) r u
   word_bare {t} few x p y j r o q short w z d =
       let g = word_of e x t.state in
-      let k : Place → Heard = heard e.output e.symbol e.include_hash p t.state.depth_left t.state.lifetimes in
+      let k : Place → Heard = heard e.output e.symbol e.form p t.state.depth_left t.state.lifetimes in
       behind_few g.costs (omega (arith, few, group_few e.symbol x t.state.letter e.output.is_printed t.state.lifetimes t.state.place))
-      (group_so e.output e.symbol e.include_hash _ g k (reads.Goes y j) (word_so e.output e.symbol e.include_hash x t.state.letter p t.state.depth_left t.state.lifetimes t.state.place) r ∙ ap (λ ts. with_looks g.costs (with_texts e.output.is_printed ts (k j))) o) q short (omega (arith, w)) z d
+      (group_so e.output e.symbol e.form _ g k (reads.Goes y j) (word_so e.output e.symbol e.form x t.state.letter p t.state.depth_left t.state.lifetimes t.state.place) r ∙ ap (λ ts. with_looks g.costs (with_texts e.output.is_printed ts (k j))) o) q short (omega (arith, w)) z d

@@ -31,11 +31,11 @@ behind_field = says ": " constant_inside
 
 -- behind its tag
 variant_so : {V : Type 0} (e : Env V) (s : State) (i c j : ℕ) (p : Option VariantKind) → Some (c, j) ≡ byte_at e.symbol i → p ≡ found c variant_kinds
-    → unit_rest_at e.symbol e.include_hash e.output.is_printed point.Variant s.in_value s.letter s.depth_left s.lifetimes (Some i) s.is_open ≡ with_looks (4 * (j - i + 1) ∷ []) (heard e.output e.symbol e.include_hash (some_or invalid p (variant_of s.in_value)) s.depth_left s.lifetimes (Some j))
+    → unit_rest_at e.symbol e.form e.output.is_printed point.Variant s.in_value s.letter s.depth_left s.lifetimes (Some i) s.is_open ≡ with_looks (4 * (j - i + 1) ∷ []) (heard e.output e.symbol e.form (some_or invalid p (variant_of s.in_value)) s.depth_left s.lifetimes (Some j))
 unfolding unit_rest_at
 variant_so e s i c j p o q =
-    ap none_open (variant_reads e.include_hash e.output.is_printed e.symbol s.depth_left s.lifetimes (closes s.in_value) i c j (sym o))
-    ∙ ap (λ (x : Items). with_looks (4 * (j - i + 1) ∷ []) (heard e.output e.symbol e.include_hash x s.depth_left s.lifetimes (Some j))) (row_found c invalid (variant_of s.in_value) variant_kinds ∙ ap (λ (p : Option VariantKind). some_or invalid p (variant_of s.in_value)) (sym q))
+    ap none_open (variant_reads e.form.include_hash e.form.fold_arguments e.output.is_printed e.symbol s.depth_left s.lifetimes (closes s.in_value) i c j (sym o))
+    ∙ ap (λ (x : Items). with_looks (4 * (j - i + 1) ∷ []) (heard e.output e.symbol e.form x s.depth_left s.lifetimes (Some j))) (row_found c invalid (variant_of s.in_value) variant_kinds ∙ ap (λ (p : Option VariantKind). some_or invalid p (variant_of s.in_value)) (sym q))
 
 -- what it holds is read from this point on
 abbrev DidHold : {V : Type 0} → Env V → VariantKind → Point → Mark → Type 0
@@ -44,13 +44,13 @@ DidHold {V = V} e k p m = (t : Turn V) (s : State) (stack : List Frame) → Fits
 module _ {V : Type 0} {e : Env V} where
   pub variant_unread : {t : Turn V} → t.state.place ≡ None → t.state.mark ≡ None → PointDoes e point.Variant t (Err (Fault mark.AfterError)) t
   unfolding unit_rest_at
-  variant_unread {t} at k = let a = t.state in unread k (rw at (ap none_open (variant_failed e.include_hash e.output.is_printed e.symbol a.depth_left a.lifetimes (closes a.in_value)))) (omega arith)
+  variant_unread {t} at k = let a = t.state in unread k (rw at (ap none_open (variant_failed e.form.include_hash e.form.fold_arguments e.output.is_printed e.symbol a.depth_left a.lifetimes (closes a.in_value)))) (omega arith)
 
   pub variant_untagged : {t : Turn V} {n : ℕ} (i : ℕ) → t.state.place ≡ Some i → None ≡ byte_at e.symbol i → n ≡ t.looks + 1 → t.state.mark ≡ None → PointDoes e point.Variant t (Err (Fault mark.Invalid)) (record t { looks = n })
   unfolding unit_rest_at
   variant_untagged {t} i at o l k =
       let a = t.state in
-      ends mark.Invalid (4 * (length e.symbol - i + 1) ∷ []) (omega arith) k (rw at (ap none_open (variant_missing e.include_hash e.output.is_printed e.symbol a.depth_left a.lifetimes (closes a.in_value) i (sym o)))) (record { grows = omega (arith, l); within = omega (arith, l) }) (rw at (omega (arith, l))) (omega arith)
+      ends mark.Invalid (4 * (length e.symbol - i + 1) ∷ []) (omega arith) k (rw at (ap none_open (variant_missing e.form.include_hash e.form.fold_arguments e.output.is_printed e.symbol a.depth_left a.lifetimes (closes a.in_value) i (sym o)))) (record { grows = omega (arith, l); within = omega (arith, l) }) (rw at (omega (arith, l))) (omega arith)
 
   pub variant_wrong : {t : Turn V} {n : ℕ} (i c j : ℕ) → t.state.place ≡ Some i → Some (c, j) ≡ byte_at e.symbol i → None ≡ found c variant_kinds → n ≡ t.looks + 1 → t.state.mark ≡ None → PointDoes e point.Variant t (Err (Fault mark.Invalid)) (record t { looks = n })
   unfolding run

@@ -4,7 +4,7 @@ use Rattle.std.proofs.Common.{inl, inr, ◌⊎◌, ◌≡◌, ℕ, ◌+◌, ◌�
 use Rattle.demangle_grammar.specs.Accepting.{looks_in}
 use Rattle.demangle_grammar.specs.Events.{Event, Heard, allows, events}
 use Rattle.demangle_grammar.specs.Items.{a_path}
-use Rattle.demangle_grammar.specs.Reading.{Tree, nothing, piece, plain_piece, node, looked, hidden, max_depth, unit_end, read_at, level_of, levels}
+use Rattle.demangle_grammar.specs.Reading.{Form, form, Tree, nothing, piece, plain_piece, node, looked, hidden, max_depth, unit_end, read_at, level_of, levels}
 use Rattle.demangle_grammar.specs.Running.{allowed_in}
 use Rattle.demangle_v0.specs.Points.{most_frames, Turn, turn, AllInner, unit_rest_at, unit_rest_of, stack_rest, reading_rest}
 use Rattle.demangle_v0.specs.PointRuns.{Valid, frame_height, EndedAt, Ran, ReadOn, first_state, printing, silently, silent_turn}
@@ -31,17 +31,17 @@ valid_first i = record { stands = stands_first frame_height most_frames (8 * max
 pub valid_length : (p : Point) (s : State) (stack : List Frame) → Valid p s stack → length stack ≤ most_frames
 valid_length p s stack v = omega (arith, v.stands.above)
 
-pub owed_alone : (b : List ℕ) (include_hash out : Bool) (p : Point) (s : State) → reading_rest b include_hash out p s [] ≡ unit_rest_of b include_hash out p s
+pub owed_alone : (b : List ℕ) (form : Form) (out : Bool) (p : Point) (s : State) → reading_rest b form out p s [] ≡ unit_rest_of b form out p s
 unfolding stack_rest
-owed_alone b include_hash out p s = and_then_ended (unit_rest_of b include_hash out p s)
+owed_alone b form out p s = and_then_ended (unit_rest_of b form out p s)
 
-pub over_place : (b : List ℕ) (include_hash : Bool) (s : State) → (reading_rest b include_hash false point.End s []).place ≡ s.place
+pub over_place : (b : List ℕ) (form : Form) (s : State) → (reading_rest b form false point.End s []).place ≡ s.place
 unfolding unit_rest_at stack_rest
-over_place b include_hash s = refl
+over_place b form s = refl
 
-pub first_place : (b : List ℕ) (include_hash : Bool) (i : ℕ) → (reading_rest b include_hash false point.Path (first_state i) []).place ≡ unit_end b a_path i 0
+pub first_place : (b : List ℕ) (include_hash : Bool) (i : ℕ) → (reading_rest b (form include_hash false) false point.Path (first_state i) []).place ≡ unit_end b a_path i 0
 unfolding unit_rest_at unit_end read_at
-first_place b include_hash i = ap (λ (h : Heard). h.place) (owed_alone b include_hash false point.Path (first_state i))
+first_place b include_hash i = ap (λ (h : Heard). h.place) (owed_alone b (form include_hash false) false point.Path (first_state i))
 
 -- a tree that is not printed has the same events in either form
 silent_events : (plain : Bool) (t : Tree) → events plain false t ≡ events true false t
@@ -56,11 +56,11 @@ silent_events false (hidden inside rest) =
     ap (λ xs. xs ++ events false false rest) (silent_events false inside) ∙ ap (λ xs. events true false inside ++ xs) (silent_events false rest)
 silent_events false _ = refl
 
-pub first_allowed : (b : List ℕ) (include_hash : Bool) (i : ℕ) → allowed_in (reading_rest b include_hash false point.Path (first_state i) []).events ≡ looks_in (read_at b false a_path i 0 0 true)
+pub first_allowed : (b : List ℕ) (include_hash : Bool) (i : ℕ) → allowed_in (reading_rest b (form include_hash false) false point.Path (first_state i) []).events ≡ looks_in (read_at b false false a_path i 0 0 true)
 unfolding unit_rest_at read_at
 first_allowed b include_hash i =
-    let tree = (level_of b (levels b max_depth) false a_path true 0 i).tree in
-    ap (λ (h : Heard). allowed_in h.events) (owed_alone b include_hash false point.Path (first_state i))
+    let tree = (level_of b false (levels b false max_depth) false a_path true 0 i).tree in
+    ap (λ (h : Heard). allowed_in h.events) (owed_alone b (form include_hash false) false point.Path (first_state i))
     ∙ (ap allowed_in (silent_events include_hash tree) ∙ allowed_looks true false tree)
 
 -- What a silent reading tells of its place and its looks.
@@ -69,50 +69,50 @@ pub failed_of : {r : Halt} → (r ≡ halt.Full) ⊎ (r ≡ halt.Failed) → (r 
 failed_of (inl k) h = absurd (h k)
 failed_of (inr k) h = k
 
-module _ {b : List ℕ} {include_hash : Bool} {p q : Point} {s : State} {stack : List Frame} {m : ℕ} {u : Turn Silent} where
+module _ {b : List ℕ} {form : Form} {p q : Point} {s : State} {stack : List Frame} {m : ℕ} {u : Turn Silent} where
   -- it came to an end
-  pub over_value : ReadOn (silently b include_hash) [] p (silent_turn s stack m) halt.Over q u → u.state.place ≡ (reading_rest b include_hash false p s stack).place
-  over_value r = sym (over_place b include_hash u.state) ∙ ran_place r.reads.1
+  pub over_value : ReadOn (silently b form) [] p (silent_turn s stack m) halt.Over q u → u.state.place ≡ (reading_rest b form false p s stack).place
+  over_value r = sym (over_place b form u.state) ∙ ran_place r.reads.1
 
-  pub over_looks : ReadOn (silently b include_hash) [] p (silent_turn s stack m) halt.Over q u → u.looks ≤ m + allowed_in (reading_rest b include_hash false p s stack).events
+  pub over_looks : ReadOn (silently b form) [] p (silent_turn s stack m) halt.Over q u → u.looks ≤ m + allowed_in (reading_rest b form false p s stack).events
   over_looks r = omega (arith, ran_looks r.reads.1)
 
   -- it failed
-  pub failed_value : ReadOn (silently b include_hash) [] p (silent_turn s stack m) halt.Failed q u → None ≡ (reading_rest b include_hash false p s stack).place
+  pub failed_value : ReadOn (silently b form) [] p (silent_turn s stack m) halt.Failed q u → None ≡ (reading_rest b form false p s stack).place
   failed_value r = sym (broke_fails refl r.reads.0 r.reads.1).0
 
-  pub failed_looks : ReadOn (silently b include_hash) [] p (silent_turn s stack m) halt.Failed q u → u.looks ≤ m + allowed_in (reading_rest b include_hash false p s stack).events
+  pub failed_looks : ReadOn (silently b form) [] p (silent_turn s stack m) halt.Failed q u → u.looks ≤ m + allowed_in (reading_rest b form false p s stack).events
   failed_looks r = (broke_fails refl r.reads.0 r.reads.1).1
 
   -- the stack is full
-  pub full_inner : ReadOn (silently b include_hash) [] p (silent_turn s stack m) halt.Full q u → AllInner u.stack
+  pub full_inner : ReadOn (silently b form) [] p (silent_turn s stack m) halt.Full q u → AllInner u.stack
   full_inner r = subst AllInner (sym r.reads.is_stack) r.reads.inner
 
-  full_ran : ReadOn (silently b include_hash) [] p (silent_turn s stack m) halt.Full q u → Ran (silently b include_hash) p (silent_turn s stack m) q u
-  full_ran r = subst (λ (ys : List Frame). Ran (silently b include_hash) p (silent_turn s stack m) q (record u { stack = ys })) (sym r.reads.is_stack) r.reads.ran
+  full_ran : ReadOn (silently b form) [] p (silent_turn s stack m) halt.Full q u → Ran (silently b form) p (silent_turn s stack m) q u
+  full_ran r = subst (λ (ys : List Frame). Ran (silently b form) p (silent_turn s stack m) q (record u { stack = ys })) (sym r.reads.is_stack) r.reads.ran
 
-  pub full_value : ReadOn (silently b include_hash) [] p (silent_turn s stack m) halt.Full q u → (reading_rest b include_hash false q u.state u.stack).place ≡ (reading_rest b include_hash false p s stack).place
+  pub full_value : ReadOn (silently b form) [] p (silent_turn s stack m) halt.Full q u → (reading_rest b form false q u.state u.stack).place ≡ (reading_rest b form false p s stack).place
   full_value r = ran_place (full_ran r)
 
-  pub full_looks : ReadOn (silently b include_hash) [] p (silent_turn s stack m) halt.Full q u → u.looks + allowed_in (reading_rest b include_hash false q u.state u.stack).events ≤ m + allowed_in (reading_rest b include_hash false p s stack).events
+  pub full_looks : ReadOn (silently b form) [] p (silent_turn s stack m) halt.Full q u → u.looks + allowed_in (reading_rest b form false q u.state u.stack).events ≤ m + allowed_in (reading_rest b form false p s stack).events
   full_looks r = ran_looks (full_ran r)
 
 -- Printing ends where a silent reading does.
 
-printed_place : (b : List ℕ) (include_hash : Bool) (s : State) → (reading_rest b include_hash true point.End s []).place ≡ s.place
+printed_place : (b : List ℕ) (include_hash : Bool) (s : State) → (reading_rest b (form include_hash false) true point.End s []).place ≡ s.place
 unfolding unit_rest_at stack_rest
 printed_place b include_hash s = refl
 
-first_printed : (b : List ℕ) (include_hash : Bool) → (reading_rest b include_hash true point.Path (first_state 0) []).place ≡ (read_at b true a_path 0 0 0 true).place
+first_printed : (b : List ℕ) (include_hash : Bool) → (reading_rest b (form include_hash false) true point.Path (first_state 0) []).place ≡ (read_at b false true a_path 0 0 0 true).place
 unfolding unit_rest_at read_at
-first_printed b include_hash = ap (λ (h : Heard). h.place) (owed_alone b include_hash true point.Path (first_state 0))
+first_printed b include_hash = ap (λ (h : Heard). h.place) (owed_alone b (form include_hash false) true point.Path (first_state 0))
 
-read_end : (b : List ℕ) (j : ℕ) → (read_at b true a_path 0 0 0 true).place ≡ Some j → Some j ≡ unit_end b a_path 0 0
+read_end : (b : List ℕ) (j : ℕ) → (read_at b false true a_path 0 0 0 true).place ≡ Some j → Some j ≡ unit_end b a_path 0 0
 unfolding unit_end
 read_end b j e =
     sym ((reading_is_spelling b a_path true 0 j 0 0 (omega arith) (omega arith)).1 (named_freely ((printing_is_spelling b a_path true 0 j 0 0 (omega arith) (omega arith)).0 e)))
 
 pub printed_end : {S : Type 0} (sink : Sinks S) (b : List ℕ) (include_hash : Bool) {v w : SizeLimitedFmtAdapter S} {m n place : ℕ} →
-    EndedAt (printing sink b include_hash) point.Path (turn (first_state 0) [] v m) place w n → Some place ≡ unit_end b a_path 0 0
+    EndedAt (printing sink b (form include_hash false)) point.Path (turn (first_state 0) [] v m) place w n → Some place ≡ unit_end b a_path 0 0
 printed_end sink b include_hash {place = place} z =
     read_end b place (sym (first_printed b include_hash) ∙ (sym (ran_place z.ran) ∙ (printed_place b include_hash z.state ∙ z.at)))

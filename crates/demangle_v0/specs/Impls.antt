@@ -20,9 +20,3 @@ skip_point true = point.ImplPath
 abbrev pub self_point : Bool → Point
 self_point false = point.InherentType
 self_point true = point.SelfType
-
--- whether an impl path is next
-abbrev pub is_skip : Point → Bool
-is_skip point.InherentPath = true
-is_skip point.ImplPath = true
-is_skip p = false

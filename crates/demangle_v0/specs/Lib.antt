@@ -12,3 +12,4 @@ pub mod PointRuns
 pub mod PointContracts
 pub mod Points
 pub mod References
+pub mod Skips

@@ -17,6 +17,7 @@ left_at point.Mut = leaves mark.Mut point.«Type» false
 left_at point.TextConstant = leaves mark.Star point.Literal false
 left_at point.ReferenceConstant = leaves mark.Ampersand point.Constant true
 left_at point.OpenArguments = leaves mark.Less point.FirstArgument false
+left_at point.FoldedArguments = leaves mark.Placeholder point.CloseAngle false
 left_at point.Const = leaves mark.Const point.«Type» false
 left_at point.PatternIs = leaves mark.Is point.Pattern false
 left_at point.OpenParameters = leaves mark.Function point.FirstParameter false

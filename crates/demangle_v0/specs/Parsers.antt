@@ -1,17 +1,17 @@
 -- Internal: no public contract cites this.
 -- The effect of continuations on a parser.
-use Rattle.std.specs.Prelude.{◌≡◌, ℕ, ◌+◌, ◌-◌, Bool, false, Option, List, [], ◌∷◌, ◌++◌, length, Some, Result, Ok}
+use Rattle.std.specs.Prelude.{◌≡◌, ℕ, ◌+◌, ◌-◌, Bool, false, ◌&&◌, Option, List, [], ◌∷◌, ◌++◌, length, Some, Result, Ok}
 use Rattle.demangle_grammar.specs.Events.{Heard}
-use Rattle.demangle_grammar.specs.Reading.{Place}
+use Rattle.demangle_grammar.specs.Reading.{Form, Place}
 use Rattle.demangle_grammar.specs.Items.{Items, Kind}
 use Rattle.demangle_words.specs.WordReads.{Group, word_group}
 use Rattle.demangle_words.specs.declared.texts.Mark.{Mark}
 use Rattle.demangle_words.specs.declared.texts.Word.{Word}
 use Rattle.demangle_words.specs.declared.output.Output.{Ghosts}
+use Rattle.demangle_words.specs.declared.source.Source.{Source}
 use Rattle.demangle_sink.specs.declared.SinkRefused.{SinkRefused}
 use Rattle.demangle_sink.specs.declared.TextSink.{Ghosts as Sinks}
 use Rattle.demangle_sink.specs.declared.limit.SizeLimitedFmtAdapter.{SizeLimitedFmtAdapter}
-use Rattle.demangle_v0.specs.Impls.{skip_point}
 use Rattle.demangle_v0.specs.PointContracts.{brace_behind}
 use Rattle.demangle_v0.specs.Points.{AllInner, Does, Env, MayEmit, MayRead, MayStep, Part, Turn, env, pushed_on, reading_rest, rest, turn, whole}
 use Rattle.demangle_v0.specs.PointRuns.{Valid, ReadOn, Skipped, SkipsTo, RanOn, ValidLeft, Finishes, Ended, EndedAt, first_looks, first_state, looks_left, printing, silently, silent_turn}
@@ -25,6 +25,10 @@ use Rattle.demangle_v0.specs.declared.points.parser.Parser.{Parser}
 use Rattle.demangle_v0.specs.declared.points.read.Halt.{Halt}
 use Rattle.demangle_v0.specs.declared.points.read.Reading.{Reading}
 use Rattle.demangle_v0.specs.declared.printing.Left.{Left}
+
+-- the form in which a parser prints
+abbrev pub form_of : Source → Form
+form_of s = record { include_hash = s.include_hash; fold_arguments = s.fold_arguments }
 
 -- Changes to a parser.
 
@@ -73,8 +77,8 @@ reading_of m = record { point = m.point; state = m.state }
 
 -- A new parser, for a path of the same symbol, or for the same parse without its frames.
 
-abbrev pub path_parser : {N : ℕ} → Parser N → Bool → ℕ → ℕ → Parser N
-path_parser m include_hash i n = record { source = record { symbol = m.source.symbol; include_hash = include_hash }; point = point.Path; state = first_state i; stack = []; looks = n }
+abbrev pub path_parser : {N : ℕ} → Source → ℕ → ℕ → Parser N
+path_parser source i n = record { source = source; point = point.Path; state = first_state i; stack = []; looks = n }
 
 abbrev pub emptied : {N M : ℕ} → Parser N → Parser M
 emptied m = record { source = m.source; point = m.point; state = m.state; stack = []; looks = m.looks }
@@ -82,14 +86,14 @@ emptied m = record { source = m.source; point = m.point; state = m.state; stack 
 -- The effect of a continuation.
 
 abbrev pub env_of : {N : ℕ} {V : Type 0} → Ghosts V → Parser N → Env V
-env_of output m = env output m.source.symbol.now m.source.include_hash
+env_of output m = env output m.source.symbol.now (form_of m.source)
 
 abbrev pub turn_of : {N : ℕ} {V : Type 0} → Parser N → V → Turn V
 turn_of m v = turn m.state m.stack v m.looks
 
 -- no continuation changes the symbol, or whether hashes are printed
 abbrev pub Same : {N : ℕ} → Parser N → Parser N → Type 0
-Same m k = (k.source.symbol ≡ m.source.symbol) × (k.source.include_hash ≡ m.source.include_hash)
+Same m k = (k.source.symbol ≡ m.source.symbol) × (k.source.include_hash ≡ m.source.include_hash) × (k.source.fold_arguments ≡ m.source.fold_arguments)
 
 pub record DoesPart {N : ℕ} {V : Type 0} (output : Ghosts V) (part : Part) (m : Parser N) (v : V) (result : Result Point Stop) (k : Parser N) (w : V) : Type 0 where
   pub does : Does (env_of output m) (turn_of m v) part result (turn_of k w)
@@ -113,7 +117,7 @@ MayPrint output m v = MayEmit (env_of output m) m.state v
 -- the effect of a back reference to a production that starts with this continuation
 abbrev pub Followed : {N : ℕ} {V : Type 0} → Ghosts V → Point → Parser N → V → Result Point Stop → Parser N → Type 0
 Followed output p m v result k =
-    (shut : Bool) (kind : Kind) (value : Bool) → IsUnit m.source.symbol.now m.source.include_hash p m.state.in_value m.state.letter m.state.lifetimes shut kind value
+    (shut : Bool) (kind : Kind) (value : Bool) → IsUnit m.source.symbol.now (form_of m.source) p m.state.in_value m.state.letter m.state.lifetimes shut kind value
     → DoesPart output (target_part (env_of output m) shut kind value m.state) m v result k v
 
 -- An output that never receives a token, whether it prints or not.
@@ -126,6 +130,10 @@ MayGo {N} p m = MayRead p N m.state m.stack
 
 abbrev pub Went : {N : ℕ} → Point → Parser N → Result Point Stop → Parser N → Type 0
 Went p m result k = (is_printed : Bool) → Did (unheard is_printed) p m tt result k tt
+
+-- the same, except at the first argument of a list that is printed folded
+abbrev pub WentUnfolded : {N : ℕ} → Bool → Point → Parser N → Result Point Stop → Parser N → Type 0
+WentUnfolded is_first p m result k = (is_printed : Bool) → is_first && (is_printed && m.source.fold_arguments) ≡ false → Did (unheard is_printed) p m tt result k tt
 
 -- the effect of a continuation that is only used if nothing is printed
 abbrev pub WentSilent : {N : ℕ} → Point → Parser N → Result Point Stop → Parser N → Type 0
@@ -146,31 +154,31 @@ Recounted m k = k ≡ looked m k.looks
 
 -- the remaining trace, without output
 abbrev pub unread_of : {N : ℕ} → Parser N → Heard
-unread_of m = reading_rest m.source.symbol.now m.source.include_hash false m.point m.state m.stack
+unread_of m = reading_rest m.source.symbol.now (form_of m.source) false m.point m.state m.stack
 
 -- without output, `m` is parsed until it stops at `k`, above the lowest `base` frames
 abbrev pub ReadSteps : {N : ℕ} → ℕ → Parser N → Halt → Parser N → Type 0
 ReadSteps base m result k = (below above : List Frame) → m.stack ≡ below ++ above → length below ≡ base → AllInner above
-    → ReadOn (silently m.source.symbol.now m.source.include_hash) below m.point (silent_turn m.state above m.looks) result k.point (silent_turn k.state k.stack k.looks)
+    → ReadOn (silently m.source.symbol.now (form_of m.source)) below m.point (silent_turn m.state above m.looks) result k.point (silent_turn k.state k.stack k.looks)
 
--- the impl path was read to its end
+-- the part that is not printed was read to its end
 abbrev pub SkipsOver : {N : ℕ} → Parser N → Parser N → Type 0
-SkipsOver m k = (q : Bool) → m.point ≡ skip_point q → Skipped m.source.symbol.now m.source.include_hash q m.state m.stack m.looks k.point k.state k.stack k.looks
+SkipsOver m k = Skipped m.source.symbol.now (form_of m.source) m.point m.state m.stack m.looks k.point k.state k.stack k.looks
 
 -- the impl path was read until the stack was full
 abbrev pub SkipsFull : {N : ℕ} → Parser N → Left → Parser N → Type 0
-SkipsFull {N} m x k = SkipsTo m.source.symbol.now m.source.include_hash (reading_of m) m.stack m.looks x N (reading_of k) k.stack k.looks
+SkipsFull {N} m x k = SkipsTo m.source.symbol.now (form_of m.source) (reading_of m) m.stack m.looks x N (reading_of k) k.stack k.looks
 
 -- the same for the rest of an impl path that was read in part
 abbrev pub FinishesSkip : {N : ℕ} → Parser N → Left → Option Left → Parser N → Type 0
-FinishesSkip {N} m x result k = Finishes m.source.symbol.now m.source.include_hash N x (reading_of m) m.stack m.looks result (reading_of k) k.stack k.looks
+FinishesSkip {N} m x result k = Finishes m.source.symbol.now (form_of m.source) N x (reading_of m) m.stack m.looks result (reading_of k) k.stack k.looks
 
 abbrev pub printing_of : {N : ℕ} {S : Type 0} → Sinks S → Parser N → Env (SizeLimitedFmtAdapter S)
-printing_of sink m = printing sink m.source.symbol.now m.source.include_hash
+printing_of sink m = printing sink m.source.symbol.now (form_of m.source)
 
 -- the unfinished part can be printed
 abbrev pub LeftValid : {N : ℕ} → ℕ → Result (Option Left) SinkRefused → Parser N → Type 0
-LeftValid n result m = ValidLeft m.source.symbol.now m.source.include_hash n result (reading_of m) m.stack m.looks
+LeftValid n result m = ValidLeft m.source.symbol.now (form_of m.source) n result (reading_of m) m.stack m.looks
 
 -- the looks that are made in any case: by the next step, and by the unfinished part
 abbrev pub first_looks_of : {N : ℕ} → Parser N → ℕ

@@ -1,15 +1,15 @@
 -- Internal: no public contract cites this.
 -- The effect of steps on a whole stack of frames.
-use Rattle.std.specs.Prelude.{◌≡◌, ℕ, ◌+◌, ◌≤◌, ◌<◌, min, Bool, true, false, Option, Some, None, List, [], ◌∷◌, ◌++◌, length, Result, Ok, Err, IsOk}
+use Rattle.std.specs.Prelude.{◌≡◌, ℕ, ◌+◌, ◌≤◌, ◌<◌, min, true, false, Option, Some, None, List, [], ◌∷◌, ◌++◌, length, Result, Ok, Err, IsOk}
 use Rattle.demangle_grammar.specs.Events.{Heard}
 use Rattle.demangle_words.specs.Texts.{text}
 use Rattle.demangle_v0.specs.Heights as heights
-use Rattle.demangle_v0.specs.Impls.{skip_point, self_point}
+use Rattle.demangle_v0.specs.Skips.{is_skip, own_point, after_skip}
 use Rattle.demangle_words.specs.declared.texts.Mark.{Mark}
 use Rattle.demangle_sink.specs.declared.SinkRefused.{SinkRefused}
 use Rattle.demangle_v0.specs.Points.{Bit, pays, puts, heard_bits, bits_looks, Env, env, whole, Turn, turn, Continued, Halted, Kept, AllInner, Fits, reading_rest, height_at, most_frames, resumed_of}
 use Rattle.demangle_grammar.specs.Running.{allowed_in}
-use Rattle.demangle_grammar.specs.Reading.{Place, max_depth}
+use Rattle.demangle_grammar.specs.Reading.{Form, Place, max_depth}
 use Rattle.demangle_sink.specs.Limit.{Prints, Ready}
 use Rattle.demangle_sink.specs.declared.TextSink.{Ghosts as Sinks}
 use Rattle.demangle_sink.specs.declared.limit.SizeLimitedFmtAdapter.{SizeLimitedFmtAdapter}
@@ -80,7 +80,7 @@ pub record Valid (p : Point) (s : State) (stack : List Frame) : Type 0 where
 
 -- the remaining trace of a parse
 abbrev pub left_of : {V : Type 0} → Env V → Point → Turn V → Heard
-left_of env p t = reading_rest env.symbol env.include_hash env.output.is_printed p t.state t.stack
+left_of env p t = reading_rest env.symbol env.form env.output.is_printed p t.state t.stack
 
 -- the output received the texts of these parts, in order
 abbrev pub Emitted : {V : Type 0} → Env V → List Bit → V → V → Type 0
@@ -108,8 +108,8 @@ pub record Broke {V : Type 0} (env : Env V) (p : Point) (before : Turn V) (outpu
 
 -- A parse without output, above other frames.
 
-abbrev pub silently : List ℕ → Bool → Env Silent
-silently b include_hash = env (record { is_printed = false; ready = λ v. Unit {0}; prints = λ v texts result w. Unit {0} }) b include_hash
+abbrev pub silently : List ℕ → Form → Env Silent
+silently b form = env (record { is_printed = false; ready = λ v. Unit {0}; prints = λ v texts result w. Unit {0} }) b form
 
 abbrev pub silent_turn : State → List Frame → ℕ → Turn Silent
 silent_turn s stack n = turn s stack (record {}) n
@@ -129,62 +129,61 @@ ReadsOn env below p before halt.Failed q after = (d : Broke env p before after.o
 pub record ReadOn {V : Type 0} (env : Env V) (below : List Frame) (p : Point) (before : Turn V) (result : Halt) (q : Point) (after : Turn V) : Type 0 where
   pub reads : ReadsOn env below p before result q after
 
--- The impl path, which is read and not printed.
+-- The part that is read and not printed: an impl path, or folded arguments.
 
 -- the state at its start
 abbrev pub silent_of : State → State
 silent_of s = record s { in_value = false }
 
-abbrev pub own_path : State → Reading
-own_path s = record { point = point.Path; state = silent_of s }
+abbrev pub own_path : Reading → Reading
+own_path r = record { point = own_point r.point; state = silent_of r.state }
 
-abbrev pub own_heard : List ℕ → Bool → State → Heard
-own_heard b include_hash s = reading_rest b include_hash false point.Path (silent_of s) []
+abbrev pub own_heard : List ℕ → Form → Point → State → Heard
+own_heard b form p s = reading_rest b form false (own_point p) (silent_of s) []
 
 -- the state after it
 abbrev pub state_at : State → Place → State
 state_at s i = record s { place = i }
 
--- the impl path was read, the count of looks went from `began` to `looks`, and printing continues after the path
-pub record Skipped (b : List ℕ) (include_hash of_trait : Bool) (s : State) (below : List Frame) (began : ℕ) (p : Point) (t : State) (now : List Frame) (looks : ℕ) : Type 0 where
-  pub at : p ≡ self_point of_trait
+-- the part was read, the count of looks went from `began` to `looks`, and printing continues after the part
+pub record Skipped (b : List ℕ) (form : Form) (o : Point) (s : State) (below : List Frame) (began : ℕ) (p : Point) (t : State) (now : List Frame) (looks : ℕ) : Type 0 where
+  pub at : p ≡ after_skip o
   pub place : Place
-  pub ends : (own_heard b include_hash s).place ≡ place
+  pub ends : (own_heard b form o s).place ≡ place
   pub state : t ≡ state_at s place
   pub is_stack : now ≡ below
-  pub enough : looks ≤ began + allowed_in (own_heard b include_hash s).events
+  pub enough : looks ≤ began + allowed_in (own_heard b form o s).events
 
--- the impl path was read up to `inner`; the count of looks was `began` at its start
-abbrev pub ReadsOwn : List ℕ → Bool → List Frame → State → ℕ → Reading → List Frame → ℕ → Type 0
-ReadsOwn b include_hash below s began inner now looks = Reads (silently b include_hash) below point.Path (silent_turn (silent_of s) [] began) inner.point (silent_turn inner.state now looks)
+-- the part was read up to `inner`; the count of looks was `began` at its start
+abbrev pub ReadsOwn : List ℕ → Form → List Frame → Reading → ℕ → Reading → List Frame → ℕ → Type 0
+ReadsOwn b form below r began inner now looks = Reads (silently b form) below (own_point r.point) (silent_turn (silent_of r.state) [] began) inner.point (silent_turn inner.state now looks)
 
 -- the same, above a stack of `base` frames
-pub record Skipping (b : List ℕ) (include_hash : Bool) (base : ℕ) (began : ℕ) (inner printing : Reading) (now : List Frame) (looks : ℕ) : Type 0 where
+pub record Skipping (b : List ℕ) (form : Form) (base : ℕ) (began : ℕ) (inner printing : Reading) (now : List Frame) (looks : ℕ) : Type 0 where
   pub below : List Frame
   pub height : length below ≡ base
-  pub of_trait : Bool
-  pub at : printing.point ≡ skip_point of_trait
+  pub skips : is_skip form.fold_arguments printing.point ≡ true
   pub valid : Valid printing.point printing.state below
-  pub reads : ReadsOwn b include_hash below printing.state began inner now looks
+  pub reads : ReadsOwn b form below printing began inner now looks
 
--- the impl path at the checkpoint `printing` was read until the stack, of at least `n` frames, was full
-pub record SkipsTo (b : List ℕ) (include_hash : Bool) (printing : Reading) (below : List Frame) (began : ℕ) (x : Left) (n : ℕ) (inner : Reading) (now : List Frame) (looks : ℕ) : Type 0 where
+-- the part at the checkpoint `printing` was read until the stack, of at least `n` frames, was full
+pub record SkipsTo (b : List ℕ) (form : Form) (printing : Reading) (below : List Frame) (began : ℕ) (x : Left) (n : ℕ) (inner : Reading) (now : List Frame) (looks : ℕ) : Type 0 where
   pub base : ℕ
   pub is_left : x ≡ left.OwnPath base printing
   pub height : base ≡ length below
-  pub reads : ReadsOwn b include_hash below printing.state began inner now looks
+  pub reads : ReadsOwn b form below printing began inner now looks
   pub valid : Valid inner.point inner.state now
   pub full : n ≤ length now
 
 -- A parse that prints.
 
-abbrev pub printing : {S : Type 0} → Sinks S → List ℕ → Bool → Env (SizeLimitedFmtAdapter S)
-printing sink b include_hash = env (record { is_printed = true; ready = λ v. Ready sink v; prints = λ v texts result w. Prints sink v texts result w }) b include_hash
+abbrev pub printing : {S : Type 0} → Sinks S → List ℕ → Form → Env (SizeLimitedFmtAdapter S)
+printing sink b form = env (record { is_printed = true; ready = λ v. Ready sink v; prints = λ v texts result w. Prints sink v texts result w }) b form
 
 -- printing stopped in an impl path, which was read up to `inner`
 pub record Midway {V : Type 0} (env : Env V) (p : Point) (before : Turn V) (base : ℕ) (inner r : Reading) (now : List Frame) (w : V) (looks : ℕ) : Type 0 where
   pub began : ℕ
-  pub skips : Skipping env.symbol env.include_hash base began inner r now looks
+  pub skips : Skipping env.symbol env.form base began inner r now looks
   pub ran : Ran env p before r.point (turn r.state skips.below w began)
 
 abbrev pub RansOn : {V : Type 0} → Env V → Point → Turn V → Result (Option Left) SinkRefused → Reading → List Frame → V → ℕ → Type 0
@@ -197,25 +196,24 @@ pub record RanOn {V : Type 0} (env : Env V) (p : Point) (before : Turn V) (resul
   pub ran : RansOn env p before result r now w looks
 
 -- the unfinished part is valid, in a stack of at least `n` frames
-abbrev pub ValidLeft : List ℕ → Bool → ℕ → Result (Option Left) SinkRefused → Reading → List Frame → ℕ → Type 0
-ValidLeft b include_hash n (Ok None) r stack looks = Unit {0}
-ValidLeft b include_hash n (Ok (Some left.Stack)) r stack looks = Valid r.point r.state stack × (n ≤ length stack)
-ValidLeft b include_hash n (Ok (Some (left.OwnPath base r))) inner stack looks = (began : ℕ) × Skipping b include_hash base began inner r stack looks × Valid inner.point inner.state stack × (n ≤ length stack)
-ValidLeft b include_hash n (Err e) r stack looks = Unit {0}
+abbrev pub ValidLeft : List ℕ → Form → ℕ → Result (Option Left) SinkRefused → Reading → List Frame → ℕ → Type 0
+ValidLeft b form n (Ok None) r stack looks = Unit {0}
+ValidLeft b form n (Ok (Some left.Stack)) r stack looks = Valid r.point r.state stack × (n ≤ length stack)
+ValidLeft b form n (Ok (Some (left.OwnPath base r))) inner stack looks = (began : ℕ) × Skipping b form base began inner r stack looks × Valid inner.point inner.state stack × (n ≤ length stack)
+ValidLeft b form n (Err e) r stack looks = Unit {0}
 
--- the unfinished impl path, if there was one, was read to its end
-abbrev pub Passed : List ℕ → Bool → Left → Reading → List Frame → ℕ → Reading → List Frame → ℕ → Type 0
-Passed b include_hash left.Stack r stack old to now new = (to ≡ r) × (now ≡ stack) × (new ≤ old)
-Passed b include_hash (left.OwnPath base r) inner stack old to now new = (below : List Frame) (q : Bool) (began : ℕ) → ReadsOwn b include_hash below r.state began inner stack old → length below ≡ base → r.point ≡ skip_point q
-    → Skipped b include_hash q r.state below began to.point to.state now new
+-- the unfinished part that is not printed, if there was one, was read to its end
+abbrev pub Passed : List ℕ → Form → Left → Reading → List Frame → ℕ → Reading → List Frame → ℕ → Type 0
+Passed b form left.Stack r stack old to now new = (to ≡ r) × (now ≡ stack) × (new ≤ old)
+Passed b form (left.OwnPath base r) inner stack old to now new = (below : List Frame) (began : ℕ) → ReadsOwn b form below r began inner stack old → length below ≡ base → Skipped b form r.point r.state below began to.point to.state now new
 
 -- the same, or the stack of at least `n` frames was full before that
-abbrev pub Finishes : List ℕ → Bool → ℕ → Left → Reading → List Frame → ℕ → Option Left → Reading → List Frame → ℕ → Type 0
-Finishes b include_hash n x r stack old None to now new = Passed b include_hash x r stack old to now new
-Finishes b include_hash n left.Stack r stack old (Some y) to now new = ⊥
-Finishes b include_hash n (left.OwnPath base r) inner stack old (Some left.Stack) to now new = ⊥
-Finishes b include_hash n (left.OwnPath base r) inner stack old (Some (left.OwnPath height to)) more now new = (height ≡ base) × (to ≡ r) × Valid more.point more.state now × (n ≤ length now)
-    × ((below : List Frame) (began : ℕ) → ReadsOwn b include_hash below r.state began inner stack old → length below ≡ base → ReadsOwn b include_hash below r.state began more now new)
+abbrev pub Finishes : List ℕ → Form → ℕ → Left → Reading → List Frame → ℕ → Option Left → Reading → List Frame → ℕ → Type 0
+Finishes b form n x r stack old None to now new = Passed b form x r stack old to now new
+Finishes b form n left.Stack r stack old (Some y) to now new = ⊥
+Finishes b form n (left.OwnPath base r) inner stack old (Some left.Stack) to now new = ⊥
+Finishes b form n (left.OwnPath base r) inner stack old (Some (left.OwnPath height to)) more now new = (height ≡ base) × (to ≡ r) × Valid more.point more.state now × (n ≤ length now)
+    × ((below : List Frame) (began : ℕ) → ReadsOwn b form below r began inner stack old → length below ≡ base → ReadsOwn b form below r began more now new)
 
 -- the looks that the unfinished part makes in any case
 abbrev pub looks_left : Result (Option Left) SinkRefused → Reading → ℕ

@@ -5,8 +5,8 @@ use Prim.Native.Char.{code}
 use Rattle.demangle_symbol.specs.Digits.{is_byte}
 use Rattle.demangle_symbol.specs.Words.{some_or}
 use Rattle.demangle_grammar.specs.Items.{Text, Items, a_path, a_type, a_constant, a_pattern, a_trait_path, done, invalid, byte, integer, next, sound, until_end, unit, child, skip, lifetime, opens, dyn_trait, bindings, identifier}
-use Rattle.demangle_grammar.specs.Table.{says, says_if, at_end, list, more, tuple, type_inside, constant_inside, argument, in_namespace, in_binder, function, binding_value, type_tagged, integer_constant, string, field, variant, says_name}
-use Rattle.demangle_grammar.specs.Reading.{Place, run, unit_outcome, max_depth}
+use Rattle.demangle_grammar.specs.Table.{says, says_if, at_end, list, more, tuple, type_inside, constant_inside, argument, arguments, in_namespace, in_binder, function, binding_value, type_tagged, integer_constant, string, field, variant, says_name}
+use Rattle.demangle_grammar.specs.Reading.{Form, Place, run, unit_outcome, max_depth}
 use Rattle.demangle_grammar.specs.Totals.{total}
 use Rattle.demangle_grammar.specs.Running.{allowed_in}
 use Rattle.demangle_grammar.specs.Events.{Heard, of, around, nothing_heard, and_then, with_looks, with_texts}
@@ -77,9 +77,10 @@ entry_at point.InherentType v n = of_rest 0 4 2 (says "<" (child a_type false (s
 entry_at point.SelfType v n = of_rest 0 7 2 (says "<" (child a_type false (says " as " (child a_path false (says ">" done)))))
 entry_at point.As v n = of_rest most_words 4 2 (says " as " (child a_path false (says ">" done)))
 entry_at point.CloseAngle v n = of_rest most_words 1 2 (says ">" done)
-entry_at point.Generic v n = of_rest most_words 3 2 (says_if v "::" (says "<" (list ", " argument (says ">" done))))
-entry_at point.OpenArguments v n = of_rest most_words 2 2 (says "<" (list ", " argument (says ">" done)))
-entry_at point.FirstArgument v n = of_rest most_words 1 2 (list ", " argument (says ">" done))
+entry_at point.Generic v n = of_rest most_words 5 2 (says_if v "::" (says "<" (arguments (says ">" done))))
+entry_at point.OpenArguments v n = of_rest most_words 4 2 (says "<" (arguments (says ">" done)))
+entry_at point.FirstArgument v n = of_rest most_words 3 2 (arguments (says ">" done))
+entry_at point.FoldedArguments v n = of_rest most_words 2 2 (says "_" (says ">" done))
 entry_at point.NextArgument v n = of_rest most_words 1 2 (more ", " argument (says ">" done))
 entry_at point.Lifetime v n = of_rest most_words 1 1 (integer (λ k. lifetime k done))
 -- types
@@ -104,8 +105,9 @@ entry_at point.Returns v n = of_rest most_words 2 2 returns
 entry_at point.DynBinder v n = of_rest most_words 1 4 (in_binder (list " + " (dyn_trait binding_value) done))
 entry_at point.FirstDynTrait v n = of_rest 1 1 4 (list " + " (dyn_trait binding_value) done)
 entry_at point.NextDynTrait v n = of_rest 1 1 4 (more " + " (dyn_trait binding_value) done)
-entry_at point.OpenTraitPath v n = of_rest most_words 2 2 (says "<" (list ", " argument (opens done)))
-entry_at point.FirstOpenArgument v n = of_rest most_words 1 2 (list ", " argument (opens done))
+entry_at point.OpenTraitPath v n = of_rest most_words 3 2 (says "<" (arguments (opens done)))
+entry_at point.FirstOpenArgument v n = of_rest most_words 2 2 (arguments (opens done))
+entry_at point.FoldedTraitArguments v n = of_rest most_words 1 2 (says "_" (opens done))
 entry_at point.NextOpenArgument v n = of_rest most_words 1 2 (more ", " argument (opens done))
 entry_at point.OpenBindings v n = of_rest most_words 2 4 (bindings_left true)
 entry_at point.BindingName v n = of_rest most_words 6 4 (identifier (λ a. says_name a (says " = " (unit binding_value (bindings_left true)))))
@@ -170,34 +172,35 @@ abbrev pub none_open : Heard → Heard
 none_open h = record h { is_open = false }
 
 -- the remaining trace of a continuation: the rest of its production
-unfoldable pub unit_rest_at : List ℕ → Bool → Bool → Point → Bool → ℕ → ℕ → ℕ → Place → Bool → Heard
-unit_rest_at b include_hash out point.End v c left n i o = nothing_heard i o
-unit_rest_at b include_hash out point.AfterBackref v c left n i o = nothing_heard (Some n) o
-unit_rest_at b include_hash out point.Path v c left n i o = none_open (of include_hash out (unit_outcome (around b out left n) a_path v i))
-unit_rest_at b include_hash out point.«Type» v c left n i o = none_open (of include_hash out (unit_outcome (around b out left n) a_type false i))
-unit_rest_at b include_hash out point.Constant v c left n i o = none_open (of include_hash out (unit_outcome (around b out left n) a_constant v i))
-unit_rest_at b include_hash out point.Pattern v c left n i o = none_open (of include_hash out (unit_outcome (around b out left n) a_pattern false i))
-unit_rest_at b include_hash out point.TraitPath v c left n i o = of include_hash out (unit_outcome (around b out left n) a_trait_path false i)
-unit_rest_at b include_hash out point.OpenTraitPath v c left n i o = of include_hash out (run (rest_at point.OpenTraitPath v c) (around b out left n) i)
-unit_rest_at b include_hash out point.FirstOpenArgument v c left n i o = of include_hash out (run (rest_at point.FirstOpenArgument v c) (around b out left n) i)
-unit_rest_at b include_hash out point.NextOpenArgument v c left n i o = of include_hash out (run (rest_at point.NextOpenArgument v c) (around b out left n) i)
-unit_rest_at b include_hash out point.Bindings v c left n i o = none_open (of include_hash out (run (bindings_left o) (around b out left n) i))
-unit_rest_at b include_hash out p v c left n i o = none_open (of include_hash out (run (rest_at p v c) (around b out left n) i))
+unfoldable pub unit_rest_at : List ℕ → Form → Bool → Point → Bool → ℕ → ℕ → ℕ → Place → Bool → Heard
+unit_rest_at b form out point.End v c left n i o = nothing_heard i o
+unit_rest_at b form out point.AfterBackref v c left n i o = nothing_heard (Some n) o
+unit_rest_at b form out point.Path v c left n i o = none_open (of form.include_hash out (unit_outcome (around b form.fold_arguments out left n) a_path v i))
+unit_rest_at b form out point.«Type» v c left n i o = none_open (of form.include_hash out (unit_outcome (around b form.fold_arguments out left n) a_type false i))
+unit_rest_at b form out point.Constant v c left n i o = none_open (of form.include_hash out (unit_outcome (around b form.fold_arguments out left n) a_constant v i))
+unit_rest_at b form out point.Pattern v c left n i o = none_open (of form.include_hash out (unit_outcome (around b form.fold_arguments out left n) a_pattern false i))
+unit_rest_at b form out point.TraitPath v c left n i o = of form.include_hash out (unit_outcome (around b form.fold_arguments out left n) a_trait_path false i)
+unit_rest_at b form out point.OpenTraitPath v c left n i o = of form.include_hash out (run (rest_at point.OpenTraitPath v c) (around b form.fold_arguments out left n) i)
+unit_rest_at b form out point.FirstOpenArgument v c left n i o = of form.include_hash out (run (rest_at point.FirstOpenArgument v c) (around b form.fold_arguments out left n) i)
+unit_rest_at b form out point.FoldedTraitArguments v c left n i o = of form.include_hash out (run (rest_at point.FoldedTraitArguments v c) (around b form.fold_arguments out left n) i)
+unit_rest_at b form out point.NextOpenArgument v c left n i o = of form.include_hash out (run (rest_at point.NextOpenArgument v c) (around b form.fold_arguments out left n) i)
+unit_rest_at b form out point.Bindings v c left n i o = none_open (of form.include_hash out (run (bindings_left o) (around b form.fold_arguments out left n) i))
+unit_rest_at b form out p v c left n i o = none_open (of form.include_hash out (run (rest_at p v c) (around b form.fold_arguments out left n) i))
 
 -- the remaining trace of the production that a parse is in
-abbrev pub unit_rest_of : List ℕ → Bool → Bool → Point → State → Heard
-unit_rest_of b include_hash out p s = unit_rest_at b include_hash out p s.in_value s.letter s.depth_left s.lifetimes s.place s.is_open
+abbrev pub unit_rest_of : List ℕ → Form → Bool → Point → State → Heard
+unit_rest_of b form out p s = unit_rest_at b form out p s.in_value s.letter s.depth_left s.lifetimes s.place s.is_open
 
-abbrev pub unit_rest : List ℕ → Bool → Bool → Frame → Place → Bool → Heard
-unit_rest b include_hash out f i o = unit_rest_at b include_hash out f.point f.in_value f.letter f.depth_left f.number i o
+abbrev pub unit_rest : List ℕ → Form → Bool → Frame → Place → Bool → Heard
+unit_rest b form out f i o = unit_rest_at b form out f.point f.in_value f.letter f.depth_left f.number i o
 
 -- the remaining trace of a stack; the last frame comes first
-unfoldable pub stack_rest : List ℕ → Bool → Bool → List Frame → Place → Bool → Heard
-stack_rest b include_hash out [] i o = nothing_heard i o
-stack_rest b include_hash out (f ∷ above) i o = and_then (stack_rest b include_hash out above i o) (unit_rest b include_hash out f)
+unfoldable pub stack_rest : List ℕ → Form → Bool → List Frame → Place → Bool → Heard
+stack_rest b form out [] i o = nothing_heard i o
+stack_rest b form out (f ∷ above) i o = and_then (stack_rest b form out above i o) (unit_rest b form out f)
 
-abbrev pub reading_rest : List ℕ → Bool → Bool → Point → State → List Frame → Heard
-reading_rest b include_hash out p s stack = and_then (unit_rest_of b include_hash out p s) (stack_rest b include_hash out stack)
+abbrev pub reading_rest : List ℕ → Form → Bool → Point → State → List Frame → Heard
+reading_rest b form out p s stack = and_then (unit_rest_of b form out p s) (stack_rest b form out stack)
 
 abbrev pub frame_of : Point → Bool → ℕ → ℕ → ℕ → Frame
 frame_of p v c left n = record { point = p; in_value = v; letter = c; depth_left = left; number = n }
@@ -249,9 +252,9 @@ abbrev pub AllInner : List Frame → Type 0
 AllInner [] = Unit {0}
 AllInner (f ∷ above) = (is_inner f.point ≡ true) × AllInner above
 
-unfoldable pub then_frame : List ℕ → Bool → Bool → Option Frame → Heard → Heard
-then_frame b include_hash out None h = h
-then_frame b include_hash out (Some f) h = and_then h (unit_rest b include_hash out f)
+unfoldable pub then_frame : List ℕ → Form → Bool → Option Frame → Heard → Heard
+then_frame b form out None h = h
+then_frame b form out (Some f) h = and_then h (unit_rest b form out f)
 
 -- The termination measure, the greatest height of frames, and the lifetimes in scope.
 
@@ -271,8 +274,8 @@ abbrev pub weights : List Frame → ℕ
 weights [] = 0
 weights (f ∷ above) = weight_at f.point + 1 + weights above
 
-abbrev pub measure : List ℕ → Bool → Bool → Point → State → List Frame → ℕ
-measure b include_hash out p s stack = way_weight p + weights stack + 100 * allowed_in (reading_rest b include_hash out p s stack).events
+abbrev pub measure : List ℕ → Form → Bool → Point → State → List Frame → ℕ
+measure b form out p s stack = way_weight p + weights stack + 100 * allowed_in (reading_rest b form out p s stack).events
 
 abbrev pub height_at : Point → ℕ → ℕ
 height_at point.End left = 0
@@ -328,10 +331,10 @@ turn s stack v n = record { state = s; stack = stack; output = v; looks = n }
 pub record Env (V : Type 0) : Type 1 where
   pub output : Ghosts V
   pub symbol : List ℕ
-  pub include_hash : Bool
+  pub form : Form
 
-abbrev pub env : {V : Type 0} → Ghosts V → List ℕ → Bool → Env V
-env output b include_hash = record { output = output; symbol = b; include_hash = include_hash }
+abbrev pub env : {V : Type 0} → Ghosts V → List ℕ → Form → Env V
+env output b form = record { output = output; symbol = b; form = form }
 
 -- a continuation, or a remaining part of one: the most primitives to read, its trace, its weight and its height
 pub record Part : Type 0 where
@@ -346,11 +349,11 @@ part words h weight height = record { words = words; heard = h; weight = weight;
 -- the texts of a token, if one was emitted
 abbrev pub emitted_texts : {V : Type 0} → Env V → Option Stretch → List Text
 emitted_texts env None = []
-emitted_texts env (Some s) = texts_of env.symbol env.include_hash s
+emitted_texts env (Some s) = texts_of env.symbol env.form.include_hash s
 
 abbrev pub Emits : {V : Type 0} → Env V → Option Stretch → V → V → Type 0
 Emits env None v w = v ≡ w
-Emits env (Some s) v w = env.output.prints v (texts_of env.symbol env.include_hash s) (Ok tt) w
+Emits env (Some s) v w = env.output.prints v (texts_of env.symbol env.form.include_hash s) (Ok tt) w
 
 -- The step continues at another continuation, and may have pushed a frame. It prints at most one text: a token that goes to
 -- the output, or the pending text.
@@ -362,7 +365,7 @@ pub record Continued {V : Type 0} (env : Env V) (part : Part) (before : Turn V) 
   pub emits : Emits env emitted before.output after.output
   pub one : (emitted ≡ None) ⊎ (after.state.mark ≡ None)
   pub reads : part.heard
-      ≡ with_looks front (with_texts env.output.is_printed (emitted_texts env emitted) (with_texts env.output.is_printed (mark_texts after.state.mark) (with_looks back (then_frame env.symbol env.include_hash env.output.is_printed pushed (unit_rest_of env.symbol env.include_hash env.output.is_printed to after.state)))))
+      ≡ with_looks front (with_texts env.output.is_printed (emitted_texts env emitted) (with_texts env.output.is_printed (mark_texts after.state.mark) (with_looks back (then_frame env.symbol env.form env.output.is_printed pushed (unit_rest_of env.symbol env.form env.output.is_printed to after.state)))))
   pub is_stack : after.stack ≡ pushed_on before.stack pushed
   pub few : length front + length back ≤ part.words
   pub enough : after.looks ≤ before.looks + (total front + total back)
@@ -392,8 +395,8 @@ pub record Halted {V : Type 0} (env : Env V) (part : Part) (before after : Turn 
   pub emitted : Stretch
   pub rest : Heard
   pub refusal : SinkRefused
-  pub prints : env.output.prints before.output (texts_of env.symbol env.include_hash emitted) (Err refusal) after.output
-  pub reads : part.heard ≡ with_looks front (with_texts env.output.is_printed (texts_of env.symbol env.include_hash emitted) rest)
+  pub prints : env.output.prints before.output (texts_of env.symbol env.form.include_hash emitted) (Err refusal) after.output
+  pub reads : part.heard ≡ with_looks front (with_texts env.output.is_printed (texts_of env.symbol env.form.include_hash emitted) rest)
   pub few : length front ≤ part.words
   pub enough : after.looks ≤ before.looks + (total front + 2)
   pub exact : env.output.is_printed ≡ false → after.looks ≤ before.looks + total front
@@ -431,11 +434,11 @@ pub record Does {V : Type 0} (env : Env V) (before : Turn V) (part : Part) (resu
 
 -- a whole continuation
 abbrev pub whole : {V : Type 0} → Env V → Point → State → Part
-whole env p s = part (words_at p) (unit_rest_of env.symbol env.include_hash env.output.is_printed p s) (weight_at p) (height_at p s.depth_left)
+whole env p s = part (words_at p) (unit_rest_of env.symbol env.form env.output.is_printed p s) (weight_at p) (height_at p s.depth_left)
 
 -- these remaining items of a production, with the most primitives to read, their weight, and the most frames that they add
 abbrev pub rest : {V : Type 0} → Env V → Items → ℕ → ℕ → ℕ → State → Part
-rest env items words weight above s = part words (none_open (of env.include_hash env.output.is_printed (run items (around env.symbol env.output.is_printed s.depth_left s.lifetimes) s.place))) weight (8 * s.depth_left + above)
+rest env items words weight above s = part words (none_open (of env.form.include_hash env.output.is_printed (run items (around env.symbol env.form.fold_arguments env.output.is_printed s.depth_left s.lifetimes) s.place))) weight (8 * s.depth_left + above)
 
 -- The effect of a continuation.
 abbrev pub PointDoes : {V : Type 0} → Env V → Point → Turn V → Result Point Stop → Turn V → Type 0

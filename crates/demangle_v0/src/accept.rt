@@ -3,7 +3,7 @@ ghost use Rattle.std.specs.Prelude.{◌≡◌, ◌+◌, ◌≤◌, [], false, tr
 ghost use Rattle.demangle_grammar.specs.Items.{a_path};
 ghost use Rattle.demangle_v0.specs.Parsers.{IsValid, Recounted, Same, unread_of};
 ghost use Rattle.demangle_v0.specs.Points.{AllInner};
-ghost use Rattle.demangle_grammar.specs.Reading.{goes_on_at, path_texts, unit_end, suffix_place, read_at};
+ghost use Rattle.demangle_grammar.specs.Reading.{form, goes_on_at, path_texts, unit_end, suffix_place, read_at};
 ghost use Rattle.demangle_grammar.specs.Running.{allowed_in};
 ghost use Rattle.demangle_grammar.specs.Accepting.{looks_in, suffix_looks, accepting_looks};
 ghost use Rattle.demangle_sink.specs.Limit.{Prints, Ready};
@@ -13,6 +13,7 @@ use crate::points::parser::Parser;
 use crate::points::read::Halt;
 use demangle_sink::{SizeLimitedFmtAdapter, TextSink};
 use demangle_symbol::cursor::{Looks, Symbol};
+use demangle_words::source::Source;
 
 impl Parser<'_, FULL_STACK> {
     /// Reads the rest. Returns the place after it, or `None` after an error.
@@ -91,10 +92,11 @@ impl Parser<'_, SHORT_STACK> {
     /// leaves no frames. Returns `None` after an error.
     fn path_end(&mut self, place: usize) -> Option<usize>
         requires empty { self.old.stack ≡ [] }
+        requires whole { self.old.source.fold_arguments ≡ false }
         ensures value { result ≡ unit_end self.old.source.symbol.now a_path place 0 }
         ensures empty { IsSome result → self.new.stack ≡ [] }
         ensures grows { self.old.looks ≤ self.new.looks }
-        ensures looks { self.new.looks ≤ self.old.looks + looks_in (read_at self.old.source.symbol.now false
+        ensures looks { self.new.looks ≤ self.old.looks + looks_in (read_at self.old.source.symbol.now false false
             a_path place 0 0 true) }
         ensures same { Same self.old self.new }
     {
@@ -114,6 +116,7 @@ impl Parser<'_, SHORT_STACK> {
     /// error.
     fn suffix(&mut self) -> Option<usize>
         requires empty { self.old.stack ≡ [] }
+        requires whole { self.old.source.fold_arguments ≡ false }
         ensures value { result ≡ suffix_place self.old.source.symbol.now }
         ensures grows { self.old.looks ≤ self.new.looks }
         ensures looks { self.new.looks + suffix_looks self.old.source.symbol.now result ≤ self.old.looks +
@@ -138,7 +141,12 @@ pub fn suffix_at(symbol: &Symbol<'_>, looks: &mut Looks) -> Option<usize>
     ensures looks { looks.new + suffix_looks symbol.now result ≤ looks.old + accepting_looks
         symbol.now }
 {
-    let mut parser: Parser<SHORT_STACK> = Parser::at_path(symbol, true, 0, looks);
+    let source = Source {
+        symbol,
+        include_hash: true,
+        fold_arguments: false,
+    };
+    let mut parser: Parser<SHORT_STACK> = Parser::at_path(source, 0, looks);
     let end = parser.suffix();
     *looks = parser.looks;
     end
@@ -170,9 +178,14 @@ pub fn print_to_suffix<S: TextSink>(
     requires ready { Ready S.TextSink out.old }
     ensures value { IfSome result (λ place. Some place ≡ suffix_place symbol.now) }
     ensures prints { IfSome result (λ _. Prints S.TextSink out.old
-        (path_texts symbol.now include_hash) (Ok tt) out.new) }
+        (path_texts symbol.now (form include_hash false)) (Ok tt) out.new) }
 {
-    let mut parser: Parser<SHORT_STACK> = Parser::at_path(symbol, include_hash, 0, looks);
+    let source = Source {
+        symbol,
+        include_hash,
+        fold_arguments: false,
+    };
+    let mut parser: Parser<SHORT_STACK> = Parser::at_path(source, 0, looks);
     let Some(end) = parser.print_to_place(out) else {
         return None;
     };

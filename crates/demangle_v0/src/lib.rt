@@ -2,7 +2,7 @@
 #![tactic(auto)]
 
 ghost use Rattle.std.specs.Prelude.{◌≡◌, ◌+◌, ◌-◌, ◌*◌, ◌≤◌, IfOk, IfSome, IfNone, OnErr, OnSome, Ok, Some, None, IsTrue, IsAscii, false, length, option_map};
-ghost use Rattle.demangle_grammar.specs.Reading.{path_texts};
+ghost use Rattle.demangle_grammar.specs.Reading.{form, path_texts};
 ghost use Rattle.demangle_grammar.specs.V0.{v0_inner, v0_of};
 ghost use Rattle.demangle_sink.specs.Limit.{Prints, Ready};
 
@@ -129,7 +129,7 @@ pub fn demangle_printed<'s, S: TextSink>(
     requires ready { Ready S.TextSink out.old }
     ensures some { IfSome result (λ r. v0_of s.now ≡ Some (r.0, r.1.now)) }
     ensures prints { IfSome result (λ r. Prints S.TextSink out.old
-        (path_texts r.0 include_hash) (Ok tt) out.new) }
+        (path_texts r.0 (form include_hash false)) (Ok tt) out.new) }
 {
     let Some(inner) = ascii_inner_of(s, true, looks) else {
         return None;

@@ -163,7 +163,7 @@ fn goes_on(parser: &mut Parser<'_, FULL_STACK>, sink: &mut CountingSink) -> Opti
         return Some(true);
     };
     parser.point = at;
-    if is_skipped(at) {
+    if is_skipped(at, parser.source.fold_arguments) {
         return match parser.skip_impl_path() {
             None => Some(false),
             Some(_) => None,

@@ -2,12 +2,13 @@
 ghost use Rattle.std.specs.Prelude.{◌≡◌, ◌+◌, ◌*◌, ◌≤◌, IsAscii, length};
 ghost use Rattle.demangle_sink.specs.Cut.{kept};
 ghost use Rattle.demangle_sink.specs.Limit.{Prints, Ready};
-ghost use Rattle.demangle_grammar.specs.Reading.{path_texts};
+ghost use Rattle.demangle_grammar.specs.Reading.{form, path_texts};
 
 use crate::points::frames::SHORT_STACK;
 use crate::points::parser::Parser;
 use demangle_sink::{SinkRefused, SizeLimitedFmtAdapter, TextSink};
 use demangle_symbol::cursor::{Looks, Symbol};
+use demangle_words::source::Source;
 use std::marker::Model;
 
 /// A v0 symbol that was read: the bytes after its prefix, with the suffix.
@@ -35,24 +36,31 @@ impl<'s> Demangle<'s> {
         Demangle { inner }
     }
 
-    /// Prints the first path, with the hash or without it.
+    /// Prints the first path, with hashes or without them, and with its generic arguments or with
+    /// `_` for them.
     ///
     /// Fails at the first piece that the limit or the sink rejects.
     pub fn write_to<S: TextSink>(
         &self,
         out: &mut SizeLimitedFmtAdapter<'_, S>,
         include_hash: bool,
+        fold_arguments: bool,
         looks: &mut Looks,
     ) -> Result<(), SinkRefused>
         requires { Ready S.TextSink out.old }
-        ensures prints { Prints S.TextSink out.old (path_texts self.now include_hash) result
-            out.new }
+        ensures prints { Prints S.TextSink out.old (path_texts self.now (form include_hash
+            fold_arguments)) result out.new }
         ensures grows { looks.old ≤ looks.new }
-        ensures most { looks.new ≤ looks.old + 100000 * (kept (path_texts self.now include_hash)
-            out.old.remaining + 1) * (length self.now + 1) }
+        ensures most { looks.new ≤ looks.old + 100000 * (kept (path_texts self.now (form include_hash
+            fold_arguments)) out.old.remaining + 1) * (length self.now + 1) }
         ensures least { looks.old + 1 ≤ looks.new }
     {
-        let mut parser: Parser<SHORT_STACK> = Parser::at_path(&self.inner, include_hash, 0, looks);
+        let source = Source {
+            symbol: &self.inner,
+            include_hash,
+            fold_arguments,
+        };
+        let mut parser: Parser<SHORT_STACK> = Parser::at_path(source, 0, looks);
         let printed = parser.print_path(out);
         *looks = parser.looks;
         printed

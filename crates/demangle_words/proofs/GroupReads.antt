@@ -115,33 +115,33 @@ nested_read b include_hash out s a n d j = go (is_upper n) (is_nameless a)
 -- Lifetimes.
 
 -- a lifetime that is not `'_`, with ` + ` before it or not
-lifetime_checked : (b : List ℕ) (include_hash plus : Bool) (left : ℕ) (out : Bool) (n k j : ℕ) (p : Items) → (k == 0) ≡ false
-    → with_texts out (if plus then codes " + " ∷ [] else []) (of include_hash out (run (lifetime k p) (around b out left n) (Some j)))
-    ≡ grouped b include_hash out (if_in_force out n k j (if plus then DynLifetime (n - k) else Lifetime (Some (n - k))) (if plus then DynLifetimeFault else LifetimeFault)) (λ i. of include_hash out (run p (around b out left n) i))
+lifetime_checked : (b : List ℕ) (include_hash folds plus : Bool) (left : ℕ) (out : Bool) (n k j : ℕ) (p : Items) → (k == 0) ≡ false
+    → with_texts out (if plus then codes " + " ∷ [] else []) (of include_hash out (run (lifetime k p) (around b folds out left n) (Some j)))
+    ≡ grouped b include_hash out (if_in_force out n k j (if plus then DynLifetime (n - k) else Lifetime (Some (n - k))) (if plus then DynLifetimeFault else LifetimeFault)) (λ i. of include_hash out (run p (around b folds out left n) i))
 unfolding run
-lifetime_checked b include_hash true left false n k j p e = refl
-lifetime_checked b include_hash false left false n k j p e = refl
-lifetime_checked b include_hash plus left true n k j p e = go plus (nat_le k n) refl
+lifetime_checked b include_hash folds true left false n k j p e = refl
+lifetime_checked b include_hash folds false left false n k j p e = refl
+lifetime_checked b include_hash folds plus left true n k j p e = go plus (nat_le k n) refl
   where
-    go : (plus c : Bool) → nat_le k n ≡ c → with_texts true (cond plus (codes " + " ∷ []) []) (of include_hash true (run (lifetime k p) (around b true left n) (Some j)))
-        ≡ grouped b include_hash true (cond c (goes (cond plus (DynLifetime (n - k)) (Lifetime (Some (n - k)))) (Some j)) (goes (cond plus DynLifetimeFault LifetimeFault) None)) (λ i. of include_hash true (run p (around b true left n) i))
-    go true true f = ap (with_texts true (codes " + " ∷ [])) (lifetime_named include_hash b left n p k j e f)
-    go false true f = lifetime_named include_hash b left n p k j e f
-    go true false f = ap (with_texts true (codes " + " ∷ [])) (lifetime_wrong include_hash b left n p k j e f)
-    go false false f = lifetime_wrong include_hash b left n p k j e f
+    go : (plus c : Bool) → nat_le k n ≡ c → with_texts true (cond plus (codes " + " ∷ []) []) (of include_hash true (run (lifetime k p) (around b folds true left n) (Some j)))
+        ≡ grouped b include_hash true (cond c (goes (cond plus (DynLifetime (n - k)) (Lifetime (Some (n - k)))) (Some j)) (goes (cond plus DynLifetimeFault LifetimeFault) None)) (λ i. of include_hash true (run p (around b folds true left n) i))
+    go true true f = ap (with_texts true (codes " + " ∷ [])) (lifetime_named include_hash folds b left n p k j e f)
+    go false true f = lifetime_named include_hash folds b left n p k j e f
+    go true false f = ap (with_texts true (codes " + " ∷ [])) (lifetime_wrong include_hash folds b left n p k j e f)
+    go false false f = lifetime_wrong include_hash folds b left n p k j e f
 
-lifetime_read : (b : List ℕ) (include_hash : Bool) (left : ℕ) (out : Bool) (n : ℕ) (p : Items) (k j : ℕ) (c : Bool) → (k == 0) ≡ c
-    → of include_hash out (run (lifetime k p) (around b out left n) (Some j)) ≡ grouped b include_hash out (if c then goes (Lifetime None) (Some j) else if_in_force out n k j (Lifetime (Some (n - k))) LifetimeFault) (λ i. of include_hash out (run p (around b out left n) i))
+lifetime_read : (b : List ℕ) (include_hash folds : Bool) (left : ℕ) (out : Bool) (n : ℕ) (p : Items) (k j : ℕ) (c : Bool) → (k == 0) ≡ c
+    → of include_hash out (run (lifetime k p) (around b folds out left n) (Some j)) ≡ grouped b include_hash out (if c then goes (Lifetime None) (Some j) else if_in_force out n k j (Lifetime (Some (n - k))) LifetimeFault) (λ i. of include_hash out (run p (around b folds out left n) i))
 unfolding run
-lifetime_read b include_hash left true n p k j true e = rw e refl
-lifetime_read b include_hash left false n p k j true e = refl
-lifetime_read b include_hash left out n p k j false e = lifetime_checked b include_hash false left out n k j p e
+lifetime_read b include_hash folds left true n p k j true e = rw e refl
+lifetime_read b include_hash folds left false n p k j true e = refl
+lifetime_read b include_hash folds left out n p k j false e = lifetime_checked b include_hash folds false left out n k j p e
 
-plus_or : (b : List ℕ) (include_hash : Bool) (left : ℕ) (out : Bool) (n : ℕ) (p : Items) (k j : ℕ) (c : Bool) → (k == 0) ≡ c
-    → of include_hash out (run (if c then p else says " + " (lifetime k p)) (around b out left n) (Some j)) ≡ grouped b include_hash out (if c then goes Nothing (Some j) else if_in_force out n k j (DynLifetime (n - k)) DynLifetimeFault) (λ i. of include_hash out (run p (around b out left n) i))
+plus_or : (b : List ℕ) (include_hash folds : Bool) (left : ℕ) (out : Bool) (n : ℕ) (p : Items) (k j : ℕ) (c : Bool) → (k == 0) ≡ c
+    → of include_hash out (run (if c then p else says " + " (lifetime k p)) (around b folds out left n) (Some j)) ≡ grouped b include_hash out (if c then goes Nothing (Some j) else if_in_force out n k j (DynLifetime (n - k)) DynLifetimeFault) (λ i. of include_hash out (run p (around b folds out left n) i))
 unfolding run
-plus_or b include_hash left out n p k j true e = refl
-plus_or b include_hash left out n p k j false e = lifetime_checked b include_hash true left out n k j p e
+plus_or b include_hash folds left out n p k j true e = refl
+plus_or b include_hash folds left out n p k j false e = lifetime_checked b include_hash folds true left out n k j p e
 
 -- Functions.
 
@@ -211,9 +211,9 @@ literal_read b include_hash out p s j h None e = refl
 literal_read b include_hash out p s j h (Some cs) e = rw e (says_all include_hash out (literal (code "\"") cs) p s (Some j))
 
 -- What is read in these surroundings.
-module _ (b : List ℕ) (include_hash : Bool) (left : ℕ) (out : Bool) (n : ℕ) where
+module _ (b : List ℕ) (include_hash folds : Bool) (left : ℕ) (out : Bool) (n : ℕ) where
   abbrev at : Surroundings
-  at = around b out left n
+  at = around b folds out left n
 
   abbrev then_heard : Items → Place → Heard
   then_heard p j = of include_hash out (run p at j)
@@ -233,11 +233,11 @@ module _ (b : List ℕ) (include_hash : Bool) (left : ℕ) (out : Bool) (n : ℕ
       (λ m. let ts = name_pieces (name_of b i m) in says_all include_hash out ts (says " = " p) at (Some m) ∙ sym (handing_both out ts (codes " = " ∷ []) (of include_hash out (run p at (Some m)))))
   word_read word.LifetimeIndex note p (Some i) =
       word_reads b include_hash out (length b) i (λ k. run (lifetime k p) at) (λ k j. if k == 0 then goes (Lifetime None) (Some j) else if_in_force out n k j (Lifetime (Some (n - k))) LifetimeFault) (then_heard p)
-      (λ k j. lifetime_read b include_hash left out n p k j (k == 0) refl) (integer_at b i)
+      (λ k j. lifetime_read b include_hash folds left out n p k j (k == 0) refl) (integer_at b i)
   word_read word.DynLifetime note p (Some i) =
       ask_reads b include_hash out (is_byte b i (code "L")) (run (integer (λ k. if k == 0 then p else says " + " (lifetime k p))) at) (run invalid at) _ faulty (then_heard p) i
       (word_reads b include_hash out (length b) (i + 1) (λ k. run (if k == 0 then p else says " + " (lifetime k p)) at) (λ k j. if k == 0 then goes Nothing (Some j) else if_in_force out n k j (DynLifetime (n - k)) DynLifetimeFault) (then_heard p)
-      (λ m j. plus_or b include_hash left out n p m j (m == 0) refl) (integer_at b (i + 1)))
+      (λ m j. plus_or b include_hash folds left out n p m j (m == 0) refl) (integer_at b (i + 1)))
       refl
   word_read word.FunctionHead note p (Some i) =
       ask_reads b include_hash out (is_byte b i (code "U")) (run (function_head true p) at) (run (function_head false p) at) _ _ (then_heard p) i (abi_read include_hash out true p at (i + 1)) (abi_read include_hash out false p at i)

@@ -7,7 +7,8 @@ use Rattle.std.specs.Bool.{⊤}
 use Rattle.std.specs.Io.KnownBytes.{Appends, Keeps, prepend_known}
 use Rattle.std.proofs.KnownBytes.{Appends-trans, Appends-nil, Appends-kept}
 use Rattle.std.proofs.lemmas.Option.{MatchOption-at_some}
-use Rattle.rustc_demangle.specs.Filtered.{filtered_by, filtered_within}
+use Rattle.rustc_demangle.specs.Filtered.{filtered_by, filtered_in}
+use Rattle.rustc_demangle.specs.declared.format.Format.{Format}
 use Rattle.rustc_demangle.specs.Bytes.{Passed, IsWriting, StepTook, StepEnded, StepRefused, BytesStopped}
 use Rattle.rustc_demangle.specs.declared.stream.fault.StreamFault.{StreamFault}
 use Rattle.rustc_demangle.specs.declared.stream.fault.StreamFault.TheVariants.{Read, NotUtf8, Write, Memory}
@@ -218,20 +219,25 @@ front_kept f all old mid new wrote keeps = λ texts is.
     record { before = s.before; front = s.front; left = s.left; behind = s.behind; whole = s.whole; uncut = s.uncut; wrote = Appends-kept old mid new _ s.wrote keeps }
 
 -- a turn with a memo of the same value
-pub turn_same : (m n : Bool × ℕ) (carried next : List ℕ) (left rest old new : Option (List ℕ)) → m ≡ n → TurnTook (filtered_within m.0 m.1) carried next left rest old new
-    → TurnTook (filtered_within n.0 n.1) carried next left rest old new
-turn_same m n carried next left rest old new same = subst (λ (v : Bool × ℕ). TurnTook (filtered_within v.0 v.1) carried next left rest old new) same
+pub turn_same : (m n : Format) (carried next : List ℕ) (left rest old new : Option (List ℕ)) → m ≡ n → TurnTook (filtered_in m) carried next left rest old new
+    → TurnTook (filtered_in n) carried next left rest old new
+turn_same m n carried next left rest old new same = subst (λ (v : Format). TurnTook (filtered_in v) carried next left rest old new) same
 
-pub refused_same : (m n : Bool × ℕ) (fault : StreamFault) (carried : List ℕ) (left old new : Option (List ℕ)) → m ≡ n
-    → IfSome left (λ text. BytesStopped (filtered_within m.0 m.1) fault (carried ++ text) old new)
-    → IfSome left (λ text. BytesStopped (filtered_within n.0 n.1) fault (carried ++ text) old new)
-refused_same m n fault carried left old new same = subst (λ (v : Bool × ℕ). IfSome left (λ text. BytesStopped (filtered_within v.0 v.1) fault (carried ++ text) old new)) same
+pub refused_same : (m n : Format) (fault : StreamFault) (carried : List ℕ) (left old new : Option (List ℕ)) → m ≡ n
+    → IfSome left (λ text. BytesStopped (filtered_in m) fault (carried ++ text) old new)
+    → IfSome left (λ text. BytesStopped (filtered_in n) fault (carried ++ text) old new)
+refused_same m n fault carried left old new same = subst (λ (v : Format). IfSome left (λ text. BytesStopped (filtered_in v) fault (carried ++ text) old new)) same
 
 -- what a reader held, filtered with a memo of the same value
-pub reader_same : (m n : Bool × ℕ) (held old new : Option (List ℕ)) → m ≡ n → IfSome held (λ text. Appends old new (filtered_within m.0 m.1 text))
-    → IfSome held (λ text. Appends old new (filtered_within n.0 n.1 text))
-reader_same m n held old new same = subst (λ (v : Bool × ℕ). IfSome held (λ text. Appends old new (filtered_within v.0 v.1 text))) same
+pub reader_same : (m n : Format) (held old new : Option (List ℕ)) → m ≡ n → IfSome held (λ text. Appends old new (filtered_in m text))
+    → IfSome held (λ text. Appends old new (filtered_in n text))
+reader_same m n held old new same = subst (λ (v : Format). IfSome held (λ text. Appends old new (filtered_in v text))) same
 
-pub stopped_same : (m n : Bool × ℕ) (fault : StreamFault) (held old new : Option (List ℕ)) → m ≡ n → IfSome held (λ text. BytesStopped (filtered_within m.0 m.1) fault text old new)
-    → IfSome held (λ text. BytesStopped (filtered_within n.0 n.1) fault text old new)
-stopped_same m n fault held old new same = subst (λ (v : Bool × ℕ). IfSome held (λ text. BytesStopped (filtered_within v.0 v.1) fault text old new)) same
+pub stopped_same : (m n : Format) (fault : StreamFault) (held old new : Option (List ℕ)) → m ≡ n → IfSome held (λ text. BytesStopped (filtered_in m) fault text old new)
+    → IfSome held (λ text. BytesStopped (filtered_in n) fault text old new)
+stopped_same m n fault held old new same = subst (λ (v : Format). IfSome held (λ text. BytesStopped (filtered_in v) fault text old new)) same
+
+-- the first of the readers that are left, where another one wraps it
+pub first_wrapped : {R : Type 0} (remaining : R → Option (List ℕ)) (now : List (Option (List ℕ))) (first wrapped : R)
+    (held : List (Option (List ℕ))) → now ≡ remaining first ∷ held → wrapped ≡ first → now ≡ remaining wrapped ∷ held
+first_wrapped remaining now first wrapped held e same = e ∙ ap (λ r. remaining r ∷ held) (sym same)

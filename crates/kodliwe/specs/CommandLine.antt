@@ -32,11 +32,12 @@ pub record Options : Type 0 where
   pub parts : List Part
   pub output : Option Target
   pub keeps_hash : Bool
+  pub folds : Bool
   pub limit : ℕ
 
 -- the options before any argument is read
 abbrev pub defaults : Options
-defaults = record { parts = []; output = None; keeps_hash = false; limit = 1000000 }
+defaults = record { parts = []; output = None; keeps_hash = false; folds = false; limit = 1000000 }
 
 -- The result of parsing the arguments: a request, or the error and the argument that caused it.
 pub data Answer : Type 0 where
@@ -119,6 +120,7 @@ pub record IsUnknown (word : List ℕ) : Type 0 where
   pub no_stdin : word ≢ codes "-"
   pub no_end : word ≢ codes "--"
   pub no_hash : word ≢ codes "--hash"
+  pub no_fold : IsAlone (codes "-f") (codes "--fold") word → ⊥
   pub no_help : IsAlone (codes "-h") (codes "--help") word → ⊥
   pub no_version : IsAlone (codes "-V") (codes "--version") word → ⊥
   pub no_input : IsNoOption (codes "-i") (codes "--input") word
@@ -135,6 +137,8 @@ pub data Asks : Place → Options → List (List ℕ) → Answer → Type 0 wher
       → Asks anything (record o { parts = stdin ∷ o.parts }) ws a → Asks anything o (w ∷ ws) a
   takes_hash : {o : Options} {w : List ℕ} {ws : List (List ℕ)} {a : Answer} → w ≡ codes "--hash"
       → Asks anything (record o { keeps_hash = true }) ws a → Asks anything o (w ∷ ws) a
+  takes_fold : {o : Options} {w : List ℕ} {ws : List (List ℕ)} {a : Answer} → IsAlone (codes "-f") (codes "--fold") w
+      → Asks anything (record o { folds = true }) ws a → Asks anything o (w ∷ ws) a
   takes_help : {o : Options} {w : List ℕ} {ws : List (List ℕ)} → IsAlone (codes "-h") (codes "--help") w → Asks anything o (w ∷ ws) help
   takes_version : {o : Options} {w : List ℕ} {ws : List (List ℕ)} → IsAlone (codes "-V") (codes "--version") w → Asks anything o (w ∷ ws) version
   is_unknown : {o : Options} {w : List ℕ} {ws : List (List ℕ)} → IsUnknown w → Asks anything o (w ∷ ws) (unknown w)
@@ -172,6 +176,7 @@ options_of request = record {
   parts = reverse (map part_of request.sources.items);
   output = option_map target_of request.output;
   keeps_hash = request.include_hash;
+  folds = request.fold_arguments;
   limit = request.limit;
 }
 

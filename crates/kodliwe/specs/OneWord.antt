@@ -17,6 +17,7 @@ IsWord word kind.End = word ≡ codes "--"
 IsWord word (kind.Valued option None) = IsAlone (short_name option) (long_name option) word
 IsWord word (kind.Valued option (Some value)) = HasValue (short_name option) (long_name option) word value.now
 IsWord word kind.Hash = word ≡ codes "--hash"
+IsWord word kind.Fold = IsAlone (codes "-f") (codes "--fold") word
 IsWord word kind.Help = IsAlone (codes "-h") (codes "--help") word
 IsWord word kind.Version = IsAlone (codes "-V") (codes "--version") word
 IsWord word kind.Unknown = IsUnknown word

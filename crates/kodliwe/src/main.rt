@@ -2,6 +2,7 @@
 #![tactic(auto)]
 
 mod fault;
+mod noting;
 mod output;
 mod program;
 mod replacing;

@@ -2,12 +2,13 @@
 ghost use Rattle.std.specs.Prelude.{◌≡◌, ◌++◌, [], true, false, Ok, IfSome, OnOk, IfErr, map};
 ghost use Rattle.std.specs.Io.KnownBytes.{Appends, Keeps};
 ghost use Rattle.std.specs.Io.Buffered.{reader_remaining};
-ghost use Rattle.rustc_demangle.specs.Filtered.{filtered_within};
+ghost use Rattle.rustc_demangle.specs.Filtered.{filtered_in};
 ghost use Rattle.rustc_demangle.specs.Bytes.{IsWriting, StepEnded, StepRefused, BytesStopped};
 ghost use Rattle.kodliwe.specs.Run.{TurnTook, WroteAll, WroteFront, RunStopped, IsClosedPipe};
 
 use crate::fault::{InputFault, report};
-use rustc_demangle::{BytesFilter, StreamFault, SymbolMemo};
+use crate::noting::NotingReader;
+use rustc_demangle::{BytesFilter, Format, StreamFault, SymbolMemo};
 use std::alloc::{Allocator, Global};
 use std::io;
 use std::io::{BufRead, BufReader, ErrorKind, Read, Write};
@@ -15,7 +16,15 @@ use std::io::{BufRead, BufReader, ErrorKind, Read, Write};
 /// The size in bytes of the buffers.
 pub const BUFFER: usize = 65_536;
 
-/// A reader, and its name in an error message.
+/// The memory and the options of a run.
+#[derive(Clone, Copy)]
+pub struct Settings {
+    pub alloc: Global,
+    /// How symbols are printed.
+    pub format: Format,
+}
+
+/// A reader, and its name in a message.
 #[derive(Drop)]
 pub struct Input<'a, R: Drop> {
     pub name: &'a str,
@@ -90,10 +99,10 @@ fn step<R: BufRead, W: Write, A: Allocator>(
     output: &mut W,
     memo: &mut SymbolMemo,
 ) -> Result<bool, StreamFault>
-    ensures took { result ≡ Ok true → TurnTook (filtered_within memo.old.0 memo.old.1)
+    ensures took { result ≡ Ok true → TurnTook (filtered_in memo.old)
         filter.old filter.new (R.remaining input.old) (R.remaining input.new)
         (W.contents output.old) (W.contents output.new) }
-    ensures ended { result ≡ Ok false → StepEnded (filtered_within memo.old.0 memo.old.1)
+    ensures ended { result ≡ Ok false → StepEnded (filtered_in memo.old)
         filter.old filter.new (R.remaining input.old) (R.remaining input.new)
         (W.contents output.old) (W.contents output.new) }
     ensures refused { IfErr result (λ fault. StepRefused fault filter.old filter.new
@@ -115,16 +124,16 @@ fn turn<R: Read, W: Write, A: Allocator, B: Allocator>(
     output: &mut W,
     memo: &mut SymbolMemo,
 ) -> Result<bool, StreamFault>
-    ensures took { result ≡ Ok true → TurnTook (filtered_within memo.old.0 memo.old.1)
+    ensures took { result ≡ Ok true → TurnTook (filtered_in memo.old)
         filter.old filter.new
         (reader_remaining R.remaining input.old) (reader_remaining R.remaining input.new)
         (W.contents output.old) (W.contents output.new) }
-    ensures ended { result ≡ Ok false → StepEnded (filtered_within memo.old.0 memo.old.1)
+    ensures ended { result ≡ Ok false → StepEnded (filtered_in memo.old)
         filter.old filter.new
         (reader_remaining R.remaining input.old) (reader_remaining R.remaining input.new)
         (W.contents output.old) (W.contents output.new) }
     ensures refused { IfErr result (λ fault. IfSome (reader_remaining R.remaining input.old)
-        (λ text. BytesStopped (filtered_within memo.old.0 memo.old.1) fault (filter.old ++ text)
+        (λ text. BytesStopped (filtered_in memo.old) fault (filter.old ++ text)
         (W.contents output.old) (W.contents output.new))) }
     ensures same { memo.new ≡ memo.old }
 {
@@ -143,9 +152,9 @@ fn filter_steps<R: Read, W: Write, A: Allocator, B: Allocator>(
     requires { filter.old ≡ [] }
     ensures ok { OnOk result (IfSome (reader_remaining R.remaining input.old) (λ text.
         Appends (W.contents output.old) (W.contents output.new)
-        (filtered_within memo.old.0 memo.old.1 text))) }
+        (filtered_in memo.old text))) }
     ensures err { IfErr result (λ fault. IfSome (reader_remaining R.remaining input.old) (λ text.
-        BytesStopped (filtered_within memo.old.0 memo.old.1) fault text
+        BytesStopped (filtered_in memo.old) fault text
         (W.contents output.old) (W.contents output.new))) }
     ensures same { memo.new ≡ memo.old }
 {
@@ -166,9 +175,9 @@ fn filter_reader<R: Read + Drop, W: Write>(
 ) -> Result<(), StreamFault>
     ensures ok { OnOk result (IfSome (R.remaining reader) (λ text.
         Appends (W.contents output.old) (W.contents output.new)
-        (filtered_within memo.old.0 memo.old.1 text))) }
+        (filtered_in memo.old text))) }
     ensures err { IfErr result (λ fault. IfSome (R.remaining reader) (λ text.
-        BytesStopped (filtered_within memo.old.0 memo.old.1) fault text
+        BytesStopped (filtered_in memo.old) fault text
         (W.contents output.old) (W.contents output.new))) }
     ensures same { memo.new ≡ memo.old }
 {
@@ -180,24 +189,28 @@ fn filter_reader<R: Read + Drop, W: Write>(
 }
 
 /// Filters the remaining input of each reader, in order and with one memo, and then flushes the
-/// output. Stops at the first error, and returns it with the name of its input.
-fn filter_inputs<'a, R: Read + Drop, W: Write>(
-    alloc: Global,
+/// output. Writes a note on each input that is compressed or encoded. Stops at the first error, and
+/// returns it with the name of its input.
+fn filter_inputs<'a, R: Read + Drop, W: Write, E: Write>(
+    settings: Settings,
     inputs: Vec<Input<'a, R>>,
     output: &mut W,
-    memo: &mut SymbolMemo,
+    errors: &mut E,
 ) -> Result<(), InputFault<'a>>
-    ensures ok { OnOk result (WroteAll (filtered_within memo.old.0 memo.old.1)
+    ensures ok { OnOk result (WroteAll (filtered_in settings.format)
         (map (λ input. R.remaining input.reader) inputs.entry.items)
         (W.contents output.old) (W.contents output.new)) }
     ensures err { IfErr result (λ stop. RunStopped stop.fault
-        (filtered_within memo.old.0 memo.old.1)
+        (filtered_in settings.format)
         (map (λ input. R.remaining input.reader) inputs.entry.items)
         (W.contents output.old) (W.contents output.new)) }
 {
+    let alloc = settings.alloc;
+    let mut memo = SymbolMemo::with_format(alloc, settings.format);
     for input in inputs {
         let Input { name, reader } = input;
-        match filter_reader(alloc, reader, output, memo) {
+        let noting = NotingReader::new(alloc, name, reader, errors);
+        match filter_reader(alloc, noting, output, &mut memo) {
             Ok(()) => {}
             Err(fault) => return Err(InputFault { name, fault }),
         }
@@ -228,8 +241,9 @@ fn end_of(fault: &StreamFault) -> Ended
     }
 }
 
-/// Filters the inputs in order, each on its own, with each path cut at `limit` bytes. Writes a line
-/// if an input can't be read, the output can't be written, or memory can't be allocated.
+/// Filters the inputs in order, each on its own, with each path cut at the limit. Writes a line if
+/// an input can't be read, the output can't be written, or memory can't be allocated. Writes a note
+/// on each input that is compressed or encoded.
 ///
 /// On `Complete`, the writer appended the filtered form of all that the readers still held. On
 /// `Unread`, it appended the filtered inputs before one input, and a filtered prefix of that one.
@@ -237,22 +251,21 @@ fn end_of(fault: &StreamFault) -> Ended
 /// call that failed. All that was written before is flushed in any case. An error of `errors` is
 /// ignored.
 pub fn run<R: Read + Drop, W: Write, E: Write>(
-    alloc: Global,
+    settings: Settings,
     inputs: Vec<Input<'_, R>>,
     output: &mut W,
     errors: &mut E,
-    include_hash: bool,
-    limit: usize,
 ) -> Ended
-    ensures complete { result ≡ Ended.Complete → WroteAll (filtered_within include_hash limit)
+    ensures complete { result ≡ Ended.Complete → WroteAll
+        (filtered_in settings.format)
         (map (λ input. R.remaining input.reader) inputs.entry.items)
         (W.contents output.old) (W.contents output.new) }
-    ensures unread { result ≡ Ended.Unread → WroteFront (filtered_within include_hash limit)
+    ensures unread { result ≡ Ended.Unread → WroteFront
+        (filtered_in settings.format)
         (map (λ input. R.remaining input.reader) inputs.entry.items)
         (W.contents output.old) (W.contents output.new) }
 {
-    let mut memo = SymbolMemo::new(alloc, include_hash, limit);
-    let Err(stop) = filter_inputs(alloc, inputs, output, &mut memo) else {
+    let Err(stop) = filter_inputs(settings, inputs, output, errors) else {
         return Ended::Complete;
     };
     let ended = end_of(&stop.fault);
@@ -260,7 +273,7 @@ pub fn run<R: Read + Drop, W: Write, E: Write>(
         let _ = flush(output);
     }
     if ended != Ended::Closed {
-        report(alloc, errors, &stop);
+        report(settings.alloc, errors, &stop);
     }
     ended
 }

@@ -39,6 +39,8 @@ pub struct Request<'a> {
     /// The value of `-o`, if it was given.
     pub output: Option<Target<'a>>,
     pub include_hash: bool,
+    /// Whether `_` is printed for generic arguments.
+    pub fold_arguments: bool,
     /// The largest number of bytes of a path.
     pub limit: usize,
     /// The first SYMBOL that the filter does not change.
@@ -98,6 +100,7 @@ pub enum Word<'a> {
     /// An option, with its value if the argument includes it.
     Valued(ValuedOption, Option<&'a str>),
     Hash,
+    Fold,
     Help,
     Version,
     Unknown,
@@ -149,6 +152,8 @@ fn read_word(word: &str) -> Word<'_>
     ensures is { IsWord word.now result }
     ensures symbol { starts_with nat_eq word.now (codes "-") ≡ false → result ≡ Word.Symbol }
     ensures hash { word.now ≡ codes "--hash" → result ≡ Word.Hash }
+    ensures f { word.now ≡ codes "-f" → result ≡ Word.Fold }
+    ensures fold { word.now ≡ codes "--fold" → result ≡ Word.Fold }
     ensures end { word.now ≡ codes "--" → result ≡ Word.End }
     ensures stdin { word.now ≡ codes "-" → result ≡ Word.Stdin }
     ensures h { word.now ≡ codes "-h" → result ≡ Word.Help }
@@ -167,6 +172,9 @@ fn read_word(word: &str) -> Word<'_>
     }
     if word == "--hash" {
         return Word::Hash;
+    }
+    if word == "-f" || word == "--fold" {
+        return Word::Fold;
     }
     if word == "-h" || word == "--help" {
         return Word::Help;
@@ -192,12 +200,14 @@ impl<'a> Request<'a> {
         ensures sources { result.sources.items ≡ [] }
         ensures output { result.output ≡ None }
         ensures hash { result.include_hash ≡ false }
+        ensures fold { result.fold_arguments ≡ false }
         ensures limit { result.limit ≡ 1000000 }
     {
         Request {
             sources: Vec::new(alloc),
             output: None,
             include_hash: false,
+            fold_arguments: false,
             limit: LIMIT,
             plain_word: None,
         }
@@ -232,6 +242,7 @@ impl<'a> Request<'a> {
         ensures stdin { file.now ≡ codes "-" → OnOk result (self.new.sources.items
             ≡ self.old.sources.items ++ Source.Stdin ∷ []) }
         ensures hash { self.new.include_hash ≡ self.old.include_hash }
+        ensures fold { self.new.fold_arguments ≡ self.old.fold_arguments }
         ensures limit { self.new.limit ≡ self.old.limit }
         ensures output { self.new.output ≡ self.old.output }
     {
@@ -323,6 +334,7 @@ impl<'a> Request<'a> {
             Word::End => return Ok(Taken::Next(Next::Symbol)),
             Word::Valued(option, within) => return self.take_option(option, word, within),
             Word::Hash => self.include_hash = true,
+            Word::Fold => self.fold_arguments = true,
             Word::Help => return Ok(Taken::Help),
             Word::Version => return Ok(Taken::Version),
             Word::Unknown => return Err(WordsFault::Unknown(word)),

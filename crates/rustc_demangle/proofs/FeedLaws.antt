@@ -19,7 +19,7 @@ use Rattle.demangle_legacy.proofs.LegacyLaws.{legacy_spelled}
 use Rattle.rustc_demangle.proofs.SymbolSteps.{symbol-pieces, pieces-legacy, pieces-v0}
 use Rattle.demangle_grammar.proofs.V0Reading.{v0_is_read}
 use Rattle.rustc_demangle.proofs.V0Feeds.{feeds-rendered}
-use Rattle.demangle_grammar.specs.Reading.{path_texts}
+use Rattle.demangle_grammar.specs.Reading.{form, path_texts}
 use Rattle.demangle_sink.specs.Cut.{size, front_within, cut, marker}
 use Rattle.rustc_demangle.specs.Lines.{lines, feeds}
 use Rattle.demangle_legacy.specs.Legacy.{IsElements, IsLegacy}
@@ -205,14 +205,14 @@ read_of (Some read) = read
 feeds-symbol : (hash : Bool) (text : List ℕ) (read : List (List ℕ) × List ℕ) → pieces_of hash text ≡ Some read → feeds text ≡ 0
     → (feeds (concat read.0) ≡ 0) × (feeds read.1 ≡ 0)
 unfolding read_of
-feeds-symbol hash text read e none = go (symbol-pieces hash text read e) where
+feeds-symbol hash text read e none = go (symbol-pieces (form hash false) text read e) where
   go : IsSymbol text → (feeds (concat read.0) ≡ 0) × (feeds read.1 ≡ 0)
   go (inl (elements, suffix, legacy, allowed)) =
-      let same : read ≡ (legacy_pieces hash elements, suffix) = ap read_of (sym e ∙ pieces-legacy hash text elements suffix (legacy_spelled text elements suffix legacy) allowed) in
+      let same : read ≡ (legacy_pieces hash elements, suffix) = ap read_of (sym e ∙ pieces-legacy (form hash false) text elements suffix (legacy_spelled text elements suffix legacy) allowed) in
       let bound = feeds-legacy hash text elements suffix legacy in
       (omega (arith, none, bound, ap (λ r. feeds (concat r.0)) same), omega (arith, none, bound, ap (λ r. feeds r.1) same))
   go (inr (inner, suffix, v0, allowed)) =
-      let same : read ≡ (path_texts inner hash, suffix) = ap read_of (sym e ∙ pieces-v0 hash text inner suffix (v0_is_read text inner suffix v0) allowed) in
+      let same : read ≡ (path_texts inner (form hash false), suffix) = ap read_of (sym e ∙ pieces-v0 (form hash false) text inner suffix (v0_is_read text inner suffix v0) allowed) in
       let part = v0.5 in
       let within : feeds inner ≡ 0 = omega (arith, none, ap feeds v0.1, feeds-append v0.0 inner) in (
         ap (λ r. feeds (concat r.0)) same ∙ feeds-rendered inner hash within,

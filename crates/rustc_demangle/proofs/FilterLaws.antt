@@ -6,6 +6,7 @@ use Rattle.std.proofs.lemmas.List.{take-append-drop}
 use Rattle.std.proofs.lemmas.List.Sums.{take_while-cons}
 use Rattle.std.specs.List.{prefix_len, take_while, list_all}
 use Rattle.std.proofs.lemmas.Bool.{true≢false}
+use Rattle.demangle_grammar.specs.Reading.{form}
 use Rattle.rustc_demangle.specs.Stripped.{stripped}
 use Rattle.rustc_demangle.specs.Symbols.{IsSymbol, pieces_of, printed}
 use Rattle.rustc_demangle.proofs.SymbolSteps.{symbol-pieces, pieces-symbol}
@@ -141,7 +142,7 @@ begins_front s some = let w = begins_with s some in elim (w.1) [
     r t = ap begins_run (take_while-cons is_run 95 (82 ∷ t) ∙ ap (λ l. 95 ∷ l) (take_while-cons is_run 82 t))
 
 no_pieces : (h : Bool) (text : List ℕ) → pieces_of h text ≡ None → IsSymbol text → ⊥
-no_pieces h text none symbol = none≢some (sym none ∙ (pieces-symbol h text symbol).1)
+no_pieces h text none symbol = none≢some (sym none ∙ (pieces-symbol (form h false) text symbol).1)
   where
     none≢some : {x : List (List ℕ) × List ℕ} → None ≡ Some x → ⊥
     none≢some e = cc
@@ -153,7 +154,7 @@ replaced h run = at (pieces_of h (stripped run)) refl
         → (IsSymbol (stripped run) × (option_map_or (λ _. printed (stripped run) h) read run ≡ printed (stripped run) h))
         ⊎ ((IsSymbol (stripped run) → ⊥) × (option_map_or (λ _. printed (stripped run) h) read run ≡ run))
     at None e = inr (no_pieces h (stripped run) e, refl)
-    at (Some read) e = inl (symbol-pieces h (stripped run) read e, refl)
+    at (Some read) e = inl (symbol-pieces (form h false) (stripped run) read e, refl)
 
 nothing : (h : Bool) → IsFiltered h [] []
 nothing h = record { kept = []; rest = []; rest_out = []; parts = []; whole = refl; shown = refl; no_start = none_in_none; runs = (refl, refl) }

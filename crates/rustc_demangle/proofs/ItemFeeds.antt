@@ -1,5 +1,5 @@
 -- Items that say no line feed hand over none.
-use Rattle.std.proofs.Common.{◌≡◌, ◌≢◌, ◌==◌, ℕ, zero, suc, ◌+◌, ◌-◌, Bool, true, false, cond, List, [], ◌∷◌, length, Option, None, Some, refl, arith, codes}
+use Rattle.std.proofs.Common.{◌≡◌, ◌≢◌, ◌==◌, ◌&&◌, ℕ, zero, suc, ◌+◌, ◌-◌, Bool, true, false, cond, List, [], ◌∷◌, length, Option, None, Some, refl, arith, codes}
 use Rattle.std.specs.Prelude.{nat_lt, nat_le, decimal, slice_get}
 use Rattle.std.specs.List.{concat}
 use Prim.Native.Char.{code}
@@ -7,8 +7,8 @@ use Rattle.rustc_demangle.specs.Lines.{feeds}
 use Rattle.demangle_symbol.specs.Digits.{is_byte}
 use Rattle.demangle_symbol.specs.Words.{Name, Read, byte_at, namespace_at, integer_at, optional_at, backref_at, identifier_at, nibbles_at}
 use Rattle.demangle_symbol.specs.Names.{name_pieces}
-use Rattle.demangle_grammar.specs.Items.{Text, Kind, a_path, a_trait_path, Items, done, invalid, say, say_plain, byte, namespace, integer, optional, identifier, nibbles, peek, next, sound, until_end, raise, unit, child, skip, target, lifetime, binder, opens, dyn_trait, bindings}
-use Rattle.demangle_grammar.specs.Reading.{Tree, nothing, piece, plain_piece, node, looked, hidden, invalid_syntax, too_deep, unread, pieces, Place, Outcome, Level, Surroundings, stands, behind, followed_by, word_outcome, word, peek_outcome, byte_choice, one_depth_on, turns, unit_outcome, hidden_path, all_pieces, angle_if_open, binding_separator, name_equals, bound_by, target_read, target_of, letter_of, lifetime_at, new_lifetimes, binder_at, run}
+use Rattle.demangle_grammar.specs.Items.{Text, Kind, a_path, a_trait_path, Items, done, invalid, say, say_plain, byte, namespace, integer, optional, identifier, nibbles, peek, next, sound, until_end, raise, unit, child, skip, folded, target, lifetime, binder, opens, dyn_trait, bindings}
+use Rattle.demangle_grammar.specs.Reading.{Tree, nothing, piece, plain_piece, node, looked, hidden, invalid_syntax, too_deep, unread, pieces, Place, Outcome, Level, Surroundings, stands, behind, followed_by, folded_by, word_outcome, word, peek_outcome, byte_choice, one_depth_on, turns, unit_outcome, hidden_path, all_pieces, angle_if_open, binding_separator, name_equals, bound_by, target_read, target_of, letter_of, lifetime_at, new_lifetimes, binder_at, run}
 use Rattle.rustc_demangle.proofs.Feeds.{feeds-append, feeds-concat, feeds-other}
 use Rattle.rustc_demangle.proofs.WordFeeds.{AreClear, number_clear, namespace_clear, nibbles_clear, identifier_clear, name_clear}
 
@@ -56,6 +56,7 @@ SaysClear (raise p) = SaysClear p
 SaysClear (unit p q) = SaysClear p × SaysClear q
 SaysClear (child kind value p) = SaysClear p
 SaysClear (skip p) = SaysClear p
+SaysClear (folded p q) = SaysClear p × SaysClear q
 SaysClear (target kind value) = Unit {0}
 SaysClear (lifetime k p) = SaysClear p
 SaysClear (binder m p) = SaysClear p
@@ -160,6 +161,10 @@ skipped_clear : (s : Surroundings) (f : Place → Outcome) → ((i : Place) → 
 skipped_clear s f h None = h None
 skipped_clear s f h (Some i) = h (s.here false a_path false s.lifetimes i).place
 
+folded_clear : (b : Bool) (x y : Outcome) (f : Place → Outcome) → IsClear y.tree → ((i : Place) → IsClear (f i).tree) → IsClear (folded_by b x y f).tree
+folded_clear true x y f h k = (refl, k x.place)
+folded_clear false x y f h k = (h, k y.place)
+
 bound_clear : (m : ℕ) (s : Surroundings) (f : Place → Outcome) → feeds s.symbol ≡ 0 → ((i : Place) → IsClear (f i).tree) → (o : Bool) (i : Place) → IsClear (bound_by m s f o i).tree
 unfolding bound_by
 bound_clear zero s f none h o None = closed_clear o None
@@ -206,6 +211,8 @@ clear (raise p) s a m i = raised_clear s.deeper (λ l ls. run p (record s { here
 clear (unit p q) s a m i = let o : Outcome = run p s i in (clear p s a.0 m i, clear q s a.1 m o.place)
 clear (child kind value p) s a m i = let o : Outcome = unit_outcome s kind value i in (begun_clear s kind value m.here i, clear p s a m o.place)
 clear (skip p) s a m i = skipped_clear s (run p s) (clear p s a m) i
+clear (folded p q) s a m i =
+    folded_clear (s.printed && s.folds) (run p (record s { printed = false }) i) (run p s i) (run q s) (clear p s a.0 m i) (clear q s a.1 m)
 clear (target kind value) s a m i = word_clear s backref_at (λ t j. target_of s.deeper (λ level. target_read s.printed (level true kind value s.lifetimes) t j))
     (λ _ t j _. target_clear s.deeper s.printed kind value s.lifetimes t (Some j) m.deeper) i
 clear (lifetime k p) s a m i = let o : Outcome = lifetime_at s.printed s.lifetimes k i in (lifetime_clear s.printed s.lifetimes k i, clear p s a m o.place)

@@ -1,31 +1,32 @@
 -- What a memo writes for a run.
-use Rattle.std.proofs.Common.{◌≡◌, ℕ, Bool, List, ap, sym, subst, ◌∙◌}
+use Rattle.std.proofs.Common.{◌≡◌, ℕ, List, ap, sym, subst, ◌∙◌}
 use Rattle.std.specs.List.{concat}
-use Rattle.rustc_demangle.specs.Filtered.{replacement_within, filtered_within}
+use Rattle.rustc_demangle.specs.Filtered.{replacement_in, filtered_in}
 use Rattle.rustc_demangle.specs.Stripped.{stripped}
 use Rattle.std.specs.declared.option.Option.{Option}
 use Rattle.rustc_demangle.specs.Bytes.{StepTook, StepEnded}
-use Rattle.rustc_demangle.specs.Symbols.{handed, IsSymbol}
-use Rattle.rustc_demangle.proofs.RunSteps.{replacement_within-symbol, replacement_within-no_symbol}
+use Rattle.rustc_demangle.specs.Symbols.{handed_in, IsSymbol}
+use Rattle.rustc_demangle.specs.declared.format.Format.{Format}
+use Rattle.rustc_demangle.proofs.RunSteps.{replacement_in-symbol, replacement_in-no_symbol}
 
 -- what a symbol prints replaces its run
-pub symbol_replaced : (run symbol : List ℕ) (hash : Bool) (limit : ℕ) → symbol ≡ stripped run → IsSymbol symbol → concat (handed symbol hash limit) ≡ replacement_within hash limit run
-symbol_replaced run symbol hash limit same is =
-    ap (λ s. concat (handed s hash limit)) same ∙ sym (replacement_within-symbol hash limit run (subst IsSymbol same is))
+pub symbol_replaced : (run symbol : List ℕ) (format : Format) → symbol ≡ stripped run → IsSymbol symbol → concat (handed_in symbol format) ≡ replacement_in format run
+symbol_replaced run symbol format same is =
+    ap (λ s. concat (handed_in s format)) same ∙ sym (replacement_in-symbol format run (subst IsSymbol same is))
 
 -- a run that is no symbol is kept
-pub run_kept : (run symbol : List ℕ) (hash : Bool) (limit : ℕ) → symbol ≡ stripped run → (IsSymbol symbol → ⊥) → run ≡ replacement_within hash limit run
-run_kept run symbol hash limit same other = sym (replacement_within-no_symbol hash limit run (λ is. other (subst IsSymbol (sym same) is)))
+pub run_kept : (run symbol : List ℕ) (format : Format) → symbol ≡ stripped run → (IsSymbol symbol → ⊥) → run ≡ replacement_in format run
+run_kept run symbol format same other = sym (replacement_in-no_symbol format run (λ is. other (subst IsSymbol (sym same) is)))
 
 -- the same for the value of a memo
-pub at_value : (run text : List ℕ) (hash : Bool) (limit : ℕ) (value : Bool × ℕ) → (hash, limit) ≡ value → text ≡ replacement_within hash limit run → text ≡ replacement_within value.0 value.1 run
-at_value run text hash limit value same is = subst (λ (v : Bool × ℕ). text ≡ replacement_within v.0 v.1 run) same is
+pub at_value : (run text : List ℕ) (format value : Format) → format ≡ value → text ≡ replacement_in format run → text ≡ replacement_in value run
+at_value run text format value same is = subst (λ (v : Format). text ≡ replacement_in v run) same is
 
 -- a step with a memo of the same value
-pub took_same : (m n : Bool × ℕ) (carried next : List ℕ) (left rest old new : Option (List ℕ)) → m ≡ n → StepTook (filtered_within m.0 m.1) carried next left rest old new
-    → StepTook (filtered_within n.0 n.1) carried next left rest old new
-took_same m n carried next left rest old new same = subst (λ (v : Bool × ℕ). StepTook (filtered_within v.0 v.1) carried next left rest old new) same
+pub took_same : (m n : Format) (carried next : List ℕ) (left rest old new : Option (List ℕ)) → m ≡ n → StepTook (filtered_in m) carried next left rest old new
+    → StepTook (filtered_in n) carried next left rest old new
+took_same m n carried next left rest old new same = subst (λ (v : Format). StepTook (filtered_in v) carried next left rest old new) same
 
-pub ended_same : (m n : Bool × ℕ) (carried next : List ℕ) (left rest old new : Option (List ℕ)) → m ≡ n → StepEnded (filtered_within m.0 m.1) carried next left rest old new
-    → StepEnded (filtered_within n.0 n.1) carried next left rest old new
-ended_same m n carried next left rest old new same = subst (λ (v : Bool × ℕ). StepEnded (filtered_within v.0 v.1) carried next left rest old new) same
+pub ended_same : (m n : Format) (carried next : List ℕ) (left rest old new : Option (List ℕ)) → m ≡ n → StepEnded (filtered_in m) carried next left rest old new
+    → StepEnded (filtered_in n) carried next left rest old new
+ended_same m n carried next left rest old new same = subst (λ (v : Format). StepEnded (filtered_in v) carried next left rest old new) same

@@ -8,27 +8,29 @@ use Rattle.demangle_sink.specs.Cut.{size, front_within, cut, kept, marker}
 use Rattle.rustc_demangle.specs.Hashes.{LeavesHashOut, pieces_behind}
 use Rattle.demangle_legacy.specs.Legacy.{IsLegacy, legacy_of}
 use Rattle.rustc_demangle.specs.Stripped.{is_allowed}
-use Rattle.rustc_demangle.specs.Symbols.{IsSymbol, pieces_of, handed, kept_of}
+use Rattle.rustc_demangle.specs.Symbols.{IsSymbol, form_of, pieces_in, handed_in, kept_in, unfolded, handed}
+use Rattle.rustc_demangle.specs.declared.format.Format.{Format}
+use Rattle.demangle_grammar.specs.Reading.{form}
 use Rattle.demangle_legacy.specs.Unescaped.{unescaped, is_hash, shown_elements, joined_pieces, following_pieces, legacy_pieces}
 use Rattle.demangle_sink.proofs.CutLemmas.{size-append, fitting-within}
 use Rattle.demangle_sink.proofs.PrintsLemmas.{cut-within, cut-past}
 use Rattle.demangle_legacy.proofs.LegacyLaws.{legacy_spelled}
 use Rattle.rustc_demangle.proofs.SymbolSteps.{symbol-pieces, pieces-legacy}
 
-pub handed-some_of : (text : List ℕ) (hash : Bool) (limit : ℕ) (read : List (List ℕ) × List ℕ) → pieces_of hash text ≡ Some read → handed text hash limit ≡ cut read.0 limit ++ read.1 ∷ []
-handed-some_of text hash limit read e = ap (λ o. option_map_or (λ (r : List (List ℕ) × List ℕ). cut r.0 limit ++ r.1 ∷ []) o (text ∷ [])) e
+pub handed-some_of : (text : List ℕ) (format : Format) (read : List (List ℕ) × List ℕ) → pieces_in (form_of format) text ≡ Some read → handed_in text format ≡ cut read.0 format.limit ++ read.1 ∷ []
+handed-some_of text format read e = ap (λ o. option_map_or (λ (r : List (List ℕ) × List ℕ). cut r.0 format.limit ++ r.1 ∷ []) o (text ∷ [])) e
 
-pub handed-no_symbol : (text : List ℕ) → (IsSymbol text → ⊥) → (hash : Bool) (limit : ℕ) → handed text hash limit ≡ text ∷ []
-handed-no_symbol text none hash limit = go (pieces_of hash text) refl where
-  go : (read : Option (List (List ℕ) × List ℕ)) → pieces_of hash text ≡ read → option_map_or (λ r. cut r.0 limit ++ r.1 ∷ []) read (text ∷ []) ≡ text ∷ []
+pub handed-no_symbol : (text : List ℕ) → (IsSymbol text → ⊥) → (format : Format) → handed_in text format ≡ text ∷ []
+handed-no_symbol text none format = go (pieces_in (form_of format) text) refl where
+  go : (read : Option (List (List ℕ) × List ℕ)) → pieces_in (form_of format) text ≡ read → option_map_or (λ r. cut r.0 format.limit ++ r.1 ∷ []) read (text ∷ []) ≡ text ∷ []
   go None e = refl
-  go (Some read) e = absurd (none (symbol-pieces hash text read e))
+  go (Some read) e = absurd (none (symbol-pieces (form_of format) text read e))
 
-pub kept-no_symbol : (text : List ℕ) → (IsSymbol text → ⊥) → (hash : Bool) (limit : ℕ) → kept_of text hash limit ≡ 0
-kept-no_symbol text none hash limit = go (pieces_of hash text) refl where
-  go : (read : Option (List (List ℕ) × List ℕ)) → pieces_of hash text ≡ read → option_map_or (λ r. kept r.0 limit) read 0 ≡ 0
+pub kept-no_symbol : (text : List ℕ) → (IsSymbol text → ⊥) → (format : Format) → kept_in text format ≡ 0
+kept-no_symbol text none format = go (pieces_in (form_of format) text) refl where
+  go : (read : Option (List (List ℕ) × List ℕ)) → pieces_in (form_of format) text ≡ read → option_map_or (λ r. kept r.0 format.limit) read 0 ≡ 0
   go None e = refl
-  go (Some read) e = absurd (none (symbol-pieces hash text read e))
+  go (Some read) e = absurd (none (symbol-pieces (form_of format) text read e))
 
 -- what is cut has the bytes of the limit and of the marker at most
 pub size-cut : (pieces : List (List ℕ)) (limit : ℕ) → size (cut pieces limit) ≤ limit + 20
@@ -37,10 +39,10 @@ size-cut pieces limit = elim (leb_tells (size pieces) limit) [
   | inr e ↦ omega (arith, ap size (cut-past pieces limit e.1), size-append (front_within pieces limit) (marker ∷ []), fitting-within pieces limit)
 ]
 
-pub size-handed : (text : List ℕ) (hash : Bool) (limit : ℕ) (pieces : List (List ℕ)) (suffix : List ℕ) → pieces_of hash text ≡ Some (pieces, suffix)
-    → size (handed text hash limit) ≤ limit + 20 + length suffix
-size-handed text hash limit pieces suffix e =
-    omega (arith, ap size (handed-some_of text hash limit (pieces, suffix) e), size-append (cut pieces limit) (suffix ∷ []), size-cut pieces limit)
+pub size-handed : (text : List ℕ) (format : Format) (pieces : List (List ℕ)) (suffix : List ℕ) → pieces_in (form_of format) text ≡ Some (pieces, suffix)
+    → size (handed_in text format) ≤ format.limit + 20 + length suffix
+size-handed text format pieces suffix e =
+    omega (arith, ap size (handed-some_of text format (pieces, suffix) e), size-append (cut pieces format.limit) (suffix ∷ []), size-cut pieces format.limit)
 
 -- with the hash all elements are shown
 shown-all : (elements : List (List ℕ)) → shown_elements true elements ≡ elements
@@ -77,10 +79,10 @@ hash-last text elements suffix limit legacy allowed within =
     let read : legacy_of text ≡ Some (elements, suffix) = legacy_spelled text elements suffix legacy in
     let all : legacy_pieces true elements ≡ joined_pieces elements = ap joined_pieces (shown-all elements) in
     let full : handed text true limit ≡ joined_pieces elements ++ suffix ∷ [] =
-    handed-some_of text true limit (legacy_pieces true elements, suffix) (pieces-legacy true text elements suffix read allowed)
+    handed-some_of text (unfolded true limit) (legacy_pieces true elements, suffix) (pieces-legacy (form true false) text elements suffix read allowed)
     ∙ ap (λ xs. xs ++ suffix ∷ []) (cut-within (legacy_pieces true elements) limit within ∙ all) in
     let short : handed text false limit ≡ cut (joined_pieces (shown_elements false elements)) limit ++ suffix ∷ [] =
-    handed-some_of text false limit (legacy_pieces false elements, suffix) (pieces-legacy false text elements suffix read allowed) in
+    handed-some_of text (unfolded false limit) (legacy_pieces false elements, suffix) (pieces-legacy (form false false) text elements suffix read allowed) in
     elim (shown-cases elements) [
       | inl same ↦ inl (short ∙ ap (λ es. cut (joined_pieces es) limit ++ suffix ∷ []) same
           ∙ ap (λ xs. xs ++ suffix ∷ []) (cut-within (joined_pieces elements) limit (subst (λ xs. size xs ≤ limit) all within)) ∙ sym full)

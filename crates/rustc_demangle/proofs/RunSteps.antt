@@ -9,9 +9,10 @@ use Rattle.std.proofs.lemmas.Str.{IsCharBoundary-before_ascii, IsCharBoundary-af
 use Rattle.std.proofs.lemmas.List.{get_or-drop}
 use Rattle.std.proofs.lemmas.List.Sums.{prefix_len_passes, prefix_len-le-length}
 use Rattle.rustc_demangle.specs.Stripped.{stripped}
-use Rattle.rustc_demangle.specs.Symbols.{IsSymbol, pieces_of, handed, printed, most_bytes}
+use Rattle.rustc_demangle.specs.Symbols.{IsSymbol, form_of, pieces_in, handed_in, unfolded, printed, most_bytes}
+use Rattle.rustc_demangle.specs.declared.format.Format.{Format}
 use Rattle.rustc_demangle.proofs.SymbolSteps.{pieces-symbol, symbol-pieces}
-use Rattle.rustc_demangle.specs.Filtered.{is_run, begins_run, filtered_by, replacement_within, replacement}
+use Rattle.rustc_demangle.specs.Filtered.{is_run, begins_run, filtered_by, replacement_in, replacement}
 
 -- what is skipped is left out
 pub filtered_skip : (f : List ℕ → List ℕ) (n : ℕ) (s : List ℕ) → filtered_by f n s ≡ filtered_by f zero (drop n s)
@@ -91,23 +92,23 @@ filtered_all f (c ∷ s) none =
     filtered_other f c s (none 0 (omega arith)) ∙ ap (λ l. c ∷ l) (filtered_all f s (λ k lt. none (suc k) (omega arith)))
 
 -- a symbol is replaced by what it prints
-pub replacement_within-symbol : (h : Bool) (l : ℕ) (run : List ℕ) → IsSymbol (stripped run) → replacement_within h l run ≡ concat (handed (stripped run) h l)
-replacement_within-symbol h l run symbol =
-    ap (λ read. option_map_or (λ (_ : List (List ℕ) × List ℕ). concat (handed (stripped run) h l)) read run) (pieces-symbol h (stripped run) symbol).1
+pub replacement_in-symbol : (format : Format) (run : List ℕ) → IsSymbol (stripped run) → replacement_in format run ≡ concat (handed_in (stripped run) format)
+replacement_in-symbol format run symbol =
+    ap (λ read. option_map_or (λ (_ : List (List ℕ) × List ℕ). concat (handed_in (stripped run) format)) read run) (pieces-symbol (form_of format) (stripped run) symbol).1
 
 pub replacement-symbol : (h : Bool) (run : List ℕ) → IsSymbol (stripped run) → replacement h run ≡ printed (stripped run) h
-replacement-symbol h run symbol = replacement_within-symbol h most_bytes run symbol
+replacement-symbol h run symbol = replacement_in-symbol (unfolded h most_bytes) run symbol
 
 -- and what is none stays
-pub replacement_within-no_symbol : (h : Bool) (l : ℕ) (run : List ℕ) → (IsSymbol (stripped run) → ⊥) → replacement_within h l run ≡ run
-replacement_within-no_symbol h l run none = at (pieces_of h (stripped run)) refl
+pub replacement_in-no_symbol : (format : Format) (run : List ℕ) → (IsSymbol (stripped run) → ⊥) → replacement_in format run ≡ run
+replacement_in-no_symbol format run none = at (pieces_in (form_of format) (stripped run)) refl
   where
-    at : (read : Option (List (List ℕ) × List ℕ)) → pieces_of h (stripped run) ≡ read → option_map_or (λ _. concat (handed (stripped run) h l)) read run ≡ run
+    at : (read : Option (List (List ℕ) × List ℕ)) → pieces_in (form_of format) (stripped run) ≡ read → option_map_or (λ _. concat (handed_in (stripped run) format)) read run ≡ run
     at None e = refl
-    at (Some read) e = absurd (none (symbol-pieces h (stripped run) read e))
+    at (Some read) e = absurd (none (symbol-pieces (form_of format) (stripped run) read e))
 
 pub replacement-no_symbol : (h : Bool) (run : List ℕ) → (IsSymbol (stripped run) → ⊥) → replacement h run ≡ run
-replacement-no_symbol h run none = replacement_within-no_symbol h most_bytes run none
+replacement-no_symbol h run none = replacement_in-no_symbol (unfolded h most_bytes) run none
 
 -- Where the run that was found may be cut off, by the values of the code.
 pub cut_at : (rest bytes found bytes' : List ℕ) (n m : ℕ) → IsUtf8 bytes' → bytes ≡ rest → begins_run (drop n bytes) ≡ true → found ≡ drop n rest

@@ -1,51 +1,52 @@
 -- What a symbol of each scheme hands over, and where its run begins, by the relations of the schemes.
-use Rattle.std.proofs.Common.{◌≡◌, ◌⊎◌, inl, inr, ℕ, Bool, true, List, [], ◌∷◌, ◌++◌, drop, get_or, codes, Some, sym, ap, ◌∙◌, arith}
+use Rattle.std.proofs.Common.{◌≡◌, ◌⊎◌, inl, inr, ℕ, true, List, [], ◌∷◌, ◌++◌, drop, get_or, codes, Some, sym, ap, ◌∙◌, arith}
 use Rattle.std.specs.Option.{option_map_or}
 use Rattle.demangle_sink.specs.Cut.{cut, kept}
 use Rattle.demangle_legacy.specs.Legacy.{IsLegacy, IsLegacyPrefix}
-use Rattle.demangle_grammar.specs.Reading.{path_texts}
+use Rattle.demangle_grammar.specs.Reading.{Form, path_texts}
 use Rattle.rustc_demangle.specs.Stripped.{is_allowed}
 use Rattle.rustc_demangle.specs.Filtered.{begins_run}
-use Rattle.rustc_demangle.specs.Symbols.{IsSymbol, pieces_of, handed, kept_of}
+use Rattle.rustc_demangle.specs.Symbols.{IsSymbol, form_of, pieces_in, handed_in, kept_in}
+use Rattle.rustc_demangle.specs.declared.format.Format.{Format}
 use Rattle.demangle_legacy.specs.Unescaped.{legacy_pieces}
 use Rattle.demangle_grammar.specs.V0.{IsV0, IsV0Prefix}
 use Rattle.demangle_legacy.proofs.LegacyLaws.{legacy_spelled}
 use Rattle.rustc_demangle.proofs.SymbolSteps.{no_legacy, pieces-legacy, pieces-v0, none≢some}
 use Rattle.demangle_grammar.proofs.V0Reading.{v0_is_read}
 
-handed_of : (text : List ℕ) (hash : Bool) (limit : ℕ) (read : List (List ℕ) × List ℕ) → pieces_of hash text ≡ Some read → handed text hash limit ≡ cut read.0 limit ++ read.1 ∷ []
-handed_of text hash limit read e = ap (λ o. option_map_or (λ (r : List (List ℕ) × List ℕ). cut r.0 limit ++ r.1 ∷ []) o (text ∷ [])) e
+handed_of : (text : List ℕ) (format : Format) (read : List (List ℕ) × List ℕ) → pieces_in (form_of format) text ≡ Some read → handed_in text format ≡ cut read.0 format.limit ++ read.1 ∷ []
+handed_of text format read e = ap (λ o. option_map_or (λ (r : List (List ℕ) × List ℕ). cut r.0 format.limit ++ r.1 ∷ []) o (text ∷ [])) e
 
-kept_by : (text : List ℕ) (hash : Bool) (limit : ℕ) (read : List (List ℕ) × List ℕ) → pieces_of hash text ≡ Some read → kept_of text hash limit ≡ kept read.0 limit
-kept_by text hash limit read e = ap (λ o. option_map_or (λ (r : List (List ℕ) × List ℕ). kept r.0 limit) o 0) e
+kept_by : (text : List ℕ) (format : Format) (read : List (List ℕ) × List ℕ) → pieces_in (form_of format) text ≡ Some read → kept_in text format ≡ kept read.0 format.limit
+kept_by text format read e = ap (λ o. option_map_or (λ (r : List (List ℕ) × List ℕ). kept r.0 format.limit) o 0) e
 
-pieces_spelled : (hash : Bool) (text : List ℕ) (elements : List (List ℕ)) (suffix : List ℕ) → IsLegacy text elements suffix → is_allowed suffix ≡ true
-    → pieces_of hash text ≡ Some (legacy_pieces hash elements, suffix)
-pieces_spelled hash text elements suffix is allowed = pieces-legacy hash text elements suffix (legacy_spelled text elements suffix is) allowed
+pieces_spelled : (form : Form) (text : List ℕ) (elements : List (List ℕ)) (suffix : List ℕ) → IsLegacy text elements suffix → is_allowed suffix ≡ true
+    → pieces_in form text ≡ Some (legacy_pieces form.include_hash elements, suffix)
+pieces_spelled form text elements suffix is allowed = pieces-legacy form text elements suffix (legacy_spelled text elements suffix is) allowed
 
-pieces_rendered : (hash : Bool) (text inner suffix : List ℕ) → IsV0 text inner suffix → is_allowed suffix ≡ true
-    → pieces_of hash text ≡ Some (path_texts inner hash, suffix)
-pieces_rendered hash text inner suffix is allowed = pieces-v0 hash text inner suffix (v0_is_read text inner suffix is) allowed
+pieces_rendered : (form : Form) (text inner suffix : List ℕ) → IsV0 text inner suffix → is_allowed suffix ≡ true
+    → pieces_in form text ≡ Some (path_texts inner form, suffix)
+pieces_rendered form text inner suffix is allowed = pieces-v0 form text inner suffix (v0_is_read text inner suffix is) allowed
 
-pub legacy-handed : (text : List ℕ) (elements : List (List ℕ)) (suffix : List ℕ) (hash : Bool) (limit : ℕ) → IsLegacy text elements suffix → is_allowed suffix ≡ true
-    → handed text hash limit ≡ cut (legacy_pieces hash elements) limit ++ suffix ∷ []
-legacy-handed text elements suffix hash limit is allowed =
-    handed_of text hash limit (legacy_pieces hash elements, suffix) (pieces_spelled hash text elements suffix is allowed)
+pub legacy-handed : (text : List ℕ) (elements : List (List ℕ)) (suffix : List ℕ) (format : Format) → IsLegacy text elements suffix → is_allowed suffix ≡ true
+    → handed_in text format ≡ cut (legacy_pieces format.include_hash elements) format.limit ++ suffix ∷ []
+legacy-handed text elements suffix format is allowed =
+    handed_of text format (legacy_pieces format.include_hash elements, suffix) (pieces_spelled (form_of format) text elements suffix is allowed)
 
-pub legacy-kept : (text : List ℕ) (elements : List (List ℕ)) (suffix : List ℕ) (hash : Bool) (limit : ℕ) → IsLegacy text elements suffix → is_allowed suffix ≡ true
-    → kept_of text hash limit ≡ kept (legacy_pieces hash elements) limit
-legacy-kept text elements suffix hash limit is allowed =
-    kept_by text hash limit (legacy_pieces hash elements, suffix) (pieces_spelled hash text elements suffix is allowed)
+pub legacy-kept : (text : List ℕ) (elements : List (List ℕ)) (suffix : List ℕ) (format : Format) → IsLegacy text elements suffix → is_allowed suffix ≡ true
+    → kept_in text format ≡ kept (legacy_pieces format.include_hash elements) format.limit
+legacy-kept text elements suffix format is allowed =
+    kept_by text format (legacy_pieces format.include_hash elements, suffix) (pieces_spelled (form_of format) text elements suffix is allowed)
 
-pub v0-handed : (text inner suffix : List ℕ) (hash : Bool) (limit : ℕ) → IsV0 text inner suffix → is_allowed suffix ≡ true
-    → handed text hash limit ≡ cut (path_texts inner hash) limit ++ suffix ∷ []
-v0-handed text inner suffix hash limit is allowed =
-    handed_of text hash limit (path_texts inner hash, suffix) (pieces_rendered hash text inner suffix is allowed)
+pub v0-handed : (text inner suffix : List ℕ) (format : Format) → IsV0 text inner suffix → is_allowed suffix ≡ true
+    → handed_in text format ≡ cut (path_texts inner (form_of format)) format.limit ++ suffix ∷ []
+v0-handed text inner suffix format is allowed =
+    handed_of text format (path_texts inner (form_of format), suffix) (pieces_rendered (form_of format) text inner suffix is allowed)
 
-pub v0-kept : (text inner suffix : List ℕ) (hash : Bool) (limit : ℕ) → IsV0 text inner suffix → is_allowed suffix ≡ true
-    → kept_of text hash limit ≡ kept (path_texts inner hash) limit
-v0-kept text inner suffix hash limit is allowed =
-    kept_by text hash limit (path_texts inner hash, suffix) (pieces_rendered hash text inner suffix is allowed)
+pub v0-kept : (text inner suffix : List ℕ) (format : Format) → IsV0 text inner suffix → is_allowed suffix ≡ true
+    → kept_in text format ≡ kept (path_texts inner (form_of format)) format.limit
+v0-kept text inner suffix format is allowed =
+    kept_by text format (path_texts inner (form_of format), suffix) (pieces_rendered (form_of format) text inner suffix is allowed)
 
 pub one-scheme : (text : List ℕ) (elements : List (List ℕ)) (inner suffix other : List ℕ) → IsLegacy text elements suffix → IsV0 text inner other → ⊥
 one-scheme text elements inner suffix other legacy v0 =

@@ -10,7 +10,8 @@ use Rattle.demangle_sink.specs.Cut.{size}
 use Rattle.demangle_legacy.specs.Legacy.{IsLegacyPrefix}
 use Rattle.demangle_grammar.specs.Reading.{path_texts}
 use Rattle.rustc_demangle.specs.Stripped.{stripped, is_thin_lto}
-use Rattle.rustc_demangle.specs.Symbols.{IsSymbol, handed}
+use Rattle.rustc_demangle.specs.Symbols.{IsSymbol, form_of, handed_in, handed, unfolded}
+use Rattle.rustc_demangle.specs.declared.format.Format.{Format}
 use Rattle.demangle_legacy.specs.Unescaped.{legacy_pieces}
 use Rattle.demangle_grammar.specs.V0.{IsV0Prefix}
 use Rattle.demangle_legacy.proofs.LegacyLaws.{legacy_spelled}
@@ -78,13 +79,21 @@ pub length-concat : (pieces : List (List ℕ)) → length (concat pieces) ≡ si
 length-concat [] = refl
 length-concat (piece ∷ pieces) = omega (arith, length-append piece (concat pieces), length-concat pieces)
 
-pub size_symbol : (text : List ℕ) (hash : Bool) (limit : ℕ) → IsSymbol text → size (handed text hash limit) ≤ limit + 20 + length text
-size_symbol text hash limit (inl (elements, suffix, legacy, allowed)) =
+pub size_symbol_in : (text : List ℕ) (format : Format) → IsSymbol text → size (handed_in text format) ≤ format.limit + 20 + length text
+size_symbol_in text format (inl (elements, suffix, legacy, allowed)) =
     let read = legacy_spelled text elements suffix legacy in
-    omega (arith, size-handed text hash limit (legacy_pieces hash elements) suffix (pieces-legacy hash text elements suffix read allowed), suffix-shorter text elements suffix read)
-size_symbol text hash limit (inr (inner, suffix, v0, allowed)) =
+    omega (arith, size-handed text format (legacy_pieces format.include_hash elements) suffix (pieces-legacy (form_of format) text elements suffix read allowed), suffix-shorter text elements suffix read)
+size_symbol_in text format (inr (inner, suffix, v0, allowed)) =
     let read = v0_is_read text inner suffix v0 in
-    omega (arith, size-handed text hash limit (path_texts inner hash) suffix (pieces-v0 hash text inner suffix read allowed), v0_suffix-shorter text inner suffix read)
+    omega (arith, size-handed text format (path_texts inner (form_of format)) suffix (pieces-v0 (form_of format) text inner suffix read allowed), v0_suffix-shorter text inner suffix read)
+
+pub length_handed_in : (text : List ℕ) (format : Format) → IsSymbol text → length (concat (handed_in text format)) ≤ format.limit + 20 + length text
+length_handed_in text format is = omega (arith, length-concat (handed_in text format), size_symbol_in text format is)
+
+-- the same with or without the hash, and with generic arguments
+
+pub size_symbol : (text : List ℕ) (hash : Bool) (limit : ℕ) → IsSymbol text → size (handed text hash limit) ≤ limit + 20 + length text
+size_symbol text hash limit is = size_symbol_in text (unfolded hash limit) is
 
 pub length_handed : (text : List ℕ) (hash : Bool) (limit : ℕ) → IsSymbol text → length (concat (handed text hash limit)) ≤ limit + 20 + length text
-length_handed text hash limit is = omega (arith, length-concat (handed text hash limit), size_symbol text hash limit is)
+length_handed text hash limit is = length_handed_in text (unfolded hash limit) is

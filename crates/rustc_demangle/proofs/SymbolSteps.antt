@@ -8,9 +8,10 @@ use Rattle.demangle_sink.specs.Cut.{cut, kept}
 use Rattle.demangle_legacy.specs.Legacy.{IsElements, inner_of, legacy_of, elements_of}
 use Rattle.rustc_demangle.specs.Stripped.{is_allowed}
 use Rattle.demangle_legacy.specs.Unescaped.{legacy_pieces}
-use Rattle.demangle_grammar.specs.Reading.{path_texts}
+use Rattle.demangle_grammar.specs.Reading.{Form, form, path_texts}
 use Rattle.demangle_grammar.specs.V0.{IsV0, IsV0Prefix, v0_of}
-use Rattle.rustc_demangle.specs.Symbols.{IsLegacySymbol, IsV0Symbol, IsSymbol, kept_of, if_allowed, read_of, pieces_of, handed, PrintingLooks}
+use Rattle.rustc_demangle.specs.Symbols.{IsLegacySymbol, IsV0Symbol, IsSymbol, form_of, kept_in, if_allowed, read_in, pieces_in, handed_in, PrintingLooksIn}
+use Rattle.rustc_demangle.specs.declared.format.Format.{Format}
 use Rattle.rustc_demangle.specs.Style.{style_pieces, style_looks, style_least, IsReadAs, HasNoStyle, HasStyle, IsStyled}
 use Rattle.rustc_demangle.specs.declared.value.DemangleStyle.{DemangleStyle}
 use Rattle.rustc_demangle.specs.declared.value.DemangleStyle.TheVariants.{Legacy, V0}
@@ -18,9 +19,9 @@ use Rattle.demangle_legacy.proofs.LegacyLaws.{legacy_no_prefix, legacy_read, leg
 use Rattle.demangle_grammar.proofs.V0Reading.{read_is_v0, v0_is_read}
 
 -- a text without a style hands over itself
-pub handed-none : (text : List ℕ) (hash : Bool) (limit : ℕ) → HasNoStyle text → handed text hash limit ≡ text ∷ []
-handed-none text hash limit none =
-    ap (λ read. option_map_or (λ (r : List (List ℕ) × List ℕ). cut r.0 limit ++ r.1 ∷ []) read (text ∷ [])) (none hash)
+pub handed-none : (text : List ℕ) (format : Format) → HasNoStyle text → handed_in text format ≡ text ∷ []
+handed-none text format none =
+    ap (λ read. option_map_or (λ (r : List (List ℕ) × List ℕ). cut r.0 format.limit ++ r.1 ∷ []) read (text ∷ [])) (none (form_of format))
 
 pub styled-none : (style : Option DemangleStyle) (text suffix : List ℕ) → IsStyled style text suffix → style ≡ None → HasNoStyle text
 styled-none style text suffix is e = subst (λ s. IsStyled s text suffix) e is
@@ -44,121 +45,121 @@ no_legacy text inner suffix is = legacy_no_prefix text (sym (ap inner_of is.1 �
   go prefix (inr (inl e)) = ap (λ p. inner_of (p ++ inner)) e
   go prefix (inr (inr e)) = ap (λ p. inner_of (p ++ inner)) e
 
-abbrev legacy_parts : Bool → List (List ℕ) × List ℕ → List (List ℕ) × List ℕ
-legacy_parts hash read = (legacy_pieces hash read.0, read.1)
+abbrev legacy_parts : Form → List (List ℕ) × List ℕ → List (List ℕ) × List ℕ
+legacy_parts form read = (legacy_pieces form.include_hash read.0, read.1)
 
-abbrev v0_parts : Bool → List ℕ × List ℕ → List (List ℕ) × List ℕ
-v0_parts hash read = (path_texts read.0 hash, read.1)
+abbrev v0_parts : Form → List ℕ × List ℕ → List (List ℕ) × List ℕ
+v0_parts form read = (path_texts read.0 form, read.1)
 
 -- what a legacy symbol hands over
-pub pieces-legacy : (hash : Bool) (text : List ℕ) (elements : List (List ℕ)) (suffix : List ℕ) → legacy_of text ≡ Some (elements, suffix) → is_allowed suffix ≡ true
-    → pieces_of hash text ≡ Some (legacy_pieces hash elements, suffix)
-pieces-legacy hash text elements suffix e allowed =
-    ap (λ read. if_allowed (option_or (option_map (legacy_parts hash) read) (option_map (v0_parts hash) (v0_of text)))) e
-    ∙ ap (λ b. cond b (Some (legacy_pieces hash elements, suffix)) None) allowed
+pub pieces-legacy : (form : Form) (text : List ℕ) (elements : List (List ℕ)) (suffix : List ℕ) → legacy_of text ≡ Some (elements, suffix) → is_allowed suffix ≡ true
+    → pieces_in form text ≡ Some (legacy_pieces form.include_hash elements, suffix)
+pieces-legacy form text elements suffix e allowed =
+    ap (λ read. if_allowed (option_or (option_map (legacy_parts form) read) (option_map (v0_parts form) (v0_of text)))) e
+    ∙ ap (λ b. cond b (Some (legacy_pieces form.include_hash elements, suffix)) None) allowed
 
 -- what a v0 symbol hands over
-pub pieces-v0 : (hash : Bool) (text inner suffix : List ℕ) → v0_of text ≡ Some (inner, suffix) → is_allowed suffix ≡ true
-    → pieces_of hash text ≡ Some (path_texts inner hash, suffix)
-pieces-v0 hash text inner suffix e allowed =
-    ap (λ read. if_allowed (option_or (option_map (legacy_parts hash) read) (option_map (v0_parts hash) (v0_of text)))) (no_legacy text inner suffix (read_is_v0 text inner suffix e))
-    ∙ ap (λ read. if_allowed (option_map (v0_parts hash) read)) e
-    ∙ ap (λ b. cond b (Some (path_texts inner hash, suffix)) None) allowed
+pub pieces-v0 : (form : Form) (text inner suffix : List ℕ) → v0_of text ≡ Some (inner, suffix) → is_allowed suffix ≡ true
+    → pieces_in form text ≡ Some (path_texts inner form, suffix)
+pieces-v0 form text inner suffix e allowed =
+    ap (λ read. if_allowed (option_or (option_map (legacy_parts form) read) (option_map (v0_parts form) (v0_of text)))) (no_legacy text inner suffix (read_is_v0 text inner suffix e))
+    ∙ ap (λ read. if_allowed (option_map (v0_parts form) read)) e
+    ∙ ap (λ b. cond b (Some (path_texts inner form, suffix)) None) allowed
 
 -- a text that no scheme reads, or with another suffix, hands over itself
-pub no_pieces : (hash : Bool) (text : List ℕ) → legacy_of text ≡ None → v0_of text ≡ None → pieces_of hash text ≡ None
-no_pieces hash text legacy v0 =
-    ap (λ read. if_allowed (option_or (option_map (legacy_parts hash) read) (option_map (v0_parts hash) (v0_of text)))) legacy
-    ∙ ap (λ read. if_allowed (option_map (v0_parts hash) read)) v0
+pub no_pieces : (form : Form) (text : List ℕ) → legacy_of text ≡ None → v0_of text ≡ None → pieces_in form text ≡ None
+no_pieces form text legacy v0 =
+    ap (λ read. if_allowed (option_or (option_map (legacy_parts form) read) (option_map (v0_parts form) (v0_of text)))) legacy
+    ∙ ap (λ read. if_allowed (option_map (v0_parts form) read)) v0
 
-pub no_pieces-legacy : (hash : Bool) (text : List ℕ) (elements : List (List ℕ)) (suffix : List ℕ) → legacy_of text ≡ Some (elements, suffix) → is_allowed suffix ≡ false → pieces_of hash text ≡ None
-no_pieces-legacy hash text elements suffix e other =
-    ap (λ read. if_allowed (option_or (option_map (legacy_parts hash) read) (option_map (v0_parts hash) (v0_of text)))) e
-    ∙ ap (λ b. cond b (Some (legacy_pieces hash elements, suffix)) None) other
+pub no_pieces-legacy : (form : Form) (text : List ℕ) (elements : List (List ℕ)) (suffix : List ℕ) → legacy_of text ≡ Some (elements, suffix) → is_allowed suffix ≡ false → pieces_in form text ≡ None
+no_pieces-legacy form text elements suffix e other =
+    ap (λ read. if_allowed (option_or (option_map (legacy_parts form) read) (option_map (v0_parts form) (v0_of text)))) e
+    ∙ ap (λ b. cond b (Some (legacy_pieces form.include_hash elements, suffix)) None) other
 
-pub no_pieces-v0 : (hash : Bool) (text inner suffix : List ℕ) → v0_of text ≡ Some (inner, suffix) → is_allowed suffix ≡ false → pieces_of hash text ≡ None
-no_pieces-v0 hash text inner suffix e other =
-    ap (λ read. if_allowed (option_or (option_map (legacy_parts hash) read) (option_map (v0_parts hash) (v0_of text)))) (no_legacy text inner suffix (read_is_v0 text inner suffix e))
-    ∙ ap (λ read. if_allowed (option_map (v0_parts hash) read)) e
-    ∙ ap (λ b. cond b (Some (path_texts inner hash, suffix)) None) other
+pub no_pieces-v0 : (form : Form) (text inner suffix : List ℕ) → v0_of text ≡ Some (inner, suffix) → is_allowed suffix ≡ false → pieces_in form text ≡ None
+no_pieces-v0 form text inner suffix e other =
+    ap (λ read. if_allowed (option_or (option_map (legacy_parts form) read) (option_map (v0_parts form) (v0_of text)))) (no_legacy text inner suffix (read_is_v0 text inner suffix e))
+    ∙ ap (λ read. if_allowed (option_map (v0_parts form) read)) e
+    ∙ ap (λ b. cond b (Some (path_texts inner form, suffix)) None) other
 
 pub none≢some : {x : List (List ℕ) × List ℕ} → None ≡ Some x → ⊥
 none≢some h = cc
 
 -- what has pieces is a symbol
-pub symbol-pieces : (hash : Bool) (text : List ℕ) (r : List (List ℕ) × List ℕ) → pieces_of hash text ≡ Some r → IsSymbol text
-symbol-pieces hash text r e = let h = allowed-some (read_of hash text) r e in go (legacy_of text) (v0_of text) refl refl h.0 h.1 where
+pub symbol-pieces : (form : Form) (text : List ℕ) (r : List (List ℕ) × List ℕ) → pieces_in form text ≡ Some r → IsSymbol text
+symbol-pieces form text r e = let h = allowed-some (read_in form text) r e in go (legacy_of text) (v0_of text) refl refl h.0 h.1 where
   suffix_is : (x y : List (List ℕ) × List ℕ) → Some x ≡ Some y → x.1 ≡ y.1
   suffix_is x y e = ap (λ (o : Option (List (List ℕ) × List ℕ)). option_map_or (λ p. p.1) o []) e
 
   go : (a : Option (List (List ℕ) × List ℕ)) (b : Option (List ℕ × List ℕ)) → legacy_of text ≡ a → v0_of text ≡ b
-      → option_or (option_map (legacy_parts hash) a) (option_map (v0_parts hash) b) ≡ Some r → is_allowed r.1 ≡ true → IsSymbol text
-  go (Some p) b legacy v0 e allowed = inl (p.0, p.1, legacy_read text p.0 p.1 legacy, ap is_allowed (suffix_is (legacy_parts hash p) r e) ∙ allowed)
-  go None (Some p) legacy v0 e allowed = inr (p.0, p.1, read_is_v0 text p.0 p.1 v0, ap is_allowed (suffix_is (v0_parts hash p) r e) ∙ allowed)
+      → option_or (option_map (legacy_parts form) a) (option_map (v0_parts form) b) ≡ Some r → is_allowed r.1 ≡ true → IsSymbol text
+  go (Some p) b legacy v0 e allowed = inl (p.0, p.1, legacy_read text p.0 p.1 legacy, ap is_allowed (suffix_is (legacy_parts form p) r e) ∙ allowed)
+  go None (Some p) legacy v0 e allowed = inr (p.0, p.1, read_is_v0 text p.0 p.1 v0, ap is_allowed (suffix_is (v0_parts form p) r e) ∙ allowed)
   go None None legacy v0 e allowed = cc
 
 -- and a symbol has pieces
-pub pieces-symbol : (hash : Bool) (text : List ℕ) → IsSymbol text → (r : List (List ℕ) × List ℕ) × (pieces_of hash text ≡ Some r)
-pieces-symbol hash text (inl (elements, suffix, legacy, allowed)) =
-    ((legacy_pieces hash elements, suffix), pieces-legacy hash text elements suffix (legacy_spelled text elements suffix legacy) allowed)
-pieces-symbol hash text (inr (inner, suffix, v0, allowed)) =
-    ((path_texts inner hash, suffix), pieces-v0 hash text inner suffix (v0_is_read text inner suffix v0) allowed)
+pub pieces-symbol : (form : Form) (text : List ℕ) → IsSymbol text → (r : List (List ℕ) × List ℕ) × (pieces_in form text ≡ Some r)
+pieces-symbol form text (inl (elements, suffix, legacy, allowed)) =
+    ((legacy_pieces form.include_hash elements, suffix), pieces-legacy form text elements suffix (legacy_spelled text elements suffix legacy) allowed)
+pieces-symbol form text (inr (inner, suffix, v0, allowed)) =
+    ((path_texts inner form, suffix), pieces-v0 form text inner suffix (v0_is_read text inner suffix v0) allowed)
 
 -- the pieces of a text with a style
-pub styled-pieces : (hash : Bool) (text : List ℕ) (style : DemangleStyle) (suffix : List ℕ) → HasStyle text style suffix → pieces_of hash text ≡ Some (style_pieces hash style, suffix)
-styled-pieces hash text (Legacy symbol) suffix has = pieces-legacy hash text (elements_of symbol) suffix has.read has.allowed
-styled-pieces hash text (V0 symbol) suffix has = pieces-v0 hash text symbol suffix has.read has.allowed
+pub styled-pieces : (form : Form) (text : List ℕ) (style : DemangleStyle) (suffix : List ℕ) → HasStyle text style suffix → pieces_in form text ≡ Some (style_pieces form style, suffix)
+styled-pieces form text (Legacy symbol) suffix has = pieces-legacy form text (elements_of symbol) suffix has.read has.allowed
+styled-pieces form text (V0 symbol) suffix has = pieces-v0 form text symbol suffix has.read has.allowed
 
 -- a symbol hands over its pieces within the limit, and its suffix
-pub handed-some : (text : List ℕ) (hash : Bool) (limit : ℕ) (style : DemangleStyle) (suffix : List ℕ) → HasStyle text style suffix
-    → handed text hash limit ≡ cut (style_pieces hash style) limit ++ suffix ∷ []
-handed-some text hash limit style suffix has =
-    ap (λ read. option_map_or (λ (r : List (List ℕ) × List ℕ). cut r.0 limit ++ r.1 ∷ []) read (text ∷ [])) (styled-pieces hash text style suffix has)
+pub handed-some : (text : List ℕ) (format : Format) (style : DemangleStyle) (suffix : List ℕ) → HasStyle text style suffix
+    → handed_in text format ≡ cut (style_pieces (form_of format) style) format.limit ++ suffix ∷ []
+handed-some text format style suffix has =
+    ap (λ read. option_map_or (λ (r : List (List ℕ) × List ℕ). cut r.0 format.limit ++ r.1 ∷ []) read (text ∷ [])) (styled-pieces (form_of format) text style suffix has)
 
-pub kept_of-some : (text : List ℕ) (hash : Bool) (limit : ℕ) (style : DemangleStyle) (suffix : List ℕ) → HasStyle text style suffix
-    → kept_of text hash limit ≡ kept (style_pieces hash style) limit
-kept_of-some text hash limit style suffix has =
-    ap (λ read. option_map_or (λ (r : List (List ℕ) × List ℕ). kept r.0 limit) read 0) (styled-pieces hash text style suffix has)
+pub kept_in-some : (text : List ℕ) (format : Format) (style : DemangleStyle) (suffix : List ℕ) → HasStyle text style suffix
+    → kept_in text format ≡ kept (style_pieces (form_of format) style) format.limit
+kept_in-some text format style suffix has =
+    ap (λ read. option_map_or (λ (r : List (List ℕ) × List ℕ). kept r.0 format.limit) read 0) (styled-pieces (form_of format) text style suffix has)
 
 -- what it costs to print a text with this style
-style_looks-most : (text : List ℕ) (hash : Bool) (limit : ℕ) (style : DemangleStyle) (suffix : List ℕ) → HasStyle text style suffix
-    → style_looks hash limit style ≤ 100000 * (kept_of text hash limit + 1) * (length text + 1)
-style_looks-most text hash limit (Legacy symbol) suffix has =
+style_looks-most : (text : List ℕ) (format : Format) (style : DemangleStyle) (suffix : List ℕ) → HasStyle text style suffix
+    → style_looks (form_of format) format.limit style ≤ 100000 * (kept_in text format + 1) * (length text + 1)
+style_looks-most text format (Legacy symbol) suffix has =
     let inner : length symbol ≤ length text = has.inner in
-    mul-le 16 (length symbol + 1) (100000 * (kept_of text hash limit + 1)) (length text + 1) (omega arith) (omega arith)
-style_looks-most text hash limit (V0 symbol) suffix has =
+    mul-le 16 (length symbol + 1) (100000 * (kept_in text format + 1)) (length text + 1) (omega arith) (omega arith)
+style_looks-most text format (V0 symbol) suffix has =
     let inner : length symbol ≤ length text = has.inner in
-    let same = kept_of-some text hash limit (V0 symbol) suffix has in
-    mul-le (100000 * (kept (path_texts symbol hash) limit + 1)) (length symbol + 1) (100000 * (kept_of text hash limit + 1)) (length text + 1) (omega (arith, same)) (omega arith)
+    let same = kept_in-some text format (V0 symbol) suffix has in
+    mul-le (100000 * (kept (path_texts symbol (form_of format)) format.limit + 1)) (length symbol + 1) (100000 * (kept_in text format + 1)) (length text + 1) (omega (arith, same)) (omega arith)
 
-style_looks-legacy : (text : List ℕ) (hash : Bool) (limit : ℕ) (style : DemangleStyle) (suffix : List ℕ) → HasStyle text style suffix → IsLegacySymbol text
-    → style_looks hash limit style ≤ 16 * (length text + 1)
-style_looks-legacy text hash limit (Legacy symbol) suffix has is = let inner : length symbol ≤ length text = has.inner in omega arith
-style_looks-legacy text hash limit (V0 symbol) suffix has is = absurd (none≢some (sym (no_legacy text symbol suffix (read_is_v0 text symbol suffix has.read)) ∙ legacy_spelled text is.0 is.1 is.2))
+style_looks-legacy : (text : List ℕ) (format : Format) (style : DemangleStyle) (suffix : List ℕ) → HasStyle text style suffix → IsLegacySymbol text
+    → style_looks (form_of format) format.limit style ≤ 16 * (length text + 1)
+style_looks-legacy text format (Legacy symbol) suffix has is = let inner : length symbol ≤ length text = has.inner in omega arith
+style_looks-legacy text format (V0 symbol) suffix has is = absurd (none≢some (sym (no_legacy text symbol suffix (read_is_v0 text symbol suffix has.read)) ∙ legacy_spelled text is.0 is.1 is.2))
 
 style_least-v0 : (text : List ℕ) (style : DemangleStyle) (suffix : List ℕ) → HasStyle text style suffix → IsV0Symbol text → style_least style ≡ 1
 style_least-v0 text (Legacy symbol) suffix has is = absurd (none≢some (sym (no_legacy text is.0 is.1 is.2) ∙ has.read))
 style_least-v0 text (V0 symbol) suffix has is = refl
 
 pub symbol_styled : (text : List ℕ) (style : DemangleStyle) (suffix : List ℕ) → HasStyle text style suffix → IsSymbol text
-symbol_styled text style suffix has = symbol-pieces true text (style_pieces true style, suffix) (styled-pieces true text style suffix has)
+symbol_styled text style suffix has = symbol-pieces (form true false) text (style_pieces (form true false) style, suffix) (styled-pieces (form true false) text style suffix has)
 
 pub no_symbol_unstyled : (text : List ℕ) → HasNoStyle text → IsSymbol text → ⊥
-no_symbol_unstyled text none symbol = let some = pieces-symbol true text symbol in none≢some (sym (none true) ∙ some.1)
+no_symbol_unstyled text none symbol = let some = pieces-symbol (form true false) text symbol in none≢some (sym (none (form true false)) ∙ some.1)
 
 -- what printing a text with this style looks at, and one without a style
-pub styled_looks : (text : List ℕ) (hash : Bool) (limit : ℕ) (style : DemangleStyle) (suffix : List ℕ) (old new : ℕ) → HasStyle text style suffix
-    → old ≤ new → new ≤ old + style_looks hash limit style → old + style_least style ≤ new → PrintingLooks text hash limit old new
-styled_looks text hash limit style suffix old new has grows most least = record {
+pub styled_looks : (text : List ℕ) (format : Format) (style : DemangleStyle) (suffix : List ℕ) (old new : ℕ) → HasStyle text style suffix
+    → old ≤ new → new ≤ old + style_looks (form_of format) format.limit style → old + style_least style ≤ new → PrintingLooksIn text format old new
+styled_looks text format style suffix old new has grows most least = record {
   grows = grows;
-  most = omega (arith, most, style_looks-most text hash limit style suffix has);
-  legacy = λ legacy. omega (arith, most, style_looks-legacy text hash limit style suffix has legacy);
+  most = omega (arith, most, style_looks-most text format style suffix has);
+  legacy = λ legacy. omega (arith, most, style_looks-legacy text format style suffix has legacy);
   v0 = λ v0. omega (arith, least, style_least-v0 text style suffix has v0);
   unread = λ none. absurd (none (symbol_styled text style suffix has));
 }
 
-pub unstyled_looks : (text : List ℕ) (hash : Bool) (limit looks : ℕ) → HasNoStyle text → PrintingLooks text hash limit looks looks
-unstyled_looks text hash limit looks none = record {
+pub unstyled_looks : (text : List ℕ) (format : Format) (looks : ℕ) → HasNoStyle text → PrintingLooksIn text format looks looks
+unstyled_looks text format looks none = record {
   grows = omega arith;
   most = omega arith;
   legacy = λ legacy. omega arith;
@@ -205,5 +206,5 @@ style_suffix-shorter text (V0 symbol) suffix read = v0_suffix-shorter text symbo
 
 -- with a suffix that is not allowed there is no style
 pub not_allowed_unstyled : (text : List ℕ) (style : DemangleStyle) (suffix : List ℕ) → IsReadAs text style suffix → is_allowed suffix ≡ false → HasNoStyle text
-not_allowed_unstyled text (Legacy symbol) suffix read other hash = no_pieces-legacy hash text (elements_of symbol) suffix read other
-not_allowed_unstyled text (V0 symbol) suffix read other hash = no_pieces-v0 hash text symbol suffix read other
+not_allowed_unstyled text (Legacy symbol) suffix read other form = no_pieces-legacy form text (elements_of symbol) suffix read other
+not_allowed_unstyled text (V0 symbol) suffix read other form = no_pieces-v0 form text symbol suffix read other

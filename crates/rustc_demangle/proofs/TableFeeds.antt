@@ -9,7 +9,7 @@ use Rattle.demangle_symbol.specs.Words.{Name, is_upper, some_or, number_of}
 use Rattle.demangle_symbol.specs.Names.{is_empty, is_nameless, name_pieces}
 use Rattle.demangle_symbol.specs.Literals.{literal, string_of}
 use Rattle.demangle_grammar.specs.Items.{Text, Kind, a_path, a_type, a_constant, a_pattern, a_trait_path, Items, done, invalid, say, say_plain, byte, next, raise, unit, child, opens, dyn_trait}
-use Rattle.demangle_grammar.specs.Table.{is_among, row_of, says, says_if, say_all, list, tuple, type_inside, constant_inside, argument, in_special, in_namespace, path_rows, basic_types, row_text, extern, signature, function, binding_value, after_tag, type_rows, type_behind_tag, type_tagged, pattern_rows, braces, integer_constant, character, truth, string, field, variant, variant_rows, constant_rows, items}
+use Rattle.demangle_grammar.specs.Table.{is_among, row_of, says, says_if, say_all, list, tuple, type_inside, constant_inside, argument, arguments, in_special, in_namespace, path_rows, basic_types, row_text, extern, signature, function, binding_value, after_tag, type_rows, type_behind_tag, type_tagged, pattern_rows, braces, integer_constant, character, truth, string, field, variant, variant_rows, constant_rows, items}
 use Rattle.rustc_demangle.proofs.Feeds.{feeds-other}
 use Rattle.rustc_demangle.proofs.WordFeeds.{AreClear, number_clear, name_clear, extern_clear, literal_clear}
 use Rattle.rustc_demangle.proofs.ItemFeeds.{SaysClear}
@@ -51,6 +51,9 @@ a ▸ b = (a, b)
 argument_clear : SaysClear argument
 argument_clear = ((λ _. tt), (tt, tt))
 
+arguments_clear : (p : Items) → SaysClear p → SaysClear (arguments p)
+arguments_clear p x = (list_clear ", " argument done refl argument_clear tt, x)
+
 field_clear : SaysClear field
 field_clear = λ _ a h k. all_clear (name_pieces a) _ (name_clear a h k) (refl, tt)
 
@@ -79,8 +82,8 @@ paths_clear value =
     ▸ (λ _. (refl, (refl, (refl, tt))))
     ▸ (refl, (refl, (refl, tt)))
     ▸ (
-    let after : SaysClear (says "<" (list ", " argument (says ">" done))) = (refl, list_clear ", " argument (says ">" done) refl argument_clear (refl, tt)) in
-    cond_clear value (says "::" (says "<" (list ", " argument (says ">" done)))) _ (refl, after) after
+    let after : SaysClear (says "<" (arguments (says ">" done))) = (refl, arguments_clear (says ">" done) (refl, tt)) in
+    cond_clear value (says "::" (says "<" (arguments (says ">" done)))) _ (refl, after) after
     )
     ▸ tt
     ▸ tt
@@ -192,4 +195,4 @@ items_clear a_path value = λ tag. row_clear tag invalid (path_rows value) tt (p
 items_clear a_type value = ((refl, tagged_clear), tagged_clear)
 items_clear a_constant value = λ tag. row_clear tag invalid (constant_rows value tag) tt (constants_clear value tag)
 items_clear a_pattern value = λ tag. row_clear tag invalid pattern_rows tt patterns_clear
-items_clear a_trait_path value = (tt, ((refl, list_clear ", " argument (opens done) refl argument_clear tt), tt))
+items_clear a_trait_path value = (tt, ((refl, arguments_clear (opens done) tt), tt))

@@ -1,17 +1,17 @@
 -- A v0 symbol without line feeds prints none.
-use Rattle.std.proofs.Common.{◌≡◌, ℕ, zero, suc, ◌-◌, Bool, true, List, Some}
+use Rattle.std.proofs.Common.{false, ◌≡◌, ℕ, zero, suc, ◌-◌, Bool, true, List, Some}
 use Rattle.std.specs.List.{concat}
 use Rattle.rustc_demangle.specs.Lines.{feeds}
 use Rattle.demangle_grammar.specs.Items.{Kind, a_path}
 use Rattle.demangle_grammar.specs.Table.{items}
-use Rattle.demangle_grammar.specs.Reading.{Level, Surroundings, run, nowhere, level_of, levels, max_depth, read_at, path_texts}
+use Rattle.demangle_grammar.specs.Reading.{form, Level, Surroundings, run, nowhere, level_of, levels, max_depth, read_at, path_texts}
 use Rattle.rustc_demangle.proofs.ItemFeeds.{IsClear, clear_pieces, LevelClear, LevelsClear, clear}
 use Rattle.rustc_demangle.proofs.TableFeeds.{items_clear}
 
-level_clear : (symbol : List ℕ) (ls : List Level) → feeds symbol ≡ 0 → LevelsClear ls → LevelClear (level_of symbol ls)
+level_clear : (symbol : List ℕ) (folds : Bool) (ls : List Level) → feeds symbol ≡ 0 → LevelsClear ls → LevelClear (level_of symbol folds ls)
 unfolding level_of
-level_clear symbol ls none d printed kind value m i =
-    let at : Level → Bool → ℕ → Surroundings = λ here pr k. record { symbol = symbol; printed = pr; here = here; deeper = ls; lifetimes = k } in
+level_clear symbol folds ls none d printed kind value m i =
+    let at : Level → Bool → ℕ → Surroundings = λ here pr k. record { symbol = symbol; folds = folds; printed = pr; here = here; deeper = ls; lifetimes = k } in
     let inner : Level = λ pr k v o j. run (items k v) (at nowhere pr o) (Some j) in
     clear (items kind value) (at inner printed m) (items_clear kind value)
     (record {
@@ -20,17 +20,17 @@ level_clear symbol ls none d printed kind value m i =
       deeper = d;
     }) (Some i)
 
-levels_clear : (symbol : List ℕ) (n : ℕ) → feeds symbol ≡ 0 → LevelsClear (levels symbol n)
+levels_clear : (symbol : List ℕ) (folds : Bool) (n : ℕ) → feeds symbol ≡ 0 → LevelsClear (levels symbol folds n)
 unfolding levels
-levels_clear symbol zero none = tt
-levels_clear symbol (suc n) none = let d : LevelsClear (levels symbol n) = levels_clear symbol n none in (level_clear symbol (levels symbol n) none d, d)
+levels_clear symbol folds zero none = tt
+levels_clear symbol folds (suc n) none = let d : LevelsClear (levels symbol folds n) = levels_clear symbol folds n none in (level_clear symbol folds (levels symbol folds n) none d, d)
 
 -- any unit, at any depth
-read_clear : (symbol : List ℕ) (printed : Bool) (kind : Kind) (i depth lifetimes : ℕ) (value : Bool) → feeds symbol ≡ 0 → IsClear (read_at symbol printed kind i depth lifetimes value).tree
+read_clear : (symbol : List ℕ) (folds printed : Bool) (kind : Kind) (i depth lifetimes : ℕ) (value : Bool) → feeds symbol ≡ 0 → IsClear (read_at symbol folds printed kind i depth lifetimes value).tree
 unfolding read_at
-read_clear symbol printed kind i depth lifetimes value none =
-    level_clear symbol (levels symbol (max_depth - depth)) none (levels_clear symbol (max_depth - depth) none) printed kind value lifetimes i
+read_clear symbol folds printed kind i depth lifetimes value none =
+    level_clear symbol folds (levels symbol folds (max_depth - depth)) none (levels_clear symbol folds (max_depth - depth) none) printed kind value lifetimes i
 
-pub feeds-rendered : (inner : List ℕ) (hash : Bool) → feeds inner ≡ 0 → feeds (concat (path_texts inner hash)) ≡ 0
+pub feeds-rendered : (inner : List ℕ) (hash : Bool) → feeds inner ≡ 0 → feeds (concat (path_texts inner (form hash false))) ≡ 0
 unfolding path_texts
-feeds-rendered inner hash none = clear_pieces hash (read_at inner true a_path 0 0 0 true).tree (read_clear inner true a_path 0 0 0 true none)
+feeds-rendered inner hash none = clear_pieces hash (read_at inner false true a_path 0 0 0 true).tree (read_clear inner false true a_path 0 0 0 true none)

@@ -4,7 +4,8 @@ use Rattle.std.specs.List.{starts_with, prefix_len, take_while, list_all, concat
 use Rattle.std.specs.Option.{option_map_or}
 use Rattle.std.specs.Char.{is_ascii_alphanumeric}
 use Rattle.rustc_demangle.specs.Stripped.{stripped}
-use Rattle.rustc_demangle.specs.Symbols.{IsSymbol, pieces_of, handed, printed, most_bytes}
+use Rattle.rustc_demangle.specs.Symbols.{IsSymbol, pieces_in, form_of, handed_in, unfolded, printed, most_bytes}
+use Rattle.rustc_demangle.specs.declared.format.Format.{Format}
 
 -- A run is a candidate symbol: the longest sequence of run bytes that starts with `_ZN` or `_R`. A run byte is `$`,
 -- `.`, `_`, an ASCII letter or an ASCII digit.
@@ -54,9 +55,13 @@ pub record IsFiltered (hash : Bool) (line out : List ℕ) : Type 0 where
   pub no_start : HasNoStart kept
   pub runs : AreReplaced hash parts rest rest_out
 
--- the replacement of a run as a function, with a size limit for each symbol
+-- the replacement of a run as a function, in a format
+abbrev pub replacement_in : Format → List ℕ → List ℕ
+replacement_in format run = option_map_or (λ _. concat (handed_in (stripped run) format)) (pieces_in (form_of format) (stripped run)) run
+
+-- the same with generic arguments, and with a size limit for each symbol
 abbrev pub replacement_within : Bool → ℕ → List ℕ → List ℕ
-replacement_within hash limit run = option_map_or (λ _. concat (handed (stripped run) hash limit)) (pieces_of hash (stripped run)) run
+replacement_within hash limit = replacement_in (unfolded hash limit)
 
 -- `replacement_within` with the default limit
 abbrev pub replacement : Bool → List ℕ → List ℕ
@@ -71,9 +76,13 @@ filtered_by stands zero (c ∷ s) = elim (begins_run (c ∷ s)) [
   | false ↦ c ∷ filtered_by stands zero s
 ]
 
--- any bytes with each run replaced, with a size limit for each symbol
+-- any bytes with each run replaced, in a format
+abbrev pub filtered_in : Format → List ℕ → List ℕ
+filtered_in format = filtered_by (replacement_in format) zero
+
+-- the same with generic arguments, and with a size limit for each symbol
 abbrev pub filtered_within : Bool → ℕ → List ℕ → List ℕ
-filtered_within hash limit = filtered_by (replacement_within hash limit) zero
+filtered_within hash limit = filtered_in (unfolded hash limit)
 
 -- the only `out` for which `IsFiltered hash line out` holds
 abbrev pub filtered : Bool → List ℕ → List ℕ

@@ -1,20 +1,20 @@
 -- Internal: no public contract cites this.
 -- The parsed form of a demangled symbol.
-use Rattle.std.specs.Prelude.{◌≡◌, ℕ, ◌+◌, ◌*◌, ◌≤◌, Bool, true, List, Option, None, Some, length}
+use Rattle.std.specs.Prelude.{◌≡◌, ℕ, ◌+◌, ◌*◌, ◌≤◌, true, List, Option, None, Some, length}
 use Rattle.rustc_demangle.specs.declared.value.DemangleStyle.{DemangleStyle}
 use Rattle.rustc_demangle.specs.declared.value.DemangleStyle.TheVariants.{Legacy, V0}
 use Rattle.demangle_sink.specs.Cut.{kept}
 use Rattle.demangle_legacy.specs.Legacy.{legacy_of, elements_of}
-use Rattle.demangle_grammar.specs.Reading.{path_texts}
+use Rattle.demangle_grammar.specs.Reading.{Form, path_texts}
 use Rattle.rustc_demangle.specs.Stripped.{is_allowed}
-use Rattle.rustc_demangle.specs.Symbols.{pieces_of}
+use Rattle.rustc_demangle.specs.Symbols.{pieces_in}
 use Rattle.demangle_legacy.specs.Unescaped.{legacy_pieces}
 use Rattle.demangle_grammar.specs.V0.{v0_of}
 
 -- the pieces of a symbol of this style
-abbrev pub style_pieces : Bool → DemangleStyle → List (List ℕ)
-style_pieces hash (Legacy symbol) = legacy_pieces hash (elements_of symbol)
-style_pieces hash (V0 symbol) = path_texts symbol hash
+abbrev pub style_pieces : Form → DemangleStyle → List (List ℕ)
+style_pieces form (Legacy symbol) = legacy_pieces form.include_hash (elements_of symbol)
+style_pieces form (V0 symbol) = path_texts symbol form
 
 -- the number of bytes after the prefix
 abbrev pub style_len : DemangleStyle → ℕ
@@ -22,9 +22,9 @@ style_len (Legacy symbol) = length symbol
 style_len (V0 symbol) = length symbol
 
 -- the most looks that printing within a limit makes
-abbrev pub style_looks : Bool → ℕ → DemangleStyle → ℕ
-style_looks hash limit (Legacy symbol) = 16 * (length symbol + 1)
-style_looks hash limit (V0 symbol) = 100000 * (kept (path_texts symbol hash) limit + 1) * (length symbol + 1)
+abbrev pub style_looks : Form → ℕ → DemangleStyle → ℕ
+style_looks form limit (Legacy symbol) = 16 * (length symbol + 1)
+style_looks form limit (V0 symbol) = 100000 * (kept (path_texts symbol form) limit + 1) * (length symbol + 1)
 
 -- the fewest looks that printing makes
 abbrev pub style_least : DemangleStyle → ℕ
@@ -38,7 +38,7 @@ IsReadAs text (V0 symbol) suffix = v0_of text ≡ Some (symbol, suffix)
 
 -- the text has no style
 abbrev pub HasNoStyle : List ℕ → Type 0
-HasNoStyle text = (hash : Bool) → pieces_of hash text ≡ None
+HasNoStyle text = (form : Form) → pieces_in form text ≡ None
 
 -- the text has this style and this suffix
 pub record HasStyle (text : List ℕ) (style : DemangleStyle) (suffix : List ℕ) : Type 0 where

@@ -1,11 +1,12 @@
 -- The texts that are Rust symbols, and the pieces that they print.
-use Rattle.std.specs.Prelude.{◌≡◌, ◌⊎◌, ℕ, ◌+◌, ◌*◌, ◌≤◌, Bool, true, List, [], ◌∷◌, ◌++◌, length, Option, None, Some, option_map, if◌then◌else◌}
+use Rattle.std.specs.Prelude.{◌≡◌, ◌⊎◌, ℕ, ◌+◌, ◌*◌, ◌≤◌, Bool, true, false, List, [], ◌∷◌, ◌++◌, length, Option, None, Some, option_map, if◌then◌else◌}
 use Rattle.std.specs.List.{concat}
 use Rattle.std.specs.Option.{option_map_or, option_or}
 use Rattle.demangle_sink.specs.Cut.{cut, kept}
 use Rattle.demangle_legacy.specs.Legacy.{IsLegacy, legacy_of}
-use Rattle.demangle_grammar.specs.Reading.{path_texts}
+use Rattle.demangle_grammar.specs.Reading.{Form, form, path_texts}
 use Rattle.rustc_demangle.specs.Stripped.{is_allowed}
+use Rattle.rustc_demangle.specs.declared.format.Format.{Format}
 use Rattle.demangle_legacy.specs.Unescaped.{legacy_pieces}
 use Rattle.demangle_grammar.specs.V0.{IsV0, v0_of}
 
@@ -26,35 +27,60 @@ abbrev pub if_allowed : {A : Type 0} → Option (A × List ℕ) → Option (A ×
 if_allowed None = None
 if_allowed (Some (x, suffix)) = if is_allowed suffix then Some (x, suffix) else None
 
--- The pieces and the suffix of a text in the scheme that accepts it, with or without the hash. No text has a prefix
--- of both schemes.
-abbrev pub read_of : Bool → List ℕ → Option (List (List ℕ) × List ℕ)
-read_of hash text = option_or (option_map (λ read. (legacy_pieces hash read.0, read.1)) (legacy_of text))
-    (option_map (λ read. (path_texts read.0 hash, read.1)) (v0_of text))
+-- The pieces and the suffix of a text in the scheme that accepts it, in a form. The arguments of a legacy symbol are parts of
+-- names, so only a v0 symbol has arguments to fold. No text has a prefix of both schemes.
+abbrev pub read_in : Form → List ℕ → Option (List (List ℕ) × List ℕ)
+read_in form text = option_or (option_map (λ read. (legacy_pieces form.include_hash read.0, read.1)) (legacy_of text))
+    (option_map (λ read. (path_texts read.0 form, read.1)) (v0_of text))
 
--- the pieces and the suffix of a symbol
-abbrev pub pieces_of : Bool → List ℕ → Option (List (List ℕ) × List ℕ)
-pieces_of hash text = if_allowed (read_of hash text)
+-- the pieces and the suffix of a symbol, in a form
+abbrev pub pieces_in : Form → List ℕ → Option (List (List ℕ) × List ℕ)
+pieces_in form text = if_allowed (read_in form text)
+
+-- the form of a format, which has a limit too
+abbrev pub form_of : Format → Form
+form_of format = form format.include_hash format.fold_arguments
 
 -- The pieces of a symbol within the limit, then the marker if some are left out, then the suffix. Any other text is
 -- one piece.
-abbrev pub handed : List ℕ → Bool → ℕ → List (List ℕ)
-handed text hash limit = option_map_or (λ read. cut read.0 limit ++ read.1 ∷ []) (pieces_of hash text) (text ∷ [])
+abbrev pub handed_in : List ℕ → Format → List (List ℕ)
+handed_in text format = option_map_or (λ read. cut read.0 format.limit ++ read.1 ∷ []) (pieces_in (form_of format) text) (text ∷ [])
 
 -- the number of bytes that a symbol prints before the marker and the suffix
+abbrev pub kept_in : List ℕ → Format → ℕ
+kept_in text format = option_map_or (λ read. kept read.0 format.limit) (pieces_in (form_of format) text) 0
+
+-- the format with generic arguments, and the one with `_` for them
+abbrev pub unfolded : Bool → ℕ → Format
+unfolded hash limit = record { include_hash = hash; fold_arguments = false; limit = limit }
+
+abbrev pub folded : Bool → ℕ → Format
+folded hash limit = record { include_hash = hash; fold_arguments = true; limit = limit }
+
+-- The same with or without the hash, and with generic arguments.
+
+abbrev pub pieces_of : Bool → List ℕ → Option (List (List ℕ) × List ℕ)
+pieces_of hash text = pieces_in (form hash false) text
+
+abbrev pub handed : List ℕ → Bool → ℕ → List (List ℕ)
+handed text hash limit = handed_in text (unfolded hash limit)
+
 abbrev pub kept_of : List ℕ → Bool → ℕ → ℕ
-kept_of text hash limit = option_map_or (λ read. kept read.0 limit) (pieces_of hash text) 0
+kept_of text hash limit = kept_in text (unfolded hash limit)
 
 -- The change of the look counter by printing a text, for Ok and for Err. Let `n` be the length of the text, and `w`
 -- the number of bytes that are kept. The counter never decreases. It increases by at most 100,000 x (w + 1) x
 -- (n + 1), and for a legacy symbol by at most 16 x (n + 1). It increases by at least 1 for a v0 symbol, and by
 -- nothing for a text that is not a symbol.
-pub record PrintingLooks (text : List ℕ) (hash : Bool) (limit old new : ℕ) : Type 0 where
+pub record PrintingLooksIn (text : List ℕ) (format : Format) (old new : ℕ) : Type 0 where
   pub grows : old ≤ new
-  pub most : new ≤ old + 100000 * (kept_of text hash limit + 1) * (length text + 1)
+  pub most : new ≤ old + 100000 * (kept_in text format + 1) * (length text + 1)
   pub legacy : IsLegacySymbol text → new ≤ old + 16 * (length text + 1)
   pub v0 : IsV0Symbol text → old + 1 ≤ new
   pub unread : (IsSymbol text → ⊥) → new ≡ old
+
+abbrev pub PrintingLooks : List ℕ → Bool → ℕ → ℕ → ℕ → Type 0
+PrintingLooks text hash limit old new = PrintingLooksIn text (unfolded hash limit) old new
 
 -- the default limit
 abbrev pub most_bytes : ℕ

@@ -6,6 +6,7 @@ ghost use Rattle.rustc_demangle.specs.Stripped.{stripped};
 ghost use Rattle.rustc_demangle.specs.Symbols.{IsSymbol};
 
 mod display;
+mod format;
 pub mod laws;
 mod runs;
 pub mod sink;
@@ -16,14 +17,15 @@ mod text;
 mod value;
 
 pub use demangle_symbol::cursor::Looks;
+pub use format::Format;
 pub use runs::{run_len, run_start};
-pub use slice::demangle_slice;
+pub use slice::{demangle_slice, demangle_slice_formatted};
 pub use stream::{
-    BytesFilter, StreamFault, SymbolMemo, demangle_bytes, demangle_bytes_limited, demangle_stream,
-    demangle_stream_named,
+    BytesFilter, StreamFault, SymbolMemo, demangle_bytes, demangle_bytes_formatted,
+    demangle_bytes_limited, demangle_stream, demangle_stream_named,
 };
 use strip::without_thin_lto;
-pub use text::{demangle_text, demangle_text_limited};
+pub use text::{demangle_text, demangle_text_formatted, demangle_text_limited};
 pub use value::{Demangle, write_with_path_len};
 
 /// The error for a text that is not a Rust symbol.

@@ -3,31 +3,27 @@ ghost use Rattle.std.specs.Prelude.{◌≡◌, ◌<◌, length, false, IfSome, I
 ghost use Rattle.std.specs.List.{concat};
 ghost use Rattle.demangle_sink.specs.Slice.{overlay};
 ghost use Rattle.demangle_sink.specs.Writes.{Writes};
-ghost use Rattle.rustc_demangle.specs.Filtered.{filtered_within};
-ghost use Rattle.rustc_demangle.specs.Pieces.{filtered_pieces};
+ghost use Rattle.rustc_demangle.specs.Filtered.{filtered_in, filtered_within};
+ghost use Rattle.rustc_demangle.specs.Pieces.{filtered_pieces_in};
 
+use crate::format::Format;
 use crate::runs::{run_len, run_start, run_text};
 use crate::text::put_run;
 use demangle_sink::{SinkRefused, SliceSink, TextSink};
 
 /// Writes bytes, which need not be UTF-8, with each symbol of them demangled. Fails if the sink
 /// fails.
-fn put_slice<'b>(
-    text: &[u8],
-    out: &mut SliceSink<'b>,
-    include_hash: bool,
-    limit: usize,
-) -> Result<(), SinkRefused>
+fn put_slice<'b>(text: &[u8], out: &mut SliceSink<'b>, format: Format) -> Result<(), SinkRefused>
     requires { ⟦<SliceSink<'b> as TextSink>⟧.failed out.old ≡ false }
     ensures { Writes ⟦<SliceSink<'b> as TextSink>⟧ out.old
-        (filtered_pieces include_hash limit text.now) result out.new }
+        (filtered_pieces_in format text.now) result out.new }
 {
     let mut rest = text;
     while let Some(start) = run_start(rest) {
         let (kept, found) = rest.split_at(start);
         let (run, behind) = found.split_at(run_len(found));
         out.put_bytes(kept)?;
-        put_run(run_text(run), out, include_hash, limit)?;
+        put_run(run_text(run), out, format)?;
         rest = behind;
     }
     out.put_bytes(rest)
@@ -35,16 +31,16 @@ fn put_slice<'b>(
 
 /// Writes the pieces of any bytes into memory, with each symbol demangled. Returns their size, or
 /// `None` if it exceeds `usize::MAX`.
-fn write_slice(text: &[u8], out: &mut [u8], include_hash: bool, limit: usize) -> Option<usize>
+fn write_slice(text: &[u8], out: &mut [u8], format: Format) -> Option<usize>
     ensures size { IfSome result
-        (λ n. n ≡ length (concat (filtered_pieces include_hash limit text.now))) }
+        (λ n. n ≡ length (concat (filtered_pieces_in format text.now))) }
     ensures bytes { IfSome result
-        (λ _. out.new ≡ overlay out.old (concat (filtered_pieces include_hash limit text.now))) }
+        (λ _. out.new ≡ overlay out.old (concat (filtered_pieces_in format text.now))) }
     ensures none { IfNone result
-        (usize.MAX < length (concat (filtered_pieces include_hash limit text.now))) }
+        (usize.MAX < length (concat (filtered_pieces_in format text.now))) }
 {
     let mut sink = SliceSink::new(out);
-    match put_slice(text, &mut sink, include_hash, limit) {
+    match put_slice(text, &mut sink, format) {
         Ok(()) => Some(sink.len()),
         Err(_) => None,
     }
@@ -70,5 +66,20 @@ pub fn demangle_slice(
     ensures none { IfNone result
         (usize.MAX < length (filtered_within include_hash limit text.now)) }
 {
-    write_slice(text, out, include_hash, limit)
+    let format = Format {
+        include_hash,
+        fold_arguments: false,
+        limit,
+    };
+    demangle_slice_formatted(text, out, format)
+}
+
+/// Writes any bytes into memory with each symbol of them demangled in a format, as `demangle_slice`
+/// does. Returns the size of the complete output, or `None` if it exceeds `usize::MAX`.
+pub fn demangle_slice_formatted(text: &[u8], out: &mut [u8], format: Format) -> Option<usize>
+    ensures size { IfSome result (λ n. n ≡ length (filtered_in format text.now)) }
+    ensures bytes { IfSome result (λ _. out.new ≡ overlay out.old (filtered_in format text.now)) }
+    ensures none { IfNone result (usize.MAX < length (filtered_in format text.now)) }
+{
+    write_slice(text, out, format)
 }

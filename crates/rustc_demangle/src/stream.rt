@@ -16,7 +16,7 @@ mod reading;
 #[cfg(test)]
 mod tests;
 
-pub use bytes::{BytesFilter, demangle_bytes, demangle_bytes_limited};
+pub use bytes::{BytesFilter, demangle_bytes, demangle_bytes_formatted, demangle_bytes_limited};
 pub use fault::StreamFault;
 use line::demangle_line;
 pub use memo::SymbolMemo;

@@ -4,9 +4,10 @@ ghost use Rattle.std.specs.List.{list_all};
 ghost use Rattle.demangle_sink.specs.Hands.{Hands};
 ghost use Rattle.demangle_sink.specs.Writes.{Writes};
 ghost use Rattle.rustc_demangle.specs.Filtered.{filtered, is_run};
-ghost use Rattle.rustc_demangle.specs.Pieces.{run_pieces, filtered_pieces};
+ghost use Rattle.rustc_demangle.specs.Pieces.{run_pieces, filtered_pieces, filtered_pieces_in};
 ghost use Rattle.rustc_demangle.specs.Symbols.{most_bytes};
 
+use crate::format::Format;
 use crate::runs::{run_len, run_start};
 use crate::value::{Demangle, MAX_SIZE};
 use demangle_sink::{SinkRefused, TextSink, put_piece};
@@ -17,38 +18,31 @@ use demangle_symbol::cursor::Looks;
 pub(crate) fn put_run<S: TextSink>(
     run: &str,
     out: &mut S,
-    include_hash: bool,
-    limit: usize,
+    format: Format,
 ) -> Result<(), SinkRefused>
     requires run { list_all is_run run.now ≡ true }
     requires alive { S.failed out.old ≡ false }
-    ensures { Hands S.TextSink out.old (run_pieces include_hash limit run.now) result out.new }
+    ensures { Hands S.TextSink out.old (run_pieces format run.now) result out.new }
 {
     let symbol = Demangle::read_run(run);
     if symbol.has_style() {
-        symbol.hand_over(out, include_hash, limit, &mut Looks::new())
+        symbol.hand_over(out, format, &mut Looks::new())
     } else {
         put_piece(run, out)
     }
 }
 
 /// Writes a text with each symbol of it demangled, in one pass over it. Fails if the sink fails.
-fn put_text<S: TextSink>(
-    text: &str,
-    out: &mut S,
-    include_hash: bool,
-    limit: usize,
-) -> Result<(), SinkRefused>
+fn put_text<S: TextSink>(text: &str, out: &mut S, format: Format) -> Result<(), SinkRefused>
     requires { S.failed out.old ≡ false }
-    ensures { Hands S.TextSink out.old
-        (filtered_pieces include_hash limit text.now) result out.new }
+    ensures { Hands S.TextSink out.old (filtered_pieces_in format text.now) result out.new }
 {
     let mut rest = text;
     while let Some(start) = run_start(rest.as_bytes()) {
         let (kept, found) = rest.split_at(start);
         let (run, behind) = found.split_at(run_len(found.as_bytes()));
         put_piece(kept, out)?;
-        put_run(run, out, include_hash, limit)?;
+        put_run(run, out, format)?;
         rest = behind;
     }
     put_piece(rest, out)
@@ -77,7 +71,25 @@ pub fn demangle_text_limited<S: TextSink>(
     ensures { Writes S.TextSink out.old
         (filtered_pieces include_hash limit text.now) result out.new }
 {
-    put_text(text, out, include_hash, limit)
+    let format = Format {
+        include_hash,
+        fold_arguments: false,
+        limit,
+    };
+    demangle_text_formatted(text, out, format)
+}
+
+/// Writes a text into a sink with each symbol of it demangled in a format, as
+/// `demangle_text_limited` does.
+pub fn demangle_text_formatted<S: TextSink>(
+    text: &str,
+    out: &mut S,
+    format: Format,
+) -> Result<(), SinkRefused>
+    requires { S.failed out.old ≡ false }
+    ensures { Writes S.TextSink out.old (filtered_pieces_in format text.now) result out.new }
+{
+    put_text(text, out, format)
 }
 
 /// Writes a text into a sink with each symbol of it demangled, as `demangle_text_limited` does.

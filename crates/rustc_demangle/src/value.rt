@@ -9,10 +9,11 @@ ghost use Rattle.rustc_demangle.specs.Filtered.{is_run, replacement_within};
 ghost use Rattle.rustc_demangle.specs.PathEnds.{path_len_of, handed_with};
 ghost use Rattle.rustc_demangle.specs.Stripped.{is_allowed, is_graphic, stripped};
 ghost use Rattle.rustc_demangle.specs.Style.{style_pieces, style_len, style_looks, style_least, IsReadAs, HasNoStyle, HasStyle};
-ghost use Rattle.rustc_demangle.specs.Symbols.{handed, most_bytes, IsSymbol, PrintingLooks};
+ghost use Rattle.rustc_demangle.specs.Symbols.{folded, form_of, handed, handed_in, most_bytes, IsSymbol, PrintingLooks, PrintingLooksIn};
 ghost use Rattle.demangle_grammar.specs.V0.{v0_of};
 ghost use Rattle.demangle_sink.specs.Writes.{Writes};
 
+use crate::format::Format;
 use crate::strip::without_thin_lto;
 use demangle_sink::{SinkRefused, SizeLimitedFmtAdapter, TextSink, put_piece};
 use demangle_symbol::cursor::{Looks, Symbol};
@@ -29,23 +30,27 @@ pub(crate) enum DemangleStyle<'a> {
 }
 
 impl DemangleStyle<'_> {
-    /// Prints the symbol without its suffix. Fails if the sink or the size limit rejects a piece.
+    /// Prints the symbol without its suffix. The limit is that of the adapter. Fails if the sink or
+    /// the limit rejects a piece.
     fn write_to<S: TextSink>(
         &self,
         out: &mut SizeLimitedFmtAdapter<'_, S>,
-        include_hash: bool,
+        format: Format,
         looks: &mut Looks,
     ) -> Result<(), SinkRefused>
         requires { Ready S.TextSink out.old }
         ensures prints { Prints S.TextSink out.old
-            (style_pieces include_hash self.now) result out.new }
+            (style_pieces (form_of format) self.now) result out.new }
         ensures grows { looks.old ≤ looks.new }
-        ensures most { looks.new ≤ looks.old + style_looks include_hash out.old.remaining self.now }
+        ensures most { looks.new ≤ looks.old
+            + style_looks (form_of format) out.old.remaining self.now }
         ensures least { looks.old + style_least self.now ≤ looks.new }
     {
         match self {
-            DemangleStyle::Legacy(symbol) => symbol.write_to(out, include_hash, looks),
-            DemangleStyle::V0(symbol) => symbol.write_to(out, include_hash, looks),
+            DemangleStyle::Legacy(symbol) => symbol.write_to(out, format.include_hash, looks),
+            DemangleStyle::V0(symbol) => {
+                symbol.write_to(out, format.include_hash, format.fold_arguments, looks)
+            }
         }
     }
 }
@@ -75,19 +80,19 @@ impl<'a> Model for Demangle<'a> {
 fn write_cut<S: TextSink>(
     style: &DemangleStyle<'_>,
     out: &mut S,
-    include_hash: bool,
-    limit: usize,
+    format: Format,
     looks: &mut Looks,
 ) -> Result<(), SinkRefused>
     requires { S.failed out.old ≡ false }
     ensures hands { Hands S.TextSink out.old
-        (cut (style_pieces include_hash style.now) limit) result out.new }
+        (cut (style_pieces (form_of format) style.now) format.limit) result out.new }
     ensures grows { looks.old ≤ looks.new }
-    ensures most { looks.new ≤ looks.old + style_looks include_hash limit style.now }
+    ensures most { looks.new ≤ looks.old
+        + style_looks (form_of format) format.limit style.now }
     ensures least { looks.old + style_least style.now ≤ looks.new }
 {
-    let mut limited = SizeLimitedFmtAdapter::new(out, limit);
-    let result = style.write_to(&mut limited, include_hash, looks);
+    let mut limited = SizeLimitedFmtAdapter::new(out, format.limit);
+    let result = style.write_to(&mut limited, format, looks);
     // Printing stops in the same way at the limit and if the sink fails. Only a sink that has not
     // failed gets the marker.
     if limited.is_over() {
@@ -117,25 +122,49 @@ impl<'a> Demangle<'a> {
         }
     }
 
-    /// Writes the pieces of the symbol into a sink, cut at `limit` bytes before the suffix, and
-    /// counts its looks. Fails if the sink fails.
+    /// Writes the pieces of the symbol into a sink, cut at the limit before the suffix, and counts
+    /// its looks. Fails if the sink fails.
     pub(crate) fn hand_over<S: TextSink>(
         &self,
         out: &mut S,
-        include_hash: bool,
-        limit: usize,
+        format: Format,
         looks: &mut Looks,
     ) -> Result<(), SinkRefused>
         requires { S.failed out.old ≡ false }
-        ensures hands { Hands S.TextSink out.old
-            (handed self.now include_hash limit) result out.new }
-        ensures looks { PrintingLooks self.now include_hash limit looks.old looks.new }
+        ensures hands { Hands S.TextSink out.old (handed_in self.now format) result out.new }
+        ensures looks { PrintingLooksIn self.now format looks.old looks.new }
     {
         let Some(style) = &self.style else {
             return put_piece(self.original, out);
         };
-        write_cut(style, out, include_hash, limit, looks)?;
+        write_cut(style, out, format, looks)?;
         put_piece(self.suffix, out)
+    }
+
+    /// Prints into a sink in a format, and counts its looks, as `write_limited_counted` does.
+    pub fn write_formatted_counted<S: TextSink>(
+        &self,
+        out: &mut S,
+        format: Format,
+        looks: &mut Looks,
+    ) -> Result<(), SinkRefused>
+        requires { S.failed out.old ≡ false }
+        ensures writes { Writes S.TextSink out.old (handed_in self.now format) result out.new }
+        ensures looks { PrintingLooksIn self.now format looks.old looks.new }
+    {
+        self.hand_over(out, format, looks)
+    }
+
+    /// Prints into a sink in a format, as `write_formatted_counted` does.
+    pub fn write_formatted<S: TextSink>(
+        &self,
+        out: &mut S,
+        format: Format,
+    ) -> Result<(), SinkRefused>
+        requires { S.failed out.old ≡ false }
+        ensures { Writes S.TextSink out.old (handed_in self.now format) result out.new }
+    {
+        self.write_formatted_counted(out, format, &mut Looks::new())
     }
 
     /// Prints into a sink, cut at `limit` bytes before the suffix, and counts its looks.
@@ -160,7 +189,12 @@ impl<'a> Demangle<'a> {
             result out.new }
         ensures looks { PrintingLooks self.now include_hash limit looks.old looks.new }
     {
-        self.hand_over(out, include_hash, limit, looks)
+        let format = Format {
+            include_hash,
+            fold_arguments: false,
+            limit,
+        };
+        self.write_formatted_counted(out, format, looks)
     }
 
     /// Prints into a sink, cut at `limit` bytes before the suffix, as `write_limited_counted` does.
@@ -175,6 +209,53 @@ impl<'a> Demangle<'a> {
             result out.new }
     {
         self.write_limited_counted(out, include_hash, limit, &mut Looks::new())
+    }
+
+    /// Prints into a sink with `_` for each list of generic arguments, cut at `limit` bytes before
+    /// the suffix, and counts its looks.
+    ///
+    /// So all instances of a generic function have one name: `foo::bar::<_>` for `foo::bar::<u8>`.
+    /// A list is read and not printed. No reference in it is followed, and no lifetime in it is
+    /// checked. All else prints as by `write_limited_counted`. A legacy symbol prints completely,
+    /// because its arguments are parts of names.
+    ///
+    /// # Errors
+    ///
+    /// Fails exactly if the sink failed during this call, as `write_limited_counted` says.
+    pub fn write_folded_counted<S: TextSink>(
+        &self,
+        out: &mut S,
+        include_hash: bool,
+        limit: usize,
+        looks: &mut Looks,
+    ) -> Result<(), SinkRefused>
+        requires { S.failed out.old ≡ false }
+        ensures writes { Writes S.TextSink out.old (handed_in self.now (folded include_hash limit))
+            result out.new }
+        ensures looks { PrintingLooksIn self.now (folded include_hash limit)
+            looks.old looks.new }
+    {
+        let format = Format {
+            include_hash,
+            fold_arguments: true,
+            limit,
+        };
+        self.write_formatted_counted(out, format, looks)
+    }
+
+    /// Prints into a sink with `_` for each list of generic arguments, cut at `limit` bytes before
+    /// the suffix, as `write_folded_counted` does.
+    pub fn write_folded<S: TextSink>(
+        &self,
+        out: &mut S,
+        include_hash: bool,
+        limit: usize,
+    ) -> Result<(), SinkRefused>
+        requires { S.failed out.old ≡ false }
+        ensures { Writes S.TextSink out.old (handed_in self.now (folded include_hash limit))
+            result out.new }
+    {
+        self.write_folded_counted(out, include_hash, limit, &mut Looks::new())
     }
 
     /// Prints into a sink, cut at 1,000,000 bytes before the suffix, and counts its looks, as
@@ -373,15 +454,20 @@ fn hand_over_with<S: TextSink>(
     ensures { Hands S.TextSink out.old (handed_with text.now path_len include_hash limit)
         result out.new }
 {
+    let format = Format {
+        include_hash,
+        fold_arguments: false,
+        limit,
+    };
     let mut looks = Looks::new();
     let Some(symbol) = demangle_v0::ascii_symbol(text, &mut looks) else {
         let read = Demangle::read(text, false, &mut looks);
-        return read.hand_over(out, include_hash, limit, &mut looks);
+        return read.hand_over(out, format, &mut looks);
     };
     // The caller may pass any number.
     let suffix = &text[path_len.min(text.len())..];
     let style = DemangleStyle::V0(symbol);
-    write_cut(&style, out, include_hash, limit, &mut looks)?;
+    write_cut(&style, out, format, &mut looks)?;
     put_piece(suffix, out)
 }
 

@@ -2,7 +2,7 @@
 ghost use Rattle.std.specs.Prelude.{◌≡◌, ◌+◌, ◌≤◌, false, Ok, Some};
 ghost use Rattle.demangle_v0.specs.Arguments.{arguments_point, argument_point, argument_place, argument_costs};
 ghost use Rattle.demangle_grammar.specs.Totals.{total};
-ghost use Rattle.demangle_v0.specs.Parsers.{MayGo, Went, restated};
+ghost use Rattle.demangle_v0.specs.Parsers.{MayGo, Went, WentUnfolded, restated};
 ghost use Rattle.demangle_v0.specs.Points.{own_by};
 
 use crate::points::Point;
@@ -26,10 +26,12 @@ impl<const N: usize> Parser<'_, N> {
     }
 
     /// Starts the first or a further generic argument of a path, or ends their list.
+    ///
+    /// A parse that prints folded arguments does not read them here, but as it reads an impl path.
     #[inline(always)]
     pub(super) fn arguments(&mut self, is_first: bool) -> Point
         requires may { MayGo Point.NextArgument self.old }
-        ensures did { Went (arguments_point is_first) self.old (Ok result) self.new }
+        ensures did { WentUnfolded is_first (arguments_point is_first) self.old (Ok result) self.new }
     {
         let Some(at) = self.state.place else {
             return self.end_with(Mark::Greater);

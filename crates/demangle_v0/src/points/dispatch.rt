@@ -1,6 +1,6 @@
 //! Which method performs each continuation.
 ghost use Rattle.std.specs.Prelude.{◌≡◌, ◌+◌, ◌≤◌, true, false};
-ghost use Rattle.demangle_v0.specs.Impls.{is_skip};
+ghost use Rattle.demangle_v0.specs.Skips.{is_skip};
 ghost use Rattle.demangle_v0.specs.Parsers.{Did, May};
 ghost use Rattle.demangle_v0.specs.PointRuns.{first_looks};
 
@@ -15,7 +15,7 @@ use demangle_words::texts::Word;
 impl<const N: usize> Parser<'_, N> {
     /// Performs a continuation, and returns the one to run next.
     ///
-    /// An impl's own path is only read here if nothing is printed.
+    /// An impl path and folded arguments are only read here if nothing is printed.
     #[inline(always)]
     pub(super) fn dispatch<V: Output>(
         &mut self,
@@ -23,7 +23,8 @@ impl<const N: usize> Parser<'_, N> {
         output: &mut V,
     ) -> Result<Point, Stop>
         requires may { May V.Output point self.old output.old }
-        requires unskipped { V.is_printed ≡ true → is_skip point ≡ false }
+        requires unskipped { V.is_printed ≡ true → is_skip
+            self.old.source.fold_arguments point ≡ false }
         ensures did { Did V.Output point self.old output.old result self.new output.new }
         ensures least { point ≡ Point.Path → self.old.looks + first_looks Point.Path self.old.state ≤
             self.new.looks }
@@ -56,6 +57,7 @@ impl<const N: usize> Parser<'_, N> {
             Point::NextDynTrait => Ok(self.dyn_trait(false)),
             Point::TraitPath => self.trait_path(output),
             Point::FirstOpenArgument => Ok(self.trait_argument(true)),
+            Point::FoldedTraitArguments => Ok(self.folded_trait_arguments()),
             Point::NextOpenArgument => Ok(self.trait_argument(false)),
             Point::Bindings => Ok(self.bindings()),
             Point::OpenBindings => Ok(self.further_bindings()),
@@ -85,6 +87,7 @@ impl<const N: usize> Parser<'_, N> {
             | Point::TextConstant
             | Point::ReferenceConstant
             | Point::OpenArguments
+            | Point::FoldedArguments
             | Point::Const
             | Point::PatternIs
             | Point::OpenParameters

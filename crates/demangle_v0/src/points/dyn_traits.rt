@@ -1,7 +1,7 @@
 //! Trait objects: `dyn` types.
 ghost use Rattle.std.specs.Prelude.{◌+◌, ◌≤◌, Ok, if◌then◌else◌};
 ghost use Rattle.demangle_v0.specs.DynTraits.{dyn_type};
-ghost use Rattle.demangle_v0.specs.Parsers.{Did, May, MayGo, Went, WentRest};
+ghost use Rattle.demangle_v0.specs.Parsers.{Did, May, MayGo, Went, WentRest, WentUnfolded};
 ghost use Rattle.demangle_v0.specs.Points.{own_by};
 
 use crate::points::lists::separator;
@@ -94,8 +94,8 @@ impl<const N: usize> Parser<'_, N> {
     #[inline(always)]
     pub(super) fn trait_argument(&mut self, is_first: bool) -> Point
         requires may { MayGo Point.NextOpenArgument self.old }
-        ensures did { Went (if is_first then Point.FirstOpenArgument else Point.NextOpenArgument)
-            self.old (Ok result) self.new }
+        ensures did { WentUnfolded is_first (if is_first then Point.FirstOpenArgument else
+            Point.NextOpenArgument) self.old (Ok result) self.new }
     {
         let Some(at) = self.state.place else {
             self.state.is_open = true;
@@ -109,6 +109,17 @@ impl<const N: usize> Parser<'_, N> {
         self.push(Point::NextOpenArgument);
         self.state.mark = separator(is_first, Mark::Comma);
         self.argument(at)
+    }
+
+    /// Queues the `_` for the arguments of a dyn trait path, which were read. The bracket stays open.
+    #[inline(always)]
+    pub(super) fn folded_trait_arguments(&mut self) -> Point
+        requires may { MayGo Point.FoldedTraitArguments self.old }
+        ensures did { Went Point.FoldedTraitArguments self.old (Ok result) self.new }
+    {
+        self.put(Mark::Placeholder);
+        self.state.is_open = true;
+        Point::End
     }
 
     /// Reads the lifetime of a dyn type, and prints it after a ` + ` unless it is erased.

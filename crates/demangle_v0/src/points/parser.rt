@@ -6,7 +6,7 @@ ghost use Rattle.demangle_v0.specs.declared.points.Stop.TheVariants.{Fault};
 
 use crate::points::frames::{Frame, FrameStack};
 use crate::points::{Point, State, Stop};
-use demangle_symbol::cursor::{Looks, Symbol};
+use demangle_symbol::cursor::Looks;
 use demangle_words::source::Source;
 use demangle_words::texts::Mark;
 use std::mem;
@@ -25,20 +25,11 @@ pub struct Parser<'m, const N: usize> {
 impl<'m, const N: usize> Parser<'m, N> {
     /// Returns a parser of the path at a place, with no frames. Moves the count out of `looks`.
     #[inline(always)]
-    pub(crate) fn at_path(
-        symbol: &'m Symbol<'m>,
-        include_hash: bool,
-        place: usize,
-        looks: &mut Looks,
-    ) -> Self
-        ensures symbol { result.source.symbol.now ≡ symbol.now }
-        ensures parser { result ≡ path_parser result include_hash place looks.old }
+    pub(crate) fn at_path(source: Source<'m>, place: usize, looks: &mut Looks) -> Self
+        ensures { result ≡ path_parser source.entry place looks.old }
     {
         Parser {
-            source: Source {
-                symbol,
-                include_hash,
-            },
+            source,
             point: Point::Path,
             state: State::at_path(place),
             stack: FrameStack::new(),

@@ -30,7 +30,7 @@ impl<const N: usize> Parser<'_, N> {
     #[inline(always)]
     fn generic_path(&mut self) -> Point
         requires may { MayGo Point.Generic self.old }
-        ensures did { WentRest (path_of self.old.state.in_value PathKind.Generic) 6 7 9 self.old (Ok
+        ensures did { WentRest (path_of self.old.state.in_value PathKind.Generic) 6 8 9 self.old (Ok
             result) self.new }
     {
         self.push(Point::Generic);
@@ -41,7 +41,7 @@ impl<const N: usize> Parser<'_, N> {
     #[inline(always)]
     fn tagged_path<V: Output>(&mut self, tag: u8, output: &mut V) -> Result<Point, Stop>
         requires may { May V.Output Point.Path self.old output.old }
-        ensures did { DidRest V.Output (path self.old.state.in_value tag) 6 7 9 self.old output.old
+        ensures did { DidRest V.Output (path self.old.state.in_value tag) 6 8 9 self.old output.old
             result self.new output.new }
     {
         let kind = path_kind(tag).ok_or(Stop::Fault(Mark::Invalid))?;

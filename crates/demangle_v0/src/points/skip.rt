@@ -1,54 +1,69 @@
-//! Impl paths, which are read and never printed.
-ghost use Rattle.std.specs.Prelude.{◌≡◌, ◌≤◌, true, Bool, Some, Ok, IfSome, IfNone};
-ghost use Rattle.demangle_v0.specs.Impls.{skip_point, self_point, is_skip};
+//! Parts that a printing parse reads and does not print: impl paths, and folded arguments.
+ghost use Rattle.std.specs.Prelude.{◌≡◌, ◌≤◌, true, Some, Ok, IfSome, IfNone};
 ghost use Rattle.demangle_v0.specs.Parsers.{FinishesSkip, IsValid, LeftValid, Same, SkipsFull, SkipsOver, checked_at};
 ghost use Rattle.demangle_v0.specs.PointRuns.{state_at};
+ghost use Rattle.demangle_v0.specs.Skips.{after_skip, is_skip, own_point};
 
 use crate::points::parser::Parser;
 use crate::points::read::{Halt, Reading};
 use crate::points::{Point, State};
 use crate::printing::Left;
 
-/// Returns whether the continuation is an impl path, which is not printed.
+/// Returns whether a part that is not printed is next: an impl path, or generic arguments if they
+/// are folded.
 #[inline(always)]
-pub fn is_skipped(point: Point) -> bool
-    ensures { result ≡ is_skip point }
+pub fn is_skipped(point: Point, fold_arguments: bool) -> bool
+    ensures { result ≡ is_skip fold_arguments point }
 {
     match point {
         Point::InherentPath | Point::ImplPath => true,
+        Point::FirstArgument | Point::FirstOpenArgument => fold_arguments,
         _ => false,
     }
 }
 
-/// Returns the continuation after an impl path.
+/// Returns the continuation that reads such a part.
 #[inline(always)]
-fn after_impl_path(point: Point) -> Point
-    ensures { (q : Bool) → point ≡ skip_point q → result ≡ self_point q }
+fn own_point(point: Point) -> Point
+    ensures { result ≡ own_point point }
+{
+    match point {
+        Point::InherentPath | Point::ImplPath => Point::Path,
+        other => other,
+    }
+}
+
+/// Returns the continuation after such a part.
+#[inline(always)]
+fn after_skip(point: Point) -> Point
+    ensures { result ≡ after_skip point }
 {
     match point {
         Point::InherentPath => Point::InherentType,
-        _ => Point::SelfType,
+        Point::ImplPath => Point::SelfType,
+        Point::FirstArgument => Point::FoldedArguments,
+        Point::FirstOpenArgument => Point::FoldedTraitArguments,
+        other => other,
     }
 }
 
 impl<const N: usize> Parser<'_, N> {
-    /// Continues at a checkpoint, after the impl path there. The path ends at `place`, or has a
-    /// syntax error if that is `None`.
+    /// Continues at a checkpoint, after the part there that is not printed. The part ends at
+    /// `place`, or has a syntax error if that is `None`.
     #[inline(always)]
     fn continue_after(&mut self, printing: Reading, place: Option<usize>)
-        ensures point { (q : Bool) → printing.point ≡ skip_point q → self.new.point ≡ self_point q }
-        ensures parser { self.new ≡ checked_at self.old self.new.point (state_at printing.state
+        ensures { self.new ≡ checked_at self.old (after_skip printing.point) (state_at printing.state
             place) }
     {
-        self.point = after_impl_path(printing.point);
+        self.point = after_skip(printing.point);
         self.state = State {
             place,
             ..printing.state
         };
     }
 
-    /// Reads the rest of an impl path, if `left` is in one, and continues after it. Returns what is
-    /// left to print if the stack is full before the path ends.
+    /// Reads the rest of a part that is not printed, if `left` is in one, and continues after it.
+    /// Returns what is left to print if the stack is full before the part ends.
     // It is not inlined, so that the loop of printing stays small.
     #[inline(never)]
     pub(crate) fn finish_impl_path(&mut self, left: Left) -> Option<Left>
@@ -74,11 +89,11 @@ impl<const N: usize> Parser<'_, N> {
         }
     }
 
-    /// Reads the impl path at which the parser is, and continues after it. Returns what is left to
-    /// print if the stack is full before the path ends.
+    /// Reads the impl path or the folded arguments at which the parser is, and continues after them.
+    /// Returns what is left to print if the stack is full before they end.
     #[inline(always)]
     pub(crate) fn skip_impl_path(&mut self) -> Option<Left>
-        requires skipped { is_skip self.old.point ≡ true }
+        requires skipped { is_skip self.old.source.fold_arguments self.old.point ≡ true }
         requires valid { IsValid self.old }
         ensures behind { IfNone result (SkipsOver self.old self.new) }
         ensures midway { IfSome result (λ left. SkipsFull self.old left self.new) }
@@ -90,7 +105,7 @@ impl<const N: usize> Parser<'_, N> {
             point: self.point,
             state: self.state,
         };
-        self.point = Point::Path;
+        self.point = own_point(self.point);
         self.state.in_value = false;
         self.finish_impl_path(Left::OwnPath(base, printing))
     }

@@ -1,9 +1,9 @@
 //! Steps: each runs a continuation, prints the fixed text that it queued, and returns what is next.
 ghost use Rattle.std.specs.Prelude.{◌≡◌, ◌+◌, ◌≤◌, true, false, IfSome, IfNone, IsOk, OnOk, length, IsAscii};
-ghost use Rattle.demangle_v0.specs.Impls.{is_skip};
 ghost use Rattle.demangle_v0.specs.Parsers.{May, Same, env_of, restated, turn_of};
 ghost use Rattle.demangle_v0.specs.Points.{own_by, resumed_of};
 ghost use Rattle.demangle_v0.specs.PointRuns.{Puts, Stepped, Resumes, first_looks, unmarked_of};
+ghost use Rattle.demangle_v0.specs.Skips.{is_skip};
 
 use crate::points::frames::Frame;
 use crate::points::parser::Parser;
@@ -51,8 +51,8 @@ impl<const N: usize> Parser<'_, N> {
     /// Runs a continuation, which may read and print a token, and prints the fixed text that it
     /// queued. Returns the next continuation.
     ///
-    /// Fails if the output does. A parse that prints never runs an impl path here, because that is
-    /// not printed.
+    /// Fails if the output does. A parse that prints never runs an impl path or folded arguments
+    /// here, because those are not printed.
     #[inline(always)]
     pub(crate) fn step<V: Output>(
         &mut self,
@@ -60,7 +60,8 @@ impl<const N: usize> Parser<'_, N> {
         output: &mut V,
     ) -> Result<Point, SinkRefused>
         requires may { May V.Output point self.old output.old }
-        requires unskipped { V.is_printed ≡ true → is_skip point ≡ false }
+        requires unskipped { V.is_printed ≡ true → is_skip
+            self.old.source.fold_arguments point ≡ false }
         ensures stepped { Stepped (env_of V.Output self.old) point (turn_of self.old output.old)
             result (turn_of self.new output.new) }
         ensures same { Same self.old self.new }

@@ -1,11 +1,12 @@
 //! Laws about the output of each scheme.
-ghost use Rattle.std.specs.Prelude.{◌≡◌, ◌⊎◌, ℕ, Bool, true, List, [], ◌∷◌, ◌++◌, codes};
+ghost use Rattle.std.specs.Prelude.{◌≡◌, ◌⊎◌, ℕ, Bool, true, false, List, [], ◌∷◌, ◌++◌, codes};
 ghost use Rattle.demangle_sink.specs.Cut.{cut, kept};
 ghost use Rattle.demangle_legacy.specs.Legacy.{IsLegacy};
-ghost use Rattle.demangle_grammar.specs.Reading.{path_texts};
+ghost use Rattle.demangle_grammar.specs.Reading.{form, path_texts};
 ghost use Rattle.rustc_demangle.specs.Stripped.{is_allowed};
 ghost use Rattle.rustc_demangle.specs.Filtered.{begins_run};
-ghost use Rattle.rustc_demangle.specs.Symbols.{handed, kept_of, IsSymbol};
+ghost use Rattle.rustc_demangle.specs.Symbols.{form_of, handed, handed_in, kept_of, IsSymbol};
+ghost use Rattle.rustc_demangle.specs.declared.format.Format.{Format};
 ghost use Rattle.demangle_legacy.specs.Unescaped.{legacy_pieces};
 ghost use Rattle.demangle_grammar.specs.V0.{IsV0};
 
@@ -25,10 +26,23 @@ pub fn legacy_symbol_prints_its_elements()
 pub fn v0_symbol_prints_its_tree()
     ensures handed { (text inner suffix : List ℕ) → (hash : Bool) → (limit : ℕ) →
         IsV0 text inner suffix → is_allowed suffix ≡ true →
-        handed text hash limit ≡ cut (path_texts inner hash) limit ++ suffix ∷ [] }
+        handed text hash limit ≡ cut (path_texts inner (form hash false)) limit ++ suffix ∷ [] }
     ensures kept { (text inner suffix : List ℕ) → (hash : Bool) → (limit : ℕ) →
         IsV0 text inner suffix → is_allowed suffix ≡ true →
-        kept_of text hash limit ≡ kept (path_texts inner hash) limit }
+        kept_of text hash limit ≡ kept (path_texts inner (form hash false)) limit }
+{}
+
+/// The same for each format: a symbol is the same whatever the format. Only its pieces differ, and
+/// folding changes only those of a v0 symbol.
+pub fn each_format_prints_the_same_symbols()
+    ensures legacy { (text : List ℕ) → (elements : List (List ℕ)) → (suffix : List ℕ) →
+        (format : Format) → IsLegacy text elements suffix → is_allowed suffix ≡ true →
+        handed_in text format
+        ≡ cut (legacy_pieces format.include_hash elements) format.limit ++ suffix ∷ [] }
+    ensures v0 { (text inner suffix : List ℕ) → (format : Format) →
+        IsV0 text inner suffix → is_allowed suffix ≡ true →
+        handed_in text format
+        ≡ cut (path_texts inner (form_of format)) format.limit ++ suffix ∷ [] }
 {}
 
 /// No text is a symbol of both schemes.

@@ -4,26 +4,30 @@ ghost use Rattle.demangle_grammar.specs.Accepting.{accepting_looks};
 ghost use Rattle.demangle_grammar.specs.Cost.{bytes_of, looks_of, Pays};
 ghost use Rattle.demangle_sink.specs.Cut.{size};
 ghost use Rattle.demangle_grammar.specs.Items.{Items, Kind, a_path};
-ghost use Rattle.demangle_grammar.specs.Reading.{Surroundings, max_depth, stretches, read_at, path_texts, run};
+ghost use Rattle.demangle_grammar.specs.Reading.{Form, Surroundings, max_depth, stretches, read_at, path_texts, run};
 
 /// The looks up to and including a token are bounded by the bytes that were printed before it,
 /// however large the symbol's tree is. The same holds for each production, by the depths that
 /// remain for it.
 pub fn printing_looks_stay_linear()
-    ensures printing { (symbol : List ℕ) (plain : Bool) (k : ℕ) →
-        let all = stretches plain (read_at symbol true a_path 0 0 0 true).tree in
+    ensures printing { (symbol : List ℕ) (form : Form) (k : ℕ) →
+        let read = read_at symbol form.fold_arguments true a_path 0 0 0 true in
+        let all = stretches form.include_hash read.tree in
         looks_of (take (k + 1) all) ≤ 100000 * (bytes_of (take k all) + 1) * (length symbol + 1) }
-    ensures paid { (symbol : List ℕ) (plain : Bool) →
+    ensures paid { (symbol : List ℕ) (form : Form) →
         Pays (34 * max_depth * (length symbol + 1)) (34 * (max_depth + 1) * (length symbol + 1))
-        (stretches plain (read_at symbol true a_path 0 0 0 true).tree) 0 }
-    ensures unit { (symbol : List ℕ) (plain : Bool) (kind : Kind)
+        (stretches form.include_hash
+        (read_at symbol form.fold_arguments true a_path 0 0 0 true).tree) 0 }
+    ensures unit { (symbol : List ℕ) (form : Form) (kind : Kind)
         (i depth lifetimes : ℕ) (value : Bool) (k : ℕ) → i ≤ length symbol → depth ≤ max_depth →
-        let all = stretches plain (read_at symbol true kind i depth lifetimes value).tree in
+        let read = read_at symbol form.fold_arguments true kind i depth lifetimes value in
+        let all = stretches form.include_hash read.tree in
         looks_of (take (k + 1) all)
         ≤ 34 * (length symbol + 1) * (max_depth + 1 - depth) * (bytes_of (take k all) + 1) }
-    ensures bytes { (symbol : List ℕ) (plain : Bool) →
-        bytes_of (stretches plain (read_at symbol true a_path 0 0 0 true).tree)
-        ≡ size (path_texts symbol plain) }
+    ensures bytes { (symbol : List ℕ) (form : Form) →
+        bytes_of (stretches form.include_hash
+        (read_at symbol form.fold_arguments true a_path 0 0 0 true).tree)
+        ≡ size (path_texts symbol form) }
 {}
 
 /// Accepting a symbol makes at most 32 looks for each of its bytes, and 32 more.

@@ -18,30 +18,30 @@ pub fn units_end_once()
 /// Parsing without output accepts exactly the bytes that the grammar spells.
 #[tactic(auto, using(demangle_grammar::proofs::Accepted::reading_is_spelling))]
 pub fn reading_accepts_what_is_spelled()
-    ensures unit { (symbol : List ℕ) (kind : Kind) (value : Bool) (i j depth lifetimes : ℕ) →
-        depth ≤ max_depth → i ≤ length symbol →
-        ((read_at symbol false kind i depth lifetimes value).place ≡ Some j)
+    ensures unit { (symbol : List ℕ) (folds : Bool) (kind : Kind) (value : Bool)
+        (i j depth lifetimes : ℕ) → depth ≤ max_depth → i ≤ length symbol →
+        ((read_at symbol folds false kind i depth lifetimes value).place ≡ Some j)
         ↔ Spells symbol freely depth lifetimes (items kind value) i j }
     ensures symbol { (inner : List ℕ) (k : ℕ) → (suffix_place inner ≡ Some k) ↔ IsPaths inner k }
     ensures whole { (symbol inner suffix : List ℕ) →
         (v0_of symbol ≡ Some (inner, suffix)) ↔ IsV0 symbol inner suffix }
 {}
 
-/// Parsing with output ends at the same place as parsing without output, or fails. It fails only at
-/// a lifetime outside back references that names none in scope.
+/// Parsing with output, without folded arguments, ends at the same place as parsing without output,
+/// or fails. It fails only at a lifetime outside back references that names none in scope.
 #[tactic(auto, using(demangle_grammar::proofs::Accepted::printing_is_spelling, demangle_grammar::proofs::Accepted::printing_ends, demangle_grammar::proofs::Rules::named_freely))]
 pub fn printing_ends_where_reading_does()
     ensures named { (symbol : List ℕ) (kind : Kind) (value : Bool) (i j depth lifetimes : ℕ) →
         depth ≤ max_depth → i ≤ length symbol →
-        ((read_at symbol true kind i depth lifetimes value).place ≡ Some j)
+        ((read_at symbol false true kind i depth lifetimes value).place ≡ Some j)
         ↔ Spells symbol named depth lifetimes (items kind value) i j }
     ensures freely { (symbol : List ℕ) (depth lifetimes : ℕ) (p : Items) (i j : ℕ) →
         Spells symbol named depth lifetimes p i j → Spells symbol freely depth lifetimes p i j }
     ensures fails { (symbol : List ℕ) (kind : Kind) (value : Bool) (i j depth lifetimes : ℕ) →
         depth ≤ max_depth → i ≤ length symbol →
         Spells symbol freely depth lifetimes (items kind value) i j →
-        ((read_at symbol true kind i depth lifetimes value).place ≡ Some j)
-        ⊎ (((read_at symbol true kind i depth lifetimes value).place ≡ None)
+        ((read_at symbol false true kind i depth lifetimes value).place ≡ Some j)
+        ⊎ (((read_at symbol false true kind i depth lifetimes value).place ≡ None)
         × (Spells symbol named depth lifetimes (items kind value) i j → ⊥)) }
 {}
 
@@ -49,10 +49,10 @@ pub fn printing_ends_where_reading_does()
 /// without a stop such as `{invalid syntax}`.
 #[tactic(auto, using(demangle_grammar::proofs::Whole::read_whole, demangle_grammar::proofs::Rules::simply_named))]
 pub fn simple_units_have_no_stop()
-    ensures whole { (symbol : List ℕ) (kind : Kind) (value : Bool) (i j depth lifetimes : ℕ) →
-        depth ≤ max_depth → i ≤ length symbol →
+    ensures whole { (symbol : List ℕ) (folds : Bool) (kind : Kind) (value : Bool)
+        (i j depth lifetimes : ℕ) → depth ≤ max_depth → i ≤ length symbol →
         Spells symbol simple depth lifetimes (items kind value) i j →
-        IsWhole (read_at symbol true kind i depth lifetimes value).tree }
+        IsWhole (read_at symbol folds true kind i depth lifetimes value).tree }
     ensures named { (symbol : List ℕ) (depth lifetimes : ℕ) (p : Items) (i j : ℕ) →
         Spells symbol simple depth lifetimes p i j → Spells symbol named depth lifetimes p i j }
 {}

@@ -1,9 +1,10 @@
 //! Demangles any bytes that come from a reader.
 ghost use Rattle.std.specs.Prelude.{◌≡◌, List, ℕ, [], true, false, Ok, Some, IfSome, OnOk, IfErr};
 ghost use Rattle.std.specs.Io.KnownBytes.{Appends};
-ghost use Rattle.rustc_demangle.specs.Filtered.{filtered, filtered_within};
+ghost use Rattle.rustc_demangle.specs.Filtered.{filtered, filtered_in, filtered_within};
 ghost use Rattle.rustc_demangle.specs.Bytes.{IsOpen, StepTook, StepEnded, StepRefused, BytesStopped};
 
+use crate::format::Format;
 use crate::stream::carrying::{finish, take_some};
 use crate::stream::fault::{StreamFault, read_fault};
 use crate::stream::memo::SymbolMemo;
@@ -52,10 +53,10 @@ impl<A: Allocator> BytesFilter<A> {
         output: &mut W,
         memo: &mut SymbolMemo,
     ) -> Result<bool, StreamFault>
-        ensures took { result ≡ Ok true → StepTook (filtered_within memo.old.0 memo.old.1)
+        ensures took { result ≡ Ok true → StepTook (filtered_in memo.old)
             self.old self.new (R.remaining input.old) (R.remaining input.new)
             (W.contents output.old) (W.contents output.new) }
-        ensures ended { result ≡ Ok false → StepEnded (filtered_within memo.old.0 memo.old.1)
+        ensures ended { result ≡ Ok false → StepEnded (filtered_in memo.old)
             self.old self.new (R.remaining input.old) (R.remaining input.new)
             (W.contents output.old) (W.contents output.new) }
         ensures refused { IfErr result (λ fault. StepRefused fault self.old self.new
@@ -87,9 +88,9 @@ fn take_steps<R: BufRead, W: Write, A: Allocator>(
     requires { filter.old ≡ [] }
     ensures ok { OnOk result (IfSome (R.remaining input.old) (λ text.
         (R.remaining input.new ≡ Some []) × Appends (W.contents output.old) (W.contents output.new)
-        (filtered_within memo.old.0 memo.old.1 text))) }
+        (filtered_in memo.old text))) }
     ensures err { IfErr result (λ fault. IfSome (R.remaining input.old) (λ text.
-        BytesStopped (filtered_within memo.old.0 memo.old.1) fault text
+        BytesStopped (filtered_in memo.old) fault text
         (W.contents output.old) (W.contents output.new))) }
 {
     for _ in 0..=u64::MAX {
@@ -130,8 +131,31 @@ pub fn demangle_bytes_limited<R: BufRead, W: Write>(
         BytesStopped (filtered_within include_hash limit) fault text
         (W.contents output.old) (W.contents output.new))) }
 {
+    let format = Format {
+        include_hash,
+        fold_arguments: false,
+        limit,
+    };
+    demangle_bytes_formatted(alloc, input, output, format)
+}
+
+/// Writes the input, which may be any bytes, with each symbol of it demangled in a format, as
+/// `demangle_bytes_limited` does.
+pub fn demangle_bytes_formatted<R: BufRead, W: Write>(
+    alloc: Global,
+    input: &mut R,
+    output: &mut W,
+    format: Format,
+) -> Result<(), StreamFault>
+    ensures ok { OnOk result (IfSome (R.remaining input.old) (λ text.
+        (R.remaining input.new ≡ Some []) × Appends (W.contents output.old) (W.contents output.new)
+        (filtered_in format text))) }
+    ensures err { IfErr result (λ fault. IfSome (R.remaining input.old) (λ text.
+        BytesStopped (filtered_in format) fault text
+        (W.contents output.old) (W.contents output.new))) }
+{
     let mut filter = BytesFilter::new(alloc);
-    let mut memo = SymbolMemo::new(alloc, include_hash, limit);
+    let mut memo = SymbolMemo::with_format(alloc, format);
     take_steps(&mut filter, input, output, &mut memo)
 }
 

@@ -3,7 +3,7 @@
 ghost use Rattle.std.specs.Prelude.{◌≡◌, ◌∷◌, ◌++◌, ◌+◌, ◌-◌, ◌*◌, ◌<◌, ◌≤◌, ◌⊎◌, ℕ, List, [], true, false, codes, drop, length, IsTrue, IfOk, OnOk, IfErr};
 ghost use Rattle.std.specs.List.{list_all};
 ghost use Rattle.std.specs.Io.KnownBytes.{Appends};
-ghost use Rattle.rustc_demangle.specs.Filtered.{is_run, begins_run, replacement_within, filtered_within};
+ghost use Rattle.rustc_demangle.specs.Filtered.{is_run, begins_run, replacement_in, filtered_in};
 ghost use Rattle.rustc_demangle.specs.Bytes.{CutsNoRun, IsOpen, PassedIn, IsWriting, TakeRefused};
 
 use crate::runs::{begins_run, run_len, run_start, run_text};
@@ -32,7 +32,7 @@ fn pass_run<W: Write>(run: &[u8], output: &mut W, memo: &mut SymbolMemo) -> Resu
     requires all { list_all is_run run.now ≡ true }
     requires some { 0 < length run.now }
     ensures ok { OnOk result (Appends (W.contents output.old) (W.contents output.new)
-        (replacement_within memo.old.0 memo.old.1 run.now)) }
+        (replacement_in memo.old run.now)) }
     ensures named { IfErr result IsWriting }
     ensures same { memo.new ≡ memo.old }
 {
@@ -51,7 +51,7 @@ pub(super) fn finish<W: Write, A: Allocator>(
 ) -> Result<(), StreamFault>
     requires { IsOpen carried.old.items }
     ensures ok { OnOk result (Appends (W.contents output.old) (W.contents output.new)
-        (filtered_within memo.old.0 memo.old.1 carried.old.items)) }
+        (filtered_in memo.old carried.old.items)) }
     ensures named { IfErr result IsWriting }
     ensures none { carried.new.items ≡ [] }
     ensures same { memo.new ≡ memo.old }
@@ -124,7 +124,7 @@ fn take_byte<W: Write, A: Allocator>(
     ensures carried { IsOpen carried.new.items }
     ensures less { IfOk result (λ n.
         length carried.new.items < length carried.old.items + 2 * n) }
-    ensures ok { IfOk result (λ n. PassedIn (filtered_within memo.old.0 memo.old.1)
+    ensures ok { IfOk result (λ n. PassedIn (filtered_in memo.old)
         carried.old.items shown.now carried.new.items n
         (W.contents output.old) (W.contents output.new)) }
     ensures err { IfErr result (λ fault. TakeRefused fault carried.old.items carried.new.items
@@ -155,7 +155,7 @@ fn take_run<W: Write, A: Allocator>(
     ensures carried { IsOpen carried.new.items }
     ensures less { IfOk result (λ n.
         length carried.new.items < length carried.old.items + 2 * n) }
-    ensures ok { IfOk result (λ n. PassedIn (filtered_within memo.old.0 memo.old.1)
+    ensures ok { IfOk result (λ n. PassedIn (filtered_in memo.old)
         carried.old.items shown.now carried.new.items n
         (W.contents output.old) (W.contents output.new)) }
     ensures err { IfErr result (λ fault. TakeRefused fault carried.old.items carried.new.items
@@ -187,7 +187,7 @@ fn take_text<W: Write, A: Allocator>(
     ensures carried { IsOpen carried.new.items }
     ensures less { IfOk result (λ n.
         length carried.new.items < length carried.old.items + 2 * n) }
-    ensures ok { IfOk result (λ n. PassedIn (filtered_within memo.old.0 memo.old.1)
+    ensures ok { IfOk result (λ n. PassedIn (filtered_in memo.old)
         carried.old.items shown.now carried.new.items n
         (W.contents output.old) (W.contents output.new)) }
     ensures err { IfErr result (λ fault. TakeRefused fault carried.old.items carried.new.items
@@ -228,7 +228,7 @@ pub(super) fn take_some<W: Write, A: Allocator>(
     ensures carried { IsOpen carried.new.items }
     ensures less { IfOk result (λ n.
         length carried.new.items < length carried.old.items + 2 * n) }
-    ensures ok { IfOk result (λ n. PassedIn (filtered_within memo.old.0 memo.old.1)
+    ensures ok { IfOk result (λ n. PassedIn (filtered_in memo.old)
         carried.old.items shown.now carried.new.items n
         (W.contents output.old) (W.contents output.new)) }
     ensures err { IfErr result (λ fault. TakeRefused fault carried.old.items carried.new.items

@@ -2,9 +2,10 @@
 ghost use Rattle.std.specs.Prelude.{◌≡◌, true, OnOk};
 ghost use Rattle.std.specs.Io.KnownBytes.{Appends};
 ghost use Rattle.std.specs.List.{concat, list_all};
-ghost use Rattle.rustc_demangle.specs.Filtered.{filtered, is_run, replacement_within};
-ghost use Rattle.rustc_demangle.specs.Symbols.{handed};
+ghost use Rattle.rustc_demangle.specs.Filtered.{filtered, is_run, replacement_in};
+ghost use Rattle.rustc_demangle.specs.Symbols.{handed_in};
 
+use crate::format::Format;
 use crate::text::demangle_text;
 use crate::value::Demangle;
 use demangle_sink::WriteSink;
@@ -12,18 +13,13 @@ use std::io;
 use std::io::Write;
 
 /// Writes a symbol, with a separate write for each piece. Fails if the writer fails.
-fn write_symbol<W: Write>(
-    symbol: &Demangle<'_>,
-    output: &mut W,
-    include_hash: bool,
-    limit: usize,
-) -> io::Result<()>
+fn write_symbol<W: Write>(symbol: &Demangle<'_>, output: &mut W, format: Format) -> io::Result<()>
     ensures { OnOk result (Appends (W.contents output.old) (W.contents output.new)
-        (concat (handed symbol.now include_hash limit))) }
+        (concat (handed_in symbol.now format))) }
 {
     let mut sink = WriteSink::new(output);
     // If it fails, the sink holds the writer's error.
-    let _ = symbol.write_limited(&mut sink, include_hash, limit);
+    let _ = symbol.write_formatted(&mut sink, format);
     match sink.into_fault() {
         Some(error) => Err(error),
         None => Ok(()),
@@ -39,19 +35,14 @@ fn write_kept<W: Write>(text: &str, output: &mut W) -> io::Result<()>
 
 /// Writes the replacement of a run: the printed symbol, or the run itself if it is not a symbol.
 /// Fails if the writer fails.
-pub(super) fn write_run<W: Write>(
-    run: &str,
-    output: &mut W,
-    include_hash: bool,
-    limit: usize,
-) -> io::Result<()>
+pub(super) fn write_run<W: Write>(run: &str, output: &mut W, format: Format) -> io::Result<()>
     requires { list_all is_run run.now ≡ true }
     ensures { OnOk result (Appends (W.contents output.old) (W.contents output.new)
-        (replacement_within include_hash limit run.now)) }
+        (replacement_in format run.now)) }
 {
     let symbol = Demangle::read_run(run);
     if symbol.has_style() {
-        write_symbol(&symbol, output, include_hash, limit)
+        write_symbol(&symbol, output, format)
     } else {
         write_kept(run, output)
     }

@@ -2,10 +2,11 @@
 ghost use Rattle.std.specs.Prelude.{◌≡◌, ◌<◌, [], true, length, IsTrue, OnOk};
 ghost use Rattle.std.specs.List.{concat, list_all};
 ghost use Rattle.std.specs.Io.KnownBytes.{Appends};
-ghost use Rattle.rustc_demangle.specs.Filtered.{is_run, replacement_within};
-ghost use Rattle.rustc_demangle.specs.Symbols.{handed};
+ghost use Rattle.rustc_demangle.specs.Filtered.{is_run, replacement_in};
+ghost use Rattle.rustc_demangle.specs.Symbols.{handed_in, unfolded};
 ghost use Rattle.text_memo.specs.Memo.{Remembers};
 
+use crate::format::Format;
 use crate::stream::held_sink::HeldSink;
 use crate::stream::line::write_run;
 use crate::value::{Demangle, print_v0_run};
@@ -61,13 +62,6 @@ impl Probe {
     }
 }
 
-/// How symbols are printed: with or without the hash, each cut at `limit` bytes before its suffix.
-#[derive(Clone, Copy)]
-struct Form {
-    include_hash: bool,
-    limit: usize,
-}
-
 /// The texts that are remembered, and the last one that was printed for them.
 #[derive(Drop)]
 struct Store {
@@ -77,57 +71,52 @@ struct Store {
 
 /// A memo of printed symbols, with which a filter does not parse a repeated symbol again.
 ///
-/// It belongs to one form of printing: with or without the hash, and one limit. It uses at most 4.5
-/// MB of memory: 32 KB if no symbol repeats, and none if there are no symbols. If memory can't be
-/// allocated, symbols are parsed as without a memo. The memo turns itself off for a while if few
-/// symbols repeat.
+/// It belongs to one format, in which all its texts were printed. It uses at most 4.5 MB of memory:
+/// 32 KB if no symbol repeats, and none if there are no symbols. If memory can't be allocated,
+/// symbols are parsed as without a memo. The memo turns itself off for a while if few symbols
+/// repeat.
 #[derive(Drop)]
 pub struct SymbolMemo {
-    form: Form,
+    format: Format,
     store: Store,
     probe: Probe,
 }
 
 impl Model for SymbolMemo {
-    ghost use Rattle.std.specs.Prelude.{ℕ, Bool};
-    ghost use Rattle.rustc_demangle.specs.Filtered.{replacement_within};
+    ghost use Rattle.rustc_demangle.specs.declared.format.Format.{Format};
+    ghost use Rattle.rustc_demangle.specs.Filtered.{replacement_in};
     ghost use Rattle.text_memo.specs.Memo.{Remembers};
 
-    ghost Value = { Bool × ℕ };
+    ghost Value = { Format };
 
-    ghost view = { λ memo. (memo.form.include_hash, memo.form.limit) };
+    ghost view = { λ memo. memo.format };
 
-    ghost invariant = { λ memo.
-        Remembers (replacement_within memo.form.include_hash memo.form.limit) memo.store.texts };
+    ghost invariant = { λ memo. Remembers (replacement_in memo.format) memo.store.texts };
 }
 
 /// Prints a symbol into held bytes, or returns `false` if they have no room for it.
-fn print_held(symbol: &Demangle<'_>, held: &mut Held, form: Form) -> bool
+fn print_held(symbol: &Demangle<'_>, held: &mut Held, format: Format) -> bool
     requires { held.old ≡ [] }
-    ensures { IsTrue result →
-        held.new ≡ concat (handed symbol.now form.include_hash form.limit) }
+    ensures { IsTrue result → held.new ≡ concat (handed_in symbol.now format) }
 {
     let mut sink = HeldSink::new(held);
-    symbol
-        .write_limited(&mut sink, form.include_hash, form.limit)
-        .is_ok()
+    symbol.write_formatted(&mut sink, format).is_ok()
 }
 
 /// Prints a v0 symbol into held bytes before it is known whether the run is one. Returns `false` if
 /// that is still unknown, or if the bytes have no room for the text. Then the bytes may have a part
 /// of it.
-fn print_first(run: &str, held: &mut Held, form: Form) -> bool
+fn print_first(run: &str, held: &mut Held, format: Format) -> bool
     requires run { list_all is_run run.now ≡ true }
     requires some { 1 < length run.now }
-    ensures { IsTrue result →
-        held.new ≡ replacement_within form.include_hash form.limit run.now }
+    ensures { IsTrue result → held.new ≡ replacement_in format run.now }
 {
-    if run.as_bytes()[1] != b'R' {
+    if format.fold_arguments || run.as_bytes()[1] != b'R' {
         return false;
     }
     held.clear();
     let mut sink = HeldSink::new(held);
-    print_v0_run(run, &mut sink, form.include_hash, form.limit)
+    print_v0_run(run, &mut sink, format.include_hash, format.limit)
 }
 
 /// How the text of a run was found.
@@ -159,17 +148,17 @@ fn is_looked_up(run: &[u8]) -> bool
 
 /// Prints a run, and remembers its text, or that it is too long.
 #[inline(never)]
-fn print_new(run: &str, hash: u64, form: Form, store: &mut Store) -> Printed
+fn print_new(run: &str, hash: u64, format: Format, store: &mut Store) -> Printed
     requires run { list_all is_run run.now ≡ true }
     requires some { 1 < length run.now }
-    requires remembers { Remembers (replacement_within form.include_hash form.limit) store.old.texts }
+    requires remembers { Remembers (replacement_in format) store.old.texts }
     ensures symbol { result ≡ Printed.Symbol →
-        store.new.printed ≡ replacement_within form.include_hash form.limit run.now }
+        store.new.printed ≡ replacement_in format run.now }
     ensures no_symbol { result ≡ Printed.NoSymbol →
-        run.now ≡ replacement_within form.include_hash form.limit run.now }
-    ensures remembers { Remembers (replacement_within form.include_hash form.limit) store.new.texts }
+        run.now ≡ replacement_in format run.now }
+    ensures remembers { Remembers (replacement_in format) store.new.texts }
 {
-    if print_first(run, &mut store.printed, form) {
+    if print_first(run, &mut store.printed, format) {
         store
             .texts
             .insert(run.as_bytes(), store.printed.as_slice(), hash);
@@ -182,7 +171,7 @@ fn print_new(run: &str, hash: u64, form: Form, store: &mut Store) -> Printed
         return Printed::NoSymbol;
     }
     store.printed.clear();
-    if !print_held(&symbol, &mut store.printed, form) {
+    if !print_held(&symbol, &mut store.printed, format) {
         store.texts.note_too_long(hash);
         return Printed::TooLong;
     }
@@ -196,13 +185,22 @@ impl SymbolMemo {
     /// Returns a memo of symbols that are printed with or without the hash, each cut at `limit`
     /// bytes before its suffix.
     pub fn new(alloc: Global, include_hash: bool, limit: usize) -> Self
-        ensures { result ≡ (include_hash, limit) }
+        ensures { result ≡ unfolded include_hash limit }
+    {
+        let format = Format {
+            include_hash,
+            fold_arguments: false,
+            limit,
+        };
+        SymbolMemo::with_format(alloc, format)
+    }
+
+    /// Returns a memo of symbols that are printed in a format.
+    pub fn with_format(alloc: Global, format: Format) -> Self
+        ensures { result ≡ format }
     {
         SymbolMemo {
-            form: Form {
-                include_hash,
-                limit,
-            },
+            format,
             store: Store {
                 texts: TextMemo::new(alloc),
                 printed: Held::new(),
@@ -220,13 +218,13 @@ impl SymbolMemo {
         requires all { list_all is_run run.now ≡ true }
         requires some { 1 < length run.now }
         ensures text { OnOk result (Appends (W.contents output.old) (W.contents output.new)
-            (replacement_within self.old.0 self.old.1 run.now)) }
+            (replacement_in self.old run.now)) }
         ensures same { self.new ≡ self.old }
     {
-        if print_first(run, &mut self.store.printed, self.form) {
+        if print_first(run, &mut self.store.printed, self.format) {
             return output.write_all(self.store.printed.as_slice());
         }
-        write_run(run, output, self.form.include_hash, self.form.limit)
+        write_run(run, output, self.format)
     }
 
     /// Writes the text of a run that is not in the memo. The text is remembered if the run came
@@ -236,22 +234,18 @@ impl SymbolMemo {
         requires all { list_all is_run run.now ≡ true }
         requires some { 1 < length run.now }
         ensures text { OnOk result (Appends (W.contents output.old) (W.contents output.new)
-            (replacement_within self.old.0 self.old.1 run.now)) }
+            (replacement_in self.old run.now)) }
         ensures same { self.new ≡ self.old }
     {
-        let Form {
-            include_hash,
-            limit,
-        } = self.form;
         match self.store.texts.note(hash) {
             Noted::Again => {}
             Noted::New => return self.write_once(run, output),
-            Noted::TooLong => return write_run(run, output, include_hash, limit),
+            Noted::TooLong => return write_run(run, output, self.format),
         }
-        match print_new(run, hash, self.form, &mut self.store) {
+        match print_new(run, hash, self.format, &mut self.store) {
             Printed::Symbol => output.write_all(self.store.printed.as_slice()),
             Printed::NoSymbol => output.write_all(run.as_bytes()),
-            Printed::TooLong => write_run(run, output, include_hash, limit),
+            Printed::TooLong => write_run(run, output, self.format),
         }
     }
 
@@ -261,11 +255,11 @@ impl SymbolMemo {
         requires all { list_all is_run run.now ≡ true }
         requires some { 0 < length run.now }
         ensures text { OnOk result (Appends (W.contents output.old) (W.contents output.new)
-            (replacement_within self.old.0 self.old.1 run.now)) }
+            (replacement_in self.old run.now)) }
         ensures same { self.new ≡ self.old }
     {
         if !is_looked_up(run.as_bytes()) {
-            return write_run(run, output, self.form.include_hash, self.form.limit);
+            return write_run(run, output, self.format);
         }
         if !self.probe.is_on() {
             return self.write_once(run, output);

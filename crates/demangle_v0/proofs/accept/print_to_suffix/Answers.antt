@@ -1,7 +1,7 @@
 use Rattle.std.specs.Prelude.{IfSome}
 use Rattle.std.proofs.Common.{◌≡◌, ℕ, Option, Some, None, sym, ◌∙◌}
 use Rattle.demangle_grammar.specs.Items.{a_path}
-use Rattle.demangle_grammar.specs.Reading.{unit_end, suffix_place}
+use Rattle.demangle_grammar.specs.Reading.{form, unit_end, suffix_place}
 use Rattle.demangle_grammar.proofs.Accepts.{suffix_one, suffix_two}
 use Rattle.demangle_v0.proofs.PointWholes.{valid_first, printed_end}
 use Rattle.demangle_v0.proofs.PointPrints.{prints_to}
@@ -32,7 +32,7 @@ returns-then-begins_path-clause-value g c =
 pub returns-then-begins_path-clause-prints : goal.returns-then-begins_path-clause-prints
 returns-then-begins_path-clause-prints g c =
     in_any_case c.path_end.result
-    (prints_to g.S.TextSink c.args.symbol.now c.args.include_hash c.requires.ready
+    (prints_to g.S.TextSink c.args.symbol.now (form c.args.include_hash false) c.requires.ready
     (rw (c.at_path-parser.ensures.parser, c.at_path-parser.ensures.symbol) at c.in-Some.ensures.printed))
 
 pub returns-clause-value : goal.returns-clause-value
@@ -44,5 +44,5 @@ returns-clause-value g c =
 
 pub returns-clause-prints : goal.returns-clause-prints
 returns-clause-prints g c =
-    prints_to g.S.TextSink c.args.symbol.now c.args.include_hash c.requires.ready
+    prints_to g.S.TextSink c.args.symbol.now (form c.args.include_hash false) c.requires.ready
     (rw (c.at_path-parser.ensures.parser, c.at_path-parser.ensures.symbol) at c.in-Some.ensures.printed)

@@ -1,6 +1,6 @@
 use Rattle.std.proofs.Common.{arith, sym, ◌∙◌}
 use Rattle.demangle_v0.proofs.PointRuns.{valid_resumes, resumes_length, valid_steps}
-use Rattle.demangle_v0.proofs.PointSkips.{skip_is, skipped_valid}
+use Rattle.demangle_v0.proofs.PointSkips.{skipped_valid}
 use Rattle.demangle_v0.proofs.tests.goes_on.Goals as goal
 
 pub skip_impl_path-requires : goal.skip_impl_path-requires
@@ -13,8 +13,7 @@ step-requires c =
 
 pub returns-in-None-clause-valid : goal.returns-in-None-clause-valid
 returns-in-None-clause-valid c =
-    let k = skip_is _ (sym c.is_skipped.ensures ∙ c.if-is_skipped.true) in
-    λ _. skipped_valid k (c.in-None.ensures.behind k.0 k.1) (valid_resumes c.requires.valid c.in-Some.ensures.some)
+    λ _. skipped_valid (sym c.is_skipped.ensures ∙ c.if-is_skipped.true) c.in-None.ensures.behind (valid_resumes c.requires.valid c.in-Some.ensures.some)
 
 pub returns-clause-valid : goal.returns-clause-valid
 returns-clause-valid c = λ _. valid_steps (valid_resumes c.requires.valid c.in-Some.ensures.some) c.in-Ok.ensures.stepped

@@ -15,7 +15,7 @@ split_at-requires-in-Some c =
 pub returns-in_err-put_bytes : goal.returns-in_err-put_bytes
 returns-in_err-put_bytes c =
     slice_writes _ _ _ _
-    (feeding_kept ghosts _ _ _ _ _ _ _ _ _ _ _ _ _ _ _ _ _ c.loop-start.invariant
+    (feeding_kept ghosts _ _ _ _ _ _ _ _ _ _ _ _ _ _ _ _ c.loop-start.invariant
     (refl, c.in-Some.ensures.some, c.split_at.ensures.front, c.split_at.ensures.back, refl, c.run_len.ensures, c.split_at-in-Some.ensures.front, c.split_at-in-Some.ensures.back)
     (slice_hands _ _ (Err (record {})) _ c.in_err-put_bytes.ensures.taken c.in_err-put_bytes.ensures.alive c.in_err-put_bytes.ensures.refused c.in_err-put_bytes.ensures.kept c.in_err-put_bytes.ensures.fits)
     refl c.from_residual.ensures.0)
@@ -29,14 +29,14 @@ put_run-requires-clause-run c = ap (list_all is_run) c.run_text.ensures ∙ all_
 pub returns-in_err-put_run : goal.returns-in_err-put_run
 returns-in_err-put_run c =
     slice_writes _ _ _ _
-    (feeding_run ghosts _ _ _ _ _ _ _ _ c.run_text.result.now _ _ _ _ _ _ _ _ _ _ c.loop-start.invariant
+    (feeding_run ghosts _ _ _ _ _ _ _ c.run_text.result.now _ _ _ _ _ _ _ _ _ _ c.loop-start.invariant
     (refl, c.in-Some.ensures.some, c.split_at.ensures.front, c.split_at.ensures.back, refl, c.run_len.ensures, c.run_text.ensures ∙ c.split_at-in-Some.ensures.front, c.split_at-in-Some.ensures.back)
     (slice_hands _ _ (Ok tt) _ c.in_ok-put_bytes.ensures.taken c.in_ok-put_bytes.ensures.alive c.in_ok-put_bytes.ensures.refused c.in_ok-put_bytes.ensures.kept c.in_ok-put_bytes.ensures.fits)
     refl c.in_err-put_run.ensures refl c.from_residual-in_err-put_run.ensures.0)
 
 pub loop-start-preserved : goal.loop-start-preserved
 loop-start-preserved c =
-    feeding_step ghosts _ _ _ _ _ _ _ _ c.run_text.result.now _ _ _ _ _ _ _ _ _ c.loop-start.invariant
+    feeding_step ghosts _ _ _ _ _ _ _ c.run_text.result.now _ _ _ _ _ _ _ _ _ c.loop-start.invariant
     (refl, c.in-Some.ensures.some, c.split_at.ensures.front, c.split_at.ensures.back, refl, c.run_len.ensures, c.run_text.ensures ∙ c.split_at-in-Some.ensures.front, c.split_at-in-Some.ensures.back)
     (slice_hands _ _ (Ok tt) _ c.in_ok-put_bytes.ensures.taken c.in_ok-put_bytes.ensures.alive c.in_ok-put_bytes.ensures.refused c.in_ok-put_bytes.ensures.kept c.in_ok-put_bytes.ensures.fits)
     refl c.in_ok-put_run.ensures refl
@@ -45,5 +45,5 @@ pub returns : goal.returns
 returns c =
     let e = c.put_bytes-2.ensures in
     slice_writes _ _ _ _
-    (feeding_end ghosts _ _ _ _ _ _ _ _ _ c.loop-start.invariant refl c.in_default.ensures.none
+    (feeding_end ghosts _ _ _ _ _ _ _ _ c.loop-start.invariant refl c.in_default.ensures.none
     (slice_hands _ _ _ _ e.taken e.alive e.refused e.kept e.fits))

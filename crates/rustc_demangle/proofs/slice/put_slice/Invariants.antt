@@ -4,7 +4,7 @@ use Rattle.rustc_demangle.proofs.PieceSteps.{Feeding}
 use Rattle.rustc_demangle.proofs.slice.put_slice.Given as goal
 
 abbrev pub invariant-loop-start : goal.invariant-loop-start
-invariant-loop-start l = Feeding ghosts l.include_hash l.limit l.text l.initial.out l.out l.rest
+invariant-loop-start l = Feeding ghosts l.format l.text l.initial.out l.out l.rest
 
 abbrev pub decreases-loop-start : goal.decreases-loop-start
 decreases-loop-start l = length l.rest

@@ -2,7 +2,7 @@ use Rattle.std.specs.Prelude.{IsAscii}
 use Rattle.std.specs.List.{concat}
 use Rattle.std.proofs.Common.{◌≡◌, ℕ, Bool, true, List, [], ◌∷◌, ◌++◌, Result, Ok, Err, is_ok, OnOk, Some, refl, sym, subst, ap, ◌∙◌, inr, rules}
 use Rattle.std.proofs.lemmas.Bool.{false≢true}
-use Rattle.demangle_grammar.specs.Reading.{path_texts}
+use Rattle.demangle_grammar.specs.Reading.{form, path_texts}
 use Rattle.demangle_grammar.specs.V0.{v0_of}
 use Rattle.demangle_grammar.proofs.V0Reading.{read_is_v0}
 use Rattle.demangle_sink.specs.Cut.{cut}
@@ -11,7 +11,7 @@ use Rattle.demangle_sink.proofs.HandsLemmas.{hands_then, hands_text}
 use Rattle.demangle_sink.proofs.PrintsLemmas.{prints_cut_all}
 use Rattle.rustc_demangle.specs.Filtered.{replacement_within}
 use Rattle.rustc_demangle.specs.Stripped.{is_allowed, stripped}
-use Rattle.rustc_demangle.specs.Symbols.{IsSymbol}
+use Rattle.rustc_demangle.specs.Symbols.{IsSymbol, unfolded}
 use Rattle.rustc_demangle.proofs.BytesSteps.{all_ascii}
 use Rattle.rustc_demangle.proofs.MemoSteps.{symbol_replaced}
 use Rattle.rustc_demangle.proofs.PrintingLaws.{handed-some_of}
@@ -21,11 +21,11 @@ use Rattle.rustc_demangle.proofs.value.print_v0_run.Goals as goal
 
 -- what a v0 symbol prints replaces its run
 v0_replaced : (run text inner suffix : List ℕ) (hash : Bool) (limit : ℕ) → text ≡ stripped run → v0_of text ≡ Some (inner, suffix) → is_allowed suffix ≡ true
-    → concat (cut (path_texts inner hash) limit ++ suffix ∷ []) ≡ replacement_within hash limit run
+    → concat (cut (path_texts inner (form hash false)) limit ++ suffix ∷ []) ≡ replacement_within hash limit run
 v0_replaced run text inner suffix hash limit same read allowed =
-    let whole = handed-some_of text hash limit (path_texts inner hash, suffix) (pieces-v0 hash text inner suffix read allowed) in
+    let whole = handed-some_of text (unfolded hash limit) (path_texts inner (form hash false), suffix) (pieces-v0 (form hash false) text inner suffix read allowed) in
     let is : IsSymbol text = inr (inner, suffix, read_is_v0 text inner suffix read, allowed) in
-    sym (ap concat whole) ∙ symbol_replaced run text hash limit same is
+    sym (ap concat whole) ∙ symbol_replaced run text (unfolded hash limit) same is
 
 pub demangle_printed-read-requires-clause-ascii : goal.demangle_printed-read-requires-clause-ascii
 demangle_printed-read-requires-clause-ascii g c = subst IsAscii (sym c.without_thin_lto-text.ensures) (IsAscii-stripped c.args.run.now (all_ascii c.args.run.now c.requires.run))

@@ -12,10 +12,10 @@ pub read_in_full_stack-requires-clause-inner : goal.read_in_full_stack-requires-
 read_in_full_stack-requires-clause-inner c = full_inner (c.in-Full.ensures.reads [] c.args.self.now.stack refl refl c.requires.inner)
 
 pub returns-in-Full-clause-value : goal.returns-in-Full-clause-value
-returns-in-Full-clause-value c = (rw (c.in-Full.ensures.same.0, c.in-Full.ensures.same.1) at c.read_in_full_stack.ensures.value) ∙ full_value (c.in-Full.ensures.reads [] c.args.self.now.stack refl refl c.requires.inner)
+returns-in-Full-clause-value c = (rw (c.in-Full.ensures.same.0, c.in-Full.ensures.same.1, c.in-Full.ensures.same.2) at c.read_in_full_stack.ensures.value) ∙ full_value (c.in-Full.ensures.reads [] c.args.self.now.stack refl refl c.requires.inner)
 
 pub returns-in-Full-clause-looks : goal.returns-in-Full-clause-looks
-returns-in-Full-clause-looks c = omega (arith, full_looks (c.in-Full.ensures.reads [] c.args.self.now.stack refl refl c.requires.inner), rw (c.in-Full.ensures.same.0, c.in-Full.ensures.same.1) at c.read_in_full_stack.ensures.looks)
+returns-in-Full-clause-looks c = omega (arith, full_looks (c.in-Full.ensures.reads [] c.args.self.now.stack refl refl c.requires.inner), rw (c.in-Full.ensures.same.0, c.in-Full.ensures.same.1, c.in-Full.ensures.same.2) at c.read_in_full_stack.ensures.looks)
 
 pub returns-in-Failed-clause-value : goal.returns-in-Failed-clause-value
 returns-in-Failed-clause-value c = failed_value (c.in-Failed.ensures.reads [] c.args.self.now.stack refl refl c.requires.inner)

@@ -1,16 +1,17 @@
+use Rattle.demangle_grammar.specs.Reading.{form}
 use Rattle.demangle_v0.proofs.PointWholes.{valid_first}
 use Rattle.demangle_v0.proofs.PointPrints.{prints_so, prints_most}
 use Rattle.demangle_v0.proofs.value.Demangle.write_to.Goals as goal
 
 pub print_path-printed-requires-clause-valid : goal.print_path-printed-requires-clause-valid
-print_path-printed-requires-clause-valid g c = rw c.at_path-parser.ensures.parser (valid_first 0)
+print_path-printed-requires-clause-valid g c = rw c.at_path-parser.ensures (valid_first 0)
 
 pub returns-clause-prints : goal.returns-clause-prints
 returns-clause-prints g c =
-    rw (← c.self.view_is) (prints_so g.S.TextSink c.self.inside.inner c.args.include_hash _ c.requires
-    (rw (c.at_path-parser.ensures.parser, c.at_path-parser.ensures.symbol) at c.print_path-printed.ensures.ended))
+    rw (← c.self.view_is) (prints_so g.S.TextSink c.self.inside.inner (form c.args.include_hash c.args.fold_arguments) _ c.requires
+    (rw c.at_path-parser.ensures at c.print_path-printed.ensures.ended))
 
 pub returns-clause-most : goal.returns-clause-most
 returns-clause-most g c =
-    rw (← c.self.view_is) (prints_most g.S.TextSink c.self.inside.inner c.args.include_hash _ c.requires
-    (rw (c.at_path-parser.ensures.parser, c.at_path-parser.ensures.symbol) at c.print_path-printed.ensures.ended))
+    rw (← c.self.view_is) (prints_most g.S.TextSink c.self.inside.inner (form c.args.include_hash c.args.fold_arguments) _ c.requires
+    (rw c.at_path-parser.ensures at c.print_path-printed.ensures.ended))

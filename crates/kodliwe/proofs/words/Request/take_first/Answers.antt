@@ -1,9 +1,9 @@
 use Rattle.std.proofs.Common.{◌≡◌, subst}
 use Rattle.kodliwe.specs.declared.words.Request.{Request}
-use Rattle.kodliwe.specs.CommandLine.{Options, Asks, anything, options_of, takes_symbol, takes_stdin, takes_hash, takes_help, takes_version, takes_end, is_unknown}
+use Rattle.kodliwe.specs.CommandLine.{Options, Asks, anything, options_of, takes_symbol, takes_stdin, takes_hash, takes_fold, takes_help, takes_version, takes_end, is_unknown}
 use Rattle.kodliwe.proofs.WordLemmas.{sets_stdin}
 use Rattle.kodliwe.proofs.words.Request.take_first.Goals as goal
-use Rattle.kodliwe.proofs.words.Request.take_first.Goals.{in-Symbol+in_ok-add_symbol-in-Symbol, in-Stdin+in_ok-add_file-in-Stdin, in-Hash}
+use Rattle.kodliwe.proofs.words.Request.take_first.Goals.{in-Symbol+in_ok-add_symbol-in-Symbol, in-Stdin+in_ok-add_file-in-Stdin, in-Hash, in-Fold}
 
 pub returns-in-End-clause-takes : goal.returns-in-End-clause-takes
 returns-in-End-clause-takes c = λ words answer asks. takes_end c.in-End.ensures.is asks
@@ -26,4 +26,5 @@ returns-clause-takes c = λ words answer asks.
       | in-Symbol+in_ok-add_symbol-in-Symbol w ↦ takes_symbol w.in-Symbol.ensures.is (subst left w.in_ok-add_symbol-in-Symbol.ensures (asked _ w.self-is))
       | in-Stdin+in_ok-add_file-in-Stdin w ↦ takes_stdin w.in-Stdin.ensures.is (subst left (sets_stdin _ _ w.in_ok-add_file-in-Stdin.ensures.sets) (asked _ w.self-is))
       | in-Hash w ↦ takes_hash w.in-Hash.ensures.is (asked _ w.self-is)
+      | in-Fold w ↦ takes_fold w.in-Fold.ensures.is (asked _ w.self-is)
     ]

@@ -3,13 +3,13 @@ use Rattle.demangle_grammar.proofs.LooksLaw.{printing_looks, printing_pays, unit
 use Rattle.rustc_demangle.proofs.laws.v0_looks.printing_looks_stay_linear.Goals as goal
 
 pub returns-clause-printing : goal.returns-clause-printing
-returns-clause-printing c = λ symbol plain k. rw (add-one k) (printing_looks symbol plain k)
+returns-clause-printing c = λ symbol form k. rw (add-one k) (printing_looks symbol form k)
 
 pub returns-clause-paid : goal.returns-clause-paid
-returns-clause-paid c = λ symbol plain. printing_pays symbol plain
+returns-clause-paid c = λ symbol form. printing_pays symbol form
 
 pub returns-clause-unit : goal.returns-clause-unit
-returns-clause-unit c = λ symbol plain kind i depth lifetimes value k within deep. rw (add-one k) (unit_looks symbol plain kind i depth lifetimes value k within deep)
+returns-clause-unit c = λ symbol form kind i depth lifetimes value k within deep. rw (add-one k) (unit_looks symbol form.fold_arguments form.include_hash kind i depth lifetimes value k within deep)
 
 pub returns-clause-bytes : goal.returns-clause-bytes
-returns-clause-bytes c = λ symbol plain. rendered_bytes symbol plain
+returns-clause-bytes c = λ symbol form. rendered_bytes symbol form

@@ -7,10 +7,10 @@ use Rattle.demangle_v0.proofs.points.parser.Parser.arguments.Goals as goal
 
 pub returns-in_default : goal.returns-in_default
 returns-in_default g c = record {
-  did = λ p. rw (c.end_with.ensures.end, c.end_with.ensures.marked) (record {
-    does = arguments_close c.args.is_first (rw c.in_default.is refl) (rw c.in_default.is refl) (rw c.in_default.is
+  did = λ p w. rw (c.end_with.ensures.end, c.end_with.ensures.marked) (record {
+    does = arguments_close c.args.is_first w (rw c.in_default.is refl) (rw c.in_default.is refl) (rw c.in_default.is
         paid_none);
-    same = (refl, refl);
+    same = (refl, refl, refl);
   });
 }
 
@@ -19,10 +19,10 @@ returns-then-is_at g c =
     let over : is_byte c.args.self.now.source.symbol.now c.in-Some.at (code "E") ≡ true = sym c.is_at.ensures.there ∙
     c.if-is_at.true in
     record {
-      did = λ p. rw (c.end_with-then-is_at.ensures.end, c.end_with-then-is_at.ensures.marked) (record {
-        does = arguments_close c.args.is_first (rw c.in-Some.is over) (rw (c.in-Some.is, over) refl) (rw c.in-Some.is
+      did = λ p w. rw (c.end_with-then-is_at.ensures.end, c.end_with-then-is_at.ensures.marked) (record {
+        does = arguments_close c.args.is_first w (rw c.in-Some.is over) (rw (c.in-Some.is, over) refl) (rw c.in-Some.is
             (record { grows = omega (arith, c.is_at.ensures.look); within = omega (arith, c.is_at.ensures.look) }));
-        same = (refl, refl);
+        same = (refl, refl, refl);
       });
     }
 
@@ -31,9 +31,9 @@ returns g c =
     let grows = rw c.push.ensures at c.argument.ensures.grows in
     let looks = rw c.push.ensures at c.argument.ensures.looks in
     record {
-      did = λ p. rw (c.argument.ensures.point, c.argument.ensures.parser, c.separator-self.ensures, c.push.ensures)
+      did = λ p w. rw (c.argument.ensures.point, c.argument.ensures.parser, c.separator-self.ensures, c.push.ensures)
           (record {
-            does = argument_goes c.args.is_first c.in-Some.at c.in-Some.is (sym c.is_at.ensures.there ∙ c.if-is_at.false)
+            does = argument_goes c.args.is_first c.in-Some.at w c.in-Some.is (sym c.is_at.ensures.there ∙ c.if-is_at.false)
                 (record {
                   grows = omega (arith, c.is_at.ensures.look, grows);
                   within = omega (
@@ -42,6 +42,6 @@ returns g c =
                     looks,
                   );
                 }) c.requires.may.fits refl;
-            same = (refl, refl);
+            same = (refl, refl, refl);
           });
     }

@@ -12,6 +12,6 @@ unfolding run unit_rest_at
 returns g c = record {
   did = rw (c.put.ensures, c.push_printing.ensures.parser) (record {
     does = encloses point.Constant a_constant true true mark.Semicolon refl refl (omega arith) (omega arith) (omega arith) c.requires.may.fits c.requires.may.fits c.push_printing.ensures.is_printed c.push_printing.ensures.silent;
-    same = (refl, refl);
+    same = (refl, refl, refl);
   });
 }

@@ -7,6 +7,6 @@ returns g c = record {
   did = λ p. rw (c.put.ensures, c.push.ensures) (record {
     does = as_goes c.requires.may.fits
         refl;
-    same = (refl, refl);
+    same = (refl, refl, refl);
   });
 }

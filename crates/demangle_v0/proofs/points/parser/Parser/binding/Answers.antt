@@ -6,7 +6,7 @@ pub returns-in_default : goal.returns-in_default
 returns-in_default g c = record {
   did = λ p. record {
     does = binding_unread c.args.is_open c.in_default.is c.closing_text-self.ensures;
-    same = (refl, refl);
+    same = (refl, refl, refl);
   };
 }
 
@@ -15,7 +15,7 @@ returns-then-not-is_at g c = record {
   did = λ p. record {
     does = binding_over c.args.is_open c.in-Some.at c.in-Some.is (rw c.is_at.ensures.there at c.if-not-is_at.true)
         c.is_at.ensures.look c.closing_text-self-then-not-is_at.ensures c.requires.may.fits;
-    same = (refl, refl);
+    same = (refl, refl, refl);
   };
 }
 
@@ -24,6 +24,6 @@ returns g c = record {
   did = λ p. record {
     does = binding_on c.args.is_open c.in-Some.at c.in-Some.is (rw c.is_at.ensures.there at c.if-not-is_at.false)
         c.is_at.ensures.look c.opening_text.ensures c.requires.may.fits;
-    same = (refl, refl);
+    same = (refl, refl, refl);
   };
 }

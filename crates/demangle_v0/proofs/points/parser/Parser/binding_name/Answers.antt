@@ -17,7 +17,7 @@ returns-in_err-emit-in-Goes g c = let e = c.in_err-emit-in-Goes.ensures in recor
           within = omega (arith, c.in-Goes.ensures.looks, e.most);
         })
         (rw c.token_at.ensures.parser at e.prints) e.quiet;
-    same = (refl, refl);
+    same = (refl, refl, refl);
   });
 }
 
@@ -32,7 +32,7 @@ returns-in_ok-emit-in-Goes g c = let e = c.in_ok-emit-in-Goes.ensures in record 
         })
         (rw c.token_at.ensures.parser at e.prints) e.ready c.requires.may.unmarked refl (omega arith) (omega arith)
         c.requires.may.fits;
-    same = (refl, refl);
+    same = (refl, refl, refl);
   });
 }
 
@@ -43,6 +43,6 @@ returns-in-Stops g c = record {
     does = word_stops (omega arith) word.BindingName behind_name _ c.in-Stops.ensures.value
         (record { grows = c.in-Stops.ensures.grows; within = omega (arith, c.in-Stops.ensures.looks) })
         c.requires.may.unmarked (omega arith);
-    same = (refl, refl);
+    same = (refl, refl, refl);
   });
 }

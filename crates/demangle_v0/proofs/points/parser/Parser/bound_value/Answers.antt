@@ -6,7 +6,7 @@ pub returns-in_default : goal.returns-in_default
 returns-in_default g c = record {
   did = λ p. rw c.push.ensures (record {
     does = bound_unread (rw c.push.ensures at c.in_default.is) c.requires.may.unmarked c.requires.may.fits refl;
-    same = (refl, refl);
+    same = (refl, refl, refl);
   });
 }
 
@@ -16,7 +16,7 @@ returns-then-is_at g c = record {
     does = bound_constant_on c.in-Some.at (rw c.push.ensures at c.in-Some.is)
         (rw c.push.ensures at (sym c.is_at.ensures.there ∙ c.if-is_at.true)) (rw c.push.ensures at c.is_at.ensures.look)
         c.requires.may.unmarked c.requires.may.fits refl;
-    same = (refl, refl);
+    same = (refl, refl, refl);
   });
 }
 
@@ -26,6 +26,6 @@ returns g c = record {
     does = bound_type_on c.in-Some.at (rw c.push.ensures at c.in-Some.is)
         (rw c.push.ensures at (sym c.is_at.ensures.there ∙ c.if-is_at.false)) (rw c.push.ensures at c.is_at.ensures.look)
         c.requires.may.unmarked c.requires.may.fits refl;
-    same = (refl, refl);
+    same = (refl, refl, refl);
   });
 }

@@ -11,7 +11,7 @@ returns-in_err-at g c = record {
   did = record {
     does = rw (stops c.from_residual.result c.from_residual.ensures.1 c.in_err-at.ensures.failed.1)
         (unread c.requires.may.unmarked (rw c.in_err-at.ensures.failed.0 refl) (omega arith));
-    same = (refl, refl);
+    same = (refl, refl, refl);
   };
 }
 
@@ -21,7 +21,7 @@ returns-in_err-tag g c = record {
     does = rw (stops_invalid c.from_residual-in_err-tag.result c.from_residual-in_err-tag.ensures.1
         c.in_err-tag.ensures.fault) (constant_untagged c.in_ok-at.at c.in_ok-at.ensures.ok c.in_err-tag.ensures.read
         c.tag.ensures.look c.requires.may.unmarked);
-    same = (refl, refl);
+    same = (refl, refl, refl);
   };
 }
 
@@ -31,7 +31,7 @@ returns-in_err-enter g c = let deep = c.in_err-enter.ensures.deep in record {
     does = rw (stops c.from_residual-in_err-enter.result c.from_residual-in_err-enter.ensures.1 deep.1)
         (constant_too_deep c.in_ok-at.at c.in_ok-tag.tag c.in_ok-tag.next c.in_ok-at.ensures.ok deep.0
         c.in_ok-tag.ensures.read c.tag.ensures.look c.requires.may.unmarked);
-    same = (refl, refl);
+    same = (refl, refl, refl);
   });
 }
 

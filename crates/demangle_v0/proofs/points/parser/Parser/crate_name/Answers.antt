@@ -17,7 +17,7 @@ returns-in_err-at g c = record {
   did = record {
     does = rw (stops c.from_residual.result c.from_residual.ensures.1 c.in_err-at.ensures.failed.1)
         (unread c.requires.may.unmarked (rw c.in_err-at.ensures.failed.0 refl) (omega arith));
-    same = (refl, refl);
+    same = (refl, refl, refl);
   };
 }
 
@@ -35,7 +35,7 @@ returns-in_err-name g c =
             (named.none CrateName)
             (record { grows = omega arith; within = omega (arith, named.looks CrateName) }) (named_at _ b at CrateName
             c.in_ok-at.ensures.ok (omega (arith, named.looks CrateName))) c.requires.may.unmarked (omega arith));
-        same = (refl, refl);
+        same = (refl, refl, refl);
       };
     }
 
@@ -54,7 +54,7 @@ returns-in_err-emit g c =
             (record { grows = omega (arith, e.grows); within = omega (arith, named.looks CrateName, e.most) })
             (named_at _ b at CrateName c.in_ok-at.ensures.ok (omega (arith, named.looks CrateName, e.most)))
             e.prints e.quiet);
-        same = (refl, refl);
+        same = (refl, refl, refl);
       });
     }
 
@@ -73,6 +73,6 @@ returns g c =
             (record { grows = omega (arith, e.grows); within = omega (arith, named.looks CrateName, e.most) })
             (named_at _ b at CrateName c.in_ok-at.ensures.ok (omega (arith, named.looks CrateName, e.most)))
             e.prints e.ready c.requires.may.unmarked refl (omega arith) (omega arith) tt;
-        same = (refl, refl);
+        same = (refl, refl, refl);
       });
     }

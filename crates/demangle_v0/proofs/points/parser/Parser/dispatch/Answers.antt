@@ -1,9 +1,9 @@
-use Rattle.std.proofs.Common.{arith, refl, subst, sym}
+use Rattle.std.proofs.Common.{true, false, arith, refl, subst, sym}
 use Rattle.demangle_v0.specs.Parsers.{Did}
 use Rattle.demangle_v0.specs.Points.{unit_rest_at}
 use Rattle.demangle_v0.specs.declared.points.Point.{Point}
 use Rattle.demangle_v0.specs.declared.points.Point.TheVariants as point
-use Rattle.demangle_v0.proofs.Parsers.{went, went_silent}
+use Rattle.demangle_v0.proofs.Parsers.{unless_both, went, went_silent, went_unfolded}
 use Rattle.demangle_v0.proofs.PointReferences.{stays_over}
 use Rattle.demangle_v0.proofs.PointTypes.{type_point}
 use Rattle.demangle_v0.proofs.PointTurns.{alike}
@@ -23,7 +23,7 @@ returns-in-Lifetime-clause-did g c = rw c.in-Lifetime.is (record {
 pub returns-in-End-clause-did : goal.returns-in-End-clause-did
 returns-in-End-clause-did g c = rw c.in-End.is (record {
   does = stays_over c.requires.may.unmarked;
-  same = (refl, refl);
+  same = (refl, refl, refl);
 })
 
 pub returns-in-CloseParen-clause-did : goal.returns-in-CloseParen-clause-did
@@ -65,12 +65,13 @@ returns-in-Generic-clause-did g c = rw c.in-Generic.is (went g.V.Output c.args.o
     c.generic.ensures.did)
 
 pub returns-in-FirstArgument-clause-did : goal.returns-in-FirstArgument-clause-did
-returns-in-FirstArgument-clause-did g c = rw c.in-FirstArgument.is (went g.V.Output c.args.output.now
-    point.FirstArgument c.arguments.ensures.did)
+returns-in-FirstArgument-clause-did g c = rw c.in-FirstArgument.is (went_unfolded g.V.Output c.args.output.now true
+    point.FirstArgument (unless_both g.V.Output.is_printed _ (rw c.in-FirstArgument.is at c.requires.unskipped))
+    c.arguments.ensures.did)
 
 pub returns-in-NextArgument-clause-did : goal.returns-in-NextArgument-clause-did
-returns-in-NextArgument-clause-did g c = rw c.in-NextArgument.is (went g.V.Output c.args.output.now point.NextArgument
-    c.arguments-in-NextArgument.ensures.did)
+returns-in-NextArgument-clause-did g c = rw c.in-NextArgument.is (went_unfolded g.V.Output c.args.output.now false
+    point.NextArgument refl c.arguments-in-NextArgument.ensures.did)
 
 pub returns-in-ArrayLength-clause-did : goal.returns-in-ArrayLength-clause-did
 returns-in-ArrayLength-clause-did g c = rw c.in-ArrayLength.is c.array_length.ensures.did
@@ -124,12 +125,17 @@ pub returns-in-TraitPath-clause-did : goal.returns-in-TraitPath-clause-did
 returns-in-TraitPath-clause-did g c = rw c.in-TraitPath.is c.trait_path.ensures.did
 
 pub returns-in-FirstOpenArgument-clause-did : goal.returns-in-FirstOpenArgument-clause-did
-returns-in-FirstOpenArgument-clause-did g c = rw c.in-FirstOpenArgument.is (went g.V.Output c.args.output.now
-    point.FirstOpenArgument c.trait_argument.ensures.did)
+returns-in-FirstOpenArgument-clause-did g c = rw c.in-FirstOpenArgument.is (went_unfolded g.V.Output c.args.output.now
+    true point.FirstOpenArgument (unless_both g.V.Output.is_printed _ (rw c.in-FirstOpenArgument.is at
+    c.requires.unskipped)) c.trait_argument.ensures.did)
+
+pub returns-in-FoldedTraitArguments-clause-did : goal.returns-in-FoldedTraitArguments-clause-did
+returns-in-FoldedTraitArguments-clause-did g c = rw c.in-FoldedTraitArguments.is (went g.V.Output c.args.output.now
+    point.FoldedTraitArguments c.folded_trait_arguments.ensures.did)
 
 pub returns-in-NextOpenArgument-clause-did : goal.returns-in-NextOpenArgument-clause-did
-returns-in-NextOpenArgument-clause-did g c = rw c.in-NextOpenArgument.is (went g.V.Output c.args.output.now
-    point.NextOpenArgument c.trait_argument-in-NextOpenArgument.ensures.did)
+returns-in-NextOpenArgument-clause-did g c = rw c.in-NextOpenArgument.is (went_unfolded g.V.Output c.args.output.now
+    false point.NextOpenArgument refl c.trait_argument-in-NextOpenArgument.ensures.did)
 
 pub returns-in-Bindings-clause-did : goal.returns-in-Bindings-clause-did
 returns-in-Bindings-clause-did g c = rw c.in-Bindings.is (went g.V.Output c.args.output.now point.Bindings

@@ -13,7 +13,7 @@ unfolding unit_rest_at
 returns-in_err-at g c = let failed = c.in_err-at.ensures.failed in record {
   did = rw (stops c.from_residual.result c.from_residual.ensures.1 failed.1) (record {
     does = binder_unread first_traits c.requires.may.unmarked failed.0 (omega arith);
-    same = (refl, refl);
+    same = (refl, refl, refl);
   });
 }
 
@@ -25,7 +25,7 @@ returns-in_err-number g c = record {
         does = binder_stops (omega arith) first_traits c.in_ok-at.at c.in_ok-at.ensures.ok c.requires.may.unmarked
             c.in_err-number.ensures.read
             (record { grows = omega arith; within = omega (arith, c.in_err-number.ensures.err_looks) }) (omega arith);
-        same = (refl, refl);
+        same = (refl, refl, refl);
       });
 }
 
@@ -81,7 +81,7 @@ returns-in_err-bind_lifetimes g c =
               c.in_ok-number.ensures.grows,
             )))
             c.in_err-bind_lifetimes.ensures.prints c.in_err-bind_lifetimes.ensures.quiet;
-        same = (refl, refl);
+        same = (refl, refl, refl);
       });
     }
 
@@ -107,6 +107,6 @@ returns g c =
             )))
             c.in_ok-bind_lifetimes.ensures.prints c.in_ok-bind_lifetimes.ensures.ready c.requires.may.unmarked refl
             (omega arith) (omega arith) (omega (arith, c.requires.may.fits, c.in_ok-bind_lifetimes.ensures.number));
-        same = (refl, refl);
+        same = (refl, refl, refl);
       });
     }

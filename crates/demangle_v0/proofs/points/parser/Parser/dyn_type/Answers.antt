@@ -4,5 +4,5 @@ use Rattle.demangle_v0.proofs.points.parser.Parser.dyn_type.Goals as goal
 
 pub returns : goal.returns
 returns g c = record {
-  did = λ p. rw (c.put.ensures, c.push.ensures) (record { does = dyn_opens c.requires.may.fits refl; same = (refl, refl) });
+  did = λ p. rw (c.put.ensures, c.push.ensures) (record { does = dyn_opens c.requires.may.fits refl; same = (refl, refl, refl) });
 }

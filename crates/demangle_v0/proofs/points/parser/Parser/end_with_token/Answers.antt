@@ -18,7 +18,7 @@ returns-in_err-emit-in-Goes g c =
               within = omega
                   (arith, c.in-Goes.ensures.looks, e.most);
             }) (rw c.token_at.ensures.parser at e.prints) e.quiet);
-        same = (refl, refl);
+        same = (refl, refl, refl);
       };
       own = omega (arith, c.in-Goes.ensures.looks, e.most, own);
     })
@@ -33,7 +33,7 @@ returns-in-Stops g c =
           grows = c.in-Stops.ensures.grows;
           within = omega (arith, c.in-Stops.ensures.looks);
         }) c.requires.may.unmarked;
-        same = (refl, refl);
+        same = (refl, refl, refl);
       };
       own = omega (arith, c.in-Stops.ensures.looks, own);
     })
@@ -52,7 +52,7 @@ returns-in_ok-emit-in-Goes g c =
                   (arith, c.in-Goes.ensures.looks, e.most);
             }) (rw c.token_at.ensures.parser at e.prints) e.ready
             c.requires.may.unmarked;
-        same = (refl, refl);
+        same = (refl, refl, refl);
       };
       own = omega (arith, c.in-Goes.ensures.looks, e.most, own);
     })

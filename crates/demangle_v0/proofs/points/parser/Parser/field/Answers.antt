@@ -16,7 +16,7 @@ returns-in_err-emit-in-Goes g c = let e = c.in_err-emit-in-Goes.ensures in recor
           grows = omega (arith, c.in-Goes.ensures.grows, e.grows);
           within = omega (arith, c.in-Goes.ensures.looks, e.most);
         }) (rw c.token_at.ensures.parser at e.prints) e.quiet);
-    same = (refl, refl);
+    same = (refl, refl, refl);
   });
 }
 
@@ -29,7 +29,7 @@ returns-in_ok-emit-in-Goes g c = let e = c.in_ok-emit-in-Goes.ensures in record 
       within = omega (arith, c.in-Goes.ensures.looks, e.most);
     }) (rw c.token_at.ensures.parser at e.prints) e.ready c.requires.may.unmarked refl (omega arith) (omega arith)
         c.requires.may.fits;
-    same = (refl, refl);
+    same = (refl, refl, refl);
   });
 }
 
@@ -40,6 +40,6 @@ returns-in-Stops g c = record {
     does = word_stops (omega arith) word.FieldName behind_field _ c.in-Stops.ensures.value
         (record { grows = c.in-Stops.ensures.grows; within = omega (arith, c.in-Stops.ensures.looks) })
         c.requires.may.unmarked (omega arith);
-    same = (refl, refl);
+    same = (refl, refl, refl);
   });
 }

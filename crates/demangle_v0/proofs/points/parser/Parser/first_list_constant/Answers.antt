@@ -8,7 +8,7 @@ returns-then-ends_list g c = record {
   did = λ p. rw (c.end_with.ensures.end, c.end_with.ensures.marked, c.close.ensures, c.ends_list.ensures.place) (record {
     does = list_shuts (constants _ true c.args.list) (sym c.ends_list.ensures.over ∙ c.if-ends_list.true) refl
         c.ends_list.ensures.paid;
-    same = (refl, refl);
+    same = (refl, refl, refl);
   });
 }
 
@@ -17,6 +17,6 @@ returns g c = record {
   did = λ p. rw (c.element.ensures, c.push.ensures, c.after_first.ensures, c.ends_list.ensures.place) (record {
     does = list_goes (constants _ true c.args.list) (sym c.ends_list.ensures.over ∙ c.if-ends_list.false) refl
         c.ends_list.ensures.paid c.requires.may.unmarked c.requires.may.fits refl;
-    same = (refl, refl);
+    same = (refl, refl, refl);
   });
 }

@@ -10,7 +10,7 @@ returns-in-Faulty g c = record {
       within = omega
           (arith, c.in-Faulty.ensures.looks);
     }) c.requires.may.unmarked;
-    same = (refl, refl);
+    same = (refl, refl, refl);
   };
 }
 
@@ -23,7 +23,7 @@ returns-then-not-is_printing g c = record {
           (arith, c.in-Target.ensures.looks);
     }) (sym c.is_printing.ensures ∙ c.if-not-is_printing.true)
         c.requires.may.unmarked;
-    same = (refl, refl);
+    same = (refl, refl, refl);
   };
 }
 
@@ -34,6 +34,6 @@ returns-else-not-is_printing g c = record {
         (record { grows = omega arith; within = omega (arith, c.in-Target.ensures.looks) }) (sym c.is_printing.ensures
         ∙ c.if-not-is_printing.false) c.in-Target.ensures.deep (omega arith) c.requires.may
         (rw c.frame-frame.ensures at c.push.ensures.pushed (omega arith));
-    same = (refl, refl);
+    same = (refl, refl, refl);
   };
 }

@@ -11,7 +11,7 @@ returns-in_err-at-clause-did g c =
     let failed = c.in_err-at.ensures.failed in
     rw (stops c.from_residual.result c.from_residual.ensures.1 failed.1) (record {
       does = binder_unread head c.requires.may.unmarked failed.0 (omega arith);
-      same = (refl, refl);
+      same = (refl, refl, refl);
     })
 
 pub returns-in_err-number-clause-did : goal.returns-in_err-number-clause-did
@@ -21,7 +21,7 @@ returns-in_err-number-clause-did g c =
       does = binder_stops (omega arith) head c.in_ok-at.at c.in_ok-at.ensures.ok c.requires.may.unmarked
           c.in_err-number.ensures.read
           (record { grows = omega arith; within = omega (arith, c.in_err-number.ensures.err_looks) }) (omega arith);
-      same = (refl, refl);
+      same = (refl, refl, refl);
     })
 
 pub returns-then-number-eq0-clause-did : goal.returns-then-number-eq0-clause-did
@@ -70,7 +70,7 @@ returns-in_err-bind_lifetimes-clause-did g c =
             c.in_ok-number.ensures.grows,
           )))
           c.in_err-bind_lifetimes.ensures.prints c.in_err-bind_lifetimes.ensures.quiet;
-      same = (refl, refl);
+      same = (refl, refl, refl);
     })
 
 pub returns-clause-did : goal.returns-clause-did
@@ -94,5 +94,5 @@ returns-clause-did g c =
           )))
           c.in_ok-bind_lifetimes.ensures.prints c.in_ok-bind_lifetimes.ensures.ready c.requires.may.unmarked refl
           (omega arith) (omega arith) (omega (arith, c.requires.may.fits, c.in_ok-bind_lifetimes.ensures.number));
-      same = (refl, refl);
+      same = (refl, refl, refl);
     })

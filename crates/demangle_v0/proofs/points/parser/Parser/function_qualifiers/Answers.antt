@@ -44,7 +44,7 @@ returns-in_err-emit-in-Goes g c =
               within = omega (arith, c.in-Goes.ensures.looks, e.most);
             })
             (rw c.token_at.ensures.parser at e.prints) e.quiet;
-        same = (refl, refl);
+        same = (refl, refl, refl);
       };
       own = omega (arith, c.in-Goes.ensures.looks, e.most, tight);
     })
@@ -65,7 +65,7 @@ returns-in_ok-emit-in-Goes g c =
             })
             (rw c.token_at.ensures.parser at e.prints) e.ready c.requires.may.unmarked refl (omega arith) (omega arith)
             c.requires.may.fits;
-        same = (refl, refl);
+        same = (refl, refl, refl);
       };
       own = omega (arith, c.in-Goes.ensures.looks, e.most, tight);
     })
@@ -81,7 +81,7 @@ returns-in-Stops g c =
         does = word_stops (omega arith) word.FunctionHead parameters _ c.in-Stops.ensures.value
             (record { grows = c.in-Stops.ensures.grows; within = omega (arith, c.in-Stops.ensures.looks) })
             c.requires.may.unmarked (omega arith);
-        same = (refl, refl);
+        same = (refl, refl, refl);
       };
       own = omega (arith, c.in-Stops.ensures.looks, tight);
     })

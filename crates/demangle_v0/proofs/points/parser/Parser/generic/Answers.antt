@@ -11,7 +11,7 @@ returns-then-self g c = record {
   did = λ p. rw c.put.ensures (record {
     does = marks point.OpenArguments
         (rw c.if-self.true refl) (omega arith) (omega arith) c.requires.may.fits;
-    same = (refl, refl);
+    same = (refl, refl, refl);
   });
 }
 
@@ -21,6 +21,6 @@ returns g c = record {
   did = λ p. rw c.put-2.ensures (record {
     does = marks point.FirstArgument (rw c.if-self.false
         refl) (omega arith) (omega arith) c.requires.may.fits;
-    same = (refl, refl);
+    same = (refl, refl, refl);
   });
 }

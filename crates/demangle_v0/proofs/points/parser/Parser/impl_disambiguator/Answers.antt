@@ -7,7 +7,7 @@ returns-in_default g c = record {
   did = λ p. record {
     does = impl_unread c.args.is_trait c.in_default.is
         c.requires.may.unmarked;
-    same = (refl, refl);
+    same = (refl, refl, refl);
   };
 }
 
@@ -17,7 +17,7 @@ returns-in_default-opt_integer_62 g c = record {
     does = impl_stops c.args.is_trait c.in-Some.at c.in-Some.is c.in_default-opt_integer_62.ensures.read
         (record { grows = omega arith; within = omega (arith, c.in_default-opt_integer_62.ensures.err_looks) })
         c.requires.may.unmarked;
-    same = (refl, refl);
+    same = (refl, refl, refl);
   };
 }
 
@@ -28,7 +28,7 @@ returns-then-is_trait g c = record {
       grows = omega arith;
       within = omega (arith, c.in-Ok.ensures.ok_looks);
     }) c.requires.may.unmarked c.requires.may.fits;
-    same = (refl, refl);
+    same = (refl, refl, refl);
   });
 }
 
@@ -38,6 +38,6 @@ returns g c = record {
     does = impl_goes false c.in-Some.at _ c.in-Ok.next c.in-Some.is c.in-Ok.ensures.read
         (record { grows = omega arith; within = omega (arith, c.in-Ok.ensures.ok_looks) }) c.requires.may.unmarked
         c.requires.may.fits;
-    same = (refl, refl);
+    same = (refl, refl, refl);
   });
 }

@@ -10,7 +10,7 @@ returns-in_err-emit_name_after_error g c =
       did = rw e.parser (record {
         does = rw (stops c.from_residual.result c.from_residual.ensures.1 refl) (name_unread_refused c.requires.failed
             (record { grows = e.grows; within = omega (arith, e.most) }) e.prints);
-        same = (refl, refl);
+        same = (refl, refl, refl);
       });
     }
 
@@ -21,6 +21,6 @@ returns g c =
       did = rw e.parser (record {
         does = name_unread c.requires.failed
             (record { grows = e.grows; within = omega (arith, e.most) }) e.prints e.ready c.requires.may.unmarked;
-        same = (refl, refl);
+        same = (refl, refl, refl);
       });
     }

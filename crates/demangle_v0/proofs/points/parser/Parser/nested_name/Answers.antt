@@ -29,7 +29,7 @@ returns-in_err-ident g c =
             (record { grows = omega arith; within = omega (arith, named.looks (λ a d. NestedName s.letter d a)) })
             (named_at _ b at (λ a d. NestedName s.letter d a) c.in-Some.is
             (omega (arith, named.looks (λ a d. NestedName s.letter d a)))) c.requires.may.unmarked (omega arith));
-        same = (refl, refl);
+        same = (refl, refl, refl);
       };
     }
 
@@ -56,7 +56,7 @@ returns-in_err-emit g c =
               );
             }) (named_at _ b at (λ a d. NestedName s.letter d a) c.in-Some.is
             (omega (arith, named.looks (λ a d. NestedName s.letter d a), e.most))) e.prints e.quiet);
-        same = (refl, refl);
+        same = (refl, refl, refl);
       });
     }
 
@@ -87,6 +87,6 @@ returns g c =
             }) (named_at _ b at (λ a d. NestedName s.letter d a) c.in-Some.is
             (omega (arith, named.looks (λ a d. NestedName s.letter d a), e.most)))
             e.prints e.ready c.requires.may.unmarked refl (omega arith) (omega arith) tt;
-        same = (refl, refl);
+        same = (refl, refl, refl);
       });
     }

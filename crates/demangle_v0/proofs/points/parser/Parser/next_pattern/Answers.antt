@@ -8,7 +8,7 @@ returns-in_err-at g c = record {
   did = λ p. record {
     does = rw (stops_none c.from_residual.result c.from_residual.ensures.1 c.in_err-at.ensures.value
         c.in_err-at.ensures.ok_part) (or_failed c.in_err-at.ensures.ok_part c.requires.may.unmarked);
-    same = (refl, refl);
+    same = (refl, refl, refl);
   };
 }
 
@@ -17,7 +17,7 @@ returns-then-is_at g c = record {
   did = λ p. record {
     does = or_over c.in_ok-at.at c.in_ok-at.ensures.ok_part c.if-is_at.ensures.there c.is_at.ensures.look
         c.requires.may.unmarked;
-    same = (refl, refl);
+    same = (refl, refl, refl);
   };
 }
 
@@ -26,6 +26,6 @@ returns g c = record {
   did = λ p. rw (c.put.ensures, c.push.ensures) (record {
     does = or_on c.in_ok-at.at c.in_ok-at.ensures.ok_part c.if-is_at.ensures.there c.is_at.ensures.look
         c.requires.may.fits refl;
-    same = (refl, refl);
+    same = (refl, refl, refl);
   });
 }

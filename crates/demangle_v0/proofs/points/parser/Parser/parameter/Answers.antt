@@ -8,7 +8,7 @@ returns-then-ends_list g c = record {
   did = λ p. rw (c.put.ensures, c.ends_list.ensures.place) (record {
     does = parameters_close c.args.is_first (sym c.ends_list.ensures.over ∙ c.if-ends_list.true) refl
         c.ends_list.ensures.paid c.requires.may.fits;
-    same = (refl, refl);
+    same = (refl, refl, refl);
   });
 }
 
@@ -17,6 +17,6 @@ returns g c = record {
   did = λ p. rw (c.push.ensures, c.ends_list.ensures.place) (record {
     does = list_goes (parameter_types _ c.args.is_first) (sym c.ends_list.ensures.over ∙ c.if-ends_list.false) refl
         c.ends_list.ensures.paid c.separator-self.ensures c.requires.may.fits refl;
-    same = (refl, refl);
+    same = (refl, refl, refl);
   });
 }

@@ -11,7 +11,7 @@ returns-in_err-at g c = record {
   did = λ p. record {
     does = rw (stops c.from_residual.result c.from_residual.ensures.1 c.in_err-at.ensures.failed.1)
         (unread c.requires.may.unmarked (rw c.in_err-at.ensures.failed.0 refl) (omega arith));
-    same = (refl, refl);
+    same = (refl, refl, refl);
   };
 }
 
@@ -21,7 +21,7 @@ returns-in_err-tag g c = record {
     does = rw (stops_invalid c.from_residual-in_err-tag.result c.from_residual-in_err-tag.ensures.1
         c.in_err-tag.ensures.fault) (pattern_untagged c.in_ok-at.at c.in_ok-at.ensures.ok c.in_err-tag.ensures.read
         c.tag.ensures.look c.requires.may.unmarked);
-    same = (refl, refl);
+    same = (refl, refl, refl);
   };
 }
 
@@ -32,7 +32,7 @@ returns-in_err-kind g c = record {
         c.in_err-kind.ensures.value c.in_err-kind.ensures.ok_part) (pattern_wrong c.in_ok-at.at c.in_ok-tag.tag
         c.in_ok-tag.next c.in_ok-at.ensures.ok c.in_ok-tag.ensures.read
         (rw c.in_err-kind.ensures.ok_part at c.pattern_kind.ensures) c.tag.ensures.look c.requires.may.unmarked);
-    same = (refl, refl);
+    same = (refl, refl, refl);
   };
 }
 
@@ -42,7 +42,7 @@ returns-in-Range g c = record {
     does = range_goes c.in_ok-at.at c.in_ok-tag.tag c.in_ok-tag.next c.in_ok-at.ensures.ok c.in_ok-tag.ensures.read
         (rw (c.in_ok-kind.ensures.ok_part, c.in-Range.is) at c.pattern_kind.ensures) c.tag.ensures.look
         c.requires.may.unmarked c.requires.may.fits refl;
-    same = (refl, refl);
+    same = (refl, refl, refl);
   });
 }
 
@@ -53,7 +53,7 @@ returns-in_err-enter-in-Or g c = let deep = c.in_err-enter-in-Or.ensures.deep in
         (or_too_deep c.in_ok-at.at c.in_ok-tag.tag c.in_ok-tag.next c.in_ok-at.ensures.ok c.in_ok-tag.ensures.read
         (rw (c.in_ok-kind.ensures.ok_part, c.in-Or.is) at c.pattern_kind.ensures) deep.0 c.tag.ensures.look
         c.requires.may.unmarked);
-    same = (refl, refl);
+    same = (refl, refl, refl);
   });
 }
 
@@ -63,7 +63,7 @@ returns-in_ok-enter-in-Or g c = let ok = c.in_ok-enter-in-Or.ensures.ok in recor
     does = or_goes c.in_ok-at.at c.in_ok-tag.tag c.in_ok-tag.next c.in_ok-at.ensures.ok c.in_ok-tag.ensures.read
         (rw (c.in_ok-kind.ensures.ok_part, c.in-Or.is) at c.pattern_kind.ensures) ok.0 c.tag.ensures.look
         c.requires.may.unmarked c.requires.may.fits refl;
-    same = (refl, refl);
+    same = (refl, refl, refl);
   });
 }
 
@@ -72,6 +72,6 @@ returns-in-NotNull g c = record {
   did = λ p. rw (c.end_with.ensures.end, c.end_with.ensures.marked) (record {
     does = not_null c.in_ok-at.at c.in_ok-tag.tag c.in_ok-tag.next c.in_ok-at.ensures.ok c.in_ok-tag.ensures.read
         (rw (c.in_ok-kind.ensures.ok_part, c.in-NotNull.is) at c.pattern_kind.ensures) c.tag.ensures.look;
-    same = (refl, refl);
+    same = (refl, refl, refl);
   });
 }

@@ -1,10 +1,10 @@
 use Rattle.std.proofs.Common.{Ok, Some, arith, refl, sym, ◌∙◌}
-use Rattle.demangle_v0.specs.Parsers.{Same}
+use Rattle.demangle_v0.specs.Parsers.{form_of, Same}
 use Rattle.demangle_v0.specs.PointRuns.{printing}
 use Rattle.demangle_v0.proofs.Parsers.{left_as, stepped_as}
 use Rattle.demangle_v0.proofs.PointRuns.{valid_resumes, resumes_length, valid_steps, turn_less, first_resumes, ran_then, ran_resumes, ran_turn, ran_broke}
 use Rattle.demangle_v0.proofs.PointPrints.{ran_fail, ran_left, ran_skips}
-use Rattle.demangle_v0.proofs.PointSkips.{skip_is, skip_unread, skipped_valid, skipped_less, skips_valid}
+use Rattle.demangle_v0.proofs.PointSkips.{skip_unread, skipped_valid, skipped_less, skips_valid}
 use Rattle.demangle_v0.proofs.points.parser.Parser.print_steps.Goals as goal
 
 pub skip_impl_path-skipped-requires : goal.skip_impl_path-skipped-requires
@@ -16,55 +16,53 @@ returns-in-Some-skipped-clause-valid g c =
 
 pub returns-in-Some-skipped-clause-ran : goal.returns-in-Some-skipped-clause-ran
 returns-in-Some-skipped-clause-ran g c =
-    let same : Same c.args.self.now c.resume.new.self = (c.in-Some.ensures.same.0 ∙ c.steps.invariant.same.0, c.in-Some.ensures.same.1 ∙ c.steps.invariant.same.1) in
-    ran_left (sym c.is_skipped.ensures ∙ c.if-is_skipped.true) (valid_resumes c.steps.invariant.valid c.in-Some.ensures.some) (rw (same.0, same.1, c.in-Some.ensures.looks) at c.in-Some-skipped.ensures.midway) (ran_then c.steps.invariant.ran (ran_resumes c.in-Some.ensures.some))
+    let same : Same c.args.self.now c.resume.new.self = (c.in-Some.ensures.same.0 ∙ c.steps.invariant.same.0, c.in-Some.ensures.same.1 ∙ c.steps.invariant.same.1, c.in-Some.ensures.same.2 ∙ c.steps.invariant.same.2) in
+    ran_left (rw same.2 at (sym c.is_skipped.ensures ∙ c.if-is_skipped.true)) (valid_resumes c.steps.invariant.valid c.in-Some.ensures.some) (rw (same.0, same.1, same.2, c.in-Some.ensures.looks) at c.in-Some-skipped.ensures.midway) (ran_then c.steps.invariant.ran (ran_resumes c.in-Some.ensures.some))
 
 pub steps-smaller-then-is_skipped : goal.steps-smaller-then-is_skipped
 steps-smaller-then-is_skipped g c =
-    let same : Same c.args.self.now c.resume.new.self = (c.in-Some.ensures.same.0 ∙ c.steps.invariant.same.0, c.in-Some.ensures.same.1 ∙ c.steps.invariant.same.1) in
-    let k = skip_is _ (sym c.is_skipped.ensures ∙ c.if-is_skipped.true) in
-    skipped_less k c.in-Some.ensures.some (rw (same.0, same.1) at c.in_default-skipped.ensures.behind k.0 k.1)
+    let same : Same c.args.self.now c.resume.new.self = (c.in-Some.ensures.same.0 ∙ c.steps.invariant.same.0, c.in-Some.ensures.same.1 ∙ c.steps.invariant.same.1, c.in-Some.ensures.same.2 ∙ c.steps.invariant.same.2) in
+    skipped_less (rw same.2 at (sym c.is_skipped.ensures ∙ c.if-is_skipped.true)) c.in-Some.ensures.some (rw (same.0, same.1, same.2) at c.in_default-skipped.ensures.behind)
 
 pub steps-preserved-then-is_skipped : goal.steps-preserved-then-is_skipped
 steps-preserved-then-is_skipped g c =
-    let same : Same c.args.self.now c.resume.new.self = (c.in-Some.ensures.same.0 ∙ c.steps.invariant.same.0, c.in-Some.ensures.same.1 ∙ c.steps.invariant.same.1) in
-    let skips = sym c.is_skipped.ensures ∙ c.if-is_skipped.true in
-    let k = skip_is _ skips in
-    let z = rw (same.0, same.1, c.in-Some.ensures.looks) at c.in_default-skipped.ensures.behind k.0 k.1 in
+    let same : Same c.args.self.now c.resume.new.self = (c.in-Some.ensures.same.0 ∙ c.steps.invariant.same.0, c.in-Some.ensures.same.1 ∙ c.steps.invariant.same.1, c.in-Some.ensures.same.2 ∙ c.steps.invariant.same.2) in
+    let skips = rw same.2 at (sym c.is_skipped.ensures ∙ c.if-is_skipped.true) in
+    let z = rw (same.0, same.1, same.2, c.in-Some.ensures.looks) at c.in_default-skipped.ensures.behind in
     record {
       ready = c.steps.invariant.ready;
-      valid = skipped_valid k z (valid_resumes c.steps.invariant.valid c.in-Some.ensures.some);
-      ran = ran_skips g.S.TextSink c.args.self.now.source.symbol.now c.args.self.now.source.include_hash k (ran_then c.steps.invariant.ran (ran_resumes c.in-Some.ensures.some)) z;
-      same = (c.in_default-skipped.ensures.same.0 ∙ same.0, c.in_default-skipped.ensures.same.1 ∙ same.1);
+      valid = skipped_valid skips z (valid_resumes c.steps.invariant.valid c.in-Some.ensures.some);
+      ran = ran_skips g.S.TextSink c.args.self.now.source.symbol.now (form_of c.args.self.now.source) skips (ran_then c.steps.invariant.ran (ran_resumes c.in-Some.ensures.some)) z;
+      same = (c.in_default-skipped.ensures.same.0 ∙ same.0, c.in_default-skipped.ensures.same.1 ∙ same.1, c.in_default-skipped.ensures.same.2 ∙ same.2);
       grows = omega (arith, c.steps.invariant.grows, c.in-Some.ensures.looks, c.in_default-skipped.ensures.grows);
-      least = omega (arith, c.steps.invariant.least, c.in-Some.ensures.looks, c.in_default-skipped.ensures.grows, first_resumes c.in-Some.ensures.some, skip_unread _ c.resume.new.self.state skips);
+      least = omega (arith, c.steps.invariant.least, c.in-Some.ensures.looks, c.in_default-skipped.ensures.grows, first_resumes c.in-Some.ensures.some, skip_unread c.args.self.now.source.fold_arguments _ c.resume.new.self.state skips);
     }
 
 pub step-requires : goal.step-requires
 step-requires g c =
-    let same : Same c.args.self.now c.resume.new.self = (c.in-Some.ensures.same.0 ∙ c.steps.invariant.same.0, c.in-Some.ensures.same.1 ∙ c.steps.invariant.same.1) in
+    let same : Same c.args.self.now c.resume.new.self = (c.in-Some.ensures.same.0 ∙ c.steps.invariant.same.0, c.in-Some.ensures.same.1 ∙ c.steps.invariant.same.1, c.in-Some.ensures.same.2 ∙ c.steps.invariant.same.2) in
     let v = valid_resumes c.steps.invariant.valid c.in-Some.ensures.some in
     (omega arith, (record { ascii = λ _. rw same.0 c.requires.ascii; ready = c.steps.invariant.ready; unmarked = v.unmarked; room = omega (arith, resumes_length c.in-Some.ensures.some, c.steps-test.true, c.len.ensures); fits = v.fits }, λ z. sym c.is_skipped.ensures ∙ c.if-is_skipped.false))
 
 pub returns-in_err-point-clause-ran : goal.returns-in_err-point-clause-ran
 returns-in_err-point-clause-ran g c =
-    let d = stepped_as (printing g.S.TextSink c.args.self.now.source.symbol.now c.args.self.now.source.include_hash).output c.args.self.now c.resume.new.self (c.in-Some.ensures.same.0 ∙ c.steps.invariant.same.0, c.in-Some.ensures.same.1 ∙ c.steps.invariant.same.1) c.in_err-point.ensures.stepped in
+    let d = stepped_as (printing g.S.TextSink c.args.self.now.source.symbol.now (form_of c.args.self.now.source)).output c.args.self.now c.resume.new.self (c.in-Some.ensures.same.0 ∙ c.steps.invariant.same.0, c.in-Some.ensures.same.1 ∙ c.steps.invariant.same.1, c.in-Some.ensures.same.2 ∙ c.steps.invariant.same.2) c.in_err-point.ensures.stepped in
     ran_fail c.from_residual.ensures.0 (ran_broke c.steps.invariant.ran c.in-Some.ensures.some (rw c.in-Some.ensures.looks at d))
 
 pub steps-smaller : goal.steps-smaller
 steps-smaller g c =
-    let d = stepped_as (printing g.S.TextSink c.args.self.now.source.symbol.now c.args.self.now.source.include_hash).output c.args.self.now c.resume.new.self (c.in-Some.ensures.same.0 ∙ c.steps.invariant.same.0, c.in-Some.ensures.same.1 ∙ c.steps.invariant.same.1) c.in_ok-point.ensures.stepped in
+    let d = stepped_as (printing g.S.TextSink c.args.self.now.source.symbol.now (form_of c.args.self.now.source)).output c.args.self.now c.resume.new.self (c.in-Some.ensures.same.0 ∙ c.steps.invariant.same.0, c.in-Some.ensures.same.1 ∙ c.steps.invariant.same.1, c.in-Some.ensures.same.2 ∙ c.steps.invariant.same.2) c.in_ok-point.ensures.stepped in
     turn_less c.in-Some.ensures.some d
 
 pub steps-preserved : goal.steps-preserved
 steps-preserved g c =
-    let same : Same c.args.self.now c.resume.new.self = (c.in-Some.ensures.same.0 ∙ c.steps.invariant.same.0, c.in-Some.ensures.same.1 ∙ c.steps.invariant.same.1) in
-    let d = stepped_as (printing g.S.TextSink c.args.self.now.source.symbol.now c.args.self.now.source.include_hash).output c.args.self.now c.resume.new.self (c.in-Some.ensures.same.0 ∙ c.steps.invariant.same.0, c.in-Some.ensures.same.1 ∙ c.steps.invariant.same.1) c.in_ok-point.ensures.stepped in
+    let same : Same c.args.self.now c.resume.new.self = (c.in-Some.ensures.same.0 ∙ c.steps.invariant.same.0, c.in-Some.ensures.same.1 ∙ c.steps.invariant.same.1, c.in-Some.ensures.same.2 ∙ c.steps.invariant.same.2) in
+    let d = stepped_as (printing g.S.TextSink c.args.self.now.source.symbol.now (form_of c.args.self.now.source)).output c.args.self.now c.resume.new.self (c.in-Some.ensures.same.0 ∙ c.steps.invariant.same.0, c.in-Some.ensures.same.1 ∙ c.steps.invariant.same.1, c.in-Some.ensures.same.2 ∙ c.steps.invariant.same.2) c.in_ok-point.ensures.stepped in
     record {
       ready = c.in_ok-point.ensures.ready refl;
       valid = valid_steps (valid_resumes c.steps.invariant.valid c.in-Some.ensures.some) d;
       ran = ran_turn c.steps.invariant.ran c.in-Some.ensures.some (rw c.in-Some.ensures.looks at d);
-      same = (c.in_ok-point.ensures.same.0 ∙ same.0, c.in_ok-point.ensures.same.1 ∙ same.1);
+      same = (c.in_ok-point.ensures.same.0 ∙ same.0, c.in_ok-point.ensures.same.1 ∙ same.1, c.in_ok-point.ensures.same.2 ∙ same.2);
       grows = omega (arith, c.steps.invariant.grows, c.in-Some.ensures.looks, c.in_ok-point.ensures.grows);
       least = omega (arith, c.steps.invariant.least, c.in-Some.ensures.looks, c.in_ok-point.ensures.least, first_resumes c.in-Some.ensures.some);
     }

@@ -8,7 +8,7 @@ returns g c = record {
   did = λ p. record {
     does = left_so (env_of (unheard p) c.args.self.now) (turn_of c.args.self.now tt) c.args.point c.in-Some.left
         c.in-Some.ensures c.requires.fits;
-    same = (refl, refl);
+    same = (refl, refl, refl);
   };
   looks = refl;
 }

@@ -7,10 +7,10 @@ pub returns : goal.returns
 returns g c = elim c.if-is_trait.branch [
   | then-is_trait w ↦ record {
     did = rw (c.push.ensures, w.if-is_trait.true, w.next-is)
-        (record { does = skip_goes true refl c.requires.may.unmarked c.requires.may.fits refl; same = (refl, refl) });
+        (record { does = skip_goes true refl c.requires.may.unmarked c.requires.may.fits refl; same = (refl, refl, refl) });
   }
   | else-is_trait w ↦ record {
     did = rw (c.push.ensures, w.if-is_trait.false, w.next-is)
-        (record { does = skip_goes false refl c.requires.may.unmarked c.requires.may.fits refl; same = (refl, refl) });
+        (record { does = skip_goes false refl c.requires.may.unmarked c.requires.may.fits refl; same = (refl, refl, refl) });
   }
 ]

@@ -1,5 +1,5 @@
 use Rattle.std.proofs.Common.{◌≡◌, ◌++◌, ◌≤◌, List, length, false}
-use Rattle.demangle_v0.specs.Parsers.{Same}
+use Rattle.demangle_v0.specs.Parsers.{form_of, Same}
 use Rattle.demangle_v0.specs.Points.{AllInner, measure}
 use Rattle.demangle_v0.specs.PointRuns.{Valid, Reads, silently, silent_turn}
 use Rattle.demangle_v0.specs.declared.points.frames.Frame.{Frame}
@@ -8,10 +8,10 @@ use Rattle.demangle_v0.proofs.points.parser.Parser.read_steps.Given as goal
 abbrev pub invariant-steps : goal.invariant-steps
 invariant-steps g l = record {
   valid : Valid l.point l.self.state l.self.stack;
-  reads : (below above : List Frame) → l.initial.self.stack ≡ below ++ above → length below ≡ l.base → AllInner above → Reads (silently l.initial.self.source.symbol.now l.initial.self.source.include_hash) below l.initial.self.point (silent_turn l.initial.self.state above l.initial.self.looks) l.point (silent_turn l.self.state l.self.stack l.self.looks);
+  reads : (below above : List Frame) → l.initial.self.stack ≡ below ++ above → length below ≡ l.base → AllInner above → Reads (silently l.initial.self.source.symbol.now (form_of l.initial.self.source)) below l.initial.self.point (silent_turn l.initial.self.state above l.initial.self.looks) l.point (silent_turn l.self.state l.self.stack l.self.looks);
   same : Same l.initial.self l.self;
   grows : l.initial.self.looks ≤ l.self.looks;
 }
 
 abbrev pub decreases-steps : goal.decreases-steps
-decreases-steps g l = measure l.initial.self.source.symbol.now l.initial.self.source.include_hash false l.point l.self.state l.self.stack
+decreases-steps g l = measure l.initial.self.source.symbol.now (form_of l.initial.self.source) false l.point l.self.state l.self.stack

@@ -9,7 +9,7 @@ returns-in_err-at g c = record {
   did = record {
     does = rw (stops c.from_residual.result c.from_residual.ensures.1 c.in_err-at.ensures.failed.1)
         (lifetime_unread c.args.is_mut c.in_err-at.ensures.failed.0 c.requires.may.unmarked);
-    same = (refl, refl);
+    same = (refl, refl, refl);
   };
 }
 
@@ -21,7 +21,7 @@ returns-in_err-index g c = record {
         c.in_err-index.ensures.read
         (record { grows = omega arith; within = omega (arith, c.in_err-index.ensures.err_looks) })
         c.requires.may.unmarked);
-    same = (refl, refl);
+    same = (refl, refl, refl);
   };
 }
 
@@ -46,7 +46,7 @@ returns-then-index-eq0 g c = record {
             fits = c.requires.may.fits;
           }) w.if-index-eq0.false (sym w.is_printing.ensures ∙ w.if-not-is_printing.true)
     ];
-    same = (refl, refl);
+    same = (refl, refl, refl);
   });
 }
 
@@ -65,7 +65,7 @@ returns-in_err-emit g c = let e = c.in_err-emit.ensures in let x = c.spaced_life
           fits = c.requires.may.fits;
         }) c.if-index-eq0.false (sym c.is_printing.ensures ∙ c.if-not-is_printing.false)
         x.value e.prints);
-    same = (refl, refl);
+    same = (refl, refl, refl);
   });
 }
 
@@ -83,6 +83,6 @@ returns g c = let e = c.in_ok-emit.ensures in let x = c.spaced_lifetime-stretch.
       fits = c.requires.may.fits;
     }) c.if-index-eq0.false (sym c.is_printing.ensures ∙ c.if-not-is_printing.false)
         x.value e.prints e.ready;
-    same = (refl, refl);
+    same = (refl, refl, refl);
   });
 }

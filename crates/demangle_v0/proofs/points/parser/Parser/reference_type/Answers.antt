@@ -6,7 +6,7 @@ pub returns-in_default : goal.returns-in_default
 returns-in_default g c = record {
   did = λ p. rw (c.after_reference_lifetime.ensures, c.put.ensures) (record {
     does = reference_failed c.args.is_mut (rw c.put.ensures at c.in_default.is) c.requires.fits;
-    same = (refl, refl);
+    same = (refl, refl, refl);
   });
 }
 
@@ -16,7 +16,7 @@ returns-then-not-is_at g c = record {
     does = reference_goes c.args.is_mut c.in-Some.at (rw c.put.ensures at c.in-Some.is)
         (rw c.put.ensures at (sym c.is_at.ensures.there ∙ c.if-not-is_at.true)) (rw c.put.ensures at c.is_at.ensures.look)
         c.requires.fits;
-    same = (refl, refl);
+    same = (refl, refl, refl);
   });
 }
 
@@ -26,7 +26,7 @@ returns-then-is_mut g c = record {
     does = reference_named true c.in-Some.at (rw c.put.ensures at c.in-Some.is)
         (rw c.put.ensures at (sym c.is_at.ensures.there ∙ c.if-not-is_at.false)) (rw c.put.ensures at c.is_at.ensures.look)
         c.requires.fits;
-    same = (refl, refl);
+    same = (refl, refl, refl);
   });
 }
 
@@ -36,6 +36,6 @@ returns-else-is_mut g c = record {
     does = reference_named false c.in-Some.at (rw c.put.ensures at c.in-Some.is)
         (rw c.put.ensures at (sym c.is_at.ensures.there ∙ c.if-not-is_at.false)) (rw c.put.ensures at c.is_at.ensures.look)
         c.requires.fits;
-    same = (refl, refl);
+    same = (refl, refl, refl);
   });
 }

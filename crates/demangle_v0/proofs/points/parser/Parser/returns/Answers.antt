@@ -13,7 +13,7 @@ returns-in_default g c = record {
   did = λ p. rw c.put.ensures (record {
     does = marks_child point.«Type» a_type false (rw c.in_default.is refl) refl (omega arith) (omega arith)
         c.requires.may.fits;
-    same = (refl, refl);
+    same = (refl, refl, refl);
   });
 }
 
@@ -25,7 +25,7 @@ returns-then-is_at g c = record {
         (rw (c.in-Some.is, c.requires.may.unmarked, rw c.is_at.ensures.there at c.if-is_at.true) refl)
         (record { grows = omega (arith, c.is_at.ensures.look); within = omega (arith, c.is_at.ensures.look) })
         (rw c.in-Some.is (omega (arith, c.is_at.ensures.look))) (omega arith) (omega arith) tt;
-    same = (refl, refl);
+    same = (refl, refl, refl);
   };
 }
 
@@ -34,6 +34,6 @@ returns g c = record {
   did = λ p. rw c.put-2.ensures (record {
     does = returns_type c.in-Some.at c.in-Some.is (rw c.is_at.ensures.there at c.if-is_at.false) c.is_at.ensures.look
         c.requires.may.fits;
-    same = (refl, refl);
+    same = (refl, refl, refl);
   });
 }

@@ -12,7 +12,7 @@ returns-then-ends_list g c = record {
   did = λ p. rw (c.put.ensures, c.ends_list.ensures.place) (record {
     does = second_closes constant_inside refl (sym c.ends_list.ensures.over ∙ c.if-ends_list.true) refl
         c.ends_list.ensures.paid (omega arith) (omega arith) c.requires.may.fits;
-    same = (refl, refl);
+    same = (refl, refl, refl);
   });
 }
 
@@ -22,6 +22,6 @@ returns g c = record {
   did = λ p. rw (c.put-2.ensures, c.push.ensures, c.ends_list.ensures.place) (record {
     does = second_goes (constants _ false list.Tuple) refl (sym c.ends_list.ensures.over ∙ c.if-ends_list.false) refl
         c.ends_list.ensures.paid (omega arith) c.requires.may.fits refl;
-    same = (refl, refl);
+    same = (refl, refl, refl);
   });
 }

@@ -6,7 +6,7 @@ pub returns-in_default : goal.returns-in_default
 returns-in_default g c = record {
   did = rw (c.with_braces.ensures.point, c.with_braces.ensures.parser) (record {
     does = shared_failed c.in_default.is c.requires.may.fits (refl, refl);
-    same = (refl, refl);
+    same = (refl, refl, refl);
   });
 }
 
@@ -24,6 +24,6 @@ returns g c = record {
   did = rw (c.with_braces-2.ensures.point, c.with_braces-2.ensures.parser) (record {
     does = shared_goes c.in-Some.at c.in-Some.is c.if-is_at.ensures.there c.is_at.ensures.look c.requires.may.fits
         (refl, refl);
-    same = (refl, refl);
+    same = (refl, refl, refl);
   });
 }

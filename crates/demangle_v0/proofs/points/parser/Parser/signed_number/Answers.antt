@@ -11,7 +11,7 @@ returns-in_err-at g c = record {
   did = record {
     does = rw (stops c.from_residual.result c.from_residual.ensures.1 c.in_err-at.ensures.failed.1)
         (unread c.requires.may.unmarked (rw c.in_err-at.ensures.failed.0 refl) (omega arith));
-    same = (refl, refl);
+    same = (refl, refl, refl);
   };
 }
 
@@ -20,7 +20,7 @@ returns-then-is_at g c = record {
   did = rw c.put.ensures (record {
     does = signed_minus c.args.tag c.in_ok-at.at c.in_ok-at.ensures.ok c.if-is_at.ensures.there c.is_at.ensures.look
         c.requires.may.fits;
-    same = (refl, refl);
+    same = (refl, refl, refl);
   });
 }
 

@@ -3,10 +3,10 @@ use Rattle.demangle_v0.proofs.PointSkips.{skip_begins, skips_over, skips_full}
 use Rattle.demangle_v0.proofs.points.parser.Parser.skip_impl_path.Goals as goal
 
 pub finish_impl_path-requires : goal.finish_impl_path-requires
-finish_impl_path-requires g c = (omega arith, skip_begins c.args.self.now _ c.requires.skipped c.len-base.ensures c.requires.valid)
+finish_impl_path-requires g c = (omega arith, rw c.own_point-self.ensures (skip_begins c.args.self.now _ c.requires.skipped c.len-base.ensures c.requires.valid))
 
 pub returns-clause-behind : goal.returns-clause-behind
-returns-clause-behind g c = skips_over c.args.self.now _ c.finish_impl_path.new.self _ c.len-base.ensures c.finish_impl_path.ensures.finishes
+returns-clause-behind g c = skips_over c.args.self.now _ c.finish_impl_path.new.self _ c.len-base.ensures (rw c.own_point-self.ensures at c.finish_impl_path.ensures.finishes)
 
 pub returns-clause-midway : goal.returns-clause-midway
-returns-clause-midway g c = skips_full c.args.self.now _ c.finish_impl_path.new.self _ c.len-base.ensures c.finish_impl_path.ensures.finishes
+returns-clause-midway g c = skips_full c.args.self.now _ c.finish_impl_path.new.self _ c.len-base.ensures (rw c.own_point-self.ensures at c.finish_impl_path.ensures.finishes)

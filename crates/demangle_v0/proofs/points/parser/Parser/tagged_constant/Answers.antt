@@ -1,3 +1,4 @@
+use Rattle.demangle_v0.specs.Parsers.{form_of}
 use Rattle.std.proofs.Common.{true, arith, refl}
 use Rattle.demangle_grammar.specs.Items.{a_constant}
 use Rattle.demangle_grammar.specs.Reading.{run}
@@ -17,7 +18,7 @@ returns-in_err-kind g c = record {
     does = rw (stops_none c.from_residual.result c.from_residual.ensures.1 c.in_err-kind.ensures.value
         c.in_err-kind.ensures.ok_part) (constant_wrong c.args.tag
         (rw c.in_err-kind.ensures.ok_part at c.constant_kind.ensures) c.requires.may.unmarked);
-    same = (refl, refl);
+    same = (refl, refl, refl);
   };
 }
 
@@ -29,7 +30,7 @@ returns-in-Placeholder g c = record {
         (rw (c.in_ok-kind.ensures.ok_part, c.in-Placeholder.is) at c.constant_kind.ensures) (omega arith)
         (omega arith) (omega arith)
         (marks {words = 6} {weight = 6} {high = 0} point.End refl (omega arith) (omega arith) tt);
-    same = (refl, refl);
+    same = (refl, refl, refl);
   });
 }
 
@@ -79,7 +80,7 @@ returns-in-Text g c = record {
     does = constant_as c.args.tag kind.Text
         (rw (c.in_ok-kind.ensures.ok_part, c.in-Text.is) at c.constant_kind.ensures) (omega arith)
         (omega arith) (omega arith) (text_braced _ _ _ c.requires.may.fits (refl, refl));
-    same = (refl, refl);
+    same = (refl, refl, refl);
   });
 }
 
@@ -89,7 +90,7 @@ returns-in-Mut g c = record {
     does = constant_as c.args.tag kind.Mut
         (rw (c.in_ok-kind.ensures.ok_part, c.in-Mut.is) at c.constant_kind.ensures) (omega arith)
         (omega arith) (omega arith) (mutable_braced _ _ _ c.requires.may.fits (refl, refl));
-    same = (refl, refl);
+    same = (refl, refl, refl);
   });
 }
 
@@ -99,7 +100,7 @@ returns-in-Array g c = record {
     does = constant_as c.args.tag kind.Array
         (rw (c.in_ok-kind.ensures.ok_part, c.in-Array.is) at c.constant_kind.ensures) (omega arith)
         (omega arith) (omega arith) (array_braced _ _ _ c.requires.may.fits (refl, refl));
-    same = (refl, refl);
+    same = (refl, refl, refl);
   });
 }
 
@@ -109,7 +110,7 @@ returns-in-Tuple g c = record {
     does = constant_as c.args.tag kind.Tuple
         (rw (c.in_ok-kind.ensures.ok_part, c.in-Tuple.is) at c.constant_kind.ensures) (omega arith)
         (omega arith) (omega arith) (tuple_braced _ _ _ c.requires.may.fits (refl, refl));
-    same = (refl, refl);
+    same = (refl, refl, refl);
   });
 }
 
@@ -137,7 +138,7 @@ pub returns-in-Reference : goal.returns-in-Reference
 returns-in-Reference g c =
     let m = c.args.self.now in
     let d = c.follow_backref.ensures.did true a_constant m.state.in_value
-    (unit_constant m.source.symbol.now m.source.include_hash m.state.in_value m.state.letter m.state.lifetimes) in
+    (unit_constant m.source.symbol.now (form_of m.source) m.state.in_value m.state.letter m.state.lifetimes) in
     record {
       did = record {
         does = constant_as c.args.tag kind.Reference

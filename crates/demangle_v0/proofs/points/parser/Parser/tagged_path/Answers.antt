@@ -1,3 +1,4 @@
+use Rattle.demangle_v0.specs.Parsers.{form_of}
 use Rattle.std.proofs.Common.{true, arith, refl}
 use Rattle.demangle_grammar.specs.Items.{a_path}
 use Rattle.demangle_v0.specs.Points.{unit_rest_at}
@@ -15,7 +16,7 @@ returns-in_err-kind g c = record {
     does = rw (stops_none c.from_residual.result
         c.from_residual.ensures.1 c.in_err-kind.ensures.value c.in_err-kind.ensures.ok_part) (path_wrong c.args.tag
         (rw c.in_err-kind.ensures.ok_part at c.path_kind.ensures) c.requires.may.unmarked);
-    same = (refl, refl);
+    same = (refl, refl, refl);
   };
 }
 
@@ -45,7 +46,7 @@ returns-in-Nested g c =
 
 pub returns-in-Generic : goal.returns-in-Generic
 returns-in-Generic g c =
-    let d = went_rest g.V.Output c.args.output.now _ 6 7 9 c.generic_path.ensures.did in
+    let d = went_rest g.V.Output c.args.output.now _ 6 8 9 c.generic_path.ensures.did in
     record {
       did = record {
         does = path_as c.args.tag kind.Generic (rw (c.in_ok-kind.ensures.ok_part, c.in-Generic.is)
@@ -58,7 +59,7 @@ pub returns-in-Reference : goal.returns-in-Reference
 returns-in-Reference g c =
     let s = c.args.self.now.state in
     let d = c.follow_backref.ensures.did true a_path s.in_value (unit_path c.args.self.now.source.symbol.now
-    c.args.self.now.source.include_hash s.in_value s.letter s.lifetimes) in
+    (form_of c.args.self.now.source) s.in_value s.letter s.lifetimes) in
     record {
       did = record {
         does = path_as c.args.tag kind.Reference (rw (

@@ -5,10 +5,10 @@ use Rattle.demangle_v0.proofs.points.parser.Parser.trait_argument.Goals as goal
 
 pub returns-in_default : goal.returns-in_default
 returns-in_default g c = record {
-  did = λ p. record {
-    does = open_over c.args.is_first (rw c.in_default.is refl) (rw c.in_default.is refl)
+  did = λ p w. record {
+    does = open_over c.args.is_first w (rw c.in_default.is refl) (rw c.in_default.is refl)
         (rw c.in_default.is (record { grows = omega arith; within = omega arith })) c.requires.may.unmarked;
-    same = (refl, refl);
+    same = (refl, refl, refl);
   };
 }
 
@@ -16,22 +16,22 @@ pub returns-then-is_at : goal.returns-then-is_at
 returns-then-is_at g c =
     let z = ends_at c.args.self.now.source.symbol.now _ c.in-Some.at c.in-Some.is (sym c.is_at.ensures.there ∙ c.if-is_at.true) in
     record {
-      did = λ p. record {
-        does = open_over c.args.is_first z.0 z.1 (rw c.in-Some.is (one_look c.is_at.ensures.look))
+      did = λ p w. record {
+        does = open_over c.args.is_first w z.0 z.1 (rw c.in-Some.is (one_look c.is_at.ensures.look))
             c.requires.may.unmarked;
-        same = (refl, refl);
+        same = (refl, refl, refl);
       };
     }
 
 pub returns : goal.returns
 returns g c = record {
-  did = λ p. rw (c.argument.ensures.point, c.argument.ensures.parser, c.push.ensures) (record {
-    does = open_on c.args.is_first c.in-Some.at c.in-Some.is (sym c.is_at.ensures.there ∙ c.if-is_at.false)
+  did = λ p w. rw (c.argument.ensures.point, c.argument.ensures.parser, c.push.ensures) (record {
+    does = open_on c.args.is_first c.in-Some.at w c.in-Some.is (sym c.is_at.ensures.there ∙ c.if-is_at.false)
         (record {
           grows = omega (arith, c.is_at.ensures.look, rw c.push.ensures at c.argument.ensures.grows);
           within = omega (arith, c.is_at.ensures.look, rw c.push.ensures at c.argument.ensures.looks);
         })
         c.separator-self.ensures c.requires.may.fits refl;
-    same = (refl, refl);
+    same = (refl, refl, refl);
   });
 }

@@ -1,3 +1,4 @@
+use Rattle.demangle_v0.specs.Parsers.{form_of}
 use Rattle.std.proofs.Common.{false, arith, refl, sym, ◌∙◌}
 use Rattle.demangle_grammar.specs.Items.{a_trait_path}
 use Rattle.demangle_v0.specs.Points.{unit_rest_at}
@@ -12,13 +13,13 @@ unfolding unit_rest_at
 returns-in_err-at g c = let failed = c.in_err-at.ensures.failed in record {
   did = rw (stops c.from_residual.result c.from_residual.ensures.1 failed.1) (record {
     does = unread c.requires.may.unmarked (rw failed.0 refl) (omega arith);
-    same = (refl, refl);
+    same = (refl, refl, refl);
   });
 }
 
 pub returns-then-is_at : goal.returns-then-is_at
 returns-then-is_at g c =
-    let d = c.follow_backref.ensures.did false a_trait_path false (unit_trait _ c.args.self.now.source.include_hash _ _ _) in
+    let d = c.follow_backref.ensures.did false a_trait_path false (unit_trait _ (form_of c.args.self.now.source) _ _ _) in
     record {
       did = record {
         does = trait_refers c.in_ok-at.at c.in_ok-at.ensures.ok (rw c.is_at.ensures.there at c.if-is_at.true)
@@ -33,7 +34,7 @@ returns-then-is_at-2 g c = record {
     does = generic_trait c.in_ok-at.at c.in_ok-at.ensures.ok (sym c.is_at.ensures.there ∙ c.if-is_at.false)
         (sym c.is_at-2.ensures.there ∙ c.if-is_at-2.true) (omega (arith, c.is_at.ensures.look, c.is_at-2.ensures.look))
         c.requires.may.unmarked c.requires.may.fits refl;
-    same = (refl, refl);
+    same = (refl, refl, refl);
   });
 }
 
@@ -43,6 +44,6 @@ returns g c = record {
     does = plain_trait c.in_ok-at.at c.in_ok-at.ensures.ok (sym c.is_at.ensures.there ∙ c.if-is_at.false)
         (sym c.is_at-2.ensures.there ∙ c.if-is_at-2.false) (omega (arith, c.is_at.ensures.look, c.is_at-2.ensures.look))
         c.requires.may.unmarked c.requires.may.fits;
-    same = (refl, refl);
+    same = (refl, refl, refl);
   };
 }

@@ -17,7 +17,7 @@ returns-in_default g c =
     record {
       did = record {
         does = type_either c.args.is_begun (λ _. unread c.requires.may.unmarked (rw is refl) (omega arith)) (λ _. unread c.requires.may.unmarked (rw is refl) (omega arith));
-        same = (refl, refl);
+        same = (refl, refl, refl);
       };
     }
 
@@ -27,7 +27,7 @@ returns-in_default-byte g c = record {
     does = type_tagged c.args.is_begun c.in-Some.at c.in-Some.is
         (λ _. splat_missing c.args.self.now.source.symbol.now c.in-Some.at c.in_default-byte.ensures.byte)
         (no_tag c.in-Some.at c.in-Some.is c.in_default-byte.ensures.byte c.byte.ensures.look c.requires.may.unmarked);
-    same = (refl, refl);
+    same = (refl, refl, refl);
   };
 }
 
@@ -40,7 +40,7 @@ returns-in-Some-basic_mark g c =
         does = type_tagged c.args.is_begun c.in-Some.at c.in-Some.is
             (λ _. splat_not c.args.self.now.source.symbol.now c.in-Some.at x c.in-Some-byte.ensures.byte (basic_no_splat x m c.in-Some-basic_mark.ensures))
             (basic_ends c.in-Some.at x m c.in-Some.is c.in-Some-byte.ensures.byte c.in-Some-basic_mark.ensures c.byte.ensures.look);
-        same = (refl, refl);
+        same = (refl, refl, refl);
       });
     }
 
@@ -79,7 +79,7 @@ returns-then-tag-eq119 g c = record {
         (splat_there c.args.self.now.source.symbol.now c.in-Some.at c.in-Some-byte.tag c.in-Some-byte.ensures.byte c.if-tag-eq119.true)
         (record { grows = omega (arith, c.byte.ensures.look); within = omega (arith, c.byte.ensures.look) }) c.requires.may.fits)
         (λ e. absurd (false≢true (sym e ∙ c.if-is_begun.true)));
-    same = (refl, refl);
+    same = (refl, refl, refl);
   });
 }
 
@@ -96,7 +96,7 @@ returns-in_err-enter-2 g c =
         does = rw (stops c.from_residual-in_err-enter-2.result c.from_residual-in_err-enter-2.ensures.1 deep.1) (type_tagged c.args.is_begun c.in-Some.at c.in-Some.is
             (λ e. splat_not c.args.self.now.source.symbol.now c.in-Some.at x c.in-Some-byte.ensures.byte (plain e))
             (tag_deep c.in-Some.at x c.in-Some.is c.in-Some-byte.ensures.byte c.in_default-basic_mark.ensures deep.0 c.byte.ensures.look c.requires.may.unmarked));
-        same = (refl, refl);
+        same = (refl, refl, refl);
       });
     }
 
@@ -113,7 +113,7 @@ returns-in_default-type_kind g c =
         does = type_tagged c.args.is_begun c.in-Some.at c.in-Some.is
             (λ e. splat_not c.args.self.now.source.symbol.now c.in-Some.at x c.in-Some-byte.ensures.byte (plain e))
             (path_follows c.in-Some.at x c.in-Some.is c.in-Some-byte.ensures.byte c.in_default-basic_mark.ensures ok.0 c.in_default-type_kind.ensures c.byte.ensures.look c.requires.may.unmarked c.requires.may.fits);
-        same = (refl, refl);
+        same = (refl, refl, refl);
       });
     }
 

@@ -4,10 +4,10 @@ use Rattle.demangle_v0.proofs.points.parser.Parser.unit_variant.Goals as goal
 
 pub returns-then-self : goal.returns-then-self
 returns-then-self g c = record {
-  did = λ p. record { does = unit_ends true c.if-self.true (rw c.requires.unmarked refl); same = (refl, refl) };
+  did = λ p. record { does = unit_ends true c.if-self.true (rw c.requires.unmarked refl); same = (refl, refl, refl) };
 }
 
 pub returns : goal.returns
 returns g c = record {
-  did = λ p. rw c.put.ensures (record { does = unit_ends false c.if-self.false refl; same = (refl, refl) });
+  did = λ p. rw c.put.ensures (record { does = unit_ends false c.if-self.false refl; same = (refl, refl, refl) });
 }

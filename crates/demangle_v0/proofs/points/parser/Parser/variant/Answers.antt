@@ -9,7 +9,7 @@ returns-in_err-at g c = record {
   did = λ p. record {
     does = rw (stops c.from_residual.result c.from_residual.ensures.1 c.in_err-at.ensures.failed.1)
         (variant_unread c.in_err-at.ensures.failed.0 c.requires.may.unmarked);
-    same = (refl, refl);
+    same = (refl, refl, refl);
   };
 }
 
@@ -19,7 +19,7 @@ returns-in_err-tag g c = record {
     does = rw (stops_invalid c.from_residual-in_err-tag.result c.from_residual-in_err-tag.ensures.1
         c.in_err-tag.ensures.fault) (variant_untagged c.in_ok-at.at c.in_ok-at.ensures.ok c.in_err-tag.ensures.read
         c.tag.ensures.look c.requires.may.unmarked);
-    same = (refl, refl);
+    same = (refl, refl, refl);
   };
 }
 
@@ -30,7 +30,7 @@ returns-in_err-kind g c = record {
         c.in_err-kind.ensures.value c.in_err-kind.ensures.ok_part) (variant_wrong c.in_ok-at.at c.in_ok-tag.tag
         c.in_ok-tag.next c.in_ok-at.ensures.ok c.in_ok-tag.ensures.read
         (rw c.in_err-kind.ensures.ok_part at c.variant_kind.ensures) c.tag.ensures.look c.requires.may.unmarked);
-    same = (refl, refl);
+    same = (refl, refl, refl);
   };
 }
 
@@ -52,7 +52,7 @@ returns-in-Tuple g c = record {
         c.in_ok-tag.ensures.read (rw (c.in_ok-kind.ensures.ok_part, c.in-Tuple.is) at c.variant_kind.ensures)
         c.tag.ensures.look (rw c.in_ok-at.ensures.ok (omega (arith, c.tag.ensures.look)))
         (tuple_opens _ _ _ c.requires.may.fits (refl, refl));
-    same = (refl, refl);
+    same = (refl, refl, refl);
   });
 }
 
@@ -63,6 +63,6 @@ returns-in-Fields g c = record {
         c.in_ok-tag.ensures.read (rw (c.in_ok-kind.ensures.ok_part, c.in-Fields.is) at c.variant_kind.ensures)
         c.tag.ensures.look (rw c.in_ok-at.ensures.ok (omega (arith, c.tag.ensures.look)))
         (fields_open _ _ _ c.requires.may.fits (refl, refl));
-    same = (refl, refl);
+    same = (refl, refl, refl);
   });
 }

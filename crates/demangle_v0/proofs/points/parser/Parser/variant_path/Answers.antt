@@ -7,7 +7,7 @@ returns-then-self g c = record {
   did = λ p. rw c.push.ensures (record {
     does = variant_goes true (rw c.push.ensures at c.if-self.true) c.requires.may.unmarked c.requires.may.fits
         (rw (rw c.push.ensures at c.if-self.true, c.requires.may.unmarked) refl) refl;
-    same = (refl, refl);
+    same = (refl, refl, refl);
   });
 }
 
@@ -16,6 +16,6 @@ returns g c = record {
   did = λ p. rw (c.put.ensures, c.push.ensures) (record {
     does = variant_goes false (rw c.push.ensures at c.if-self.false) c.requires.may.unmarked c.requires.may.fits refl
         refl;
-    same = (refl, refl);
+    same = (refl, refl, refl);
   });
 }

@@ -1,5 +1,5 @@
 use Rattle.demangle_sink.proofs.Writing.{hands_writes}
-use Rattle.rustc_demangle.proofs.value.Demangle.write_limited_counted.Goals as goal
+use Rattle.rustc_demangle.proofs.value.Demangle.write_formatted_counted.Goals as goal
 
 pub returns-clause-writes : goal.returns-clause-writes
 returns-clause-writes g c =

@@ -1,5 +1,5 @@
 use Rattle.demangle_sink.proofs.Writing.{hands_writes}
-use Rattle.rustc_demangle.proofs.text.demangle_text_limited.Goals as goal
+use Rattle.rustc_demangle.proofs.text.demangle_text_formatted.Goals as goal
 
 pub returns : goal.returns
 returns g c =
