@@ -53,7 +53,7 @@ returns-in_err-enter g c =
         does = rw (stops c.from_residual.result c.from_residual.ensures.1 deep.1) (type_tagged c.args.is_begun c.in-Some.at c.in-Some.is
             (λ _. splat_not c.args.self.now.source.symbol.now c.in-Some.at x c.in-Some-byte.ensures.byte (kind_no_splat x kind.SharedReference (shared_kind x c.if-tag-eq82.true)))
             (tag_deep c.in-Some.at x c.in-Some.is c.in-Some-byte.ensures.byte c.in_default-basic_mark.ensures deep.0 c.byte.ensures.look c.requires.may.unmarked));
-        same = (refl, refl);
+        same = (refl, refl, refl);
       });
     }
 
@@ -126,7 +126,7 @@ returns-in_err-enter-3 g c =
         does = rw (stops c.from_residual-in_err-enter-3.result c.from_residual-in_err-enter-3.ensures.1 deep.1) (type_tagged c.args.is_begun c.in-Some.at c.in-Some.is
             (λ _. splat_not c.args.self.now.source.symbol.now c.in-Some.at x c.in-Some-byte.ensures.byte (kind_no_splat x c.in-Some-type_kind.kind c.in-Some-type_kind.ensures))
             (tag_deep c.in-Some.at x c.in-Some.is c.in-Some-byte.ensures.byte c.in_default-basic_mark.ensures deep.0 c.byte.ensures.look c.requires.may.unmarked));
-        same = (refl, refl);
+        same = (refl, refl, refl);
       });
     }
 
