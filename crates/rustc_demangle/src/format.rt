@@ -2,8 +2,7 @@
 
 /// How a symbol is printed.
 ///
-/// The default of the other calls is `Format { include_hash: true, fold_arguments: false, limit:
-/// 1_000_000 }`.
+/// The calls without a `Format` print generic arguments.
 #[derive(Clone, Copy, Debug, PartialEq, Eq)]
 pub struct Format {
     /// Whether the hash of a legacy symbol, and the hashes and the types of numbers of a v0 symbol,
