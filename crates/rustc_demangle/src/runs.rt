@@ -21,9 +21,6 @@ fn is_mark(first: u8, second: u8) -> bool
     (first == b'_') & ((second == b'R') | (second == b'Z'))
 }
 
-/// The number of bytes at the start of a text that are searched in groups at first.
-const NEAR: usize = 128;
-
 /// Returns whether a run may start in the group of bytes at `from`.
 #[inline(always)]
 fn has_mark<const N: usize>(text: &[u8], from: usize) -> bool
@@ -45,10 +42,9 @@ fn has_mark<const N: usize>(text: &[u8], from: usize) -> bool
     any
 }
 
-/// Returns the end of the complete groups after `from` in which no run starts. No group starts at
-/// `to` or after it.
+/// Returns the end of the complete groups after `from` in which no run starts.
 #[inline(always)]
-fn unmarked_end<const N: usize>(text: &[u8], from: usize, to: usize) -> usize
+fn unmarked_end<const N: usize>(text: &[u8], from: usize) -> usize
     requires size { 0 < N }
     requires within { from ≤ length text.now }
     ensures forward { from ≤ result }
@@ -56,7 +52,7 @@ fn unmarked_end<const N: usize>(text: &[u8], from: usize, to: usize) -> usize
     ensures none { (k : ℕ) → from ≤ k → k < result → begins_run (drop k text.now) ≡ false }
 {
     let mut at = from;
-    while at < to && text.len() - at > N && !has_mark::<N>(text, at) {
+    while text.len() - at > N && !has_mark::<N>(text, at) {
         at += N;
     }
     at
@@ -70,10 +66,7 @@ pub fn run_start(text: &[u8]) -> Option<usize>
     ensures none { IfNone result
         ((k : ℕ) → k < length text.now → begins_run (drop k text.now) ≡ false) }
 {
-    // In a text with many runs, the next one is near. Groups skip each `_` before it without a
-    // call.
-    let near = unmarked_end::<32>(text, 0, NEAR);
-    let mut from = near;
+    let mut from = 0;
     // A run starts with `_`, and a search for a single byte is fast.
     while let Some(ahead) = memchr(b'_', &text[from..]) {
         let at = from + ahead;
@@ -82,7 +75,7 @@ pub fn run_start(text: &[u8]) -> Option<usize>
         }
         // A text with many `_` is skipped in complete groups with vector instructions, and not one
         // `_` at a time.
-        from = unmarked_end::<32>(text, at + 1, text.len());
+        from = unmarked_end::<32>(text, at + 1);
     }
     None
 }

@@ -417,6 +417,7 @@ impl<'a> Demangle<'a> {
 ///
 /// Returns `false` if the run is not a v0 symbol, as `demangle_v0::demangle_printed` does. Then an
 /// unknown part of the symbol may be in the sink, and `Demangle::read_run` says what the run is.
+#[inline(never)]
 pub(crate) fn print_v0_run<S: TextSink>(
     run: &str,
     out: &mut S,

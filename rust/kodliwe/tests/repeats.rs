@@ -3,7 +3,7 @@
 #![cfg(feature = "std")]
 use std::io::{self, BufRead, Read};
 
-const SYMBOLS: [&str; 18] = [
+const SYMBOLS: [&str; 22] = [
     "_ZN3foo3barE",
     "_ZN4core3fmt9Formatter3pad17h05af221e174051e9E",
     "_ZN4core3fmt9Formatter3pad17h05af221e174051eaE",
@@ -16,6 +16,10 @@ const SYMBOLS: [&str; 18] = [
     "_RNvMNtNtNtNtCs8a2262Dv4r_3mio3sys4unix8selector5epollNtB2_8Selector6select",
     "_RNvMNtNtNtNtCs8a2262Dv4r_3mio3sys4unix8selector5epollNtB2_8Selector6select.llvm.9876543210",
     "_RNvXs_NtNtCs1234_4core3ops8functionNtB4_5FnMut8call_mut",
+    "_RNvC5crate4main_not_allowed",
+    "_RNvC5crate4mainNvC5other",
+    "_RNvNtC5crate4main3fooC5other.llvm.1F",
+    "_RINvC5crate7genericRL1_uE",
     "_RC1a",
     "_R_is_no_symbol_at_all_and_ends_1",
     "_ZN",
@@ -73,7 +77,10 @@ fn repeats() -> Vec<u8> {
         "NtNtC4core6option6Option".repeat(20)
     ));
     symbols.push(format!("_ZN{}17h05af221e174051e9E", "8abcdefgh".repeat(40)));
-    symbols.push(format!("_ZN{}17h05af221e174051e9E", "8abcdefgh".repeat(80)));
+    symbols.push(format!(
+        "_ZN{}17h05af221e174051e9E",
+        "8abcdefgh".repeat(300)
+    ));
     let mut text = Vec::new();
     let mut chance: u32 = 1;
     for turn in 0..1_500u32 {

@@ -106,6 +106,7 @@ fn print_held(symbol: &Demangle<'_>, held: &mut Held, format: Format) -> bool
 /// Prints a v0 symbol into held bytes before it is known whether the run is one. Returns `false` if
 /// that is still unknown, or if the bytes have no room for the text. Then the bytes may have a part
 /// of it.
+#[inline(always)]
 fn print_first(run: &str, held: &mut Held, format: Format) -> bool
     requires run { list_all is_run run.now ≡ true }
     requires some { 1 < length run.now }
@@ -213,7 +214,7 @@ impl SymbolMemo {
     }
 
     /// Writes the text of a run that is not remembered. Fails if the writer fails.
-    #[inline(never)]
+    #[inline(always)]
     fn write_once<W: Write>(&mut self, run: &str, output: &mut W) -> io::Result<()>
         requires all { list_all is_run run.now ≡ true }
         requires some { 1 < length run.now }

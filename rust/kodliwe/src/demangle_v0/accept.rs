@@ -1,6 +1,7 @@
 // Made from crates/demangle_v0/src/accept.rt by packaging/crate/erase.py: edit that file instead.
 //! Acceptance of v0 symbols: parses without output.
 
+use crate::demangle_sink::{SizeLimitedFmtAdapter, TextSink};
 use crate::demangle_symbol::cursor::{Looks, Symbol};
 use crate::demangle_v0::points::frames::{FULL_STACK, MIDDLE_STACK, SHORT_STACK};
 use crate::demangle_v0::points::parser::Parser;
@@ -98,4 +99,25 @@ pub fn begins_path(symbol: &Symbol<'_>, place: usize, looks: &mut Looks) -> bool
         Some(b'A'..=b'Z') => true,
         _ => false,
     }
+}
+
+/// Prints the first path of a symbol, and reads a second one. Returns the place of the suffix after
+/// them.
+///
+/// Returns `None` after a syntax error, if the limit or the sink rejects a piece, or if the first
+/// stack is too short. Then an unknown part of the path may be printed.
+pub fn print_to_suffix<S: TextSink>(
+    symbol: &Symbol<'_>,
+    out: &mut SizeLimitedFmtAdapter<'_, S>,
+    include_hash: bool,
+    looks: &mut Looks,
+) -> Option<usize> {
+    let mut parser: Parser<SHORT_STACK> = Parser::at_path(symbol, include_hash, 0, looks);
+    let Some(end) = parser.print_to_place(out) else {
+        return None;
+    };
+    if begins_path(symbol, end, &mut parser.looks) {
+        return parser.path_end(end);
+    }
+    Some(end)
 }

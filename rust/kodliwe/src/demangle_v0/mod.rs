@@ -1,8 +1,9 @@
 // Made from crates/demangle_v0/src/lib.rt by packaging/crate/erase.py: edit that file instead.
 //! v0 symbols (RFC 2603): a prefix, one path or two, then a suffix.
 
+use crate::demangle_sink::{SizeLimitedFmtAdapter, TextSink};
 use crate::demangle_symbol::cursor::{Looks, ParseError, Symbol};
-use crate::demangle_v0::accept::{begins_path, suffix_at};
+use crate::demangle_v0::accept::{begins_path, print_to_suffix, suffix_at};
 
 mod accept;
 mod points;
@@ -75,4 +76,30 @@ pub fn demangle<'s>(
         return Err(ParseError::Invalid);
     };
     Ok((Demangle::new(symbol), &inner[end..]))
+}
+
+/// Reads a v0 symbol and prints its first path, in one pass over the path. Returns the symbol and
+/// the suffix after its paths. The text must be ASCII.
+///
+/// Returns `None` if the text is not a v0 symbol. Also returns `None` if a lifetime or a reference of
+/// the path has an error, if the limit or the sink rejects a piece, or if the path is nested deeply.
+/// Then an unknown part of the path may be printed, and `demangle` says whether the text is a
+/// symbol.
+pub fn demangle_printed<'s, S: TextSink>(
+    s: &'s str,
+    out: &mut SizeLimitedFmtAdapter<'_, S>,
+    include_hash: bool,
+    looks: &mut Looks,
+) -> Option<(Demangle<'s>, &'s str)> {
+    let Some(inner) = ascii_inner_of(s, true, looks) else {
+        return None;
+    };
+    let symbol = Symbol::new(inner);
+    if !begins_path(&symbol, 0, looks) {
+        return None;
+    }
+    let Some(end) = print_to_suffix(&symbol, out, include_hash, looks) else {
+        return None;
+    };
+    Some((Demangle::new(symbol), &inner[end..]))
 }

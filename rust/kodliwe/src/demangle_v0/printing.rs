@@ -128,4 +128,22 @@ impl Parser<'_, SHORT_STACK> {
             Some(left) => self.print_in_middle_stack(left, out),
         }
     }
+
+    /// Prints until nothing is left, and leaves no frames. Returns the place after that.
+    ///
+    /// Returns `None` after a syntax error, if the limit or the sink rejects a piece, or if the
+    /// stack is full.
+    #[inline(always)]
+    pub(crate) fn print_to_place<S: TextSink>(
+        &mut self,
+        out: &mut SizeLimitedFmtAdapter<'_, S>,
+    ) -> Option<usize> {
+        match self.print_steps(out) {
+            Ok(None) => {
+                self.stack.truncate(0);
+                self.place()
+            }
+            Ok(Some(_)) | Err(_) => None,
+        }
+    }
 }

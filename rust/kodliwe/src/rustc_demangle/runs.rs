@@ -18,9 +18,16 @@ fn is_mark(first: u8, second: u8) -> bool {
 /// Returns whether a run may start in the group of bytes at `from`.
 #[inline(always)]
 fn has_mark<const N: usize>(text: &[u8], from: usize) -> bool {
+    // Arrays need no bounds check in the loop, so the compiler vectorizes it.
+    let Some(firsts) = text[from..].first_chunk::<N>() else {
+        return true;
+    };
+    let Some(seconds) = text[from + 1..].first_chunk::<N>() else {
+        return true;
+    };
     let mut any = false;
     for k in 0..N {
-        any |= is_mark(text[from + k], text[from + k + 1]);
+        any |= is_mark(firsts[k], seconds[k]);
     }
     any
 }

@@ -231,6 +231,31 @@ impl<'a> Demangle<'a> {
     }
 }
 
+/// Prints a run that is a v0 symbol, in one pass over its first path. A run is ASCII.
+///
+/// Returns `false` if the run is not a v0 symbol, as `demangle_v0::demangle_printed` does. Then an
+/// unknown part of the symbol may be in the sink, and `Demangle::read_run` says what the run is.
+#[inline(never)]
+pub(crate) fn print_v0_run<S: TextSink>(
+    run: &str,
+    out: &mut S,
+    include_hash: bool,
+    limit: usize,
+) -> bool {
+    let text = without_thin_lto(run);
+    let mut looks = Looks::new();
+    let mut limited = SizeLimitedFmtAdapter::new(out, limit);
+    let read = crate::demangle_v0::demangle_printed(text, &mut limited, include_hash, &mut looks);
+    let Some((_, suffix)) = read else {
+        return false;
+    };
+    if !is_allowed(suffix, &mut looks) {
+        return false;
+    }
+    let put = put_piece(suffix, out);
+    put.is_ok()
+}
+
 /// Prints a text into a sink; its path has `path_len` bytes. Fails if the sink fails.
 fn hand_over_with<S: TextSink>(
     text: &str,

@@ -9,13 +9,13 @@ use crate::support::vec::Vec;
 mod tests;
 
 /// The number of pairs of entries. The hash of a key chooses its pair.
-const PAIRS: usize = 4096;
+const PAIRS: usize = 8192;
 
 /// The number of slots for the marks of keys.
 const MARKS: usize = 8192;
 
 /// The longest key of an entry.
-pub const MAX_KEY: usize = 512;
+pub const MAX_KEY: usize = 2048;
 
 /// The longest text of an entry.
 pub const MAX_TEXT: usize = 2048;
@@ -106,7 +106,7 @@ pub fn hash_of(key: &[u8]) -> u64 {
 /// Returns the index of a key's pair.
 #[inline(always)]
 fn pair_place(hash: u64) -> usize {
-    ((hash / 4_294_967_296) % 4096) as usize
+    ((hash / 4_294_967_296) % 8192) as usize
 }
 
 /// Returns the index of a key's mark.

@@ -18,7 +18,7 @@ const LONG: &[u8] = b"_RIC1aTyyyyyyyyyyyyyyyyETB3_B3_B3_ETBl_Bl_Bl_ETBw_Bw_Bw_EE
 
 /// Runs that a memo looks up, with a limit and the texts printed under it, with the hash and
 /// without it.
-const ROWS: [(&[u8], usize, &[u8], &[u8]); 11] = [
+const ROWS: [(&[u8], usize, &[u8], &[u8]); 15] = [
     (
         b"_ZN3foo17h05af221e174051e9E",
         1_000_000,
@@ -48,6 +48,32 @@ const ROWS: [(&[u8], usize, &[u8], &[u8]); 11] = [
         1_000_000,
         b"_RNvC5crate4mainNo_symbol",
         b"_RNvC5crate4mainNo_symbol",
+    ),
+    // A first path that prints, and then what makes the run no symbol, or a symbol all the same.
+    (
+        b"_RNvC5crate4main_not_allowed",
+        1_000_000,
+        b"_RNvC5crate4main_not_allowed",
+        b"_RNvC5crate4main_not_allowed",
+    ),
+    (
+        b"_RNvC5crate4mainNvC5other",
+        1_000_000,
+        b"_RNvC5crate4mainNvC5other",
+        b"_RNvC5crate4mainNvC5other",
+    ),
+    (
+        b"_RNvNtC5crate4main3fooC5other.llvm.1F",
+        1_000_000,
+        b"crate::main::foo",
+        b"crate::main::foo",
+    ),
+    // A symbol whose first path prints an error.
+    (
+        b"_RINvC5crate7genericRL1_uE",
+        1_000_000,
+        b"crate::generic::<&'{invalid syntax} ?>",
+        b"crate::generic::<&'{invalid syntax} ?>",
     ),
     (
         b"_ZN3foo17h05af221e174051e9E",
@@ -242,11 +268,9 @@ fn a_repeated_symbol_is_one_write() -> Result<(), Fail> {
     let rt = HostRuntime;
     let alloc = rt.alloc();
     let text = repeated(alloc, b"_RNvC5crate4main.llvm.0@1")?;
-    // The symbol is written piece by piece when it is found first.
-    let writes: [&[u8]; 12] = [
-        b"crate",
-        b"::",
-        b"main",
+    // A v0 symbol is one write when it is found first, too.
+    let writes: [&[u8]; 10] = [
+        b"crate::main",
         b"@1\n",
         b"crate::main",
         b"@1\n",

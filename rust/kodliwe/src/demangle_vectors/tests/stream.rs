@@ -173,7 +173,7 @@ pub(super) const LINE: &[u8] = b"_ZN3fooE.llvm moocow \
 /// is the last write.
 pub(super) const HEAD: [&[u8]; 5] = [b"foo", b".llvm", b" moocow ", b"<", b"mio"];
 
-pub(super) const DISAMBIGUATOR: [&[u8]; 3] = [b"[", b"1888792e1a78739", b"]"];
+const DISAMBIGUATOR: [&[u8]; 3] = [b"[", b"1888792e1a78739", b"]"];
 
 pub(super) const TAIL: [&[u8]; 17] = [
     b"::",

@@ -4,7 +4,7 @@
 use crate::held_bytes::Held;
 use crate::rustc_demangle::stream::held_sink::HeldSink;
 use crate::rustc_demangle::stream::line::write_run;
-use crate::rustc_demangle::value::Demangle;
+use crate::rustc_demangle::value::{Demangle, print_v0_run};
 use crate::support::alloc::Global;
 use std::io;
 use std::io::Write;
@@ -89,6 +89,19 @@ fn print_held(symbol: &Demangle<'_>, held: &mut Held, form: Form) -> bool {
         .is_ok()
 }
 
+/// Prints a v0 symbol into held bytes before it is known whether the run is one. Returns `false` if
+/// that is still unknown, or if the bytes have no room for the text. Then the bytes may have a part
+/// of it.
+#[inline(always)]
+fn print_first(run: &str, held: &mut Held, form: Form) -> bool {
+    if run.as_bytes()[1] != b'R' {
+        return false;
+    }
+    held.clear();
+    let mut sink = HeldSink::new(held);
+    print_v0_run(run, &mut sink, form.include_hash, form.limit)
+}
+
 /// How the text of a run was found.
 #[derive(Clone, Copy)]
 enum Printed {
@@ -117,6 +130,12 @@ fn is_looked_up(run: &[u8]) -> bool {
 /// Prints a run, and remembers its text, or that it is too long.
 #[inline(never)]
 fn print_new(run: &str, hash: u64, form: Form, store: &mut Store) -> Printed {
+    if print_first(run, &mut store.printed, form) {
+        store
+            .texts
+            .insert(run.as_bytes(), store.printed.as_slice(), hash);
+        return Printed::Symbol;
+    }
     let symbol = Demangle::read_run(run);
     if !symbol.has_style() {
         let kept = run.as_bytes();
@@ -154,6 +173,15 @@ impl SymbolMemo {
         }
     }
 
+    /// Writes the text of a run that is not remembered. Fails if the writer fails.
+    #[inline(always)]
+    fn write_once<W: Write>(&mut self, run: &str, output: &mut W) -> io::Result<()> {
+        if print_first(run, &mut self.store.printed, self.form) {
+            return output.write_all(self.store.printed.as_slice());
+        }
+        write_run(run, output, self.form.include_hash, self.form.limit)
+    }
+
     /// Writes the text of a run that is not in the memo. The text is remembered if the run came
     /// before. Fails if the writer fails.
     #[inline(always)]
@@ -164,7 +192,8 @@ impl SymbolMemo {
         } = self.form;
         match self.store.texts.note(hash) {
             Noted::Again => {}
-            Noted::New | Noted::TooLong => return write_run(run, output, include_hash, limit),
+            Noted::New => return self.write_once(run, output),
+            Noted::TooLong => return write_run(run, output, include_hash, limit),
         }
         match print_new(run, hash, self.form, &mut self.store) {
             Printed::Symbol => output.write_all(self.store.printed.as_slice()),
@@ -176,8 +205,11 @@ impl SymbolMemo {
     /// Writes the replacement of a run: the printed symbol, or the run itself if it is not a
     /// symbol. Fails if the writer fails.
     pub(super) fn write_run<W: Write>(&mut self, run: &str, output: &mut W) -> io::Result<()> {
-        if !is_looked_up(run.as_bytes()) || !self.probe.is_on() {
+        if !is_looked_up(run.as_bytes()) {
             return write_run(run, output, self.form.include_hash, self.form.limit);
+        }
+        if !self.probe.is_on() {
+            return self.write_once(run, output);
         }
         let hash = hash_of(run.as_bytes());
         if let Some(text) = self.store.texts.get(run.as_bytes(), hash) {
