@@ -110,7 +110,7 @@ first_printed b include_hash = ap (λ (h : Heard). h.place) (owed_alone b (form 
 read_end : (b : List ℕ) (j : ℕ) → (read_at b false true a_path 0 0 0 true).place ≡ Some j → Some j ≡ unit_end b a_path 0 0
 unfolding unit_end
 read_end b j e =
-    sym ((reading_is_spelling b a_path true 0 j 0 0 (omega arith) (omega arith)).1 (named_freely ((printing_is_spelling b a_path true 0 j 0 0 (omega arith) (omega arith)).0 e)))
+    sym ((reading_is_spelling b false a_path true 0 j 0 0 (omega arith) (omega arith)).1 (named_freely ((printing_is_spelling b false a_path true 0 j 0 0 (omega arith) (omega arith)).0 e)))
 
 pub printed_end : {S : Type 0} (sink : Sinks S) (b : List ℕ) (include_hash : Bool) {v w : SizeLimitedFmtAdapter S} {m n place : ℕ} →
     EndedAt (printing sink b (form include_hash false)) point.Path (turn (first_state 0) [] v m) place w n → Some place ≡ unit_end b a_path 0 0

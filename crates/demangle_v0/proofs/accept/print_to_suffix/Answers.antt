@@ -1,5 +1,5 @@
 use Rattle.std.specs.Prelude.{IfSome}
-use Rattle.std.proofs.Common.{◌≡◌, ℕ, Option, Some, None, sym, ◌∙◌}
+use Rattle.std.proofs.Common.{◌≡◌, ℕ, Option, Some, None, false, sym, ◌∙◌}
 use Rattle.demangle_grammar.specs.Items.{a_path}
 use Rattle.demangle_grammar.specs.Reading.{form, unit_end, suffix_place}
 use Rattle.demangle_grammar.proofs.Accepts.{suffix_one, suffix_two}
@@ -18,31 +18,31 @@ in_any_case None p = tt
 in_any_case (Some place) p = p
 
 pub print_to_place-requires-clause-valid : goal.print_to_place-requires-clause-valid
-print_to_place-requires-clause-valid g c = rw c.at_path-parser.ensures.parser (valid_first 0)
+print_to_place-requires-clause-valid g c = rw c.at_path-parser.ensures (valid_first 0)
 
 pub returns-then-begins_path-clause-value : goal.returns-then-begins_path-clause-value
 returns-then-begins_path-clause-value g c =
     let symbol = c.args.symbol.now in
     let end : Some c.in-Some.end ≡ unit_end symbol a_path 0 0 =
-    printed_end g.S.TextSink symbol c.args.include_hash (rw (c.at_path-parser.ensures.parser, c.at_path-parser.ensures.symbol) at c.in-Some.ensures.printed) in
+    printed_end g.S.TextSink symbol c.args.include_hash (rw c.at_path-parser.ensures at c.in-Some.ensures.printed) in
     let two = suffix_two symbol c.in-Some.end end (sym c.begins_path.ensures.value ∙ c.if-begins_path.true) in
     some_place c.path_end.result (suffix_place symbol)
-    ((rw (c.in-Some.ensures.same.0, c.at_path-parser.ensures.symbol) at c.path_end.ensures.value) ∙ sym two.0)
+    ((rw (c.in-Some.ensures.same.0, c.at_path-parser.ensures) at c.path_end.ensures.value) ∙ sym two.0)
 
 pub returns-then-begins_path-clause-prints : goal.returns-then-begins_path-clause-prints
 returns-then-begins_path-clause-prints g c =
     in_any_case c.path_end.result
     (prints_to g.S.TextSink c.args.symbol.now (form c.args.include_hash false) c.requires.ready
-    (rw (c.at_path-parser.ensures.parser, c.at_path-parser.ensures.symbol) at c.in-Some.ensures.printed))
+    (rw c.at_path-parser.ensures at c.in-Some.ensures.printed))
 
 pub returns-clause-value : goal.returns-clause-value
 returns-clause-value g c =
     let symbol = c.args.symbol.now in
     let end : Some c.in-Some.end ≡ unit_end symbol a_path 0 0 =
-    printed_end g.S.TextSink symbol c.args.include_hash (rw (c.at_path-parser.ensures.parser, c.at_path-parser.ensures.symbol) at c.in-Some.ensures.printed) in
+    printed_end g.S.TextSink symbol c.args.include_hash (rw c.at_path-parser.ensures at c.in-Some.ensures.printed) in
     sym (suffix_one symbol c.in-Some.end end (sym c.begins_path.ensures.value ∙ c.if-begins_path.false)).0
 
 pub returns-clause-prints : goal.returns-clause-prints
 returns-clause-prints g c =
     prints_to g.S.TextSink c.args.symbol.now (form c.args.include_hash false) c.requires.ready
-    (rw (c.at_path-parser.ensures.parser, c.at_path-parser.ensures.symbol) at c.in-Some.ensures.printed)
+    (rw c.at_path-parser.ensures at c.in-Some.ensures.printed)
