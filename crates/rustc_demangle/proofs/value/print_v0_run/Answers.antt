@@ -1,6 +1,6 @@
 use Rattle.std.specs.Prelude.{IsAscii}
 use Rattle.std.specs.List.{concat}
-use Rattle.std.proofs.Common.{◌≡◌, ℕ, Bool, true, List, [], ◌∷◌, ◌++◌, Result, Ok, Err, is_ok, OnOk, Some, refl, sym, subst, ap, ◌∙◌, inr, rules}
+use Rattle.std.proofs.Common.{◌≡◌, ℕ, Bool, true, false, List, [], ◌∷◌, ◌++◌, Result, Ok, Err, is_ok, OnOk, Some, refl, sym, subst, ap, ◌∙◌, inr, rules}
 use Rattle.std.proofs.lemmas.Bool.{false≢true}
 use Rattle.demangle_grammar.specs.Reading.{form, path_texts}
 use Rattle.demangle_grammar.specs.V0.{v0_of}
