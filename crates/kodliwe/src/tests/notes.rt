@@ -66,7 +66,7 @@ fn a_first_chunk_with_a_mark_is_noted_once(rt: HostRuntime) -> Result<(), Fail> 
 fn a_mark_that_is_cut_is_not_noted(rt: HostRuntime) -> Result<(), Fail> {
     let alloc = rt.alloc();
     for ((text, note), least) in MARKED.into_iter().zip(LENGTHS) {
-        for len in 0..=least {
+        for len in 0..=text.len() {
             let wanted: &[u8] = if len < least { b"" } else { note };
             let front = &text[..len];
             assert_note(&rt, alloc, ChunkReader::new(front, 100), front, wanted)?;
