@@ -102,14 +102,15 @@ mod traits;
 #[cfg(feature = "std")]
 pub use demangle_sink::WriteSink;
 pub use demangle_sink::{ArraySink, SinkRefused, SliceSink, TextSink};
+pub use rustc_demangle::Format;
 #[cfg(feature = "std")]
 pub use streams::{
-    BytesFilter, StreamFault, demangle_bytes, demangle_bytes_limited, demangle_stream,
-    demangle_stream_named,
+    BytesFilter, StreamFault, demangle_bytes, demangle_bytes_formatted, demangle_bytes_limited,
+    demangle_stream, demangle_stream_named,
 };
 pub use symbols::{
-    Demangle, TryDemangleError, demangle, demangle_slice, demangle_text, demangle_text_limited,
-    try_demangle,
+    Demangle, TryDemangleError, demangle, demangle_slice, demangle_slice_formatted, demangle_text,
+    demangle_text_formatted, demangle_text_limited, try_demangle,
 };
 
 /// The most bytes that a call without a limit prints of a symbol, before its suffix.

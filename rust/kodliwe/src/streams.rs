@@ -1,6 +1,6 @@
 //! Texts from a reader to a writer.
 use crate::MAX_SIZE;
-use crate::rustc_demangle;
+use crate::rustc_demangle::{self, Format};
 use crate::support::alloc::Global;
 use std::io::{self, BufRead, Write};
 use std::{error, fmt};
@@ -83,6 +83,19 @@ pub fn demangle_bytes_limited<R: BufRead, W: Write>(
     rustc_demangle::demangle_bytes_limited(Global, input, output, include_hash, limit)
 }
 
+/// Copies any bytes as [`demangle_bytes`] does, with each symbol printed in a format.
+///
+/// # Errors
+///
+/// Fails as [`demangle_bytes`] does.
+pub fn demangle_bytes_formatted<R: BufRead, W: Write>(
+    input: &mut R,
+    output: &mut W,
+    format: Format,
+) -> Result<(), StreamFault> {
+    rustc_demangle::demangle_bytes_formatted(Global, input, output, format)
+}
+
 /// A filter of any bytes that is driven step by step, for readers that pause.
 ///
 /// It remembers what symbols print, in at most 4.5 MB, so a repeated symbol costs little. It
@@ -108,9 +121,18 @@ impl BytesFilter {
 
     /// Returns a filter as [`new`](BytesFilter::new) does, which cuts each path at `limit` bytes.
     pub fn with_limit(include_hash: bool, limit: usize) -> BytesFilter {
+        BytesFilter::with_format(Format {
+            include_hash,
+            fold_arguments: false,
+            limit,
+        })
+    }
+
+    /// Returns a filter as [`new`](BytesFilter::new) does, which prints symbols in a format.
+    pub fn with_format(format: Format) -> BytesFilter {
         BytesFilter {
             filter: rustc_demangle::BytesFilter::new(Global),
-            memo: rustc_demangle::SymbolMemo::new(Global, include_hash, limit),
+            memo: rustc_demangle::SymbolMemo::with_format(Global, format),
         }
     }
 

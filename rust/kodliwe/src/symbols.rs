@@ -1,6 +1,6 @@
 //! Symbols, and texts in memory.
 use crate::demangle_sink::{SinkRefused, TextSink};
-use crate::rustc_demangle;
+use crate::rustc_demangle::{self, Format};
 use core::fmt;
 
 /// A text, demangled if it is a Rust symbol.
@@ -72,6 +72,31 @@ impl<'a> Demangle<'a> {
         limit: usize,
     ) -> Result<(), SinkRefused> {
         self.0.write_limited(out, include_hash, limit)
+    }
+
+    /// Writes the path to a sink as [`write_limited`](Demangle::write_limited) does, with `_` for
+    /// each list of generic arguments.
+    ///
+    /// So all instances of a generic function have one name. A legacy symbol prints completely,
+    /// because its arguments are parts of names.
+    ///
+    /// # Errors
+    ///
+    /// Fails if the sink refuses a piece.
+    ///
+    /// ```
+    /// let mut path = kodliwe::ArraySink::<32>::new();
+    /// kodliwe::demangle("_RINvC3foo3barhE").write_folded(&mut path, false, 1_000)?;
+    /// assert_eq!(path.as_str(), "foo::bar::<_>");
+    /// # Ok::<(), kodliwe::SinkRefused>(())
+    /// ```
+    pub fn write_folded<S: TextSink>(
+        &self,
+        out: &mut S,
+        include_hash: bool,
+        limit: usize,
+    ) -> Result<(), SinkRefused> {
+        self.0.write_folded(out, include_hash, limit)
     }
 }
 
@@ -171,6 +196,31 @@ pub fn demangle_text_limited<S: TextSink>(
     rustc_demangle::demangle_text_limited(text, out, include_hash, limit)
 }
 
+/// Writes a text to a sink as [`demangle_text`] does, with each symbol printed in a format.
+///
+/// # Errors
+///
+/// Fails if the sink refuses a piece.
+///
+/// ```
+/// let format = kodliwe::Format {
+///     include_hash: false,
+///     fold_arguments: true,
+///     limit: 1_000,
+/// };
+/// let mut text = kodliwe::ArraySink::<32>::new();
+/// kodliwe::demangle_text_formatted("at _RINvC3foo3barhE:7", &mut text, format)?;
+/// assert_eq!(text.as_str(), "at foo::bar::<_>:7");
+/// # Ok::<(), kodliwe::SinkRefused>(())
+/// ```
+pub fn demangle_text_formatted<S: TextSink>(
+    text: &str,
+    out: &mut S,
+    format: Format,
+) -> Result<(), SinkRefused> {
+    rustc_demangle::demangle_text_formatted(text, out, format)
+}
+
 /// Writes bytes to `out` with each Rust symbol in them demangled, as far as there is room, and
 /// returns how many bytes the whole text has.
 ///
@@ -190,4 +240,9 @@ pub fn demangle_slice(
     limit: usize,
 ) -> Option<usize> {
     rustc_demangle::demangle_slice(text, out, include_hash, limit)
+}
+
+/// Writes bytes to `out` as [`demangle_slice`] does, with each symbol printed in a format.
+pub fn demangle_slice_formatted(text: &[u8], out: &mut [u8], format: Format) -> Option<usize> {
+    rustc_demangle::demangle_slice_formatted(text, out, format)
 }

@@ -1,13 +1,20 @@
 //! The front of the crate, as a user sees it.
 use kodliwe::{
-    ArraySink, Demangle, MAX_SIZE, SinkRefused, SliceSink, TextSink, TryDemangleError, demangle,
-    demangle_slice, demangle_text, demangle_text_limited, try_demangle,
+    ArraySink, Demangle, Format, MAX_SIZE, SinkRefused, SliceSink, TextSink, TryDemangleError,
+    demangle, demangle_slice, demangle_slice_formatted, demangle_text, demangle_text_formatted,
+    demangle_text_limited, try_demangle,
 };
 use std::error::Error;
 use std::fmt::{Debug, Display};
 use std::panic::{RefUnwindSafe, UnwindSafe};
 
 const SYMBOL: &str = "_ZN3foo3bar17h05af221e174051e9E";
+
+const FOLDED: Format = Format {
+    include_hash: false,
+    fold_arguments: true,
+    limit: MAX_SIZE,
+};
 
 fn has_auto_traits<T: Send + Sync + Unpin + UnwindSafe + RefUnwindSafe>() {}
 fn is_printed<T: Display + Debug>() {}
@@ -48,6 +55,13 @@ fn each_form_is_written() {
     let mut cut = ArraySink::<64>::new();
     assert!(demangle(SYMBOL).write_limited(&mut cut, true, 8).is_ok());
     assert_eq!(cut.as_str(), "foo::bar{size limit reached}");
+    let mut folded = ArraySink::<64>::new();
+    assert!(
+        demangle("_RINvC3foo3barhE")
+            .write_folded(&mut folded, true, 100)
+            .is_ok()
+    );
+    assert_eq!(folded.as_str(), "foo::bar::<_>");
 }
 
 #[test]
@@ -68,6 +82,20 @@ fn texts_are_demangled() {
 }
 
 #[test]
+fn texts_are_demangled_in_a_format() {
+    let text = "at _RINvC3foo3barhE:7";
+    let mut whole = ArraySink::<64>::new();
+    assert!(demangle_text_formatted(text, &mut whole, FOLDED).is_ok());
+    assert_eq!(whole.as_str(), "at foo::bar::<_>:7");
+    let mut out = [0; 64];
+    assert_eq!(
+        demangle_slice_formatted(text.as_bytes(), &mut out, FOLDED),
+        Some(18)
+    );
+    assert_eq!(&out[..18], b"at foo::bar::<_>:7");
+}
+
+#[test]
 fn a_slice_counts_what_does_not_fit() {
     let mut memory = [0; 4];
     let mut sink = SliceSink::new(&mut memory);
@@ -82,10 +110,10 @@ fn a_slice_counts_what_does_not_fit() {
 
 #[cfg(feature = "std")]
 mod streams {
-    use super::{has_auto_traits, is_error};
+    use super::{FOLDED, has_auto_traits, is_error};
     use kodliwe::{
-        BytesFilter, StreamFault, WriteSink, demangle, demangle_bytes, demangle_bytes_limited,
-        demangle_stream, demangle_stream_named,
+        BytesFilter, StreamFault, WriteSink, demangle, demangle_bytes, demangle_bytes_formatted,
+        demangle_bytes_limited, demangle_stream, demangle_stream_named,
     };
     use std::io::{self, ErrorKind, Write};
 
@@ -129,6 +157,19 @@ mod streams {
         while filter.step(&mut input, &mut output).unwrap() {}
         let cut = b"at foo{size limit reached}:7\n";
         assert_eq!(output, [&cut[..], &cut[..]].concat());
+    }
+
+    #[test]
+    fn a_format_is_that_of_the_text() {
+        let text = b"_RNvMC3fooINtB2_3BarlE3baz ".repeat(3);
+        let wanted = b"<foo::Bar<_>>::baz ".repeat(3);
+        let mut outputs: [Vec<u8>; 2] = Default::default();
+        demangle_bytes_formatted(&mut &text[..], &mut outputs[0], FOLDED).unwrap();
+        let (mut filter, mut input) = (BytesFilter::with_format(FOLDED), &text[..]);
+        while filter.step(&mut input, &mut outputs[1]).unwrap() {}
+        for output in outputs {
+            assert_eq!(output, wanted);
+        }
     }
 
     #[test]

@@ -414,3 +414,74 @@ pub const MORE_PATHS: &[(&str, &str, &str)] = &[
         "punycode{aaaaaaaaaaaaaaaaaaaaaaaaaaaaaaaaaaaaaaaaaaaaaaaaaaaaaaaaaaaaaaaaaaaaaaaaaaaaaaaaaaaaaaaaaaaaaaaaaaaaaaaaaaaaaaaaaaaaaaaaaaaaaaaa-yfn}",
     ),
 ];
+
+/// Symbols with `_` for their generic arguments.
+pub const FOLDED: &[(&str, &str, &str)] = &[
+    ("INvC3foo3barhE", "foo::bar::<_>", "foo::bar::<_>"),
+    (
+        "NvMC3fooINtB2_3BarlE3baz",
+        "<foo::Bar<_>>::baz",
+        "<foo::Bar<_>>::baz",
+    ),
+    ("NvNtINtC1a1bhE1c1d", "a::b::<_>::c::d", "a::b::<_>::c::d"),
+    (
+        "YINtC1a1bhENtC1c1d",
+        "<a::b<_> as c::d>",
+        "<a::b<_> as c::d>",
+    ),
+    (
+        "XC1aINtC1b1chEINtC1d1elE",
+        "<b::c<_> as d::e<_>>",
+        "<b::c<_> as d::e<_>>",
+    ),
+    (
+        "NCINvCs4fqI2P2rA04_1a1bhE0",
+        "a[317d481089b8c8fe]::b::<_>::{closure#0}",
+        "a::b::<_>::{closure#0}",
+    ),
+    ("INvC1a1bE", "a::b::<_>", "a::b::<_>"),
+    (
+        "INvC1a1bINtC1c1dINtC1e1fhEEINtC1g1hlEE",
+        "a::b::<_>",
+        "a::b::<_>",
+    ),
+    ("INvC1a1bL0_E", "a::b::<_>", "a::b::<_>"),
+    ("INvC1a1bRL0_hE", "a::b::<_>", "a::b::<_>"),
+    ("INvC1a1bB3_E", "a::b::<_>", "a::b::<_>"),
+    ("MC0DINtC1a1bhEEL_", "<dyn a::b<_>>", "<dyn a::b<_>>"),
+    (
+        "MC0DINtC1a1bhEp4Itemhp3OutlEL_",
+        "<dyn a::b<_, Item = u8, Out = i32>>",
+        "<dyn a::b<_, Item = u8, Out = i32>>",
+    ),
+    (
+        "MC0DNtC1a1bp4ItemINtC1c1dhEEL_",
+        "<dyn a::b<Item = c::d<_>>>",
+        "<dyn a::b<Item = c::d<_>>>",
+    ),
+    (
+        "MC0TINtC1a1bhEB3_E",
+        "<(a::b<_>, a::b<_>)>",
+        "<(a::b<_>, a::b<_>)>",
+    ),
+    (
+        "MC0TRhShOhAhj3_FhEuE",
+        "<(&u8, [u8], *mut u8, [u8; 3usize], fn(u8))>",
+        "<(&u8, [u8], *mut u8, [u8; 3], fn(u8))>",
+    ),
+    (
+        "MC0FG_RL0_INtC1a1bRL0_hEEINtC1c1dhE",
+        "<for<'a> fn(&'a a::b<_>) -> c::d<_>>",
+        "<for<'a> fn(&'a a::b<_>) -> c::d<_>>",
+    ),
+    (
+        "NvNtCs8a2262Dv4r_3mio4poll1f",
+        "mio[1888792e1a78739]::poll::f",
+        "mio::poll::f",
+    ),
+    (
+        "NvMs0_NtCs1234_5alloc7raw_vecINtB5_6RawVechE8grow_one",
+        "<alloc[3c1c0]::raw_vec::RawVec<_>>::grow_one",
+        "<alloc::raw_vec::RawVec<_>>::grow_one",
+    ),
+];

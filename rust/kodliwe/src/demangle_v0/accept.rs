@@ -6,6 +6,7 @@ use crate::demangle_symbol::cursor::{Looks, Symbol};
 use crate::demangle_v0::points::frames::{FULL_STACK, MIDDLE_STACK, SHORT_STACK};
 use crate::demangle_v0::points::parser::Parser;
 use crate::demangle_v0::points::read::Halt;
+use crate::demangle_words::source::Source;
 
 impl Parser<'_, FULL_STACK> {
     /// Reads the rest. Returns the place after it, or `None` after an error.
@@ -87,7 +88,12 @@ impl Parser<'_, SHORT_STACK> {
 
 /// Returns the place of the suffix after one path or two, or `None` if they have an error.
 pub fn suffix_at(symbol: &Symbol<'_>, looks: &mut Looks) -> Option<usize> {
-    let mut parser: Parser<SHORT_STACK> = Parser::at_path(symbol, true, 0, looks);
+    let source = Source {
+        symbol,
+        include_hash: true,
+        fold_arguments: false,
+    };
+    let mut parser: Parser<SHORT_STACK> = Parser::at_path(source, 0, looks);
     let end = parser.suffix();
     *looks = parser.looks;
     end
@@ -112,7 +118,12 @@ pub fn print_to_suffix<S: TextSink>(
     include_hash: bool,
     looks: &mut Looks,
 ) -> Option<usize> {
-    let mut parser: Parser<SHORT_STACK> = Parser::at_path(symbol, include_hash, 0, looks);
+    let source = Source {
+        symbol,
+        include_hash,
+        fold_arguments: false,
+    };
+    let mut parser: Parser<SHORT_STACK> = Parser::at_path(source, 0, looks);
     let Some(end) = parser.print_to_place(out) else {
         return None;
     };

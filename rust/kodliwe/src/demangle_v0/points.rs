@@ -42,11 +42,15 @@ mod variants;
 /// `CloseAngle`.
 #[derive(Clone, Copy)]
 pub enum Point {
-    // These three come first because the loops test for them, and a range takes one comparison.
+    // These five come first because the loops test for them, and a range takes one comparison.
     /// The path of an inherent impl. It is parsed but not printed.
     InherentPath,
     /// The path of a trait impl. It is parsed but not printed.
     ImplPath,
+    /// The first generic argument, or the end of the list. The list may be folded.
+    FirstArgument,
+    /// The first argument of a dyn trait path, or the end of the arguments. They may be folded.
+    FirstOpenArgument,
     /// The production is complete. The frame on top of the stack has what follows.
     End,
     // path
@@ -65,8 +69,8 @@ pub enum Point {
     Generic,
     /// The `<` before generic arguments.
     OpenArguments,
-    /// The first generic argument, or the end of the list.
-    FirstArgument,
+    /// The end of generic arguments that were folded. It prints `_` for them.
+    FoldedArguments,
     /// A further generic argument, or the end of the list.
     NextArgument,
     /// A lifetime that is a generic argument, after its `L`.
@@ -119,8 +123,8 @@ pub enum Point {
     TraitPath,
     /// The `<` before the arguments of a dyn trait path.
     OpenTraitPath,
-    /// The first argument of a dyn trait path, or the end of the arguments.
-    FirstOpenArgument,
+    /// The end of a dyn trait path's arguments that were folded. It prints `_` for them.
+    FoldedTraitArguments,
     /// A further argument of a dyn trait path, or the end of the arguments.
     NextOpenArgument,
     /// Associated type bindings, such as `Item = u8`.

@@ -13,8 +13,8 @@ use crate::demangle_v0::points::skip::is_skipped;
 pub enum Left {
     /// The rest is that of the parser and its frames.
     Stack,
-    /// The same, and the parser is in an impl path, which began above that many frames. After the
-    /// path, printing continues at the checkpoint.
+    /// The same, and the parser is in an impl path or folded arguments, which began above that many
+    /// frames. After them, printing continues at the checkpoint.
     OwnPath(usize, Reading),
 }
 
@@ -33,8 +33,9 @@ impl<const N: usize> Parser<'_, N> {
                 self.point = Point::End;
                 return Ok(None);
             };
-            // An impl path only identifies the impl. It is read and not printed.
-            if is_skipped(at) {
+            // An impl path only identifies the impl, and arguments may be folded. They are read and
+            // not printed.
+            if is_skipped(at, self.source.fold_arguments) {
                 self.point = at;
                 let skipped = self.skip_impl_path();
                 if let Some(left) = skipped {

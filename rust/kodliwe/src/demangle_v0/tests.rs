@@ -103,14 +103,38 @@ fn is_of_one_step(stretches: usize, last: Stretch, added: &str, pieces: usize) -
     }
 }
 
+/// A symbol without its prefix, and the flags of its form.
+#[derive(Clone, Copy)]
+struct Printed<'a> {
+    inner: &'a str,
+    include_hash: bool,
+    fold_arguments: bool,
+}
+
+impl<'a> Printed<'a> {
+    /// Returns a symbol that is printed with its arguments.
+    fn new(inner: &'a str, include_hash: bool) -> Printed<'a> {
+        Printed {
+            inner,
+            include_hash,
+            fold_arguments: false,
+        }
+    }
+}
+
 /// Returns whether each step of a parse prints at most one token, and all steps print this text.
-fn steps_print(inner: &str, include_hash: bool, wanted: &str) -> bool {
-    let symbol = Symbol::new(inner);
+fn steps_print(printed: Printed<'_>, wanted: &str) -> bool {
+    let symbol = Symbol::new(printed.inner);
     let mut looks = Looks::new();
     if !symbol.is_ascii(&mut looks) {
         return false;
     }
-    let mut parser: Parser<FULL_STACK> = Parser::at_path(&symbol, include_hash, 0, &mut looks);
+    let source = Source {
+        symbol: &symbol,
+        include_hash: printed.include_hash,
+        fold_arguments: printed.fold_arguments,
+    };
+    let mut parser: Parser<FULL_STACK> = Parser::at_path(source, 0, &mut looks);
     let mut sink = CountingSink::new();
     for _ in 0..200_000 {
         match goes_on(&mut parser, &mut sink) {
@@ -132,7 +156,7 @@ fn goes_on(parser: &mut Parser<'_, FULL_STACK>, sink: &mut CountingSink) -> Opti
         return Some(true);
     };
     parser.point = at;
-    if is_skipped(at) {
+    if is_skipped(at, parser.source.fold_arguments) {
         return match parser.skip_impl_path() {
             None => Some(false),
             Some(_) => None,
@@ -156,11 +180,18 @@ fn goes_on(parser: &mut Parser<'_, FULL_STACK>, sink: &mut CountingSink) -> Opti
     Some(false)
 }
 
-/// Returns whether the steps print the texts of each of these symbols, in both forms.
-fn all_step(rows: &[(&str, &str, &str)]) -> bool {
-    for &(inner, include_hash, alt) in rows {
-        if !steps_print(inner, true, include_hash) || !steps_print(inner, false, alt) {
-            return false;
+/// Returns whether the steps print the texts of each of these symbols, with the hash and without.
+fn all_step(rows: &[(&str, &str, &str)], fold_arguments: bool) -> bool {
+    for &(inner, plain, alt) in rows {
+        for (include_hash, wanted) in [(true, plain), (false, alt)] {
+            let printed = Printed {
+                inner,
+                include_hash,
+                fold_arguments,
+            };
+            if !steps_print(printed, wanted) {
+                return false;
+            }
         }
     }
     true
@@ -169,15 +200,16 @@ fn all_step(rows: &[(&str, &str, &str)]) -> bool {
 #[test]
 fn one_piece_a_step() -> Result<(), Fail> {
     let rt = HostRuntime;
-    assert!(all_step(rows::CONSTANTS));
-    assert!(all_step(rows::REFERENCES));
-    assert!(all_step(rows::MORE_REFERENCES));
-    assert!(all_step(rows::TYPES));
-    assert!(all_step(rows::MORE_TYPES));
-    assert!(all_step(rows::FURTHER_TYPES));
-    assert!(all_step(rows::LAST_TYPES));
-    assert!(all_step(rows::PATHS));
-    assert!(all_step(rows::MORE_PATHS));
+    assert!(all_step(rows::CONSTANTS, false));
+    assert!(all_step(rows::REFERENCES, false));
+    assert!(all_step(rows::MORE_REFERENCES, false));
+    assert!(all_step(rows::TYPES, false));
+    assert!(all_step(rows::MORE_TYPES, false));
+    assert!(all_step(rows::FURTHER_TYPES, false));
+    assert!(all_step(rows::LAST_TYPES, false));
+    assert!(all_step(rows::PATHS, false));
+    assert!(all_step(rows::MORE_PATHS, false));
+    assert!(all_step(rows::FOLDED, true));
     let alloc = rt.alloc();
     let mut tuples = String::from_str(alloc, "(_, _)")?;
     for _ in 1..6 {
@@ -185,13 +217,19 @@ fn one_piece_a_step() -> Result<(), Fail> {
     }
     let wanted = format!(in alloc; "<{tuples}>")?;
     let inner = "MC0TTTTTTpB8_EB7_EB6_EB5_EB4_EB3_E";
-    assert!(steps_print(inner, false, wanted.as_str()));
-    assert!(steps_print(inner, true, wanted.as_str()));
+    assert!(steps_print(Printed::new(inner, false), wanted.as_str()));
+    assert!(steps_print(Printed::new(inner, true), wanted.as_str()));
     let name = String::from_utf8_lossy(alloc, vec![in alloc; b'R'; 100_000]?.as_slice())?;
     let inner = format!(in alloc; "IC100000{name}B7_E")?;
     let marks = String::from_utf8_lossy(alloc, vec![in alloc; b'&'; 497]?.as_slice())?;
     let wanted = format!(in alloc; "{name}::<{marks}{{recursion limit reached}}>")?;
-    assert!(steps_print(inner.as_str(), false, wanted.as_str()));
-    assert!(steps_print(inner.as_str(), true, wanted.as_str()));
+    assert!(steps_print(
+        Printed::new(inner.as_str(), false),
+        wanted.as_str()
+    ));
+    assert!(steps_print(
+        Printed::new(inner.as_str(), true),
+        wanted.as_str()
+    ));
     Ok(())
 }

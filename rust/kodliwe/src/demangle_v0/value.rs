@@ -5,6 +5,7 @@ use crate::demangle_sink::{SinkRefused, SizeLimitedFmtAdapter, TextSink};
 use crate::demangle_symbol::cursor::{Looks, Symbol};
 use crate::demangle_v0::points::frames::SHORT_STACK;
 use crate::demangle_v0::points::parser::Parser;
+use crate::demangle_words::source::Source;
 
 /// A v0 symbol that was read: the bytes after its prefix, with the suffix.
 pub struct Demangle<'s> {
@@ -17,16 +18,23 @@ impl<'s> Demangle<'s> {
         Demangle { inner }
     }
 
-    /// Prints the first path, with the hash or without it.
+    /// Prints the first path, with hashes or without them, and with its generic arguments or with
+    /// `_` for them.
     ///
     /// Fails at the first piece that the limit or the sink rejects.
     pub fn write_to<S: TextSink>(
         &self,
         out: &mut SizeLimitedFmtAdapter<'_, S>,
         include_hash: bool,
+        fold_arguments: bool,
         looks: &mut Looks,
     ) -> Result<(), SinkRefused> {
-        let mut parser: Parser<SHORT_STACK> = Parser::at_path(&self.inner, include_hash, 0, looks);
+        let source = Source {
+            symbol: &self.inner,
+            include_hash,
+            fold_arguments,
+        };
+        let mut parser: Parser<SHORT_STACK> = Parser::at_path(source, 0, looks);
         let printed = parser.print_path(out);
         *looks = parser.looks;
         printed

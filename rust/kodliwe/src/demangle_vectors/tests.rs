@@ -14,6 +14,7 @@ mod beginnings;
 mod bytes;
 mod calls;
 mod faults;
+mod folded;
 mod formats;
 mod hostile;
 mod legacy;

@@ -12,4 +12,6 @@ pub struct Source<'s> {
     /// Whether the text includes the hashes of crates and the types of numbers. The alternate form
     /// omits both.
     pub include_hash: bool,
+    /// Whether each list of a path's generic arguments is printed as `_`.
+    pub fold_arguments: bool,
 }

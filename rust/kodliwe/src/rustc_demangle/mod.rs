@@ -2,6 +2,7 @@
 //! Demangles Rust symbols.
 
 mod display;
+mod format;
 pub mod laws;
 mod runs;
 pub mod sink;
@@ -13,15 +14,16 @@ mod text;
 mod value;
 
 pub use crate::demangle_symbol::cursor::Looks;
+pub use format::Format;
 pub use runs::{run_len, run_start};
-pub use slice::demangle_slice;
+pub use slice::{demangle_slice, demangle_slice_formatted};
 #[cfg(feature = "std")]
 pub use stream::{
-    BytesFilter, StreamFault, SymbolMemo, demangle_bytes, demangle_bytes_limited, demangle_stream,
-    demangle_stream_named,
+    BytesFilter, StreamFault, SymbolMemo, demangle_bytes, demangle_bytes_formatted,
+    demangle_bytes_limited, demangle_stream, demangle_stream_named,
 };
 use strip::without_thin_lto;
-pub use text::{demangle_text, demangle_text_limited};
+pub use text::{demangle_text, demangle_text_formatted, demangle_text_limited};
 pub use value::{Demangle, write_with_path_len};
 
 /// The error for a text that is not a Rust symbol.

@@ -2,23 +2,19 @@
 //! Demangles the symbols of any bytes in memory.
 
 use crate::demangle_sink::{SinkRefused, SliceSink};
+use crate::rustc_demangle::format::Format;
 use crate::rustc_demangle::runs::{run_len, run_start, run_text};
 use crate::rustc_demangle::text::put_run;
 
 /// Writes bytes, which need not be UTF-8, with each symbol of them demangled. Fails if the sink
 /// fails.
-fn put_slice<'b>(
-    text: &[u8],
-    out: &mut SliceSink<'b>,
-    include_hash: bool,
-    limit: usize,
-) -> Result<(), SinkRefused> {
+fn put_slice<'b>(text: &[u8], out: &mut SliceSink<'b>, format: Format) -> Result<(), SinkRefused> {
     let mut rest = text;
     while let Some(start) = run_start(rest) {
         let (kept, found) = rest.split_at(start);
         let (run, behind) = found.split_at(run_len(found));
         out.put_bytes(kept)?;
-        put_run(run_text(run), out, include_hash, limit)?;
+        put_run(run_text(run), out, format)?;
         rest = behind;
     }
     out.put_bytes(rest)
@@ -26,9 +22,9 @@ fn put_slice<'b>(
 
 /// Writes the pieces of any bytes into memory, with each symbol demangled. Returns their size, or
 /// `None` if it exceeds `usize::MAX`.
-fn write_slice(text: &[u8], out: &mut [u8], include_hash: bool, limit: usize) -> Option<usize> {
+fn write_slice(text: &[u8], out: &mut [u8], format: Format) -> Option<usize> {
     let mut sink = SliceSink::new(out);
-    match put_slice(text, &mut sink, include_hash, limit) {
+    match put_slice(text, &mut sink, format) {
         Ok(()) => Some(sink.len()),
         Err(_) => None,
     }
@@ -48,5 +44,16 @@ pub fn demangle_slice(
     include_hash: bool,
     limit: usize,
 ) -> Option<usize> {
-    write_slice(text, out, include_hash, limit)
+    let format = Format {
+        include_hash,
+        fold_arguments: false,
+        limit,
+    };
+    demangle_slice_formatted(text, out, format)
+}
+
+/// Writes any bytes into memory with each symbol of them demangled in a format, as `demangle_slice`
+/// does. Returns the size of the complete output, or `None` if it exceeds `usize::MAX`.
+pub fn demangle_slice_formatted(text: &[u8], out: &mut [u8], format: Format) -> Option<usize> {
+    write_slice(text, out, format)
 }

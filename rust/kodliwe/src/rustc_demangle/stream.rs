@@ -15,7 +15,7 @@ mod line;
 mod memo;
 mod reading;
 
-pub use bytes::{BytesFilter, demangle_bytes, demangle_bytes_limited};
+pub use bytes::{BytesFilter, demangle_bytes, demangle_bytes_formatted, demangle_bytes_limited};
 pub use fault::StreamFault;
 use line::demangle_line;
 pub use memo::SymbolMemo;

@@ -3,6 +3,7 @@
 
 use crate::demangle_sink::{SinkRefused, TextSink, put_piece};
 use crate::demangle_symbol::cursor::Looks;
+use crate::rustc_demangle::format::Format;
 use crate::rustc_demangle::runs::{run_len, run_start};
 use crate::rustc_demangle::value::{Demangle, MAX_SIZE};
 
@@ -11,30 +12,24 @@ use crate::rustc_demangle::value::{Demangle, MAX_SIZE};
 pub(crate) fn put_run<S: TextSink>(
     run: &str,
     out: &mut S,
-    include_hash: bool,
-    limit: usize,
+    format: Format,
 ) -> Result<(), SinkRefused> {
     let symbol = Demangle::read_run(run);
     if symbol.has_style() {
-        symbol.hand_over(out, include_hash, limit, &mut Looks::new())
+        symbol.hand_over(out, format, &mut Looks::new())
     } else {
         put_piece(run, out)
     }
 }
 
 /// Writes a text with each symbol of it demangled, in one pass over it. Fails if the sink fails.
-fn put_text<S: TextSink>(
-    text: &str,
-    out: &mut S,
-    include_hash: bool,
-    limit: usize,
-) -> Result<(), SinkRefused> {
+fn put_text<S: TextSink>(text: &str, out: &mut S, format: Format) -> Result<(), SinkRefused> {
     let mut rest = text;
     while let Some(start) = run_start(rest.as_bytes()) {
         let (kept, found) = rest.split_at(start);
         let (run, behind) = found.split_at(run_len(found.as_bytes()));
         put_piece(kept, out)?;
-        put_run(run, out, include_hash, limit)?;
+        put_run(run, out, format)?;
         rest = behind;
     }
     put_piece(rest, out)
@@ -59,7 +54,22 @@ pub fn demangle_text_limited<S: TextSink>(
     include_hash: bool,
     limit: usize,
 ) -> Result<(), SinkRefused> {
-    put_text(text, out, include_hash, limit)
+    let format = Format {
+        include_hash,
+        fold_arguments: false,
+        limit,
+    };
+    demangle_text_formatted(text, out, format)
+}
+
+/// Writes a text into a sink with each symbol of it demangled in a format, as
+/// `demangle_text_limited` does.
+pub fn demangle_text_formatted<S: TextSink>(
+    text: &str,
+    out: &mut S,
+    format: Format,
+) -> Result<(), SinkRefused> {
+    put_text(text, out, format)
 }
 
 /// Writes a text into a sink with each symbol of it demangled, as `demangle_text_limited` does.

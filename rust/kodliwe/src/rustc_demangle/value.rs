@@ -3,6 +3,7 @@
 
 use crate::demangle_sink::{SinkRefused, SizeLimitedFmtAdapter, TextSink, put_piece};
 use crate::demangle_symbol::cursor::{Looks, Symbol};
+use crate::rustc_demangle::format::Format;
 use crate::rustc_demangle::strip::without_thin_lto;
 
 /// The default limit: the most bytes of a symbol before the marker and the suffix.
@@ -15,16 +16,19 @@ pub(crate) enum DemangleStyle<'a> {
 }
 
 impl DemangleStyle<'_> {
-    /// Prints the symbol without its suffix. Fails if the sink or the size limit rejects a piece.
+    /// Prints the symbol without its suffix. The limit is that of the adapter. Fails if the sink or
+    /// the limit rejects a piece.
     fn write_to<S: TextSink>(
         &self,
         out: &mut SizeLimitedFmtAdapter<'_, S>,
-        include_hash: bool,
+        format: Format,
         looks: &mut Looks,
     ) -> Result<(), SinkRefused> {
         match self {
-            DemangleStyle::Legacy(symbol) => symbol.write_to(out, include_hash, looks),
-            DemangleStyle::V0(symbol) => symbol.write_to(out, include_hash, looks),
+            DemangleStyle::Legacy(symbol) => symbol.write_to(out, format.include_hash, looks),
+            DemangleStyle::V0(symbol) => {
+                symbol.write_to(out, format.include_hash, format.fold_arguments, looks)
+            }
         }
     }
 }
@@ -41,12 +45,11 @@ pub struct Demangle<'a> {
 fn write_cut<S: TextSink>(
     style: &DemangleStyle<'_>,
     out: &mut S,
-    include_hash: bool,
-    limit: usize,
+    format: Format,
     looks: &mut Looks,
 ) -> Result<(), SinkRefused> {
-    let mut limited = SizeLimitedFmtAdapter::new(out, limit);
-    let result = style.write_to(&mut limited, include_hash, looks);
+    let mut limited = SizeLimitedFmtAdapter::new(out, format.limit);
+    let result = style.write_to(&mut limited, format, looks);
     // Printing stops in the same way at the limit and if the sink fails. Only a sink that has not
     // failed gets the marker.
     if limited.is_over() {
@@ -72,20 +75,38 @@ impl<'a> Demangle<'a> {
         }
     }
 
-    /// Writes the pieces of the symbol into a sink, cut at `limit` bytes before the suffix, and
-    /// counts its looks. Fails if the sink fails.
+    /// Writes the pieces of the symbol into a sink, cut at the limit before the suffix, and counts
+    /// its looks. Fails if the sink fails.
     pub(crate) fn hand_over<S: TextSink>(
         &self,
         out: &mut S,
-        include_hash: bool,
-        limit: usize,
+        format: Format,
         looks: &mut Looks,
     ) -> Result<(), SinkRefused> {
         let Some(style) = &self.style else {
             return put_piece(self.original, out);
         };
-        write_cut(style, out, include_hash, limit, looks)?;
+        write_cut(style, out, format, looks)?;
         put_piece(self.suffix, out)
+    }
+
+    /// Prints into a sink in a format, and counts its looks, as `write_limited_counted` does.
+    pub fn write_formatted_counted<S: TextSink>(
+        &self,
+        out: &mut S,
+        format: Format,
+        looks: &mut Looks,
+    ) -> Result<(), SinkRefused> {
+        self.hand_over(out, format, looks)
+    }
+
+    /// Prints into a sink in a format, as `write_formatted_counted` does.
+    pub fn write_formatted<S: TextSink>(
+        &self,
+        out: &mut S,
+        format: Format,
+    ) -> Result<(), SinkRefused> {
+        self.write_formatted_counted(out, format, &mut Looks::new())
     }
 
     /// Prints into a sink, cut at `limit` bytes before the suffix, and counts its looks.
@@ -105,7 +126,12 @@ impl<'a> Demangle<'a> {
         limit: usize,
         looks: &mut Looks,
     ) -> Result<(), SinkRefused> {
-        self.hand_over(out, include_hash, limit, looks)
+        let format = Format {
+            include_hash,
+            fold_arguments: false,
+            limit,
+        };
+        self.write_formatted_counted(out, format, looks)
     }
 
     /// Prints into a sink, cut at `limit` bytes before the suffix, as `write_limited_counted` does.
@@ -116,6 +142,43 @@ impl<'a> Demangle<'a> {
         limit: usize,
     ) -> Result<(), SinkRefused> {
         self.write_limited_counted(out, include_hash, limit, &mut Looks::new())
+    }
+
+    /// Prints into a sink with `_` for each list of generic arguments, cut at `limit` bytes before
+    /// the suffix, and counts its looks.
+    ///
+    /// So all instances of a generic function have one name: `foo::bar::<_>` for `foo::bar::<u8>`.
+    /// A list is read and not printed. No reference in it is followed, and no lifetime in it is
+    /// checked. All else prints as by `write_limited_counted`. A legacy symbol prints completely,
+    /// because its arguments are parts of names.
+    ///
+    /// # Errors
+    ///
+    /// Fails exactly if the sink failed during this call, as `write_limited_counted` says.
+    pub fn write_folded_counted<S: TextSink>(
+        &self,
+        out: &mut S,
+        include_hash: bool,
+        limit: usize,
+        looks: &mut Looks,
+    ) -> Result<(), SinkRefused> {
+        let format = Format {
+            include_hash,
+            fold_arguments: true,
+            limit,
+        };
+        self.write_formatted_counted(out, format, looks)
+    }
+
+    /// Prints into a sink with `_` for each list of generic arguments, cut at `limit` bytes before
+    /// the suffix, as `write_folded_counted` does.
+    pub fn write_folded<S: TextSink>(
+        &self,
+        out: &mut S,
+        include_hash: bool,
+        limit: usize,
+    ) -> Result<(), SinkRefused> {
+        self.write_folded_counted(out, include_hash, limit, &mut Looks::new())
     }
 
     /// Prints into a sink, cut at 1,000,000 bytes before the suffix, and counts its looks, as
@@ -264,15 +327,20 @@ fn hand_over_with<S: TextSink>(
     include_hash: bool,
     limit: usize,
 ) -> Result<(), SinkRefused> {
+    let format = Format {
+        include_hash,
+        fold_arguments: false,
+        limit,
+    };
     let mut looks = Looks::new();
     let Some(symbol) = crate::demangle_v0::ascii_symbol(text, &mut looks) else {
         let read = Demangle::read(text, false, &mut looks);
-        return read.hand_over(out, include_hash, limit, &mut looks);
+        return read.hand_over(out, format, &mut looks);
     };
     // The caller may pass any number.
     let suffix = &text[path_len.min(text.len())..];
     let style = DemangleStyle::V0(symbol);
-    write_cut(&style, out, include_hash, limit, &mut looks)?;
+    write_cut(&style, out, format, &mut looks)?;
     put_piece(suffix, out)
 }
 

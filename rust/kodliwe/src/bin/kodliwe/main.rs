@@ -10,6 +10,7 @@ use kodliwe::support::string::String;
 use kodliwe::support::vec::CollectIn;
 use kodliwe::support::vec::Vec;
 mod fault;
+mod noting;
 mod output;
 mod program;
 mod replacing;

@@ -4,11 +4,12 @@
 use crate::fault::{OUT_OF_MEMORY, quoted, report_call, shown_name};
 use crate::output::Output;
 use crate::replacing::{Replacement, folder_of, open_output};
-use crate::run::{BUFFER, Ended, Input, run};
+use crate::run::{BUFFER, Ended, Input, Settings, run};
 use crate::same_file::input_that_is_output;
 use crate::streams::{SourceReader, source_name};
 use crate::texts::{HELP, VERSION, WAITING};
 use crate::words::{Asked, Request, Source, Target, WordsFault, read_words};
+use kodliwe::rustc_demangle::Format;
 use kodliwe::support::alloc::{AllocError, Global};
 use kodliwe::support::format;
 use kodliwe::support::fs::{Files, OpenFile};
@@ -111,30 +112,38 @@ fn add_default(sources: &mut Vec<Source<'_>>) -> Result<(), AllocError> {
     Ok(())
 }
 
-/// The inputs to filter, and the options.
+/// Returns the settings that the arguments request.
+fn settings_of(alloc: Global, request: &Request<'_>) -> Settings {
+    Settings {
+        alloc,
+        format: Format {
+            include_hash: request.include_hash,
+            fold_arguments: request.fold_arguments,
+            limit: request.limit,
+        },
+    }
+}
+
+/// The inputs to filter, and how.
 struct Filtering<'a, F: Files> {
-    alloc: Global,
     files: &'a F,
     inputs: Vec<Input<'a, SourceReader<'a, F>>>,
-    include_hash: bool,
-    limit: usize,
+    settings: Settings,
 }
 
 impl<F: Files> Filtering<'_, F> {
     /// Filters into a writer, and returns the exit status.
     fn write_to<W: Write, E: Write>(self, writer: W, errors: &mut E) -> u8 {
         let Filtering {
-            alloc,
             files: _,
             inputs,
-            include_hash,
-            limit,
+            settings,
         } = self;
-        let Ok(buffer) = BufWriter::with_capacity(alloc, BUFFER, writer) else {
+        let Ok(buffer) = BufWriter::with_capacity(settings.alloc, BUFFER, writer) else {
             return tell(errors, OUT_OF_MEMORY, 1);
         };
         let mut output = Output::new(buffer);
-        run(alloc, inputs, &mut output, errors, include_hash, limit).status()
+        run(settings, inputs, &mut output, errors).status()
     }
 
     /// Filters into a file, and gives it its name when it is complete. Removes it after an error.
@@ -147,18 +156,16 @@ impl<F: Files> Filtering<'_, F> {
         errors: &mut E,
     ) -> u8 {
         let Filtering {
-            alloc,
             files,
             inputs,
-            include_hash,
-            limit,
+            settings,
         } = self;
-        let Ok(buffer) = BufWriter::with_capacity(alloc, BUFFER, file) else {
+        let Ok(buffer) = BufWriter::with_capacity(settings.alloc, BUFFER, file) else {
             replacement.give_up(files);
             return tell(errors, OUT_OF_MEMORY, 1);
         };
         let mut output = Output::new(buffer);
-        let ended = run(alloc, inputs, &mut output, errors, include_hash, limit);
+        let ended = run(settings, inputs, &mut output, errors);
         if ended != Ended::Complete {
             replacement.give_up(files);
             return ended.status();
@@ -171,7 +178,7 @@ impl<F: Files> Filtering<'_, F> {
             Ok(()) => 0,
             Err(error) => {
                 replacement.give_up(files);
-                report_call(alloc, errors, path, &error);
+                report_call(settings.alloc, errors, path, &error);
                 1
             }
         }
@@ -179,7 +186,8 @@ impl<F: Files> Filtering<'_, F> {
 
     /// Filters into the file that a path names, and returns the exit status.
     fn write_file<E: Write>(self, path: &str, errors: &mut E) -> u8 {
-        let (file, replacement) = match open_output(self.alloc, self.files, path) {
+        let alloc = self.settings.alloc;
+        let (file, replacement) = match open_output(alloc, self.files, path) {
             Ok(opened) => opened,
             Err(fault) => {
                 let name = if fault.is_in_folder {
@@ -187,7 +195,7 @@ impl<F: Files> Filtering<'_, F> {
                 } else {
                     path
                 };
-                report_call(self.alloc, errors, name, &fault.error);
+                report_call(alloc, errors, name, &fault.error);
                 return 1;
             }
         };
@@ -248,6 +256,21 @@ fn reads_output<F: Files, E: Write>(
     }
 }
 
+/// Adds standard input if there are no sources, and then writes a note if it is a terminal. Fails if
+/// memory can't be allocated.
+fn read_default<E: Write>(
+    stdin: &Stdin,
+    errors: &mut E,
+    sources: &mut Vec<Source<'_>>,
+) -> Result<(), AllocError> {
+    let is_default = sources.is_empty();
+    add_default(sources)?;
+    if is_default && stdin.is_terminal() {
+        let _ = errors.write_all(WAITING.as_bytes());
+    }
+    Ok(())
+}
+
 /// Filters the texts that the arguments request, and returns the exit status.
 fn filter<'a, F: Files, W: Write, E: Write>(host: Host<'a, F, W, E>, request: Request<'a>) -> u8 {
     let Host {
@@ -257,28 +280,23 @@ fn filter<'a, F: Files, W: Write, E: Write>(host: Host<'a, F, W, E>, request: Re
         stdout,
         mut errors,
     } = host;
+    let settings = settings_of(alloc, &request);
     let target = request.output.unwrap_or(Target::Stdout);
     let plain_word = request.plain_word;
     let mut sources = request.sources;
-    let is_default = sources.is_empty();
-    if add_default(&mut sources).is_err() {
+    if read_default(&stdin, &mut errors, &mut sources).is_err() {
         return tell(&mut errors, OUT_OF_MEMORY, 1);
     }
     if target == Target::Stdout && reads_output(alloc, files, &mut errors, sources.as_slice()) {
         return 1;
     }
-    if is_default && stdin.is_terminal() {
-        let _ = errors.write_all(WAITING.as_bytes());
-    }
     let Ok(inputs) = open_inputs(alloc, files, stdin, sources) else {
         return tell(&mut errors, OUT_OF_MEMORY, 1);
     };
     let filtering = Filtering {
-        alloc,
         files,
         inputs,
-        include_hash: request.include_hash,
-        limit: request.limit,
+        settings,
     };
     let status = match target {
         Target::Stdout => filtering.write_to(stdout, &mut errors),

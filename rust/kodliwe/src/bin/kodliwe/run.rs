@@ -2,7 +2,8 @@
 //! Filters any readers into any writer.
 
 use crate::fault::{InputFault, report};
-use kodliwe::rustc_demangle::{BytesFilter, StreamFault, SymbolMemo};
+use crate::noting::NotingReader;
+use kodliwe::rustc_demangle::{BytesFilter, Format, StreamFault, SymbolMemo};
 use kodliwe::support::alloc::{Allocator, Global};
 use kodliwe::support::io::BufReader;
 use kodliwe::support::vec::Vec;
@@ -12,7 +13,15 @@ use std::io::{BufRead, ErrorKind, Read, Write};
 /// The size in bytes of the buffers.
 pub const BUFFER: usize = 65_536;
 
-/// A reader, and its name in an error message.
+/// The memory and the options of a run.
+#[derive(Clone, Copy)]
+pub struct Settings {
+    pub alloc: Global,
+    /// How symbols are printed.
+    pub format: Format,
+}
+
+/// A reader, and its name in a message.
 pub struct Input<'a, R> {
     pub name: &'a str,
     pub reader: R,
@@ -123,16 +132,20 @@ fn filter_reader<R: Read, W: Write>(
 }
 
 /// Filters the remaining input of each reader, in order and with one memo, and then flushes the
-/// output. Stops at the first error, and returns it with the name of its input.
-fn filter_inputs<'a, R: Read, W: Write>(
-    alloc: Global,
+/// output. Writes a note on each input that is compressed or encoded. Stops at the first error, and
+/// returns it with the name of its input.
+fn filter_inputs<'a, R: Read, W: Write, E: Write>(
+    settings: Settings,
     inputs: Vec<Input<'a, R>>,
     output: &mut W,
-    memo: &mut SymbolMemo,
+    errors: &mut E,
 ) -> Result<(), InputFault<'a>> {
+    let alloc = settings.alloc;
+    let mut memo = SymbolMemo::with_format(alloc, settings.format);
     for input in inputs {
         let Input { name, reader } = input;
-        match filter_reader(alloc, reader, output, memo) {
+        let noting = NotingReader::new(alloc, name, reader, errors);
+        match filter_reader(alloc, noting, output, &mut memo) {
             Ok(()) => {}
             Err(fault) => return Err(InputFault { name, fault }),
         }
@@ -157,8 +170,9 @@ fn end_of(fault: &StreamFault) -> Ended {
     }
 }
 
-/// Filters the inputs in order, each on its own, with each path cut at `limit` bytes. Writes a line
-/// if an input can't be read, the output can't be written, or memory can't be allocated.
+/// Filters the inputs in order, each on its own, with each path cut at the limit. Writes a line if
+/// an input can't be read, the output can't be written, or memory can't be allocated. Writes a note
+/// on each input that is compressed or encoded.
 ///
 /// On `Complete`, the writer appended the filtered form of all that the readers still held. On
 /// `Unread`, it appended the filtered inputs before one input, and a filtered prefix of that one.
@@ -166,15 +180,12 @@ fn end_of(fault: &StreamFault) -> Ended {
 /// call that failed. All that was written before is flushed in any case. An error of `errors` is
 /// ignored.
 pub fn run<R: Read, W: Write, E: Write>(
-    alloc: Global,
+    settings: Settings,
     inputs: Vec<Input<'_, R>>,
     output: &mut W,
     errors: &mut E,
-    include_hash: bool,
-    limit: usize,
 ) -> Ended {
-    let mut memo = SymbolMemo::new(alloc, include_hash, limit);
-    let Err(stop) = filter_inputs(alloc, inputs, output, &mut memo) else {
+    let Err(stop) = filter_inputs(settings, inputs, output, errors) else {
         return Ended::Complete;
     };
     let ended = end_of(&stop.fault);
@@ -182,7 +193,7 @@ pub fn run<R: Read, W: Write, E: Write>(
         let _ = flush(output);
     }
     if ended != Ended::Closed {
-        report(alloc, errors, &stop);
+        report(settings.alloc, errors, &stop);
     }
     ended
 }

@@ -2,10 +2,10 @@
 //! Tests the program's work with readers and writers that fail, and the parsing of arguments. The
 //! filter itself is tested in the library; here its output is the expected value.
 use crate::program::{Host, start};
-use crate::run::{Ended, Input, run};
+use crate::run::{Ended, Input, Settings, run};
 use crate::words::{Asked, Target, read_words};
 use core::cell::Cell;
-use kodliwe::rustc_demangle::demangle_stream_named;
+use kodliwe::rustc_demangle::{Format, demangle_stream_named};
 use kodliwe::support::alloc::{AllocError, Global};
 use kodliwe::support::format;
 use kodliwe::support::fs::Files;
@@ -19,6 +19,7 @@ use std::io::{ErrorKind, Read, Write};
 use streams::{CallsWriter, ChunkReader, WatchedWriter, WatchingReader};
 
 mod calls;
+mod notes;
 mod streams;
 
 /// The text of a log: both schemes, partial symbols, a byte of Latin-1, NUL, and long runs.
@@ -56,7 +57,15 @@ fn run_one<R: Read, W: Write>(
         reader,
     })?;
     let mut errors = Vec::new(alloc);
-    let ended = run(alloc, inputs, output, &mut errors, include_hash, 1_000_000);
+    let settings = Settings {
+        alloc,
+        format: Format {
+            include_hash,
+            fold_arguments: false,
+            limit: 1_000_000,
+        },
+    };
+    let ended = run(settings, inputs, output, &mut errors);
     Ok((ended, errors))
 }
 
@@ -119,7 +128,15 @@ fn inputs_are_filtered_each_by_itself() -> Result<(), Fail> {
     }
     let mut output = Vec::new(alloc);
     let mut errors = Vec::new(alloc);
-    let ended = run(alloc, inputs, &mut output, &mut errors, false, 1_000_000);
+    let settings = Settings {
+        alloc,
+        format: Format {
+            include_hash: false,
+            fold_arguments: false,
+            limit: 1_000_000,
+        },
+    };
+    let ended = run(settings, inputs, &mut output, &mut errors);
     assert_eq!(ended, Ended::Complete);
     assert_eq!(output.as_slice(), b"x _ZN3fooE\nfoobar\n".as_slice());
     Ok(())
@@ -295,6 +312,32 @@ fn each_path_is_cut_at_the_limit() -> Result<(), Fail> {
     }
     let line: &[u8] = b"kodliwe: option '-l' needs a number of BYTES; try 'kodliwe --help'\n";
     assert_program(&rt, rt.alloc(), rt.stdin(), &["-l"], 2, b"", line)
+}
+
+#[test]
+fn arguments_are_folded() -> Result<(), Fail> {
+    let rt = HostRuntime;
+    let text = "_RNvMC3fooINtB2_3BarlE3baz x _RNvMC3fooINtB2_3BarlE3baz";
+    let folded: &[u8] = b"<foo::Bar<_>>::baz x <foo::Bar<_>>::baz\n";
+    let cases: [&[&str]; 4] = [
+        &["-f", text],
+        &["--fold", text],
+        &[text, "-f"],
+        &["--hash", "-f", text],
+    ];
+    for words in cases {
+        assert_program(&rt, rt.alloc(), rt.stdin(), words, 0, folded, b"")?;
+    }
+    let whole: &[u8] = b"-f\n<foo::Bar<i32>>::baz x <foo::Bar<i32>>::baz\n";
+    assert_program(
+        &rt,
+        rt.alloc(),
+        rt.stdin(),
+        &["--", "-f", text],
+        0,
+        whole,
+        b"",
+    )
 }
 
 #[test]

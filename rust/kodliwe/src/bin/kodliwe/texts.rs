@@ -23,6 +23,7 @@ Options:
   -i, --input FILE    Read FILE; - is standard input. May stand several times
   -o, --output FILE   Write FILE once all is read; - is standard output
       --hash          Keep the hashes of legacy symbols (foo::h05af221e174051e9)
+  -f, --fold          Print generic arguments as _ (Vec<_> for Vec<u8>)
   -l, --limit BYTES   Cut each path at BYTES (1000000 if not given)
   -h, --help          Print this help
   -V, --version       Print the version, the logic of the proofs and the licence

@@ -32,6 +32,8 @@ pub struct Request<'a> {
     /// The value of `-o`, if it was given.
     pub output: Option<Target<'a>>,
     pub include_hash: bool,
+    /// Whether `_` is printed for generic arguments.
+    pub fold_arguments: bool,
     /// The largest number of bytes of a path.
     pub limit: usize,
     /// The first SYMBOL that the filter does not change.
@@ -85,6 +87,7 @@ pub enum Word<'a> {
     /// An option, with its value if the argument includes it.
     Valued(ValuedOption, Option<&'a str>),
     Hash,
+    Fold,
     Help,
     Version,
     Unknown,
@@ -138,6 +141,9 @@ fn read_word(word: &str) -> Word<'_> {
     if word == "--hash" {
         return Word::Hash;
     }
+    if word == "-f" || word == "--fold" {
+        return Word::Fold;
+    }
     if word == "-h" || word == "--help" {
         return Word::Help;
     }
@@ -163,6 +169,7 @@ impl<'a> Request<'a> {
             sources: Vec::new(alloc),
             output: None,
             include_hash: false,
+            fold_arguments: false,
             limit: LIMIT,
             plain_word: None,
         }
@@ -255,6 +262,7 @@ impl<'a> Request<'a> {
             Word::End => return Ok(Taken::Next(Next::Symbol)),
             Word::Valued(option, within) => return self.take_option(option, word, within),
             Word::Hash => self.include_hash = true,
+            Word::Fold => self.fold_arguments = true,
             Word::Help => return Ok(Taken::Help),
             Word::Version => return Ok(Taken::Version),
             Word::Unknown => return Err(WordsFault::Unknown(word)),

@@ -19,6 +19,8 @@ impl<const N: usize> Parser<'_, N> {
     }
 
     /// Starts the first or a further generic argument of a path, or ends their list.
+    ///
+    /// A parse that prints folded arguments does not read them here, but as it reads an impl path.
     #[inline(always)]
     pub(super) fn arguments(&mut self, is_first: bool) -> Point {
         let Some(at) = self.state.place else {

@@ -12,7 +12,7 @@ use crate::demangle_words::texts::Word;
 impl<const N: usize> Parser<'_, N> {
     /// Performs a continuation, and returns the one to run next.
     ///
-    /// An impl's own path is only read here if nothing is printed.
+    /// An impl path and folded arguments are only read here if nothing is printed.
     #[inline(always)]
     pub(super) fn dispatch<V: Output>(
         &mut self,
@@ -47,6 +47,7 @@ impl<const N: usize> Parser<'_, N> {
             Point::NextDynTrait => Ok(self.dyn_trait(false)),
             Point::TraitPath => self.trait_path(output),
             Point::FirstOpenArgument => Ok(self.trait_argument(true)),
+            Point::FoldedTraitArguments => Ok(self.folded_trait_arguments()),
             Point::NextOpenArgument => Ok(self.trait_argument(false)),
             Point::Bindings => Ok(self.bindings()),
             Point::OpenBindings => Ok(self.further_bindings()),
@@ -76,6 +77,7 @@ impl<const N: usize> Parser<'_, N> {
             | Point::TextConstant
             | Point::ReferenceConstant
             | Point::OpenArguments
+            | Point::FoldedArguments
             | Point::Const
             | Point::PatternIs
             | Point::OpenParameters

@@ -89,6 +89,14 @@ impl<const N: usize> Parser<'_, N> {
         self.argument(at)
     }
 
+    /// Queues the `_` for the arguments of a dyn trait path, which were read. The bracket stays open.
+    #[inline(always)]
+    pub(super) fn folded_trait_arguments(&mut self) -> Point {
+        self.put(Mark::Placeholder);
+        self.state.is_open = true;
+        Point::End
+    }
+
     /// Reads the lifetime of a dyn type, and prints it after a ` + ` unless it is erased.
     #[inline(never)]
     pub(super) fn dyn_lifetime<V: Output>(&mut self, output: &mut V) -> Result<Point, Stop> {

@@ -26,6 +26,7 @@ fn left_at(point: Point) -> Option<Left> {
         Point::TextConstant => (Mark::Star, Point::Literal, false),
         Point::ReferenceConstant => (Mark::Ampersand, Point::Constant, true),
         Point::OpenArguments => (Mark::Less, Point::FirstArgument, false),
+        Point::FoldedArguments => (Mark::Placeholder, Point::CloseAngle, false),
         Point::Const => (Mark::Const, Point::Type, false),
         Point::PatternIs => (Mark::Is, Point::Pattern, false),
         Point::OpenParameters => (Mark::Function, Point::FirstParameter, false),

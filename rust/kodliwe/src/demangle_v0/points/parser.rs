@@ -1,7 +1,7 @@
 // Made from crates/demangle_v0/src/points/parser.rt by packaging/crate/erase.py: edit that file instead.
 //! The parser, and what its methods share.
 
-use crate::demangle_symbol::cursor::{Looks, Symbol};
+use crate::demangle_symbol::cursor::Looks;
 use crate::demangle_v0::points::frames::{Frame, FrameStack};
 use crate::demangle_v0::points::{Point, State, Stop};
 use crate::demangle_words::source::Source;
@@ -21,17 +21,9 @@ pub struct Parser<'m, const N: usize> {
 impl<'m, const N: usize> Parser<'m, N> {
     /// Returns a parser of the path at a place, with no frames. Moves the count out of `looks`.
     #[inline(always)]
-    pub(crate) fn at_path(
-        symbol: &'m Symbol<'m>,
-        include_hash: bool,
-        place: usize,
-        looks: &mut Looks,
-    ) -> Self {
+    pub(crate) fn at_path(source: Source<'m>, place: usize, looks: &mut Looks) -> Self {
         Parser {
-            source: Source {
-                symbol,
-                include_hash,
-            },
+            source,
             point: Point::Path,
             state: State::at_path(place),
             stack: FrameStack::new(),

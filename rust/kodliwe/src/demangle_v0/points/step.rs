@@ -37,8 +37,8 @@ impl<const N: usize> Parser<'_, N> {
     /// Runs a continuation, which may read and print a token, and prints the fixed text that it
     /// queued. Returns the next continuation.
     ///
-    /// Fails if the output does. A parse that prints never runs an impl path here, because that is
-    /// not printed.
+    /// Fails if the output does. A parse that prints never runs an impl path or folded arguments
+    /// here, because those are not printed.
     #[inline(always)]
     pub(crate) fn step<V: Output>(
         &mut self,

@@ -1,6 +1,7 @@
 // Made from crates/rustc_demangle/src/stream/bytes.rt by packaging/crate/erase.py: edit that file instead.
 //! Demangles any bytes that come from a reader.
 
+use crate::rustc_demangle::format::Format;
 use crate::rustc_demangle::stream::carrying::{finish, take_some};
 use crate::rustc_demangle::stream::fault::{StreamFault, read_fault};
 use crate::rustc_demangle::stream::memo::SymbolMemo;
@@ -90,8 +91,24 @@ pub fn demangle_bytes_limited<R: BufRead, W: Write>(
     include_hash: bool,
     limit: usize,
 ) -> Result<(), StreamFault> {
+    let format = Format {
+        include_hash,
+        fold_arguments: false,
+        limit,
+    };
+    demangle_bytes_formatted(alloc, input, output, format)
+}
+
+/// Writes the input, which may be any bytes, with each symbol of it demangled in a format, as
+/// `demangle_bytes_limited` does.
+pub fn demangle_bytes_formatted<R: BufRead, W: Write>(
+    alloc: Global,
+    input: &mut R,
+    output: &mut W,
+    format: Format,
+) -> Result<(), StreamFault> {
     let mut filter = BytesFilter::new(alloc);
-    let mut memo = SymbolMemo::new(alloc, include_hash, limit);
+    let mut memo = SymbolMemo::with_format(alloc, format);
     take_steps(&mut filter, input, output, &mut memo)
 }
 

@@ -2,21 +2,17 @@
 //! Writes lines and runs with their symbols demangled.
 
 use crate::demangle_sink::WriteSink;
+use crate::rustc_demangle::format::Format;
 use crate::rustc_demangle::text::demangle_text;
 use crate::rustc_demangle::value::Demangle;
 use std::io;
 use std::io::Write;
 
 /// Writes a symbol, with a separate write for each piece. Fails if the writer fails.
-fn write_symbol<W: Write>(
-    symbol: &Demangle<'_>,
-    output: &mut W,
-    include_hash: bool,
-    limit: usize,
-) -> io::Result<()> {
+fn write_symbol<W: Write>(symbol: &Demangle<'_>, output: &mut W, format: Format) -> io::Result<()> {
     let mut sink = WriteSink::new(output);
     // If it fails, the sink holds the writer's error.
-    let _ = symbol.write_limited(&mut sink, include_hash, limit);
+    let _ = symbol.write_formatted(&mut sink, format);
     match sink.into_fault() {
         Some(error) => Err(error),
         None => Ok(()),
@@ -30,15 +26,10 @@ fn write_kept<W: Write>(text: &str, output: &mut W) -> io::Result<()> {
 
 /// Writes the replacement of a run: the printed symbol, or the run itself if it is not a symbol.
 /// Fails if the writer fails.
-pub(super) fn write_run<W: Write>(
-    run: &str,
-    output: &mut W,
-    include_hash: bool,
-    limit: usize,
-) -> io::Result<()> {
+pub(super) fn write_run<W: Write>(run: &str, output: &mut W, format: Format) -> io::Result<()> {
     let symbol = Demangle::read_run(run);
     if symbol.has_style() {
-        write_symbol(&symbol, output, include_hash, limit)
+        write_symbol(&symbol, output, format)
     } else {
         write_kept(run, output)
     }

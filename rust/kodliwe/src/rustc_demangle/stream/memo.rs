@@ -2,6 +2,7 @@
 //! Remembers the symbols that a filter printed.
 
 use crate::held_bytes::Held;
+use crate::rustc_demangle::format::Format;
 use crate::rustc_demangle::stream::held_sink::HeldSink;
 use crate::rustc_demangle::stream::line::write_run;
 use crate::rustc_demangle::value::{Demangle, print_v0_run};
@@ -56,13 +57,6 @@ impl Probe {
     }
 }
 
-/// How symbols are printed: with or without the hash, each cut at `limit` bytes before its suffix.
-#[derive(Clone, Copy)]
-struct Form {
-    include_hash: bool,
-    limit: usize,
-}
-
 /// The texts that are remembered, and the last one that was printed for them.
 struct Store {
     texts: TextMemo,
@@ -71,35 +65,33 @@ struct Store {
 
 /// A memo of printed symbols, with which a filter does not parse a repeated symbol again.
 ///
-/// It belongs to one form of printing: with or without the hash, and one limit. It uses at most 4.5
-/// MB of memory: 32 KB if no symbol repeats, and none if there are no symbols. If memory can't be
-/// allocated, symbols are parsed as without a memo. The memo turns itself off for a while if few
-/// symbols repeat.
+/// It belongs to one format, in which all its texts were printed. It uses at most 4.5 MB of memory:
+/// 32 KB if no symbol repeats, and none if there are no symbols. If memory can't be allocated,
+/// symbols are parsed as without a memo. The memo turns itself off for a while if few symbols
+/// repeat.
 pub struct SymbolMemo {
-    form: Form,
+    format: Format,
     store: Store,
     probe: Probe,
 }
 
 /// Prints a symbol into held bytes, or returns `false` if they have no room for it.
-fn print_held(symbol: &Demangle<'_>, held: &mut Held, form: Form) -> bool {
+fn print_held(symbol: &Demangle<'_>, held: &mut Held, format: Format) -> bool {
     let mut sink = HeldSink::new(held);
-    symbol
-        .write_limited(&mut sink, form.include_hash, form.limit)
-        .is_ok()
+    symbol.write_formatted(&mut sink, format).is_ok()
 }
 
 /// Prints a v0 symbol into held bytes before it is known whether the run is one. Returns `false` if
 /// that is still unknown, or if the bytes have no room for the text. Then the bytes may have a part
 /// of it.
 #[inline(always)]
-fn print_first(run: &str, held: &mut Held, form: Form) -> bool {
-    if run.as_bytes()[1] != b'R' {
+fn print_first(run: &str, held: &mut Held, format: Format) -> bool {
+    if format.fold_arguments || run.as_bytes()[1] != b'R' {
         return false;
     }
     held.clear();
     let mut sink = HeldSink::new(held);
-    print_v0_run(run, &mut sink, form.include_hash, form.limit)
+    print_v0_run(run, &mut sink, format.include_hash, format.limit)
 }
 
 /// How the text of a run was found.
@@ -129,8 +121,8 @@ fn is_looked_up(run: &[u8]) -> bool {
 
 /// Prints a run, and remembers its text, or that it is too long.
 #[inline(never)]
-fn print_new(run: &str, hash: u64, form: Form, store: &mut Store) -> Printed {
-    if print_first(run, &mut store.printed, form) {
+fn print_new(run: &str, hash: u64, format: Format, store: &mut Store) -> Printed {
+    if print_first(run, &mut store.printed, format) {
         store
             .texts
             .insert(run.as_bytes(), store.printed.as_slice(), hash);
@@ -143,7 +135,7 @@ fn print_new(run: &str, hash: u64, form: Form, store: &mut Store) -> Printed {
         return Printed::NoSymbol;
     }
     store.printed.clear();
-    if !print_held(&symbol, &mut store.printed, form) {
+    if !print_held(&symbol, &mut store.printed, format) {
         store.texts.note_too_long(hash);
         return Printed::TooLong;
     }
@@ -157,11 +149,18 @@ impl SymbolMemo {
     /// Returns a memo of symbols that are printed with or without the hash, each cut at `limit`
     /// bytes before its suffix.
     pub fn new(alloc: Global, include_hash: bool, limit: usize) -> Self {
+        let format = Format {
+            include_hash,
+            fold_arguments: false,
+            limit,
+        };
+        SymbolMemo::with_format(alloc, format)
+    }
+
+    /// Returns a memo of symbols that are printed in a format.
+    pub fn with_format(alloc: Global, format: Format) -> Self {
         SymbolMemo {
-            form: Form {
-                include_hash,
-                limit,
-            },
+            format,
             store: Store {
                 texts: TextMemo::new(alloc),
                 printed: Held::new(),
@@ -176,29 +175,25 @@ impl SymbolMemo {
     /// Writes the text of a run that is not remembered. Fails if the writer fails.
     #[inline(always)]
     fn write_once<W: Write>(&mut self, run: &str, output: &mut W) -> io::Result<()> {
-        if print_first(run, &mut self.store.printed, self.form) {
+        if print_first(run, &mut self.store.printed, self.format) {
             return output.write_all(self.store.printed.as_slice());
         }
-        write_run(run, output, self.form.include_hash, self.form.limit)
+        write_run(run, output, self.format)
     }
 
     /// Writes the text of a run that is not in the memo. The text is remembered if the run came
     /// before. Fails if the writer fails.
     #[inline(always)]
     fn write_new<W: Write>(&mut self, run: &str, hash: u64, output: &mut W) -> io::Result<()> {
-        let Form {
-            include_hash,
-            limit,
-        } = self.form;
         match self.store.texts.note(hash) {
             Noted::Again => {}
             Noted::New => return self.write_once(run, output),
-            Noted::TooLong => return write_run(run, output, include_hash, limit),
+            Noted::TooLong => return write_run(run, output, self.format),
         }
-        match print_new(run, hash, self.form, &mut self.store) {
+        match print_new(run, hash, self.format, &mut self.store) {
             Printed::Symbol => output.write_all(self.store.printed.as_slice()),
             Printed::NoSymbol => output.write_all(run.as_bytes()),
-            Printed::TooLong => write_run(run, output, include_hash, limit),
+            Printed::TooLong => write_run(run, output, self.format),
         }
     }
 
@@ -206,7 +201,7 @@ impl SymbolMemo {
     /// symbol. Fails if the writer fails.
     pub(super) fn write_run<W: Write>(&mut self, run: &str, output: &mut W) -> io::Result<()> {
         if !is_looked_up(run.as_bytes()) {
-            return write_run(run, output, self.form.include_hash, self.form.limit);
+            return write_run(run, output, self.format);
         }
         if !self.probe.is_on() {
             return self.write_once(run, output);

@@ -1,0 +1,141 @@
+// Made from crates/kodliwe/src/tests/notes.rt by packaging/crate/erase.py: edit that file instead.
+//! Tests the notes on inputs that are compressed or encoded.
+use super::run_one;
+use super::streams::ChunkReader;
+use crate::run::{BUFFER, Ended, Input, Settings, run};
+use kodliwe::rustc_demangle::Format;
+use kodliwe::support::alloc::Global;
+use kodliwe::support::process::Abort;
+use kodliwe::support::rt::HostRuntime;
+use kodliwe::support::test::Fail;
+use kodliwe::support::vec::Vec;
+use kodliwe::support::vec_in as vec;
+
+/// Beginnings of such inputs, and the notes on them.
+const MARKED: [(&[u8], &[u8]); 5] = [
+    (
+        b"\x1F\x8B\x08\0 _ZN1aE",
+        b"kodliwe: note: log.txt looks compressed (gzip); decompress it first\n",
+    ),
+    (
+        b"\x28\xB5\x2F\xFD _ZN1aE",
+        b"kodliwe: note: log.txt looks compressed (zstd); decompress it first\n",
+    ),
+    (
+        b"\xFD\x37\x7A\x58\x5A\0 _ZN1aE",
+        b"kodliwe: note: log.txt looks compressed (xz); decompress it first\n",
+    ),
+    (
+        b"\xFF\xFEa\0 _ZN1aE",
+        b"kodliwe: note: log.txt looks encoded (UTF-16); convert it to UTF-8 first\n",
+    ),
+    (
+        b"\xFE\xFF\0a _ZN1aE",
+        b"kodliwe: note: log.txt looks encoded (UTF-16); convert it to UTF-8 first\n",
+    ),
+];
+
+/// The number of bytes of the shortest beginnings that are noted.
+const LENGTHS: [usize; 5] = [2, 4, 6, 2, 2];
+
+/// Asserts what is noted about the text of a reader, of which all that is no symbol is copied.
+fn assert_note(
+    rt: &impl Abort,
+    alloc: Global,
+    reader: ChunkReader<'_>,
+    text: &[u8],
+    note: &[u8],
+) -> Result<(), Fail> {
+    let mut output = Vec::new(alloc);
+    let (ended, errors) = run_one(alloc, reader, &mut output, false)?;
+    assert_eq!(ended, Ended::Complete, "of {text:?}");
+    let copied = text.strip_suffix(b"_ZN1aE").unwrap_or(text);
+    assert!(output.as_slice().starts_with(copied), "of {text:?}");
+    assert_eq!(errors.as_slice(), note, "of {text:?}");
+    Ok(())
+}
+
+#[test]
+fn a_first_chunk_with_a_mark_is_noted_once() -> Result<(), Fail> {
+    let rt = HostRuntime;
+    let alloc = rt.alloc();
+    for (text, note) in MARKED {
+        assert_note(&rt, alloc, ChunkReader::new(text, 100), text, note)?;
+        let interrupted = ChunkReader::new(text, 7).interrupted();
+        assert_note(&rt, alloc, interrupted, text, note)?;
+    }
+    Ok(())
+}
+
+#[test]
+fn a_mark_that_is_cut_is_not_noted() -> Result<(), Fail> {
+    let rt = HostRuntime;
+    let alloc = rt.alloc();
+    for ((text, note), least) in MARKED.into_iter().zip(LENGTHS) {
+        for len in 0..=text.len() {
+            let wanted: &[u8] = if len < least { b"" } else { note };
+            let front = &text[..len];
+            assert_note(&rt, alloc, ChunkReader::new(front, 100), front, wanted)?;
+            if len > 0 {
+                assert_note(&rt, alloc, ChunkReader::new(text, len), text, wanted)?;
+            }
+        }
+    }
+    Ok(())
+}
+
+#[test]
+fn a_mark_behind_the_beginning_is_not_noted() -> Result<(), Fail> {
+    let rt = HostRuntime;
+    let alloc = rt.alloc();
+    for (text, _) in MARKED {
+        for front in [1, BUFFER] {
+            let mut long = vec![in alloc; b'x'; front]?;
+            long.extend_from_slice(text)?;
+            let reader = ChunkReader::new(long.as_slice(), BUFFER);
+            assert_note(&rt, alloc, reader, long.as_slice(), b"")?;
+        }
+    }
+    let others: [&[u8]; 5] = [
+        b"\x1F\x8C",
+        b"\xFE\xFE",
+        b"\xFF\xFF",
+        b"PK\x03\x04",
+        b"\xEF\xBB\xBF",
+    ];
+    for text in others {
+        assert_note(&rt, alloc, ChunkReader::new(text, 100), text, b"")?;
+    }
+    Ok(())
+}
+
+#[test]
+fn each_input_is_noted_by_its_name() -> Result<(), Fail> {
+    let rt = HostRuntime;
+    let alloc = rt.alloc();
+    let mut inputs = Vec::new(alloc);
+    for name in ["a", "b\n", "c", "a"] {
+        let text: &[u8] = if name == "c" { b"c" } else { b"\x1F\x8B" };
+        let reader = ChunkReader::new(text, 100);
+        inputs.push(Input { name, reader })?;
+    }
+    let settings = Settings {
+        alloc,
+        format: Format {
+            include_hash: false,
+            fold_arguments: false,
+            limit: 1_000_000,
+        },
+    };
+    let mut output = Vec::new(alloc);
+    let mut errors = Vec::new(alloc);
+    let ended = run(settings, inputs, &mut output, &mut errors);
+    assert_eq!(ended, Ended::Complete);
+    let wanted: &[u8] = b"\x1F\x8B\x1F\x8Bc\x1F\x8B";
+    assert_eq!(output.as_slice(), wanted);
+    let notes: &[u8] = b"kodliwe: note: a looks compressed (gzip); decompress it first\n\
+        kodliwe: note: 'b\\n' looks compressed (gzip); decompress it first\n\
+        kodliwe: note: a looks compressed (gzip); decompress it first\n";
+    assert_eq!(errors.as_slice(), notes);
+    Ok(())
+}

@@ -1,0 +1,17 @@
+// Made from crates/rustc_demangle/src/format.rt by packaging/crate/erase.py: edit that file instead.
+//! The format in which symbols are printed.
+
+/// How a symbol is printed.
+///
+/// The calls without a `Format` print generic arguments.
+#[derive(Clone, Copy, Debug, PartialEq, Eq)]
+pub struct Format {
+    /// Whether the hash of a legacy symbol, and the hashes and the types of numbers of a v0 symbol,
+    /// are printed.
+    pub include_hash: bool,
+    /// Whether `_` is printed for each list of generic arguments of a v0 symbol. The arguments of a
+    /// legacy symbol are parts of names, and are always printed.
+    pub fold_arguments: bool,
+    /// The most bytes before the marker `{size limit reached}` and the suffix.
+    pub limit: usize,
+}
