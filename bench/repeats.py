@@ -137,17 +137,23 @@ def output_of(command):
     return [run.stdout]
 
 
+def made_texts(size):
+    """The texts that are made, by name: for each the parts that it is written of."""
+    yield "profile", profile(size)
+    yield "once", once(size // 4)
+    yield "one pair", one_pair(size // 4)
+    yield "long texts", long_texts(size)
+    yield "long run", long_run(size)
+    yield "plain", plain(size)
+    yield "underscores", underscores(size // 4)
+
+
 def texts(given):
-    """The texts to run over, by name: for each the parts that it is written of."""
-    size = given.size * 1_000_000
+    """The texts to run over, as `made_texts` yields them."""
     if not given.only_given:
-        yield "profile", profile(size)
-        yield "once", once(size // 4)
-        yield "one pair", one_pair(size // 4)
-        yield "long texts", long_texts(size)
-        yield "long run", long_run(size)
-        yield "plain", plain(size)
-        yield "underscores", underscores(size // 4)
+        for name, parts in made_texts(given.size * 1_000_000):
+            if not given.only or name in given.only:
+                yield name, parts
     for path in given.objdump:
         yield "objdump -d " + os.path.basename(path), output_of(["objdump", "-d", path])
     for path in given.nm:
@@ -209,6 +215,7 @@ def main():
     parser.add_argument("--nm", action="append", default=[], metavar="PATH")
     parser.add_argument("--text", action="append", default=[], metavar="FILE")
     parser.add_argument("--only-given", action="store_true", help="leave out the texts that are made")
+    parser.add_argument("--only", action="append", default=[], metavar="NAME", help="of the texts that are made, only this one")
     parser.add_argument("--no-instructions", action="store_true")
     parser.add_argument("--also", type=further, action="append", default=[], metavar="NAME=COMMAND")
     given = parser.parse_args()

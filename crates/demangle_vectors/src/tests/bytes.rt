@@ -201,8 +201,9 @@ fn the_writer_of_bytes_fails_at_each_write(rt: HostRuntime) -> Result<(), Fail> 
         text.extend_from_slice(LINE)?;
         text.push(b'\n')?;
         wanted_writes.extend_from_slice(&HEAD[..3])?;
-        wanted_writes
-            .push(b"<mio[1888792e1a78739]::sys::unix::selector::epoll::Selector>::select")?;
+        wanted_writes.push(
+            b"<mio[1888792e1a78739]::sys::unix::selector::epoll::Selector>::select",
+        )?;
         wanted_writes.extend_from_slice(&TAIL[13..])?;
     }
     for writes in 0..=wanted_writes.len() {
