@@ -3,4 +3,4 @@ use Rattle.demangle_v0.proofs.PointWholes.{valid_first}
 use Rattle.demangle_v0.proofs.tests.steps_print.Goals as goal
 
 pub loop-init : goal.loop-init
-loop-init c = record { valid = rw c.at_path-parser.ensures (valid_first 0); ascii = rw c.at_path-parser.ensures.symbol (c.if-not-is_ascii.ensures.ascii.0 refl) }
+loop-init c = record { valid = rw c.at_path-parser.ensures (valid_first 0); ascii = rw c.at_path-parser.ensures (c.if-not-is_ascii.ensures.ascii.0 refl) }
