@@ -19,14 +19,14 @@ loop-input-preserved g c =
     let at = c.loop-input in
     let settings = c.args.settings in
     let steps : into_iter_items at.input-iterator ≡ c.in-Some.input ∷ into_iter_items c.next.new.self =
-        c.in-Some.ensures.steps.0 in
+    c.in-Some.ensures.steps.0 in
     let held = ap (map (λ input. g.R.Read.remaining input.reader)) steps in
     let was = at.invariant.1 in
     let gone = c.in-Some.ensures.steps.1 in
     let short = ap length steps in (
       filtering_step _ _ _ _ _ _ _ _ at.invariant.0
-        (first_wrapped g.R.Read.remaining _ _ _ _ held c.new-noting.ensures)
-        (reader_same at.memo (settings.include_hash, settings.limit) _ _ _ at.invariant.2 c.in-Ok.ensures.ok),
+          (first_wrapped g.R.Read.remaining _ _ _ _ held c.new-noting.ensures)
+          (reader_same at.memo (settings.include_hash, settings.limit) _ _ _ at.invariant.2 c.in-Ok.ensures.ok),
       omega (arith, was, gone, short),
       c.filter_reader.ensures.same ∙ at.invariant.2,
     )
