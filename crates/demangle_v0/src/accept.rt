@@ -186,9 +186,7 @@ pub fn print_to_suffix<S: TextSink>(
         fold_arguments: false,
     };
     let mut parser: Parser<SHORT_STACK> = Parser::at_path(source, 0, looks);
-    let Some(end) = parser.print_to_place(out) else {
-        return None;
-    };
+    let end = parser.print_to_place(out)?;
     if begins_path(symbol, end, &mut parser.looks) {
         return parser.path_end(end);
     }

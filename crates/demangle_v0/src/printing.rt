@@ -199,12 +199,10 @@ impl Parser<'_, SHORT_STACK> {
         ensures empty { IfSome result (λ _. self.new.stack ≡ []) }
         ensures same { Same self.old self.new }
     {
-        match self.print_steps(out) {
-            Ok(None) => {
-                self.stack.truncate(0);
-                self.place()
-            }
-            Ok(Some(_)) | Err(_) => None,
-        }
+        let Ok(None) = self.print_steps(out) else {
+            return None;
+        };
+        self.stack.truncate(0);
+        self.place()
     }
 }

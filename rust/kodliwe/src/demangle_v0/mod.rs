@@ -91,15 +91,11 @@ pub fn demangle_printed<'s, S: TextSink>(
     include_hash: bool,
     looks: &mut Looks,
 ) -> Option<(Demangle<'s>, &'s str)> {
-    let Some(inner) = ascii_inner_of(s, true, looks) else {
-        return None;
-    };
+    let inner = ascii_inner_of(s, true, looks)?;
     let symbol = Symbol::new(inner);
     if !begins_path(&symbol, 0, looks) {
         return None;
     }
-    let Some(end) = print_to_suffix(&symbol, out, include_hash, looks) else {
-        return None;
-    };
+    let end = print_to_suffix(&symbol, out, include_hash, looks)?;
     Some((Demangle::new(symbol), &inner[end..]))
 }

@@ -139,12 +139,10 @@ impl Parser<'_, SHORT_STACK> {
         &mut self,
         out: &mut SizeLimitedFmtAdapter<'_, S>,
     ) -> Option<usize> {
-        match self.print_steps(out) {
-            Ok(None) => {
-                self.stack.truncate(0);
-                self.place()
-            }
-            Ok(Some(_)) | Err(_) => None,
-        }
+        let Ok(None) = self.print_steps(out) else {
+            return None;
+        };
+        self.stack.truncate(0);
+        self.place()
     }
 }

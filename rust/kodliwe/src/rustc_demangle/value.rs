@@ -312,11 +312,7 @@ pub(crate) fn print_v0_run<S: TextSink>(
     let Some((_, suffix)) = read else {
         return false;
     };
-    if !is_allowed(suffix, &mut looks) {
-        return false;
-    }
-    let put = put_piece(suffix, out);
-    put.is_ok()
+    is_allowed(suffix, &mut looks) && put_piece(suffix, out).is_ok()
 }
 
 /// Prints a text into a sink; its path has `path_len` bytes. Fails if the sink fails.

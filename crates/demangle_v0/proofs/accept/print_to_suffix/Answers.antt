@@ -23,26 +23,26 @@ print_to_place-requires-clause-valid g c = rw c.at_path-parser.ensures (valid_fi
 pub returns-then-begins_path-clause-value : goal.returns-then-begins_path-clause-value
 returns-then-begins_path-clause-value g c =
     let symbol = c.args.symbol.now in
-    let end : Some c.in-Some.end ≡ unit_end symbol a_path 0 0 =
-    printed_end g.S.TextSink symbol c.args.include_hash (rw c.at_path-parser.ensures at c.in-Some.ensures.printed) in
-    let two = suffix_two symbol c.in-Some.end end (sym c.begins_path.ensures.value ∙ c.if-begins_path.true) in
+    let end : Some c.in_ok-end.end ≡ unit_end symbol a_path 0 0 =
+    printed_end g.S.TextSink symbol c.args.include_hash (rw c.at_path-parser.ensures at c.in_ok-end.ensures.printed) in
+    let two = suffix_two symbol c.in_ok-end.end end (sym c.begins_path.ensures.value ∙ c.if-begins_path.true) in
     some_place c.path_end.result (suffix_place symbol)
-    ((rw (c.in-Some.ensures.same.0, c.at_path-parser.ensures) at c.path_end.ensures.value) ∙ sym two.0)
+    ((rw (c.in_ok-end.ensures.same.0, c.at_path-parser.ensures) at c.path_end.ensures.value) ∙ sym two.0)
 
 pub returns-then-begins_path-clause-prints : goal.returns-then-begins_path-clause-prints
 returns-then-begins_path-clause-prints g c =
     in_any_case c.path_end.result
     (prints_to g.S.TextSink c.args.symbol.now (form c.args.include_hash false) c.requires.ready
-    (rw c.at_path-parser.ensures at c.in-Some.ensures.printed))
+    (rw c.at_path-parser.ensures at c.in_ok-end.ensures.printed))
 
 pub returns-clause-value : goal.returns-clause-value
 returns-clause-value g c =
     let symbol = c.args.symbol.now in
-    let end : Some c.in-Some.end ≡ unit_end symbol a_path 0 0 =
-    printed_end g.S.TextSink symbol c.args.include_hash (rw c.at_path-parser.ensures at c.in-Some.ensures.printed) in
-    sym (suffix_one symbol c.in-Some.end end (sym c.begins_path.ensures.value ∙ c.if-begins_path.false)).0
+    let end : Some c.in_ok-end.end ≡ unit_end symbol a_path 0 0 =
+    printed_end g.S.TextSink symbol c.args.include_hash (rw c.at_path-parser.ensures at c.in_ok-end.ensures.printed) in
+    sym (suffix_one symbol c.in_ok-end.end end (sym c.begins_path.ensures.value ∙ c.if-begins_path.false)).0
 
 pub returns-clause-prints : goal.returns-clause-prints
 returns-clause-prints g c =
     prints_to g.S.TextSink c.args.symbol.now (form c.args.include_hash false) c.requires.ready
-    (rw c.at_path-parser.ensures at c.in-Some.ensures.printed)
+    (rw c.at_path-parser.ensures at c.in_ok-end.ensures.printed)

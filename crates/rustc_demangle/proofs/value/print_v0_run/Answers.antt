@@ -18,6 +18,7 @@ use Rattle.rustc_demangle.proofs.PrintingLaws.{handed-some_of}
 use Rattle.rustc_demangle.proofs.Stripping.{IsAscii-stripped}
 use Rattle.rustc_demangle.proofs.SymbolSteps.{pieces-v0}
 use Rattle.rustc_demangle.proofs.value.print_v0_run.Goals as goal
+use Rattle.rustc_demangle.proofs.value.print_v0_run.Goals.{then-is_allowed, else-is_allowed}
 
 -- what a v0 symbol prints replaces its run
 v0_replaced : (run text inner suffix : List ℕ) (hash : Bool) (limit : ℕ) → text ≡ stripped run → v0_of text ≡ Some (inner, suffix) → is_allowed suffix ≡ true
@@ -30,21 +31,24 @@ v0_replaced run text inner suffix hash limit same read allowed =
 pub demangle_printed-read-requires-clause-ascii : goal.demangle_printed-read-requires-clause-ascii
 demangle_printed-read-requires-clause-ascii g c = subst IsAscii (sym c.without_thin_lto-text.ensures) (IsAscii-stripped c.args.run.now (all_ascii c.args.run.now c.requires.run))
 
+when_ok : {P : Type 0} (r : Result (Unit {0}) SinkRefused) → is_ok r ≡ true → OnOk r P → P
+when_ok (Ok u) e p = p
+when_ok (Err f) e p = absurd (false≢true e)
+
 pub returns : goal.returns
-returns g c = λ is.
-    let laws = g.met.S.TextSink in
-    let printed = c.demangle_printed-read.new.out in
-    let suffix = c.in-Some.suffix.now in
-    let put = c.put_piece-put.result in
-    let prints = c.in-Some.ensures.prints in
-    let both =
-    hands_then g.S.TextSink c.args.out.now _ c.put_piece-put.new.out _ (suffix ∷ []) (Ok tt) put
-    (prints_cut_all g.S.TextSink c.new-limited.result printed _ _ _ _ (Ok tt) c.new-limited.ensures.text c.new-limited.ensures.left prints (prints.open_ refl) (search rules))
-    refl c.put_piece-put.ensures in
-    let took = hands_text g.S.TextSink c.args.out.now c.put_piece-put.new.out _ put laws.took_nothing laws.took_joined both in
-    let text = v0_replaced c.args.run.now c.without_thin_lto-text.result.now c.in-Some.field-0-0 suffix c.args.include_hash c.args.limit c.without_thin_lto-text.ensures c.in-Some.ensures.some (sym c.if-not-is_allowed.ensures.allowed) in
-    subst (λ t. g.S.TextSink.took c.args.out.now t c.put_piece-put.new.out) text (when_ok put (sym c.is_ok.ensures.value ∙ is) took)
-  where
-    when_ok : {P : Type 0} (r : Result (Unit {0}) SinkRefused) → is_ok r ≡ true → OnOk r P → P
-    when_ok (Ok u) e p = p
-    when_ok (Err f) e p = absurd (false≢true e)
+returns g c = elim c.if-is_allowed.branch [
+  | then-is_allowed w ↦ λ is.
+      let laws = g.met.S.TextSink in
+      let printed = c.demangle_printed-read.new.out in
+      let suffix = c.in-Some.suffix.now in
+      let put = w.put_piece.result in
+      let prints = c.in-Some.ensures.prints in
+      let both =
+      hands_then g.S.TextSink c.args.out.now _ w.put_piece.new.out _ (suffix ∷ []) (Ok tt) put
+      (prints_cut_all g.S.TextSink c.new-limited.result printed _ _ _ _ (Ok tt) c.new-limited.ensures.text c.new-limited.ensures.left prints (prints.open_ refl) (search rules))
+      refl w.put_piece.ensures in
+      let took = hands_text g.S.TextSink c.args.out.now w.put_piece.new.out _ put laws.took_nothing laws.took_joined both in
+      let text = v0_replaced c.args.run.now c.without_thin_lto-text.result.now c.in-Some.field-0-0 suffix c.args.include_hash c.args.limit c.without_thin_lto-text.ensures c.in-Some.ensures.some (sym w.if-is_allowed.ensures.allowed) in
+      rw w.out-is (subst (λ t. g.S.TextSink.took c.args.out.now t w.put_piece.new.out) text (when_ok put (sym w.is_ok.ensures.value ∙ (sym w.result-is ∙ is)) took))
+  | else-is_allowed w ↦ λ is. absurd (false≢true (sym w.if-is_allowed.false ∙ (sym w.result-is ∙ is)))
+]
