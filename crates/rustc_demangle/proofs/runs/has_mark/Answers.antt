@@ -18,5 +18,5 @@ loop-k-preserved g c = λ none j low high.
           let same : j ≡ place = omega (arith, high, after) in
           ap (λ i. begins_run (drop i text)) same
           ∙ no_run_at text place (get_or c.in-Some.firsts.now c.loop-k.k 0) (get_or c.in-Some-first_chunk.seconds.now c.loop-k.k 0) (omega (arith, c.requires, c.loop-k-test.true))
-            first (second ∙ ap (λ i. get_or text i 0) (omega arith)) (c.is_mark-any.ensures parts.1)
+          first (second ∙ ap (λ i. get_or text i 0) (omega arith)) (c.is_mark-any.ensures parts.1)
     ]
