@@ -9,9 +9,9 @@ import argparse, os, re, sys
 
 ROOT = os.path.dirname(os.path.dirname(os.path.abspath(__file__)))
 CRATES = os.path.join(ROOT, "crates")
-# The crates that others call: the library, the calls for C and for pages over it; and the modules of the program that have its run
-# and its words.
-CALLED = {"rustc_demangle": ["lib"], "demangle_c": ["lib"], "demangle_web": ["lib"], "kodliwe": ["run", "words"]}
+# The crates that others call: the library, the calls for C and for pages over it; and the modules of the program that have its filter
+# and its arguments.
+CALLED = {"rustc_demangle": ["lib"], "demangle_c": ["lib"], "demangle_web": ["lib"], "kodliwe": ["filtering", "arguments"]}
 PAGE = os.path.join(ROOT, "docs", "GUARANTEES.md")
 SPEC = re.compile(r"Rattle\.(\w+)\.specs\.(\w+)")
 ITEM = re.compile(

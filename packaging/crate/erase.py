@@ -4,8 +4,8 @@
 usage: erase.py [--counts] REPOSITORY TARGET
 
 Reads crates.txt and crates/*/src/**/*.rt of REPOSITORY, and writes a cargo workspace to TARGET:
-the package `kodliwe`, where each library is a module (crates/demangle_v0/src/points.rt becomes
-src/demangle_v0/points.rs) and each program a binary (crates/kodliwe/src becomes src/bin/kodliwe),
+the package `kodliwe`, where each library is a module (crates/demangle_v0/src/parser.rt becomes
+src/demangle_v0/parser.rs) and each program a binary (crates/kodliwe/src becomes src/bin/kodliwe),
 and the package `rustc-demangle`. The folder `template` beside this file has what is written by
 hand: the manifests, the library's front, the module `support` in place of the kit's library, and
 tests. The table of characters is crates/character_tables/stdout, which a program of the repository
@@ -28,7 +28,7 @@ from rules import COUNTS
 
 TEMPLATE = os.path.join(os.path.dirname(os.path.abspath(__file__)), "template")
 # The library is these crates with all that they use.
-LIBRARIES = ("rustc_demangle", "held_bytes")
+LIBRARIES = ("rustc_demangle", "piece_buffer")
 PROGRAMS = ("kodliwe", "demangle_filter")
 # Crates for tests: the first is used by the programs' tests too, the second holds tests alone.
 TEST_CRATES = ("test_doubles", "demangle_vectors")

@@ -2,9 +2,9 @@
 use Rattle.std.proofs.Common.{◌≡◌, ℕ, List, length, take, ap, ◌∙◌}
 use Rattle.std.proofs.Math.Seq.{take-append_seam}
 use Rattle.rustc_demangle.specs.Stripped.{stripped}
-use Rattle.rustc_demangle.proofs.Stripping.{stripped_front}
+use Rattle.rustc_demangle.proofs.Stripping.{stripped_prefix}
 
 pub stripped_take : (s : List ℕ) → take (length (stripped s)) s ≡ stripped s
 stripped_take s =
-    let front = stripped_front s in
-    ap (take (length (stripped s))) front.1 ∙ take-append_seam (stripped s) front.0
+    let prefix = stripped_prefix s in
+    ap (take (length (stripped s))) prefix.1 ∙ take-append_seam (stripped s) prefix.0

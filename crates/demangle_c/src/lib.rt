@@ -7,17 +7,17 @@ ghost use Prim.Native.Nat.{min};
 ghost use Rattle.std.specs.List.{concat};
 ghost use Rattle.rustc_demangle.specs.Cut.{size};
 ghost use Rattle.rustc_demangle.specs.Filtered.{filtered_in, filtered_within};
-ghost use Rattle.rustc_demangle.specs.PathEnds.{path_len_of, handed_with};
+ghost use Rattle.rustc_demangle.specs.PathEnds.{path_len_of, handed_with_path_len};
 ghost use Rattle.rustc_demangle.specs.Slice.{overlay};
 ghost use Rattle.rustc_demangle.specs.Stripped.{stripped};
 ghost use Rattle.rustc_demangle.specs.Symbols.{folded};
-ghost use Rattle.demangle_path.specs.Naming.{NamesRust, path_in, path_named, path_within, c_string};
+ghost use Rattle.demangle_c_string.specs.CString.{IsRustSymbol, path_in, printed_path, path_within, c_string};
 
 #[cfg(test)]
 mod tests;
 
-use demangle_path::{
-    MAX_SIZE, put_end, symbol_of, text_of, write_part, write_part_formatted, write_text,
+use demangle_c_string::{
+    MAX_SIZE, put_nul, symbol_of, text_of, write_part, write_part_formatted, write_text,
     write_text_formatted,
 };
 use rustc_demangle::sink::SliceSink;
@@ -25,7 +25,7 @@ use rustc_demangle::{Format, write_with_path_len};
 
 /// Writes a path from its byte `start` to memory, as far as the memory reaches. The path has
 /// `path_len` bytes in the text. Returns the number of bytes of the whole printed path.
-#[tactic(auto, using(demangle_path::proofs::Ending::laid_part))]
+#[tactic(auto, using(demangle_c_string::proofs::NulTerminator::laid_part))]
 fn write_path_with(
     text: &str,
     path_len: usize,
@@ -34,11 +34,11 @@ fn write_path_with(
     limit: usize,
     start: usize,
 ) -> usize
-    requires { size (handed_with (stripped text.now) path_len include_hash limit) ≤ usize.MAX }
+    requires { size (handed_with_path_len (stripped text.now) path_len include_hash limit) ≤ usize.MAX }
     ensures len { result ≡
-        length (concat (handed_with (stripped text.now) path_len include_hash limit)) }
+        length (concat (handed_with_path_len (stripped text.now) path_len include_hash limit)) }
     ensures bytes { out.new ≡ overlay out.old
-        (drop start (concat (handed_with (stripped text.now) path_len include_hash limit))) }
+        (drop start (concat (handed_with_path_len (stripped text.now) path_len include_hash limit))) }
 {
     let mut path = SliceSink::starting_at(out, start);
     match write_with_path_len(text, path_len, &mut path, include_hash, limit) {
@@ -53,7 +53,7 @@ fn write_path_with(
 /// a program that lists symbols can call it for each.
 #[unsafe(no_mangle)]
 pub extern "C" fn kodliwe_is_symbol(symbol: &[u8]) -> bool
-    ensures { IsTrue result ↔ NamesRust symbol.now }
+    ensures { IsTrue result ↔ IsRustSymbol symbol.now }
 {
     symbol_of(symbol).is_some()
 }
@@ -65,9 +65,9 @@ pub extern "C" fn kodliwe_is_symbol(symbol: &[u8]) -> bool
 #[unsafe(no_mangle)]
 #[tactic(auto, using(crate::proofs::Stripped::stripped_take))]
 pub extern "C" fn kodliwe_symbol_len(symbol: &[u8]) -> usize
-    ensures none { (NamesRust symbol.now → ⊥) → result ≡ 0 }
-    ensures len { NamesRust symbol.now → result ≡ length (stripped symbol.now) }
-    ensures front { NamesRust symbol.now → take result symbol.now ≡ stripped symbol.now }
+    ensures none { (IsRustSymbol symbol.now → ⊥) → result ≡ 0 }
+    ensures len { IsRustSymbol symbol.now → result ≡ length (stripped symbol.now) }
+    ensures prefix { IsRustSymbol symbol.now → take result symbol.now ≡ stripped symbol.now }
 {
     match symbol_of(symbol) {
         Some(demangled) => demangled.as_str().len(),
@@ -82,9 +82,9 @@ pub extern "C" fn kodliwe_symbol_len(symbol: &[u8]) -> usize
 #[unsafe(no_mangle)]
 #[tactic(auto, using(rustc_demangle::proofs::PathEndLaws::path_len_positive))]
 pub extern "C" fn kodliwe_path_len(symbol: &[u8]) -> usize
-    ensures none { (NamesRust symbol.now → ⊥) → result ≡ 0 }
-    ensures len { NamesRust symbol.now → result ≡ path_len_of (stripped symbol.now) }
-    ensures some { NamesRust symbol.now → 0 < result }
+    ensures none { (IsRustSymbol symbol.now → ⊥) → result ≡ 0 }
+    ensures len { IsRustSymbol symbol.now → result ≡ path_len_of (stripped symbol.now) }
+    ensures some { IsRustSymbol symbol.now → 0 < result }
 {
     if let Some(demangled) = symbol_of(symbol) {
         demangled.path_len()
@@ -114,10 +114,10 @@ pub extern "C" fn kodliwe_demangle_part(
     limit: usize,
     start: usize,
 ) -> usize
-    ensures none { (NamesRust symbol.now → ⊥) → (result ≡ 0) × (out.new ≡ out.old) }
-    ensures size { NamesRust symbol.now →
+    ensures none { (IsRustSymbol symbol.now → ⊥) → (result ≡ 0) × (out.new ≡ out.old) }
+    ensures size { IsRustSymbol symbol.now →
         result ≡ length (path_within symbol.now include_hash (min limit MAX_SIZE)) + 1 }
-    ensures text { NamesRust symbol.now →
+    ensures text { IsRustSymbol symbol.now →
         let path = path_within symbol.now include_hash (min limit MAX_SIZE) in
         out.new ≡ overlay out.old (c_string (length out.old) (drop start path)) }
 {
@@ -140,9 +140,9 @@ pub extern "C" fn kodliwe_print_part(
     limit: usize,
     start: usize,
 ) -> usize
-    ensures size { NamesRust symbol.now → path_len ≡ path_len_of (stripped symbol.now) →
+    ensures size { IsRustSymbol symbol.now → path_len ≡ path_len_of (stripped symbol.now) →
         result ≡ length (path_within symbol.now include_hash (min limit MAX_SIZE)) + 1 }
-    ensures text { NamesRust symbol.now → path_len ≡ path_len_of (stripped symbol.now) →
+    ensures text { IsRustSymbol symbol.now → path_len ≡ path_len_of (stripped symbol.now) →
         let path = path_within symbol.now include_hash (min limit MAX_SIZE) in
         out.new ≡ overlay out.old (c_string (length out.old) (drop start path)) }
     ensures most { result ≤ min limit MAX_SIZE + 21 + length symbol.now }
@@ -152,7 +152,7 @@ pub extern "C" fn kodliwe_print_part(
     };
     let limit = limit.min(MAX_SIZE);
     let wanted = write_path_with(text, path_len, out, include_hash, limit, start);
-    put_end(out, wanted.saturating_sub(start));
+    put_nul(out, wanted.saturating_sub(start));
     wanted + 1
 }
 
@@ -164,10 +164,10 @@ pub extern "C" fn kodliwe_demangle_limited(
     include_hash: bool,
     limit: usize,
 ) -> usize
-    ensures none { (NamesRust symbol.now → ⊥) → (result ≡ 0) × (out.new ≡ out.old) }
-    ensures size { NamesRust symbol.now →
+    ensures none { (IsRustSymbol symbol.now → ⊥) → (result ≡ 0) × (out.new ≡ out.old) }
+    ensures size { IsRustSymbol symbol.now →
         result ≡ length (path_within symbol.now include_hash (min limit MAX_SIZE)) + 1 }
-    ensures text { NamesRust symbol.now →
+    ensures text { IsRustSymbol symbol.now →
         let path = path_within symbol.now include_hash (min limit MAX_SIZE) in
         out.new ≡ overlay out.old (c_string (length out.old) path) }
 {
@@ -177,10 +177,10 @@ pub extern "C" fn kodliwe_demangle_limited(
 /// Writes a path as `kodliwe_demangle_limited` does, cut at 1,000,000 bytes.
 #[unsafe(no_mangle)]
 pub extern "C" fn kodliwe_demangle(symbol: &[u8], out: &mut [u8], include_hash: bool) -> usize
-    ensures none { (NamesRust symbol.now → ⊥) → (result ≡ 0) × (out.new ≡ out.old) }
-    ensures size { NamesRust symbol.now → result ≡ length (path_named symbol.now include_hash) + 1 }
-    ensures text { NamesRust symbol.now →
-        out.new ≡ overlay out.old (c_string (length out.old) (path_named symbol.now include_hash)) }
+    ensures none { (IsRustSymbol symbol.now → ⊥) → (result ≡ 0) × (out.new ≡ out.old) }
+    ensures size { IsRustSymbol symbol.now → result ≡ length (printed_path symbol.now include_hash) + 1 }
+    ensures text { IsRustSymbol symbol.now →
+        out.new ≡ overlay out.old (c_string (length out.old) (printed_path symbol.now include_hash)) }
 {
     kodliwe_demangle_limited(symbol, out, include_hash, MAX_SIZE)
 }
@@ -196,10 +196,10 @@ pub extern "C" fn kodliwe_demangle_folded(
     include_hash: bool,
     limit: usize,
 ) -> usize
-    ensures none { (NamesRust symbol.now → ⊥) → (result ≡ 0) × (out.new ≡ out.old) }
-    ensures size { NamesRust symbol.now →
+    ensures none { (IsRustSymbol symbol.now → ⊥) → (result ≡ 0) × (out.new ≡ out.old) }
+    ensures size { IsRustSymbol symbol.now →
         result ≡ length (path_in symbol.now (folded include_hash (min limit MAX_SIZE))) + 1 }
-    ensures text { NamesRust symbol.now →
+    ensures text { IsRustSymbol symbol.now →
         let path = path_in symbol.now (folded include_hash (min limit MAX_SIZE)) in
         out.new ≡ overlay out.old (c_string (length out.old) path) }
 {

@@ -10,7 +10,7 @@ const TREE: &[u8; 96] =
     b"_RMC0TTTTTTTTTTTTTTTTTTpBk_EBj_EBi_EBh_EBg_EBf_EBe_EBd_EBc_EBb_EBa_EB9_EB8_EB7_EB6_EB5_EB4_EB3_E";
 
 #[test]
-fn a_path_and_its_end_stand_in_the_memory(rt: HostRuntime) {
+fn a_path_and_its_nul_are_written(rt: HostRuntime) {
     let mut out = [9; 40];
     let want = kodliwe_demangle(b"_ZN3foo17h05af221e174051e9E", &mut out, true);
     assert_eq!(rt; want, 23);
@@ -49,7 +49,7 @@ fn arguments_in_a_text_are_folded(rt: HostRuntime) {
 }
 
 #[test]
-fn an_ending_of_thin_lto_is_left_out(rt: HostRuntime) {
+fn a_thin_lto_suffix_is_left_out(rt: HostRuntime) {
     let mut out = [9; 40];
     assert_eq!(rt;
         kodliwe_demangle(b"_RNvC3foo3bar.llvm.0AB@1", &mut out, true),
@@ -73,7 +73,7 @@ fn one_byte_less_loses_the_last(rt: HostRuntime) {
 }
 
 #[test]
-fn one_byte_holds_the_end(rt: HostRuntime) {
+fn one_byte_holds_the_nul(rt: HostRuntime) {
     let mut out = [9; 4];
     assert_eq!(rt; kodliwe_demangle(b"_RNvC3foo3bar", &mut out[..1], false), 9);
     assert!(rt; out == *b"\0\x09\x09\x09");
@@ -155,7 +155,7 @@ fn no_limit_is_above_1_000_000(rt: HostRuntime) {
 }
 
 #[test]
-fn a_symbol_is_told(rt: HostRuntime) {
+fn is_symbol_finds_a_symbol(rt: HostRuntime) {
     assert!(rt; kodliwe_is_symbol(b"_ZN3foo17h05af221e174051e9E"));
     assert!(rt; kodliwe_is_symbol(b"_RNvC3foo3bar.llvm.0AB@1"));
     assert!(rt; !kodliwe_is_symbol(b"_ZN3foo17h05af221e174051e9"));
@@ -270,7 +270,7 @@ fn the_limit_of_a_text_is_each_symbols(rt: HostRuntime) {
 }
 
 #[test]
-fn an_empty_text_is_its_end(rt: HostRuntime) {
+fn an_empty_text_is_a_nul(rt: HostRuntime) {
     let mut out = [9; 2];
     assert_eq!(rt; kodliwe_demangle_text(b"", &mut out, true, 1000), 1);
     assert!(rt; out == *b"\0\x09");

@@ -13,7 +13,7 @@ pub struct Forms<T> {
 
 /// The results for a symbol, as the columns of a line spell them.
 #[derive(Drop)]
-pub struct Answers<T> {
+pub struct Results<T> {
     /// `OK` if the text is a symbol, otherwise `ERR`.
     pub status: T,
     /// The result of `as_str`, or `=` if that is the whole text.
@@ -24,9 +24,9 @@ pub struct Answers<T> {
 
 /// The expectation that a line states for its text.
 #[derive(Drop)]
-pub enum Wanted<'l> {
+pub enum Expected<'l> {
     /// The results of all calls.
-    Answers(Answers<&'l [u8]>),
+    Results(Results<&'l [u8]>),
     /// The text printed under a limit of this many bytes.
     Limited(usize, Forms<&'l [u8]>),
     /// The nonempty pieces that are printed.
@@ -37,7 +37,7 @@ pub enum Wanted<'l> {
 #[derive(Drop)]
 pub struct Case<'l> {
     pub text: String,
-    pub wanted: Wanted<'l>,
+    pub expected: Expected<'l>,
 }
 
 impl<'l> Case<'l> {
@@ -49,28 +49,28 @@ impl<'l> Case<'l> {
     /// Returns `AllocError` if an allocation fails.
     pub fn parse(alloc: Global, line: &'l str) -> Result<Option<Case<'l>>, AllocError> {
         let columns: Vec<&'l str> = line.split('\t').collect(alloc)?;
-        let (text, wanted) = match columns.as_slice() {
+        let (text, expected) = match columns.as_slice() {
             ["\\limit", text, limit, plain, alt] => {
                 let Ok(limit) = limit.parse::<usize>() else {
                     return Ok(None);
                 };
-                (*text, Wanted::Limited(limit, both_forms(plain, alt)))
+                (*text, Expected::Limited(limit, both_forms(plain, alt)))
             }
-            ["\\pieces", text, plain, alt] => (*text, Wanted::Pieces(both_forms(plain, alt))),
+            ["\\pieces", text, plain, alt] => (*text, Expected::Pieces(both_forms(plain, alt))),
             [text, status, as_str, plain, alt] => {
-                let answers = Answers {
+                let answers = Results {
                     status: status.as_bytes(),
                     as_str: as_str.as_bytes(),
                     printed: both_forms(plain, alt),
                 };
-                (*text, Wanted::Answers(answers))
+                (*text, Expected::Results(answers))
             }
             _ => return Ok(None),
         };
         let Some(text) = unescape(alloc, text)? else {
             return Ok(None);
         };
-        Ok(Some(Case { text, wanted }))
+        Ok(Some(Case { text, expected }))
     }
 }
 

@@ -4,32 +4,32 @@ ghost use Rattle.std.specs.Io.Iter.{u64_saturate};
 ghost use Rattle.rustc_demangle.specs.Lines.{lines};
 ghost use Rattle.demangle_corpus.specs.Differences.{difference};
 
-use crate::answers::{answers_of, limited_forms, pieces_forms};
-use crate::case::{Answers, Case, Forms, Wanted};
+use crate::case::{Case, Expected, Forms, Results};
+use crate::results::{limited_forms, pieces_forms, results_of};
 use std::alloc::{AllocError, Global};
 use std::io::{BufRead, ErrorKind, Write};
 use std::{fmt, io};
 
 /// The reason for which a corpus could not be compared completely.
 #[derive(Debug, Drop)]
-pub enum CorpusFault {
+pub enum CorpusError {
     Read,
     Write,
     Memory,
 }
 
-impl From<AllocError> for CorpusFault {
-    fn from(_error: AllocError) -> CorpusFault {
-        CorpusFault::Memory
+impl From<AllocError> for CorpusError {
+    fn from(_error: AllocError) -> CorpusError {
+        CorpusError::Memory
     }
 }
 
-impl fmt::Display for CorpusFault {
+impl fmt::Display for CorpusError {
     fn fmt<W: fmt::Write>(&self, f: &mut fmt::Formatter<W>) -> fmt::Result {
         match self {
-            CorpusFault::Read => write!(f, "read failed"),
-            CorpusFault::Write => write!(f, "write failed"),
-            CorpusFault::Memory => write!(f, "out of memory"),
+            CorpusError::Read => write!(f, "read failed"),
+            CorpusError::Write => write!(f, "write failed"),
+            CorpusError::Memory => write!(f, "out of memory"),
         }
     }
 }
@@ -57,20 +57,20 @@ impl fmt::Display for Counts {
 fn compare<W: Write>(
     column: &str,
     line: u64,
-    wanted: &[u8],
-    got: &[u8],
+    expected: &[u8],
+    actual: &[u8],
     output: &mut W,
 ) -> io::Result<u64>
-    ensures count { IfOk result (λ n. n ≡ difference wanted.now got.now) }
+    ensures count { IfOk result (λ n. n ≡ difference expected.now actual.now) }
     ensures most { IfOk result (λ n. n ≤ 1) }
 {
-    if wanted == got {
+    if expected == actual {
         return Ok(0);
     }
     write!(output, "line {line}: {column}\n  wanted ")?;
-    output.write_all(wanted)?;
+    output.write_all(expected)?;
     output.write_all(b"\n  got    ")?;
-    output.write_all(got)?;
+    output.write_all(actual)?;
     output.write_all(b"\n")?;
     Ok(1)
 }
@@ -78,35 +78,53 @@ fn compare<W: Write>(
 /// Writes the differences in the printed text. Returns their number, at most 2.
 fn compare_forms<W: Write>(
     line: u64,
-    wanted: &Forms<&[u8]>,
-    got: &Forms<Vec<u8>>,
+    expected: &Forms<&[u8]>,
+    actual: &Forms<Vec<u8>>,
     output: &mut W,
 ) -> io::Result<u64>
-    ensures count { IfOk result (λ n. n ≡ difference wanted.now.plain.now got.now.plain.items
-        + difference wanted.now.alt.now got.now.alt.items) }
+    ensures count { IfOk result (λ n. n ≡ difference expected.now.plain.now actual.now.plain.items
+        + difference expected.now.alt.now actual.now.alt.items) }
     ensures most { IfOk result (λ n. n ≤ 2) }
 {
-    let plain = compare("plain", line, wanted.plain, got.plain.as_slice(), output)?;
-    let alt = compare("alt", line, wanted.alt, got.alt.as_slice(), output)?;
+    let plain = compare(
+        "plain",
+        line,
+        expected.plain,
+        actual.plain.as_slice(),
+        output,
+    )?;
+    let alt = compare("alt", line, expected.alt, actual.alt.as_slice(), output)?;
     Ok(plain + alt)
 }
 
 /// Writes the differences in the results of all calls. Returns their number, at most 4.
 fn compare_answers<W: Write>(
     line: u64,
-    wanted: &Answers<&[u8]>,
-    got: &Answers<Vec<u8>>,
+    expected: &Results<&[u8]>,
+    actual: &Results<Vec<u8>>,
     output: &mut W,
 ) -> io::Result<u64>
-    ensures count { IfOk result (λ n. n ≡ difference wanted.now.status.now got.now.status.items
-        + difference wanted.now.as_str.now got.now.as_str.items
-        + (difference wanted.now.printed.plain.now got.now.printed.plain.items
-        + difference wanted.now.printed.alt.now got.now.printed.alt.items)) }
+    ensures count { IfOk result (λ n. n ≡ difference expected.now.status.now actual.now.status.items
+        + difference expected.now.as_str.now actual.now.as_str.items
+        + (difference expected.now.printed.plain.now actual.now.printed.plain.items
+        + difference expected.now.printed.alt.now actual.now.printed.alt.items)) }
     ensures most { IfOk result (λ n. n ≤ 4) }
 {
-    let status = compare("status", line, wanted.status, got.status.as_slice(), output)?;
-    let as_str = compare("as_str", line, wanted.as_str, got.as_str.as_slice(), output)?;
-    let printed = compare_forms(line, &wanted.printed, &got.printed, output)?;
+    let status = compare(
+        "status",
+        line,
+        expected.status,
+        actual.status.as_slice(),
+        output,
+    )?;
+    let as_str = compare(
+        "as_str",
+        line,
+        expected.as_str,
+        actual.as_str.as_slice(),
+        output,
+    )?;
+    let printed = compare_forms(line, &expected.printed, &actual.printed, output)?;
     Ok(status + as_str + printed)
 }
 
@@ -118,34 +136,39 @@ fn check_line<W: Write>(
     number: u64,
     line: &str,
     output: &mut W,
-) -> Result<u64, CorpusFault>
+) -> Result<u64, CorpusError>
     ensures { IfOk result (λ n. n ≤ 4) }
 {
     let Some(case) = Case::parse(alloc, line)? else {
-        writeln!(output, "line {number} can't be read").map_err(|_| CorpusFault::Write)?;
+        writeln!(output, "line {number} can't be read").map_err(|_| CorpusError::Write)?;
         return Ok(1);
     };
     let text = case.text.as_str();
-    let differences = match &case.wanted {
-        Wanted::Answers(wanted) => {
-            compare_answers(number, wanted, &answers_of(alloc, text)?, output)
+    let differences = match &case.expected {
+        Expected::Results(expected) => {
+            compare_answers(number, expected, &results_of(alloc, text)?, output)
         }
-        Wanted::Limited(limit, wanted) => {
-            compare_forms(number, wanted, &limited_forms(alloc, text, *limit)?, output)
+        Expected::Limited(limit, expected) => {
+            compare_forms(
+                number,
+                expected,
+                &limited_forms(alloc, text, *limit)?,
+                output,
+            )
         }
-        Wanted::Pieces(wanted) => {
-            compare_forms(number, wanted, &pieces_forms(alloc, text)?, output)
+        Expected::Pieces(expected) => {
+            compare_forms(number, expected, &pieces_forms(alloc, text)?, output)
         }
     };
-    differences.map_err(|_| CorpusFault::Write)
+    differences.map_err(|_| CorpusError::Write)
 }
 
 /// Converts an error of the input to the error of the comparison.
-fn read_fault(error: &io::Error) -> CorpusFault {
+fn read_fault(error: &io::Error) -> CorpusError {
     if error.kind() == ErrorKind::OutOfMemory {
-        CorpusFault::Memory
+        CorpusError::Memory
     } else {
-        CorpusFault::Read
+        CorpusError::Read
     }
 }
 
@@ -154,13 +177,13 @@ fn read_fault(error: &io::Error) -> CorpusFault {
 ///
 /// # Errors
 ///
-/// Returns `CorpusFault` if the input can't be read, the output can't be written, or an allocation
+/// Returns `CorpusError` if the input can't be read, the output can't be written, or an allocation
 /// fails.
 pub fn corpus_run<R: BufRead, W: Write>(
     alloc: Global,
     input: &mut R,
     output: &mut W,
-) -> Result<Counts, CorpusFault>
+) -> Result<Counts, CorpusError>
     ensures most { IfOk result (λ counts. counts.differences ≤ 4 * counts.lines) }
     ensures lines { IfOk result (λ counts. IfSome (R.remaining input.old)
         (λ text. counts.lines ≡ u64_saturate (length (lines text)))) }
@@ -178,7 +201,7 @@ pub fn corpus_run<R: BufRead, W: Write>(
         let differences = check_line(alloc, counts.lines, line.as_str(), output)?;
         counts.differences = counts.differences.saturating_add(differences);
     }
-    writeln!(output, "{counts}").map_err(|_| CorpusFault::Write)?;
-    output.flush().map_err(|_| CorpusFault::Write)?;
+    writeln!(output, "{counts}").map_err(|_| CorpusError::Write)?;
+    output.flush().map_err(|_| CorpusError::Write)?;
     Ok(counts)
 }

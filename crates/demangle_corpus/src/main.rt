@@ -1,27 +1,27 @@
 //! Compares the library's results with those of the Rust crate, which are read from standard input.
 #![tactic(auto)]
 
-mod answers;
 mod case;
 mod column;
 mod corpus;
 mod pieces_sink;
+mod results;
 #[cfg(test)]
 mod tests;
 
-use corpus::{CorpusFault, Counts, corpus_run};
+use corpus::{CorpusError, Counts, corpus_run};
 use std::io::{BufReader, BufWriter};
 use std::process::ExitCode;
 
 /// Compares the corpus on standard input and writes to standard output. Reads nothing if a buffer
 /// can't be allocated.
-fn run(rt: &HostRuntime) -> Result<Counts, CorpusFault> {
+fn run(rt: &HostRuntime) -> Result<Counts, CorpusError> {
     let alloc = rt.alloc();
     let Ok(mut input) = BufReader::new(alloc, rt.stdin().lock()) else {
-        return Err(CorpusFault::Memory);
+        return Err(CorpusError::Memory);
     };
     let Ok(mut output) = BufWriter::new(alloc, rt.stdout().lock()) else {
-        return Err(CorpusFault::Memory);
+        return Err(CorpusError::Memory);
     };
     corpus_run(alloc, &mut input, &mut output)
 }

@@ -1,5 +1,5 @@
 //! Tests of the text that a comparison of lines in memory writes.
-use crate::corpus::{CorpusFault, corpus_run};
+use crate::corpus::{CorpusError, corpus_run};
 use std::alloc::{AllocError, Global};
 use std::test::Fail;
 
@@ -57,7 +57,7 @@ _ZN1aE\tOK\t=\ta\tb";
     let counts = corpus_run(alloc, &mut input, &mut output)
         .ok()
         .ok_or("fault")?;
-    let wanted: &[u8] = b"line 2: status
+    let expected: &[u8] = b"line 2: status
   wanted ERR
   got    OK
 line 2: as_str
@@ -77,7 +77,7 @@ line 6: alt
   got    a
 6 lines, 8 differences
 ";
-    assert_eq!(rt; output.as_slice(), wanted);
+    assert_eq!(rt; output.as_slice(), expected);
     assert_eq!(rt; counts.differences, 8);
     Ok(())
 }
@@ -95,7 +95,7 @@ fn differences_of_limits_and_pieces_are_written(rt: HostRuntime) -> Result<(), F
     let counts = corpus_run(alloc, &mut input, &mut output)
         .ok()
         .ok_or("fault")?;
-    let wanted: &[u8] = b"line 1: plain
+    let expected: &[u8] = b"line 1: plain
   wanted a
   got    {size limit reached}
 line 2 can't be read
@@ -110,13 +110,13 @@ line 5 can't be read
 line 6 can't be read
 6 lines, 7 differences
 ";
-    assert_eq!(rt; output.as_slice(), wanted);
+    assert_eq!(rt; output.as_slice(), expected);
     assert_eq!(rt; counts.differences, 7);
     Ok(())
 }
 
 #[test]
-fn long_texts_stand_as_digests(rt: HostRuntime) -> Result<(), Fail> {
+fn long_texts_are_digests(rt: HostRuntime) -> Result<(), Fail> {
     let alloc = rt.alloc();
     let whole = String::from_utf8_lossy(alloc, vec![in alloc; b'a'; 2000]?.as_slice())?;
     let mut lines = long_line(alloc, 2001, LONG)?;
@@ -138,15 +138,15 @@ fn long_texts_stand_as_digests(rt: HostRuntime) -> Result<(), Fail> {
 }
 
 #[test]
-fn streams_that_fail_are_faults(rt: HostRuntime) -> Result<(), Fail> {
+fn streams_that_fail_are_errors(rt: HostRuntime) -> Result<(), Fail> {
     let alloc = rt.alloc();
     let mut input: &[u8] = b"_ZN3fooE\tOK\t=\tfoo\tfoo\n\xFF\n";
     let mut output = Vec::new(alloc);
     let run = corpus_run(alloc, &mut input, &mut output);
-    assert!(rt; matches!(run, Err(CorpusFault::Read)));
+    assert!(rt; matches!(run, Err(CorpusError::Read)));
     assert!(rt; output.is_empty());
     let mut room = [0; 10];
     let run = corpus_run(alloc, &mut AGREEING, &mut room.as_mut_slice());
-    assert!(rt; matches!(run, Err(CorpusFault::Write)));
+    assert!(rt; matches!(run, Err(CorpusError::Write)));
     Ok(())
 }

@@ -1,6 +1,6 @@
 //! The program, over any streams.
 ghost use Rattle.std.specs.Prelude.{◌≡◌, ◌≢◌, ◌==◌, ◌≤◌, [], ◌∷◌, codes, length, map, string_bytes, IfSome, OnOk};
-ghost use Rattle.rustc_demangle.specs.Stream.{Finished};
+ghost use Rattle.rustc_demangle.specs.LineStream.{Finished};
 
 use rustc_demangle::{StreamFault, demangle_stream_named};
 use std::alloc::Global;

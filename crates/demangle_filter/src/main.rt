@@ -2,12 +2,12 @@
 #![tactic(auto)]
 
 mod filter;
-mod pausing;
+mod flushing;
 #[cfg(test)]
 mod tests;
 
 use filter::{OUT_OF_MEMORY, USAGE, filter_run, report};
-use pausing::PausingOutput;
+use flushing::FlushingOutput;
 use std::io::{BufReader, BufWriter, ErrorKind};
 use std::process::ExitCode;
 use std::rt::Env;
@@ -34,7 +34,7 @@ fn main(rt: HostRuntime) -> ExitCode {
     let Ok(buffer) = BufWriter::new(alloc, rt.stdout().lock()) else {
         return ExitCode::from(report(&mut errors, OUT_OF_MEMORY, 1));
     };
-    let output = PausingOutput::new(buffer);
+    let output = FlushingOutput::new(buffer);
     let Ok(mut input) = BufReader::new(alloc, output.reader(rt.stdin().lock())) else {
         return ExitCode::from(report(&mut errors, OUT_OF_MEMORY, 1));
     };

@@ -1,15 +1,15 @@
 //! Tests of the program's own part: its arguments, statuses and texts, and the times of its
 //! flushes. The library's tests cover the demangled output.
 use crate::filter::filter_run;
-use crate::pausing::PausingOutput;
-use held_bytes::CAPACITY;
+use crate::flushing::FlushingOutput;
+use piece_buffer::CAPACITY;
 use std::alloc::{AllocError, Global};
 use std::cell::Cell;
 use std::io::{BufRead, BufReader, ErrorKind, Read, Write};
 use std::process::Abort;
 use std::test::Fail;
 use streams::{CountingReader, CountingWriter, WatchedWriter, WatchingReader};
-use test_doubles::streams::{NotingWriter, PartsReader, RefusingWriter};
+use test_doubles::streams::{ChunkReader, FailingWriter, RecordingWriter};
 
 mod outputs;
 mod streams;
@@ -69,7 +69,7 @@ fn symbols_are_demangled_with_their_hash_or_without(rt: HostRuntime) -> Result<(
 }
 
 #[test]
-fn other_words_read_nothing(rt: HostRuntime) -> Result<(), Fail> {
+fn other_arguments_read_nothing(rt: HostRuntime) -> Result<(), Fail> {
     let alloc = rt.alloc();
     let cases: [&[&str]; 8] = [
         &["--no-hash", "--no-hash"],
@@ -103,7 +103,7 @@ fn assert_failed(rt: &impl Abort, ended: &Ended, line: &[u8]) {
 }
 
 #[test]
-fn a_reader_that_fails_is_told(rt: HostRuntime) -> Result<(), Fail> {
+fn a_reader_that_fails_is_reported(rt: HostRuntime) -> Result<(), Fail> {
     let alloc = rt.alloc();
     let faults: [(ErrorKind, &[u8]); 2] = [
         (ErrorKind::Other, b"demangle_filter: read failed\n"),
@@ -111,7 +111,7 @@ fn a_reader_that_fails_is_told(rt: HostRuntime) -> Result<(), Fail> {
     ];
     for (fault, line) in faults {
         let parts: [&[u8]; 1] = [b"x _ZN3fooE\n"];
-        let mut input = PartsReader::new(&parts, 1, fault);
+        let mut input = ChunkReader::new(&parts, 1, fault);
         let mut output = Vec::new(alloc);
         let ended = run(alloc, &[], &mut input, &mut output)?;
         assert_failed(&rt, &ended, line);
@@ -121,7 +121,7 @@ fn a_reader_that_fails_is_told(rt: HostRuntime) -> Result<(), Fail> {
 }
 
 #[test]
-fn a_line_that_is_not_utf8_is_told(rt: HostRuntime) -> Result<(), Fail> {
+fn a_line_that_is_not_utf8_is_reported(rt: HostRuntime) -> Result<(), Fail> {
     let alloc = rt.alloc();
     let cases: [(&[u8], &[u8]); 3] = [
         (b"x _ZN3fooE\n_ZN3fooE \xFF\n_ZN3fooE", b"x foo\n"),
@@ -141,13 +141,13 @@ fn a_line_that_is_not_utf8_is_told(rt: HostRuntime) -> Result<(), Fail> {
 const WRITE_FAILED: &[u8] = b"demangle_filter: write failed\n";
 
 #[test]
-fn a_writer_that_fails_is_told(rt: HostRuntime) -> Result<(), Fail> {
+fn a_writer_that_fails_is_reported(rt: HostRuntime) -> Result<(), Fail> {
     let alloc = rt.alloc();
     let mut input: &[u8] = b"x _ZN3fooE\n";
-    let mut output = RefusingWriter::new(alloc, b"old", 2, true)?;
+    let mut output = FailingWriter::new(alloc, b"old", 2, true)?;
     let ended = run(alloc, &[], &mut input, &mut output)?;
     assert_failed(&rt, &ended, WRITE_FAILED);
-    assert_eq!(rt; output.held(), b"oldx foo".as_slice());
+    assert_eq!(rt; output.written(), b"oldx foo".as_slice());
     Ok(())
 }
 
@@ -161,10 +161,10 @@ fn a_flush_fails(rt: HostRuntime) -> Result<(), Fail> {
     ];
     for (text, wanted) in texts {
         let mut input = text;
-        let mut output = RefusingWriter::new(alloc, b"old", 100, false)?;
+        let mut output = FailingWriter::new(alloc, b"old", 100, false)?;
         let ended = run(alloc, &[], &mut input, &mut output)?;
         assert_failed(&rt, &ended, WRITE_FAILED);
-        assert_eq!(rt; output.held(), wanted, "of {text:?}");
+        assert_eq!(rt; output.written(), wanted, "of {text:?}");
     }
     Ok(())
 }
@@ -175,20 +175,20 @@ fn run_pausing<R: Read + Drop, W: Write>(
     input: R,
     output: &mut W,
 ) -> Result<Ended, Fail> {
-    let output = PausingOutput::new(output);
+    let output = FlushingOutput::new(output);
     let mut reader = BufReader::new(alloc, output.reader(input))?;
     Ok(run(alloc, &[], &mut reader, &mut output.writer())?)
 }
 
 #[test]
-fn an_output_that_breaks_in_a_pause_ends_the_run(rt: HostRuntime) -> Result<(), Fail> {
+fn an_output_that_fails_in_a_flush_ends_filtering(rt: HostRuntime) -> Result<(), Fail> {
     let alloc = rt.alloc();
     let parts: [&[u8]; 3] = [b"_ZN3fooE\n\xC3", b"\xA9\n", b"z\n"];
-    let input = PartsReader::new(&parts, 100, ErrorKind::Other);
-    let mut output = RefusingWriter::new(alloc, b"", 100, false)?;
+    let input = ChunkReader::new(&parts, 100, ErrorKind::Other);
+    let mut output = FailingWriter::new(alloc, b"", 100, false)?;
     let ended = run_pausing(alloc, input, &mut output)?;
     assert_failed(&rt, &ended, WRITE_FAILED);
-    assert_eq!(rt; output.held(), b"foo\n".as_slice());
+    assert_eq!(rt; output.written(), b"foo\n".as_slice());
     Ok(())
 }
 
@@ -201,7 +201,7 @@ fn finished_lines_are_flushed_before_more_is_read(rt: HostRuntime) -> Result<(),
     let mut output = WatchedWriter::new(Vec::new(alloc), &is_unflushed);
     let ended = run_pausing(alloc, input, &mut output)?;
     assert_eq!(rt; ended.status, 0);
-    assert_eq!(rt; output.held(), b"foo\nx\na\nb\nbar".as_slice());
+    assert_eq!(rt; output.written(), b"foo\nx\na\nb\nbar".as_slice());
     assert!(rt; !is_unflushed.get());
     Ok(())
 }
@@ -225,13 +225,13 @@ fn lines_are_written_before_more_is_read(rt: HostRuntime) -> Result<(), Fail> {
 }
 
 #[test]
-fn a_fault_of_the_errors_is_ignored(rt: HostRuntime) -> Result<(), Fail> {
+fn an_error_of_standard_error_is_ignored(rt: HostRuntime) -> Result<(), Fail> {
     let alloc = rt.alloc();
     let mut words = Vec::new(alloc);
     for wanted in [1, 2] {
         let mut input: &[u8] = b"_ZN3fooE\n\xFF";
         let mut output = Vec::new(alloc);
-        let mut errors = RefusingWriter::new(alloc, b"", 0, false)?;
+        let mut errors = FailingWriter::new(alloc, b"", 0, false)?;
         let status = filter_run(
             alloc,
             words.as_slice(),
@@ -240,7 +240,7 @@ fn a_fault_of_the_errors_is_ignored(rt: HostRuntime) -> Result<(), Fail> {
             &mut errors,
         );
         assert_eq!(rt; status, wanted);
-        assert!(rt; errors.held().is_empty());
+        assert!(rt; errors.written().is_empty());
         words.push(String::from_str(alloc, "--hash")?)?;
     }
     Ok(())
@@ -248,17 +248,17 @@ fn a_fault_of_the_errors_is_ignored(rt: HostRuntime) -> Result<(), Fail> {
 
 /// Writes one part by `write`. Returns the number of its bytes that were taken.
 fn write_part<W: Write>(output: &mut W, part: &[u8]) -> Result<usize, ErrorKind> {
-    let output = PausingOutput::new(output);
+    let output = FlushingOutput::new(output);
     output.writer().write(part).map_err(|error| error.kind())
 }
 
 #[test]
 fn a_part_goes_to_the_output_at_once(rt: HostRuntime) -> Result<(), Fail> {
-    let mut output = RefusingWriter::new(rt.alloc(), b"old", 1, true)?;
+    let mut output = FailingWriter::new(rt.alloc(), b"old", 1, true)?;
     assert_eq!(rt; write_part(&mut output, b"foo"), Ok(3));
-    assert_eq!(rt; output.held(), b"oldfoo".as_slice());
+    assert_eq!(rt; output.written(), b"oldfoo".as_slice());
     assert_eq!(rt; write_part(&mut output, b"bar"), Err(ErrorKind::BrokenPipe));
-    assert_eq!(rt; output.held(), b"oldfoo".as_slice());
+    assert_eq!(rt; output.written(), b"oldfoo".as_slice());
     Ok(())
 }
 
@@ -269,8 +269,8 @@ fn assert_handed_on(
     parts: &[&[u8]],
     wanted: &[&[u8]],
 ) -> Result<(), Fail> {
-    let mut noting = NotingWriter::new(alloc);
-    let output = PausingOutput::new(&mut noting);
+    let mut noting = RecordingWriter::new(alloc);
+    let output = FlushingOutput::new(&mut noting);
     let mut writer = output.writer();
     for part in parts {
         writer.write_all(part)?;
@@ -285,32 +285,32 @@ fn assert_handed_on(
 }
 
 #[test]
-fn pieces_are_handed_on_where_no_more_has_room(rt: HostRuntime) -> Result<(), Fail> {
+fn pieces_are_written_when_no_more_fit(rt: HostRuntime) -> Result<(), Fail> {
     let alloc = rt.alloc();
     let full = vec![in alloc; b'f'; CAPACITY]?;
     let full = full.as_slice();
-    let (front, back) = full.split_at(2000);
+    let (prefix, back) = full.split_at(2000);
     let long = vec![in alloc; b'l'; CAPACITY + 1]?;
     let long = long.as_slice();
     assert_handed_on(&rt, alloc, &[], &[])?;
-    assert_handed_on(&rt, alloc, &[front, back], &[full])?;
-    assert_handed_on(&rt, alloc, &[front, back, b"x", b"y"], &[full, b"xy"])?;
-    assert_handed_on(&rt, alloc, &[front, full, b"x"], &[front, full, b"x"])?;
+    assert_handed_on(&rt, alloc, &[prefix, back], &[full])?;
+    assert_handed_on(&rt, alloc, &[prefix, back, b"x", b"y"], &[full, b"xy"])?;
+    assert_handed_on(&rt, alloc, &[prefix, full, b"x"], &[prefix, full, b"x"])?;
     assert_handed_on(&rt, alloc, &[b"a", long, b"b"], &[b"a", long, b"b"])
 }
 
 #[test]
-fn what_was_refused_is_told_by_the_flush(rt: HostRuntime) -> Result<(), Fail> {
+fn a_failed_write_is_reported_by_the_flush(rt: HostRuntime) -> Result<(), Fail> {
     let alloc = rt.alloc();
     let full = vec![in alloc; b'f'; CAPACITY]?;
-    let mut refusing = RefusingWriter::new(alloc, b"old", 0, true)?;
-    let output = PausingOutput::new(&mut refusing);
+    let mut refusing = FailingWriter::new(alloc, b"old", 0, true)?;
+    let output = FlushingOutput::new(&mut refusing);
     let mut writer = output.writer();
     assert!(rt; writer.write_all(b"x").is_ok());
     assert!(rt; writer.write_all(full.as_slice()).is_err());
     let told = writer.flush().map_err(|error| error.kind());
     assert_eq!(rt; told, Err(ErrorKind::BrokenPipe));
     drop(output);
-    assert_eq!(rt; refusing.held(), b"old".as_slice());
+    assert_eq!(rt; refusing.written(), b"old".as_slice());
     Ok(())
 }

@@ -9,7 +9,7 @@ use Rattle.std.proofs.lemmas.Option.{get_or_from_slice_get}
 use Rattle.demangle_symbol.proofs.Digits.{is_byte_there, is_byte_within}
 use Rattle.demangle_symbol.proofs.Ranges.{is_byte_not}
 use Rattle.demangle_symbol.specs.Digits.{run_end, number, is_digit_10, digit_10, Decimal, is_byte}
-use Rattle.demangle_legacy.specs.Legacy.{IsDigitWord, NoDigitFirst, IsElements, cut_at, element_of, in_front, parts_within, parts_of, elements_of, behind_E, suffix_of}
+use Rattle.demangle_legacy.specs.Legacy.{IsLength, NoDigitFirst, IsElements, cut_at, element_of, before_element, parts_within, parts_of, elements_of, after_E, suffix_of}
 use Rattle.demangle_symbol.proofs.Options.{none_some, option_cases}
 
 pub bool_cases : (b : Bool) → (b ≡ true) ⊎ (b ≡ false)
@@ -96,7 +96,7 @@ digits_word (c ∷ w) t h stop =
 pub record Spelled (s : List ℕ) (u : List ℕ × List ℕ) : Type 0 where
   pub word : List ℕ
   pub whole : s ≡ word ++ (u.0 ++ u.1)
-  pub digits : IsDigitWord word (length u.0)
+  pub digits : IsLength word (length u.0)
   pub stop : NoDigitFirst (u.0 ++ u.1)
 
 not_empty : (n : ℕ) (s : List ℕ) → n ≢ 0 → n ≤ length s → take n s ≢ []
@@ -128,7 +128,7 @@ length_some [] h e = h refl
 length_some (c ∷ w) h e = absurd (omega (arith, e))
 
 -- and the first element of the grammar is the one that is read
-pub element_takes : (word e rest : List ℕ) → IsDigitWord word (length e) → NoDigitFirst (e ++ rest) → element_of (word ++ (e ++ rest)) ≡ Some (e, rest)
+pub element_takes : (word e rest : List ℕ) → IsLength word (length e) → NoDigitFirst (e ++ rest) → element_of (word ++ (e ++ rest)) ≡ Some (e, rest)
 unfolding element_of
 element_takes word e rest h stop =
     let d = digits_word word (e ++ rest) h.1 stop in
@@ -202,7 +202,7 @@ unfolding parts_within
 within_end zero s h = refl
 within_end (suc n) s h = rw (h, parts_within) refl
 
-within_more : (n : ℕ) (s : List ℕ) (u : List ℕ × List ℕ) → element_of s ≡ Some u → parts_within (suc n) s ≡ in_front u.0 (parts_within n u.1)
+within_more : (n : ℕ) (s : List ℕ) (u : List ℕ × List ℕ) → element_of s ≡ Some u → parts_within (suc n) s ≡ before_element u.0 (parts_within n u.1)
 unfolding parts_within
 within_more n s u h = rw (h, parts_within) refl
 
@@ -218,22 +218,22 @@ within_enough (suc n) (suc m) s a b = elim (option_cases (element_of s)) [
   | inr e ↦
       let u : List ℕ × List ℕ = e.0 in
       let l = element_shorter s u e.1 in
-      within_more n s u e.1 ∙ ap (in_front u.0) (within_enough n m u.1 (omega arith) (omega arith)) ∙ sym (within_more m s u e.1)
+      within_more n s u e.1 ∙ ap (before_element u.0) (within_enough n m u.1 (omega arith) (omega arith)) ∙ sym (within_more m s u e.1)
 ]
 
 pub parts_end : (s : List ℕ) → element_of s ≡ None → parts_of s ≡ ([], s)
 unfolding parts_of
 parts_end s h = within_end (length s) s h
 
-pub parts_more : (s : List ℕ) (u : List ℕ × List ℕ) → element_of s ≡ Some u → parts_of s ≡ in_front u.0 (parts_of u.1)
+pub parts_more : (s : List ℕ) (u : List ℕ × List ℕ) → element_of s ≡ Some u → parts_of s ≡ before_element u.0 (parts_of u.1)
 unfolding parts_of
 parts_more s u h =
     let l = element_shorter s u h in
     within_enough (length s) (suc (length s)) s (omega arith) (omega arith)
     ∙ within_more (length s) s u h
-    ∙ ap (in_front u.0) (within_enough (length s) (length u.1) u.1 (omega arith) (omega arith))
+    ∙ ap (before_element u.0) (within_enough (length s) (length u.1) u.1 (omega arith) (omega arith))
 
-behind_E_is : (s x : List ℕ) → behind_E s ≡ Some x → s ≡ 69 ∷ x
+behind_E_is : (s x : List ℕ) → after_E s ≡ Some x → s ≡ 69 ∷ x
 behind_E_is [] x e = absurd (none_some x e)
 behind_E_is (c ∷ s) x e = elim (bool_cases (eqb c 69)) [
   | inl h ↦ let is : c ≡ 69 = grind (arith, nat_tests) in
@@ -248,12 +248,12 @@ unfolding parts_within
 within_zero s = refl
 
 -- the end of the elements
-spelled_end : (n : ℕ) (s x : List ℕ) → parts_within n s ≡ ([], s) → behind_E (parts_within n s).1 ≡ Some x → IsElements (parts_within n s).0 s x
+spelled_end : (n : ℕ) (s x : List ℕ) → parts_within n s ≡ ([], s) → after_E (parts_within n s).1 ≡ Some x → IsElements (parts_within n s).0 s x
 spelled_end n s x p h =
-    let q : behind_E s ≡ Some x = ap (λ (r : List (List ℕ) × List ℕ). behind_E r.1) (sym p) ∙ h in
+    let q : after_E s ≡ Some x = ap (λ (r : List (List ℕ) × List ℕ). after_E r.1) (sym p) ∙ h in
     subst (λ (r : List (List ℕ) × List ℕ). IsElements r.0 s x) (sym p) (behind_E_is s x q)
 
-within_spelled : (n : ℕ) (s x : List ℕ) → behind_E (parts_within n s).1 ≡ Some x → IsElements (parts_within n s).0 s x
+within_spelled : (n : ℕ) (s x : List ℕ) → after_E (parts_within n s).1 ≡ Some x → IsElements (parts_within n s).0 s x
 within_spelled zero s x h = spelled_end 0 s x (within_zero s) h
 within_spelled (suc n) s x h = elim (option_cases (element_of s)) [
   | inl e ↦ spelled_end (suc n) s x (within_end (suc n) s e) h
@@ -261,7 +261,7 @@ within_spelled (suc n) s x h = elim (option_cases (element_of s)) [
       let u : List ℕ × List ℕ = e.0 in
       let p = within_more n s u e.1 in
       let d = element_spelled s u e.1 in
-      let q : behind_E (parts_within n u.1).1 ≡ Some x = ap (λ (r : List (List ℕ) × List ℕ). behind_E r.1) (sym p) ∙ h in
+      let q : after_E (parts_within n u.1).1 ≡ Some x = ap (λ (r : List (List ℕ) × List ℕ). after_E r.1) (sym p) ∙ h in
       subst (λ (r : List (List ℕ) × List ℕ). IsElements r.0 s x) (sym p) (d.word, u.1, d.whole, d.digits, d.stop, within_spelled n u.1 x q)
 ]
 
@@ -280,14 +280,14 @@ pub spelled_parts : (es : List (List ℕ)) (s x : List ℕ) → IsElements es s 
 spelled_parts [] s x h = ap parts_of h ∙ parts_E x
 spelled_parts (e ∷ es) s x h =
     let t = ap element_of h.2 ∙ element_takes h.0 e h.1 h.3 h.4 in
-    parts_more s (e, h.1) t ∙ ap (in_front e) (spelled_parts es h.1 x h.5)
+    parts_more s (e, h.1) t ∙ ap (before_element e) (spelled_parts es h.1 x h.5)
 
 -- the suffix, if no element is left
 
-pub no_byte_E : (s : List ℕ) (at : ℕ) → is_byte s at 69 ≡ false → behind_E (drop at s) ≡ None
+pub no_byte_E : (s : List ℕ) (at : ℕ) → is_byte s at 69 ≡ false → after_E (drop at s) ≡ None
 no_byte_E s at h = elim (lt_or_le at (length s)) [
-  | inl lt ↦ let p = is_byte_not s at 69 lt h in at_drop_more behind_E s at 0 lt ∙ ap (λ b. cond b (Some (drop (at + 1) s)) None) p.1
-  | inr le ↦ at_drop_all behind_E s at le
+  | inl lt ↦ let p = is_byte_not s at 69 lt h in at_drop_more after_E s at 0 lt ∙ ap (λ b. cond b (Some (drop (at + 1) s)) None) p.1
+  | inr le ↦ at_drop_all after_E s at le
 ]
 
 pub suffix_there : (s : List ℕ) (at : ℕ) → (parts_of s).1 ≡ (parts_of (drop at s)).1 → element_of (drop at s) ≡ None → is_byte s at 69 ≡ true → suffix_of s ≡ Some (drop (at + 1) s)
@@ -295,12 +295,12 @@ suffix_there s at same none h =
     let here = is_byte_there s at 69 h in
     let lt = is_byte_within s at 69 h in
     let is : get_or s at 0 ≡ 69 = get_or_from_slice_get s at 69 0 here in
-    ap behind_E (same ∙ ap (λ (r : List (List ℕ) × List ℕ). r.1) (parts_end (drop at s) none))
-    ∙ at_drop_more behind_E s at 0 lt ∙ ap (λ c. behind_E (c ∷ drop (at + 1) s)) is
+    ap after_E (same ∙ ap (λ (r : List (List ℕ) × List ℕ). r.1) (parts_end (drop at s) none))
+    ∙ at_drop_more after_E s at 0 lt ∙ ap (λ c. after_E (c ∷ drop (at + 1) s)) is
 
 pub suffix_none : (s : List ℕ) (at : ℕ) → (parts_of s).1 ≡ (parts_of (drop at s)).1 → element_of (drop at s) ≡ None → is_byte s at 69 ≡ false → suffix_of s ≡ None
 suffix_none s at same none h =
-    ap behind_E (same ∙ ap (λ (r : List (List ℕ) × List ℕ). r.1) (parts_end (drop at s) none)) ∙ no_byte_E s at h
+    ap after_E (same ∙ ap (λ (r : List (List ℕ) × List ℕ). r.1) (parts_end (drop at s) none)) ∙ no_byte_E s at h
 
-pub behind_more : (s : List ℕ) (at from to : ℕ) → element_of (drop at s) ≡ Some (slice_range s from to, drop to s) → (parts_of (drop at s)).1 ≡ (parts_of (drop to s)).1
-behind_more s at from to e = ap (λ (r : List (List ℕ) × List ℕ). r.1) (parts_more (drop at s) (slice_range s from to, drop to s) e)
+pub after_more : (s : List ℕ) (at from to : ℕ) → element_of (drop at s) ≡ Some (slice_range s from to, drop to s) → (parts_of (drop at s)).1 ≡ (parts_of (drop to s)).1
+after_more s at from to e = ap (λ (r : List (List ℕ) × List ℕ). r.1) (parts_more (drop at s) (slice_range s from to, drop to s) e)

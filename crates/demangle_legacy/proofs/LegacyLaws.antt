@@ -5,7 +5,7 @@ use Rattle.std.specs.List.{list_all}
 use Rattle.std.specs.Char.{is_ascii}
 use Rattle.std.proofs.lemmas.Bool.Decides.{nat_tests}
 use Rattle.std.proofs.lemmas.Bool.{false≢true}
-use Rattle.demangle_legacy.specs.Legacy.{IsElements, IsLegacy, inner_of, elements_of, behind_E, suffix_of, read_inner, legacy_of}
+use Rattle.demangle_legacy.specs.Legacy.{IsElements, IsLegacy, inner_of, elements_of, after_E, suffix_of, read_inner, legacy_of}
 use Rattle.demangle_symbol.proofs.Options.{none_some, option_cases}
 use Rattle.demangle_legacy.proofs.LegacyElements.{bool_cases, parts_spelled, spelled_parts}
 use Rattle.demangle_legacy.proofs.LegacyPrefix.{inner_spelled, inner_is}
@@ -64,7 +64,7 @@ legacy_spelled s es x h =
     let inner = h.1 in
     let p = spelled_parts es inner x h.5 in
     let e : inner_of s ≡ Some inner = ap inner_of h.2 ∙ inner_spelled h.0 inner h.3 in
-    let k : suffix_of inner ≡ Some x = ap (λ (r : List (List ℕ) × List ℕ). behind_E r.1) p in
+    let k : suffix_of inner ≡ Some x = ap (λ (r : List (List ℕ) × List ℕ). after_E r.1) p in
     legacy_ascii s inner (Some x) (sym e) h.4 (sym k) ∙ ap (λ (r : List (List ℕ) × List ℕ). Some (r.0, x)) p
 
 pub legacy_read : (s : List ℕ) (es : List (List ℕ)) (x : List ℕ) → legacy_of s ≡ Some (es, x) → IsLegacy s es x

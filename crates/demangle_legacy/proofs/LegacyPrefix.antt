@@ -5,8 +5,8 @@ use Rattle.std.specs.Option.{option_or}
 use Rattle.std.proofs.Math.Seq.{drop-append_seam}
 use Rattle.std.proofs.lemmas.Str.{IsAscii-drop}
 use Rattle.demangle_legacy.specs.Legacy.{IsLegacyPrefix, inner_of}
-use Rattle.demangle_symbol.specs.Prefix.{behind_prefix}
-use Rattle.demangle_symbol.proofs.Prefixes.{behind_is}
+use Rattle.demangle_symbol.specs.Prefix.{after_prefix}
+use Rattle.demangle_symbol.proofs.Prefixes.{after_is}
 
 -- each prefix is stripped
 
@@ -23,11 +23,11 @@ first_is (Some y) b x e = inl e
 -- and the stripped text is such a prefix
 pub inner_is : (s x : List ℕ) → inner_of s ≡ Some x → (prefix : List ℕ) × IsLegacyPrefix prefix × (s ≡ prefix ++ x)
 unfolding inner_of
-inner_is s x e = elim (first_is (behind_prefix (codes "_ZN") s) (option_or (behind_prefix (codes "ZN") s) (behind_prefix (codes "__ZN") s)) x e) [
-  | inl h ↦ (codes "_ZN", inl refl, behind_is (codes "_ZN") s x h)
-  | inr h ↦ elim (first_is (behind_prefix (codes "ZN") s) (behind_prefix (codes "__ZN") s) x h) [
-    | inl k ↦ (codes "ZN", inr (inl refl), behind_is (codes "ZN") s x k)
-    | inr k ↦ (codes "__ZN", inr (inr refl), behind_is (codes "__ZN") s x k)
+inner_is s x e = elim (first_is (after_prefix (codes "_ZN") s) (option_or (after_prefix (codes "ZN") s) (after_prefix (codes "__ZN") s)) x e) [
+  | inl h ↦ (codes "_ZN", inl refl, after_is (codes "_ZN") s x h)
+  | inr h ↦ elim (first_is (after_prefix (codes "ZN") s) (after_prefix (codes "__ZN") s) x h) [
+    | inl k ↦ (codes "ZN", inr (inl refl), after_is (codes "ZN") s x k)
+    | inr k ↦ (codes "__ZN", inr (inr refl), after_is (codes "__ZN") s x k)
   ]
 ]
 

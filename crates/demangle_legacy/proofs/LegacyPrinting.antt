@@ -6,16 +6,16 @@ use Rattle.std.proofs.lemmas.List.{at_drop_more}
 use Rattle.std.proofs.lemmas.Bool.{false≢true}
 use Rattle.std.proofs.lemmas.Option.{get_or_from_slice_get}
 use Rattle.demangle_symbol.specs.Digits.{is_byte}
-use Rattle.demangle_legacy.specs.Legacy.{element_of, parts_of, elements_of, behind_E, suffix_of}
+use Rattle.demangle_legacy.specs.Legacy.{element_of, parts_of, elements_of, after_E, suffix_of}
 use Rattle.demangle_legacy.specs.Unescaped.{unescaped, is_hash, shown_elements, joined_pieces, following_pieces}
 use Rattle.demangle_symbol.proofs.Digits.{is_byte_there, is_byte_within}
 use Rattle.demangle_symbol.proofs.Options.{option_cases}
 use Rattle.demangle_sink.specs.declared.TextSink.{Ghosts}
 use Rattle.demangle_sink.specs.declared.limit.SizeLimitedFmtAdapter.{SizeLimitedFmtAdapter}
 use Rattle.demangle_sink.specs.Limit.{Prints}
-use Rattle.demangle_sink.specs.Printed.{Printed}
+use Rattle.demangle_sink.specs.Limit.{PrintedPrefix}
 use Rattle.demangle_sink.proofs.Printed.{printed_left, printed_then}
-use Rattle.demangle_legacy.proofs.LegacyElements.{parts_end, parts_more, parts_E, no_byte_E, behind_more}
+use Rattle.demangle_legacy.proofs.LegacyElements.{parts_end, parts_more, parts_E, no_byte_E, after_more}
 
 shown_more : (hash : Bool) (e : List ℕ) (es : List (List ℕ)) → ((not hash && is_hash e) ≡ false) ⊎ (0 < length es) → shown_elements hash (e ∷ es) ≡ e ∷ shown_elements hash es
 unfolding shown_elements
@@ -53,7 +53,7 @@ none_there h = false≢true h
 pub elements_left : (s : List ℕ) (to : ℕ) → IsSome (suffix_of s) → (parts_of s).1 ≡ (parts_of (drop to s)).1 → is_byte s to 69 ≡ false → 0 < length (elements_of (drop to s))
 elements_left s to some same h = elim (option_cases (element_of (drop to s))) [
   | inl e ↦
-      let none : suffix_of s ≡ None = ap behind_E (same ∙ ap (λ (r : List (List ℕ) × List ℕ). r.1) (parts_end (drop to s) e)) ∙ no_byte_E s to h in
+      let none : suffix_of s ≡ None = ap after_E (same ∙ ap (λ (r : List (List ℕ) × List ℕ). r.1) (parts_end (drop to s) e)) ∙ no_byte_E s to h in
       absurd (none_there (subst (λ o. IsSome o) none some))
   | inr e ↦ omega (arith, ap (λ (r : List (List ℕ) × List ℕ). length r.0) (parts_more (drop to s) e.0 e.1))
 ]
@@ -70,8 +70,8 @@ left_next hash at e es keeps later =
     let t : eqb at 0 ≡ false = grind (arith, nat_tests) in
     ap (λ b. cond b (joined_pieces (shown_elements hash (e ∷ es))) (following_pieces (shown_elements hash (e ∷ es)))) t ∙ ap following_pieces (shown_more hash e es keeps)
 
-pub left_behind : (hash : Bool) (at : ℕ) (es : List (List ℕ)) → 0 < at → following_pieces (shown_elements hash es) ≡ left_pieces hash at es
-left_behind hash at es later =
+pub left_after : (hash : Bool) (at : ℕ) (es : List (List ℕ)) → 0 < at → following_pieces (shown_elements hash es) ≡ left_pieces hash at es
+left_after hash at es later =
     let t : eqb at 0 ≡ false = grind (arith, nat_tests) in
     ap (λ b. cond b (joined_pieces (shown_elements hash es)) (following_pieces (shown_elements hash es))) (sym t)
 
@@ -99,12 +99,12 @@ kept false false h n e left = inr (left refl)
 
 -- an iteration of the printing: the element at a place of the symbol is printed
 module _ (s : List ℕ) (hash : Bool) (at from to : ℕ) (legacy : IsSome (suffix_of s)) (same : (parts_of s).1 ≡ (parts_of (drop at s)).1) (element : element_of (drop at s) ≡ Some (slice_range s from to, drop to s)) where
-  pub same_behind : (parts_of s).1 ≡ (parts_of (drop to s)).1
-  same_behind = same ∙ behind_more s at from to element
+  pub same_after : (parts_of s).1 ≡ (parts_of (drop to s)).1
+  same_after = same ∙ after_more s at from to element
 
   module _ (shown_too : (not hash && (is_byte s to 69 && is_hash (slice_range s from to))) ≡ false) where
     keeps : ((not hash && is_hash (slice_range s from to)) ≡ false) ⊎ (0 < length (elements_of (drop to s)))
-    keeps = kept hash (is_byte s to 69) (is_hash (slice_range s from to)) (length (elements_of (drop to s))) shown_too (elements_left s to legacy same_behind)
+    keeps = kept hash (is_byte s to 69) (is_hash (slice_range s from to)) (length (elements_of (drop to s))) shown_too (elements_left s to legacy same_after)
 
     pub turn_first : at ≡ 0 → left_pieces hash at (elements_of (drop at s)) ≡ unescaped (slice_range s from to) ++ following_pieces (shown_elements hash (elements_of (drop to s)))
     turn_first first = ap (left_pieces hash at) (elements_more s at from to element) ∙ left_first hash at (slice_range s from to) (elements_of (drop to s)) keeps first
@@ -114,9 +114,9 @@ module _ (s : List ℕ) (hash : Bool) (at from to : ℕ) (legacy : IsSome (suffi
 
     -- `::` was printed if other elements precede it, and the pieces of the element are left
     pub turn_begun : {S : Type 0} (sink : Ghosts S) (old mid new : SizeLimitedFmtAdapter S) (whole : List (List ℕ))
-        → Printed sink old whole (left_pieces hash at (elements_of (drop at s))) mid
+        → PrintedPrefix sink old whole (left_pieces hash at (elements_of (drop at s))) mid
         → ((0 < at) × Prints sink mid (codes "::" ∷ []) (Ok tt) new) ⊎ ((at ≡ 0) × (new ≡ mid))
-        → Printed sink old whole (unescaped (slice_range s from to) ++ following_pieces (shown_elements hash (elements_of (drop to s)))) new
+        → PrintedPrefix sink old whole (unescaped (slice_range s from to) ++ following_pieces (shown_elements hash (elements_of (drop to s)))) new
     turn_begun sink old mid new whole p (inl (later, put)) = printed_then sink old mid new whole _ _ _ p (turn_next later) put
     turn_begun sink old mid new whole p (inr (first, none)) = rw none (printed_left sink old mid whole _ _ p (turn_first first))
 

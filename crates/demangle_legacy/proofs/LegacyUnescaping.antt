@@ -7,7 +7,7 @@ use Rattle.std.proofs.lemmas.Bool.{false≢true}
 use Rattle.std.proofs.lemmas.Bool.Decides.{nat_tests}
 use Rattle.std.proofs.Math.Seq.{drop-append_seam, take-append_seam}
 use Rattle.demangle_legacy.specs.Unescaped.{is_dollar, is_special, escape_of, leading_unit, pieces_from, unescaped}
-use Rattle.demangle_legacy.specs.Unescaping.{is_dot, Begins, HasNo, IsDots, IsDot, IsEscape, IsPlain, IsUnit, NoUnitFirst, AreUnits, IsMarked, IsUnescaped}
+use Rattle.demangle_legacy.specs.UnescapedRelation.{is_dot, Begins, HasNo, IsDots, IsDot, IsEscape, IsPlain, IsUnit, NoUnitFirst, AreUnits, HasEscapedStart, IsUnescaped}
 use Rattle.demangle_legacy.proofs.LegacyElements.{bool_cases}
 use Rattle.demangle_legacy.proofs.LegacyUnits.{begins_mark, escape_unit, mark_short, mark_two, pieces_skip, unescaped_is, unit_of_dollar, unit_of_run, unmarked}
 use Rattle.demangle_symbol.proofs.Options.{none_some, option_cases}
@@ -18,25 +18,25 @@ some_same x y e = cc
 -- the first byte that passes the test
 
 record Found (p : ℕ → Bool) (s : List ℕ) (n : ℕ) : Type 0 where
-  front : List ℕ
+  prefix : List ℕ
   byte : ℕ
-  behind : List ℕ
-  is : s ≡ front ++ byte ∷ behind
-  at : length front ≡ n
-  none : HasNo p front
+  following : List ℕ
+  is : s ≡ prefix ++ byte ∷ following
+  at : length prefix ≡ n
+  none : HasNo p prefix
   here : p byte ≡ true
 
 first_found : (p : ℕ → Bool) (s : List ℕ) → position_or_len p s < length s → Found p s (position_or_len p s)
 first_found p [] h = absurd (omega arith)
 first_found p (c ∷ s) h = elim (bool_cases (p c)) [
-  | inl e ↦ record { front = []; byte = c; behind = s; is = refl; at = rw e refl; none = tt; here = e }
+  | inl e ↦ record { prefix = []; byte = c; following = s; is = refl; at = rw e refl; none = tt; here = e }
   | inr e ↦
       let more : position_or_len p (c ∷ s) ≡ 1 + position_or_len p s = rw e refl in
       let rest = first_found p s (omega (arith, more)) in
       record {
-        front = c ∷ rest.front;
+        prefix = c ∷ rest.prefix;
         byte = rest.byte;
-        behind = rest.behind;
+        following = rest.following;
         is = ap (λ t. c ∷ t) rest.is;
         at = let n = rest.at in omega (arith, n, more);
         none = (e, rest.none);
@@ -53,26 +53,26 @@ found p s n e = elim (bool_cases (ltb (position_or_len p s) (length s))) [
   | inr ge ↦ absurd (none_some n (sym (rw ge refl) ∙ e))
 ]
 
-no_before : (p : ℕ → Bool) (front : List ℕ) (s : List ℕ) → HasNo p front → Begins p s → position_or_len p (front ++ s) ≡ length front
+no_before : (p : ℕ → Bool) (prefix : List ℕ) (s : List ℕ) → HasNo p prefix → Begins p s → position_or_len p (prefix ++ s) ≡ length prefix
 no_before p [] [] none k = absurd k
 no_before p [] (c ∷ s) none k = rw k refl
-no_before p (c ∷ front) s none k = let n = no_before p front s none.1 k in rw none.0 (omega (arith, n))
+no_before p (c ∷ prefix) s none k = let n = no_before p prefix s none.1 k in rw none.0 (omega (arith, n))
 
 some_first : (p : ℕ → Bool) (s : List ℕ) → Begins p s → 0 < length s
 some_first p [] k = absurd k
 some_first p (c ∷ s) k = omega arith
 
-at_first : (p : ℕ → Bool) (front s : List ℕ) → HasNo p front → Begins p s → position p (front ++ s) ≡ Some (length front)
-at_first p front s none k =
-    let n = no_before p front s none k in
-    let within : position_or_len p (front ++ s) < length (front ++ s) = omega (arith, n, length-append front s, some_first p s k) in
-    let lt : ltb (position_or_len p (front ++ s)) (length (front ++ s)) ≡ true = grind (arith, nat_tests) in
+at_first : (p : ℕ → Bool) (prefix s : List ℕ) → HasNo p prefix → Begins p s → position p (prefix ++ s) ≡ Some (length prefix)
+at_first p prefix s none k =
+    let n = no_before p prefix s none k in
+    let within : position_or_len p (prefix ++ s) < length (prefix ++ s) = omega (arith, n, length-append prefix s, some_first p s k) in
+    let lt : ltb (position_or_len p (prefix ++ s)) (length (prefix ++ s)) ≡ true = grind (arith, nat_tests) in
     rw lt (ap (λ i. Some i) n)
 
 -- a unit of the relation is read by the function
 
 abbrev Reads : List ℕ → List ℕ × ℕ → Type 0
-Reads text u = (unit : List ℕ) × (behind : List ℕ) × (text ≡ unit ++ behind) × (suc u.1 ≡ length unit) × IsUnit unit u.0 behind
+Reads text u = (unit : List ℕ) × (following : List ℕ) × (text ≡ unit ++ following) × (suc u.1 ≡ length unit) × IsUnit unit u.0 following
 
 dots_read : (s : List ℕ) → leading_unit 46 (46 ∷ s) ≡ Some (codes "::", 1)
 unfolding leading_unit
@@ -97,20 +97,20 @@ dots_are (c ∷ s) u e = elim (bool_cases (eqb c 46)) [
       subst (Reads (46 ∷ c ∷ s)) (some_same (codes ".", 0) u (sym (dot_read (c ∷ s) no) ∙ e)) (codes ".", c ∷ s, refl, refl, inr (inl (refl, refl, no)))
 ]
 
-take_found : (front : List ℕ) (c : ℕ) (s : List ℕ) → take (length front) (front ++ c ∷ s) ≡ front
-take_found front c s = take-append_seam front (c ∷ s)
+take_found : (prefix : List ℕ) (c : ℕ) (s : List ℕ) → take (length prefix) (prefix ++ c ∷ s) ≡ prefix
+take_found prefix c s = take-append_seam prefix (c ∷ s)
 
 escape_is : (s : List ℕ) (u : List ℕ × ℕ) (n : ℕ) (o : Option (List ℕ)) → Found is_dollar s n → escape_of (take n s) ≡ o → option_map (λ text. (text, n + 1)) o ≡ Some u → Reads (36 ∷ s) u
 escape_is s u n None f k e = cc
 escape_is s u n (Some text) f k e =
     let byte : f.byte ≡ 36 = let here = f.here in grind (arith, nat_tests) in
-    let is : s ≡ f.front ++ 36 ∷ f.behind = f.is ∙ ap (λ c. f.front ++ c ∷ f.behind) byte in
-    let name : take n s ≡ f.front = ap (λ m. take m s) (sym f.at) ∙ ap (take (length f.front)) is ∙ take_found f.front 36 f.behind in
-    let whole : 36 ∷ s ≡ (36 ∷ (f.front ++ 36 ∷ [])) ++ f.behind = ap (λ t. 36 ∷ t) (is ∙ sym (append_assoc f.front (36 ∷ []) f.behind)) in
-    let long = length-append f.front (36 ∷ []) in
+    let is : s ≡ f.prefix ++ 36 ∷ f.following = f.is ∙ ap (λ c. f.prefix ++ c ∷ f.following) byte in
+    let name : take n s ≡ f.prefix = ap (λ m. take m s) (sym f.at) ∙ ap (take (length f.prefix)) is ∙ take_found f.prefix 36 f.following in
+    let whole : 36 ∷ s ≡ (36 ∷ (f.prefix ++ 36 ∷ [])) ++ f.following = ap (λ t. 36 ∷ t) (is ∙ sym (append_assoc f.prefix (36 ∷ []) f.following)) in
+    let long = length-append f.prefix (36 ∷ []) in
     let at = f.at in
-    let size : suc (n + 1) ≡ length (36 ∷ (f.front ++ 36 ∷ [])) = omega (arith, long, at) in
-    subst (Reads (36 ∷ s)) (some_same (text, n + 1) u e) (36 ∷ (f.front ++ 36 ∷ []), f.behind, whole, size, inr (inr (inl (f.front, refl, f.none, ap escape_of (sym name) ∙ k))))
+    let size : suc (n + 1) ≡ length (36 ∷ (f.prefix ++ 36 ∷ [])) = omega (arith, long, at) in
+    subst (Reads (36 ∷ s)) (some_same (text, n + 1) u e) (36 ∷ (f.prefix ++ 36 ∷ []), f.following, whole, size, inr (inr (inl (f.prefix, refl, f.none, ap escape_of (sym name) ∙ k))))
 
 escapes_are : (s : List ℕ) (u : List ℕ × ℕ) → leading_unit 36 s ≡ Some u → Reads (36 ∷ s) u
 unfolding escape_unit
@@ -128,10 +128,10 @@ plain_are c s u other e =
       | inr h ↦
           let n = h.0 in
           let f = found is_special s n h.1 in
-          let run : take n s ≡ f.front = ap (λ m. take m s) (sym f.at) ∙ ap (take (length f.front)) f.is ∙ take_found f.front f.byte f.behind in
+          let run : take n s ≡ f.prefix = ap (λ m. take m s) (sym f.at) ∙ ap (take (length f.prefix)) f.is ∙ take_found f.prefix f.byte f.following in
           let same = some_same (c ∷ take n s, n) u (sym (unit_of_run c s no_dot no_dollar ∙ ap (option_map (λ n. (c ∷ take n s, n))) h.1) ∙ e) in
           let at = f.at in
-          subst (Reads (c ∷ s)) same (c ∷ f.front, f.byte ∷ f.behind, ap (λ t. c ∷ t) f.is, omega (arith, at), inr (inr (inr (ap (λ t. c ∷ t) (sym run), (λ k. cc), (other, f.none), f.here))))
+          subst (Reads (c ∷ s)) same (c ∷ f.prefix, f.byte ∷ f.following, ap (λ t. c ∷ t) f.is, omega (arith, at), inr (inr (inr (ap (λ t. c ∷ t) (sym run), (λ k. cc), (other, f.none), f.here))))
     ]
 
 -- the unit that the function reads is one of the relation
@@ -151,44 +151,44 @@ unit_is c s u e = elim (bool_cases (eqb c 46)) [
 -- the function reads the first unit of the relation
 
 abbrev ReadAs : List ℕ → List ℕ → List ℕ → Type 0
-ReadAs unit piece behind = (c : ℕ) × (s : List ℕ) × (unit ≡ c ∷ s) × (leading_unit c (s ++ behind) ≡ Some (piece, length s))
+ReadAs unit piece following = (c : ℕ) × (s : List ℕ) × (unit ≡ c ∷ s) × (leading_unit c (s ++ following) ≡ Some (piece, length s))
 
-dots_as : (unit piece behind : List ℕ) → IsDots unit piece → ReadAs unit piece behind
-dots_as unit piece behind h = (46, codes ".", h.0, dots_read behind ∙ ap (λ p. Some (p, 1)) (sym h.1))
+dots_as : (unit piece following : List ℕ) → IsDots unit piece → ReadAs unit piece following
+dots_as unit piece following h = (46, codes ".", h.0, dots_read following ∙ ap (λ p. Some (p, 1)) (sym h.1))
 
-dot_as : (unit piece behind : List ℕ) → IsDot unit piece behind → ReadAs unit piece behind
-dot_as unit piece behind h = (46, [], h.0, dot_read behind h.2 ∙ ap (λ p. Some (p, 0)) (sym h.1))
+dot_as : (unit piece following : List ℕ) → IsDot unit piece following → ReadAs unit piece following
+dot_as unit piece following h = (46, [], h.0, dot_read following h.2 ∙ ap (λ p. Some (p, 0)) (sym h.1))
 
-escape_as : (unit piece behind : List ℕ) → IsEscape unit piece → ReadAs unit piece behind
+escape_as : (unit piece following : List ℕ) → IsEscape unit piece → ReadAs unit piece following
 unfolding escape_unit
-escape_as unit piece behind h =
+escape_as unit piece following h =
     let name = h.0 in
     let rest = name ++ codes "$" in
-    let is : rest ++ behind ≡ name ++ 36 ∷ behind = append_assoc name (codes "$") behind in
-    let first : position is_dollar (rest ++ behind) ≡ Some (length name) = ap (position is_dollar) is ∙ at_first is_dollar name (36 ∷ behind) h.2 refl in
-    let read : escape_of (take (length name) (rest ++ behind)) ≡ Some piece = ap (λ t. escape_of (take (length name) t)) is ∙ ap escape_of (take_found name 36 behind) ∙ h.3 in
+    let is : rest ++ following ≡ name ++ 36 ∷ following = append_assoc name (codes "$") following in
+    let first : position is_dollar (rest ++ following) ≡ Some (length name) = ap (position is_dollar) is ∙ at_first is_dollar name (36 ∷ following) h.2 refl in
+    let read : escape_of (take (length name) (rest ++ following)) ≡ Some piece = ap (λ t. escape_of (take (length name) t)) is ∙ ap escape_of (take_found name 36 following) ∙ h.3 in
     let long : length name + 1 ≡ length rest = let l = length-append name (codes "$") in omega (arith, l) in
-    (36, rest, h.1, unit_of_dollar (rest ++ behind) ∙ ap (escape_unit (rest ++ behind)) first ∙ ap (option_map (λ (t : List ℕ). (t, length name + 1))) read ∙ ap (λ n. Some (piece, n)) long)
+    (36, rest, h.1, unit_of_dollar (rest ++ following) ∙ ap (escape_unit (rest ++ following)) first ∙ ap (option_map (λ (t : List ℕ). (t, length name + 1))) read ∙ ap (λ n. Some (piece, n)) long)
 
-plain_as : (unit piece behind : List ℕ) → IsPlain unit piece behind → ReadAs unit piece behind
-plain_as [] piece behind h = absurd (h.1 refl)
-plain_as (c ∷ s) piece behind h =
+plain_as : (unit piece following : List ℕ) → IsPlain unit piece following → ReadAs unit piece following
+plain_as [] piece following h = absurd (h.1 refl)
+plain_as (c ∷ s) piece following h =
     let other = h.2.0 in
     let no_dot : c ≢ 46 = λ k. grind (arith, nat_tests) in
     let no_dollar : c ≢ 36 = λ k. grind (arith, nat_tests) in
-    let first : position is_special (s ++ behind) ≡ Some (length s) = at_first is_special s behind h.2.1 h.3 in (
+    let first : position is_special (s ++ following) ≡ Some (length s) = at_first is_special s following h.2.1 h.3 in (
       c,
       s,
       refl,
-      unit_of_run c (s ++ behind) no_dot no_dollar ∙ ap (option_map (λ n. (c ∷ take n (s ++ behind), n))) first
-          ∙ ap (λ t. Some (c ∷ t, length s)) (take-append_seam s behind) ∙ ap (λ t. Some (t, length s)) h.0,
+      unit_of_run c (s ++ following) no_dot no_dollar ∙ ap (option_map (λ n. (c ∷ take n (s ++ following), n))) first
+          ∙ ap (λ t. Some (c ∷ t, length s)) (take-append_seam s following) ∙ ap (λ t. Some (t, length s)) h.0,
     )
 
-unit_as : (unit piece behind : List ℕ) → IsUnit unit piece behind → ReadAs unit piece behind
-unit_as unit piece behind (inl h) = dots_as unit piece behind h
-unit_as unit piece behind (inr (inl h)) = dot_as unit piece behind h
-unit_as unit piece behind (inr (inr (inl h))) = escape_as unit piece behind h
-unit_as unit piece behind (inr (inr (inr h))) = plain_as unit piece behind h
+unit_as : (unit piece following : List ℕ) → IsUnit unit piece following → ReadAs unit piece following
+unit_as unit piece following (inl h) = dots_as unit piece following h
+unit_as unit piece following (inr (inl h)) = dot_as unit piece following h
+unit_as unit piece following (inr (inr (inl h))) = escape_as unit piece following h
+unit_as unit piece following (inr (inr (inr h))) = plain_as unit piece following h
 
 -- the whole text
 
@@ -210,14 +210,14 @@ unfolding pieces_from
 pieces_end = refl
 
 none_in_nothing : NoUnitFirst []
-none_in_nothing unit piece behind e h = let r = unit_as unit piece behind h in let k : ◌≡◌ {A = List ℕ} [] (r.0 ∷ (r.1 ++ behind)) = e ∙ ap (λ t. t ++ behind) r.2 in cc
+none_in_nothing unit piece following e h = let r = unit_as unit piece following h in let k : ◌≡◌ {A = List ℕ} [] (r.0 ∷ (r.1 ++ following)) = e ∙ ap (λ t. t ++ following) r.2 in cc
 
 none_where_none : (c : ℕ) (s : List ℕ) → leading_unit c s ≡ None → NoUnitFirst (c ∷ s)
-none_where_none c s none unit piece behind e h =
-    let r = unit_as unit piece behind h in
-    let k : c ∷ s ≡ r.0 ∷ (r.1 ++ behind) = e ∙ ap (λ t. t ++ behind) r.2 in
+none_where_none c s none unit piece following e h =
+    let r = unit_as unit piece following h in
+    let k : c ∷ s ≡ r.0 ∷ (r.1 ++ following) = e ∙ ap (λ t. t ++ following) r.2 in
     let here : c ≡ r.0 = cc in
-    let after : s ≡ r.1 ++ behind = cc in
+    let after : s ≡ r.1 ++ following = cc in
     none_some (piece, length r.1) (sym none ∙ ap (λ d. leading_unit d s) here ∙ ap (leading_unit r.0) after ∙ r.3)
 
 units_read : (most : ℕ) (text : List ℕ) → length text ≤ most → AreUnits (pieces_from 0 text) text
@@ -229,13 +229,13 @@ units_read (suc most) (c ∷ s) h = elim (option_cases (leading_unit c s)) [
       let u = e.0 in
       let r = unit_is c s u e.1 in
       let unit = r.0 in
-      let behind = r.1 in
-      let left : drop u.1 s ≡ behind = ap (λ n. drop n (c ∷ s)) r.3 ∙ ap (drop (length unit)) r.2 ∙ drop-append_seam unit behind in
+      let following = r.1 in
+      let left : drop u.1 s ≡ following = ap (λ n. drop n (c ∷ s)) r.3 ∙ ap (drop (length unit)) r.2 ∙ drop-append_seam unit following in
       let size = r.3 in
       let long = ap length r.2 in
-      let both = length-append unit behind in
-      let rest : AreUnits (pieces_from 0 behind) behind = units_read most behind (omega (arith, h, size, long, both)) in
-      subst (λ ps. AreUnits ps (c ∷ s)) (sym (pieces_unit c s u e.1 ∙ ap (λ t. u.0 ∷ pieces_from 0 t) left)) (inr (unit, behind, r.2, r.4, rest))
+      let both = length-append unit following in
+      let rest : AreUnits (pieces_from 0 following) following = units_read most following (omega (arith, h, size, long, both)) in
+      subst (λ ps. AreUnits ps (c ∷ s)) (sym (pieces_unit c s u e.1 ∙ ap (λ t. u.0 ∷ pieces_from 0 t) left)) (inr (unit, following, r.2, r.4, rest))
 ]
 
 rest_once : (text : List ℕ) → NoUnitFirst text → text ∷ [] ≡ pieces_from 0 text
@@ -250,12 +250,12 @@ units_once [] text h = absurd h
 units_once (piece ∷ pieces) text (inl h) = ap (λ ps. piece ∷ ps) h.0 ∙ ap (λ t. t ∷ []) (sym h.1) ∙ rest_once text h.2
 units_once (piece ∷ pieces) text (inr h) =
     let unit = h.0 in
-    let behind = h.1 in
-    let r = unit_as unit piece behind h.3 in
-    let is : text ≡ r.0 ∷ (r.1 ++ behind) = h.2 ∙ ap (λ t. t ++ behind) r.2 in
-    ap (λ ps. piece ∷ ps) (units_once pieces behind h.4)
-    ∙ ap (λ t. piece ∷ pieces_from 0 t) (sym (drop-append_seam r.1 behind))
-    ∙ sym (ap (pieces_from 0) is ∙ pieces_unit r.0 (r.1 ++ behind) (piece, length r.1) r.3)
+    let following = h.1 in
+    let r = unit_as unit piece following h.3 in
+    let is : text ≡ r.0 ∷ (r.1 ++ following) = h.2 ∙ ap (λ t. t ++ following) r.2 in
+    ap (λ ps. piece ∷ ps) (units_once pieces following h.4)
+    ∙ ap (λ t. piece ∷ pieces_from 0 t) (sym (drop-append_seam r.1 following))
+    ∙ sym (ap (pieces_from 0) is ∙ pieces_unit r.0 (r.1 ++ following) (piece, length r.1) r.3)
 
 -- an element, with an omitted `_` or without one
 
@@ -267,9 +267,9 @@ marked_is (c ∷ s) h =
     ap (λ d. unescaped (95 ∷ d ∷ s)) is ∙ unescaped_is (95 ∷ 36 ∷ s) ∙ pieces_skip 1 (95 ∷ 36 ∷ s) ∙ ap (λ d. pieces_from 0 (d ∷ s)) (sym is)
 
 abbrev Mark : List ℕ → Type 0
-Mark element = (text : List ℕ) × IsMarked element text
+Mark element = (text : List ℕ) × HasEscapedStart element text
 
-mark_of : (element : List ℕ) → Mark element ⊎ ((begins_mark element ≡ false) × ((text : List ℕ) → IsMarked element text → ⊥))
+mark_of : (element : List ℕ) → Mark element ⊎ ((begins_mark element ≡ false) × ((text : List ℕ) → HasEscapedStart element text → ⊥))
 mark_of [] = inr (mark_short [] (omega arith), λ text h. let e = ap length h.0 in omega (arith, e))
 mark_of (c ∷ []) = inr (mark_short (c ∷ []) (omega arith), λ text h. short text h.0 h.1) where
   short : (text : List ℕ) → c ∷ [] ≡ codes "_" ++ text → Begins is_dollar text → ⊥

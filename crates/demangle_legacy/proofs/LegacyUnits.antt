@@ -233,9 +233,9 @@ mark_short [] h = refl
 mark_short (c ∷ []) h = elim (eqb 95 c) as (λ b. (b && false) ≡ false) [ true ↦ refl | false ↦ refl ]
 mark_short (c ∷ d ∷ t) h = absurd (omega arith)
 
-pub first_behind : (s : List ℕ) (from to : ℕ) → from + 1 < to → is_byte s from 95 ≡ true → is_byte s (from + 1) 36 ≡ true → unescaped (slice_range s from to) ≡ pieces_from 0 (slice_range s (from + 1) to)
+pub first_after : (s : List ℕ) (from to : ℕ) → from + 1 < to → is_byte s from 95 ≡ true → is_byte s (from + 1) 36 ≡ true → unescaped (slice_range s from to) ≡ pieces_from 0 (slice_range s (from + 1) to)
 unfolding begins_mark
-first_behind s from to lt a b =
+first_after s from to lt a b =
     let e = range_first s from to 95 (omega arith) (is_byte_there s from 95 a) in
     let f = range_first s (from + 1) to 36 lt (is_byte_there s (from + 1) 36 b) in
     ap unescaped (e ∙ ap (λ t. 95 ∷ t) f) ∙ unescaped_is (95 ∷ 36 ∷ slice_range s (from + 1 + 1) to)

@@ -4,11 +4,11 @@ use Rattle.std.specs.List.{list_all, prefix_len}
 use Rattle.std.specs.Char.{is_ascii}
 use Rattle.std.specs.Option.{option_or}
 use Rattle.demangle_symbol.specs.Digits.{number, is_digit_10, digit_10}
-use Rattle.demangle_symbol.specs.Prefix.{behind_prefix}
+use Rattle.demangle_symbol.specs.Prefix.{after_prefix}
 
 -- one or more decimal digits that spell n
-abbrev pub IsDigitWord : List ℕ → ℕ → Type 0
-IsDigitWord word n = (word ≢ []) × (list_all is_digit_10 word ≡ true) × (number 10 digit_10 word ≡ n)
+abbrev pub IsLength : List ℕ → ℕ → Type 0
+IsLength word n = (word ≢ []) × (list_all is_digit_10 word ≡ true) × (number 10 digit_10 word ≡ n)
 
 -- the text does not start with a digit
 abbrev pub NoDigitFirst : List ℕ → Type 0
@@ -19,7 +19,7 @@ NoDigitFirst (c ∷ s) = is_digit_10 c ≡ false
 abbrev pub IsElements : List (List ℕ) → List ℕ → List ℕ → Type 0
 IsElements [] text suffix = text ≡ 69 ∷ suffix
 IsElements (element ∷ elements) text suffix =
-    (word : List ℕ) × (rest : List ℕ) × (text ≡ word ++ (element ++ rest)) × IsDigitWord word (length element)
+    (word : List ℕ) × (rest : List ℕ) × (text ≡ word ++ (element ++ rest)) × IsLength word (length element)
     × NoDigitFirst (element ++ rest) × IsElements elements rest suffix
 
 -- the leading underscore may be missing, as on Windows, or doubled, as on macOS
@@ -34,7 +34,7 @@ IsLegacy symbol elements suffix =
 
 -- the text after the prefix of a legacy symbol
 unfoldable pub inner_of : List ℕ → Option (List ℕ)
-inner_of s = option_or (behind_prefix (codes "_ZN") s) (option_or (behind_prefix (codes "ZN") s) (behind_prefix (codes "__ZN") s))
+inner_of s = option_or (after_prefix (codes "_ZN") s) (option_or (after_prefix (codes "ZN") s) (after_prefix (codes "__ZN") s))
 
 -- the first n bytes of the text and the rest, if there are n bytes; `None` if the length before them had no digit
 abbrev pub cut_at : ℕ → ℕ → List ℕ → Option (List ℕ × List ℕ)
@@ -48,13 +48,13 @@ element_of s =
     cut_at digits (number 10 digit_10 (take digits s)) (drop digits s)
 
 -- the same parts with one more element at the start
-abbrev pub in_front : List ℕ → List (List ℕ) × List ℕ → List (List ℕ) × List ℕ
-in_front element parts = (element ∷ parts.0, parts.1)
+abbrev pub before_element : List ℕ → List (List ℕ) × List ℕ → List (List ℕ) × List ℕ
+before_element element parts = (element ∷ parts.0, parts.1)
 
 -- the elements at the start, at most as many as the first argument says, and the text after them
 unfoldable pub parts_within : ℕ → List ℕ → List (List ℕ) × List ℕ
 parts_within zero s = ([], s)
-parts_within (suc turns) s = elim (element_of s) [ None ↦ ([], s) | Some e ↦ in_front e.0 (parts_within turns e.1) ]
+parts_within (suc turns) s = elim (element_of s) [ None ↦ ([], s) | Some e ↦ before_element e.0 (parts_within turns e.1) ]
 
 -- all the elements at the start, and the text after them
 unfoldable pub parts_of : List ℕ → List (List ℕ) × List ℕ
@@ -65,13 +65,13 @@ abbrev pub elements_of : List ℕ → List (List ℕ)
 elements_of inner = (parts_of inner).0
 
 -- the text after an `E`
-abbrev pub behind_E : List ℕ → Option (List ℕ)
-behind_E [] = None
-behind_E (c ∷ s) = if c == 69 then Some s else None
+abbrev pub after_E : List ℕ → Option (List ℕ)
+after_E [] = None
+after_E (c ∷ s) = if c == 69 then Some s else None
 
 -- the suffix after the elements and the `E`
 abbrev pub suffix_of : List ℕ → Option (List ℕ)
-suffix_of inner = behind_E (parts_of inner).1
+suffix_of inner = after_E (parts_of inner).1
 
 -- the elements and the suffix of the text after the prefix, if all of it is ASCII
 abbrev pub read_inner : List ℕ → Option (List (List ℕ) × List ℕ)

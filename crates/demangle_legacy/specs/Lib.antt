@@ -1,6 +1,6 @@
 -- The definitions that a reader of the public contracts must believe, in reading order.
 pub mod Legacy
 pub mod Unescaped
-pub mod Unescaping
+pub mod UnescapedRelation
 -- Internal.
 pub mod Units

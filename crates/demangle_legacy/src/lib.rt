@@ -16,7 +16,7 @@ mod value;
 pub use value::Demangle;
 
 /// Returns the text after the prefix of a legacy symbol, or `None` if it has no such prefix.
-#[tactic(auto, using(demangle_symbol::proofs::Prefixes::behind_answer), unfolding(crate::specs::Legacy::inner_of))]
+#[tactic(auto, using(demangle_symbol::proofs::Prefixes::after_answer), unfolding(crate::specs::Legacy::inner_of))]
 fn inner_of(s: &str) -> Option<&str>
     ensures inner { option_map (λ x. x.now) result ≡ inner_of s.now }
     ensures shorter { IfSome result

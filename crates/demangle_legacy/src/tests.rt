@@ -29,7 +29,7 @@ fn symbols_print_their_elements(rt: HostRuntime) {
 }
 
 #[test]
-fn other_texts_are_refused(rt: HostRuntime) {
+fn other_texts_are_rejected(rt: HostRuntime) {
     for text in ["", "test", "_ZN", "_ZN4test", "_ZNfooE", "_RC3foo"] {
         assert!(rt; demangle(text, false, &mut Looks::new()).is_err(), "{text}");
     }

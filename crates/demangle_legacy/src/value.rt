@@ -5,7 +5,7 @@ ghost use Rattle.demangle_sink.specs.Limit.{Prints, Ready};
 ghost use Rattle.demangle_legacy.specs.Unescaped.{legacy_pieces};
 
 use crate::elements::element_at;
-use crate::printing::{is_left_out, put_element};
+use crate::printing::{is_omitted, put_element};
 use demangle_sink::{SinkRefused, SizeLimitedFmtAdapter, TextSink};
 use demangle_symbol::cursor::{Looks, Symbol};
 use std::marker::Model;
@@ -56,7 +56,7 @@ impl<'s> Demangle<'s> {
     {
         let mut at = 0;
         while let Some(element) = element_at(&self.inner, at, looks) {
-            if is_left_out(&self.inner, element, include_hash, looks) {
+            if is_omitted(&self.inner, element, include_hash, looks) {
                 return Ok(());
             }
             if at > 0 {

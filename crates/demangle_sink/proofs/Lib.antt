@@ -1,7 +1,7 @@
 pub mod Characters
 pub mod CutLemmas
 pub mod Fillings
-pub mod HandsLemmas
+pub mod PutsPiecesLemmas
 pub mod Parts
 pub mod Printed
 pub mod PrintsLemmas

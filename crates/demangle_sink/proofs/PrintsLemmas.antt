@@ -5,22 +5,22 @@ use Rattle.std.proofs.lemmas.Bool.Decides.{leb_tells}
 use Rattle.demangle_sink.specs.declared.TextSink.{Ghosts}
 use Rattle.demangle_sink.specs.declared.SinkRefused.{SinkRefused}
 use Rattle.demangle_sink.specs.declared.limit.SizeLimitedFmtAdapter.{SizeLimitedFmtAdapter}
-use Rattle.demangle_sink.specs.Cut.{size, front_within, cut, marker}
-use Rattle.demangle_sink.specs.Hands.{Hands}
+use Rattle.demangle_sink.specs.Cut.{size, prefix_within, cut, marker}
+use Rattle.demangle_sink.specs.PutsPieces.{PutsPieces}
 use Rattle.demangle_sink.specs.Limit.{Ready, Prints, sink_result}
 use Rattle.demangle_sink.proofs.CutLemmas.{size-append, fitting-all, fitting-append, fitting-stop, fitting-more, fitting-none}
-use Rattle.demangle_sink.proofs.HandsLemmas.{hands_nothing, hands_then, hands_stop}
+use Rattle.demangle_sink.proofs.PutsPiecesLemmas.{puts_nothing, puts_then, puts_stop}
 
 -- for a piece within the limit, the sink determines the result
 pub prints_put : {S : Type 0} (sink : Ghosts S) (old : SizeLimitedFmtAdapter S) (s : List ℕ) (result : Result (Unit {0}) SinkRefused) (new : SizeLimitedFmtAdapter S)
     → new.out.ghost_name ≡ old.out.ghost_name
     → length s ≤ old.remaining
     → new.remaining ≡ old.remaining - length s
-    → new.is_over ≡ false
-    → Hands sink old.out.now (s ∷ []) result new.out.now
+    → new.is_limit_reached ≡ false
+    → PutsPieces sink old.out.now (s ∷ []) result new.out.now
     → Prints sink old (s ∷ []) result new
 prints_put sink old s result new same h left here hands =
-    let fit : front_within (s ∷ []) old.remaining ≡ s ∷ [] = fitting-all (s ∷ []) old.remaining (omega arith) in
+    let fit : prefix_within (s ∷ []) old.remaining ≡ s ∷ [] = fitting-all (s ∷ []) old.remaining (omega arith) in
     record {
       same_sink = same;
       open_ = λ _. here;
@@ -34,29 +34,29 @@ prints_put sink old s result new same h left here hands =
 pub prints_over : {S : Type 0} (sink : Ghosts S) (old : SizeLimitedFmtAdapter S) (s : List ℕ) (result : Result (Unit {0}) SinkRefused) (new : SizeLimitedFmtAdapter S)
     → new.out ≡ old.out
     → old.remaining < length s
-    → new.is_over ≡ true
+    → new.is_limit_reached ≡ true
     → IsErr result
     → sink.failed old.out.now ≡ false
     → Prints sink old (s ∷ []) result new
-prints_over sink old s (Ok u) new same h over err alive = absurd (false≢true err)
-prints_over sink old s (Err u) new same h over err alive =
-    let fit : front_within (s ∷ []) old.remaining ≡ [] = fitting-none s old.remaining h in
+prints_over sink old s (Ok u) new same h over err not_failed = absurd (false≢true err)
+prints_over sink old s (Err u) new same h over err not_failed =
+    let fit : prefix_within (s ∷ []) old.remaining ≡ [] = fitting-none s old.remaining h in
     record {
       same_sink = ap (λ r. r.ghost_name) same;
       open_ = λ e. absurd (false≢true e);
       within = λ e. absurd (false≢true e);
       left = λ e. absurd (false≢true e);
       past = λ e. omega arith;
-      hands = rw (fit, over, same) (hands_nothing sink old.out.now alive);
+      hands = rw (fit, over, same) (puts_nothing sink old.out.now not_failed);
     }
 
 -- after an Ok the next piece may be put
 pub prints_ready : {S : Type 0} (sink : Ghosts S) (old : SizeLimitedFmtAdapter S) (xs : List (List ℕ)) (r : Result (Unit {0}) SinkRefused) (new : SizeLimitedFmtAdapter S)
     → Prints sink old xs r new → IsOk r → Ready sink new
 prints_ready sink old xs r new p ok =
-    let here : new.is_over ≡ false = p.open_ ok in
-    let h : Hands sink old.out.now (front_within xs old.remaining) r new.out.now = rw here at p.hands in
-    record { alive = (h.all ok).alive; fresh = here }
+    let here : new.is_limit_reached ≡ false = p.open_ ok in
+    let h : PutsPieces sink old.out.now (prefix_within xs old.remaining) r new.out.now = rw here at p.hands in
+    record { not_failed = (h.all ok).not_failed; fresh = here }
 
 pub prints_nothing : {S : Type 0} (sink : Ghosts S) (out : SizeLimitedFmtAdapter S) → Ready sink out → Prints sink out [] (Ok tt) out
 prints_nothing sink out h = record {
@@ -65,7 +65,7 @@ prints_nothing sink out h = record {
   within = λ _. omega arith;
   left = λ _. omega arith;
   past = λ e. absurd (true≢false (sym e ∙ h.fresh));
-  hands = rw h.fresh (hands_nothing sink out.out.now h.alive);
+  hands = rw h.fresh (puts_nothing sink out.out.now h.not_failed);
 }
 
 -- if the first list was taken, the second follows it
@@ -76,16 +76,16 @@ pub prints_then : {S : Type 0} (sink : Ghosts S) (old mid new : SizeLimitedFmtAd
 prints_then sink old mid new xs ys r result first ok second =
     let here : size xs ≤ old.remaining = first.within ok in
     let left : mid.remaining ≡ old.remaining - size xs = first.left ok in
-    let fit : front_within (xs ++ ys) old.remaining ≡ xs ++ front_within ys mid.remaining = fitting-append xs ys old.remaining here ∙ ap (λ n. xs ++ front_within ys n) (sym left) in
-    let h : Hands sink old.out.now (front_within xs old.remaining) r mid.out.now = rw (first.open_ ok) at first.hands in
-    let h' : Hands sink old.out.now xs r mid.out.now = rw (fitting-all xs old.remaining here) at h in
+    let fit : prefix_within (xs ++ ys) old.remaining ≡ xs ++ prefix_within ys mid.remaining = fitting-append xs ys old.remaining here ∙ ap (λ n. xs ++ prefix_within ys n) (sym left) in
+    let h : PutsPieces sink old.out.now (prefix_within xs old.remaining) r mid.out.now = rw (first.open_ ok) at first.hands in
+    let h' : PutsPieces sink old.out.now xs r mid.out.now = rw (fitting-all xs old.remaining here) at h in
     record {
       same_sink = second.same_sink ∙ first.same_sink;
       open_ = second.open_;
       within = λ e. let w : size ys ≤ mid.remaining = second.within e in omega (arith, size-append xs ys);
       left = λ e. let w : size ys ≤ mid.remaining = second.within e in let v : new.remaining ≡ mid.remaining - size ys = second.left e in omega (arith, size-append xs ys);
       past = λ e. let w : mid.remaining < size ys = second.past e in omega (arith, size-append xs ys);
-      hands = rw fit (hands_then sink _ _ _ xs _ r _ h' ok second.hands);
+      hands = rw fit (puts_then sink _ _ _ xs _ r _ h' ok second.hands);
     }
 
 -- if the first list was not completely taken, nothing of the second is
@@ -99,18 +99,18 @@ prints_stop sink old new xs ys r (Err u) p err err' = record {
   within = λ e. absurd (false≢true e);
   left = λ e. absurd (false≢true e);
   past = λ e. let w : old.remaining < size xs = p.past e in omega (arith, size-append xs ys);
-  hands = split new.is_over refl;
+  hands = split new.is_limit_reached refl;
 } where
-  split : (b : Bool) → new.is_over ≡ b → Hands sink old.out.now (front_within (xs ++ ys) old.remaining) (sink_result new.is_over (Err u)) new.out.now
+  split : (b : Bool) → new.is_limit_reached ≡ b → PutsPieces sink old.out.now (prefix_within (xs ++ ys) old.remaining) (sink_result new.is_limit_reached (Err u)) new.out.now
   split true e =
-      let h : Hands sink old.out.now (front_within xs old.remaining) (Ok tt) new.out.now = rw e at p.hands in
+      let h : PutsPieces sink old.out.now (prefix_within xs old.remaining) (Ok tt) new.out.now = rw e at p.hands in
       rw (fitting-stop xs ys old.remaining (p.past e), e) h
   split false e =
-      let h : Hands sink old.out.now (front_within xs old.remaining) r new.out.now = rw e at p.hands in
+      let h : PutsPieces sink old.out.now (prefix_within xs old.remaining) r new.out.now = rw e at p.hands in
       let more = fitting-more xs ys old.remaining in
-      rw (more.1, e) (hands_stop sink _ _ _ more.0 r (Err u) h err refl)
+      rw (more.1, e) (puts_stop sink _ _ _ more.0 r (Err u) h err refl)
 
-pub cut-past : (xs : List (List ℕ)) (l : ℕ) → l < size xs → cut xs l ≡ front_within xs l ++ marker ∷ []
+pub cut-past : (xs : List (List ℕ)) (l : ℕ) → l < size xs → cut xs l ≡ prefix_within xs l ++ marker ∷ []
 cut-past xs l h = elim (leb_tells (size xs) l) [ inl e ↦ let le : size xs ≤ l = e.1 in absurd (omega arith) | inr e ↦ rw e.0 refl ]
 
 pub cut-within : (xs : List (List ℕ)) (l : ℕ) → size xs ≤ l → cut xs l ≡ xs
@@ -119,28 +119,28 @@ cut-within xs l h = rw (le-leb _ _ h) refl
 -- if the limit was reached, the marker follows
 pub prints_cut_over : {S : Type 0} (sink : Ghosts S) (old new : SizeLimitedFmtAdapter S) (start mid after : S) (limit : ℕ) (xs : List (List ℕ)) (r result : Result (Unit {0}) SinkRefused)
     → old.out.now ≡ start → old.remaining ≡ limit
-    → Prints sink old xs r new → new.is_over ≡ true → mid ≡ new.out.now
-    → Hands sink mid (marker ∷ []) result after
-    → Hands sink start (cut xs limit) result after
+    → Prints sink old xs r new → new.is_limit_reached ≡ true → mid ≡ new.out.now
+    → PutsPieces sink mid (marker ∷ []) result after
+    → PutsPieces sink start (cut xs limit) result after
 prints_cut_over sink old new start mid after limit xs r result at lim p over same hands =
     let past : limit < size xs = let q : old.remaining < size xs = p.past over in omega arith in
-    let h : Hands sink old.out.now (front_within xs old.remaining) (Ok tt) new.out.now = rw over at p.hands in
-    let h' : Hands sink start (front_within xs limit) (Ok tt) mid = rw (same, ← at, ← lim) h in
-    rw (cut-past xs limit past) (hands_then sink _ _ _ _ _ (Ok tt) _ h' refl hands)
+    let h : PutsPieces sink old.out.now (prefix_within xs old.remaining) (Ok tt) new.out.now = rw over at p.hands in
+    let h' : PutsPieces sink start (prefix_within xs limit) (Ok tt) mid = rw (same, ← at, ← lim) h in
+    rw (cut-past xs limit past) (puts_then sink _ _ _ _ _ (Ok tt) _ h' refl hands)
 
 -- if it was not reached, nothing follows
 pub prints_cut_all : {S : Type 0} (sink : Ghosts S) (old new : SizeLimitedFmtAdapter S) (start after : S) (limit : ℕ) (xs : List (List ℕ)) (r : Result (Unit {0}) SinkRefused)
     → old.out.now ≡ start → old.remaining ≡ limit
-    → Prints sink old xs r new → new.is_over ≡ false → after ≡ new.out.now
-    → Hands sink start (cut xs limit) r after
+    → Prints sink old xs r new → new.is_limit_reached ≡ false → after ≡ new.out.now
+    → PutsPieces sink start (cut xs limit) r after
 prints_cut_all sink old new start after limit xs r at lim p over same =
-    let h : Hands sink old.out.now (front_within xs old.remaining) r new.out.now = rw over at p.hands in
-    let h' : Hands sink start (front_within xs limit) r after = rw (same, ← at, ← lim) h in
+    let h : PutsPieces sink old.out.now (prefix_within xs old.remaining) r new.out.now = rw over at p.hands in
+    let h' : PutsPieces sink start (prefix_within xs limit) r after = rw (same, ← at, ← lim) h in
     go r p h'
   where
-    go : (r : Result (Unit {0}) SinkRefused) → Prints sink old xs r new → Hands sink start (front_within xs limit) r after → Hands sink start (cut xs limit) r after
+    go : (r : Result (Unit {0}) SinkRefused) → Prints sink old xs r new → PutsPieces sink start (prefix_within xs limit) r after → PutsPieces sink start (cut xs limit) r after
     go (Ok u) p h = let q : size xs ≤ old.remaining = p.within refl in let within : size xs ≤ limit = omega arith in rw (cut-within xs limit within) (rw (fitting-all xs limit within) at h)
     go (Err u) p h = elim (leb_tells (size xs) limit) [
       | inl e ↦ rw (cut-within xs limit e.1) (rw (fitting-all xs limit e.1) at h)
-      | inr e ↦ rw (cut-past xs limit e.1) (hands_stop sink _ _ _ (marker ∷ []) (Err u) (Err u) h refl refl)
+      | inr e ↦ rw (cut-past xs limit e.1) (puts_stop sink _ _ _ (marker ∷ []) (Err u) (Err u) h refl refl)
     ]

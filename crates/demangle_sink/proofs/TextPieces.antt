@@ -2,7 +2,7 @@
 use Rattle.std.proofs.Common.{◌≡◌, ℕ, ◌+◌, ◌<◌, List, [], ◌∷◌, ◌++◌, length, sym, ap, ◌∙◌, get_or, take, drop}
 use Rattle.std.specs.Borrow.{Bor}
 use Rattle.std.proofs.lemmas.List.{take_more, take-append-drop, map-append}
-use Rattle.demangle_sink.specs.Pieces.{texts}
+use Rattle.demangle_sink.specs.Limit.{texts}
 
 abbrev no_text : Bor (List ℕ)
 no_text = record { ref_ptr = (0, 0); now = [] }

@@ -1,13 +1,11 @@
 -- The definitions that a reader of the public contracts must believe, in reading order.
 pub mod Sink
 pub mod Cut
-pub mod Hands
+pub mod PutsPieces
 pub mod Array
 pub mod Writer
 pub mod Slice
 pub mod Writes
 -- Internal.
 pub mod Limit
-pub mod Pieces
-pub mod Printed
-pub mod Written
+pub mod Formatter

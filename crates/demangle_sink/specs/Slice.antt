@@ -14,7 +14,7 @@ overlay_from place memory text = take place memory ++ overlay (drop place memory
 -- A sink took these bytes of a text, and `new` has the part of the text from byte `start`. Bytes before `start` were
 -- left out. The others were written after the part that was there, as far as the memory reaches. The length of the text
 -- rose by the number of all the bytes.
-pub record Laid (start : ℕ) (old : List ℕ) (old_len : ℕ) (bytes : List ℕ) (new : List ℕ) (new_len : ℕ) : Type 0 where
+pub record WrittenPart (start : ℕ) (old : List ℕ) (old_len : ℕ) (bytes : List ℕ) (new : List ℕ) (new_len : ℕ) : Type 0 where
   pub counted : new_len ≡ old_len + length bytes
   pub kept : new ≡ overlay_from (old_len - start) old (drop (start - old_len) bytes)
 
@@ -61,15 +61,15 @@ drop-append (suc n) (x ∷ xs) ys =
 drop-nothing : (n : ℕ) → drop n [] ≡ nothing
 drop-nothing n = drop_all n [] (omega arith)
 
-pub Laid-nothing : (start : ℕ) (memory : List ℕ) (len : ℕ) → Laid start memory len [] memory len
-Laid-nothing start memory len = record {
+pub WrittenPart-nothing : (start : ℕ) (memory : List ℕ) (len : ℕ) → WrittenPart start memory len [] memory len
+WrittenPart-nothing start memory len = record {
   counted = omega arith;
   kept = sym (ap (overlay_from (len - start) memory) (drop-nothing (start - len)) ∙ overlay_from-nothing (len - start) memory);
 }
 
-pub Laid-joined : (start also : ℕ) (a b c : List ℕ) (k l m : ℕ) (xs ys : List ℕ) → also ≡ start
-    → Laid start a k xs b l → Laid also b l ys c m → Laid start a k (xs ++ ys) c m
-Laid-joined start also a b c k l m xs ys e h g = record {
+pub WrittenPart-joined : (start also : ℕ) (a b c : List ℕ) (k l m : ℕ) (xs ys : List ℕ) → also ≡ start
+    → WrittenPart start a k xs b l → WrittenPart also b l ys c m → WrittenPart start a k (xs ++ ys) c m
+WrittenPart-joined start also a b c k l m xs ys e h g = record {
   counted = omega (arith, h.counted, g.counted, length-append xs ys);
   kept =
       let first : List ℕ = drop (start - k) xs in

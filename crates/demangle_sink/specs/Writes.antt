@@ -4,7 +4,7 @@ use Rattle.std.specs.List.{concat}
 use Rattle.demangle_sink.specs.declared.TextSink.{Ghosts}
 use Rattle.demangle_sink.specs.declared.SinkRefused.{SinkRefused}
 use Rattle.demangle_sink.specs.Cut.{size}
-use Rattle.demangle_sink.specs.Hands.{HoldsFront}
+use Rattle.demangle_sink.specs.PutsPieces.{HoldsPrefix}
 use Rattle.demangle_sink.specs.Sink.{IsWithin, room_after}
 
 -- These pieces were put into the sink. `Ok` means that it took their text and has not failed. `Err` means that it has
@@ -13,8 +13,8 @@ use Rattle.demangle_sink.specs.Sink.{IsWithin, room_after}
 pub record Writes {S : Type 0} (sink : Ghosts S) (old : S) (list : List (List ℕ))
     (result : Result (Unit {0}) SinkRefused) (new : S) : Type 0 where
   pub text : OnOk result (sink.took old (concat list) new)
-  pub alive : OnOk result (sink.failed new ≡ false)
+  pub not_failed : OnOk result (sink.failed new ≡ false)
   pub failed : OnErr result (sink.failed new ≡ true)
-  pub kept : OnErr result (sink.keeps ≡ true → HoldsFront sink old list new)
+  pub kept : OnErr result (sink.keeps ≡ true → HoldsPrefix sink old list new)
   pub fits : IsWithin (size list) (sink.room old) → IsOk result
   pub room : IsWithin (size list) (sink.room old) → sink.room new ≡ room_after (size list) (sink.room old)

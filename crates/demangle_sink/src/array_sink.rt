@@ -18,7 +18,7 @@ pub struct ArraySink<const N: usize> {
 impl<const N: usize> ArraySink<N> {
     /// Returns an empty sink that has not failed.
     pub fn new() -> Self
-        ensures alive { ⟦<ArraySink<N> as TextSink>⟧.failed result ≡ false }
+        ensures not_failed { ⟦<ArraySink<N> as TextSink>⟧.failed result ≡ false }
         ensures empty { text_of result ≡ [] }
     {
         ArraySink {

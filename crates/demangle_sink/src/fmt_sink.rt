@@ -1,7 +1,7 @@
 //! A sink that writes to a formatter.
 ghost use Rattle.std.specs.Prelude.{◌≡◌, Some, false, refl};
 ghost use Rattle.std.proofs.Common.{◌∙◌};
-ghost use Rattle.demangle_sink.specs.Written.{FmtTook, FmtTook-nothing, FmtTook-joined};
+ghost use Rattle.demangle_sink.specs.Formatter.{FmtTook, FmtTook-nothing, FmtTook-joined};
 
 use crate::{SinkRefused, TextSink};
 use std::fmt;
@@ -18,7 +18,7 @@ impl<'f, W: fmt::Write> FmtSink<'f, W> {
     pub fn new(out: &'f mut fmt::Formatter<W>) -> Self
         ensures same { result.out.ghost_name ≡ out.entry.ghost_name }
         ensures text { result.out.now ≡ out.old }
-        ensures alive { result.failed ≡ false }
+        ensures not_failed { result.failed ≡ false }
     {
         FmtSink { out, failed: false }
     }

@@ -51,7 +51,7 @@ pub trait TextSink {
     fn put(&mut self, s: &str) -> Result<(), SinkRefused>
         requires { failed self.old ≡ false }
         ensures taken { OnOk result (took self.old s.now self.new) }
-        ensures alive { OnOk result (failed self.new ≡ false) }
+        ensures not_failed { OnOk result (failed self.new ≡ false) }
         ensures refused { OnErr result (failed self.new ≡ true) }
         ensures kept { OnErr result
             (keeps ≡ true → took self.old [] self.new × (room self.new ≡ room self.old)) }

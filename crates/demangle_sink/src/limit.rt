@@ -1,6 +1,6 @@
 //! Limits the size of the printed text.
 ghost use Rattle.std.specs.Prelude.{◌≡◌, [], ◌∷◌, false};
-ghost use Rattle.demangle_sink.specs.Hands.{Hands};
+ghost use Rattle.demangle_sink.specs.PutsPieces.{PutsPieces};
 ghost use Rattle.demangle_sink.specs.Limit.{Prints, Ready};
 
 use crate::{SinkRefused, TextSink};
@@ -11,7 +11,7 @@ pub struct SizeLimitedFmtAdapter<'s, S: TextSink> {
     out: &'s mut S,
     remaining: usize,
     /// Whether a piece exceeded the limit.
-    is_over: bool,
+    is_limit_reached: bool,
 }
 
 impl<'s, S: TextSink> SizeLimitedFmtAdapter<'s, S> {
@@ -20,20 +20,20 @@ impl<'s, S: TextSink> SizeLimitedFmtAdapter<'s, S> {
         ensures same_sink { result.out.ghost_name ≡ out.entry.ghost_name }
         ensures text { result.out.now ≡ out.old }
         ensures left { result.remaining ≡ limit }
-        ensures open { result.is_over ≡ false }
+        ensures open { result.is_limit_reached ≡ false }
     {
         SizeLimitedFmtAdapter {
             out,
             remaining: limit,
-            is_over: false,
+            is_limit_reached: false,
         }
     }
 
     /// Returns `true` if a piece exceeded the limit.
-    pub fn is_over(&self) -> bool
-        ensures { result ≡ self.now.is_over }
+    pub fn is_limit_reached(&self) -> bool
+        ensures { result ≡ self.now.is_limit_reached }
     {
-        self.is_over
+        self.is_limit_reached
     }
 
     /// Passes a piece to the sink.
@@ -48,7 +48,7 @@ impl<'s, S: TextSink> SizeLimitedFmtAdapter<'s, S> {
         ensures { Prints S.TextSink self.old (s.now ∷ []) result self.new }
     {
         if s.len() > self.remaining {
-            self.is_over = true;
+            self.is_limit_reached = true;
             return Err(SinkRefused);
         }
         self.remaining -= s.len();
@@ -63,7 +63,7 @@ impl<'s, S: TextSink> SizeLimitedFmtAdapter<'s, S> {
 /// Returns `SinkRefused` if the sink rejects the piece.
 pub fn put_piece<S: TextSink>(s: &str, out: &mut S) -> Result<(), SinkRefused>
     requires { S.failed out.old ≡ false }
-    ensures { Hands S.TextSink out.old (s.now ∷ []) result out.new }
+    ensures { PutsPieces S.TextSink out.old (s.now ∷ []) result out.new }
 {
     out.put(s)
 }

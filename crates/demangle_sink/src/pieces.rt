@@ -1,6 +1,6 @@
 //! Puts several pieces into a sink.
 ghost use Rattle.demangle_sink.specs.Limit.{Prints, Ready};
-ghost use Rattle.demangle_sink.specs.Pieces.{texts};
+ghost use Rattle.demangle_sink.specs.Limit.{texts};
 
 use crate::{SinkRefused, SizeLimitedFmtAdapter, TextSink};
 

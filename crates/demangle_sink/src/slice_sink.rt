@@ -3,7 +3,7 @@ ghost use Rattle.std.specs.Prelude.{◌≡◌, ◌-◌, [], drop, length, Some, 
 ghost use Rattle.std.proofs.Common.{◌∙◌};
 ghost use Rattle.std.below.core.specs.declared.int.usize.TheConstants.{MAX};
 ghost use Rattle.demangle_sink.specs.Sink.{IsWithin, room_after};
-ghost use Rattle.demangle_sink.specs.Slice.{overlay, overlay_from, Laid, Laid-nothing, Laid-joined};
+ghost use Rattle.demangle_sink.specs.Slice.{overlay, overlay_from, WrittenPart, WrittenPart-nothing, WrittenPart-joined};
 
 use crate::{SinkRefused, TextSink};
 
@@ -29,7 +29,7 @@ impl<'b> SliceSink<'b> {
     pub fn new(out: &'b mut [u8]) -> Self
         ensures same_memory { result.out.ghost_name ≡ out.entry.ghost_name }
         ensures bytes { result.out.now ≡ out.old }
-        ensures alive { result.failed ≡ false }
+        ensures not_failed { result.failed ≡ false }
         ensures begins { result.start ≡ 0 }
         ensures empty { result.len ≡ 0 }
     {
@@ -42,7 +42,7 @@ impl<'b> SliceSink<'b> {
     pub fn starting_at(out: &'b mut [u8], start: usize) -> Self
         ensures same_memory { result.out.ghost_name ≡ out.entry.ghost_name }
         ensures bytes { result.out.now ≡ out.old }
-        ensures alive { result.failed ≡ false }
+        ensures not_failed { result.failed ≡ false }
         ensures begins { result.start ≡ start }
         ensures empty { result.len ≡ 0 }
     {
@@ -73,7 +73,7 @@ impl<'b> SliceSink<'b> {
         requires { ⟦<SliceSink<'b> as TextSink>⟧.failed self.old ≡ false }
         ensures taken { OnOk result
             (⟦<SliceSink<'b> as TextSink>⟧.took self.old bytes.now self.new) }
-        ensures alive { OnOk result (⟦<SliceSink<'b> as TextSink>⟧.failed self.new ≡ false) }
+        ensures not_failed { OnOk result (⟦<SliceSink<'b> as TextSink>⟧.failed self.new ≡ false) }
         ensures refused { OnErr result (⟦<SliceSink<'b> as TextSink>⟧.failed self.new ≡ true) }
         ensures kept { OnErr result (⟦<SliceSink<'b> as TextSink>⟧.took self.old [] self.new
             × (⟦<SliceSink<'b> as TextSink>⟧.room self.new
@@ -87,9 +87,9 @@ impl<'b> SliceSink<'b> {
             return Err(SinkRefused);
         }
         if self.start <= self.len {
-            lay(self.out, self.len - self.start, bytes);
+            write_at(self.out, self.len - self.start, bytes);
         } else {
-            lay_behind(self.out, self.start - self.len, bytes);
+            write_from(self.out, self.start - self.len, bytes);
         }
         self.len += bytes.len();
         Ok(())
@@ -97,15 +97,15 @@ impl<'b> SliceSink<'b> {
 }
 
 /// Writes the bytes after the first `before` ones to the start of the slice, as far as it reaches.
-fn lay_behind(out: &mut [u8], before: usize, bytes: &[u8])
+fn write_from(out: &mut [u8], before: usize, bytes: &[u8])
     ensures { out.new ≡ overlay out.old (drop before bytes.now) }
 {
-    lay(out, 0, &bytes[before.min(bytes.len())..]);
+    write_at(out, 0, &bytes[before.min(bytes.len())..]);
 }
 
 /// Writes bytes to the slice from a place, as far as it reaches.
 #[inline(always)]
-fn lay(out: &mut [u8], place: usize, bytes: &[u8])
+fn write_at(out: &mut [u8], place: usize, bytes: &[u8])
     ensures { out.new ≡ overlay_from place out.old bytes.now }
 {
     if place < out.len() {
@@ -116,7 +116,7 @@ fn lay(out: &mut [u8], place: usize, bytes: &[u8])
 
 impl<'b> TextSink for SliceSink<'b> {
     ghost took = { λ s bytes t. (t.out.ghost_name ≡ s.out.ghost_name) × (t.start ≡ s.start)
-        × Laid s.start s.out.now s.len bytes t.out.now t.len };
+        × WrittenPart s.start s.out.now s.len bytes t.out.now t.len };
 
     ghost failed = { λ s. s.failed };
 
@@ -133,8 +133,8 @@ impl<'b> TextSink for SliceSink<'b> {
         self.failed
     }
 
-    ghost took_nothing = { λ s. (refl, refl, Laid-nothing s.start s.out.now s.len) };
+    ghost took_nothing = { λ s. (refl, refl, WrittenPart-nothing s.start s.out.now s.len) };
 
     ghost took_joined = { λ s t u xs ys h k.
-        (k.0 ∙ h.0, k.1 ∙ h.1, Laid-joined _ _ _ _ _ _ _ _ xs ys h.1 h.2 k.2) };
+        (k.0 ∙ h.0, k.1 ∙ h.1, WrittenPart-joined _ _ _ _ _ _ _ _ xs ys h.1 h.2 k.2) };
 }

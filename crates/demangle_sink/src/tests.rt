@@ -14,13 +14,13 @@ fn a_sink_takes_what_fits(rt: HostRuntime) {
 }
 
 #[test]
-fn the_limit_hands_on_whole_pieces(rt: HostRuntime) {
+fn the_limit_passes_whole_pieces(rt: HostRuntime) {
     let mut sink = ArraySink::<64>::new();
     let mut out = SizeLimitedFmtAdapter::new(&mut sink, 5);
     assert!(rt; put_each(&["a", "", "b"], &mut out).is_ok());
     assert!(rt; put_char('ü', &mut out).is_ok());
-    assert!(rt; !out.is_over());
+    assert!(rt; !out.is_limit_reached());
     assert!(rt; put_char('ö', &mut out).is_err());
-    assert!(rt; out.is_over());
+    assert!(rt; out.is_limit_reached());
     assert_eq!(rt; sink.as_str(), "abü");
 }

@@ -21,7 +21,7 @@ impl<'w, W: Write> WriteSink<'w, W> {
     pub fn new(out: &'w mut W) -> Self
         ensures same_writer { (writer_of result).ghost_name ≡ out.entry.ghost_name }
         ensures contents { (writer_of result).now ≡ out.old }
-        ensures alive { ⟦<WriteSink<'w, W> as TextSink>⟧.failed result ≡ false }
+        ensures not_failed { ⟦<WriteSink<'w, W> as TextSink>⟧.failed result ≡ false }
     {
         WriteSink { out, fault: None }
     }

@@ -4,7 +4,7 @@ use Rattle.std.proofs.Common.{◌≡◌, Bool, true, false, cond, List, length, 
 use Rattle.std.proofs.lemmas.Option.{slice_get_within}
 use Rattle.std.proofs.lemmas.Bool.{leb-true, ltb-true}
 use Rattle.demangle_symbol.specs.Digits.{run_end, is_byte}
-use Rattle.demangle_symbol.specs.Words.{Read, only_if, then_if_some, is_upper, is_lower, byte_at, namespace_at, is_digit_62, integer_value, integer_at, optional_at, backref_at, digits_from, length_end, name_from, name_len, name_of, tail_len, behind_byte, identifier_at, is_nibble, nibbles_at}
+use Rattle.demangle_symbol.specs.Primitives.{Read, only_if, then_if_some, is_upper, is_lower, byte_at, namespace_at, is_digit_62, integer_value, integer_at, optional_at, backref_at, digits_from, length_end, name_from, name_len, name_of, tail_len, after_byte, identifier_at, is_nibble, nibbles_at}
 use Rattle.demangle_symbol.proofs.Digits.{is_byte_within}
 
 -- a primitive that starts at i ends at `low` or later, and within the bytes
@@ -69,8 +69,8 @@ nibbles_placed s i =
     let end : ℕ = run_end is_nibble s i in
     only_placed (i + 1) s (is_byte s end 95) (_, end + 1) (λ e. let w : end < length s = is_byte_within s end 95 e in (omega arith, omega (arith, w)))
 
-behind_later : (b : ℕ) (s : List ℕ) (i : ℕ) → i ≤ behind_byte b s i
-behind_later b s i = go (is_byte s i b)
+after_later : (b : ℕ) (s : List ℕ) (i : ℕ) → i ≤ after_byte b s i
+after_later b s i = go (is_byte s i b)
   where
     go : (c : Bool) → i ≤ cond c (i + 1) i
     go true = omega arith
@@ -81,8 +81,8 @@ unfolding identifier_at
 identifier_placed s i =
     let d : ℕ = digits_from s i in
     let j : ℕ = name_from s i + name_len s i in
-    let first : i ≤ d = behind_later 117 s i in
-    let second : length_end s d ≤ name_from s i = behind_later 95 s (length_end s d) in
+    let first : i ≤ d = after_later 117 s i in
+    let second : length_end s d ≤ name_from s i = after_later 95 s (length_end s d) in
     only_placed (i + 1) s (nat_lt d (length_end s d) && nat_le j (length s) && not (is_byte s i 117 && tail_len s (name_from s i) j == 0)) (name_of s i j, j)
     (λ e.
     let both : nat_lt d (length_end s d) && nat_le j (length s) ≡ true = and_left (nat_lt d (length_end s d) && nat_le j (length s)) (not (is_byte s i 117 && tail_len s (name_from s i) j == 0)) e in

@@ -42,9 +42,9 @@ deltas_short r h = let t : ltb 36 r.place ≡ true = grind (arith, nat_tests) in
 abbrev pub AtLeast : ℕ → Option (List ℕ) → Type 0
 AtLeast n o = IfSome o (λ ds. n ≤ slice_index ds 0)
 
-in_front : (n d : ℕ) (o : Option (List ℕ)) → n ≤ d → AtLeast n (option_map (λ ds. d ∷ ds) o)
-in_front n d None h = tt
-in_front n d (Some ds) h = h
+in_prefix : (n d : ℕ) (o : Option (List ℕ)) → n ≤ d → AtLeast n (option_map (λ ds. d ∷ ds) o)
+in_prefix n d None h = tt
+in_prefix n d (Some ds) h = h
 
 less : (m n : ℕ) (o : Option (List ℕ)) → m ≤ n → AtLeast n o → AtLeast m o
 less m n None h k = tt
@@ -59,7 +59,7 @@ deltas_grow [] r h = none_at_least r.sum (deltas r []) (deltas_short r h)
 deltas_grow (c ∷ s) r h = elim (option_cases (digit_of c)) [
   | inl e ↦ none_at_least r.sum (deltas r (c ∷ s)) (deltas_bad r c s e)
   | inr p ↦ elim (cases_lt p.0 (threshold r.place r.bias)) [
-    | inl l ↦ subst (AtLeast r.sum) (sym (deltas_last r c p.0 s p.1 l)) (in_front r.sum (with_digit r p.0) (deltas (after_delta r p.0) s) (omega arith))
+    | inl l ↦ subst (AtLeast r.sum) (sym (deltas_last r c p.0 s p.1 l)) (in_prefix r.sum (with_digit r p.0) (deltas (after_delta r p.0) s) (omega arith))
     | inr l ↦ subst (AtLeast r.sum) (sym (deltas_more r c p.0 s p.1 l)) (less r.sum (with_digit r p.0) (deltas (further r p.0) s) (omega arith) (deltas_grow s (further r p.0) (omega arith)))
   ]
 ]
@@ -67,6 +67,6 @@ deltas_grow (c ∷ s) r h = elim (option_cases (digit_of c)) [
 -- with one more digit
 pub deltas_grow-digit : (s : List ℕ) (r : Reading) (c d : ℕ) → 36 ≤ r.place → digit_of c ≡ Some d → AtLeast (with_digit r d) (deltas r (c ∷ s))
 deltas_grow-digit s r c d h e = elim (cases_lt d (threshold r.place r.bias)) [
-  | inl l ↦ subst (AtLeast (with_digit r d)) (sym (deltas_last r c d s e l)) (in_front (with_digit r d) (with_digit r d) (deltas (after_delta r d) s) (omega arith))
+  | inl l ↦ subst (AtLeast (with_digit r d)) (sym (deltas_last r c d s e l)) (in_prefix (with_digit r d) (with_digit r d) (deltas (after_delta r d) s) (omega arith))
   | inr l ↦ subst (AtLeast (with_digit r d)) (sym (deltas_more r c d s e l)) (deltas_grow s (further r d) (omega arith))
 ]

@@ -8,7 +8,7 @@ use Rattle.std.proofs.Math.Nat.{pow-le-pow_right}
 use Rattle.std.proofs.lemmas.List.Sums.{prefix_len-drop_yes, prefix_len-drop_no, prefix_len-drop_all, prefix_len_passes}
 use Rattle.std.proofs.lemmas.List.Edits.{length-between, get_or-between}
 use Rattle.demangle_symbol.specs.Digits.{run_end, number, is_byte}
-use Rattle.demangle_symbol.specs.Words.{nibbles_at, is_nibble, nibble, Hex, zeros, hex_number}
+use Rattle.demangle_symbol.specs.Primitives.{nibbles_at, is_nibble, nibble, Hex, zeros, hex_number}
 use Rattle.demangle_symbol.specs.Nibbles.{hex_at}
 use Rattle.std.specs.Prelude.{option_map}
 use Rattle.demangle_symbol.proofs.Digits.{run_more, run_stops, run_past, number_none, number_more, is_byte_there}

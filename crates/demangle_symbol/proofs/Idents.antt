@@ -12,7 +12,7 @@ use Rattle.std.proofs.lemmas.Bool.Decides.{nat_tests}
 use Rattle.demangle_symbol.proofs.Integers.{only_both, only_not_both}
 use Rattle.std.proofs.lemmas.List.Sums.{suffix_len-le-length}
 use Rattle.std.proofs.lemmas.List.Edits.{length-between}
-use Rattle.demangle_symbol.specs.Words.{Name, length_end, length_value, Length, behind_byte, tail_len, digits_from, name_from, name_len, name_of, punycode_len, ascii_to, identifier_at, Identifier}
+use Rattle.demangle_symbol.specs.Primitives.{Name, length_end, length_value, Length, after_byte, tail_len, digits_from, name_from, name_len, name_of, punycode_len, ascii_to, identifier_at, Identifier}
 use Rattle.demangle_symbol.specs.Idents.{DigitsUpTo, IsIdent, ident_parts, ident_at, name_in}
 use Rattle.demangle_symbol.proofs.Digits.{range_more, number_none, number_more, is_byte_there, digits_none, digits_more}
 
@@ -79,43 +79,43 @@ tail_more s i k le within h =
 
 pub ruleset tail_steps = (tail_none, tail_past, tail_more)
 
-behind_there : (t : Bool) (i : ℕ) → cond t (i + 1) i ≢ i → t ≡ true
-behind_there true i h = refl
-behind_there false i h = absurd (h refl)
+after_there : (t : Bool) (i : ℕ) → cond t (i + 1) i ≢ i → t ≡ true
+after_there true i h = refl
+after_there false i h = absurd (h refl)
 
 -- No identifier starts at i, if its length would start at d and one of these holds. There is no length at d, or it says
 -- too many bytes, or there is a `u` but no Punycode part.
-pub no_ident_length : (s : List ℕ) (i d : ℕ) → d ≡ behind_byte 117 s i → length s < 2 ^ 64 → ((j v : ℕ) → v < 2 ^ 64 → Length s d j v → ⊥) → (j : ℕ) (ident : Ident) → IsIdent s i j ident → ⊥
+pub no_ident_length : (s : List ℕ) (i d : ℕ) → d ≡ after_byte 117 s i → length s < 2 ^ 64 → ((j v : ℕ) → v < 2 ^ 64 → Length s d j v → ⊥) → (j : ℕ) (ident : Ident) → IsIdent s i j ident → ⊥
 no_ident_length s i d d_is fits none j ident h =
-    let there : Length s (behind_byte 117 s i) (length_end s (behind_byte 117 s i)) (length_value s (behind_byte 117 s i)) = record { some = h.some; next = refl; value = refl } in
-    none (length_end s (behind_byte 117 s i)) (length_value s (behind_byte 117 s i)) (omega (arith, h.next, h.inside)) (rw d_is there)
+    let there : Length s (after_byte 117 s i) (length_end s (after_byte 117 s i)) (length_value s (after_byte 117 s i)) = record { some = h.some; next = refl; value = refl } in
+    none (length_end s (after_byte 117 s i)) (length_value s (after_byte 117 s i)) (omega (arith, h.next, h.inside)) (rw d_is there)
 
-pub no_ident_past : (s : List ℕ) (i d e f len : ℕ) → d ≡ behind_byte 117 s i → Length s d e len → f ≡ behind_byte 95 s e → length s - f < len → (j : ℕ) (ident : Ident) → IsIdent s i j ident → ⊥
+pub no_ident_past : (s : List ℕ) (i d e f len : ℕ) → d ≡ after_byte 117 s i → Length s d e len → f ≡ after_byte 95 s e → length s - f < len → (j : ℕ) (ident : Ident) → IsIdent s i j ident → ⊥
 no_ident_past s i d e f len d_is there f_is past j ident h =
-    let e_is : e ≡ length_end s (behind_byte 117 s i) = there.next ∙ ap (length_end s) d_is in
-    let len_is : len ≡ length_value s (behind_byte 117 s i) = there.value ∙ ap (length_value s) d_is in
-    let from : f ≡ name_from s i = f_is ∙ ap (behind_byte 95 s) e_is in
+    let e_is : e ≡ length_end s (after_byte 117 s i) = there.next ∙ ap (length_end s) d_is in
+    let len_is : len ≡ length_value s (after_byte 117 s i) = there.value ∙ ap (length_value s) d_is in
+    let from : f ≡ name_from s i = f_is ∙ ap (after_byte 95 s) e_is in
     omega (arith, h.next, h.inside)
 
-pub no_ident_empty : (s : List ℕ) (i d e f len : ℕ) → d ≡ behind_byte 117 s i → Length s d e len → f ≡ behind_byte 95 s e → d ≢ i → tail_len s f (f + len) ≡ 0 → (j : ℕ) (ident : Ident) → IsIdent s i j ident → ⊥
+pub no_ident_empty : (s : List ℕ) (i d e f len : ℕ) → d ≡ after_byte 117 s i → Length s d e len → f ≡ after_byte 95 s e → d ≢ i → tail_len s f (f + len) ≡ 0 → (j : ℕ) (ident : Ident) → IsIdent s i j ident → ⊥
 no_ident_empty s i d e f len d_is there f_is other empty j ident h =
-    let e_is : e ≡ length_end s (behind_byte 117 s i) = there.next ∙ ap (length_end s) d_is in
-    let len_is : len ≡ length_value s (behind_byte 117 s i) = there.value ∙ ap (length_value s) d_is in
-    let from : f ≡ name_from s i = f_is ∙ ap (behind_byte 95 s) e_is in
+    let e_is : e ≡ length_end s (after_byte 117 s i) = there.next ∙ ap (length_end s) d_is in
+    let len_is : len ≡ length_value s (after_byte 117 s i) = there.value ∙ ap (length_value s) d_is in
+    let from : f ≡ name_from s i = f_is ∙ ap (after_byte 95 s) e_is in
     let j_is : j ≡ f + len = h.next ∙ omega arith in
-    let u : is_byte s i 117 ≡ true = behind_there (is_byte s i 117) i (λ e. other (d_is ∙ e)) in
+    let u : is_byte s i 117 ≡ true = after_there (is_byte s i 117) i (λ e. other (d_is ∙ e)) in
     let some : 0 < tail_len s (name_from s i) j = h.not_empty u in
     let same : tail_len s f (f + len) ≡ tail_len s (name_from s i) j = ap (λ x. tail_len s x (f + len)) from ∙ ap (tail_len s (name_from s i)) (sym j_is) in
     omega arith
 
 -- the start of its length
-pub behind_u : (s : List ℕ) (i : ℕ) → is_byte s i 117 ≡ true → i + 1 ≡ behind_byte 117 s i
-behind_u s i h = rw h refl
+pub after_u : (s : List ℕ) (i : ℕ) → is_byte s i 117 ≡ true → i + 1 ≡ after_byte 117 s i
+after_u s i h = rw h refl
 
-pub behind_no_u : (s : List ℕ) (i : ℕ) → is_byte s i 117 ≡ false → i ≡ behind_byte 117 s i
-behind_no_u s i h = rw h refl
+pub after_no_u : (s : List ℕ) (i : ℕ) → is_byte s i 117 ≡ false → i ≡ after_byte 117 s i
+after_no_u s i h = rw h refl
 
-pub ruleset ident_steps = (behind_u, behind_no_u, no_ident_length, no_ident_past, no_ident_empty)
+pub ruleset ident_steps = (after_u, after_no_u, no_ident_length, no_ident_past, no_ident_empty)
 
 tail_most : (s : List ℕ) (from to : ℕ) → to ≤ length s → from ≤ to → from + tail_len s from to ≤ to
 unfolding tail_len
@@ -209,10 +209,10 @@ pub identifier_unread : (s : List ℕ) (i : ℕ) → ((j : ℕ) (name : Name) �
 unfolding identifier_at
 identifier_unread s i none =
     only_not_both (some_test s i && inside_test s i) (left_test s i) (name_of s i (end_of s i), end_of s i)
-    (λ front left. none (end_of s i) (name_of s i (end_of s i)) (record {
-      some = ltb-true _ _ (and_left (some_test s i) (inside_test s i) front);
+    (λ prefix left. none (end_of s i) (name_of s i (end_of s i)) (record {
+      some = ltb-true _ _ (and_left (some_test s i) (inside_test s i) prefix);
       next = refl;
-      inside = leb-true _ _ (and_right (some_test s i) (inside_test s i) front);
+      inside = leb-true _ _ (and_right (some_test s i) (inside_test s i) prefix);
       not_empty = left_over_some (is_byte s i 117) (tail_len s (name_from s i) (end_of s i)) left;
       value = refl;
     }))

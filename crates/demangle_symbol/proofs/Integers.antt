@@ -9,7 +9,7 @@ use Rattle.std.proofs.lemmas.Option.{slice_get_within}
 use Rattle.std.proofs.lemmas.Grind.{pow_more}
 use Rattle.demangle_symbol.specs.Digits.{run_end, number, is_byte}
 use Rattle.demangle_symbol.specs.Integers.{Digit62, Digits62UpTo, OneMore, one_more_at}
-use Rattle.demangle_symbol.specs.Words.{only_if, is_digit_62, digit_62, integer_value, Integer, OptInteger, integer_at, optional_at}
+use Rattle.demangle_symbol.specs.Primitives.{only_if, is_digit_62, digit_62, integer_value, Integer, OptInteger, integer_at, optional_at}
 use Rattle.demangle_symbol.proofs.Digits.{run_more, run_stops, run_none, run_past, number_none, number_more, number_part, is_byte_there}
 
 pub digit_there : (s : List ℕ) (i b d : ℕ) → slice_get s i ≡ Some b → is_digit_62 b ≡ true → d ≡ digit_62 b → Digit62 s i d

@@ -5,7 +5,7 @@ use Rattle.std.specs.List.{slice_range}
 use Rattle.demangle_symbol.specs.declared.cursor.ident.Ident.{Ident}
 use Rattle.demangle_symbol.specs.Names.{is_empty, name_pieces, fallback_pieces}
 use Rattle.demangle_symbol.specs.Punycode.{puny}
-use Rattle.demangle_symbol.specs.Idents.{ascii_front, name_in}
+use Rattle.demangle_symbol.specs.Idents.{ascii_prefix, name_in}
 use Rattle.demangle_sink.proofs.Parts.{part_first, part_past}
 
 -- a part has bytes, or is empty
@@ -15,11 +15,11 @@ part_empty s i to past = ap is_empty (part_past s i to past)
 part_filled : (s : List ℕ) (i to : ℕ) → i < to → to ≤ length s → is_empty (slice_range s i to) ≡ false
 part_filled s i to some inside = ap is_empty (part_first s i to some inside)
 
-pub front_none : (s : List ℕ) (a : Ident) → a.ascii.to ≤ a.ascii.from → ascii_front (name_in s a) ≡ []
-front_none s a past = let e : is_empty (slice_range s a.ascii.from a.ascii.to) ≡ true = part_empty s _ _ past in rw e refl
+pub prefix_none : (s : List ℕ) (a : Ident) → a.ascii.to ≤ a.ascii.from → ascii_prefix (name_in s a) ≡ []
+prefix_none s a past = let e : is_empty (slice_range s a.ascii.from a.ascii.to) ≡ true = part_empty s _ _ past in rw e refl
 
-pub front_some : (s : List ℕ) (a : Ident) → a.ascii.from < a.ascii.to → a.ascii.to ≤ length s → ascii_front (name_in s a) ≡ slice_range s a.ascii.from a.ascii.to ∷ codes "-" ∷ []
-front_some s a some inside = let e : is_empty (slice_range s a.ascii.from a.ascii.to) ≡ false = part_filled s _ _ some inside in rw e refl
+pub prefix_some : (s : List ℕ) (a : Ident) → a.ascii.from < a.ascii.to → a.ascii.to ≤ length s → ascii_prefix (name_in s a) ≡ slice_range s a.ascii.from a.ascii.to ∷ codes "-" ∷ []
+prefix_some s a some inside = let e : is_empty (slice_range s a.ascii.from a.ascii.to) ≡ false = part_filled s _ _ some inside in rw e refl
 
 pub pieces_plain : (s : List ℕ) (a : Ident) → a.punycode.to ≤ a.punycode.from → name_pieces (name_in s a) ≡ slice_range s a.ascii.from a.ascii.to ∷ []
 unfolding name_pieces

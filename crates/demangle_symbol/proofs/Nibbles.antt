@@ -13,7 +13,7 @@ use Rattle.std.proofs.Math.ListN.{set}
 use Rattle.std.proofs.lemmas.Bool.{cases_lt}
 use Rattle.std.proofs.lemmas.List.{take_at, append-nil, take_more, take_more_set, drop-take, drop-drop}
 use Rattle.std.proofs.lemmas.List.Edits.{length-between, get_or-between}
-use Rattle.demangle_symbol.specs.Words.{only_if, then_if_some, is_nibble, nibble, Hex}
+use Rattle.demangle_symbol.specs.Primitives.{only_if, then_if_some, is_nibble, nibble, Hex}
 use Rattle.demangle_symbol.specs.Literals.{nibble_bytes, string_of}
 use Rattle.demangle_symbol.specs.Nibbles.{HexPart}
 use Rattle.demangle_symbol.specs.declared.cursor.Part.{Part}
@@ -96,15 +96,15 @@ step x xs None = refl
 step x xs (Some bs) = refl
 
 -- the first k bytes, and the others
-bytes_front : (ns : List ℕ) (k : ℕ) → 2 * k ≤ length ns → nibble_bytes ns ≡ option_map (λ bs. take k (pairs ns) ++ bs) (nibble_bytes (drop (2 * k) ns))
+bytes_prefix : (ns : List ℕ) (k : ℕ) → 2 * k ≤ length ns → nibble_bytes ns ≡ option_map (λ bs. take k (pairs ns) ++ bs) (nibble_bytes (drop (2 * k) ns))
 unfolding pairs
-bytes_front ns zero h = sym (map_none (λ bs. bs) (nibble_bytes ns) (λ bs. refl))
-bytes_front [] (suc k) h = absurd (omega arith)
-bytes_front (a ∷ []) (suc k) h = absurd (omega arith)
-bytes_front (a ∷ b ∷ r) (suc k) h =
+bytes_prefix ns zero h = sym (map_none (λ bs. bs) (nibble_bytes ns) (λ bs. refl))
+bytes_prefix [] (suc k) h = absurd (omega arith)
+bytes_prefix (a ∷ []) (suc k) h = absurd (omega arith)
+bytes_prefix (a ∷ b ∷ r) (suc k) h =
     let e : 2 * suc k ≡ suc (suc (2 * k)) = omega arith in
     let x : ℕ = nibble a * 16 + nibble b in
-    ap (λ o. then_if_some o (λ bs. Some (x ∷ bs))) (bytes_front r k (omega arith))
+    ap (λ o. then_if_some o (λ bs. Some (x ∷ bs))) (bytes_prefix r k (omega arith))
     ∙ step x (take k (pairs r)) (nibble_bytes (drop (2 * k) r))
     ∙ ap (λ n. option_map (λ bs. (x ∷ take k (pairs r)) ++ bs) (nibble_bytes (drop n (a ∷ b ∷ r)))) (sym e)
 
@@ -127,10 +127,10 @@ strings_step c None sc = refl
 strings_step c (Some bs) sc = utf8_step c bs sc
 
 -- a string that starts with a character
-pub string_front : (ns : List ℕ) (k c : ℕ) → 2 * k ≤ length ns → take k (pairs ns) ≡ encode_utf8 c → IsScalar c → string_of ns ≡ option_map (λ cs. c ∷ cs) (string_of (drop (2 * k) ns))
+pub string_prefix : (ns : List ℕ) (k c : ℕ) → 2 * k ≤ length ns → take k (pairs ns) ≡ encode_utf8 c → IsScalar c → string_of ns ≡ option_map (λ cs. c ∷ cs) (string_of (drop (2 * k) ns))
 unfolding string_of
-string_front ns k c h e sc =
-    ap (λ o. then_if_some o (λ bs. only_if (is_utf8 bs) (chars bs))) (bytes_front ns k h ∙ ap (λ xs. option_map (λ bs. xs ++ bs) (nibble_bytes (drop (2 * k) ns))) e)
+string_prefix ns k c h e sc =
+    ap (λ o. then_if_some o (λ bs. only_if (is_utf8 bs) (chars bs))) (bytes_prefix ns k h ∙ ap (λ xs. option_map (λ bs. xs ++ bs) (nibble_bytes (drop (2 * k) ns))) e)
     ∙ strings_step c (nibble_bytes (drop (2 * k) ns)) sc
 
 -- the bytes of a character at the start
@@ -199,8 +199,8 @@ one_char t rest c n e len sc none = go (cases_lt (len_utf8 c) n) where
       e ∙ ap (λ x. encode_utf8 c ++ x) nothing ∙ append-nil (encode_utf8 c)
 
 -- the rest of a part after its first k bytes
-pub part_behind : (s : List ℕ) (i k to : ℕ) → i + k ≤ to → drop k (slice_range s i to) ≡ slice_range s (i + k) to
-part_behind s i k to le =
+pub part_after : (s : List ℕ) (i k to : ℕ) → i + k ≤ to → drop k (slice_range s i to) ≡ slice_range s (i + k) to
+part_after s i k to le =
     let n : to - i ≡ k + (to - (i + k)) = omega arith in
     ap (λ m. drop k (take m (drop i s))) n ∙ drop-take k (to - (i + k)) (drop i s) ∙ ap (take (to - (i + k))) (drop-drop k i s)
 

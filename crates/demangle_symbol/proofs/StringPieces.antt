@@ -5,7 +5,7 @@ use Rattle.std.specs.Str.{is_utf8}
 use Rattle.std.proofs.lemmas.List.{map-append, append-nil}
 use Rattle.std.proofs.lemmas.List.Concat.{flat_map-append}
 use Rattle.std.proofs.lemmas.Str.{is_utf8-from_IsUtf8, IsUtf8-nil, chars-nil}
-use Rattle.demangle_symbol.specs.Words.{some_or}
+use Rattle.demangle_symbol.specs.Primitives.{some_or}
 use Rattle.demangle_symbol.specs.Literals.{literal_escape, string_of}
 use Rattle.demangle_symbol.specs.Nibbles.{nibbles_in, characters_of, character_pieces}
 use Rattle.demangle_symbol.specs.declared.cursor.Part.{Part}
@@ -36,8 +36,8 @@ first_char o None c e h = let none : false ≡ true = sym (ap is_some e) ∙ h i
 first_char o (Some cs) c e h = ap (λ x. some_or [] x (λ ds. ds)) e
 
 -- the characters are the first one and the remaining ones
-pub characters_front : (s : List ℕ) (a b : Part) (c : ℕ) → string_of (nibbles_in s a) ≡ option_map (λ cs. c ∷ cs) (string_of (nibbles_in s b)) → IsSome (string_of (nibbles_in s a)) → characters_of (nibbles_in s a) ≡ c ∷ characters_of (nibbles_in s b)
-characters_front s a b c e h = first_char (string_of (nibbles_in s a)) (string_of (nibbles_in s b)) c e h
+pub characters_prefix : (s : List ℕ) (a b : Part) (c : ℕ) → string_of (nibbles_in s a) ≡ option_map (λ cs. c ∷ cs) (string_of (nibbles_in s b)) → IsSome (string_of (nibbles_in s a)) → characters_of (nibbles_in s a) ≡ c ∷ characters_of (nibbles_in s b)
+characters_prefix s a b c e h = first_char (string_of (nibbles_in s a)) (string_of (nibbles_in s b)) c e h
 
 pub characters_done : (s : List ℕ) (rest : Part) → rest.to ≤ rest.from → characters_of (nibbles_in s rest) ≡ []
 characters_done s rest past = ap (λ o. some_or [] o (λ cs. cs)) (string_done s rest past)
@@ -64,7 +64,7 @@ text_left s a b c e h = sym (text_on s a b c e) ∙ h
 pub characters_on : (s : List ℕ) (whole a b : Part) (done : List ℕ) (c : ℕ) → characters_of (nibbles_in s whole) ≡ done ++ characters_of (nibbles_in s a)
     → string_of (nibbles_in s a) ≡ option_map (λ cs. c ∷ cs) (string_of (nibbles_in s b)) → IsSome (string_of (nibbles_in s a))
     → characters_of (nibbles_in s whole) ≡ done ++ (c ∷ characters_of (nibbles_in s b))
-characters_on s whole a b done c before e h = before ∙ ap (λ x. done ++ x) (characters_front s a b c e h)
+characters_on s whole a b done c before e h = before ∙ ap (λ x. done ++ x) (characters_prefix s a b c e h)
 
 -- all are done
 pub characters_all : (s : List ℕ) (whole rest : Part) (done : List ℕ) → characters_of (nibbles_in s whole) ≡ done ++ characters_of (nibbles_in s rest) → rest.to ≤ rest.from → characters_of (nibbles_in s whole) ≡ done

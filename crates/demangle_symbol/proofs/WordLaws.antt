@@ -3,7 +3,7 @@ use Rattle.std.specs.Prelude.{◌≡◌, ◌↔◌, IsTrue, ℕ, ◌+◌, ◌^�
 use Rattle.std.proofs.Common.{cond, refl, sym, ◌∙◌, ap, subst, arith, inl, inr}
 use Rattle.std.proofs.lemmas.Bool.{ltb-true, lt-ltb, leb-true, le-leb}
 use Rattle.demangle_symbol.specs.Digits.{run_end, is_byte}
-use Rattle.demangle_symbol.specs.Words.{Name, Read, only_if, then_if_some, is_upper, is_lower, namespace_at, Namespace, is_digit_62, integer_value, integer_at, Integer, optional_at, OptInteger, backref_at, Backref, digits_from, length_end, name_from, name_len, name_of, tail_len, identifier_at, Identifier, is_nibble, nibbles_at, Hex}
+use Rattle.demangle_symbol.specs.Primitives.{Name, Read, only_if, then_if_some, is_upper, is_lower, namespace_at, Namespace, is_digit_62, integer_value, integer_at, Integer, optional_at, OptInteger, backref_at, Backref, digits_from, length_end, name_from, name_len, name_of, tail_len, identifier_at, Identifier, is_nibble, nibbles_at, Hex}
 use Rattle.demangle_symbol.proofs.Digits.{is_byte_there}
 
 -- a value and the place after it

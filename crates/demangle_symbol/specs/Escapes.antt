@@ -4,7 +4,7 @@ use Rattle.std.specs.Prelude.{ℕ, Bool, true, false, ◌==◌, if◌then◌else
 use lib.Utf8.{scalar}
 use Rattle.std.specs.Fmt.{digits}
 use Prim.Native.Char.{code}
-use Rattle.demangle_symbol.specs.Words.{only_if}
+use Rattle.demangle_symbol.specs.Primitives.{only_if}
 use Rattle.demangle_symbol.specs.declared.literal.Escape.{Escape}
 use Rattle.demangle_symbol.specs.declared.literal.Escape.TheVariants.{Itself, Backslash, Code}
 
@@ -20,6 +20,6 @@ character_of None = None
 character_of (Some n) = only_if (scalar n) n
 
 -- 0 is false and 1 is true; no other number is a bool
-abbrev pub truth_of : Option ℕ → Option Bool
-truth_of None = None
-truth_of (Some n) = if n == 0 then Some false else if n == 1 then Some true else None
+abbrev pub bool_of : Option ℕ → Option Bool
+bool_of None = None
+bool_of (Some n) = if n == 0 then Some false else if n == 1 then Some true else None

@@ -2,7 +2,7 @@
 -- Decimal digits read so far, identifiers as the bounds of their parts, and back references with their errors.
 use Rattle.std.specs.Prelude.{◌≡◌, ℕ, ◌+◌, ◌-◌, ◌<◌, ◌≤◌, true, List, [], ◌∷◌, codes, length, slice_range, option_map, nat_lt, None, Some, Result, Ok, Err, if◌then◌else◌}
 use Rattle.demangle_symbol.specs.Digits.{is_byte, run_end, number, is_digit_10, digit_10}
-use Rattle.demangle_symbol.specs.Words.{Read, Name, identifier_at, max_depth, length_end, tail_len, digits_from, name_from, name_len, punycode_len, ascii_to}
+use Rattle.demangle_symbol.specs.Primitives.{Read, Name, identifier_at, max_depth, length_end, tail_len, digits_from, name_from, name_len, punycode_len, ascii_to}
 use Rattle.demangle_symbol.specs.Names.{is_empty}
 use Rattle.demangle_symbol.specs.declared.cursor.ParseError.{ParseError}
 use Rattle.demangle_symbol.specs.declared.cursor.ParseError.TheVariants.{Invalid, RecursedTooDeep}
@@ -23,11 +23,11 @@ abbrev pub name_size : Ident → ℕ
 name_size ident = (ident.ascii.to - ident.ascii.from) + (ident.punycode.to - ident.punycode.from)
 
 -- the pieces between `punycode{` and the Punycode part of a name that can't be decoded
-abbrev pub ascii_front : Name → List (List ℕ)
-ascii_front a = if is_empty a.ascii then [] else a.ascii ∷ codes "-" ∷ []
+abbrev pub ascii_prefix : Name → List (List ℕ)
+ascii_prefix a = if is_empty a.ascii then [] else a.ascii ∷ codes "-" ∷ []
 
 -- both parts are within these bytes
-pub record LiesWithin (s : List ℕ) (ident : Ident) : Type 0 where
+pub record IsIdentWithin (s : List ℕ) (ident : Ident) : Type 0 where
   pub ascii_order : ident.ascii.from ≤ ident.ascii.to
   pub ascii_inside : ident.ascii.to ≤ length s
   pub punycode_order : ident.punycode.from ≤ ident.punycode.to
@@ -53,6 +53,6 @@ ident_at s i = option_map (λ r. (ident_parts s i r.1, r.1)) (identifier_at s i)
 
 -- The result of reading a back reference at a depth. A primitive that is not a back reference is `Invalid`. At the
 -- greatest depth, a valid one is `RecursedTooDeep`.
-abbrev pub backref_answer : ℕ → Read ℕ → Result (ℕ × ℕ) ParseError
-backref_answer depth None = Err Invalid
-backref_answer depth (Some r) = if nat_lt depth max_depth then Ok r else Err RecursedTooDeep
+abbrev pub backref_result : ℕ → Read ℕ → Result (ℕ × ℕ) ParseError
+backref_result depth None = Err Invalid
+backref_result depth (Some r) = if nat_lt depth max_depth then Ok r else Err RecursedTooDeep

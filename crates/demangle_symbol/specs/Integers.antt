@@ -2,7 +2,7 @@
 -- Integers in base 62 of which some digits were read, and integers after a tag.
 use Rattle.std.specs.Prelude.{◌≡◌, ℕ, ◌+◌, ◌^◌, ◌<◌, ◌≤◌, true, List, Some, slice_get, slice_range, nat_lt}
 use Rattle.demangle_symbol.specs.Digits.{run_end, number}
-use Rattle.demangle_symbol.specs.Words.{Read, only_if, then_if_some, is_digit_62, digit_62, Integer, integer_at}
+use Rattle.demangle_symbol.specs.Primitives.{Read, only_if, then_if_some, is_digit_62, digit_62, Integer, integer_at}
 
 -- The byte at i is a digit in base 62, and d is its value.
 pub record Digit62 (s : List ℕ) (i d : ℕ) : Type 0 where

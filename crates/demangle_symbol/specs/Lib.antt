@@ -1,8 +1,8 @@
 -- The definitions that a reader of the public contracts must believe, in reading order.
 pub mod Prefix
 pub mod Digits
-pub mod Tally
-pub mod Words
+pub mod Looks
+pub mod Primitives
 pub mod Punycode
 pub mod Names
 pub mod Literals

@@ -7,7 +7,7 @@ use Rattle.ucd_category.specs.GeneralCategory.{general_category}
 use Rattle.ucd_category.specs.declared.GeneralCategory.{GeneralCategory}
 use Rattle.ucd_category.specs.declared.GeneralCategory.TheVariants.{SpaceSeparator, LineSeparator, ParagraphSeparator, Control, Format, Surrogate, PrivateUse, Unassigned}
 use Prim.Native.Char.{code}
-use Rattle.demangle_symbol.specs.Words.{only_if, then_if_some, nibble}
+use Rattle.demangle_symbol.specs.Primitives.{only_if, then_if_some, nibble}
 
 -- General_Category Cc, Cf, Cs, Co, Cn, Zl, Zp or Zs
 abbrev pub is_hidden_category : GeneralCategory → Bool

@@ -1,14 +1,14 @@
 -- The pieces of a name.
 use Rattle.std.specs.Prelude.{ℕ, Bool, true, false, ◌&&◌, if◌then◌else◌, List, [], ◌∷◌, ◌++◌, map, codes, encode_utf8}
-use Rattle.demangle_symbol.specs.Words.{some_or, Name}
+use Rattle.demangle_symbol.specs.Primitives.{some_or, Name}
 use Rattle.demangle_symbol.specs.Punycode.{puny}
 
 abbrev pub is_empty : List ℕ → Bool
 is_empty [] = true
 is_empty (b ∷ bs) = false
 
-abbrev pub is_nameless : Name → Bool
-is_nameless a = is_empty a.ascii && is_empty a.punycode
+abbrev pub is_empty_name : Name → Bool
+is_empty_name a = is_empty a.ascii && is_empty a.punycode
 
 -- the pieces of a name whose Punycode can't be decoded
 abbrev pub fallback_pieces : Name → List (List ℕ)

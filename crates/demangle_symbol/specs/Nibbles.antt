@@ -1,7 +1,7 @@
 -- Internal: no public contract cites this.
 -- The nibbles of a hexadecimal string as a part of the symbol.
 use Rattle.std.specs.Prelude.{ℕ, ◌-◌, List, [], slice_range, option_map, map, flat_map, encode_utf8}
-use Rattle.demangle_symbol.specs.Words.{Read, some_or, nibbles_at, Hex}
+use Rattle.demangle_symbol.specs.Primitives.{Read, some_or, nibbles_at, Hex}
 use Rattle.demangle_symbol.specs.Literals.{literal_escape, string_of}
 use Rattle.demangle_symbol.specs.declared.cursor.Part.{Part}
 

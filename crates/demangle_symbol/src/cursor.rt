@@ -11,15 +11,15 @@ use std::marker::Model;
 mod hex;
 mod ident;
 mod looks;
+mod primitives;
 #[cfg(test)]
 mod tests;
-mod words;
 
 pub use hex::MAX_NIBBLES;
 pub(crate) use hex::nibble_of;
 pub use ident::Ident;
 pub use looks::Looks;
-pub use words::MAX_DEPTH;
+pub use primitives::MAX_DEPTH;
 
 /// The reason for which a symbol could not be parsed. The variants have the names of the Rust
 /// crate.

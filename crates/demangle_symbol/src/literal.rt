@@ -3,7 +3,7 @@ ghost use Rattle.std.specs.Prelude.{◌≡◌, ◌+◌, ◌<◌, [], ◌∷◌, 
 ghost use Rattle.std.specs.Fmt.{digits, digit_glyph};
 ghost use Rattle.demangle_sink.specs.Limit.{Prints, Ready};
 ghost use Rattle.demangle_symbol.specs.Literals.{is_hidden_category, is_shown, literal_escape, literal};
-ghost use Rattle.demangle_symbol.specs.Escapes.{escape_text, character_of, truth_of};
+ghost use Rattle.demangle_symbol.specs.Escapes.{escape_text, character_of, bool_of};
 
 use arrayvec::ArrayVec;
 use demangle_sink::{SinkRefused, SizeLimitedFmtAdapter, TextSink, put_char, put_chars};
@@ -182,8 +182,8 @@ pub fn character_of(number: Option<u128>) -> Option<char>
 
 /// Returns the value of a bool constant, given the number of its hexadecimal string. Only 0 and 1
 /// have a value.
-pub fn truth_of(number: Option<u128>) -> Option<bool>
-    ensures { result ≡ truth_of number }
+pub fn bool_of(number: Option<u128>) -> Option<bool>
+    ensures { result ≡ bool_of number }
 {
     match number {
         Some(0) => Some(false),

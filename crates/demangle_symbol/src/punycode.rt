@@ -1,7 +1,7 @@
 //! Decodes Punycode (RFC 3492) in the form of v0 names: `_` replaces `-`, and digits are lower
 //! case.
 ghost use Rattle.std.specs.Prelude.{◌≡◌, ℕ, ◌+◌, ◌-◌, ◌<◌, ◌≤◌, ◌∷◌, length, slice_index, slice_range, IfSome, IfNone, option_map, Bool, false};
-ghost use Rattle.demangle_symbol.specs.Idents.{LiesWithin, name_size};
+ghost use Rattle.demangle_symbol.specs.Idents.{IsIdentWithin, name_size};
 ghost use Rattle.demangle_symbol.specs.Punycode.{digit_of, threshold, adapted_bias, next_delta, deltas, puny};
 
 use crate::cursor::{Ident, Looks, Part, Symbol};
@@ -149,7 +149,7 @@ fn decode(
     name: Ident,
     looks: &mut Looks,
 ) -> Option<ArrayVec<char, SMALL_PUNYCODE_LEN>>
-    requires { LiesWithin symbol.now name }
+    requires { IsIdentWithin symbol.now name }
     ensures characters { option_map (λ v. v.items) result
         ≡ puny (slice_range symbol.now name.ascii.from name.ascii.to)
         (slice_range symbol.now name.punycode.from name.punycode.to) }

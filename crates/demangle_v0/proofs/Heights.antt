@@ -1,7 +1,7 @@
 -- There is room for each frame that is put on a stack.
 use Rattle.std.specs.Prelude.{ℕ, ◌+◌, ◌-◌, ◌≤◌, length}
 use Rattle.std.proofs.Common.{List, [], ◌∷◌, ◌++◌, arith, length-append}
-use Rattle.demangle_v0.specs.Heights.{HasRoom, Stands}
+use Rattle.demangle_v0.specs.Frames.{HasRoom, HasRoomAbove}
 
 module _ {F : Type 0} (height : F → ℕ) where
   room_push : (n : ℕ) (stack : List F) (f : F) → HasRoom height n stack → height f + length stack ≤ n → HasRoom height n (stack ++ f ∷ [])
@@ -21,23 +21,23 @@ module _ {F : Type 0} (height : F → ℕ) where
   room_top n (g ∷ stack) f h k = let l = room_top (n - 1) stack f h.1 (omega arith) in omega arith
 
   -- the first point, above no frame
-  pub stands_first : (n high : ℕ) → high ≤ n → Stands height n high []
+  pub stands_first : (n high : ℕ) → high ≤ n → HasRoomAbove height n high []
   unfolding HasRoom
   stands_first n high l = record { room = tt; above = omega arith }
 
   -- the point was left for one that is no higher
-  pub stands_on : (n high new : ℕ) (stack : List F) → Stands height n high stack → new ≤ high → Stands height n new stack
+  pub stands_on : (n high new : ℕ) (stack : List F) → HasRoomAbove height n high stack → new ≤ high → HasRoomAbove height n new stack
   stands_on n high new stack s l = record { room = s.room; above = omega (arith, s.above, l) }
 
   -- and a frame was put on the stack
-  pub stands_push : (n high new : ℕ) (stack : List F) (f : F) → Stands height n high stack → height f ≤ high → new + 1 ≤ high → Stands height n new (stack ++ f ∷ [])
+  pub stands_push : (n high new : ℕ) (stack : List F) (f : F) → HasRoomAbove height n high stack → height f ≤ high → new + 1 ≤ high → HasRoomAbove height n new (stack ++ f ∷ [])
   stands_push n high new stack f s outer inner = record {
     room = room_push n stack f s.room (omega (arith, s.above, outer));
     above = omega (arith, s.above, inner, length-append {A = F} stack (f ∷ []));
   }
 
   -- the unit was over: the frame on top goes on, at a point that is no higher
-  pub stands_resumed : (n high new : ℕ) (stack : List F) (f : F) → Stands height n high (stack ++ f ∷ []) → new ≤ height f → Stands height n new stack
+  pub stands_resumed : (n high new : ℕ) (stack : List F) (f : F) → HasRoomAbove height n high (stack ++ f ∷ []) → new ≤ height f → HasRoomAbove height n new stack
   stands_resumed n high new stack f s l =
       let low : length stack ≤ n = omega (arith, s.above, length-append {A = F} stack (f ∷ [])) in
       record { room = room_below n stack f s.room; above = omega (arith, l, room_top n stack f s.room low) }

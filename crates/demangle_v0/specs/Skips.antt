@@ -1,27 +1,27 @@
 -- Internal: no public contract cites this.
 -- The parts that a printing parse reads and does not print: impl paths, and folded arguments.
 use Rattle.std.specs.Prelude.{Bool, true, false}
-use Rattle.demangle_v0.specs.declared.points.Point.{Point}
-use Rattle.demangle_v0.specs.declared.points.Point.TheVariants as point
+use Rattle.demangle_v0.specs.declared.parser.Continuation.{Continuation}
+use Rattle.demangle_v0.specs.declared.parser.Continuation.TheVariants as continuation
 
 -- whether such a part is next, with arguments folded or not
-abbrev pub is_skip : Bool → Point → Bool
-is_skip folds point.InherentPath = true
-is_skip folds point.ImplPath = true
-is_skip folds point.FirstArgument = folds
-is_skip folds point.FirstOpenArgument = folds
-is_skip folds p = false
+abbrev pub is_impl_path : Bool → Continuation → Bool
+is_impl_path folds continuation.InherentImplPath = true
+is_impl_path folds continuation.TraitImplPath = true
+is_impl_path folds continuation.FirstArgument = folds
+is_impl_path folds continuation.FirstTraitArgument = folds
+is_impl_path folds p = false
 
 -- the continuation that reads the part
-abbrev pub own_point : Point → Point
-own_point point.InherentPath = point.Path
-own_point point.ImplPath = point.Path
+abbrev pub own_point : Continuation → Continuation
+own_point continuation.InherentImplPath = continuation.Path
+own_point continuation.TraitImplPath = continuation.Path
 own_point p = p
 
 -- the continuation after the part
-abbrev pub after_skip : Point → Point
-after_skip point.InherentPath = point.InherentType
-after_skip point.ImplPath = point.SelfType
-after_skip point.FirstArgument = point.FoldedArguments
-after_skip point.FirstOpenArgument = point.FoldedTraitArguments
+abbrev pub after_skip : Continuation → Continuation
+after_skip continuation.InherentImplPath = continuation.InherentSelfType
+after_skip continuation.TraitImplPath = continuation.TraitSelfType
+after_skip continuation.FirstArgument = continuation.FoldedArguments
+after_skip continuation.FirstTraitArgument = continuation.FoldedTraitArguments
 after_skip p = p

@@ -2,25 +2,25 @@
 #![tactic(auto)]
 
 ghost use Rattle.std.specs.Prelude.{◌≡◌, ◌+◌, ◌-◌, ◌*◌, ◌≤◌, IfOk, IfSome, IfNone, OnErr, OnSome, Ok, Some, None, IsTrue, IsAscii, false, length, option_map};
-ghost use Rattle.demangle_grammar.specs.Reading.{form, path_texts};
-ghost use Rattle.demangle_grammar.specs.V0.{v0_inner, v0_of};
+ghost use Rattle.demangle_v0_grammar.specs.Reading.{form, path_texts};
+ghost use Rattle.demangle_v0_grammar.specs.V0.{v0_inner, v0_of};
 ghost use Rattle.demangle_sink.specs.Limit.{Prints, Ready};
 
-use crate::accept::{begins_path, print_to_suffix, suffix_at};
+use crate::validation::{begins_path, print_to_suffix, suffix_at};
 use demangle_sink::{SizeLimitedFmtAdapter, TextSink};
 use demangle_symbol::cursor::{Looks, ParseError, Symbol};
 
-mod accept;
-mod points;
-mod printing;
+mod parser;
+mod printer;
 #[cfg(test)]
 mod tests;
+mod validation;
 mod value;
 
 pub use value::Demangle;
 
 /// Returns the text after the prefix of a v0 symbol, or `None` without such a prefix.
-#[tactic(auto, using(demangle_symbol::proofs::Prefixes::behind_answer))]
+#[tactic(auto, using(demangle_symbol::proofs::Prefixes::after_answer))]
 fn inner_of(s: &str) -> Option<&str>
     ensures inner { option_map (λ x. x.now) result ≡ v0_inner s.now }
     ensures shorter { IfSome result (λ x. (length x.now ≤ length s.now) × (length s.now ≤ length

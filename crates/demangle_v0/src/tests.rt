@@ -7,15 +7,15 @@ ghost use Rattle.demangle_sink.specs.Array.{text_of};
 ghost use Rattle.demangle_sink.specs.Limit.{Prints, Ready};
 ghost use Rattle.demangle_v0.specs.Parsers.{IsValid, Same};
 
-use crate::points::frames::FULL_STACK;
-use crate::points::parser::Parser;
-use crate::points::skip::is_skipped;
+use crate::parser::frames::FULL_STACK;
+use crate::parser::machine::Parser;
+use crate::parser::skip::is_skipped;
 use demangle_sink::{ArraySink, SinkRefused, SizeLimitedFmtAdapter, TextSink};
 use demangle_symbol::cursor::{Looks, Symbol};
-use demangle_words::output::Output;
-use demangle_words::source::Source;
-use demangle_words::stretch::Stretch;
-use demangle_words::texts::text;
+use demangle_v0_tokens::fixed_texts::text;
+use demangle_v0_tokens::output::Output;
+use demangle_v0_tokens::source::Source;
+use demangle_v0_tokens::token::Token;
 use std::test::Fail;
 
 mod rows;
@@ -67,17 +67,17 @@ impl TextSink for CountingSink {
 #[derive(Drop)]
 struct CountingVoice<'s> {
     out: SizeLimitedFmtAdapter<'s, CountingSink>,
-    stretches: usize,
-    last: Stretch,
+    costs_of: usize,
+    last: Token,
 }
 
 impl<'s> CountingVoice<'s> {
     /// Counts a token.
-    fn count(&mut self, stretch: &Stretch)
+    fn count(&mut self, stretch: &Token)
         ensures same { self.new.out ≡ self.old.out }
     {
-        if !matches!(stretch, Stretch::Nothing) {
-            self.stretches = self.stretches.saturating_add(1);
+        if !matches!(stretch, Token::Nothing) {
+            self.costs_of = self.costs_of.saturating_add(1);
             self.last = *stretch;
         }
     }
@@ -97,50 +97,50 @@ impl<'s> Output for CountingVoice<'s> {
     fn emit(
         &mut self,
         source: &Source<'_>,
-        stretch: &Stretch,
+        stretch: &Token,
         looks: &mut Looks,
     ) -> Result<(), SinkRefused> {
         self.count(stretch);
         self.out.emit(source, stretch, looks)
     }
 
-    fn emit_fault(
+    fn emit_error(
         &mut self,
         source: &Source<'_>,
-        stretch: &Stretch,
+        stretch: &Token,
         looks: &mut Looks,
     ) -> Result<(), SinkRefused> {
         self.count(stretch);
-        self.out.emit_fault(source, stretch, looks)
+        self.out.emit_error(source, stretch, looks)
     }
 }
 
 /// Returns whether one step may have added this text, in that many pieces that are not empty.
 ///
-/// The step printed `stretches` tokens, the last of which is `last`.
-fn is_of_one_step(stretches: usize, last: Stretch, added: &str, pieces: usize) -> bool {
-    if stretches > 1 {
+/// The step printed `costs_of` tokens, the last of which is `last`.
+fn is_of_one_step(costs_of: usize, last: Token, added: &str, pieces: usize) -> bool {
+    if costs_of > 1 {
         return false;
     }
     match last {
-        Stretch::Nothing => added.is_empty() && pieces == 0,
-        Stretch::Fixed(mark) => added == text(mark) && pieces <= 1,
+        Token::Nothing => added.is_empty() && pieces == 0,
+        Token::Fixed(pending_text) => added == text(pending_text) && pieces <= 1,
         _ => true,
     }
 }
 
 /// A symbol without its prefix, and the flags of its form.
 #[derive(Clone, Copy)]
-struct Printed<'a> {
+struct PrintedPrefix<'a> {
     inner: &'a str,
     include_hash: bool,
     fold_arguments: bool,
 }
 
-impl<'a> Printed<'a> {
+impl<'a> PrintedPrefix<'a> {
     /// Returns a symbol that is printed with its arguments.
-    fn new(inner: &'a str, include_hash: bool) -> Printed<'a> {
-        Printed {
+    fn new(inner: &'a str, include_hash: bool) -> PrintedPrefix<'a> {
+        PrintedPrefix {
             inner,
             include_hash,
             fold_arguments: false,
@@ -149,7 +149,7 @@ impl<'a> Printed<'a> {
 }
 
 /// Returns whether each step of a parse prints at most one token, and all steps print this text.
-fn steps_print(printed: Printed<'_>, wanted: &str) -> bool {
+fn steps_print(printed: PrintedPrefix<'_>, wanted: &str) -> bool {
     let symbol = Symbol::new(printed.inner);
     let mut looks = Looks::new();
     if !symbol.is_ascii(&mut looks) {
@@ -163,7 +163,7 @@ fn steps_print(printed: Printed<'_>, wanted: &str) -> bool {
     let mut parser: Parser<FULL_STACK> = Parser::at_path(source, 0, &mut looks);
     let mut sink = CountingSink::new();
     for _ in 0..200_000 {
-        match goes_on(&mut parser, &mut sink) {
+        match continues_on(&mut parser, &mut sink) {
             Some(false) => {}
             Some(true) => return sink.text.as_str() == wanted,
             None => return false,
@@ -174,7 +174,7 @@ fn steps_print(printed: Printed<'_>, wanted: &str) -> bool {
 
 /// Does one step, or skips an impl path. Returns whether nothing was left to print, or `None` if the
 /// step printed more than one token or failed.
-fn goes_on(parser: &mut Parser<'_, FULL_STACK>, sink: &mut CountingSink) -> Option<bool>
+fn continues_on(parser: &mut Parser<'_, FULL_STACK>, sink: &mut CountingSink) -> Option<bool>
     requires ascii { IsAscii parser.old.source.symbol.now }
     requires valid { IsValid parser.old }
     ensures valid { result ≡ Some false → IsValid parser.new }
@@ -183,10 +183,10 @@ fn goes_on(parser: &mut Parser<'_, FULL_STACK>, sink: &mut CountingSink) -> Opti
     if parser.stack.len() >= FULL_STACK || sink.is_failed() {
         return None;
     }
-    let Some(at) = parser.resume(0, parser.point) else {
+    let Some(at) = parser.resume(0, parser.continuation) else {
         return Some(true);
     };
-    parser.point = at;
+    parser.continuation = at;
     if is_skipped(at, parser.source.fold_arguments) {
         return match parser.skip_impl_path() {
             None => Some(false),
@@ -196,16 +196,16 @@ fn goes_on(parser: &mut Parser<'_, FULL_STACK>, sink: &mut CountingSink) -> Opti
     let (from, pieces) = (sink.text.as_str().len(), sink.pieces);
     let mut output = CountingVoice {
         out: SizeLimitedFmtAdapter::new(sink, 1_000_000),
-        stretches: 0,
-        last: Stretch::Nothing,
+        costs_of: 0,
+        last: Token::Nothing,
     };
     let Ok(next) = parser.step(at, &mut output) else {
         return None;
     };
-    parser.point = next;
-    let (stretches, last) = (output.stretches, output.last);
+    parser.continuation = next;
+    let (costs_of, last) = (output.costs_of, output.last);
     let added = sink.text.as_str().get(from..)?;
-    if !is_of_one_step(stretches, last, added, sink.pieces.saturating_sub(pieces)) {
+    if !is_of_one_step(costs_of, last, added, sink.pieces.saturating_sub(pieces)) {
         return None;
     }
     Some(false)
@@ -215,7 +215,7 @@ fn goes_on(parser: &mut Parser<'_, FULL_STACK>, sink: &mut CountingSink) -> Opti
 fn all_step(rows: &[(&str, &str, &str)], fold_arguments: bool) -> bool {
     for &(inner, plain, alt) in rows {
         for (include_hash, wanted) in [(true, plain), (false, alt)] {
-            let printed = Printed {
+            let printed = PrintedPrefix {
                 inner,
                 include_hash,
                 fold_arguments,
@@ -247,13 +247,13 @@ fn one_piece_a_step(rt: HostRuntime) -> Result<(), Fail> {
     }
     let wanted = format!(in alloc; "<{tuples}>")?;
     let inner = "MC0TTTTTTpB8_EB7_EB6_EB5_EB4_EB3_E";
-    assert!(rt; steps_print(Printed::new(inner, false), wanted.as_str()));
-    assert!(rt; steps_print(Printed::new(inner, true), wanted.as_str()));
+    assert!(rt; steps_print(PrintedPrefix::new(inner, false), wanted.as_str()));
+    assert!(rt; steps_print(PrintedPrefix::new(inner, true), wanted.as_str()));
     let name = String::from_utf8_lossy(alloc, vec![in alloc; b'R'; 100_000]?.as_slice())?;
     let inner = format!(in alloc; "IC100000{name}B7_E")?;
     let marks = String::from_utf8_lossy(alloc, vec![in alloc; b'&'; 497]?.as_slice())?;
     let wanted = format!(in alloc; "{name}::<{marks}{{recursion limit reached}}>")?;
-    assert!(rt; steps_print(Printed::new(inner.as_str(), false), wanted.as_str()));
-    assert!(rt; steps_print(Printed::new(inner.as_str(), true), wanted.as_str()));
+    assert!(rt; steps_print(PrintedPrefix::new(inner.as_str(), false), wanted.as_str()));
+    assert!(rt; steps_print(PrintedPrefix::new(inner.as_str(), true), wanted.as_str()));
     Ok(())
 }

@@ -2,13 +2,13 @@
 ghost use Rattle.std.specs.Prelude.{◌≡◌, ◌+◌, ◌*◌, ◌≤◌, IsAscii, length};
 ghost use Rattle.demangle_sink.specs.Cut.{kept};
 ghost use Rattle.demangle_sink.specs.Limit.{Prints, Ready};
-ghost use Rattle.demangle_grammar.specs.Reading.{form, path_texts};
+ghost use Rattle.demangle_v0_grammar.specs.Reading.{form, path_texts};
 
-use crate::points::frames::SHORT_STACK;
-use crate::points::parser::Parser;
+use crate::parser::frames::SHORT_STACK;
+use crate::parser::machine::Parser;
 use demangle_sink::{SinkRefused, SizeLimitedFmtAdapter, TextSink};
 use demangle_symbol::cursor::{Looks, Symbol};
-use demangle_words::source::Source;
+use demangle_v0_tokens::source::Source;
 use std::marker::Model;
 
 /// A v0 symbol that was read: the bytes after its prefix, with the suffix.

@@ -6,14 +6,14 @@ ghost use Rattle.std.specs.Prelude.{◌≡◌, ◌+◌, ◌<◌, ◌≤◌, ◌�
 ghost use Prim.Native.Nat.{min};
 ghost use Rattle.std.specs.List.{prefix_len};
 ghost use Rattle.rustc_demangle.specs.Cut.{size};
-ghost use Rattle.rustc_demangle.specs.Filtered.{is_run, begins_run, filtered_within};
+ghost use Rattle.rustc_demangle.specs.Filtered.{is_run_byte, starts_run, filtered_within};
 ghost use Rattle.rustc_demangle.specs.Slice.{overlay};
-ghost use Rattle.demangle_path.specs.Naming.{NamesRust, path_within, c_string};
+ghost use Rattle.demangle_c_string.specs.CString.{IsRustSymbol, path_within, c_string};
 
 #[cfg(test)]
 mod tests;
 
-use demangle_path::{MAX_SIZE, symbol_of, write_part, write_text};
+use demangle_c_string::{MAX_SIZE, symbol_of, write_part, write_text};
 use rustc_demangle::{run_len, run_start};
 
 /// Returns `true` if the bytes are a Rust symbol, after a suffix of ThinLTO is removed.
@@ -22,7 +22,7 @@ use rustc_demangle::{run_len, run_start};
 /// a program that lists symbols can call it for each.
 #[unsafe(no_mangle)]
 pub extern "C" fn kodliwe_is_symbol(symbol: &[u8]) -> bool
-    ensures { IsTrue result ↔ NamesRust symbol.now }
+    ensures { IsTrue result ↔ IsRustSymbol symbol.now }
 {
     symbol_of(symbol).is_some()
 }
@@ -45,10 +45,10 @@ pub extern "C" fn kodliwe_demangle_limited(
     include_hash: bool,
     limit: usize,
 ) -> usize
-    ensures none { (NamesRust symbol.now → ⊥) → (result ≡ 0) × (out.new ≡ out.old) }
-    ensures size { NamesRust symbol.now →
+    ensures none { (IsRustSymbol symbol.now → ⊥) → (result ≡ 0) × (out.new ≡ out.old) }
+    ensures size { IsRustSymbol symbol.now →
         result ≡ length (path_within symbol.now include_hash (min limit MAX_SIZE)) + 1 }
-    ensures text { NamesRust symbol.now →
+    ensures text { IsRustSymbol symbol.now →
         let path = path_within symbol.now include_hash (min limit MAX_SIZE) in
         out.new ≡ overlay out.old (c_string (length out.old) path) }
 {
@@ -89,8 +89,8 @@ pub extern "C" fn kodliwe_demangle_text(
 #[unsafe(no_mangle)]
 pub extern "C" fn kodliwe_run_start(text: &[u8]) -> usize
     ensures within { result ≤ length text.now }
-    ensures before { (k : ℕ) → k < result → begins_run (drop k text.now) ≡ false }
-    ensures at { result < length text.now → begins_run (drop result text.now) ≡ true }
+    ensures before { (k : ℕ) → k < result → starts_run (drop k text.now) ≡ false }
+    ensures at { result < length text.now → starts_run (drop result text.now) ≡ true }
 {
     match run_start(text) {
         Some(start) => start,
@@ -102,7 +102,7 @@ pub extern "C" fn kodliwe_run_start(text: &[u8]) -> usize
 /// letters and digits, `$`, `.` and `_`.
 #[unsafe(no_mangle)]
 pub extern "C" fn kodliwe_run_len(text: &[u8]) -> usize
-    ensures { result ≡ prefix_len is_run text.now }
+    ensures { result ≡ prefix_len is_run_byte text.now }
 {
     run_len(text)
 }

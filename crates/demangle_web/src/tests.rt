@@ -5,7 +5,7 @@ use crate::{
 };
 
 #[test]
-fn a_path_and_its_end_stand_in_the_memory(rt: HostRuntime) {
+fn a_path_and_its_nul_are_written(rt: HostRuntime) {
     let mut out = [9; 40];
     let want = kodliwe_demangle_limited(b"_ZN3foo17h05af221e174051e9E", &mut out, true, 100);
     assert_eq!(rt; want, 23);

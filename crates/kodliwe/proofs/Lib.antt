@@ -1,2 +1,2 @@
-pub mod RunLemmas
-pub mod WordLemmas
+pub mod FilteringLemmas
+pub mod ArgumentLemmas

@@ -1,6 +1,6 @@
 -- The definitions that a reader of the program's contracts has to believe.
-pub mod Run
+pub mod Filtering
 pub mod CommandLine
 -- Internal: no public contract cites these.
-pub mod Output
-pub mod OneWord
+pub mod Coalescing
+pub mod OneArgument

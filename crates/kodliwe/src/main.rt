@@ -1,20 +1,20 @@
 //! Copies texts with each Rust symbol demangled.
 #![tactic(auto)]
 
-mod fault;
+mod arguments;
+mod coalescing;
+mod error;
+mod filtering;
+mod help;
+mod inputs;
 mod noting;
-mod output;
 mod program;
-mod replacing;
-mod run;
+mod replacement;
 mod same_file;
-mod streams;
 #[cfg(test)]
 mod tests;
-mod texts;
-mod words;
 
-use program::{Host, start, words_fault};
+use program::{Host, arguments_error, start};
 use std::io::Write;
 use std::process::ExitCode;
 use std::rt::Env;
@@ -22,18 +22,18 @@ use std::{env, io};
 
 /// Returns the arguments after the program's name. Fails if one is not UTF-8 or memory can't be
 /// allocated.
-fn arguments(rt: &(impl Env + AllocGlobal)) -> io::Result<Vec<String>> {
-    let words = env::args(rt)?;
-    Ok(words.skip(1).collect::<Vec<String>>(rt.alloc())?)
+fn read_arguments(rt: &(impl Env + AllocGlobal)) -> io::Result<Vec<String>> {
+    let arguments = env::args(rt)?;
+    Ok(arguments.skip(1).collect::<Vec<String>>(rt.alloc())?)
 }
 
 fn main(rt: HostRuntime) -> ExitCode {
     let alloc = rt.alloc();
     let mut errors = rt.stderr().lock();
-    let words = match arguments(&rt) {
-        Ok(words) => words,
+    let arguments = match read_arguments(&rt) {
+        Ok(arguments) => arguments,
         Err(error) => {
-            let (line, status) = words_fault(&error);
+            let (line, status) = arguments_error(&error);
             let _ = errors.write_all(line.as_bytes());
             return ExitCode::from(status);
         }
@@ -45,5 +45,5 @@ fn main(rt: HostRuntime) -> ExitCode {
         stdout: rt.stdout().lock(),
         errors,
     };
-    ExitCode::from(start(host, words.as_slice()))
+    ExitCode::from(start(host, arguments.as_slice()))
 }

@@ -1,7 +1,7 @@
 //! Notes inputs that are compressed or encoded.
 ghost use Rattle.std.specs.Prelude.{◌≡◌};
 
-use crate::fault::shown_name;
+use crate::error::shown_name;
 use std::alloc::{AllocError, Global};
 use std::io;
 use std::io::{Read, Write};

@@ -1,14 +1,14 @@
 //! Runs the program on any file system and standard streams.
 ghost use Rattle.std.specs.Prelude.{◌≡◌, ◌<◌, ◌∷◌, [], length, IfOk, OnOk};
 
-use crate::fault::{OUT_OF_MEMORY, quoted, report_call, shown_name};
-use crate::output::Output;
-use crate::replacing::{Replacement, folder_of, open_output};
-use crate::run::{BUFFER, Ended, Input, Settings, run};
+use crate::arguments::{Command, InputSource, Request, Target, UsageError, parse_arguments};
+use crate::coalescing::CoalescingOutput;
+use crate::error::{OUT_OF_MEMORY, quoted, report_call, shown_name};
+use crate::filtering::{BUFFER, FilterOutcome, Input, Settings, filter_all};
+use crate::help::{HELP, VERSION, WAITING};
+use crate::inputs::{SourceReader, source_name};
+use crate::replacement::{Replacement, folder_of, open_output};
 use crate::same_file::input_that_is_output;
-use crate::streams::{SourceReader, source_name};
-use crate::texts::{HELP, VERSION, WAITING};
-use crate::words::{Asked, Request, Source, Target, WordsFault, read_words};
 use rustc_demangle::Format;
 use std::alloc::{AllocError, Global};
 use std::fs::{Files, OpenFile};
@@ -26,7 +26,7 @@ pub struct Host<'a, F: Files, W: Write + Drop, E: Write + Drop> {
 }
 
 /// Writes a line to `errors`, and returns the status. An error of `errors` is ignored.
-fn tell<E: Write>(errors: &mut E, line: &str, status: u8) -> u8
+fn report_line<E: Write>(errors: &mut E, line: &str, status: u8) -> u8
     ensures { result ≡ status }
 {
     let _ = errors.write_all(line.as_bytes());
@@ -34,43 +34,47 @@ fn tell<E: Write>(errors: &mut E, line: &str, status: u8) -> u8
 }
 
 /// Returns the name of the option in an argument, which may include the option's value.
-fn option_name<'a>(word: &str, short: &'a str, long: &'a str) -> &'a str {
-    if word.starts_with("--") { long } else { short }
+fn option_name<'a>(argument: &str, short: &'a str, long: &'a str) -> &'a str {
+    if argument.starts_with("--") {
+        long
+    } else {
+        short
+    }
 }
 
 /// Returns the line for arguments that are not valid. Fails if memory can't be allocated.
-fn usage_line(alloc: Global, fault: WordsFault<'_>) -> Result<String, AllocError> {
+fn usage_line(alloc: Global, fault: UsageError<'_>) -> Result<String, AllocError> {
     match fault {
-        WordsFault::Unknown(word) => {
-            let word = quoted(alloc, word)?;
-            format!(in alloc; "kodliwe: unknown option {word}; try 'kodliwe --help'\n")
+        UsageError::Unknown(argument) => {
+            let argument = quoted(alloc, argument)?;
+            format!(in alloc; "kodliwe: unknown option {argument}; try 'kodliwe --help'\n")
         }
-        WordsFault::NoFile(word) => {
-            format!(in alloc; "kodliwe: option '{word}' needs a FILE; try 'kodliwe --help'\n")
+        UsageError::NoFile(argument) => {
+            format!(in alloc; "kodliwe: option '{argument}' needs a FILE; try 'kodliwe --help'\n")
         }
-        WordsFault::NoNumber(word) => {
+        UsageError::NoNumber(argument) => {
             let needs = "needs a number of BYTES";
-            format!(in alloc; "kodliwe: option '{word}' {needs}; try 'kodliwe --help'\n")
+            format!(in alloc; "kodliwe: option '{argument}' {needs}; try 'kodliwe --help'\n")
         }
-        WordsFault::BadNumber(word, value) => {
-            let name = option_name(word, "-l", "--limit");
+        UsageError::BadNumber(argument, value) => {
+            let name = option_name(argument, "-l", "--limit");
             let value = quoted(alloc, value)?;
             let fault = "is not a number of bytes below 2^64";
             format!(in alloc; "kodliwe: option '{name}': {value} {fault}\n")
         }
-        WordsFault::SecondOutput(word) => {
-            let name = option_name(word, "-o", "--output");
+        UsageError::SecondOutput(argument) => {
+            let name = option_name(argument, "-o", "--output");
             format!(in alloc; "kodliwe: option '{name}' may be given once; try 'kodliwe --help'\n")
         }
-        WordsFault::Memory => Err(AllocError),
+        UsageError::Memory => Err(AllocError),
     }
 }
 
 /// Writes the line for arguments that are not valid, and returns the status.
-fn refuse_words<E: Write>(alloc: Global, errors: &mut E, fault: WordsFault<'_>) -> u8 {
+fn report_usage_error<E: Write>(alloc: Global, errors: &mut E, fault: UsageError<'_>) -> u8 {
     match usage_line(alloc, fault) {
-        Ok(line) => tell(errors, line.as_str(), 2),
-        Err(_) => tell(errors, OUT_OF_MEMORY, 1),
+        Ok(line) => report_line(errors, line.as_str(), 2),
+        Err(_) => report_line(errors, OUT_OF_MEMORY, 1),
     }
 }
 
@@ -92,7 +96,7 @@ fn open_inputs<'a, F: Files>(
     alloc: Global,
     files: &'a F,
     stdin: Stdin,
-    sources: Vec<Source<'a>>,
+    sources: Vec<InputSource<'a>>,
 ) -> Result<Vec<Input<'a, SourceReader<'a, F>>>, AllocError>
     ensures { IfOk result (λ inputs. length inputs.items ≡ length sources.entry.items) }
 {
@@ -106,13 +110,13 @@ fn open_inputs<'a, F: Files>(
 }
 
 /// Adds standard input if there are no sources. Fails if memory can't be allocated.
-fn add_default(sources: &mut Vec<Source<'_>>) -> Result<(), AllocError>
+fn add_default(sources: &mut Vec<InputSource<'_>>) -> Result<(), AllocError>
     ensures none { sources.old.items ≡ [] → OnOk result (sources.new.items
-        ≡ Source.Stdin ∷ []) }
+        ≡ InputSource.Stdin ∷ []) }
     ensures some { 0 < length sources.old.items → sources.new.items ≡ sources.old.items }
 {
     if sources.is_empty() {
-        sources.push(Source::Stdin)?;
+        sources.push(InputSource::Stdin)?;
     }
     Ok(())
 }
@@ -150,10 +154,10 @@ impl<F: Files> Filtering<'_, F> {
             settings,
         } = self;
         let Ok(buffer) = BufWriter::with_capacity(settings.alloc, BUFFER, writer) else {
-            return tell(errors, OUT_OF_MEMORY, 1);
+            return report_line(errors, OUT_OF_MEMORY, 1);
         };
-        let mut output = Output::new(buffer);
-        run(settings, inputs, &mut output, errors).status()
+        let mut output = CoalescingOutput::new(buffer);
+        filter_all(settings, inputs, &mut output, errors).status()
     }
 
     /// Filters into a file, and gives it its name when it is complete. Removes it after an error.
@@ -171,13 +175,13 @@ impl<F: Files> Filtering<'_, F> {
             settings,
         } = self;
         let Ok(buffer) = BufWriter::with_capacity(settings.alloc, BUFFER, file) else {
-            replacement.give_up(files);
-            return tell(errors, OUT_OF_MEMORY, 1);
+            replacement.discard(files);
+            return report_line(errors, OUT_OF_MEMORY, 1);
         };
-        let mut output = Output::new(buffer);
-        let ended = run(settings, inputs, &mut output, errors);
-        if ended != Ended::Complete {
-            replacement.give_up(files);
+        let mut output = CoalescingOutput::new(buffer);
+        let ended = filter_all(settings, inputs, &mut output, errors);
+        if ended != FilterOutcome::Complete {
+            replacement.discard(files);
             return ended.status();
         }
         let finished = match output.get_ref().sync_all() {
@@ -187,7 +191,7 @@ impl<F: Files> Filtering<'_, F> {
         match finished {
             Ok(()) => 0,
             Err(error) => {
-                replacement.give_up(files);
+                replacement.discard(files);
                 report_call(settings.alloc, errors, path, &error);
                 1
             }
@@ -225,22 +229,22 @@ fn write_line<E: Write>(errors: &mut E, line: Result<String, AllocError>) {
 }
 
 /// Returns the note for an argument that names a file. Fails if memory can't be allocated.
-fn file_note(alloc: Global, word: &str) -> Result<String, AllocError> {
-    let name = quoted(alloc, word)?;
+fn file_note(alloc: Global, argument: &str) -> Result<String, AllocError> {
+    let name = quoted(alloc, argument)?;
     format!(in alloc; "kodliwe: note: {name} is a file; use -i to read it\n")
 }
 
 /// Writes a note if an argument names a regular file.
-fn note_file<F: Files, E: Write>(alloc: Global, files: &F, errors: &mut E, word: Option<&str>) {
-    let Some(word) = word else {
+fn note_file<F: Files, E: Write>(alloc: Global, files: &F, errors: &mut E, argument: Option<&str>) {
+    let Some(argument) = argument else {
         return;
     };
-    let is_file = match files.metadata(word) {
+    let is_file = match files.metadata(argument) {
         Ok(found) => found.is_file(),
         Err(_) => false,
     };
     if is_file {
-        write_line(errors, file_note(alloc, word));
+        write_line(errors, file_note(alloc, argument));
     }
 }
 
@@ -255,7 +259,7 @@ fn reads_output<F: Files, E: Write>(
     alloc: Global,
     files: &F,
     errors: &mut E,
-    sources: &[Source<'_>],
+    sources: &[InputSource<'_>],
 ) -> bool {
     match input_that_is_output(files, sources) {
         Some(name) => {
@@ -271,7 +275,7 @@ fn reads_output<F: Files, E: Write>(
 fn read_default<E: Write>(
     stdin: &Stdin,
     errors: &mut E,
-    sources: &mut Vec<Source<'_>>,
+    sources: &mut Vec<InputSource<'_>>,
 ) -> Result<(), AllocError> {
     let is_default = sources.is_empty();
     add_default(sources)?;
@@ -295,16 +299,16 @@ fn filter<'a, F: Files, W: Write + Drop, E: Write + Drop>(
     } = host;
     let settings = settings_of(alloc, &request);
     let target = request.output.unwrap_or(Target::Stdout);
-    let plain_word = request.plain_word;
+    let plain_argument = request.plain_argument;
     let mut sources = request.sources;
     if read_default(&stdin, &mut errors, &mut sources).is_err() {
-        return tell(&mut errors, OUT_OF_MEMORY, 1);
+        return report_line(&mut errors, OUT_OF_MEMORY, 1);
     }
     if target == Target::Stdout && reads_output(alloc, files, &mut errors, sources.as_slice()) {
         return 1;
     }
     let Ok(inputs) = open_inputs(alloc, files, stdin, sources) else {
-        return tell(&mut errors, OUT_OF_MEMORY, 1);
+        return report_line(&mut errors, OUT_OF_MEMORY, 1);
     };
     let filtering = Filtering {
         files,
@@ -317,7 +321,7 @@ fn filter<'a, F: Files, W: Write + Drop, E: Write + Drop>(
     };
     if status == 0 {
         // A user who gives an argument without a symbol may have meant a file.
-        note_file(alloc, files, &mut errors, plain_word);
+        note_file(alloc, files, &mut errors, plain_argument);
     }
     status
 }
@@ -325,12 +329,12 @@ fn filter<'a, F: Files, W: Write + Drop, E: Write + Drop>(
 /// Runs the program on the arguments after its name, and returns the exit status.
 pub fn start<'a, F: Files, W: Write + Drop, E: Write + Drop>(
     host: Host<'a, F, W, E>,
-    words: &'a [String],
+    arguments: &'a [String],
 ) -> u8 {
-    let request = match read_words(host.alloc, words) {
-        Ok(Asked::Filter(request)) => return filter(host, request),
-        Ok(Asked::Help) => Ok(HELP),
-        Ok(Asked::Version) => Ok(VERSION),
+    let request = match parse_arguments(host.alloc, arguments) {
+        Ok(Command::Filter(request)) => return filter(host, request),
+        Ok(Command::Help) => Ok(HELP),
+        Ok(Command::Version) => Ok(VERSION),
         Err(fault) => Err(fault),
     };
     let Host {
@@ -341,12 +345,12 @@ pub fn start<'a, F: Files, W: Write + Drop, E: Write + Drop>(
     } = host;
     match request {
         Ok(text) => write_text(alloc, text, &mut stdout, &mut errors),
-        Err(fault) => refuse_words(alloc, &mut errors, fault),
+        Err(fault) => report_usage_error(alloc, &mut errors, fault),
     }
 }
 
 /// Returns the line and the exit status if the arguments can't be read.
-pub fn words_fault(error: &io::Error) -> (&'static str, u8) {
+pub fn arguments_error(error: &io::Error) -> (&'static str, u8) {
     if error.kind() == ErrorKind::OutOfMemory {
         (OUT_OF_MEMORY, 1)
     } else {

@@ -1,6 +1,6 @@
 //! Finds an input that is the file to which standard output writes.
-use crate::streams::source_name;
-use crate::words::Source;
+use crate::arguments::InputSource;
+use crate::inputs::source_name;
 use std::fs::Files;
 use std::os::unix::fs::MetadataExt;
 
@@ -24,11 +24,11 @@ fn regular_file<F: Files>(files: &F, path: &str) -> Option<FileId> {
 }
 
 /// Returns whether a source is this file.
-fn is_same<F: Files>(files: &F, source: &Source<'_>, output: FileId) -> bool {
+fn is_same<F: Files>(files: &F, source: &InputSource<'_>, output: FileId) -> bool {
     let input = match source {
-        Source::Stdin => regular_file(files, "/dev/stdin"),
-        Source::File(path) => regular_file(files, path),
-        Source::Symbols(_) => None,
+        InputSource::Stdin => regular_file(files, "/dev/stdin"),
+        InputSource::File(path) => regular_file(files, path),
+        InputSource::Symbols(_) => None,
     };
     match input {
         Some(input) => input.device == output.device && input.inode == output.inode,
@@ -37,7 +37,10 @@ fn is_same<F: Files>(files: &F, source: &Source<'_>, output: FileId) -> bool {
 }
 
 /// Returns the name of the first source that is the regular file to which standard output writes.
-pub fn input_that_is_output<'a, F: Files>(files: &F, sources: &[Source<'a>]) -> Option<&'a str> {
+pub fn input_that_is_output<'a, F: Files>(
+    files: &F,
+    sources: &[InputSource<'a>],
+) -> Option<&'a str> {
     let output = regular_file(files, "/dev/stdout")?;
     for source in sources {
         if is_same(files, source, output) {

@@ -6,11 +6,11 @@ use Rattle.std.proofs.lemmas.List.{take-append-drop}
 use Rattle.std.proofs.lemmas.List.Sums.{take_while-cons}
 use Rattle.std.specs.List.{prefix_len, take_while, list_all}
 use Rattle.std.proofs.lemmas.Bool.{true≢false}
-use Rattle.demangle_grammar.specs.Reading.{form}
+use Rattle.demangle_v0_grammar.specs.Reading.{form}
 use Rattle.rustc_demangle.specs.Stripped.{stripped}
 use Rattle.rustc_demangle.specs.Symbols.{IsSymbol, pieces_of, printed}
 use Rattle.rustc_demangle.proofs.SymbolSteps.{symbol-pieces, pieces-symbol}
-use Rattle.rustc_demangle.specs.Filtered.{is_run, begins_run, HasNoStart, NoRunFirst, IsRun, StandsFor, AreReplaced, IsFiltered, replacement, filtered_by, filtered}
+use Rattle.rustc_demangle.specs.Filtered.{is_run_byte, starts_run, HasNoStart, StartsOutsideRun, IsRun, IsReplacement, AreReplaced, IsFiltered, replacement, filtered_by, filtered}
 use Rattle.rustc_demangle.proofs.RunSteps.{turn, filtered_other, filtered_run, filtered_all, begins_with, first_of_run, replacement-symbol, replacement-no_symbol}
 
 cases : (b : Bool) → (b ≡ true) ⊎ (b ≡ false)
@@ -18,44 +18,44 @@ cases true = inl refl
 cases false = inr refl
 
 -- a text that begins a run still does so with more behind it
-begins_append : (s rest : List ℕ) → begins_run s ≡ true → begins_run (s ++ rest) ≡ true
+begins_append : (s rest : List ℕ) → starts_run s ≡ true → starts_run (s ++ rest) ≡ true
 begins_append s rest some = let w = begins_with s some in elim (w.1) [
-  | inl e ↦ ap (λ l. begins_run (l ++ rest)) e
-  | inr e ↦ ap (λ l. begins_run (l ++ rest)) e
+  | inl e ↦ ap (λ l. starts_run (l ++ rest)) e
+  | inr e ↦ ap (λ l. starts_run (l ++ rest)) e
 ]
 
-shorter : (s rest : List ℕ) → begins_run (s ++ rest) ≡ false → begins_run s ≡ false
-shorter s rest none = elim (cases (begins_run s)) [
+shorter : (s rest : List ℕ) → starts_run (s ++ rest) ≡ false → starts_run s ≡ false
+shorter s rest none = elim (cases (starts_run s)) [
   | inl some ↦ absurd (true≢false (sym (begins_append s rest some) ∙ none))
   | inr e ↦ e
 ]
 
 none_in_none : HasNoStart []
-none_in_none [] rest e = ap begins_run (sym e)
+none_in_none [] rest e = ap starts_run (sym e)
 none_in_none (b ∷ before) rest e = cc
 
 -- nothing follows, or a run
 abbrev Starts : List ℕ → Type 0
-Starts rest = (rest ≡ []) ⊎ (begins_run rest ≡ true)
+Starts rest = (rest ≡ []) ⊎ (starts_run rest ≡ true)
 
 not_inside : (b : ℕ) (t rest : List ℕ) → b ≢ 95 → rest ≡ b ∷ t → Starts rest → ⊥
 not_inside b t rest ne e (inl none) = cc
 not_inside b t rest ne e (inr some) = ne (ap (λ l. get_or l 0 0) (sym e) ∙ first_of_run rest some)
 
 -- no run begins over the seam
-over_seam : (c : ℕ) (p rest t : List ℕ) → Starts rest → (c ∷ p) ++ rest ≡ codes "_ZN" ++ t ⊎ (c ∷ p) ++ rest ≡ codes "_R" ++ t → begins_run (c ∷ p) ≡ true
+over_seam : (c : ℕ) (p rest t : List ℕ) → Starts rest → (c ∷ p) ++ rest ≡ codes "_ZN" ++ t ⊎ (c ∷ p) ++ rest ≡ codes "_R" ++ t → starts_run (c ∷ p) ≡ true
 over_seam c [] rest t starts (inl e) = absurd (not_inside 90 (78 ∷ t) rest (λ same. omega (arith, same)) (ap (drop 1) e) starts)
 over_seam c [] rest t starts (inr e) = absurd (not_inside 82 t rest (λ same. omega (arith, same)) (ap (drop 1) e) starts)
 over_seam c (d ∷ []) rest t starts (inl e) = absurd (not_inside 78 t rest (λ same. omega (arith, same)) (ap (drop 2) e) starts)
 over_seam c (d ∷ p) rest t starts (inr e) =
-    subst (λ x. begins_run (x ∷ d ∷ p) ≡ true) (sym (ap (λ l. get_or l 0 0) e)) (subst (λ x. begins_run (95 ∷ x ∷ p) ≡ true) (sym (ap (λ l. get_or l 1 0) e)) refl)
+    subst (λ x. starts_run (x ∷ d ∷ p) ≡ true) (sym (ap (λ l. get_or l 0 0) e)) (subst (λ x. starts_run (95 ∷ x ∷ p) ≡ true) (sym (ap (λ l. get_or l 1 0) e)) refl)
 over_seam c (d ∷ f ∷ p) rest t starts (inl e) =
-    subst (λ x. begins_run (x ∷ d ∷ f ∷ p) ≡ true) (sym (ap (λ l. get_or l 0 0) e))
-    (subst (λ x. begins_run (95 ∷ x ∷ f ∷ p) ≡ true) (sym (ap (λ l. get_or l 1 0) e))
-    (subst (λ x. begins_run (95 ∷ 90 ∷ x ∷ p) ≡ true) (sym (ap (λ l. get_or l 2 0) e)) refl))
+    subst (λ x. starts_run (x ∷ d ∷ f ∷ p) ≡ true) (sym (ap (λ l. get_or l 0 0) e))
+    (subst (λ x. starts_run (95 ∷ x ∷ f ∷ p) ≡ true) (sym (ap (λ l. get_or l 1 0) e))
+    (subst (λ x. starts_run (95 ∷ 90 ∷ x ∷ p) ≡ true) (sym (ap (λ l. get_or l 2 0) e)) refl))
 
-no_start_append : (c : ℕ) (p rest : List ℕ) → begins_run (c ∷ p) ≡ false → Starts rest → begins_run ((c ∷ p) ++ rest) ≡ false
-no_start_append c p rest none starts = elim (cases (begins_run ((c ∷ p) ++ rest))) [
+no_start_append : (c : ℕ) (p rest : List ℕ) → starts_run (c ∷ p) ≡ false → Starts rest → starts_run ((c ∷ p) ++ rest) ≡ false
+no_start_append c p rest none starts = elim (cases (starts_run ((c ∷ p) ++ rest))) [
   | inl some ↦ let w = begins_with ((c ∷ p) ++ rest) some in absurd (true≢false (sym (over_seam c p rest w.0 starts w.1) ∙ none))
   | inr e ↦ e
 ]
@@ -71,75 +71,75 @@ filtered-kept h (c ∷ p) rest none starts =
     ∙ ap (λ l. c ∷ l) (filtered-kept h p rest (tail_no_start c p none) starts)
 
 -- the run in front
-run_len : (run behind : List ℕ) → list_all is_run run ≡ true → NoRunFirst behind → prefix_len is_run (run ++ behind) ≡ length run
+run_len : (run following : List ℕ) → list_all is_run_byte run ≡ true → StartsOutsideRun following → prefix_len is_run_byte (run ++ following) ≡ length run
 run_len [] [] all stop = refl
-run_len [] (c ∷ behind) all stop = ap (λ b. cond b (1 + prefix_len is_run behind) 0) stop
-run_len (c ∷ run) behind all stop = elim (cases (is_run c)) [
-  | inl is ↦ ap (λ b. cond b (1 + prefix_len is_run (run ++ behind)) 0) is
-      ∙ ap (λ n. 1 + n) (run_len run behind (sym (ap (λ b. b && list_all is_run run) is) ∙ all) stop) ∙ omega arith
-  | inr not ↦ absurd (true≢false (sym all ∙ ap (λ b. b && list_all is_run run) not))
+run_len [] (c ∷ following) all stop = ap (λ b. cond b (1 + prefix_len is_run_byte following) 0) stop
+run_len (c ∷ run) following all stop = elim (cases (is_run_byte c)) [
+  | inl is ↦ ap (λ b. cond b (1 + prefix_len is_run_byte (run ++ following)) 0) is
+      ∙ ap (λ n. 1 + n) (run_len run following (sym (ap (λ b. b && list_all is_run_byte run) is) ∙ all) stop) ∙ omega arith
+  | inr not ↦ absurd (true≢false (sym all ∙ ap (λ b. b && list_all is_run_byte run) not))
 ]
 
-filtered-run : (h : Bool) (run behind : List ℕ) → IsRun run behind → filtered h (run ++ behind) ≡ replacement h run ++ filtered h behind
-filtered-run h run behind is =
-    let n = run_len run behind is.all is.longest in
-    filtered_run (replacement h) (run ++ behind) (begins_append run behind is.begins)
-    ∙ ap (λ k. replacement h (take k (run ++ behind)) ++ filtered h (drop k (run ++ behind))) n
-    ∙ ap (λ l. replacement h l ++ filtered h (drop (length run) (run ++ behind))) (take-append_seam run behind)
-    ∙ ap (λ l. replacement h run ++ filtered h l) (drop-append_seam run behind)
+filtered-run : (h : Bool) (run following : List ℕ) → IsRun run following → filtered h (run ++ following) ≡ replacement h run ++ filtered h following
+filtered-run h run following is =
+    let n = run_len run following is.all is.longest in
+    filtered_run (replacement h) (run ++ following) (begins_append run following is.begins)
+    ∙ ap (λ k. replacement h (take k (run ++ following)) ++ filtered h (drop k (run ++ following))) n
+    ∙ ap (λ l. replacement h l ++ filtered h (drop (length run) (run ++ following))) (take-append_seam run following)
+    ∙ ap (λ l. replacement h run ++ filtered h l) (drop-append_seam run following)
 
-stands : (h : Bool) (run text : List ℕ) → StandsFor h run text → text ≡ replacement h run
+stands : (h : Bool) (run text : List ℕ) → IsReplacement h run text → text ≡ replacement h run
 stands h run text (inl s) = s.1 ∙ sym (replacement-symbol h run s.0)
 stands h run text (inr s) = s.1 ∙ sym (replacement-no_symbol h run s.0)
 
 starts_of : (h : Bool) (parts : List (List ℕ × List ℕ)) (line out : List ℕ) → AreReplaced h parts line out → Starts line
 starts_of h [] line out is = inl is.0
 starts_of h ((run, kept) ∷ parts) line out is =
-    inr (subst (λ l. begins_run l ≡ true) (sym is.3) (begins_append run (kept ++ is.0) is.5.begins))
+    inr (subst (λ l. starts_run l ≡ true) (sym is.3) (begins_append run (kept ++ is.0) is.5.begins))
 
 runs_only : (h : Bool) (parts : List (List ℕ × List ℕ)) (line out : List ℕ) → AreReplaced h parts line out → out ≡ filtered h line
 unfolding filtered_by
 runs_only h [] line out is = is.1 ∙ sym (ap (filtered h) is.0)
 runs_only h ((run, kept) ∷ parts) line out is =
     let rest_is : is.2 ≡ filtered h is.0 = runs_only h parts is.0 is.2 is.8 in
-    let behind : filtered h (kept ++ is.0) ≡ kept ++ filtered h is.0 = filtered-kept h kept is.0 is.7 (starts_of h parts is.0 is.2 is.8) in
+    let following : filtered h (kept ++ is.0) ≡ kept ++ filtered h is.0 = filtered-kept h kept is.0 is.7 (starts_of h parts is.0 is.2 is.8) in
     is.4 ∙ ap (λ l. l ++ (kept ++ is.2)) (stands h run is.1 is.6) ∙ ap (λ l. replacement h run ++ (kept ++ l)) rest_is
-    ∙ ap (λ l. replacement h run ++ l) (sym behind) ∙ sym (filtered-run h run (kept ++ is.0) is.5) ∙ sym (ap (filtered h) is.3)
+    ∙ ap (λ l. replacement h run ++ l) (sym following) ∙ sym (filtered-run h run (kept ++ is.0) is.5) ∙ sym (ap (filtered h) is.3)
 
 pub filtered_only : (h : Bool) (line out : List ℕ) → IsFiltered h line out → out ≡ filtered h line
 filtered_only h line out is =
-    is.shown ∙ ap (λ l. is.kept ++ l) (runs_only h is.parts is.rest is.rest_out is.runs)
+    is.available ∙ ap (λ l. is.kept ++ l) (runs_only h is.parts is.rest is.rest_out is.runs)
     ∙ sym (filtered-kept h is.kept is.rest is.no_start (starts_of h is.parts is.rest is.rest_out is.runs)) ∙ sym (ap (filtered h) is.whole)
 
 -- the longest run in front
-pub run_all : (s : List ℕ) → list_all is_run (take_while is_run s) ≡ true
+pub run_all : (s : List ℕ) → list_all is_run_byte (take_while is_run_byte s) ≡ true
 run_all [] = refl
-run_all (c ∷ s) = elim (cases (is_run c)) [
-  | inl is ↦ ap (list_all is_run) (take_while-cons is_run c s ∙ ap (λ b. cond b (c ∷ take_while is_run s) []) is)
-      ∙ ap (λ b. b && list_all is_run (take_while is_run s)) is ∙ run_all s
-  | inr not ↦ ap (list_all is_run) (take_while-cons is_run c s ∙ ap (λ b. cond b (c ∷ take_while is_run s) []) not)
+run_all (c ∷ s) = elim (cases (is_run_byte c)) [
+  | inl is ↦ ap (list_all is_run_byte) (take_while-cons is_run_byte c s ∙ ap (λ b. cond b (c ∷ take_while is_run_byte s) []) is)
+      ∙ ap (λ b. b && list_all is_run_byte (take_while is_run_byte s)) is ∙ run_all s
+  | inr not ↦ ap (list_all is_run_byte) (take_while-cons is_run_byte c s ∙ ap (λ b. cond b (c ∷ take_while is_run_byte s) []) not)
 ]
 
-run_stops : (s : List ℕ) → NoRunFirst (drop (prefix_len is_run s) s)
+run_stops : (s : List ℕ) → StartsOutsideRun (drop (prefix_len is_run_byte s) s)
 run_stops [] = tt
-run_stops (c ∷ s) = elim (cases (is_run c)) [
+run_stops (c ∷ s) = elim (cases (is_run_byte c)) [
   | inl is ↦
-      let count : prefix_len is_run (c ∷ s) ≡ suc (prefix_len is_run s) = ap (λ b. cond b (1 + prefix_len is_run s) 0) is ∙ omega arith in
-      subst (λ n. NoRunFirst (drop n (c ∷ s))) (sym count) (run_stops s)
-  | inr not ↦ subst (λ n. NoRunFirst (drop n (c ∷ s))) (sym (ap (λ b. cond b (1 + prefix_len is_run s) 0) not)) not
+      let count : prefix_len is_run_byte (c ∷ s) ≡ suc (prefix_len is_run_byte s) = ap (λ b. cond b (1 + prefix_len is_run_byte s) 0) is ∙ omega arith in
+      subst (λ n. StartsOutsideRun (drop n (c ∷ s))) (sym count) (run_stops s)
+  | inr not ↦ subst (λ n. StartsOutsideRun (drop n (c ∷ s))) (sym (ap (λ b. cond b (1 + prefix_len is_run_byte s) 0) not)) not
 ]
 
-begins_front : (s : List ℕ) → begins_run s ≡ true → begins_run (take_while is_run s) ≡ true
-begins_front s some = let w = begins_with s some in elim (w.1) [
-  | inl e ↦ subst (λ l. begins_run (take_while is_run l) ≡ true) (sym e) (zn w.0)
-  | inr e ↦ subst (λ l. begins_run (take_while is_run l) ≡ true) (sym e) (r w.0)
+begins_prefix : (s : List ℕ) → starts_run s ≡ true → starts_run (take_while is_run_byte s) ≡ true
+begins_prefix s some = let w = begins_with s some in elim (w.1) [
+  | inl e ↦ subst (λ l. starts_run (take_while is_run_byte l) ≡ true) (sym e) (zn w.0)
+  | inr e ↦ subst (λ l. starts_run (take_while is_run_byte l) ≡ true) (sym e) (r w.0)
 ]
   where
-    zn : (t : List ℕ) → begins_run (take_while is_run (95 ∷ 90 ∷ 78 ∷ t)) ≡ true
-    zn t = ap begins_run (take_while-cons is_run 95 (90 ∷ 78 ∷ t) ∙ ap (λ l. 95 ∷ l) (take_while-cons is_run 90 (78 ∷ t) ∙ ap (λ l. 90 ∷ l) (take_while-cons is_run 78 t)))
+    zn : (t : List ℕ) → starts_run (take_while is_run_byte (95 ∷ 90 ∷ 78 ∷ t)) ≡ true
+    zn t = ap starts_run (take_while-cons is_run_byte 95 (90 ∷ 78 ∷ t) ∙ ap (λ l. 95 ∷ l) (take_while-cons is_run_byte 90 (78 ∷ t) ∙ ap (λ l. 90 ∷ l) (take_while-cons is_run_byte 78 t)))
 
-    r : (t : List ℕ) → begins_run (take_while is_run (95 ∷ 82 ∷ t)) ≡ true
-    r t = ap begins_run (take_while-cons is_run 95 (82 ∷ t) ∙ ap (λ l. 95 ∷ l) (take_while-cons is_run 82 t))
+    r : (t : List ℕ) → starts_run (take_while is_run_byte (95 ∷ 82 ∷ t)) ≡ true
+    r t = ap starts_run (take_while-cons is_run_byte 95 (82 ∷ t) ∙ ap (λ l. 95 ∷ l) (take_while-cons is_run_byte 82 t))
 
 no_pieces : (h : Bool) (text : List ℕ) → pieces_of h text ≡ None → IsSymbol text → ⊥
 no_pieces h text none symbol = none≢some (sym none ∙ (pieces-symbol (form h false) text symbol).1)
@@ -147,7 +147,7 @@ no_pieces h text none symbol = none≢some (sym none ∙ (pieces-symbol (form h 
     none≢some : {x : List (List ℕ) × List ℕ} → None ≡ Some x → ⊥
     none≢some e = cc
 
-replaced : (h : Bool) (run : List ℕ) → StandsFor h run (replacement h run)
+replaced : (h : Bool) (run : List ℕ) → IsReplacement h run (replacement h run)
 replaced h run = at (pieces_of h (stripped run)) refl
   where
     at : (read : Option (List (List ℕ) × List ℕ)) → pieces_of h (stripped run) ≡ read
@@ -157,56 +157,56 @@ replaced h run = at (pieces_of h (stripped run)) refl
     at (Some read) e = inl (symbol-pieces (form h false) (stripped run) read e, refl)
 
 nothing : (h : Bool) → IsFiltered h [] []
-nothing h = record { kept = []; rest = []; rest_out = []; parts = []; whole = refl; shown = refl; no_start = none_in_none; runs = (refl, refl) }
+nothing h = record { kept = []; rest = []; rest_out = []; parts = []; whole = refl; available = refl; no_start = none_in_none; runs = (refl, refl) }
 
 -- a character in front, where no run begins
-keep : (h : Bool) (c : ℕ) (s out : List ℕ) → begins_run (c ∷ s) ≡ false → IsFiltered h s out → IsFiltered h (c ∷ s) (c ∷ out)
+keep : (h : Bool) (c : ℕ) (s out : List ℕ) → starts_run (c ∷ s) ≡ false → IsFiltered h s out → IsFiltered h (c ∷ s) (c ∷ out)
 keep h c s out none is = record {
   kept = c ∷ is.kept;
   rest = is.rest;
   rest_out = is.rest_out;
   parts = is.parts;
   whole = ap (λ l. c ∷ l) is.whole;
-  shown = ap (λ l. c ∷ l) is.shown;
+  available = ap (λ l. c ∷ l) is.available;
   no_start = more;
   runs = is.runs;
 }
   where
     more : HasNoStart (c ∷ is.kept)
-    more [] rest e = ap begins_run (sym e) ∙ shorter (c ∷ is.kept) is.rest (ap (λ l. begins_run (c ∷ l)) (sym is.whole) ∙ none)
+    more [] rest e = ap starts_run (sym e) ∙ shorter (c ∷ is.kept) is.rest (ap (λ l. starts_run (c ∷ l)) (sym is.whole) ∙ none)
     more (b ∷ before) rest e = is.no_start before rest (ap (drop 1) e)
 
 -- a run in front
-replace : (h : Bool) (c : ℕ) (s out : List ℕ) → begins_run (c ∷ s) ≡ true → IsFiltered h (drop (prefix_len is_run s) s) out
-    → IsFiltered h (c ∷ s) (replacement h (c ∷ take_while is_run s) ++ out)
+replace : (h : Bool) (c : ℕ) (s out : List ℕ) → starts_run (c ∷ s) ≡ true → IsFiltered h (drop (prefix_len is_run_byte s) s) out
+    → IsFiltered h (c ∷ s) (replacement h (c ∷ take_while is_run_byte s) ++ out)
 replace h c s out some is = record {
   kept = [];
   rest = c ∷ s;
   rest_out = replacement h run ++ out;
   parts = (run, is.kept) ∷ is.parts;
   whole = refl;
-  shown = refl;
+  available = refl;
   no_start = none_in_none;
-  runs = (is.rest, replacement h run, is.rest_out, whole, ap (λ l. replacement h run ++ l) is.shown, is_run', replaced h run, is.no_start, is.runs);
+  runs = (is.rest, replacement h run, is.rest_out, whole, ap (λ l. replacement h run ++ l) is.available, is_run_byte', replaced h run, is.no_start, is.runs);
 }
   where
     run : List ℕ
-    run = c ∷ take_while is_run s
+    run = c ∷ take_while is_run_byte s
 
     first : c ≡ 95
     first = first_of_run (c ∷ s) some
 
-    front : take_while is_run (c ∷ s) ≡ run
-    front = take_while-cons is_run c s ∙ ap (λ b. cond b (c ∷ take_while is_run s) []) (ap is_run first)
+    prefix : take_while is_run_byte (c ∷ s) ≡ run
+    prefix = take_while-cons is_run_byte c s ∙ ap (λ b. cond b (c ∷ take_while is_run_byte s) []) (ap is_run_byte first)
 
     whole : c ∷ s ≡ run ++ (is.kept ++ is.rest)
-    whole = ap (λ l. c ∷ l) (sym (take-append-drop (prefix_len is_run s) s) ∙ ap (λ l. take_while is_run s ++ l) is.whole)
+    whole = ap (λ l. c ∷ l) (sym (take-append-drop (prefix_len is_run_byte s) s) ∙ ap (λ l. take_while is_run_byte s ++ l) is.whole)
 
-    is_run' : IsRun run (is.kept ++ is.rest)
-    is_run' = record {
-      begins = ap begins_run (sym front) ∙ begins_front (c ∷ s) some;
-      all = ap (list_all is_run) (sym front) ∙ run_all (c ∷ s);
-      longest = subst NoRunFirst is.whole (run_stops s);
+    is_run_byte' : IsRun run (is.kept ++ is.rest)
+    is_run_byte' = record {
+      begins = ap starts_run (sym prefix) ∙ begins_prefix (c ∷ s) some;
+      all = ap (list_all is_run_byte) (sym prefix) ∙ run_all (c ∷ s);
+      longest = subst StartsOutsideRun is.whole (run_stops s);
     }
 
 from : (h : Bool) (skip : ℕ) (s : List ℕ) → IsFiltered h (drop skip s) (filtered_by (replacement h) skip s)
@@ -214,8 +214,8 @@ unfolding filtered_by
 from h zero [] = nothing h
 from h (suc skip) [] = nothing h
 from h (suc skip) (c ∷ s) = from h skip s
-from h zero (c ∷ s) = elim (cases (begins_run (c ∷ s))) [
-  | inl some ↦ subst (IsFiltered h (c ∷ s)) (sym (ap (turn (replacement h) c s) some)) (replace h c s (filtered_by (replacement h) (prefix_len is_run s) s) some (from h (prefix_len is_run s) s))
+from h zero (c ∷ s) = elim (cases (starts_run (c ∷ s))) [
+  | inl some ↦ subst (IsFiltered h (c ∷ s)) (sym (ap (turn (replacement h) c s) some)) (replace h c s (filtered_by (replacement h) (prefix_len is_run_byte s) s) some (from h (prefix_len is_run_byte s) s))
   | inr none ↦ subst (IsFiltered h (c ∷ s)) (sym (ap (turn (replacement h) c s) none)) (keep h c s (filtered_by (replacement h) zero s) none (from h zero s))
 ]
 

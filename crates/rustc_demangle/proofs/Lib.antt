@@ -1,9 +1,9 @@
 pub mod BytesSteps
-pub mod FeedLaws
-pub mod Feeds
+pub mod LineFeedLaws
+pub mod LineFeeds
 pub mod FilterLaws
 pub mod Groups
-pub mod ItemFeeds
+pub mod ItemLineFeeds
 pub mod LineDivision
 pub mod LineLaws
 pub mod PathEndLaws
@@ -19,9 +19,9 @@ pub mod Stripping
 pub mod SuffixSteps
 pub mod SymbolLaws
 pub mod SymbolSteps
-pub mod TableFeeds
+pub mod TableLineFeeds
 pub mod TextRows
-pub mod V0Feeds
+pub mod V0LineFeeds
 pub mod WholeText
-pub mod WordFeeds
+pub mod PrimitiveLineFeeds
 pub mod MemoSteps

@@ -5,7 +5,7 @@ use Rattle.std.specs.List.{concat}
 use Rattle.rustc_demangle.specs.Lines.{lines, onto_first, IsEnded, AreLines, OnlyLines}
 use Rattle.rustc_demangle.proofs.LineDivision.{lines_join}
 
-lines_ended : (front rest : List ℕ) → All (λ b. b ≢ 10) front → lines (front ++ 10 ∷ rest) ≡ (front ++ 10 ∷ []) ∷ lines rest
+lines_ended : (prefix rest : List ℕ) → All (λ b. b ≢ 10) prefix → lines (prefix ++ 10 ∷ rest) ≡ (prefix ++ 10 ∷ []) ∷ lines rest
 unfolding lines
 lines_ended [] rest h = refl
 lines_ended (b ∷ bs) rest h =

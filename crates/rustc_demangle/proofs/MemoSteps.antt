@@ -4,7 +4,7 @@ use Rattle.std.specs.List.{concat}
 use Rattle.rustc_demangle.specs.Filtered.{replacement_in, filtered_in}
 use Rattle.rustc_demangle.specs.Stripped.{stripped}
 use Rattle.std.specs.declared.option.Option.{Option}
-use Rattle.rustc_demangle.specs.Bytes.{StepTook, StepEnded}
+use Rattle.rustc_demangle.specs.ByteStream.{StepFiltered, StepFinished}
 use Rattle.rustc_demangle.specs.Symbols.{handed_in, IsSymbol}
 use Rattle.rustc_demangle.specs.declared.format.Format.{Format}
 use Rattle.rustc_demangle.proofs.RunSteps.{replacement_in-symbol, replacement_in-no_symbol}
@@ -23,10 +23,10 @@ pub at_value : (run text : List ℕ) (format value : Format) → format ≡ valu
 at_value run text format value same is = subst (λ (v : Format). text ≡ replacement_in v run) same is
 
 -- a step with a memo of the same value
-pub took_same : (m n : Format) (carried next : List ℕ) (left rest old new : Option (List ℕ)) → m ≡ n → StepTook (filtered_in m) carried next left rest old new
-    → StepTook (filtered_in n) carried next left rest old new
-took_same m n carried next left rest old new same = subst (λ (v : Format). StepTook (filtered_in v) carried next left rest old new) same
+pub took_same : (m n : Format) (pending next : List ℕ) (left rest old new : Option (List ℕ)) → m ≡ n → StepFiltered (filtered_in m) pending next left rest old new
+    → StepFiltered (filtered_in n) pending next left rest old new
+took_same m n pending next left rest old new same = subst (λ (v : Format). StepFiltered (filtered_in v) pending next left rest old new) same
 
-pub ended_same : (m n : Format) (carried next : List ℕ) (left rest old new : Option (List ℕ)) → m ≡ n → StepEnded (filtered_in m) carried next left rest old new
-    → StepEnded (filtered_in n) carried next left rest old new
-ended_same m n carried next left rest old new same = subst (λ (v : Format). StepEnded (filtered_in v) carried next left rest old new) same
+pub ended_same : (m n : Format) (pending next : List ℕ) (left rest old new : Option (List ℕ)) → m ≡ n → StepFinished (filtered_in m) pending next left rest old new
+    → StepFinished (filtered_in n) pending next left rest old new
+ended_same m n pending next left rest old new same = subst (λ (v : Format). StepFinished (filtered_in v) pending next left rest old new) same

@@ -11,10 +11,10 @@ use Rattle.demangle_sink.proofs.CutLemmas.{size-append}
 use Rattle.demangle_legacy.specs.Legacy.{IsLegacyPrefix}
 use Rattle.demangle_legacy.specs.Unescaped.{legacy_pieces}
 use Rattle.demangle_legacy.proofs.LegacyLaws.{legacy_spelled}
-use Rattle.demangle_grammar.specs.Reading.{form, path_texts}
-use Rattle.demangle_grammar.specs.V0.{IsV0Prefix, v0_inner}
-use Rattle.demangle_grammar.proofs.V0Reading.{v0_is_read, ascii_all, all_ascii, prefix_inner}
-use Rattle.rustc_demangle.specs.PathEnds.{path_len_of, v0_ascii, handed_with}
+use Rattle.demangle_v0_grammar.specs.Reading.{form, path_texts}
+use Rattle.demangle_v0_grammar.specs.V0.{IsV0Prefix, v0_inner}
+use Rattle.demangle_v0_grammar.proofs.V0Reading.{v0_is_read, ascii_all, all_ascii, prefix_inner}
+use Rattle.rustc_demangle.specs.PathEnds.{path_len_of, v0_ascii, handed_with_path_len}
 use Rattle.rustc_demangle.specs.Style.{HasNoStyle, HasStyle, style_pieces}
 use Rattle.rustc_demangle.specs.Symbols.{IsSymbol, pieces_of, handed, unfolded}
 use Rattle.rustc_demangle.specs.declared.value.DemangleStyle.{DemangleStyle}
@@ -72,12 +72,12 @@ legacy_not_v0 text rest prefix e is = ap v0_inner e ∙ go is where
   go (inr (inl e)) = ap (λ p. v0_inner (p ++ rest)) e
   go (inr (inr e)) = ap (λ p. v0_inner (p ++ rest)) e
 
-pub handed_with-none : (text : List ℕ) (len : ℕ) (hash : Bool) (limit : ℕ) → v0_ascii text ≡ None → handed_with text len hash limit ≡ handed text hash limit
-handed_with-none text len hash limit e = ap (λ o. option_map_or (λ inner. cut (path_texts inner (form hash false)) limit ++ drop len text ∷ []) o (handed text hash limit)) e
+pub handed_with_path_len-none : (text : List ℕ) (len : ℕ) (hash : Bool) (limit : ℕ) → v0_ascii text ≡ None → handed_with_path_len text len hash limit ≡ handed text hash limit
+handed_with_path_len-none text len hash limit e = ap (λ o. option_map_or (λ inner. cut (path_texts inner (form hash false)) limit ++ drop len text ∷ []) o (handed text hash limit)) e
 
-pub handed_with-some : (text : List ℕ) (len : ℕ) (hash : Bool) (limit : ℕ) (inner : List ℕ) → v0_ascii text ≡ Some inner
-    → handed_with text len hash limit ≡ cut (path_texts inner (form hash false)) limit ++ drop len text ∷ []
-handed_with-some text len hash limit inner e = ap (λ o. option_map_or (λ inner. cut (path_texts inner (form hash false)) limit ++ drop len text ∷ []) o (handed text hash limit)) e
+pub handed_with_path_len-some : (text : List ℕ) (len : ℕ) (hash : Bool) (limit : ℕ) (inner : List ℕ) → v0_ascii text ≡ Some inner
+    → handed_with_path_len text len hash limit ≡ cut (path_texts inner (form hash false)) limit ++ drop len text ∷ []
+handed_with_path_len-some text len hash limit inner e = ap (λ o. option_map_or (λ inner. cut (path_texts inner (form hash false)) limit ++ drop len text ∷ []) o (handed text hash limit)) e
 
 -- past a text's end nothing is left of it
 pub drop-min : (n : ℕ) (xs : List ℕ) → drop (min n (length xs)) xs ≡ drop n xs
@@ -90,23 +90,23 @@ drop-min n xs = elim (leb_tells n (length xs)) [
 ]
 
 -- what stands behind a front
-behind_front : (text front suffix : List ℕ) → text ≡ front ++ suffix → drop (length text - length suffix) text ≡ suffix
-behind_front text front suffix e =
-    let at : length front ≡ length text - length suffix = omega (arith, ap length e, length-append front suffix) in
-    ap (λ t. drop (length text - length suffix) t) e ∙ drop_at front suffix (length text - length suffix) at
+behind_front : (text prefix suffix : List ℕ) → text ≡ prefix ++ suffix → drop (length text - length suffix) text ≡ suffix
+behind_front text prefix suffix e =
+    let at : length prefix ≡ length text - length suffix = omega (arith, ap length e, length-append prefix suffix) in
+    ap (λ t. drop (length text - length suffix) t) e ∙ drop_at prefix suffix (length text - length suffix) at
 
 -- what is handed over of ASCII with a v0 prefix, by the suffix that the code takes
-pub handed_with-cut : (text : List ℕ) (len : ℕ) (hash : Bool) (limit : ℕ) (inner suffix : List ℕ) → IsAscii text → v0_inner text ≡ Some inner
-    → suffix ≡ drop (min len (length text)) text → handed_with text len hash limit ≡ cut (path_texts inner (form hash false)) limit ++ suffix ∷ []
-handed_with-cut text len hash limit inner suffix ascii some is =
-    handed_with-some text len hash limit inner (v0_ascii-ascii text ascii ∙ some)
+pub handed_with_path_len-cut : (text : List ℕ) (len : ℕ) (hash : Bool) (limit : ℕ) (inner suffix : List ℕ) → IsAscii text → v0_inner text ≡ Some inner
+    → suffix ≡ drop (min len (length text)) text → handed_with_path_len text len hash limit ≡ cut (path_texts inner (form hash false)) limit ++ suffix ∷ []
+handed_with_path_len-cut text len hash limit inner suffix ascii some is =
+    handed_with_path_len-some text len hash limit inner (v0_ascii-ascii text ascii ∙ some)
     ∙ ap (λ s. cut (path_texts inner (form hash false)) limit ++ s ∷ []) (sym (is ∙ drop-min len text))
 
 -- a symbol of which it is known where its path ends prints as it does
-pub handed_with-symbol : (text : List ℕ) (hash : Bool) (limit : ℕ) → IsSymbol text → handed_with text (path_len_of text) hash limit ≡ handed text hash limit
-handed_with-symbol text hash limit (inl (elements, suffix, legacy, allowed)) =
-    handed_with-none text (path_len_of text) hash limit (v0_ascii-none text (λ _. legacy_not_v0 text legacy.1 legacy.0 legacy.2 legacy.3))
-handed_with-symbol text hash limit (inr (inner, suffix, v0, allowed)) =
+pub handed_with_path_len-symbol : (text : List ℕ) (hash : Bool) (limit : ℕ) → IsSymbol text → handed_with_path_len text (path_len_of text) hash limit ≡ handed text hash limit
+handed_with_path_len-symbol text hash limit (inl (elements, suffix, legacy, allowed)) =
+    handed_with_path_len-none text (path_len_of text) hash limit (v0_ascii-none text (λ _. legacy_not_v0 text legacy.1 legacy.0 legacy.2 legacy.3))
+handed_with_path_len-symbol text hash limit (inr (inner, suffix, v0, allowed)) =
     let read = v0_is_read text inner suffix v0 in
     let ascii : IsAscii text = symbol_ascii text (inr (inner, suffix, v0, allowed)) in
     let some : v0_ascii text ≡ Some inner = v0_ascii-ascii text ascii ∙ prefix_inner v0.0 text inner v0.1 v0.2 in
@@ -115,7 +115,7 @@ handed_with-symbol text hash limit (inr (inner, suffix, v0, allowed)) =
     v0.1 ∙ ap (λ x. v0.0 ++ x) (sym (take-append-drop part.0 inner)) ∙ sym (append_assoc v0.0 (take part.0 inner) (drop part.0 inner))
     ∙ ap (λ x. (v0.0 ++ take part.0 inner) ++ x) (sym part.2) in
     let len = path_len-some text (path_texts inner (form true false)) suffix (pieces-v0 (form true false) text inner suffix read allowed) in
-    handed_with-some text (path_len_of text) hash limit inner some
+    handed_with_path_len-some text (path_len_of text) hash limit inner some
     ∙ ap (λ s. cut (path_texts inner (form hash false)) limit ++ s ∷ []) (ap (λ n. drop n text) len ∙ behind_front text (v0.0 ++ take part.0 inner) suffix whole)
     ∙ sym (handed-some_of text (unfolded hash limit) (path_texts inner (form hash false), suffix) (pieces-v0 (form hash false) text inner suffix read allowed))
 
@@ -128,9 +128,9 @@ size_handed text hash limit = go (pieces_of hash text) refl where
       omega (arith, ap size as_is)
   go (Some read) e = size_symbol text hash limit (symbol-pieces (form hash false) text read e)
 
-pub size_handed_with : (text : List ℕ) (len : ℕ) (hash : Bool) (limit : ℕ) → size (handed_with text len hash limit) ≤ limit + 20 + length text
+pub size_handed_with : (text : List ℕ) (len : ℕ) (hash : Bool) (limit : ℕ) → size (handed_with_path_len text len hash limit) ≤ limit + 20 + length text
 size_handed_with text len hash limit = go (v0_ascii text) refl where
-  go : (read : Option (List ℕ)) → v0_ascii text ≡ read → size (handed_with text len hash limit) ≤ limit + 20 + length text
-  go None e = omega (arith, ap size (handed_with-none text len hash limit e), size_handed text hash limit)
+  go : (read : Option (List ℕ)) → v0_ascii text ≡ read → size (handed_with_path_len text len hash limit) ≤ limit + 20 + length text
+  go None e = omega (arith, ap size (handed_with_path_len-none text len hash limit e), size_handed text hash limit)
   go (Some inner) e =
-      omega (arith, ap size (handed_with-some text len hash limit inner e), size-append (cut (path_texts inner (form hash false)) limit) (drop len text ∷ []), size-cut (path_texts inner (form hash false)) limit, length-drop len text)
+      omega (arith, ap size (handed_with_path_len-some text len hash limit inner e), size-append (cut (path_texts inner (form hash false)) limit) (drop len text ∷ []), size-cut (path_texts inner (form hash false)) limit, length-drop len text)

@@ -6,14 +6,14 @@ use Rattle.std.proofs.lemmas.Bool.{false≢true}
 use Rattle.std.proofs.lemmas.List.Folds.{concat-append}
 use Rattle.demangle_sink.specs.declared.TextSink.{Ghosts}
 use Rattle.demangle_sink.specs.declared.SinkRefused.{SinkRefused}
-use Rattle.demangle_sink.specs.Hands.{Hands}
-use Rattle.demangle_sink.proofs.HandsLemmas.{hands_nothing, hands_then, hands_stop}
+use Rattle.demangle_sink.specs.PutsPieces.{PutsPieces}
+use Rattle.demangle_sink.proofs.PutsPiecesLemmas.{puts_nothing, puts_then, puts_stop}
 use Rattle.rustc_demangle.specs.Stripped.{stripped}
 use Rattle.rustc_demangle.specs.Symbols.{IsSymbol, form_of, pieces_in, handed_in, unfolded}
 use Rattle.rustc_demangle.specs.declared.format.Format.{Format}
 use Rattle.rustc_demangle.specs.Lines.{onto_first}
-use Rattle.rustc_demangle.specs.Filtered.{is_run, begins_run, replacement_in, filtered_by, filtered_in, filtered_within}
-use Rattle.rustc_demangle.specs.Pieces.{run_pieces, filtered_pieces_from, filtered_pieces_in, filtered_pieces}
+use Rattle.rustc_demangle.specs.Filtered.{is_run_byte, starts_run, replacement_in, filtered_by, filtered_in, filtered_within}
+use Rattle.rustc_demangle.specs.TextPieces.{run_pieces, filtered_pieces_from, filtered_pieces_in, filtered_pieces}
 use Rattle.rustc_demangle.proofs.SymbolSteps.{pieces-symbol, symbol-pieces}
 use Rattle.rustc_demangle.proofs.RunSteps.{turn, first_of_run, run_some}
 
@@ -28,30 +28,30 @@ pieces_skip format (suc n) (c ∷ s) = pieces_skip format n s
 -- one turn, by whether a run begins
 abbrev pieces_turn : Format → ℕ → List ℕ → Bool → List (List ℕ)
 pieces_turn format c s b = elim b [
-  | true ↦ [] ∷ (run_pieces format (c ∷ take_while is_run s) ++ filtered_pieces_from format (prefix_len is_run s) s)
+  | true ↦ [] ∷ (run_pieces format (c ∷ take_while is_run_byte s) ++ filtered_pieces_from format (prefix_len is_run_byte s) s)
   | false ↦ onto_first c (filtered_pieces_from format zero s)
 ]
 
 -- where no run begins, the character is kept
-pieces_other : (format : Format) (c : ℕ) (s : List ℕ) → begins_run (c ∷ s) ≡ false → filtered_pieces_in format (c ∷ s) ≡ onto_first c (filtered_pieces_in format s)
+pieces_other : (format : Format) (c : ℕ) (s : List ℕ) → starts_run (c ∷ s) ≡ false → filtered_pieces_in format (c ∷ s) ≡ onto_first c (filtered_pieces_in format s)
 unfolding filtered_pieces_from
 pieces_other format c s none = ap (pieces_turn format c s) none
 
 -- where one begins, nothing is kept in front of it
-pieces_run : (format : Format) (s : List ℕ) → begins_run s ≡ true
-    → filtered_pieces_in format s ≡ [] ∷ (run_pieces format (take (prefix_len is_run s) s) ++ filtered_pieces_in format (drop (prefix_len is_run s) s))
+pieces_run : (format : Format) (s : List ℕ) → starts_run s ≡ true
+    → filtered_pieces_in format s ≡ [] ∷ (run_pieces format (take (prefix_len is_run_byte s) s) ++ filtered_pieces_in format (drop (prefix_len is_run_byte s) s))
 unfolding filtered_pieces_from
 pieces_run format [] some = absurd (omega (arith, (run_some [] some).0))
 pieces_run format (c ∷ s) some =
     let first : c ≡ 95 = first_of_run (c ∷ s) some in
-    let count : prefix_len is_run (c ∷ s) ≡ suc (prefix_len is_run s) = ap (λ b. cond b (1 + prefix_len is_run s) 0) (ap is_run first) ∙ omega arith in
+    let count : prefix_len is_run_byte (c ∷ s) ≡ suc (prefix_len is_run_byte s) = ap (λ b. cond b (1 + prefix_len is_run_byte s) 0) (ap is_run_byte first) ∙ omega arith in
     ap (pieces_turn format c s) some
-    ∙ ap (λ ps. [] ∷ (run_pieces format (c ∷ take_while is_run s) ++ ps)) (pieces_skip format (prefix_len is_run s) s)
+    ∙ ap (λ ps. [] ∷ (run_pieces format (c ∷ take_while is_run_byte s) ++ ps)) (pieces_skip format (prefix_len is_run_byte s) s)
     ∙ ap (λ n. [] ∷ (run_pieces format (take n (c ∷ s)) ++ filtered_pieces_in format (drop n (c ∷ s)))) (sym count)
 
 -- where the next run begins at a place, what stands in front of it is the first piece
-pieces_kept : (format : Format) (n : ℕ) (s : List ℕ) → n ≤ length s → ((k : ℕ) → k < n → begins_run (drop k s) ≡ false) → begins_run (drop n s) ≡ true
-    → filtered_pieces_in format s ≡ take n s ∷ (run_pieces format (take (prefix_len is_run (drop n s)) (drop n s)) ++ filtered_pieces_in format (drop (prefix_len is_run (drop n s)) (drop n s)))
+pieces_kept : (format : Format) (n : ℕ) (s : List ℕ) → n ≤ length s → ((k : ℕ) → k < n → starts_run (drop k s) ≡ false) → starts_run (drop n s) ≡ true
+    → filtered_pieces_in format s ≡ take n s ∷ (run_pieces format (take (prefix_len is_run_byte (drop n s)) (drop n s)) ++ filtered_pieces_in format (drop (prefix_len is_run_byte (drop n s)) (drop n s)))
 pieces_kept format zero s le none some = pieces_run format s some
 pieces_kept format (suc n) [] le none some = absurd (omega (arith, le))
 pieces_kept format (suc n) (c ∷ s) le none some =
@@ -59,7 +59,7 @@ pieces_kept format (suc n) (c ∷ s) le none some =
     ∙ ap (onto_first c) (pieces_kept format n s (omega (arith, le)) (λ k lt. none (suc k) (omega (arith, lt))) some)
 
 -- a text in which no run begins is one piece
-pieces_all : (format : Format) (s : List ℕ) → ((k : ℕ) → k < length s → begins_run (drop k s) ≡ false) → filtered_pieces_in format s ≡ s ∷ []
+pieces_all : (format : Format) (s : List ℕ) → ((k : ℕ) → k < length s → starts_run (drop k s) ≡ false) → filtered_pieces_in format s ≡ s ∷ []
 unfolding filtered_pieces_from
 pieces_all format [] none = refl
 pieces_all format (c ∷ s) none =
@@ -95,14 +95,14 @@ unfolding filtered_by filtered_pieces_from
 join_from format zero [] = refl
 join_from format (suc k) [] = refl
 join_from format (suc k) (c ∷ s) = join_from format k s
-join_from format zero (c ∷ s) = at (λ k. join_from format k s) (begins_run (c ∷ s))
+join_from format zero (c ∷ s) = at (λ k. join_from format k s) (starts_run (c ∷ s))
   where
     at : ((k : ℕ) → concat (filtered_pieces_from format k s) ≡ filtered_by (replacement_in format) k s) → (b : Bool) → concat (pieces_turn format c s b) ≡ turn (replacement_in format) c s b
     at ih true =
-        let run = c ∷ take_while is_run s in
-        concat-append (run_pieces format run) (filtered_pieces_from format (prefix_len is_run s) s)
-        ∙ ap (λ t. t ++ concat (filtered_pieces_from format (prefix_len is_run s) s)) (concat-run format run)
-        ∙ ap (λ t. replacement_in format run ++ t) (ih (prefix_len is_run s))
+        let run = c ∷ take_while is_run_byte s in
+        concat-append (run_pieces format run) (filtered_pieces_from format (prefix_len is_run_byte s) s)
+        ∙ ap (λ t. t ++ concat (filtered_pieces_from format (prefix_len is_run_byte s) s)) (concat-run format run)
+        ∙ ap (λ t. replacement_in format run ++ t) (ih (prefix_len is_run_byte s))
     at ih false = concat-onto c (filtered_pieces_from format zero s) ∙ ap (λ t. c ∷ t) (ih zero)
 
 -- the pieces join to the filtered text
@@ -114,22 +114,22 @@ pieces_join h l text = pieces_join_in (unfolded h l) text
 
 -- what was handed over of a text, up to what is left of it
 abbrev pub Feeding : {S : Type 0} → Ghosts S → Format → List ℕ → S → S → List ℕ → Type 0
-Feeding sink format text old new rest = (done : List (List ℕ)) × Hands sink old done (Ok tt) new × (filtered_pieces_in format text ≡ done ++ filtered_pieces_in format rest)
+Feeding sink format text old new rest = (done : List (List ℕ)) × PutsPieces sink old done (Ok tt) new × (filtered_pieces_in format text ≡ done ++ filtered_pieces_in format rest)
 
 pub feeding_init : {S : Type 0} (sink : Ghosts S) (format : Format) (text : List ℕ) (old : S) → sink.failed old ≡ false → Feeding sink format text old old text
-feeding_init sink format text old alive = ([], hands_nothing sink old alive, refl)
+feeding_init sink format text old not_failed = ([], puts_nothing sink old not_failed, refl)
 
 -- a run that was found, and what is kept in front of it, by the values of the code
 abbrev pub Found : List ℕ → List ℕ → List ℕ → List ℕ → List ℕ → List ℕ → List ℕ → ℕ → ℕ → Type 0
-Found rest bytes kept found bytes' run behind n m = (bytes ≡ rest)
-    × ((n < length bytes) × (begins_run (drop n bytes) ≡ true) × ((k : ℕ) → k < n → begins_run (drop k bytes) ≡ false))
-    × (kept ≡ take n rest) × (found ≡ drop n rest) × (bytes' ≡ found) × (m ≡ prefix_len is_run bytes') × (run ≡ take m found) × (behind ≡ drop m found)
+Found rest bytes kept found bytes' run following n m = (bytes ≡ rest)
+    × ((n < length bytes) × (starts_run (drop n bytes) ≡ true) × ((k : ℕ) → k < n → starts_run (drop k bytes) ≡ false))
+    × (kept ≡ take n rest) × (found ≡ drop n rest) × (bytes' ≡ found) × (m ≡ prefix_len is_run_byte bytes') × (run ≡ take m found) × (following ≡ drop m found)
 
-pieces_found : (format : Format) (rest bytes kept found bytes' run behind : List ℕ) (n m : ℕ) → Found rest bytes kept found bytes' run behind n m
-    → filtered_pieces_in format rest ≡ kept ∷ (run_pieces format run ++ filtered_pieces_in format behind)
-pieces_found format rest bytes kept found bytes' run behind n m f =
-    let start = subst (λ s. (n < length s) × (begins_run (drop n s) ≡ true) × ((k : ℕ) → k < n → begins_run (drop k s) ≡ false)) f.0 f.1 in
-    let count : m ≡ prefix_len is_run (drop n rest) = f.5 ∙ ap (prefix_len is_run) (f.4 ∙ f.3) in
+pieces_found : (format : Format) (rest bytes kept found bytes' run following : List ℕ) (n m : ℕ) → Found rest bytes kept found bytes' run following n m
+    → filtered_pieces_in format rest ≡ kept ∷ (run_pieces format run ++ filtered_pieces_in format following)
+pieces_found format rest bytes kept found bytes' run following n m f =
+    let start = subst (λ s. (n < length s) × (starts_run (drop n s) ≡ true) × ((k : ℕ) → k < n → starts_run (drop k s) ≡ false)) f.0 f.1 in
+    let count : m ≡ prefix_len is_run_byte (drop n rest) = f.5 ∙ ap (prefix_len is_run_byte) (f.4 ∙ f.3) in
     pieces_kept format n rest (omega (arith, start.0)) start.2 start.1
     ∙ ap (λ j. take n rest ∷ (run_pieces format (take j (drop n rest)) ++ filtered_pieces_in format (drop j (drop n rest)))) (sym count)
     ∙ ap (λ s. take n rest ∷ (run_pieces format (take m s) ++ filtered_pieces_in format (drop m s))) (sym f.3)
@@ -137,20 +137,20 @@ pieces_found format rest bytes kept found bytes' run behind n m f =
     ∙ ap (λ s. kept ∷ (run_pieces format s ++ filtered_pieces_in format (drop m found))) (sym f.6)
     ∙ ap (λ s. kept ∷ (run_pieces format run ++ filtered_pieces_in format s)) (sym f.7)
 
-hands_ok : {S : Type 0} (sink : Ghosts S) (old new : S) (list : List (List ℕ)) (r : Result (Unit {0}) SinkRefused) → Hands sink old list r new → IsOk r → Hands sink old list (Ok tt) new
-hands_ok sink old new list (Ok u) p ok = record { all = λ _. p.all refl; refused = λ e. absurd (false≢true e); fits = p.fits }
-hands_ok sink old new list (Err e) p ok = absurd (false≢true ok)
+puts_ok : {S : Type 0} (sink : Ghosts S) (old new : S) (list : List (List ℕ)) (r : Result (Unit {0}) SinkRefused) → PutsPieces sink old list r new → IsOk r → PutsPieces sink old list (Ok tt) new
+puts_ok sink old new list (Ok u) p ok = record { all = λ _. p.all refl; refused = λ e. absurd (false≢true e); fits = p.fits }
+puts_ok sink old new list (Err e) p ok = absurd (false≢true ok)
 
 -- a kept text and what stands for the run behind it were handed over
-pub feeding_step : {S : Type 0} (sink : Ghosts S) (format : Format) (text rest bytes kept found bytes' run behind : List ℕ) (n m : ℕ) (old new mid end : S) (r r' : Result (Unit {0}) SinkRefused)
-    → Feeding sink format text old new rest → Found rest bytes kept found bytes' run behind n m
-    → Hands sink new (kept ∷ []) r mid → IsOk r → Hands sink mid (run_pieces format run) r' end → IsOk r' → Feeding sink format text old end behind
-feeding_step sink format text rest bytes kept found bytes' run behind n m old new mid end r r' p f first ok second ok' = (
+pub feeding_step : {S : Type 0} (sink : Ghosts S) (format : Format) (text rest bytes kept found bytes' run following : List ℕ) (n m : ℕ) (old new mid end : S) (r r' : Result (Unit {0}) SinkRefused)
+    → Feeding sink format text old new rest → Found rest bytes kept found bytes' run following n m
+    → PutsPieces sink new (kept ∷ []) r mid → IsOk r → PutsPieces sink mid (run_pieces format run) r' end → IsOk r' → Feeding sink format text old end following
+feeding_step sink format text rest bytes kept found bytes' run following n m old new mid end r r' p f first ok second ok' = (
   p.0 ++ kept ∷ run_pieces format run,
-  hands_then sink old new end p.0 (kept ∷ run_pieces format run) (Ok tt) (Ok tt) p.1 refl
-      (hands_then sink new mid end (kept ∷ []) (run_pieces format run) r (Ok tt) first ok (hands_ok sink mid end (run_pieces format run) r' second ok')),
-  p.2 ∙ ap (λ ps. p.0 ++ ps) (pieces_found format rest bytes kept found bytes' run behind n m f)
-      ∙ sym (append_assoc p.0 (kept ∷ run_pieces format run) (filtered_pieces_in format behind)),
+  puts_then sink old new end p.0 (kept ∷ run_pieces format run) (Ok tt) (Ok tt) p.1 refl
+      (puts_then sink new mid end (kept ∷ []) (run_pieces format run) r (Ok tt) first ok (puts_ok sink mid end (run_pieces format run) r' second ok')),
+  p.2 ∙ ap (λ ps. p.0 ++ ps) (pieces_found format rest bytes kept found bytes' run following n m f)
+      ∙ sym (append_assoc p.0 (kept ∷ run_pieces format run) (filtered_pieces_in format following)),
 )
 
 whole : {S : Type 0} (sink : Ghosts S) (format : Format) (text rest : List ℕ) (old new : S) (p : Feeding sink format text old new rest) (ps : List (List ℕ))
@@ -158,32 +158,32 @@ whole : {S : Type 0} (sink : Ghosts S) (format : Format) (text rest : List ℕ) 
 whole sink format text rest old new p ps e = sym (p.2 ∙ ap (λ qs. p.0 ++ qs) e)
 
 -- the kept text was refused
-pub feeding_kept : {S : Type 0} (sink : Ghosts S) (format : Format) (text rest bytes kept found bytes' run behind : List ℕ) (n m : ℕ) (old new end : S) (r result : Result (Unit {0}) SinkRefused)
-    → Feeding sink format text old new rest → Found rest bytes kept found bytes' run behind n m
-    → Hands sink new (kept ∷ []) r end → IsErr r → IsErr result → Hands sink old (filtered_pieces_in format text) result end
-feeding_kept sink format text rest bytes kept found bytes' run behind n m old new end r result p f first err err' =
-    let behind' = run_pieces format run ++ filtered_pieces_in format behind in
-    subst (λ ps. Hands sink old ps result end)
-    (whole sink format text rest old new p (kept ∷ behind') (pieces_found format rest bytes kept found bytes' run behind n m f))
-    (hands_then sink old new end p.0 (kept ∷ behind') (Ok tt) result p.1 refl (hands_stop sink new end (kept ∷ []) behind' r result first err err'))
+pub feeding_kept : {S : Type 0} (sink : Ghosts S) (format : Format) (text rest bytes kept found bytes' run following : List ℕ) (n m : ℕ) (old new end : S) (r result : Result (Unit {0}) SinkRefused)
+    → Feeding sink format text old new rest → Found rest bytes kept found bytes' run following n m
+    → PutsPieces sink new (kept ∷ []) r end → IsErr r → IsErr result → PutsPieces sink old (filtered_pieces_in format text) result end
+feeding_kept sink format text rest bytes kept found bytes' run following n m old new end r result p f first err err' =
+    let following' = run_pieces format run ++ filtered_pieces_in format following in
+    subst (λ ps. PutsPieces sink old ps result end)
+    (whole sink format text rest old new p (kept ∷ following') (pieces_found format rest bytes kept found bytes' run following n m f))
+    (puts_then sink old new end p.0 (kept ∷ following') (Ok tt) result p.1 refl (puts_stop sink new end (kept ∷ []) following' r result first err err'))
 
 -- what stands for the run was refused
-pub feeding_run : {S : Type 0} (sink : Ghosts S) (format : Format) (text rest bytes kept found bytes' run behind : List ℕ) (n m : ℕ) (old new mid end : S) (r r' result : Result (Unit {0}) SinkRefused)
-    → Feeding sink format text old new rest → Found rest bytes kept found bytes' run behind n m
-    → Hands sink new (kept ∷ []) r mid → IsOk r → Hands sink mid (run_pieces format run) r' end → IsErr r' → IsErr result
-    → Hands sink old (filtered_pieces_in format text) result end
-feeding_run sink format text rest bytes kept found bytes' run behind n m old new mid end r r' result p f first ok second err err' =
-    let behind' = run_pieces format run ++ filtered_pieces_in format behind in
-    subst (λ ps. Hands sink old ps result end)
-    (whole sink format text rest old new p (kept ∷ behind') (pieces_found format rest bytes kept found bytes' run behind n m f))
-    (hands_then sink old new end p.0 (kept ∷ behind') (Ok tt) result p.1 refl
-    (hands_then sink new mid end (kept ∷ []) behind' r result first ok (hands_stop sink mid end (run_pieces format run) (filtered_pieces_in format behind) r' result second err err')))
+pub feeding_run : {S : Type 0} (sink : Ghosts S) (format : Format) (text rest bytes kept found bytes' run following : List ℕ) (n m : ℕ) (old new mid end : S) (r r' result : Result (Unit {0}) SinkRefused)
+    → Feeding sink format text old new rest → Found rest bytes kept found bytes' run following n m
+    → PutsPieces sink new (kept ∷ []) r mid → IsOk r → PutsPieces sink mid (run_pieces format run) r' end → IsErr r' → IsErr result
+    → PutsPieces sink old (filtered_pieces_in format text) result end
+feeding_run sink format text rest bytes kept found bytes' run following n m old new mid end r r' result p f first ok second err err' =
+    let following' = run_pieces format run ++ filtered_pieces_in format following in
+    subst (λ ps. PutsPieces sink old ps result end)
+    (whole sink format text rest old new p (kept ∷ following') (pieces_found format rest bytes kept found bytes' run following n m f))
+    (puts_then sink old new end p.0 (kept ∷ following') (Ok tt) result p.1 refl
+    (puts_then sink new mid end (kept ∷ []) following' r result first ok (puts_stop sink mid end (run_pieces format run) (filtered_pieces_in format following) r' result second err err')))
 
 -- what is left, where no run begins in it
 pub feeding_end : {S : Type 0} (sink : Ghosts S) (format : Format) (text rest bytes : List ℕ) (old new end : S) (result : Result (Unit {0}) SinkRefused)
-    → Feeding sink format text old new rest → bytes ≡ rest → ((k : ℕ) → k < length bytes → begins_run (drop k bytes) ≡ false)
-    → Hands sink new (rest ∷ []) result end → Hands sink old (filtered_pieces_in format text) result end
+    → Feeding sink format text old new rest → bytes ≡ rest → ((k : ℕ) → k < length bytes → starts_run (drop k bytes) ≡ false)
+    → PutsPieces sink new (rest ∷ []) result end → PutsPieces sink old (filtered_pieces_in format text) result end
 feeding_end sink format text rest bytes old new end result p b none last =
-    subst (λ ps. Hands sink old ps result end)
-    (whole sink format text rest old new p (rest ∷ []) (pieces_all format rest (subst (λ s. (k : ℕ) → k < length s → begins_run (drop k s) ≡ false) b none)))
-    (hands_then sink old new end p.0 (rest ∷ []) (Ok tt) result p.1 refl last)
+    subst (λ ps. PutsPieces sink old ps result end)
+    (whole sink format text rest old new p (rest ∷ []) (pieces_all format rest (subst (λ s. (k : ℕ) → k < length s → starts_run (drop k s) ≡ false) b none)))
+    (puts_then sink old new end p.0 (rest ∷ []) (Ok tt) result p.1 refl last)

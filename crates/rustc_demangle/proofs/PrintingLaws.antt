@@ -4,13 +4,13 @@ use Rattle.std.specs.Option.{option_map_or}
 use Rattle.std.proofs.lemmas.List.{append-nil, append_assoc}
 use Rattle.std.proofs.lemmas.Grind.{flat_map-append}
 use Rattle.std.proofs.lemmas.Bool.Decides.{leb_tells}
-use Rattle.demangle_sink.specs.Cut.{size, front_within, cut, kept, marker}
-use Rattle.rustc_demangle.specs.Hashes.{LeavesHashOut, pieces_behind}
+use Rattle.demangle_sink.specs.Cut.{size, prefix_within, cut, kept, marker}
+use Rattle.rustc_demangle.specs.Hashes.{OmitsHash, pieces_after}
 use Rattle.demangle_legacy.specs.Legacy.{IsLegacy, legacy_of}
 use Rattle.rustc_demangle.specs.Stripped.{is_allowed}
 use Rattle.rustc_demangle.specs.Symbols.{IsSymbol, form_of, pieces_in, handed_in, kept_in, unfolded, handed}
 use Rattle.rustc_demangle.specs.declared.format.Format.{Format}
-use Rattle.demangle_grammar.specs.Reading.{form}
+use Rattle.demangle_v0_grammar.specs.Reading.{form}
 use Rattle.demangle_legacy.specs.Unescaped.{unescaped, is_hash, shown_elements, joined_pieces, following_pieces, legacy_pieces}
 use Rattle.demangle_sink.proofs.CutLemmas.{size-append, fitting-within}
 use Rattle.demangle_sink.proofs.PrintsLemmas.{cut-within, cut-past}
@@ -36,7 +36,7 @@ kept-no_symbol text none format = go (pieces_in (form_of format) text) refl wher
 pub size-cut : (pieces : List (List ℕ)) (limit : ℕ) → size (cut pieces limit) ≤ limit + 20
 size-cut pieces limit = elim (leb_tells (size pieces) limit) [
   | inl e ↦ let within : size pieces ≤ limit = e.1 in omega (arith, ap size (cut-within pieces limit within))
-  | inr e ↦ omega (arith, ap size (cut-past pieces limit e.1), size-append (front_within pieces limit) (marker ∷ []), fitting-within pieces limit)
+  | inr e ↦ omega (arith, ap size (cut-past pieces limit e.1), size-append (prefix_within pieces limit) (marker ∷ []), fitting-within pieces limit)
 ]
 
 pub size-handed : (text : List ℕ) (format : Format) (pieces : List (List ℕ)) (suffix : List ℕ) → pieces_in (form_of format) text ≡ Some (pieces, suffix)
@@ -45,52 +45,52 @@ size-handed text format pieces suffix e =
     omega (arith, ap size (handed-some_of text format (pieces, suffix) e), size-append (cut pieces format.limit) (suffix ∷ []), size-cut pieces format.limit)
 
 -- with the hash all elements are shown
-shown-all : (elements : List (List ℕ)) → shown_elements true elements ≡ elements
+available-all : (elements : List (List ℕ)) → shown_elements true elements ≡ elements
 unfolding shown_elements
-shown-all [] = refl
-shown-all (e ∷ []) = refl
-shown-all (e ∷ f ∷ es) = ap (λ xs. e ∷ xs) (shown-all (f ∷ es))
+available-all [] = refl
+available-all (e ∷ []) = refl
+available-all (e ∷ f ∷ es) = ap (λ xs. e ∷ xs) (available-all (f ∷ es))
 
 -- without it, all or all but a last one that is a hash
-shown-cases : (elements : List (List ℕ)) → (shown_elements false elements ≡ elements)
-    ⊎ ((front : List (List ℕ)) × (last : List ℕ) × (elements ≡ front ++ last ∷ []) × (shown_elements false elements ≡ front) × (is_hash last ≡ true))
+available-cases : (elements : List (List ℕ)) → (shown_elements false elements ≡ elements)
+    ⊎ ((prefix : List (List ℕ)) × (last : List ℕ) × (elements ≡ prefix ++ last ∷ []) × (shown_elements false elements ≡ prefix) × (is_hash last ≡ true))
 unfolding shown_elements
-shown-cases [] = inl refl
-shown-cases (e ∷ []) = go (is_hash e) refl where
+available-cases [] = inl refl
+available-cases (e ∷ []) = go (is_hash e) refl where
   go : (b : Bool) → is_hash e ≡ b → (cond b [] (e ∷ []) ≡ e ∷ [])
-      ⊎ ((front : List (List ℕ)) × (last : List ℕ) × (e ∷ [] ≡ front ++ last ∷ []) × (cond b [] (e ∷ []) ≡ front) × (is_hash last ≡ true))
+      ⊎ ((prefix : List (List ℕ)) × (last : List ℕ) × (e ∷ [] ≡ prefix ++ last ∷ []) × (cond b [] (e ∷ []) ≡ prefix) × (is_hash last ≡ true))
   go true is = inr ([], e, refl, refl, is)
   go false is = inl refl
-shown-cases (e ∷ f ∷ es) = elim (shown-cases (f ∷ es)) [
+available-cases (e ∷ f ∷ es) = elim (available-cases (f ∷ es)) [
   | inl same ↦ inl (ap (λ xs. e ∷ xs) same)
   | inr h ↦ inr (e ∷ h.0, h.1, ap (λ xs. e ∷ xs) h.2, ap (λ xs. e ∷ xs) h.3, h.4)
 ]
 
 -- the pieces of a list with one element more
-joined-last : (front : List (List ℕ)) (last : List ℕ) → joined_pieces (front ++ last ∷ []) ≡ joined_pieces front ++ pieces_behind front last
+joined-last : (prefix : List (List ℕ)) (last : List ℕ) → joined_pieces (prefix ++ last ∷ []) ≡ joined_pieces prefix ++ pieces_after prefix last
 joined-last [] last = append-nil (unescaped last)
 joined-last (e ∷ es) last =
     ap (λ xs. unescaped e ++ xs) (flat_map-append (λ f. codes "::" ∷ unescaped f) es (last ∷ []) ∙ ap (λ xs. following_pieces es ++ xs) (append-nil (codes "::" ∷ unescaped last)))
     ∙ sym (append_assoc (unescaped e) (following_pieces es) (codes "::" ∷ unescaped last))
 
 pub hash-last : (text : List ℕ) (elements : List (List ℕ)) (suffix : List ℕ) (limit : ℕ) → IsLegacy text elements suffix → is_allowed suffix ≡ true
-    → size (legacy_pieces true elements) ≤ limit → (handed text false limit ≡ handed text true limit) ⊎ LeavesHashOut text elements suffix limit
+    → size (legacy_pieces true elements) ≤ limit → (handed text false limit ≡ handed text true limit) ⊎ OmitsHash text elements suffix limit
 hash-last text elements suffix limit legacy allowed within =
     let read : legacy_of text ≡ Some (elements, suffix) = legacy_spelled text elements suffix legacy in
-    let all : legacy_pieces true elements ≡ joined_pieces elements = ap joined_pieces (shown-all elements) in
+    let all : legacy_pieces true elements ≡ joined_pieces elements = ap joined_pieces (available-all elements) in
     let full : handed text true limit ≡ joined_pieces elements ++ suffix ∷ [] =
     handed-some_of text (unfolded true limit) (legacy_pieces true elements, suffix) (pieces-legacy (form true false) text elements suffix read allowed)
     ∙ ap (λ xs. xs ++ suffix ∷ []) (cut-within (legacy_pieces true elements) limit within ∙ all) in
     let short : handed text false limit ≡ cut (joined_pieces (shown_elements false elements)) limit ++ suffix ∷ [] =
     handed-some_of text (unfolded false limit) (legacy_pieces false elements, suffix) (pieces-legacy (form false false) text elements suffix read allowed) in
-    elim (shown-cases elements) [
+    elim (available-cases elements) [
       | inl same ↦ inl (short ∙ ap (λ es. cut (joined_pieces es) limit ++ suffix ∷ []) same
           ∙ ap (λ xs. xs ++ suffix ∷ []) (cut-within (joined_pieces elements) limit (subst (λ xs. size xs ≤ limit) all within)) ∙ sym full)
       | inr h ↦
-          let parts : joined_pieces elements ≡ joined_pieces h.0 ++ pieces_behind h.0 h.1 = ap joined_pieces h.2 ∙ joined-last h.0 h.1 in
-          let room : size (joined_pieces h.0) ≤ limit = omega (arith, ap size all, ap size parts, size-append (joined_pieces h.0) (pieces_behind h.0 h.1)) in
+          let parts : joined_pieces elements ≡ joined_pieces h.0 ++ pieces_after h.0 h.1 = ap joined_pieces h.2 ∙ joined-last h.0 h.1 in
+          let room : size (joined_pieces h.0) ≤ limit = omega (arith, ap size all, ap size parts, size-append (joined_pieces h.0) (pieces_after h.0 h.1)) in
           inr (record {
-            front = h.0;
+            prefix = h.0;
             last = h.1;
             whole = h.2;
             hash = h.4;

@@ -12,7 +12,7 @@ use Rattle.rustc_demangle.specs.Stripped.{stripped}
 use Rattle.rustc_demangle.specs.Symbols.{IsSymbol, form_of, pieces_in, handed_in, unfolded, printed, most_bytes}
 use Rattle.rustc_demangle.specs.declared.format.Format.{Format}
 use Rattle.rustc_demangle.proofs.SymbolSteps.{pieces-symbol, symbol-pieces}
-use Rattle.rustc_demangle.specs.Filtered.{is_run, begins_run, filtered_by, replacement_in, replacement}
+use Rattle.rustc_demangle.specs.Filtered.{is_run_byte, starts_run, filtered_by, replacement_in, replacement}
 
 -- what is skipped is left out
 pub filtered_skip : (f : List ℕ → List ℕ) (n : ℕ) (s : List ℕ) → filtered_by f n s ≡ filtered_by f zero (drop n s)
@@ -25,23 +25,23 @@ filtered_skip f (suc n) (c ∷ s) = filtered_skip f n s
 -- one turn, by whether a run begins
 abbrev pub turn : (List ℕ → List ℕ) → ℕ → List ℕ → Bool → List ℕ
 turn f c s b = elim b [
-  | true ↦ f (c ∷ take_while is_run s) ++ filtered_by f (prefix_len is_run s) s
+  | true ↦ f (c ∷ take_while is_run_byte s) ++ filtered_by f (prefix_len is_run_byte s) s
   | false ↦ c ∷ filtered_by f zero s
 ]
 
 -- where no run begins, the character is kept
-pub filtered_other : (f : List ℕ → List ℕ) (c : ℕ) (s : List ℕ) → begins_run (c ∷ s) ≡ false → filtered_by f zero (c ∷ s) ≡ c ∷ filtered_by f zero s
+pub filtered_other : (f : List ℕ → List ℕ) (c : ℕ) (s : List ℕ) → starts_run (c ∷ s) ≡ false → filtered_by f zero (c ∷ s) ≡ c ∷ filtered_by f zero s
 unfolding filtered_by
 filtered_other f c s none = ap (turn f c s) none
 
 -- where one begins, it is replaced
-pub filtered_first : (f : List ℕ → List ℕ) (c : ℕ) (s : List ℕ) → begins_run (c ∷ s) ≡ true
-    → filtered_by f zero (c ∷ s) ≡ f (c ∷ take_while is_run s) ++ filtered_by f zero (drop (prefix_len is_run s) s)
+pub filtered_first : (f : List ℕ → List ℕ) (c : ℕ) (s : List ℕ) → starts_run (c ∷ s) ≡ true
+    → filtered_by f zero (c ∷ s) ≡ f (c ∷ take_while is_run_byte s) ++ filtered_by f zero (drop (prefix_len is_run_byte s) s)
 unfolding filtered_by
-filtered_first f c s some = ap (turn f c s) some ∙ ap (λ l. f (c ∷ take_while is_run s) ++ l) (filtered_skip f (prefix_len is_run s) s)
+filtered_first f c s some = ap (turn f c s) some ∙ ap (λ l. f (c ∷ take_while is_run_byte s) ++ l) (filtered_skip f (prefix_len is_run_byte s) s)
 
 -- a run begins with `_ZN` or `_R`
-pub begins_with : (s : List ℕ) → begins_run s ≡ true → (t : List ℕ) × ((s ≡ codes "_ZN" ++ t) ⊎ (s ≡ codes "_R" ++ t))
+pub begins_with : (s : List ℕ) → starts_run s ≡ true → (t : List ℕ) × ((s ≡ codes "_ZN" ++ t) ⊎ (s ≡ codes "_R" ++ t))
 begins_with s some = at (starts_with nat_eq s (codes "_ZN")) refl some
   where
     at : (b : Bool) → starts_with nat_eq s (codes "_ZN") ≡ b → (b || starts_with nat_eq s (codes "_R")) ≡ true → (t : List ℕ) × ((s ≡ codes "_ZN" ++ t) ⊎ (s ≡ codes "_R" ++ t))
@@ -49,43 +49,43 @@ begins_with s some = at (starts_with nat_eq s (codes "_ZN")) refl some
     at false e h = (drop 2 s, inr ((starts_is Decides-eqb s (codes "_R") true (sym h)).0 refl))
 
 -- the first byte of a run
-pub first_of_run : (s : List ℕ) → begins_run s ≡ true → get_or s 0 0 ≡ 95
+pub first_of_run : (s : List ℕ) → starts_run s ≡ true → get_or s 0 0 ≡ 95
 first_of_run s some = elim ((begins_with s some).1) [ inl e ↦ ap (λ l. get_or l 0 0) e | inr e ↦ ap (λ l. get_or l 0 0) e ]
 
 -- it has at least that byte
-pub run_some : (s : List ℕ) → begins_run s ≡ true → (0 < length s) × (0 < prefix_len is_run s)
+pub run_some : (s : List ℕ) → starts_run s ≡ true → (0 < length s) × (0 < prefix_len is_run_byte s)
 run_some [] some = absurd (elim ((begins_with [] some).1) [ inl e ↦ cc | inr e ↦ cc ])
 run_some (c ∷ s) some = (omega arith, rw (first_of_run (c ∷ s) some) (omega arith))
 
 -- the same, of the whole list: a run of its first bytes, and what is behind it
-pub filtered_run : (f : List ℕ → List ℕ) (s : List ℕ) → begins_run s ≡ true
-    → filtered_by f zero s ≡ f (take (prefix_len is_run s) s) ++ filtered_by f zero (drop (prefix_len is_run s) s)
+pub filtered_run : (f : List ℕ → List ℕ) (s : List ℕ) → starts_run s ≡ true
+    → filtered_by f zero s ≡ f (take (prefix_len is_run_byte s) s) ++ filtered_by f zero (drop (prefix_len is_run_byte s) s)
 filtered_run f [] some = absurd (omega (arith, (run_some [] some).0))
 filtered_run f (c ∷ s) some =
     let first : c ≡ 95 = first_of_run (c ∷ s) some in
-    let count : prefix_len is_run (c ∷ s) ≡ suc (prefix_len is_run s) = ap (λ b. cond b (1 + prefix_len is_run s) 0) (ap is_run first) ∙ omega arith in
+    let count : prefix_len is_run_byte (c ∷ s) ≡ suc (prefix_len is_run_byte s) = ap (λ b. cond b (1 + prefix_len is_run_byte s) 0) (ap is_run_byte first) ∙ omega arith in
     filtered_first f c s some ∙ ap (λ n. f (take n (c ∷ s)) ++ filtered_by f zero (drop n (c ∷ s))) (sym count)
 
 -- Where a line may be cut: in front of a run, and behind it.
-pub cut_before : (s : List ℕ) (n : ℕ) → n < length s → begins_run (drop n s) ≡ true → IsCharBoundary s n
+pub cut_before : (s : List ℕ) (n : ℕ) → n < length s → starts_run (drop n s) ≡ true → IsCharBoundary s n
 cut_before s n lt some =
     let at : n + 0 ≡ n = omega arith in
     let first : get_or s n 0 ≡ 95 = ap (λ k. get_or s k 0) (sym at) ∙ sym (get_or-drop n s 0 0) ∙ first_of_run (drop n s) some in
     IsCharBoundary-before_ascii s n lt (omega (arith, first))
 
-pub run_ascii : (c : ℕ) → is_run c ≡ true → c < 128
+pub run_ascii : (c : ℕ) → is_run_byte c ≡ true → c < 128
 run_ascii c is = grind (arith, nat_tests)
 
-pub cut_behind : (s : List ℕ) → IsUtf8 s → begins_run s ≡ true → IsCharBoundary s (prefix_len is_run s)
-cut_behind s utf8 some =
-    let n = prefix_len is_run s in
+pub cut_after : (s : List ℕ) → IsUtf8 s → starts_run s ≡ true → IsCharBoundary s (prefix_len is_run_byte s)
+cut_after s utf8 some =
+    let n = prefix_len is_run_byte s in
     let pos : 0 < n = (run_some s some).1 in
-    let last : get_or s (n - 1) 0 < 128 = run_ascii _ (prefix_len_passes is_run s (n - 1) 0 (omega arith)) in
-    let le : n ≤ length s = prefix_len-le-length is_run s in
+    let last : get_or s (n - 1) 0 < 128 = run_ascii _ (prefix_len_passes is_run_byte s (n - 1) 0 (omega arith)) in
+    let le : n ≤ length s = prefix_len-le-length is_run_byte s in
     subst (IsCharBoundary s) (omega arith) (IsCharBoundary-after_ascii s (n - 1) utf8 (omega arith) last)
 
 -- a text in which no run begins is kept
-pub filtered_all : (f : List ℕ → List ℕ) (s : List ℕ) → ((k : ℕ) → k < length s → begins_run (drop k s) ≡ false) → filtered_by f zero s ≡ s
+pub filtered_all : (f : List ℕ → List ℕ) (s : List ℕ) → ((k : ℕ) → k < length s → starts_run (drop k s) ≡ false) → filtered_by f zero s ≡ s
 unfolding filtered_by
 filtered_all f [] none = refl
 filtered_all f (c ∷ s) none =
@@ -111,8 +111,8 @@ pub replacement-no_symbol : (h : Bool) (run : List ℕ) → (IsSymbol (stripped 
 replacement-no_symbol h run none = replacement_in-no_symbol (unfolded h most_bytes) run none
 
 -- Where the run that was found may be cut off, by the values of the code.
-pub cut_at : (rest bytes found bytes' : List ℕ) (n m : ℕ) → IsUtf8 bytes' → bytes ≡ rest → begins_run (drop n bytes) ≡ true → found ≡ drop n rest
-    → bytes' ≡ found → m ≡ prefix_len is_run bytes' → IsCharBoundary found m
+pub cut_at : (rest bytes found bytes' : List ℕ) (n m : ℕ) → IsUtf8 bytes' → bytes ≡ rest → starts_run (drop n bytes) ≡ true → found ≡ drop n rest
+    → bytes' ≡ found → m ≡ prefix_len is_run_byte bytes' → IsCharBoundary found m
 cut_at rest bytes found bytes' n m utf8 b some f b' count =
-    let some' : begins_run bytes' ≡ true = subst (λ l. begins_run l ≡ true) (ap (drop n) b ∙ sym f ∙ sym b') some in
-    subst (IsCharBoundary found) (sym count) (subst (λ l. IsCharBoundary l (prefix_len is_run bytes')) b' (cut_behind bytes' utf8 some'))
+    let some' : starts_run bytes' ≡ true = subst (λ l. starts_run l ≡ true) (ap (drop n) b ∙ sym f ∙ sym b') some in
+    subst (IsCharBoundary found) (sym count) (subst (λ l. IsCharBoundary l (prefix_len is_run_byte bytes')) b' (cut_after bytes' utf8 some'))

@@ -3,16 +3,16 @@ use Rattle.std.proofs.Common.{◌≡◌, ◌⊎◌, inl, inr, ℕ, true, List, [
 use Rattle.std.specs.Option.{option_map_or}
 use Rattle.demangle_sink.specs.Cut.{cut, kept}
 use Rattle.demangle_legacy.specs.Legacy.{IsLegacy, IsLegacyPrefix}
-use Rattle.demangle_grammar.specs.Reading.{Form, path_texts}
+use Rattle.demangle_v0_grammar.specs.Reading.{Form, path_texts}
 use Rattle.rustc_demangle.specs.Stripped.{is_allowed}
-use Rattle.rustc_demangle.specs.Filtered.{begins_run}
+use Rattle.rustc_demangle.specs.Filtered.{starts_run}
 use Rattle.rustc_demangle.specs.Symbols.{IsSymbol, form_of, pieces_in, handed_in, kept_in}
 use Rattle.rustc_demangle.specs.declared.format.Format.{Format}
 use Rattle.demangle_legacy.specs.Unescaped.{legacy_pieces}
-use Rattle.demangle_grammar.specs.V0.{IsV0, IsV0Prefix}
+use Rattle.demangle_v0_grammar.specs.V0.{IsV0, IsV0Prefix}
 use Rattle.demangle_legacy.proofs.LegacyLaws.{legacy_spelled}
 use Rattle.rustc_demangle.proofs.SymbolSteps.{no_legacy, pieces-legacy, pieces-v0, none≢some}
-use Rattle.demangle_grammar.proofs.V0Reading.{v0_is_read}
+use Rattle.demangle_v0_grammar.proofs.V0Reading.{v0_is_read}
 
 handed_of : (text : List ℕ) (format : Format) (read : List (List ℕ) × List ℕ) → pieces_in (form_of format) text ≡ Some read → handed_in text format ≡ cut read.0 format.limit ++ read.1 ∷ []
 handed_of text format read e = ap (λ o. option_map_or (λ (r : List (List ℕ) × List ℕ). cut r.0 format.limit ++ r.1 ∷ []) o (text ∷ [])) e
@@ -54,21 +54,21 @@ one-scheme text elements inner suffix other legacy v0 =
 
 -- a run begins at the underscore in front, or behind it
 abbrev Begun : List ℕ → Type 0
-Begun text = (begins_run (codes "_" ++ text) ≡ true) ⊎ (begins_run text ≡ true)
+Begun text = (starts_run (codes "_" ++ text) ≡ true) ⊎ (starts_run text ≡ true)
 
 no_letter_first : (text rest : List ℕ) (c : ℕ) → codes "_" ++ text ≡ c ∷ rest → (95 ≡ c → ⊥) → Begun text
 no_letter_first text rest c e other = absurd (other (ap (λ l. get_or l 0 0) e))
 
 legacy_begun : (text prefix inner : List ℕ) → codes "_" ++ text ≡ prefix ++ inner → IsLegacyPrefix prefix → Begun text
-legacy_begun text prefix inner e (inl p) = inl (ap begins_run (e ∙ ap (λ l. l ++ inner) p))
+legacy_begun text prefix inner e (inl p) = inl (ap starts_run (e ∙ ap (λ l. l ++ inner) p))
 legacy_begun text prefix inner e (inr (inl p)) = no_letter_first text (codes "N" ++ inner) 90 (e ∙ ap (λ l. l ++ inner) p) (λ f. omega (arith, f))
-legacy_begun text prefix inner e (inr (inr p)) = inr (ap (λ l. begins_run (drop 1 l)) (e ∙ ap (λ l. l ++ inner) p))
+legacy_begun text prefix inner e (inr (inr p)) = inr (ap (λ l. starts_run (drop 1 l)) (e ∙ ap (λ l. l ++ inner) p))
 
 v0_begun : (text prefix inner : List ℕ) → codes "_" ++ text ≡ prefix ++ inner → IsV0Prefix prefix → Begun text
-v0_begun text prefix inner e (inl p) = inl (ap begins_run (e ∙ ap (λ l. l ++ inner) p))
+v0_begun text prefix inner e (inl p) = inl (ap starts_run (e ∙ ap (λ l. l ++ inner) p))
 v0_begun text prefix inner e (inr (inl p)) = no_letter_first text inner 82 (e ∙ ap (λ l. l ++ inner) p) (λ f. omega (arith, f))
-v0_begun text prefix inner e (inr (inr p)) = inr (ap (λ l. begins_run (drop 1 l)) (e ∙ ap (λ l. l ++ inner) p))
+v0_begun text prefix inner e (inr (inr p)) = inr (ap (λ l. starts_run (drop 1 l)) (e ∙ ap (λ l. l ++ inner) p))
 
-pub symbol_begun : (text : List ℕ) → IsSymbol (codes "_" ++ text) → (begins_run (codes "_" ++ text) ≡ true) ⊎ (begins_run text ≡ true)
+pub symbol_begun : (text : List ℕ) → IsSymbol (codes "_" ++ text) → (starts_run (codes "_" ++ text) ≡ true) ⊎ (starts_run text ≡ true)
 symbol_begun text (inl is) = legacy_begun text is.2.0 is.2.1 is.2.2 is.2.3
 symbol_begun text (inr is) = v0_begun text is.2.0 is.0 is.2.1 is.2.2

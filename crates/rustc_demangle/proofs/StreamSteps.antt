@@ -15,7 +15,7 @@ use Rattle.std.proofs.KnownBytes.{Appends-trans, Appends-nil}
 use Rattle.std.proofs.BufReadLemmas.{take_through_nonempty}
 use Rattle.rustc_demangle.specs.Filtered.{filtered}
 use Rattle.rustc_demangle.specs.Lines.{lines}
-use Rattle.rustc_demangle.specs.Stream.{output_of, WroteLines, Finished, Stopped, LineCopied, IsReadingFault}
+use Rattle.rustc_demangle.specs.LineStream.{output_of, WroteLines, Finished, StreamStopped, LineCopied, IsReadingFault}
 use Rattle.rustc_demangle.specs.declared.stream.fault.StreamFault.{StreamFault}
 use Rattle.rustc_demangle.specs.declared.stream.fault.StreamFault.TheVariants.{Read, NotUtf8, Write, Memory}
 use Rattle.rustc_demangle.proofs.LineDivision.{lines_step, utf8_by_lines}
@@ -85,17 +85,17 @@ written h text left old mid new p same =
     )
 
 stop_read : (e : Error) (h : Bool) (held left old mid new : Option (List ℕ)) → Streaming h held left old mid → (error_kind e ≡ OutOfMemory → ⊥) → new ≡ mid
-    → IfSome held (λ text. Stopped (Read e) text h old new)
+    → IfSome held (λ text. StreamStopped (Read e) text h old new)
 stop_read e h None left old mid new p kind same = tt
 stop_read e h (Some text) left old mid new p kind same = let w = written h text left old mid new p same in (kind, w.0, w.1)
 
 stop_memory : (h : Bool) (held left old mid new : Option (List ℕ)) → Streaming h held left old mid → new ≡ mid
-    → IfSome held (λ text. Stopped Memory text h old new)
+    → IfSome held (λ text. StreamStopped Memory text h old new)
 stop_memory h None left old mid new p same = tt
 stop_memory h (Some text) left old mid new p same = written h text left old mid new p same
 
 stop_text : (h : Bool) (held left next old mid new : Option (List ℕ)) → Streaming h held left old mid
-    → LineCopied (Err NotUtf8) h left next mid new → IfSome held (λ text. Stopped NotUtf8 text h old new)
+    → LineCopied (Err NotUtf8) h left next mid new → IfSome held (λ text. StreamStopped NotUtf8 text h old new)
 unfolding written
 stop_text h None left next old mid new p refused = tt
 stop_text h (Some text) left next old mid new p refused =
@@ -107,7 +107,7 @@ stop_text h (Some text) left next old mid new p refused =
 
 -- where the stream stops
 pub streaming_err : (fault : StreamFault) (h : Bool) (held left next old mid new : Option (List ℕ)) → Streaming h held left old mid
-    → LineCopied (Err fault) h left next mid new → IfSome held (λ text. Stopped fault text h old new)
+    → LineCopied (Err fault) h left next mid new → IfSome held (λ text. StreamStopped fault text h old new)
 streaming_err (Read e) h held left next old mid new p stop = stop_read e h held left old mid new p stop.0 stop.1
 streaming_err NotUtf8 h held left next old mid new p stop = stop_text h held left next old mid new p stop
 streaming_err (Write e) h None left next old mid new p stop = tt
@@ -117,7 +117,7 @@ streaming_err Memory h held left next old mid new p stop = stop_memory h held le
 -- where there are too many lines, at the writer that a join of branches has
 pub streaming_full : {W : Type 0} (contents : W → Option (List ℕ)) (e : Error) (h : Bool) (held left : Option (List ℕ)) (old new next : W)
     → Streaming h held left (contents old) (contents new) → (error_kind e ≡ OutOfMemory → ⊥) → next ≡ new
-    → IfSome held (λ text. Stopped (Read e) text h (contents old) (contents next))
+    → IfSome held (λ text. StreamStopped (Read e) text h (contents old) (contents next))
 streaming_full contents e h held left old new next p kind same =
     stop_read e h held left (contents old) (contents new) (contents next) p kind (ap contents same)
 
@@ -135,12 +135,12 @@ line_refused (Some rest) before after bytes read none same some bad =
 pub line_copied : (h : Bool) (left old new : Option (List ℕ)) (before after bytes text : List ℕ) → IfSome left (λ xs. after ≡ before ++ take_through 10 xs) → before ≡ []
     → bytes ≡ after → text ≡ bytes → 0 < length after → IsUtf8 bytes → Appends old new (filtered h text)
     → IfSome left (λ text. (0 < length text) × IsUtf8 (take_through 10 text) × Appends old new (filtered h (take_through 10 text)))
-line_copied h None old new before after bytes text read none same shown some good wrote = tt
-line_copied h (Some rest) old new before after bytes text read none same shown some good wrote =
+line_copied h None old new before after bytes text read none same available some good wrote = tt
+line_copied h (Some rest) old new before after bytes text read none same available some good wrote =
     let e = taken rest before after bytes read none same in (
       take_through_nonempty 10 rest (subst (λ l. 0 < length l) (sym same ∙ e) some),
       subst IsUtf8 e good,
-      subst (λ l. Appends old new (filtered h l)) (shown ∙ e) wrote,
+      subst (λ l. Appends old new (filtered h l)) (available ∙ e) wrote,
     )
 
 -- no line was read

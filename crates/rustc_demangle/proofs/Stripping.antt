@@ -111,27 +111,27 @@ IsAscii-stripped (c ∷ s) h = go (starts_with nat_eq (c ∷ s) (codes ".llvm.")
 begins-append : (t ys : List ℕ) → starts_with nat_eq t (codes ".llvm.") ≡ true → starts_with nat_eq (t ++ ys) (codes ".llvm.") ≡ true
 begins-append t ys e = ap (λ z. starts_with nat_eq (z ++ ys) (codes ".llvm.")) (begins t e)
 
-front_of : (c : ℕ) (s front : List ℕ) (b t : Bool) → (rest : List ℕ) × (s ≡ front ++ rest) → (rest : List ℕ) × (c ∷ s ≡ cond b (cond t [] (c ∷ s)) (c ∷ front) ++ rest)
-front_of c s front true true below = (c ∷ s, refl)
-front_of c s front true false below = ([], sym (append-nil (c ∷ s)))
-front_of c s front false t below = (below.0, ap (λ z. c ∷ z) below.1)
+prefix_of : (c : ℕ) (s prefix : List ℕ) (b t : Bool) → (rest : List ℕ) × (s ≡ prefix ++ rest) → (rest : List ℕ) × (c ∷ s ≡ cond b (cond t [] (c ∷ s)) (c ∷ prefix) ++ rest)
+prefix_of c s prefix true true below = (c ∷ s, refl)
+prefix_of c s prefix true false below = ([], sym (append-nil (c ∷ s)))
+prefix_of c s prefix false t below = (below.0, ap (λ z. c ∷ z) below.1)
 
 -- the stripped text is a beginning
-pub stripped_front : (s : List ℕ) → (rest : List ℕ) × (s ≡ stripped s ++ rest)
+pub stripped_prefix : (s : List ℕ) → (rest : List ℕ) × (s ≡ stripped s ++ rest)
 unfolding stripped
-stripped_front [] = ([], refl)
-stripped_front (c ∷ s) = front_of c s (stripped s) (starts_with nat_eq (c ∷ s) (codes ".llvm.")) (list_all is_thin_lto (drop 5 s)) (stripped_front s)
+stripped_prefix [] = ([], refl)
+stripped_prefix (c ∷ s) = prefix_of c s (stripped s) (starts_with nat_eq (c ∷ s) (codes ".llvm.")) (list_all is_thin_lto (drop 5 s)) (stripped_prefix s)
 
 pub stripped-shorter : (s : List ℕ) → length (stripped s) ≤ length s
-stripped-shorter s = let front = stripped_front s in omega (arith, ap length front.1, length-append (stripped s) front.0)
+stripped-shorter s = let prefix = stripped_prefix s in omega (arith, ap length prefix.1, length-append (stripped s) prefix.0)
 
 again : (c : ℕ) (s : List ℕ) (b : Bool) → starts_with nat_eq (c ∷ stripped s) (codes ".llvm.") ≡ b → starts_with nat_eq (c ∷ s) (codes ".llvm.") ≡ false → stripped (stripped s) ≡ stripped s
     → stripped (c ∷ stripped s) ≡ c ∷ stripped s
 unfolding stripped
 again c s true e h below =
-    let front = stripped_front s in
-    let longer : starts_with nat_eq ((c ∷ stripped s) ++ front.0) (codes ".llvm.") ≡ true = begins-append (c ∷ stripped s) front.0 e in
-    let same : starts_with nat_eq (c ∷ s) (codes ".llvm.") ≡ true = ap (λ z. starts_with nat_eq (c ∷ z) (codes ".llvm.")) front.1 ∙ longer in
+    let prefix = stripped_prefix s in
+    let longer : starts_with nat_eq ((c ∷ stripped s) ++ prefix.0) (codes ".llvm.") ≡ true = begins-append (c ∷ stripped s) prefix.0 e in
+    let same : starts_with nat_eq (c ∷ s) (codes ".llvm.") ≡ true = ap (λ z. starts_with nat_eq (c ∷ z) (codes ".llvm.")) prefix.1 ∙ longer in
     absurd (true≢false (sym same ∙ h))
 again c s false e h below =
     ap (λ b. cond b (cond (list_all is_thin_lto (drop 5 (stripped s))) [] (c ∷ stripped s)) (c ∷ stripped (stripped s))) e ∙ ap (λ z. c ∷ z) below

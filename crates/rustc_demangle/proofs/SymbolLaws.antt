@@ -8,17 +8,17 @@ use Rattle.std.proofs.lemmas.Str.Ascii.{IsAscii-nil, IsAscii-cons}
 use Rattle.std.proofs.lemmas.Bool.Decides.{nat_tests}
 use Rattle.demangle_sink.specs.Cut.{size}
 use Rattle.demangle_legacy.specs.Legacy.{IsLegacyPrefix}
-use Rattle.demangle_grammar.specs.Reading.{path_texts}
+use Rattle.demangle_v0_grammar.specs.Reading.{path_texts}
 use Rattle.rustc_demangle.specs.Stripped.{stripped, is_thin_lto}
 use Rattle.rustc_demangle.specs.Symbols.{IsSymbol, form_of, handed_in, handed, unfolded}
 use Rattle.rustc_demangle.specs.declared.format.Format.{Format}
 use Rattle.demangle_legacy.specs.Unescaped.{legacy_pieces}
-use Rattle.demangle_grammar.specs.V0.{IsV0Prefix}
+use Rattle.demangle_v0_grammar.specs.V0.{IsV0Prefix}
 use Rattle.demangle_legacy.proofs.LegacyLaws.{legacy_spelled}
 use Rattle.rustc_demangle.proofs.PrintingLaws.{size-handed}
 use Rattle.rustc_demangle.proofs.Stripping.{ending, begins}
 use Rattle.rustc_demangle.proofs.SymbolSteps.{pieces-legacy, pieces-v0, suffix-shorter, v0_suffix-shorter}
-use Rattle.demangle_grammar.proofs.V0Reading.{v0_is_read}
+use Rattle.demangle_v0_grammar.proofs.V0Reading.{v0_is_read}
 
 thin_lto_ascii : (c : ℕ) → is_thin_lto c ≡ true → c < 128
 thin_lto_ascii c h = grind (arith, nat_tests)

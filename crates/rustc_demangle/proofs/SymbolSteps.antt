@@ -8,15 +8,15 @@ use Rattle.demangle_sink.specs.Cut.{cut, kept}
 use Rattle.demangle_legacy.specs.Legacy.{IsElements, inner_of, legacy_of, elements_of}
 use Rattle.rustc_demangle.specs.Stripped.{is_allowed}
 use Rattle.demangle_legacy.specs.Unescaped.{legacy_pieces}
-use Rattle.demangle_grammar.specs.Reading.{Form, form, path_texts}
-use Rattle.demangle_grammar.specs.V0.{IsV0, IsV0Prefix, v0_of}
+use Rattle.demangle_v0_grammar.specs.Reading.{Form, form, path_texts}
+use Rattle.demangle_v0_grammar.specs.V0.{IsV0, IsV0Prefix, v0_of}
 use Rattle.rustc_demangle.specs.Symbols.{IsLegacySymbol, IsV0Symbol, IsSymbol, form_of, kept_in, if_allowed, read_in, pieces_in, handed_in, PrintingLooksIn}
 use Rattle.rustc_demangle.specs.declared.format.Format.{Format}
 use Rattle.rustc_demangle.specs.Style.{style_pieces, style_looks, style_least, IsReadAs, HasNoStyle, HasStyle, IsStyled}
 use Rattle.rustc_demangle.specs.declared.value.DemangleStyle.{DemangleStyle}
 use Rattle.rustc_demangle.specs.declared.value.DemangleStyle.TheVariants.{Legacy, V0}
 use Rattle.demangle_legacy.proofs.LegacyLaws.{legacy_no_prefix, legacy_read, legacy_spelled}
-use Rattle.demangle_grammar.proofs.V0Reading.{read_is_v0, v0_is_read}
+use Rattle.demangle_v0_grammar.proofs.V0Reading.{read_is_v0, v0_is_read}
 
 -- a text without a style hands over itself
 pub handed-none : (text : List ℕ) (format : Format) → HasNoStyle text → handed_in text format ≡ text ∷ []
@@ -155,7 +155,7 @@ styled_looks text format style suffix old new has grows most least = record {
   most = omega (arith, most, style_looks-most text format style suffix has);
   legacy = λ legacy. omega (arith, most, style_looks-legacy text format style suffix has legacy);
   v0 = λ v0. omega (arith, least, style_least-v0 text style suffix has v0);
-  unread = λ none. absurd (none (symbol_styled text style suffix has));
+  after_error = λ none. absurd (none (symbol_styled text style suffix has));
 }
 
 pub unstyled_looks : (text : List ℕ) (format : Format) (looks : ℕ) → HasNoStyle text → PrintingLooksIn text format looks looks
@@ -164,7 +164,7 @@ unstyled_looks text format looks none = record {
   most = omega arith;
   legacy = λ legacy. omega arith;
   v0 = λ v0. absurd (no_symbol_unstyled text none (inr v0));
-  unread = λ _. refl;
+  after_error = λ _. refl;
 }
 
 pub styled_symbol : (style : Option DemangleStyle) (text suffix : List ℕ) → IsStyled style text suffix → is_some style ≡ true → IsSymbol text

@@ -10,7 +10,7 @@ use Rattle.rustc_demangle.specs.Lines.{lines}
 use Rattle.rustc_demangle.specs.Stripped.{stripped, is_allowed}
 use Rattle.rustc_demangle.specs.Symbols.{handed, most_bytes}
 use Rattle.demangle_legacy.specs.Unescaped.{escape_of_digits, escape_of, leading_unit, pieces_from, unescaped, shown_elements}
-use Rattle.demangle_grammar.specs.V0.{v0_in, v0_of}
+use Rattle.demangle_v0_grammar.specs.V0.{v0_in, v0_of}
 
 endings : map stripped (codes "foo.llvm.AB" ∷ codes "foo.llvm." ∷ codes "foo.llvm.F0@9" ∷ codes "foo.llvm.AG" ∷ codes "foo.llvm.ab" ∷ codes "a.llvm.A.llvm.G" ∷ codes "a.llvm.A.llvm.B" ∷ codes "foo.llv.AB" ∷ []) ≡
     codes "foo" ∷ codes "foo" ∷ codes "foo" ∷ codes "foo.llvm.AG" ∷ codes "foo.llvm.ab" ∷ codes "a.llvm.A.llvm.G" ∷ codes "a.llvm.A.llvm.B" ∷ codes "foo.llv.AB" ∷ []
@@ -66,14 +66,14 @@ ends =
     codes " !\"#%&'()*+,-/:;<=>?@[\\]^`{|}~"
 
 -- the bytes that go on with it, but for `.`, which begins a suffix
-abbrev goes_on : List ℕ
-goes_on = codes "$0123456789ABCDEFGHIJKLMNOPQRSTUVWXYZ_abcdefghijklmnopqrstuvwxyz"
+abbrev extends_prefix : List ℕ
+extends_prefix = codes "$0123456789ABCDEFGHIJKLMNOPQRSTUVWXYZ_abcdefghijklmnopqrstuvwxyz"
 
 run_ends : map (filtered true) (before_each ends) ≡ map (λ b. codes "foo" ++ b ∷ []) ends
 unfolding filtered_by stripped number inner_of element_of parts_within parts_of legacy_of escape_of_digits escape_of leading_unit pieces_from unescaped shown_elements encode_utf8 v0_in v0_of
 run_ends = refl
 
-run_goes_on : map (filtered true) (before_each goes_on) ≡ before_each goes_on
+run_goes_on : map (filtered true) (before_each extends_prefix) ≡ before_each extends_prefix
 unfolding filtered_by stripped number inner_of element_of parts_within parts_of legacy_of escape_of_digits escape_of leading_unit pieces_from unescaped shown_elements encode_utf8 v0_in v0_of
 run_goes_on = refl
 

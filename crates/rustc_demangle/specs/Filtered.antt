@@ -9,31 +9,31 @@ use Rattle.rustc_demangle.specs.declared.format.Format.{Format}
 
 -- A run is a candidate symbol: the longest sequence of run bytes that starts with `_ZN` or `_R`. A run byte is `$`,
 -- `.`, `_`, an ASCII letter or an ASCII digit.
-abbrev pub is_run : ℕ → Bool
-is_run c = (c == 36 || c == 46) || c == 95 || is_ascii_alphanumeric c
+abbrev pub is_run_byte : ℕ → Bool
+is_run_byte c = (c == 36 || c == 46) || c == 95 || is_ascii_alphanumeric c
 
 -- the text starts with `_ZN` or `_R`
-abbrev pub begins_run : List ℕ → Bool
-begins_run s = starts_with nat_eq s (codes "_ZN") || starts_with nat_eq s (codes "_R")
+abbrev pub starts_run : List ℕ → Bool
+starts_run s = starts_with nat_eq s (codes "_ZN") || starts_with nat_eq s (codes "_R")
 
 -- the text contains neither `_ZN` nor `_R`
 abbrev pub HasNoStart : List ℕ → Type 0
-HasNoStart s = (before rest : List ℕ) → s ≡ before ++ rest → begins_run rest ≡ false
+HasNoStart s = (before rest : List ℕ) → s ≡ before ++ rest → starts_run rest ≡ false
 
 -- the text is empty, or its first byte is not a run byte
-abbrev pub NoRunFirst : List ℕ → Type 0
-NoRunFirst [] = Unit {0}
-NoRunFirst (c ∷ s) = is_run c ≡ false
+abbrev pub StartsOutsideRun : List ℕ → Type 0
+StartsOutsideRun [] = Unit {0}
+StartsOutsideRun (c ∷ s) = is_run_byte c ≡ false
 
--- `run` is a run, if `behind` is the text that follows it
-pub record IsRun (run behind : List ℕ) : Type 0 where
-  pub begins : begins_run run ≡ true
-  pub all : list_all is_run run ≡ true
-  pub longest : NoRunFirst behind
+-- `run` is a run, if `following` is the text that follows it
+pub record IsRun (run following : List ℕ) : Type 0 where
+  pub begins : starts_run run ≡ true
+  pub all : list_all is_run_byte run ≡ true
+  pub longest : StartsOutsideRun following
 
 -- `text` replaces a run: it is the printed symbol if the run is a symbol, and the run itself otherwise
-abbrev pub StandsFor : Bool → List ℕ → List ℕ → Type 0
-StandsFor hash run text = (IsSymbol (stripped run) × (text ≡ printed (stripped run) hash)) ⊎ ((IsSymbol (stripped run) → ⊥) × (text ≡ run))
+abbrev pub IsReplacement : Bool → List ℕ → List ℕ → Type 0
+IsReplacement hash run text = (IsSymbol (stripped run) × (text ≡ printed (stripped run) hash)) ⊎ ((IsSymbol (stripped run) → ⊥) × (text ≡ run))
 
 -- The line is a sequence of runs, each with the plain text up to the next run. `out` is the line with each run
 -- replaced.
@@ -42,7 +42,7 @@ AreReplaced hash [] line out = (line ≡ []) × (out ≡ [])
 AreReplaced hash ((run, kept) ∷ parts) line out =
     (rest : List ℕ) × (text : List ℕ) × (rest_out : List ℕ)
     × (line ≡ run ++ (kept ++ rest)) × (out ≡ text ++ (kept ++ rest_out))
-    × IsRun run (kept ++ rest) × StandsFor hash run text × HasNoStart kept × AreReplaced hash parts rest rest_out
+    × IsRun run (kept ++ rest) × IsReplacement hash run text × HasNoStart kept × AreReplaced hash parts rest rest_out
 
 -- The line is plain text followed by such a sequence. `out` keeps the plain text and replaces the runs.
 pub record IsFiltered (hash : Bool) (line out : List ℕ) : Type 0 where
@@ -51,7 +51,7 @@ pub record IsFiltered (hash : Bool) (line out : List ℕ) : Type 0 where
   pub rest_out : List ℕ
   pub parts : List (List ℕ × List ℕ)
   pub whole : line ≡ kept ++ rest
-  pub shown : out ≡ kept ++ rest_out
+  pub available : out ≡ kept ++ rest_out
   pub no_start : HasNoStart kept
   pub runs : AreReplaced hash parts rest rest_out
 
@@ -71,8 +71,8 @@ replacement hash run = replacement_within hash most_bytes run
 unfoldable pub filtered_by : (List ℕ → List ℕ) → ℕ → List ℕ → List ℕ
 filtered_by stands skip [] = []
 filtered_by stands (suc skip) (c ∷ s) = filtered_by stands skip s
-filtered_by stands zero (c ∷ s) = elim (begins_run (c ∷ s)) [
-  | true ↦ stands (c ∷ take_while is_run s) ++ filtered_by stands (prefix_len is_run s) s
+filtered_by stands zero (c ∷ s) = elim (starts_run (c ∷ s)) [
+  | true ↦ stands (c ∷ take_while is_run_byte s) ++ filtered_by stands (prefix_len is_run_byte s) s
   | false ↦ c ∷ filtered_by stands zero s
 ]
 

@@ -4,15 +4,15 @@ use Rattle.rustc_demangle.specs.Symbols.{handed}
 use Rattle.demangle_legacy.specs.Unescaped.{unescaped, is_hash, joined_pieces}
 
 -- the pieces of an element after others: if there are any, `::` comes first
-abbrev pub pieces_behind : List (List ℕ) → List ℕ → List (List ℕ)
-pieces_behind [] element = unescaped element
-pieces_behind (_ ∷ _) element = codes "::" ∷ unescaped element
+abbrev pub pieces_after : List (List ℕ) → List ℕ → List (List ℕ)
+pieces_after [] element = unescaped element
+pieces_after (_ ∷ _) element = codes "::" ∷ unescaped element
 
 -- Without the hash, the text prints the same pieces except for its last element and the `::` before that.
-pub record LeavesHashOut (text : List ℕ) (elements : List (List ℕ)) (suffix : List ℕ) (limit : ℕ) : Type 0 where
-  pub front : List (List ℕ)
+pub record OmitsHash (text : List ℕ) (elements : List (List ℕ)) (suffix : List ℕ) (limit : ℕ) : Type 0 where
+  pub prefix : List (List ℕ)
   pub last : List ℕ
-  pub whole : elements ≡ front ++ last ∷ []
+  pub whole : elements ≡ prefix ++ last ∷ []
   pub hash : is_hash last ≡ true
-  pub with_hash : handed text true limit ≡ joined_pieces front ++ pieces_behind front last ++ suffix ∷ []
-  pub without_hash : handed text false limit ≡ joined_pieces front ++ suffix ∷ []
+  pub with_hash : handed text true limit ≡ joined_pieces prefix ++ pieces_after prefix last ++ suffix ∷ []
+  pub without_hash : handed text false limit ≡ joined_pieces prefix ++ suffix ∷ []

@@ -5,13 +5,13 @@ pub mod PathEnds
 pub mod Hashes
 pub mod Lines
 pub mod Filtered
-pub mod Pieces
-pub mod Stream
-pub mod Bytes
+pub mod TextPieces
+pub mod LineStream
+pub mod ByteStream
 -- and of demangle_sink
 pub use Rattle.demangle_sink.specs.Sink
 pub use Rattle.demangle_sink.specs.Cut
-pub use Rattle.demangle_sink.specs.Hands
+pub use Rattle.demangle_sink.specs.PutsPieces
 pub use Rattle.demangle_sink.specs.Array
 pub use Rattle.demangle_sink.specs.Writer
 pub use Rattle.demangle_sink.specs.Slice
@@ -19,22 +19,22 @@ pub use Rattle.demangle_sink.specs.Writes
 -- and of demangle_symbol
 pub use Rattle.demangle_symbol.specs.Prefix
 pub use Rattle.demangle_symbol.specs.Digits
-pub use Rattle.demangle_symbol.specs.Tally
-pub use Rattle.demangle_symbol.specs.Words
+pub use Rattle.demangle_symbol.specs.Looks
+pub use Rattle.demangle_symbol.specs.Primitives
 pub use Rattle.demangle_symbol.specs.Punycode
 pub use Rattle.demangle_symbol.specs.Names
 pub use Rattle.demangle_symbol.specs.Literals
 -- and of demangle_legacy
 pub use Rattle.demangle_legacy.specs.Legacy
 pub use Rattle.demangle_legacy.specs.Unescaped
-pub use Rattle.demangle_legacy.specs.Unescaping
+pub use Rattle.demangle_legacy.specs.UnescapedRelation
 -- and of demangle_grammar
-pub use Rattle.demangle_grammar.specs.Items
-pub use Rattle.demangle_grammar.specs.Table
-pub use Rattle.demangle_grammar.specs.Cost
-pub use Rattle.demangle_grammar.specs.Reading
-pub use Rattle.demangle_grammar.specs.Spelling
-pub use Rattle.demangle_grammar.specs.V0
-pub use Rattle.demangle_grammar.specs.Accepting
+pub use Rattle.demangle_v0_grammar.specs.Items
+pub use Rattle.demangle_v0_grammar.specs.Table
+pub use Rattle.demangle_v0_grammar.specs.LookBudget
+pub use Rattle.demangle_v0_grammar.specs.Reading
+pub use Rattle.demangle_v0_grammar.specs.Spelling
+pub use Rattle.demangle_v0_grammar.specs.V0
+pub use Rattle.demangle_v0_grammar.specs.ValidationLooks
 -- Internal.
 pub mod Style

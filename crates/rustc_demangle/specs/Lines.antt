@@ -18,7 +18,7 @@ lines (b ∷ bs) = lines_from b (lines bs)
 
 -- the line has one line feed, at its end
 abbrev pub IsEnded : List ℕ → Type 0
-IsEnded line = (front : List ℕ) × (line ≡ front ++ 10 ∷ []) × All (λ b. b ≢ 10) front
+IsEnded line = (prefix : List ℕ) × (line ≡ prefix ++ 10 ∷ []) × All (λ b. b ≢ 10) prefix
 
 -- nonempty parts with one line feed each, at the end; the last part may have none
 abbrev pub AreLines : List (List ℕ) → Type 0
@@ -33,6 +33,6 @@ pub record OnlyLines (text : List ℕ) : Type 0 where
   pub only : (parts : List (List ℕ)) → AreLines parts → concat parts ≡ text → parts ≡ lines text
 
 -- the number of line feeds in a text
-abbrev pub feeds : List ℕ → ℕ
-feeds [] = 0
-feeds (b ∷ bs) = (if b == 10 then 1 else 0) + feeds bs
+abbrev pub line_feeds : List ℕ → ℕ
+line_feeds [] = 0
+line_feeds (b ∷ bs) = (if b == 10 then 1 else 0) + line_feeds bs

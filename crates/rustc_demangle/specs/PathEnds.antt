@@ -3,8 +3,8 @@ use Rattle.std.specs.Prelude.{false, ℕ, ◌-◌, Bool, true, List, [], ◌∷�
 use Rattle.std.specs.List.{list_all}
 use Rattle.std.specs.Option.{option_map_or}
 use Rattle.demangle_sink.specs.Cut.{cut}
-use Rattle.demangle_grammar.specs.Reading.{form, path_texts}
-use Rattle.demangle_grammar.specs.V0.{v0_inner}
+use Rattle.demangle_v0_grammar.specs.Reading.{form, path_texts}
+use Rattle.demangle_v0_grammar.specs.V0.{v0_inner}
 use Rattle.rustc_demangle.specs.Symbols.{pieces_of, handed}
 
 -- the number of bytes before the symbol's suffix; 0 for a text that is not a symbol
@@ -17,5 +17,5 @@ v0_ascii text = if list_all (λ b. nat_lt b 128) text then v0_inner text else No
 
 -- ASCII text with a v0 prefix prints its first path as far as the grammar accepts it, within the limit. Then it
 -- prints the text without its first `len` bytes. Any other text prints the pieces of `handed`.
-abbrev pub handed_with : List ℕ → ℕ → Bool → ℕ → List (List ℕ)
-handed_with text len hash limit = option_map_or (λ inner. cut (path_texts inner (form hash false)) limit ++ drop len text ∷ []) (v0_ascii text) (handed text hash limit)
+abbrev pub handed_with_path_len : List ℕ → ℕ → Bool → ℕ → List (List ℕ)
+handed_with_path_len text len hash limit = option_map_or (λ inner. cut (path_texts inner (form hash false)) limit ++ drop len text ∷ []) (v0_ascii text) (handed text hash limit)

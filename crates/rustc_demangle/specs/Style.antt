@@ -5,11 +5,11 @@ use Rattle.rustc_demangle.specs.declared.value.DemangleStyle.{DemangleStyle}
 use Rattle.rustc_demangle.specs.declared.value.DemangleStyle.TheVariants.{Legacy, V0}
 use Rattle.demangle_sink.specs.Cut.{kept}
 use Rattle.demangle_legacy.specs.Legacy.{legacy_of, elements_of}
-use Rattle.demangle_grammar.specs.Reading.{Form, path_texts}
+use Rattle.demangle_v0_grammar.specs.Reading.{Form, path_texts}
 use Rattle.rustc_demangle.specs.Stripped.{is_allowed}
 use Rattle.rustc_demangle.specs.Symbols.{pieces_in}
 use Rattle.demangle_legacy.specs.Unescaped.{legacy_pieces}
-use Rattle.demangle_grammar.specs.V0.{v0_of}
+use Rattle.demangle_v0_grammar.specs.V0.{v0_of}
 
 -- the pieces of a symbol of this style
 abbrev pub style_pieces : Form → DemangleStyle → List (List ℕ)

@@ -4,11 +4,11 @@ use Rattle.std.specs.List.{concat}
 use Rattle.std.specs.Option.{option_map_or, option_or}
 use Rattle.demangle_sink.specs.Cut.{cut, kept}
 use Rattle.demangle_legacy.specs.Legacy.{IsLegacy, legacy_of}
-use Rattle.demangle_grammar.specs.Reading.{Form, form, path_texts}
+use Rattle.demangle_v0_grammar.specs.Reading.{Form, form, path_texts}
 use Rattle.rustc_demangle.specs.Stripped.{is_allowed}
 use Rattle.rustc_demangle.specs.declared.format.Format.{Format}
 use Rattle.demangle_legacy.specs.Unescaped.{legacy_pieces}
-use Rattle.demangle_grammar.specs.V0.{IsV0, v0_of}
+use Rattle.demangle_v0_grammar.specs.V0.{IsV0, v0_of}
 
 -- the text is spelled by the grammar of the legacy scheme, up to an allowed suffix
 abbrev pub IsLegacySymbol : List ℕ → Type 0
@@ -77,7 +77,7 @@ pub record PrintingLooksIn (text : List ℕ) (format : Format) (old new : ℕ) :
   pub most : new ≤ old + 100000 * (kept_in text format + 1) * (length text + 1)
   pub legacy : IsLegacySymbol text → new ≤ old + 16 * (length text + 1)
   pub v0 : IsV0Symbol text → old + 1 ≤ new
-  pub unread : (IsSymbol text → ⊥) → new ≡ old
+  pub after_error : (IsSymbol text → ⊥) → new ≡ old
 
 abbrev pub PrintingLooks : List ℕ → Bool → ℕ → ℕ → ℕ → Type 0
 PrintingLooks text hash limit old new = PrintingLooksIn text (unfolded hash limit) old new

@@ -5,6 +5,6 @@ pub mod legacy;
 pub mod names;
 pub mod printing;
 pub mod symbols;
+pub mod v0_grammar;
 pub mod v0_looks;
-pub mod v0_spelling;
-pub mod v0_words;
+pub mod v0_primitives;

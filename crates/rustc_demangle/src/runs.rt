@@ -1,32 +1,32 @@
 //! Finds the runs of a text. A run is a candidate symbol.
 ghost use Rattle.std.specs.Prelude.{◌≡◌, ◌∷◌, ℕ, List, ◌+◌, ◌<◌, ◌≤◌, true, false, length, drop, slice_index, IfSome, IfNone, IsTrue};
 ghost use Rattle.std.specs.List.{prefix_len, list_all};
-ghost use Rattle.rustc_demangle.specs.Filtered.{is_run, begins_run};
+ghost use Rattle.rustc_demangle.specs.Filtered.{is_run_byte, starts_run};
 
 use memchr::memchr;
 use std::str;
 
 /// Returns whether the text starts with a run's prefix.
-pub(crate) fn begins_run(text: &[u8]) -> bool
-    ensures { result ≡ begins_run text.now }
+pub(crate) fn starts_run(text: &[u8]) -> bool
+    ensures { result ≡ starts_run text.now }
 {
     text.starts_with(b"_ZN") || text.starts_with(b"_R")
 }
 
 /// Returns whether these two bytes may start a run.
 #[inline(always)]
-fn is_mark(first: u8, second: u8) -> bool
-    ensures { result ≡ false → (more : List ℕ) → begins_run (first ∷ second ∷ more) ≡ false }
+fn may_start_run(first: u8, second: u8) -> bool
+    ensures { result ≡ false → (more : List ℕ) → starts_run (first ∷ second ∷ more) ≡ false }
 {
     (first == b'_') & ((second == b'R') | (second == b'Z'))
 }
 
 /// Returns whether a run may start in the group of bytes at `from`.
 #[inline(always)]
-fn has_mark<const N: usize>(text: &[u8], from: usize) -> bool
+fn group_may_start_run<const N: usize>(text: &[u8], from: usize) -> bool
     requires { from + N < length text.now }
     ensures { result ≡ false → (k : ℕ) → from ≤ k → k < from + N →
-        begins_run (drop k text.now) ≡ false }
+        starts_run (drop k text.now) ≡ false }
 {
     // Arrays need no bounds check in the loop, so the compiler vectorizes it.
     let Some(firsts) = text[from..].first_chunk::<N>() else {
@@ -37,22 +37,22 @@ fn has_mark<const N: usize>(text: &[u8], from: usize) -> bool
     };
     let mut any = false;
     for k in 0..N {
-        any |= is_mark(firsts[k], seconds[k]);
+        any |= may_start_run(firsts[k], seconds[k]);
     }
     any
 }
 
 /// Returns the end of the complete groups after `from` in which no run starts.
 #[inline(always)]
-fn unmarked_end<const N: usize>(text: &[u8], from: usize) -> usize
+fn skip_groups<const N: usize>(text: &[u8], from: usize) -> usize
     requires size { 0 < N }
     requires within { from ≤ length text.now }
     ensures forward { from ≤ result }
     ensures within { result ≤ length text.now }
-    ensures none { (k : ℕ) → from ≤ k → k < result → begins_run (drop k text.now) ≡ false }
+    ensures none { (k : ℕ) → from ≤ k → k < result → starts_run (drop k text.now) ≡ false }
 {
     let mut at = from;
-    while text.len() - at > N && !has_mark::<N>(text, at) {
+    while text.len() - at > N && !group_may_start_run::<N>(text, at) {
         at += N;
     }
     at
@@ -61,39 +61,39 @@ fn unmarked_end<const N: usize>(text: &[u8], from: usize) -> usize
 /// Returns the offset of the next run: the first `_ZN` or `_R`. Returns `None` if the text contains
 /// neither.
 pub fn run_start(text: &[u8]) -> Option<usize>
-    ensures some { IfSome result (λ n. (n < length text.now) × (begins_run (drop n text.now) ≡ true)
-        × ((k : ℕ) → k < n → begins_run (drop k text.now) ≡ false)) }
+    ensures some { IfSome result (λ n. (n < length text.now) × (starts_run (drop n text.now) ≡ true)
+        × ((k : ℕ) → k < n → starts_run (drop k text.now) ≡ false)) }
     ensures none { IfNone result
-        ((k : ℕ) → k < length text.now → begins_run (drop k text.now) ≡ false) }
+        ((k : ℕ) → k < length text.now → starts_run (drop k text.now) ≡ false) }
 {
     let mut from = 0;
     // A run starts with `_`, and a search for a single byte is fast.
     while let Some(ahead) = memchr(b'_', &text[from..]) {
         let at = from + ahead;
-        if begins_run(&text[at..]) {
+        if starts_run(&text[at..]) {
             return Some(at);
         }
         // A text with many `_` is skipped in complete groups with vector instructions, and not one
         // `_` at a time.
-        from = unmarked_end::<32>(text, at + 1);
+        from = skip_groups::<32>(text, at + 1);
     }
     None
 }
 
 /// Returns whether this is a run byte.
 #[inline(always)]
-fn is_run(byte: u8) -> bool
-    ensures { result ≡ is_run byte }
+fn is_run_byte(byte: u8) -> bool
+    ensures { result ≡ is_run_byte byte }
 {
     (byte == b'$') | (byte == b'.') | (byte == b'_') | byte.is_ascii_alphanumeric()
 }
 
 /// Returns whether the group at `from` has only run bytes.
 #[inline(always)]
-fn is_run_group<const N: usize>(text: &[u8], from: usize) -> bool
+fn is_group_of_run<const N: usize>(text: &[u8], from: usize) -> bool
     requires { from + N ≤ length text.now }
     ensures { IsTrue result → (k : ℕ) → from ≤ k → k < from + N →
-        is_run (slice_index text.now k) ≡ true }
+        is_run_byte (slice_index text.now k) ≡ true }
 {
     // An array needs no bounds check in the loop, so the compiler vectorizes it.
     let Some(group) = text[from..].first_chunk::<N>() else {
@@ -101,7 +101,7 @@ fn is_run_group<const N: usize>(text: &[u8], from: usize) -> bool
     };
     let mut all = true;
     for k in 0..N {
-        all &= is_run(group[k]);
+        all &= is_run_byte(group[k]);
     }
     all
 }
@@ -113,10 +113,10 @@ fn groups_end<const N: usize>(text: &[u8], from: usize) -> usize
     requires within { from ≤ length text.now }
     ensures forward { from ≤ result }
     ensures within { result ≤ length text.now }
-    ensures all { (k : ℕ) → from ≤ k → k < result → is_run (slice_index text.now k) ≡ true }
+    ensures all { (k : ℕ) → from ≤ k → k < result → is_run_byte (slice_index text.now k) ≡ true }
 {
     let mut at = from;
-    while text.len() - at >= N && is_run_group::<N>(text, at) {
+    while text.len() - at >= N && is_group_of_run::<N>(text, at) {
         at += N;
     }
     at
@@ -125,12 +125,12 @@ fn groups_end<const N: usize>(text: &[u8], from: usize) -> usize
 /// Returns the length of the run at the start of the text. It ends before the first byte that is
 /// not an ASCII letter, a digit, `$`, `.` or `_`.
 pub fn run_len(text: &[u8]) -> usize
-    ensures { result ≡ prefix_len is_run text.now }
+    ensures { result ≡ prefix_len is_run_byte text.now }
 {
     // The compiler vectorizes groups of these sizes, so at most seven bytes of a run remain.
     let mut at = groups_end::<16>(text, 0);
     at = groups_end::<8>(text, at);
-    while at < text.len() && is_run(text[at]) {
+    while at < text.len() && is_run_byte(text[at]) {
         at += 1;
     }
     at
@@ -138,7 +138,7 @@ pub fn run_len(text: &[u8]) -> usize
 
 /// Returns the text of a run, which is ASCII.
 pub(crate) fn run_text(run: &[u8]) -> &str
-    requires { list_all is_run run.now ≡ true }
+    requires { list_all is_run_byte run.now ≡ true }
     ensures { result.now ≡ run.now }
 {
     // SAFETY: a run is ASCII.

@@ -4,7 +4,7 @@ ghost use Rattle.std.specs.List.{concat};
 ghost use Rattle.demangle_sink.specs.Slice.{overlay};
 ghost use Rattle.demangle_sink.specs.Writes.{Writes};
 ghost use Rattle.rustc_demangle.specs.Filtered.{filtered_in, filtered_within};
-ghost use Rattle.rustc_demangle.specs.Pieces.{filtered_pieces_in};
+ghost use Rattle.rustc_demangle.specs.TextPieces.{filtered_pieces_in};
 
 use crate::format::Format;
 use crate::runs::{run_len, run_start, run_text};
@@ -21,10 +21,10 @@ fn put_slice<'b>(text: &[u8], out: &mut SliceSink<'b>, format: Format) -> Result
     let mut rest = text;
     while let Some(start) = run_start(rest) {
         let (kept, found) = rest.split_at(start);
-        let (run, behind) = found.split_at(run_len(found));
+        let (run, following) = found.split_at(run_len(found));
         out.put_bytes(kept)?;
         put_run(run_text(run), out, format)?;
-        rest = behind;
+        rest = following;
     }
     out.put_bytes(rest)
 }

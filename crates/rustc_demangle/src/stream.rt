@@ -1,26 +1,26 @@
 //! Demangles a text that comes from a reader.
 ghost use Rattle.std.specs.Prelude.{IfSome, OnOk, IfErr};
-ghost use Rattle.rustc_demangle.specs.Stream.{LineCopied, Finished, Stopped};
+ghost use Rattle.rustc_demangle.specs.LineStream.{LineCopied, Finished, StreamStopped};
 
 use std::alloc::{Allocator, Global};
 use std::io::{BufRead, Write};
 use std::{io, str};
 
+mod buffer_sink;
 mod bytes;
-mod carrying;
 mod fault;
-mod held_sink;
-mod line;
+mod line_reader;
+mod line_writer;
 mod memo;
-mod reading;
+mod pending_run;
 #[cfg(test)]
 mod tests;
 
 pub use bytes::{BytesFilter, demangle_bytes, demangle_bytes_formatted, demangle_bytes_limited};
 pub use fault::StreamFault;
-use line::demangle_line;
+use line_reader::read_line;
+use line_writer::demangle_line;
 pub use memo::SymbolMemo;
-use reading::read_line;
 
 /// Reads a line completely and then writes it demangled. Returns `false` at the end of the input.
 /// Fails if the reader or the writer fails, if the line is not UTF-8, or if memory can't be
@@ -59,7 +59,7 @@ fn copy_lines<R: BufRead, W: Write, A: Allocator>(
         Finished text include_hash (R.remaining input.new)
         (W.contents output.old) (W.contents output.new))) }
     ensures err { IfErr result (λ fault. IfSome (R.remaining input.old) (λ text.
-        Stopped fault text include_hash (W.contents output.old) (W.contents output.new))) }
+        StreamStopped fault text include_hash (W.contents output.old) (W.contents output.new))) }
 {
     for _ in 0..=u64::MAX {
         if !copy_line(input, output, line, include_hash)? {
@@ -89,7 +89,7 @@ pub fn demangle_stream_named<R: BufRead, W: Write>(
         Finished text include_hash (R.remaining input.new)
         (W.contents output.old) (W.contents output.new))) }
     ensures err { IfErr result (λ fault. IfSome (R.remaining input.old) (λ text.
-        Stopped fault text include_hash (W.contents output.old) (W.contents output.new))) }
+        StreamStopped fault text include_hash (W.contents output.old) (W.contents output.new))) }
 {
     let mut line = Vec::new(alloc);
     copy_lines(input, output, &mut line, include_hash)

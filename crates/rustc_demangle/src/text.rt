@@ -1,10 +1,10 @@
 //! Demangles the symbols of a text in memory.
 ghost use Rattle.std.specs.Prelude.{◌≡◌, true, false, OnOk};
 ghost use Rattle.std.specs.List.{list_all};
-ghost use Rattle.demangle_sink.specs.Hands.{Hands};
+ghost use Rattle.demangle_sink.specs.PutsPieces.{PutsPieces};
 ghost use Rattle.demangle_sink.specs.Writes.{Writes};
-ghost use Rattle.rustc_demangle.specs.Filtered.{filtered, is_run};
-ghost use Rattle.rustc_demangle.specs.Pieces.{run_pieces, filtered_pieces, filtered_pieces_in};
+ghost use Rattle.rustc_demangle.specs.Filtered.{filtered, is_run_byte};
+ghost use Rattle.rustc_demangle.specs.TextPieces.{run_pieces, filtered_pieces, filtered_pieces_in};
 ghost use Rattle.rustc_demangle.specs.Symbols.{most_bytes};
 
 use crate::format::Format;
@@ -20,13 +20,13 @@ pub(crate) fn put_run<S: TextSink>(
     out: &mut S,
     format: Format,
 ) -> Result<(), SinkRefused>
-    requires run { list_all is_run run.now ≡ true }
-    requires alive { S.failed out.old ≡ false }
-    ensures { Hands S.TextSink out.old (run_pieces format run.now) result out.new }
+    requires run { list_all is_run_byte run.now ≡ true }
+    requires not_failed { S.failed out.old ≡ false }
+    ensures { PutsPieces S.TextSink out.old (run_pieces format run.now) result out.new }
 {
     let symbol = Demangle::read_run(run);
     if symbol.has_style() {
-        symbol.hand_over(out, format, &mut Looks::new())
+        symbol.write_pieces(out, format, &mut Looks::new())
     } else {
         put_piece(run, out)
     }
@@ -35,15 +35,15 @@ pub(crate) fn put_run<S: TextSink>(
 /// Writes a text with each symbol of it demangled, in one pass over it. Fails if the sink fails.
 fn put_text<S: TextSink>(text: &str, out: &mut S, format: Format) -> Result<(), SinkRefused>
     requires { S.failed out.old ≡ false }
-    ensures { Hands S.TextSink out.old (filtered_pieces_in format text.now) result out.new }
+    ensures { PutsPieces S.TextSink out.old (filtered_pieces_in format text.now) result out.new }
 {
     let mut rest = text;
     while let Some(start) = run_start(rest.as_bytes()) {
         let (kept, found) = rest.split_at(start);
-        let (run, behind) = found.split_at(run_len(found.as_bytes()));
+        let (run, following) = found.split_at(run_len(found.as_bytes()));
         put_piece(kept, out)?;
         put_run(run, out, format)?;
-        rest = behind;
+        rest = following;
     }
     put_piece(rest, out)
 }

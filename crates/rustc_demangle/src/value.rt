@@ -2,15 +2,15 @@
 ghost use Rattle.std.specs.Prelude.{◌≡◌, ◌+◌, ◌-◌, ◌*◌, ◌≤◌, length, true, false, IsTrue, IsAscii, IfSome, IfNone, None};
 ghost use Rattle.std.specs.List.{list_all};
 ghost use Rattle.demangle_sink.specs.Cut.{cut};
-ghost use Rattle.demangle_sink.specs.Hands.{Hands};
+ghost use Rattle.demangle_sink.specs.PutsPieces.{PutsPieces};
 ghost use Rattle.demangle_legacy.specs.Legacy.{legacy_of};
 ghost use Rattle.demangle_sink.specs.Limit.{Prints, Ready};
-ghost use Rattle.rustc_demangle.specs.Filtered.{is_run, replacement_within};
-ghost use Rattle.rustc_demangle.specs.PathEnds.{path_len_of, handed_with};
+ghost use Rattle.rustc_demangle.specs.Filtered.{is_run_byte, replacement_within};
+ghost use Rattle.rustc_demangle.specs.PathEnds.{path_len_of, handed_with_path_len};
 ghost use Rattle.rustc_demangle.specs.Stripped.{is_allowed, is_graphic, stripped};
 ghost use Rattle.rustc_demangle.specs.Style.{style_pieces, style_len, style_looks, style_least, IsReadAs, HasNoStyle, HasStyle};
 ghost use Rattle.rustc_demangle.specs.Symbols.{folded, form_of, handed, handed_in, most_bytes, IsSymbol, PrintingLooks, PrintingLooksIn};
-ghost use Rattle.demangle_grammar.specs.V0.{v0_of};
+ghost use Rattle.demangle_v0_grammar.specs.V0.{v0_of};
 ghost use Rattle.demangle_sink.specs.Writes.{Writes};
 
 use crate::format::Format;
@@ -84,7 +84,7 @@ fn write_cut<S: TextSink>(
     looks: &mut Looks,
 ) -> Result<(), SinkRefused>
     requires { S.failed out.old ≡ false }
-    ensures hands { Hands S.TextSink out.old
+    ensures hands { PutsPieces S.TextSink out.old
         (cut (style_pieces (form_of format) style.now) format.limit) result out.new }
     ensures grows { looks.old ≤ looks.new }
     ensures most { looks.new ≤ looks.old
@@ -95,7 +95,7 @@ fn write_cut<S: TextSink>(
     let result = style.write_to(&mut limited, format, looks);
     // Printing stops in the same way at the limit and if the sink fails. Only a sink that has not
     // failed gets the marker.
-    if limited.is_over() {
+    if limited.is_limit_reached() {
         put_piece("{size limit reached}", out)
     } else {
         result
@@ -124,14 +124,14 @@ impl<'a> Demangle<'a> {
 
     /// Writes the pieces of the symbol into a sink, cut at the limit before the suffix, and counts
     /// its looks. Fails if the sink fails.
-    pub(crate) fn hand_over<S: TextSink>(
+    pub(crate) fn write_pieces<S: TextSink>(
         &self,
         out: &mut S,
         format: Format,
         looks: &mut Looks,
     ) -> Result<(), SinkRefused>
         requires { S.failed out.old ≡ false }
-        ensures hands { Hands S.TextSink out.old (handed_in self.now format) result out.new }
+        ensures hands { PutsPieces S.TextSink out.old (handed_in self.now format) result out.new }
         ensures looks { PrintingLooksIn self.now format looks.old looks.new }
     {
         let Some(style) = &self.style else {
@@ -152,7 +152,7 @@ impl<'a> Demangle<'a> {
         ensures writes { Writes S.TextSink out.old (handed_in self.now format) result out.new }
         ensures looks { PrintingLooksIn self.now format looks.old looks.new }
     {
-        self.hand_over(out, format, looks)
+        self.write_pieces(out, format, looks)
     }
 
     /// Prints into a sink in a format, as `write_formatted_counted` does.
@@ -398,7 +398,7 @@ impl<'a> Demangle<'a> {
 
     /// Parses a run as a symbol, and keeps it as it is if it is not one. A run is ASCII.
     pub(crate) fn read_run(run: &'a str) -> Demangle<'a>
-        requires { list_all is_run run.now ≡ true }
+        requires { list_all is_run_byte run.now ≡ true }
         ensures { result ≡ stripped run.now }
     {
         Demangle::read(without_thin_lto(run), true, &mut Looks::new())
@@ -424,8 +424,8 @@ pub(crate) fn print_v0_run<S: TextSink>(
     include_hash: bool,
     limit: usize,
 ) -> bool
-    requires run { list_all is_run run.now ≡ true }
-    requires alive { S.failed out.old ≡ false }
+    requires run { list_all is_run_byte run.now ≡ true }
+    requires not_failed { S.failed out.old ≡ false }
     ensures { IsTrue result →
         S.took out.old (replacement_within include_hash limit run.now) out.new }
 {
@@ -440,7 +440,7 @@ pub(crate) fn print_v0_run<S: TextSink>(
 }
 
 /// Prints a text into a sink; its path has `path_len` bytes. Fails if the sink fails.
-fn hand_over_with<S: TextSink>(
+fn write_pieces_with_path_len<S: TextSink>(
     text: &str,
     path_len: usize,
     out: &mut S,
@@ -448,7 +448,7 @@ fn hand_over_with<S: TextSink>(
     limit: usize,
 ) -> Result<(), SinkRefused>
     requires { S.failed out.old ≡ false }
-    ensures { Hands S.TextSink out.old (handed_with text.now path_len include_hash limit)
+    ensures { PutsPieces S.TextSink out.old (handed_with_path_len text.now path_len include_hash limit)
         result out.new }
 {
     let format = Format {
@@ -459,7 +459,7 @@ fn hand_over_with<S: TextSink>(
     let mut looks = Looks::new();
     let Some(symbol) = demangle_v0::ascii_symbol(text, &mut looks) else {
         let read = Demangle::read(text, false, &mut looks);
-        return read.hand_over(out, format, &mut looks);
+        return read.write_pieces(out, format, &mut looks);
     };
     // The caller may pass any number.
     let suffix = &text[path_len.min(text.len())..];
@@ -488,7 +488,7 @@ pub fn write_with_path_len<S: TextSink>(
 ) -> Result<(), SinkRefused>
     requires { S.failed out.old ≡ false }
     ensures { Writes S.TextSink out.old
-        (handed_with (stripped text.now) path_len include_hash limit) result out.new }
+        (handed_with_path_len (stripped text.now) path_len include_hash limit) result out.new }
 {
-    hand_over_with(without_thin_lto(text), path_len, out, include_hash, limit)
+    write_pieces_with_path_len(without_thin_lto(text), path_len, out, include_hash, limit)
 }

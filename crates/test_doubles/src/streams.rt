@@ -3,13 +3,13 @@ use std::alloc::{AllocError, Global};
 use std::io;
 use std::io::{BufRead, ErrorKind, Read, Write};
 
-/// The text of the errors of a `PartsReader`.
+/// The text of the errors of a `ChunkReader`.
 pub const RESET: &str = "reset by the other side";
 
 /// Returns its parts, one for each `fill_buf`. Fails after a given number of them, with a given
 /// kind and the text `RESET`.
 #[derive(Drop)]
-pub struct PartsReader<'a> {
+pub struct ChunkReader<'a> {
     parts: &'a [&'a [u8]],
     part: usize,
     taken: usize,
@@ -17,10 +17,10 @@ pub struct PartsReader<'a> {
     fault: ErrorKind,
 }
 
-impl<'a> PartsReader<'a> {
+impl<'a> ChunkReader<'a> {
     /// Returns a reader of these parts that takes `fills` calls and then fails with this kind.
-    pub fn new(parts: &'a [&'a [u8]], fills: usize, fault: ErrorKind) -> PartsReader<'a> {
-        PartsReader {
+    pub fn new(parts: &'a [&'a [u8]], fills: usize, fault: ErrorKind) -> ChunkReader<'a> {
+        ChunkReader {
             parts,
             part: 0,
             taken: 0,
@@ -30,7 +30,7 @@ impl<'a> PartsReader<'a> {
     }
 }
 
-impl Read for PartsReader<'_> {
+impl Read for ChunkReader<'_> {
     fn read(&mut self, buf: &mut [u8]) -> io::Result<usize> {
         let part = self.fill_buf()?;
         let count = part.len().min(buf.len());
@@ -40,7 +40,7 @@ impl Read for PartsReader<'_> {
     }
 }
 
-impl BufRead for PartsReader<'_> {
+impl BufRead for ChunkReader<'_> {
     fn fill_buf(&mut self) -> io::Result<&[u8]> {
         if self.taken == 0 {
             if self.fills_left == 0 {
@@ -68,40 +68,40 @@ impl BufRead for PartsReader<'_> {
 /// Stores the bytes that are written. Fails after a given number of writes, and at a flush unless
 /// `takes_flush` is set.
 #[derive(Drop)]
-pub struct RefusingWriter {
-    held: Vec<u8>,
+pub struct FailingWriter {
+    written: Vec<u8>,
     writes_left: usize,
     takes_flush: bool,
 }
 
-impl RefusingWriter {
+impl FailingWriter {
     /// Returns a writer that contains the old bytes and takes this number of writes.
     pub fn new(
         alloc: Global,
         old: &[u8],
         writes: usize,
         takes_flush: bool,
-    ) -> Result<RefusingWriter, AllocError> {
-        Ok(RefusingWriter {
-            held: Vec::from_slice(alloc, old)?,
+    ) -> Result<FailingWriter, AllocError> {
+        Ok(FailingWriter {
+            written: Vec::from_slice(alloc, old)?,
             writes_left: writes,
             takes_flush,
         })
     }
 
     /// Returns the old bytes and the bytes written after them.
-    pub fn held(&self) -> &[u8] {
-        self.held.as_slice()
+    pub fn written(&self) -> &[u8] {
+        self.written.as_slice()
     }
 }
 
-impl Write for RefusingWriter {
+impl Write for FailingWriter {
     fn write(&mut self, buf: &[u8]) -> io::Result<usize> {
         if self.writes_left == 0 {
             return Err(io::Error::from(ErrorKind::BrokenPipe));
         }
         self.writes_left -= 1;
-        self.held.extend_from_slice(buf)?;
+        self.written.extend_from_slice(buf)?;
         Ok(buf.len())
     }
 
@@ -116,15 +116,15 @@ impl Write for RefusingWriter {
 
 /// Records each write.
 #[derive(Drop)]
-pub struct NotingWriter {
+pub struct RecordingWriter {
     writes: Vec<Vec<u8>>,
     alloc: Global,
 }
 
-impl NotingWriter {
+impl RecordingWriter {
     /// Returns a writer that has recorded nothing.
-    pub fn new(alloc: Global) -> NotingWriter {
-        NotingWriter {
+    pub fn new(alloc: Global) -> RecordingWriter {
+        RecordingWriter {
             writes: Vec::new(alloc),
             alloc,
         }
@@ -136,7 +136,7 @@ impl NotingWriter {
     }
 }
 
-impl Write for NotingWriter {
+impl Write for RecordingWriter {
     fn write(&mut self, buf: &[u8]) -> io::Result<usize> {
         self.writes.push(Vec::from_slice(self.alloc, buf)?)?;
         Ok(buf.len())

@@ -7,7 +7,7 @@ use Rattle.std.proofs.lemmas.List.Elements.{All-get_or, All-set}
 use Rattle.text_memo.specs.declared.Entry.{Entry}
 use Rattle.text_memo.specs.declared.Pair.{Pair}
 use Rattle.text_memo.specs.declared.TextMemo.{TextMemo}
-use Rattle.text_memo.specs.Memo.{key_of, text_of, Holds, HoldsBoth, Remembers}
+use Rattle.text_memo.specs.Memo.{key_of, entry_text, Holds, HoldsBoth, Remembers}
 
 pub pair_at : (text_for : List ℕ → List ℕ) (memo : TextMemo) (i : ℕ) (pair : Pair) → Remembers text_for memo → i < length memo.pairs.items → pair ≡ slice_index_or memo.pairs.items i pair
     → HoldsBoth text_for memo.bytes.items pair
@@ -46,5 +46,5 @@ new_entry text_for bytes key text all entry whole from one two same some =
     let both : drop entry.start all ≡ key ++ text =
     ap (λ l. drop entry.start l) (whole ∙ append_assoc bytes key text) ∙ ap (λ n. drop n (bytes ++ (key ++ text))) from ∙ drop-append_seam bytes (key ++ text) in
     let its : key_of all entry ≡ key = ap (take entry.key_len) both ∙ ap (λ n. take n (key ++ text)) one ∙ take-append_seam key text in
-    let text_is : text_of all entry ≡ text = ap (take entry.text_len) after ∙ ap (λ n. take n text) two ∙ take_all (length text) text (omega arith) in
+    let text_is : entry_text all entry ≡ text = ap (take entry.text_len) after ∙ ap (λ n. take n text) two ∙ take_all (length text) text (omega arith) in
     (omega (arith, ap length whole, length-append (bytes ++ key) text, length-append bytes key, from, one, two), text_is ∙ same ∙ ap text_for (sym its))

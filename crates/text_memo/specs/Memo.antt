@@ -11,12 +11,12 @@ abbrev pub key_of : List ℕ → Entry → List ℕ
 key_of bytes entry = take entry.key_len (drop entry.start bytes)
 
 -- the text of an entry, which follows the key
-abbrev pub text_of : List ℕ → Entry → List ℕ
-text_of bytes entry = take entry.text_len (drop (entry.start + entry.key_len) bytes)
+abbrev pub entry_text : List ℕ → Entry → List ℕ
+entry_text bytes entry = take entry.text_len (drop (entry.start + entry.key_len) bytes)
 
 -- if the entry has a key, the key and the text are within the bytes, and the text is that of the key
 abbrev pub Holds : (List ℕ → List ℕ) → List ℕ → Entry → Type 0
-Holds text_for bytes entry = 0 < entry.key_len → (entry.start + entry.key_len + entry.text_len ≤ length bytes) × (text_of bytes entry ≡ text_for (key_of bytes entry))
+Holds text_for bytes entry = 0 < entry.key_len → (entry.start + entry.key_len + entry.text_len ≤ length bytes) × (entry_text bytes entry ≡ text_for (key_of bytes entry))
 
 abbrev pub HoldsBoth : (List ℕ → List ℕ) → List ℕ → Pair → Type 0
 HoldsBoth text_for bytes pair = Holds text_for bytes pair.newer × Holds text_for bytes pair.older

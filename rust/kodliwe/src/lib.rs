@@ -52,6 +52,11 @@ pub mod demangle_symbol;
 #[allow(clippy::complexity, clippy::style, clippy::manual_unwrap_or_default)]
 #[cfg_attr(test, allow(unused_assignments, clippy::suspicious))]
 pub mod demangle_v0;
+#[doc(hidden)]
+#[allow(unused_imports, unused_labels, unused_variables)]
+#[allow(clippy::complexity, clippy::style, clippy::manual_unwrap_or_default)]
+#[cfg_attr(test, allow(unused_assignments, clippy::suspicious))]
+pub mod demangle_v0_tokens;
 #[cfg(all(test, feature = "std"))]
 #[doc(hidden)]
 #[allow(unused_imports, unused_labels, unused_variables)]
@@ -62,12 +67,7 @@ pub mod demangle_vectors;
 #[allow(unused_imports, unused_labels, unused_variables)]
 #[allow(clippy::complexity, clippy::style, clippy::manual_unwrap_or_default)]
 #[cfg_attr(test, allow(unused_assignments, clippy::suspicious))]
-pub mod demangle_words;
-#[doc(hidden)]
-#[allow(unused_imports, unused_labels, unused_variables)]
-#[allow(clippy::complexity, clippy::style, clippy::manual_unwrap_or_default)]
-#[cfg_attr(test, allow(unused_assignments, clippy::suspicious))]
-pub mod held_bytes;
+pub mod piece_buffer;
 #[doc(hidden)]
 #[allow(unused_imports, unused_labels, unused_variables)]
 #[allow(clippy::complexity, clippy::style, clippy::manual_unwrap_or_default)]

@@ -1,23 +1,23 @@
 //! Tests of the output's buffer, with a writer that takes a part of a write or fails once.
 use super::{WRITE_FAILED, assert_failed, run_pausing};
-use crate::pausing::PausingOutput;
-use held_bytes::CAPACITY;
+use crate::flushing::FlushingOutput;
+use piece_buffer::CAPACITY;
 use std::alloc::Global;
 use std::io;
 use std::io::{ErrorKind, Read, Write};
 use std::test::Fail;
-use test_doubles::streams::{PartsReader, RefusingWriter};
+use test_doubles::streams::{ChunkReader, FailingWriter};
 
 /// Takes at most three bytes in one write.
 #[derive(Drop)]
 struct ShortWriter {
-    held: Vec<u8>,
+    written: Vec<u8>,
 }
 
 impl Write for ShortWriter {
     fn write(&mut self, buf: &[u8]) -> io::Result<usize> {
         let part = buf.get(..3).unwrap_or(buf);
-        self.held.extend_from_slice(part)?;
+        self.written.extend_from_slice(part)?;
         Ok(part.len())
     }
 
@@ -30,7 +30,7 @@ impl Write for ShortWriter {
 /// the flushes that it took.
 #[derive(Drop)]
 struct OnceRefusingWriter {
-    held: Vec<u8>,
+    written: Vec<u8>,
     writes_left: usize,
     flushes_left: usize,
     flushed: usize,
@@ -39,7 +39,7 @@ struct OnceRefusingWriter {
 impl OnceRefusingWriter {
     fn new(alloc: Global, writes: usize, flushes: usize) -> OnceRefusingWriter {
         OnceRefusingWriter {
-            held: Vec::new(alloc),
+            written: Vec::new(alloc),
             writes_left: writes,
             flushes_left: flushes,
             flushed: 0,
@@ -54,7 +54,7 @@ impl Write for OnceRefusingWriter {
             return Err(io::Error::from(ErrorKind::BrokenPipe));
         }
         self.writes_left -= 1;
-        self.held.extend_from_slice(buf)?;
+        self.written.extend_from_slice(buf)?;
         Ok(buf.len())
     }
 
@@ -77,36 +77,36 @@ fn long_pieces_are_written_whole(rt: HostRuntime) -> Result<(), Fail> {
     let mut wanted = vec![in alloc; b'l'; CAPACITY + 5]?;
     wanted.extend_from_slice(b"\nx foo\n")?;
     let parts: [&[u8]; 1] = [text.as_slice()];
-    let input = PartsReader::new(&parts, 100, ErrorKind::Other);
+    let input = ChunkReader::new(&parts, 100, ErrorKind::Other);
     let mut output = ShortWriter {
-        held: Vec::new(alloc),
+        written: Vec::new(alloc),
     };
     let ended = run_pausing(alloc, input, &mut output)?;
     assert_eq!(rt; ended.status, 0);
-    assert!(rt; output.held.as_slice() == wanted.as_slice());
+    assert!(rt; output.written.as_slice() == wanted.as_slice());
     Ok(())
 }
 
 #[test]
-fn held_pieces_are_written_whole(rt: HostRuntime) -> Result<(), Fail> {
+fn pending_pieces_are_written_whole(rt: HostRuntime) -> Result<(), Fail> {
     let alloc = rt.alloc();
     let parts: [&[u8]; 1] = [b"abcdef _ZN3fooE\n"];
-    let input = PartsReader::new(&parts, 100, ErrorKind::Other);
+    let input = ChunkReader::new(&parts, 100, ErrorKind::Other);
     let mut output = ShortWriter {
-        held: Vec::new(alloc),
+        written: Vec::new(alloc),
     };
     let ended = run_pausing(alloc, input, &mut output)?;
     assert_eq!(rt; ended.status, 0);
-    assert_eq!(rt; output.held.as_slice(), b"abcdef foo\n".as_slice());
+    assert_eq!(rt; output.written.as_slice(), b"abcdef foo\n".as_slice());
     Ok(())
 }
 
 #[test]
-fn a_refused_line_goes_before_one_that_is_not_utf8(rt: HostRuntime) -> Result<(), Fail> {
+fn a_failed_line_precedes_one_that_is_not_utf8(rt: HostRuntime) -> Result<(), Fail> {
     let alloc = rt.alloc();
     let parts: [&[u8]; 1] = [b"_ZN3fooE\n\xFF\n"];
-    let input = PartsReader::new(&parts, 100, ErrorKind::Other);
-    let mut output = RefusingWriter::new(alloc, b"", 0, true)?;
+    let input = ChunkReader::new(&parts, 100, ErrorKind::Other);
+    let mut output = FailingWriter::new(alloc, b"", 0, true)?;
     let ended = run_pausing(alloc, input, &mut output)?;
     assert_failed(&rt, &ended, WRITE_FAILED);
     Ok(())
@@ -116,35 +116,35 @@ fn a_refused_line_goes_before_one_that_is_not_utf8(rt: HostRuntime) -> Result<()
 fn a_flush_that_fails_once_ends_the_run(rt: HostRuntime) -> Result<(), Fail> {
     let alloc = rt.alloc();
     let parts: [&[u8]; 2] = [b"_ZN3fooE\n", b"z\n"];
-    let input = PartsReader::new(&parts, 100, ErrorKind::Other);
+    let input = ChunkReader::new(&parts, 100, ErrorKind::Other);
     let mut output = OnceRefusingWriter::new(alloc, 100, 0);
     let ended = run_pausing(alloc, input, &mut output)?;
     assert_failed(&rt, &ended, WRITE_FAILED);
-    assert_eq!(rt; output.held.as_slice(), b"foo\n".as_slice());
+    assert_eq!(rt; output.written.as_slice(), b"foo\n".as_slice());
     Ok(())
 }
 
 #[test]
-fn a_write_that_fails_once_is_told(rt: HostRuntime) -> Result<(), Fail> {
+fn a_write_that_fails_once_is_reported(rt: HostRuntime) -> Result<(), Fail> {
     let alloc = rt.alloc();
     let full = vec![in alloc; b'f'; CAPACITY]?;
     let mut refusing = OnceRefusingWriter::new(alloc, 0, 100);
-    let output = PausingOutput::new(&mut refusing);
+    let output = FlushingOutput::new(&mut refusing);
     let mut writer = output.writer();
     assert!(rt; writer.write_all(b"x").is_ok());
     assert!(rt; writer.write_all(full.as_slice()).is_err());
     assert!(rt; writer.flush().is_err());
     drop(output);
     // The bytes of the failed write stay buffered, and the flush writes them.
-    assert_eq!(rt; refusing.held.as_slice(), b"x".as_slice());
+    assert_eq!(rt; refusing.written.as_slice(), b"x".as_slice());
     Ok(())
 }
 
 #[test]
-fn each_pause_flushes_once(rt: HostRuntime) -> Result<(), Fail> {
+fn each_wait_flushes_once(rt: HostRuntime) -> Result<(), Fail> {
     let alloc = rt.alloc();
     let parts: [&[u8]; 3] = [b"a\n", b"b", b"c\n"];
-    let input = PartsReader::new(&parts, 100, ErrorKind::Other);
+    let input = ChunkReader::new(&parts, 100, ErrorKind::Other);
     let mut output = OnceRefusingWriter::new(alloc, 100, 100);
     let ended = run_pausing(alloc, input, &mut output)?;
     assert_eq!(rt; ended.status, 0);
@@ -153,16 +153,16 @@ fn each_pause_flushes_once(rt: HostRuntime) -> Result<(), Fail> {
 }
 
 #[test]
-fn a_part_follows_what_is_held(rt: HostRuntime) -> Result<(), Fail> {
+fn a_part_follows_pending_bytes(rt: HostRuntime) -> Result<(), Fail> {
     let alloc = rt.alloc();
-    let mut held = Vec::new(alloc);
-    let output = PausingOutput::new(&mut held);
+    let mut written = Vec::new(alloc);
+    let output = FlushingOutput::new(&mut written);
     let mut writer = output.writer();
     writer.write_all(b"a")?;
     assert_eq!(rt; writer.write(b"b")?, 1);
     writer.flush()?;
     drop(output);
-    assert_eq!(rt; held.as_slice(), b"ab".as_slice());
+    assert_eq!(rt; written.as_slice(), b"ab".as_slice());
     Ok(())
 }
 
@@ -170,15 +170,15 @@ fn a_part_follows_what_is_held(rt: HostRuntime) -> Result<(), Fail> {
 fn a_part_is_flushed_before_more_is_read(rt: HostRuntime) -> Result<(), Fail> {
     let alloc = rt.alloc();
     let mut taking = OnceRefusingWriter::new(alloc, 100, 100);
-    let output = PausingOutput::new(&mut taking);
+    let output = FlushingOutput::new(&mut taking);
     assert_eq!(rt; output.writer().write(b"a")?, 1);
     let parts: [&[u8]; 1] = [b"b"];
-    let mut input = output.reader(PartsReader::new(&parts, 100, ErrorKind::Other));
+    let mut input = output.reader(ChunkReader::new(&parts, 100, ErrorKind::Other));
     let mut read = [0; 1];
     assert_eq!(rt; input.read(&mut read)?, 1);
     drop(input);
     drop(output);
-    assert_eq!(rt; taking.held.as_slice(), b"a".as_slice());
+    assert_eq!(rt; taking.written.as_slice(), b"a".as_slice());
     assert_eq!(rt; taking.flushed, 1);
     Ok(())
 }

@@ -2,28 +2,31 @@
 use std::cell::Cell;
 use std::io;
 use std::io::{ErrorKind, Read, Write};
-use test_doubles::streams::PartsReader;
+use test_doubles::streams::ChunkReader;
 
 /// Stores the bytes that are written, and shows its reader whether they were flushed.
 #[derive(Drop)]
 pub struct WatchedWriter<'a> {
-    held: Vec<u8>,
+    written: Vec<u8>,
     is_unflushed: &'a Cell<bool>,
 }
 
 impl<'a> WatchedWriter<'a> {
-    pub fn new(held: Vec<u8>, is_unflushed: &'a Cell<bool>) -> WatchedWriter<'a> {
-        WatchedWriter { held, is_unflushed }
+    pub fn new(written: Vec<u8>, is_unflushed: &'a Cell<bool>) -> WatchedWriter<'a> {
+        WatchedWriter {
+            written,
+            is_unflushed,
+        }
     }
 
-    pub fn held(&self) -> &[u8] {
-        self.held.as_slice()
+    pub fn written(&self) -> &[u8] {
+        self.written.as_slice()
     }
 }
 
 impl Write for WatchedWriter<'_> {
     fn write(&mut self, buf: &[u8]) -> io::Result<usize> {
-        self.held.extend_from_slice(buf)?;
+        self.written.extend_from_slice(buf)?;
         self.is_unflushed.set(true);
         Ok(buf.len())
     }
@@ -37,14 +40,14 @@ impl Write for WatchedWriter<'_> {
 /// Returns its parts. Fails if it is read while written bytes are not flushed.
 #[derive(Drop)]
 pub struct WatchingReader<'a> {
-    parts: PartsReader<'a>,
+    parts: ChunkReader<'a>,
     is_unflushed: &'a Cell<bool>,
 }
 
 impl<'a> WatchingReader<'a> {
     pub fn new(parts: &'a [&'a [u8]], is_unflushed: &'a Cell<bool>) -> WatchingReader<'a> {
         WatchingReader {
-            parts: PartsReader::new(parts, 100, ErrorKind::Other),
+            parts: ChunkReader::new(parts, 100, ErrorKind::Other),
             is_unflushed,
         }
     }

@@ -3,7 +3,7 @@ ghost use Rattle.std.specs.Prelude.{◌≡◌, ℕ, ◌+◌, ◌-◌, ◌<◌, �
 ghost use Rattle.std.specs.Result.{result_ok};
 ghost use Rattle.demangle_symbol.specs.Digits.{number};
 ghost use Rattle.demangle_symbol.specs.Nibbles.{hex_at};
-ghost use Rattle.demangle_symbol.specs.Words.{nibbles_at, number_of, Hex, is_nibble, nibble, zeros};
+ghost use Rattle.demangle_symbol.specs.Primitives.{nibbles_at, number_of, Hex, is_nibble, nibble, zeros};
 
 use crate::cursor::{Looks, ParseError, Part, Symbol};
 
@@ -50,7 +50,7 @@ impl<'s> Symbol<'s> {
 
     /// Returns the place after the leading zeros of a part.
     #[tactic(auto, using(crate::proofs::Hex::zeros_steps))]
-    fn behind_zeros(&self, part: Part, looks: &mut Looks) -> usize
+    fn after_zeros(&self, part: Part, looks: &mut Looks) -> usize
         requires order { part.from ≤ part.to }
         requires inside { part.to ≤ length self.now }
         ensures place { result ≡ part.from + zeros (slice_range self.now part.from part.to) }
@@ -69,7 +69,7 @@ impl<'s> Symbol<'s> {
 
     /// Returns the number that the nibbles of a hexadecimal string spell. Returns `None` if more
     /// than 32 nibbles follow the leading zeros.
-    #[tactic(auto, using(crate::proofs::Hex::number_steps), unfolding(crate::specs::Words::number_of))]
+    #[tactic(auto, using(crate::proofs::Hex::number_steps), unfolding(crate::specs::Primitives::number_of))]
     #[inline(never)]
     pub fn hex_number(&self, nibbles: Part, looks: &mut Looks) -> Option<u128>
         requires { (j : ℕ) × Hex self.now nibbles.from j nibbles.to }
@@ -78,7 +78,7 @@ impl<'s> Symbol<'s> {
         ensures looks { looks.new ≤ looks.old + (nibbles.to - nibbles.from + 1) }
     {
         // Leading zeros have no value, so a number may have any number of them.
-        let start = self.behind_zeros(nibbles, looks);
+        let start = self.after_zeros(nibbles, looks);
         if nibbles.to - start > MAX_NIBBLES {
             return None;
         }

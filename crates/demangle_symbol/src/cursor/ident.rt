@@ -2,8 +2,8 @@
 ghost use Rattle.std.specs.Prelude.{◌≡◌, ℕ, ◌+◌, ◌-◌, ◌*◌, ◌<◌, ◌≤◌, ◌^◌, length, true, IfOk, OnErr, IfErr, option_map};
 ghost use Rattle.std.specs.Result.{result_ok};
 ghost use Rattle.demangle_symbol.specs.Digits.{is_byte};
-ghost use Rattle.demangle_symbol.specs.Words.{Name, Length, Identifier, identifier_at, tail_len};
-ghost use Rattle.demangle_symbol.specs.Idents.{IsIdent, LiesWithin, ident_at, name_in, name_size};
+ghost use Rattle.demangle_symbol.specs.Primitives.{Name, Length, Identifier, identifier_at, tail_len};
+ghost use Rattle.demangle_symbol.specs.Idents.{IsIdent, IsIdentWithin, ident_at, name_in, name_size};
 
 use crate::cursor::{Looks, ParseError, Part, Symbol};
 
@@ -76,7 +76,7 @@ impl<'s> Symbol<'s> {
     pub fn ident(&self, place: usize, looks: &mut Looks) -> Result<(Ident, usize), ParseError>
         ensures ok { IfOk result (λ r. IsIdent self.now place r.1 r.0) }
         ensures err { OnErr result ((j : ℕ) (ident : Ident) → IsIdent self.now place j ident → ⊥) }
-        ensures parts { IfOk result (λ r. LiesWithin self.now r.0) }
+        ensures parts { IfOk result (λ r. IsIdentWithin self.now r.0) }
         ensures spelled { IfOk result (λ r. Identifier self.now place r.1 (name_in self.now r.0)) }
         ensures not_spelled { OnErr result
             ((j : ℕ) (name : Name) → Identifier self.now place j name → ⊥) }
@@ -122,7 +122,7 @@ impl<'s> Symbol<'s> {
         requires fits { length self.now < 2 ^ 64 }
         ensures ok { IfOk result (λ r. IsIdent self.now place r.1 r.0) }
         ensures err { OnErr result ((j : ℕ) (ident : Ident) → IsIdent self.now place j ident → ⊥) }
-        ensures parts { IfOk result (λ r. LiesWithin self.now r.0) }
+        ensures parts { IfOk result (λ r. IsIdentWithin self.now r.0) }
         ensures fault { IfErr result (λ e. e ≡ ParseError.Invalid) }
         ensures grows { looks.old ≤ looks.new }
         ensures ok_looks { IfOk result
@@ -153,7 +153,7 @@ impl<'s> Symbol<'s> {
         requires fits { length self.now < 2 ^ 64 }
         ensures ok { IfOk result (λ r. IsIdent self.now place r.1 r.0) }
         ensures err { OnErr result ((j : ℕ) (ident : Ident) → IsIdent self.now place j ident → ⊥) }
-        ensures parts { IfOk result (λ r. LiesWithin self.now r.0) }
+        ensures parts { IfOk result (λ r. IsIdentWithin self.now r.0) }
         ensures fault { IfErr result (λ e. e ≡ ParseError.Invalid) }
         ensures grows { looks.old ≤ looks.new }
         ensures ok_looks { IfOk result

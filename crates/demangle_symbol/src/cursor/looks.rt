@@ -7,15 +7,15 @@ use std::snapshot::Snapshot;
 
 /// A natural number as the number of steps from zero. No value exists at run time.
 #[derive(Drop)]
-enum Tally {
+enum Unary {
     Zero,
-    More(Snapshot<Tally>),
+    More(Snapshot<Unary>),
 }
 
 /// The number of looks made. It occupies no bytes, and only `tick` raises it.
 #[derive(Drop)]
 pub struct Looks {
-    count: Snapshot<Tally>,
+    count: Snapshot<Unary>,
 }
 
 impl Model for Looks {
@@ -23,7 +23,7 @@ impl Model for Looks {
 
     ghost Value = { ℕ };
 
-    ghost use Rattle.demangle_symbol.specs.Tally.{height};
+    ghost use Rattle.demangle_symbol.specs.Looks.{height};
 
     ghost view = { λ s. height s.count.value };
 }
@@ -34,7 +34,7 @@ impl Looks {
         ensures { result ≡ 0 }
     {
         Looks {
-            count: Snapshot::of(&Tally::Zero),
+            count: Snapshot::of(&Unary::Zero),
         }
     }
 
@@ -42,8 +42,8 @@ impl Looks {
     pub(super) fn tick(&mut self)
         ensures { self.new ≡ self.old + 1 }
     {
-        let before = mem::replace(&mut self.count, Snapshot::of(&Tally::Zero));
-        self.count = Snapshot::of(&Tally::More(before));
+        let before = mem::replace(&mut self.count, Snapshot::of(&Unary::Zero));
+        self.count = Snapshot::of(&Unary::More(before));
     }
 }
 

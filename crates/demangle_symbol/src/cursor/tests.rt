@@ -90,7 +90,7 @@ fn identifiers(rt: HostRuntime) {
 }
 
 #[test]
-fn hex_words(rt: HostRuntime) {
+fn hex_numbers(rt: HostRuntime) {
     assert_eq!(rt; number("_"), Ok(Some(0)));
     assert_eq!(rt; number("00ff_"), Ok(Some(255)));
     assert_eq!(rt; number("ffffffffffffffff_"), Ok(Some(18446744073709551615)));

@@ -5,7 +5,7 @@ ghost use Rattle.std.specs.Char.{IsScalar};
 ghost use Rattle.demangle_sink.specs.Limit.{Prints, Ready};
 ghost use Rattle.demangle_symbol.specs.Literals.{literal, string_of};
 ghost use Rattle.demangle_symbol.specs.Nibbles.{HexPart, nibbles_in, characters_of, character_pieces};
-ghost use Rattle.demangle_symbol.specs.Words.{is_nibble, nibble};
+ghost use Rattle.demangle_symbol.specs.Primitives.{is_nibble, nibble};
 
 use crate::cursor::{Looks, Part, Symbol, nibble_of};
 use crate::literal::put_escaped;

@@ -1,6 +1,6 @@
 //! Tests of the literals of known constants.
 use crate::cursor::{Looks, Symbol};
-use crate::literal::{character_of, is_string, put_char_literal, put_string_literal, truth_of};
+use crate::literal::{bool_of, character_of, is_string, put_char_literal, put_string_literal};
 use demangle_sink::{ArraySink, SizeLimitedFmtAdapter};
 
 /// Returns the number of a hexadecimal string.
@@ -83,11 +83,11 @@ fn no_characters(rt: HostRuntime) {
 }
 
 #[test]
-fn truths(rt: HostRuntime) {
-    assert_eq!(rt; truth_of(number("_")), Some(false));
-    assert_eq!(rt; truth_of(number("00_")), Some(false));
-    assert_eq!(rt; truth_of(number("1_")), Some(true));
-    assert_eq!(rt; truth_of(number("2_")), None);
+fn booleans(rt: HostRuntime) {
+    assert_eq!(rt; bool_of(number("_")), Some(false));
+    assert_eq!(rt; bool_of(number("00_")), Some(false));
+    assert_eq!(rt; bool_of(number("1_")), Some(true));
+    assert_eq!(rt; bool_of(number("2_")), None);
 }
 
 #[test]

@@ -1,6 +1,6 @@
 //! Prints names.
 ghost use Rattle.std.specs.Prelude.{◌+◌, ◌<◌, ◌≤◌, IsAscii};
-ghost use Rattle.demangle_symbol.specs.Idents.{LiesWithin, ascii_front, name_in, name_size};
+ghost use Rattle.demangle_symbol.specs.Idents.{IsIdentWithin, ascii_prefix, name_in, name_size};
 ghost use Rattle.demangle_sink.specs.Limit.{Prints, Ready};
 ghost use Rattle.demangle_symbol.specs.Names.{name_pieces, fallback_pieces};
 
@@ -16,11 +16,11 @@ impl Ident {
         symbol: &Symbol<'_>,
         out: &mut SizeLimitedFmtAdapter<'_, S>,
     ) -> Result<(), SinkRefused>
-        requires parts { LiesWithin symbol.now self.now }
+        requires parts { IsIdentWithin symbol.now self.now }
         requires ascii { IsAscii symbol.now }
         requires ready { Ready S.TextSink out.old }
         ensures { Prints S.TextSink out.old
-            (ascii_front (name_in symbol.now self.now)) result out.new }
+            (ascii_prefix (name_in symbol.now self.now)) result out.new }
     {
         if self.ascii.to <= self.ascii.from {
             return Ok(());
@@ -36,7 +36,7 @@ impl Ident {
         symbol: &Symbol<'_>,
         out: &mut SizeLimitedFmtAdapter<'_, S>,
     ) -> Result<(), SinkRefused>
-        requires parts { LiesWithin symbol.now self.now }
+        requires parts { IsIdentWithin symbol.now self.now }
         requires ascii { IsAscii symbol.now }
         requires ready { Ready S.TextSink out.old }
         ensures { Prints S.TextSink out.old
@@ -60,7 +60,7 @@ impl Ident {
         out: &mut SizeLimitedFmtAdapter<'_, S>,
         looks: &mut Looks,
     ) -> Result<(), SinkRefused>
-        requires parts { LiesWithin symbol.now (record { ascii = ascii; punycode = punycode }) }
+        requires parts { IsIdentWithin symbol.now (record { ascii = ascii; punycode = punycode }) }
         requires some { punycode.from < punycode.to }
         requires ascii { IsAscii symbol.now }
         requires ready { Ready S.TextSink out.old }
@@ -91,7 +91,7 @@ impl Ident {
         out: &mut SizeLimitedFmtAdapter<'_, S>,
         looks: &mut Looks,
     ) -> Result<(), SinkRefused>
-        requires parts { LiesWithin symbol.now self.now }
+        requires parts { IsIdentWithin symbol.now self.now }
         requires ascii { IsAscii symbol.now }
         requires ready { Ready S.TextSink out.old }
         ensures prints { Prints S.TextSink out.old

@@ -3,8 +3,8 @@ use Rattle.std.specs.Prelude.{IsAscii}
 use Rattle.std.proofs.Math.Seq.{drop-append_seam}
 use Rattle.std.proofs.lemmas.Bool.{false≢true}
 use Rattle.std.proofs.lemmas.Str.{IsAscii-drop}
-use Rattle.demangle_grammar.specs.V0.{v0_inner}
-use Rattle.demangle_grammar.proofs.V0Reading.{inner_prefix, v0_no_prefix, v0_not_ascii}
+use Rattle.demangle_v0_grammar.specs.V0.{v0_inner}
+use Rattle.demangle_v0_grammar.proofs.V0Reading.{inner_prefix, v0_no_prefix, v0_not_ascii}
 use Rattle.demangle_v0.proofs.ascii_inner_of.Goals as goal
 
 -- what stands behind the prefix of an ASCII text is ASCII

@@ -6,7 +6,7 @@ use std::alloc::Global;
 use std::io::ErrorKind;
 use std::process::Abort;
 use std::test::Fail;
-use test_doubles::streams::PartsReader;
+use test_doubles::streams::ChunkReader;
 
 /// Asserts the printed form of a text. A rejected text prints itself, an accepted one prints the
 /// same by both calls, and stripping a second time changes nothing.
@@ -70,7 +70,7 @@ fn filter_parts(
     include_hash: bool,
 ) -> Result<Vec<u8>, Fail> {
     let parts: Vec<&[u8]> = text.as_bytes().chunks(size.max(1)).collect(alloc)?;
-    let mut input = PartsReader::new(parts.as_slice(), usize::MAX, ErrorKind::Other);
+    let mut input = ChunkReader::new(parts.as_slice(), usize::MAX, ErrorKind::Other);
     let mut output = Vec::new(alloc);
     match demangle_bytes(alloc, &mut input, &mut output, include_hash) {
         Ok(()) => Ok(output),
@@ -79,7 +79,7 @@ fn filter_parts(
 }
 
 #[test]
-fn each_beginning_of_a_symbol_is_taken(rt: HostRuntime) -> Result<(), Fail> {
+fn each_prefix_of_a_symbol_is_accepted(rt: HostRuntime) -> Result<(), Fail> {
     let alloc = rt.alloc();
     for text in texts(alloc)?.iter() {
         let text = text.as_str();
@@ -93,7 +93,7 @@ fn each_beginning_of_a_symbol_is_taken(rt: HostRuntime) -> Result<(), Fail> {
 }
 
 #[test]
-fn the_stream_writes_for_each_beginning_what_the_crate_writes(rt: HostRuntime) -> Result<(), Fail> {
+fn the_stream_writes_for_each_prefix_what_the_crate_writes(rt: HostRuntime) -> Result<(), Fail> {
     let alloc = rt.alloc();
     for (include_hash, wanted) in WRITTEN {
         let mut digest = OF_NOTHING;
@@ -112,7 +112,7 @@ fn the_stream_writes_for_each_beginning_what_the_crate_writes(rt: HostRuntime) -
 }
 
 #[test]
-fn any_fillings_give_what_the_crate_writes(rt: HostRuntime) -> Result<(), Fail> {
+fn chunks_of_any_size_give_what_the_crate_writes(rt: HostRuntime) -> Result<(), Fail> {
     let alloc = rt.alloc();
     for ((include_hash, wanted), size) in WRITTEN.iter().zip([1, 3]) {
         let mut digest = OF_NOTHING;

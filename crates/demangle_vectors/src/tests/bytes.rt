@@ -9,7 +9,7 @@ use std::io;
 use std::io::{BufRead, ErrorKind, Read, Write};
 use std::process::Abort;
 use std::test::Fail;
-use test_doubles::streams::{PartsReader, RefusingWriter};
+use test_doubles::streams::{ChunkReader, FailingWriter};
 
 /// Asserts the output for bytes that are read in chunks of `size`.
 fn assert_filters(
@@ -21,7 +21,7 @@ fn assert_filters(
     wanted: &[u8],
 ) -> Result<(), Fail> {
     let parts: Vec<&[u8]> = text.chunks(size.max(1)).collect(alloc)?;
-    let mut input = PartsReader::new(parts.as_slice(), usize::MAX, ErrorKind::Other);
+    let mut input = ChunkReader::new(parts.as_slice(), usize::MAX, ErrorKind::Other);
     let mut output = Vec::new(alloc);
     let result = demangle_bytes(alloc, &mut input, &mut output, include_hash);
     assert!(rt; result.is_ok(), "of {text:?} by {size}");
@@ -30,7 +30,7 @@ fn assert_filters(
 }
 
 #[test]
-fn the_rows_of_the_stream_by_fillings_of_each_size(rt: HostRuntime) -> Result<(), Fail> {
+fn the_rows_of_the_stream_in_chunks_of_each_size(rt: HostRuntime) -> Result<(), Fail> {
     for (text, wanted) in ROWS {
         for size in 1..=text.len().saturating_add(1) {
             assert_filters(&rt, rt.alloc(), text, size, true, wanted)?;
@@ -94,7 +94,7 @@ fn each_symbol_is_cut_at_the_limit(rt: HostRuntime) -> Result<(), Fail> {
 }
 
 #[test]
-fn bytes_before_a_fault_of_the_reader(rt: HostRuntime) -> Result<(), Fail> {
+fn bytes_before_a_read_error(rt: HostRuntime) -> Result<(), Fail> {
     let alloc = rt.alloc();
     let parts: [&[u8]; 4] = [b"x _ZN", b"3fooE\n_ZN3", b"barE", b"\n_"];
     // The fourth part is returned by two calls of `fill_buf`. The run that it ends is written
@@ -109,7 +109,7 @@ fn bytes_before_a_fault_of_the_reader(rt: HostRuntime) -> Result<(), Fail> {
         b"x foo\nbar\n_",
     ];
     for (fills, wanted) in written.iter().enumerate() {
-        let mut input = PartsReader::new(&parts, fills, ErrorKind::Other);
+        let mut input = ChunkReader::new(&parts, fills, ErrorKind::Other);
         let mut output = Vec::new(alloc);
         let result = demangle_bytes(alloc, &mut input, &mut output, true);
         if fills < 6 {
@@ -121,7 +121,7 @@ fn bytes_before_a_fault_of_the_reader(rt: HostRuntime) -> Result<(), Fail> {
             assert!(rt; result.is_ok());
         }
         assert_eq!(rt; output.as_slice(), *wanted, "at {fills}");
-        let mut input = PartsReader::new(&parts, fills, ErrorKind::OutOfMemory);
+        let mut input = ChunkReader::new(&parts, fills, ErrorKind::OutOfMemory);
         let mut output = Vec::new(alloc);
         let result = demangle_bytes(alloc, &mut input, &mut output, true);
         if fills < 6 {
@@ -168,7 +168,7 @@ impl BufRead for InterruptedReader<'_> {
 }
 
 #[test]
-fn a_step_is_made_again_after_an_interruption(rt: HostRuntime) -> Result<(), Fail> {
+fn a_step_is_retried_after_an_interruption(rt: HostRuntime) -> Result<(), Fail> {
     let alloc = rt.alloc();
     let mut input = InterruptedReader {
         text: b"a _ZN3fooE b\n_RC1a_ZN1bE _ZN3barE",
@@ -208,7 +208,7 @@ fn the_writer_of_bytes_fails_at_each_write(rt: HostRuntime) -> Result<(), Fail> 
     }
     for writes in 0..=wanted_writes.len() {
         let mut input = text.as_slice();
-        let mut output = RefusingWriter::new(alloc, b"old", writes, true)?;
+        let mut output = FailingWriter::new(alloc, b"old", writes, true)?;
         let result = demangle_bytes(alloc, &mut input, &mut output, true);
         if writes < wanted_writes.len() {
             assert!(rt;
@@ -222,7 +222,7 @@ fn the_writer_of_bytes_fails_at_each_write(rt: HostRuntime) -> Result<(), Fail> 
         for write in wanted_writes.iter().take(writes) {
             wanted.extend_from_slice(write)?;
         }
-        assert_eq!(rt; output.held(), wanted.as_slice(), "at {writes}");
+        assert_eq!(rt; output.written(), wanted.as_slice(), "at {writes}");
     }
     Ok(())
 }
@@ -230,14 +230,14 @@ fn the_writer_of_bytes_fails_at_each_write(rt: HostRuntime) -> Result<(), Fail> 
 /// Takes one byte in each write.
 #[derive(Drop)]
 struct ByteWriter {
-    held: Vec<u8>,
+    written: Vec<u8>,
 }
 
 impl Write for ByteWriter {
     fn write(&mut self, buf: &[u8]) -> io::Result<usize> {
         match buf.first() {
             Some(byte) => {
-                self.held.push(*byte)?;
+                self.written.push(*byte)?;
                 Ok(1)
             }
             None => Ok(0),
@@ -254,10 +254,10 @@ fn short_writes_lose_nothing(rt: HostRuntime) -> Result<(), Fail> {
     let alloc = rt.alloc();
     let mut input = b"caf\xE9 _ZN1a1bE.x\n".as_slice();
     let mut output = ByteWriter {
-        held: Vec::new(alloc),
+        written: Vec::new(alloc),
     };
     let result = demangle_bytes(alloc, &mut input, &mut output, true);
     assert!(rt; result.is_ok());
-    assert_eq!(rt; output.held.as_slice(), b"caf\xE9 a::b.x\n".as_slice());
+    assert_eq!(rt; output.written.as_slice(), b"caf\xE9 a::b.x\n".as_slice());
     Ok(())
 }

@@ -110,7 +110,7 @@ fn memory_is_a_sink(rt: HostRuntime) {
 }
 
 #[test]
-fn memory_keeps_the_front(rt: HostRuntime) {
+fn memory_keeps_the_prefix(rt: HostRuntime) {
     let mut memory = [9; 12];
     for (room, text) in [
         (0, ""),
@@ -124,8 +124,8 @@ fn memory_keeps_the_front(rt: HostRuntime) {
         assert!(rt; demangle("_RNvC3foo3bar").write_to(&mut sink, true).is_ok());
         assert_eq!(rt; sink.len(), 8, "in {room}");
         assert!(rt; memory.starts_with(text.as_bytes()), "in {room}");
-        let mut behind = memory.iter().skip(text.len());
-        assert!(rt; behind.all(|byte| *byte == 9), "in {room}");
+        let mut following = memory.iter().skip(text.len());
+        assert!(rt; following.all(|byte| *byte == 9), "in {room}");
     }
 }
 

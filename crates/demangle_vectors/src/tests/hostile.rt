@@ -3,7 +3,7 @@ use super::{assert_prints, assert_refused, print_symbol};
 use std::test::Fail;
 
 #[test]
-fn lengths_without_bound_are_refused(rt: HostRuntime) {
+fn lengths_without_bound_are_rejected(rt: HostRuntime) {
     for text in [
         "_ZN1000000000000000000000000000000aE",
         "_ZN18446744073709551616aE",

@@ -41,7 +41,7 @@ fn symbols_with_a_suffix_that_is_not_allowed_print_themselves(rt: HostRuntime) {
 }
 
 #[test]
-fn an_ending_of_thin_lto_is_taken_off_any_text(rt: HostRuntime) {
+fn a_thin_lto_suffix_is_stripped_off_any_text(rt: HostRuntime) {
     for (text, printed) in [
         ("foo.llvm.AB", "foo"),
         ("foo.llvm.", "foo"),

@@ -4,7 +4,7 @@ use std::alloc::{AllocError, Global};
 use std::io::ErrorKind;
 use std::process::Abort;
 use std::test::Fail;
-use test_doubles::streams::{PartsReader, RefusingWriter};
+use test_doubles::streams::{ChunkReader, FailingWriter};
 
 /// The number of times that each text is repeated.
 const TIMES: usize = 5;
@@ -117,7 +117,7 @@ impl Case<'_> {
     /// Asserts the output for the text in chunks of one size.
     fn assert_written(&self, rt: &impl Abort, alloc: Global, size: usize) -> Result<(), Fail> {
         let parts: Vec<&[u8]> = self.text.chunks(size.max(1)).collect(alloc)?;
-        let mut input = PartsReader::new(parts.as_slice(), usize::MAX, ErrorKind::Other);
+        let mut input = ChunkReader::new(parts.as_slice(), usize::MAX, ErrorKind::Other);
         let mut output = Vec::new(alloc);
         demangle_bytes_limited(
             alloc,
@@ -208,7 +208,7 @@ fn a_long_text_is_written_whole_each_time(rt: HostRuntime) -> Result<(), Fail> {
 }
 
 #[test]
-fn runs_that_take_turns_keep_their_texts(rt: HostRuntime) -> Result<(), Fail> {
+fn alternating_runs_keep_their_texts(rt: HostRuntime) -> Result<(), Fail> {
     let alloc = rt.alloc();
     for include_hash in [true, false] {
         let mut text = Vec::new(alloc);
@@ -275,14 +275,14 @@ fn a_repeated_symbol_is_one_write(rt: HostRuntime) -> Result<(), Fail> {
     ];
     for taken in 0..=writes.len() {
         let mut input = text.as_slice();
-        let mut output = RefusingWriter::new(alloc, b"", taken, true)?;
+        let mut output = FailingWriter::new(alloc, b"", taken, true)?;
         let result = demangle_bytes_limited(alloc, &mut input, &mut output, true, 1_000_000);
         assert_eq!(rt; result.is_ok(), taken == writes.len(), "at {taken}");
         let mut wanted = Vec::new(alloc);
         for write in writes.iter().take(taken) {
             wanted.extend_from_slice(write)?;
         }
-        assert_eq!(rt; output.held(), wanted.as_slice(), "at {taken}");
+        assert_eq!(rt; output.written(), wanted.as_slice(), "at {taken}");
     }
     Ok(())
 }

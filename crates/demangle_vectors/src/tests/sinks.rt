@@ -33,7 +33,7 @@ impl Write for CountingWriter {
 }
 
 #[test]
-fn a_full_sink_holds_the_pieces_before_the_refused_one(rt: HostRuntime) {
+fn a_full_sink_holds_the_pieces_before_the_rejected_one(rt: HostRuntime) {
     let symbol = demangle("_ZN1a1bE");
     for include_hash in [true, false] {
         let mut sink: ArraySink<4> = ArraySink::new();
@@ -48,7 +48,7 @@ fn a_full_sink_holds_the_pieces_before_the_refused_one(rt: HostRuntime) {
 }
 
 #[test]
-fn each_piece_is_refused_in_turn(rt: HostRuntime) {
+fn each_piece_is_rejected_in_turn(rt: HostRuntime) {
     let symbol = demangle("_ZN1a1bE.x");
     let texts = ["", "a", "a::", "a::b", "a::b.x"];
     for (pieces, text) in texts.iter().enumerate() {
@@ -63,7 +63,7 @@ fn each_piece_is_refused_in_turn(rt: HostRuntime) {
 }
 
 #[test]
-fn each_piece_of_a_disambiguator_is_refused_in_turn(rt: HostRuntime) {
+fn each_piece_of_a_disambiguator_is_rejected_in_turn(rt: HostRuntime) {
     let symbol = demangle("_RCs_3foo");
     let texts = ["", "foo", "foo[", "foo[1", "foo[1]"];
     for (pieces, text) in texts.iter().enumerate() {
@@ -94,7 +94,7 @@ fn empty_pieces_are_taken_where_no_other_is(rt: HostRuntime) {
 }
 
 #[test]
-fn a_write_sink_holds_the_fault_of_its_writer(rt: HostRuntime) {
+fn a_write_sink_holds_the_error_of_its_writer(rt: HostRuntime) {
     let mut bytes = [0; 4];
     let mut room = bytes.as_mut_slice();
     let mut sink = WriteSink::new(&mut room);

@@ -5,7 +5,7 @@ use std::io;
 use std::io::{BufRead, ErrorKind, Read};
 use std::process::Abort;
 use std::test::Fail;
-use test_doubles::streams::{NotingWriter, PartsReader, RefusingWriter};
+use test_doubles::streams::{ChunkReader, FailingWriter, RecordingWriter};
 
 /// Texts, and the stream's output for them, with the hash and without it.
 pub(super) const ROWS: [(&[u8], &[u8]); 20] = [
@@ -63,11 +63,11 @@ fn symbols_are_replaced_in_lines(rt: HostRuntime) -> Result<(), Fail> {
 fn a_run_ends_at_each_byte_that_it_may_not_have(rt: HostRuntime) -> Result<(), Fail> {
     let alloc = rt.alloc();
     for byte in 0..128u8 {
-        let goes_on = byte.is_ascii_alphanumeric() || byte == b'$' || byte == b'_';
+        let continues_on = byte.is_ascii_alphanumeric() || byte == b'$' || byte == b'_';
         let mut text = Vec::from_slice(alloc, b"_ZN3fooE")?;
         text.push(byte)?;
         let mut wanted = Vec::new(alloc);
-        if goes_on {
+        if continues_on {
             wanted.extend_from_slice(b"_ZN3fooE")?;
         } else {
             wanted.extend_from_slice(b"foo")?;
@@ -95,14 +95,14 @@ fn the_reader_fails(rt: HostRuntime) -> Result<(), Fail> {
     ];
     for (text, wanted) in cases {
         let parts = [text];
-        let mut input = PartsReader::new(&parts, 1, ErrorKind::Other);
+        let mut input = ChunkReader::new(&parts, 1, ErrorKind::Other);
         let mut output = Vec::new(alloc);
         let result = demangle_stream_named(alloc, &mut input, &mut output, true);
         assert!(rt;
             matches!(&result, Err(StreamFault::Read(error)) if error.kind() == ErrorKind::Other)
         );
         assert_eq!(rt; output.as_slice(), wanted, "after {text:?}");
-        let mut input = PartsReader::new(&parts, 1, ErrorKind::OutOfMemory);
+        let mut input = ChunkReader::new(&parts, 1, ErrorKind::OutOfMemory);
         let mut output = Vec::new(alloc);
         let result = demangle_stream_named(alloc, &mut input, &mut output, true);
         assert!(rt; matches!(&result, Err(StreamFault::Memory)));
@@ -112,7 +112,7 @@ fn the_reader_fails(rt: HostRuntime) -> Result<(), Fail> {
 }
 
 #[test]
-fn the_reader_fails_at_each_filling(rt: HostRuntime) -> Result<(), Fail> {
+fn the_reader_fails_at_each_chunk(rt: HostRuntime) -> Result<(), Fail> {
     let alloc = rt.alloc();
     let parts: [&[u8]; 4] = [b"x _ZN", b"3fooE\n_ZN3", b"barE", b"\n"];
     let written: [&[u8]; 6] = [
@@ -124,7 +124,7 @@ fn the_reader_fails_at_each_filling(rt: HostRuntime) -> Result<(), Fail> {
         b"x foo\nbar\n",
     ];
     for (fills, wanted) in written.iter().enumerate() {
-        let mut input = PartsReader::new(&parts, fills, ErrorKind::Other);
+        let mut input = ChunkReader::new(&parts, fills, ErrorKind::Other);
         let mut output = Vec::new(alloc);
         let result = demangle_stream(alloc, &mut input, &mut output, true);
         let kind = result.map_err(|error| error.kind());
@@ -211,7 +211,7 @@ fn assert_held(rt: &impl Abort, alloc: Global, include_hash: bool) -> Result<(),
     }
     for writes in 0..=wanted_writes.len() {
         let mut input = text.as_slice();
-        let mut output = RefusingWriter::new(alloc, b"old", writes, true)?;
+        let mut output = FailingWriter::new(alloc, b"old", writes, true)?;
         let result = demangle_stream(alloc, &mut input, &mut output, include_hash);
         let kind = result.map_err(|error| error.kind());
         if writes < wanted_writes.len() {
@@ -223,7 +223,7 @@ fn assert_held(rt: &impl Abort, alloc: Global, include_hash: bool) -> Result<(),
         for write in wanted_writes.iter().take(writes) {
             wanted.extend_from_slice(write)?;
         }
-        assert_eq!(rt; output.held(), wanted.as_slice(), "at {writes}");
+        assert_eq!(rt; output.written(), wanted.as_slice(), "at {writes}");
     }
     Ok(())
 }
@@ -256,7 +256,7 @@ fn each_text_and_piece_is_a_write(rt: HostRuntime) -> Result<(), Fail> {
     ];
     for (text, wanted) in cases {
         let mut input = text;
-        let mut output = NotingWriter::new(alloc);
+        let mut output = RecordingWriter::new(alloc);
         demangle_stream(alloc, &mut input, &mut output, true)?;
         assert_eq!(rt; output.writes().len(), wanted.len(), "of {text:?}");
         for (write, want) in output.writes().iter().zip(wanted.iter()) {
@@ -284,7 +284,7 @@ fn each_text_of_any_bytes_is_a_write(rt: HostRuntime) -> Result<(), Fail> {
     ];
     for (text, wanted) in cases {
         let mut input = text;
-        let mut output = NotingWriter::new(alloc);
+        let mut output = RecordingWriter::new(alloc);
         assert!(rt; demangle_bytes(alloc, &mut input, &mut output, true).is_ok());
         assert_eq!(rt; output.writes().len(), wanted.len(), "of {text:?}");
         for (write, want) in output.writes().iter().zip(wanted.iter()) {

@@ -21,7 +21,7 @@ pub fn assert_constant(
 }
 
 #[test]
-fn numbers_have_their_type_in_the_plain_form_alone(rt: HostRuntime) -> Result<(), Fail> {
+fn numbers_have_their_type_only_in_the_plain_form(rt: HostRuntime) -> Result<(), Fail> {
     for (constant, plain, alt) in [
         ("j_", "0usize", "0"),
         ("j0_", "0usize", "0"),
@@ -105,7 +105,7 @@ fn longer_numbers_keep_their_nibbles(rt: HostRuntime) -> Result<(), Fail> {
 }
 
 #[test]
-fn truth_values_and_placeholders(rt: HostRuntime) -> Result<(), Fail> {
+fn booleans_and_placeholders(rt: HostRuntime) -> Result<(), Fail> {
     for (constant, text) in [("b_", "false"), ("b00_", "false"), ("b0001_", "true")] {
         assert_constant(&rt, rt.alloc(), constant, text, text)?;
     }
@@ -157,7 +157,7 @@ fn a_constant_over_a_failed_path_stays_open(rt: HostRuntime) -> Result<(), Fail>
 }
 
 #[test]
-fn constants_that_are_none_are_refused(rt: HostRuntime) {
+fn malformed_constants_are_rejected(rt: HostRuntime) {
     for text in [
         "_RIC0Kb2_E",
         "_RIC0Kb10_E",

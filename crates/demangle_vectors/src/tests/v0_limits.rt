@@ -10,7 +10,7 @@ const MARKER: &str = "{size limit reached}";
 const TOO_DEEP: &str = "{recursion limit reached}";
 
 #[test]
-fn types_stand_up_to_500_deep(rt: HostRuntime) -> Result<(), Fail> {
+fn types_nest_up_to_500_deep(rt: HostRuntime) -> Result<(), Fail> {
     let alloc = rt.alloc();
     let deep = repeat_between(alloc, "_RMC0", "R", 499, "u")?;
     let text = repeat_between(alloc, "<", "&", 499, "()>")?;
@@ -21,7 +21,7 @@ fn types_stand_up_to_500_deep(rt: HostRuntime) -> Result<(), Fail> {
 }
 
 #[test]
-fn paths_stand_up_to_500_deep(rt: HostRuntime) -> Result<(), Fail> {
+fn paths_nest_up_to_500_deep(rt: HostRuntime) -> Result<(), Fail> {
     let alloc = rt.alloc();
     let names = "1b".repeat(alloc, 499)?;
     let deep = repeat_between(alloc, "_R", "Nv", 499, "C1a")?;
@@ -35,7 +35,7 @@ fn paths_stand_up_to_500_deep(rt: HostRuntime) -> Result<(), Fail> {
 }
 
 #[test]
-fn constants_stand_up_to_500_deep(rt: HostRuntime) -> Result<(), Fail> {
+fn constants_nest_up_to_500_deep(rt: HostRuntime) -> Result<(), Fail> {
     let alloc = rt.alloc();
     let deep = repeat_between(alloc, "_RIC0K", "R", 498, "h0_E")?;
     let plain = repeat_between(alloc, "::<{", "&", 498, "0u8}>")?;
@@ -47,7 +47,7 @@ fn constants_stand_up_to_500_deep(rt: HostRuntime) -> Result<(), Fail> {
 }
 
 #[test]
-fn patterns_stand_up_to_500_deep(rt: HostRuntime) -> Result<(), Fail> {
+fn patterns_nest_up_to_500_deep(rt: HostRuntime) -> Result<(), Fail> {
     let alloc = rt.alloc();
     let ends = "E".repeat(alloc, 498)?;
     let deep = repeat_between(alloc, "_RMC0Wm", "O", 498, "N")?;
@@ -71,7 +71,7 @@ fn depth_is_given_back(rt: HostRuntime) -> Result<(), Fail> {
 }
 
 #[test]
-fn a_target_stands_one_deeper_than_its_reference(rt: HostRuntime) -> Result<(), Fail> {
+fn a_target_is_one_deeper_than_its_reference(rt: HostRuntime) -> Result<(), Fail> {
     let alloc = rt.alloc();
     let head = format!(in alloc; "{TOO_DEEP}::?")?;
     let text = repeat_between(alloc, head.as_str(), "::a", 166, "")?;

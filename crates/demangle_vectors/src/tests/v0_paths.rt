@@ -2,7 +2,7 @@
 use super::{assert_prints, assert_refused};
 
 #[test]
-fn a_crate_has_a_disambiguator_in_the_plain_form_alone(rt: HostRuntime) {
+fn a_crate_has_a_disambiguator_only_in_the_plain_form(rt: HostRuntime) {
     for (symbol, plain, alt) in [
         ("_RCs_3foo", "foo[1]", "foo"),
         ("_RCslYGhA16ahyd_1a", "a[ffffffffffffffff]", "a"),
@@ -100,7 +100,7 @@ fn names_in_punycode_are_decoded(rt: HostRuntime) {
 }
 
 #[test]
-fn names_that_are_no_punycode_print_as_they_are(rt: HostRuntime) {
+fn names_that_are_not_punycode_print_as_they_are(rt: HostRuntime) {
     for (symbol, text) in [
         ("_RCu3a_A", "punycode{a-A}"),
         ("_RCu1t", "punycode{t}"),
@@ -170,7 +170,7 @@ fn damaged_paths_print_themselves(rt: HostRuntime) {
 }
 
 #[test]
-fn numbers_of_more_than_64_bits_are_refused(rt: HostRuntime) {
+fn numbers_of_more_than_64_bits_are_rejected(rt: HostRuntime) {
     for text in [
         "_RCslYGhA16ahye_1a",
         "_RBlYGhA16ahye_",
@@ -183,7 +183,7 @@ fn numbers_of_more_than_64_bits_are_refused(rt: HostRuntime) {
 }
 
 #[test]
-fn punycode_without_a_digit_is_refused(rt: HostRuntime) {
+fn punycode_without_a_digit_is_rejected(rt: HostRuntime) {
     for text in ["_RCu1_", "_RCu1__", "_RCu2a_", "_RCu0"] {
         assert_refused(&rt, text, text);
     }

@@ -83,7 +83,7 @@ fn a_value_over_a_failed_path_stays_open(rt: HostRuntime) {
 }
 
 #[test]
-fn what_failed_inside_a_pattern_or_a_dynamic_type_is_marked(rt: HostRuntime) {
+fn errors_inside_a_pattern_or_a_dynamic_type_are_marked(rt: HostRuntime) {
     for (symbol, text) in [
         (
             "_RIC5WmOZEB2_E",
@@ -100,7 +100,7 @@ fn what_failed_inside_a_pattern_or_a_dynamic_type_is_marked(rt: HostRuntime) {
 }
 
 #[test]
-fn an_open_trait_path_stays_open_behind_its_reference(rt: HostRuntime) {
+fn an_open_trait_path_stays_open_after_its_reference(rt: HostRuntime) {
     for (symbol, plain, alt) in [
         (
             "_RYTC20DIC1aDC1bEL_Ep1xmEL_B4_EC1b",
@@ -138,7 +138,7 @@ fn an_open_trait_path_stays_open_behind_its_reference(rt: HostRuntime) {
 }
 
 #[test]
-fn references_ahead_are_refused(rt: HostRuntime) {
+fn references_ahead_are_rejected(rt: HostRuntime) {
     for text in [
         "_RB_",
         "_RIC1aB4_E",

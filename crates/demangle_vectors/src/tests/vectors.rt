@@ -270,7 +270,7 @@ fn constants_print_their_values(rt: HostRuntime) -> Result<(), Fail> {
 }
 
 #[test]
-fn what_is_refused_prints_itself(rt: HostRuntime) {
+fn rejected_symbols_print_themselves(rt: HostRuntime) {
     for text in REFUSED {
         assert_refused(&rt, text, text);
     }

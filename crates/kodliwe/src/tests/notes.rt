@@ -1,7 +1,7 @@
 //! Tests the notes on inputs that are compressed or encoded.
 use super::run_one;
 use super::streams::ChunkReader;
-use crate::run::{BUFFER, Ended, Input, Settings, run};
+use crate::filtering::{BUFFER, FilterOutcome, Input, Settings, filter_all};
 use rustc_demangle::Format;
 use std::alloc::Global;
 use std::process::Abort;
@@ -44,7 +44,7 @@ fn assert_note(
 ) -> Result<(), Fail> {
     let mut output = Vec::new(alloc);
     let (ended, errors) = run_one(alloc, reader, &mut output, false)?;
-    assert_eq!(rt; ended, Ended::Complete, "of {text:?}");
+    assert_eq!(rt; ended, FilterOutcome::Complete, "of {text:?}");
     let copied = text.strip_suffix(b"_ZN1aE").unwrap_or(text);
     assert!(rt; output.as_slice().starts_with(copied), "of {text:?}");
     assert_eq!(rt; errors.as_slice(), note, "of {text:?}");
@@ -68,8 +68,8 @@ fn a_mark_that_is_cut_is_not_noted(rt: HostRuntime) -> Result<(), Fail> {
     for ((text, note), least) in MARKED.into_iter().zip(LENGTHS) {
         for len in 0..=text.len() {
             let wanted: &[u8] = if len < least { b"" } else { note };
-            let front = &text[..len];
-            assert_note(&rt, alloc, ChunkReader::new(front, 100), front, wanted)?;
+            let prefix = &text[..len];
+            assert_note(&rt, alloc, ChunkReader::new(prefix, 100), prefix, wanted)?;
             if len > 0 {
                 assert_note(&rt, alloc, ChunkReader::new(text, len), text, wanted)?;
             }
@@ -79,11 +79,11 @@ fn a_mark_that_is_cut_is_not_noted(rt: HostRuntime) -> Result<(), Fail> {
 }
 
 #[test]
-fn a_mark_behind_the_beginning_is_not_noted(rt: HostRuntime) -> Result<(), Fail> {
+fn a_mark_after_the_beginning_is_not_noted(rt: HostRuntime) -> Result<(), Fail> {
     let alloc = rt.alloc();
     for (text, _) in MARKED {
-        for front in [1, BUFFER] {
-            let mut long = vec![in alloc; b'x'; front]?;
+        for prefix in [1, BUFFER] {
+            let mut long = vec![in alloc; b'x'; prefix]?;
             long.extend_from_slice(text)?;
             let reader = ChunkReader::new(long.as_slice(), BUFFER);
             assert_note(&rt, alloc, reader, long.as_slice(), b"")?;
@@ -121,8 +121,8 @@ fn each_input_is_noted_by_its_name(rt: HostRuntime) -> Result<(), Fail> {
     };
     let mut output = Vec::new(alloc);
     let mut errors = Vec::new(alloc);
-    let ended = run(settings, inputs, &mut output, &mut errors);
-    assert_eq!(rt; ended, Ended::Complete);
+    let ended = filter_all(settings, inputs, &mut output, &mut errors);
+    assert_eq!(rt; ended, FilterOutcome::Complete);
     let wanted: &[u8] = b"\x1F\x8B\x1F\x8Bc\x1F\x8B";
     assert_eq!(rt; output.as_slice(), wanted);
     let notes: &[u8] = b"kodliwe: note: a looks compressed (gzip); decompress it first\n\

@@ -2,9 +2,9 @@
 ghost use Rattle.std.specs.Prelude.{◌≡◌, ◌↔◌, ◌++◌, ℕ, List, Bool, Some, OnOk, IfErr, IsUtf8};
 ghost use Rattle.std.specs.List.{concat};
 ghost use Rattle.rustc_demangle.specs.Filtered.{HasNoStart, IsFiltered, filtered, filtered_within};
-ghost use Rattle.rustc_demangle.specs.Lines.{lines, feeds, OnlyLines};
-ghost use Rattle.rustc_demangle.specs.Pieces.{filtered_pieces};
-ghost use Rattle.rustc_demangle.specs.Stream.{output_of, Stopped};
+ghost use Rattle.rustc_demangle.specs.Lines.{lines, line_feeds, OnlyLines};
+ghost use Rattle.rustc_demangle.specs.TextPieces.{filtered_pieces};
+ghost use Rattle.rustc_demangle.specs.LineStream.{output_of, StreamStopped};
 ghost use Rattle.rustc_demangle.specs.Symbols.{handed};
 
 use crate::stream::{StreamFault, demangle_stream_named};
@@ -43,10 +43,10 @@ pub fn line_without_symbols_passes()
 
 /// If everything succeeds, the output has the same number of line feeds as the input.
 pub fn as_many_lines_are_written()
-    ensures printed { (text : List ℕ) → (hash : Bool) → (limit : ℕ) → feeds text ≡ 0 →
-        feeds (concat (handed text hash limit)) ≡ 0 }
+    ensures printed { (text : List ℕ) → (hash : Bool) → (limit : ℕ) → line_feeds text ≡ 0 →
+        line_feeds (concat (handed text hash limit)) ≡ 0 }
     ensures written { (hash : Bool) → (text : List ℕ) →
-        feeds (output_of hash (lines text)) ≡ feeds text }
+        line_feeds (output_of hash (lines text)) ≡ line_feeds text }
 {}
 
 /// Demangles a text in memory. It shows the stream's contract with a reader and a writer whose
@@ -60,7 +60,7 @@ pub fn demangle_in_memory(
     ensures utf8 { OnOk result (IsUtf8 text.now) }
     ensures written { OnOk result
         (output.new.items ≡ output.old.items ++ output_of include_hash (lines text.now)) }
-    ensures stopped { IfErr result (λ fault. Stopped fault text.now include_hash
+    ensures stopped { IfErr result (λ fault. StreamStopped fault text.now include_hash
         (Some output.old.items) (Some output.new.items)) }
 {
     let mut input = text;

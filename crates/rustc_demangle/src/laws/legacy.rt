@@ -2,7 +2,7 @@
 ghost use Rattle.std.specs.Prelude.{◌≡◌, ℕ, List, Some};
 ghost use Rattle.demangle_legacy.specs.Legacy.{IsLegacy, legacy_of};
 ghost use Rattle.demangle_legacy.specs.Unescaped.{unescaped};
-ghost use Rattle.demangle_legacy.specs.Unescaping.{IsUnescaped};
+ghost use Rattle.demangle_legacy.specs.UnescapedRelation.{IsUnescaped};
 
 /// A text is parsed as a legacy symbol exactly if the grammar spells it, and in at most one way.
 pub fn legacy_is_read()

@@ -3,7 +3,7 @@ ghost use Rattle.std.specs.Prelude.{◌≡◌, ◌⊎◌, ℕ, ◌+◌, ◌≤�
 ghost use Rattle.std.specs.List.{concat, list_all};
 ghost use Rattle.demangle_sink.specs.Array.{text_of};
 ghost use Rattle.demangle_sink.specs.Cut.{size};
-ghost use Rattle.rustc_demangle.specs.Hashes.{LeavesHashOut};
+ghost use Rattle.rustc_demangle.specs.Hashes.{OmitsHash};
 ghost use Rattle.demangle_legacy.specs.Legacy.{IsLegacy};
 ghost use Rattle.rustc_demangle.specs.Stripped.{stripped, is_thin_lto, is_allowed, IsCut};
 ghost use Rattle.rustc_demangle.specs.Symbols.{IsSymbol, handed, kept_of, most_bytes, pieces_of, printed};
@@ -15,9 +15,9 @@ use demangle_sink::{ArraySink, SinkRefused, TextSink};
 /// A text is cut at its first `.llvm.` if only characters of a ThinLTO suffix follow. Stripping a
 /// text twice is the same as stripping it once.
 pub fn stripped_is_cut_once()
-    ensures cut { (text front ending : List ℕ) → IsCut text front ending →
-        stripped text ≡ (if list_all is_thin_lto ending then front else text) }
-    ensures whole { (text : List ℕ) → ((front ending : List ℕ) → IsCut text front ending → ⊥) →
+    ensures cut { (text prefix ending : List ℕ) → IsCut text prefix ending →
+        stripped text ≡ (if list_all is_thin_lto ending then prefix else text) }
+    ensures whole { (text : List ℕ) → ((prefix ending : List ℕ) → IsCut text prefix ending → ⊥) →
         stripped text ≡ text }
     ensures twice { (text : List ℕ) → stripped (stripped text) ≡ stripped text }
 {}
@@ -58,7 +58,7 @@ pub fn hash_is_the_last_element()
         IsLegacy text elements suffix → is_allowed suffix ≡ true →
         size (legacy_pieces true elements) ≤ limit →
         (handed text false limit ≡ handed text true limit)
-        ⊎ LeavesHashOut text elements suffix limit }
+        ⊎ OmitsHash text elements suffix limit }
 {}
 
 /// Prints a symbol twice with the same flag. The texts are equal, and printing succeeds if there is

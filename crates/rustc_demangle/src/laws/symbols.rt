@@ -2,13 +2,13 @@
 ghost use Rattle.std.specs.Prelude.{◌≡◌, ◌⊎◌, ℕ, Bool, true, false, List, [], ◌∷◌, ◌++◌, codes};
 ghost use Rattle.demangle_sink.specs.Cut.{cut, kept};
 ghost use Rattle.demangle_legacy.specs.Legacy.{IsLegacy};
-ghost use Rattle.demangle_grammar.specs.Reading.{form, path_texts};
+ghost use Rattle.demangle_v0_grammar.specs.Reading.{form, path_texts};
 ghost use Rattle.rustc_demangle.specs.Stripped.{is_allowed};
-ghost use Rattle.rustc_demangle.specs.Filtered.{begins_run};
+ghost use Rattle.rustc_demangle.specs.Filtered.{starts_run};
 ghost use Rattle.rustc_demangle.specs.Symbols.{form_of, handed, handed_in, kept_of, IsSymbol};
 ghost use Rattle.rustc_demangle.specs.declared.format.Format.{Format};
 ghost use Rattle.demangle_legacy.specs.Unescaped.{legacy_pieces};
-ghost use Rattle.demangle_grammar.specs.V0.{IsV0};
+ghost use Rattle.demangle_v0_grammar.specs.V0.{IsV0};
 
 /// A legacy symbol with an allowed suffix prints the pieces of its elements, cut at the limit, and
 /// then its suffix.
@@ -54,7 +54,7 @@ pub fn no_symbol_is_of_both_schemes()
 /// A symbol that starts with an underscore starts a run there or after the underscore. A symbol of
 /// macOS has one more underscore. So a stream examines every symbol that starts with one, whatever
 /// its scheme.
-pub fn each_symbol_behind_an_underscore_begins_a_run()
+pub fn symbol_after_underscore_starts_a_run()
     ensures { (text : List ℕ) → IsSymbol (codes "_" ++ text) →
-        (begins_run (codes "_" ++ text) ≡ true) ⊎ (begins_run text ≡ true) }
+        (starts_run (codes "_" ++ text) ≡ true) ⊎ (starts_run text ≡ true) }
 {}

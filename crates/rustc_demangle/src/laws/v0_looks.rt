@@ -1,10 +1,10 @@
 //! Laws about the number of looks of parsing a v0 symbol.
 ghost use Rattle.std.specs.Prelude.{◌≡◌, ℕ, ◌+◌, ◌-◌, ◌*◌, ◌≤◌, Bool, true, List, length, take, None};
-ghost use Rattle.demangle_grammar.specs.Accepting.{accepting_looks};
-ghost use Rattle.demangle_grammar.specs.Cost.{bytes_of, looks_of, Pays};
+ghost use Rattle.demangle_v0_grammar.specs.ValidationLooks.{accepting_looks};
+ghost use Rattle.demangle_v0_grammar.specs.LookBudget.{bytes_of, looks_of, Pays};
 ghost use Rattle.demangle_sink.specs.Cut.{size};
-ghost use Rattle.demangle_grammar.specs.Items.{Items, Kind, a_path};
-ghost use Rattle.demangle_grammar.specs.Reading.{Form, Surroundings, max_depth, stretches, read_at, path_texts, run};
+ghost use Rattle.demangle_v0_grammar.specs.Items.{Items, Kind, a_path};
+ghost use Rattle.demangle_v0_grammar.specs.Reading.{Form, Context, max_depth, costs_of, read_at, path_texts, parse};
 
 /// The looks up to and including a token are bounded by the bytes that were printed before it,
 /// however large the symbol's tree is. The same holds for each production, by the depths that
@@ -12,33 +12,33 @@ ghost use Rattle.demangle_grammar.specs.Reading.{Form, Surroundings, max_depth, 
 pub fn printing_looks_stay_linear()
     ensures printing { (symbol : List ℕ) (form : Form) (k : ℕ) →
         let read = read_at symbol form.fold_arguments true a_path 0 0 0 true in
-        let all = stretches form.include_hash read.tree in
+        let all = costs_of form.include_hash read.tree in
         looks_of (take (k + 1) all) ≤ 100000 * (bytes_of (take k all) + 1) * (length symbol + 1) }
     ensures paid { (symbol : List ℕ) (form : Form) →
         Pays (34 * max_depth * (length symbol + 1)) (34 * (max_depth + 1) * (length symbol + 1))
-        (stretches form.include_hash
+        (costs_of form.include_hash
         (read_at symbol form.fold_arguments true a_path 0 0 0 true).tree) 0 }
     ensures unit { (symbol : List ℕ) (form : Form) (kind : Kind)
         (i depth lifetimes : ℕ) (value : Bool) (k : ℕ) → i ≤ length symbol → depth ≤ max_depth →
         let read = read_at symbol form.fold_arguments true kind i depth lifetimes value in
-        let all = stretches form.include_hash read.tree in
+        let all = costs_of form.include_hash read.tree in
         looks_of (take (k + 1) all)
         ≤ 34 * (length symbol + 1) * (max_depth + 1 - depth) * (bytes_of (take k all) + 1) }
     ensures bytes { (symbol : List ℕ) (form : Form) →
-        bytes_of (stretches form.include_hash
+        bytes_of (costs_of form.include_hash
         (read_at symbol form.fold_arguments true a_path 0 0 0 true).tree)
         ≡ size (path_texts symbol form) }
 {}
 
 /// Accepting a symbol makes at most 32 looks for each of its bytes, and 32 more.
-#[tactic(auto, using(demangle_grammar::proofs::LooksLaw::accepting_costs))]
+#[tactic(auto, using(demangle_v0_grammar::proofs::LooksLaw::accepting_costs))]
 pub fn accepting_looks_stay_linear()
     ensures { (symbol : List ℕ) → accepting_looks symbol ≤ 32 * (length symbol + 1) }
 {}
 
 /// After a parse failed, the rest of it makes no look.
-#[tactic(auto, using(demangle_grammar::proofs::LooksLaw::failed_looks))]
-pub fn failed_readings_look_at_nothing()
-    ensures { (p : Items) (s : Surroundings) (plain : Bool) →
-        looks_of (stretches plain (run p s None).tree) ≡ 0 }
+#[tactic(auto, using(demangle_v0_grammar::proofs::LooksLaw::failed_looks))]
+pub fn failed_parser_makes_no_looks()
+    ensures { (p : Items) (s : Context) (plain : Bool) →
+        looks_of (costs_of plain (parse p s None).tree) ≡ 0 }
 {}

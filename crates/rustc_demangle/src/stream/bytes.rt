@@ -2,12 +2,12 @@
 ghost use Rattle.std.specs.Prelude.{◌≡◌, List, ℕ, [], true, false, Ok, Some, IfSome, OnOk, IfErr};
 ghost use Rattle.std.specs.Io.KnownBytes.{Appends};
 ghost use Rattle.rustc_demangle.specs.Filtered.{filtered, filtered_in, filtered_within};
-ghost use Rattle.rustc_demangle.specs.Bytes.{IsOpen, StepTook, StepEnded, StepRefused, BytesStopped};
+ghost use Rattle.rustc_demangle.specs.ByteStream.{IsPartialRun, StepFiltered, StepFinished, StepFailed, BytesStopped};
 
 use crate::format::Format;
-use crate::stream::carrying::{finish, take_some};
 use crate::stream::fault::{StreamFault, read_fault};
 use crate::stream::memo::SymbolMemo;
+use crate::stream::pending_run::{filter_chunk, finish};
 use crate::value::MAX_SIZE;
 use std::alloc::{Allocator, Global};
 use std::io;
@@ -17,15 +17,15 @@ use std::marker::Model;
 /// A filter of any bytes. It buffers the unfinished run at the end of the bytes so far.
 #[derive(Drop)]
 pub struct BytesFilter<A: Allocator> {
-    carried: Vec<u8, A>,
+    pending: Vec<u8, A>,
 }
 
 impl<A: Allocator> Model for BytesFilter<A> {
     ghost Value = { List ℕ };
 
-    ghost view = { λ filter. filter.carried.items };
+    ghost view = { λ filter. filter.pending.items };
 
-    ghost invariant = { λ filter. IsOpen filter.carried.items };
+    ghost invariant = { λ filter. IsPartialRun filter.pending.items };
 }
 
 impl<A: Allocator> BytesFilter<A> {
@@ -34,7 +34,7 @@ impl<A: Allocator> BytesFilter<A> {
         ensures { result ≡ [] }
     {
         BytesFilter {
-            carried: Vec::new(alloc),
+            pending: Vec::new(alloc),
         }
     }
 
@@ -53,33 +53,33 @@ impl<A: Allocator> BytesFilter<A> {
         output: &mut W,
         memo: &mut SymbolMemo,
     ) -> Result<bool, StreamFault>
-        ensures took { result ≡ Ok true → StepTook (filtered_in memo.old)
+        ensures took { result ≡ Ok true → StepFiltered (filtered_in memo.old)
             self.old self.new (R.remaining input.old) (R.remaining input.new)
             (W.contents output.old) (W.contents output.new) }
-        ensures ended { result ≡ Ok false → StepEnded (filtered_in memo.old)
+        ensures ended { result ≡ Ok false → StepFinished (filtered_in memo.old)
             self.old self.new (R.remaining input.old) (R.remaining input.new)
             (W.contents output.old) (W.contents output.new) }
-        ensures refused { IfErr result (λ fault. StepRefused fault self.old self.new
+        ensures refused { IfErr result (λ fault. StepFailed fault self.old self.new
             (R.remaining input.old) (R.remaining input.new)
             (W.contents output.old) (W.contents output.new)) }
         ensures same { memo.new ≡ memo.old }
     {
-        let shown = match input.fill_buf() {
-            Ok(shown) => shown,
+        let available = match input.fill_buf() {
+            Ok(available) => available,
             Err(error) => return Err(read_fault(error)),
         };
-        if shown.is_empty() {
-            finish(&mut self.carried, output, memo)?;
+        if available.is_empty() {
+            finish(&mut self.pending, output, memo)?;
             return Ok(false);
         }
-        let taken = take_some(&mut self.carried, shown, output, memo)?;
+        let taken = filter_chunk(&mut self.pending, available, output, memo)?;
         input.consume(taken);
         Ok(true)
     }
 }
 
 /// Makes steps up to the end of the input. Fails as `BytesFilter::step` does.
-fn take_steps<R: BufRead, W: Write, A: Allocator>(
+fn run_to_end<R: BufRead, W: Write, A: Allocator>(
     filter: &mut BytesFilter<A>,
     input: &mut R,
     output: &mut W,
@@ -156,7 +156,7 @@ pub fn demangle_bytes_formatted<R: BufRead, W: Write>(
 {
     let mut filter = BytesFilter::new(alloc);
     let mut memo = SymbolMemo::with_format(alloc, format);
-    take_steps(&mut filter, input, output, &mut memo)
+    run_to_end(&mut filter, input, output, &mut memo)
 }
 
 /// Writes the input, which may be any bytes, with each symbol of it demangled, as

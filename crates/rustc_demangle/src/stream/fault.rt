@@ -1,5 +1,5 @@
 //! Why the stream stopped.
-ghost use Rattle.rustc_demangle.specs.Stream.{IsReadFault, GivesError};
+ghost use Rattle.rustc_demangle.specs.LineStream.{IsReadFault, GivesError};
 
 use std::io;
 

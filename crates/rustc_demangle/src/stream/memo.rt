@@ -2,15 +2,15 @@
 ghost use Rattle.std.specs.Prelude.{◌≡◌, ◌<◌, [], true, length, IsTrue, OnOk};
 ghost use Rattle.std.specs.List.{concat, list_all};
 ghost use Rattle.std.specs.Io.KnownBytes.{Appends};
-ghost use Rattle.rustc_demangle.specs.Filtered.{is_run, replacement_in};
+ghost use Rattle.rustc_demangle.specs.Filtered.{is_run_byte, replacement_in};
 ghost use Rattle.rustc_demangle.specs.Symbols.{handed_in, unfolded};
 ghost use Rattle.text_memo.specs.Memo.{Remembers};
 
 use crate::format::Format;
-use crate::stream::held_sink::HeldSink;
-use crate::stream::line::write_run;
+use crate::stream::buffer_sink::BufferSink;
+use crate::stream::line_writer::write_run;
 use crate::value::{Demangle, print_v0_run};
-use held_bytes::Held;
+use piece_buffer::PieceBuffer;
 use std::alloc::Global;
 use std::io;
 use std::io::Write;
@@ -66,7 +66,7 @@ impl Probe {
 #[derive(Drop)]
 struct Store {
     texts: TextMemo,
-    printed: Held,
+    printed: PieceBuffer,
 }
 
 /// A memo of printed symbols, with which a filter does not parse a repeated symbol again.
@@ -95,11 +95,11 @@ impl Model for SymbolMemo {
 }
 
 /// Prints a symbol into held bytes, or returns `false` if they have no room for it.
-fn print_held(symbol: &Demangle<'_>, held: &mut Held, format: Format) -> bool
+fn print_to_buffer(symbol: &Demangle<'_>, held: &mut PieceBuffer, format: Format) -> bool
     requires { held.old ≡ [] }
     ensures { IsTrue result → held.new ≡ concat (handed_in symbol.now format) }
 {
-    let mut sink = HeldSink::new(held);
+    let mut sink = BufferSink::new(held);
     symbol.write_formatted(&mut sink, format).is_ok()
 }
 
@@ -107,8 +107,8 @@ fn print_held(symbol: &Demangle<'_>, held: &mut Held, format: Format) -> bool
 /// that is still unknown, or if the bytes have no room for the text. Then the bytes may have a part
 /// of it.
 #[inline(always)]
-fn print_first(run: &str, held: &mut Held, format: Format) -> bool
-    requires run { list_all is_run run.now ≡ true }
+fn print_first(run: &str, held: &mut PieceBuffer, format: Format) -> bool
+    requires run { list_all is_run_byte run.now ≡ true }
     requires some { 1 < length run.now }
     ensures { IsTrue result → held.new ≡ replacement_in format run.now }
 {
@@ -116,7 +116,7 @@ fn print_first(run: &str, held: &mut Held, format: Format) -> bool
         return false;
     }
     held.clear();
-    let mut sink = HeldSink::new(held);
+    let mut sink = BufferSink::new(held);
     print_v0_run(run, &mut sink, format.include_hash, format.limit)
 }
 
@@ -150,7 +150,7 @@ fn is_looked_up(run: &[u8]) -> bool
 /// Prints a run, and remembers its text, or that it is too long.
 #[inline(never)]
 fn print_new(run: &str, hash: u64, format: Format, store: &mut Store) -> Printed
-    requires run { list_all is_run run.now ≡ true }
+    requires run { list_all is_run_byte run.now ≡ true }
     requires some { 1 < length run.now }
     requires remembers { Remembers (replacement_in format) store.old.texts }
     ensures symbol { result ≡ Printed.Symbol →
@@ -172,7 +172,7 @@ fn print_new(run: &str, hash: u64, format: Format, store: &mut Store) -> Printed
         return Printed::NoSymbol;
     }
     store.printed.clear();
-    if !print_held(&symbol, &mut store.printed, format) {
+    if !print_to_buffer(&symbol, &mut store.printed, format) {
         store.texts.note_too_long(hash);
         return Printed::TooLong;
     }
@@ -204,7 +204,7 @@ impl SymbolMemo {
             format,
             store: Store {
                 texts: TextMemo::new(alloc),
-                printed: Held::new(),
+                printed: PieceBuffer::new(),
             },
             probe: Probe {
                 misses: 0,
@@ -216,7 +216,7 @@ impl SymbolMemo {
     /// Writes the text of a run that is not remembered. Fails if the writer fails.
     #[inline(always)]
     fn write_once<W: Write>(&mut self, run: &str, output: &mut W) -> io::Result<()>
-        requires all { list_all is_run run.now ≡ true }
+        requires all { list_all is_run_byte run.now ≡ true }
         requires some { 1 < length run.now }
         ensures text { OnOk result (Appends (W.contents output.old) (W.contents output.new)
             (replacement_in self.old run.now)) }
@@ -232,7 +232,7 @@ impl SymbolMemo {
     /// before. Fails if the writer fails.
     #[inline(always)]
     fn write_new<W: Write>(&mut self, run: &str, hash: u64, output: &mut W) -> io::Result<()>
-        requires all { list_all is_run run.now ≡ true }
+        requires all { list_all is_run_byte run.now ≡ true }
         requires some { 1 < length run.now }
         ensures text { OnOk result (Appends (W.contents output.old) (W.contents output.new)
             (replacement_in self.old run.now)) }
@@ -253,7 +253,7 @@ impl SymbolMemo {
     /// Writes the replacement of a run: the printed symbol, or the run itself if it is not a
     /// symbol. Fails if the writer fails.
     pub(super) fn write_run<W: Write>(&mut self, run: &str, output: &mut W) -> io::Result<()>
-        requires all { list_all is_run run.now ≡ true }
+        requires all { list_all is_run_byte run.now ≡ true }
         requires some { 0 < length run.now }
         ensures text { OnOk result (Appends (W.contents output.old) (W.contents output.new)
             (replacement_in self.old run.now)) }

@@ -54,7 +54,7 @@ fn copied_in_heaps(alloc: Global, text: &[u8], first: &[u8], whole: &[u8]) -> Re
 }
 
 #[test]
-fn memory_is_refused(rt: HostRuntime) -> Result<(), Fail> {
+fn allocation_fails(rt: HostRuntime) -> Result<(), Fail> {
     let growing = copied_in_heaps(rt.alloc(), TEXT, FIRST, WHOLE)?;
     assert!(rt; growing.refused_first && growing.refused_second && growing.whole && !growing.other);
     // The second line needs no more memory than the first.
@@ -140,10 +140,10 @@ fn refusals_of(alloc: Global, text: &[u8], first: &[u8], whole: &[u8]) -> Result
         let mut input = WatchingReader::new(alloc, text, &heap);
         let mut output = Vec::new(alloc);
         let result = copy_lines(&mut input, &mut output, &mut line, false);
-        let front = text.get(..input.taken).unwrap_or(text);
+        let prefix = text.get(..input.taken).unwrap_or(text);
         let written = if result.is_ok() {
             whole
-        } else if front.contains(&b'\n') {
+        } else if prefix.contains(&b'\n') {
             first
         } else {
             b""
@@ -161,7 +161,7 @@ fn refusals_of(alloc: Global, text: &[u8], first: &[u8], whole: &[u8]) -> Result
 }
 
 #[test]
-fn each_request_for_memory_is_refused_once(rt: HostRuntime) -> Result<(), Fail> {
+fn each_allocation_fails_once(rt: HostRuntime) -> Result<(), Fail> {
     let alloc = rt.alloc();
     for (text, first, whole) in [(TEXT, FIRST, WHOLE), (TWICE, ONCE_COPIED, TWICE_COPIED)] {
         let requests = requests_of(alloc, text, whole)?;
@@ -215,7 +215,7 @@ fn written_in_heap(alloc: Global, size: usize) -> Result<usize, Fail> {
 }
 
 #[test]
-fn memory_is_refused_to_an_open_run(rt: HostRuntime) -> Result<(), Fail> {
+fn allocation_fails_for_a_pending_run(rt: HostRuntime) -> Result<(), Fail> {
     let mut is_written = [false; 4];
     for units in 1..64usize {
         let at = written_in_heap(rt.alloc(), units * 16)?;
@@ -229,7 +229,7 @@ fn memory_is_refused_to_an_open_run(rt: HostRuntime) -> Result<(), Fail> {
 }
 
 #[test]
-fn faults_have_their_kinds(rt: HostRuntime) -> Result<(), Fail> {
+fn errors_have_their_kinds(rt: HostRuntime) -> Result<(), Fail> {
     let alloc = rt.alloc();
     let mut input: &[u8] = b"\xFF";
     let mut output = Vec::new(alloc);

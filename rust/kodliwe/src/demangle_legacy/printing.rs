@@ -28,7 +28,7 @@ fn is_hash(symbol: &Symbol<'_>, element: Part, looks: &mut Looks) -> bool {
 
 /// Returns `true` if an element is omitted: the form has no hash, and the element is the last one
 /// and is a hash.
-pub(super) fn is_left_out(
+pub(super) fn is_omitted(
     symbol: &Symbol<'_>,
     element: Part,
     include_hash: bool,

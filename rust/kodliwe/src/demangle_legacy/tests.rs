@@ -30,7 +30,7 @@ fn symbols_print_their_elements() {
 }
 
 #[test]
-fn other_texts_are_refused() {
+fn other_texts_are_rejected() {
     for text in ["", "test", "_ZN", "_ZN4test", "_ZNfooE", "_RC3foo"] {
         assert!(demangle(text, false, &mut Looks::new()).is_err(), "{text}");
     }

@@ -2,7 +2,7 @@
 //! The value of a parsed legacy symbol.
 
 use crate::demangle_legacy::elements::element_at;
-use crate::demangle_legacy::printing::{is_left_out, put_element};
+use crate::demangle_legacy::printing::{is_omitted, put_element};
 use crate::demangle_sink::{SinkRefused, SizeLimitedFmtAdapter, TextSink};
 use crate::demangle_symbol::cursor::{Looks, Symbol};
 
@@ -29,7 +29,7 @@ impl<'s> Demangle<'s> {
     ) -> Result<(), SinkRefused> {
         let mut at = 0;
         while let Some(element) = element_at(&self.inner, at, looks) {
-            if is_left_out(&self.inner, element, include_hash, looks) {
+            if is_omitted(&self.inner, element, include_hash, looks) {
                 return Ok(());
             }
             if at > 0 {

@@ -8,7 +8,7 @@ pub struct SizeLimitedFmtAdapter<'s, S: TextSink> {
     out: &'s mut S,
     remaining: usize,
     /// Whether a piece exceeded the limit.
-    is_over: bool,
+    is_limit_reached: bool,
 }
 
 impl<'s, S: TextSink> SizeLimitedFmtAdapter<'s, S> {
@@ -17,13 +17,13 @@ impl<'s, S: TextSink> SizeLimitedFmtAdapter<'s, S> {
         SizeLimitedFmtAdapter {
             out,
             remaining: limit,
-            is_over: false,
+            is_limit_reached: false,
         }
     }
 
     /// Returns `true` if a piece exceeded the limit.
-    pub fn is_over(&self) -> bool {
-        self.is_over
+    pub fn is_limit_reached(&self) -> bool {
+        self.is_limit_reached
     }
 
     /// Passes a piece to the sink.
@@ -35,7 +35,7 @@ impl<'s, S: TextSink> SizeLimitedFmtAdapter<'s, S> {
     #[inline(always)]
     pub fn put(&mut self, s: &str) -> Result<(), SinkRefused> {
         if s.len() > self.remaining {
-            self.is_over = true;
+            self.is_limit_reached = true;
             return Err(SinkRefused);
         }
         self.remaining -= s.len();

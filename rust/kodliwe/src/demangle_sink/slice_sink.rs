@@ -56,9 +56,9 @@ impl<'b> SliceSink<'b> {
             return Err(SinkRefused);
         }
         if self.start <= self.len {
-            lay(self.out, self.len - self.start, bytes);
+            write_at(self.out, self.len - self.start, bytes);
         } else {
-            lay_behind(self.out, self.start - self.len, bytes);
+            write_from(self.out, self.start - self.len, bytes);
         }
         self.len += bytes.len();
         Ok(())
@@ -66,13 +66,13 @@ impl<'b> SliceSink<'b> {
 }
 
 /// Writes the bytes after the first `before` ones to the start of the slice, as far as it reaches.
-fn lay_behind(out: &mut [u8], before: usize, bytes: &[u8]) {
-    lay(out, 0, &bytes[before.min(bytes.len())..]);
+fn write_from(out: &mut [u8], before: usize, bytes: &[u8]) {
+    write_at(out, 0, &bytes[before.min(bytes.len())..]);
 }
 
 /// Writes bytes to the slice from a place, as far as it reaches.
 #[inline(always)]
-fn lay(out: &mut [u8], place: usize, bytes: &[u8]) {
+fn write_at(out: &mut [u8], place: usize, bytes: &[u8]) {
     if place < out.len() {
         let kept = bytes.len().min(out.len() - place);
         out[place..place + kept].copy_from_slice(&bytes[..kept]);

@@ -15,13 +15,13 @@ fn a_sink_takes_what_fits() {
 }
 
 #[test]
-fn the_limit_hands_on_whole_pieces() {
+fn the_limit_passes_whole_pieces() {
     let mut sink = ArraySink::<64>::new();
     let mut out = SizeLimitedFmtAdapter::new(&mut sink, 5);
     assert!(put_each(&["a", "", "b"], &mut out).is_ok());
     assert!(put_char('ü', &mut out).is_ok());
-    assert!(!out.is_over());
+    assert!(!out.is_limit_reached());
     assert!(put_char('ö', &mut out).is_err());
-    assert!(out.is_over());
+    assert!(out.is_limit_reached());
     assert_eq!(sink.as_str(), "abü");
 }

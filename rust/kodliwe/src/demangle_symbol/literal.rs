@@ -149,7 +149,7 @@ pub fn character_of(number: Option<u128>) -> Option<char> {
 
 /// Returns the value of a bool constant, given the number of its hexadecimal string. Only 0 and 1
 /// have a value.
-pub fn truth_of(number: Option<u128>) -> Option<bool> {
+pub fn bool_of(number: Option<u128>) -> Option<bool> {
     match number {
         Some(0) => Some(false),
         Some(1) => Some(true),

@@ -3,14 +3,14 @@
 
 use crate::demangle_sink::{SizeLimitedFmtAdapter, TextSink};
 use crate::demangle_symbol::cursor::{Looks, ParseError, Symbol};
-use crate::demangle_v0::accept::{begins_path, print_to_suffix, suffix_at};
+use crate::demangle_v0::validation::{begins_path, print_to_suffix, suffix_at};
 
-mod accept;
-mod points;
-mod printing;
+mod parser;
+mod printer;
 #[cfg(test)]
 #[cfg(feature = "std")]
 mod tests;
+mod validation;
 mod value;
 
 pub use value::Demangle;

@@ -3,13 +3,13 @@
 
 use crate::demangle_sink::{ArraySink, SinkRefused, SizeLimitedFmtAdapter, TextSink};
 use crate::demangle_symbol::cursor::{Looks, Symbol};
-use crate::demangle_v0::points::frames::FULL_STACK;
-use crate::demangle_v0::points::parser::Parser;
-use crate::demangle_v0::points::skip::is_skipped;
-use crate::demangle_words::output::Output;
-use crate::demangle_words::source::Source;
-use crate::demangle_words::stretch::Stretch;
-use crate::demangle_words::texts::text;
+use crate::demangle_v0::parser::frames::FULL_STACK;
+use crate::demangle_v0::parser::machine::Parser;
+use crate::demangle_v0::parser::skip::is_skipped;
+use crate::demangle_v0_tokens::fixed_texts::text;
+use crate::demangle_v0_tokens::output::Output;
+use crate::demangle_v0_tokens::source::Source;
+use crate::demangle_v0_tokens::token::Token;
 use crate::support::format;
 use crate::support::rt::HostRuntime;
 use crate::support::string::String;
@@ -49,15 +49,15 @@ impl TextSink for CountingSink {
 /// An output that prints into a counting sink, and counts the tokens that are not empty.
 struct CountingVoice<'s> {
     out: SizeLimitedFmtAdapter<'s, CountingSink>,
-    stretches: usize,
-    last: Stretch,
+    costs_of: usize,
+    last: Token,
 }
 
 impl<'s> CountingVoice<'s> {
     /// Counts a token.
-    fn count(&mut self, stretch: &Stretch) {
-        if !matches!(stretch, Stretch::Nothing) {
-            self.stretches = self.stretches.saturating_add(1);
+    fn count(&mut self, stretch: &Token) {
+        if !matches!(stretch, Token::Nothing) {
+            self.costs_of = self.costs_of.saturating_add(1);
             self.last = *stretch;
         }
     }
@@ -71,50 +71,50 @@ impl<'s> Output for CountingVoice<'s> {
     fn emit(
         &mut self,
         source: &Source<'_>,
-        stretch: &Stretch,
+        stretch: &Token,
         looks: &mut Looks,
     ) -> Result<(), SinkRefused> {
         self.count(stretch);
         self.out.emit(source, stretch, looks)
     }
 
-    fn emit_fault(
+    fn emit_error(
         &mut self,
         source: &Source<'_>,
-        stretch: &Stretch,
+        stretch: &Token,
         looks: &mut Looks,
     ) -> Result<(), SinkRefused> {
         self.count(stretch);
-        self.out.emit_fault(source, stretch, looks)
+        self.out.emit_error(source, stretch, looks)
     }
 }
 
 /// Returns whether one step may have added this text, in that many pieces that are not empty.
 ///
-/// The step printed `stretches` tokens, the last of which is `last`.
-fn is_of_one_step(stretches: usize, last: Stretch, added: &str, pieces: usize) -> bool {
-    if stretches > 1 {
+/// The step printed `costs_of` tokens, the last of which is `last`.
+fn is_of_one_step(costs_of: usize, last: Token, added: &str, pieces: usize) -> bool {
+    if costs_of > 1 {
         return false;
     }
     match last {
-        Stretch::Nothing => added.is_empty() && pieces == 0,
-        Stretch::Fixed(mark) => added == text(mark) && pieces <= 1,
+        Token::Nothing => added.is_empty() && pieces == 0,
+        Token::Fixed(pending_text) => added == text(pending_text) && pieces <= 1,
         _ => true,
     }
 }
 
 /// A symbol without its prefix, and the flags of its form.
 #[derive(Clone, Copy)]
-struct Printed<'a> {
+struct PrintedPrefix<'a> {
     inner: &'a str,
     include_hash: bool,
     fold_arguments: bool,
 }
 
-impl<'a> Printed<'a> {
+impl<'a> PrintedPrefix<'a> {
     /// Returns a symbol that is printed with its arguments.
-    fn new(inner: &'a str, include_hash: bool) -> Printed<'a> {
-        Printed {
+    fn new(inner: &'a str, include_hash: bool) -> PrintedPrefix<'a> {
+        PrintedPrefix {
             inner,
             include_hash,
             fold_arguments: false,
@@ -123,7 +123,7 @@ impl<'a> Printed<'a> {
 }
 
 /// Returns whether each step of a parse prints at most one token, and all steps print this text.
-fn steps_print(printed: Printed<'_>, wanted: &str) -> bool {
+fn steps_print(printed: PrintedPrefix<'_>, wanted: &str) -> bool {
     let symbol = Symbol::new(printed.inner);
     let mut looks = Looks::new();
     if !symbol.is_ascii(&mut looks) {
@@ -137,7 +137,7 @@ fn steps_print(printed: Printed<'_>, wanted: &str) -> bool {
     let mut parser: Parser<FULL_STACK> = Parser::at_path(source, 0, &mut looks);
     let mut sink = CountingSink::new();
     for _ in 0..200_000 {
-        match goes_on(&mut parser, &mut sink) {
+        match continues_on(&mut parser, &mut sink) {
             Some(false) => {}
             Some(true) => return sink.text.as_str() == wanted,
             None => return false,
@@ -148,14 +148,14 @@ fn steps_print(printed: Printed<'_>, wanted: &str) -> bool {
 
 /// Does one step, or skips an impl path. Returns whether nothing was left to print, or `None` if the
 /// step printed more than one token or failed.
-fn goes_on(parser: &mut Parser<'_, FULL_STACK>, sink: &mut CountingSink) -> Option<bool> {
+fn continues_on(parser: &mut Parser<'_, FULL_STACK>, sink: &mut CountingSink) -> Option<bool> {
     if parser.stack.len() >= FULL_STACK || sink.is_failed() {
         return None;
     }
-    let Some(at) = parser.resume(0, parser.point) else {
+    let Some(at) = parser.resume(0, parser.continuation) else {
         return Some(true);
     };
-    parser.point = at;
+    parser.continuation = at;
     if is_skipped(at, parser.source.fold_arguments) {
         return match parser.skip_impl_path() {
             None => Some(false),
@@ -165,16 +165,16 @@ fn goes_on(parser: &mut Parser<'_, FULL_STACK>, sink: &mut CountingSink) -> Opti
     let (from, pieces) = (sink.text.as_str().len(), sink.pieces);
     let mut output = CountingVoice {
         out: SizeLimitedFmtAdapter::new(sink, 1_000_000),
-        stretches: 0,
-        last: Stretch::Nothing,
+        costs_of: 0,
+        last: Token::Nothing,
     };
     let Ok(next) = parser.step(at, &mut output) else {
         return None;
     };
-    parser.point = next;
-    let (stretches, last) = (output.stretches, output.last);
+    parser.continuation = next;
+    let (costs_of, last) = (output.costs_of, output.last);
     let added = sink.text.as_str().get(from..)?;
-    if !is_of_one_step(stretches, last, added, sink.pieces.saturating_sub(pieces)) {
+    if !is_of_one_step(costs_of, last, added, sink.pieces.saturating_sub(pieces)) {
         return None;
     }
     Some(false)
@@ -184,7 +184,7 @@ fn goes_on(parser: &mut Parser<'_, FULL_STACK>, sink: &mut CountingSink) -> Opti
 fn all_step(rows: &[(&str, &str, &str)], fold_arguments: bool) -> bool {
     for &(inner, plain, alt) in rows {
         for (include_hash, wanted) in [(true, plain), (false, alt)] {
-            let printed = Printed {
+            let printed = PrintedPrefix {
                 inner,
                 include_hash,
                 fold_arguments,
@@ -217,18 +217,24 @@ fn one_piece_a_step() -> Result<(), Fail> {
     }
     let wanted = format!(in alloc; "<{tuples}>")?;
     let inner = "MC0TTTTTTpB8_EB7_EB6_EB5_EB4_EB3_E";
-    assert!(steps_print(Printed::new(inner, false), wanted.as_str()));
-    assert!(steps_print(Printed::new(inner, true), wanted.as_str()));
+    assert!(steps_print(
+        PrintedPrefix::new(inner, false),
+        wanted.as_str()
+    ));
+    assert!(steps_print(
+        PrintedPrefix::new(inner, true),
+        wanted.as_str()
+    ));
     let name = String::from_utf8_lossy(alloc, vec![in alloc; b'R'; 100_000]?.as_slice())?;
     let inner = format!(in alloc; "IC100000{name}B7_E")?;
     let marks = String::from_utf8_lossy(alloc, vec![in alloc; b'&'; 497]?.as_slice())?;
     let wanted = format!(in alloc; "{name}::<{marks}{{recursion limit reached}}>")?;
     assert!(steps_print(
-        Printed::new(inner.as_str(), false),
+        PrintedPrefix::new(inner.as_str(), false),
         wanted.as_str()
     ));
     assert!(steps_print(
-        Printed::new(inner.as_str(), true),
+        PrintedPrefix::new(inner.as_str(), true),
         wanted.as_str()
     ));
     Ok(())

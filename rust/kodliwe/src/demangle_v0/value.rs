@@ -3,9 +3,9 @@
 
 use crate::demangle_sink::{SinkRefused, SizeLimitedFmtAdapter, TextSink};
 use crate::demangle_symbol::cursor::{Looks, Symbol};
-use crate::demangle_v0::points::frames::SHORT_STACK;
-use crate::demangle_v0::points::parser::Parser;
-use crate::demangle_words::source::Source;
+use crate::demangle_v0::parser::frames::SHORT_STACK;
+use crate::demangle_v0::parser::machine::Parser;
+use crate::demangle_v0_tokens::source::Source;
 
 /// A v0 symbol that was read: the bytes after its prefix, with the suffix.
 pub struct Demangle<'s> {

@@ -5,19 +5,19 @@ use crate::support::memchr::memchr;
 use core::str;
 
 /// Returns whether the text starts with a run's prefix.
-pub(crate) fn begins_run(text: &[u8]) -> bool {
+pub(crate) fn starts_run(text: &[u8]) -> bool {
     text.starts_with(b"_ZN") || text.starts_with(b"_R")
 }
 
 /// Returns whether these two bytes may start a run.
 #[inline(always)]
-fn is_mark(first: u8, second: u8) -> bool {
+fn may_start_run(first: u8, second: u8) -> bool {
     (first == b'_') & ((second == b'R') | (second == b'Z'))
 }
 
 /// Returns whether a run may start in the group of bytes at `from`.
 #[inline(always)]
-fn has_mark<const N: usize>(text: &[u8], from: usize) -> bool {
+fn group_may_start_run<const N: usize>(text: &[u8], from: usize) -> bool {
     // Arrays need no bounds check in the loop, so the compiler vectorizes it.
     let Some(firsts) = text[from..].first_chunk::<N>() else {
         return true;
@@ -27,16 +27,16 @@ fn has_mark<const N: usize>(text: &[u8], from: usize) -> bool {
     };
     let mut any = false;
     for k in 0..N {
-        any |= is_mark(firsts[k], seconds[k]);
+        any |= may_start_run(firsts[k], seconds[k]);
     }
     any
 }
 
 /// Returns the end of the complete groups after `from` in which no run starts.
 #[inline(always)]
-fn unmarked_end<const N: usize>(text: &[u8], from: usize) -> usize {
+fn skip_groups<const N: usize>(text: &[u8], from: usize) -> usize {
     let mut at = from;
-    while text.len() - at > N && !has_mark::<N>(text, at) {
+    while text.len() - at > N && !group_may_start_run::<N>(text, at) {
         at += N;
     }
     at
@@ -49,32 +49,32 @@ pub fn run_start(text: &[u8]) -> Option<usize> {
     // A run starts with `_`, and a search for a single byte is fast.
     while let Some(ahead) = memchr(b'_', &text[from..]) {
         let at = from + ahead;
-        if begins_run(&text[at..]) {
+        if starts_run(&text[at..]) {
             return Some(at);
         }
         // A text with many `_` is skipped in complete groups with vector instructions, and not one
         // `_` at a time.
-        from = unmarked_end::<32>(text, at + 1);
+        from = skip_groups::<32>(text, at + 1);
     }
     None
 }
 
 /// Returns whether this is a run byte.
 #[inline(always)]
-fn is_run(byte: u8) -> bool {
+fn is_run_byte(byte: u8) -> bool {
     (byte == b'$') | (byte == b'.') | (byte == b'_') | byte.is_ascii_alphanumeric()
 }
 
 /// Returns whether the group at `from` has only run bytes.
 #[inline(always)]
-fn is_run_group<const N: usize>(text: &[u8], from: usize) -> bool {
+fn is_group_of_run<const N: usize>(text: &[u8], from: usize) -> bool {
     // An array needs no bounds check in the loop, so the compiler vectorizes it.
     let Some(group) = text[from..].first_chunk::<N>() else {
         return false;
     };
     let mut all = true;
     for k in 0..N {
-        all &= is_run(group[k]);
+        all &= is_run_byte(group[k]);
     }
     all
 }
@@ -83,7 +83,7 @@ fn is_run_group<const N: usize>(text: &[u8], from: usize) -> bool {
 #[inline(always)]
 fn groups_end<const N: usize>(text: &[u8], from: usize) -> usize {
     let mut at = from;
-    while text.len() - at >= N && is_run_group::<N>(text, at) {
+    while text.len() - at >= N && is_group_of_run::<N>(text, at) {
         at += N;
     }
     at
@@ -95,7 +95,7 @@ pub fn run_len(text: &[u8]) -> usize {
     // The compiler vectorizes groups of these sizes, so at most seven bytes of a run remain.
     let mut at = groups_end::<16>(text, 0);
     at = groups_end::<8>(text, at);
-    while at < text.len() && is_run(text[at]) {
+    while at < text.len() && is_run_byte(text[at]) {
         at += 1;
     }
     at

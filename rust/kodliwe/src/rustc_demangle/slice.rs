@@ -12,10 +12,10 @@ fn put_slice<'b>(text: &[u8], out: &mut SliceSink<'b>, format: Format) -> Result
     let mut rest = text;
     while let Some(start) = run_start(rest) {
         let (kept, found) = rest.split_at(start);
-        let (run, behind) = found.split_at(run_len(found));
+        let (run, following) = found.split_at(run_len(found));
         out.put_bytes(kept)?;
         put_run(run_text(run), out, format)?;
-        rest = behind;
+        rest = following;
     }
     out.put_bytes(rest)
 }

@@ -7,19 +7,19 @@ use core::str;
 use std::io;
 use std::io::{BufRead, Write};
 
+mod buffer_sink;
 mod bytes;
-mod carrying;
 mod fault;
-mod held_sink;
-mod line;
+mod line_reader;
+mod line_writer;
 mod memo;
-mod reading;
+mod pending_run;
 
 pub use bytes::{BytesFilter, demangle_bytes, demangle_bytes_formatted, demangle_bytes_limited};
 pub use fault::StreamFault;
-use line::demangle_line;
+use line_reader::read_line;
+use line_writer::demangle_line;
 pub use memo::SymbolMemo;
-use reading::read_line;
 
 /// Reads a line completely and then writes it demangled. Returns `false` at the end of the input.
 /// Fails if the reader or the writer fails, if the line is not UTF-8, or if memory can't be

@@ -16,7 +16,7 @@ pub(crate) fn put_run<S: TextSink>(
 ) -> Result<(), SinkRefused> {
     let symbol = Demangle::read_run(run);
     if symbol.has_style() {
-        symbol.hand_over(out, format, &mut Looks::new())
+        symbol.write_pieces(out, format, &mut Looks::new())
     } else {
         put_piece(run, out)
     }
@@ -27,10 +27,10 @@ fn put_text<S: TextSink>(text: &str, out: &mut S, format: Format) -> Result<(), 
     let mut rest = text;
     while let Some(start) = run_start(rest.as_bytes()) {
         let (kept, found) = rest.split_at(start);
-        let (run, behind) = found.split_at(run_len(found.as_bytes()));
+        let (run, following) = found.split_at(run_len(found.as_bytes()));
         put_piece(kept, out)?;
         put_run(run, out, format)?;
-        rest = behind;
+        rest = following;
     }
     put_piece(rest, out)
 }

@@ -52,7 +52,7 @@ fn write_cut<S: TextSink>(
     let result = style.write_to(&mut limited, format, looks);
     // Printing stops in the same way at the limit and if the sink fails. Only a sink that has not
     // failed gets the marker.
-    if limited.is_over() {
+    if limited.is_limit_reached() {
         put_piece("{size limit reached}", out)
     } else {
         result
@@ -77,7 +77,7 @@ impl<'a> Demangle<'a> {
 
     /// Writes the pieces of the symbol into a sink, cut at the limit before the suffix, and counts
     /// its looks. Fails if the sink fails.
-    pub(crate) fn hand_over<S: TextSink>(
+    pub(crate) fn write_pieces<S: TextSink>(
         &self,
         out: &mut S,
         format: Format,
@@ -97,7 +97,7 @@ impl<'a> Demangle<'a> {
         format: Format,
         looks: &mut Looks,
     ) -> Result<(), SinkRefused> {
-        self.hand_over(out, format, looks)
+        self.write_pieces(out, format, looks)
     }
 
     /// Prints into a sink in a format, as `write_formatted_counted` does.
@@ -316,7 +316,7 @@ pub(crate) fn print_v0_run<S: TextSink>(
 }
 
 /// Prints a text into a sink; its path has `path_len` bytes. Fails if the sink fails.
-fn hand_over_with<S: TextSink>(
+fn write_pieces_with_path_len<S: TextSink>(
     text: &str,
     path_len: usize,
     out: &mut S,
@@ -331,7 +331,7 @@ fn hand_over_with<S: TextSink>(
     let mut looks = Looks::new();
     let Some(symbol) = crate::demangle_v0::ascii_symbol(text, &mut looks) else {
         let read = Demangle::read(text, false, &mut looks);
-        return read.hand_over(out, format, &mut looks);
+        return read.write_pieces(out, format, &mut looks);
     };
     // The caller may pass any number.
     let suffix = &text[path_len.min(text.len())..];
@@ -358,5 +358,5 @@ pub fn write_with_path_len<S: TextSink>(
     include_hash: bool,
     limit: usize,
 ) -> Result<(), SinkRefused> {
-    hand_over_with(without_thin_lto(text), path_len, out, include_hash, limit)
+    write_pieces_with_path_len(without_thin_lto(text), path_len, out, include_hash, limit)
 }

@@ -24,7 +24,7 @@ loop-at-preserved g c =
     let turn = pieces_turn s at next to (text_of_unit (slice_range s at next) c.in-Some.unit) (omega arith) (omega arith) c.in-Some.ensures.within.0 c.in-Some.ensures.within.1 (sym c.in-Some.ensures.unit) in
     record {
       inside = omega (arith, c.in-Some.ensures.within);
-      behind = omega (arith, c.in-Some.ensures.within);
+      following = omega (arith, c.in-Some.ensures.within);
       printed = printed_then g.S.TextSink _ _ _ _ _ (text_of_unit (slice_range s at next) c.in-Some.unit ∷ []) _ c.loop-at.invariant.printed turn c.in_ok-put_unit.ensures;
       grows = omega arith;
       looked = omega (arith, c.in-Some.ensures.within, c.in-Some.ensures.some_looks);

@@ -1,5 +1,5 @@
 use Rattle.std.proofs.Common.{refl}
-use Rattle.demangle_v0.proofs.PointWholes.{valid_first}
+use Rattle.demangle_v0.proofs.WholePaths.{valid_first}
 use Rattle.demangle_v0.proofs.tests.steps_print.Goals as goal
 
 pub loop-init : goal.loop-init

@@ -1,8 +1,8 @@
 use Rattle.std.proofs.Common.{◌≡◌, ℕ, List, ◌+◌, ◌-◌, ◌<◌, false, length, drop, take, sym, subst, ap, ◌∙◌, arith, take_all}
 use Rattle.std.proofs.lemmas.List.{length-drop}
 use Rattle.memchr.specs.Find.{Nowhere, Passes, is_byte}
-use Rattle.rustc_demangle.specs.Filtered.{begins_run}
-use Rattle.rustc_demangle.proofs.Searches.{no_run_up_to, no_run_behind, no_run_on}
+use Rattle.rustc_demangle.specs.Filtered.{starts_run}
+use Rattle.rustc_demangle.proofs.Searches.{no_run_up_to, no_run_after, no_run_on}
 use Rattle.rustc_demangle.proofs.runs.run_start.Goals as goal
 
 -- what a slice from a place on holds
@@ -17,13 +17,13 @@ found_at text from ahead high before =
     let rest = rest_is text from in
     (omega (arith, subst (λ s. ahead < length s) rest high, length-drop from text), subst (λ s. Nowhere (Passes (is_byte 95) s) 0 ahead) rest before)
 
-pub returns-then-begins_run-clause-some : goal.returns-then-begins_run-clause-some
-returns-then-begins_run-clause-some c =
+pub returns-then-starts_run-clause-some : goal.returns-then-starts_run-clause-some
+returns-then-starts_run-clause-some c =
     let l = c.loop-ahead in
     let text = c.args.text.now in
     let ahead = c.in-Some.ahead in
     let found = found_at text l.from ahead c.in-Some.ensures.0.high c.in-Some.ensures.0.before in
-    (found.0, sym (ap begins_run (rest_is text (l.from + ahead))) ∙ sym c.begins_run.ensures ∙ c.if-begins_run.true, no_run_up_to text l.from ahead (omega (arith, found.0)) l.invariant.1 found.1)
+    (found.0, sym (ap starts_run (rest_is text (l.from + ahead))) ∙ sym c.starts_run.ensures ∙ c.if-starts_run.true, no_run_up_to text l.from ahead (omega (arith, found.0)) l.invariant.1 found.1)
 
 pub loop-ahead-preserved : goal.loop-ahead-preserved
 loop-ahead-preserved c =
@@ -31,10 +31,10 @@ loop-ahead-preserved c =
     let text = c.args.text.now in
     let ahead = c.in-Some.ahead in
     let found = found_at text l.from ahead c.in-Some.ensures.0.high c.in-Some.ensures.0.before in
-    let here : begins_run (drop (l.from + ahead) text) ≡ false = sym (ap begins_run (rest_is text (l.from + ahead))) ∙ sym c.begins_run.ensures ∙ c.if-begins_run.false in (
-      c.unmarked_end-from.ensures.within,
-      λ k lt. no_run_on text (l.from + ahead) c.unmarked_end-from.result k
-          (λ j low. no_run_behind text (l.from + ahead) j (no_run_up_to text l.from ahead (omega (arith, found.0)) l.invariant.1 found.1) here low) c.unmarked_end-from.ensures.none lt,
+    let here : starts_run (drop (l.from + ahead) text) ≡ false = sym (ap starts_run (rest_is text (l.from + ahead))) ∙ sym c.starts_run.ensures ∙ c.if-starts_run.false in (
+      c.skip_groups-from.ensures.within,
+      λ k lt. no_run_on text (l.from + ahead) c.skip_groups-from.result k
+          (λ j low. no_run_after text (l.from + ahead) j (no_run_up_to text l.from ahead (omega (arith, found.0)) l.invariant.1 found.1) here low) c.skip_groups-from.ensures.none lt,
     )
 
 pub returns-clause-none : goal.returns-clause-none

@@ -2,7 +2,7 @@ use Rattle.std.proofs.Common.{inl, inr, arith}
 use Rattle.std.proofs.lemmas.Bool.{cases_lt, false≢true}
 use Rattle.std.below.core.specs.declared.int.usize.TheConstants.{MAX}
 use Rattle.demangle_sink.specs.Cut.{size}
-use Rattle.rustc_demangle.specs.Pieces.{filtered_pieces_in}
+use Rattle.rustc_demangle.specs.TextPieces.{filtered_pieces_in}
 use Rattle.rustc_demangle.proofs.SymbolLaws.{length-concat}
 use Rattle.rustc_demangle.proofs.slice.write_slice.Goals as goal
 

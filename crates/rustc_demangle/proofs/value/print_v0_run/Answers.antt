@@ -2,12 +2,12 @@ use Rattle.std.specs.Prelude.{IsAscii}
 use Rattle.std.specs.List.{concat}
 use Rattle.std.proofs.Common.{◌≡◌, ℕ, Bool, true, false, List, [], ◌∷◌, ◌++◌, Result, Ok, Err, is_ok, OnOk, Some, refl, sym, subst, ap, ◌∙◌, inr, rules}
 use Rattle.std.proofs.lemmas.Bool.{false≢true}
-use Rattle.demangle_grammar.specs.Reading.{form, path_texts}
-use Rattle.demangle_grammar.specs.V0.{v0_of}
-use Rattle.demangle_grammar.proofs.V0Reading.{read_is_v0}
+use Rattle.demangle_v0_grammar.specs.Reading.{form, path_texts}
+use Rattle.demangle_v0_grammar.specs.V0.{v0_of}
+use Rattle.demangle_v0_grammar.proofs.V0Reading.{read_is_v0}
 use Rattle.demangle_sink.specs.Cut.{cut}
 use Rattle.demangle_sink.specs.declared.SinkRefused.{SinkRefused}
-use Rattle.demangle_sink.proofs.HandsLemmas.{hands_then, hands_text}
+use Rattle.demangle_sink.proofs.PutsPiecesLemmas.{puts_then, puts_text}
 use Rattle.demangle_sink.proofs.PrintsLemmas.{prints_cut_all}
 use Rattle.rustc_demangle.specs.Filtered.{replacement_within}
 use Rattle.rustc_demangle.specs.Stripped.{is_allowed, stripped}
@@ -44,10 +44,10 @@ returns g c = elim c.if-is_allowed.branch [
       let put = w.put_piece.result in
       let prints = c.in-Some.ensures.prints in
       let both =
-      hands_then g.S.TextSink c.args.out.now _ w.put_piece.new.out _ (suffix ∷ []) (Ok tt) put
+      puts_then g.S.TextSink c.args.out.now _ w.put_piece.new.out _ (suffix ∷ []) (Ok tt) put
       (prints_cut_all g.S.TextSink c.new-limited.result printed _ _ _ _ (Ok tt) c.new-limited.ensures.text c.new-limited.ensures.left prints (prints.open_ refl) (search rules))
       refl w.put_piece.ensures in
-      let took = hands_text g.S.TextSink c.args.out.now w.put_piece.new.out _ put laws.took_nothing laws.took_joined both in
+      let took = puts_text g.S.TextSink c.args.out.now w.put_piece.new.out _ put laws.took_nothing laws.took_joined both in
       let text = v0_replaced c.args.run.now c.without_thin_lto-text.result.now c.in-Some.field-0-0 suffix c.args.include_hash c.args.limit c.without_thin_lto-text.ensures c.in-Some.ensures.some (sym w.if-is_allowed.ensures.allowed) in
       rw w.out-is (subst (λ t. g.S.TextSink.took c.args.out.now t w.put_piece.new.out) text (when_ok put (sym w.is_ok.ensures.value ∙ (sym w.result-is ∙ is)) took))
   | else-is_allowed w ↦ λ is. absurd (false≢true (sym w.if-is_allowed.false ∙ (sym w.result-is ∙ is)))

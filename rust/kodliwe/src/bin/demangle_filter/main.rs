@@ -10,15 +10,15 @@ use kodliwe::support::string::String;
 use kodliwe::support::vec::CollectIn;
 use kodliwe::support::vec::Vec;
 mod filter;
-mod pausing;
+mod flushing;
 #[cfg(test)]
 mod tests;
 
 use filter::{OUT_OF_MEMORY, USAGE, filter_run, report};
+use flushing::FlushingOutput;
 use kodliwe::support::env;
 use kodliwe::support::io::{BufReader, BufWriter};
 use kodliwe::support::rt::Env;
-use pausing::PausingOutput;
 use std::io;
 use std::io::ErrorKind;
 use std::process::ExitCode;
@@ -45,7 +45,7 @@ fn main() -> ExitCode {
     let Ok(buffer) = BufWriter::new(alloc, rt.stdout().lock()) else {
         return ExitCode::from(report(&mut errors, OUT_OF_MEMORY, 1));
     };
-    let output = PausingOutput::new(buffer);
+    let output = FlushingOutput::new(buffer);
     let Ok(mut input) = BufReader::new(alloc, output.reader(rt.stdin().lock())) else {
         return ExitCode::from(report(&mut errors, OUT_OF_MEMORY, 1));
     };

@@ -2,9 +2,9 @@
 //! Tests of the program's own part: its arguments, statuses and texts, and the times of its
 //! flushes. The library's tests cover the demangled output.
 use crate::filter::filter_run;
-use crate::pausing::PausingOutput;
+use crate::flushing::FlushingOutput;
 use core::cell::Cell;
-use kodliwe::held_bytes::CAPACITY;
+use kodliwe::piece_buffer::CAPACITY;
 use kodliwe::support::alloc::{AllocError, Global};
 use kodliwe::support::io::BufReader;
 use kodliwe::support::process::Abort;
@@ -13,7 +13,7 @@ use kodliwe::support::string::String;
 use kodliwe::support::test::Fail;
 use kodliwe::support::vec::Vec;
 use kodliwe::support::vec_in as vec;
-use kodliwe::test_doubles::streams::{NotingWriter, PartsReader, RefusingWriter};
+use kodliwe::test_doubles::streams::{ChunkReader, FailingWriter, RecordingWriter};
 use std::io::{BufRead, ErrorKind, Read, Write};
 use streams::{CountingReader, CountingWriter, WatchedWriter, WatchingReader};
 
@@ -75,7 +75,7 @@ fn symbols_are_demangled_with_their_hash_or_without() -> Result<(), AllocError> 
 }
 
 #[test]
-fn other_words_read_nothing() -> Result<(), Fail> {
+fn other_arguments_read_nothing() -> Result<(), Fail> {
     let rt = HostRuntime;
     let alloc = rt.alloc();
     let cases: [&[&str]; 8] = [
@@ -110,7 +110,7 @@ fn assert_failed(rt: &impl Abort, ended: &Ended, line: &[u8]) {
 }
 
 #[test]
-fn a_reader_that_fails_is_told() -> Result<(), Fail> {
+fn a_reader_that_fails_is_reported() -> Result<(), Fail> {
     let rt = HostRuntime;
     let alloc = rt.alloc();
     let faults: [(ErrorKind, &[u8]); 2] = [
@@ -119,7 +119,7 @@ fn a_reader_that_fails_is_told() -> Result<(), Fail> {
     ];
     for (fault, line) in faults {
         let parts: [&[u8]; 1] = [b"x _ZN3fooE\n"];
-        let mut input = PartsReader::new(&parts, 1, fault);
+        let mut input = ChunkReader::new(&parts, 1, fault);
         let mut output = Vec::new(alloc);
         let ended = run(alloc, &[], &mut input, &mut output)?;
         assert_failed(&rt, &ended, line);
@@ -129,7 +129,7 @@ fn a_reader_that_fails_is_told() -> Result<(), Fail> {
 }
 
 #[test]
-fn a_line_that_is_not_utf8_is_told() -> Result<(), Fail> {
+fn a_line_that_is_not_utf8_is_reported() -> Result<(), Fail> {
     let rt = HostRuntime;
     let alloc = rt.alloc();
     let cases: [(&[u8], &[u8]); 3] = [
@@ -150,14 +150,14 @@ fn a_line_that_is_not_utf8_is_told() -> Result<(), Fail> {
 const WRITE_FAILED: &[u8] = b"demangle_filter: write failed\n";
 
 #[test]
-fn a_writer_that_fails_is_told() -> Result<(), Fail> {
+fn a_writer_that_fails_is_reported() -> Result<(), Fail> {
     let rt = HostRuntime;
     let alloc = rt.alloc();
     let mut input: &[u8] = b"x _ZN3fooE\n";
-    let mut output = RefusingWriter::new(alloc, b"old", 2, true)?;
+    let mut output = FailingWriter::new(alloc, b"old", 2, true)?;
     let ended = run(alloc, &[], &mut input, &mut output)?;
     assert_failed(&rt, &ended, WRITE_FAILED);
-    assert_eq!(output.held(), b"oldx foo".as_slice());
+    assert_eq!(output.written(), b"oldx foo".as_slice());
     Ok(())
 }
 
@@ -172,31 +172,31 @@ fn a_flush_fails() -> Result<(), Fail> {
     ];
     for (text, wanted) in texts {
         let mut input = text;
-        let mut output = RefusingWriter::new(alloc, b"old", 100, false)?;
+        let mut output = FailingWriter::new(alloc, b"old", 100, false)?;
         let ended = run(alloc, &[], &mut input, &mut output)?;
         assert_failed(&rt, &ended, WRITE_FAILED);
-        assert_eq!(output.held(), wanted, "of {text:?}");
+        assert_eq!(output.written(), wanted, "of {text:?}");
     }
     Ok(())
 }
 
 /// Runs the program with an output that is flushed before more is read.
 fn run_pausing<R: Read, W: Write>(alloc: Global, input: R, output: &mut W) -> Result<Ended, Fail> {
-    let output = PausingOutput::new(output);
+    let output = FlushingOutput::new(output);
     let mut reader = BufReader::new(alloc, output.reader(input))?;
     Ok(run(alloc, &[], &mut reader, &mut output.writer())?)
 }
 
 #[test]
-fn an_output_that_breaks_in_a_pause_ends_the_run() -> Result<(), Fail> {
+fn an_output_that_fails_in_a_flush_ends_filtering() -> Result<(), Fail> {
     let rt = HostRuntime;
     let alloc = rt.alloc();
     let parts: [&[u8]; 3] = [b"_ZN3fooE\n\xC3", b"\xA9\n", b"z\n"];
-    let input = PartsReader::new(&parts, 100, ErrorKind::Other);
-    let mut output = RefusingWriter::new(alloc, b"", 100, false)?;
+    let input = ChunkReader::new(&parts, 100, ErrorKind::Other);
+    let mut output = FailingWriter::new(alloc, b"", 100, false)?;
     let ended = run_pausing(alloc, input, &mut output)?;
     assert_failed(&rt, &ended, WRITE_FAILED);
-    assert_eq!(output.held(), b"foo\n".as_slice());
+    assert_eq!(output.written(), b"foo\n".as_slice());
     Ok(())
 }
 
@@ -210,7 +210,7 @@ fn finished_lines_are_flushed_before_more_is_read() -> Result<(), Fail> {
     let mut output = WatchedWriter::new(Vec::new(alloc), &is_unflushed);
     let ended = run_pausing(alloc, input, &mut output)?;
     assert_eq!(ended.status, 0);
-    assert_eq!(output.held(), b"foo\nx\na\nb\nbar".as_slice());
+    assert_eq!(output.written(), b"foo\nx\na\nb\nbar".as_slice());
     assert!(!is_unflushed.get());
     Ok(())
 }
@@ -235,14 +235,14 @@ fn lines_are_written_before_more_is_read() -> Result<(), Fail> {
 }
 
 #[test]
-fn a_fault_of_the_errors_is_ignored() -> Result<(), Fail> {
+fn an_error_of_standard_error_is_ignored() -> Result<(), Fail> {
     let rt = HostRuntime;
     let alloc = rt.alloc();
     let mut words = Vec::new(alloc);
     for wanted in [1, 2] {
         let mut input: &[u8] = b"_ZN3fooE\n\xFF";
         let mut output = Vec::new(alloc);
-        let mut errors = RefusingWriter::new(alloc, b"", 0, false)?;
+        let mut errors = FailingWriter::new(alloc, b"", 0, false)?;
         let status = filter_run(
             alloc,
             words.as_slice(),
@@ -251,7 +251,7 @@ fn a_fault_of_the_errors_is_ignored() -> Result<(), Fail> {
             &mut errors,
         );
         assert_eq!(status, wanted);
-        assert!(errors.held().is_empty());
+        assert!(errors.written().is_empty());
         words.push(String::from_str(alloc, "--hash")?)?;
     }
     Ok(())
@@ -259,18 +259,18 @@ fn a_fault_of_the_errors_is_ignored() -> Result<(), Fail> {
 
 /// Writes one part by `write`. Returns the number of its bytes that were taken.
 fn write_part<W: Write>(output: &mut W, part: &[u8]) -> Result<usize, ErrorKind> {
-    let output = PausingOutput::new(output);
+    let output = FlushingOutput::new(output);
     output.writer().write(part).map_err(|error| error.kind())
 }
 
 #[test]
 fn a_part_goes_to_the_output_at_once() -> Result<(), Fail> {
     let rt = HostRuntime;
-    let mut output = RefusingWriter::new(rt.alloc(), b"old", 1, true)?;
+    let mut output = FailingWriter::new(rt.alloc(), b"old", 1, true)?;
     assert_eq!(write_part(&mut output, b"foo"), Ok(3));
-    assert_eq!(output.held(), b"oldfoo".as_slice());
+    assert_eq!(output.written(), b"oldfoo".as_slice());
     assert_eq!(write_part(&mut output, b"bar"), Err(ErrorKind::BrokenPipe));
-    assert_eq!(output.held(), b"oldfoo".as_slice());
+    assert_eq!(output.written(), b"oldfoo".as_slice());
     Ok(())
 }
 
@@ -281,8 +281,8 @@ fn assert_handed_on(
     parts: &[&[u8]],
     wanted: &[&[u8]],
 ) -> Result<(), Fail> {
-    let mut noting = NotingWriter::new(alloc);
-    let output = PausingOutput::new(&mut noting);
+    let mut noting = RecordingWriter::new(alloc);
+    let output = FlushingOutput::new(&mut noting);
     let mut writer = output.writer();
     for part in parts {
         writer.write_all(part)?;
@@ -297,34 +297,34 @@ fn assert_handed_on(
 }
 
 #[test]
-fn pieces_are_handed_on_where_no_more_has_room() -> Result<(), Fail> {
+fn pieces_are_written_when_no_more_fit() -> Result<(), Fail> {
     let rt = HostRuntime;
     let alloc = rt.alloc();
     let full = vec![in alloc; b'f'; CAPACITY]?;
     let full = full.as_slice();
-    let (front, back) = full.split_at(2000);
+    let (prefix, back) = full.split_at(2000);
     let long = vec![in alloc; b'l'; CAPACITY + 1]?;
     let long = long.as_slice();
     assert_handed_on(&rt, alloc, &[], &[])?;
-    assert_handed_on(&rt, alloc, &[front, back], &[full])?;
-    assert_handed_on(&rt, alloc, &[front, back, b"x", b"y"], &[full, b"xy"])?;
-    assert_handed_on(&rt, alloc, &[front, full, b"x"], &[front, full, b"x"])?;
+    assert_handed_on(&rt, alloc, &[prefix, back], &[full])?;
+    assert_handed_on(&rt, alloc, &[prefix, back, b"x", b"y"], &[full, b"xy"])?;
+    assert_handed_on(&rt, alloc, &[prefix, full, b"x"], &[prefix, full, b"x"])?;
     assert_handed_on(&rt, alloc, &[b"a", long, b"b"], &[b"a", long, b"b"])
 }
 
 #[test]
-fn what_was_refused_is_told_by_the_flush() -> Result<(), Fail> {
+fn a_failed_write_is_reported_by_the_flush() -> Result<(), Fail> {
     let rt = HostRuntime;
     let alloc = rt.alloc();
     let full = vec![in alloc; b'f'; CAPACITY]?;
-    let mut refusing = RefusingWriter::new(alloc, b"old", 0, true)?;
-    let output = PausingOutput::new(&mut refusing);
+    let mut refusing = FailingWriter::new(alloc, b"old", 0, true)?;
+    let output = FlushingOutput::new(&mut refusing);
     let mut writer = output.writer();
     assert!(writer.write_all(b"x").is_ok());
     assert!(writer.write_all(full.as_slice()).is_err());
     let told = writer.flush().map_err(|error| error.kind());
     assert_eq!(told, Err(ErrorKind::BrokenPipe));
     drop(output);
-    assert_eq!(refusing.held(), b"old".as_slice());
+    assert_eq!(refusing.written(), b"old".as_slice());
     Ok(())
 }

@@ -1,7 +1,7 @@
 // Made from crates/kodliwe/src/noting.rt by packaging/crate/erase.py: edit that file instead.
 //! Notes inputs that are compressed or encoded.
 
-use crate::fault::shown_name;
+use crate::error::shown_name;
 use kodliwe::support::alloc::{AllocError, Global};
 use kodliwe::support::format;
 use kodliwe::support::string::String;

@@ -1,7 +1,7 @@
 // Made from crates/kodliwe/src/same_file.rt by packaging/crate/erase.py: edit that file instead.
 //! Finds an input that is the file to which standard output writes.
-use crate::streams::source_name;
-use crate::words::Source;
+use crate::arguments::InputSource;
+use crate::inputs::source_name;
 use kodliwe::support::fs::Files;
 use kodliwe::support::os::unix::fs::MetadataExt;
 
@@ -25,11 +25,11 @@ fn regular_file<F: Files>(files: &F, path: &str) -> Option<FileId> {
 }
 
 /// Returns whether a source is this file.
-fn is_same<F: Files>(files: &F, source: &Source<'_>, output: FileId) -> bool {
+fn is_same<F: Files>(files: &F, source: &InputSource<'_>, output: FileId) -> bool {
     let input = match source {
-        Source::Stdin => regular_file(files, "/dev/stdin"),
-        Source::File(path) => regular_file(files, path),
-        Source::Symbols(_) => None,
+        InputSource::Stdin => regular_file(files, "/dev/stdin"),
+        InputSource::File(path) => regular_file(files, path),
+        InputSource::Symbols(_) => None,
     };
     match input {
         Some(input) => input.device == output.device && input.inode == output.inode,
@@ -38,7 +38,10 @@ fn is_same<F: Files>(files: &F, source: &Source<'_>, output: FileId) -> bool {
 }
 
 /// Returns the name of the first source that is the regular file to which standard output writes.
-pub fn input_that_is_output<'a, F: Files>(files: &F, sources: &[Source<'a>]) -> Option<&'a str> {
+pub fn input_that_is_output<'a, F: Files>(
+    files: &F,
+    sources: &[InputSource<'a>],
+) -> Option<&'a str> {
     let output = regular_file(files, "/dev/stdout")?;
     for source in sources {
         if is_same(files, source, output) {

@@ -1,9 +1,9 @@
 // Made from crates/kodliwe/src/tests.rt by packaging/crate/erase.py: edit that file instead.
 //! Tests the program's work with readers and writers that fail, and the parsing of arguments. The
 //! filter itself is tested in the library; here its output is the expected value.
+use crate::arguments::{Command, Target, parse_arguments};
+use crate::filtering::{FilterOutcome, Input, Settings, filter_all};
 use crate::program::{Host, start};
-use crate::run::{Ended, Input, Settings, run};
-use crate::words::{Asked, Target, read_words};
 use core::cell::Cell;
 use kodliwe::rustc_demangle::{Format, demangle_stream_named};
 use kodliwe::support::alloc::{AllocError, Global};
@@ -50,7 +50,7 @@ fn run_one<R: Read, W: Write>(
     reader: R,
     output: &mut W,
     include_hash: bool,
-) -> Result<(Ended, Vec<u8>), AllocError> {
+) -> Result<(FilterOutcome, Vec<u8>), AllocError> {
     let mut inputs = Vec::new(alloc);
     inputs.push(Input {
         name: "log.txt",
@@ -65,7 +65,7 @@ fn run_one<R: Read, W: Write>(
             limit: 1_000_000,
         },
     };
-    let ended = run(settings, inputs, output, &mut errors);
+    let ended = filter_all(settings, inputs, output, &mut errors);
     Ok((ended, errors))
 }
 
@@ -81,14 +81,14 @@ fn assert_writes(
     let mut output = Vec::new(alloc);
     let reader = ChunkReader::new(text, most);
     let (ended, errors) = run_one(alloc, reader, &mut output, include_hash)?;
-    assert_eq!(ended, Ended::Complete, "of {text:?} by {most}");
+    assert_eq!(ended, FilterOutcome::Complete, "of {text:?} by {most}");
     assert_eq!(output.as_slice(), wanted, "of {text:?} by {most}");
     assert!(errors.is_empty(), "of {text:?} by {most}");
     Ok(())
 }
 
 #[test]
-fn a_log_of_any_bytes_is_filtered_by_fillings_of_any_size() -> Result<(), Fail> {
+fn a_log_of_any_bytes_is_filtered_in_chunks_of_any_size() -> Result<(), Fail> {
     let rt = HostRuntime;
     let alloc = rt.alloc();
     for most in 1..LOG.len() {
@@ -98,16 +98,16 @@ fn a_log_of_any_bytes_is_filtered_by_fillings_of_any_size() -> Result<(), Fail> 
 }
 
 #[test]
-fn each_beginning_is_filtered_as_by_lines() -> Result<(), Fail> {
+fn each_prefix_is_filtered_as_by_lines() -> Result<(), Fail> {
     let rt = HostRuntime;
     let alloc = rt.alloc();
     let text: &[u8] = b"x _ZN3foo17h05af221e174051e9E\n_RNvC5crate4main _RCs_3foo _ZN1a1bE__RC1a";
     for len in 0..=text.len() {
-        let front = &text[..len];
+        let prefix = &text[..len];
         for include_hash in [false, true] {
-            let wanted = by_lines(&rt, alloc, front, include_hash)?;
+            let wanted = by_lines(&rt, alloc, prefix, include_hash)?;
             for most in 1..4 {
-                assert_writes(&rt, alloc, front, most, wanted.as_slice(), include_hash)?;
+                assert_writes(&rt, alloc, prefix, most, wanted.as_slice(), include_hash)?;
             }
         }
     }
@@ -136,20 +136,20 @@ fn inputs_are_filtered_each_by_itself() -> Result<(), Fail> {
             limit: 1_000_000,
         },
     };
-    let ended = run(settings, inputs, &mut output, &mut errors);
-    assert_eq!(ended, Ended::Complete);
+    let ended = filter_all(settings, inputs, &mut output, &mut errors);
+    assert_eq!(ended, FilterOutcome::Complete);
     assert_eq!(output.as_slice(), b"x _ZN3fooE\nfoobar\n".as_slice());
     Ok(())
 }
 
 #[test]
-fn a_closed_pipe_ends_the_run_silently() -> Result<(), Fail> {
+fn a_closed_pipe_ends_filtering_without_a_message() -> Result<(), Fail> {
     let rt = HostRuntime;
     let alloc = rt.alloc();
     for calls in 0..8 {
         let mut output = CallsWriter::new(alloc, calls, ErrorKind::BrokenPipe, 100);
         let (ended, errors) = run_one(alloc, ChunkReader::new(LOG, 9), &mut output, false)?;
-        assert_eq!(ended, Ended::Closed, "at {calls}");
+        assert_eq!(ended, FilterOutcome::Closed, "at {calls}");
         assert_eq!(ended.status(), 0);
         assert!(errors.is_empty());
     }
@@ -157,7 +157,7 @@ fn a_closed_pipe_ends_the_run_silently() -> Result<(), Fail> {
 }
 
 #[test]
-fn what_is_finished_is_flushed_before_more_is_read() -> Result<(), Fail> {
+fn finished_output_is_flushed_before_more_is_read() -> Result<(), Fail> {
     let rt = HostRuntime;
     let alloc = rt.alloc();
     let is_unflushed = Cell::new(false);
@@ -165,17 +165,17 @@ fn what_is_finished_is_flushed_before_more_is_read() -> Result<(), Fail> {
     let reader = WatchingReader::new(text, &is_unflushed);
     let mut output = WatchedWriter::new(Vec::new(alloc), &is_unflushed);
     let (ended, _) = run_one(alloc, reader, &mut output, false)?;
-    assert_eq!(ended, Ended::Complete);
+    assert_eq!(ended, FilterOutcome::Complete);
     assert_eq!(output.held(), b"foo\nxbar\ny a".as_slice());
     assert!(!is_unflushed.get());
     Ok(())
 }
 
 /// Returns the arguments as the program gets them.
-fn owned_words(alloc: Global, words: &[&str]) -> Result<Vec<String>, AllocError> {
+fn owned_arguments(alloc: Global, arguments: &[&str]) -> Result<Vec<String>, AllocError> {
     let mut owned = Vec::new(alloc);
-    for word in words.iter() {
-        owned.push(String::from_str(alloc, word)?)?;
+    for argument in arguments.iter() {
+        owned.push(String::from_str(alloc, argument)?)?;
     }
     Ok(owned)
 }
@@ -185,12 +185,12 @@ fn assert_program<R: Abort + Files>(
     rt: &R,
     alloc: Global,
     stdin: Stdin,
-    words: &[&str],
+    arguments: &[&str],
     status: u8,
     wanted: &[u8],
     line: &[u8],
 ) -> Result<(), Fail> {
-    let owned = owned_words(alloc, words)?;
+    let owned = owned_arguments(alloc, arguments)?;
     let mut output = Vec::new(alloc);
     let mut errors = Vec::new(alloc);
     let host = Host {
@@ -201,16 +201,16 @@ fn assert_program<R: Abort + Files>(
         errors: &mut errors,
     };
     let ended = start(host, owned.as_slice());
-    assert_eq!(ended, status, "with {words:?}");
-    assert_eq!(output.as_slice(), wanted, "with {words:?}");
-    assert_eq!(errors.as_slice(), line, "with {words:?}");
+    assert_eq!(ended, status, "with {arguments:?}");
+    assert_eq!(output.as_slice(), wanted, "with {arguments:?}");
+    assert_eq!(errors.as_slice(), line, "with {arguments:?}");
     Ok(())
 }
 
 const FOO: &str = "_ZN3foo17h05af221e174051e9E";
 
 #[test]
-fn symbols_are_words_in_any_place() -> Result<(), Fail> {
+fn symbols_are_arguments_in_any_place() -> Result<(), Fail> {
     let rt = HostRuntime;
     let kept = b"foo::h05af221e174051e9\nb\n";
     assert_program(
@@ -261,33 +261,33 @@ fn symbols_are_words_in_any_place() -> Result<(), Fail> {
 }
 
 #[test]
-fn words_that_are_no_option_are_refused() -> Result<(), Fail> {
+fn unknown_options_are_errors() -> Result<(), Fail> {
     let rt = HostRuntime;
-    for word in [
+    for argument in [
         "--frob", "-x", "--hashes", "--hash=1", "--help=1", "-hV", "--inputs", "-Vx",
     ] {
         let line = format!(in rt.alloc();
-            "kodliwe: unknown option '{word}'; try 'kodliwe --help'\n"
+            "kodliwe: unknown option '{argument}'; try 'kodliwe --help'\n"
         )?;
         assert_program(
             &rt,
             rt.alloc(),
             rt.stdin(),
-            &[FOO, word, "--help"],
+            &[FOO, argument, "--help"],
             2,
             b"",
             line.as_bytes(),
         )?;
     }
-    for word in ["-i", "--input", "-o", "--output"] {
+    for argument in ["-i", "--input", "-o", "--output"] {
         let line = format!(in rt.alloc();
-            "kodliwe: option '{word}' needs a FILE; try 'kodliwe --help'\n"
+            "kodliwe: option '{argument}' needs a FILE; try 'kodliwe --help'\n"
         )?;
         assert_program(
             &rt,
             rt.alloc(),
             rt.stdin(),
-            &[FOO, word],
+            &[FOO, argument],
             2,
             b"",
             line.as_bytes(),
@@ -306,9 +306,9 @@ fn each_path_is_cut_at_the_limit() -> Result<(), Fail> {
         &["--limit", "1", symbol],
         &["--limit=1", symbol],
     ];
-    for words in cases {
+    for arguments in cases {
         let cut: &[u8] = b"x{size limit reached}\n";
-        assert_program(&rt, rt.alloc(), rt.stdin(), words, 0, cut, b"")?;
+        assert_program(&rt, rt.alloc(), rt.stdin(), arguments, 0, cut, b"")?;
     }
     let line: &[u8] = b"kodliwe: option '-l' needs a number of BYTES; try 'kodliwe --help'\n";
     assert_program(&rt, rt.alloc(), rt.stdin(), &["-l"], 2, b"", line)
@@ -325,8 +325,8 @@ fn arguments_are_folded() -> Result<(), Fail> {
         &[text, "-f"],
         &["--hash", "-f", text],
     ];
-    for words in cases {
-        assert_program(&rt, rt.alloc(), rt.stdin(), words, 0, folded, b"")?;
+    for arguments in cases {
+        assert_program(&rt, rt.alloc(), rt.stdin(), arguments, 0, folded, b"")?;
     }
     let whole: &[u8] = b"-f\n<foo::Bar<i32>>::baz x <foo::Bar<i32>>::baz\n";
     assert_program(
@@ -365,8 +365,8 @@ fn a_value_that_is_no_number_of_bytes_is_named() -> Result<(), Fail> {
             b"kodliwe: option '--limit': '1\\n2' is not a number of bytes below 2^64\n",
         ),
     ];
-    for (words, line) in cases {
-        assert_program(&rt, rt.alloc(), rt.stdin(), words, 2, b"", line)?;
+    for (arguments, line) in cases {
+        assert_program(&rt, rt.alloc(), rt.stdin(), arguments, 2, b"", line)?;
     }
     Ok(())
 }
@@ -388,8 +388,8 @@ fn a_second_output_is_an_error() -> Result<(), Fail> {
             b"kodliwe: option '--output' may be given once; try 'kodliwe --help'\n",
         ),
     ];
-    for (words, line) in cases {
-        assert_program(&rt, rt.alloc(), rt.stdin(), words, 2, b"", line)?;
+    for (arguments, line) in cases {
+        assert_program(&rt, rt.alloc(), rt.stdin(), arguments, 2, b"", line)?;
     }
     Ok(())
 }
@@ -398,14 +398,14 @@ fn a_second_output_is_an_error() -> Result<(), Fail> {
 fn a_dash_as_the_output_is_standard_output() -> Result<(), Fail> {
     let rt = HostRuntime;
     let cases: [&[&str]; 3] = [&["-o", "-", FOO], &["-o-", FOO], &[FOO, "--output=-"]];
-    for words in cases {
-        assert_program(&rt, rt.alloc(), rt.stdin(), words, 0, b"foo\n", b"")?;
+    for arguments in cases {
+        assert_program(&rt, rt.alloc(), rt.stdin(), arguments, 0, b"foo\n", b"")?;
     }
     Ok(())
 }
 
 #[test]
-fn names_that_would_not_show_are_quoted() -> Result<(), Fail> {
+fn unprintable_names_are_quoted() -> Result<(), Fail> {
     let rt = HostRuntime;
     let cases: [(&[&str], &[u8]); 3] = [
         (&["-i", ""], b"kodliwe: '': No such file or directory\n"),
@@ -418,8 +418,8 @@ fn names_that_would_not_show_are_quoted() -> Result<(), Fail> {
             "kodliwe: no \"caf\u{e9}\": No such file or directory\n".as_bytes(),
         ),
     ];
-    for (words, line) in cases {
-        assert_program(&rt, rt.alloc(), rt.stdin(), words, 1, b"", line)?;
+    for (arguments, line) in cases {
+        assert_program(&rt, rt.alloc(), rt.stdin(), arguments, 1, b"", line)?;
     }
     Ok(())
 }
@@ -428,24 +428,24 @@ fn names_that_would_not_show_are_quoted() -> Result<(), Fail> {
 fn assert_request(
     rt: &impl Abort,
     alloc: Global,
-    words: &[&str],
+    arguments: &[&str],
     output: Option<Target<'_>>,
     limit: usize,
 ) -> Result<(), Fail> {
-    let owned = owned_words(alloc, words)?;
-    match read_words(alloc, owned.as_slice()) {
-        Ok(Asked::Filter(request)) => {
-            assert_eq!(request.output, output, "with {words:?}");
-            assert_eq!(request.limit, limit, "with {words:?}");
-            assert!(request.include_hash, "with {words:?}");
+    let owned = owned_arguments(alloc, arguments)?;
+    match parse_arguments(alloc, owned.as_slice()) {
+        Ok(Command::Filter(request)) => {
+            assert_eq!(request.output, output, "with {arguments:?}");
+            assert_eq!(request.limit, limit, "with {arguments:?}");
+            assert!(request.include_hash, "with {arguments:?}");
         }
-        _ => assert!(false, "with {words:?}"),
+        _ => assert!(false, "with {arguments:?}"),
     }
     Ok(())
 }
 
 #[test]
-fn the_word_behind_an_option_is_its_value() -> Result<(), Fail> {
+fn the_argument_after_an_option_is_its_value() -> Result<(), Fail> {
     let rt = HostRuntime;
     let alloc = rt.alloc();
     let outputs: [(&[&str], &str); 4] = [
@@ -454,8 +454,8 @@ fn the_word_behind_an_option_is_its_value() -> Result<(), Fail> {
         (&["-o", "-o", "--hash"], "-o"),
         (&["--hash", "-o-V"], "-V"),
     ];
-    for (words, path) in outputs {
-        assert_request(&rt, alloc, words, Some(Target::File(path)), 1_000_000)?;
+    for (arguments, path) in outputs {
+        assert_request(&rt, alloc, arguments, Some(Target::File(path)), 1_000_000)?;
     }
     assert_request(
         &rt,
@@ -503,8 +503,8 @@ fn the_word_behind_an_option_is_its_value() -> Result<(), Fail> {
             b"",
         ),
     ];
-    for (words, status, wanted, line) in cases {
-        assert_program(&rt, alloc, rt.stdin(), words, status, wanted, line)?;
+    for (arguments, status, wanted, line) in cases {
+        assert_program(&rt, alloc, rt.stdin(), arguments, status, wanted, line)?;
     }
     Ok(())
 }
@@ -519,20 +519,20 @@ fn files_that_are_not_there_are_named() -> Result<(), Fail> {
         &["_ZN1aE", "--input", "none/log.txt"],
         &["_ZN1aE", "--input=none/log.txt"],
     ];
-    for words in cases {
-        assert_program(&rt, rt.alloc(), rt.stdin(), words, 1, b"a\n", line)?;
+    for arguments in cases {
+        assert_program(&rt, rt.alloc(), rt.stdin(), arguments, 1, b"a\n", line)?;
     }
     let cases: [&[&str]; 3] = [
         &["-o", "none/log.txt", "_ZN1aE"],
         &["_ZN1aE", "-onone/log.txt"],
         &["--output=none/log.txt", "_ZN1aE"],
     ];
-    for words in cases {
+    for arguments in cases {
         assert_program(
             &rt,
             rt.alloc(),
             rt.stdin(),
-            words,
+            arguments,
             1,
             b"",
             b"kodliwe: none: No such file or directory\n",
@@ -544,7 +544,7 @@ fn files_that_are_not_there_are_named() -> Result<(), Fail> {
 #[test]
 fn the_help_fits_a_terminal() -> Result<(), Fail> {
     let rt = HostRuntime;
-    let text = crate::texts::HELP;
+    let text = crate::help::HELP;
     assert_program(
         &rt,
         rt.alloc(),
@@ -569,7 +569,7 @@ fn the_help_fits_a_terminal() -> Result<(), Fail> {
         rt.stdin(),
         &["-V"],
         0,
-        crate::texts::VERSION.as_bytes(),
+        crate::help::VERSION.as_bytes(),
         b"",
     )?;
     assert_program(
@@ -578,7 +578,7 @@ fn the_help_fits_a_terminal() -> Result<(), Fail> {
         rt.stdin(),
         &["--version", "-h"],
         0,
-        crate::texts::VERSION.as_bytes(),
+        crate::help::VERSION.as_bytes(),
         b"",
     )?;
     for (number, line) in text.lines().enumerate() {
@@ -589,20 +589,20 @@ fn the_help_fits_a_terminal() -> Result<(), Fail> {
 }
 
 #[test]
-fn ten_thousand_symbols_are_words() -> Result<(), Fail> {
+fn ten_thousand_symbols_are_arguments() -> Result<(), Fail> {
     let rt = HostRuntime;
     let alloc = rt.alloc();
-    let mut words = Vec::new(alloc);
+    let mut arguments = Vec::new(alloc);
     let mut wanted = Vec::new(alloc);
     for _ in 0..10_000 {
-        words.push(FOO)?;
+        arguments.push(FOO)?;
         wanted.extend_from_slice(b"foo\n")?;
     }
     assert_program(
         &rt,
         rt.alloc(),
         rt.stdin(),
-        words.as_slice(),
+        arguments.as_slice(),
         0,
         wanted.as_slice(),
         b"",

@@ -37,7 +37,7 @@ impl<'s> Symbol<'s> {
     }
 
     /// Returns the place after the leading zeros of a part.
-    fn behind_zeros(&self, part: Part, looks: &mut Looks) -> usize {
+    fn after_zeros(&self, part: Part, looks: &mut Looks) -> usize {
         for at in part.from..part.to {
             if !self.is_at(b'0', at, looks) {
                 return at;
@@ -51,7 +51,7 @@ impl<'s> Symbol<'s> {
     #[inline(never)]
     pub fn hex_number(&self, nibbles: Part, looks: &mut Looks) -> Option<u128> {
         // Leading zeros have no value, so a number may have any number of them.
-        let start = self.behind_zeros(nibbles, looks);
+        let start = self.after_zeros(nibbles, looks);
         if nibbles.to - start > MAX_NIBBLES {
             return None;
         }

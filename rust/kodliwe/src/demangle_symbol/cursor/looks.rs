@@ -5,28 +5,28 @@ use crate::support::snapshot::Snapshot;
 use core::mem;
 
 /// A natural number as the number of steps from zero. No value exists at run time.
-enum Tally {
+enum Unary {
     Zero,
-    More(Snapshot<Tally>),
+    More(Snapshot<Unary>),
 }
 
 /// The number of looks made. It occupies no bytes, and only `tick` raises it.
 pub struct Looks {
-    count: Snapshot<Tally>,
+    count: Snapshot<Unary>,
 }
 
 impl Looks {
     /// Returns a count of zero looks.
     pub fn new() -> Looks {
         Looks {
-            count: Snapshot::of(&Tally::Zero),
+            count: Snapshot::of(&Unary::Zero),
         }
     }
 
     /// Adds one look.
     pub(super) fn tick(&mut self) {
-        let before = mem::replace(&mut self.count, Snapshot::of(&Tally::Zero));
-        self.count = Snapshot::of(&Tally::More(before));
+        let before = mem::replace(&mut self.count, Snapshot::of(&Unary::Zero));
+        self.count = Snapshot::of(&Unary::More(before));
     }
 }
 

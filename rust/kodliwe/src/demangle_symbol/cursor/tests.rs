@@ -91,7 +91,7 @@ fn identifiers() {
 }
 
 #[test]
-fn hex_words() {
+fn hex_numbers() {
     assert_eq!(number("_"), Ok(Some(0)));
     assert_eq!(number("00ff_"), Ok(Some(255)));
     assert_eq!(number("ffffffffffffffff_"), Ok(Some(18446744073709551615)));

@@ -3,7 +3,7 @@
 use crate::demangle_sink::{ArraySink, SizeLimitedFmtAdapter};
 use crate::demangle_symbol::cursor::{Looks, Symbol};
 use crate::demangle_symbol::literal::{
-    character_of, is_string, put_char_literal, put_string_literal, truth_of,
+    bool_of, character_of, is_string, put_char_literal, put_string_literal,
 };
 
 /// Returns the number of a hexadecimal string.
@@ -86,11 +86,11 @@ fn no_characters() {
 }
 
 #[test]
-fn truths() {
-    assert_eq!(truth_of(number("_")), Some(false));
-    assert_eq!(truth_of(number("00_")), Some(false));
-    assert_eq!(truth_of(number("1_")), Some(true));
-    assert_eq!(truth_of(number("2_")), None);
+fn booleans() {
+    assert_eq!(bool_of(number("_")), Some(false));
+    assert_eq!(bool_of(number("00_")), Some(false));
+    assert_eq!(bool_of(number("1_")), Some(true));
+    assert_eq!(bool_of(number("2_")), None);
 }
 
 #[test]

@@ -9,7 +9,7 @@ use crate::support::rt::HostRuntime;
 use crate::support::test::Fail;
 use crate::support::vec::CollectIn;
 use crate::support::vec::Vec;
-use crate::test_doubles::streams::PartsReader;
+use crate::test_doubles::streams::ChunkReader;
 use std::io::ErrorKind;
 
 /// Asserts the printed form of a text. A rejected text prints itself, an accepted one prints the
@@ -74,7 +74,7 @@ fn filter_parts(
     include_hash: bool,
 ) -> Result<Vec<u8>, Fail> {
     let parts: Vec<&[u8]> = text.as_bytes().chunks(size.max(1)).collect_in(alloc)?;
-    let mut input = PartsReader::new(parts.as_slice(), usize::MAX, ErrorKind::Other);
+    let mut input = ChunkReader::new(parts.as_slice(), usize::MAX, ErrorKind::Other);
     let mut output = Vec::new(alloc);
     match demangle_bytes(alloc, &mut input, &mut output, include_hash) {
         Ok(()) => Ok(output),
@@ -83,7 +83,7 @@ fn filter_parts(
 }
 
 #[test]
-fn each_beginning_of_a_symbol_is_taken() -> Result<(), Fail> {
+fn each_prefix_of_a_symbol_is_accepted() -> Result<(), Fail> {
     let rt = HostRuntime;
     let alloc = rt.alloc();
     for text in texts(alloc)?.iter() {
@@ -98,7 +98,7 @@ fn each_beginning_of_a_symbol_is_taken() -> Result<(), Fail> {
 }
 
 #[test]
-fn the_stream_writes_for_each_beginning_what_the_crate_writes() -> Result<(), Fail> {
+fn the_stream_writes_for_each_prefix_what_the_crate_writes() -> Result<(), Fail> {
     let rt = HostRuntime;
     let alloc = rt.alloc();
     for (include_hash, wanted) in WRITTEN {
@@ -118,7 +118,7 @@ fn the_stream_writes_for_each_beginning_what_the_crate_writes() -> Result<(), Fa
 }
 
 #[test]
-fn any_fillings_give_what_the_crate_writes() -> Result<(), Fail> {
+fn chunks_of_any_size_give_what_the_crate_writes() -> Result<(), Fail> {
     let rt = HostRuntime;
     let alloc = rt.alloc();
     for ((include_hash, wanted), size) in WRITTEN.iter().zip([1, 3]) {

@@ -11,7 +11,7 @@ use crate::support::rt::HostRuntime;
 use crate::support::test::Fail;
 use crate::support::vec::CollectIn;
 use crate::support::vec::Vec;
-use crate::test_doubles::streams::{PartsReader, RefusingWriter};
+use crate::test_doubles::streams::{ChunkReader, FailingWriter};
 use std::io;
 use std::io::{BufRead, ErrorKind, Read, Write};
 
@@ -25,7 +25,7 @@ fn assert_filters(
     wanted: &[u8],
 ) -> Result<(), Fail> {
     let parts: Vec<&[u8]> = text.chunks(size.max(1)).collect_in(alloc)?;
-    let mut input = PartsReader::new(parts.as_slice(), usize::MAX, ErrorKind::Other);
+    let mut input = ChunkReader::new(parts.as_slice(), usize::MAX, ErrorKind::Other);
     let mut output = Vec::new(alloc);
     let result = demangle_bytes(alloc, &mut input, &mut output, include_hash);
     assert!(result.is_ok(), "of {text:?} by {size}");
@@ -34,7 +34,7 @@ fn assert_filters(
 }
 
 #[test]
-fn the_rows_of_the_stream_by_fillings_of_each_size() -> Result<(), Fail> {
+fn the_rows_of_the_stream_in_chunks_of_each_size() -> Result<(), Fail> {
     let rt = HostRuntime;
     for (text, wanted) in ROWS {
         for size in 1..=text.len().saturating_add(1) {
@@ -102,7 +102,7 @@ fn each_symbol_is_cut_at_the_limit() -> Result<(), Fail> {
 }
 
 #[test]
-fn bytes_before_a_fault_of_the_reader() -> Result<(), Fail> {
+fn bytes_before_a_read_error() -> Result<(), Fail> {
     let rt = HostRuntime;
     let alloc = rt.alloc();
     let parts: [&[u8]; 4] = [b"x _ZN", b"3fooE\n_ZN3", b"barE", b"\n_"];
@@ -118,7 +118,7 @@ fn bytes_before_a_fault_of_the_reader() -> Result<(), Fail> {
         b"x foo\nbar\n_",
     ];
     for (fills, wanted) in written.iter().enumerate() {
-        let mut input = PartsReader::new(&parts, fills, ErrorKind::Other);
+        let mut input = ChunkReader::new(&parts, fills, ErrorKind::Other);
         let mut output = Vec::new(alloc);
         let result = demangle_bytes(alloc, &mut input, &mut output, true);
         if fills < 6 {
@@ -130,7 +130,7 @@ fn bytes_before_a_fault_of_the_reader() -> Result<(), Fail> {
             assert!(result.is_ok());
         }
         assert_eq!(output.as_slice(), *wanted, "at {fills}");
-        let mut input = PartsReader::new(&parts, fills, ErrorKind::OutOfMemory);
+        let mut input = ChunkReader::new(&parts, fills, ErrorKind::OutOfMemory);
         let mut output = Vec::new(alloc);
         let result = demangle_bytes(alloc, &mut input, &mut output, true);
         if fills < 6 {
@@ -176,7 +176,7 @@ impl BufRead for InterruptedReader<'_> {
 }
 
 #[test]
-fn a_step_is_made_again_after_an_interruption() -> Result<(), Fail> {
+fn a_step_is_retried_after_an_interruption() -> Result<(), Fail> {
     let rt = HostRuntime;
     let alloc = rt.alloc();
     let mut input = InterruptedReader {
@@ -217,7 +217,7 @@ fn the_writer_of_bytes_fails_at_each_write() -> Result<(), Fail> {
     }
     for writes in 0..=wanted_writes.len() {
         let mut input = text.as_slice();
-        let mut output = RefusingWriter::new(alloc, b"old", writes, true)?;
+        let mut output = FailingWriter::new(alloc, b"old", writes, true)?;
         let result = demangle_bytes(alloc, &mut input, &mut output, true);
         if writes < wanted_writes.len() {
             assert!(
@@ -231,21 +231,21 @@ fn the_writer_of_bytes_fails_at_each_write() -> Result<(), Fail> {
         for write in wanted_writes.iter().take(writes) {
             wanted.extend_from_slice(write)?;
         }
-        assert_eq!(output.held(), wanted.as_slice(), "at {writes}");
+        assert_eq!(output.written(), wanted.as_slice(), "at {writes}");
     }
     Ok(())
 }
 
 /// Takes one byte in each write.
 struct ByteWriter {
-    held: Vec<u8>,
+    written: Vec<u8>,
 }
 
 impl Write for ByteWriter {
     fn write(&mut self, buf: &[u8]) -> io::Result<usize> {
         match buf.first() {
             Some(byte) => {
-                self.held.push(*byte)?;
+                self.written.push(*byte)?;
                 Ok(1)
             }
             None => Ok(0),
@@ -263,10 +263,10 @@ fn short_writes_lose_nothing() -> Result<(), Fail> {
     let alloc = rt.alloc();
     let mut input = b"caf\xE9 _ZN1a1bE.x\n".as_slice();
     let mut output = ByteWriter {
-        held: Vec::new(alloc),
+        written: Vec::new(alloc),
     };
     let result = demangle_bytes(alloc, &mut input, &mut output, true);
     assert!(result.is_ok());
-    assert_eq!(output.held.as_slice(), b"caf\xE9 a::b.x\n".as_slice());
+    assert_eq!(output.written.as_slice(), b"caf\xE9 a::b.x\n".as_slice());
     Ok(())
 }

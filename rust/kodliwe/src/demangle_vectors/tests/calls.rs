@@ -116,7 +116,7 @@ fn memory_is_a_sink() {
 }
 
 #[test]
-fn memory_keeps_the_front() {
+fn memory_keeps_the_prefix() {
     let mut memory = [9; 12];
     for (room, text) in [
         (0, ""),
@@ -130,8 +130,8 @@ fn memory_keeps_the_front() {
         assert!(demangle("_RNvC3foo3bar").write_to(&mut sink, true).is_ok());
         assert_eq!(sink.len(), 8, "in {room}");
         assert!(memory.starts_with(text.as_bytes()), "in {room}");
-        let mut behind = memory.iter().skip(text.len());
-        assert!(behind.all(|byte| *byte == 9), "in {room}");
+        let mut following = memory.iter().skip(text.len());
+        assert!(following.all(|byte| *byte == 9), "in {room}");
     }
 }
 

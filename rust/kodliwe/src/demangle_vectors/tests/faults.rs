@@ -13,7 +13,7 @@ use crate::support::string::String;
 use crate::support::test::Fail;
 use crate::support::vec::CollectIn;
 use crate::support::vec::Vec;
-use crate::test_doubles::streams::{PartsReader, RESET};
+use crate::test_doubles::streams::{ChunkReader, RESET};
 use std::io;
 use std::io::{ErrorKind, Write};
 
@@ -22,7 +22,7 @@ const GONE: &str = "nobody reads any more";
 /// Takes a given number of writes, fails one with an error of this kind and text, and counts the
 /// later ones.
 struct OnceRefusingWriter {
-    held: Vec<u8>,
+    written: Vec<u8>,
     left: usize,
     kind: ErrorKind,
     has_refused: bool,
@@ -32,7 +32,7 @@ struct OnceRefusingWriter {
 impl OnceRefusingWriter {
     fn new(alloc: Global, writes: usize, kind: ErrorKind) -> OnceRefusingWriter {
         OnceRefusingWriter {
-            held: Vec::new(alloc),
+            written: Vec::new(alloc),
             left: writes,
             kind,
             has_refused: false,
@@ -51,7 +51,7 @@ impl Write for OnceRefusingWriter {
         } else {
             self.left -= 1;
         }
-        self.held.extend_from_slice(buf)?;
+        self.written.extend_from_slice(buf)?;
         Ok(buf.len())
     }
 
@@ -61,7 +61,7 @@ impl Write for OnceRefusingWriter {
 }
 
 /// Returns the kind and the text of an error.
-fn told(alloc: Global, error: &io::Error) -> Result<(ErrorKind, String), AllocError> {
+fn kind_and_text(alloc: Global, error: &io::Error) -> Result<(ErrorKind, String), AllocError> {
     Ok((error.kind(), format!(in alloc; "{error}")?))
 }
 
@@ -71,17 +71,17 @@ fn the_error_of_a_reader_reaches_the_caller() -> Result<(), Fail> {
     let alloc = rt.alloc();
     let parts = [b"x _ZN3fooE\n_ZN3ba".as_slice()];
     let mut output = Vec::new(alloc);
-    let mut input = PartsReader::new(&parts, 1, ErrorKind::ConnectionReset);
+    let mut input = ChunkReader::new(&parts, 1, ErrorKind::ConnectionReset);
     let result = demangle_stream_named(alloc, &mut input, &mut output, true);
     let Err(StreamFault::Read(error)) = result else {
         return Err("no fault of the reader".into());
     };
-    let (kind, text) = told(alloc, &error)?;
+    let (kind, text) = kind_and_text(alloc, &error)?;
     assert_eq!(kind, ErrorKind::ConnectionReset);
     assert_eq!(text.as_str(), RESET);
-    let mut input = PartsReader::new(&parts, 1, ErrorKind::ConnectionReset);
+    let mut input = ChunkReader::new(&parts, 1, ErrorKind::ConnectionReset);
     let result = demangle_stream(alloc, &mut input, &mut output, true);
-    let (kind, text) = told(alloc, &result.err().ok_or("no error")?)?;
+    let (kind, text) = kind_and_text(alloc, &result.err().ok_or("no error")?)?;
     assert_eq!(kind, ErrorKind::ConnectionReset);
     assert_eq!(text.as_str(), RESET);
     assert_eq!(output.as_slice(), b"x foo\nx foo\n".as_slice());
@@ -94,12 +94,12 @@ fn the_errors_of_a_run_over_bytes_reach_the_caller() -> Result<(), Fail> {
     let alloc = rt.alloc();
     let parts = [b"x _ZN3fooE\n_ZN3ba".as_slice()];
     let mut output = Vec::new(alloc);
-    let mut input = PartsReader::new(&parts, 1, ErrorKind::ConnectionReset);
+    let mut input = ChunkReader::new(&parts, 1, ErrorKind::ConnectionReset);
     let result = demangle_bytes(alloc, &mut input, &mut output, true);
     let Err(StreamFault::Read(error)) = result else {
         return Err("no fault of the reader".into());
     };
-    let (kind, text) = told(alloc, &error)?;
+    let (kind, text) = kind_and_text(alloc, &error)?;
     assert_eq!(kind, ErrorKind::ConnectionReset);
     assert_eq!(text.as_str(), RESET);
     // The writes are `x `, `foo` and the line feed.
@@ -110,7 +110,7 @@ fn the_errors_of_a_run_over_bytes_reach_the_caller() -> Result<(), Fail> {
         let Err(StreamFault::Write(error)) = result else {
             return Err("no fault of the writer".into());
         };
-        let (kind, text) = told(alloc, &error)?;
+        let (kind, text) = kind_and_text(alloc, &error)?;
         assert_eq!(kind, ErrorKind::BrokenPipe);
         assert_eq!(text.as_str(), GONE, "at {writes}");
         assert_eq!(output.late, 0usize, "at {writes}");
@@ -119,16 +119,16 @@ fn the_errors_of_a_run_over_bytes_reach_the_caller() -> Result<(), Fail> {
 }
 
 #[test]
-fn want_of_memory_in_a_reader_keeps_its_kind_alone() -> Result<(), Fail> {
+fn lack_of_memory_in_a_reader_keeps_only_its_kind() -> Result<(), Fail> {
     let rt = HostRuntime;
     let alloc = rt.alloc();
     let parts = [b"x _ZN3fooE\n".as_slice()];
-    let reader = || PartsReader::new(&parts, 1, ErrorKind::OutOfMemory);
+    let reader = || ChunkReader::new(&parts, 1, ErrorKind::OutOfMemory);
     let mut output = Vec::new(alloc);
     let result = demangle_stream_named(alloc, &mut reader(), &mut output, true);
     assert!(matches!(&result, Err(StreamFault::Memory)));
     let result = demangle_stream(alloc, &mut reader(), &mut output, true);
-    let (kind, text) = told(alloc, &result.err().ok_or("no error")?)?;
+    let (kind, text) = kind_and_text(alloc, &result.err().ok_or("no error")?)?;
     assert_eq!(kind, ErrorKind::OutOfMemory);
     assert!(text.as_str() != RESET);
     Ok(())
@@ -145,19 +145,19 @@ fn the_error_of_a_writer_reaches_the_caller() -> Result<(), Fail> {
         let Err(StreamFault::Write(error)) = result else {
             return Err("no fault of the writer".into());
         };
-        let (kind, text) = told(alloc, &error)?;
+        let (kind, text) = kind_and_text(alloc, &error)?;
         assert_eq!(kind, wanted);
         assert_eq!(text.as_str(), GONE);
         let mut output = OnceRefusingWriter::new(alloc, 1, wanted);
         let mut input = b"x _ZN3fooE\n".as_slice();
         let result = demangle_stream(alloc, &mut input, &mut output, true);
-        let (kind, text) = told(alloc, &result.err().ok_or("no error")?)?;
+        let (kind, text) = kind_and_text(alloc, &result.err().ok_or("no error")?)?;
         assert_eq!(kind, wanted);
         assert_eq!(text.as_str(), GONE);
         let mut output = OnceRefusingWriter::new(alloc, 1, wanted);
         let mut sink = WriteSink::new(&mut output);
         assert!(demangle("_ZN1a1bE").write_to(&mut sink, true).is_err());
-        let (kind, text) = told(alloc, &sink.into_fault().ok_or("no fault")?)?;
+        let (kind, text) = kind_and_text(alloc, &sink.into_fault().ok_or("no fault")?)?;
         assert_eq!(kind, wanted);
         assert_eq!(text.as_str(), GONE);
     }
@@ -165,7 +165,7 @@ fn the_error_of_a_writer_reaches_the_caller() -> Result<(), Fail> {
 }
 
 #[test]
-fn both_stream_calls_meet_the_same_fault() -> Result<(), Fail> {
+fn both_stream_calls_return_the_same_error() -> Result<(), Fail> {
     let rt = HostRuntime;
     let alloc = rt.alloc();
     let cases: [(&[u8], ErrorKind, usize); 5] = [
@@ -178,24 +178,28 @@ fn both_stream_calls_meet_the_same_fault() -> Result<(), Fail> {
     for (text, kind, writes) in cases {
         let parts = [text];
         for include_hash in [true, false] {
-            let reader = || PartsReader::new(&parts, 1, kind);
+            let reader = || ChunkReader::new(&parts, 1, kind);
             let mut named = OnceRefusingWriter::new(alloc, writes, ErrorKind::BrokenPipe);
             let fault = demangle_stream_named(alloc, &mut reader(), &mut named, include_hash);
             let fault = fault.err().ok_or("no fault")?.into_io();
             let mut output = OnceRefusingWriter::new(alloc, writes, ErrorKind::BrokenPipe);
             let error = demangle_stream(alloc, &mut reader(), &mut output, include_hash);
-            let (wanted_kind, wanted_text) = told(alloc, &fault)?;
-            let (kind, message) = told(alloc, &error.err().ok_or("no error")?)?;
+            let (wanted_kind, wanted_text) = kind_and_text(alloc, &fault)?;
+            let (kind, message) = kind_and_text(alloc, &error.err().ok_or("no error")?)?;
             assert_eq!(kind, wanted_kind, "of {text:?}");
             assert_eq!(message.as_str(), wanted_text.as_str(), "of {text:?}");
-            assert_eq!(output.held.as_slice(), named.held.as_slice(), "of {text:?}");
+            assert_eq!(
+                output.written.as_slice(),
+                named.written.as_slice(),
+                "of {text:?}"
+            );
         }
     }
     Ok(())
 }
 
 #[test]
-fn nothing_is_written_behind_the_first_fault() -> Result<(), Fail> {
+fn nothing_is_written_after_the_first_error() -> Result<(), Fail> {
     let rt = HostRuntime;
     let alloc = rt.alloc();
     for writes in 0..12usize {
@@ -244,7 +248,7 @@ fn a_line_comes_in_ten_thousand_parts() -> Result<(), Fail> {
     let text = "x _ZN3fooE, ".repeat_in(alloc, 1_000)?;
     let wanted = "x foo, ".repeat_in(alloc, 1_000)?;
     let parts: Vec<&[u8]> = text.as_str().as_bytes().chunks(1).collect_in(alloc)?;
-    let mut input = PartsReader::new(parts.as_slice(), usize::MAX, ErrorKind::Other);
+    let mut input = ChunkReader::new(parts.as_slice(), usize::MAX, ErrorKind::Other);
     assert!(text.as_str().len() > 10_000);
     let mut output = Vec::new(alloc);
     demangle_stream(alloc, &mut input, &mut output, true)?;

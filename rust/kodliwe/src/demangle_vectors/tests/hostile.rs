@@ -7,7 +7,7 @@ use crate::support::string::RepeatIn;
 use crate::support::test::Fail;
 
 #[test]
-fn lengths_without_bound_are_refused() {
+fn lengths_without_bound_are_rejected() {
     let rt = HostRuntime;
     for text in [
         "_ZN1000000000000000000000000000000aE",

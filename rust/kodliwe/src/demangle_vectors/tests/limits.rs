@@ -113,7 +113,7 @@ fn the_marker_is_one_piece() -> Result<(), Fail> {
 }
 
 #[test]
-fn the_marker_fits_or_is_refused() {
+fn the_marker_fits_or_is_rejected() {
     let symbol = demangle("_ZN3foo3barE");
     for include_hash in [true, false] {
         let mut sink: ArraySink<25> = ArraySink::new();

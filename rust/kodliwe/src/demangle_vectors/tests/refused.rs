@@ -45,7 +45,7 @@ fn symbols_with_a_suffix_that_is_not_allowed_print_themselves() {
 }
 
 #[test]
-fn an_ending_of_thin_lto_is_taken_off_any_text() {
+fn a_thin_lto_suffix_is_stripped_off_any_text() {
     let rt = HostRuntime;
     for (text, printed) in [
         ("foo.llvm.AB", "foo"),

@@ -7,7 +7,7 @@ use crate::support::rt::HostRuntime;
 use crate::support::test::Fail;
 use crate::support::vec::CollectIn;
 use crate::support::vec::Vec;
-use crate::test_doubles::streams::{PartsReader, RefusingWriter};
+use crate::test_doubles::streams::{ChunkReader, FailingWriter};
 use std::io::ErrorKind;
 
 /// The number of times that each text is repeated.
@@ -120,7 +120,7 @@ impl Case<'_> {
     /// Asserts the output for the text in chunks of one size.
     fn assert_written(&self, rt: &impl Abort, alloc: Global, size: usize) -> Result<(), Fail> {
         let parts: Vec<&[u8]> = self.text.chunks(size.max(1)).collect_in(alloc)?;
-        let mut input = PartsReader::new(parts.as_slice(), usize::MAX, ErrorKind::Other);
+        let mut input = ChunkReader::new(parts.as_slice(), usize::MAX, ErrorKind::Other);
         let mut output = Vec::new(alloc);
         demangle_bytes_limited(
             alloc,
@@ -213,7 +213,7 @@ fn a_long_text_is_written_whole_each_time() -> Result<(), Fail> {
 }
 
 #[test]
-fn runs_that_take_turns_keep_their_texts() -> Result<(), Fail> {
+fn alternating_runs_keep_their_texts() -> Result<(), Fail> {
     let rt = HostRuntime;
     let alloc = rt.alloc();
     for include_hash in [true, false] {
@@ -283,14 +283,14 @@ fn a_repeated_symbol_is_one_write() -> Result<(), Fail> {
     ];
     for taken in 0..=writes.len() {
         let mut input = text.as_slice();
-        let mut output = RefusingWriter::new(alloc, b"", taken, true)?;
+        let mut output = FailingWriter::new(alloc, b"", taken, true)?;
         let result = demangle_bytes_limited(alloc, &mut input, &mut output, true, 1_000_000);
         assert_eq!(result.is_ok(), taken == writes.len(), "at {taken}");
         let mut wanted = Vec::new(alloc);
         for write in writes.iter().take(taken) {
             wanted.extend_from_slice(write)?;
         }
-        assert_eq!(output.held(), wanted.as_slice(), "at {taken}");
+        assert_eq!(output.written(), wanted.as_slice(), "at {taken}");
     }
     Ok(())
 }

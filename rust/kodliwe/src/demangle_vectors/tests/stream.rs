@@ -6,7 +6,7 @@ use crate::support::process::Abort;
 use crate::support::rt::HostRuntime;
 use crate::support::test::Fail;
 use crate::support::vec::Vec;
-use crate::test_doubles::streams::{NotingWriter, PartsReader, RefusingWriter};
+use crate::test_doubles::streams::{ChunkReader, FailingWriter, RecordingWriter};
 use std::io;
 use std::io::{BufRead, ErrorKind, Read};
 
@@ -68,11 +68,11 @@ fn a_run_ends_at_each_byte_that_it_may_not_have() -> Result<(), Fail> {
     let rt = HostRuntime;
     let alloc = rt.alloc();
     for byte in 0..128u8 {
-        let goes_on = byte.is_ascii_alphanumeric() || byte == b'$' || byte == b'_';
+        let continues_on = byte.is_ascii_alphanumeric() || byte == b'$' || byte == b'_';
         let mut text = Vec::from_slice(alloc, b"_ZN3fooE")?;
         text.push(byte)?;
         let mut wanted = Vec::new(alloc);
-        if goes_on {
+        if continues_on {
             wanted.extend_from_slice(b"_ZN3fooE")?;
         } else {
             wanted.extend_from_slice(b"foo")?;
@@ -102,14 +102,14 @@ fn the_reader_fails() -> Result<(), Fail> {
     ];
     for (text, wanted) in cases {
         let parts = [text];
-        let mut input = PartsReader::new(&parts, 1, ErrorKind::Other);
+        let mut input = ChunkReader::new(&parts, 1, ErrorKind::Other);
         let mut output = Vec::new(alloc);
         let result = demangle_stream_named(alloc, &mut input, &mut output, true);
         assert!(
             matches!(&result, Err(StreamFault::Read(error)) if error.kind() == ErrorKind::Other)
         );
         assert_eq!(output.as_slice(), wanted, "after {text:?}");
-        let mut input = PartsReader::new(&parts, 1, ErrorKind::OutOfMemory);
+        let mut input = ChunkReader::new(&parts, 1, ErrorKind::OutOfMemory);
         let mut output = Vec::new(alloc);
         let result = demangle_stream_named(alloc, &mut input, &mut output, true);
         assert!(matches!(&result, Err(StreamFault::Memory)));
@@ -119,7 +119,7 @@ fn the_reader_fails() -> Result<(), Fail> {
 }
 
 #[test]
-fn the_reader_fails_at_each_filling() -> Result<(), Fail> {
+fn the_reader_fails_at_each_chunk() -> Result<(), Fail> {
     let rt = HostRuntime;
     let alloc = rt.alloc();
     let parts: [&[u8]; 4] = [b"x _ZN", b"3fooE\n_ZN3", b"barE", b"\n"];
@@ -132,7 +132,7 @@ fn the_reader_fails_at_each_filling() -> Result<(), Fail> {
         b"x foo\nbar\n",
     ];
     for (fills, wanted) in written.iter().enumerate() {
-        let mut input = PartsReader::new(&parts, fills, ErrorKind::Other);
+        let mut input = ChunkReader::new(&parts, fills, ErrorKind::Other);
         let mut output = Vec::new(alloc);
         let result = demangle_stream(alloc, &mut input, &mut output, true);
         let kind = result.map_err(|error| error.kind());
@@ -221,7 +221,7 @@ fn assert_held(rt: &impl Abort, alloc: Global, include_hash: bool) -> Result<(),
     }
     for writes in 0..=wanted_writes.len() {
         let mut input = text.as_slice();
-        let mut output = RefusingWriter::new(alloc, b"old", writes, true)?;
+        let mut output = FailingWriter::new(alloc, b"old", writes, true)?;
         let result = demangle_stream(alloc, &mut input, &mut output, include_hash);
         let kind = result.map_err(|error| error.kind());
         if writes < wanted_writes.len() {
@@ -233,7 +233,7 @@ fn assert_held(rt: &impl Abort, alloc: Global, include_hash: bool) -> Result<(),
         for write in wanted_writes.iter().take(writes) {
             wanted.extend_from_slice(write)?;
         }
-        assert_eq!(output.held(), wanted.as_slice(), "at {writes}");
+        assert_eq!(output.written(), wanted.as_slice(), "at {writes}");
     }
     Ok(())
 }
@@ -268,7 +268,7 @@ fn each_text_and_piece_is_a_write() -> Result<(), Fail> {
     ];
     for (text, wanted) in cases {
         let mut input = text;
-        let mut output = NotingWriter::new(alloc);
+        let mut output = RecordingWriter::new(alloc);
         demangle_stream(alloc, &mut input, &mut output, true)?;
         assert_eq!(output.writes().len(), wanted.len(), "of {text:?}");
         for (write, want) in output.writes().iter().zip(wanted.iter()) {
@@ -297,7 +297,7 @@ fn each_text_of_any_bytes_is_a_write() -> Result<(), Fail> {
     ];
     for (text, wanted) in cases {
         let mut input = text;
-        let mut output = NotingWriter::new(alloc);
+        let mut output = RecordingWriter::new(alloc);
         assert!(demangle_bytes(alloc, &mut input, &mut output, true).is_ok());
         assert_eq!(output.writes().len(), wanted.len(), "of {text:?}");
         for (write, want) in output.writes().iter().zip(wanted.iter()) {

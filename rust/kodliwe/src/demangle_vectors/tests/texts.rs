@@ -39,7 +39,7 @@ fn a_text_leaves_out_a_hash() {
 }
 
 #[test]
-fn each_piece_of_a_text_is_refused_in_turn() {
+fn each_piece_of_a_text_is_rejected_in_turn() {
     let text = "x _RCx _ZN1a1bE.x y";
     let texts = [
         "",

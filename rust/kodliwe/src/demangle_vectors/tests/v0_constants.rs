@@ -24,7 +24,7 @@ pub fn assert_constant(
 }
 
 #[test]
-fn numbers_have_their_type_in_the_plain_form_alone() -> Result<(), Fail> {
+fn numbers_have_their_type_only_in_the_plain_form() -> Result<(), Fail> {
     let rt = HostRuntime;
     for (constant, plain, alt) in [
         ("j_", "0usize", "0"),
@@ -111,7 +111,7 @@ fn longer_numbers_keep_their_nibbles() -> Result<(), Fail> {
 }
 
 #[test]
-fn truth_values_and_placeholders() -> Result<(), Fail> {
+fn booleans_and_placeholders() -> Result<(), Fail> {
     let rt = HostRuntime;
     for (constant, text) in [("b_", "false"), ("b00_", "false"), ("b0001_", "true")] {
         assert_constant(&rt, rt.alloc(), constant, text, text)?;
@@ -168,7 +168,7 @@ fn a_constant_over_a_failed_path_stays_open() -> Result<(), Fail> {
 }
 
 #[test]
-fn constants_that_are_none_are_refused() {
+fn malformed_constants_are_rejected() {
     let rt = HostRuntime;
     for text in [
         "_RIC0Kb2_E",

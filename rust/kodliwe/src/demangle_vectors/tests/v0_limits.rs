@@ -16,7 +16,7 @@ const MARKER: &str = "{size limit reached}";
 const TOO_DEEP: &str = "{recursion limit reached}";
 
 #[test]
-fn types_stand_up_to_500_deep() -> Result<(), Fail> {
+fn types_nest_up_to_500_deep() -> Result<(), Fail> {
     let rt = HostRuntime;
     let alloc = rt.alloc();
     let deep = repeat_between(alloc, "_RMC0", "R", 499, "u")?;
@@ -28,7 +28,7 @@ fn types_stand_up_to_500_deep() -> Result<(), Fail> {
 }
 
 #[test]
-fn paths_stand_up_to_500_deep() -> Result<(), Fail> {
+fn paths_nest_up_to_500_deep() -> Result<(), Fail> {
     let rt = HostRuntime;
     let alloc = rt.alloc();
     let names = "1b".repeat_in(alloc, 499)?;
@@ -43,7 +43,7 @@ fn paths_stand_up_to_500_deep() -> Result<(), Fail> {
 }
 
 #[test]
-fn constants_stand_up_to_500_deep() -> Result<(), Fail> {
+fn constants_nest_up_to_500_deep() -> Result<(), Fail> {
     let rt = HostRuntime;
     let alloc = rt.alloc();
     let deep = repeat_between(alloc, "_RIC0K", "R", 498, "h0_E")?;
@@ -56,7 +56,7 @@ fn constants_stand_up_to_500_deep() -> Result<(), Fail> {
 }
 
 #[test]
-fn patterns_stand_up_to_500_deep() -> Result<(), Fail> {
+fn patterns_nest_up_to_500_deep() -> Result<(), Fail> {
     let rt = HostRuntime;
     let alloc = rt.alloc();
     let ends = "E".repeat_in(alloc, 498)?;
@@ -82,7 +82,7 @@ fn depth_is_given_back() -> Result<(), Fail> {
 }
 
 #[test]
-fn a_target_stands_one_deeper_than_its_reference() -> Result<(), Fail> {
+fn a_target_is_one_deeper_than_its_reference() -> Result<(), Fail> {
     let rt = HostRuntime;
     let alloc = rt.alloc();
     let head = format!(in alloc; "{TOO_DEEP}::?")?;

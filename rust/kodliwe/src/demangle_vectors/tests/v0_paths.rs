@@ -4,7 +4,7 @@ use super::{assert_prints, assert_refused};
 use crate::support::rt::HostRuntime;
 
 #[test]
-fn a_crate_has_a_disambiguator_in_the_plain_form_alone() {
+fn a_crate_has_a_disambiguator_only_in_the_plain_form() {
     let rt = HostRuntime;
     for (symbol, plain, alt) in [
         ("_RCs_3foo", "foo[1]", "foo"),
@@ -109,7 +109,7 @@ fn names_in_punycode_are_decoded() {
 }
 
 #[test]
-fn names_that_are_no_punycode_print_as_they_are() {
+fn names_that_are_not_punycode_print_as_they_are() {
     let rt = HostRuntime;
     for (symbol, text) in [
         ("_RCu3a_A", "punycode{a-A}"),
@@ -184,7 +184,7 @@ fn damaged_paths_print_themselves() {
 }
 
 #[test]
-fn numbers_of_more_than_64_bits_are_refused() {
+fn numbers_of_more_than_64_bits_are_rejected() {
     let rt = HostRuntime;
     for text in [
         "_RCslYGhA16ahye_1a",
@@ -198,7 +198,7 @@ fn numbers_of_more_than_64_bits_are_refused() {
 }
 
 #[test]
-fn punycode_without_a_digit_is_refused() {
+fn punycode_without_a_digit_is_rejected() {
     let rt = HostRuntime;
     for text in ["_RCu1_", "_RCu1__", "_RCu2a_", "_RCu0"] {
         assert_refused(&rt, text, text);

@@ -92,7 +92,7 @@ fn a_value_over_a_failed_path_stays_open() {
 }
 
 #[test]
-fn what_failed_inside_a_pattern_or_a_dynamic_type_is_marked() {
+fn errors_inside_a_pattern_or_a_dynamic_type_are_marked() {
     let rt = HostRuntime;
     for (symbol, text) in [
         (
@@ -110,7 +110,7 @@ fn what_failed_inside_a_pattern_or_a_dynamic_type_is_marked() {
 }
 
 #[test]
-fn an_open_trait_path_stays_open_behind_its_reference() {
+fn an_open_trait_path_stays_open_after_its_reference() {
     let rt = HostRuntime;
     for (symbol, plain, alt) in [
         (
@@ -149,7 +149,7 @@ fn an_open_trait_path_stays_open_behind_its_reference() {
 }
 
 #[test]
-fn references_ahead_are_refused() {
+fn references_ahead_are_rejected() {
     let rt = HostRuntime;
     for text in [
         "_RB_",

@@ -283,7 +283,7 @@ fn constants_print_their_values() -> Result<(), Fail> {
 }
 
 #[test]
-fn what_is_refused_prints_itself() {
+fn rejected_symbols_print_themselves() {
     let rt = HostRuntime;
     for text in REFUSED {
         assert_refused(&rt, text, text);

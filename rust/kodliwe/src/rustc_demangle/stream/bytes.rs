@@ -2,9 +2,9 @@
 //! Demangles any bytes that come from a reader.
 
 use crate::rustc_demangle::format::Format;
-use crate::rustc_demangle::stream::carrying::{finish, take_some};
 use crate::rustc_demangle::stream::fault::{StreamFault, read_fault};
 use crate::rustc_demangle::stream::memo::SymbolMemo;
+use crate::rustc_demangle::stream::pending_run::{filter_chunk, finish};
 use crate::rustc_demangle::value::MAX_SIZE;
 use crate::support::alloc::{Allocator, Global};
 use crate::support::vec::Vec;
@@ -13,14 +13,14 @@ use std::io::{BufRead, Write};
 
 /// A filter of any bytes. It buffers the unfinished run at the end of the bytes so far.
 pub struct BytesFilter<A: Allocator> {
-    carried: Vec<u8, A>,
+    pending: Vec<u8, A>,
 }
 
 impl<A: Allocator> BytesFilter<A> {
     /// Returns a filter that has read no bytes.
     pub fn new(alloc: A) -> Self {
         BytesFilter {
-            carried: Vec::new(alloc),
+            pending: Vec::new(alloc),
         }
     }
 
@@ -39,22 +39,22 @@ impl<A: Allocator> BytesFilter<A> {
         output: &mut W,
         memo: &mut SymbolMemo,
     ) -> Result<bool, StreamFault> {
-        let shown = match input.fill_buf() {
-            Ok(shown) => shown,
+        let available = match input.fill_buf() {
+            Ok(available) => available,
             Err(error) => return Err(read_fault(error)),
         };
-        if shown.is_empty() {
-            finish(&mut self.carried, output, memo)?;
+        if available.is_empty() {
+            finish(&mut self.pending, output, memo)?;
             return Ok(false);
         }
-        let taken = take_some(&mut self.carried, shown, output, memo)?;
+        let taken = filter_chunk(&mut self.pending, available, output, memo)?;
         input.consume(taken);
         Ok(true)
     }
 }
 
 /// Makes steps up to the end of the input. Fails as `BytesFilter::step` does.
-fn take_steps<R: BufRead, W: Write, A: Allocator>(
+fn run_to_end<R: BufRead, W: Write, A: Allocator>(
     filter: &mut BytesFilter<A>,
     input: &mut R,
     output: &mut W,
@@ -109,7 +109,7 @@ pub fn demangle_bytes_formatted<R: BufRead, W: Write>(
 ) -> Result<(), StreamFault> {
     let mut filter = BytesFilter::new(alloc);
     let mut memo = SymbolMemo::with_format(alloc, format);
-    take_steps(&mut filter, input, output, &mut memo)
+    run_to_end(&mut filter, input, output, &mut memo)
 }
 
 /// Writes the input, which may be any bytes, with each symbol of it demangled, as

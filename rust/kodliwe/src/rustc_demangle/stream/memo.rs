@@ -1,10 +1,10 @@
 // Made from crates/rustc_demangle/src/stream/memo.rt by packaging/crate/erase.py: edit that file instead.
 //! Remembers the symbols that a filter printed.
 
-use crate::held_bytes::Held;
+use crate::piece_buffer::PieceBuffer;
 use crate::rustc_demangle::format::Format;
-use crate::rustc_demangle::stream::held_sink::HeldSink;
-use crate::rustc_demangle::stream::line::write_run;
+use crate::rustc_demangle::stream::buffer_sink::BufferSink;
+use crate::rustc_demangle::stream::line_writer::write_run;
 use crate::rustc_demangle::value::{Demangle, print_v0_run};
 use crate::support::alloc::Global;
 use std::io;
@@ -60,7 +60,7 @@ impl Probe {
 /// The texts that are remembered, and the last one that was printed for them.
 struct Store {
     texts: TextMemo,
-    printed: Held,
+    printed: PieceBuffer,
 }
 
 /// A memo of printed symbols, with which a filter does not parse a repeated symbol again.
@@ -76,8 +76,8 @@ pub struct SymbolMemo {
 }
 
 /// Prints a symbol into held bytes, or returns `false` if they have no room for it.
-fn print_held(symbol: &Demangle<'_>, held: &mut Held, format: Format) -> bool {
-    let mut sink = HeldSink::new(held);
+fn print_to_buffer(symbol: &Demangle<'_>, held: &mut PieceBuffer, format: Format) -> bool {
+    let mut sink = BufferSink::new(held);
     symbol.write_formatted(&mut sink, format).is_ok()
 }
 
@@ -85,12 +85,12 @@ fn print_held(symbol: &Demangle<'_>, held: &mut Held, format: Format) -> bool {
 /// that is still unknown, or if the bytes have no room for the text. Then the bytes may have a part
 /// of it.
 #[inline(always)]
-fn print_first(run: &str, held: &mut Held, format: Format) -> bool {
+fn print_first(run: &str, held: &mut PieceBuffer, format: Format) -> bool {
     if format.fold_arguments || run.as_bytes()[1] != b'R' {
         return false;
     }
     held.clear();
-    let mut sink = HeldSink::new(held);
+    let mut sink = BufferSink::new(held);
     print_v0_run(run, &mut sink, format.include_hash, format.limit)
 }
 
@@ -135,7 +135,7 @@ fn print_new(run: &str, hash: u64, format: Format, store: &mut Store) -> Printed
         return Printed::NoSymbol;
     }
     store.printed.clear();
-    if !print_held(&symbol, &mut store.printed, format) {
+    if !print_to_buffer(&symbol, &mut store.printed, format) {
         store.texts.note_too_long(hash);
         return Printed::TooLong;
     }
@@ -163,7 +163,7 @@ impl SymbolMemo {
             format,
             store: Store {
                 texts: TextMemo::new(alloc),
-                printed: Held::new(),
+                printed: PieceBuffer::new(),
             },
             probe: Probe {
                 misses: 0,

@@ -1,6 +1,6 @@
 use Rattle.std.proofs.Common.{◌≡◌, ◌+◌}
 use Rattle.demangle_symbol.specs.Digits.{run_end}
-use Rattle.demangle_symbol.specs.Words.{is_nibble}
+use Rattle.demangle_symbol.specs.Primitives.{is_nibble}
 use Rattle.demangle_symbol.proofs.cursor.Symbol.hex_nibbles.Given as goal
 
 abbrev pub invariant-loop-at : goal.invariant-loop-at

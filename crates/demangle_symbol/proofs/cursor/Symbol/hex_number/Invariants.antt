@@ -1,7 +1,7 @@
 use Rattle.std.proofs.Common.{◌≡◌, ◌+◌, ◌-◌, ◌^◌, ◌<◌}
 use Rattle.std.specs.List.{slice_range}
 use Rattle.demangle_symbol.specs.Digits.{number}
-use Rattle.demangle_symbol.specs.Words.{nibble}
+use Rattle.demangle_symbol.specs.Primitives.{nibble}
 use Rattle.demangle_symbol.proofs.cursor.Symbol.hex_number.Given as goal
 
 abbrev pub invariant-loop-at : goal.invariant-loop-at

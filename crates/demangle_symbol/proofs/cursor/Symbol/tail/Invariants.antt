@@ -1,5 +1,5 @@
 use Rattle.std.proofs.Common.{◌≡◌, ◌+◌, ◌≤◌}
-use Rattle.demangle_symbol.specs.Words.{tail_len}
+use Rattle.demangle_symbol.specs.Primitives.{tail_len}
 use Rattle.demangle_symbol.proofs.cursor.Symbol.tail.Given as goal
 
 abbrev pub invariant-loop-at : goal.invariant-loop-at

@@ -7,7 +7,7 @@ use Rattle.std.proofs.lemmas.List.Edits.{length-between}
 use Rattle.demangle_symbol.specs.Literals.{string_of}
 use Rattle.demangle_symbol.specs.Nibbles.{nibbles_in}
 use Rattle.demangle_symbol.proofs.Hex.{hex_within}
-use Rattle.demangle_symbol.proofs.Nibbles.{pairs, length-pairs, string_front, string_none, one_char, part_behind, pair_more, none_more, bytes_step}
+use Rattle.demangle_symbol.proofs.Nibbles.{pairs, length-pairs, string_prefix, string_none, one_char, part_after, pair_more, none_more, bytes_step}
 use Rattle.demangle_symbol.proofs.literal.strings.char_at.Goals as goal
 
 pub returns-then-rest-at-lt2-clause-none : goal.returns-then-rest-at-lt2-clause-none
@@ -34,8 +34,8 @@ returns-in-Some-clause-some c =
     one_char (take (l.len + 1) bs) rest.0 c.in-Some.c (l.len + 1) (sym same ∙ rest.1) (omega (arith, length-take (l.len + 1) bs)) c.in-Some.ensures.scalar
     (λ m some lt u. l.invariant.none m some (omega arith) (subst IsUtf8 (take-take m (l.len + 1) bs (omega arith)) u)) in
     let twice : r.from + 2 * (l.len + 1) ≡ r.from + 2 * l.len + 2 = omega arith in
-    string_front (nibbles_in s r) (l.len + 1) c.in-Some.c (omega arith) whole c.in-Some.ensures.scalar
-    ∙ ap (λ ns. option_map (λ cs. c.in-Some.c ∷ cs) (string_of ns)) (part_behind s r.from (2 * (l.len + 1)) r.to (omega arith) ∙ ap (λ k. slice_range s k r.to) twice)
+    string_prefix (nibbles_in s r) (l.len + 1) c.in-Some.c (omega arith) whole c.in-Some.ensures.scalar
+    ∙ ap (λ ns. option_map (λ cs. c.in-Some.c ∷ cs) (string_of ns)) (part_after s r.from (2 * (l.len + 1)) r.to (omega arith) ∙ ap (λ k. slice_range s k r.to) twice)
 
 pub loop-len-preserved : goal.loop-len-preserved
 loop-len-preserved c =

@@ -1,6 +1,6 @@
-use Rattle.demangle_grammar.specs.Reading.{form}
-use Rattle.demangle_v0.proofs.PointWholes.{valid_first}
-use Rattle.demangle_v0.proofs.PointPrints.{prints_so, prints_most}
+use Rattle.demangle_v0_grammar.specs.Reading.{form}
+use Rattle.demangle_v0.proofs.WholePaths.{valid_first}
+use Rattle.demangle_v0.proofs.PrintLoop.{prints_so, prints_most}
 use Rattle.demangle_v0.proofs.value.Demangle.write_to.Goals as goal
 
 pub print_path-printed-requires-clause-valid : goal.print_path-printed-requires-clause-valid

@@ -1,8 +1,8 @@
-use Rattle.rustc_demangle.proofs.FeedLaws.{feeds-handed, feeds-written}
+use Rattle.rustc_demangle.proofs.LineFeedLaws.{line_feeds-handed, line_feeds-written}
 use Rattle.rustc_demangle.proofs.laws.filtering.as_many_lines_are_written.Goals as goal
 
 pub returns-clause-printed : goal.returns-clause-printed
-returns-clause-printed c = feeds-handed
+returns-clause-printed c = line_feeds-handed
 
 pub returns-clause-written : goal.returns-clause-written
-returns-clause-written c = feeds-written
+returns-clause-written c = line_feeds-written

@@ -1,5 +1,5 @@
 use Rattle.std.proofs.Common.{add-one}
-use Rattle.demangle_grammar.proofs.LooksLaw.{printing_looks, printing_pays, unit_looks, rendered_bytes}
+use Rattle.demangle_v0_grammar.proofs.LooksLaw.{printing_looks, printing_pays, unit_looks, rendered_bytes}
 use Rattle.rustc_demangle.proofs.laws.v0_looks.printing_looks_stay_linear.Goals as goal
 
 pub returns-clause-printing : goal.returns-clause-printing

@@ -9,18 +9,18 @@ returns-then-not-has_style-clause-no_symbol c = λ _.
 
 pub returns-clause-symbol : goal.returns-clause-symbol
 returns-clause-symbol c = λ _.
-    c.print_held.ensures c.if-not-print_held.false
+    c.print_to_buffer.ensures c.if-not-print_to_buffer.false
     ∙ symbol_replaced c.args.run.now c.read_run-symbol.result c.args.format c.read_run-symbol.ensures (c.has_style.ensures.yes c.if-not-has_style.false)
 
 pub returns-clause-remembers : goal.returns-clause-remembers
 returns-clause-remembers c =
     c.insert-2.ensures (replacement_in c.args.format) c.requires.remembers
-    (c.as_slice-2.ensures ∙ c.print_held.ensures c.if-not-print_held.false
+    (c.as_slice-2.ensures ∙ c.print_to_buffer.ensures c.if-not-print_to_buffer.false
     ∙ symbol_replaced c.args.run.now c.read_run-symbol.result c.args.format c.read_run-symbol.ensures (c.has_style.ensures.yes c.if-not-has_style.false)
     ∙ ap (replacement_in c.args.format) (sym c.as_bytes-2.ensures.value))
 
-pub returns-then-not-print_held-clause-remembers : goal.returns-then-not-print_held-clause-remembers
-returns-then-not-print_held-clause-remembers c = c.note_too_long.ensures (replacement_in c.args.format) c.requires.remembers
+pub returns-then-not-print_to_buffer-clause-remembers : goal.returns-then-not-print_to_buffer-clause-remembers
+returns-then-not-print_to_buffer-clause-remembers c = c.note_too_long.ensures (replacement_in c.args.format) c.requires.remembers
 
 pub returns-then-not-has_style-clause-remembers : goal.returns-then-not-has_style-clause-remembers
 returns-then-not-has_style-clause-remembers c =

@@ -2,10 +2,10 @@
 //! Tests inputs and outputs that fail, once for each of their calls.
 use super::streams::{CallsWriter, ChunkReader, StutteringWriter};
 use super::{FILTERED_LOG, LOG, run_one};
-use crate::fault::report_call;
-use crate::output::Output;
-use crate::run::{BUFFER, Ended};
-use kodliwe::held_bytes::CAPACITY;
+use crate::coalescing::CoalescingOutput;
+use crate::error::report_call;
+use crate::filtering::{BUFFER, FilterOutcome};
+use kodliwe::piece_buffer::CAPACITY;
 use kodliwe::support::alloc::{AllocError, Global};
 use kodliwe::support::io::BufWriter;
 use kodliwe::support::process::Abort;
@@ -56,7 +56,7 @@ fn known_of(alloc: Global, count: usize) -> Result<Vec<u8>, AllocError> {
 }
 
 #[test]
-fn a_reader_that_fails_at_any_read_is_told_by_its_name() -> Result<(), Fail> {
+fn a_reader_that_fails_at_any_read_is_reported_by_name() -> Result<(), Fail> {
     let rt = HostRuntime;
     let alloc = rt.alloc();
     let faults: [(ErrorKind, &[u8]); 4] = [
@@ -82,7 +82,7 @@ fn a_reader_that_fails_at_any_read_is_told_by_its_name() -> Result<(), Fail> {
                 let mut output = Vec::new(alloc);
                 let (ended, errors) = run_one(alloc, reader, &mut output, false)?;
                 let wanted = known_of(alloc, reads.saturating_mul(most))?;
-                assert_eq!(ended, Ended::Unread, "at {reads} by {most}");
+                assert_eq!(ended, FilterOutcome::ReadFailed, "at {reads} by {most}");
                 assert_eq!(ended.status(), 1);
                 assert_eq!(errors.as_slice(), line, "at {reads} by {most}");
                 assert_eq!(output.as_slice(), wanted.as_slice(), "at {reads} by {most}");
@@ -93,35 +93,36 @@ fn a_reader_that_fails_at_any_read_is_told_by_its_name() -> Result<(), Fail> {
 }
 
 #[test]
-fn interrupted_calls_are_made_again() -> Result<(), Fail> {
+fn interrupted_calls_are_retried() -> Result<(), Fail> {
     let rt = HostRuntime;
     let alloc = rt.alloc();
     let reader = ChunkReader::new(LOG, 5).interrupted();
     let mut output = CallsWriter::new(alloc, usize::MAX, ErrorKind::Other, 3).interrupted();
     let (ended, errors) = run_one(alloc, reader, &mut output, false)?;
-    assert_eq!(ended, Ended::Complete);
+    assert_eq!(ended, FilterOutcome::Complete);
     assert!(errors.is_empty());
     assert_eq!(output.held(), FILTERED_LOG);
     Ok(())
 }
 
 #[test]
-fn calls_are_made_again_after_ten_interruptions() -> Result<(), Fail> {
+fn calls_are_retried_after_ten_interruptions() -> Result<(), Fail> {
     let rt = HostRuntime;
     let alloc = rt.alloc();
     let mut writer = StutteringWriter::new(alloc, 10);
     let (ended, errors) = run_one(alloc, ChunkReader::new(LOG, 5), &mut writer, false)?;
-    assert_eq!(ended, Ended::Complete);
+    assert_eq!(ended, FilterOutcome::Complete);
     assert!(errors.is_empty());
     assert_eq!(writer.held(), FILTERED_LOG);
     for case in cases(alloc)?.iter() {
         for capacity in CAPACITIES {
             let mut writer = StutteringWriter::new(alloc, 10);
-            let mut output = Output::new(BufWriter::with_capacity(alloc, capacity, &mut writer)?);
+            let mut output =
+                CoalescingOutput::new(BufWriter::with_capacity(alloc, capacity, &mut writer)?);
             let reader = ChunkReader::new(case.text.as_slice(), case.read);
             let (ended, errors) = run_one(alloc, reader, &mut output, false)?;
             drop(output);
-            assert_eq!(ended, Ended::Complete, "over {capacity}");
+            assert_eq!(ended, FilterOutcome::Complete, "over {capacity}");
             assert!(errors.is_empty());
             let is_wanted = writer.held() == case.wanted.as_slice();
             assert!(is_wanted, "over {capacity}");
@@ -142,7 +143,7 @@ fn a_reason_keeps_its_own_brackets() {
 }
 
 #[test]
-fn a_writer_that_fails_at_any_call_is_told() -> Result<(), Fail> {
+fn a_writer_that_fails_at_any_call_is_reported() -> Result<(), Fail> {
     let rt = HostRuntime;
     let alloc = rt.alloc();
     let text: &[u8] = b"x _ZN1a1bE y\n_ZN3fooE\n";
@@ -152,12 +153,12 @@ fn a_writer_that_fails_at_any_call_is_told() -> Result<(), Fail> {
         let mut output = CallsWriter::new(alloc, calls, ErrorKind::StorageFull, 2);
         let (ended, errors) = run_one(alloc, ChunkReader::new(text, 4), &mut output, false)?;
         assert!(wanted.starts_with(output.held()), "at {calls}");
-        if ended == Ended::Complete {
+        if ended == FilterOutcome::Complete {
             assert_eq!(output.held(), wanted);
             assert!(calls > 13, "{calls}");
             return Ok(());
         }
-        assert_eq!(ended, Ended::Unwritten, "at {calls}");
+        assert_eq!(ended, FilterOutcome::WriteFailed, "at {calls}");
         assert_eq!(ended.status(), 1);
         assert_eq!(
             errors.as_slice(),
@@ -207,15 +208,15 @@ fn run_into(
     case: &Case,
     writer: &mut CallsWriter,
     capacity: usize,
-) -> Result<(Ended, Vec<u8>), Fail> {
-    let mut output = Output::new(BufWriter::with_capacity(alloc, capacity, writer)?);
+) -> Result<(FilterOutcome, Vec<u8>), Fail> {
+    let mut output = CoalescingOutput::new(BufWriter::with_capacity(alloc, capacity, writer)?);
     let reader = ChunkReader::new(case.text.as_slice(), case.read);
     Ok(run_one(alloc, reader, &mut output, false)?)
 }
 
 /// Asserts what was reported when a write or a flush failed.
-fn assert_unwritten(rt: &impl Abort, ended: Ended, errors: &[u8], calls: usize) {
-    assert_eq!(ended, Ended::Unwritten, "at {calls}");
+fn assert_unwritten(rt: &impl Abort, ended: FilterOutcome, errors: &[u8], calls: usize) {
+    assert_eq!(ended, FilterOutcome::WriteFailed, "at {calls}");
     assert_eq!(ended.status(), 1);
     let line: &[u8] = b"kodliwe: write failed: no space\n";
     assert_eq!(errors, line, "at {calls}");
@@ -232,7 +233,7 @@ fn assert_complete(
 ) -> Result<usize, Fail> {
     let mut writer = CallsWriter::new(alloc, usize::MAX, ErrorKind::Other, most);
     let (ended, errors) = run_into(alloc, case, &mut writer, capacity)?;
-    assert_eq!(ended, Ended::Complete, "by {most}, over {capacity}");
+    assert_eq!(ended, FilterOutcome::Complete, "by {most}, over {capacity}");
     assert!(errors.is_empty());
     let is_wanted = writer.held() == case.wanted.as_slice();
     assert!(is_wanted, "by {most}, over {capacity}");
@@ -240,7 +241,7 @@ fn assert_complete(
 }
 
 #[test]
-fn an_output_that_takes_little_at_a_call_gets_all() -> Result<(), Fail> {
+fn short_writes_write_everything() -> Result<(), Fail> {
     let rt = HostRuntime;
     let alloc = rt.alloc();
     for case in cases(alloc)?.iter() {
@@ -254,7 +255,7 @@ fn an_output_that_takes_little_at_a_call_gets_all() -> Result<(), Fail> {
 }
 
 #[test]
-fn an_output_that_fails_at_any_call_holds_a_beginning() -> Result<(), Fail> {
+fn an_output_that_fails_at_any_call_holds_a_prefix() -> Result<(), Fail> {
     let rt = HostRuntime;
     let alloc = rt.alloc();
     for case in cases(alloc)?.iter() {
@@ -275,7 +276,7 @@ fn an_output_that_fails_at_any_call_holds_a_beginning() -> Result<(), Fail> {
 }
 
 #[test]
-fn a_last_flush_that_fails_is_told() -> Result<(), Fail> {
+fn a_last_flush_that_fails_is_reported() -> Result<(), Fail> {
     let rt = HostRuntime;
     let alloc = rt.alloc();
     for case in cases(alloc)?.iter() {

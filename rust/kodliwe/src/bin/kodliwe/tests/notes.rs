@@ -2,7 +2,7 @@
 //! Tests the notes on inputs that are compressed or encoded.
 use super::run_one;
 use super::streams::ChunkReader;
-use crate::run::{BUFFER, Ended, Input, Settings, run};
+use crate::filtering::{BUFFER, FilterOutcome, Input, Settings, filter_all};
 use kodliwe::rustc_demangle::Format;
 use kodliwe::support::alloc::Global;
 use kodliwe::support::process::Abort;
@@ -48,7 +48,7 @@ fn assert_note(
 ) -> Result<(), Fail> {
     let mut output = Vec::new(alloc);
     let (ended, errors) = run_one(alloc, reader, &mut output, false)?;
-    assert_eq!(ended, Ended::Complete, "of {text:?}");
+    assert_eq!(ended, FilterOutcome::Complete, "of {text:?}");
     let copied = text.strip_suffix(b"_ZN1aE").unwrap_or(text);
     assert!(output.as_slice().starts_with(copied), "of {text:?}");
     assert_eq!(errors.as_slice(), note, "of {text:?}");
@@ -74,8 +74,8 @@ fn a_mark_that_is_cut_is_not_noted() -> Result<(), Fail> {
     for ((text, note), least) in MARKED.into_iter().zip(LENGTHS) {
         for len in 0..=text.len() {
             let wanted: &[u8] = if len < least { b"" } else { note };
-            let front = &text[..len];
-            assert_note(&rt, alloc, ChunkReader::new(front, 100), front, wanted)?;
+            let prefix = &text[..len];
+            assert_note(&rt, alloc, ChunkReader::new(prefix, 100), prefix, wanted)?;
             if len > 0 {
                 assert_note(&rt, alloc, ChunkReader::new(text, len), text, wanted)?;
             }
@@ -85,12 +85,12 @@ fn a_mark_that_is_cut_is_not_noted() -> Result<(), Fail> {
 }
 
 #[test]
-fn a_mark_behind_the_beginning_is_not_noted() -> Result<(), Fail> {
+fn a_mark_after_the_beginning_is_not_noted() -> Result<(), Fail> {
     let rt = HostRuntime;
     let alloc = rt.alloc();
     for (text, _) in MARKED {
-        for front in [1, BUFFER] {
-            let mut long = vec![in alloc; b'x'; front]?;
+        for prefix in [1, BUFFER] {
+            let mut long = vec![in alloc; b'x'; prefix]?;
             long.extend_from_slice(text)?;
             let reader = ChunkReader::new(long.as_slice(), BUFFER);
             assert_note(&rt, alloc, reader, long.as_slice(), b"")?;
@@ -129,8 +129,8 @@ fn each_input_is_noted_by_its_name() -> Result<(), Fail> {
     };
     let mut output = Vec::new(alloc);
     let mut errors = Vec::new(alloc);
-    let ended = run(settings, inputs, &mut output, &mut errors);
-    assert_eq!(ended, Ended::Complete);
+    let ended = filter_all(settings, inputs, &mut output, &mut errors);
+    assert_eq!(ended, FilterOutcome::Complete);
     let wanted: &[u8] = b"\x1F\x8B\x1F\x8Bc\x1F\x8B";
     assert_eq!(output.as_slice(), wanted);
     let notes: &[u8] = b"kodliwe: note: a looks compressed (gzip); decompress it first\n\

@@ -66,9 +66,9 @@ impl Read for ChunkReader<'_> {
         }
         self.reads_left -= 1;
         let count = self.rest.len().min(self.most).min(buf.len());
-        let (front, behind) = self.rest.split_at(count);
-        buf[..count].copy_from_slice(front);
-        self.rest = behind;
+        let (prefix, following) = self.rest.split_at(count);
+        buf[..count].copy_from_slice(prefix);
+        self.rest = following;
         Ok(count)
     }
 }

@@ -1,0 +1,165 @@
+//! Writes the path of a symbol as a C string to the caller's memory. The calls for C and those for
+//! web pages share this code.
+#![tactic(auto)]
+
+ghost use Rattle.std.specs.Prelude.{◌≡◌, ◌+◌, ◌<◌, ◌≤◌, ℕ, List, length, drop, OnSome, IfSome, IfNone};
+ghost use Prim.Native.Nat.{min};
+ghost use Rattle.std.specs.List.{concat};
+ghost use Rattle.rustc_demangle.specs.Cut.{size};
+ghost use Rattle.rustc_demangle.specs.Filtered.{filtered_in, filtered_within};
+ghost use Rattle.rustc_demangle.specs.Slice.{overlay};
+ghost use Rattle.rustc_demangle.specs.Stripped.{stripped};
+ghost use Rattle.rustc_demangle.specs.Symbols.{handed_in};
+ghost use Rattle.demangle_c_string.specs.CString.{IsRustSymbol, path_in, path_within, c_string};
+
+use rustc_demangle::sink::SliceSink;
+use rustc_demangle::{Demangle, Format, demangle_slice_formatted, try_demangle};
+
+/// The most bytes that are printed for a symbol, without the marker and the suffix.
+pub const MAX_SIZE: usize = 1_000_000;
+
+/// Returns the bytes as text, or `None` if they are not UTF-8. In that case they are not a symbol.
+#[tactic(auto, using(rustc_demangle::proofs::SymbolLaws::symbols_utf8))]
+pub fn text_of(bytes: &[u8]) -> Option<&str>
+    ensures text { IfSome result (λ text. text.now ≡ bytes.now) }
+    ensures none { IfNone result (IsRustSymbol bytes.now → ⊥) }
+{
+    let Ok(text) = str::from_utf8(bytes) else {
+        return None;
+    };
+    Some(text)
+}
+
+/// Returns the symbol that the bytes are, after a suffix of ThinLTO is removed, or `None` if they
+/// are not a symbol. A symbol may be legacy or v0 (Rust RFC 2603).
+pub fn symbol_of(bytes: &[u8]) -> Option<Demangle<'_>>
+    ensures symbol { OnSome result (IsRustSymbol bytes.now) }
+    ensures text { IfSome result (λ d. d ≡ stripped bytes.now) }
+    ensures none { IfNone result (IsRustSymbol bytes.now → ⊥) }
+{
+    try_demangle(text_of(bytes)?).ok()
+}
+
+/// Writes a path from its byte `start` to memory, as far as the memory reaches. Returns the number
+/// of bytes of the whole path.
+#[tactic(auto, using(crate::proofs::NulTerminator::laid_part))]
+fn write_path(symbol: &Demangle<'_>, out: &mut [u8], format: Format, start: usize) -> usize
+    requires { size (handed_in symbol.now format) ≤ usize.MAX }
+    ensures len { result ≡ length (concat (handed_in symbol.now format)) }
+    ensures bytes { out.new ≡ overlay out.old (drop start (concat (handed_in symbol.now format))) }
+{
+    let mut sink = SliceSink::starting_at(out, start);
+    match symbol.write_formatted(&mut sink, format) {
+        Ok(()) => sink.len(),
+        Err(_) => unreachable!(),
+    }
+}
+
+/// Writes a 0 after a text of this length at the start of the memory, or to the last byte if the
+/// text fills the memory. Memory of size 0 stays unchanged.
+pub fn put_nul(out: &mut [u8], len: usize)
+    ensures { (memory text : List ℕ) → out.old ≡ overlay memory text → length text ≡ len →
+        out.new ≡ overlay memory (c_string (length memory) text) }
+{
+    if !out.is_empty() {
+        let end = len.min(out.len() - 1);
+        out[end] = 0;
+    }
+}
+
+/// Writes the path of a Rust symbol to memory, from the path's byte `start`, with a 0 after it.
+/// Returns the number of bytes of the whole path and a 0.
+///
+/// The path is cut at `limit` bytes, and at `MAX_SIZE` at most. `{size limit reached}` and the
+/// symbol's suffix follow a cut path. If the bytes are not a symbol, the call returns 0 and leaves
+/// the memory unchanged. Otherwise the memory receives as much of the path from `start` as fits
+/// before a 0, and no byte after the 0 is changed. The call does not allocate.
+pub fn write_part(
+    symbol: &[u8],
+    out: &mut [u8],
+    include_hash: bool,
+    limit: usize,
+    start: usize,
+) -> usize
+    ensures none { (IsRustSymbol symbol.now → ⊥) → (result ≡ 0) × (out.new ≡ out.old) }
+    ensures size { IsRustSymbol symbol.now →
+        result ≡ length (path_within symbol.now include_hash (min limit MAX_SIZE)) + 1 }
+    ensures text { IsRustSymbol symbol.now →
+        let path = path_within symbol.now include_hash (min limit MAX_SIZE) in
+        out.new ≡ overlay out.old (c_string (length out.old) (drop start path)) }
+{
+    let format = Format {
+        include_hash,
+        fold_arguments: false,
+        limit,
+    };
+    write_part_formatted(symbol, out, format, start)
+}
+
+/// Writes a path as `write_part` does, in a format. The limit of the format is `MAX_SIZE` at most.
+pub fn write_part_formatted(symbol: &[u8], out: &mut [u8], format: Format, start: usize) -> usize
+    ensures none { (IsRustSymbol symbol.now → ⊥) → (result ≡ 0) × (out.new ≡ out.old) }
+    ensures size { IsRustSymbol symbol.now →
+        let path = path_in symbol.now (record format { limit = min format.limit MAX_SIZE }) in
+        result ≡ length path + 1 }
+    ensures text { IsRustSymbol symbol.now →
+        let path = path_in symbol.now (record format { limit = min format.limit MAX_SIZE }) in
+        out.new ≡ overlay out.old (c_string (length out.old) (drop start path)) }
+{
+    let Some(demangled) = symbol_of(symbol) else {
+        return 0;
+    };
+    let most = format.limit.min(MAX_SIZE);
+    let capped = Format {
+        limit: most,
+        ..format
+    };
+    let len = write_path(&demangled, out, capped, start);
+    put_nul(out, len.saturating_sub(start));
+    len + 1
+}
+
+/// Writes bytes to memory with each Rust symbol replaced by its path, and a 0 after them. Returns
+/// the number of bytes of that text and the 0.
+///
+/// Each path is cut as by `write_part`. The result does not depend on the size of the memory. The
+/// memory receives as much of the text as fits before a 0, and no byte after the 0 is changed. The
+/// result is `usize::MAX` if the number is not smaller than that. The contents of the memory are
+/// then unspecified. The call does not allocate.
+pub fn write_text(text: &[u8], out: &mut [u8], include_hash: bool, limit: usize) -> usize
+    ensures size { let filtered = filtered_within include_hash (min limit MAX_SIZE) text.now in
+        length filtered < usize.MAX → result ≡ length filtered + 1 }
+    ensures text { let filtered = filtered_within include_hash (min limit MAX_SIZE) text.now in
+        length filtered < usize.MAX →
+        out.new ≡ overlay out.old (c_string (length out.old) filtered) }
+    ensures past { usize.MAX ≤ length (filtered_within include_hash (min limit MAX_SIZE) text.now) →
+        result ≡ usize.MAX }
+{
+    let format = Format {
+        include_hash,
+        fold_arguments: false,
+        limit,
+    };
+    write_text_formatted(text, out, format)
+}
+
+/// Writes a text as `write_text` does, with each symbol printed in a format. The limit of the format is
+/// `MAX_SIZE` at most.
+pub fn write_text_formatted(text: &[u8], out: &mut [u8], format: Format) -> usize
+    ensures size { let capped = record format { limit = min format.limit MAX_SIZE } in
+        let filtered = filtered_in capped text.now in
+        length filtered < usize.MAX → result ≡ length filtered + 1 }
+    ensures text { let capped = record format { limit = min format.limit MAX_SIZE } in
+        let filtered = filtered_in capped text.now in
+        length filtered < usize.MAX →
+        out.new ≡ overlay out.old (c_string (length out.old) filtered) }
+    ensures past { let capped = record format { limit = min format.limit MAX_SIZE } in
+        usize.MAX ≤ length (filtered_in capped text.now) → result ≡ usize.MAX }
+{
+    let limit = format.limit.min(MAX_SIZE);
+    let Some(len) = demangle_slice_formatted(text, out, Format { limit, ..format }) else {
+        return usize::MAX;
+    };
+    put_nul(out, len);
+    len.saturating_add(1)
+}

@@ -1,0 +1,95 @@
+-- Steps of points, one behind another.
+use Rattle.std.proofs.lemmas.List.{append-nil}
+use Rattle.std.proofs.Common.{◌≡◌, ℕ, ◌+◌, ◌≤◌, Bool, false, List, [], ◌∷◌, ◌++◌, Result, Err, refl, arith, sym, ap, ◌∙◌}
+use Rattle.demangle_v0_grammar.specs.Items.{Items, Kind, child, done}
+use Rattle.demangle_v0_grammar.specs.LookTotals.{total}
+use Rattle.demangle_v0_grammar.specs.Traces.{Event, allows, looks_then, Trace, of, events, empty_trace, with_looks, with_texts, context_at}
+use Rattle.demangle_v0_tokens.specs.Tokens.{TokenSpec, token_spec}
+use Rattle.demangle_v0_tokens.specs.Texts.{token_items}
+use Rattle.demangle_v0_grammar.specs.Reading.{Form, Place, parse, unit_outcome}
+use Rattle.demangle_v0.specs.Traces.{Action, pays, puts, with_actions, action_looks, with_closed_bracket}
+use Rattle.demangle_v0.specs.Measure.{weight_left, weight_at}
+use Rattle.demangle_v0.specs.Steps.{KeepsFrames}
+use Rattle.demangle_sink.specs.declared.SinkRefused.{SinkRefused}
+use Rattle.demangle_v0_tokens.specs.declared.token.TokenKind.{TokenKind}
+use Rattle.demangle_v0_tokens.specs.declared.read.TokenOutcome.{TokenOutcome}
+use Rattle.demangle_v0_tokens.specs.declared.read.TokenOutcome.TheVariants as reads
+use Rattle.demangle_v0.specs.declared.parser.Continuation.{Continuation}
+use Rattle.demangle_v0.specs.declared.parser.Continuation.TheVariants as continuation
+use Rattle.demangle_v0.specs.declared.parser.frames.Frame.{Frame}
+use Rattle.demangle_v0_tokens.specs.declared.output.Output.{Ghosts}
+use Rattle.demangle_v0_tokens.proofs.TokenSpecs.{token_then, grouped, word_read}
+
+pub bits_append : (out : Bool) (xs ys : List Action) (h : Trace) → with_actions out (xs ++ ys) h ≡ with_actions out xs (with_actions out ys h)
+bits_append out [] ys h = refl
+bits_append out (pays k ∷ xs) ys h = ap (with_looks k) (bits_append out xs ys h)
+bits_append out (puts ts ∷ xs) ys h = ap (with_texts out ts) (bits_append out xs ys h)
+
+pub looks_append : (xs ys : List Action) → action_looks (xs ++ ys) ≡ action_looks xs + action_looks ys
+looks_append [] ys = omega arith
+looks_append (pays k ∷ xs) ys = omega (arith, looks_append xs ys)
+looks_append (puts ts ∷ xs) ys = looks_append xs ys
+
+pub looks_both : (ks ls : List ℕ) (h : Trace) → with_looks (ks ++ ls) h ≡ with_looks ks (with_looks ls h)
+looks_both ks ls h = ap (λ (xs : List Event). record { events = xs; place = h.place; is_bracket_open = h.is_bracket_open }) (go ks)
+  where
+    go : (ks : List ℕ) → looks_then (ks ++ ls) h.events ≡ looks_then ks (looks_then ls h.events)
+    go [] = refl
+    go (k ∷ ks) = ap (λ (xs : List Event). allows k ∷ xs) (go ks)
+
+pub total_both : (ks ls : List ℕ) → total (ks ++ ls) ≡ total ks + total ls
+total_both [] ls = omega arith
+total_both (k ∷ ks) ls = omega (arith, total_both ks ls)
+
+-- nothing was put on the stack
+pub kept_none : (stack : List Frame) → KeepsFrames stack stack
+kept_none stack = ([], sym (append-nil stack))
+
+-- where the unit is over, nothing weighs
+pub way_light : (p : Continuation) → weight_left p ≤ weight_at p
+way_light continuation.End = omega arith
+way_light p = omega arith
+
+abbrev pub refused : SinkRefused → Result (Unit {0}) SinkRefused
+refused e = Err e
+
+module _ {V : Type 0} (output : Ghosts V) (b : List ℕ) (form : Form) where
+  -- what is heard of a unit's rest
+  abbrev pub trace : Items → ℕ → ℕ → Place → Trace
+  trace p left n i = with_closed_bracket (of form.include_hash output.is_printed (parse p (context_at b form.fold_arguments output.is_printed left n) i))
+
+  -- a child with which a unit ends
+  pub child_last : (k : Kind) (v : Bool) (left n : ℕ) (i : Place) → trace (child k v done) left n i ≡ with_closed_bracket (of form.include_hash output.is_printed (unit_outcome (context_at b form.fold_arguments output.is_printed left n) k v i))
+  unfolding parse
+  child_last k v left n i = let o = unit_outcome (context_at b form.fold_arguments output.is_printed left n) k v i in ap (λ xs. record { events = xs; place = o.place; is_bracket_open = false }) (append-nil (events form.include_hash output.is_printed o.tree))
+
+  -- What is read as a group, and what stands behind it.
+
+  -- the unit ends there
+  abbrev ended : Place → Trace
+  ended j = empty_trace j false
+
+  -- a group, and what is heard behind it
+  abbrev pub group_then : TokenSpec → (Place → Trace) → Trace
+  group_then g k = grouped b form.include_hash output.is_printed g k
+
+  -- a group with which the unit ends
+  abbrev pub group_trace : TokenSpec → Trace
+  group_trace g = group_then g ended
+
+  -- no bracket is open behind a word, where none is behind the rest
+  token_shut : (ks : List ℕ) (r : TokenOutcome) (k : Place → Trace) → with_closed_bracket (with_looks ks (token_then b form.include_hash output.is_printed r k)) ≡ with_looks ks (token_then b form.include_hash output.is_printed r (λ j. with_closed_bracket (k j)))
+  token_shut ks (reads.Parsed x j) k = refl
+  token_shut ks (reads.NotParsed m) k = refl
+
+  -- the same of a group
+  pub group_shut : (h : Trace) (g : TokenSpec) (k : Place → Trace) → h ≡ group_then g k → with_closed_bracket h ≡ group_then g (λ j. with_closed_bracket (k j))
+  group_shut h g k e = ap with_closed_bracket e ∙ token_shut g.costs g.reads k
+
+  -- a word is read as its group
+  pub token_so : (x : TokenKind) (c : ℕ) (p : Items) (left n : ℕ) (i : Place) → trace (token_items x c p) left n i ≡ group_then (token_spec b x c output.is_printed n i) (trace p left n)
+  token_so x c p left n i = group_shut _ (token_spec b x c output.is_printed n i) (λ j. of form.include_hash output.is_printed (parse p (context_at b form.fold_arguments output.is_printed left n) j)) (word_read b form.include_hash form.fold_arguments left output.is_printed n x c p i)
+
+  -- what is heard of a group that was read so
+  pub group_so : (h : Trace) (g : TokenSpec) (k : Place → Trace) (r : TokenOutcome) → h ≡ group_then g k → r ≡ g.reads → h ≡ with_looks g.costs (token_then b form.include_hash output.is_printed r k)
+  group_so h g k r so e = so ∙ ap (λ (z : TokenOutcome). with_looks g.costs (token_then b form.include_hash output.is_printed z k)) (sym e)

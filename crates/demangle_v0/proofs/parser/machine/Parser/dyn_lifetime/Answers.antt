@@ -1,0 +1,10 @@
+use Rattle.std.proofs.Common.{arith, refl}
+use Rattle.demangle_v0.specs.Traces.{trace_at}
+use Rattle.demangle_v0.proofs.StepCases.{alike}
+use Rattle.demangle_v0.proofs.parser.machine.Parser.dyn_lifetime.Goals as goal
+
+pub returns : goal.returns
+unfolding trace_at
+returns g c = let d = c.end_with_token.ensures.performs in record {
+  performs = record { does = alike (omega arith) refl (omega arith) (omega arith) d.does; same = d.same };
+}

@@ -1,0 +1,87 @@
+use Rattle.std.proofs.Common.{arith, refl}
+use Rattle.demangle_v0.specs.Traces.{trace_at}
+use Rattle.demangle_v0.specs.declared.parser.Continuation.TheVariants as continuation
+use Rattle.demangle_v0_tokens.specs.declared.token.TokenKind.TheVariants as token_kind
+use Rattle.demangle_v0.proofs.StepErrors.{stops}
+use Rattle.demangle_v0.proofs.Parsers.{went}
+use Rattle.demangle_v0.proofs.FunctionSteps.{parameters}
+use Rattle.demangle_v0.proofs.StepCases.{token_continues, token_bare, token_refuses, word_stops}
+use Rattle.demangle_v0.proofs.PrimitiveLooks.{group_tight, own_more}
+use Rattle.demangle_v0.proofs.parser.machine.Parser.function_qualifiers.Goals as goal
+
+pub returns-then-has_no_qualifiers : goal.returns-then-has_no_qualifiers
+unfolding trace_at
+returns-then-has_no_qualifiers g c =
+    let m = c.args.self.now in
+    let tight = group_tight m.source.symbol.now token_kind.FunctionQualifiers m.state.letter g.V.Output.is_printed m.state.lifetimes
+    m.state.place in
+    let d = went g.V.Output c.args.output.now continuation.OpenParameters
+    (rw c.token_at.ensures.parser at c.queue_text.ensures.performs) in
+    record {
+      performs = record {
+        does = token_bare (omega arith) token_kind.FunctionQualifiers parameters _ _ c.in-Parsed.ensures.value
+            (c.has_no_qualifiers.ensures c.if-has_no_qualifiers.true m.source.symbol.now m.source.include_hash)
+            (record { grows = c.in-Parsed.ensures.grows; within = omega (arith, c.in-Parsed.ensures.looks) })
+            (own_more _ 8 20 _ _ (omega arith) (omega (arith, c.in-Parsed.ensures.looks, tight, c.queue_text.ensures.looks)))
+            (omega arith) (omega arith) d.does;
+        same = d.same;
+      };
+      own_looks = omega (arith, c.in-Parsed.ensures.looks, tight, c.queue_text.ensures.looks);
+    }
+
+pub returns-in_err-emit-in-Parsed : goal.returns-in_err-emit-in-Parsed
+unfolding trace_at
+returns-in_err-emit-in-Parsed g c =
+    let m = c.args.self.now in
+    let e = c.in_err-emit-in-Parsed.ensures in
+    let tight = group_tight m.source.symbol.now token_kind.FunctionQualifiers m.state.letter g.V.Output.is_printed m.state.lifetimes
+    m.state.place in
+    rw (e.parser, c.token_at.ensures.parser, stops c.from_residual.result c.from_residual.ensures.1 refl) (record {
+      performs = record {
+        does = token_refuses (omega arith) token_kind.FunctionQualifiers parameters _ _ c.in-Parsed.ensures.value
+            (record {
+              grows = omega (arith, c.in-Parsed.ensures.grows, e.grows);
+              within = omega (arith, c.in-Parsed.ensures.looks, e.most);
+            })
+            (rw c.token_at.ensures.parser at e.prints) e.no_output;
+        same = (refl, refl, refl);
+      };
+      own_looks = omega (arith, c.in-Parsed.ensures.looks, e.most, tight);
+    })
+
+pub returns-in_ok-emit-in-Parsed : goal.returns-in_ok-emit-in-Parsed
+unfolding trace_at
+returns-in_ok-emit-in-Parsed g c =
+    let m = c.args.self.now in
+    let e = c.in_ok-emit-in-Parsed.ensures in
+    let tight = group_tight m.source.symbol.now token_kind.FunctionQualifiers m.state.letter g.V.Output.is_printed m.state.lifetimes
+    m.state.place in
+    rw (e.parser, c.token_at.ensures.parser) (record {
+      performs = record {
+        does = token_continues (omega arith) continuation.OpenParameters token_kind.FunctionQualifiers parameters _ _ c.in-Parsed.ensures.value
+            (record {
+              grows = omega (arith, c.in-Parsed.ensures.grows, e.grows);
+              within = omega (arith, c.in-Parsed.ensures.looks, e.most);
+            })
+            (rw c.token_at.ensures.parser at e.prints) e.ready c.requires.can_step.no_pending_text refl (omega arith) (omega arith)
+            c.requires.can_step.fits;
+        same = (refl, refl, refl);
+      };
+      own_looks = omega (arith, c.in-Parsed.ensures.looks, e.most, tight);
+    })
+
+pub returns-in-NotParsed : goal.returns-in-NotParsed
+unfolding trace_at
+returns-in-NotParsed g c =
+    let m = c.args.self.now in
+    let tight = group_tight m.source.symbol.now token_kind.FunctionQualifiers m.state.letter g.V.Output.is_printed m.state.lifetimes
+    m.state.place in
+    rw c.token_at.ensures.parser (record {
+      performs = record {
+        does = word_stops (omega arith) token_kind.FunctionQualifiers parameters _ c.in-NotParsed.ensures.value
+            (record { grows = c.in-NotParsed.ensures.grows; within = omega (arith, c.in-NotParsed.ensures.looks) })
+            c.requires.can_step.no_pending_text (omega arith);
+        same = (refl, refl, refl);
+      };
+      own_looks = omega (arith, c.in-NotParsed.ensures.looks, tight);
+    })

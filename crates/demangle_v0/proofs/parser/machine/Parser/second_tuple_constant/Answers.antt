@@ -1,0 +1,27 @@
+use Rattle.std.proofs.Common.{false, arith, refl, sym, ◌∙◌}
+use Rattle.demangle_v0_grammar.specs.Table.{constant_inside}
+use Rattle.demangle_v0.specs.Traces.{trace_at}
+use Rattle.demangle_v0.specs.declared.parser.constant_lists.ConstantList.TheVariants as list
+use Rattle.demangle_v0.proofs.ConstantListSteps.{constants}
+use Rattle.demangle_v0.proofs.ListSteps.{second_closes, second_continues}
+use Rattle.demangle_v0.proofs.parser.machine.Parser.second_tuple_constant.Goals as goal
+
+pub returns-then-ends_list : goal.returns-then-ends_list
+unfolding trace_at
+returns-then-ends_list g c = record {
+  performs = λ p. rw (c.put.ensures, c.ends_list.ensures.place) (record {
+    does = second_closes constant_inside refl (sym c.ends_list.ensures.over ∙ c.if-ends_list.true) refl
+        c.ends_list.ensures.paid (omega arith) (omega arith) c.requires.can_step.fits;
+    same = (refl, refl, refl);
+  });
+}
+
+pub returns : goal.returns
+unfolding trace_at
+returns g c = record {
+  performs = λ p. rw (c.put-2.ensures, c.push.ensures, c.ends_list.ensures.place) (record {
+    does = second_continues (constants _ false list.Tuple) refl (sym c.ends_list.ensures.over ∙ c.if-ends_list.false) refl
+        c.ends_list.ensures.paid (omega arith) c.requires.can_step.fits refl;
+    same = (refl, refl, refl);
+  });
+}

@@ -1,6 +1,0 @@
-use Rattle.std.proofs.Common.{arith, refl}
-use Rattle.demangle_v0.specs.PointRuns.{pops}
-use Rattle.demangle_v0.proofs.points.parser.Parser.resume.Goals as goal
-
-pub returns-in-Some-clause-some : goal.returns-in-Some-clause-some
-returns-in-Some-clause-some g c = pops c.in-Some.frame c.in-End.is (omega arith) c.in-Some.ensures.some refl c.resume.ensures

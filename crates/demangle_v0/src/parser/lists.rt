@@ -1,0 +1,38 @@
+//! Lists: where they end, and what separates their elements.
+ghost use Rattle.std.specs.Prelude.{◌≡◌, Some, None, if◌then◌else◌};
+ghost use Rattle.demangle_v0.specs.Parsers.{moved};
+ghost use Rattle.demangle_v0.specs.Steps.{LooksWithin};
+ghost use Rattle.demangle_v0.specs.Continuations.{after_list, is_list_end, list_costs};
+
+use crate::parser::machine::Parser;
+use demangle_v0_tokens::fixed_texts::FixedText;
+
+/// Returns the text before an element: none before the first.
+#[inline(always)]
+pub(super) fn separator(is_first: bool, pending_text: FixedText) -> Option<FixedText>
+    ensures { result ≡ (if is_first then None else Some pending_text) }
+{
+    if is_first { None } else { Some(pending_text) }
+}
+
+impl<const N: usize> Parser<'_, N> {
+    /// Reads the `E` after a list, and returns whether the list ends.
+    ///
+    /// A list also ends if parsing has failed, so that what follows the list is printed.
+    #[inline(always)]
+    pub(super) fn ends_list(&mut self) -> bool
+        ensures over { result ≡ is_list_end self.old.source.symbol.now self.old.state.place }
+        ensures place { self.new ≡ moved self.old (after_list self.old.source.symbol.now
+            self.old.state.place) self.new.looks }
+        ensures paid { LooksWithin self.old.looks (list_costs self.old.state.place) self.new.looks }
+    {
+        let Some(at) = self.state.place else {
+            return true;
+        };
+        if !self.source.symbol.is_at(b'E', at, &mut self.looks) {
+            return false;
+        }
+        self.state.place = Some(at + 1);
+        true
+    }
+}

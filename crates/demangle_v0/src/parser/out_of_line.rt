@@ -1,0 +1,61 @@
+//! Continuations that few symbols have: each is a call, so that the loops stay short.
+ghost use Rattle.demangle_v0.specs.Parsers.{Performed, CanPerform};
+ghost use Rattle.demangle_v0.specs.Productions.{out_of_line_continuation};
+
+use crate::parser::machine::Parser;
+use crate::parser::{Continuation, StepError};
+use demangle_v0_tokens::output::Output;
+
+/// A continuation that few symbols have.
+#[derive(Clone, Copy)]
+pub enum OutOfLine {
+    FunctionQualifiers,
+    DynBinder,
+    BindingName,
+    DynLifetime,
+    Constant,
+    Number,
+    StrLiteral,
+    Variant,
+    Field,
+}
+
+impl<const N: usize> Parser<'_, N> {
+    /// Performs a continuation that few symbols have, by a call.
+    #[inline(always)]
+    fn call_out_of_line<V: Output>(
+        &mut self,
+        continuation: OutOfLine,
+        output: &mut V,
+    ) -> Result<Continuation, StepError>
+        requires can_step { CanPerform V.Output (out_of_line_continuation continuation) self.old output.old }
+        ensures performs { Performed V.Output (out_of_line_continuation continuation) self.old output.old result self.new output.new }
+    {
+        match continuation {
+            OutOfLine::FunctionQualifiers => self.function_qualifiers(output),
+            OutOfLine::DynBinder => self.dyn_binder(output),
+            OutOfLine::BindingName => self.binding_name(output),
+            OutOfLine::DynLifetime => self.dyn_lifetime(output),
+            OutOfLine::Constant => self.constant(output),
+            OutOfLine::Number => self.number(output),
+            OutOfLine::StrLiteral => self.literal(output),
+            OutOfLine::Variant => self.variant(),
+            OutOfLine::Field => self.field(output),
+        }
+    }
+
+    /// Performs a continuation that few symbols have.
+    #[inline(always)]
+    pub(super) fn out_of_line<V: Output>(
+        &mut self,
+        continuation: OutOfLine,
+        output: &mut V,
+    ) -> Result<Continuation, StepError>
+        requires can_step { CanPerform V.Output (out_of_line_continuation continuation) self.old output.old }
+        ensures performs { Performed V.Output (out_of_line_continuation continuation) self.old output.old result self.new output.new }
+    {
+        // A copy: the results of other continuations need not be where this call writes its own.
+        let next = self.call_out_of_line(continuation, output)?;
+        Ok(next)
+    }
+}

@@ -1,0 +1,112 @@
+//! Parts that a printing parse reads and does not print: impl paths, and folded arguments.
+ghost use Rattle.std.specs.Prelude.{◌≡◌, ◌≤◌, true, Some, Ok, IfSome, IfNone};
+ghost use Rattle.demangle_v0.specs.Parsers.{FinishesSkip, IsValid, LeftValid, Same, SkipsFull, SkipsOver, checked_at};
+ghost use Rattle.demangle_v0.specs.Loops.{state_at};
+ghost use Rattle.demangle_v0.specs.Skips.{after_skip, is_impl_path, own_point};
+
+use crate::parser::machine::Parser;
+use crate::parser::steps::{Checkpoint, ReadOutcome};
+use crate::parser::{Continuation, State};
+use crate::printer::Unfinished;
+
+/// Returns whether a part that is not printed is next: an impl path, or generic arguments if they
+/// are folded.
+#[inline(always)]
+pub fn is_skipped(continuation: Continuation, fold_arguments: bool) -> bool
+    ensures { result ≡ is_impl_path fold_arguments continuation }
+{
+    match continuation {
+        Continuation::InherentImplPath | Continuation::TraitImplPath => true,
+        Continuation::FirstArgument | Continuation::FirstTraitArgument => fold_arguments,
+        _ => false,
+    }
+}
+
+/// Returns the continuation that reads such a part.
+#[inline(always)]
+fn own_point(continuation: Continuation) -> Continuation
+    ensures { result ≡ own_point continuation }
+{
+    match continuation {
+        Continuation::InherentImplPath | Continuation::TraitImplPath => Continuation::Path,
+        other => other,
+    }
+}
+
+/// Returns the continuation after such a part.
+#[inline(always)]
+fn after_skip(continuation: Continuation) -> Continuation
+    ensures { result ≡ after_skip continuation }
+{
+    match continuation {
+        Continuation::InherentImplPath => Continuation::InherentSelfType,
+        Continuation::TraitImplPath => Continuation::TraitSelfType,
+        Continuation::FirstArgument => Continuation::FoldedArguments,
+        Continuation::FirstTraitArgument => Continuation::FoldedTraitArguments,
+        other => other,
+    }
+}
+
+impl<const N: usize> Parser<'_, N> {
+    /// Continues at a checkpoint, after the part there that is not printed. The part ends at
+    /// `place`, or has a syntax error if that is `None`.
+    #[inline(always)]
+    fn continue_after(&mut self, printing: Checkpoint, place: Option<usize>)
+        ensures { self.new ≡ checked_at self.old (after_skip printing.continuation) (state_at printing.state
+            place) }
+    {
+        self.continuation = after_skip(printing.continuation);
+        self.state = State {
+            place,
+            ..printing.state
+        };
+    }
+
+    /// Reads the rest of a part that is not printed, if `left` is in one, and continues after it.
+    /// Returns what is left to print if the stack is full before the part ends.
+    // It is not inlined, so that the loop of printing stays small.
+    #[inline(never)]
+    pub(crate) fn finish_impl_path(&mut self, left: Unfinished) -> Option<Unfinished>
+        requires valid { LeftValid 0 (Ok (Some left)) self.old }
+        ensures finishes { FinishesSkip self.old left result self.new }
+        ensures grows { self.old.looks ≤ self.new.looks }
+        ensures same { Same self.old self.new }
+    {
+        let Unfinished::ImplPath(base, printing) = left else {
+            return None;
+        };
+        match self.read_steps(base) {
+            ReadOutcome::StackFull => Some(left),
+            ReadOutcome::Complete => {
+                self.continue_after(printing, self.state.place);
+                None
+            }
+            ReadOutcome::Failed => {
+                self.stack.truncate(base);
+                self.continue_after(printing, None);
+                None
+            }
+        }
+    }
+
+    /// Reads the impl path or the folded arguments at which the parser is, and continues after them.
+    /// Returns what is left to print if the stack is full before they end.
+    #[inline(always)]
+    pub(crate) fn skip_impl_path(&mut self) -> Option<Unfinished>
+        requires skipped { is_impl_path self.old.source.fold_arguments self.old.continuation ≡ true }
+        requires valid { IsValid self.old }
+        ensures following { IfNone result (SkipsOver self.old self.new) }
+        ensures unfinished { IfSome result (λ left. SkipsFull self.old left self.new) }
+        ensures grows { self.old.looks ≤ self.new.looks }
+        ensures same { Same self.old self.new }
+    {
+        let base = self.stack.len();
+        let printing = Checkpoint {
+            continuation: self.continuation,
+            state: self.state,
+        };
+        self.continuation = own_point(self.continuation);
+        self.state.in_value = false;
+        self.finish_impl_path(Unfinished::ImplPath(base, printing))
+    }
+}

@@ -1,0 +1,114 @@
+-- The law on looks.
+use Rattle.std.specs.Prelude.{ℕ, suc, ◌≤◌, ◌*◌}
+use Rattle.std.proofs.Common.{◌≡◌, Bool, true, false, cond, List, [], ◌∷◌, length, take, Some, None, ◌+◌, ◌++◌, ◌-◌, refl, arith}
+use Rattle.demangle_v0_grammar.specs.Items.{Items, Kind, a_path}
+use Rattle.demangle_v0_grammar.specs.LookBudget.{LookCost, bytes_of, looks_of, Pays}
+use Rattle.demangle_sink.specs.Cut.{size}
+use Rattle.demangle_sink.proofs.CutLemmas.{size-append}
+use Rattle.demangle_v0_grammar.specs.Reading.{Form, Outcome}
+use Rattle.demangle_v0_grammar.specs.Reading.{Tree, nothing, piece, plain_piece, node, looked, unprinted, Place, Context, max_depth, parse, costs_of, looks, pieces, looks_only, starts_second_path, read_at, path_texts}
+use Rattle.demangle_v0_grammar.specs.ValidationLooks.{looks_in, suffix_looks, second_looks, accepting_looks}
+use Rattle.demangle_v0_grammar.proofs.BudgetRules.{Pays-bound, Pays-whole}
+use Rattle.demangle_v0_grammar.proofs.ItemBudgets.{Ends, Idle, start, idle}
+use Rattle.demangle_v0_grammar.proofs.ItemLooks.{ends_pay, money, read_paid, spelling_paid, small}
+
+abbrev pub path_costs : List ℕ → Form → List LookCost
+path_costs symbol form = costs_of form.include_hash (read_at symbol form.fold_arguments true a_path 0 0 0 true).tree
+
+-- in a symbol of so many bytes: the looks that each byte printed pays for, and those allowed before the first
+abbrev pub looks_a_byte : ℕ → ℕ
+looks_a_byte n = 34 * max_depth * (n + 1)
+
+abbrev pub looks_before : ℕ → ℕ
+looks_before n = 34 * (max_depth + 1) * (n + 1)
+
+pub printing_pays : (symbol : List ℕ) (form : Form) → Pays (looks_a_byte (length symbol)) (looks_before (length symbol)) (path_costs symbol form) 0
+printing_pays symbol form =
+    let o : Outcome = read_at symbol form.fold_arguments true a_path 0 0 0 true in
+    ends_pay (length symbol) (looks_a_byte (length symbol)) 0 (0 + money (length symbol) (max_depth - 0)) 8 (looks_before (length symbol)) 0 (costs_of form.include_hash o.tree) o.place (omega arith)
+    (read_paid form.include_hash (looks_a_byte (length symbol)) symbol form.fold_arguments a_path 0 0 0 true (omega arith) (omega arith))
+
+pub printing_looks : (symbol : List ℕ) (form : Form) (k : ℕ) →
+    looks_of (take (suc k) (path_costs symbol form)) ≤ 100000 * (bytes_of (take k (path_costs symbol form)) + 1) * (length symbol + 1)
+printing_looks symbol form k = omega (arith, Pays-bound (looks_a_byte (length symbol)) (looks_before (length symbol)) 0 (path_costs symbol form) k (printing_pays symbol form))
+
+-- the looks of a reading without references, by where it ends
+abbrev pub Costs : ℕ → ℕ → ℕ → Place → Type 0
+Costs n i c None = c ≤ 32 * (n + 1 - i)
+Costs n i c (Some j) = (i ≤ j) × (j ≤ n) × (c + 8 ≤ 32 * (j - i))
+
+costs : (symbol : List ℕ) (i : ℕ) → i ≤ length symbol → Costs (length symbol) i (looks_in (read_at symbol false false a_path i 0 0 true)) (read_at symbol false false a_path i 0 0 true).place
+costs symbol i l = go (read_at symbol false false a_path i 0 0 true).tree (read_at symbol false false a_path i 0 0 true).place (spelling_paid true symbol false a_path i 0 0 true l)
+  where
+    go : (t : Tree) (x : Place) → Ends (length symbol) 0 i (0 + 0) 8 (costs_of true t) x → Costs (length symbol) i (looks_of (costs_of true t)) x
+    go t None h = let w : looks_of (costs_of true t) + 0 ≤ 32 * (length symbol + 1 - i) + (0 + 0) + 0 * bytes_of (costs_of true t) = Pays-whole 0 (32 * (length symbol + 1 - i) + (0 + 0)) 0 (costs_of true t) h in omega (arith, w)
+    go t (Some j) h = let w : looks_of (costs_of true t) + 8 ≤ 32 * (j - i) + (0 + 0) + 0 * bytes_of (costs_of true t) = Pays-whole 0 (32 * (j - i) + (0 + 0)) 8 (costs_of true t) h.2 in (h.0, h.1, omega (arith, w))
+
+-- with the suffix
+with_suffix : (symbol : List ℕ) (j c : ℕ) (x : Place) → j ≤ length symbol → Costs (length symbol) j c x → c + suffix_looks symbol x ≤ 32 * (length symbol + 1 - j)
+with_suffix symbol j c None l h = omega (arith, h)
+with_suffix symbol j c (Some k) l h = omega (arith, l, h.0, h.1, h.2)
+
+second_costs : (symbol : List ℕ) (j : ℕ) → j ≤ length symbol → second_looks symbol (Some j) ≤ 1 + 32 * (length symbol + 1 - j)
+second_costs symbol j l = go (starts_second_path symbol j)
+  where
+    go : (c : Bool) → 1 + (cond c (looks_in (read_at symbol false false a_path j 0 0 true) + suffix_looks symbol (read_at symbol false false a_path j 0 0 true).place) (suffix_looks symbol (Some j))) ≤ 1 + 32 * (length symbol + 1 - j)
+    go true = let w : looks_in (read_at symbol false false a_path j 0 0 true) + suffix_looks symbol (read_at symbol false false a_path j 0 0 true).place ≤ 32 * (length symbol + 1 - j) =
+        with_suffix symbol j (looks_in (read_at symbol false false a_path j 0 0 true)) (read_at symbol false false a_path j 0 0 true).place l (costs symbol j l) in omega (arith, w)
+    go false = omega (arith, l)
+
+both_cost : (symbol : List ℕ) (c : ℕ) (x : Place) → Costs (length symbol) 0 c x → c + second_looks symbol x ≤ 32 * (length symbol + 1)
+both_cost symbol c None h = omega (arith, h)
+both_cost symbol c (Some j) h = let w : second_looks symbol (Some j) ≤ 1 + 32 * (length symbol + 1 - j) = second_costs symbol j h.1 in omega (arith, h.0, h.1, h.2, w)
+
+pub accepting_costs : (symbol : List ℕ) → accepting_looks symbol ≤ 32 * (length symbol + 1)
+unfolding accepting_looks
+accepting_costs symbol = both_cost symbol (looks_in (read_at symbol false false a_path 0 0 0 true)) (read_at symbol false false a_path 0 0 0 true).place (costs symbol 0 (omega arith))
+
+-- any unit, at any depth
+pub unit_looks : (symbol : List ℕ) (folds plain : Bool) (kind : Kind) (i d m : ℕ) (value : Bool) (k : ℕ) → i ≤ length symbol → d ≤ max_depth →
+    looks_of (take (suc k) (costs_of plain (read_at symbol folds true kind i d m value).tree)) ≤ 34 * (length symbol + 1) * (max_depth + 1 - d) * (bytes_of (take k (costs_of plain (read_at symbol folds true kind i d m value).tree)) + 1)
+unit_looks symbol folds plain kind i d m value k l b =
+    let deeper : max_depth + 1 - d ≡ (max_depth - d) + 1 = omega (arith, b) in
+    rw deeper (sum (length symbol) (max_depth - d) _ _ (Pays-bound (34 * (length symbol + 1) * (max_depth - d)) (32 * (length symbol + 1) + (start kind + money (length symbol) (max_depth - d))) 0 (costs_of plain o.tree) k
+    (ends_pay (length symbol) (34 * (length symbol + 1) * (max_depth - d)) i (start kind + money (length symbol) (max_depth - d)) 8 _ 0 (costs_of plain o.tree) o.place (omega arith)
+    (read_paid plain (34 * (length symbol + 1) * (max_depth - d)) symbol folds kind i d m value (rate (length symbol) (max_depth - d)) l))))
+  where
+    o : Outcome
+    o = read_at symbol folds true kind i d m value
+
+    rate : (n e : ℕ) → money n e ≤ 34 * (n + 1) * e
+    rate n e = omega arith
+
+    sum : (n e w looks : ℕ) → looks ≤ 32 * (n + 1) + (start kind + money n e) + 34 * (n + 1) * e * w → looks ≤ 34 * (n + 1) * (e + 1) * (w + 1)
+    sum n e w looks y = omega (arith, small kind, y)
+
+-- while failed
+pub failed_looks : (p : Items) (s : Context) (plain : Bool) → looks_of (costs_of plain (parse p s None).tree) ≡ 0
+failed_looks p s plain =
+    let q : Idle plain 0 (parse p s None) = idle plain 0 p s in
+    let w : looks_of (costs_of plain (parse p s None).tree) + 0 ≤ 0 + 0 * bytes_of (costs_of plain (parse p s None).tree) = Pays-whole 0 0 0 (costs_of plain (parse p s None).tree) q.1 in
+    omega (arith, w)
+
+bytes_append : (xs ys : List LookCost) → bytes_of (xs ++ ys) ≡ bytes_of xs + bytes_of ys
+bytes_append [] ys = omega arith
+bytes_append (x ∷ xs) ys = omega (arith, bytes_append xs ys)
+
+bytes_unheard : (xs : List LookCost) → bytes_of (looks_only xs) ≡ 0
+bytes_unheard [] = refl
+bytes_unheard (x ∷ xs) = omega (arith, bytes_unheard xs)
+
+-- the stretches hand over the bytes of the pieces
+pub tree_bytes : (plain : Bool) (t : Tree) → bytes_of (costs_of plain t) ≡ size (pieces plain t)
+tree_bytes plain nothing = refl
+tree_bytes plain (piece t rest) = omega (arith, tree_bytes plain rest)
+tree_bytes true (plain_piece t rest) = omega (arith, tree_bytes true rest)
+tree_bytes false (plain_piece t rest) = tree_bytes false rest
+tree_bytes plain (node x y) = omega (arith, tree_bytes plain x, tree_bytes plain y, bytes_append (costs_of plain x) (costs_of plain y), size-append (pieces plain x) (pieces plain y))
+tree_bytes plain (looked k rest) = omega (arith, tree_bytes plain rest)
+tree_bytes plain (unprinted x rest) = omega (arith, tree_bytes plain rest, bytes_unheard (costs_of plain x), bytes_append (looks_only (costs_of plain x)) (costs_of plain rest))
+tree_bytes plain _ = omega arith
+
+pub rendered_bytes : (symbol : List ℕ) (form : Form) → bytes_of (costs_of form.include_hash (read_at symbol form.fold_arguments true a_path 0 0 0 true).tree) ≡ size (path_texts symbol form)
+unfolding path_texts
+rendered_bytes symbol form = tree_bytes form.include_hash (read_at symbol form.fold_arguments true a_path 0 0 0 true).tree

@@ -1,0 +1,4 @@
+pub mod TokenSpecs
+pub mod HexDigits
+pub mod TokenTexts
+pub mod TagRows

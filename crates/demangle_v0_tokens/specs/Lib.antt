@@ -1,0 +1,5 @@
+-- Internal.
+pub mod Backrefs
+pub mod Tags
+pub mod Texts
+pub mod Tokens

@@ -1,0 +1,141 @@
+//! The outputs to which the parser sends its tokens: a sink, or none.
+ghost use Rattle.std.specs.Prelude.{◌≡◌, ◌+◌, ◌≤◌, ℕ, List, Bool, Result, true, false, IsAscii, IsOk, OnOk};
+ghost use Rattle.demangle_v0_tokens.specs.Tokens.{texts_of, print_looks};
+ghost use Rattle.demangle_sink.specs.Limit.{Prints, Ready};
+ghost use Rattle.demangle_v0_tokens.specs.Tokens.{IsTokenWithin};
+ghost use Rattle.demangle_sink.specs.declared.SinkRefused.{SinkRefused};
+
+use crate::source::Source;
+use crate::token::Token;
+use demangle_sink::{SinkRefused, SizeLimitedFmtAdapter, TextSink};
+use demangle_symbol::cursor::Looks;
+
+/// Receives the tokens that the parser reads.
+///
+/// The parser is generic over its output. With `NoOutput` it only validates a symbol. With a
+/// `SizeLimitedFmtAdapter` it prints one.
+pub trait Output {
+    // Whether tokens are printed. If not, the first error ends the parse.
+    ghost is_printed: { Bool };
+
+    // Whether the output accepts another token.
+    ghost ready: { Self → Type 0 };
+
+    // Relates the output before, the texts of a token, the result, and the output after.
+    ghost prints: { Self → List (List ℕ) → Result (Unit {0}) SinkRefused → Self → Type 0 };
+
+    /// Returns `true` if tokens are printed.
+    fn is_printing(&self) -> bool
+        ensures { result ≡ is_printed };
+
+    /// Prints a token, piece by piece.
+    ///
+    /// # Errors
+    ///
+    /// Returns `SinkRefused` if the sink or the size limit rejects a piece. No later piece is sent.
+    fn emit(
+        &mut self,
+        source: &Source<'_>,
+        stretch: &Token,
+        looks: &mut Looks,
+    ) -> Result<(), SinkRefused>
+        requires ascii { is_printed ≡ true → IsAscii source.now.symbol.now }
+        requires in_bounds { IsTokenWithin source.now.symbol.now stretch.now }
+        requires ready { ready self.old }
+        ensures prints { prints self.old (texts_of source.now.symbol.now source.now.include_hash stretch.now) result
+            self.new }
+        ensures ready { OnOk result (ready self.new) }
+        ensures no_output { is_printed ≡ false → IsOk result }
+        ensures grows { looks.old ≤ looks.new }
+        ensures most { looks.new ≤ looks.old + print_looks stretch.now };
+
+    /// Prints the token of a syntax error.
+    ///
+    /// # Errors
+    ///
+    /// Returns `SinkRefused` as `emit` does, and always if nothing is printed.
+    fn emit_error(
+        &mut self,
+        source: &Source<'_>,
+        stretch: &Token,
+        looks: &mut Looks,
+    ) -> Result<(), SinkRefused>
+        requires ascii { is_printed ≡ true → IsAscii source.now.symbol.now }
+        requires in_bounds { IsTokenWithin source.now.symbol.now stretch.now }
+        requires ready { ready self.old }
+        ensures prints { prints self.old (texts_of source.now.symbol.now source.now.include_hash stretch.now) result
+            self.new }
+        ensures ready { OnOk result (ready self.new) }
+        ensures grows { looks.old ≤ looks.new }
+        ensures most { looks.new ≤ looks.old + print_looks stretch.now };
+}
+
+/// An output that prints nothing. It is used to validate a symbol.
+#[derive(Drop)]
+pub struct NoOutput;
+
+impl Output for NoOutput {
+    ghost is_printed = { false };
+
+    ghost ready = { λ v. Unit {0} };
+
+    ghost prints = { λ v texts result w. Unit {0} };
+
+    #[inline(always)]
+    fn is_printing(&self) -> bool {
+        false
+    }
+
+    #[inline(always)]
+    fn emit(
+        &mut self,
+        _source: &Source<'_>,
+        _token: &Token,
+        _looks: &mut Looks,
+    ) -> Result<(), SinkRefused> {
+        Ok(())
+    }
+
+    #[inline(always)]
+    fn emit_error(
+        &mut self,
+        _source: &Source<'_>,
+        _token: &Token,
+        _looks: &mut Looks,
+    ) -> Result<(), SinkRefused> {
+        Err(SinkRefused)
+    }
+}
+
+impl<'s, S: TextSink> Output for SizeLimitedFmtAdapter<'s, S> {
+    ghost is_printed = { true };
+
+    ghost ready = { λ v. Ready S.TextSink v };
+
+    ghost prints = { λ v texts result w. Prints S.TextSink v texts result w };
+
+    #[inline(always)]
+    fn is_printing(&self) -> bool {
+        true
+    }
+
+    #[inline(always)]
+    fn emit(
+        &mut self,
+        source: &Source<'_>,
+        stretch: &Token,
+        looks: &mut Looks,
+    ) -> Result<(), SinkRefused> {
+        source.render(stretch, self, looks)
+    }
+
+    #[inline(always)]
+    fn emit_error(
+        &mut self,
+        source: &Source<'_>,
+        stretch: &Token,
+        looks: &mut Looks,
+    ) -> Result<(), SinkRefused> {
+        source.render(stretch, self, looks)
+    }
+}

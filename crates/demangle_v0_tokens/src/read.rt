@@ -1,0 +1,107 @@
+//! The tokens of a v0 symbol that are read in one step.
+ghost use Rattle.std.specs.Prelude.{◌≡◌, ℕ, ◌+◌, ◌≤◌, Some, List};
+ghost use Rattle.demangle_v0_grammar.specs.LookTotals.{total};
+ghost use Rattle.demangle_v0_tokens.specs.Tokens.{IsTokenWithin};
+ghost use Rattle.demangle_v0_tokens.specs.Tokens.{token_of, print_looks, token_spec, token_after_error};
+
+use crate::fixed_texts::FixedText;
+use crate::token::{Abi, Token, TokenKind};
+use demangle_symbol::cursor::{Looks, Symbol};
+
+mod constants;
+mod functions;
+mod lifetimes;
+pub mod names;
+
+/// The result of reading a token.
+#[derive(Clone, Copy)]
+pub enum TokenOutcome {
+    /// The token, and the place after it.
+    Parsed(Token, Option<usize>),
+    /// The error with which the production ends.
+    NotParsed(FixedText),
+}
+
+/// Reads the tokens of a symbol.
+#[derive(Clone, Copy)]
+pub struct TokenReader<'s> {
+    pub symbol: &'s Symbol<'s>,
+    /// The tag of a number.
+    pub tag: u8,
+    /// Whether the tokens are printed.
+    pub is_printing: bool,
+    /// How many lifetimes are in scope.
+    pub lifetimes: u128,
+}
+
+impl TokenReader<'_> {
+    /// Reads a token at a place, which is `None` after an error.
+    ///
+    /// Returns the token and the place after it, or the error text with which the production ends.
+    #[inline(always)]
+    pub fn read_token(
+        &self,
+        token_kind: TokenKind,
+        place: Option<usize>,
+        looks: &mut Looks,
+    ) -> TokenOutcome
+        ensures value { result ≡ (token_spec self.now.symbol.now token_kind self.now.tag
+            self.now.is_printing self.now.lifetimes place).reads }
+        ensures grows { looks.old ≤ looks.new }
+        ensures looks { looks.new + print_looks (token_of result) ≤ looks.old + total (token_spec
+            self.now.symbol.now token_kind self.now.tag self.now.is_printing self.now.lifetimes
+            place).costs }
+        ensures in_bounds { IsTokenWithin self.now.symbol.now (token_of result) }
+    {
+        let Some(at) = place else {
+            return token_after_error(token_kind);
+        };
+        match token_kind {
+            TokenKind::FieldName => self.read_field(at, looks),
+            TokenKind::BindingName => self.read_binding(at, looks),
+            TokenKind::LifetimeIndex => self.read_lifetime(at, looks),
+            TokenKind::DynLifetime => self.read_dyn_lifetime(at, looks),
+            TokenKind::FunctionQualifiers => self.read_function_qualifiers(at, looks),
+            TokenKind::Number => self.read_number(at, looks),
+            TokenKind::Bool => self.read_bool(at, looks),
+            TokenKind::Character => self.read_character(at, looks),
+            TokenKind::StrLiteral => self.read_literal(at, looks),
+        }
+    }
+}
+
+/// Returns the outcome for a token that is not read, because there was an error before it.
+#[inline(always)]
+fn token_after_error(token_kind: TokenKind) -> TokenOutcome
+    ensures value { result ≡ token_after_error token_kind }
+    ensures later { print_looks (token_of result) ≡ 0 }
+    ensures in_bounds { (b : List ℕ) → IsTokenWithin b (token_of result) }
+{
+    match token_kind {
+        // A dyn type needs its `L`. After an error it is missing, and the Rust crate prints this as
+        // a new error.
+        TokenKind::DynLifetime => invalid_token(),
+        // `U` and `K` are optional, and after an error they are missing.
+        TokenKind::FunctionQualifiers => TokenOutcome::Parsed(
+            Token::FunctionQualifiers(false, Abi::Rust),
+            None,
+        ),
+        _ => TokenOutcome::NotParsed(FixedText::AfterError),
+    }
+}
+
+/// Returns the result for a token that is not spelled.
+#[inline(always)]
+fn invalid_token() -> TokenOutcome
+    ensures { result ≡ TokenOutcome.NotParsed FixedText.Invalid }
+{
+    TokenOutcome::NotParsed(FixedText::Invalid)
+}
+
+/// Returns the result for a token that is spelled, and ends before `next`.
+#[inline(always)]
+fn token_read(stretch: Token, next: usize) -> TokenOutcome
+    ensures { result ≡ TokenOutcome.Parsed stretch (Some next) }
+{
+    TokenOutcome::Parsed(stretch, Some(next))
+}

@@ -1,0 +1,76 @@
+//! Lifetimes, by their index.
+ghost use Rattle.std.specs.Prelude.{◌≡◌, ℕ, ◌+◌, ◌≤◌, List};
+ghost use Rattle.demangle_v0_grammar.specs.LookTotals.{total};
+ghost use Rattle.demangle_v0_tokens.specs.Tokens.{IsTokenWithin};
+ghost use Rattle.demangle_v0_tokens.specs.Tokens.{token_of, print_looks, checked_lifetime, lifetime_group, dyn_group};
+
+use crate::read::{TokenOutcome, TokenReader, invalid_token, token_read};
+use crate::token::Token;
+use demangle_symbol::cursor::Looks;
+
+impl TokenReader<'_> {
+    /// Returns the token of a lifetime whose index is not 0. If tokens are printed, an index that
+    /// exceeds the lifetimes in scope is an error.
+    #[inline(always)]
+    fn checked_lifetime(&self, index: u64, next: usize, named: Token, fault: Token) -> TokenOutcome
+        ensures value { result ≡ (checked_lifetime self.now.is_printing self.now.lifetimes index next named fault).reads }
+        ensures in_bounds { (b : List ℕ) → IsTokenWithin b named → IsTokenWithin b fault → IsTokenWithin b (token_of
+            result) }
+    {
+        // The Rust crate counts no binders if it prints nothing, so it then checks no lifetime.
+        if !self.is_printing {
+            token_read(Token::Nothing, next)
+        } else if u128::from(index) <= self.lifetimes {
+            token_read(named, next)
+        } else {
+            // The error is printed after a `'`, so it has a token of its own.
+            TokenOutcome::Parsed(fault, None)
+        }
+    }
+
+    /// Reads a lifetime, by its index: `_` for 0.
+    #[inline(always)]
+    pub(super) fn read_lifetime(&self, place: usize, looks: &mut Looks) -> TokenOutcome
+        ensures value { result ≡ (lifetime_group self.now.symbol.now self.now.is_printing
+            self.now.lifetimes place).reads }
+        ensures grows { looks.old ≤ looks.new }
+        ensures looks { looks.new + print_looks (token_of result) ≤ looks.old + total
+            (lifetime_group self.now.symbol.now self.now.is_printing self.now.lifetimes place).costs }
+        ensures in_bounds { IsTokenWithin self.now.symbol.now (token_of result) }
+    {
+        let Ok((index, next)) = self.symbol.integer_62(place, looks) else {
+            return invalid_token();
+        };
+        if index == 0 {
+            return token_read(Token::Lifetime(None), next);
+        }
+        // If the index exceeds the lifetimes in scope, this number is not used.
+        let number = self.lifetimes.saturating_sub(u128::from(index));
+        let named = Token::Lifetime(Some(number));
+        self.checked_lifetime(index, next, named, Token::LifetimeError)
+    }
+
+    /// Reads the lifetime of a dyn type, which may not be missing. That of index 0 is not printed.
+    #[inline(always)]
+    pub(super) fn read_dyn_lifetime(&self, place: usize, looks: &mut Looks) -> TokenOutcome
+        ensures value { result ≡ (dyn_group self.now.symbol.now self.now.is_printing
+            self.now.lifetimes place).reads }
+        ensures grows { looks.old ≤ looks.new }
+        ensures looks { looks.new + print_looks (token_of result) ≤ looks.old + total (dyn_group
+            self.now.symbol.now self.now.is_printing self.now.lifetimes place).costs }
+        ensures in_bounds { IsTokenWithin self.now.symbol.now (token_of result) }
+    {
+        if !self.symbol.is_at(b'L', place, looks) {
+            return invalid_token();
+        }
+        let Ok((index, next)) = self.symbol.integer_62(place + 1, looks) else {
+            return invalid_token();
+        };
+        if index == 0 {
+            return token_read(Token::Nothing, next);
+        }
+        let number = self.lifetimes.saturating_sub(u128::from(index));
+        let named = Token::DynLifetime(number);
+        self.checked_lifetime(index, next, named, Token::DynLifetimeError)
+    }
+}

@@ -1,4 +1,0 @@
-pub mod GroupReads
-pub mod HexDigits
-pub mod StretchTexts
-pub mod TagRows

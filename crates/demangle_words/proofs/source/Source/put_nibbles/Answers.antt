@@ -1,9 +1,0 @@
-use Rattle.std.proofs.Common.{refl}
-use Rattle.demangle_sink.proofs.PrintsPieces.{piece_then, piece_stop}
-use Rattle.demangle_words.proofs.source.Source.put_nibbles.Goals as goal
-
-pub returns-in_err-put : goal.returns-in_err-put
-returns-in_err-put g c = piece_stop g.S.TextSink _ _ _ _ _ _ c.in_err-put.ensures refl c.from_residual.ensures.0
-
-pub returns : goal.returns
-returns g c = piece_then g.S.TextSink _ _ _ _ _ _ _ c.in_ok-put.ensures refl (rw c.span.ensures at c.write_to.ensures)

@@ -1,0 +1,121 @@
+//! A buffer for bytes on their way to a writer, which makes pieces of a few bytes cheap.
+#![tactic(auto)]
+
+ghost use Rattle.std.specs.Prelude.{◌≡◌, ◌+◌, ◌==◌, ◌≤◌, [], ◌++◌, drop, length, IsTrue, IsFalse};
+
+use std::marker::Model;
+
+/// The most bytes that the buffer holds. They are on the stack.
+pub const CAPACITY: usize = 2048;
+
+/// Copies a piece of `N` to `2 * N` bytes: its first `N` and its last `N`, which may overlap.
+#[inline(always)]
+fn copy_ends<const N: usize>(piece: &[u8], room: &mut [u8])
+    requires least { N ≤ length piece.now }
+    requires most { length piece.now ≤ N + N }
+    requires same { length room.old ≡ length piece.now }
+    ensures { room.new ≡ piece.now }
+{
+    *room.first_chunk_mut::<N>().unwrap() = *piece.first_chunk::<N>().unwrap();
+    *room.last_chunk_mut::<N>().unwrap() = *piece.last_chunk::<N>().unwrap();
+}
+
+/// Copies a piece to the start of the room. Most pieces have a few bytes, and copying those costs
+/// less than a call of the C library.
+#[inline]
+fn copy(piece: &[u8], room: &mut [u8])
+    requires { length piece.now ≤ length room.old }
+    ensures { room.new ≡ piece.now ++ drop (length piece.now) room.old }
+{
+    let room = &mut room[..piece.len()];
+    match piece.len() {
+        0..=1 => {
+            if let [byte] = piece {
+                room[0] = *byte;
+            }
+        }
+        2..=4 => copy_ends::<2>(piece, room),
+        5..=8 => copy_ends::<4>(piece, room),
+        9..=16 => copy_ends::<8>(piece, room),
+        17..=32 => copy_ends::<16>(piece, room),
+        _ => room.copy_from_slice(piece),
+    }
+}
+
+/// At most `CAPACITY` bytes, in the order in which they were pushed.
+#[derive(Drop)]
+pub struct PieceBuffer {
+    bytes: [u8; CAPACITY],
+    len: usize,
+}
+
+impl Model for PieceBuffer {
+    ghost use Rattle.std.specs.Prelude.{◌≡◌, ◌≤◌, ℕ, List, length, take};
+    ghost use Rattle.piece_buffer.specs.declared.TheConstants.{CAPACITY};
+
+    ghost Value = { List ℕ };
+
+    ghost view = { λ held. take held.len held.bytes };
+
+    ghost invariant = { λ held. (held.len ≤ CAPACITY) × (length held.bytes ≡ CAPACITY) };
+}
+
+impl PieceBuffer {
+    /// Returns an empty buffer.
+    pub fn new() -> Self
+        ensures { result ≡ [] }
+    {
+        PieceBuffer {
+            bytes: [0; CAPACITY],
+            len: 0,
+        }
+    }
+
+    /// Returns the buffered bytes.
+    pub fn as_slice(&self) -> &[u8]
+        ensures { result.now ≡ self.now }
+    {
+        &self.bytes[..self.len]
+    }
+
+    /// Returns `true` if no bytes are buffered.
+    pub fn is_empty(&self) -> bool
+        ensures { result ≡ (length self.now == 0) }
+    {
+        self.len == 0
+    }
+
+    /// Appends all of the piece. If there is no room for it, returns `false` and changes nothing.
+    #[inline(always)]
+    pub fn push(&mut self, piece: &[u8]) -> bool
+        ensures room { length self.old + length piece.now ≤ CAPACITY → IsTrue result }
+        ensures held { IsTrue result → self.new ≡ self.old ++ piece.now }
+        ensures kept { IsFalse result → self.new ≡ self.old }
+        ensures most { length self.old ≤ CAPACITY }
+    {
+        let start = self.len;
+        let end = start + piece.len();
+        if end > CAPACITY {
+            return false;
+        }
+        self.len = end;
+        copy(piece, &mut self.bytes[start..]);
+        true
+    }
+
+    /// Removes the first `count` bytes.
+    pub fn remove_prefix(&mut self, count: usize)
+        requires { count ≤ length self.old }
+        ensures { self.new ≡ drop count self.old }
+    {
+        self.bytes.copy_within(count..self.len, 0);
+        self.len -= count;
+    }
+
+    /// Removes all bytes.
+    pub fn clear(&mut self)
+        ensures { self.new ≡ [] }
+    {
+        self.len = 0;
+    }
+}

@@ -1,9 +1,0 @@
-use Rattle.std.proofs.Common.{false}
-use Rattle.demangle_grammar.proofs.Accepted.{printing_is_spelling, printing_ends}
-use Rattle.rustc_demangle.proofs.laws.v0_spelling.printing_ends_where_reading_does.Goals as goal
-
-pub returns-clause-named : goal.returns-clause-named
-returns-clause-named c = λ symbol kind value i j depth lifetimes deep within. printing_is_spelling symbol false kind value i j depth lifetimes deep within
-
-pub returns-clause-fails : goal.returns-clause-fails
-returns-clause-fails c = λ symbol kind value i j depth lifetimes deep within spelled. printing_ends symbol false kind value i j depth lifetimes deep within spelled

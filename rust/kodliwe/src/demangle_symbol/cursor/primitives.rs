@@ -1,0 +1,211 @@
+// Made from crates/demangle_symbol/src/cursor/primitives.rt by packaging/crate/erase.py: edit that file instead.
+//! Reads the primitives of a v0 symbol that are numbers, letters and back references.
+
+use crate::demangle_symbol::cursor::{Looks, ParseError, Symbol, append_digit};
+
+/// The greatest depth to which productions of a symbol may be nested.
+pub const MAX_DEPTH: u32 = 500;
+
+/// The number of digits that are read without an overflow check. 62^10 is below 2^60.
+const UNCHECKED_DIGITS: usize = 10;
+
+impl<'s> Symbol<'s> {
+    /// Reads an integer in base 62 and returns it with the place after it.
+    ///
+    /// # Errors
+    ///
+    /// Returns `Invalid` if no integer is spelled there, or if the integer is 2^64 or more.
+    #[inline(never)]
+    pub fn integer_62(&self, place: usize, looks: &mut Looks) -> Result<(u64, usize), ParseError> {
+        // `_` alone is 0, so the digits spell one less than the integer.
+        let Some(first) = self.integer_digit(place, looks)? else {
+            return Ok((0, place + 1));
+        };
+        let mut number = first;
+        // The number of iterations does not depend on the place, so the compiler can unroll them.
+        // Each digit read finds the end of the symbol itself.
+        for step in 1..UNCHECKED_DIGITS {
+            let at = place + step;
+            let Some(digit) = self.integer_digit(at, looks)? else {
+                return Ok((number + 1, at + 1));
+            };
+            number = number * 62 + digit;
+        }
+        for at in place + UNCHECKED_DIGITS..self.len() {
+            let Some(digit) = self.integer_digit(at, looks)? else {
+                let Some(value) = number.checked_add(1) else {
+                    return Err(ParseError::Invalid);
+                };
+                return Ok((value, at + 1));
+            };
+            let Some(sum) = append_digit(number, 62, digit as u8) else {
+                return Err(ParseError::Invalid);
+            };
+            number = sum;
+        }
+        Err(ParseError::Invalid)
+    }
+
+    /// Reads a digit of an integer. Returns `None` if the byte is the `_` that ends the integer,
+    /// and `Invalid` if it is any other byte.
+    #[inline(always)]
+    fn integer_digit(&self, place: usize, looks: &mut Looks) -> Result<Option<u64>, ParseError> {
+        // This call shows the proof that a symbol is shorter than 2^63 bytes.
+        let _count = self.inner.as_bytes().len();
+        let Some(byte) = self.byte(place, looks) else {
+            return Err(ParseError::Invalid);
+        };
+        // Digits are tested first, since an integer has up to eleven of them and one end. The end
+        // is recognized by its byte: a test by the table would be moved before the test of the
+        // digits.
+        let digit = digit_62_of(byte);
+        if digit < 62 {
+            return Ok(Some(u64::from(digit)));
+        }
+        if byte == b'_' {
+            return Ok(None);
+        }
+        Err(ParseError::Invalid)
+    }
+
+    /// Reads an optional integer and returns it with the place after it. The value is the integer
+    /// after the tag plus one, or 0 without the tag.
+    ///
+    /// # Errors
+    ///
+    /// Returns `Invalid` if the tag has no integer after it, or if the sum is 2^64 or more.
+    #[inline(always)]
+    pub fn opt_integer_62(
+        &self,
+        tag: u8,
+        place: usize,
+        looks: &mut Looks,
+    ) -> Result<(u64, usize), ParseError> {
+        if !self.is_at(tag, place, looks) {
+            return Ok((0, place));
+        }
+        self.integer_after_tag(place + 1, looks)
+    }
+
+    /// Reads the integer after a tag. Returns the integer plus one, and the place after it. Returns
+    /// `Invalid` if no integer is spelled there, or if the sum is 2^64 or more.
+    // The function is separate since memory for the call's result is cleared at its start, and most
+    // names have no tag.
+    #[inline(always)]
+    fn integer_after_tag(
+        &self,
+        place: usize,
+        looks: &mut Looks,
+    ) -> Result<(u64, usize), ParseError> {
+        let Ok((number, next)) = self.integer_62(place, looks) else {
+            return Err(ParseError::Invalid);
+        };
+        // A missing tag means 0, so an integer after the tag counts from 1.
+        let Some(value) = number.checked_add(1) else {
+            return Err(ParseError::Invalid);
+        };
+        Ok((value, next))
+    }
+
+    /// Reads a disambiguator and returns it with the place after it. It is 0 if the tag `s` is
+    /// missing.
+    ///
+    /// # Errors
+    ///
+    /// Returns `Invalid` if the tag has no integer after it, or if the disambiguator is 2^64 or
+    /// more.
+    #[inline(always)]
+    pub fn disambiguator(
+        &self,
+        place: usize,
+        looks: &mut Looks,
+    ) -> Result<(u64, usize), ParseError> {
+        self.opt_integer_62(b's', place, looks)
+    }
+
+    /// Reads a byte and returns it with the place after it.
+    ///
+    /// # Errors
+    ///
+    /// Returns `Invalid` at the end of the symbol.
+    pub fn tag(&self, place: usize, looks: &mut Looks) -> Result<(u8, usize), ParseError> {
+        let Some(byte) = self.byte(place, looks) else {
+            return Err(ParseError::Invalid);
+        };
+        Ok((byte, place + 1))
+    }
+
+    /// Reads the letter of a namespace and returns it with the place after it.
+    ///
+    /// # Errors
+    ///
+    /// Returns `Invalid` if the byte is not an ASCII letter.
+    pub fn namespace(&self, place: usize, looks: &mut Looks) -> Result<(u8, usize), ParseError> {
+        match self.byte(place, looks) {
+            Some(b) if b.is_ascii_alphabetic() => Ok((b, place + 1)),
+            _ => Err(ParseError::Invalid),
+        }
+    }
+
+    /// Reads a back reference whose `B` is directly before `place`. Returns its target and the
+    /// place after it. `depth` is the depth of the reference.
+    ///
+    /// # Errors
+    ///
+    /// Returns `Invalid` if no integer is spelled there, or if the target is not before the `B`.
+    /// Otherwise returns `RecursedTooDeep` if `depth` is the greatest depth.
+    #[inline(always)]
+    pub fn backref(
+        &self,
+        place: usize,
+        depth: u32,
+        looks: &mut Looks,
+    ) -> Result<(usize, usize), ParseError> {
+        let (target, next) = self.integer_62(place, looks)?;
+        // A back reference may only name a place before its `B`, so references cannot form a cycle.
+        // The target is checked before the depth. So an invalid target is `Invalid` at any depth.
+        if target >= place as u64 - 1 {
+            return Err(ParseError::Invalid);
+        }
+        if depth == MAX_DEPTH {
+            return Err(ParseError::RecursedTooDeep);
+        }
+        Ok((target as usize, next))
+    }
+
+    /// Returns the place after an optional byte. It makes one look.
+    pub fn skip(&self, byte: u8, place: usize, looks: &mut Looks) -> usize {
+        if self.is_at(byte, place, looks) {
+            place + 1
+        } else {
+            place
+        }
+    }
+}
+
+/// The value of each digit in base 62, and 255 for every other byte.
+#[rustfmt::skip]
+static DIGITS_62: [u8; 256] = [
+    255, 255, 255, 255, 255, 255, 255, 255, 255, 255, 255, 255, 255, 255, 255, 255,
+    255, 255, 255, 255, 255, 255, 255, 255, 255, 255, 255, 255, 255, 255, 255, 255,
+    255, 255, 255, 255, 255, 255, 255, 255, 255, 255, 255, 255, 255, 255, 255, 255,
+    0, 1, 2, 3, 4, 5, 6, 7, 8, 9, 255, 255, 255, 255, 255, 255,
+    255, 36, 37, 38, 39, 40, 41, 42, 43, 44, 45, 46, 47, 48, 49, 50,
+    51, 52, 53, 54, 55, 56, 57, 58, 59, 60, 61, 255, 255, 255, 255, 255,
+    255, 10, 11, 12, 13, 14, 15, 16, 17, 18, 19, 20, 21, 22, 23, 24,
+    25, 26, 27, 28, 29, 30, 31, 32, 33, 34, 35, 255, 255, 255, 255, 255,
+    255, 255, 255, 255, 255, 255, 255, 255, 255, 255, 255, 255, 255, 255, 255, 255,
+    255, 255, 255, 255, 255, 255, 255, 255, 255, 255, 255, 255, 255, 255, 255, 255,
+    255, 255, 255, 255, 255, 255, 255, 255, 255, 255, 255, 255, 255, 255, 255, 255,
+    255, 255, 255, 255, 255, 255, 255, 255, 255, 255, 255, 255, 255, 255, 255, 255,
+    255, 255, 255, 255, 255, 255, 255, 255, 255, 255, 255, 255, 255, 255, 255, 255,
+    255, 255, 255, 255, 255, 255, 255, 255, 255, 255, 255, 255, 255, 255, 255, 255,
+    255, 255, 255, 255, 255, 255, 255, 255, 255, 255, 255, 255, 255, 255, 255, 255,
+    255, 255, 255, 255, 255, 255, 255, 255, 255, 255, 255, 255, 255, 255, 255, 255,
+];
+
+/// Returns the value of a digit in base 62, and 62 or more for any other byte.
+#[inline(always)]
+fn digit_62_of(byte: u8) -> u8 {
+    DIGITS_62[usize::from(byte)]
+}

@@ -1,0 +1,55 @@
+// Made from crates/demangle_v0/src/parser/backrefs.rt by packaging/crate/erase.py: edit that file instead.
+//! Back references, whose target is a path, type or constant before them.
+
+use crate::demangle_v0::parser::frames::Frame;
+use crate::demangle_v0::parser::machine::Parser;
+use crate::demangle_v0::parser::{Continuation, StepError};
+use crate::demangle_v0_tokens::backref::{BackrefOutcome, read_backref};
+use crate::demangle_v0_tokens::output::Output;
+
+impl<const N: usize> Parser<'_, N> {
+    /// Reads a back reference after its `B`, and continues at its target if `output` prints.
+    ///
+    /// `unit` is the continuation at which the target begins. The frame on top of the stack then has
+    /// the place after the reference.
+    #[inline(always)]
+    pub(super) fn follow_backref<V: Output>(
+        &mut self,
+        unit: Continuation,
+        output: &V,
+    ) -> Result<Continuation, StepError> {
+        let backref = read_backref(
+            self.source.symbol,
+            self.state.depth_left,
+            self.state.place,
+            &mut self.looks,
+        );
+        match backref {
+            BackrefOutcome::NotFollowed(pending_text) => Err(StepError::Abort(pending_text)),
+            BackrefOutcome::Target(target, next) => {
+                self.state.is_bracket_open = false;
+                // Validation does not follow references, and neither does the Rust crate. If it
+                // did, its time could double with each reference.
+                if !output.is_printing() {
+                    self.state.place = Some(next);
+                    return Ok(Continuation::End);
+                }
+                let frame = self.state.frame(Continuation::AfterBackref);
+                self.stack.push(Frame {
+                    number: next as u128,
+                    ..frame
+                });
+                self.state.depth_left -= 1;
+                self.state.place = Some(target);
+                Ok(unit)
+            }
+        }
+    }
+
+    /// Continues after a back reference, whose target was printed.
+    #[inline(always)]
+    pub(super) fn after_backref(&mut self) -> Continuation {
+        self.state.place = Some(self.state.lifetimes as usize);
+        Continuation::End
+    }
+}

@@ -1,0 +1,23 @@
+// Made from crates/demangle_v0/src/parser/binders.rt by packaging/crate/erase.py: edit that file instead.
+//! Binders: lifetimes that a function type or dyn traits bring into scope.
+
+use crate::demangle_sink::SinkRefused;
+use crate::demangle_v0::parser::machine::Parser;
+use crate::demangle_v0_tokens::output::Output;
+use crate::demangle_v0_tokens::token::Token;
+
+impl<const N: usize> Parser<'_, N> {
+    /// Brings `number` further lifetimes into scope, and prints them.
+    ///
+    /// Fails if the output does.
+    #[inline(always)]
+    pub(super) fn bind_lifetimes<V: Output>(
+        &mut self,
+        number: u64,
+        output: &mut V,
+    ) -> Result<(), SinkRefused> {
+        let stretch = Token::Binder(self.state.lifetimes, number);
+        self.state.lifetimes += u128::from(number);
+        self.emit(&stretch, output)
+    }
+}

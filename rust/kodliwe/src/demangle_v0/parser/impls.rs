@@ -1,0 +1,59 @@
+// Made from crates/demangle_v0/src/parser/impls.rt by packaging/crate/erase.py: edit that file instead.
+//! The paths of impls, and the self type of a trait.
+
+use crate::demangle_v0::parser::machine::Parser;
+use crate::demangle_v0::parser::{Continuation, StepError};
+use crate::demangle_v0_tokens::fixed_texts::FixedText;
+
+impl<const N: usize> Parser<'_, N> {
+    /// Reads the disambiguator of an impl, after its `M`, or its `X` if the impl is of a trait.
+    #[inline(always)]
+    pub(super) fn impl_disambiguator(&mut self, is_trait: bool) -> Result<Continuation, StepError> {
+        let Some(at) = self.state.place else {
+            return Err(StepError::Abort(FixedText::AfterError));
+        };
+        // The disambiguator distinguishes the impls of a module, and is not printed.
+        let Ok((_, next)) = self.source.symbol.opt_integer_62(b's', at, &mut self.looks) else {
+            return Err(StepError::Abort(FixedText::Invalid));
+        };
+        self.state.place = Some(next);
+        if is_trait {
+            return Ok(Continuation::TraitImplPath);
+        }
+        Ok(Continuation::InherentImplPath)
+    }
+
+    /// Starts the impl's own path during validation. The printing loop skips that path instead.
+    #[inline(always)]
+    pub(super) fn read_impl_path(&mut self, is_trait: bool) -> Continuation {
+        let next = if is_trait {
+            Continuation::TraitSelfType
+        } else {
+            Continuation::InherentSelfType
+        };
+        self.push(next);
+        self.state.in_value = false;
+        Continuation::Path
+    }
+
+    /// Queues `<` and starts the self type, which is followed by a trait or by `>`.
+    #[inline(always)]
+    pub(super) fn self_type(&mut self, is_trait: bool) -> Continuation {
+        self.put(FixedText::Less);
+        if is_trait {
+            self.push(Continuation::AsTrait);
+            return Continuation::Type;
+        }
+        self.push(Continuation::CloseAngle);
+        Continuation::Type
+    }
+
+    /// Queues ` as ` and starts the trait, which is followed by `>`.
+    #[inline(always)]
+    pub(super) fn as_trait(&mut self) -> Continuation {
+        self.push(Continuation::CloseAngle);
+        self.put(FixedText::AsTrait);
+        self.state.in_value = false;
+        Continuation::Path
+    }
+}

@@ -1,0 +1,74 @@
+// Made from crates/demangle_v0/src/parser/steps.rt by packaging/crate/erase.py: edit that file instead.
+//! Parses without output, which read and print nothing.
+
+use crate::demangle_symbol::cursor::MAX_DEPTH;
+use crate::demangle_v0::parser::machine::Parser;
+use crate::demangle_v0::parser::{Continuation, State};
+use crate::demangle_v0_tokens::output::NoOutput;
+
+/// A checkpoint: a continuation and its state. The symbol and the frames are kept elsewhere.
+#[derive(Clone, Copy)]
+pub struct Checkpoint {
+    pub continuation: Continuation,
+    pub state: State,
+}
+
+impl State {
+    /// Returns the checkpoint before the path at a place.
+    #[inline(always)]
+    pub(super) fn at_path(place: usize) -> Self {
+        State {
+            in_value: true,
+            letter: 0,
+            depth_left: MAX_DEPTH as u16,
+            lifetimes: 0,
+            place: Some(place),
+            is_bracket_open: false,
+            pending_text: None,
+        }
+    }
+}
+
+/// Why a parse without output stopped.
+#[derive(Clone, Copy)]
+pub enum ReadOutcome {
+    /// Nothing is left to parse.
+    Complete,
+    /// The stack is full.
+    StackFull,
+    /// The parser found an error.
+    Failed,
+}
+
+impl<const N: usize> Parser<'_, N> {
+    /// Continues with the path at a place.
+    #[inline(always)]
+    pub(crate) fn start_path(&mut self, place: usize) {
+        self.continuation = Continuation::Path;
+        self.state = State::at_path(place);
+    }
+
+    /// Returns the place of the next byte, or `None` after an error.
+    #[inline(always)]
+    pub(crate) fn place(&self) -> Option<usize> {
+        self.state.place
+    }
+
+    /// Reads without output until only the lowest `base` frames are left, the stack is full, or the
+    /// symbol has a syntax error.
+    pub(crate) fn read_steps(&mut self, base: usize) -> ReadOutcome {
+        let mut continuation = self.continuation;
+        'steps: while self.stack.len() < N {
+            let Some(at) = self.resume(base, continuation) else {
+                self.continuation = Continuation::End;
+                return ReadOutcome::Complete;
+            };
+            match self.step(at, &mut NoOutput) {
+                Ok(next) => continuation = next,
+                Err(_) => return ReadOutcome::Failed,
+            }
+        }
+        self.continuation = continuation;
+        ReadOutcome::StackFull
+    }
+}

@@ -1,0 +1,42 @@
+// Made from crates/demangle_v0/src/parser/tuples.rt by packaging/crate/erase.py: edit that file instead.
+//! Tuple types.
+
+use crate::demangle_v0::parser::Continuation;
+use crate::demangle_v0::parser::machine::Parser;
+use crate::demangle_v0_tokens::fixed_texts::FixedText;
+
+impl<const N: usize> Parser<'_, N> {
+    /// Starts the first type of a tuple, or ends the tuple.
+    #[inline(always)]
+    pub(super) fn first_tuple_type(&mut self) -> Continuation {
+        if self.ends_list() {
+            return self.end_with(FixedText::CloseParen);
+        }
+        self.push(Continuation::SecondTupleType);
+        Continuation::Type
+    }
+
+    /// Starts the second type of a tuple, or queues the comma after the only one.
+    #[inline(always)]
+    pub(super) fn second_tuple_type(&mut self) -> Continuation {
+        if self.ends_list() {
+            // `(T,)` is a tuple. `(T)` would be the type `T` in parentheses.
+            self.put(FixedText::TrailingComma);
+            return Continuation::CloseParen;
+        }
+        self.push(Continuation::NextTupleType);
+        self.put(FixedText::Comma);
+        Continuation::Type
+    }
+
+    /// Starts a further type of a tuple, or ends the tuple.
+    #[inline(always)]
+    pub(super) fn next_tuple_type(&mut self) -> Continuation {
+        if self.ends_list() {
+            return self.end_with(FixedText::CloseParen);
+        }
+        self.push(Continuation::NextTupleType);
+        self.put(FixedText::Comma);
+        Continuation::Type
+    }
+}

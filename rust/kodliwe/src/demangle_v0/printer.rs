@@ -1,0 +1,148 @@
+// Made from crates/demangle_v0/src/printer.rt by packaging/crate/erase.py: edit that file instead.
+//! Printing: steps, each of which prints what it reads as soon as it is known.
+
+use crate::demangle_sink::{SinkRefused, SizeLimitedFmtAdapter, TextSink};
+use crate::demangle_v0::parser::Continuation;
+use crate::demangle_v0::parser::frames::{FULL_STACK, MIDDLE_STACK, SHORT_STACK};
+use crate::demangle_v0::parser::machine::Parser;
+use crate::demangle_v0::parser::skip::is_skipped;
+use crate::demangle_v0::parser::steps::Checkpoint;
+
+/// The rest that is left to print when the stack is full.
+#[derive(Clone, Copy)]
+pub enum Unfinished {
+    /// The rest is that of the parser and its frames.
+    Printing,
+    /// The same, and the parser is in an impl path or folded arguments, which began above that many
+    /// frames. After them, printing continues at the checkpoint.
+    ImplPath(usize, Checkpoint),
+}
+
+impl<const N: usize> Parser<'_, N> {
+    /// Prints until nothing is left or the stack is full.
+    ///
+    /// Fails at the first piece that the limit or the sink rejects.
+    #[inline(never)]
+    fn print_steps<S: TextSink>(
+        &mut self,
+        out: &mut SizeLimitedFmtAdapter<'_, S>,
+    ) -> Result<Option<Unfinished>, SinkRefused> {
+        let mut continuation = self.continuation;
+        'steps: while self.stack.len() < N {
+            let Some(at) = self.resume(0, continuation) else {
+                self.continuation = Continuation::End;
+                return Ok(None);
+            };
+            // An impl path only identifies the impl, and arguments may be folded. They are read and
+            // not printed.
+            if is_skipped(at, self.source.fold_arguments) {
+                self.continuation = at;
+                let skipped = self.skip_impl_path();
+                if let Some(left) = skipped {
+                    return Ok(Some(left));
+                }
+                continuation = self.continuation;
+            } else {
+                continuation = self.step(at, out)?;
+            }
+        }
+        self.continuation = continuation;
+        Ok(Some(Unfinished::Printing))
+    }
+
+    /// Prints what is left until nothing is left or the stack is full.
+    ///
+    /// Fails at the first piece that the limit or the sink rejects.
+    fn print_unfinished<S: TextSink>(
+        &mut self,
+        left: Unfinished,
+        out: &mut SizeLimitedFmtAdapter<'_, S>,
+    ) -> Result<Option<Unfinished>, SinkRefused> {
+        if let Some(more) = self.finish_impl_path(left) {
+            return Ok(Some(more));
+        }
+        self.print_steps(out)
+    }
+}
+
+impl Parser<'_, MIDDLE_STACK> {
+    /// Prints what is left in a stack with room for every frame.
+    ///
+    /// Fails at the first piece that the limit or the sink rejects.
+    #[inline(never)]
+    fn print_in_full_stack<S: TextSink>(
+        &mut self,
+        left: Unfinished,
+        out: &mut SizeLimitedFmtAdapter<'_, S>,
+    ) -> Result<(), SinkRefused> {
+        let mut parser: Parser<FULL_STACK> = self.without_frames();
+        parser.stack.append(&self.stack);
+        let printed = parser.print_unfinished(left, out);
+        self.looks = parser.looks;
+        printed?;
+        Ok(())
+    }
+
+    /// Prints what is left, in the largest stack if this one is full.
+    ///
+    /// Fails at the first piece that the limit or the sink rejects.
+    #[inline(always)]
+    fn print_to_end<S: TextSink>(
+        &mut self,
+        left: Unfinished,
+        out: &mut SizeLimitedFmtAdapter<'_, S>,
+    ) -> Result<(), SinkRefused> {
+        match self.print_unfinished(left, out)? {
+            None => Ok(()),
+            Some(left) => self.print_in_full_stack(left, out),
+        }
+    }
+}
+
+impl Parser<'_, SHORT_STACK> {
+    /// Prints what is left in a larger stack, and if that is full too, in the largest.
+    ///
+    /// Fails at the first piece that the limit or the sink rejects.
+    #[inline(never)]
+    fn print_in_middle_stack<S: TextSink>(
+        &mut self,
+        left: Unfinished,
+        out: &mut SizeLimitedFmtAdapter<'_, S>,
+    ) -> Result<(), SinkRefused> {
+        let mut parser: Parser<MIDDLE_STACK> = self.without_frames();
+        parser.stack.append(&self.stack);
+        let printed = parser.print_to_end(left, out);
+        self.looks = parser.looks;
+        printed
+    }
+
+    /// Prints until nothing is left, in larger stacks if this one is full.
+    ///
+    /// Fails at the first piece that the limit or the sink rejects.
+    #[inline(always)]
+    pub(crate) fn print_path<S: TextSink>(
+        &mut self,
+        out: &mut SizeLimitedFmtAdapter<'_, S>,
+    ) -> Result<(), SinkRefused> {
+        match self.print_steps(out)? {
+            None => Ok(()),
+            Some(left) => self.print_in_middle_stack(left, out),
+        }
+    }
+
+    /// Prints until nothing is left, and leaves no frames. Returns the place after that.
+    ///
+    /// Returns `None` after a syntax error, if the limit or the sink rejects a piece, or if the
+    /// stack is full.
+    #[inline(always)]
+    pub(crate) fn print_to_place<S: TextSink>(
+        &mut self,
+        out: &mut SizeLimitedFmtAdapter<'_, S>,
+    ) -> Option<usize> {
+        let Ok(None) = self.print_steps(out) else {
+            return None;
+        };
+        self.stack.truncate(0);
+        self.place()
+    }
+}

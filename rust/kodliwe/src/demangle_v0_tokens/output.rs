@@ -1,0 +1,97 @@
+// Made from crates/demangle_v0_tokens/src/output.rt by packaging/crate/erase.py: edit that file instead.
+//! The outputs to which the parser sends its tokens: a sink, or none.
+
+use crate::demangle_sink::{SinkRefused, SizeLimitedFmtAdapter, TextSink};
+use crate::demangle_symbol::cursor::Looks;
+use crate::demangle_v0_tokens::source::Source;
+use crate::demangle_v0_tokens::token::Token;
+
+/// Receives the tokens that the parser reads.
+///
+/// The parser is generic over its output. With `NoOutput` it only validates a symbol. With a
+/// `SizeLimitedFmtAdapter` it prints one.
+pub trait Output {
+    /// Returns `true` if tokens are printed.
+    fn is_printing(&self) -> bool;
+
+    /// Prints a token, piece by piece.
+    ///
+    /// # Errors
+    ///
+    /// Returns `SinkRefused` if the sink or the size limit rejects a piece. No later piece is sent.
+    fn emit(
+        &mut self,
+        source: &Source<'_>,
+        stretch: &Token,
+        looks: &mut Looks,
+    ) -> Result<(), SinkRefused>;
+
+    /// Prints the token of a syntax error.
+    ///
+    /// # Errors
+    ///
+    /// Returns `SinkRefused` as `emit` does, and always if nothing is printed.
+    fn emit_error(
+        &mut self,
+        source: &Source<'_>,
+        stretch: &Token,
+        looks: &mut Looks,
+    ) -> Result<(), SinkRefused>;
+}
+
+/// An output that prints nothing. It is used to validate a symbol.
+pub struct NoOutput;
+
+impl Output for NoOutput {
+    #[inline(always)]
+    fn is_printing(&self) -> bool {
+        false
+    }
+
+    #[inline(always)]
+    fn emit(
+        &mut self,
+        _source: &Source<'_>,
+        _token: &Token,
+        _looks: &mut Looks,
+    ) -> Result<(), SinkRefused> {
+        Ok(())
+    }
+
+    #[inline(always)]
+    fn emit_error(
+        &mut self,
+        _source: &Source<'_>,
+        _token: &Token,
+        _looks: &mut Looks,
+    ) -> Result<(), SinkRefused> {
+        Err(SinkRefused)
+    }
+}
+
+impl<'s, S: TextSink> Output for SizeLimitedFmtAdapter<'s, S> {
+    #[inline(always)]
+    fn is_printing(&self) -> bool {
+        true
+    }
+
+    #[inline(always)]
+    fn emit(
+        &mut self,
+        source: &Source<'_>,
+        stretch: &Token,
+        looks: &mut Looks,
+    ) -> Result<(), SinkRefused> {
+        source.render(stretch, self, looks)
+    }
+
+    #[inline(always)]
+    fn emit_error(
+        &mut self,
+        source: &Source<'_>,
+        stretch: &Token,
+        looks: &mut Looks,
+    ) -> Result<(), SinkRefused> {
+        source.render(stretch, self, looks)
+    }
+}
