@@ -14,9 +14,9 @@ use Rattle.rustc_demangle.specs.Filtered.{is_run_byte, starts_run, replacement, 
 use Rattle.rustc_demangle.specs.LineStream.{output_of}
 use Rattle.rustc_demangle.proofs.FilterLaws.{run_all}
 use Rattle.rustc_demangle.proofs.LineDivision.{lines_join}
-use Rattle.rustc_demangle.proofs.RunSteps.{turn, first_of_run}
+use Rattle.rustc_demangle.proofs.RunLemmas.{turn, first_of_run}
 use Rattle.demangle_legacy.proofs.LegacyLaws.{legacy_spelled}
-use Rattle.rustc_demangle.proofs.SymbolSteps.{symbol-pieces, pieces-legacy, pieces-v0}
+use Rattle.rustc_demangle.proofs.SymbolLemmas.{symbol-pieces, pieces-legacy, pieces-v0}
 use Rattle.demangle_v0_grammar.proofs.V0Reading.{v0_is_read}
 use Rattle.rustc_demangle.proofs.V0LineFeeds.{line_feeds-rendered}
 use Rattle.demangle_v0_grammar.specs.Reading.{form, path_texts}

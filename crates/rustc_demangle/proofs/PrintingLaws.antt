@@ -15,7 +15,7 @@ use Rattle.demangle_legacy.specs.Unescaped.{unescaped, is_hash, printed_elements
 use Rattle.demangle_sink.proofs.CutLemmas.{size-append, fitting-within}
 use Rattle.demangle_sink.proofs.PrintsLemmas.{cut-within, cut-past}
 use Rattle.demangle_legacy.proofs.LegacyLaws.{legacy_spelled}
-use Rattle.rustc_demangle.proofs.SymbolSteps.{symbol-pieces, pieces-legacy}
+use Rattle.rustc_demangle.proofs.SymbolLemmas.{symbol-pieces, pieces-legacy}
 
 pub handed-some_of : (text : List ℕ) (format : Format) (read : List (List ℕ) × List ℕ) → pieces_in (form_of format) text ≡ Some read → handed_in text format ≡ cut read.0 format.limit ++ read.1 ∷ []
 handed-some_of text format read e = ap (λ o. option_map_or (λ (r : List (List ℕ) × List ℕ). cut r.0 format.limit ++ r.1 ∷ []) o (text ∷ [])) e
