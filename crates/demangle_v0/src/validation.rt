@@ -175,10 +175,9 @@ pub fn print_to_suffix<S: TextSink>(
 ) -> Option<usize>
     requires ascii { IsAscii source.symbol.now }
     requires ready { Ready S.TextSink out.old }
-    ensures value { IfSome result (λ place. Some place ≡ suffix_place source.symbol.now) }
-    ensures prints { IfSome result (λ _. Prints S.TextSink out.old
-        (path_texts source.symbol.now (form source.include_hash source.fold_arguments)) (Ok tt)
-        out.new) }
+    ensures value { IfSome result (λ place. Some place ≡ suffix_place source.entry.symbol.now) }
+    ensures prints { IfSome result (λ _. Prints S.TextSink out.old (path_texts source.entry.symbol.now
+        (form source.entry.include_hash source.entry.fold_arguments)) (Ok tt) out.new) }
 {
     let mut parser: Parser<SHORT_STACK> = Parser::at_path(source, 0, looks);
     let end = parser.print_to_place(out)?;

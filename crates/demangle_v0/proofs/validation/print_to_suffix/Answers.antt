@@ -1,5 +1,5 @@
 use Rattle.std.specs.Prelude.{IfSome}
-use Rattle.std.proofs.Common.{◌≡◌, ℕ, Option, Some, None, false, sym, ◌∙◌}
+use Rattle.std.proofs.Common.{◌≡◌, ℕ, Option, Some, None, sym, ◌∙◌}
 use Rattle.demangle_v0_grammar.specs.Items.{a_path}
 use Rattle.demangle_v0_grammar.specs.Reading.{unit_end, suffix_place}
 use Rattle.demangle_v0_grammar.proofs.SuffixPlace.{suffix_one, suffix_two}
