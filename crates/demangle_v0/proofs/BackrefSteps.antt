@@ -41,7 +41,7 @@ shut_ended : (shut : Bool) (i : Place) → none_open_if shut (empty_trace i fals
 shut_ended true i = refl
 shut_ended false i = refl
 
--- The units to which references lead.
+-- The productions at which back references point.
 
 pub unit_path : (b : List ℕ) (form : Form) (v : Bool) (c n : ℕ) → IsProduction b form continuation.Path v c n true a_path v
 unfolding trace_at
@@ -98,7 +98,7 @@ module _ {V : Type 0} (output : Ghosts V) (b : List ℕ) (form : Form) where
       go (Some r) = omega arith
 
 module _ {V : Type 0} {e : Env V} where
-  -- a unit that is over
+  -- a production that is complete
   pub stays_over : {t : Machine V} → t.state.pending_text ≡ None → PerformsAt e continuation.End t (Ok continuation.End) t
   unfolding then_frame trace_at
   stays_over k = text_step continuation.End [] [] (omega arith) None (rw k refl) refl (record { grows = omega arith; within = omega arith }) (omega arith) (omega arith) (omega arith) (omega arith) (omega arith) tt tt (λ _. tt)
@@ -142,7 +142,7 @@ module _ {V : Type 0} {e : Env V} where
       w (rw append-nil paid) (omega arith) (omega (arith, paid.within, refer_short e.symbol s.depth_left s.place)) (omega (arith, ref_paid e.output e.symbol e.form s.depth_left a j s.place r, unit.light, way_light p)) (omega arith) (omega (arith, d, unit.low (s.depth_left - 1))) small
       (unit.fits (s.depth_left - 1) (omega (arith, can_step.fits, d))) (λ h. absurd (false≢true (sym h ∙ q)))
 
-  -- behind the reference
+  -- after the reference
   pub continues_after : {t : Machine V} → t.state.pending_text ≡ None → PerformsAt e continuation.AfterBackref t (Ok continuation.End) (record t { state = record t.state { place = Some t.state.lifetimes } })
   unfolding then_frame trace_at
   continues_after k = text_step continuation.End [] [] (omega arith) None (rw k refl) refl (record { grows = omega arith; within = omega arith }) (omega arith) (omega arith) (omega arith) (omega arith) (omega arith) tt tt (λ _. tt)

@@ -34,7 +34,7 @@ use Rattle.demangle_v0.proofs.WholePaths.{remaining_trace-empty_stack, over_plac
 use Rattle.demangle_v0_grammar.proofs.SkippedPaths.{allowances, skip_reads, skip_failed}
 use Rattle.demangle_v0.proofs.StepRules.{way_light}
 
--- Where it is read and printing goes on.
+-- The start of a part that is not printed, and the continuation after it.
 
 -- no tag was looked at yet
 pub skip_unread : (folds : Bool) (p : Continuation) (s : State) → is_impl_path folds p ≡ true → first_looks p s ≤ 0
@@ -47,7 +47,7 @@ skip_unread folds p s e = absurd (false≢true e)
 resumes_less : (b : List ℕ) (form : Form) (out : Bool) {base : ℕ} {p q : Continuation} {s t : State} {stack now : List Frame} → ResumesAt base p s stack q t now → measure b form out q t now ≤ measure b form out p s stack
 resumes_less b form out {q = q} x = omega (arith, resume_light x, way_light q, ap (λ (h : Trace). allowed_in h.events) (resumes_trace b form out x))
 
--- What is heard of it.
+-- The trace of the part.
 
 abbrev pub read_own : List ℕ → Form → Continuation → ℕ → ℕ → ℕ → Place → Bool → Trace
 read_own b form p c left n i o = trace_at b form false (own_point p) false c left n i o
@@ -89,7 +89,7 @@ skip_owed p b form s stack k =
     (ap (λ (h : Trace). and_then h (trace_of_stack b form true stack)) (skip_at p b form s.in_value s.letter s.depth_left s.lifetimes s.place s.is_bracket_open k)
     ∙ allowing_then (allowances own_looks.events) (trace_of_state b form true (after_skip p) (state_at s own_looks.place)) (trace_of_stack b form true stack))
 
--- Where a reading stands.
+-- The invariant in such a part.
 
 own_valid : (folds : Bool) (p : Continuation) (s : State) (stack : List Frame) → is_impl_path folds p ≡ true → Valid p s stack → Valid (own_point p) (impl_path_state s) stack
 own_valid folds continuation.TraitImplPath s stack k v = record { stands = stands_on frame_height most_frames (8 * s.depth_left + 2) (8 * s.depth_left + 1) stack v.stands (omega arith); fits = v.fits; all_fit = v.all_fit; no_pending_text = v.no_pending_text }
@@ -112,7 +112,7 @@ weight_less folds continuation.FirstArgument k = omega arith
 weight_less folds continuation.FirstTraitArgument k = omega arith
 weight_less folds p k = absurd (false≢true k)
 
--- Printing goes on behind it.
+-- Printing continues after the part.
 
 module _ {b : List ℕ} {form : Form} {p q : Continuation} {s t : State} {below now : List Frame} {began looks : ℕ} (k : is_impl_path form.fold_arguments p ≡ true) where
   pub skipped_valid : Skipped b form p s below began q t now looks → Valid p s below → Valid q t now
@@ -134,16 +134,16 @@ module _ {b : List ℕ} {form : Form} {p q : Continuation} {s t : State} {below 
         allowed_bits true (pays ks ∷ []) (remaining_trace b form true q t now),
       )
 
--- The reading of it, in one stack or two.
+-- The part is read in one stack or in two.
 
--- where it is begun
+-- at its start
 own_stands : (folds : Bool) {p : Continuation} {s : State} {stack : List Frame} {r : Checkpoint} → is_impl_path folds p ≡ true → r ≡ impl_path_checkpoint (record { continuation = p; state = s }) → Valid p s stack → Valid r.continuation r.state stack
 own_stands folds {p} {s} {stack} e k v = rw k (own_valid folds p s stack e v)
 
 pub own_reads : (b : List ℕ) (form : Form) (n : ℕ) (r : Checkpoint) {stack : List Frame} {inner : Checkpoint} → inner ≡ impl_path_checkpoint r → ReadsImplPath b form stack r n inner stack n
 own_reads b form n r {stack} k = rw k (reads_none {t = no_output_machine (impl_path_state r.state) stack n} (sym (append-nil stack)) tt)
 
--- where the stack is full
+-- if the stack is full
 pub skips_valid : {b : List ℕ} {form : Form} {r to : Checkpoint} {below now : List Frame} {began n looks : ℕ} {x : Unfinished} → is_impl_path form.fold_arguments r.continuation ≡ true → Valid r.continuation r.state below → StopsInImplPath b form r below began x n to now looks
     → ValidUnfinished b form n (Ok (Some x)) to now looks
 skips_valid {below = below} {began = began} e v k = rw k.is_left (began, record { below = below; height = sym k.height; skips = e; valid = v; reads = k.reads }, k.valid, k.full)

@@ -1,4 +1,4 @@
--- A stack of frames above others that stand there.
+-- A stack of frames above those that were on it before.
 use Rattle.std.specs.Prelude.{◌≤◌, length}
 use Rattle.std.proofs.Common.{◌≡◌, List, [], ◌∷◌, ◌++◌, refl, sym, ap, ◌∙◌, arith}
 

@@ -1,4 +1,4 @@
--- The points of types.
+-- The continuations of types.
 use Rattle.std.specs.Prelude.{if◌then◌else◌, ◌*◌, ◌==◌, slice_get, codes}
 use Rattle.std.proofs.Common.{inl, inr, ◌⊎◌, ◌≡◌, ℕ, ◌+◌, ◌-◌, ◌<◌, ◌≤◌, ◌≢◌, Bool, true, false, cond, Option, Some, None, List, [], ◌∷◌, ◌++◌, Result, Ok, Err, refl, arith, sym, ap, ◌∙◌}
 use Rattle.std.proofs.lemmas.List.{append-nil}
@@ -34,7 +34,7 @@ use Rattle.demangle_v0.proofs.StepRules.{trace, child_last}
 use Rattle.demangle_v0.proofs.StepCases.{Within, ends, enters, marks, moves, text_step, after_few}
 use Rattle.demangle_v0_grammar.proofs.TypeTraces.{row_at, splat_reads, type_reads, tag_missing, basic_reads, type_deep, constructed_reads, path_type_reads, row_reads}
 
--- the point of a type that is begun, or gone on with behind its `w`
+-- the continuation of a type at its start, or after its `w`
 pub type_point : (p : Continuation) (q : Bool) → (p ≡ continuation.«Type») ⊎ (p ≡ continuation.TaggedType) → (p ≡ continuation.«Type» → q ≡ true) → (p ≡ continuation.TaggedType → q ≡ false) → (if q then continuation.«Type» else continuation.TaggedType) ≡ p
 type_point p q (inl e) y n = rw (y e) (sym e)
 type_point p q (inr e) y n = rw (n e) (sym e)
@@ -47,7 +47,7 @@ lifetime_within : (q : Bool) → Within (lifetime_continuation q) 3 2
 lifetime_within true = record { light = omega arith; low = λ left. omega arith; fits = λ left n f. f }
 lifetime_within false = record { light = omega arith; low = λ left. omega arith; fits = λ left n f. f }
 
--- What is a `w`, and what is none.
+-- Whether the next byte is a `w`.
 
 pub splat_missing : (b : List ℕ) (i : ℕ) → None ≡ slice_get b i → is_byte b i (code "w") ≡ false
 unfolding is_byte
@@ -74,7 +74,7 @@ pub shared_kind : (x : ℕ) → x ≡ code "R" → Some kind.SharedReference ≡
 shared_kind x e = rw e refl
 
 module _ {V : Type 0} (output : Ghosts V) (b : List ℕ) (form : Form) where
-  -- one whose text behind it is not printed
+  -- a nested production whose following text is not printed
   pub child_silent : (k : Kind) (v : Bool) (left n : ℕ) (i : Place) (t : Text) (out : Bool) → out ≡ false → with_closed_bracket (of form.include_hash out (parse (child k v (print t done)) (context_at b form.fold_arguments out left n) i)) ≡ with_closed_bracket (of form.include_hash out (unit_outcome (context_at b form.fold_arguments out left n) k v i))
   unfolding parse
   child_silent k v left n i t true q = absurd (false≢true (sym q))
@@ -89,7 +89,7 @@ module _ {V : Type 0} (output : Ghosts V) (b : List ℕ) (form : Form) where
 
   -- references
 
-  -- what stands behind a reference, where it has no lifetime
+  -- the items after a reference without a lifetime
   pub after_so : (q : Bool) (v : Bool) (c left n : ℕ) (i : Place) (o : Bool) → trace output b form (print_if q "mut " type_inside) left n i ≡ trace_at b form output.is_printed (after_reference_lifetime q) v c left n i o
   unfolding trace_at
   after_so true v c left n i o = refl
@@ -147,7 +147,7 @@ module _ {V : Type 0} {e : Env V} where
 
 -- Types.
 module _ {V : Type 0} {e : Env V} where
-  -- a child in brackets, where the closing one is put on the stack only to be heard
+  -- a nested production in brackets; the frame for the closing bracket is pushed only if the output prints
   pub encloses : {t : Machine V} {h : Trace} {words weight high : ℕ} {stack : List Frame} (to : Continuation) (k : Kind) (v value : Bool) (m : FixedText) → let s = record t.state { in_value = value; pending_text = Some m } in
       h ≡ trace e.output e.symbol e.form (print (text m) (child k v (print_str "]" done))) s.depth_left s.lifetimes s.place
       → with_closed_bracket (of e.form.include_hash e.output.is_printed (unit_outcome (context_at e.symbol e.form.fold_arguments e.output.is_printed s.depth_left s.lifetimes) k v s.place)) ≡ trace_of_state e.symbol e.form e.output.is_printed to s
@@ -163,7 +163,7 @@ module _ {V : Type 0} {e : Env V} where
       go true o = enters to (frame_at continuation.CloseBracket t.state) (r ∙ ap (λ (z : Trace). with_texts e.output.is_printed (text m ∷ []) (and_then z (trace_of_frame e.symbol e.form e.output.is_printed (frame_at continuation.CloseBracket t.state)))) q) (shown o) (omega (arith, w)) x y f g refl
       go false o = rw (unprinted o) (marks to (r ∙ ap (with_texts e.output.is_printed (text m ∷ [])) (child_silent e.output e.symbol e.form k v s.depth_left s.lifetimes s.place (codes "]") e.output.is_printed o ∙ q)) (omega (arith, w)) (omega (arith, y)) g)
 
-  -- Behind a look at the tag.
+  -- After a look at the tag.
 
   pub no_tag : {t : Machine V} {n : ℕ} (i : ℕ) → t.state.place ≡ Some i → None ≡ slice_get e.symbol i → n ≡ t.looks + 1 → t.state.pending_text ≡ None → PerformsAt e continuation.TaggedType t (Err (Abort fixed.Invalid)) (record t { looks = n })
   unfolding trace_at
@@ -221,7 +221,7 @@ module _ {V : Type 0} {e : Env V} where
   type_tagged true i at o d = type_continues i at (o refl) (omega arith) (omega arith) d.own_looks d
   type_tagged false i at o d = d
 
-  -- a type that is begun, or gone on with behind its `w`
+  -- a type at its start, or after its `w`
   pub type_either : {t u : Machine V} {r : Result Continuation StepError} (q : Bool) → (q ≡ true → PerformsAt e continuation.«Type» t r u) → (q ≡ false → PerformsAt e continuation.TaggedType t r u) → PerformsAt e (if q then continuation.«Type» else continuation.TaggedType) t r u
   type_either true h k = h refl
   type_either false h k = k refl
