@@ -1,8 +1,8 @@
--- The rules of accounts: a larger account, lists joined, and what an account bounds.
+-- The rules of budgets: a larger budget, lists joined, and what a budget bounds.
 use Rattle.std.proofs.Common.{ℕ, zero, suc, ◌+◌, ◌-◌, ◌*◌, ◌≤◌, List, [], ◌∷◌, ◌++◌, take, arith}
 use Rattle.demangle_v0_grammar.specs.LookBudget.{LookCost, bytes_of, looks_of, Pays}
 
--- What the account has more to begin with, it has more at the end.
+-- If the budget is larger by `f` at the start, it is larger by `f` at the end.
 pub Pays-more : (r a b c d f : ℕ) (xs : List LookCost) → a + f ≤ b → d ≤ c + f → Pays r a xs c → Pays r b xs d
 Pays-more r a b c d f [] m l p = omega arith
 Pays-more r a b c d f (s ∷ xs) m l p = (
@@ -15,7 +15,7 @@ pub Pays-append : (r a b c : ℕ) (xs ys : List LookCost) → Pays r a xs b → 
 Pays-append r a b c [] ys p q = Pays-more r b a c c 0 ys (omega arith) (omega arith) q
 Pays-append r a b c (s ∷ xs) ys p q = (p.0, Pays-append r (a - s.looks + r * s.bytes) b c xs ys p.1 q)
 
--- What an account bounds: the looks up to a stretch and with it, by the bytes before it.
+-- What a budget bounds: the looks up to and including an entry, by the bytes before it.
 pub Pays-bound : (r a c : ℕ) (xs : List LookCost) (k : ℕ) → Pays r a xs c →
     looks_of (take (suc k) xs) ≤ a + r * bytes_of (take k xs)
 Pays-bound r a c [] k p = omega arith

@@ -17,9 +17,9 @@ use Rattle.demangle_v0_grammar.proofs.SpelledIsParsed.{there_placed}
 use Rattle.demangle_v0_grammar.proofs.TableCost.{fits}
 use Rattle.demangle_v0_grammar.proofs.ItemBudgets.{start, is_below, is_closed, is_some_text, Fits, Ends, LooksWithin, Idle, idle, idle_closed, free_piece, unheard_pays, paid_puts, paid_binder, paid_pieces}
 
--- The rules for a place and its stretches.
+-- The rules for a place and its entries.
 
--- further on, behind a stretch
+-- at a later place, after an entry
 spent : (n r i k from mid to c w : ℕ) (xs : List LookCost) (x : Place) → i ≤ k → k ≤ n → c ≤ 32 * (k - i) + from → mid + c ≤ 32 * (k - i) + from + r * w →
     Ends n r k mid to xs x → Ends n r i from to (record { bytes = w; looks = c } ∷ xs) x
 spent n r i k from mid to c w xs None l m a e h = (omega (arith, l, m, a), Pays-more r (32 * (n + 1 - k) + mid) (32 * (n + 1 - i) + from - c + r * w) 0 0 0 xs (omega (arith, l, m, a, e)) (omega arith) h)
@@ -47,7 +47,7 @@ more : (n r i from mid to low : ℕ) (xs : List LookCost) (x : Place) → mid �
 more n r i from mid to low xs None e l h = Pays-more r (32 * (n + 1 - i) + mid) (32 * (n + 1 - i) + from) 0 0 0 xs (omega (arith, e)) (omega arith) h
 more n r i from mid to low xs (Some j) e l h = (h.0, h.1, Pays-more r (32 * (j - i) + mid) (32 * (j - i) + from) to low 0 xs (omega (arith, e)) (omega (arith, l)) h.2)
 
--- wherever it ends, k is left of an account that has k more than reading all the bytes takes
+-- if the budget is k more than what reading all the bytes takes, k is left at any end
 pub ends_pay : (n r i from to a k : ℕ) (xs : List LookCost) (x : Place) → 32 * (n + 1 - i) + from + k ≤ a → Ends n r i from to xs x → Pays r a xs k
 ends_pay n r i from to a k xs None l h = Pays-more r (32 * (n + 1 - i) + from) a 0 k k xs (omega (arith, l)) (omega arith) h
 ends_pay n r i from to a k xs (Some j) l h = Pays-more r (32 * (j - i) + from) a to k k xs (omega (arith, l, h.0, h.1)) (omega arith) h.2
@@ -78,21 +78,21 @@ then_paid plain n r i from mid to o f h k d = go o.tree o.place h
     go t None h = joined_idle n r i from to (costs_of plain t) (costs_of plain (f None).tree) (f None).place d.0 h d.1
     go t (Some j) h = joined n r i j from mid to (costs_of plain t) (costs_of plain (f (Some j)).tree) (f (Some j)).place h.0 h.1 h.2 (k j h.0 h.1)
 
--- The money for a reference: in front of it, if a child may come now.
+-- The budget for a reference. It is there before the reference if a nested production may come now.
 abbrev pub purse : Bool → ℕ → ℕ
 purse g R = cond g R 0
 
--- the units of a level
+-- the productions of a level
 abbrev pub LevelPays : Bool → (n r R : ℕ) → Bool → Level → Type 0
 LevelPays plain n r R fl l = (kind : Kind) (value : Bool) (m i : ℕ) → i ≤ n → LooksWithin plain n r i (start kind + R) 8 (l fl kind value m i)
 
--- Each depth has its money. A reference takes from it what reading all the bytes takes, and the money of its target.
+-- Each depth has a budget. A reference takes from it what reading all the bytes takes, and the budget of its target.
 abbrev pub Deeper : Bool → (n r : ℕ) → Bool → ℕ → List Level → Type 0
 Deeper plain n r fl R [] = Unit {0}
 Deeper plain n r fl R (l ∷ ls) =
     (S : ℕ) × (S ≤ R) × (fl ≡ true → 32 * (n + 1) + 2 + S ≤ R) × LevelPays plain n r S fl l × LevelPays plain n 0 0 false l × Deeper plain n r fl S ls
 
--- Words.
+-- Primitives.
 
 primitive_paid : {A : Type 0} (plain : Bool) (n r i from mid to low : ℕ) (bs : List ℕ) (q : Read A) (f : A → Place → Outcome) → length bs ≡ n → i ≤ n → Placed (i + low) bs q →
     4 * low + 4 + mid ≤ 32 * low + from →
@@ -218,7 +218,7 @@ target_within symbol i t j n l e = go (integer_at symbol i) e
     go None q = cc q
     go (Some r) q = inner (nat_lt (r.0 + 1) i) r refl q
 
--- at the head of the turns there are c looks; behind the `E` there are 31 more
+-- c looks are left at the start of the repetitions; after the `E`, 31 more
 repetitions_paid : (plain : Bool) (n r c m : ℕ) (symbol : List ℕ) (f : Place → Outcome) → length symbol ≡ n → 1 ≤ c →
     ((i : ℕ) → i ≤ n → LooksWithin plain n r i (c - 1) c (f (Some i))) → (i : ℕ) → i ≤ n → LooksWithin plain n r i c (c + 31) (repetitions m symbol f (Some i))
 unfolding repetitions
@@ -228,7 +228,7 @@ repetitions_paid plain n r c (suc m) symbol f e o h i l =
     (λ y. (omega arith, y, omega arith))
     (then_paid plain n r i (c - 1) c (c + 31) (f (Some i)) (repetitions m symbol f) (h i l) (λ j _ b. repetitions_paid plain n r c m symbol f e o h j b) (refl, omega arith))
 
--- at the head of bindings there are c looks; a binding ends with so many
+-- c looks are left at the start of bindings; a binding ends with `e`
 bound_paid : (plain : Bool) (n r R c e m : ℕ) (s : Context) (f : Place → Outcome) → length s.symbol ≡ n → R ≤ r → 1 ≤ c → e ≤ c - 1 →
     ((i : ℕ) → i ≤ n → LooksWithin plain n r i (c + 55 + R) c (f (Some i))) → (o : Bool) (i : ℕ) → i ≤ n → LooksWithin plain n r i c e (bound_by m s f o (Some i))
 unfolding bound_by

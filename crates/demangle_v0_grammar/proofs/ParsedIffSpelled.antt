@@ -1,4 +1,4 @@
--- Reading accepts the bytes exactly where they are spelled so.
+-- Parsing accepts exactly the bytes that the grammar spells.
 use Rattle.std.specs.Prelude.{ℕ, ◌≤◌, ◌⊎◌, ◌↔◌}
 use Rattle.std.proofs.Common.{◌≡◌, Bool, true, false, cond, List, length, Some, None, refl, sym, ◌∙◌, ap, subst, arith, inl, inr}
 use Rattle.demangle_symbol.specs.Primitives.{then_if_some}
@@ -20,7 +20,7 @@ path_spelled : (symbol : List ℕ) (i j : ℕ) → i ≤ length symbol → IsPat
 unfolding unit_end
 path_spelled symbol i j b e = spells_read symbol false false a_path true i j 0 0 (omega arith) b e
 
--- the place behind the second path, if one begins
+-- the place after the second path, if there is one
 second : List ℕ → ℕ → Place
 second symbol j = cond (starts_second_path symbol j) (unit_end symbol a_path j 0) (Some j)
 
@@ -70,7 +70,7 @@ accepted_is_spelled inner k = (accepted inner k, all_accepted inner k)
 none_some : {x : ℕ} → None ≡ Some x → ⊥
 none_some e = cc e
 
--- what is spelled and not read when printed has a lifetime that names none
+-- bytes that are spelled, and fail if they are printed, have a lifetime that names none
 pub printing_ends : (symbol : List ℕ) (folds : Bool) (kind : Kind) (value : Bool) (i j d m : ℕ) → d ≤ max_depth → i ≤ length symbol → Spells symbol freely d m (items kind value) i j →
     ((read_at symbol folds true kind i d m value).place ≡ Some j) ⊎ (((read_at symbol folds true kind i d m value).place ≡ None) × (Spells symbol (rule true folds) d m (items kind value) i j → ⊥))
 printing_ends symbol folds kind value i j d m h b a = go (read_at symbol folds true kind i d m value).place refl

@@ -1,4 +1,4 @@
--- The bound on turns has no effect, where each reads a byte.
+-- The bound on repetitions has no effect if each one reads a byte.
 use Rattle.std.specs.Prelude.{ℕ, zero, suc, ◌<◌, ◌≤◌}
 use Rattle.std.proofs.Common.{◌≡◌, Bool, true, false, List, length, Some, None, refl, ap, ◌+◌, ◌-◌, ◌*◌, sym, subst, arith}
 use Prim.Native.Char.{code}
@@ -41,7 +41,7 @@ more_repetitions (suc j) (suc k) symbol f a (Some i) h g =
     more_repetitions j k symbol f a (f (Some i)).place (covers_next symbol j i (f (Some i)).place w h.1) (covers_next symbol k i (f (Some i)).place w g.1) in
     fork_same (is_byte symbol i (code "E")) at_place at_place (λ m. followed_by (f m) (repetitions j symbol f)) (λ m. followed_by (f m) (repetitions k symbol f)) i (λ _. refl) (λ _. ap (λ o. with_tree (node (f (Some i)).tree) o) more)
 
--- all turns
+-- all repetitions
 abbrev pub all_repetitions : List ℕ → (Place → Outcome) → Place → Outcome
 all_repetitions symbol f = repetitions (suc (length symbol)) symbol f
 
@@ -63,7 +63,7 @@ advances p s d c r e k g f m h b i l = go (parse p s (Some i)).place refl
     go None q = tt
     go (Some j) q = let y = grows c r e k g f (spelt p s d h b i j q) l in (omega (arith, m, y.0, y.2), y.1)
 
--- what a binding is bound to ends no earlier than it begins
+-- the value of a binding ends no earlier than it starts
 abbrev pub Keeps : List ℕ → (Place → Outcome) → Type 0
 Keeps symbol f = (i : ℕ) → i ≤ length symbol → Within symbol i (f (Some i)).place
 

@@ -1,4 +1,4 @@
--- What is spelled by a rule is spelled by a laxer one.
+-- Bytes that are spelled by a rule are spelled by a laxer one.
 use Rattle.std.specs.Prelude.{ℕ}
 use Rattle.std.proofs.Common.{◌≡◌, List, refl, sym, subst, arith}
 use Rattle.demangle_v0_grammar.specs.Items.{Items}

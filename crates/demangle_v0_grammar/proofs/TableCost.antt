@@ -1,4 +1,5 @@
--- Each row of the table fits: it pays for its looks, each turn reads a byte, and it begins and ends as its unit may.
+-- Each row of the table fits: it pays for its looks, and each repetition reads a byte. It starts and ends as its
+-- production may.
 use Rattle.std.specs.Prelude.{ℕ, suc, ◌&&◌, ◌≤◌, ◌||◌, ◌==◌, IsTrue, codes}
 use Rattle.std.proofs.Common.{◌≡◌, Bool, true, false, cond, List, [], ◌∷◌, Option, Some, None, refl, ◌+◌, ◌-◌, arith}
 use Prim.Native.Char.{code}

@@ -1,4 +1,4 @@
--- A text is read as a v0 symbol exactly where it is one.
+-- A text is parsed as a v0 symbol exactly if it is one.
 use Rattle.std.specs.Prelude.{◌≡◌, ◌↔◌, ℕ, zero, suc, ◌<◌, ◌&&◌, nat_lt, slice_index, codes, drop, Option, Some, None, IsAscii}
 use Rattle.std.specs.List.{list_all}
 use Rattle.std.proofs.Common.{◌≤◌, length, Bool, true, false, cond, List, [], ◌∷◌, ◌++◌, refl, sym, ◌∙◌, ap, subst, arith, inl, inr}
@@ -43,7 +43,7 @@ prefix_inner prefix s r e (inl p) = rw (e, p) refl
 prefix_inner prefix s r e (inr (inl p)) = rw (e, p) refl
 prefix_inner prefix s r e (inr (inr p)) = rw (e, p) refl
 
--- the rest behind the tests
+-- the rest, after the tests
 abbrev ending : List ℕ → ℕ → Option (List ℕ × List ℕ)
 ending inner k = Some (inner, drop k inner)
 
@@ -84,7 +84,7 @@ v0_is_read symbol inner suffix (prefix, whole, is, ascii, begins, (k, paths, end
 pub reading_is_v0 : (symbol inner suffix : List ℕ) → (v0_of symbol ≡ Some (inner, suffix)) ↔ IsV0 symbol inner suffix
 reading_is_v0 symbol inner suffix = (read_is_v0 symbol inner suffix, v0_is_read symbol inner suffix)
 
--- What `demangle` answers.
+-- The result of `demangle`.
 
 pub v0_no_prefix : (symbol : List ℕ) → None ≡ v0_inner symbol → v0_of symbol ≡ None
 unfolding v0_of
