@@ -1,4 +1,4 @@
--- What texts print, with the hash or without it, and within a limit.
+-- The pieces of texts, with the hash or without it, and within a limit.
 use Rattle.std.proofs.Common.{◌≡◌, ◌⊎◌, ℕ, ◌+◌, ◌≤◌, Bool, true, false, List, [], ◌∷◌, ◌++◌, length, codes, Option, None, Some, refl, sym, ap, ◌∙◌, arith, cond, subst, inl, inr}
 use Rattle.std.specs.Option.{option_map_or}
 use Rattle.std.proofs.lemmas.List.{append-nil, append_assoc}
@@ -32,7 +32,7 @@ kept-no_symbol text none format = go (pieces_in (form_of format) text) refl wher
   go None e = refl
   go (Some read) e = absurd (none (symbol-pieces (form_of format) text read e))
 
--- what is cut has the bytes of the limit and of the marker at most
+-- cut pieces have at most the bytes of the limit and of the marker
 pub size-cut : (pieces : List (List ℕ)) (limit : ℕ) → size (cut pieces limit) ≤ limit + 20
 size-cut pieces limit = elim (leb_tells (size pieces) limit) [
   | inl e ↦ let within : size pieces ≤ limit = e.1 in omega (arith, ap size (cut-within pieces limit within))
@@ -44,7 +44,7 @@ pub size-handed : (text : List ℕ) (format : Format) (pieces : List (List ℕ))
 size-handed text format pieces suffix e =
     omega (arith, ap size (handed-some_of text format (pieces, suffix) e), size-append (cut pieces format.limit) (suffix ∷ []), size-cut pieces format.limit)
 
--- with the hash all elements are shown
+-- with the hash, all elements are printed
 available-all : (elements : List (List ℕ)) → shown_elements true elements ≡ elements
 unfolding shown_elements
 available-all [] = refl

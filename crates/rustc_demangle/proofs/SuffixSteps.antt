@@ -35,7 +35,7 @@ graphic_not s i b here fails =
 pub graphic_end : (s : List ℕ) (i : ℕ) → length s ≤ i → list_all is_graphic (drop i s) ≡ true
 graphic_end s i h = ap (λ xs. list_all is_graphic xs) (drop_all i s h)
 
--- behind the dot the characters are graphic
+-- after the dot, the characters are graphic
 pub allowed_dot : (s : List ℕ) → is_byte s 0 46 ≡ true → is_allowed s ≡ list_all is_graphic (drop 1 s)
 unfolding is_byte
 allowed_dot [] h = cc

@@ -1,4 +1,4 @@
--- A text that is filtered whole is its lines, each filtered.
+-- A filtered text is its lines, each filtered.
 use Rattle.std.proofs.Common.{◌≡◌, ℕ, zero, suc, ◌+◌, ◌≤◌, Bool, true, false, ◌&&◌, eqb, cond, List, [], ◌∷◌, ◌++◌, refl, sym, ap, subst, ◌∙◌, arith, nat_eq, codes, eqb-true, append_assoc, ◌||◌}
 use Rattle.std.specs.List.{prefix_len, take_while, starts_with}
 use Rattle.std.proofs.lemmas.List.Sums.{take_while-cons}
@@ -107,7 +107,7 @@ out-onto_run h b (l ∷ ls) some = ap (λ t. turn (replacement h) b l t ++ outpu
 first_more : (b : ℕ) (bs : List ℕ) → eqb b 10 ≡ false → first (lines (b ∷ bs)) ≡ b ∷ first (lines bs)
 first_more b bs e = by b bs (λ l. l ≡ b ∷ first (lines bs)) (λ ten. absurd (true≢false (sym (ap (λ c. eqb c 10) ten) ∙ e))) (λ _. refl)
 
--- what is behind is filtered so already
+-- the rest is filtered so already
 turned : (h : Bool) (b : ℕ) (bs : List ℕ) → ((k : ℕ) → k ≤ clear bs → filtered_by (replacement h) k bs ≡ out_from h k (lines bs)) → eqb b 10 ≡ false
     → (r : Bool) → starts_run (b ∷ bs) ≡ r → turn (replacement h) b bs r ≡ out_from h zero (onto_first b (lines bs))
 turned h b bs ih e true is =
