@@ -1,4 +1,4 @@
--- What is found by a tag is what the table has, row by row.
+-- The kind that a tag has in the code is that of the table, row by row.
 use Rattle.std.specs.Prelude.{ℕ, map, codes}
 use Prim.Native.String.{String}
 use Rattle.std.proofs.Common.{◌≡◌, Bool, true, false, cond, List, [], ◌∷◌, Some, refl, ap, ◌∙◌}

@@ -25,7 +25,7 @@ pub binder_none : (k n : ℕ) → k ≡ 0 → binder_texts k n ≡ []
 unfolding binder_texts
 binder_none k n e = rw e refl
 
--- another, behind others
+-- one more text, after others
 pub more_turn : (k m n n' : ℕ) → k ≡ suc m → n' ≡ n + 1 → more_texts k n ≡ (codes ", " ∷ codes "'" ∷ letter_of n) ++ more_texts m n'
 unfolding more_texts
 more_turn k m n n' e f = rw (e, f) refl
