@@ -1,4 +1,4 @@
--- References.
+-- Back references.
 use Rattle.std.specs.Prelude.{◌*◌, ◌^◌, if◌then◌else◌}
 use Rattle.std.proofs.lemmas.Bool.{false≢true}
 use Rattle.std.proofs.Common.{◌≡◌, ℕ, zero, suc, sub-one, ◌+◌, ◌-◌, ◌<◌, ◌≤◌, length, Bool, true, false, Some, None, List, [], ◌∷◌, ◌++◌, Ok, Err, refl, arith, sym, ap, ◌∙◌}
@@ -110,7 +110,7 @@ module _ {V : Type 0} {e : Env V} where
       let ks = (read_backref e.symbol s.depth_left s.place).costs in
       ends m ks (refer_few e.symbol s.depth_left s.place) q (shut_trace e.output e.symbol e.form shut s.depth_left k v s.lifetimes s.place (NotFollowed m) r ∙ ap (with_looks ks) (shut_fault shut e.output.is_printed m)) p (omega (arith, p.within, refer_short e.symbol s.depth_left s.place)) (omega arith)
 
-  -- it is not followed
+  -- the reference is not followed
   pub target_hidden : {t : Machine V} {n : ℕ} (shut : Bool) (k : Kind) (v : Bool) (a j : ℕ) → Target a j ≡ (read_backref e.symbol t.state.depth_left t.state.place).refers → LooksWithin t.looks (read_backref e.symbol t.state.depth_left t.state.place).costs n → e.output.is_printed ≡ false → t.state.pending_text ≡ None
       → Performs e t (target_part e shut k v t.state) (Ok continuation.End) (record t { state = record t.state { place = Some j; is_bracket_open = false }; looks = n })
   unfolding then_frame trace_at
@@ -123,7 +123,7 @@ module _ {V : Type 0} {e : Env V} where
       ∙ (ap (with_looks ks) (shut_ended shut (Some j)) ∙ rw m refl)))
       refl (rw append-nil p) (omega arith) (omega (arith, p.within, refer_short e.symbol s.depth_left s.place)) (omega (arith, ref_paid e.output e.symbol e.form s.depth_left a j s.place r)) (omega arith) (omega arith) tt tt (λ _. tt)
 
-  -- it is followed
+  -- the reference is followed
   pub target_shown : {t : Machine V} {stack : List Frame} {n most : ℕ} (p : Continuation) (shut : Bool) (k : Kind) (v : Bool) (a j : ℕ) → IsProduction e.symbol e.form p t.state.in_value t.state.letter t.state.lifetimes shut k v → Target a j ≡ (read_backref e.symbol t.state.depth_left t.state.place).refers
       → LooksWithin t.looks (read_backref e.symbol t.state.depth_left t.state.place).costs n → e.output.is_printed ≡ true → 0 < t.state.depth_left → j < 2 ^ 64 → CanRead continuation.Path most t.state t.stack
       → stack ≡ t.stack ++ frame_of continuation.AfterBackref t.state.in_value t.state.letter t.state.depth_left j ∷ []

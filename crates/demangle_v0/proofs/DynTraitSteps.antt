@@ -80,7 +80,7 @@ module _ {V : Type 0} (e : Env V) (s : State) where
   abbrev about : Context
   about = context_at e.symbol e.form.fold_arguments e.output.is_printed s.depth_left s.lifetimes
 
-  -- a frame that the state leaves
+  -- a frame that the state makes
   abbrev frame_rest : Continuation → Place → Bool → Trace
   frame_rest p = trace_of_frame e.symbol e.form e.output.is_printed (frame_at p s)
 

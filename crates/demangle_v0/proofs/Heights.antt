@@ -1,4 +1,4 @@
--- There is room for each frame that is put on a stack.
+-- There is room for each frame that is pushed.
 use Rattle.std.specs.Prelude.{ℕ, ◌+◌, ◌-◌, ◌≤◌, length}
 use Rattle.std.proofs.Common.{List, [], ◌∷◌, ◌++◌, arith, length-append}
 use Rattle.demangle_v0.specs.Frames.{HasRoom, HasRoomAbove}
@@ -29,7 +29,7 @@ module _ {F : Type 0} (height : F → ℕ) where
   pub stands_on : (n high new : ℕ) (stack : List F) → HasRoomAbove height n high stack → new ≤ high → HasRoomAbove height n new stack
   stands_on n high new stack s l = record { room = s.room; above = omega (arith, s.above, l) }
 
-  -- and a frame was put on the stack
+  -- a frame was pushed
   pub stands_push : (n high new : ℕ) (stack : List F) (f : F) → HasRoomAbove height n high stack → height f ≤ high → new + 1 ≤ high → HasRoomAbove height n new (stack ++ f ∷ [])
   stands_push n high new stack f s outer inner = record {
     room = room_push n stack f s.room (omega (arith, s.above, outer));

@@ -36,7 +36,7 @@ use Rattle.demangle_v0.proofs.StepRules.{way_light}
 
 -- The start of a part that is not printed, and the continuation after it.
 
--- no tag was looked at yet
+-- no tag was looked at so far
 pub skip_unread : (folds : Bool) (p : Continuation) (s : State) → is_impl_path folds p ≡ true → first_looks p s ≤ 0
 skip_unread folds continuation.InherentImplPath s e = omega arith
 skip_unread folds continuation.TraitImplPath s e = omega arith
@@ -149,13 +149,13 @@ pub skips_valid : {b : List ℕ} {form : Form} {r to : Checkpoint} {below now : 
 skips_valid {below = below} {began = began} e v k = rw k.is_left (began, record { below = below; height = sym k.height; skips = e; valid = v; reads = k.reads }, k.valid, k.full)
 
 module _ {b : List ℕ} {form : Form} {below : List Frame} {began m : ℕ} {p q : Continuation} {t : State} {stack : List Frame} {u : Machine NoOutput} (o : Checkpoint) (r : Reads (no_output_env b form) below (own_point o.continuation) (no_output_machine (impl_path_state o.state) [] began) p (no_output_machine t stack m)) where
-  -- it came to its end
+  -- the part ended
   pub own_over : {to : Continuation} {new : State} → ReadDone (no_output_env b form) below p (no_output_machine t r.frames m) halt.Complete q u → to ≡ after_skip o.continuation → new ≡ state_at o.state u.state.place → Skipped b form o.continuation o.state below began to new u.stack u.looks
   own_over d e k =
       let x = ran_then r.ran d.reads.1 in
       record { at = e; place = u.state.place; ends = sym (ran_place x) ∙ over_place b form u.state; state = k; is_stack = d.reads.0; paid_looks = omega (arith, ran_looks x) }
 
-  -- it failed
+  -- the part has an error
   pub own_failed : {base : ℕ} {to : Continuation} {new : State} {now : List Frame} → ReadDone (no_output_env b form) below p (no_output_machine t r.frames m) halt.Failed q u → length below ≡ base → now ≡ take base u.stack → to ≡ after_skip o.continuation → new ≡ state_at o.state None
       → Skipped b form o.continuation o.state below began to new now u.looks
   own_failed d h w e k =

@@ -60,7 +60,7 @@ ends_at b i k at h = rw at (h, rw h refl)
 pub one_look : {a n : ℕ} → n ≡ a + 1 → LooksWithin a (1 ∷ []) n
 one_look l = record { grows = omega (arith, l); within = omega (arith, l) }
 
--- the looks at an element
+-- the looks before an element
 pub paid_on : {a n : ℕ} (i : Place) → LooksWithin a (list_costs i) n → LooksWithin a (1 ∷ []) n
 paid_on i p = record { grows = p.grows; within = omega (arith, p.within, list_few i) }
 
@@ -73,7 +73,7 @@ module _ {V : Type 0} (e : Env V) (s : State) where
   more_trace text x z None h = more_failed e.form.include_hash e.output.is_printed (context_at e.symbol e.form.fold_arguments e.output.is_printed s.depth_left s.lifetimes) text x z
   more_trace text x z (Some i) h = rw h (more_over e.form.include_hash e.output.is_printed (context_at e.symbol e.form.fold_arguments e.output.is_printed s.depth_left s.lifetimes) text x z i h)
 
-  -- its end
+  -- the look at the end of the list
   pub over_trace : (first : Bool) (text : String) (x z rest : Items) (i : Place) → is_list_end e.symbol i ≡ true → open_at e (trace_left first text x z rest) s i ≡ with_looks (list_costs i) (open_at e z s (after_list e.symbol i))
   over_trace true text x z rest i h = end_trace z (unit x rest) i h
   over_trace false text x z rest i h = more_trace text x z i h

@@ -130,7 +130,7 @@ module _ {V : Type 0} {e : Env V} where
         no_output = d.no_output;
       }
 
-  -- the step went on
+  -- the step continued
   pub step_continues : {t u : Machine V} {p q : Continuation} {x : V} {n : ℕ} → PerformsAt e p t (Ok q) u → FlushesText e.output u.state.pending_text u.output (Ok tt) x → n ≤ u.looks → StepDone e p t (Ok q) (record u { state = without_pending_text u.state; output = x; looks = n })
   step_continues {u = u} d k l = record { steps = (put_way u.state.pending_text refl d.comes d.comes.one k l, refl) }
 
@@ -157,7 +157,7 @@ module _ {V : Type 0} {e : Env V} where
   pub step_refused : {t u : Machine V} {p q : Continuation} {s : State} {x : V} {n : ℕ} {f : SinkRefused} → PerformsAt e p t (Ok q) u → FlushesText e.output u.state.pending_text u.output (Err f) x → n ≤ u.looks → StepDone e p t (Err f) (record u { state = s; output = x; looks = n })
   step_refused {t} {u} d k l = record { steps = (text_refused u.state.pending_text refl d.comes d.comes.one k l, kept_pushed t.stack u.stack d.comes.pushed d.comes.is_stack) }
 
-  -- which error is answered makes no difference
+  -- the result is the same for every error
   pub stepped_err : {t u : Machine V} {p : Continuation} {f : SinkRefused} {r : Result Continuation SinkRefused} → IsErr r → StepDone e p t (Err f) u → StepDone e p t r u
   stepped_err {r = Ok q} h d = absurd (false≢true h)
   stepped_err {r = Err f} h d = record { steps = d.steps }
@@ -230,7 +230,7 @@ place_bits out [] h = refl
 place_bits out (pays ks ∷ bits) h = place_bits out bits h
 place_bits out (puts ts ∷ bits) h = place_bits out bits h
 
--- no more is left to do
+-- no action is left
 
 pub weights_push : (stack : List Frame) (f : Frame) → weights (stack ++ f ∷ []) ≡ weights stack + (weight_at f.continuation + 1)
 weights_push [] f = omega arith
@@ -473,7 +473,7 @@ module _ {V : Type 0} {e : Env V} where
         ran = ran_then y.ran (ran_step z y.frames);
       }
 
-  -- it failed
+  -- the parse failed
   pub reads_fail : {base : ℕ} {below : List Frame} {o p q end : Continuation} {first t w : Machine V} {s u : State} {mid : List Frame} {f : SinkRefused} → Reads e below o first p t → length below ≡ base → ResumesAt base p t.state t.stack q s mid
       → StepDone e q (record t { state = s; stack = mid }) (Err f) w → ReadDone e below o first halt.Failed end (record w { state = u })
   reads_fail {below = below} {q = q} {t = t} {w = w} {s = s} {mid = mid} x l k z = let y = reads_resume x l k in let d = z.steps in record {

@@ -101,7 +101,7 @@ went_rest output v items words weight above {m} {k} {r} d = let x = d output.is_
   same = x.same;
 }
 
--- A step of a parser that was another before, whose input is the same.
+-- A step of a parser that was at another step before, with the same source.
 pub stepped_as : {N : ℕ} {V : Type 0} (output : Ghosts V) (m k : Parser N) {p : Continuation} {t u : Machine V} {r : Result Continuation SinkRefused} → Same m k → StepDone (env_of output k) p t r u → StepDone (env_of output m) p t r u
 stepped_as output m k (e, h, f) d = rw (← e, ← h, ← f) d
 

@@ -31,7 +31,7 @@ use Rattle.demangle_v0.proofs.StepCases.{ended, text_step, ends, tells, halts, f
 use Rattle.demangle_symbol.proofs.Counts.{placed, byte_placed}
 
 module _ {V : Type 0} (output : Ghosts V) (b : List ℕ) (form : Form) where
-  -- Paths of names.
+  -- Crates and nested paths.
 
   abbrev path_trace : Bool → ℕ → ℕ → Place → ℕ → Trace
   path_trace v left n i c = with_closed_bracket (of form.include_hash output.is_printed (parse (path v c) (context_at b form.fold_arguments output.is_printed left n) i))

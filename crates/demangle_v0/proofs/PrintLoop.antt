@@ -127,7 +127,7 @@ bits_paid r a (puts ts ∷ bits) h p =
     let q = pays_texts r a 0 ts _ (subst (λ xs. Pays r a xs 0) (weighed_said ts (with_actions true bits h).events) p) in
     more r a (size ts) (size (action_texts bits)) _ _ (size-append ts (action_texts bits)) (bits_paid r (a + r * size ts) bits h q)
 
--- with two looks that came too early
+-- with two looks that are not covered yet
 within : (n w room m made : ℕ) → w ≤ room → made ≤ m + (looks_before n + looks_a_byte n * w + 2) → made ≤ m + 100000 * (room + 1) * (n + 1)
 within n w room m made l h = let e : looks_a_byte n * w ≤ looks_a_byte n * room = mul-le-mul_left (looks_a_byte n) l in omega (arith, h, e)
 

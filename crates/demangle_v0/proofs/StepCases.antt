@@ -141,14 +141,14 @@ module _ {V : Type 0} {e : Env V} where
     if_ok = λ k _ _. k;
   }
 
-  -- with no frame
+  -- without a frame
   pub moves : {t : Machine V} {h : Trace} {words weight high n : ℕ} (to : Continuation) (ks : List ℕ) → length ks ≤ words → {s : State} → h ≡ with_looks ks (with_texts e.output.is_printed (pending_texts s.pending_text) (trace_of_state e.symbol e.form e.output.is_printed to s))
       → LooksWithin t.looks ks n → n ≤ t.looks + step_looks_bound e.symbol t.state.place → weight_left to + 1 ≤ weight + 100 * total ks → height_at to s.depth_left ≤ high → Fits to s.depth_left s.lifetimes
       → Performs e t (part words h weight high) (Ok to) (record t { state = s; looks = n })
   unfolding then_frame
   moves to ks c r p short w x f = text_step to ks [] (omega (arith, c)) None r refl (rw append-nil p) (omega arith) short (omega (arith, w)) (omega arith) (omega (arith, x)) tt f (λ _. tt)
 
-  -- by no looks
+  -- without looks
   pub enters : {t : Machine V} {h : Trace} {words weight high : ℕ} (to : Continuation) (f : Frame) {s : State} {stack : List Frame}
       → h ≡ with_texts e.output.is_printed (pending_texts s.pending_text) (and_then (trace_of_state e.symbol e.form e.output.is_printed to s) (trace_of_frame e.symbol e.form e.output.is_printed f)) → stack ≡ t.stack ++ f ∷ []
       → weight_left to + weight_at f.continuation + 2 ≤ weight → height_at f.continuation f.depth_left ≤ high → height_at to s.depth_left + 1 ≤ high → Fits f.continuation f.depth_left f.number → Fits to s.depth_left s.lifetimes → is_inner f.continuation ≡ true
@@ -156,7 +156,7 @@ module _ {V : Type 0} {e : Env V} where
   unfolding then_frame
   enters to f r q w x y z g i = text_step to [] [] (omega arith) (Some f) r q paid_none (omega arith) (omega arith) (omega (arith, w)) (omega (arith, x)) (omega (arith, y)) z g (λ _. i)
 
-  -- by no looks and with no frame
+  -- without looks and without a frame
   pub marks : {t : Machine V} {h : Trace} {words weight high : ℕ} (to : Continuation) {s : State} → h ≡ with_texts e.output.is_printed (pending_texts s.pending_text) (trace_of_state e.symbol e.form e.output.is_printed to s)
       → weight_left to + 1 ≤ weight → height_at to s.depth_left ≤ high → Fits to s.depth_left s.lifetimes → Performs e t (part words h weight high) (Ok to) (record t { state = s })
   marks to r w x f = moves to [] (omega arith) r paid_none (omega arith) (omega (arith, w)) x f

@@ -41,7 +41,7 @@ pub total_both : (ks ls : List ℕ) → total (ks ++ ls) ≡ total ks + total ls
 total_both [] ls = omega arith
 total_both (k ∷ ks) ls = omega (arith, total_both ks ls)
 
--- nothing was put on the stack
+-- no frame was pushed
 pub kept_none : (stack : List Frame) → KeepsFrames stack stack
 kept_none stack = ([], sym (append-nil stack))
 
@@ -82,7 +82,7 @@ module _ {V : Type 0} (output : Ghosts V) (b : List ℕ) (form : Form) where
   token_shut ks (reads.Parsed x j) k = refl
   token_shut ks (reads.NotParsed m) k = refl
 
-  -- the same of a group
+  -- the same for a token spec
   pub group_shut : (h : Trace) (g : TokenSpec) (k : Place → Trace) → h ≡ group_then g k → with_closed_bracket h ≡ group_then g (λ j. with_closed_bracket (k j))
   group_shut h g k e = ap with_closed_bracket e ∙ token_shut g.costs g.reads k
 

@@ -61,15 +61,15 @@ pub splat_there : (b : List ℕ) (i x : ℕ) → Some x ≡ slice_get b i → x 
 unfolding is_byte
 splat_there b i x o f = rw (sym o) (eq-eqb x 119 f)
 
--- no basic type has that tag
+-- no basic type has this tag
 pub basic_no_splat : (x : ℕ) (m : FixedText) → Some m ≡ found x basic_type_texts → x ≢ 119
 basic_no_splat x m f e = none-some m (sym (f ∙ ap (λ (t : ℕ). found t basic_type_texts) e))
 
--- nor does a type of the table
+-- no type of the table has it either
 pub kind_no_splat : (x : ℕ) (k : TypeKind) → Some k ≡ found x (type_kinds x) → x ≢ 119
 kind_no_splat x k f e = none-some k (sym (f ∙ ap (λ (t : ℕ). found t (type_kinds t)) e))
 
--- that tag is the one of a shared reference
+-- this tag is that of a shared reference
 pub shared_kind : (x : ℕ) → x ≡ code "R" → Some kind.SharedReference ≡ found x (type_kinds x)
 shared_kind x e = rw e refl
 
@@ -105,7 +105,7 @@ module _ {V : Type 0} (output : Ghosts V) (b : List ℕ) (form : Form) where
   pub basic_so : (t : ℕ) (m : Option FixedText) → m ≡ found t basic_type_texts → row_text t basic_types ≡ then_if_some m (λ m. Some (text m))
   basic_so t m e = basic_found t ∙ ap (λ (o : Option FixedText). then_if_some o (λ m. Some (text m))) (sym e)
 
-  -- the table's entry of a tag
+  -- the entry of a tag in the table
   pub row_so : (t : ℕ) (k : Option TypeKind) → k ≡ found t (type_kinds t) → row_at t (type_rows t) ≡ then_if_some k (λ k. Some (type_of k))
   row_so t k e = ap (row_at t) (kinds_so t) ∙ go (type_kinds t) ∙ ap (λ (o : Option TypeKind). then_if_some o (λ k. Some (type_of k))) (sym e)
     where
@@ -183,7 +183,7 @@ module _ {V : Type 0} {e : Env V} where
       ends fixed.Recursion (1 ∷ []) (omega arith) k (rw at (ap with_closed_bracket (type_deep e.form.include_hash e.form.fold_arguments e.output.is_printed e.symbol t.state.depth_left t.state.lifetimes i x (sym o) (basic_so e.output e.symbol e.form x None f) z)))
       (record { grows = omega (arith, l); within = omega (arith, l) }) (rw at (omega (arith, l))) (omega arith)
 
-  -- any other is that of a path
+  -- any other tag is that of a path
   pub path_follows : {t : Machine V} {n : ℕ} (i x : ℕ) → t.state.place ≡ Some i → Some x ≡ slice_get e.symbol i → None ≡ found x basic_type_texts → 0 < t.state.depth_left → None ≡ found x (type_kinds x) → n ≡ t.looks + 1 → t.state.pending_text ≡ None → Fits continuation.TaggedType t.state.depth_left t.state.lifetimes
       → PerformsAt e continuation.TaggedType t (Ok continuation.Path) (record t { state = record t.state { in_value = false; depth_left = t.state.depth_left - 1 }; looks = n })
   unfolding trace_at
@@ -216,7 +216,7 @@ module _ {V : Type 0} {e : Env V} where
       let s = t.state in
       after_few (1 ∷ []) (omega arith) (rw at (ap with_closed_bracket (type_reads e.form.include_hash e.form.fold_arguments e.output.is_printed e.symbol s.depth_left s.lifetimes false i o))) (record { grows = l; within = omega (arith, m) }) short (omega arith) (omega arith) (rw at at d)
 
-  -- a tag that is no `w` is read in the same way, whether the type begins at it or before it
+  -- a tag other than `w` is read in the same way at the start of a type and after a `w`
   pub type_tagged : {t u : Machine V} {r : Result Continuation StepError} (q : Bool) (i : ℕ) → t.state.place ≡ Some i → (q ≡ true → is_byte e.symbol i (code "w") ≡ false) → PerformsAt e continuation.TaggedType t r u → PerformsAt e (if q then continuation.«Type» else continuation.TaggedType) t r u
   type_tagged true i at o d = type_continues i at (o refl) (omega arith) (omega arith) d.own_looks d
   type_tagged false i at o d = d

@@ -72,14 +72,14 @@ failed_of (inl k) h = absurd (h k)
 failed_of (inr k) h = k
 
 module _ {b : List ℕ} {form : Form} {p q : Continuation} {s : State} {stack : List Frame} {m : ℕ} {u : Machine NoOutput} where
-  -- it came to an end
+  -- the parse ended
   pub over_value : ReadDone (no_output_env b form) [] p (no_output_machine s stack m) halt.Complete q u → u.state.place ≡ (remaining_trace b form false p s stack).place
   over_value r = sym (over_place b form u.state) ∙ ran_place r.reads.1
 
   pub over_looks : ReadDone (no_output_env b form) [] p (no_output_machine s stack m) halt.Complete q u → u.looks ≤ m + allowed_in (remaining_trace b form false p s stack).events
   over_looks r = omega (arith, ran_looks r.reads.1)
 
-  -- it failed
+  -- the parse failed
   pub failed_value : ReadDone (no_output_env b form) [] p (no_output_machine s stack m) halt.Failed q u → None ≡ (remaining_trace b form false p s stack).place
   failed_value r = sym (broke_fails refl r.reads.0 r.reads.1).0
 

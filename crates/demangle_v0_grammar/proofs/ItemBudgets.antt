@@ -121,7 +121,7 @@ paid_binder plain r a b (suc m) n rest h =
     paid_puts r a b (codes "for<") (costs_of plain (piece (codes "'") after)) (paid_puts r a b (codes "'") (costs_of plain after)
     (paid_pieces plain r a b (letter_of n) last (paid_new plain r a b m (n + 1) (piece (codes "> ") rest) (paid_puts r a b (codes "> ") (costs_of plain rest) h))))
 
--- Once failed.
+-- After an error.
 
 idle_followed : (plain : Bool) (r : ℕ) (o : Outcome) (f : Place → Outcome) → Idle plain r o → Idle plain r (f None) → Idle plain r (followed_by o f)
 idle_followed plain r o f h k = let q : Idle plain r (f o.place) = subst (λ z. Idle plain r (f z)) (sym h.0) k in (q.0, Pays-append r 0 0 0 (costs_of plain o.tree) (costs_of plain (f o.place).tree) h.1 q.1)

@@ -26,7 +26,7 @@ spent n r i k from mid to c w xs None l m a e h = (omega (arith, l, m, a), Pays-
 spent n r i k from mid to c w xs (Some j) l m a e h =
     (omega (arith, l, h.0), h.1, (omega (arith, l, h.0, a), Pays-more r (32 * (j - k) + mid) (32 * (j - i) + from - c + r * w) to to 0 xs (omega (arith, l, h.0, a, e)) (omega arith) h.2))
 
--- further on, with the looks c between
+-- at a later place, after c looks
 step : (plain : Bool) (n r i k from mid to c : ℕ) (t : Tree) (x : Place) → i ≤ k → k ≤ n → c + mid ≤ 32 * (k - i) + from →
     Ends n r k mid to (costs_of plain t) x → Ends n r i from to (costs_of plain (looked c t)) x
 step plain n r i k from mid to c t x l m e h = spent n r i k from mid to c 0 (costs_of plain t) x l m (omega (arith, e)) (omega (arith, e)) h
@@ -42,7 +42,7 @@ says_plain : (plain : Bool) (n r i from to : ℕ) (text : Text) (t : Tree) (x : 
 says_plain true n r i from to text t x h = print_str true n r i from from to text t x (omega arith) h
 says_plain false n r i from to text t x h = h
 
--- a larger account, and less of it left
+-- a larger budget, and less of it at the end
 more : (n r i from mid to low : ℕ) (xs : List LookCost) (x : Place) → mid ≤ from → low ≤ to → Ends n r i mid to xs x → Ends n r i from low xs x
 more n r i from mid to low xs None e l h = Pays-more r (32 * (n + 1 - i) + mid) (32 * (n + 1 - i) + from) 0 0 0 xs (omega (arith, e)) (omega arith) h
 more n r i from mid to low xs (Some j) e l h = (h.0, h.1, Pays-more r (32 * (j - i) + mid) (32 * (j - i) + from) to low 0 xs (omega (arith, e)) (omega (arith, l)) h.2)
@@ -52,7 +52,7 @@ pub ends_pay : (n r i from to a k : ℕ) (xs : List LookCost) (x : Place) → 32
 ends_pay n r i from to a k xs None l h = Pays-more r (32 * (n + 1 - i) + from) a 0 k k xs (omega (arith, l)) (omega arith) h
 ends_pay n r i from to a k xs (Some j) l h = Pays-more r (32 * (j - i) + from) a to k k xs (omega (arith, l, h.0, h.1)) (omega arith) h.2
 
--- one after another
+-- one list after another
 joined : (n r i j from mid to : ℕ) (xs ys : List LookCost) (x : Place) → i ≤ j → j ≤ n →
     Pays r (32 * (j - i) + from) xs mid → Ends n r j mid to ys x → Ends n r i from to (xs ++ ys) x
 joined n r i j from mid to xs ys None l m h e =
@@ -114,13 +114,13 @@ fork_paid : (plain : Bool) (n r i from there other to : ℕ) (c : Bool) (f g : P
 fork_paid plain n r i from there other to true f g l m a b h k = step plain n r i (i + 1) from there to 1 (f (Some (i + 1))).tree (f (Some (i + 1))).place (omega arith) (m refl) (omega (arith, a)) (h (m refl))
 fork_paid plain n r i from there other to false f g l m a b h k = step plain n r i i from other to 1 (g (Some i)).tree (g (Some i)).place (omega arith) l (omega (arith, b)) k
 
--- with the text the money is there again
+-- with the text, the budget is there again
 refilled : (r R k : ℕ) (g : Bool) (t : Text) → R ≤ r → k + purse (g || is_some_text t) R ≤ k + purse g R + r * length t
 refilled r R k true t l = omega arith
 refilled r R k false [] l = omega arith
 refilled r R k false (b ∷ bs) l = let h : r ≤ r * length (b ∷ bs) = le-mul_of_pos_right r (omega arith) in omega (arith, h, l)
 
--- the text before a binding brings the money
+-- the text before a binding adds to the budget
 opened_paid : (plain : Bool) (n r R i from to : ℕ) (o : Bool) (t : Tree) (x : Place) → R ≤ r →
     Ends n r i (from + R) to (costs_of plain t) x → Ends n r i from to (costs_of plain (binding_separator o t)) x
 opened_paid plain n r R i from to true t x l h = print_str plain n r i from (from + R) to (codes ", ") t x (omega (arith, l)) h
@@ -187,7 +187,7 @@ pub small : (kind : Kind) → start kind ≤ 2
 small a_path = omega arith
 small _ = omega arith
 
--- a target's tree, with the money for it
+-- the tree of a target, with its budget
 target_paid : (plain : Bool) (n r S m t a k : ℕ) (kind : Kind) (value : Bool) (l : Level) → LevelPays plain n r S true l → t ≤ n → 32 * (n + 1) + 2 + S + k ≤ a →
     Pays r a (costs_of plain (node (l true kind value m t).tree nothing)) k
 target_paid plain n r S m t a k kind value l h b c =
@@ -357,7 +357,7 @@ level_paid plain r R symbol folds ls fl b d e kind value m i l =
       deeper = d;
     }) i l
 
--- the money of m depths
+-- the budget of m depths
 abbrev pub money : ℕ → ℕ → ℕ
 money n m = (32 * (n + 1) + 2) * m
 
@@ -384,14 +384,14 @@ levels_paid plain r symbol folds (suc m) b =
       q,
     )
 
--- to be printed
+-- if the target is printed
 pub read_paid : (plain : Bool) (r : ℕ) (symbol : List ℕ) (folds : Bool) (kind : Kind) (i d m : ℕ) (value : Bool) → money (length symbol) (max_depth - d) ≤ r → i ≤ length symbol →
     LooksWithin plain (length symbol) r i (start kind + money (length symbol) (max_depth - d)) 8 (read_at symbol folds true kind i d m value)
 unfolding read_at
 read_paid plain r symbol folds kind i d m value b l =
     level_paid plain r (money (length symbol) (max_depth - d)) symbol folds (levels symbol folds (max_depth - d)) true b (levels_paid plain r symbol folds (max_depth - d) b) (levels_hidden plain symbol folds (max_depth - d)) kind value m i l
 
--- not to be printed
+-- if it is not printed
 pub spelling_paid : (plain : Bool) (symbol : List ℕ) (folds : Bool) (kind : Kind) (i d m : ℕ) (value : Bool) → i ≤ length symbol →
     LooksWithin plain (length symbol) 0 i (start kind + 0) 8 (read_at symbol folds false kind i d m value)
 unfolding read_at

@@ -83,7 +83,7 @@ unit_looks symbol folds plain kind i d m value k l b =
     sum : (n e w looks : ℕ) → looks ≤ 32 * (n + 1) + (start kind + money n e) + 34 * (n + 1) * e * w → looks ≤ 34 * (n + 1) * (e + 1) * (w + 1)
     sum n e w looks y = omega (arith, small kind, y)
 
--- while failed
+-- after an error
 pub failed_looks : (p : Items) (s : Context) (plain : Bool) → looks_of (costs_of plain (parse p s None).tree) ≡ 0
 failed_looks p s plain =
     let q : Idle plain 0 (parse p s None) = idle plain 0 p s in

@@ -49,7 +49,7 @@ pub all_accepted : (symbol : List ℕ) (k : ℕ) → IsPaths symbol k → suffix
 unfolding suffix_place second
 all_accepted symbol k (j, p, q) = subst (λ o. then_if_some o (second symbol) ≡ Some k) (sym (path_spelled symbol 0 j (omega arith) p)) (to_second symbol j k (grows true 0 8 0 true (fits a_path true) p (omega arith)).1 q)
 
--- the suffix begins at one place at most
+-- the suffix starts at one place at most
 pub one_suffix : (symbol : List ℕ) (j k : ℕ) → IsPaths symbol j → IsPaths symbol k → j ≡ k
 one_suffix symbol j k p q = some_one (sym (all_accepted symbol j p) ∙ all_accepted symbol k q)
   where

@@ -45,7 +45,7 @@ more_repetitions (suc j) (suc k) symbol f a (Some i) h g =
 abbrev pub all_repetitions : List ℕ → (Place → Outcome) → Place → Outcome
 all_repetitions symbol f = repetitions (suc (length symbol)) symbol f
 
--- one of them, and all again
+-- one repetition, and all further ones
 pub repetitions_on : (symbol : List ℕ) (f : Place → Outcome) (i : ℕ) → Advances symbol f → i ≤ length symbol → is_byte symbol i (code "E") ≡ false →
     all_repetitions symbol f (Some i) ≡ with_tree (looked 1) (followed_by (f (Some i)) (all_repetitions symbol f))
 unfolding repetitions
@@ -55,7 +55,7 @@ repetitions_on symbol f i a l e =
     (ap (λ o. with_tree (looked 1) (with_tree (node (f (Some i)).tree) o)) (more_repetitions (length symbol) (suc (length symbol)) symbol f a (f (Some i)).place
     (covers_next symbol (length symbol) i (f (Some i)).place w (omega arith)) (covers_next symbol (suc (length symbol)) i (f (Some i)).place w (omega arith))))
 
--- items that end with more credit than they began with move
+-- items that end with a larger budget than they started with end at a later place
 pub advances : (p : Items) (s : Context) (d : ℕ) (c : Bool) (r e k : ℕ) (g : Bool) → Fits c r e k g p → k < e → SpeltAt s.symbol s.folds d s.here → SpeltBelow s.symbol s.folds d s.deeper → Advances s.symbol (parse p s)
 advances p s d c r e k g f m h b i l = go (parse p s (Some i)).place refl
   where
@@ -93,7 +93,7 @@ more_bindings (suc j) (suc k) s f a o (Some i) h l =
 abbrev pub all_bindings : Context → (Place → Outcome) → Bool → Place → Outcome
 all_bindings s f = bound_by (suc (length s.symbol)) s f
 
--- one of them, and all again
+-- one binding, and all further ones
 pub bindings_on : (s : Context) (f : Place → Outcome) (o : Bool) (i k : ℕ) (a : Name) → Keeps s.symbol f → is_byte s.symbol i (code "p") ≡ true → identifier_at s.symbol (i + 1) ≡ Some (a, k) →
     all_bindings s f o (Some i) ≡ with_tree (looked 1) (with_tree (binding_separator o) (with_tree (looked (4 * (k - (i + 1) + 1))) (with_tree (name_equals a) (followed_by (f (Some k)) (all_bindings s f true)))))
 unfolding bound_by

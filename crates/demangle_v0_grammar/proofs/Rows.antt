@@ -435,7 +435,7 @@ faulty_paths_hand_over : HandOver (
 unfolding prints_text marked_text shown wanted
 faulty_paths_hand_over = refl
 
--- A boundary each: the last two categories of separators, damping, the last letter of a lifetime, a suffix.
+-- One boundary each: the last two categories of separators, damping, the last letter of a lifetime, a suffix.
 boundaries_hand_over : HandOver (
     Alike "_RIC0Kc2028_E" "::¦<¦'¦\\¦u¦{¦2¦0¦2¦8¦}¦'¦>¦" ∷
     Alike "_RIC0Kc2029_E" "::¦<¦'¦\\¦u¦{¦2¦0¦2¦9¦}¦'¦>¦" ∷
@@ -508,7 +508,7 @@ folded_arguments_hand_over : HandOver (
     Folded "_RINvC1a1bINtC1c1dINtC1e1fhEEINtC1g1hlEE" "a¦::¦b¦::¦<¦_¦>¦" ∷
     Folded "_RIIC1ahElE" "a¦::¦<¦_¦>¦::¦<¦_¦>¦" ∷
     Folded "_RIC0WmRm1_m9_E" "::¦<¦_¦>¦" ∷
-    -- A lifetime that is not in scope, and a reference to a bad target: neither is looked up.
+    -- A lifetime that is not in scope, and a reference to a bad target: neither is examined.
     Folded "_RINvC1a1bL0_E" "a¦::¦b¦::¦<¦_¦>¦" ∷
     Folded "_RINvC1a1bRL0_hE" "a¦::¦b¦::¦<¦_¦>¦" ∷
     Folded "_RNvMC3fooINtC1a1bL0_hE1c" "<¦a¦::¦b¦<¦_¦>¦>¦::¦c¦" ∷

@@ -9,7 +9,7 @@ use Rattle.demangle_v0_grammar.specs.LookTotals.{allowed_in}
 use Rattle.demangle_v0_grammar.proofs.PrintingSteps.{quiet_events}
 use Rattle.demangle_v0_grammar.proofs.UnprintedTraces.{silent_unit}
 
--- the looks that are allowed, one after another
+-- the looks that are allowed, in sequence
 abbrev pub allowances : List Event → List ℕ
 allowances [] = []
 allowances (prints_text t ∷ xs) = allowances xs

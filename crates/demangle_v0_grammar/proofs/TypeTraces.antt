@@ -113,7 +113,7 @@ module _ (plain folds out : Bool) (b : List ℕ) (left n : ℕ) where
   pub type_deep : (i c : ℕ) → slice_get b i ≡ Some c → row_text c basic_types ≡ None → left ≡ 0 → of plain out (parse type_tagged s (Some i)) ≡ with_looks (1 ∷ []) (fault_of "{recursion limit reached}")
   type_deep i c e f l = tagged_so i c e f ∙ ap (λ (o : Outcome). with_looks (1 ∷ []) (of plain out o)) (raise_deep b folds out left n (type_after_tag c) (Some i) l)
 
-  -- a type that is made of others, one depth on
+  -- a type that contains others, one depth deeper
   pub constructed_reads : (i c : ℕ) → slice_get b i ≡ Some c → row_text c basic_types ≡ None → 0 < left → of plain out (parse type_tagged s (Some i)) ≡ with_looks (1 ∷ []) (of plain out (parse (type_after_tag c) (context_at b folds out (left - 1) n) (Some i)))
   constructed_reads i c e f l = tagged_so i c e f ∙ ap (λ (o : Outcome). with_looks (1 ∷ []) (of plain out o)) (raise_on b folds out left n (type_after_tag c) (Some i) l)
 

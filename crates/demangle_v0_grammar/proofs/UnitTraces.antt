@@ -77,7 +77,7 @@ pub begins : (b : List ℕ) (folds out : Bool) (left n : ℕ) (kind : Kind) (val
 unfolding level_of
 begins b folds out left n kind value i = same_here b folds (inner b folds (levels b folds left)) (level_of b folds (levels b folds left)) (levels b folds left) (rank kind) (one kind) (level_same b folds (levels b folds left) kind) out (items kind value) _ _ _ _ (fits kind value) n (Some i)
 
--- one depth on, if there is one
+-- one depth deeper, if there is one
 pub raise_deep : (b : List ℕ) (folds out : Bool) (left n : ℕ) (p : Items) (i : Place) → left ≡ 0 → parse (raise p) (context_at b folds out left n) i ≡ failed_with too_deep
 unfolding parse levels
 raise_deep b folds out left n p i e = rw e refl

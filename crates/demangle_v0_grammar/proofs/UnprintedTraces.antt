@@ -15,7 +15,7 @@ use Rattle.demangle_v0_grammar.specs.Traces.{Event, text_if, Trace, of, events, 
 abbrev pub at : List ℕ → Bool → Bool → Level → List Level → ℕ → Context
 at b folds pr here deeper m = record { symbol = b; folds = folds; printed = pr; here = here; deeper = deeper; lifetimes = m }
 
--- surroundings in which nothing is printed
+-- a context in which nothing is printed
 abbrev silent : List ℕ → Bool → Level → List Level → ℕ → Context
 silent b folds here deeper m = at b folds false here deeper m
 
@@ -173,7 +173,7 @@ module _ (plain : Bool) where
 
 -- The table.
 
--- the same rows, but for texts, lifetimes and the value position
+-- the same rows, except for texts, lifetimes and the value position
 abbrev SameRows : List (String × Items) → List (String × Items) → Type 0
 SameRows [] [] = Unit {0}
 SameRows (r ∷ rs) (s ∷ ss) = (r.0 ≡ s.0) × (mute r.1 ≡ mute s.1) × SameRows rs ss

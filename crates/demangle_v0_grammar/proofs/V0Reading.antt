@@ -27,7 +27,7 @@ pub ascii_all : (xs : List ℕ) → IsAscii xs → list_all (λ b. nat_lt b 128)
 ascii_all [] h = refl
 ascii_all (x ∷ xs) h = rw (lt-ltb x 128 (h zero)) (ascii_all xs (λ i. h (suc i)))
 
--- each prefix is taken off
+-- each prefix is removed
 
 pub inner_prefix : (s r : List ℕ) → v0_inner s ≡ Some r → (prefix : List ℕ) × (s ≡ prefix ++ r) × IsV0Prefix prefix
 inner_prefix s r h = go (after_prefix (codes "_R") s) (after_prefix (codes "R") s) (after_prefix (codes "__R") s) refl refl refl h
@@ -116,7 +116,7 @@ v0_no_paths symbol inner e h g k = v0_begun symbol inner e h g ∙ ap (λ (o : O
 pub v0_there : (symbol inner : List ℕ) (k : ℕ) → Some inner ≡ v0_inner symbol → IsAscii inner → starts_second_path inner 0 ≡ true → Some k ≡ suffix_place inner → v0_of symbol ≡ Some (inner, drop k inner)
 v0_there symbol inner k e h g p = v0_begun symbol inner e h g ∙ ap (λ (o : Option ℕ). then_if_some o (ending inner)) (sym p)
 
--- the suffix begins within the symbol
+-- the suffix starts within the symbol
 pub suffix_within : (inner : List ℕ) (k : ℕ) → Some k ≡ suffix_place inner → k ≤ length inner
 suffix_within inner k e = within (accepted inner k (sym e))
   where

@@ -1,4 +1,4 @@
--- A number's hexadecimal digits, as many as there are places for, its leading zeros too.
+-- The hexadecimal digits of a number, as many as there are places, including its leading zeros.
 use Rattle.std.proofs.Common.{◌≡◌, ℕ, zero, suc, ◌+◌, ◌-◌, ◌*◌, ◌/◌, ◌%◌, ◌^◌, ◌<◌, ◌≤◌, Bool, true, false, ◌&&◌, T, eqb, eqb→eq, List, [], ◌∷◌, ◌++◌, drop, length, set, get_or, refl, ap, sym, ◌∙◌, inl, inr, arith, eq-zero-or-pos, append_assoc}
 use Rattle.std.specs.Fmt.{digits, digits_onto, digit_glyph}
 use Rattle.std.proofs.Math.Nat.{div-one, div-div-eq-div-mul, pow-le-pow_right, one-le-pow}
@@ -76,7 +76,7 @@ low_digit r = (pair_below 256 (r % 256) tt (omega arith)).1 ∙ ap (digit_glyph 
 pub digit_put : (text : List ℕ) (at x g : ℕ) → at < length text → x ≡ g → drop at (set text at x) ≡ g ∷ drop (at + 1) text
 digit_put text at x g le e = drop-set text at x le ∙ (λ t. e t ∷ drop (at + 1) text)
 
--- A hexadecimal digit has the room of four binary ones.
+-- A hexadecimal digit has as many values as four binary ones.
 four_each : (i : ℕ) → 16 ^ i ≡ 2 ^ (4 * i)
 four_each zero = refl
 four_each (suc i) =
@@ -84,7 +84,7 @@ four_each (suc i) =
     let more : 2 ^ (4 * suc i) ≡ 2 ^ (4 * i) * 16 = ap (λ e. 2 ^ e) next ∙ pow-add 2 (4 * i) 4 in
     omega (arith, four_each i, more, pow_more 16 i)
 
--- The digits that are no leading zeros are the number's.
+-- The digits that are not leading zeros are those of the number.
 pub zeros_off : (n : ℕ) → n < 2 ^ 64 → drop (count_leading_zeros 64 (bit_or n 1) / 4) (low_digits 16 n) ≡ digits 16 false n
 unfolding digits
 zeros_off n fits =

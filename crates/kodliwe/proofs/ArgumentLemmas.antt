@@ -34,7 +34,7 @@ parts_pushed items new source e = ap (λ l. reverse (map input_part_of l)) e ∙
 pub refusal_then : (fault : UsageError) {P Q : ParsedAs → Type 0} → ((answer : ParsedAs) → P answer → Q answer) → IfSome (refusal_of fault) P → IfSome (refusal_of fault) Q
 refusal_then fault f h = IfSome_then (refusal_of fault) h f
 
--- - as a file is standard input
+-- `-` as a file is standard input
 pub sets_stdin : (old new : Options) → Sets Input (codes "-") old new → new ≡ record old { parts = stdin ∷ old.parts }
 sets_stdin old new sets = at sets.0 sets.1 sets.2
   where

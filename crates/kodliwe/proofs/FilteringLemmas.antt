@@ -122,7 +122,7 @@ pub same_remaining : (held : Option (List ℕ)) → prepend_known [] held ≡ he
 same_remaining None = refl
 same_remaining (Some text) = refl
 
--- nothing was filtered of a text
+-- nothing of a text was filtered
 pub stopped_none : (f : List ℕ → List ℕ) (held old : Option (List ℕ)) → IfSome held (λ text. BytesStopped (filtered_by f zero) Memory text old old)
 stopped_none f None old = tt
 stopped_none f (Some text) old = (text, passed_none f text text old refl)
@@ -154,7 +154,7 @@ filtering_step f all now first held old mid new inv e wrote = record {
         let more : Appends mid new (filtered_by f zero t) = MatchOption-at_some ⊤ (λ text. Appends mid new (filtered_by f zero text)) t are.0 wrote in
         (done ++ t ∷ [], rest, e ∙ sym (append_assoc done (t ∷ []) rest), are.1, subst (Appends old new) (sym (filtered_push f done t)) (Appends-trans old mid new _ _ grew more))
 
--- all of them were
+-- all texts were filtered
 pub filtering_end : (f : List ℕ → List ℕ) (all now : List (Option (List ℕ))) (old mid new : Option (List ℕ)) → Filtering f all now old mid → now ≡ [] → Keeps mid new → WroteAll (filtered_by f zero) all old new
 filtering_end f all now old mid new inv none keeps = λ texts is. let p = inv.parts texts is in at texts p.0 p.1 p.2 (subst (λ l. Remain l p.1) none p.3) p.4
   where
@@ -203,7 +203,7 @@ not_writing NotUtf8 f all old new n stopped = stopped
 not_writing (Write e) f all old new n stopped = absurd (n tt)
 not_writing Memory f all old new n stopped = stopped
 
--- at the writer that a join of branches has
+-- for the writer after the branches join
 pub prefix_joined : {W : Type 0} (contents : W → Option (List ℕ)) (f : List ℕ → List ℕ) (all : List (Option (List ℕ))) (old : Option (List ℕ)) (new next : W) → next ≡ new
     → WrotePrefix (filtered_by f zero) all old (contents new) → WrotePrefix (filtered_by f zero) all old (contents next)
 prefix_joined contents f all old new next e wrote = subst (λ w. WrotePrefix (filtered_by f zero) all old (contents w)) (sym e) wrote

@@ -1,4 +1,4 @@
--- A text of any bytes, part by part.
+-- Any bytes, filtered in parts.
 use Rattle.std.proofs.Common.{◌≡◌, ℕ, zero, suc, ◌+◌, ◌-◌, ◌*◌, ◌<◌, ◌≤◌, ◌⊎◌, inl, inr, ◌&&◌, ◌||◌, Bool, true, false, eqb, eqb-true, cond, List, [], ◌∷◌, ◌++◌, length, take, drop, get_or, None, Some, IfSome, refl, sym, ap, subst, ◌∙◌, arith, append_assoc, append-nil, length-drop, length-append, take_all, codes, nat_eq}
 use Rattle.std.specs.List.{prefix_len, list_all, starts_with}
 use Rattle.std.specs.Cmp.Lexicographic.{pointwise}
@@ -40,7 +40,7 @@ begins_less s t none = at (starts_run s) refl
     at true e = absurd (true≢false (sym (begins_more s t e) ∙ none))
     at false e = e
 
--- two characters that begin no run, and are no `_Z`
+-- two bytes that start no run, and are not `_Z`
 two : (c d : ℕ) (more : List ℕ) → starts_run (c ∷ d ∷ []) ≡ false → ((c ∷ d ∷ []) ≡ codes "_Z" → ⊥) → starts_run (c ∷ d ∷ more) ≡ false
 two c d more none not = at (eqb 95 c) refl (eqb 90 d) refl (eqb 82 d) none
   where
@@ -74,7 +74,7 @@ all_of_prefix (c ∷ s) e = at (all_of_prefix s) (is_run_byte c) e
     at ih true e = ih (omega (arith, e))
     at ih false e = absurd (omega (arith, e))
 
--- the longest prefix of run characters
+-- the longest prefix of run bytes
 pub all_prefix : (s : List ℕ) → list_all is_run_byte (take (prefix_len is_run_byte s) s) ≡ true
 all_prefix [] = refl
 all_prefix (c ∷ s) = at (all_prefix s) (is_run_byte c) refl
@@ -116,7 +116,7 @@ no_prefix (c ∷ s) h = ap (λ b. cond b (1 + prefix_len is_run_byte s) 0) h
 run_first : (c : ℕ) (s : List ℕ) → starts_run (c ∷ s) ≡ true → is_run_byte c ≡ true
 run_first c s some = ap is_run_byte (first_of_run (c ∷ s) some)
 
--- a run that is not cut is as long
+-- a run that is not split has the same length
 same_len : (c : ℕ) (a b : List ℕ) → SplitsNoRun (c ∷ a) b → starts_run (c ∷ (a ++ b)) ≡ true → prefix_len is_run_byte (a ++ b) ≡ prefix_len is_run_byte a
 same_len c a b cut some = prefix_len-append is_run_byte a b ∙ at (eqb (prefix_len is_run_byte a) (length a)) refl
   where
@@ -150,7 +150,7 @@ same_begin c (x ∷ y ∷ a) b cut some = some
 tail : (c : ℕ) (a b : List ℕ) → SplitsNoRun (c ∷ a) b → SplitsNoRun a b
 tail c a b cut = λ before run e some all begins. cut (c ∷ before) run (ap (λ l. c ∷ l) e) some all begins
 
--- a text that is filtered in two parts of which the first cuts no run
+-- a text that is filtered in two parts, of which the first splits no run
 split_from : (f : List ℕ → List ℕ) (a b : List ℕ) (k : ℕ) → k ≤ length a → SplitsNoRun a b → filtered_by f k (a ++ b) ≡ filtered_by f k a ++ filtered_by f zero b
 unfolding filtered_by
 split_from f [] b zero le cut = refl
@@ -178,7 +178,7 @@ split_from f (c ∷ a) b zero le cut = at (λ k le. split_from f a b k le (tail 
 pub filtered_split : (f : List ℕ → List ℕ) (a b : List ℕ) → SplitsNoRun a b → filtered_by f zero (a ++ b) ≡ filtered_by f zero a ++ filtered_by f zero b
 filtered_split f a b cut = split_from f a b zero (omega arith) cut
 
--- nothing was passed
+-- nothing was filtered
 pub passed_none : (f : List ℕ → List ℕ) (held left : List ℕ) (old : Option (List ℕ)) → held ≡ left → FilteredPrefix (filtered_by f zero) held left old old
 unfolding filtered_by
 passed_none f held left old e = record {
@@ -278,7 +278,7 @@ passed_prefix f held prefix left old new e stop wrote = record {
   wrote = wrote;
 }
 
--- which open texts are runs
+-- the partial runs that are runs
 open_run : (s : List ℕ) → IsPartialRun s → starts_run s ≡ true → list_all is_run_byte s ≡ true
 open_run s (inl e) some = absurd (true≢false (sym some ∙ ap starts_run e))
 open_run s (inr (inl e)) some = absurd (true≢false (sym some ∙ ap starts_run e))

@@ -34,7 +34,7 @@ none_in_none : HasNoStart []
 none_in_none [] rest e = ap starts_run (sym e)
 none_in_none (b ∷ before) rest e = cc
 
--- nothing follows, or a run
+-- the text is empty, or starts a run
 abbrev Starts : List ℕ → Type 0
 Starts rest = (rest ≡ []) ⊎ (starts_run rest ≡ true)
 
@@ -223,6 +223,6 @@ from h zero (c ∷ s) = elim (cases (starts_run (c ∷ s))) [
 pub filtered_is : (h : Bool) (line out : List ℕ) → ((out ≡ filtered h line) → IsFiltered h line out) × (IsFiltered h line out → out ≡ filtered h line)
 filtered_is h line out = (λ e. subst (IsFiltered h line) (sym e) (from h zero line), filtered_only h line out)
 
--- a text without a run passes
+-- a text without a run is unchanged
 pub passes : (h : Bool) (line : List ℕ) → HasNoStart line → filtered h line ≡ line
 passes h line none = filtered_all (replacement h) line (λ k lt. none (take k line) (drop k line) (sym (take-append-drop k line)))

@@ -12,7 +12,7 @@ use Rattle.demangle_v0_grammar.specs.Reading.{Tree, nothing, piece, plain_piece,
 use Rattle.rustc_demangle.proofs.LineFeeds.{line_feeds-append, line_feeds-concat, line_feeds-other}
 use Rattle.rustc_demangle.proofs.PrimitiveLineFeeds.{AreClear, number_clear, namespace_clear, nibbles_clear, identifier_clear, name_clear}
 
--- no piece of a tree holds a line feed
+-- no piece of a tree has a line feed
 abbrev pub IsClear : Tree → Type 0
 IsClear nothing = Unit {0}
 IsClear (piece t rest) = (line_feeds t ≡ 0) × IsClear rest

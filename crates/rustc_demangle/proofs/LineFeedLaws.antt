@@ -44,11 +44,11 @@ line_feeds-cut pieces limit = elim (leb_tells (size pieces) limit) [
   | inr e ↦ rw (e.0) (omega (arith, line_feeds-fitting pieces limit, line_feeds-concat (prefix_within pieces limit) (marker ∷ [])))
 ]
 
--- and so is one that is no control
+-- a character that is not a control character is not a line feed
 line_feeds-encode : (c : ℕ) → is_control c ≡ false → line_feeds (encode_utf8 c) ≡ 0
 line_feeds-encode c no_control = line_feeds-character c (λ same. true≢false (ap is_control (sym same) ∙ no_control))
 
--- the text in it, or none
+-- the text in an option, or the empty text
 in_text : Option (List ℕ) → List ℕ
 in_text None = []
 in_text (Some text) = text
@@ -247,7 +247,7 @@ line_feeds-replacement h run none = at (pieces_of h (stripped run))
     at None = none
     at (Some read) = line_feeds-handed (stripped run) h most_bytes (omega (arith, none, line_feeds-stripped run))
 
--- run characters are no line feeds
+-- run bytes are not line feeds
 line_feeds-run : (run : List ℕ) → list_all is_run_byte run ≡ true → line_feeds run ≡ 0
 line_feeds-run [] all = refl
 line_feeds-run (c ∷ run) all = at (line_feeds-run run) (is_run_byte c) refl all
@@ -256,7 +256,7 @@ line_feeds-run (c ∷ run) all = at (line_feeds-run run) (is_run_byte c) refl al
     at following true is rest = line_feeds-other c run (λ same. true≢false (sym is ∙ ap is_run_byte same)) ∙ following rest
     at following false is rest = absurd (true≢false (sym rest))
 
--- a line keeps its line feeds
+-- a filtered line has as many line feeds as before
 line_feeds-filtered : (h : Bool) (skip : ℕ) (s : List ℕ) → line_feeds (filtered_by (replacement h) skip s) ≡ line_feeds (drop skip s)
 unfolding filtered_by
 line_feeds-filtered h zero [] = refl
@@ -272,7 +272,7 @@ line_feeds-filtered h zero (c ∷ s) = elim (cases (starts_run (c ∷ s))) [
   | inr none ↦ ap (λ b. line_feeds (turn (replacement h) c s b)) none ∙ omega (arith, line_feeds-filtered h zero s)
 ]
 
--- and so do all lines
+-- so do all lines
 pub line_feeds-written : (h : Bool) (text : List ℕ) → line_feeds (output_of h (lines text)) ≡ line_feeds text
 line_feeds-written h text = each (lines text) ∙ ap line_feeds (lines_join text)
   where

@@ -31,7 +31,7 @@ path_len-styled text style suffix has = path_len-some text (style_pieces (form t
 pub path_len-unstyled : (text : List ℕ) → HasNoStyle text → path_len_of text ≡ 0
 path_len-unstyled text none = ap (λ o. option_map_or (λ (r : List (List ℕ) × List ℕ). length text - length r.1) o 0) (none (form true false))
 
--- no prefix is empty
+-- a prefix is not empty
 legacy_prefix-len : (p : List ℕ) → IsLegacyPrefix p → 0 < length p
 legacy_prefix-len p (inl e) = let len : length p ≡ 3 = ap length e in omega arith
 legacy_prefix-len p (inr (inl e)) = let len : length p ≡ 2 = ap length e in omega arith
@@ -55,7 +55,7 @@ path_len_positive text (inr (inner, suffix, v0, allowed)) =
     let part = v0.5 in
     omega (arith, len, prefix, ap length v0.1, length-append v0.0 inner, ap length part.2, length-drop part.0 inner)
 
--- a v0 symbol is ASCII with a prefix, and a text with a prefix of the legacy scheme has none of v0
+-- a v0 symbol is ASCII with a prefix, and a text with a prefix of the legacy scheme has no prefix of v0
 pub v0_ascii-ascii : (text : List ℕ) → IsAscii text → v0_ascii text ≡ v0_inner text
 v0_ascii-ascii text ascii = ap (λ b. cond b (v0_inner text) None) (ascii_all text ascii)
 
@@ -79,7 +79,7 @@ pub handed_with_path_len-some : (text : List ℕ) (len : ℕ) (hash : Bool) (lim
     → handed_with_path_len text len hash limit ≡ cut (path_texts inner (form hash false)) limit ++ drop len text ∷ []
 handed_with_path_len-some text len hash limit inner e = ap (λ o. option_map_or (λ inner. cut (path_texts inner (form hash false)) limit ++ drop len text ∷ []) o (handed text hash limit)) e
 
--- past a text's end nothing is left of it
+-- no byte is left after the end of a text
 pub drop-min : (n : ℕ) (xs : List ℕ) → drop (min n (length xs)) xs ≡ drop n xs
 drop-min n xs = elim (leb_tells n (length xs)) [
   | inl h ↦ ap (λ k. drop k xs) (let within : n ≤ length xs = h.1 in omega (arith, within))

@@ -1,4 +1,4 @@
--- The pieces of a text, as they are handed to a sink one after the other.
+-- The pieces of a text, in the order in which they are put into a sink.
 use Rattle.std.proofs.Common.{◌≡◌, ℕ, zero, suc, ◌+◌, ◌<◌, ◌≤◌, Bool, true, false, cond, List, [], ◌∷◌, ◌++◌, length, take, drop, Option, None, Some, Result, Ok, Err, IsOk, IsErr, refl, sym, ap, subst, ◌∙◌, arith, append_assoc, append-nil}
 use Rattle.std.specs.List.{concat, prefix_len, take_while}
 use Rattle.std.specs.Option.{option_map_or}
@@ -58,7 +58,7 @@ pieces_kept format (suc n) (c ∷ s) le none some =
     pieces_other format c s (none 0 (omega arith))
     ∙ ap (onto_first c) (pieces_kept format n s (omega (arith, le)) (λ k lt. none (suc k) (omega (arith, lt))) some)
 
--- a text in which no run begins is one piece
+-- a text in which no run starts is one piece
 pieces_all : (format : Format) (s : List ℕ) → ((k : ℕ) → k < length s → starts_run (drop k s) ≡ false) → filtered_pieces_in format s ≡ s ∷ []
 unfolding filtered_pieces_from
 pieces_all format [] none = refl
@@ -70,7 +70,7 @@ pub run_pieces-symbol : (format : Format) (run : List ℕ) → IsSymbol (strippe
 run_pieces-symbol format run symbol =
     sym (ap (λ read. option_map_or (λ (_ : List (List ℕ) × List ℕ). handed_in (stripped run) format) read (run ∷ [])) (pieces-symbol (form_of format) (stripped run) symbol).1)
 
--- and any other is itself
+-- any other run is its own piece
 pub run_pieces-no_symbol : (format : Format) (run : List ℕ) → (IsSymbol (stripped run) → ⊥) → run ∷ [] ≡ run_pieces format run
 run_pieces-no_symbol format run none = at (pieces_in (form_of format) (stripped run)) refl
   where

@@ -26,7 +26,7 @@ clear_join : (xs ys : List (List ℕ)) → AreClear xs → AreClear ys → AreCl
 clear_join [] ys h k = k
 clear_join (x ∷ xs) ys h k = (h.0, clear_join xs ys h.1 k)
 
--- the first of a text without line feeds, and its rest
+-- the first byte of a text without line feeds, and the rest
 first_clear : (b : ℕ) (bs : List ℕ) → line_feeds (b ∷ bs) ≡ 0 → b ≢ 10
 first_clear b bs h same = let q : 1 + line_feeds bs ≡ 0 = subst (λ x. line_feeds (x ∷ bs) ≡ 0) same h in omega (arith, q)
 

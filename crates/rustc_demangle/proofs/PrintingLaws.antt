@@ -51,7 +51,7 @@ available-all [] = refl
 available-all (e ∷ []) = refl
 available-all (e ∷ f ∷ es) = ap (λ xs. e ∷ xs) (available-all (f ∷ es))
 
--- without it, all or all but a last one that is a hash
+-- without the hash, all elements, or all except a last one that is a hash
 available-cases : (elements : List (List ℕ)) → (shown_elements false elements ≡ elements)
     ⊎ ((prefix : List (List ℕ)) × (last : List ℕ) × (elements ≡ prefix ++ last ∷ []) × (shown_elements false elements ≡ prefix) × (is_hash last ≡ true))
 unfolding shown_elements
@@ -66,7 +66,7 @@ available-cases (e ∷ f ∷ es) = elim (available-cases (f ∷ es)) [
   | inr h ↦ inr (e ∷ h.0, h.1, ap (λ xs. e ∷ xs) h.2, ap (λ xs. e ∷ xs) h.3, h.4)
 ]
 
--- the pieces of a list with one element more
+-- the pieces of a list with one more element
 joined-last : (prefix : List (List ℕ)) (last : List ℕ) → joined_pieces (prefix ++ last ∷ []) ≡ joined_pieces prefix ++ pieces_after prefix last
 joined-last [] last = append-nil (unescaped last)
 joined-last (e ∷ es) last =

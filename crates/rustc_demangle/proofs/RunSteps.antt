@@ -1,4 +1,4 @@
--- Runs in a line, as they are passed one after the other.
+-- The runs of a line, in the order in which they are replaced.
 use Rattle.std.proofs.Common.{◌≡◌, ℕ, zero, suc, ◌+◌, ◌-◌, ◌<◌, ◌≤◌, ◌⊎◌, inl, inr, ◌||◌, Bool, true, false, cond, List, [], ◌∷◌, ◌++◌, length, take, drop, get_or, Option, None, Some, refl, sym, ap, subst, ◌∙◌, arith, codes, nat_eq}
 use Rattle.std.specs.List.{starts_with, prefix_len, take_while, concat}
 use Rattle.std.specs.Option.{option_map_or}
@@ -40,7 +40,7 @@ pub filtered_first : (f : List ℕ → List ℕ) (c : ℕ) (s : List ℕ) → st
 unfolding filtered_by
 filtered_first f c s some = ap (turn f c s) some ∙ ap (λ l. f (c ∷ take_while is_run_byte s) ++ l) (filtered_skip f (prefix_len is_run_byte s) s)
 
--- a run begins with `_ZN` or `_R`
+-- a run starts with `_ZN` or `_R`
 pub begins_with : (s : List ℕ) → starts_run s ≡ true → (t : List ℕ) × ((s ≡ codes "_ZN" ++ t) ⊎ (s ≡ codes "_R" ++ t))
 begins_with s some = at (starts_with nat_eq s (codes "_ZN")) refl some
   where

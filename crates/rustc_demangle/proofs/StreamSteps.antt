@@ -121,7 +121,7 @@ pub streaming_full : {W : Type 0} (contents : W → Option (List ℕ)) (e : Erro
 streaming_full contents e h held left old new next p kind same =
     stop_read e h held left (contents old) (contents new) (contents next) p kind (ap contents same)
 
--- a read into an empty buffer took the line
+-- a read into an empty buffer read the line
 taken : (rest before after bytes : List ℕ) → after ≡ before ++ take_through 10 rest → before ≡ [] → bytes ≡ after → bytes ≡ take_through 10 rest
 taken rest before after bytes read none same = same ∙ read ∙ ap (λ l. l ++ take_through 10 rest) none
 
@@ -155,7 +155,7 @@ pub some_items : (n : ℕ) (xs : List ℕ) → false ≡ (eqb n 0) → n ≡ len
 some_items zero xs h e = absurd (grind (arith, h))
 some_items (suc n) xs h e = omega (arith, e)
 
--- a read that took nothing found nothing
+-- a read that returned no byte was at the end
 none_taken : (rest : List ℕ) → take_through 10 rest ≡ [] → rest ≡ []
 none_taken [] e = refl
 none_taken (b ∷ bs) e = at (eqb b 10) e

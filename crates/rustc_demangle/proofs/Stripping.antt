@@ -49,7 +49,7 @@ stripped_uncut [] h = refl
 stripped_uncut (c ∷ s) h =
     uncut_here c s (starts_with nat_eq (c ∷ s) (codes ".llvm.")) (list_all is_thin_lto (drop 5 s)) refl refl h (stripped_uncut s (λ i rest e t. h (suc i) rest e t))
 
--- the last `.` does not end a `.llvm.`
+-- the last `.` is not the end of a `.llvm.`
 pub stripped_undotted_end : (s : List ℕ) (dot : ℕ) → dot < length s → get_or s dot 0 ≡ 46 → Nowhere (Passes (is_byte 46) s) (dot + 1) (length s)
     → (5 ≤ dot → starts_with nat_eq (drop (dot - 5) s) (codes ".llvm.") ≡ false) → s ≡ stripped s
 stripped_undotted_end s dot low hit none other = stripped_uncut s (λ i rest e thin.
@@ -69,7 +69,7 @@ stripped_undotted_end s dot low hit none other = stripped_uncut s (λ i rest e t
       ]
     ])
 
--- no `.` at all
+-- the text has no `.`
 pub stripped_undotted : (s : List ℕ) → Nowhere (Passes (is_byte 46) s) 0 (length s) → s ≡ stripped s
 stripped_undotted s h = stripped_none s (λ i l rest e.
     let inside : i < length s = omega (arith, length-drop i s, ap length e) in
@@ -107,7 +107,7 @@ IsAscii-stripped (c ∷ s) h = go (starts_with nat_eq (c ∷ s) (codes ".llvm.")
   go true false rest = h
   go false d rest = IsAscii-cons c (stripped s) (h 0) rest
 
--- a longer text begins with it too
+-- a longer text starts with it too
 begins-append : (t ys : List ℕ) → starts_with nat_eq t (codes ".llvm.") ≡ true → starts_with nat_eq (t ++ ys) (codes ".llvm.") ≡ true
 begins-append t ys e = ap (λ z. starts_with nat_eq (z ++ ys) (codes ".llvm.")) (begins t e)
 

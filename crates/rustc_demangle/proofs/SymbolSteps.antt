@@ -98,7 +98,7 @@ symbol-pieces form text r e = let h = allowed-some (read_in form text) r e in go
   go None (Some p) legacy v0 e allowed = inr (p.0, p.1, read_is_v0 text p.0 p.1 v0, ap is_allowed (suffix_is (v0_parts form p) r e) ∙ allowed)
   go None None legacy v0 e allowed = cc
 
--- and a symbol has pieces
+-- a symbol has pieces
 pub pieces-symbol : (form : Form) (text : List ℕ) → IsSymbol text → (r : List (List ℕ) × List ℕ) × (pieces_in form text ≡ Some r)
 pieces-symbol form text (inl (elements, suffix, legacy, allowed)) =
     ((legacy_pieces form.include_hash elements, suffix), pieces-legacy form text elements suffix (legacy_spelled text elements suffix legacy) allowed)
@@ -204,7 +204,7 @@ pub style_suffix-shorter : (text : List ℕ) (style : DemangleStyle) (suffix : L
 style_suffix-shorter text (Legacy symbol) suffix read = suffix-shorter text (elements_of symbol) suffix read
 style_suffix-shorter text (V0 symbol) suffix read = v0_suffix-shorter text symbol suffix read
 
--- with a suffix that is not allowed there is no style
+-- a text with a suffix that is not allowed has no style
 pub not_allowed_unstyled : (text : List ℕ) (style : DemangleStyle) (suffix : List ℕ) → IsReadAs text style suffix → is_allowed suffix ≡ false → HasNoStyle text
 not_allowed_unstyled text (Legacy symbol) suffix read other form = no_pieces-legacy form text (elements_of symbol) suffix read other
 not_allowed_unstyled text (V0 symbol) suffix read other form = no_pieces-v0 form text symbol suffix read other

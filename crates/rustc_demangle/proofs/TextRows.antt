@@ -65,7 +65,7 @@ ends =
     0 ∷ 1 ∷ 2 ∷ 3 ∷ 4 ∷ 5 ∷ 6 ∷ 7 ∷ 8 ∷ 9 ∷ 10 ∷ 11 ∷ 12 ∷ 13 ∷ 14 ∷ 15 ∷ 16 ∷ 17 ∷ 18 ∷ 19 ∷ 20 ∷ 21 ∷ 22 ∷ 23 ∷ 24 ∷ 25 ∷ 26 ∷ 27 ∷ 28 ∷ 29 ∷ 30 ∷ 31 ∷ 127 ∷
     codes " !\"#%&'()*+,-/:;<=>?@[\\]^`{|}~"
 
--- the bytes that go on with it, but for `.`, which begins a suffix
+-- the bytes that continue a run, except for `.`, which starts a suffix
 abbrev extends_prefix : List ℕ
 extends_prefix = codes "$0123456789ABCDEFGHIJKLMNOPQRSTUVWXYZ_abcdefghijklmnopqrstuvwxyz"
 
