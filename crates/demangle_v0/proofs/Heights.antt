@@ -26,8 +26,8 @@ module _ {F : Type 0} (height : F → ℕ) where
   stands_first n high l = record { room = tt; above = omega arith }
 
   -- the next continuation is no higher than the one before it
-  pub stands_on : (n high new : ℕ) (stack : List F) → HasRoomAbove height n high stack → new ≤ high → HasRoomAbove height n new stack
-  stands_on n high new stack s l = record { room = s.room; above = omega (arith, s.above, l) }
+  pub has_room_on : (n high new : ℕ) (stack : List F) → HasRoomAbove height n high stack → new ≤ high → HasRoomAbove height n new stack
+  has_room_on n high new stack s l = record { room = s.room; above = omega (arith, s.above, l) }
 
   -- a frame was pushed
   pub stands_push : (n high new : ℕ) (stack : List F) (f : F) → HasRoomAbove height n high stack → height f ≤ high → new + 1 ≤ high → HasRoomAbove height n new (stack ++ f ∷ [])
