@@ -1,5 +1,5 @@
--- Parts that a printing parse reads and does not print. They are read above the current frames, and printing continues after
--- them.
+-- Parts that a printing parse reads and does not print. They are read above the current frames, and printing continues
+-- after them.
 use Rattle.std.specs.Prelude.{◌*◌, codes, take, IfSome, IfNone}
 use Rattle.std.proofs.Common.{◌≡◌, ℕ, ◌+◌, ◌≤◌, ◌<◌, Bool, true, false, Option, Some, None, Ok, List, [], ◌∷◌, length, refl, arith, sym, ap, ◌∙◌, subst}
 use Rattle.std.proofs.lemmas.Bool.{false≢true}

@@ -56,8 +56,8 @@ one_suffix symbol j k p q = some_one (sym (all_accepted symbol j p) ∙ all_acce
     some_one : {x y : ℕ} → Some x ≡ Some y → x ≡ y
     some_one e = cc e
 
--- Parsing without output ends exactly where the grammar ends the production. Parsing with output does so if each lifetime is in
--- scope, except for lifetimes in folded arguments.
+-- Parsing without output ends exactly where the grammar ends the production. Parsing with output does so if each
+-- lifetime is in scope, except for lifetimes in folded arguments.
 pub reading_is_spelling : (symbol : List ℕ) (folds : Bool) (kind : Kind) (value : Bool) (i j d m : ℕ) → d ≤ max_depth → i ≤ length symbol → ((read_at symbol folds false kind i d m value).place ≡ Some j) ↔ Spells symbol freely d m (items kind value) i j
 reading_is_spelling symbol folds kind value i j d m h b = (read_spelt symbol folds false kind value i j d m h, spells_read symbol folds false kind value i j d m h b)
 

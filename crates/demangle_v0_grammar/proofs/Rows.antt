@@ -489,8 +489,8 @@ field_disambiguators_hand_over : PutsPaid (
 unfolding prints_text marked_text shown wanted
 field_disambiguators_hand_over = refl
 
--- Folded arguments. The pieces are those of the same crate with a change: it reads the arguments of a path without printing
--- them, as it reads an impl path, and prints `_` for them.
+-- Folded arguments. The pieces are those of the same crate with a change: it reads the arguments of a path without
+-- printing them, as it reads an impl path, and prints `_` for them.
 folded_arguments_hand_over : PutsPaid (
     -- In value position, and not in value position.
     Folded "_RINvC3foo3barhE" "foo¦::¦bar¦::¦<¦_¦>¦" ∷
