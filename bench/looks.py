@@ -26,11 +26,11 @@ MOST_TUPLES = 58
 LOOKS = os.path.join("src", "cursor", "looks.rt")
 # What is put into its text, behind a line of it or in place of one.
 EDITS = [
-    ("    count: Snapshot<Tally>,\n", "    count: Snapshot<Tally>,\n    number: u64,\n"),
-    ("            count: Snapshot::of(&Tally::Zero),\n", "            count: Snapshot::of(&Tally::Zero),\n            number: 0,\n"),
+    ("    count: Snapshot<Unary>,\n", "    count: Snapshot<Unary>,\n    number: u64,\n"),
+    ("            count: Snapshot::of(&Unary::Zero),\n", "            count: Snapshot::of(&Unary::Zero),\n            number: 0,\n"),
     (
-        "        self.count = Snapshot::of(&Tally::More(before));\n    }\n",
-        "        self.count = Snapshot::of(&Tally::More(before));\n        self.number = self.number.wrapping_add(1);\n    }\n\n"
+        "        self.count = Snapshot::of(&Unary::More(before));\n    }\n",
+        "        self.count = Snapshot::of(&Unary::More(before));\n        self.number = self.number.wrapping_add(1);\n    }\n\n"
         "    /// How many there are.\n    pub fn number(&self) -> u64 {\n        self.number\n    }\n",
     ),
     ("\nconst _: () = prove!(mem::size_of::<Looks>() == 0);\n", ""),
