@@ -35,9 +35,9 @@ pub extern "C" fn kodliwe_is_symbol(symbol: &[u8]) -> bool
 ///
 /// If the bytes are not a symbol, the call returns 0 and leaves the memory unchanged. Otherwise the
 /// result does not depend on the size of the memory. The memory receives the path and its 0 if the
-/// result is at most that size. If it is more, the memory receives as much of the path as fits before
-/// a 0. No byte after the 0 is changed, and memory of size 0 stays unchanged. The call does not
-/// allocate.
+/// result is at most that size. If it is more, the memory receives as much of the path as fits
+/// before a 0. No byte after the 0 is changed, and memory of size 0 stays unchanged. The call does
+/// not allocate.
 #[unsafe(no_mangle)]
 pub extern "C" fn kodliwe_demangle_limited(
     symbol: &[u8],

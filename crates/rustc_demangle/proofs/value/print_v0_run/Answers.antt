@@ -20,7 +20,7 @@ use Rattle.rustc_demangle.proofs.SymbolLemmas.{pieces-v0}
 use Rattle.rustc_demangle.proofs.value.print_v0_run.Goals as goal
 use Rattle.rustc_demangle.proofs.value.print_v0_run.Goals.{then-is_allowed, else-is_allowed}
 
--- what a v0 symbol prints replaces its run
+-- the text that a v0 symbol prints replaces its run
 v0_replaced : (run text inner suffix : List ℕ) (hash : Bool) (limit : ℕ) → text ≡ stripped run → v0_of text ≡ Some (inner, suffix) → is_allowed suffix ≡ true
     → concat (cut (path_texts inner (form hash false)) limit ++ suffix ∷ []) ≡ replacement_within hash limit run
 v0_replaced run text inner suffix hash limit same read allowed =
