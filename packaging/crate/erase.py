@@ -36,10 +36,12 @@ LICENCES = ("LICENSE", "LICENSE-MIT-rustc-demangle", "LICENSE-APACHE-rustc-deman
 TABLES = ("crates", "character_tables", "stdout")
 # What erased modules may have and hand-written ones may not: names that only clauses used, and
 # forms that the prover wants and Rust's style does not. Faults (clippy's other groups) are told.
+# Without `std` some functions have no caller, since the stream is left out.
 ALLOWED = (
     "#[allow(unused_imports, unused_labels, unused_variables)]\n"
     "#[allow(clippy::complexity, clippy::style, clippy::manual_unwrap_or_default)]\n"
     "#[cfg_attr(test, allow(unused_assignments, clippy::suspicious))]\n"
+    '#[cfg_attr(not(feature = "std"), allow(dead_code))]\n'
 )
 
 
