@@ -54,14 +54,14 @@ fn filter<R: BufRead, W: Write>(
 /// The arguments are checked before anything is read. An error of `errors` is ignored.
 pub fn filter_run<R: BufRead, W: Write, E: Write>(
     alloc: Global,
-    words: &[String],
+    args: &[String],
     input: &mut R,
     output: &mut W,
     errors: &mut E,
 ) -> u8 {
-    let include_hash = match words {
+    let include_hash = match args {
         [] => true,
-        [word] if word.as_str() == "--no-hash" => false,
+        [arg] if arg.as_str() == "--no-hash" => false,
         _ => return report(errors, USAGE, 2),
     };
     match filter(alloc, input, output, include_hash) {

@@ -26,16 +26,16 @@ use std::process::ExitCode;
 
 /// Returns the arguments after the program's name.
 fn arguments(rt: &(impl Env + AllocGlobal)) -> io::Result<Vec<String>> {
-    let words = env::args(rt)?;
-    Ok(words.skip(1).collect_in::<Vec<String>>(rt.alloc())?)
+    let args = env::args(rt)?;
+    Ok(args.skip(1).collect_in::<Vec<String>>(rt.alloc())?)
 }
 
 fn main() -> ExitCode {
     let rt = HostRuntime;
     let alloc = rt.alloc();
     let mut errors = rt.stderr().lock();
-    let words = match arguments(&rt) {
-        Ok(words) => words,
+    let args = match arguments(&rt) {
+        Ok(args) => args,
         Err(error) => {
             if error.kind() == ErrorKind::OutOfMemory {
                 return ExitCode::from(report(&mut errors, OUT_OF_MEMORY, 1));
@@ -52,7 +52,7 @@ fn main() -> ExitCode {
     };
     let status = filter_run(
         alloc,
-        words.as_slice(),
+        args.as_slice(),
         &mut input,
         &mut output.writer(),
         &mut errors,
