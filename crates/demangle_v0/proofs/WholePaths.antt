@@ -1,4 +1,4 @@
--- Readings of a whole path.
+-- Parses of a whole path.
 use Rattle.std.specs.Prelude.{◌*◌}
 use Rattle.std.proofs.Common.{inl, inr, ◌⊎◌, ◌≡◌, ℕ, ◌+◌, ◌≤◌, Bool, true, false, None, Some, List, [], ◌∷◌, ◌++◌, length, refl, arith, sym, ap, ◌∙◌, subst}
 use Rattle.demangle_v0_grammar.specs.ValidationLooks.{looks_in}
@@ -29,7 +29,7 @@ use Rattle.demangle_v0.proofs.LoopLemmas.{ran_place, ran_looks, broke_fails}
 pub valid_first : (i : ℕ) → Valid continuation.Path (first_state i) []
 valid_first i = record { has_room = stands_first frame_height most_frames (8 * max_depth + 1) (omega arith); fits = omega arith; all_fit = tt; no_pending_text = refl }
 
--- a stack for all that can ever stand there is never full
+-- a stack with room for every frame that can follow is never full
 pub valid_length : (p : Continuation) (s : State) (stack : List Frame) → Valid p s stack → length stack ≤ most_frames
 valid_length p s stack v = omega (arith, v.has_room.above)
 
@@ -65,21 +65,21 @@ first_allowed b include_hash i =
     ap (λ (h : Trace). allowed_in h.events) (remaining_trace-empty_stack b (form include_hash false) false continuation.Path (first_state i))
     ∙ (ap allowed_in (silent_events include_hash tree) ∙ allowed_looks true false tree)
 
--- What a silent reading tells of its place and its looks.
+-- The place and the looks of a parse without output.
 
 pub failed_of : {r : ReadOutcome} → (r ≡ halt.StackFull) ⊎ (r ≡ halt.Failed) → (r ≡ halt.StackFull → ⊥) → r ≡ halt.Failed
 failed_of (inl k) h = absurd (h k)
 failed_of (inr k) h = k
 
 module _ {b : List ℕ} {form : Form} {p q : Continuation} {s : State} {stack : List Frame} {m : ℕ} {u : Machine NoOutput} where
-  -- it came to an end
+  -- the parse ended
   pub over_value : ReadDone (no_output_env b form) [] p (no_output_machine s stack m) halt.Complete q u → u.state.place ≡ (remaining_trace b form false p s stack).place
   over_value r = sym (over_place b form u.state) ∙ ran_place r.reads.1
 
   pub over_looks : ReadDone (no_output_env b form) [] p (no_output_machine s stack m) halt.Complete q u → u.looks ≤ m + allowed_in (remaining_trace b form false p s stack).events
   over_looks r = omega (arith, ran_looks r.reads.1)
 
-  -- it failed
+  -- the parse failed
   pub failed_value : ReadDone (no_output_env b form) [] p (no_output_machine s stack m) halt.Failed q u → None ≡ (remaining_trace b form false p s stack).place
   failed_value r = sym (broke_fails refl r.reads.0 r.reads.1).0
 
@@ -99,7 +99,7 @@ module _ {b : List ℕ} {form : Form} {p q : Continuation} {s : State} {stack : 
   pub full_looks : ReadDone (no_output_env b form) [] p (no_output_machine s stack m) halt.StackFull q u → u.looks + allowed_in (remaining_trace b form false q u.state u.stack).events ≤ m + allowed_in (remaining_trace b form false p s stack).events
   full_looks r = ran_looks (full_ran r)
 
--- Printing ends where a silent reading does.
+-- Printing ends at the place where a parse without output ends.
 
 printed_place : (b : List ℕ) (form : Form) (s : State) → (remaining_trace b form true continuation.End s []).place ≡ s.place
 unfolding trace_at trace_of_stack

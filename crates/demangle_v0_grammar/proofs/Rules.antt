@@ -1,10 +1,10 @@
--- What is spelled by a rule is spelled by a laxer one.
+-- Bytes that are spelled by a rule are spelled by a laxer one.
 use Rattle.std.specs.Prelude.{ℕ}
 use Rattle.std.proofs.Common.{◌≡◌, List, refl, sym, subst, arith}
 use Rattle.demangle_v0_grammar.specs.Items.{Items}
 use Rattle.demangle_v0_grammar.specs.Spelling.{Rule, freely, named, named_outside, simple, of_arguments, MayName, MayRefer, Spells, end_, say_, plain_, byte_, namespace_, integer_, optional_, identifier_, nibbles_, peek_, there, other, sound_, over_, repetition_, raise_, unit_, child_, skip_, folded_, target_, lifetime_, binder_, opens_, dyn_, past_, bound_}
 
--- one rule asks no more than another
+-- one rule requires no more than another
 pub record IsLaxer (r s : Rule) : Type 0 where
   pub names : (m k : ℕ) → MayName r m k → MayName s m k
   pub refers : MayRefer r → MayRefer s

@@ -8,12 +8,12 @@ use Rattle.demangle_v0.proofs.WholePaths.{valid_first, printed_end}
 use Rattle.demangle_v0.proofs.PrintLoop.{prints_to}
 use Rattle.demangle_v0.proofs.validation.print_to_suffix.Goals as goal
 
--- what holds of the place that an option has
+-- a fact on the place in an option
 some_place : (o x : Option ℕ) → o ≡ x → IfSome o (λ place. Some place ≡ x)
 some_place None x e = tt
 some_place (Some place) x e = e
 
--- what holds in any case
+-- a fact that does not depend on the option
 in_any_case : {P : Type 0} (o : Option ℕ) → P → IfSome o (λ place. P)
 in_any_case None p = tt
 in_any_case (Some place) p = p

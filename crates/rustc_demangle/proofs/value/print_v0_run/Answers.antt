@@ -21,7 +21,7 @@ use Rattle.rustc_demangle.proofs.SymbolLemmas.{pieces-v0}
 use Rattle.rustc_demangle.proofs.value.print_v0_run.Goals as goal
 use Rattle.rustc_demangle.proofs.value.print_v0_run.Goals.{then-is_allowed, else-is_allowed}
 
--- what a v0 symbol prints replaces its run
+-- the text that a v0 symbol prints replaces its run
 v0_replaced : (run text inner suffix : List ℕ) (format : Format) → text ≡ stripped run → v0_of text ≡ Some (inner, suffix) → is_allowed suffix ≡ true
     → concat (cut (path_texts inner (form_of format)) format.limit ++ suffix ∷ []) ≡ replacement_in format run
 v0_replaced run text inner suffix format same read allowed =
