@@ -36,10 +36,12 @@ LICENCES = ("LICENSE", "LICENSE-MIT-rustc-demangle", "LICENSE-APACHE-rustc-deman
 TABLES = ("crates", "character_tables", "stdout")
 # Lints that are off for erased modules, and on for hand-written ones. They are about names that
 # only clauses used, and about forms that the prover needs. clippy's other groups stay on.
+# Without `std` some functions have no caller, because the stream is left out.
 ALLOWED = (
     "#[allow(unused_imports, unused_labels, unused_variables)]\n"
     "#[allow(clippy::complexity, clippy::style, clippy::manual_unwrap_or_default)]\n"
     "#[cfg_attr(test, allow(unused_assignments, clippy::suspicious))]\n"
+    '#[cfg_attr(not(feature = "std"), allow(dead_code))]\n'
 )
 
 

@@ -20,7 +20,7 @@ use Rattle.demangle_v0.specs.declared.parser.steps.ReadOutcome.{ReadOutcome}
 use Rattle.demangle_v0.specs.declared.parser.steps.ReadOutcome.TheVariants as halt
 use Rattle.demangle_v0_grammar.proofs.ParsedIffSpelled.{printing_is_spelling, reading_is_spelling}
 use Rattle.demangle_v0_grammar.proofs.FailedRows.{allowed_looks}
-use Rattle.demangle_v0_grammar.proofs.Rules.{named_freely}
+use Rattle.demangle_v0_grammar.proofs.Rules.{spelled_freely}
 use Rattle.demangle_v0_grammar.proofs.TraceLemmas.{and_then_ended}
 use Rattle.demangle_v0_tokens.specs.declared.output.NoOutput.{NoOutput}
 use Rattle.demangle_v0.proofs.Heights.{stands_first}
@@ -101,20 +101,20 @@ module _ {b : List ℕ} {form : Form} {p q : Continuation} {s : State} {stack : 
 
 -- Printing ends at the place where a parse without output ends.
 
-printed_place : (b : List ℕ) (include_hash : Bool) (s : State) → (remaining_trace b (form include_hash false) true continuation.End s []).place ≡ s.place
+printed_place : (b : List ℕ) (form : Form) (s : State) → (remaining_trace b form true continuation.End s []).place ≡ s.place
 unfolding trace_at trace_of_stack
-printed_place b include_hash s = refl
+printed_place b form s = refl
 
-first_printed : (b : List ℕ) (include_hash : Bool) → (remaining_trace b (form include_hash false) true continuation.Path (first_state 0) []).place ≡ (read_at b false true a_path 0 0 0 true).place
+first_printed : (b : List ℕ) (form : Form) → (remaining_trace b form true continuation.Path (first_state 0) []).place ≡ (read_at b form.fold_arguments true a_path 0 0 0 true).place
 unfolding trace_at read_at
-first_printed b include_hash = ap (λ (h : Trace). h.place) (remaining_trace-empty_stack b (form include_hash false) true continuation.Path (first_state 0))
+first_printed b form = ap (λ (h : Trace). h.place) (remaining_trace-empty_stack b form true continuation.Path (first_state 0))
 
-read_end : (b : List ℕ) (j : ℕ) → (read_at b false true a_path 0 0 0 true).place ≡ Some j → Some j ≡ unit_end b a_path 0 0
+read_end : (b : List ℕ) (folds : Bool) (j : ℕ) → (read_at b folds true a_path 0 0 0 true).place ≡ Some j → Some j ≡ unit_end b a_path 0 0
 unfolding unit_end
-read_end b j e =
-    sym ((reading_is_spelling b false a_path true 0 j 0 0 (omega arith) (omega arith)).1 (named_freely ((printing_is_spelling b false a_path true 0 j 0 0 (omega arith) (omega arith)).0 e)))
+read_end b folds j e =
+    sym ((reading_is_spelling b false a_path true 0 j 0 0 (omega arith) (omega arith)).1 (spelled_freely ((printing_is_spelling b folds a_path true 0 j 0 0 (omega arith) (omega arith)).0 e)))
 
-pub printed_end : {S : Type 0} (sink : Sinks S) (b : List ℕ) (include_hash : Bool) {v w : SizeLimitedFmtAdapter S} {m n place : ℕ} →
-    EndedAt (printing sink b (form include_hash false)) continuation.Path (machine (first_state 0) [] v m) place w n → Some place ≡ unit_end b a_path 0 0
-printed_end sink b include_hash {place = place} z =
-    read_end b place (sym (first_printed b include_hash) ∙ (sym (ran_place z.ran) ∙ (printed_place b include_hash z.state ∙ z.at)))
+pub printed_end : {S : Type 0} (sink : Sinks S) (b : List ℕ) (form : Form) {v w : SizeLimitedFmtAdapter S} {m n place : ℕ} →
+    EndedAt (printing sink b form) continuation.Path (machine (first_state 0) [] v m) place w n → Some place ≡ unit_end b a_path 0 0
+printed_end sink b form {place = place} z =
+    read_end b form.fold_arguments place (sym (first_printed b form) ∙ (sym (ran_place z.ran) ∙ (printed_place b form z.state ∙ z.at)))

@@ -81,8 +81,8 @@ simply_outside = record { names = λ m k h. omega (arith, h); refers = λ h. abs
 pub simply : IsLaxer simple named
 simply = record { names = λ m k h. omega (arith, h); refers = λ h. absurd h; inside = λ m k h. omega (arith, h) }
 
-pub named_freely : {symbol : List ℕ} {d m : ℕ} {p : Items} {i j : ℕ} → Spells symbol named d m p i j → Spells symbol freely d m p i j
-named_freely a = relaxed freely (freely_laxest named) a
+pub spelled_freely : {symbol : List ℕ} {r : Rule} {d m : ℕ} {p : Items} {i j : ℕ} → Spells symbol r d m p i j → Spells symbol freely d m p i j
+spelled_freely {r = r} a = relaxed freely (freely_laxest r) a
 
 pub simply_named : {symbol : List ℕ} {d m : ℕ} {p : Items} {i j : ℕ} → Spells symbol simple d m p i j → Spells symbol named d m p i j
 simply_named a = relaxed named simply a

@@ -112,12 +112,12 @@ fn print_first(run: &str, held: &mut PieceBuffer, format: Format) -> bool
     requires some { 1 < length run.now }
     ensures { IsTrue result → held.new ≡ replacement_in format run.now }
 {
-    if format.fold_arguments || run.as_bytes()[1] != b'R' {
+    if run.as_bytes()[1] != b'R' {
         return false;
     }
     held.clear();
     let mut sink = BufferSink::new(held);
-    print_v0_run(run, &mut sink, format.include_hash, format.limit)
+    print_v0_run(run, &mut sink, format)
 }
 
 /// How the text of a run was found.
