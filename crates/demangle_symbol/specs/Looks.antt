@@ -1,7 +1,7 @@
 use Rattle.std.specs.Prelude.{ℕ, ◌+◌}
 use Rattle.demangle_symbol.specs.declared.cursor.looks.Unary.{Unary, Zero, More'}
 
--- the number of steps of a tally
+-- the number that a unary number represents
 abbrev pub height : Unary → ℕ
 height Zero = 0
 height (More' _ below) = height below + 1

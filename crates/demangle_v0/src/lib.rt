@@ -114,8 +114,8 @@ pub fn demangle<'s>(
 }
 
 /// Reads a v0 symbol and prints its first path, in one pass over the path: with hashes or without
-/// them, and with its generic arguments or with `_` for them. Returns the symbol and the suffix after
-/// its paths. The text must be ASCII.
+/// them, and with its generic arguments or with `_` for them. Returns the symbol and the suffix
+/// after its paths. The text must be ASCII.
 ///
 /// Returns `None` if the text is not a v0 symbol. Also returns `None` if a lifetime or a reference
 /// of the path has an error, if the limit or the sink rejects a piece, or if the path is nested

@@ -1,4 +1,4 @@
-//! Printing: steps, each of which prints what it reads as soon as it is known.
+//! Prints the first path of a v0 symbol. Each step prints what it reads as soon as it is known.
 ghost use Rattle.std.specs.Prelude.{◌≡◌, ◌+◌, ◌≤◌, [], IsAscii, IfSome, IsOk, Ok, Some};
 ghost use Rattle.demangle_sink.specs.Limit.{Ready};
 ghost use Rattle.demangle_v0.specs.Parsers.{EndsPrinting, IsValid, UnfinishedIsValid, PrintsAll, PrintsOn, PrintsSteps, PrintsTo, Same, first_looks_of, unfinished_looks};

@@ -1,4 +1,4 @@
-//! Acceptance of v0 symbols: parses without output.
+//! Validates v0 symbols: parses them without output, and finds the suffix.
 ghost use Rattle.std.specs.Prelude.{◌≡◌, ◌+◌, ◌≤◌, [], false, true, IsAscii, IfSome, IsSome, Ok, Some};
 ghost use Rattle.demangle_v0_grammar.specs.Items.{a_path};
 ghost use Rattle.demangle_v0.specs.Parsers.{IsValid, Recounted, Same, trace_without_output};

@@ -1,4 +1,4 @@
-//! A v0 symbol that was read, and how its first path is printed.
+//! A v0 symbol that was read. It prints its first path.
 ghost use Rattle.std.specs.Prelude.{◌≡◌, ◌+◌, ◌*◌, ◌≤◌, IsAscii, length};
 ghost use Rattle.demangle_sink.specs.Cut.{kept};
 ghost use Rattle.demangle_sink.specs.Limit.{Prints, Ready};

@@ -1,4 +1,4 @@
--- The productions of v0 symbols (RFC 2603), and what each prints.
+-- The productions of v0 symbols (RFC 2603), and the texts that each prints.
 use Rattle.std.specs.Prelude.{ℕ, Bool, true, false, ◌||◌, if◌then◌else◌, ◌==◌, List, [], ◌∷◌, ◌++◌, Option, Some, None, codes, decimal}
 use Rattle.std.specs.Fmt.{digits}
 use lib.Utf8.{scalar}

@@ -1,4 +1,4 @@
--- The looks that accepting a v0 symbol makes.
+-- The looks of validating a v0 symbol.
 use Rattle.std.specs.Prelude.{ℕ, ◌+◌, ◌-◌, false, true, if◌then◌else◌, List, length, Some, None}
 use Rattle.demangle_v0_grammar.specs.Items.{a_path}
 use Rattle.demangle_v0_grammar.specs.LookBudget.{looks_of}

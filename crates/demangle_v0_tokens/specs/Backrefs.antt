@@ -1,5 +1,5 @@
 -- Internal: no public contract cites this.
--- Back references as they are read, and tokens whose parts are in a symbol.
+-- Back references as they are read.
 use Rattle.std.specs.Prelude.{ℕ, zero, suc, ◌+◌, ◌-◌, ◌*◌, ◌^◌, ◌≤◌, ◌<◌, Some, None, List, [], ◌∷◌, length, IsSome}
 use Rattle.demangle_symbol.specs.Primitives.{Read, backref_at}
 use Rattle.demangle_symbol.specs.Idents.{IsIdentWithin}

@@ -1,4 +1,4 @@
-//! Back references.
+//! Reads back references.
 ghost use Rattle.std.specs.Prelude.{◌≡◌, ◌+◌, ◌≤◌};
 ghost use Rattle.demangle_v0_grammar.specs.LookTotals.{total};
 ghost use Rattle.demangle_v0_tokens.specs.Backrefs.{read_backref, IsDeep};

@@ -1,4 +1,4 @@
-//! The fixed texts of v0 symbols, and the kinds of tokens.
+//! The fixed texts of v0 symbols.
 ghost use Rattle.std.specs.Prelude.{◌≡◌};
 ghost use Rattle.demangle_v0_tokens.specs.Texts.{text, found, basic_type_texts};
 

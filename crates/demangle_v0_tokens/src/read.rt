@@ -1,4 +1,4 @@
-//! The tokens of a v0 symbol that are read in one step.
+//! Reads the tokens of a v0 symbol. One step reads at most one.
 ghost use Rattle.std.specs.Prelude.{◌≡◌, ℕ, ◌+◌, ◌≤◌, Some, List};
 ghost use Rattle.demangle_v0_grammar.specs.LookTotals.{total};
 ghost use Rattle.demangle_v0_tokens.specs.Tokens.{IsTokenWithin};

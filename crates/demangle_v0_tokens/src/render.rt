@@ -1,4 +1,4 @@
-//! How a token is printed, piece by piece.
+//! Prints tokens, piece by piece.
 ghost use Rattle.std.specs.Prelude.{◌+◌, ◌≤◌, IsAscii};
 ghost use Rattle.demangle_v0_tokens.specs.Tokens.{texts_of, print_looks};
 ghost use Rattle.demangle_sink.specs.Limit.{Prints, Ready};

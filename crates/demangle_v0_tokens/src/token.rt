@@ -1,4 +1,4 @@
-//! Tokens: what a step prints at once, if it is not a pending text.
+//! The tokens of v0 symbols, each of which a step prints at once, and the kinds that are read.
 use crate::fixed_texts::FixedText;
 use demangle_symbol::cursor::{Ident, Part};
 

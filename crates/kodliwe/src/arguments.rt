@@ -216,7 +216,8 @@ impl<'a> Request<'a> {
         }
     }
 
-    /// Adds a symbol as a separate line. Fails if memory can't be allocated.
+    /// Adds a symbol as a separate line. Stores it as `plain_argument` if it is the first that the
+    /// filter does not change. Fails if memory can't be allocated.
     fn add_symbol(&mut self, alloc: Global, symbol: &'a str) -> Result<(), AllocError>
         ensures { OnOk result (options_of self.new ≡ record (options_of self.old) {
           parts = with_line symbol.now (options_of self.old).parts;

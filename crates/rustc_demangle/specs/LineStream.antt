@@ -1,4 +1,4 @@
--- Promises of the line stream, also after an error.
+-- Promises of the line stream, including those after an error.
 use Rattle.std.specs.Prelude.{◌≡◌, ◌<◌, ℕ, List, Bool, true, false, [], length, take, slice_index_or, flat_map, All, IsUtf8, Some, IfSome, Ok, Err}
 use Rattle.std.specs.declared.result.Result.{Result}
 use Rattle.std.specs.Io.BufRead.{take_through, DropsThrough}

@@ -1,4 +1,4 @@
-//! Generic arguments.
+//! Continuations of generic arguments.
 ghost use Rattle.std.specs.Prelude.{◌≡◌, ◌+◌, ◌≤◌, false, Ok, Some};
 ghost use Rattle.demangle_v0.specs.Productions.{arguments_continuation, argument_continuation, argument_place, argument_costs};
 ghost use Rattle.demangle_v0_grammar.specs.LookTotals.{total};

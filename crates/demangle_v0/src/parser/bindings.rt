@@ -1,4 +1,4 @@
-//! The bindings of a dyn trait path.
+//! Continuations of the bindings of a dyn trait path.
 ghost use Rattle.std.specs.Prelude.{◌≡◌, Some, None, Ok, if◌then◌else◌};
 ghost use Rattle.demangle_v0.specs.Parsers.{Performed, CanPerform, CanAdvance, Advanced, AdvancedRest};
 ghost use Rattle.demangle_v0.specs.Continuations.{bindings_left};

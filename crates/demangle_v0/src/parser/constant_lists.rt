@@ -1,4 +1,4 @@
-//! Lists of constants: arrays, tuples and the fields of variants.
+//! Continuations of lists of constants: arrays, tuples and the fields of variants.
 ghost use Rattle.std.specs.Prelude.{◌≡◌, Ok};
 ghost use Rattle.demangle_v0.specs.Productions.{at_first, after_first, after_next, element_continuation, close_of};
 ghost use Rattle.demangle_v0.specs.Parsers.{CanAdvance, Advanced};

@@ -1,4 +1,4 @@
-//! Which method performs each continuation.
+//! Calls the method of each continuation.
 ghost use Rattle.std.specs.Prelude.{◌≡◌, ◌+◌, ◌≤◌, true, false};
 ghost use Rattle.demangle_v0.specs.Skips.{is_skipped};
 ghost use Rattle.demangle_v0.specs.Parsers.{Performed, CanPerform};

@@ -1,4 +1,4 @@
-//! Trait objects: `dyn` types.
+//! Continuations of trait objects, which are `dyn` types.
 ghost use Rattle.std.specs.Prelude.{◌+◌, ◌≤◌, Ok, if◌then◌else◌};
 ghost use Rattle.demangle_v0.specs.Productions.{dyn_type};
 ghost use Rattle.demangle_v0.specs.Parsers.{Performed, CanPerform, CanAdvance, Advanced, AdvancedRest, AdvancedUnfolded};

@@ -1,4 +1,4 @@
-//! Function types.
+//! Continuations of function types.
 ghost use Rattle.std.specs.Prelude.{◌≡◌, ℕ, ◌+◌, ◌≤◌, List, Bool, Ok, true, if◌then◌else◌, []};
 ghost use Rattle.demangle_v0_tokens.specs.Tags.{constructed_of};
 ghost use Rattle.demangle_v0_tokens.specs.Tokens.{texts_of};

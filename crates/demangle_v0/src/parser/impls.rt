@@ -1,4 +1,4 @@
-//! The paths of impls, and the self type of a trait.
+//! Continuations of the paths of impls, and of self types.
 ghost use Rattle.std.specs.Prelude.{◌≡◌, Ok};
 ghost use Rattle.demangle_v0.specs.Productions.{impl_items, self_type_continuation, impl_path_continuation};
 ghost use Rattle.demangle_v0.specs.Parsers.{CanAdvance, Advanced, AdvancedRest, AdvancedWithoutOutput};

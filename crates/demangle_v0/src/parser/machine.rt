@@ -1,4 +1,4 @@
-//! The parser, and what its methods share.
+//! The parser, and the methods that the productions share.
 ghost use Rattle.std.specs.Prelude.{◌≡◌, ◌+◌, ◌-◌, ◌<◌, ◌≤◌, ◌^◌, length, IfOk, IfErr};
 ghost use Rattle.demangle_v0.specs.Parsers.{deeper, emptied, looked, with_text, path_parser, pushed, closed};
 ghost use Rattle.demangle_v0.specs.Traces.{frame_at, frame_of};

@@ -1,4 +1,4 @@
-//! The names of paths.
+//! The names of crates and of nested paths, which are read and printed.
 ghost use Rattle.std.specs.Prelude.{◌≡◌, ◌≤◌, true, None, IsAscii, OnOk};
 ghost use Rattle.demangle_v0.specs.Parsers.{Performed, PerformedRest, CanPrint, looked};
 ghost use Rattle.demangle_v0.specs.Productions.{crate_path};

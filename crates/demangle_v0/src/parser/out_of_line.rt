@@ -1,4 +1,4 @@
-//! Continuations that few symbols have: each is a call, so that the loops stay short.
+//! Continuations that few symbols have. Each is a call, so that the loops stay small.
 ghost use Rattle.demangle_v0.specs.Parsers.{Performed, CanPerform};
 ghost use Rattle.demangle_v0.specs.Productions.{out_of_line_continuation};
 

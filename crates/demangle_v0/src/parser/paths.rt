@@ -1,4 +1,4 @@
-//! Paths.
+//! Continuations of paths.
 ghost use Rattle.std.specs.Prelude.{◌+◌, ◌≤◌, Ok};
 ghost use Rattle.demangle_v0.specs.Parsers.{Performed, PerformedRest, CanPerform, CanAdvance, AdvancedRest};
 ghost use Rattle.demangle_v0.specs.Productions.{nested_path};

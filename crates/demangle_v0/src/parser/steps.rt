@@ -1,4 +1,4 @@
-//! Parses without output, which read and print nothing.
+//! The loop that parses without output, and the checkpoints of a parse.
 ghost use Rattle.std.specs.Prelude.{◌≡◌, ◌≤◌, length};
 ghost use Rattle.demangle_v0.specs.Parsers.{IsValid, ReadSteps, Same, checked_at};
 ghost use Rattle.demangle_v0.specs.Loops.{first_state};

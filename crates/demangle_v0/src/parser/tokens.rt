@@ -1,4 +1,4 @@
-//! Reading tokens and printing them.
+//! Reads tokens and prints them.
 ghost use Rattle.std.specs.Prelude.{◌≡◌, ◌+◌, ◌≤◌, true, false, IsOk, OnOk};
 ghost use Rattle.demangle_v0_grammar.specs.Items.{done};
 ghost use Rattle.demangle_v0_grammar.specs.LookTotals.{total};

@@ -1,4 +1,4 @@
-//! Tuple types.
+//! Continuations of tuple types.
 ghost use Rattle.std.specs.Prelude.{Ok};
 ghost use Rattle.demangle_v0.specs.Parsers.{CanAdvance, Advanced};
 

@@ -1,4 +1,4 @@
-//! The qualifiers of function types: `unsafe`, and the ABI.
+//! Reads the qualifiers of function types: `unsafe`, and the ABI.
 ghost use Rattle.std.specs.Prelude.{◌≡◌, ◌+◌, ◌≤◌};
 ghost use Rattle.demangle_symbol.specs.Idents.{IsIdentWithin, name_size};
 ghost use Rattle.demangle_v0_grammar.specs.LookTotals.{total};

@@ -1,4 +1,4 @@
-//! Lifetimes, by their index.
+//! Reads lifetimes, by their index.
 ghost use Rattle.std.specs.Prelude.{◌≡◌, ℕ, ◌+◌, ◌≤◌, List};
 ghost use Rattle.demangle_v0_grammar.specs.LookTotals.{total};
 ghost use Rattle.demangle_v0_tokens.specs.Tokens.{IsTokenWithin};

@@ -1,4 +1,4 @@
-//! Names, and disambiguators.
+//! Reads names and their disambiguators.
 ghost use Rattle.std.specs.Prelude.{◌≡◌, ℕ, ◌+◌, ◌≤◌, Some, IfSome, IfNone, MatchOption};
 ghost use Rattle.demangle_v0_grammar.specs.LookTotals.{total};
 ghost use Rattle.demangle_v0_tokens.specs.Tokens.{IsTokenWithin};

@@ -1,4 +1,4 @@
-//! The qualifiers of function types: `unsafe`, and the ABI.
+//! Prints the qualifiers of function types: `unsafe`, and the ABI.
 ghost use Rattle.std.specs.Prelude.{◌+◌, ◌-◌, ◌≤◌, [], ◌∷◌, codes, IsAscii, slice_range};
 ghost use Rattle.demangle_v0_tokens.specs.Tokens.{abi_texts};
 ghost use Rattle.demangle_sink.specs.Limit.{Prints, Ready};

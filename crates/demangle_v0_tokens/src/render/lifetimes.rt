@@ -1,4 +1,4 @@
-//! The names of lifetimes, and binders.
+//! Prints the names of lifetimes, and binders.
 ghost use Rattle.std.specs.Prelude.{◌+◌, ◌<◌, ◌^◌, [], ◌∷◌, ◌++◌, codes};
 ghost use Rattle.demangle_v0_grammar.specs.Binders.{binder_texts};
 ghost use Rattle.demangle_sink.specs.Limit.{Prints, Ready};

@@ -1,4 +1,4 @@
-//! Names, with the texts before and after them.
+//! Prints names, with the texts before and after them.
 ghost use Rattle.std.specs.Prelude.{◌≡◌, ◌+◌, ◌<◌, ◌≤◌, [], ◌∷◌, ◌++◌, IsAscii, codes, decimal};
 ghost use Rattle.demangle_v0_tokens.specs.Tokens.{nested_texts, special_texts};
 ghost use Rattle.demangle_symbol.specs.Idents.{IsIdentWithin, name_in, name_size};

@@ -1,4 +1,4 @@
-//! Numbers, and the types of numeric constants.
+//! Prints numbers, and the types of numeric constants.
 ghost use Rattle.std.specs.Prelude.{◌≡◌, ◌≤◌, [], ◌∷◌, false, IsAscii, codes, decimal, drop, slice_range};
 ghost use Rattle.std.specs.Fmt.{digits};
 ghost use Rattle.demangle_v0_tokens.specs.Tokens.{number_texts};

@@ -1,4 +1,4 @@
-//! Why the stream stopped.
+//! The errors of the calls over a reader.
 ghost use Rattle.rustc_demangle.specs.LineStream.{IsReadFault, GivesError};
 
 use std::io;
