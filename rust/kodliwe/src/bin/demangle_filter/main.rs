@@ -30,6 +30,7 @@ fn arguments(rt: &(impl Env + AllocGlobal)) -> io::Result<Vec<String>> {
     Ok(args.skip(1).collect_in::<Vec<String>>(rt.alloc())?)
 }
 
+/// Runs the program over the standard streams, and returns its exit status.
 fn main() -> ExitCode {
     let rt = HostRuntime;
     let alloc = rt.alloc();

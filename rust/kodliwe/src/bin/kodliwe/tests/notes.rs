@@ -11,7 +11,7 @@ use kodliwe::support::test::Fail;
 use kodliwe::support::vec::Vec;
 use kodliwe::support::vec_in as vec;
 
-/// Beginnings of such inputs, and the notes on them.
+/// The first bytes of such inputs, and the notes on them.
 const WITH_MAGIC_NUMBER: [(&[u8], &[u8]); 5] = [
     (
         b"\x1F\x8B\x08\0 _ZN1aE",
@@ -35,7 +35,7 @@ const WITH_MAGIC_NUMBER: [(&[u8], &[u8]); 5] = [
     ),
 ];
 
-/// The number of bytes of the shortest beginnings that are noted.
+/// The number of bytes of the shortest prefix that is noted.
 const LENGTHS: [usize; 5] = [2, 4, 6, 2, 2];
 
 /// Asserts what is noted about the text of a reader, of which all that is no symbol is copied.
