@@ -435,7 +435,8 @@ pub(crate) fn print_v0_run<S: TextSink>(run: &str, out: &mut S, format: Format) 
     let Some((_, suffix)) = read else {
         return false;
     };
-    is_allowed(suffix, &mut Looks::new()) && put_piece(suffix, out).is_ok()
+    let mut looks = Looks::new();
+    is_allowed(suffix, &mut looks) && put_piece(suffix, out).is_ok()
 }
 
 /// Prints a text into a sink; its path has `path_len` bytes. Fails if the sink fails.
