@@ -189,11 +189,7 @@ impl<'a> Demangle<'a> {
             result out.new }
         ensures looks { PrintingLooks self.now include_hash limit looks.old looks.new }
     {
-        let format = Format {
-            include_hash,
-            fold_arguments: false,
-            limit,
-        };
+        let format = Format::unfolded(include_hash, limit);
         self.write_formatted_counted(out, format, looks)
     }
 
@@ -235,11 +231,7 @@ impl<'a> Demangle<'a> {
         ensures looks { PrintingLooksIn self.now (folded include_hash limit)
             looks.old looks.new }
     {
-        let format = Format {
-            include_hash,
-            fold_arguments: true,
-            limit,
-        };
+        let format = Format::folded(include_hash, limit);
         self.write_formatted_counted(out, format, looks)
     }
 
@@ -451,11 +443,7 @@ fn write_pieces_with_path_len<S: TextSink>(
     ensures { PutsPieces S.TextSink out.old (handed_with_path_len text.now path_len include_hash limit)
         result out.new }
 {
-    let format = Format {
-        include_hash,
-        fold_arguments: false,
-        limit,
-    };
+    let format = Format::unfolded(include_hash, limit);
     let mut looks = Looks::new();
     let Some(symbol) = demangle_v0::ascii_symbol(text, &mut looks) else {
         let read = Demangle::read(text, false, &mut looks);

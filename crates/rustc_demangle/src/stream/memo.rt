@@ -188,11 +188,7 @@ impl SymbolMemo {
     pub fn new(alloc: Global, include_hash: bool, limit: usize) -> Self
         ensures { result ≡ unfolded include_hash limit }
     {
-        let format = Format {
-            include_hash,
-            fold_arguments: false,
-            limit,
-        };
+        let format = Format::unfolded(include_hash, limit);
         SymbolMemo::with_format(alloc, format)
     }
 
