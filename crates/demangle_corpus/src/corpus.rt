@@ -98,7 +98,7 @@ fn compare_forms<W: Write>(
 }
 
 /// Writes the differences in the results of all calls. Returns their number, at most 4.
-fn compare_answers<W: Write>(
+fn compare_results<W: Write>(
     line: u64,
     expected: &Results<&[u8]>,
     actual: &Results<Vec<u8>>,
@@ -146,7 +146,7 @@ fn check_line<W: Write>(
     let text = case.text.as_str();
     let differences = match &case.expected {
         Expected::Results(expected) => {
-            compare_answers(number, expected, &results_of(alloc, text)?, output)
+            compare_results(number, expected, &results_of(alloc, text)?, output)
         }
         Expected::Limited(limit, expected) => {
             compare_forms(

@@ -60,22 +60,22 @@ fn filter<R: BufRead, W: Write>(
 /// The arguments are checked before anything is read. An error of `errors` is ignored.
 pub fn filter_run<R: BufRead, W: Write, E: Write>(
     alloc: Global,
-    words: &[String],
+    args: &[String],
     input: &mut R,
     output: &mut W,
     errors: &mut E,
 ) -> u8
     ensures status { result ≤ 2 }
-    ensures usage { 2 ≤ length words.now → result ≡ 2 }
-    ensures word { length words.now ≡ 1 → map string_bytes words.now ≢ codes "--no-hash" ∷ [] →
+    ensures usage { 2 ≤ length args.now → result ≡ 2 }
+    ensures arg { length args.now ≡ 1 → map string_bytes args.now ≢ codes "--no-hash" ∷ [] →
         result ≡ 2 }
     ensures done { result ≡ 0 → IfSome (R.remaining input.old) (λ text.
-        Finished text (length words.now == 0) (R.remaining input.new)
+        Finished text (length args.now == 0) (R.remaining input.new)
         (W.contents output.old) (W.contents output.new)) }
 {
-    let include_hash = match words {
+    let include_hash = match args {
         [] => true,
-        [word] if word.as_str() == "--no-hash" => false,
+        [arg] if arg.as_str() == "--no-hash" => false,
         _ => return report(errors, USAGE, 2),
     };
     match filter(alloc, input, output, include_hash) {

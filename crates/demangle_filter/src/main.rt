@@ -15,15 +15,15 @@ use std::{env, io};
 
 /// Returns the arguments after the program's name.
 fn arguments(rt: &(impl Env + AllocGlobal)) -> io::Result<Vec<String>> {
-    let words = env::args(rt)?;
-    Ok(words.skip(1).collect::<Vec<String>>(rt.alloc())?)
+    let args = env::args(rt)?;
+    Ok(args.skip(1).collect::<Vec<String>>(rt.alloc())?)
 }
 
 fn main(rt: HostRuntime) -> ExitCode {
     let alloc = rt.alloc();
     let mut errors = rt.stderr().lock();
-    let words = match arguments(&rt) {
-        Ok(words) => words,
+    let args = match arguments(&rt) {
+        Ok(args) => args,
         Err(error) => {
             if error.kind() == ErrorKind::OutOfMemory {
                 return ExitCode::from(report(&mut errors, OUT_OF_MEMORY, 1));
@@ -40,7 +40,7 @@ fn main(rt: HostRuntime) -> ExitCode {
     };
     let status = filter_run(
         alloc,
-        words.as_slice(),
+        args.as_slice(),
         &mut input,
         &mut output.writer(),
         &mut errors,

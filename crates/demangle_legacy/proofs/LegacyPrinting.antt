@@ -7,7 +7,7 @@ use Rattle.std.proofs.lemmas.Bool.{false≢true}
 use Rattle.std.proofs.lemmas.Option.{get_or_from_slice_get}
 use Rattle.demangle_symbol.specs.Digits.{is_byte}
 use Rattle.demangle_legacy.specs.Legacy.{element_of, parts_of, elements_of, after_E, suffix_of}
-use Rattle.demangle_legacy.specs.Unescaped.{unescaped, is_hash, shown_elements, joined_pieces, following_pieces}
+use Rattle.demangle_legacy.specs.Unescaped.{unescaped, is_hash, printed_elements, joined_pieces, following_pieces}
 use Rattle.demangle_symbol.proofs.Digits.{is_byte_there, is_byte_within}
 use Rattle.demangle_symbol.proofs.Options.{option_cases}
 use Rattle.demangle_sink.specs.declared.TextSink.{Ghosts}
@@ -17,20 +17,20 @@ use Rattle.demangle_sink.specs.Limit.{PrintedPrefix}
 use Rattle.demangle_sink.proofs.Printed.{printed_left, printed_then}
 use Rattle.demangle_legacy.proofs.LegacyElements.{parts_end, parts_more, parts_E, no_byte_E, after_more}
 
-shown_more : (hash : Bool) (e : List ℕ) (es : List (List ℕ)) → ((not hash && is_hash e) ≡ false) ⊎ (0 < length es) → shown_elements hash (e ∷ es) ≡ e ∷ shown_elements hash es
-unfolding shown_elements
+shown_more : (hash : Bool) (e : List ℕ) (es : List (List ℕ)) → ((not hash && is_hash e) ≡ false) ⊎ (0 < length es) → printed_elements hash (e ∷ es) ≡ e ∷ printed_elements hash es
+unfolding printed_elements
 shown_more hash e [] (inl h) = ap (λ b. cond b [] (e ∷ [])) h
 shown_more hash e [] (inr h) = absurd (omega arith)
 shown_more hash e (f ∷ es) h = refl
 
-shown_less : (hash : Bool) (e : List ℕ) → hash ≡ false → is_hash e ≡ true → shown_elements hash (e ∷ []) ≡ []
-unfolding shown_elements
+shown_less : (hash : Bool) (e : List ℕ) → hash ≡ false → is_hash e ≡ true → printed_elements hash (e ∷ []) ≡ []
+unfolding printed_elements
 shown_less true e h k = cc
 shown_less false e h k = ap (λ b. cond b [] (e ∷ [])) k
 
 -- the pieces of the elements that are left at a place of the symbol, with `::` before them except at place 0
 abbrev pub left_pieces : Bool → ℕ → List (List ℕ) → List (List ℕ)
-left_pieces hash at left = cond (eqb at 0) (joined_pieces (shown_elements hash left)) (following_pieces (shown_elements hash left))
+left_pieces hash at left = cond (eqb at 0) (joined_pieces (printed_elements hash left)) (following_pieces (printed_elements hash left))
 
 -- the elements from a place
 
@@ -60,20 +60,20 @@ elements_left s to some same h = elim (option_cases (element_of (drop to s))) [
 
 -- one more element
 
-pub left_first : (hash : Bool) (at : ℕ) (e : List ℕ) (es : List (List ℕ)) → ((not hash && is_hash e) ≡ false) ⊎ (0 < length es) → at ≡ 0 → left_pieces hash at (e ∷ es) ≡ unescaped e ++ following_pieces (shown_elements hash es)
+pub left_first : (hash : Bool) (at : ℕ) (e : List ℕ) (es : List (List ℕ)) → ((not hash && is_hash e) ≡ false) ⊎ (0 < length es) → at ≡ 0 → left_pieces hash at (e ∷ es) ≡ unescaped e ++ following_pieces (printed_elements hash es)
 left_first hash at e es keeps first =
     let t : eqb at 0 ≡ true = grind (arith, nat_tests) in
-    ap (λ b. cond b (joined_pieces (shown_elements hash (e ∷ es))) (following_pieces (shown_elements hash (e ∷ es)))) t ∙ ap joined_pieces (shown_more hash e es keeps)
+    ap (λ b. cond b (joined_pieces (printed_elements hash (e ∷ es))) (following_pieces (printed_elements hash (e ∷ es)))) t ∙ ap joined_pieces (shown_more hash e es keeps)
 
-pub left_next : (hash : Bool) (at : ℕ) (e : List ℕ) (es : List (List ℕ)) → ((not hash && is_hash e) ≡ false) ⊎ (0 < length es) → 0 < at → left_pieces hash at (e ∷ es) ≡ (codes "::" ∷ []) ++ (unescaped e ++ following_pieces (shown_elements hash es))
+pub left_next : (hash : Bool) (at : ℕ) (e : List ℕ) (es : List (List ℕ)) → ((not hash && is_hash e) ≡ false) ⊎ (0 < length es) → 0 < at → left_pieces hash at (e ∷ es) ≡ (codes "::" ∷ []) ++ (unescaped e ++ following_pieces (printed_elements hash es))
 left_next hash at e es keeps later =
     let t : eqb at 0 ≡ false = grind (arith, nat_tests) in
-    ap (λ b. cond b (joined_pieces (shown_elements hash (e ∷ es))) (following_pieces (shown_elements hash (e ∷ es)))) t ∙ ap following_pieces (shown_more hash e es keeps)
+    ap (λ b. cond b (joined_pieces (printed_elements hash (e ∷ es))) (following_pieces (printed_elements hash (e ∷ es)))) t ∙ ap following_pieces (shown_more hash e es keeps)
 
-pub left_after : (hash : Bool) (at : ℕ) (es : List (List ℕ)) → 0 < at → following_pieces (shown_elements hash es) ≡ left_pieces hash at es
+pub left_after : (hash : Bool) (at : ℕ) (es : List (List ℕ)) → 0 < at → following_pieces (printed_elements hash es) ≡ left_pieces hash at es
 left_after hash at es later =
     let t : eqb at 0 ≡ false = grind (arith, nat_tests) in
-    ap (λ b. cond b (joined_pieces (shown_elements hash es)) (following_pieces (shown_elements hash es))) (sym t)
+    ap (λ b. cond b (joined_pieces (printed_elements hash es)) (following_pieces (printed_elements hash es))) (sym t)
 
 nothing : (at : ℕ) → cond {A = List (List ℕ)} (eqb at 0) [] [] ≡ []
 nothing at = both (eqb at 0) where
@@ -82,7 +82,7 @@ nothing at = both (eqb at 0) where
   both false = refl
 
 pub left_none : (hash : Bool) (at : ℕ) (es : List (List ℕ)) → es ≡ [] → left_pieces hash at es ≡ []
-unfolding shown_elements
+unfolding printed_elements
 left_none hash at es e = ap (left_pieces hash at) e ∙ nothing at
 
 -- the hash is omitted
@@ -106,17 +106,17 @@ module _ (s : List ℕ) (hash : Bool) (at from to : ℕ) (legacy : IsSome (suffi
     keeps : ((not hash && is_hash (slice_range s from to)) ≡ false) ⊎ (0 < length (elements_of (drop to s)))
     keeps = kept hash (is_byte s to 69) (is_hash (slice_range s from to)) (length (elements_of (drop to s))) shown_too (elements_left s to legacy same_after)
 
-    pub turn_first : at ≡ 0 → left_pieces hash at (elements_of (drop at s)) ≡ unescaped (slice_range s from to) ++ following_pieces (shown_elements hash (elements_of (drop to s)))
+    pub turn_first : at ≡ 0 → left_pieces hash at (elements_of (drop at s)) ≡ unescaped (slice_range s from to) ++ following_pieces (printed_elements hash (elements_of (drop to s)))
     turn_first first = ap (left_pieces hash at) (elements_more s at from to element) ∙ left_first hash at (slice_range s from to) (elements_of (drop to s)) keeps first
 
-    pub turn_next : 0 < at → left_pieces hash at (elements_of (drop at s)) ≡ (codes "::" ∷ []) ++ (unescaped (slice_range s from to) ++ following_pieces (shown_elements hash (elements_of (drop to s))))
+    pub turn_next : 0 < at → left_pieces hash at (elements_of (drop at s)) ≡ (codes "::" ∷ []) ++ (unescaped (slice_range s from to) ++ following_pieces (printed_elements hash (elements_of (drop to s))))
     turn_next later = ap (left_pieces hash at) (elements_more s at from to element) ∙ left_next hash at (slice_range s from to) (elements_of (drop to s)) keeps later
 
     -- `::` was printed if other elements precede it, and the pieces of the element are left
     pub turn_begun : {S : Type 0} (sink : Ghosts S) (old mid new : SizeLimitedFmtAdapter S) (whole : List (List ℕ))
         → PrintedPrefix sink old whole (left_pieces hash at (elements_of (drop at s))) mid
         → ((0 < at) × Prints sink mid (codes "::" ∷ []) (Ok tt) new) ⊎ ((at ≡ 0) × (new ≡ mid))
-        → PrintedPrefix sink old whole (unescaped (slice_range s from to) ++ following_pieces (shown_elements hash (elements_of (drop to s)))) new
+        → PrintedPrefix sink old whole (unescaped (slice_range s from to) ++ following_pieces (printed_elements hash (elements_of (drop to s)))) new
     turn_begun sink old mid new whole p (inl (later, put)) = printed_then sink old mid new whole _ _ _ p (turn_next later) put
     turn_begun sink old mid new whole p (inr (first, none)) = rw none (printed_left sink old mid whole _ _ p (turn_first first))
 

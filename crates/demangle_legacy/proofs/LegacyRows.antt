@@ -6,7 +6,7 @@ use Rattle.std.specs.List.{concat}
 use Rattle.std.specs.Char.{encode_utf8}
 use Rattle.demangle_symbol.specs.Digits.{number}
 use Rattle.demangle_legacy.specs.Legacy.{inner_of, element_of, parts_within, parts_of, legacy_of}
-use Rattle.demangle_legacy.specs.Unescaped.{escape_of_digits, escape_of, leading_unit, pieces_from, unescaped, shown_elements, legacy_pieces}
+use Rattle.demangle_legacy.specs.Unescaped.{escape_of_digits, escape_of, leading_unit, pieces_from, unescaped, printed_elements, legacy_pieces}
 
 abbrev text : Bool → List ℕ → Option (List ℕ)
 text hash symbol = option_map (λ read. concat (legacy_pieces hash read.0) ++ read.1) (legacy_of symbol)
@@ -54,7 +54,7 @@ same =
     []
 
 same_text : (hash : Bool) → map (λ r. text hash (codes r.0)) same ≡ map (λ r. Some (codes r.1)) same
-unfolding number inner_of element_of parts_within parts_of legacy_of escape_of_digits escape_of leading_unit pieces_from unescaped shown_elements encode_utf8
+unfolding number inner_of element_of parts_within parts_of legacy_of escape_of_digits escape_of leading_unit pieces_from unescaped printed_elements encode_utf8
 same_text true = refl
 same_text false = refl
 
@@ -72,16 +72,16 @@ hashed =
     []
 
 with_hash : map (λ r. text true (codes r.0)) hashed ≡ map (λ r. Some (codes r.1)) hashed
-unfolding number inner_of element_of parts_within parts_of legacy_of escape_of_digits escape_of leading_unit pieces_from unescaped shown_elements encode_utf8
+unfolding number inner_of element_of parts_within parts_of legacy_of escape_of_digits escape_of leading_unit pieces_from unescaped printed_elements encode_utf8
 with_hash = refl
 
 without_hash : map (λ r. text false (codes r.0)) hashed ≡ map (λ r. Some (codes r.2)) hashed
-unfolding number inner_of element_of parts_within parts_of legacy_of escape_of_digits escape_of leading_unit pieces_from unescaped shown_elements encode_utf8
+unfolding number inner_of element_of parts_within parts_of legacy_of escape_of_digits escape_of leading_unit pieces_from unescaped printed_elements encode_utf8
 without_hash = refl
 
 -- a character past ASCII, by its bytes
 past_ascii : (hash : Bool) → text hash (codes "_ZN5$ua0$E") ≡ Some (194 ∷ 160 ∷ [])
-unfolding number inner_of element_of parts_within parts_of legacy_of escape_of_digits escape_of leading_unit pieces_from unescaped shown_elements encode_utf8
+unfolding number inner_of element_of parts_within parts_of legacy_of escape_of_digits escape_of leading_unit pieces_from unescaped printed_elements encode_utf8
 past_ascii true = refl
 past_ascii false = refl
 

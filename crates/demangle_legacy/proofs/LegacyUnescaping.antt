@@ -7,7 +7,7 @@ use Rattle.std.proofs.lemmas.Bool.{false≢true}
 use Rattle.std.proofs.lemmas.Bool.Decides.{nat_tests}
 use Rattle.std.proofs.Math.Seq.{drop-append_seam, take-append_seam}
 use Rattle.demangle_legacy.specs.Unescaped.{is_dollar, is_special, escape_of, leading_unit, pieces_from, unescaped}
-use Rattle.demangle_legacy.specs.UnescapedRelation.{is_dot, Begins, HasNo, IsDots, IsDot, IsEscape, IsPlain, IsUnit, NoUnitFirst, AreUnits, HasEscapedStart, IsUnescaped}
+use Rattle.demangle_legacy.specs.UnescapedRelation.{is_dot, HasFirst, HasNo, IsDots, IsDot, IsEscape, IsPlain, IsUnit, NoUnitFirst, AreUnits, HasEscapedStart, IsUnescaped}
 use Rattle.demangle_legacy.proofs.LegacyElements.{bool_cases}
 use Rattle.demangle_legacy.proofs.LegacyUnits.{begins_mark, escape_unit, mark_short, mark_two, pieces_skip, unescaped_is, unit_of_dollar, unit_of_run, unmarked}
 use Rattle.demangle_symbol.proofs.Options.{none_some, option_cases}
@@ -53,16 +53,16 @@ found p s n e = elim (bool_cases (ltb (position_or_len p s) (length s))) [
   | inr ge ↦ absurd (none_some n (sym (rw ge refl) ∙ e))
 ]
 
-no_before : (p : ℕ → Bool) (prefix : List ℕ) (s : List ℕ) → HasNo p prefix → Begins p s → position_or_len p (prefix ++ s) ≡ length prefix
+no_before : (p : ℕ → Bool) (prefix : List ℕ) (s : List ℕ) → HasNo p prefix → HasFirst p s → position_or_len p (prefix ++ s) ≡ length prefix
 no_before p [] [] none k = absurd k
 no_before p [] (c ∷ s) none k = rw k refl
 no_before p (c ∷ prefix) s none k = let n = no_before p prefix s none.1 k in rw none.0 (omega (arith, n))
 
-some_first : (p : ℕ → Bool) (s : List ℕ) → Begins p s → 0 < length s
+some_first : (p : ℕ → Bool) (s : List ℕ) → HasFirst p s → 0 < length s
 some_first p [] k = absurd k
 some_first p (c ∷ s) k = omega arith
 
-at_first : (p : ℕ → Bool) (prefix s : List ℕ) → HasNo p prefix → Begins p s → position p (prefix ++ s) ≡ Some (length prefix)
+at_first : (p : ℕ → Bool) (prefix s : List ℕ) → HasNo p prefix → HasFirst p s → position p (prefix ++ s) ≡ Some (length prefix)
 at_first p prefix s none k =
     let n = no_before p prefix s none k in
     let within : position_or_len p (prefix ++ s) < length (prefix ++ s) = omega (arith, n, length-append prefix s, some_first p s k) in
@@ -78,14 +78,14 @@ dots_read : (s : List ℕ) → leading_unit 46 (46 ∷ s) ≡ Some (codes "::", 
 unfolding leading_unit
 dots_read s = refl
 
-dot_read : (s : List ℕ) → (Begins is_dot s → ⊥) → leading_unit 46 s ≡ Some (codes ".", 0)
+dot_read : (s : List ℕ) → (HasFirst is_dot s → ⊥) → leading_unit 46 s ≡ Some (codes ".", 0)
 unfolding leading_unit
 dot_read [] h = refl
 dot_read (c ∷ s) h = elim (bool_cases (eqb c 46)) [ inl e ↦ absurd (h e) | inr e ↦ grind (arith, nat_tests) ]
 
 dots_are : (s : List ℕ) (u : List ℕ × ℕ) → leading_unit 46 s ≡ Some u → Reads (46 ∷ s) u
 dots_are [] u e =
-    let no : Begins is_dot [] → ⊥ = λ k. k in
+    let no : HasFirst is_dot [] → ⊥ = λ k. k in
     subst (Reads (46 ∷ [])) (some_same (codes ".", 0) u (sym (dot_read [] no) ∙ e)) (codes ".", [], refl, refl, inr (inl (refl, refl, no)))
 dots_are (c ∷ s) u e = elim (bool_cases (eqb c 46)) [
   | inl h ↦
@@ -93,7 +93,7 @@ dots_are (c ∷ s) u e = elim (bool_cases (eqb c 46)) [
       let same = some_same (codes "::", 1) u (sym (ap (λ d. leading_unit 46 (d ∷ s)) is ∙ dots_read s) ∙ e) in
       subst (Reads (46 ∷ c ∷ s)) same (codes "..", s, ap (λ d. 46 ∷ d ∷ s) is, refl, inl (refl, refl))
   | inr h ↦
-      let no : Begins is_dot (c ∷ s) → ⊥ = λ k. grind (arith, nat_tests) in
+      let no : HasFirst is_dot (c ∷ s) → ⊥ = λ k. grind (arith, nat_tests) in
       subst (Reads (46 ∷ c ∷ s)) (some_same (codes ".", 0) u (sym (dot_read (c ∷ s) no) ∙ e)) (codes ".", c ∷ s, refl, refl, inr (inl (refl, refl, no)))
 ]
 
@@ -259,7 +259,7 @@ units_once (piece ∷ pieces) text (inr h) =
 
 -- an element, with an omitted `_` or without one
 
-marked_is : (text : List ℕ) → Begins is_dollar text → unescaped (95 ∷ text) ≡ pieces_from 0 text
+marked_is : (text : List ℕ) → HasFirst is_dollar text → unescaped (95 ∷ text) ≡ pieces_from 0 text
 unfolding begins_mark
 marked_is [] h = absurd h
 marked_is (c ∷ s) h =
@@ -272,7 +272,7 @@ Mark element = (text : List ℕ) × HasEscapedStart element text
 mark_of : (element : List ℕ) → Mark element ⊎ ((begins_mark element ≡ false) × ((text : List ℕ) → HasEscapedStart element text → ⊥))
 mark_of [] = inr (mark_short [] (omega arith), λ text h. let e = ap length h.0 in omega (arith, e))
 mark_of (c ∷ []) = inr (mark_short (c ∷ []) (omega arith), λ text h. short text h.0 h.1) where
-  short : (text : List ℕ) → c ∷ [] ≡ codes "_" ++ text → Begins is_dollar text → ⊥
+  short : (text : List ℕ) → c ∷ [] ≡ codes "_" ++ text → HasFirst is_dollar text → ⊥
   short [] e k = k
   short (d ∷ s) e k = let l = ap length e in omega (arith, l)
 mark_of (c ∷ d ∷ s) = elim (bool_cases (eqb c 95)) [
@@ -282,7 +282,7 @@ mark_of (c ∷ d ∷ s) = elim (bool_cases (eqb c 95)) [
   ]
   | inr h ↦ inr (mark_two c d s (inl h), λ text m. let e = m.0 in let is : c ≡ 95 = cc in grind (arith, nat_tests))
 ] where
-  second : (text : List ℕ) → c ∷ d ∷ s ≡ codes "_" ++ text → Begins is_dollar text → eqb d 36 ≡ false → ⊥
+  second : (text : List ℕ) → c ∷ d ∷ s ≡ codes "_" ++ text → HasFirst is_dollar text → eqb d 36 ≡ false → ⊥
   second [] e b k = b
   second (x ∷ t) e b k = let is : d ≡ x = cc in false≢true (sym k ∙ ap (λ y. eqb y 36) is ∙ b)
 

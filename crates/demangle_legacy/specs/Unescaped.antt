@@ -67,10 +67,10 @@ abbrev pub is_hash : List ℕ → Bool
 is_hash s = slice_index s 0 == 104 && list_all is_ascii_hexdigit (drop 1 s)
 
 -- the elements that are printed: all of them with the hash, and without it all except a last one that is a hash
-unfoldable pub shown_elements : Bool → List (List ℕ) → List (List ℕ)
-shown_elements hash [] = []
-shown_elements hash (e ∷ []) = if not hash && is_hash e then [] else e ∷ []
-shown_elements hash (e ∷ f ∷ es) = e ∷ shown_elements hash (f ∷ es)
+unfoldable pub printed_elements : Bool → List (List ℕ) → List (List ℕ)
+printed_elements hash [] = []
+printed_elements hash (e ∷ []) = if not hash && is_hash e then [] else e ∷ []
+printed_elements hash (e ∷ f ∷ es) = e ∷ printed_elements hash (f ∷ es)
 
 -- the pieces of elements that follow others
 abbrev pub following_pieces : List (List ℕ) → List (List ℕ)
@@ -83,4 +83,4 @@ joined_pieces (e ∷ es) = unescaped e ++ following_pieces es
 
 -- the pieces of a legacy symbol, with the hash or without it
 abbrev pub legacy_pieces : Bool → List (List ℕ) → List (List ℕ)
-legacy_pieces hash elements = joined_pieces (shown_elements hash elements)
+legacy_pieces hash elements = joined_pieces (printed_elements hash elements)

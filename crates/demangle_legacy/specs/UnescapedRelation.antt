@@ -8,9 +8,9 @@ abbrev pub is_dot : ℕ → Bool
 is_dot c = c == 46
 
 -- the text starts with a byte that passes the test
-abbrev pub Begins : (ℕ → Bool) → List ℕ → Type 0
-Begins is [] = ⊥
-Begins is (c ∷ s) = is c ≡ true
+abbrev pub HasFirst : (ℕ → Bool) → List ℕ → Type 0
+HasFirst is [] = ⊥
+HasFirst is (c ∷ s) = is c ≡ true
 
 -- no byte of the text passes the test
 abbrev pub HasNo : (ℕ → Bool) → List ℕ → Type 0
@@ -23,7 +23,7 @@ IsDots unit piece = (unit ≡ codes "..") × (piece ≡ codes "::")
 
 -- a `.` that is not followed by another prints itself
 abbrev pub IsDot : List ℕ → List ℕ → List ℕ → Type 0
-IsDot unit piece following = (unit ≡ codes ".") × (piece ≡ codes ".") × (Begins is_dot following → ⊥)
+IsDot unit piece following = (unit ≡ codes ".") × (piece ≡ codes ".") × (HasFirst is_dot following → ⊥)
 
 -- a name between two `$` prints the text of its escape
 abbrev pub IsEscape : List ℕ → List ℕ → Type 0
@@ -31,7 +31,7 @@ IsEscape unit piece = (name : List ℕ) × (unit ≡ codes "$" ++ (name ++ codes
 
 -- bytes other than `$` and `.`, up to the next `$` or `.`, print themselves
 abbrev pub IsPlain : List ℕ → List ℕ → List ℕ → Type 0
-IsPlain unit piece following = (unit ≡ piece) × (unit ≡ [] → ⊥) × HasNo is_special unit × Begins is_special following
+IsPlain unit piece following = (unit ≡ piece) × (unit ≡ [] → ⊥) × HasNo is_special unit × HasFirst is_special following
 
 -- these bytes are a unit that prints the piece, if `following` follows them
 abbrev pub IsUnit : List ℕ → List ℕ → List ℕ → Type 0
@@ -50,7 +50,7 @@ AreUnits (piece ∷ pieces) text =
 
 -- the element is a `_` followed by this text, and the text starts with a `$`
 abbrev pub HasEscapedStart : List ℕ → List ℕ → Type 0
-HasEscapedStart element text = (element ≡ codes "_" ++ text) × Begins is_dollar text
+HasEscapedStart element text = (element ≡ codes "_" ++ text) × HasFirst is_dollar text
 
 -- the element prints these pieces; a `_` before a `$` is omitted
 abbrev pub IsUnescaped : List ℕ → List (List ℕ) → Type 0

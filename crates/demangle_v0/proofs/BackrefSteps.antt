@@ -25,19 +25,19 @@ use Rattle.demangle_v0.proofs.StepCases.{text_step, ends}
 use Rattle.demangle_v0.proofs.PrimitiveLooks.{refer_short, refer_few}
 use Rattle.std.proofs.lemmas.List.{append-nil}
 
-shut_allowing : (shut : Bool) (ks : List ℕ) (h : Trace) → none_open_if shut (with_looks ks h) ≡ with_looks ks (none_open_if shut h)
+shut_allowing : (closed : Bool) (ks : List ℕ) (h : Trace) → none_open_if closed (with_looks ks h) ≡ with_looks ks (none_open_if closed h)
 shut_allowing true ks h = refl
 shut_allowing false ks h = refl
 
-shut_after : (shut : Bool) (h : Trace) (j : ℕ) → none_open_if shut (and_then h (λ i o. empty_trace (Some j) o)) ≡ and_then (none_open_if shut h) (λ i o. empty_trace (Some j) o)
+shut_after : (closed : Bool) (h : Trace) (j : ℕ) → none_open_if closed (and_then h (λ i o. empty_trace (Some j) o)) ≡ and_then (none_open_if closed h) (λ i o. empty_trace (Some j) o)
 shut_after true h j = refl
 shut_after false h j = refl
 
-shut_fault : (shut out : Bool) (m : FixedText) → none_open_if shut (with_texts out (text m ∷ []) (empty_trace None false)) ≡ with_texts out (text m ∷ []) (empty_trace None false)
+shut_fault : (closed out : Bool) (m : FixedText) → none_open_if closed (with_texts out (text m ∷ []) (empty_trace None false)) ≡ with_texts out (text m ∷ []) (empty_trace None false)
 shut_fault true out m = refl
 shut_fault false out m = refl
 
-shut_ended : (shut : Bool) (i : Place) → none_open_if shut (empty_trace i false) ≡ empty_trace i false
+shut_ended : (closed : Bool) (i : Place) → none_open_if closed (empty_trace i false) ≡ empty_trace i false
 shut_ended true i = refl
 shut_ended false i = refl
 
@@ -81,10 +81,10 @@ module _ {V : Type 0} (output : Ghosts V) (b : List ℕ) (form : Form) where
       go (Some r) = ap (with_looks (4 * (r.1 - i + 1) ∷ [])) (last output.is_printed left r.0 r.1)
 
   abbrev target_at : Bool → ℕ → Kind → Bool → ℕ → Place → Trace
-  target_at shut left k v n i = none_open_if shut (of form.include_hash output.is_printed (parse (target k v) (context_at b form.fold_arguments output.is_printed left n) i))
+  target_at closed left k v n i = none_open_if closed (of form.include_hash output.is_printed (parse (target k v) (context_at b form.fold_arguments output.is_printed left n) i))
 
-  shut_trace : (shut : Bool) (left : ℕ) (k : Kind) (v : Bool) (n : ℕ) (i : Place) (r : BackrefOutcome) → r ≡ (read_backref b left i).refers → target_at shut left k v n i ≡ with_looks (read_backref b left i).costs (none_open_if shut (led output.is_printed left k v n r))
-  shut_trace shut left k v n i r e = ap (none_open_if shut) (target_trace left k v n i r e) ∙ shut_allowing shut (read_backref b left i).costs (led output.is_printed left k v n r)
+  shut_trace : (closed : Bool) (left : ℕ) (k : Kind) (v : Bool) (n : ℕ) (i : Place) (r : BackrefOutcome) → r ≡ (read_backref b left i).refers → target_at closed left k v n i ≡ with_looks (read_backref b left i).costs (none_open_if closed (led output.is_printed left k v n r))
+  shut_trace closed left k v n i r e = ap (none_open_if closed) (target_trace left k v n i r e) ∙ shut_allowing closed (read_backref b left i).costs (led output.is_printed left k v n r)
 
   ref_paid : (left t j : ℕ) (i : Place) → Target t j ≡ (read_backref b left i).refers → 1 ≤ total (read_backref b left i).costs
   ref_paid left t j None e = absurd (no_target e)
@@ -103,43 +103,43 @@ module _ {V : Type 0} {e : Env V} where
   unfolding then_frame trace_at
   stays_over k = text_step continuation.End [] [] (omega arith) None (rw k refl) refl (record { grows = omega arith; within = omega arith }) (omega arith) (omega arith) (omega arith) (omega arith) (omega arith) tt tt (λ _. tt)
 
-  pub target_stops : {t : Machine V} {n : ℕ} (shut : Bool) (k : Kind) (v : Bool) (m : FixedText) → NotFollowed m ≡ (read_backref e.symbol t.state.depth_left t.state.place).refers → LooksWithin t.looks (read_backref e.symbol t.state.depth_left t.state.place).costs n → t.state.pending_text ≡ None
-      → Performs e t (target_part e shut k v t.state) (Err (Abort m)) (record t { looks = n })
-  target_stops {t} shut k v m r p q =
+  pub target_stops : {t : Machine V} {n : ℕ} (closed : Bool) (k : Kind) (v : Bool) (m : FixedText) → NotFollowed m ≡ (read_backref e.symbol t.state.depth_left t.state.place).refers → LooksWithin t.looks (read_backref e.symbol t.state.depth_left t.state.place).costs n → t.state.pending_text ≡ None
+      → Performs e t (target_part e closed k v t.state) (Err (Abort m)) (record t { looks = n })
+  target_stops {t} closed k v m r p q =
       let s = t.state in
       let ks = (read_backref e.symbol s.depth_left s.place).costs in
-      ends m ks (refer_few e.symbol s.depth_left s.place) q (shut_trace e.output e.symbol e.form shut s.depth_left k v s.lifetimes s.place (NotFollowed m) r ∙ ap (with_looks ks) (shut_fault shut e.output.is_printed m)) p (omega (arith, p.within, refer_short e.symbol s.depth_left s.place)) (omega arith)
+      ends m ks (refer_few e.symbol s.depth_left s.place) q (shut_trace e.output e.symbol e.form closed s.depth_left k v s.lifetimes s.place (NotFollowed m) r ∙ ap (with_looks ks) (shut_fault closed e.output.is_printed m)) p (omega (arith, p.within, refer_short e.symbol s.depth_left s.place)) (omega arith)
 
   -- it is not followed
-  pub target_hidden : {t : Machine V} {n : ℕ} (shut : Bool) (k : Kind) (v : Bool) (a j : ℕ) → Target a j ≡ (read_backref e.symbol t.state.depth_left t.state.place).refers → LooksWithin t.looks (read_backref e.symbol t.state.depth_left t.state.place).costs n → e.output.is_printed ≡ false → t.state.pending_text ≡ None
-      → Performs e t (target_part e shut k v t.state) (Ok continuation.End) (record t { state = record t.state { place = Some j; is_bracket_open = false }; looks = n })
+  pub target_hidden : {t : Machine V} {n : ℕ} (closed : Bool) (k : Kind) (v : Bool) (a j : ℕ) → Target a j ≡ (read_backref e.symbol t.state.depth_left t.state.place).refers → LooksWithin t.looks (read_backref e.symbol t.state.depth_left t.state.place).costs n → e.output.is_printed ≡ false → t.state.pending_text ≡ None
+      → Performs e t (target_part e closed k v t.state) (Ok continuation.End) (record t { state = record t.state { place = Some j; is_bracket_open = false }; looks = n })
   unfolding then_frame trace_at
-  target_hidden {t} shut k v a j r p q m =
+  target_hidden {t} closed k v a j r p q m =
       let s = t.state in
       let ks = (read_backref e.symbol s.depth_left s.place).costs in
       text_step continuation.End ks [] (omega (arith, refer_few e.symbol s.depth_left s.place)) None
-      (shut_trace e.output e.symbol e.form shut s.depth_left k v s.lifetimes s.place (Target a j) r
-      ∙ (ap (λ (c : Bool). with_looks ks (none_open_if shut (led e.output e.symbol e.form c s.depth_left k v s.lifetimes (Target a j)))) q
-      ∙ (ap (with_looks ks) (shut_ended shut (Some j)) ∙ rw m refl)))
+      (shut_trace e.output e.symbol e.form closed s.depth_left k v s.lifetimes s.place (Target a j) r
+      ∙ (ap (λ (c : Bool). with_looks ks (none_open_if closed (led e.output e.symbol e.form c s.depth_left k v s.lifetimes (Target a j)))) q
+      ∙ (ap (with_looks ks) (shut_ended closed (Some j)) ∙ rw m refl)))
       refl (rw append-nil p) (omega arith) (omega (arith, p.within, refer_short e.symbol s.depth_left s.place)) (omega (arith, ref_paid e.output e.symbol e.form s.depth_left a j s.place r)) (omega arith) (omega arith) tt tt (λ _. tt)
 
   -- it is followed
-  pub target_shown : {t : Machine V} {stack : List Frame} {n most : ℕ} (p : Continuation) (shut : Bool) (k : Kind) (v : Bool) (a j : ℕ) → IsProduction e.symbol e.form p t.state.in_value t.state.letter t.state.lifetimes shut k v → Target a j ≡ (read_backref e.symbol t.state.depth_left t.state.place).refers
+  pub target_shown : {t : Machine V} {stack : List Frame} {n most : ℕ} (p : Continuation) (closed : Bool) (k : Kind) (v : Bool) (a j : ℕ) → IsProduction e.symbol e.form p t.state.in_value t.state.letter t.state.lifetimes closed k v → Target a j ≡ (read_backref e.symbol t.state.depth_left t.state.place).refers
       → LooksWithin t.looks (read_backref e.symbol t.state.depth_left t.state.place).costs n → e.output.is_printed ≡ true → 0 < t.state.depth_left → j < 2 ^ 64 → CanRead continuation.Path most t.state t.stack
       → stack ≡ t.stack ++ frame_of continuation.AfterBackref t.state.in_value t.state.letter t.state.depth_left j ∷ []
-      → Performs e t (target_part e shut k v t.state) (Ok p) (record t { state = record t.state { depth_left = t.state.depth_left - 1; place = Some a; is_bracket_open = false }; stack = stack; looks = n })
+      → Performs e t (target_part e closed k v t.state) (Ok p) (record t { state = record t.state { depth_left = t.state.depth_left - 1; place = Some a; is_bracket_open = false }; stack = stack; looks = n })
   unfolding then_frame trace_at
-  target_shown {t} p shut k v a j unit r paid q d small can_step w =
+  target_shown {t} p closed k v a j unit r within_budget q d small can_step w =
       let s = t.state in
       let ks = (read_backref e.symbol s.depth_left s.place).costs in
       text_step p ks [] (omega (arith, refer_few e.symbol s.depth_left s.place)) (Some (frame_of continuation.AfterBackref s.in_value s.letter s.depth_left j))
-      (shut_trace e.output e.symbol e.form shut s.depth_left k v s.lifetimes s.place (Target a j) r
-      ∙ (ap (λ (z : Bool). with_looks ks (none_open_if shut (led e.output e.symbol e.form z s.depth_left k v s.lifetimes (Target a j)))) q
-      ∙ (ap (with_looks ks) (shut_after shut (of e.form.include_hash true (level_of e.symbol e.form.fold_arguments (levels e.symbol e.form.fold_arguments (s.depth_left - 1)) true k v s.lifetimes a)) j)
+      (shut_trace e.output e.symbol e.form closed s.depth_left k v s.lifetimes s.place (Target a j) r
+      ∙ (ap (λ (z : Bool). with_looks ks (none_open_if closed (led e.output e.symbol e.form z s.depth_left k v s.lifetimes (Target a j)))) q
+      ∙ (ap (with_looks ks) (shut_after closed (of e.form.include_hash true (level_of e.symbol e.form.fold_arguments (levels e.symbol e.form.fold_arguments (s.depth_left - 1)) true k v s.lifetimes a)) j)
       ∙ (ap (λ (h : Trace). with_looks ks (and_then h (λ i o. empty_trace (Some j) o))) (sym (unit.same (s.depth_left - 1) a))
       ∙ (ap (λ (z : Bool). with_looks ks (and_then (trace_at e.symbol e.form z p s.in_value s.letter (s.depth_left - 1) s.lifetimes (Some a) false) (λ i o. empty_trace (Some j) o))) (sym q)
       ∙ rw can_step.no_pending_text refl)))))
-      w (rw append-nil paid) (omega arith) (omega (arith, paid.within, refer_short e.symbol s.depth_left s.place)) (omega (arith, ref_paid e.output e.symbol e.form s.depth_left a j s.place r, unit.light, way_light p)) (omega arith) (omega (arith, d, unit.low (s.depth_left - 1))) small
+      w (rw append-nil within_budget) (omega arith) (omega (arith, within_budget.within, refer_short e.symbol s.depth_left s.place)) (omega (arith, ref_paid e.output e.symbol e.form s.depth_left a j s.place r, unit.light, way_light p)) (omega arith) (omega (arith, d, unit.low (s.depth_left - 1))) small
       (unit.fits (s.depth_left - 1) (omega (arith, can_step.fits, d))) (λ h. absurd (false≢true (sym h ∙ q)))
 
   -- behind the reference

@@ -180,19 +180,19 @@ module _ {V : Type 0} (e : Env V) (s : State) where
       out_of x ts h = allowing_then (x ∷ []) (with_texts e.output.is_printed ts h) traits ∙ ap (with_looks (x ∷ [])) (handing_then e.output.is_printed ts h traits)
 
       -- behind the mark
-      marked : (x : ℕ) (ts : List Text) (h k : Trace) → open_at e (bindings o binding_value) s (Some i) ≡ with_looks (1 ∷ []) (with_texts e.output.is_printed (mark_of o ∷ []) (with_looks (x ∷ []) (with_texts e.output.is_printed ts h))) → and_then h traits ≡ k
+      with_text : (x : ℕ) (ts : List Text) (h k : Trace) → open_at e (bindings o binding_value) s (Some i) ≡ with_looks (1 ∷ []) (with_texts e.output.is_printed (mark_of o ∷ []) (with_looks (x ∷ []) (with_texts e.output.is_printed ts h))) → and_then h traits ≡ k
           → name_trace (i + 1) ≡ with_looks (x ∷ []) (with_texts e.output.is_printed ts k) → and_then (open_at e (bindings o binding_value) s (Some i)) traits ≡ with_looks (1 ∷ []) (with_texts e.output.is_printed (mark_of o ∷ []) (name_trace (i + 1)))
-      marked x ts h k y z w =
+      with_text x ts h k y z w =
           ap (λ (h : Trace). and_then h traits) y
           ∙ (out_of 1 (mark_of o ∷ []) (with_looks (x ∷ []) (with_texts e.output.is_printed ts h))
           ∙ ap (λ (h : Trace). with_looks (1 ∷ []) (with_texts e.output.is_printed (mark_of o ∷ []) h)) (out_of x ts h ∙ (ap (λ (h : Trace). with_looks (x ∷ []) (with_texts e.output.is_printed ts h)) z ∙ sym w)))
 
       go : (r : Read Name) → identifier_at e.symbol (i + 1) ≡ r → and_then (open_at e (bindings o binding_value) s (Some i)) traits ≡ with_looks (1 ∷ []) (with_texts e.output.is_printed (mark_of o ∷ []) (name_trace (i + 1)))
       go None f =
-          marked (4 * (length e.symbol - (i + 1) + 1)) (codes "{invalid syntax}" ∷ []) (empty_trace None false) (empty_trace None false) (binding_stops e.form.include_hash e.form.fold_arguments e.output.is_printed e.symbol s.depth_left s.lifetimes o i p f) traits_failed (no_name (i + 1) f)
+          with_text (4 * (length e.symbol - (i + 1) + 1)) (codes "{invalid syntax}" ∷ []) (empty_trace None false) (empty_trace None false) (binding_stops e.form.include_hash e.form.fold_arguments e.output.is_printed e.symbol s.depth_left s.lifetimes o i p f) traits_failed (no_name (i + 1) f)
       go (Some r) f =
           let m : Place → Bool → Trace = λ x _. open_at e (bindings true binding_value) s x in
-          marked (4 * (r.1 - (i + 1) + 1)) (name_pieces r.0 ++ codes " = " ∷ []) (and_then (open_at e binding_value s (Some r.1)) m) (shut_at e after_name s (Some r.1)) (binding_reads e.form.include_hash e.form.fold_arguments e.output.is_printed e.symbol s.depth_left s.lifetimes o i r.1 r.0 l p f)
+          with_text (4 * (r.1 - (i + 1) + 1)) (name_pieces r.0 ++ codes " = " ∷ []) (and_then (open_at e binding_value s (Some r.1)) m) (shut_at e after_name s (Some r.1)) (binding_reads e.form.include_hash e.form.fold_arguments e.output.is_printed e.symbol s.depth_left s.lifetimes o i r.1 r.0 l p f)
           (and_then_assoc (open_at e binding_value s (Some r.1)) m traits ∙ further (Some r.1)) (a_name (i + 1) r.1 r.0 f)
 
   -- What is bound.
@@ -237,8 +237,8 @@ module _ {V : Type 0} {e : Env V} where
       → Fits continuation.NextDynTrait t.state.depth_left t.state.lifetimes → stack ≡ t.stack ++ frame_at continuation.Bindings t.state ∷ [] → PerformsAt e (traits_point first) t (Ok continuation.TraitPath) (record t { state = record t.state { place = j; pending_text = m }; stack = stack; looks = n })
   unfolding then_frame trace_at
   trait_on {t} first i k p c f r =
-      let paid = paid_on t.state.place p in
-      traits_as first (text_step continuation.TraitPath (1 ∷ []) [] (omega arith) (Some (frame_at continuation.Bindings t.state)) (rw (k ∙ i.3, c, i.1) (trait_trace e t.state first i.0 f i.2)) r paid (omega arith) (rw i.1 (omega (arith, paid.within))) (omega arith) (omega arith) (omega arith) f f (λ _. refl))
+      let within_budget = paid_on t.state.place p in
+      traits_as first (text_step continuation.TraitPath (1 ∷ []) [] (omega arith) (Some (frame_at continuation.Bindings t.state)) (rw (k ∙ i.3, c, i.1) (trait_trace e t.state first i.0 f i.2)) r within_budget (omega arith) (rw i.1 (omega (arith, within_budget.within))) (omega arith) (omega arith) (omega arith) f f (λ _. refl))
 
   -- Paths of dyn traits.
 

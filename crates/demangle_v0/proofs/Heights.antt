@@ -26,8 +26,8 @@ module _ {F : Type 0} (height : F → ℕ) where
   stands_first n high l = record { room = tt; above = omega arith }
 
   -- the point was left for one that is no higher
-  pub stands_on : (n high new : ℕ) (stack : List F) → HasRoomAbove height n high stack → new ≤ high → HasRoomAbove height n new stack
-  stands_on n high new stack s l = record { room = s.room; above = omega (arith, s.above, l) }
+  pub has_room_on : (n high new : ℕ) (stack : List F) → HasRoomAbove height n high stack → new ≤ high → HasRoomAbove height n new stack
+  has_room_on n high new stack s l = record { room = s.room; above = omega (arith, s.above, l) }
 
   -- and a frame was put on the stack
   pub stands_push : (n high new : ℕ) (stack : List F) (f : F) → HasRoomAbove height n high stack → height f ≤ high → new + 1 ≤ high → HasRoomAbove height n new (stack ++ f ∷ [])

@@ -6,16 +6,16 @@ use Rattle.std.proofs.lemmas.Bool.{false≢true}
 use Rattle.std.proofs.lemmas.List.{append-nil}
 use Rattle.std.proofs.Math.Seq.{take-append_seam}
 use Rattle.demangle_v0_grammar.specs.Traces.{Trace, of, and_then, with_looks, with_texts, context_at}
-use Rattle.demangle_v0.specs.Skips.{is_impl_path, own_point, after_skip}
+use Rattle.demangle_v0.specs.Skips.{is_skipped, skipped_continuation, after_skip}
 use Rattle.demangle_v0_grammar.specs.Items.{Items, a_path, a_type, done, child, leave_open}
 use Rattle.demangle_v0_grammar.specs.Table.{print_str}
 use Rattle.demangle_v0_grammar.specs.Reading.{Form, Place, unit_outcome, parse}
 use Rattle.demangle_v0_grammar.specs.LookTotals.{allowed_in}
 use Rattle.demangle_v0.specs.Measure.{most_frames, weight_left, weights, measure}
 use Rattle.demangle_v0.specs.Steps.{Machine}
-use Rattle.demangle_v0.specs.Traces.{pays, with_actions, trace_at, trace_of_state, trace_of_stack, remaining_trace, with_closed_bracket}
+use Rattle.demangle_v0.specs.Traces.{allows_looks, with_actions, trace_at, trace_of_state, trace_of_stack, remaining_trace, with_closed_bracket}
 use Rattle.demangle_v0.specs.Loops.{ResumesAt, Valid, frame_height, Reads, ReadDone, no_output_env, no_output_machine, Skipped, StopsInImplPath, ReadsImplPath, ValidUnfinished, impl_path_state, impl_path_checkpoint, impl_path_trace, state_at, first_looks}
-use Rattle.demangle_v0.specs.Parsers.{form_of, FinishesSkip, IsValid, LeftValid, SkipsFull, SkipsOver, checked_at, checkpoint_of}
+use Rattle.demangle_v0.specs.Parsers.{form_of, FinishesSkip, IsValid, UnfinishedIsValid, SkipsFull, SkipsOver, checked_at, checkpoint_of}
 use Rattle.demangle_v0.specs.declared.parser.machine.Parser.{Parser}
 use Rattle.demangle_v0_tokens.specs.declared.output.NoOutput.{NoOutput}
 use Rattle.demangle_v0.specs.declared.parser.Continuation.{Continuation}
@@ -28,7 +28,7 @@ use Rattle.demangle_v0.specs.declared.printer.Unfinished.{Unfinished}
 use Rattle.demangle_v0.specs.declared.printer.Unfinished.TheVariants as left
 use Rattle.demangle_v0_grammar.proofs.Folded.{folded_reads, silently_closed, silently_open}
 use Rattle.demangle_v0_grammar.proofs.TraceLemmas.{allowing_then}
-use Rattle.demangle_v0.proofs.Heights.{stands_on}
+use Rattle.demangle_v0.proofs.Heights.{has_room_on}
 use Rattle.demangle_v0.proofs.LoopLemmas.{allowed_bits, reads_none, resumes_trace, resume_light, ran_then, ran_place, ran_looks, broke_fails}
 use Rattle.demangle_v0.proofs.WholePaths.{remaining_trace-empty_stack, over_place}
 use Rattle.demangle_v0_grammar.proofs.SkippedPaths.{allowances, skip_reads, skip_failed}
@@ -37,7 +37,7 @@ use Rattle.demangle_v0.proofs.StepRules.{way_light}
 -- Where it is read and printing goes on.
 
 -- no tag was looked at yet
-pub skip_unread : (folds : Bool) (p : Continuation) (s : State) → is_impl_path folds p ≡ true → first_looks p s ≤ 0
+pub skip_unread : (folds : Bool) (p : Continuation) (s : State) → is_skipped folds p ≡ true → first_looks p s ≤ 0
 skip_unread folds continuation.InherentImplPath s e = omega arith
 skip_unread folds continuation.TraitImplPath s e = omega arith
 skip_unread folds continuation.FirstArgument s e = omega arith
@@ -50,10 +50,10 @@ resumes_less b form out {q = q} x = omega (arith, resume_light x, way_light q, a
 -- What is heard of it.
 
 abbrev pub read_own : List ℕ → Form → Continuation → ℕ → ℕ → ℕ → Place → Bool → Trace
-read_own b form p c left n i o = trace_at b form false (own_point p) false c left n i o
+read_own b form p c left n i o = trace_at b form false (skipped_continuation p) false c left n i o
 
 own_is : (b : List ℕ) (form : Form) (p : Continuation) (s : State) → impl_path_trace b form p s ≡ read_own b form p s.letter s.depth_left s.lifetimes s.place s.is_bracket_open
-own_is b form p s = remaining_trace-empty_stack b form false (own_point p) (impl_path_state s)
+own_is b form p s = remaining_trace-empty_stack b form false (skipped_continuation p) (impl_path_state s)
 
 abbrev pub read_path : List ℕ → Form → ℕ → ℕ → Place → Trace
 read_path b form left n i = with_closed_bracket (of form.include_hash false (unit_outcome (context_at b form.fold_arguments false left n) a_path false i))
@@ -64,7 +64,7 @@ skip_items : (b : List ℕ) (form : Form) (p : Items) (left n : ℕ) (i : Place)
 skip_items b form p left n None = ap with_closed_bracket (skip_failed form.include_hash true p (context_at b form.fold_arguments true left n))
 skip_items b form p left n (Some i) = ap with_closed_bracket (skip_reads form.include_hash true b form.fold_arguments left n false n p i)
 
-skip_at : (p : Continuation) (b : List ℕ) (form : Form) (v : Bool) (c left n : ℕ) (i : Place) (o : Bool) → is_impl_path form.fold_arguments p ≡ true
+skip_at : (p : Continuation) (b : List ℕ) (form : Form) (v : Bool) (c left n : ℕ) (i : Place) (o : Bool) → is_skipped form.fold_arguments p ≡ true
     → trace_at b form true p v c left n i o ≡ with_looks (allowances (read_own b form p c left n i o).events) (trace_at b form true (after_skip p) v c left n (read_own b form p c left n i o).place o)
 unfolding trace_at parse
 skip_at continuation.InherentImplPath b form v c left n i o k = skip_items b form (print_str "<" (child a_type false (print_str ">" done))) left n i
@@ -81,8 +81,8 @@ skip_at continuation.FirstTraitArgument b form v c left n i o k =
     ∙ ap (λ (h : Trace). with_looks (allowances h.events) (with_texts true (codes "_" ∷ []) (of plain true (parse (leave_open done) (context_at b folds true left n) h.place)))) (sym (silently_open plain b left n folds i))
 skip_at p b form v c left n i o k = absurd (false≢true k)
 
-skip_owed : (p : Continuation) (b : List ℕ) (form : Form) (s : State) (stack : List Frame) → is_impl_path form.fold_arguments p ≡ true
-    → remaining_trace b form true p s stack ≡ with_actions true (pays (allowances (impl_path_trace b form p s).events) ∷ []) (remaining_trace b form true (after_skip p) (state_at s (impl_path_trace b form p s).place) stack)
+skip_owed : (p : Continuation) (b : List ℕ) (form : Form) (s : State) (stack : List Frame) → is_skipped form.fold_arguments p ≡ true
+    → remaining_trace b form true p s stack ≡ with_actions true (allows_looks (allowances (impl_path_trace b form p s).events) ∷ []) (remaining_trace b form true (after_skip p) (state_at s (impl_path_trace b form p s).place) stack)
 skip_owed p b form s stack k =
     let own_looks = read_own b form p s.letter s.depth_left s.lifetimes s.place s.is_bracket_open in
     subst (λ (h : Trace). remaining_trace b form true p s stack ≡ with_looks (allowances h.events) (remaining_trace b form true (after_skip p) (state_at s h.place) stack)) (sym (own_is b form p s))
@@ -91,21 +91,21 @@ skip_owed p b form s stack k =
 
 -- Where a reading stands.
 
-own_valid : (folds : Bool) (p : Continuation) (s : State) (stack : List Frame) → is_impl_path folds p ≡ true → Valid p s stack → Valid (own_point p) (impl_path_state s) stack
-own_valid folds continuation.TraitImplPath s stack k v = record { stands = stands_on frame_height most_frames (8 * s.depth_left + 2) (8 * s.depth_left + 1) stack v.stands (omega arith); fits = v.fits; all_fit = v.all_fit; no_pending_text = v.no_pending_text }
-own_valid folds continuation.InherentImplPath s stack k v = record { stands = stands_on frame_height most_frames (8 * s.depth_left + 2) (8 * s.depth_left + 1) stack v.stands (omega arith); fits = v.fits; all_fit = v.all_fit; no_pending_text = v.no_pending_text }
-own_valid folds continuation.FirstArgument s stack k v = record { stands = v.stands; fits = v.fits; all_fit = v.all_fit; no_pending_text = v.no_pending_text }
-own_valid folds continuation.FirstTraitArgument s stack k v = record { stands = v.stands; fits = v.fits; all_fit = v.all_fit; no_pending_text = v.no_pending_text }
+own_valid : (folds : Bool) (p : Continuation) (s : State) (stack : List Frame) → is_skipped folds p ≡ true → Valid p s stack → Valid (skipped_continuation p) (impl_path_state s) stack
+own_valid folds continuation.TraitImplPath s stack k v = record { has_room = has_room_on frame_height most_frames (8 * s.depth_left + 2) (8 * s.depth_left + 1) stack v.has_room (omega arith); fits = v.fits; all_fit = v.all_fit; no_pending_text = v.no_pending_text }
+own_valid folds continuation.InherentImplPath s stack k v = record { has_room = has_room_on frame_height most_frames (8 * s.depth_left + 2) (8 * s.depth_left + 1) stack v.has_room (omega arith); fits = v.fits; all_fit = v.all_fit; no_pending_text = v.no_pending_text }
+own_valid folds continuation.FirstArgument s stack k v = record { has_room = v.has_room; fits = v.fits; all_fit = v.all_fit; no_pending_text = v.no_pending_text }
+own_valid folds continuation.FirstTraitArgument s stack k v = record { has_room = v.has_room; fits = v.fits; all_fit = v.all_fit; no_pending_text = v.no_pending_text }
 own_valid folds p s stack k v = absurd (false≢true k)
 
-after_valid : (folds : Bool) (p : Continuation) (s : State) (i : Place) (stack : List Frame) → is_impl_path folds p ≡ true → Valid p s stack → Valid (after_skip p) (state_at s i) stack
-after_valid folds continuation.TraitImplPath s i stack k v = record { stands = v.stands; fits = v.fits; all_fit = v.all_fit; no_pending_text = v.no_pending_text }
-after_valid folds continuation.InherentImplPath s i stack k v = record { stands = v.stands; fits = v.fits; all_fit = v.all_fit; no_pending_text = v.no_pending_text }
-after_valid folds continuation.FirstArgument s i stack k v = record { stands = v.stands; fits = v.fits; all_fit = v.all_fit; no_pending_text = v.no_pending_text }
-after_valid folds continuation.FirstTraitArgument s i stack k v = record { stands = v.stands; fits = v.fits; all_fit = v.all_fit; no_pending_text = v.no_pending_text }
+after_valid : (folds : Bool) (p : Continuation) (s : State) (i : Place) (stack : List Frame) → is_skipped folds p ≡ true → Valid p s stack → Valid (after_skip p) (state_at s i) stack
+after_valid folds continuation.TraitImplPath s i stack k v = record { has_room = v.has_room; fits = v.fits; all_fit = v.all_fit; no_pending_text = v.no_pending_text }
+after_valid folds continuation.InherentImplPath s i stack k v = record { has_room = v.has_room; fits = v.fits; all_fit = v.all_fit; no_pending_text = v.no_pending_text }
+after_valid folds continuation.FirstArgument s i stack k v = record { has_room = v.has_room; fits = v.fits; all_fit = v.all_fit; no_pending_text = v.no_pending_text }
+after_valid folds continuation.FirstTraitArgument s i stack k v = record { has_room = v.has_room; fits = v.fits; all_fit = v.all_fit; no_pending_text = v.no_pending_text }
 after_valid folds p s i stack k v = absurd (false≢true k)
 
-weight_less : (folds : Bool) (p : Continuation) → is_impl_path folds p ≡ true → weight_left (after_skip p) < weight_left p
+weight_less : (folds : Bool) (p : Continuation) → is_skipped folds p ≡ true → weight_left (after_skip p) < weight_left p
 weight_less folds continuation.TraitImplPath k = omega arith
 weight_less folds continuation.InherentImplPath k = omega arith
 weight_less folds continuation.FirstArgument k = omega arith
@@ -114,11 +114,11 @@ weight_less folds p k = absurd (false≢true k)
 
 -- Printing goes on behind it.
 
-module _ {b : List ℕ} {form : Form} {p q : Continuation} {s t : State} {below now : List Frame} {began looks : ℕ} (k : is_impl_path form.fold_arguments p ≡ true) where
+module _ {b : List ℕ} {form : Form} {p q : Continuation} {s t : State} {below now : List Frame} {began looks : ℕ} (k : is_skipped form.fold_arguments p ≡ true) where
   pub skipped_valid : Skipped b form p s below began q t now looks → Valid p s below → Valid q t now
   skipped_valid z v = rw (z.at, z.state, z.is_stack) (after_valid form.fold_arguments p s z.place below k v)
 
-  pub skipped_trace : Skipped b form p s below began q t now looks → remaining_trace b form true p s below ≡ with_actions true (pays (allowances (impl_path_trace b form p s).events) ∷ []) (remaining_trace b form true q t now)
+  pub skipped_trace : Skipped b form p s below began q t now looks → remaining_trace b form true p s below ≡ with_actions true (allows_looks (allowances (impl_path_trace b form p s).events) ∷ []) (remaining_trace b form true q t now)
   skipped_trace z = rw (z.at, z.state, z.is_stack, sym z.ends) (skip_owed p b form s below k)
 
   pub skipped_less : {base : ℕ} {o : Continuation} {r : State} {stack : List Frame} → ResumesAt base o r stack p s below → Skipped b form p s below began q t now looks → measure b form true q t now < measure b form true o r stack
@@ -131,24 +131,24 @@ module _ {b : List ℕ} {form : Form} {p q : Continuation} {s t : State} {below 
         ap (λ (y : Continuation). weight_left y) z.at,
         ap weights z.is_stack,
         ap (λ (h : Trace). allowed_in h.events) (skipped_trace z),
-        allowed_bits true (pays ks ∷ []) (remaining_trace b form true q t now),
+        allowed_bits true (allows_looks ks ∷ []) (remaining_trace b form true q t now),
       )
 
 -- The reading of it, in one stack or two.
 
 -- where it is begun
-own_stands : (folds : Bool) {p : Continuation} {s : State} {stack : List Frame} {r : Checkpoint} → is_impl_path folds p ≡ true → r ≡ impl_path_checkpoint (record { continuation = p; state = s }) → Valid p s stack → Valid r.continuation r.state stack
+own_stands : (folds : Bool) {p : Continuation} {s : State} {stack : List Frame} {r : Checkpoint} → is_skipped folds p ≡ true → r ≡ impl_path_checkpoint (record { continuation = p; state = s }) → Valid p s stack → Valid r.continuation r.state stack
 own_stands folds {p} {s} {stack} e k v = rw k (own_valid folds p s stack e v)
 
 pub own_reads : (b : List ℕ) (form : Form) (n : ℕ) (r : Checkpoint) {stack : List Frame} {inner : Checkpoint} → inner ≡ impl_path_checkpoint r → ReadsImplPath b form stack r n inner stack n
 own_reads b form n r {stack} k = rw k (reads_none {t = no_output_machine (impl_path_state r.state) stack n} (sym (append-nil stack)) tt)
 
 -- where the stack is full
-pub skips_valid : {b : List ℕ} {form : Form} {r to : Checkpoint} {below now : List Frame} {began n looks : ℕ} {x : Unfinished} → is_impl_path form.fold_arguments r.continuation ≡ true → Valid r.continuation r.state below → StopsInImplPath b form r below began x n to now looks
+pub skips_valid : {b : List ℕ} {form : Form} {r to : Checkpoint} {below now : List Frame} {began n looks : ℕ} {x : Unfinished} → is_skipped form.fold_arguments r.continuation ≡ true → Valid r.continuation r.state below → StopsInImplPath b form r below began x n to now looks
     → ValidUnfinished b form n (Ok (Some x)) to now looks
 skips_valid {below = below} {began = began} e v k = rw k.is_left (began, record { below = below; height = sym k.height; skips = e; valid = v; reads = k.reads }, k.valid, k.full)
 
-module _ {b : List ℕ} {form : Form} {below : List Frame} {began m : ℕ} {p q : Continuation} {t : State} {stack : List Frame} {u : Machine NoOutput} (o : Checkpoint) (r : Reads (no_output_env b form) below (own_point o.continuation) (no_output_machine (impl_path_state o.state) [] began) p (no_output_machine t stack m)) where
+module _ {b : List ℕ} {form : Form} {below : List Frame} {began m : ℕ} {p q : Continuation} {t : State} {stack : List Frame} {u : Machine NoOutput} (o : Checkpoint) (r : Reads (no_output_env b form) below (skipped_continuation o.continuation) (no_output_machine (impl_path_state o.state) [] began) p (no_output_machine t stack m)) where
   -- it came to its end
   pub own_over : {to : Continuation} {new : State} → ReadDone (no_output_env b form) below p (no_output_machine t r.frames m) halt.Complete q u → to ≡ after_skip o.continuation → new ≡ state_at o.state u.state.place → Skipped b form o.continuation o.state below began to new u.stack u.looks
   own_over d e k =
@@ -171,19 +171,19 @@ module _ {b : List ℕ} {form : Form} {below : List Frame} {began m : ℕ} {p q 
       }
 
   -- the stack is full
-  pub own_full : ReadDone (no_output_env b form) below p (no_output_machine t r.frames m) halt.StackFull q u → Reads (no_output_env b form) below (own_point o.continuation) (no_output_machine (impl_path_state o.state) [] began) q u
+  pub own_full : ReadDone (no_output_env b form) below p (no_output_machine t r.frames m) halt.StackFull q u → Reads (no_output_env b form) below (skipped_continuation o.continuation) (no_output_machine (impl_path_state o.state) [] began) q u
   own_full d = record { frames = d.reads.frames; is_stack = d.reads.is_stack; inner = d.reads.inner; ran = ran_then r.ran d.reads.ran }
 
 -- A part that is read from its start.
 
 module _ {N : ℕ} (m : Parser N) (base : ℕ) where
   abbrev inside : Parser N
-  inside = checked_at m (own_point m.continuation) (impl_path_state m.state)
+  inside = checked_at m (skipped_continuation m.continuation) (impl_path_state m.state)
 
   abbrev begins : ReadsImplPath m.source.symbol.now (form_of m.source) m.stack (checkpoint_of m) m.looks (impl_path_checkpoint (checkpoint_of m)) m.stack m.looks
   begins = own_reads m.source.symbol.now (form_of m.source) m.looks (checkpoint_of m) refl
 
-  pub skip_begins : is_impl_path m.source.fold_arguments m.continuation ≡ true → base ≡ length m.stack → IsValid m → LeftValid 0 (Ok (Some (left.ImplPath base (checkpoint_of m)))) inside
+  pub skip_begins : is_skipped m.source.fold_arguments m.continuation ≡ true → base ≡ length m.stack → IsValid m → UnfinishedIsValid 0 (Ok (Some (left.ImplPath base (checkpoint_of m)))) inside
   skip_begins e h v = (m.looks, record { below = m.stack; height = sym h; skips = e; valid = v; reads = begins }, own_stands m.source.fold_arguments e refl v, omega arith)
 
   pub skips_over : (k : Parser N) (result : Option Unfinished) → base ≡ length m.stack → FinishesSkip inside (left.ImplPath base (checkpoint_of m)) result k → IfNone result (SkipsOver m k)

@@ -46,8 +46,8 @@ module _ {V : Type 0} {e : Env V} where
   -- where it is not printed
   pub skip_continues : {t : Machine V} {stack : List Frame} (q : Bool) → e.output.is_printed ≡ false → t.state.pending_text ≡ None → Fits continuation.Path t.state.depth_left t.state.lifetimes → stack ≡ t.stack ++ frame_at (self_type_continuation q) t.state ∷ []
       → PerformsAt e (impl_path_continuation q) t (Ok continuation.Path) (record t { state = record t.state { in_value = false }; stack = stack })
-  skip_continues {t} true silent k f r = let s = t.state in enters continuation.Path (frame_at continuation.TraitSelfType s) (rw (silent, k) (skip_trace e.symbol e.form true s.in_value s.letter s.depth_left s.lifetimes s.place s.is_bracket_open)) r (omega arith) (omega arith) (omega arith) f f refl
-  skip_continues {t} false silent k f r = let s = t.state in enters continuation.Path (frame_at continuation.InherentSelfType s) (rw (silent, k) (skip_trace e.symbol e.form false s.in_value s.letter s.depth_left s.lifetimes s.place s.is_bracket_open)) r (omega arith) (omega arith) (omega arith) f f refl
+  skip_continues {t} true without_output k f r = let s = t.state in enters continuation.Path (frame_at continuation.TraitSelfType s) (rw (without_output, k) (skip_trace e.symbol e.form true s.in_value s.letter s.depth_left s.lifetimes s.place s.is_bracket_open)) r (omega arith) (omega arith) (omega arith) f f refl
+  skip_continues {t} false without_output k f r = let s = t.state in enters continuation.Path (frame_at continuation.InherentSelfType s) (rw (without_output, k) (skip_trace e.symbol e.form false s.in_value s.letter s.depth_left s.lifetimes s.place s.is_bracket_open)) r (omega arith) (omega arith) (omega arith) f f refl
 
   -- Behind the impl's own path.
 

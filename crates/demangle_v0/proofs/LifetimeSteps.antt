@@ -76,7 +76,7 @@ module _ {V : Type 0} (output : Ghosts V) (b : List ℕ) (form : Form) where
 pub record Indexed {V : Type 0} (e : Env V) (t : Machine V) (i k j n : ℕ) : Type 0 where
   pub at : t.state.place ≡ Some i
   pub is : Some (k, j) ≡ integer_at e.symbol i
-  pub paid : LooksWithin t.looks (4 * (j - i + 1) ∷ []) n
+  pub within_budget : LooksWithin t.looks (4 * (j - i + 1) ∷ []) n
   pub no_pending_text : t.state.pending_text ≡ None
   pub fits : Fits continuation.«Type» t.state.depth_left t.state.lifetimes
 
@@ -94,7 +94,7 @@ module _ {V : Type 0} {e : Env V} where
   lifetime_stops q i at r p k = as_lifetime q (ends fixed.Invalid (4 * (length e.symbol - i + 1) ∷ []) (omega arith) k (rw (at, sym r) refl) p (rw at (omega (arith, p.within))) (omega arith))
 
   short : {t : Machine V} {i k j n : ℕ} → Indexed e t i k j n → n ≤ t.looks + step_looks_bound e.symbol t.state.place
-  short {t} {i} {k} {j} x = let p = placed (i + 1) e.symbol (integer_at e.symbol i) (integer_placed e.symbol i) k j (sym x.is) in rw x.at (omega (arith, x.paid.within, p.0, p.1))
+  short {t} {i} {k} {j} x = let p = placed (i + 1) e.symbol (integer_at e.symbol i) (integer_placed e.symbol i) k j (sym x.is) in rw x.at (omega (arith, x.within_budget.within, p.0, p.1))
 
   -- one that is not named, or not printed
   unsaid : {t : Machine V} {i k j n : ℕ} (q : Bool) → Indexed e t i k j n
@@ -105,7 +105,7 @@ module _ {V : Type 0} {e : Env V} where
       let s = t.state in
       let w = after_within q in
       as_lifetime q (text_step (after_reference_lifetime q) (4 * (j - i + 1) ∷ []) [] (omega arith) None
-      (ap (λ (z : Place). named_trace e.output e.symbol e.form q s.depth_left s.lifetimes z) x.at ∙ (o ∙ rw x.no_pending_text (ap (with_looks (4 * (j - i + 1) ∷ [])) (after_so e.output e.symbol e.form q s.in_value s.letter s.depth_left s.lifetimes (Some j) s.is_bracket_open)))) refl x.paid (omega arith) (short x)
+      (ap (λ (z : Place). named_trace e.output e.symbol e.form q s.depth_left s.lifetimes z) x.at ∙ (o ∙ rw x.no_pending_text (ap (with_looks (4 * (j - i + 1) ∷ [])) (after_so e.output e.symbol e.form q s.in_value s.letter s.depth_left s.lifetimes (Some j) s.is_bracket_open)))) refl x.within_budget (omega arith) (short x)
       (omega (arith, w.light)) (omega arith) (omega (arith, w.low s.depth_left)) tt (w.fits s.depth_left s.lifetimes x.fits) (λ _. tt))
 
   pub lifetime_unnamed : {t : Machine V} {n : ℕ} (q : Bool) (i k j : ℕ) → Indexed e t i k j n → k ≡ 0 → PerformsAt e (lifetime_continuation q) t (Ok (after_reference_lifetime q)) (record t { state = record t.state { place = Some j }; looks = n })
@@ -128,9 +128,9 @@ module _ {V : Type 0} {e : Env V} where
       let w = after_within q in
       as_lifetime q (tells (after_reference_lifetime q) (4 * (j - i + 1) ∷ []) (omega arith) y
       (emitted q y x d z m g ∙ ap (λ (h : Trace). with_looks (4 * (j - i + 1) ∷ []) (with_texts e.output.is_printed (texts_of e.symbol e.form.include_hash y) h)) (after_so e.output e.symbol e.form q s.in_value s.letter s.depth_left s.lifetimes x s.is_bracket_open))
-      r ready d.no_pending_text d.paid (short d) (omega (arith, w.light)) (w.low s.depth_left) (w.fits s.depth_left s.lifetimes d.fits))
+      r ready d.no_pending_text d.within_budget (short d) (omega (arith, w.light)) (w.low s.depth_left) (w.fits s.depth_left s.lifetimes d.fits))
 
   pub lifetime_refused : {t : Machine V} {s : State} {v : V} {n : ℕ} {f : SinkRefused} (q : Bool) (i k j : ℕ) (y : Token) (x : Place) → Indexed e t i k j n → (k ≡ 0 → ⊥) → e.output.is_printed ≡ true → (y, x) ≡ spaced_lifetime t.state.lifetimes k j
       → e.output.prints t.output (texts_of e.symbol e.form.include_hash y) (Err f) v → PerformsAt e (lifetime_continuation q) t (Err Sink) (record t { state = s; output = v; looks = n })
   lifetime_refused {t} q i k j y x d z m g r =
-      as_lifetime q (halts (4 * (j - i + 1) ∷ []) (omega arith) y (trace e.output e.symbol e.form (print_if q "mut " type_inside) t.state.depth_left t.state.lifetimes x) (emitted q y x d z m g) r (λ h. absurd (false≢true (sym h ∙ m))) d.paid (short d))
+      as_lifetime q (halts (4 * (j - i + 1) ∷ []) (omega arith) y (trace e.output e.symbol e.form (print_if q "mut " type_inside) t.state.depth_left t.state.lifetimes x) (emitted q y x d z m g) r (λ h. absurd (false≢true (sym h ∙ m))) d.within_budget (short d))

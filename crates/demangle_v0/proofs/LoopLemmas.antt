@@ -14,7 +14,7 @@ use Rattle.demangle_v0.specs.Frames as heights
 use Rattle.demangle_v0_grammar.specs.Reading.{Form, Place}
 use Rattle.demangle_v0_grammar.proofs.Failed.{failed}
 use Rattle.demangle_v0.specs.Measure.{most_frames, weight_left, weight_at, weight_of, weights, height_at, height_of, count_of, FitsFrame, Fits, measure, is_inner, IsInner, AllInner}
-use Rattle.demangle_v0.specs.Traces.{Action, pays, puts, with_actions, action_looks, pending_texts, pushed_on, then_frame, trace_of_frame, trace_at, trace_of_state, trace_of_stack, remaining_trace}
+use Rattle.demangle_v0.specs.Traces.{Action, allows_looks, puts, with_actions, action_looks, pending_texts, pushed_on, then_frame, trace_of_frame, trace_at, trace_of_state, trace_of_stack, remaining_trace}
 use Rattle.demangle_v0.specs.Steps.{Env, StepPart, Machine, Emits, emitted_texts, Continued, Stopped, KeepsFrames, PerformsAt}
 use Rattle.demangle_v0.specs.Continuations.{items_at, bindings_left}
 use Rattle.demangle_v0.specs.Loops.{FlushesText, without_pending_text, StepDone, ResumesAt, stays, pops, frame_height, AllFit, Valid, Emitted, trace_left, RanSteps, StoppedAfter, Reads, ReadDone, first_looks}
@@ -29,7 +29,7 @@ use Rattle.demangle_v0.specs.declared.parser.steps.ReadOutcome.TheVariants as ha
 use Rattle.demangle_v0_grammar.proofs.TraceLemmas.{and_then_assoc, and_then_ended, handing_then, allowing_then}
 use Rattle.demangle_v0.proofs.StackSplit.{above_pop}
 use Rattle.demangle_v0.proofs.StepRules.{refused, bits_append, looks_append}
-use Rattle.demangle_v0.proofs.StepCases.{went_by}
+use Rattle.demangle_v0.proofs.StepCases.{advanced_by}
 
 pub unit_rest_failed : (b : List ℕ) (form : Form) (out : Bool) (p : Continuation) (v : Bool) (c left n : ℕ) (o : Bool) → is_inner p ≡ true → (trace_at b form out p v c left n None o).place ≡ None
 unfolding trace_at
@@ -54,8 +54,8 @@ some_none m z = cc
 module _ {V : Type 0} (e : Env V) where
   -- what a step took, in turn
   abbrev bits_of : List ℕ → Option Token → List ℕ → List Action
-  bits_of prefix None back = pays prefix ∷ pays back ∷ []
-  bits_of prefix (Some s) back = pays prefix ∷ puts (texts_of e.symbol e.form.include_hash s) ∷ pays back ∷ []
+  bits_of prefix None back = allows_looks prefix ∷ allows_looks back ∷ []
+  bits_of prefix (Some s) back = allows_looks prefix ∷ puts (texts_of e.symbol e.form.include_hash s) ∷ allows_looks back ∷ []
 
   abbrev taken : List ℕ → Option Token → Option FixedText → List ℕ → Trace → Trace
   taken prefix emitted m back h = with_looks prefix (with_texts e.output.is_printed (emitted_texts e emitted) (with_texts e.output.is_printed (pending_texts m) (with_looks back h)))
@@ -74,7 +74,7 @@ module _ {V : Type 0} (e : Env V) where
 
   emitted_append : (u v w : V) (xs ys : List Action) → Emitted e xs u v → Emitted e ys v w → Emitted e (xs ++ ys) u w
   emitted_append u v w [] ys h k = subst (λ (z : V). Emitted e ys z w) (sym h) k
-  emitted_append u v w (pays n ∷ xs) ys h k = emitted_append u v w xs ys h k
+  emitted_append u v w (allows_looks n ∷ xs) ys h k = emitted_append u v w xs ys h k
   emitted_append u v w (puts ts ∷ xs) ys h k = (h.0, h.1, emitted_append h.0 v w xs ys h.2 k)
 
 -- what stands behind a step
@@ -145,7 +145,7 @@ module _ {V : Type 0} {e : Env V} where
         prefix = d.prefix;
         emitted = Fixed m;
         rest = with_looks d.back (gone e d.pushed q u.state);
-        refusal = f;
+        rejection = f;
         prints = subst (λ (y : V). e.output.prints y (text m ∷ []) (Err f) x) (sym same) p.0;
         reads = d.reads ∙ (ap (λ (y : Option Token). taken e d.prefix y u.state.pending_text d.back (gone e d.pushed q u.state)) o ∙ ap (λ (y : Option FixedText). taken e d.prefix None y d.back (gone e d.pushed q u.state)) (sym c));
         primitive_count = omega (arith, d.primitive_count);
@@ -168,7 +168,7 @@ module _ {V : Type 0} {e : Env V} where
   unfolding trace_at then_frame
   fault_continues {t} {u} {f = f} {x = x} z put l =
       let d = z.comes in
-      record { steps = (rw d.is_stack (went_by continuation.End d.prefix d.primitive_count (Fixed f) d.reads (subst (λ (y : V). e.output.prints y (text f ∷ []) (Ok tt) x) (sym d.emits) put) d.no_pending_text (omega (arith, l, d.paid_looks)) (omega (arith, d.lighter)) (omega arith) tt), d.no_pending_text) }
+      record { steps = (rw d.is_stack (advanced_by continuation.End d.prefix d.primitive_count (Fixed f) d.reads (subst (λ (y : V). e.output.prints y (text f ∷ []) (Ok tt) x) (sym d.emits) put) d.no_pending_text (omega (arith, l, d.paid_looks)) (omega (arith, d.lighter)) (omega arith) tt), d.no_pending_text) }
 
   -- or refused
   pub fault_refused : {t u : Machine V} {p : Continuation} {m : FixedText} {s : State} {x : V} {n : ℕ} {f : SinkRefused} → PerformsAt e p t (Err (Abort m)) u → e.output.prints u.output (text m ∷ []) (Err f) x → n ≤ u.looks → StepDone e p t (Err f) (record u { state = s; output = x; looks = n })
@@ -178,7 +178,7 @@ module _ {V : Type 0} {e : Env V} where
         prefix = d.prefix;
         emitted = Fixed m;
         rest = empty_trace None false;
-        refusal = f;
+        rejection = f;
         prints = subst (λ (y : V). e.output.prints y (text m ∷ []) (Err f) x) (sym d.emits) put;
         reads = d.reads;
         primitive_count = d.primitive_count;
@@ -208,7 +208,7 @@ followed_stack b form out stack (Some f) h = and_then_assoc h (trace_of_frame b 
 
 pub bits_then : (out : Bool) (bits : List Action) (h : Trace) (k : Place → Bool → Trace) → and_then (with_actions out bits h) k ≡ with_actions out bits (and_then h k)
 bits_then out [] h k = refl
-bits_then out (pays ks ∷ bits) h k = allowing_then ks (with_actions out bits h) k ∙ ap (with_looks ks) (bits_then out bits h k)
+bits_then out (allows_looks ks ∷ bits) h k = allowing_then ks (with_actions out bits h) k ∙ ap (with_looks ks) (bits_then out bits h k)
 bits_then out (puts ts ∷ bits) h k = handing_then out ts (with_actions out bits h) k ∙ ap (with_texts out ts) (bits_then out bits h k)
 
 allowed_said : (out : Bool) (ts : List Text) (xs : List Event) → allowed_in (texts_then out ts xs) ≡ allowed_in xs
@@ -222,12 +222,12 @@ allowed_more (k ∷ ks) xs = omega (arith, allowed_more ks xs)
 
 pub allowed_bits : (out : Bool) (bits : List Action) (h : Trace) → allowed_in (with_actions out bits h).events ≡ action_looks bits + allowed_in h.events
 allowed_bits out [] h = omega arith
-allowed_bits out (pays ks ∷ bits) h = omega (arith, allowed_more ks (with_actions out bits h).events, allowed_bits out bits h)
+allowed_bits out (allows_looks ks ∷ bits) h = omega (arith, allowed_more ks (with_actions out bits h).events, allowed_bits out bits h)
 allowed_bits out (puts ts ∷ bits) h = allowed_said out ts (with_actions out bits h).events ∙ allowed_bits out bits h
 
 pub place_bits : (out : Bool) (bits : List Action) (h : Trace) → (with_actions out bits h).place ≡ h.place
 place_bits out [] h = refl
-place_bits out (pays ks ∷ bits) h = place_bits out bits h
+place_bits out (allows_looks ks ∷ bits) h = place_bits out bits h
 place_bits out (puts ts ∷ bits) h = place_bits out bits h
 
 -- no more is left to do
@@ -272,13 +272,13 @@ fit_below (g ∷ stack) f h = let k = fit_below stack f h.1 in ((h.0, k.0), k.1)
 valid_push : (p q : Continuation) (s t : State) (stack : List Frame) (f : Option Frame) → Valid p s stack → height_of f ≤ height_at p s.depth_left → height_at q t.depth_left + count_of f ≤ height_at p s.depth_left → FitsFrame f → Fits q t.depth_left t.lifetimes → t.pending_text ≡ None
     → Valid q t (pushed_on stack f)
 valid_push p q s t stack None v x y g h k = record {
-  stands = Rattle.demangle_v0.proofs.Heights.stands_on frame_height most_frames (height_at p s.depth_left) (height_at q t.depth_left) stack v.stands (omega (arith, y));
+  has_room = Rattle.demangle_v0.proofs.Heights.has_room_on frame_height most_frames (height_at p s.depth_left) (height_at q t.depth_left) stack v.has_room (omega (arith, y));
   fits = h;
   all_fit = v.all_fit;
   no_pending_text = k;
 }
 valid_push p q s t stack (Some f) v x y g h k = record {
-  stands = Rattle.demangle_v0.proofs.Heights.stands_push frame_height most_frames (height_at p s.depth_left) (height_at q t.depth_left) stack f v.stands x (omega (arith, y));
+  has_room = Rattle.demangle_v0.proofs.Heights.stands_push frame_height most_frames (height_at p s.depth_left) (height_at q t.depth_left) stack f v.has_room x (omega (arith, y));
   fits = h;
   all_fit = fit_push stack f v.all_fit g;
   no_pending_text = k;
@@ -289,7 +289,7 @@ valid_resumes v (stays other e k r) = rw (e, k, r) v
 valid_resumes {p = p} {s = s} {now = now} v (pops f e l r d k) =
     let fit = fit_below now f (subst AllFit r v.all_fit) in
     rw (d, k) record {
-      stands = Rattle.demangle_v0.proofs.Heights.stands_resumed frame_height most_frames (height_at p s.depth_left) (frame_height f) now f (subst (λ (z : List Frame). heights.HasRoomAbove frame_height most_frames (height_at p s.depth_left) z) r v.stands) (omega arith);
+      has_room = Rattle.demangle_v0.proofs.Heights.stands_resumed frame_height most_frames (height_at p s.depth_left) (frame_height f) now f (subst (λ (z : List Frame). heights.HasRoomAbove frame_height most_frames (height_at p s.depth_left) z) r v.has_room) (omega arith);
       fits = fit.1;
       all_fit = fit.0;
       no_pending_text = v.no_pending_text;
@@ -381,37 +381,37 @@ module _ {V : Type 0} {e : Env V} where
   after_broke d = and_then d.halts.rest (trace_of_stack e.symbol e.form e.output.is_printed d.stack)
 
   abbrev pub prefix_of : {p : Continuation} {t : Machine V} {v : V} {n : ℕ} → StoppedAfter e p t v n → List Action
-  prefix_of d = d.ran.bits ++ pays d.halts.prefix ∷ []
+  prefix_of d = d.ran.bits ++ allows_looks d.halts.prefix ∷ []
 
   pub broke_trace : {p : Continuation} {t : Machine V} {v : V} {n : ℕ} (d : StoppedAfter e p t v n) → trace_left e p t ≡ with_actions e.output.is_printed (prefix_of d) (with_texts e.output.is_printed (texts_of e.symbol e.form.include_hash d.halts.emitted) (after_broke d))
   broke_trace d =
       let out = e.output.is_printed in
       let texts = texts_of e.symbol e.form.include_hash d.halts.emitted in
       let above = trace_of_stack e.symbol e.form out d.stack in
-      let prefix = pays d.halts.prefix ∷ [] in
+      let prefix = allows_looks d.halts.prefix ∷ [] in
       d.ran.reads
       ∙ (ap (with_actions out d.ran.bits) (ap (λ (h : Trace). and_then h above) d.halts.reads ∙ (bits_then out prefix (with_texts out texts d.halts.rest) above ∙ ap (with_actions out prefix) (handing_then out texts d.halts.rest above)))
       ∙ sym (bits_append out d.ran.bits prefix (with_texts out texts (after_broke d))))
 
   pub broke_emits : {p : Continuation} {t : Machine V} {v : V} {n : ℕ} (d : StoppedAfter e p t v n) → Emitted e (prefix_of d) t.output d.mid.output
-  broke_emits d = emitted_append e _ _ _ d.ran.bits (pays d.halts.prefix ∷ []) d.ran.emits refl
+  broke_emits d = emitted_append e _ _ _ d.ran.bits (allows_looks d.halts.prefix ∷ []) d.ran.emits refl
 
   pub broke_enough : {p : Continuation} {t : Machine V} {v : V} {n : ℕ} (d : StoppedAfter e p t v n) → n ≤ t.looks + (action_looks (prefix_of d) + 2)
-  broke_enough d = omega (arith, d.same_looks, d.halts.paid_looks, d.ran.paid_looks, looks_append d.ran.bits (pays d.halts.prefix ∷ []))
+  broke_enough d = omega (arith, d.same_looks, d.halts.paid_looks, d.ran.paid_looks, looks_append d.ran.bits (allows_looks d.halts.prefix ∷ []))
 
   -- a silent reading failed
   pub broke_fails : {p : Continuation} {t : Machine V} {v : V} {n : ℕ} → e.output.is_printed ≡ false → (d : StoppedAfter e p t v n) → AllInner d.stack → ((trace_left e p t).place ≡ None) × (n ≤ t.looks + allowed_in (trace_left e p t).events)
-  broke_fails silent d i =
+  broke_fails without_output d i =
       let out = e.output.is_printed in
       let texts = texts_of e.symbol e.form.include_hash d.halts.emitted in
       let rest = with_texts out texts (after_broke d) in (
-        ap (λ (h : Trace). h.place) (broke_trace d) ∙ (place_bits out (prefix_of d) rest ∙ stack_rest_failed e.symbol e.form out d.stack d.halts.rest.place d.halts.rest.is_bracket_open i (d.halts.fails silent)),
+        ap (λ (h : Trace). h.place) (broke_trace d) ∙ (place_bits out (prefix_of d) rest ∙ stack_rest_failed e.symbol e.form out d.stack d.halts.rest.place d.halts.rest.is_bracket_open i (d.halts.fails without_output)),
         omega (
           arith,
           d.same_looks,
-          d.halts.exact silent,
+          d.halts.exact without_output,
           d.ran.paid_looks,
-          looks_append d.ran.bits (pays d.halts.prefix ∷ []),
+          looks_append d.ran.bits (allows_looks d.halts.prefix ∷ []),
           ap (λ (h : Trace). allowed_in h.events) (broke_trace d),
           allowed_bits out (prefix_of d) rest,
         ),
@@ -463,13 +463,13 @@ module _ {V : Type 0} {e : Env V} where
   -- one turn
   pub reads_machine : {base : ℕ} {below : List Frame} {o p q r : Continuation} {first t w : Machine V} {s : State} {mid : List Frame} → e.output.is_printed ≡ false → Reads e below o first p t → length below ≡ base → ResumesAt base p t.state t.stack q s mid
       → StepDone e q (record t { state = s; stack = mid }) (Ok r) w → Reads e below o first r w
-  reads_machine {below = below} silent x l k z =
+  reads_machine {below = below} without_output x l k z =
       let d = z.steps.0 in
       let y = reads_resume x l k in
       record {
         frames = pushed_on y.frames d.pushed;
         is_stack = d.is_stack ∙ (ap (λ (ys : List Frame). pushed_on ys d.pushed) y.is_stack ∙ pushed_above below y.frames d.pushed);
-        inner = inner_pushed y.frames d.pushed y.inner (d.no_output silent);
+        inner = inner_pushed y.frames d.pushed y.inner (d.no_output without_output);
         ran = ran_then y.ran (ran_step z y.frames);
       }
 

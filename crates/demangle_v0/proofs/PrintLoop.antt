@@ -5,7 +5,7 @@ use Rattle.std.proofs.lemmas.Bool.{false≢true}
 use Rattle.std.proofs.lemmas.List.{append-nil}
 use Rattle.std.proofs.Math.Nat.{mul-le-mul_left}
 use Rattle.demangle_v0_grammar.specs.Items.{Text, a_path}
-use Rattle.demangle_v0_grammar.specs.LookBudget.{Pays}
+use Rattle.demangle_v0_grammar.specs.LookBudget.{IsWithinBudget}
 use Rattle.demangle_v0_grammar.specs.Reading.{Form, max_depth, path_texts, read_at, level_of, levels}
 use Rattle.demangle_sink.specs.Cut.{size, kept}
 use Rattle.demangle_sink.proofs.CutLemmas.{size-append}
@@ -23,7 +23,7 @@ use Rattle.demangle_sink.specs.Limit.{Prints, Ready}
 use Rattle.demangle_sink.specs.declared.TextSink.{Ghosts as Sinks}
 use Rattle.demangle_sink.specs.declared.SinkRefused.{SinkRefused}
 use Rattle.demangle_sink.specs.declared.limit.SizeLimitedFmtAdapter.{SizeLimitedFmtAdapter}
-use Rattle.demangle_v0.specs.Traces.{Action, pays, puts, with_actions, action_looks, action_texts, trace_at, trace_of_stack, remaining_trace}
+use Rattle.demangle_v0.specs.Traces.{Action, allows_looks, puts, with_actions, action_looks, action_texts, trace_at, trace_of_stack, remaining_trace}
 use Rattle.demangle_v0.specs.Steps.{Env, Machine, machine}
 use Rattle.demangle_v0.specs.Loops.{Valid, Emitted, RanSteps, StoppedAfter, Skipped, StopsInImplPath, printing, PrintDone, Passed, ValidUnfinished, Finishes, Ended, EndedAt, first_state, impl_path_trace}
 use Rattle.demangle_v0.specs.declared.parser.Continuation.{Continuation}
@@ -36,7 +36,7 @@ use Rattle.demangle_v0.specs.declared.printer.Unfinished.TheVariants as left
 use Rattle.demangle_v0.proofs.LoopLemmas.{ran_then, prefix_of, after_broke, broke_trace, broke_emits, broke_enough}
 use Rattle.demangle_v0.proofs.ImplPathSteps.{skipped_trace, skipped_valid}
 use Rattle.demangle_v0_grammar.proofs.SkippedPaths.{allowances, total_allowances}
-use Rattle.demangle_v0.specs.Skips.{is_impl_path}
+use Rattle.demangle_v0.specs.Skips.{is_skipped}
 
 module _ {V : Type 0} {e : Env V} where
   -- it was refused
@@ -45,7 +45,7 @@ module _ {V : Type 0} {e : Env V} where
   ran_fail {result = Err f} h d = record { ran = d }
 
   -- the stack is full
-  pub ran_left : {o : Continuation} {first : Machine V} {r to : Checkpoint} {below now : List Frame} {w : V} {began k n : ℕ} {x : Unfinished} → is_impl_path e.form.fold_arguments r.continuation ≡ true → Valid r.continuation r.state below → StopsInImplPath e.symbol e.form r below began x k to now n
+  pub ran_left : {o : Continuation} {first : Machine V} {r to : Checkpoint} {below now : List Frame} {w : V} {began k n : ℕ} {x : Unfinished} → is_skipped e.form.fold_arguments r.continuation ≡ true → Valid r.continuation r.state below → StopsInImplPath e.symbol e.form r below began x k to now n
       → RanSteps e o first r.continuation (machine r.state below w began) → PrintDone e o first (Ok (Some x)) to now w n
   ran_left {below = below} {began = began} i v k ran = rw k.is_left (record {
     ran = record { began = began; skips = record { below = below; height = sym k.height; skips = i; valid = v; reads = k.reads }; ran = ran };
@@ -112,19 +112,19 @@ shown_said (t ∷ ts) xs = ap (λ (zs : List Text). t ∷ zs) (shown_said ts xs)
 
 shown_bits : (bits : List Action) (h : Trace) → texts_in (with_actions true bits h).events ≡ action_texts bits ++ texts_in h.events
 shown_bits [] h = refl
-shown_bits (pays ks ∷ bits) h = shown_allowed ks (with_actions true bits h).events ∙ shown_bits bits h
+shown_bits (allows_looks ks ∷ bits) h = shown_allowed ks (with_actions true bits h).events ∙ shown_bits bits h
 shown_bits (puts ts ∷ bits) h = shown_said ts (with_actions true bits h).events ∙ (ap (λ zs. ts ++ zs) (shown_bits bits h) ∙ sym (append_assoc ts (action_texts bits) (texts_in h.events)))
 
 more : (r a x y z l : ℕ) → z ≡ x + y → l ≤ a + r * x + r * y → l ≤ a + r * z
 more r a x y z l e h = rw e (omega (arith, h))
 
-bits_paid : (r a : ℕ) (bits : List Action) (h : Trace) → Pays r a (weighed (with_actions true bits h).events) 0 → action_looks bits ≤ a + r * size (action_texts bits)
+bits_paid : (r a : ℕ) (bits : List Action) (h : Trace) → IsWithinBudget r a (weighed (with_actions true bits h).events) 0 → action_looks bits ≤ a + r * size (action_texts bits)
 bits_paid r a [] h p = omega arith
-bits_paid r a (pays ks ∷ bits) h p =
-    let q = pays_looks r a 0 ks _ (subst (λ xs. Pays r a xs 0) (weighed_allowed ks (with_actions true bits h).events) p) in
+bits_paid r a (allows_looks ks ∷ bits) h p =
+    let q = pays_looks r a 0 ks _ (subst (λ xs. IsWithinBudget r a xs 0) (weighed_allowed ks (with_actions true bits h).events) p) in
     omega (arith, q.0, bits_paid r (a - total ks) bits h q.1)
 bits_paid r a (puts ts ∷ bits) h p =
-    let q = pays_texts r a 0 ts _ (subst (λ xs. Pays r a xs 0) (weighed_said ts (with_actions true bits h).events) p) in
+    let q = pays_texts r a 0 ts _ (subst (λ xs. IsWithinBudget r a xs 0) (weighed_said ts (with_actions true bits h).events) p) in
     more r a (size ts) (size (action_texts bits)) _ _ (size-append ts (action_texts bits)) (bits_paid r (a + r * size ts) bits h q)
 
 -- with two looks that came too early
@@ -133,10 +133,10 @@ within n w room m made l h = let e : looks_a_byte n * w ≤ looks_a_byte n * roo
 
 module _ {S : Type 0} (sink : Sinks S) (b : List ℕ) (form : Form) where
   -- the part that is not printed was read
-  pub ran_skips : {o p q : Continuation} {first t : Machine (SizeLimitedFmtAdapter S)} {s : State} {now : List Frame} {n : ℕ} (k : is_impl_path form.fold_arguments p ≡ true) → RanSteps (printing sink b form) o first p t → Skipped b form p t.state t.stack t.looks q s now n
+  pub ran_skips : {o p q : Continuation} {first t : Machine (SizeLimitedFmtAdapter S)} {s : State} {now : List Frame} {n : ℕ} (k : is_skipped form.fold_arguments p ≡ true) → RanSteps (printing sink b form) o first p t → Skipped b form p t.state t.stack t.looks q s now n
       → RanSteps (printing sink b form) o first q (record t { state = s; stack = now; looks = n })
   ran_skips {p = p} {t = t} k x z = ran_then x (record {
-    bits = pays (allowances (impl_path_trace b form p t.state).events) ∷ [];
+    bits = allows_looks (allowances (impl_path_trace b form p t.state).events) ∷ [];
     emits = refl;
     reads = skipped_trace k z;
     paid_looks = omega (arith, z.paid_looks, total_allowances (impl_path_trace b form p t.state).events);
@@ -153,7 +153,7 @@ module _ {S : Type 0} (sink : Sinks S) (b : List ℕ) (form : Form) where
 
   emitted_prints : (v w : SizeLimitedFmtAdapter S) (bits : List Action) → Ready sink v → Emitted (printing sink b form) bits v w → Prints sink v (action_texts bits) (Ok tt) w
   emitted_prints v w [] r e = subst (λ (z : SizeLimitedFmtAdapter S). Prints sink v [] (Ok tt) z) e (prints_nothing sink v r)
-  emitted_prints v w (pays ks ∷ bits) r t = emitted_prints v w bits r t
+  emitted_prints v w (allows_looks ks ∷ bits) r t = emitted_prints v w bits r t
   emitted_prints v w (puts ts ∷ bits) r t =
       prints_then sink v t.0 w ts (action_texts bits) (Ok tt) (Ok tt) t.1 refl (emitted_prints t.0 w bits (prints_ready sink v ts (Ok tt) t.0 t.1 refl) t.2)
 
@@ -179,9 +179,9 @@ module _ {S : Type 0} (sink : Sinks S) (b : List ℕ) (form : Form) where
       let d = z.ended in
       let texts = texts_of b form.include_hash d.halts.emitted in
       let fronts = action_texts (prefix_of d) in
-      let both = prints_then sink v d.mid.output d.end.output fronts texts (Ok tt) (Err d.halts.refusal) (emitted_prints v d.mid.output (prefix_of d) ready (broke_emits d)) refl d.halts.prints in
+      let both = prints_then sink v d.mid.output d.end.output fronts texts (Ok tt) (Err d.halts.rejection) (emitted_prints v d.mid.output (prefix_of d) ready (broke_emits d)) refl d.halts.prints in
       let all : (fronts ++ texts) ++ texts_in (after_broke d).events ≡ path_texts b form = append_assoc fronts texts (texts_in (after_broke d).events) ∙ prefix_shown d in
-      rw (sym all, sym d.same_output) (prints_stop sink v d.end.output (fronts ++ texts) (texts_in (after_broke d).events) (Err d.halts.refusal) (Err f) both refl refl)
+      rw (sym all, sym d.same_output) (prints_stop sink v d.end.output (fronts ++ texts) (texts_in (after_broke d).events) (Err d.halts.rejection) (Err f) both refl refl)
 
   -- all was printed, and the place where that ended is known
   pub prints_to : {v w : SizeLimitedFmtAdapter S} {m n place : ℕ} → Ready sink v → EndedAt (printing sink b form) continuation.Path (begun v m) place w n → Prints sink v (path_texts b form) (Ok tt) w
@@ -189,10 +189,10 @@ module _ {S : Type 0} (sink : Sinks S) (b : List ℕ) (form : Form) where
 
   -- The looks of a run are paid for by what it handed over.
 
-  whole_paid : Pays (looks_a_byte (length b)) (looks_before (length b)) (weighed (remaining_trace b form true continuation.Path (first_state 0) []).events) 0
+  whole_paid : IsWithinBudget (looks_a_byte (length b)) (looks_before (length b)) (weighed (remaining_trace b form true continuation.Path (first_state 0) []).events) 0
   unfolding trace_at read_at
   whole_paid =
-      subst (λ (h : Trace). Pays (looks_a_byte (length b)) (looks_before (length b)) (weighed h.events) 0) (sym (remaining_trace-empty_stack b form true continuation.Path (first_state 0)))
+      subst (λ (h : Trace). IsWithinBudget (looks_a_byte (length b)) (looks_before (length b)) (weighed h.events) 0) (sym (remaining_trace-empty_stack b form true continuation.Path (first_state 0)))
       (pays_tree (looks_a_byte (length b)) (looks_before (length b)) 0 form.include_hash (level_of b form.fold_arguments (levels b form.fold_arguments max_depth) true a_path true 0 0).tree (printing_pays b form))
 
   bits_most : (v w : SizeLimitedFmtAdapter S) (m n : ℕ) (bits : List Action) (h : Trace) (rest : List Text) → Ready sink v → Emitted (printing sink b form) bits v w → remaining_trace b form true continuation.Path (first_state 0) [] ≡ with_actions true bits h
@@ -200,8 +200,8 @@ module _ {S : Type 0} (sink : Sinks S) (b : List ℕ) (form : Form) where
   bits_most v w m n bits h rest ready t e s l =
       let done = emitted_prints v w bits ready t in
       let bytes : size (action_texts bits) ≤ kept (path_texts b form) v.remaining = kept_bytes sink v w (path_texts b form) rest (size (action_texts bits)) (record { prefix = action_texts bits; done = done; is = s }) (omega (arith, done.within refl, done.left refl)) in
-      let paid = bits_paid (looks_a_byte (length b)) (looks_before (length b)) bits h (subst (λ (g : Trace). Pays (looks_a_byte (length b)) (looks_before (length b)) (weighed g.events) 0) e whole_paid) in
-      within (length b) (size (action_texts bits)) (kept (path_texts b form) v.remaining) m n bytes (omega (arith, l, paid))
+      let within_budget = bits_paid (looks_a_byte (length b)) (looks_before (length b)) bits h (subst (λ (g : Trace). IsWithinBudget (looks_a_byte (length b)) (looks_before (length b)) (weighed g.events) 0) e whole_paid) in
+      within (length b) (size (action_texts bits)) (kept (path_texts b form) v.remaining) m n bytes (omega (arith, l, within_budget))
 
   pub prints_most : {v w : SizeLimitedFmtAdapter S} {m n : ℕ} (result : Result (Unit {0}) SinkRefused) → Ready sink v → Ended (printing sink b form) continuation.Path (begun v m) result w n
       → n ≤ m + 100000 * (kept (path_texts b form) v.remaining + 1) * (length b + 1)

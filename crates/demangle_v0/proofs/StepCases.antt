@@ -38,8 +38,8 @@ pub record Within (p : Continuation) (weight above : ℕ) : Type 0 where
   pub low : (left : ℕ) → height_at p left ≤ 8 * left + above
   pub fits : (left n : ℕ) → Fits continuation.«Type» left n → Fits p left n
 
-abbrev refusal : Result Continuation StepError
-refusal = Err Sink
+abbrev rejection : Result Continuation StepError
+rejection = Err Sink
 
 pub list_short : (b : List ℕ) (i : Place) → total (list_costs i) ≤ step_looks_bound b i
 list_short b None = omega arith
@@ -53,7 +53,7 @@ pub list_few : (i : Place) → total (list_costs i) ≤ 1
 list_few None = omega arith
 list_few (Some i) = omega arith
 
-no_fault : (m : FixedText) → refusal ≡ Err (Abort m) → ⊥
+no_fault : (m : FixedText) → rejection ≡ Err (Abort m) → ⊥
 no_fault m k = cc
 
 pub paid_none : {n : ℕ} → LooksWithin n [] n
@@ -96,7 +96,7 @@ comes_after e t u h k words words' weight high weight' high' s n (Err Sink) ks c
     prefix = ks ++ d.prefix;
     emitted = d.emitted;
     rest = d.rest;
-    refusal = d.refusal;
+    rejection = d.rejection;
     prints = d.prints;
     reads = o ∙ (ap (with_looks ks) d.reads ∙ sym (looks_both ks d.prefix _));
     primitive_count = omega (arith, c, d.primitive_count, length-append ks d.prefix);
@@ -184,11 +184,11 @@ module _ {V : Type 0} {e : Env V} where
   after_error k r w = ends fixed.AfterError [] (omega arith) k r paid_none (omega arith) w
 
   -- A stretch is handed over.
-  pub went_by : {t : Machine V} {h : Trace} {words weight high : ℕ} (to : Continuation) (prefix : List ℕ) → length prefix ≤ words → (x : Token) {s : State} {v : V} {n : ℕ}
+  pub advanced_by : {t : Machine V} {h : Trace} {words weight high : ℕ} (to : Continuation) (prefix : List ℕ) → length prefix ≤ words → (x : Token) {s : State} {v : V} {n : ℕ}
       → h ≡ with_looks prefix (with_texts e.output.is_printed (texts_of e.symbol e.form.include_hash x) (trace_of_state e.symbol e.form e.output.is_printed to s)) → e.output.prints t.output (texts_of e.symbol e.form.include_hash x) (Ok tt) v → s.pending_text ≡ None
       → n ≤ t.looks + total prefix → weight_left to + 1 ≤ weight + 100 * total prefix → height_at to s.depth_left ≤ high → Fits to s.depth_left s.lifetimes → Continued e (part words h weight high) t to (record t { state = s; output = v; looks = n })
   unfolding then_frame
-  went_by to prefix c x r q k p w z f = record {
+  advanced_by to prefix c x r q k p w z f = record {
     prefix = prefix;
     emitted = Some x;
     back = [];
@@ -212,7 +212,7 @@ module _ {V : Type 0} {e : Env V} where
       → h ≡ with_looks prefix (with_texts e.output.is_printed (texts_of e.symbol e.form.include_hash x) (trace_of_state e.symbol e.form e.output.is_printed to s)) → e.output.prints t.output (texts_of e.symbol e.form.include_hash x) (Ok tt) v → e.output.ready v → s.pending_text ≡ None
       → LooksWithin t.looks prefix n → n ≤ t.looks + step_looks_bound e.symbol t.state.place → weight_left to + 1 ≤ weight + 100 * total prefix → height_at to s.depth_left ≤ high → Fits to s.depth_left s.lifetimes
       → Performs e t (part words h weight high) (Ok to) (record t { state = s; output = v; looks = n })
-  tells to prefix c x r q y k p short w z f = record { comes = went_by to prefix c x r q k p.within w z f; grows = p.grows; own_looks = short; ready = λ _ _. y; if_ok = λ _ _ _. y }
+  tells to prefix c x r q y k p short w z f = record { comes = advanced_by to prefix c x r q k p.within w z f; grows = p.grows; own_looks = short; ready = λ _ _. y; if_ok = λ _ _ _. y }
 
   -- The output refuses it.
   pub halts : {t : Machine V} {h : Trace} {words weight high : ℕ} (prefix : List ℕ) → length prefix ≤ words → (x : Token) (rest : Trace) {s : State} {v : V} {n : ℕ} {r : SinkRefused}
@@ -220,7 +220,7 @@ module _ {V : Type 0} {e : Env V} where
       → (e.output.is_printed ≡ false → rest.place ≡ None) → LooksWithin t.looks prefix n → n ≤ t.looks + step_looks_bound e.symbol t.state.place
       → Performs e t (part words h weight high) (Err Sink) (record t { state = s; output = v; looks = n })
   halts {t} prefix c x rest {r = f} r q i p short = record {
-    comes = (record { prefix = prefix; emitted = x; rest = rest; refusal = f; prints = q; reads = r; primitive_count = c; paid_looks = omega (arith, p.within); exact = λ _. p.within; fails = i }, kept_none t.stack);
+    comes = (record { prefix = prefix; emitted = x; rest = rest; rejection = f; prints = q; reads = r; primitive_count = c; paid_looks = omega (arith, p.within); exact = λ _. p.within; fails = i }, kept_none t.stack);
     grows = p.grows;
     own_looks = short;
     ready = λ _ k. absurd (false≢true k);

@@ -7,7 +7,7 @@ use Rattle.demangle_v0_grammar.specs.Traces.{Event, allows, looks_then, Trace, o
 use Rattle.demangle_v0_tokens.specs.Tokens.{TokenSpec, token_spec}
 use Rattle.demangle_v0_tokens.specs.Texts.{token_items}
 use Rattle.demangle_v0_grammar.specs.Reading.{Form, Place, parse, unit_outcome}
-use Rattle.demangle_v0.specs.Traces.{Action, pays, puts, with_actions, action_looks, with_closed_bracket}
+use Rattle.demangle_v0.specs.Traces.{Action, allows_looks, puts, with_actions, action_looks, with_closed_bracket}
 use Rattle.demangle_v0.specs.Measure.{weight_left, weight_at}
 use Rattle.demangle_v0.specs.Steps.{KeepsFrames}
 use Rattle.demangle_sink.specs.declared.SinkRefused.{SinkRefused}
@@ -22,12 +22,12 @@ use Rattle.demangle_v0_tokens.proofs.TokenSpecs.{token_then, grouped, word_read}
 
 pub bits_append : (out : Bool) (xs ys : List Action) (h : Trace) → with_actions out (xs ++ ys) h ≡ with_actions out xs (with_actions out ys h)
 bits_append out [] ys h = refl
-bits_append out (pays k ∷ xs) ys h = ap (with_looks k) (bits_append out xs ys h)
+bits_append out (allows_looks k ∷ xs) ys h = ap (with_looks k) (bits_append out xs ys h)
 bits_append out (puts ts ∷ xs) ys h = ap (with_texts out ts) (bits_append out xs ys h)
 
 pub looks_append : (xs ys : List Action) → action_looks (xs ++ ys) ≡ action_looks xs + action_looks ys
 looks_append [] ys = omega arith
-looks_append (pays k ∷ xs) ys = omega (arith, looks_append xs ys)
+looks_append (allows_looks k ∷ xs) ys = omega (arith, looks_append xs ys)
 looks_append (puts ts ∷ xs) ys = looks_append xs ys
 
 pub looks_both : (ks ls : List ℕ) (h : Trace) → with_looks (ks ++ ls) h ≡ with_looks ks (with_looks ls h)

@@ -27,11 +27,11 @@ use Rattle.demangle_v0.proofs.Heights.{stands_first}
 use Rattle.demangle_v0.proofs.LoopLemmas.{ran_place, ran_looks, broke_fails}
 
 pub valid_first : (i : ℕ) → Valid continuation.Path (first_state i) []
-valid_first i = record { stands = stands_first frame_height most_frames (8 * max_depth + 1) (omega arith); fits = omega arith; all_fit = tt; no_pending_text = refl }
+valid_first i = record { has_room = stands_first frame_height most_frames (8 * max_depth + 1) (omega arith); fits = omega arith; all_fit = tt; no_pending_text = refl }
 
 -- a stack for all that can ever stand there is never full
 pub valid_length : (p : Continuation) (s : State) (stack : List Frame) → Valid p s stack → length stack ≤ most_frames
-valid_length p s stack v = omega (arith, v.stands.above)
+valid_length p s stack v = omega (arith, v.has_room.above)
 
 pub remaining_trace-empty_stack : (b : List ℕ) (form : Form) (out : Bool) (p : Continuation) (s : State) → remaining_trace b form out p s [] ≡ trace_of_state b form out p s
 unfolding trace_of_stack

@@ -4,10 +4,10 @@ use Rattle.std.specs.Prelude.{◌≡◌, ℕ, ◌+◌, ◌≤◌, ◌<◌, min, 
 use Rattle.demangle_v0_grammar.specs.Traces.{Trace}
 use Rattle.demangle_v0_tokens.specs.Texts.{text}
 use Rattle.demangle_v0.specs.Frames as heights
-use Rattle.demangle_v0.specs.Skips.{is_impl_path, own_point, after_skip}
+use Rattle.demangle_v0.specs.Skips.{is_skipped, skipped_continuation, after_skip}
 use Rattle.demangle_v0_tokens.specs.declared.fixed_texts.FixedText.{FixedText}
 use Rattle.demangle_sink.specs.declared.SinkRefused.{SinkRefused}
-use Rattle.demangle_v0.specs.Traces.{Action, pays, puts, with_actions, action_looks, remaining_trace}
+use Rattle.demangle_v0.specs.Traces.{Action, allows_looks, puts, with_actions, action_looks, remaining_trace}
 use Rattle.demangle_v0.specs.Steps.{Env, env, whole, Machine, machine, Continued, Stopped, KeepsFrames, resumed_of}
 use Rattle.demangle_v0.specs.Measure.{AllInner, Fits, height_at, most_frames}
 use Rattle.demangle_v0_grammar.specs.LookTotals.{allowed_in}
@@ -73,7 +73,7 @@ AllFit [] = Unit {0}
 AllFit (f ∷ above) = Fits f.continuation f.depth_left f.number × AllFit above
 
 pub record Valid (p : Continuation) (s : State) (stack : List Frame) : Type 0 where
-  pub stands : heights.HasRoomAbove frame_height most_frames (height_at p s.depth_left) stack
+  pub has_room : heights.HasRoomAbove frame_height most_frames (height_at p s.depth_left) stack
   pub fits : Fits p s.depth_left s.lifetimes
   pub all_fit : AllFit stack
   pub no_pending_text : s.pending_text ≡ None
@@ -87,7 +87,7 @@ trace_left env p t = remaining_trace env.symbol env.form env.output.is_printed p
 -- the output received the texts of these parts, in order
 abbrev pub Emitted : {V : Type 0} → Env V → List Action → V → V → Type 0
 Emitted env [] v w = v ≡ w
-Emitted env (pays k ∷ bits) v w = Emitted env bits v w
+Emitted env (allows_looks k ∷ bits) v w = Emitted env bits v w
 Emitted {V = V} env (puts ts ∷ bits) v w = (mid : V) × env.output.prints v ts (Ok tt) mid × Emitted env bits mid w
 
 -- steps lead from `before` to `after`, and make no more looks than their trace allows
@@ -138,10 +138,10 @@ abbrev pub impl_path_state : State → State
 impl_path_state s = record s { in_value = false }
 
 abbrev pub impl_path_checkpoint : Checkpoint → Checkpoint
-impl_path_checkpoint r = record { continuation = own_point r.continuation; state = impl_path_state r.state }
+impl_path_checkpoint r = record { continuation = skipped_continuation r.continuation; state = impl_path_state r.state }
 
 abbrev pub impl_path_trace : List ℕ → Form → Continuation → State → Trace
-impl_path_trace b form p s = remaining_trace b form false (own_point p) (impl_path_state s) []
+impl_path_trace b form p s = remaining_trace b form false (skipped_continuation p) (impl_path_state s) []
 
 -- the state after it
 abbrev pub state_at : State → Place → State
@@ -158,13 +158,13 @@ pub record Skipped (b : List ℕ) (form : Form) (o : Continuation) (s : State) (
 
 -- the part was read up to `inner`; the count of looks was `began` at its start
 abbrev pub ReadsImplPath : List ℕ → Form → List Frame → Checkpoint → ℕ → Checkpoint → List Frame → ℕ → Type 0
-ReadsImplPath b form below r began inner now looks = Reads (no_output_env b form) below (own_point r.continuation) (no_output_machine (impl_path_state r.state) [] began) inner.continuation (no_output_machine inner.state now looks)
+ReadsImplPath b form below r began inner now looks = Reads (no_output_env b form) below (skipped_continuation r.continuation) (no_output_machine (impl_path_state r.state) [] began) inner.continuation (no_output_machine inner.state now looks)
 
 -- the same, above a stack of `base` frames
 pub record InImplPath (b : List ℕ) (form : Form) (base : ℕ) (began : ℕ) (inner printing : Checkpoint) (now : List Frame) (looks : ℕ) : Type 0 where
   pub below : List Frame
   pub height : length below ≡ base
-  pub skips : is_impl_path form.fold_arguments printing.continuation ≡ true
+  pub skips : is_skipped form.fold_arguments printing.continuation ≡ true
   pub valid : Valid printing.continuation printing.state below
   pub reads : ReadsImplPath b form below printing began inner now looks
 

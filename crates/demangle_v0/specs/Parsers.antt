@@ -37,11 +37,11 @@ form_of s = record { include_hash = s.include_hash; fold_arguments = s.fold_argu
 abbrev pub pushed : {N : ℕ} → Parser N → Frame → Parser N
 pushed m f = record m { stack = m.stack ++ f ∷ [] }
 
-abbrev pub marked : {N : ℕ} → Parser N → FixedText → Parser N
-marked m x = record m { state = record m.state { pending_text = Some x } }
+abbrev pub with_text : {N : ℕ} → Parser N → FixedText → Parser N
+with_text m x = record m { state = record m.state { pending_text = Some x } }
 
-abbrev pub shut : {N : ℕ} → Parser N → Parser N
-shut m = record m { state = record m.state { is_bracket_open = false } }
+abbrev pub closed : {N : ℕ} → Parser N → Parser N
+closed m = record m { state = record m.state { is_bracket_open = false } }
 
 abbrev pub deeper : {N : ℕ} → Parser N → Parser N
 deeper m = record m { state = record m.state { depth_left = m.state.depth_left - 1 } }
@@ -119,8 +119,8 @@ CanPrint output m v = CanEmit (env_of output m) m.state v
 -- the effect of a back reference to a production that starts with this continuation
 abbrev pub Followed : {N : ℕ} {V : Type 0} → Ghosts V → Continuation → Parser N → V → Result Continuation StepError → Parser N → Type 0
 Followed output p m v result k =
-    (shut : Bool) (kind : Kind) (value : Bool) → IsProduction m.source.symbol.now (form_of m.source) p m.state.in_value m.state.letter m.state.lifetimes shut kind value
-    → PerformsPart output (target_part (env_of output m) shut kind value m.state) m v result k v
+    (closed : Bool) (kind : Kind) (value : Bool) → IsProduction m.source.symbol.now (form_of m.source) p m.state.in_value m.state.letter m.state.lifetimes closed kind value
+    → PerformsPart output (target_part (env_of output m) closed kind value m.state) m v result k v
 
 -- An output that never receives a token, whether it prints or not.
 abbrev pub unused_output : Bool → Ghosts (Unit {0})
@@ -134,8 +134,8 @@ abbrev pub Advanced : {N : ℕ} → Continuation → Parser N → Result Continu
 Advanced p m result k = (is_printed : Bool) → Performed (unused_output is_printed) p m tt result k tt
 
 -- the same, except at the first argument of a list that is printed folded
-abbrev pub WentUnfolded : {N : ℕ} → Bool → Continuation → Parser N → Result Continuation StepError → Parser N → Type 0
-WentUnfolded is_first p m result k = (is_printed : Bool) → is_first && (is_printed && m.source.fold_arguments) ≡ false → Performed (unused_output is_printed) p m tt result k tt
+abbrev pub AdvancedUnfolded : {N : ℕ} → Bool → Continuation → Parser N → Result Continuation StepError → Parser N → Type 0
+AdvancedUnfolded is_first p m result k = (is_printed : Bool) → is_first && (is_printed && m.source.fold_arguments) ≡ false → Performed (unused_output is_printed) p m tt result k tt
 
 -- the effect of a continuation that is only used if nothing is printed
 abbrev pub AdvancedWithoutOutput : {N : ℕ} → Continuation → Parser N → Result Continuation StepError → Parser N → Type 0
@@ -179,15 +179,15 @@ abbrev pub printing_of : {N : ℕ} {S : Type 0} → Sinks S → Parser N → Env
 printing_of sink m = printing sink m.source.symbol.now (form_of m.source)
 
 -- the unfinished part can be printed
-abbrev pub LeftValid : {N : ℕ} → ℕ → Result (Option Unfinished) SinkRefused → Parser N → Type 0
-LeftValid n result m = ValidUnfinished m.source.symbol.now (form_of m.source) n result (checkpoint_of m) m.stack m.looks
+abbrev pub UnfinishedIsValid : {N : ℕ} → ℕ → Result (Option Unfinished) SinkRefused → Parser N → Type 0
+UnfinishedIsValid n result m = ValidUnfinished m.source.symbol.now (form_of m.source) n result (checkpoint_of m) m.stack m.looks
 
 -- the looks that are made in any case: by the next step, and by the unfinished part
 abbrev pub first_looks_of : {N : ℕ} → Parser N → ℕ
 first_looks_of m = first_looks m.continuation m.state
 
-abbrev pub left_looks : {N : ℕ} → Result (Option Unfinished) SinkRefused → Parser N → ℕ
-left_looks result m = looks_left result (checkpoint_of m)
+abbrev pub unfinished_looks : {N : ℕ} → Result (Option Unfinished) SinkRefused → Parser N → ℕ
+unfinished_looks result m = looks_left result (checkpoint_of m)
 
 -- `m` printed until it stopped at `k`
 abbrev pub PrintsSteps : {N : ℕ} {S : Type 0} → Sinks S → Parser N → SizeLimitedFmtAdapter S → Result (Option Unfinished) SinkRefused → Parser N → SizeLimitedFmtAdapter S → Type 0

@@ -5,18 +5,18 @@ use Rattle.demangle_v0.specs.declared.parser.Continuation.{Continuation}
 use Rattle.demangle_v0.specs.declared.parser.Continuation.TheVariants as continuation
 
 -- whether such a part is next, with arguments folded or not
-abbrev pub is_impl_path : Bool → Continuation → Bool
-is_impl_path folds continuation.InherentImplPath = true
-is_impl_path folds continuation.TraitImplPath = true
-is_impl_path folds continuation.FirstArgument = folds
-is_impl_path folds continuation.FirstTraitArgument = folds
-is_impl_path folds p = false
+abbrev pub is_skipped : Bool → Continuation → Bool
+is_skipped folds continuation.InherentImplPath = true
+is_skipped folds continuation.TraitImplPath = true
+is_skipped folds continuation.FirstArgument = folds
+is_skipped folds continuation.FirstTraitArgument = folds
+is_skipped folds p = false
 
 -- the continuation that reads the part
-abbrev pub own_point : Continuation → Continuation
-own_point continuation.InherentImplPath = continuation.Path
-own_point continuation.TraitImplPath = continuation.Path
-own_point p = p
+abbrev pub skipped_continuation : Continuation → Continuation
+skipped_continuation continuation.InherentImplPath = continuation.Path
+skipped_continuation continuation.TraitImplPath = continuation.Path
+skipped_continuation p = p
 
 -- the continuation after the part
 abbrev pub after_skip : Continuation → Continuation

@@ -100,8 +100,8 @@ pub record Stopped {V : Type 0} (env : Env V) (part : StepPart) (before after : 
   pub prefix : List ℕ
   pub emitted : Token
   pub rest : Trace
-  pub refusal : SinkRefused
-  pub prints : env.output.prints before.output (texts_of env.symbol env.form.include_hash emitted) (Err refusal) after.output
+  pub rejection : SinkRefused
+  pub prints : env.output.prints before.output (texts_of env.symbol env.form.include_hash emitted) (Err rejection) after.output
   pub reads : part.trace ≡ with_looks prefix (with_texts env.output.is_printed (texts_of env.symbol env.form.include_hash emitted) rest)
   pub primitive_count : length prefix ≤ part.words
   pub paid_looks : after.looks ≤ before.looks + (total prefix + 2)

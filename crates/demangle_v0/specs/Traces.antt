@@ -58,22 +58,22 @@ frame_at p s = frame_of p s.in_value s.letter s.depth_left s.lifetimes
 
 -- a part of a step: it allows these looks, or it prints these texts
 pub data Action : Type 0 where
-  pays : List ℕ → Action
+  allows_looks : List ℕ → Action
   puts : List Text → Action
 
 abbrev pub with_actions : Bool → List Action → Trace → Trace
 with_actions out [] h = h
-with_actions out (pays ks ∷ bits) h = with_looks ks (with_actions out bits h)
+with_actions out (allows_looks ks ∷ bits) h = with_looks ks (with_actions out bits h)
 with_actions out (puts ts ∷ bits) h = with_texts out ts (with_actions out bits h)
 
 abbrev pub action_looks : List Action → ℕ
 action_looks [] = 0
-action_looks (pays ks ∷ bits) = total ks + action_looks bits
+action_looks (allows_looks ks ∷ bits) = total ks + action_looks bits
 action_looks (puts ts ∷ bits) = action_looks bits
 
 abbrev pub action_texts : List Action → List Text
 action_texts [] = []
-action_texts (pays k ∷ bits) = action_texts bits
+action_texts (allows_looks k ∷ bits) = action_texts bits
 action_texts (puts ts ∷ bits) = ts ++ action_texts bits
 
 -- the pending text, which the step still has to print

@@ -1,7 +1,7 @@
 //! Printing: steps, each of which prints what it reads as soon as it is known.
 ghost use Rattle.std.specs.Prelude.{◌≡◌, ◌+◌, ◌≤◌, [], IsAscii, IfSome, IsOk, Ok, Some};
 ghost use Rattle.demangle_sink.specs.Limit.{Ready};
-ghost use Rattle.demangle_v0.specs.Parsers.{EndsPrinting, IsValid, LeftValid, PrintsAll, PrintsOn, PrintsSteps, PrintsTo, Same, first_looks_of, left_looks};
+ghost use Rattle.demangle_v0.specs.Parsers.{EndsPrinting, IsValid, UnfinishedIsValid, PrintsAll, PrintsOn, PrintsSteps, PrintsTo, Same, first_looks_of, unfinished_looks};
 
 use crate::parser::Continuation;
 use crate::parser::frames::{FULL_STACK, MIDDLE_STACK, SHORT_STACK};
@@ -34,9 +34,9 @@ impl<const N: usize> Parser<'_, N> {
         requires valid { IsValid self.old }
         ensures ran { PrintsSteps S.TextSink self.old out.old result self.new out.new }
         ensures ready { IsOk result → Ready S.TextSink out.new }
-        ensures valid { LeftValid N result self.new }
+        ensures valid { UnfinishedIsValid N result self.new }
         ensures grows { self.old.looks ≤ self.new.looks }
-        ensures least { self.old.looks + first_looks_of self.old ≤ self.new.looks + left_looks result
+        ensures least { self.old.looks + first_looks_of self.old ≤ self.new.looks + unfinished_looks result
             self.new }
         ensures same { Same self.old self.new }
     {
@@ -73,13 +73,13 @@ impl<const N: usize> Parser<'_, N> {
     ) -> Result<Option<Unfinished>, SinkRefused>
         requires ascii { IsAscii self.old.source.symbol.now }
         requires ready { Ready S.TextSink out.old }
-        requires valid { LeftValid 0 (Ok (Some left)) self.old }
+        requires valid { UnfinishedIsValid 0 (Ok (Some left)) self.old }
         ensures ran { PrintsOn S.TextSink self.old left out.old result self.new out.new }
         ensures ready { IsOk result → Ready S.TextSink out.new }
-        ensures valid { LeftValid N result self.new }
+        ensures valid { UnfinishedIsValid N result self.new }
         ensures grows { self.old.looks ≤ self.new.looks }
-        ensures least { self.old.looks + left_looks (Ok (Some left)) self.old ≤ self.new.looks +
-            left_looks result self.new }
+        ensures least { self.old.looks + unfinished_looks (Ok (Some left)) self.old ≤ self.new.looks +
+            unfinished_looks result self.new }
         ensures same { Same self.old self.new }
     {
         if let Some(more) = self.finish_impl_path(left) {
@@ -101,10 +101,10 @@ impl Parser<'_, MIDDLE_STACK> {
     ) -> Result<(), SinkRefused>
         requires ascii { IsAscii self.old.source.symbol.now }
         requires ready { Ready S.TextSink out.old }
-        requires valid { LeftValid 0 (Ok (Some left)) self.old }
+        requires valid { UnfinishedIsValid 0 (Ok (Some left)) self.old }
         ensures ended { EndsPrinting S.TextSink self.old left out.old result self.new out.new }
         ensures grows { self.old.looks ≤ self.new.looks }
-        ensures least { self.old.looks + left_looks (Ok (Some left)) self.old ≤ self.new.looks }
+        ensures least { self.old.looks + unfinished_looks (Ok (Some left)) self.old ≤ self.new.looks }
     {
         let mut parser: Parser<FULL_STACK> = self.without_frames();
         parser.stack.append(&self.stack);
@@ -125,10 +125,10 @@ impl Parser<'_, MIDDLE_STACK> {
     ) -> Result<(), SinkRefused>
         requires ascii { IsAscii self.old.source.symbol.now }
         requires ready { Ready S.TextSink out.old }
-        requires valid { LeftValid 0 (Ok (Some left)) self.old }
+        requires valid { UnfinishedIsValid 0 (Ok (Some left)) self.old }
         ensures ended { EndsPrinting S.TextSink self.old left out.old result self.new out.new }
         ensures grows { self.old.looks ≤ self.new.looks }
-        ensures least { self.old.looks + left_looks (Ok (Some left)) self.old ≤ self.new.looks }
+        ensures least { self.old.looks + unfinished_looks (Ok (Some left)) self.old ≤ self.new.looks }
     {
         match self.print_unfinished(left, out)? {
             None => Ok(()),
@@ -149,10 +149,10 @@ impl Parser<'_, SHORT_STACK> {
     ) -> Result<(), SinkRefused>
         requires ascii { IsAscii self.old.source.symbol.now }
         requires ready { Ready S.TextSink out.old }
-        requires valid { LeftValid 0 (Ok (Some left)) self.old }
+        requires valid { UnfinishedIsValid 0 (Ok (Some left)) self.old }
         ensures ended { EndsPrinting S.TextSink self.old left out.old result self.new out.new }
         ensures grows { self.old.looks ≤ self.new.looks }
-        ensures least { self.old.looks + left_looks (Ok (Some left)) self.old ≤ self.new.looks }
+        ensures least { self.old.looks + unfinished_looks (Ok (Some left)) self.old ≤ self.new.looks }
     {
         let mut parser: Parser<MIDDLE_STACK> = self.without_frames();
         parser.stack.append(&self.stack);

@@ -1,33 +1,33 @@
 -- The rules of accounts: a larger account, lists joined, and what an account bounds.
 use Rattle.std.proofs.Common.{ℕ, zero, suc, ◌+◌, ◌-◌, ◌*◌, ◌≤◌, List, [], ◌∷◌, ◌++◌, take, arith}
-use Rattle.demangle_v0_grammar.specs.LookBudget.{LookCost, bytes_of, looks_of, Pays}
+use Rattle.demangle_v0_grammar.specs.LookBudget.{LookCost, bytes_of, looks_of, IsWithinBudget}
 
 -- What the account has more to begin with, it has more at the end.
-pub Pays-more : (r a b c d f : ℕ) (xs : List LookCost) → a + f ≤ b → d ≤ c + f → Pays r a xs c → Pays r b xs d
-Pays-more r a b c d f [] m l p = omega arith
-Pays-more r a b c d f (s ∷ xs) m l p = (
+pub IsWithinBudget-more : (r a b c d f : ℕ) (xs : List LookCost) → a + f ≤ b → d ≤ c + f → IsWithinBudget r a xs c → IsWithinBudget r b xs d
+IsWithinBudget-more r a b c d f [] m l p = omega arith
+IsWithinBudget-more r a b c d f (s ∷ xs) m l p = (
   omega arith,
-  Pays-more r (a - s.looks + r * s.bytes) (b - s.looks + r * s.bytes) c d f xs (omega arith) l p.1,
+  IsWithinBudget-more r (a - s.looks + r * s.bytes) (b - s.looks + r * s.bytes) c d f xs (omega arith) l p.1,
 )
 
 -- one list after another
-pub Pays-append : (r a b c : ℕ) (xs ys : List LookCost) → Pays r a xs b → Pays r b ys c → Pays r a (xs ++ ys) c
-Pays-append r a b c [] ys p q = Pays-more r b a c c 0 ys (omega arith) (omega arith) q
-Pays-append r a b c (s ∷ xs) ys p q = (p.0, Pays-append r (a - s.looks + r * s.bytes) b c xs ys p.1 q)
+pub IsWithinBudget-append : (r a b c : ℕ) (xs ys : List LookCost) → IsWithinBudget r a xs b → IsWithinBudget r b ys c → IsWithinBudget r a (xs ++ ys) c
+IsWithinBudget-append r a b c [] ys p q = IsWithinBudget-more r b a c c 0 ys (omega arith) (omega arith) q
+IsWithinBudget-append r a b c (s ∷ xs) ys p q = (p.0, IsWithinBudget-append r (a - s.looks + r * s.bytes) b c xs ys p.1 q)
 
 -- What an account bounds: the looks up to a stretch and with it, by the bytes before it.
-pub Pays-bound : (r a c : ℕ) (xs : List LookCost) (k : ℕ) → Pays r a xs c →
+pub IsWithinBudget-bound : (r a c : ℕ) (xs : List LookCost) (k : ℕ) → IsWithinBudget r a xs c →
     looks_of (take (suc k) xs) ≤ a + r * bytes_of (take k xs)
-Pays-bound r a c [] k p = omega arith
-Pays-bound r a c (s ∷ xs) zero p = omega arith
-Pays-bound r a c (s ∷ xs) (suc k) p =
+IsWithinBudget-bound r a c [] k p = omega arith
+IsWithinBudget-bound r a c (s ∷ xs) zero p = omega arith
+IsWithinBudget-bound r a c (s ∷ xs) (suc k) p =
     let h : looks_of (take (suc k) xs) ≤ (a - s.looks + r * s.bytes) + r * bytes_of (take k xs) =
-    Pays-bound r (a - s.looks + r * s.bytes) c xs k p.1 in
+    IsWithinBudget-bound r (a - s.looks + r * s.bytes) c xs k p.1 in
     omega arith
 
-pub Pays-whole : (r a c : ℕ) (xs : List LookCost) → Pays r a xs c → looks_of xs + c ≤ a + r * bytes_of xs
-Pays-whole r a c [] p = omega arith
-Pays-whole r a c (s ∷ xs) p =
+pub IsWithinBudget-whole : (r a c : ℕ) (xs : List LookCost) → IsWithinBudget r a xs c → looks_of xs + c ≤ a + r * bytes_of xs
+IsWithinBudget-whole r a c [] p = omega arith
+IsWithinBudget-whole r a c (s ∷ xs) p =
     let h : looks_of xs + c ≤ (a - s.looks + r * s.bytes) + r * bytes_of xs =
-    Pays-whole r (a - s.looks + r * s.bytes) c xs p.1 in
+    IsWithinBudget-whole r (a - s.looks + r * s.bytes) c xs p.1 in
     omega arith

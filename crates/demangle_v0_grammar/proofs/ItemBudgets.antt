@@ -3,9 +3,9 @@ use Rattle.std.specs.Prelude.{ℕ, zero, suc, ◌≤◌, ◌*◌, ◌||◌, ◌&
 use Rattle.std.proofs.Common.{◌≡◌, Bool, true, false, cond, List, [], ◌∷◌, length, Some, None, refl, sym, ◌+◌, ◌-◌, subst, arith}
 use Rattle.demangle_symbol.specs.Primitives.{Name}
 use Rattle.demangle_v0_grammar.specs.Items.{Text, Kind, a_path, a_type, a_pattern, a_trait_path, Items, done, invalid, print, print_plain, byte, namespace, integer, optional, identifier, nibbles, peek, next, if_ok, until_end, raise, unit, child, skip, folded, target, lifetime, binder, leave_open, dyn_trait, bindings}
-use Rattle.demangle_v0_grammar.specs.LookBudget.{LookCost, Pays}
+use Rattle.demangle_v0_grammar.specs.LookBudget.{LookCost, IsWithinBudget}
 use Rattle.demangle_v0_grammar.specs.Reading.{Tree, nothing, piece, plain_piece, Place, Outcome, Level, Context, followed_by, folded_by, looks_only, costs_of, text_cost, parse, one_level_deeper, repetitions, angle_if_open, bound_by, unit_outcome, lifetime_at, lifetime_named, letter_of, all_pieces, new_lifetimes, binder_of, binder_at}
-use Rattle.demangle_v0_grammar.proofs.BudgetRules.{Pays-more, Pays-append}
+use Rattle.demangle_v0_grammar.proofs.BudgetRules.{IsWithinBudget-more, IsWithinBudget-append}
 
 -- the credit that a unit is begun with, and the credit that it leaves
 abbrev pub start : Kind → ℕ
@@ -71,15 +71,15 @@ first false b h = h
 
 -- From place i on, of n bytes, the stretches are paid for by the bytes that were read and `from`, and `to` is left.
 abbrev pub Ends : (n r i from to : ℕ) → List LookCost → Place → Type 0
-Ends n r i from to xs None = Pays r (32 * (n + 1 - i) + from) xs 0
-Ends n r i from to xs (Some j) = (i ≤ j) × (j ≤ n) × Pays r (32 * (j - i) + from) xs to
+Ends n r i from to xs None = IsWithinBudget r (32 * (n + 1 - i) + from) xs 0
+Ends n r i from to xs (Some j) = (i ≤ j) × (j ≤ n) × IsWithinBudget r (32 * (j - i) + from) xs to
 
 abbrev pub LooksWithin : Bool → (n r i from to : ℕ) → Outcome → Type 0
 LooksWithin plain n r i from to o = Ends n r i from to (costs_of plain o.tree) o.place
 
 -- what is handed over while failed costs nothing
 abbrev pub Free : Bool → ℕ → Tree → Type 0
-Free plain r t = Pays r 0 (costs_of plain t) 0
+Free plain r t = IsWithinBudget r 0 (costs_of plain t) 0
 
 abbrev pub Idle : Bool → ℕ → Outcome → Type 0
 Idle plain r o = (o.place ≡ None) × Free plain r o.tree
@@ -87,7 +87,7 @@ Idle plain r o = (o.place ≡ None) × Free plain r o.tree
 -- Free trees.
 
 pub free_piece : (plain : Bool) (r : ℕ) (t : Text) (rest : Tree) → Free plain r rest → Free plain r (piece t rest)
-free_piece plain r t rest h = (omega arith, Pays-more r 0 (0 - 0 + r * length t) 0 0 0 (costs_of plain rest) (omega arith) (omega arith) h)
+free_piece plain r t rest h = (omega arith, IsWithinBudget-more r 0 (0 - 0 + r * length t) 0 0 0 (costs_of plain rest) (omega arith) (omega arith) h)
 
 free_plain : (plain : Bool) (r : ℕ) (t : Text) (rest : Tree) → Free plain r rest → Free plain r (plain_piece t rest)
 free_plain true r t rest h = free_piece true r t rest h
@@ -98,21 +98,21 @@ free_pieces plain r [] rest h = h
 free_pieces plain r (t ∷ ts) rest h = free_piece plain r t (all_pieces ts rest) (free_pieces plain r ts rest h)
 
 -- a text before the stretches
-pub paid_puts : (r a b : ℕ) (t : Text) (xs : List LookCost) → Pays r a xs b → Pays r a (text_cost t ∷ xs) b
-paid_puts r a b t xs h = (omega arith, Pays-more r a (a - 0 + r * length t) b b 0 xs (omega arith) (omega arith) h)
+pub paid_puts : (r a b : ℕ) (t : Text) (xs : List LookCost) → IsWithinBudget r a xs b → IsWithinBudget r a (text_cost t ∷ xs) b
+paid_puts r a b t xs h = (omega arith, IsWithinBudget-more r a (a - 0 + r * length t) b b 0 xs (omega arith) (omega arith) h)
 
-pub paid_pieces : (plain : Bool) (r a b : ℕ) (ts : List Text) (rest : Tree) → Pays r a (costs_of plain rest) b → Pays r a (costs_of plain (all_pieces ts rest)) b
+pub paid_pieces : (plain : Bool) (r a b : ℕ) (ts : List Text) (rest : Tree) → IsWithinBudget r a (costs_of plain rest) b → IsWithinBudget r a (costs_of plain (all_pieces ts rest)) b
 paid_pieces plain r a b [] rest h = h
 paid_pieces plain r a b (t ∷ ts) rest h = paid_puts r a b t (costs_of plain (all_pieces ts rest)) (paid_pieces plain r a b ts rest h)
 
-paid_new : (plain : Bool) (r a b m n : ℕ) (rest : Tree) → Pays r a (costs_of plain rest) b → Pays r a (costs_of plain (new_lifetimes m n rest)) b
+paid_new : (plain : Bool) (r a b m n : ℕ) (rest : Tree) → IsWithinBudget r a (costs_of plain rest) b → IsWithinBudget r a (costs_of plain (new_lifetimes m n rest)) b
 paid_new plain r a b zero n rest h = h
 paid_new plain r a b (suc m) n rest h =
     let after = all_pieces (letter_of n) (new_lifetimes m (n + 1) rest) in
     paid_puts r a b (codes ", ") (costs_of plain (piece (codes "'") after)) (paid_puts r a b (codes "'") (costs_of plain after)
     (paid_pieces plain r a b (letter_of n) (new_lifetimes m (n + 1) rest) (paid_new plain r a b m (n + 1) rest h)))
 
-pub paid_binder : (plain : Bool) (r a b m n : ℕ) (rest : Tree) → Pays r a (costs_of plain rest) b → Pays r a (costs_of plain (binder_of m n rest)) b
+pub paid_binder : (plain : Bool) (r a b m n : ℕ) (rest : Tree) → IsWithinBudget r a (costs_of plain rest) b → IsWithinBudget r a (costs_of plain (binder_of m n rest)) b
 paid_binder plain r a b zero n rest h = h
 paid_binder plain r a b (suc m) n rest h =
     let last = new_lifetimes m (n + 1) (piece (codes "> ") rest) in
@@ -123,7 +123,7 @@ paid_binder plain r a b (suc m) n rest h =
 -- Once failed.
 
 idle_followed : (plain : Bool) (r : ℕ) (o : Outcome) (f : Place → Outcome) → Idle plain r o → Idle plain r (f None) → Idle plain r (followed_by o f)
-idle_followed plain r o f h k = let q : Idle plain r (f o.place) = subst (λ z. Idle plain r (f z)) (sym h.0) k in (q.0, Pays-append r 0 0 0 (costs_of plain o.tree) (costs_of plain (f o.place).tree) h.1 q.1)
+idle_followed plain r o f h k = let q : Idle plain r (f o.place) = subst (λ z. Idle plain r (f z)) (sym h.0) k in (q.0, IsWithinBudget-append r 0 0 0 (costs_of plain o.tree) (costs_of plain (f o.place).tree) h.1 q.1)
 
 idle_choice : (plain : Bool) (r : ℕ) (b : Bool) (x y : Outcome) → Idle plain r x → Idle plain r y → Idle plain r (cond b x y)
 idle_choice plain r true x y p q = p
@@ -149,14 +149,14 @@ idle_closed plain r true = (refl, free_piece plain r (codes ">") nothing (omega 
 idle_closed plain r false = (refl, omega arith)
 
 -- a part that is read and not printed
-pub unheard_pays : (r a b : ℕ) (xs : List LookCost) → Pays 0 a xs b → Pays r a (looks_only xs) b
+pub unheard_pays : (r a b : ℕ) (xs : List LookCost) → IsWithinBudget 0 a xs b → IsWithinBudget r a (looks_only xs) b
 unheard_pays r a b [] h = h
-unheard_pays r a b (x ∷ xs) h = (h.0, Pays-more r (a - x.looks + 0 * x.bytes) (a - x.looks + r * 0) b b 0 (looks_only xs) (omega arith) (omega arith) (unheard_pays r (a - x.looks + 0 * x.bytes) b xs h.1))
+unheard_pays r a b (x ∷ xs) h = (h.0, IsWithinBudget-more r (a - x.looks + 0 * x.bytes) (a - x.looks + r * 0) b b 0 (looks_only xs) (omega arith) (omega arith) (unheard_pays r (a - x.looks + 0 * x.bytes) b xs h.1))
 
 idle_folded : (plain : Bool) (r : ℕ) (c : Bool) (x y : Outcome) (f : Place → Outcome) → Idle plain 0 x → Idle plain r y → Idle plain r (f None) → Idle plain r (folded_by c x y f)
 idle_folded plain r true x y f h k d =
     let q : Idle plain r (f x.place) = subst (λ z. Idle plain r (f z)) (sym h.0) d in
-    (q.0, Pays-append r 0 0 0 (looks_only (costs_of plain x.tree)) (costs_of plain (piece (codes "_") (f x.place).tree)) (unheard_pays r 0 0 (costs_of plain x.tree) h.1) (free_piece plain r (codes "_") (f x.place).tree q.1))
+    (q.0, IsWithinBudget-append r 0 0 0 (looks_only (costs_of plain x.tree)) (costs_of plain (piece (codes "_") (f x.place).tree)) (unheard_pays r 0 0 (costs_of plain x.tree) h.1) (free_piece plain r (codes "_") (f x.place).tree q.1))
 idle_folded plain r false x y f h k d = idle_followed plain r y f k d
 
 pub idle : (plain : Bool) (r : ℕ) (p : Items) (s : Context) → Idle plain r (parse p s None)

@@ -9,9 +9,9 @@ use Rattle.demangle_symbol.specs.Primitives.{Read, only_if, then_if_some, byte_a
 use Rattle.demangle_symbol.specs.Names.{name_pieces}
 use Rattle.demangle_v0_grammar.specs.Items.{Text, Kind, a_path, a_trait_path, Items, done, invalid, print, print_plain, byte, namespace, integer, optional, identifier, nibbles, peek, next, if_ok, until_end, raise, unit, child, skip, folded, target, lifetime, binder, leave_open, dyn_trait, bindings}
 use Rattle.demangle_v0_grammar.specs.Table.{items}
-use Rattle.demangle_v0_grammar.specs.LookBudget.{LookCost, Pays}
+use Rattle.demangle_v0_grammar.specs.LookBudget.{LookCost, IsWithinBudget}
 use Rattle.demangle_v0_grammar.specs.Reading.{Tree, nothing, piece, plain_piece, node, looked, looks_only, Place, Outcome, Level, Context, at_place, with_tree, primitive, followed_by, costs_of, parse, primitive_outcome, peek_outcome, byte_choice, one_level_deeper, max_depth, repetitions, angle_if_open, binding_separator, name_equals, bound_by, unit_outcome, after_unprinted, folded_by, target_of, target_read, lifetime_at, lifetime_named, letter_of, all_pieces, binder_at, level_of, levels, nowhere, read_at}
-use Rattle.demangle_v0_grammar.proofs.BudgetRules.{Pays-more, Pays-append}
+use Rattle.demangle_v0_grammar.proofs.BudgetRules.{IsWithinBudget-more, IsWithinBudget-append}
 use Rattle.demangle_symbol.proofs.Counts.{Placed, byte_placed, namespace_placed, integer_placed, optional_placed, backref_placed, identifier_placed, nibbles_placed}
 use Rattle.demangle_v0_grammar.proofs.SpelledIsParsed.{there_placed}
 use Rattle.demangle_v0_grammar.proofs.TableCost.{fits}
@@ -22,9 +22,9 @@ use Rattle.demangle_v0_grammar.proofs.ItemBudgets.{start, is_below, is_closed, i
 -- further on, behind a stretch
 spent : (n r i k from mid to c w : ℕ) (xs : List LookCost) (x : Place) → i ≤ k → k ≤ n → c ≤ 32 * (k - i) + from → mid + c ≤ 32 * (k - i) + from + r * w →
     Ends n r k mid to xs x → Ends n r i from to (record { bytes = w; looks = c } ∷ xs) x
-spent n r i k from mid to c w xs None l m a e h = (omega (arith, l, m, a), Pays-more r (32 * (n + 1 - k) + mid) (32 * (n + 1 - i) + from - c + r * w) 0 0 0 xs (omega (arith, l, m, a, e)) (omega arith) h)
+spent n r i k from mid to c w xs None l m a e h = (omega (arith, l, m, a), IsWithinBudget-more r (32 * (n + 1 - k) + mid) (32 * (n + 1 - i) + from - c + r * w) 0 0 0 xs (omega (arith, l, m, a, e)) (omega arith) h)
 spent n r i k from mid to c w xs (Some j) l m a e h =
-    (omega (arith, l, h.0), h.1, (omega (arith, l, h.0, a), Pays-more r (32 * (j - k) + mid) (32 * (j - i) + from - c + r * w) to to 0 xs (omega (arith, l, h.0, a, e)) (omega arith) h.2))
+    (omega (arith, l, h.0), h.1, (omega (arith, l, h.0, a), IsWithinBudget-more r (32 * (j - k) + mid) (32 * (j - i) + from - c + r * w) to to 0 xs (omega (arith, l, h.0, a, e)) (omega arith) h.2))
 
 -- further on, with the looks c between
 step : (plain : Bool) (n r i k from mid to c : ℕ) (t : Tree) (x : Place) → i ≤ k → k ≤ n → c + mid ≤ 32 * (k - i) + from →
@@ -34,7 +34,7 @@ step plain n r i k from mid to c t x l m e h = spent n r i k from mid to c 0 (co
 -- a text at the place
 print_str : (plain : Bool) (n r i from mid to : ℕ) (text : Text) (t : Tree) (x : Place) → mid ≤ from + r * length text →
     Ends n r i mid to (costs_of plain t) x → Ends n r i from to (costs_of plain (piece text t)) x
-print_str plain n r i from mid to text t None e h = (omega arith, Pays-more r (32 * (n + 1 - i) + mid) (32 * (n + 1 - i) + from - 0 + r * length text) 0 0 0 (costs_of plain t) (omega (arith, e)) (omega arith) h)
+print_str plain n r i from mid to text t None e h = (omega arith, IsWithinBudget-more r (32 * (n + 1 - i) + mid) (32 * (n + 1 - i) + from - 0 + r * length text) 0 0 0 (costs_of plain t) (omega (arith, e)) (omega arith) h)
 print_str plain n r i from mid to text t (Some j) e h = spent n r i i from mid to 0 (length text) (costs_of plain t) (Some j) (omega arith) (omega (arith, h.0, h.1)) (omega arith) (omega (arith, e)) h
 
 says_plain : (plain : Bool) (n r i from to : ℕ) (text : Text) (t : Tree) (x : Place) →
@@ -44,31 +44,31 @@ says_plain false n r i from to text t x h = h
 
 -- a larger account, and less of it left
 more : (n r i from mid to low : ℕ) (xs : List LookCost) (x : Place) → mid ≤ from → low ≤ to → Ends n r i mid to xs x → Ends n r i from low xs x
-more n r i from mid to low xs None e l h = Pays-more r (32 * (n + 1 - i) + mid) (32 * (n + 1 - i) + from) 0 0 0 xs (omega (arith, e)) (omega arith) h
-more n r i from mid to low xs (Some j) e l h = (h.0, h.1, Pays-more r (32 * (j - i) + mid) (32 * (j - i) + from) to low 0 xs (omega (arith, e)) (omega (arith, l)) h.2)
+more n r i from mid to low xs None e l h = IsWithinBudget-more r (32 * (n + 1 - i) + mid) (32 * (n + 1 - i) + from) 0 0 0 xs (omega (arith, e)) (omega arith) h
+more n r i from mid to low xs (Some j) e l h = (h.0, h.1, IsWithinBudget-more r (32 * (j - i) + mid) (32 * (j - i) + from) to low 0 xs (omega (arith, e)) (omega (arith, l)) h.2)
 
 -- wherever it ends, k is left of an account that has k more than reading all the bytes takes
-pub ends_pay : (n r i from to a k : ℕ) (xs : List LookCost) (x : Place) → 32 * (n + 1 - i) + from + k ≤ a → Ends n r i from to xs x → Pays r a xs k
-ends_pay n r i from to a k xs None l h = Pays-more r (32 * (n + 1 - i) + from) a 0 k k xs (omega (arith, l)) (omega arith) h
-ends_pay n r i from to a k xs (Some j) l h = Pays-more r (32 * (j - i) + from) a to k k xs (omega (arith, l, h.0, h.1)) (omega arith) h.2
+pub ends_pay : (n r i from to a k : ℕ) (xs : List LookCost) (x : Place) → 32 * (n + 1 - i) + from + k ≤ a → Ends n r i from to xs x → IsWithinBudget r a xs k
+ends_pay n r i from to a k xs None l h = IsWithinBudget-more r (32 * (n + 1 - i) + from) a 0 k k xs (omega (arith, l)) (omega arith) h
+ends_pay n r i from to a k xs (Some j) l h = IsWithinBudget-more r (32 * (j - i) + from) a to k k xs (omega (arith, l, h.0, h.1)) (omega arith) h.2
 
 -- one after another
 joined : (n r i j from mid to : ℕ) (xs ys : List LookCost) (x : Place) → i ≤ j → j ≤ n →
-    Pays r (32 * (j - i) + from) xs mid → Ends n r j mid to ys x → Ends n r i from to (xs ++ ys) x
+    IsWithinBudget r (32 * (j - i) + from) xs mid → Ends n r j mid to ys x → Ends n r i from to (xs ++ ys) x
 joined n r i j from mid to xs ys None l m h e =
-    Pays-append r (32 * (n + 1 - i) + from) (32 * (n + 1 - j) + mid) 0 xs ys
-    (Pays-more r (32 * (j - i) + from) (32 * (n + 1 - i) + from) mid (32 * (n + 1 - j) + mid) (32 * (n + 1 - j)) xs (omega (arith, l, m)) (omega arith) h) e
+    IsWithinBudget-append r (32 * (n + 1 - i) + from) (32 * (n + 1 - j) + mid) 0 xs ys
+    (IsWithinBudget-more r (32 * (j - i) + from) (32 * (n + 1 - i) + from) mid (32 * (n + 1 - j) + mid) (32 * (n + 1 - j)) xs (omega (arith, l, m)) (omega arith) h) e
 joined n r i j from mid to xs ys (Some k) l m h e = (
   omega (arith, l, e.0),
   e.1,
-  Pays-append r (32 * (k - i) + from) (32 * (k - j) + mid) to xs ys
-      (Pays-more r (32 * (j - i) + from) (32 * (k - i) + from) mid (32 * (k - j) + mid) (32 * (k - j)) xs (omega (arith, l, e.0)) (omega arith) h) e.2,
+  IsWithinBudget-append r (32 * (k - i) + from) (32 * (k - j) + mid) to xs ys
+      (IsWithinBudget-more r (32 * (j - i) + from) (32 * (k - i) + from) mid (32 * (k - j) + mid) (32 * (k - j)) xs (omega (arith, l, e.0)) (omega arith) h) e.2,
 )
 
 joined_idle : (n r i from to : ℕ) (xs ys : List LookCost) (x : Place) → x ≡ None →
-    Pays r (32 * (n + 1 - i) + from) xs 0 → Pays r 0 ys 0 → Ends n r i from to (xs ++ ys) x
+    IsWithinBudget r (32 * (n + 1 - i) + from) xs 0 → IsWithinBudget r 0 ys 0 → Ends n r i from to (xs ++ ys) x
 joined_idle n r i from to xs ys (Some j) e h f = cc e
-joined_idle n r i from to xs ys None e h f = Pays-append r (32 * (n + 1 - i) + from) 0 0 xs ys h f
+joined_idle n r i from to xs ys None e h f = IsWithinBudget-append r (32 * (n + 1 - i) + from) 0 0 xs ys h f
 
 then_paid : (plain : Bool) (n r i from mid to : ℕ) (o : Outcome) (f : Place → Outcome) → LooksWithin plain n r i from mid o →
     ((j : ℕ) → i ≤ j → j ≤ n → LooksWithin plain n r j mid to (f (Some j))) → Idle plain r (f None) → LooksWithin plain n r i from to (followed_by o f)
@@ -83,14 +83,14 @@ abbrev pub purse : Bool → ℕ → ℕ
 purse g R = cond g R 0
 
 -- the units of a level
-abbrev pub LevelPays : Bool → (n r R : ℕ) → Bool → Level → Type 0
-LevelPays plain n r R fl l = (kind : Kind) (value : Bool) (m i : ℕ) → i ≤ n → LooksWithin plain n r i (start kind + R) 8 (l fl kind value m i)
+abbrev pub LevelIsWithinBudget : Bool → (n r R : ℕ) → Bool → Level → Type 0
+LevelIsWithinBudget plain n r R fl l = (kind : Kind) (value : Bool) (m i : ℕ) → i ≤ n → LooksWithin plain n r i (start kind + R) 8 (l fl kind value m i)
 
 -- Each depth has its money. A reference takes from it what reading all the bytes takes, and the money of its target.
 abbrev pub Deeper : Bool → (n r : ℕ) → Bool → ℕ → List Level → Type 0
 Deeper plain n r fl R [] = Unit {0}
 Deeper plain n r fl R (l ∷ ls) =
-    (S : ℕ) × (S ≤ R) × (fl ≡ true → 32 * (n + 1) + 2 + S ≤ R) × LevelPays plain n r S fl l × LevelPays plain n 0 0 false l × Deeper plain n r fl S ls
+    (S : ℕ) × (S ≤ R) × (fl ≡ true → 32 * (n + 1) + 2 + S ≤ R) × LevelIsWithinBudget plain n r S fl l × LevelIsWithinBudget plain n 0 0 false l × Deeper plain n r fl S ls
 
 -- Words.
 
@@ -161,9 +161,9 @@ hushed_paid plain n r i from a b mid to o f h k d l = go o.tree o.place h
   where
     go : (t : Tree) (x : Place) → Ends n 0 i a b (costs_of plain t) x → LooksWithin plain n r i from to (after_unprinted (record { tree = t; place = x; is_bracket_open = false }) f)
     go t None h = joined_idle n r i from to (looks_only (costs_of plain t)) (costs_of plain (f None).tree) (f None).place d.0
-        (Pays-more r (32 * (n + 1 - i) + a) (32 * (n + 1 - i) + from) 0 0 0 (looks_only (costs_of plain t)) (omega (arith, l)) (omega arith) (unheard_pays r (32 * (n + 1 - i) + a) 0 (costs_of plain t) h)) d.1
+        (IsWithinBudget-more r (32 * (n + 1 - i) + a) (32 * (n + 1 - i) + from) 0 0 0 (looks_only (costs_of plain t)) (omega (arith, l)) (omega arith) (unheard_pays r (32 * (n + 1 - i) + a) 0 (costs_of plain t) h)) d.1
     go t (Some j) h = joined n r i j from (b + mid) to (looks_only (costs_of plain t)) (costs_of plain (f (Some j)).tree) (f (Some j)).place h.0 h.1
-        (Pays-more r (32 * (j - i) + a) (32 * (j - i) + from) b (b + mid) mid (looks_only (costs_of plain t)) (omega (arith, l)) (omega arith) (unheard_pays r (32 * (j - i) + a) b (costs_of plain t) h.2)) (k j h.0 h.1)
+        (IsWithinBudget-more r (32 * (j - i) + a) (32 * (j - i) + from) b (b + mid) mid (looks_only (costs_of plain t)) (omega (arith, l)) (omega arith) (unheard_pays r (32 * (j - i) + a) b (costs_of plain t) h.2)) (k j h.0 h.1)
 
 -- generic arguments, folded or not
 folded_paid : (plain : Bool) (n r i from k l to : ℕ) (c : Bool) (x y : Outcome) (f : Place → Outcome) → k ≤ from → LooksWithin plain n 0 i k l x → LooksWithin plain n r i from l y →
@@ -188,11 +188,11 @@ small a_path = omega arith
 small _ = omega arith
 
 -- a target's tree, with the money for it
-target_paid : (plain : Bool) (n r S m t a k : ℕ) (kind : Kind) (value : Bool) (l : Level) → LevelPays plain n r S true l → t ≤ n → 32 * (n + 1) + 2 + S + k ≤ a →
-    Pays r a (costs_of plain (node (l true kind value m t).tree nothing)) k
+target_paid : (plain : Bool) (n r S m t a k : ℕ) (kind : Kind) (value : Bool) (l : Level) → LevelIsWithinBudget plain n r S true l → t ≤ n → 32 * (n + 1) + 2 + S + k ≤ a →
+    IsWithinBudget r a (costs_of plain (node (l true kind value m t).tree nothing)) k
 target_paid plain n r S m t a k kind value l h b c =
     let o : Outcome = l true kind value m t in
-    Pays-append r a k k (costs_of plain o.tree) [] (ends_pay n r t (start kind + S) 8 a k (costs_of plain o.tree) o.place (omega (arith, small kind, c)) (h kind value m t b)) (omega arith)
+    IsWithinBudget-append r a k k (costs_of plain o.tree) [] (ends_pay n r t (start kind + S) 8 a k (costs_of plain o.tree) o.place (omega (arith, small kind, c)) (h kind value m t b)) (omega arith)
 
 target_of_paid : (plain : Bool) (n r R i m t k e : ℕ) (kind : Kind) (value fl : Bool) (ls : List Level) → Deeper plain n r fl R ls → t ≤ n → i ≤ n → e ≤ k →
     LooksWithin plain n r i (k + R) e (target_of ls (λ level. target_read fl (level true kind value m) t (Some i)))
@@ -246,7 +246,7 @@ bound_paid plain n r R c e (suc m) s f q w b low h o i l =
     (closed_paid plain n r i (c - 1) e o l low)
 
 raised_paid : (plain : Bool) (n r R k e i : ℕ) (fl g : Bool) (ls : List Level) (f : Level → List Level → Place → Outcome) → Deeper plain n r fl R ls →
-    ((S : ℕ) (l : Level) (ls : List Level) → S ≤ R → LevelPays plain n r S fl l → LevelPays plain n 0 0 false l → Deeper plain n r fl S ls → LooksWithin plain n r i (k + purse g S) e (f l ls (Some i))) →
+    ((S : ℕ) (l : Level) (ls : List Level) → S ≤ R → LevelIsWithinBudget plain n r S fl l → LevelIsWithinBudget plain n 0 0 false l → Deeper plain n r fl S ls → LooksWithin plain n r i (k + purse g S) e (f l ls (Some i))) →
     LooksWithin plain n r i (k + purse g R) e (one_level_deeper ls f (Some i))
 raised_paid plain n r R k e i fl g [] f d h = (omega arith, omega arith)
 raised_paid plain n r R k e i fl g (x ∷ xs) f d h = more n r i (k + purse g R) (k + purse g d.0) e e (costs_of plain (f x xs (Some i)).tree) (f x xs (Some i)).place (less g) (omega arith) (h d.0 x xs d.1 d.3 d.4 d.5)
@@ -262,8 +262,8 @@ purse_true false false R h = absurd (cc h)
 
 pub record Holds (plain : Bool) (r R : ℕ) (s : Context) : Type 0 where
   pub enough : R ≤ r
-  pub here : LevelPays plain (length s.symbol) r R s.printed s.here
-  pub unprinted : LevelPays plain (length s.symbol) 0 0 false s.here
+  pub here : LevelIsWithinBudget plain (length s.symbol) r R s.printed s.here
+  pub unprinted : LevelIsWithinBudget plain (length s.symbol) 0 0 false s.here
   pub deeper : Deeper plain (length s.symbol) r s.printed R s.deeper
 
 pub paid : (plain : Bool) (r R : ℕ) (p : Items) (s : Context) (c : Bool) (b e k : ℕ) (g : Bool) → Fits c b e k g p → Holds plain r R s →
@@ -342,7 +342,7 @@ paid plain r R (bindings o p) s c z e k g a m i l =
 -- The levels.
 
 level_paid : (plain : Bool) (r R : ℕ) (symbol : List ℕ) (folds : Bool) (ls : List Level) (fl : Bool) → R ≤ r →
-    Deeper plain (length symbol) r fl R ls → Deeper plain (length symbol) 0 false 0 ls → LevelPays plain (length symbol) r R fl (level_of symbol folds ls)
+    Deeper plain (length symbol) r fl R ls → Deeper plain (length symbol) 0 false 0 ls → LevelIsWithinBudget plain (length symbol) r R fl (level_of symbol folds ls)
 unfolding parse level_of
 level_paid plain r R symbol folds ls fl b d e kind value m i l =
     let at : Level → Bool → ℕ → Context = λ here f k. record { symbol = symbol; folds = folds; printed = f; here = here; deeper = ls; lifetimes = k } in
@@ -366,7 +366,7 @@ unfolding levels
 levels_hidden plain symbol folds zero = tt
 levels_hidden plain symbol folds (suc m) =
     let q : Deeper plain (length symbol) 0 false 0 (levels symbol folds m) = levels_hidden plain symbol folds m in
-    let w : LevelPays plain (length symbol) 0 0 false (level_of symbol folds (levels symbol folds m)) = level_paid plain 0 0 symbol folds (levels symbol folds m) false (omega arith) q q in
+    let w : LevelIsWithinBudget plain (length symbol) 0 0 false (level_of symbol folds (levels symbol folds m)) = level_paid plain 0 0 symbol folds (levels symbol folds m) false (omega arith) q q in
     (0, omega arith, (λ f. cc f), w, w, q)
 
 levels_paid : (plain : Bool) (r : ℕ) (symbol : List ℕ) (folds : Bool) (m : ℕ) → money (length symbol) m ≤ r → Deeper plain (length symbol) r true (money (length symbol) m) (levels symbol folds m)

@@ -2,13 +2,13 @@
 use Rattle.std.specs.Prelude.{ℕ, suc, ◌≤◌, ◌*◌}
 use Rattle.std.proofs.Common.{◌≡◌, Bool, true, false, cond, List, [], ◌∷◌, length, take, Some, None, ◌+◌, ◌++◌, ◌-◌, refl, arith}
 use Rattle.demangle_v0_grammar.specs.Items.{Items, Kind, a_path}
-use Rattle.demangle_v0_grammar.specs.LookBudget.{LookCost, bytes_of, looks_of, Pays}
+use Rattle.demangle_v0_grammar.specs.LookBudget.{LookCost, bytes_of, looks_of, IsWithinBudget}
 use Rattle.demangle_sink.specs.Cut.{size}
 use Rattle.demangle_sink.proofs.CutLemmas.{size-append}
 use Rattle.demangle_v0_grammar.specs.Reading.{Form, Outcome}
 use Rattle.demangle_v0_grammar.specs.Reading.{Tree, nothing, piece, plain_piece, node, looked, unprinted, Place, Context, max_depth, parse, costs_of, looks, pieces, looks_only, starts_second_path, read_at, path_texts}
 use Rattle.demangle_v0_grammar.specs.ValidationLooks.{looks_in, suffix_looks, second_looks, accepting_looks}
-use Rattle.demangle_v0_grammar.proofs.BudgetRules.{Pays-bound, Pays-whole}
+use Rattle.demangle_v0_grammar.proofs.BudgetRules.{IsWithinBudget-bound, IsWithinBudget-whole}
 use Rattle.demangle_v0_grammar.proofs.ItemBudgets.{Ends, Idle, start, idle}
 use Rattle.demangle_v0_grammar.proofs.ItemLooks.{ends_pay, money, read_paid, spelling_paid, small}
 
@@ -22,7 +22,7 @@ looks_a_byte n = 34 * max_depth * (n + 1)
 abbrev pub looks_before : ℕ → ℕ
 looks_before n = 34 * (max_depth + 1) * (n + 1)
 
-pub printing_pays : (symbol : List ℕ) (form : Form) → Pays (looks_a_byte (length symbol)) (looks_before (length symbol)) (path_costs symbol form) 0
+pub printing_pays : (symbol : List ℕ) (form : Form) → IsWithinBudget (looks_a_byte (length symbol)) (looks_before (length symbol)) (path_costs symbol form) 0
 printing_pays symbol form =
     let o : Outcome = read_at symbol form.fold_arguments true a_path 0 0 0 true in
     ends_pay (length symbol) (looks_a_byte (length symbol)) 0 (0 + money (length symbol) (max_depth - 0)) 8 (looks_before (length symbol)) 0 (costs_of form.include_hash o.tree) o.place (omega arith)
@@ -30,7 +30,7 @@ printing_pays symbol form =
 
 pub printing_looks : (symbol : List ℕ) (form : Form) (k : ℕ) →
     looks_of (take (suc k) (path_costs symbol form)) ≤ 100000 * (bytes_of (take k (path_costs symbol form)) + 1) * (length symbol + 1)
-printing_looks symbol form k = omega (arith, Pays-bound (looks_a_byte (length symbol)) (looks_before (length symbol)) 0 (path_costs symbol form) k (printing_pays symbol form))
+printing_looks symbol form k = omega (arith, IsWithinBudget-bound (looks_a_byte (length symbol)) (looks_before (length symbol)) 0 (path_costs symbol form) k (printing_pays symbol form))
 
 -- the looks of a reading without references, by where it ends
 abbrev pub Costs : ℕ → ℕ → ℕ → Place → Type 0
@@ -41,8 +41,8 @@ costs : (symbol : List ℕ) (i : ℕ) → i ≤ length symbol → Costs (length 
 costs symbol i l = go (read_at symbol false false a_path i 0 0 true).tree (read_at symbol false false a_path i 0 0 true).place (spelling_paid true symbol false a_path i 0 0 true l)
   where
     go : (t : Tree) (x : Place) → Ends (length symbol) 0 i (0 + 0) 8 (costs_of true t) x → Costs (length symbol) i (looks_of (costs_of true t)) x
-    go t None h = let w : looks_of (costs_of true t) + 0 ≤ 32 * (length symbol + 1 - i) + (0 + 0) + 0 * bytes_of (costs_of true t) = Pays-whole 0 (32 * (length symbol + 1 - i) + (0 + 0)) 0 (costs_of true t) h in omega (arith, w)
-    go t (Some j) h = let w : looks_of (costs_of true t) + 8 ≤ 32 * (j - i) + (0 + 0) + 0 * bytes_of (costs_of true t) = Pays-whole 0 (32 * (j - i) + (0 + 0)) 8 (costs_of true t) h.2 in (h.0, h.1, omega (arith, w))
+    go t None h = let w : looks_of (costs_of true t) + 0 ≤ 32 * (length symbol + 1 - i) + (0 + 0) + 0 * bytes_of (costs_of true t) = IsWithinBudget-whole 0 (32 * (length symbol + 1 - i) + (0 + 0)) 0 (costs_of true t) h in omega (arith, w)
+    go t (Some j) h = let w : looks_of (costs_of true t) + 8 ≤ 32 * (j - i) + (0 + 0) + 0 * bytes_of (costs_of true t) = IsWithinBudget-whole 0 (32 * (j - i) + (0 + 0)) 8 (costs_of true t) h.2 in (h.0, h.1, omega (arith, w))
 
 -- with the suffix
 with_suffix : (symbol : List ℕ) (j c : ℕ) (x : Place) → j ≤ length symbol → Costs (length symbol) j c x → c + suffix_looks symbol x ≤ 32 * (length symbol + 1 - j)
@@ -70,7 +70,7 @@ pub unit_looks : (symbol : List ℕ) (folds plain : Bool) (kind : Kind) (i d m :
     looks_of (take (suc k) (costs_of plain (read_at symbol folds true kind i d m value).tree)) ≤ 34 * (length symbol + 1) * (max_depth + 1 - d) * (bytes_of (take k (costs_of plain (read_at symbol folds true kind i d m value).tree)) + 1)
 unit_looks symbol folds plain kind i d m value k l b =
     let deeper : max_depth + 1 - d ≡ (max_depth - d) + 1 = omega (arith, b) in
-    rw deeper (sum (length symbol) (max_depth - d) _ _ (Pays-bound (34 * (length symbol + 1) * (max_depth - d)) (32 * (length symbol + 1) + (start kind + money (length symbol) (max_depth - d))) 0 (costs_of plain o.tree) k
+    rw deeper (sum (length symbol) (max_depth - d) _ _ (IsWithinBudget-bound (34 * (length symbol + 1) * (max_depth - d)) (32 * (length symbol + 1) + (start kind + money (length symbol) (max_depth - d))) 0 (costs_of plain o.tree) k
     (ends_pay (length symbol) (34 * (length symbol + 1) * (max_depth - d)) i (start kind + money (length symbol) (max_depth - d)) 8 _ 0 (costs_of plain o.tree) o.place (omega arith)
     (read_paid plain (34 * (length symbol + 1) * (max_depth - d)) symbol folds kind i d m value (rate (length symbol) (max_depth - d)) l))))
   where
@@ -87,7 +87,7 @@ unit_looks symbol folds plain kind i d m value k l b =
 pub failed_looks : (p : Items) (s : Context) (plain : Bool) → looks_of (costs_of plain (parse p s None).tree) ≡ 0
 failed_looks p s plain =
     let q : Idle plain 0 (parse p s None) = idle plain 0 p s in
-    let w : looks_of (costs_of plain (parse p s None).tree) + 0 ≤ 0 + 0 * bytes_of (costs_of plain (parse p s None).tree) = Pays-whole 0 0 0 (costs_of plain (parse p s None).tree) q.1 in
+    let w : looks_of (costs_of plain (parse p s None).tree) + 0 ≤ 0 + 0 * bytes_of (costs_of plain (parse p s None).tree) = IsWithinBudget-whole 0 0 0 (costs_of plain (parse p s None).tree) q.1 in
     omega (arith, w)
 
 bytes_append : (xs ys : List LookCost) → bytes_of (xs ++ ys) ≡ bytes_of xs + bytes_of ys

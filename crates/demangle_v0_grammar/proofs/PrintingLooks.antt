@@ -2,10 +2,10 @@
 use Rattle.std.specs.Prelude.{ℕ, ◌*◌}
 use Rattle.std.proofs.Common.{◌≡◌, ◌+◌, ◌-◌, Bool, true, false, List, [], ◌∷◌, ◌++◌, length, refl, ap, sym, ◌∙◌, subst, append_assoc, arith}
 use Rattle.std.proofs.lemmas.List.{map-append, append-nil}
-use Rattle.demangle_v0_grammar.specs.LookBudget.{LookCost, Pays}
+use Rattle.demangle_v0_grammar.specs.LookBudget.{LookCost, IsWithinBudget}
 use Rattle.demangle_v0_grammar.specs.Traces.{Event, events}
 use Rattle.demangle_v0_grammar.specs.Reading.{Tree, nothing, piece, plain_piece, node, looked, unprinted, costs_of, looks_only, looks}
-use Rattle.demangle_v0_grammar.proofs.BudgetRules.{Pays-more}
+use Rattle.demangle_v0_grammar.proofs.BudgetRules.{IsWithinBudget-more}
 use Rattle.demangle_v0_grammar.proofs.PrintingSteps.{weighed}
 
 -- Whatever pays for the stretches of a tree pays for its events.
@@ -21,17 +21,17 @@ unheard_twice [] = refl
 unheard_twice (x ∷ xs) = ap (λ (zs : List LookCost). looks x.looks ∷ zs) (unheard_twice xs)
 
 -- a stretch that costs nothing and hands nothing over
-free : (r a c : ℕ) (xs : List LookCost) → Pays r (a - 0 + r * 0) xs c → Pays r a xs c
-free r a c xs h = Pays-more r (a - 0 + r * 0) a c c 0 xs (omega arith) (omega arith) h
+free : (r a c : ℕ) (xs : List LookCost) → IsWithinBudget r (a - 0 + r * 0) xs c → IsWithinBudget r a xs c
+free r a c xs h = IsWithinBudget-more r (a - 0 + r * 0) a c c 0 xs (omega arith) (omega arith) h
 
-split : (r a c : ℕ) (xs ys zs all : List LookCost) → all ≡ xs ++ ys → Pays r a (all ++ zs) c → Pays r a (xs ++ (ys ++ zs)) c
-split r a c xs ys zs all e h = subst (λ ws. Pays r a ws c) (ap (λ ws. ws ++ zs) e ∙ append_assoc xs ys zs) h
+split : (r a c : ℕ) (xs ys zs all : List LookCost) → all ≡ xs ++ ys → IsWithinBudget r a (all ++ zs) c → IsWithinBudget r a (xs ++ (ys ++ zs)) c
+split r a c xs ys zs all e h = subst (λ ws. IsWithinBudget r a ws c) (ap (λ ws. ws ++ zs) e ∙ append_assoc xs ys zs) h
 
-joined : (r a c : ℕ) (xs ys : List Event) (zs : List LookCost) → Pays r a (weighed xs ++ (weighed ys ++ zs)) c → Pays r a (weighed (xs ++ ys) ++ zs) c
-joined r a c xs ys zs h = subst (λ ws. Pays r a ws c) (sym (ap (λ ws. ws ++ zs) (weighed_append xs ys) ∙ append_assoc (weighed xs) (weighed ys) zs)) h
+joined : (r a c : ℕ) (xs ys : List Event) (zs : List LookCost) → IsWithinBudget r a (weighed xs ++ (weighed ys ++ zs)) c → IsWithinBudget r a (weighed (xs ++ ys) ++ zs) c
+joined r a c xs ys zs h = subst (λ ws. IsWithinBudget r a ws c) (sym (ap (λ ws. ws ++ zs) (weighed_append xs ys) ∙ append_assoc (weighed xs) (weighed ys) zs)) h
 
 -- of what is only read
-pays_quiet : (r c : ℕ) (plain : Bool) (t : Tree) (ys zs : List LookCost) → ((a : ℕ) → Pays r a ys c → Pays r a zs c) → (a : ℕ) → Pays r a (looks_only (costs_of plain t) ++ ys) c → Pays r a (weighed (events plain false t) ++ zs) c
+pays_quiet : (r c : ℕ) (plain : Bool) (t : Tree) (ys zs : List LookCost) → ((a : ℕ) → IsWithinBudget r a ys c → IsWithinBudget r a zs c) → (a : ℕ) → IsWithinBudget r a (looks_only (costs_of plain t) ++ ys) c → IsWithinBudget r a (weighed (events plain false t) ++ zs) c
 pays_quiet r c plain nothing ys zs f a h = f a h
 pays_quiet r c plain (piece x rest) ys zs f a h = pays_quiet r c plain rest ys zs f a (free r a c _ h.1)
 pays_quiet r c true (plain_piece x rest) ys zs f a h = pays_quiet r c true rest ys zs f a (free r a c _ h.1)
@@ -48,7 +48,7 @@ pays_quiet r c plain (unprinted inside rest) ys zs f a h =
 pays_quiet r c plain _ ys zs f a h = f a (free r a c ys h.1)
 
 -- of what is printed
-pays_events : (r c : ℕ) (plain : Bool) (t : Tree) (ys zs : List LookCost) → ((a : ℕ) → Pays r a ys c → Pays r a zs c) → (a : ℕ) → Pays r a (costs_of plain t ++ ys) c → Pays r a (weighed (events plain true t) ++ zs) c
+pays_events : (r c : ℕ) (plain : Bool) (t : Tree) (ys zs : List LookCost) → ((a : ℕ) → IsWithinBudget r a ys c → IsWithinBudget r a zs c) → (a : ℕ) → IsWithinBudget r a (costs_of plain t ++ ys) c → IsWithinBudget r a (weighed (events plain true t) ++ zs) c
 pays_events r c plain nothing ys zs f a h = f a h
 pays_events r c plain (piece x rest) ys zs f a h = (h.0, pays_events r c plain rest ys zs f (a - 0 + r * length x) h.1)
 pays_events r c true (plain_piece x rest) ys zs f a h = (h.0, pays_events r c true rest ys zs f (a - 0 + r * length x) h.1)
@@ -64,7 +64,7 @@ pays_events r c plain (unprinted inside rest) ys zs f a h =
     (split r a c (looks_only (costs_of plain inside)) (costs_of plain rest) ys _ refl h))
 pays_events r c plain _ ys zs f a h = (h.0, f _ h.1)
 
-pub pays_tree : (r a c : ℕ) (plain : Bool) (t : Tree) → Pays r a (costs_of plain t) c → Pays r a (weighed (events plain true t)) c
+pub pays_tree : (r a c : ℕ) (plain : Bool) (t : Tree) → IsWithinBudget r a (costs_of plain t) c → IsWithinBudget r a (weighed (events plain true t)) c
 pays_tree r a c plain t h =
-    subst (λ ws. Pays r a ws c) (append-nil (weighed (events plain true t)))
-    (pays_events r c plain t [] [] (λ a' p. p) a (subst (λ ws. Pays r a ws c) (sym (append-nil (costs_of plain t))) h))
+    subst (λ ws. IsWithinBudget r a ws c) (append-nil (weighed (events plain true t)))
+    (pays_events r c plain t [] [] (λ a' p. p) a (subst (λ ws. IsWithinBudget r a ws c) (sym (append-nil (costs_of plain t))) h))

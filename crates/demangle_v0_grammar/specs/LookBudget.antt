@@ -16,6 +16,6 @@ looks_of (s ∷ xs) = s.looks + looks_of xs
 
 -- A budget of `from` looks pays for the tokens in order, and at least `to` is left at the end. A token is paid before its
 -- bytes count. Then each of its bytes adds `rate`.
-abbrev pub Pays : (rate from : ℕ) → List LookCost → (to : ℕ) → Type 0
-Pays rate from [] to = to ≤ from
-Pays rate from (s ∷ xs) to = (s.looks ≤ from) × Pays rate (from - s.looks + rate * s.bytes) xs to
+abbrev pub IsWithinBudget : (rate from : ℕ) → List LookCost → (to : ℕ) → Type 0
+IsWithinBudget rate from [] to = to ≤ from
+IsWithinBudget rate from (s ∷ xs) to = (s.looks ≤ from) × IsWithinBudget rate (from - s.looks + rate * s.bytes) xs to

@@ -36,18 +36,18 @@ pub trait Output {
     fn emit(
         &mut self,
         source: &Source<'_>,
-        stretch: &Token,
+        token: &Token,
         looks: &mut Looks,
     ) -> Result<(), SinkRefused>
         requires ascii { is_printed ≡ true → IsAscii source.now.symbol.now }
-        requires in_bounds { IsTokenWithin source.now.symbol.now stretch.now }
+        requires in_bounds { IsTokenWithin source.now.symbol.now token.now }
         requires ready { ready self.old }
-        ensures prints { prints self.old (texts_of source.now.symbol.now source.now.include_hash stretch.now) result
+        ensures prints { prints self.old (texts_of source.now.symbol.now source.now.include_hash token.now) result
             self.new }
         ensures ready { OnOk result (ready self.new) }
         ensures no_output { is_printed ≡ false → IsOk result }
         ensures grows { looks.old ≤ looks.new }
-        ensures most { looks.new ≤ looks.old + print_looks stretch.now };
+        ensures most { looks.new ≤ looks.old + print_looks token.now };
 
     /// Prints the token of a syntax error.
     ///
@@ -57,17 +57,17 @@ pub trait Output {
     fn emit_error(
         &mut self,
         source: &Source<'_>,
-        stretch: &Token,
+        token: &Token,
         looks: &mut Looks,
     ) -> Result<(), SinkRefused>
         requires ascii { is_printed ≡ true → IsAscii source.now.symbol.now }
-        requires in_bounds { IsTokenWithin source.now.symbol.now stretch.now }
+        requires in_bounds { IsTokenWithin source.now.symbol.now token.now }
         requires ready { ready self.old }
-        ensures prints { prints self.old (texts_of source.now.symbol.now source.now.include_hash stretch.now) result
+        ensures prints { prints self.old (texts_of source.now.symbol.now source.now.include_hash token.now) result
             self.new }
         ensures ready { OnOk result (ready self.new) }
         ensures grows { looks.old ≤ looks.new }
-        ensures most { looks.new ≤ looks.old + print_looks stretch.now };
+        ensures most { looks.new ≤ looks.old + print_looks token.now };
 }
 
 /// An output that prints nothing. It is used to validate a symbol.
@@ -123,19 +123,19 @@ impl<'s, S: TextSink> Output for SizeLimitedFmtAdapter<'s, S> {
     fn emit(
         &mut self,
         source: &Source<'_>,
-        stretch: &Token,
+        token: &Token,
         looks: &mut Looks,
     ) -> Result<(), SinkRefused> {
-        source.render(stretch, self, looks)
+        source.render(token, self, looks)
     }
 
     #[inline(always)]
     fn emit_error(
         &mut self,
         source: &Source<'_>,
-        stretch: &Token,
+        token: &Token,
         looks: &mut Looks,
     ) -> Result<(), SinkRefused> {
-        source.render(stretch, self, looks)
+        source.render(token, self, looks)
     }
 }

@@ -100,8 +100,8 @@ fn invalid_token() -> TokenOutcome
 
 /// Returns the result for a token that is spelled, and ends before `next`.
 #[inline(always)]
-fn token_read(stretch: Token, next: usize) -> TokenOutcome
-    ensures { result ≡ TokenOutcome.Parsed stretch (Some next) }
+fn token_read(token: Token, next: usize) -> TokenOutcome
+    ensures { result ≡ TokenOutcome.Parsed token (Some next) }
 {
-    TokenOutcome::Parsed(stretch, Some(next))
+    TokenOutcome::Parsed(token, Some(next))
 }

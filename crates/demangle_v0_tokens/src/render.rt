@@ -28,19 +28,19 @@ impl Source<'_> {
     #[inline(always)]
     pub fn render<S: TextSink>(
         &self,
-        stretch: &Token,
+        token: &Token,
         out: &mut SizeLimitedFmtAdapter<'_, S>,
         looks: &mut Looks,
     ) -> Result<(), SinkRefused>
         requires ascii { IsAscii self.now.symbol.now }
-        requires in_bounds { IsTokenWithin self.now.symbol.now stretch.now }
+        requires in_bounds { IsTokenWithin self.now.symbol.now token.now }
         requires ready { Ready S.TextSink out.old }
         ensures prints { Prints S.TextSink out.old (texts_of self.now.symbol.now self.now.include_hash
-            stretch.now) result out.new }
+            token.now) result out.new }
         ensures grows { looks.old ≤ looks.new }
-        ensures most { looks.new ≤ looks.old + print_looks stretch.now }
+        ensures most { looks.new ≤ looks.old + print_looks token.now }
     {
-        match stretch {
+        match token {
             Token::Nothing => Ok(()),
             Token::Fixed(fixed_text) => out.put(text(*fixed_text)),
             Token::CrateName(name, number) => self.put_crate_name(name, *number, out, looks),

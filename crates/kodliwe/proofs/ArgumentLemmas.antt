@@ -9,7 +9,7 @@ use Rattle.kodliwe.specs.declared.arguments.ValuedOption.{ValuedOption}
 use Rattle.kodliwe.specs.declared.arguments.ValuedOption.TheVariants.{Input}
 use Rattle.kodliwe.specs.declared.arguments.NextArgument.{NextArgument}
 use Rattle.kodliwe.specs.declared.arguments.NextArgument.TheVariants as next
-use Rattle.kodliwe.specs.CommandLine.{Options, ParsedAs, filter, InputPart, stdin, file, symbols, IsInputPart, input_part_of, IsAlone, HasValue, Sets, ParsesTo, anything, a_value, a_symbol, ends, ends_symbols, misses_value, missing_value_error, refusal_of}
+use Rattle.kodliwe.specs.CommandLine.{Options, ParsedAs, filter, InputPart, stdin, file, symbols, IsInputPart, input_part_of, IsAlone, HasValue, Sets, ParsesTo, anything, a_value, a_symbol, ends, ends_symbols, misses_value, missing_value_error, rejection_of}
 use Rattle.kodliwe.specs.OneArgument.{expected_of}
 
 pub not_alone : (short long argument : List ℕ) → (argument ≡ short → ⊥) → (argument ≡ long → ⊥) → IsAlone short long argument → ⊥
@@ -31,8 +31,8 @@ pub parts_pushed : (items new : List InputSource) (source : InputSource) → new
 parts_pushed items new source e = ap (λ l. reverse (map input_part_of l)) e ∙ ap reverse (map-append input_part_of items (source ∷ [])) ∙ reverse-append (map input_part_of items) (input_part_of source ∷ [])
 
 -- a refusal of each answer is one of each that follows from it
-pub refusal_then : (fault : UsageError) {P Q : ParsedAs → Type 0} → ((answer : ParsedAs) → P answer → Q answer) → IfSome (refusal_of fault) P → IfSome (refusal_of fault) Q
-refusal_then fault f h = IfSome_then (refusal_of fault) h f
+pub refusal_then : (fault : UsageError) {P Q : ParsedAs → Type 0} → ((answer : ParsedAs) → P answer → Q answer) → IfSome (rejection_of fault) P → IfSome (rejection_of fault) Q
+refusal_then fault f h = IfSome_then (rejection_of fault) h f
 
 -- - as a file is standard input
 pub sets_stdin : (old new : Options) → Sets Input (codes "-") old new → new ≡ record old { parts = stdin ∷ old.parts }

@@ -12,7 +12,7 @@ use Rattle.rustc_demangle.specs.declared.format.Format.{Format}
 use Rattle.rustc_demangle.specs.ByteStream.{FilteredPrefix, IsWriting, StepFiltered, StepFinished, StepFailed, BytesStopped}
 use Rattle.rustc_demangle.specs.declared.stream.fault.StreamFault.{StreamFault}
 use Rattle.rustc_demangle.specs.declared.stream.fault.StreamFault.TheVariants.{Read, NotUtf8, Write, Memory}
-use Rattle.rustc_demangle.proofs.BytesSteps.{Passing, passed_none, passed_trans}
+use Rattle.rustc_demangle.proofs.ByteStreamLemmas.{Passing, passed_none, passed_trans}
 use Rattle.kodliwe.specs.Filtering.{FlushStepFiltered, all_filtered, Remain, WroteAll, StoppedIn, WrotePrefix, RunStopped}
 
 -- what grew after a flush grew before it

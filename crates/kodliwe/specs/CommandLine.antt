@@ -181,15 +181,15 @@ options_of request = record {
 }
 
 -- The result that a value of the code represents. A failed allocation has none.
-abbrev pub asked_of : Command → ParsedAs
-asked_of Help = help
-asked_of Version = version
-asked_of (Filter request) = filter (options_of request)
+abbrev pub parsed_as : Command → ParsedAs
+parsed_as Help = help
+parsed_as Version = version
+parsed_as (Filter request) = filter (options_of request)
 
-abbrev pub refusal_of : UsageError → Option ParsedAs
-refusal_of (Unknown argument) = Some (unknown argument.now)
-refusal_of (NoFile argument) = Some (no_file argument.now)
-refusal_of (NoNumber argument) = Some (no_number argument.now)
-refusal_of (BadNumber argument value) = Some (bad_number argument.now value.now)
-refusal_of (SecondOutput argument) = Some (second_output argument.now)
-refusal_of Memory = None
+abbrev pub rejection_of : UsageError → Option ParsedAs
+rejection_of (Unknown argument) = Some (unknown argument.now)
+rejection_of (NoFile argument) = Some (no_file argument.now)
+rejection_of (NoNumber argument) = Some (no_number argument.now)
+rejection_of (BadNumber argument value) = Some (bad_number argument.now value.now)
+rejection_of (SecondOutput argument) = Some (second_output argument.now)
+rejection_of Memory = None

@@ -5,7 +5,7 @@ ghost use Rattle.std.specs.List.{starts_with};
 ghost use Rattle.std.specs.String.{string_bytes};
 ghost use Rattle.kodliwe.specs.CommandLine.{IsAlone, HasValue, IsNotOption, Sets, IsInvalidValue};
 ghost use Rattle.kodliwe.specs.CommandLine.{ParsesTo, anything, defaults, with_line};
-ghost use Rattle.kodliwe.specs.CommandLine.{options_of, asked_of, refusal_of, missing_value_error};
+ghost use Rattle.kodliwe.specs.CommandLine.{options_of, parsed_as, rejection_of, missing_value_error};
 ghost use Rattle.kodliwe.specs.OneArgument.{IsArgument, Accepts, Rejects, expected_of};
 
 use rustc_demangle::{demangle_bytes, run_start};
@@ -259,7 +259,7 @@ impl<'a> Request<'a> {
     fn set_output(&mut self, argument: &'a str, value: &'a str) -> Result<(), UsageError<'a>>
         ensures sets { OnOk result (Sets ValuedOption.Output value.now
             (options_of self.old) (options_of self.new)) }
-        ensures refused { IfErr result (λ fault. IfSome (refusal_of fault) (λ answer.
+        ensures refused { IfErr result (λ fault. IfSome (rejection_of fault) (λ answer.
             IsInvalidValue (options_of self.old) ValuedOption.Output argument.now value.now answer)) }
     {
         if self.output.is_some() {
@@ -283,7 +283,7 @@ impl<'a> Request<'a> {
     ) -> Result<(), UsageError<'a>>
         ensures sets { OnOk result (Sets option value.now
             (options_of self.old) (options_of self.new)) }
-        ensures refused { IfErr result (λ fault. IfSome (refusal_of fault) (λ answer.
+        ensures refused { IfErr result (λ fault. IfSome (rejection_of fault) (λ answer.
             IsInvalidValue (options_of self.old) option argument.now value.now answer)) }
     {
         match option {
@@ -310,7 +310,7 @@ impl<'a> Request<'a> {
         ensures takes { IsArgument argument.now (Argument.Valued option within.entry) → IfOk result (λ taken.
             Accepts anything (options_of self.old) argument.now (options_of self.new) taken) }
         ensures refused { IsArgument argument.now (Argument.Valued option within.entry) → IfErr result (λ fault.
-            IfSome (refusal_of fault) (λ answer. Rejects anything (options_of self.old) argument.now
+            IfSome (rejection_of fault) (λ answer. Rejects anything (options_of self.old) argument.now
             answer)) }
     {
         let Some(value) = within else {
@@ -329,7 +329,7 @@ impl<'a> Request<'a> {
     ) -> Result<AfterArgument<'a>, UsageError<'a>>
         ensures takes { IfOk result (λ taken. Accepts anything (options_of self.old) argument.now
             (options_of self.new) taken) }
-        ensures refused { IfErr result (λ fault. IfSome (refusal_of fault) (λ answer.
+        ensures refused { IfErr result (λ fault. IfSome (rejection_of fault) (λ answer.
             Rejects anything (options_of self.old) argument.now answer)) }
     {
         match classify(argument) {
@@ -355,7 +355,7 @@ impl<'a> Request<'a> {
     ) -> Result<AfterArgument<'a>, UsageError<'a>>
         ensures takes { IfOk result (λ taken. Accepts (expected_of next.entry) (options_of self.old)
             argument.now (options_of self.new) taken) }
-        ensures refused { IfErr result (λ fault. IfSome (refusal_of fault) (λ answer.
+        ensures refused { IfErr result (λ fault. IfSome (rejection_of fault) (λ answer.
             Rejects (expected_of next.entry) (options_of self.old) argument.now answer)) }
     {
         match next {
@@ -396,7 +396,7 @@ fn push_line(lines: &mut Vec<u8>, text: &str) -> Result<(), AllocError>
 
 /// Returns the error for an option without a value after it.
 fn missing_value(option: ValuedOption, argument: &str) -> UsageError<'_>
-    ensures { refusal_of result ≡ Some (missing_value_error option argument.now) }
+    ensures { rejection_of result ≡ Some (missing_value_error option argument.now) }
 {
     match option {
         ValuedOption::Input | ValuedOption::Output => UsageError::NoFile(argument),
@@ -418,9 +418,9 @@ pub fn parse_arguments<'a>(
     alloc: Global,
     arguments: &'a [String],
 ) -> Result<Command<'a>, UsageError<'a>>
-    ensures asked { IfOk result (λ asked. ParsesTo anything defaults
-        (map string_bytes arguments.now) (asked_of asked)) }
-    ensures refused { IfErr result (λ fault. IfSome (refusal_of fault) (λ answer.
+    ensures parsed { IfOk result (λ parsed. ParsesTo anything defaults
+        (map string_bytes arguments.now) (parsed_as parsed)) }
+    ensures refused { IfErr result (λ fault. IfSome (rejection_of fault) (λ answer.
         ParsesTo anything defaults (map string_bytes arguments.now) answer)) }
 {
     let mut request = Request::new(alloc);

@@ -49,7 +49,7 @@ impl FilterOutcome {
     pub fn status(self) -> u8
         ensures complete { self ≡ FilterOutcome.Complete → result ≡ 0 }
         ensures closed { self ≡ FilterOutcome.Closed → result ≡ 0 }
-        ensures unread { self ≡ FilterOutcome.ReadFailed → result ≡ 1 }
+        ensures read_failed { self ≡ FilterOutcome.ReadFailed → result ≡ 1 }
         ensures unwritten { self ≡ FilterOutcome.WriteFailed → result ≡ 1 }
     {
         match self {
@@ -224,7 +224,7 @@ fn filter_inputs<'a, R: Read + Drop, W: Write, E: Write>(
 /// Returns how filtering ended after an error.
 fn outcome_of(fault: &StreamFault) -> FilterOutcome
     ensures stopped { (result ≡ FilterOutcome.Complete → ⊥) }
-    ensures unread { result ≡ FilterOutcome.ReadFailed → IsWriting fault.now → ⊥ }
+    ensures read_failed { result ≡ FilterOutcome.ReadFailed → IsWriting fault.now → ⊥ }
     ensures unwritten { result ≡ FilterOutcome.WriteFailed → IsWriting fault.now }
     ensures closed { result ≡ FilterOutcome.Closed → IsClosedPipe fault.now }
     ensures closed_iff { IsClosedPipe fault.now → result ≡ FilterOutcome.Closed }
@@ -260,7 +260,7 @@ pub fn filter_all<R: Read + Drop, W: Write, E: Write>(
         (filtered_in settings.format)
         (map (λ input. R.remaining input.reader) inputs.entry.items)
         (W.contents output.old) (W.contents output.new) }
-    ensures unread { result ≡ FilterOutcome.ReadFailed → WrotePrefix
+    ensures read_failed { result ≡ FilterOutcome.ReadFailed → WrotePrefix
         (filtered_in settings.format)
         (map (λ input. R.remaining input.reader) inputs.entry.items)
         (W.contents output.old) (W.contents output.new) }

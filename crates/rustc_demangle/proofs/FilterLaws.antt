@@ -9,9 +9,9 @@ use Rattle.std.proofs.lemmas.Bool.{true≢false}
 use Rattle.demangle_v0_grammar.specs.Reading.{form}
 use Rattle.rustc_demangle.specs.Stripped.{stripped}
 use Rattle.rustc_demangle.specs.Symbols.{IsSymbol, pieces_of, printed}
-use Rattle.rustc_demangle.proofs.SymbolSteps.{symbol-pieces, pieces-symbol}
+use Rattle.rustc_demangle.proofs.SymbolLemmas.{symbol-pieces, pieces-symbol}
 use Rattle.rustc_demangle.specs.Filtered.{is_run_byte, starts_run, HasNoStart, StartsOutsideRun, IsRun, IsReplacement, AreReplaced, IsFiltered, replacement, filtered_by, filtered}
-use Rattle.rustc_demangle.proofs.RunSteps.{turn, filtered_other, filtered_run, filtered_all, begins_with, first_of_run, replacement-symbol, replacement-no_symbol}
+use Rattle.rustc_demangle.proofs.RunLemmas.{turn, filtered_other, filtered_run, filtered_all, begins_with, first_of_run, replacement-symbol, replacement-no_symbol}
 
 cases : (b : Bool) → (b ≡ true) ⊎ (b ≡ false)
 cases true = inl refl

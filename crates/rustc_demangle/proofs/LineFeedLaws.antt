@@ -14,16 +14,16 @@ use Rattle.rustc_demangle.specs.Filtered.{is_run_byte, starts_run, replacement, 
 use Rattle.rustc_demangle.specs.LineStream.{output_of}
 use Rattle.rustc_demangle.proofs.FilterLaws.{run_all}
 use Rattle.rustc_demangle.proofs.LineDivision.{lines_join}
-use Rattle.rustc_demangle.proofs.RunSteps.{turn, first_of_run}
+use Rattle.rustc_demangle.proofs.RunLemmas.{turn, first_of_run}
 use Rattle.demangle_legacy.proofs.LegacyLaws.{legacy_spelled}
-use Rattle.rustc_demangle.proofs.SymbolSteps.{symbol-pieces, pieces-legacy, pieces-v0}
+use Rattle.rustc_demangle.proofs.SymbolLemmas.{symbol-pieces, pieces-legacy, pieces-v0}
 use Rattle.demangle_v0_grammar.proofs.V0Reading.{v0_is_read}
 use Rattle.rustc_demangle.proofs.V0LineFeeds.{line_feeds-rendered}
 use Rattle.demangle_v0_grammar.specs.Reading.{form, path_texts}
 use Rattle.demangle_sink.specs.Cut.{size, prefix_within, cut, marker}
 use Rattle.rustc_demangle.specs.Lines.{lines, line_feeds}
 use Rattle.demangle_legacy.specs.Legacy.{IsElements, IsLegacy}
-use Rattle.demangle_legacy.specs.Unescaped.{escape_of_code, escape_of_digits, escape_of, lower_hex, leading_unit, pieces_from, unescaped, is_hash, shown_elements, following_pieces, joined_pieces, legacy_pieces, is_lower_hex, is_dollar, is_special}
+use Rattle.demangle_legacy.specs.Unescaped.{escape_of_code, escape_of_digits, escape_of, lower_hex, leading_unit, pieces_from, unescaped, is_hash, printed_elements, following_pieces, joined_pieces, legacy_pieces, is_lower_hex, is_dollar, is_special}
 use Rattle.rustc_demangle.proofs.LineFeeds.{line_feeds-append, line_feeds-concat, line_feeds-cons, line_feeds-drop, line_feeds-other, line_feeds-character}
 
 cases : (b : Bool) → (b ≡ true) ⊎ (b ≡ false)
@@ -176,15 +176,15 @@ line_feeds-joined : (elements : List (List ℕ)) → line_feeds (concat (joined_
 line_feeds-joined [] = omega arith
 line_feeds-joined (e ∷ es) = omega (arith, line_feeds-unescaped e, line_feeds-continued es, line_feeds-cons e es, line_feeds-concat (unescaped e) (following_pieces es))
 
-line_feeds-available : (hash : Bool) (elements : List (List ℕ)) → line_feeds (concat (shown_elements hash elements)) ≤ line_feeds (concat elements)
-unfolding shown_elements
+line_feeds-available : (hash : Bool) (elements : List (List ℕ)) → line_feeds (concat (printed_elements hash elements)) ≤ line_feeds (concat elements)
+unfolding printed_elements
 line_feeds-available hash [] = omega arith
 line_feeds-available hash (e ∷ []) = at (not hash && is_hash e)
   where
     at : (b : Bool) → line_feeds (concat (cond b [] (e ∷ []))) ≤ line_feeds (concat (e ∷ []))
     at true = omega arith
     at false = omega arith
-line_feeds-available hash (e ∷ f ∷ es) = omega (arith, line_feeds-available hash (f ∷ es), line_feeds-cons e (f ∷ es), line_feeds-cons e (shown_elements hash (f ∷ es)))
+line_feeds-available hash (e ∷ f ∷ es) = omega (arith, line_feeds-available hash (f ∷ es), line_feeds-cons e (f ∷ es), line_feeds-cons e (printed_elements hash (f ∷ es)))
 
 line_feeds-elements : (elements : List (List ℕ)) (text suffix : List ℕ) → IsElements elements text suffix → line_feeds (concat elements) + line_feeds suffix ≤ line_feeds text
 line_feeds-elements [] text suffix is = omega (arith, ap line_feeds is)
@@ -195,7 +195,7 @@ line_feeds-elements (element ∷ elements) text suffix is =
 line_feeds-legacy : (hash : Bool) (text : List ℕ) (elements : List (List ℕ)) (suffix : List ℕ) → IsLegacy text elements suffix
     → line_feeds (concat (legacy_pieces hash elements)) + line_feeds suffix ≤ line_feeds text
 line_feeds-legacy hash text elements suffix is =
-    omega (arith, line_feeds-joined (shown_elements hash elements), line_feeds-available hash elements, line_feeds-elements elements is.1 suffix is.5, ap line_feeds is.2, line_feeds-append is.0 is.1)
+    omega (arith, line_feeds-joined (printed_elements hash elements), line_feeds-available hash elements, line_feeds-elements elements is.1 suffix is.5, ap line_feeds is.2, line_feeds-append is.0 is.1)
 
 read_of : Option (List (List ℕ) × List ℕ) → List (List ℕ) × List ℕ
 read_of None = ([], [])

@@ -20,7 +20,7 @@ use Rattle.rustc_demangle.specs.Symbols.{IsSymbol, pieces_of, handed, unfolded}
 use Rattle.rustc_demangle.specs.declared.value.DemangleStyle.{DemangleStyle}
 use Rattle.rustc_demangle.proofs.PrintingLaws.{handed-some_of, size-cut}
 use Rattle.rustc_demangle.proofs.SymbolLaws.{size_symbol, symbol_ascii}
-use Rattle.rustc_demangle.proofs.SymbolSteps.{elements-shorter, pieces-legacy, pieces-v0, styled-pieces, symbol-pieces}
+use Rattle.rustc_demangle.proofs.SymbolLemmas.{elements-shorter, pieces-legacy, pieces-v0, styled-pieces, symbol-pieces}
 
 path_len-some : (text : List ℕ) (pieces : List (List ℕ)) (suffix : List ℕ) → pieces_of true text ≡ Some (pieces, suffix) → path_len_of text ≡ length text - length suffix
 path_len-some text pieces suffix e = ap (λ o. option_map_or (λ (r : List (List ℕ) × List ℕ). length text - length r.1) o 0) e

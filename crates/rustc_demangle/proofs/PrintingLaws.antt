@@ -11,11 +11,11 @@ use Rattle.rustc_demangle.specs.Stripped.{is_allowed}
 use Rattle.rustc_demangle.specs.Symbols.{IsSymbol, form_of, pieces_in, handed_in, kept_in, unfolded, handed}
 use Rattle.rustc_demangle.specs.declared.format.Format.{Format}
 use Rattle.demangle_v0_grammar.specs.Reading.{form}
-use Rattle.demangle_legacy.specs.Unescaped.{unescaped, is_hash, shown_elements, joined_pieces, following_pieces, legacy_pieces}
+use Rattle.demangle_legacy.specs.Unescaped.{unescaped, is_hash, printed_elements, joined_pieces, following_pieces, legacy_pieces}
 use Rattle.demangle_sink.proofs.CutLemmas.{size-append, fitting-within}
 use Rattle.demangle_sink.proofs.PrintsLemmas.{cut-within, cut-past}
 use Rattle.demangle_legacy.proofs.LegacyLaws.{legacy_spelled}
-use Rattle.rustc_demangle.proofs.SymbolSteps.{symbol-pieces, pieces-legacy}
+use Rattle.rustc_demangle.proofs.SymbolLemmas.{symbol-pieces, pieces-legacy}
 
 pub handed-some_of : (text : List ℕ) (format : Format) (read : List (List ℕ) × List ℕ) → pieces_in (form_of format) text ≡ Some read → handed_in text format ≡ cut read.0 format.limit ++ read.1 ∷ []
 handed-some_of text format read e = ap (λ o. option_map_or (λ (r : List (List ℕ) × List ℕ). cut r.0 format.limit ++ r.1 ∷ []) o (text ∷ [])) e
@@ -45,16 +45,16 @@ size-handed text format pieces suffix e =
     omega (arith, ap size (handed-some_of text format (pieces, suffix) e), size-append (cut pieces format.limit) (suffix ∷ []), size-cut pieces format.limit)
 
 -- with the hash all elements are shown
-available-all : (elements : List (List ℕ)) → shown_elements true elements ≡ elements
-unfolding shown_elements
+available-all : (elements : List (List ℕ)) → printed_elements true elements ≡ elements
+unfolding printed_elements
 available-all [] = refl
 available-all (e ∷ []) = refl
 available-all (e ∷ f ∷ es) = ap (λ xs. e ∷ xs) (available-all (f ∷ es))
 
 -- without it, all or all but a last one that is a hash
-available-cases : (elements : List (List ℕ)) → (shown_elements false elements ≡ elements)
-    ⊎ ((prefix : List (List ℕ)) × (last : List ℕ) × (elements ≡ prefix ++ last ∷ []) × (shown_elements false elements ≡ prefix) × (is_hash last ≡ true))
-unfolding shown_elements
+available-cases : (elements : List (List ℕ)) → (printed_elements false elements ≡ elements)
+    ⊎ ((prefix : List (List ℕ)) × (last : List ℕ) × (elements ≡ prefix ++ last ∷ []) × (printed_elements false elements ≡ prefix) × (is_hash last ≡ true))
+unfolding printed_elements
 available-cases [] = inl refl
 available-cases (e ∷ []) = go (is_hash e) refl where
   go : (b : Bool) → is_hash e ≡ b → (cond b [] (e ∷ []) ≡ e ∷ [])
@@ -81,7 +81,7 @@ hash-last text elements suffix limit legacy allowed within =
     let full : handed text true limit ≡ joined_pieces elements ++ suffix ∷ [] =
     handed-some_of text (unfolded true limit) (legacy_pieces true elements, suffix) (pieces-legacy (form true false) text elements suffix read allowed)
     ∙ ap (λ xs. xs ++ suffix ∷ []) (cut-within (legacy_pieces true elements) limit within ∙ all) in
-    let short : handed text false limit ≡ cut (joined_pieces (shown_elements false elements)) limit ++ suffix ∷ [] =
+    let short : handed text false limit ≡ cut (joined_pieces (printed_elements false elements)) limit ++ suffix ∷ [] =
     handed-some_of text (unfolded false limit) (legacy_pieces false elements, suffix) (pieces-legacy (form false false) text elements suffix read allowed) in
     elim (available-cases elements) [
       | inl same ↦ inl (short ∙ ap (λ es. cut (joined_pieces es) limit ++ suffix ∷ []) same

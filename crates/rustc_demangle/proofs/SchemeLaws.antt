@@ -11,7 +11,7 @@ use Rattle.rustc_demangle.specs.declared.format.Format.{Format}
 use Rattle.demangle_legacy.specs.Unescaped.{legacy_pieces}
 use Rattle.demangle_v0_grammar.specs.V0.{IsV0, IsV0Prefix}
 use Rattle.demangle_legacy.proofs.LegacyLaws.{legacy_spelled}
-use Rattle.rustc_demangle.proofs.SymbolSteps.{no_legacy, pieces-legacy, pieces-v0, none≢some}
+use Rattle.rustc_demangle.proofs.SymbolLemmas.{no_legacy, pieces-legacy, pieces-v0, none≢some}
 use Rattle.demangle_v0_grammar.proofs.V0Reading.{v0_is_read}
 
 handed_of : (text : List ℕ) (format : Format) (read : List (List ℕ) × List ℕ) → pieces_in (form_of format) text ≡ Some read → handed_in text format ≡ cut read.0 format.limit ++ read.1 ∷ []

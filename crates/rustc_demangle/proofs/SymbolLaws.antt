@@ -17,7 +17,7 @@ use Rattle.demangle_v0_grammar.specs.V0.{IsV0Prefix}
 use Rattle.demangle_legacy.proofs.LegacyLaws.{legacy_spelled}
 use Rattle.rustc_demangle.proofs.PrintingLaws.{size-handed}
 use Rattle.rustc_demangle.proofs.Stripping.{ending, begins}
-use Rattle.rustc_demangle.proofs.SymbolSteps.{pieces-legacy, pieces-v0, suffix-shorter, v0_suffix-shorter}
+use Rattle.rustc_demangle.proofs.SymbolLemmas.{pieces-legacy, pieces-v0, suffix-shorter, v0_suffix-shorter}
 use Rattle.demangle_v0_grammar.proofs.V0Reading.{v0_is_read}
 
 thin_lto_ascii : (c : ℕ) → is_thin_lto c ≡ true → c < 128

@@ -6,7 +6,7 @@ use Rattle.std.proofs.lemmas.Bool.{true≢false}
 use Rattle.rustc_demangle.specs.Lines.{lines, onto_first}
 use Rattle.rustc_demangle.specs.Filtered.{is_run_byte, starts_run, replacement, filtered_by, filtered}
 use Rattle.rustc_demangle.specs.LineStream.{output_of}
-use Rattle.rustc_demangle.proofs.RunSteps.{turn}
+use Rattle.rustc_demangle.proofs.RunLemmas.{turn}
 
 abbrev first : List (List ℕ) → List ℕ
 first [] = []

@@ -20,11 +20,11 @@ IsReadFault error (Write e) = ⊥
 IsReadFault error Memory = error_kind error ≡ OutOfMemory
 
 -- an error while a line is read; a failed allocation is never reported as `Read`
-abbrev pub IsReadingFault : StreamFault → Type 0
-IsReadingFault (Read e) = error_kind e ≡ OutOfMemory → ⊥
-IsReadingFault NotUtf8 = ⊥
-IsReadingFault (Write e) = ⊥
-IsReadingFault Memory = Unit {0}
+abbrev pub IsReaderFault : StreamFault → Type 0
+IsReaderFault (Read e) = error_kind e ≡ OutOfMemory → ⊥
+IsReaderFault NotUtf8 = ⊥
+IsReaderFault (Write e) = ⊥
+IsReaderFault Memory = Unit {0}
 
 -- the error as an `io::Error`
 abbrev pub GivesError : StreamFault → Error → Type 0

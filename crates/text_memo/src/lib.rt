@@ -14,7 +14,7 @@ mod tests;
 const PAIRS: usize = 8192;
 
 /// The number of slots for the marks of keys.
-const MARKS: usize = 8192;
+const FINGERPRINTS: usize = 8192;
 
 /// The longest key of an entry.
 pub const MAX_KEY: usize = 2048;
@@ -36,7 +36,7 @@ struct Entry {
     key_len: u16,
     text_len: u16,
     /// A part of the key's hash. Most other keys have another one.
-    mark: u32,
+    fingerprint: u32,
 }
 
 /// The two entries for the keys that share a part of their hash.
@@ -51,7 +51,7 @@ const NO_ENTRY: Entry = Entry {
     start: 0,
     key_len: 0,
     text_len: 0,
-    mark: 0,
+    fingerprint: 0,
 };
 
 /// A pair without entries.
@@ -77,7 +77,7 @@ pub struct TextMemo {
     pairs: Vec<Pair>,
     bytes: Vec<u8>,
     /// A mark is even if its key was noted once, and odd if its key's text is too long.
-    marks: Vec<u32>,
+    fingerprints: Vec<u32>,
 }
 
 /// Returns a hash with sixteen bytes mixed in.
@@ -116,15 +116,15 @@ fn pair_place(hash: u64) -> usize
 
 /// Returns the index of a key's mark.
 #[inline(always)]
-fn mark_place(hash: u64) -> usize
-    ensures { result < MARKS }
+fn fingerprint_place(hash: u64) -> usize
+    ensures { result < FINGERPRINTS }
 {
     ((hash / 1_099_511_627_776) % 8192) as usize
 }
 
 /// Returns a key's mark, which is even.
 #[inline(always)]
-fn mark_of(hash: u64) -> u32 {
+fn fingerprint_of(hash: u64) -> u32 {
     (hash % 4_294_967_296) as u32 & 0xFFFF_FFFE
 }
 
@@ -136,18 +136,18 @@ impl TextMemo {
         TextMemo {
             pairs: Vec::new(alloc),
             bytes: Vec::new(alloc),
-            marks: Vec::new(alloc),
+            fingerprints: Vec::new(alloc),
         }
     }
 
     /// Returns the text of an entry, or `None` if the entry has another key.
     #[inline(always)]
-    fn text_at(&self, entry: &Entry, key: &[u8], mark: u32) -> Option<&[u8]>
+    fn text_at(&self, entry: &Entry, key: &[u8], fingerprint: u32) -> Option<&[u8]>
         requires { 0 < length key.now }
         ensures { (text_for : List ℕ → List ℕ) → Holds text_for self.now.bytes.items entry.now →
             IfSome result (λ text. text.now ≡ text_for key.now) }
     {
-        if entry.mark != mark || entry.key_len as usize != key.len() {
+        if entry.fingerprint != fingerprint || entry.key_len as usize != key.len() {
             return None;
         }
         let start = entry.start as usize;
@@ -177,10 +177,10 @@ impl TextMemo {
             return None;
         }
         let pair = &self.pairs[place];
-        let mark = mark_of(hash);
-        match self.text_at(&pair.newer, key, mark) {
+        let fingerprint = fingerprint_of(hash);
+        match self.text_at(&pair.newer, key, fingerprint) {
             Some(text) => Some(text),
-            None => self.text_at(&pair.older, key, mark),
+            None => self.text_at(&pair.older, key, fingerprint),
         }
     }
 
@@ -191,15 +191,15 @@ impl TextMemo {
         ensures { (text_for : List ℕ → List ℕ) → Remembers text_for self.old →
             Remembers text_for self.new }
     {
-        let place = mark_place(hash);
-        if self.marks.is_empty() && self.marks.resize(MARKS, 0).is_err() {
+        let place = fingerprint_place(hash);
+        if self.fingerprints.is_empty() && self.fingerprints.resize(FINGERPRINTS, 0).is_err() {
             return Noted::New;
         }
-        if place >= self.marks.len() {
+        if place >= self.fingerprints.len() {
             return Noted::New;
         }
-        let noted = self.marks[place];
-        if noted & 0xFFFF_FFFE == mark_of(hash) {
+        let noted = self.fingerprints[place];
+        if noted & 0xFFFF_FFFE == fingerprint_of(hash) {
             return if noted & 1 == 0 {
                 Noted::Again
             } else {
@@ -208,7 +208,7 @@ impl TextMemo {
         }
         // The mark of a long text stays, so a caller prints it in vain at most once for each slot.
         if noted & 1 == 0 {
-            self.marks[place] = mark_of(hash);
+            self.fingerprints[place] = fingerprint_of(hash);
         }
         Noted::New
     }
@@ -218,9 +218,9 @@ impl TextMemo {
         ensures { (text_for : List ℕ → List ℕ) → Remembers text_for self.old →
             Remembers text_for self.new }
     {
-        let place = mark_place(hash);
-        if place < self.marks.len() {
-            self.marks[place] = mark_of(hash) | 1;
+        let place = fingerprint_place(hash);
+        if place < self.fingerprints.len() {
+            self.fingerprints[place] = fingerprint_of(hash) | 1;
         }
     }
 
@@ -289,7 +289,7 @@ impl TextMemo {
             start: start as u32,
             key_len: key.len() as u16,
             text_len: text.len() as u16,
-            mark: mark_of(hash),
+            fingerprint: fingerprint_of(hash),
         };
         self.put(entry, pair_place(hash));
     }

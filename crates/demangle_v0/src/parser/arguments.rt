@@ -2,7 +2,7 @@
 ghost use Rattle.std.specs.Prelude.{◌≡◌, ◌+◌, ◌≤◌, false, Ok, Some};
 ghost use Rattle.demangle_v0.specs.Productions.{arguments_continuation, argument_continuation, argument_place, argument_costs};
 ghost use Rattle.demangle_v0_grammar.specs.LookTotals.{total};
-ghost use Rattle.demangle_v0.specs.Parsers.{CanAdvance, Advanced, WentUnfolded, restated};
+ghost use Rattle.demangle_v0.specs.Parsers.{CanAdvance, Advanced, AdvancedUnfolded, restated};
 ghost use Rattle.demangle_v0.specs.Steps.{looks_bound};
 
 use crate::parser::Continuation;
@@ -31,7 +31,7 @@ impl<const N: usize> Parser<'_, N> {
     #[inline(always)]
     pub(super) fn arguments(&mut self, is_first: bool) -> Continuation
         requires can_step { CanAdvance Continuation.NextArgument self.old }
-        ensures performs { WentUnfolded is_first (arguments_continuation is_first) self.old (Ok result) self.new }
+        ensures performs { AdvancedUnfolded is_first (arguments_continuation is_first) self.old (Ok result) self.new }
     {
         let Some(at) = self.state.place else {
             return self.end_with(FixedText::Greater);

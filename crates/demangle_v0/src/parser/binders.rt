@@ -28,8 +28,8 @@ impl<const N: usize> Parser<'_, N> {
         ensures parser { self.new ≡ binding self.old number }
         ensures number { number < 2 ^ 64 }
     {
-        let stretch = Token::Binder(self.state.lifetimes, number);
+        let token = Token::Binder(self.state.lifetimes, number);
         self.state.lifetimes += u128::from(number);
-        self.emit(&stretch, output)
+        self.emit(&token, output)
     }
 }

@@ -1,6 +1,6 @@
 //! Which method performs each continuation.
 ghost use Rattle.std.specs.Prelude.{◌≡◌, ◌+◌, ◌≤◌, true, false};
-ghost use Rattle.demangle_v0.specs.Skips.{is_impl_path};
+ghost use Rattle.demangle_v0.specs.Skips.{is_skipped};
 ghost use Rattle.demangle_v0.specs.Parsers.{Performed, CanPerform};
 ghost use Rattle.demangle_v0.specs.Loops.{first_looks};
 
@@ -23,7 +23,7 @@ impl<const N: usize> Parser<'_, N> {
         output: &mut V,
     ) -> Result<Continuation, StepError>
         requires can_step { CanPerform V.Output continuation self.old output.old }
-        requires unskipped { V.is_printed ≡ true → is_impl_path
+        requires unskipped { V.is_printed ≡ true → is_skipped
             self.old.source.fold_arguments continuation ≡ false }
         ensures performs { Performed V.Output continuation self.old output.old result self.new output.new }
         ensures least { continuation ≡ Continuation.Path → self.old.looks + first_looks Continuation.Path self.old.state ≤

@@ -1,7 +1,7 @@
 //! Trait objects: `dyn` types.
 ghost use Rattle.std.specs.Prelude.{◌+◌, ◌≤◌, Ok, if◌then◌else◌};
 ghost use Rattle.demangle_v0.specs.Productions.{dyn_type};
-ghost use Rattle.demangle_v0.specs.Parsers.{Performed, CanPerform, CanAdvance, Advanced, AdvancedRest, WentUnfolded};
+ghost use Rattle.demangle_v0.specs.Parsers.{Performed, CanPerform, CanAdvance, Advanced, AdvancedRest, AdvancedUnfolded};
 ghost use Rattle.demangle_v0.specs.Steps.{looks_bound};
 
 use crate::parser::lists::separator;
@@ -101,7 +101,7 @@ impl<const N: usize> Parser<'_, N> {
     #[inline(always)]
     pub(super) fn trait_argument(&mut self, is_first: bool) -> Continuation
         requires can_step { CanAdvance Continuation.NextTraitArgument self.old }
-        ensures performs { WentUnfolded is_first (if is_first then Continuation.FirstTraitArgument else
+        ensures performs { AdvancedUnfolded is_first (if is_first then Continuation.FirstTraitArgument else
             Continuation.NextTraitArgument) self.old (Ok result) self.new }
     {
         let Some(at) = self.state.place else {

@@ -24,7 +24,7 @@ impl<const N: usize> Parser<'_, N> {
         ensures over { result ≡ is_list_end self.old.source.symbol.now self.old.state.place }
         ensures place { self.new ≡ moved self.old (after_list self.old.source.symbol.now
             self.old.state.place) self.new.looks }
-        ensures paid { LooksWithin self.old.looks (list_costs self.old.state.place) self.new.looks }
+        ensures within_budget { LooksWithin self.old.looks (list_costs self.old.state.place) self.new.looks }
     {
         let Some(at) = self.state.place else {
             return true;

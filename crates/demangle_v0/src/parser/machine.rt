@@ -1,6 +1,6 @@
 //! The parser, and what its methods share.
 ghost use Rattle.std.specs.Prelude.{◌≡◌, ◌+◌, ◌-◌, ◌<◌, ◌≤◌, ◌^◌, length, IfOk, IfErr};
-ghost use Rattle.demangle_v0.specs.Parsers.{deeper, emptied, looked, marked, path_parser, pushed, shut};
+ghost use Rattle.demangle_v0.specs.Parsers.{deeper, emptied, looked, with_text, path_parser, pushed, closed};
 ghost use Rattle.demangle_v0.specs.Traces.{frame_at, frame_of};
 ghost use Rattle.demangle_v0.specs.declared.parser.StepError.TheVariants.{Abort};
 
@@ -81,7 +81,7 @@ impl<const N: usize> Parser<'_, N> {
     /// Queues a fixed text, which is printed at the end of the step.
     #[inline(always)]
     pub(super) fn put(&mut self, pending_text: FixedText)
-        ensures { self.new ≡ marked self.old pending_text }
+        ensures { self.new ≡ with_text self.old pending_text }
     {
         self.state.pending_text = Some(pending_text);
     }
@@ -90,7 +90,7 @@ impl<const N: usize> Parser<'_, N> {
     #[inline(always)]
     pub(super) fn end_with(&mut self, pending_text: FixedText) -> Continuation
         ensures end { result ≡ Continuation.End }
-        ensures marked { self.new ≡ shut (marked self.old pending_text) }
+        ensures with_text { self.new ≡ closed (with_text self.old pending_text) }
     {
         self.state.pending_text = Some(pending_text);
         self.state.is_bracket_open = false;

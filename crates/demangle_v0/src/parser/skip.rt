@@ -1,8 +1,8 @@
 //! Parts that a printing parse reads and does not print: impl paths, and folded arguments.
 ghost use Rattle.std.specs.Prelude.{◌≡◌, ◌≤◌, true, Some, Ok, IfSome, IfNone};
-ghost use Rattle.demangle_v0.specs.Parsers.{FinishesSkip, IsValid, LeftValid, Same, SkipsFull, SkipsOver, checked_at};
+ghost use Rattle.demangle_v0.specs.Parsers.{FinishesSkip, IsValid, UnfinishedIsValid, Same, SkipsFull, SkipsOver, checked_at};
 ghost use Rattle.demangle_v0.specs.Loops.{state_at};
-ghost use Rattle.demangle_v0.specs.Skips.{after_skip, is_impl_path, own_point};
+ghost use Rattle.demangle_v0.specs.Skips.{after_skip, is_skipped, skipped_continuation};
 
 use crate::parser::machine::Parser;
 use crate::parser::steps::{Checkpoint, ReadOutcome};
@@ -13,7 +13,7 @@ use crate::printer::Unfinished;
 /// are folded.
 #[inline(always)]
 pub fn is_skipped(continuation: Continuation, fold_arguments: bool) -> bool
-    ensures { result ≡ is_impl_path fold_arguments continuation }
+    ensures { result ≡ is_skipped fold_arguments continuation }
 {
     match continuation {
         Continuation::InherentImplPath | Continuation::TraitImplPath => true,
@@ -24,8 +24,8 @@ pub fn is_skipped(continuation: Continuation, fold_arguments: bool) -> bool
 
 /// Returns the continuation that reads such a part.
 #[inline(always)]
-fn own_point(continuation: Continuation) -> Continuation
-    ensures { result ≡ own_point continuation }
+fn skipped_continuation(continuation: Continuation) -> Continuation
+    ensures { result ≡ skipped_continuation continuation }
 {
     match continuation {
         Continuation::InherentImplPath | Continuation::TraitImplPath => Continuation::Path,
@@ -67,7 +67,7 @@ impl<const N: usize> Parser<'_, N> {
     // It is not inlined, so that the loop of printing stays small.
     #[inline(never)]
     pub(crate) fn finish_impl_path(&mut self, left: Unfinished) -> Option<Unfinished>
-        requires valid { LeftValid 0 (Ok (Some left)) self.old }
+        requires valid { UnfinishedIsValid 0 (Ok (Some left)) self.old }
         ensures finishes { FinishesSkip self.old left result self.new }
         ensures grows { self.old.looks ≤ self.new.looks }
         ensures same { Same self.old self.new }
@@ -93,7 +93,7 @@ impl<const N: usize> Parser<'_, N> {
     /// Returns what is left to print if the stack is full before they end.
     #[inline(always)]
     pub(crate) fn skip_impl_path(&mut self) -> Option<Unfinished>
-        requires skipped { is_impl_path self.old.source.fold_arguments self.old.continuation ≡ true }
+        requires skipped { is_skipped self.old.source.fold_arguments self.old.continuation ≡ true }
         requires valid { IsValid self.old }
         ensures following { IfNone result (SkipsOver self.old self.new) }
         ensures unfinished { IfSome result (λ left. SkipsFull self.old left self.new) }
@@ -105,7 +105,7 @@ impl<const N: usize> Parser<'_, N> {
             continuation: self.continuation,
             state: self.state,
         };
-        self.continuation = own_point(self.continuation);
+        self.continuation = skipped_continuation(self.continuation);
         self.state.in_value = false;
         self.finish_impl_path(Unfinished::ImplPath(base, printing))
     }

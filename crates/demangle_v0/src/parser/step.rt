@@ -3,7 +3,7 @@ ghost use Rattle.std.specs.Prelude.{◌≡◌, ◌+◌, ◌≤◌, true, false, 
 ghost use Rattle.demangle_v0.specs.Parsers.{CanPerform, Same, env_of, restated, machine_of};
 ghost use Rattle.demangle_v0.specs.Steps.{looks_bound, resumed_of};
 ghost use Rattle.demangle_v0.specs.Loops.{FlushesText, StepDone, ResumesAt, first_looks, without_pending_text};
-ghost use Rattle.demangle_v0.specs.Skips.{is_impl_path};
+ghost use Rattle.demangle_v0.specs.Skips.{is_skipped};
 
 use crate::parser::frames::Frame;
 use crate::parser::machine::Parser;
@@ -64,7 +64,7 @@ impl<const N: usize> Parser<'_, N> {
         output: &mut V,
     ) -> Result<Continuation, SinkRefused>
         requires can_step { CanPerform V.Output continuation self.old output.old }
-        requires unskipped { V.is_printed ≡ true → is_impl_path
+        requires unskipped { V.is_printed ≡ true → is_skipped
             self.old.source.fold_arguments continuation ≡ false }
         ensures stepped { StepDone (env_of V.Output self.old) continuation (machine_of self.old output.old)
             result (machine_of self.new output.new) }

@@ -22,20 +22,20 @@ impl<const N: usize> Parser<'_, N> {
     #[inline(always)]
     pub(super) fn emit<V: Output>(
         &mut self,
-        stretch: &Token,
+        token: &Token,
         output: &mut V,
     ) -> Result<(), SinkRefused>
         requires can_step { CanPrint V.Output self.old output.old }
-        requires in_bounds { IsTokenWithin self.old.source.symbol.now stretch.now }
+        requires in_bounds { IsTokenWithin self.old.source.symbol.now token.now }
         ensures prints { V.prints output.old (texts_of self.old.source.symbol.now self.old.source.include_hash
-            stretch.now) result output.new }
+            token.now) result output.new }
         ensures ready { OnOk result (V.ready output.new) }
         ensures no_output { V.is_printed ≡ false → IsOk result }
         ensures parser { self.new ≡ looked self.old self.new.looks }
         ensures grows { self.old.looks ≤ self.new.looks }
-        ensures most { self.new.looks ≤ self.old.looks + print_looks stretch.now }
+        ensures most { self.new.looks ≤ self.old.looks + print_looks token.now }
     {
-        output.emit(&self.source, stretch, &mut self.looks)
+        output.emit(&self.source, token, &mut self.looks)
     }
 
     /// Reads the token at the current offset, and prints nothing.
@@ -73,10 +73,10 @@ impl<const N: usize> Parser<'_, N> {
             self.old.state.place }
     {
         match self.token_at(token_kind, output) {
-            TokenOutcome::Parsed(stretch, next) => {
+            TokenOutcome::Parsed(token, next) => {
                 self.state.place = next;
                 self.state.is_bracket_open = false;
-                self.emit(&stretch, output)?;
+                self.emit(&token, output)?;
                 Ok(Continuation::End)
             }
             TokenOutcome::NotParsed(pending_text) => Err(StepError::Abort(pending_text)),

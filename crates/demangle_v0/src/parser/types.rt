@@ -144,7 +144,7 @@ impl<const N: usize> Parser<'_, N> {
         ensures parser { self.new ≡ restacked self.old self.new.stack }
         ensures is_printed { V.is_printed ≡ true → self.new.stack ≡ self.old.stack ++ frame_at continuation
             self.old.state ∷ [] }
-        ensures silent { V.is_printed ≡ false → self.new.stack ≡ self.old.stack }
+        ensures without_output { V.is_printed ≡ false → self.new.stack ≡ self.old.stack }
     {
         if output.is_printing() {
             self.push(continuation);

@@ -72,9 +72,9 @@ impl<const N: usize> Parser<'_, N> {
         ensures performs { Performed V.Output Continuation.Field self.old output.old result self.new output.new }
     {
         match self.token_at(TokenKind::FieldName, output) {
-            TokenOutcome::Parsed(stretch, next) => {
+            TokenOutcome::Parsed(token, next) => {
                 self.state.place = next;
-                self.emit(&stretch, output)?;
+                self.emit(&token, output)?;
                 Ok(Continuation::FieldColon)
             }
             TokenOutcome::NotParsed(pending_text) => Err(StepError::Abort(pending_text)),

@@ -1,5 +1,5 @@
 //! Tests of symbols with `_` for their generic arguments.
-use super::assert_refused;
+use super::assert_rejected;
 use rustc_demangle::sink::ArraySink;
 use rustc_demangle::{
     Format, Looks, demangle, demangle_bytes_formatted, demangle_slice_formatted,
@@ -116,7 +116,7 @@ fn all_else_prints_as_without_folding(rt: HostRuntime) {
 #[test]
 fn folding_accepts_the_same_symbols(rt: HostRuntime) {
     for text in ["_RINvC1a1bh", "_RINvC1a1bRE", "_RINvC1a1b@E"] {
-        assert_refused(&rt, text, text);
+        assert_rejected(&rt, text, text);
         assert!(rt;
             folded_is(text, true, 1_000_000, text),
             "{text} with the hash"

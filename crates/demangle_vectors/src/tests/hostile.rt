@@ -1,5 +1,5 @@
 //! Tests of symbols that are made to do harm.
-use super::{assert_prints, assert_refused, print_symbol};
+use super::{assert_prints, assert_rejected, print_symbol};
 use std::test::Fail;
 
 #[test]
@@ -12,7 +12,7 @@ fn lengths_without_bound_are_rejected(rt: HostRuntime) {
         "_ZN3foéE",
         "_ZN2éE",
     ] {
-        assert_refused(&rt, text, text);
+        assert_rejected(&rt, text, text);
     }
 }
 

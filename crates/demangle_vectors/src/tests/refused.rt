@@ -1,5 +1,5 @@
 //! Tests of texts that are not symbols.
-use super::assert_refused;
+use super::assert_rejected;
 use crate::printed_is;
 
 #[test]
@@ -17,7 +17,7 @@ fn texts_that_no_grammar_spells_print_themselves(rt: HostRuntime) {
         "_ZN6$u000$",
         "_ZN8$ud800$E",
     ] {
-        assert_refused(&rt, text, text);
+        assert_rejected(&rt, text, text);
     }
 }
 
@@ -36,7 +36,7 @@ fn symbols_with_a_suffix_that_is_not_allowed_print_themselves(rt: HostRuntime) {
         "_RC3foo.a\u{7f}",
         "_RC3foo.ü",
     ] {
-        assert_refused(&rt, text, text);
+        assert_rejected(&rt, text, text);
     }
 }
 
@@ -50,7 +50,7 @@ fn a_thin_lto_suffix_is_stripped_off_any_text(rt: HostRuntime) {
         ("a.llvm.A.llvm.G", "a.llvm.A.llvm.G"),
         ("foo.llvm.AG", "foo.llvm.AG"),
     ] {
-        assert_refused(&rt, text, printed);
+        assert_rejected(&rt, text, printed);
     }
 }
 

@@ -1,5 +1,5 @@
 //! Tests of v0 symbols: constants.
-use super::{assert_prints, assert_refused};
+use super::{assert_prints, assert_rejected};
 use std::alloc::Global;
 use std::process::Abort;
 use std::test::Fail;
@@ -182,6 +182,6 @@ fn malformed_constants_are_rejected(rt: HostRuntime) {
         "_RIC0KeG_E",
         "_RIC0KzE",
     ] {
-        assert_refused(&rt, text, text);
+        assert_rejected(&rt, text, text);
     }
 }

@@ -1,5 +1,5 @@
 //! Tests of v0 symbols: names and paths.
-use super::{assert_prints, assert_refused};
+use super::{assert_prints, assert_rejected};
 
 #[test]
 fn a_crate_has_a_disambiguator_only_in_the_plain_form(rt: HostRuntime) {
@@ -165,7 +165,7 @@ fn damaged_paths_print_themselves(rt: HostRuntime) {
         "_RC1a b",
         "_RC1a.\x7f",
     ] {
-        assert_refused(&rt, text, text);
+        assert_rejected(&rt, text, text);
     }
 }
 
@@ -178,13 +178,13 @@ fn numbers_of_more_than_64_bits_are_rejected(rt: HostRuntime) {
         "_RC18446744073709551616a",
         "_RC18446744073709551617a",
     ] {
-        assert_refused(&rt, text, text);
+        assert_rejected(&rt, text, text);
     }
 }
 
 #[test]
 fn punycode_without_a_digit_is_rejected(rt: HostRuntime) {
     for text in ["_RCu1_", "_RCu1__", "_RCu2a_", "_RCu0"] {
-        assert_refused(&rt, text, text);
+        assert_rejected(&rt, text, text);
     }
 }

@@ -1,5 +1,5 @@
 //! Tests of v0 symbols: back references, and the output for a damaged target.
-use super::{assert_prints, assert_refused};
+use super::{assert_prints, assert_rejected};
 
 #[test]
 fn references_print_their_targets(rt: HostRuntime) {
@@ -148,6 +148,6 @@ fn references_ahead_are_rejected(rt: HostRuntime) {
         "_RIC1aKB5_E",
         "_RIC1aB_",
     ] {
-        assert_refused(&rt, text, text);
+        assert_rejected(&rt, text, text);
     }
 }

@@ -1,5 +1,5 @@
 //! Tests of v0 symbols: types, functions, binders and patterns.
-use super::{assert_prints, assert_refused};
+use super::{assert_prints, assert_rejected};
 
 #[test]
 fn basic_types_have_their_names(rt: HostRuntime) {
@@ -193,6 +193,6 @@ fn damaged_types_print_themselves(rt: HostRuntime) {
         "_RMC0DC1aL_",
         "_RMC0g",
     ] {
-        assert_refused(&rt, text, text);
+        assert_rejected(&rt, text, text);
     }
 }

@@ -1,6 +1,6 @@
 //! The vectors of the Rust crate's tests.
 use super::v0_constants::assert_constant;
-use super::{assert_prints, assert_refused, repeat_between};
+use super::{assert_prints, assert_rejected, repeat_between};
 use std::alloc::{AllocError, Global};
 use std::test::Fail;
 
@@ -272,6 +272,6 @@ fn constants_print_their_values(rt: HostRuntime) -> Result<(), Fail> {
 #[test]
 fn rejected_symbols_print_themselves(rt: HostRuntime) {
     for text in REFUSED {
-        assert_refused(&rt, text, text);
+        assert_rejected(&rt, text, text);
     }
 }

@@ -8,7 +8,7 @@ use std::process::Abort;
 use std::test::Fail;
 
 /// Beginnings of such inputs, and the notes on them.
-const MARKED: [(&[u8], &[u8]); 5] = [
+const WITH_MAGIC_NUMBER: [(&[u8], &[u8]); 5] = [
     (
         b"\x1F\x8B\x08\0 _ZN1aE",
         b"kodliwe: note: log.txt looks compressed (gzip); decompress it first\n",
@@ -54,7 +54,7 @@ fn assert_note(
 #[test]
 fn a_first_chunk_with_a_mark_is_noted_once(rt: HostRuntime) -> Result<(), Fail> {
     let alloc = rt.alloc();
-    for (text, note) in MARKED {
+    for (text, note) in WITH_MAGIC_NUMBER {
         assert_note(&rt, alloc, ChunkReader::new(text, 100), text, note)?;
         let interrupted = ChunkReader::new(text, 7).interrupted();
         assert_note(&rt, alloc, interrupted, text, note)?;
@@ -65,7 +65,7 @@ fn a_first_chunk_with_a_mark_is_noted_once(rt: HostRuntime) -> Result<(), Fail> 
 #[test]
 fn a_mark_that_is_cut_is_not_noted(rt: HostRuntime) -> Result<(), Fail> {
     let alloc = rt.alloc();
-    for ((text, note), least) in MARKED.into_iter().zip(LENGTHS) {
+    for ((text, note), least) in WITH_MAGIC_NUMBER.into_iter().zip(LENGTHS) {
         for len in 0..=text.len() {
             let wanted: &[u8] = if len < least { b"" } else { note };
             let prefix = &text[..len];
@@ -81,7 +81,7 @@ fn a_mark_that_is_cut_is_not_noted(rt: HostRuntime) -> Result<(), Fail> {
 #[test]
 fn a_mark_after_the_beginning_is_not_noted(rt: HostRuntime) -> Result<(), Fail> {
     let alloc = rt.alloc();
-    for (text, _) in MARKED {
+    for (text, _) in WITH_MAGIC_NUMBER {
         for prefix in [1, BUFFER] {
             let mut long = vec![in alloc; b'x'; prefix]?;
             long.extend_from_slice(text)?;

@@ -24,7 +24,7 @@ pub fn filtered_is_the_only_text()
 {}
 
 /// The pieces of a text, joined, are the text filtered under the limit.
-#[tactic(auto, using(crate::proofs::PieceSteps::pieces_join))]
+#[tactic(auto, using(crate::proofs::PieceLemmas::pieces_join))]
 pub fn pieces_join_to_the_filtered_text()
     ensures { (hash : Bool) → (limit : ℕ) → (text : List ℕ) →
         concat (filtered_pieces hash limit text) ≡ filtered_within hash limit text }

@@ -1,7 +1,7 @@
 //! Laws about the number of looks of parsing a v0 symbol.
 ghost use Rattle.std.specs.Prelude.{◌≡◌, ℕ, ◌+◌, ◌-◌, ◌*◌, ◌≤◌, Bool, true, List, length, take, None};
 ghost use Rattle.demangle_v0_grammar.specs.ValidationLooks.{accepting_looks};
-ghost use Rattle.demangle_v0_grammar.specs.LookBudget.{bytes_of, looks_of, Pays};
+ghost use Rattle.demangle_v0_grammar.specs.LookBudget.{bytes_of, looks_of, IsWithinBudget};
 ghost use Rattle.demangle_sink.specs.Cut.{size};
 ghost use Rattle.demangle_v0_grammar.specs.Items.{Items, Kind, a_path};
 ghost use Rattle.demangle_v0_grammar.specs.Reading.{Form, Context, max_depth, costs_of, read_at, path_texts, parse};
@@ -14,8 +14,8 @@ pub fn printing_looks_stay_linear()
         let read = read_at symbol form.fold_arguments true a_path 0 0 0 true in
         let all = costs_of form.include_hash read.tree in
         looks_of (take (k + 1) all) ≤ 100000 * (bytes_of (take k all) + 1) * (length symbol + 1) }
-    ensures paid { (symbol : List ℕ) (form : Form) →
-        Pays (34 * max_depth * (length symbol + 1)) (34 * (max_depth + 1) * (length symbol + 1))
+    ensures within_budget { (symbol : List ℕ) (form : Form) →
+        IsWithinBudget (34 * max_depth * (length symbol + 1)) (34 * (max_depth + 1) * (length symbol + 1))
         (costs_of form.include_hash
         (read_at symbol form.fold_arguments true a_path 0 0 0 true).tree) 0 }
     ensures unit { (symbol : List ℕ) (form : Form) (kind : Kind)

@@ -3,7 +3,7 @@ ghost use Rattle.std.specs.Prelude.{◌≡◌, ◌≢◌, true, All, ◌++◌, t
 ghost use Rattle.std.specs.Io.KnownBytes.{Consumes, IsAtEnd};
 ghost use Rattle.std.specs.Io.BufRead.{take_through, DropsThrough};
 ghost use Rattle.std.specs.Io.{StartsWith, StopsAt, IsEmptyOrEndsWith, appended_bytes};
-ghost use Rattle.rustc_demangle.specs.LineStream.{IsReadingFault};
+ghost use Rattle.rustc_demangle.specs.LineStream.{IsReaderFault};
 
 use crate::stream::fault::{StreamFault, read_fault};
 use memchr::memchr;
@@ -41,7 +41,7 @@ fn read_chunk<R: BufRead, A: Allocator>(
         → All (λ x. x ≢ 10) (appended_bytes line.old.items line.new.items) }
     ensures whole { result ≡ Ok true
         → IsEmptyOrEndsWith (appended_bytes line.old.items line.new.items) 10 }
-    ensures named { IfErr result IsReadingFault }
+    ensures named { IfErr result IsReaderFault }
 {
     let available = match input.fill_buf() {
         Ok(available) => available,
@@ -65,7 +65,7 @@ pub(super) fn read_line<R: BufRead, A: Allocator>(
     ensures bytes { OnOk result (IfSome (R.remaining input.old)
         (λ xs. line.new.items ≡ line.old.items ++ take_through 10 xs)) }
     ensures rest { OnOk result (DropsThrough (R.remaining input.old) (R.remaining input.new) 10) }
-    ensures named { IfErr result IsReadingFault }
+    ensures named { IfErr result IsReaderFault }
 {
     for _ in 0..u64::MAX {
         if read_chunk(input, line)? {

@@ -6,7 +6,7 @@ use Rattle.kodliwe.proofs.arguments.parse_arguments.Goals as goal
 
 pub returns-in-Anything : goal.returns-in-Anything
 returns-in-Anything c = record {
-  asked = c.loop-argument.invariant _ (ends_there c.loop-argument.next (options_of c.loop-argument.request) _ (arguments_left string_bytes c.args.arguments.now _ c.loop-argument-test.false) c.in-Anything.is);
+  parsed = c.loop-argument.invariant _ (ends_there c.loop-argument.next (options_of c.loop-argument.request) _ (arguments_left string_bytes c.args.arguments.now _ c.loop-argument-test.false) c.in-Anything.is);
   refused = tt;
 }
 

@@ -1,7 +1,7 @@
 use Rattle.std.proofs.Common.{rules, refl, ap, Ok, ◌∙◌}
 use Rattle.std.proofs.lemmas.Result.{err_from_is_err_and}
-use Rattle.rustc_demangle.proofs.BytesSteps.{passing_init, passing_end, passing_full}
-use Rattle.rustc_demangle.proofs.MemoSteps.{ended_same}
+use Rattle.rustc_demangle.proofs.ByteStreamLemmas.{passing_init, passing_end, passing_full}
+use Rattle.rustc_demangle.proofs.MemoLemmas.{ended_same}
 use Rattle.kodliwe.proofs.FilteringLemmas.{turning_err, passing_turn, wrote_end, turn_same, refused_same}
 use Rattle.kodliwe.proofs.filtering.filter_steps.Goals.{else-loop-test, then-loop-test+in_ok-flush_then_step+else-not-branch+else-counter-lt18446744073709551615}
 use Rattle.kodliwe.proofs.filtering.filter_steps.Goals as goal

@@ -1,7 +1,7 @@
 use Rattle.std.proofs.Common.{◌≡◌}
 use Rattle.std.specs.Io.Buffered.{reader_remaining}
 use Rattle.rustc_demangle.specs.Filtered.{replacement_in}
-use Rattle.rustc_demangle.proofs.BytesSteps.{Passing}
+use Rattle.rustc_demangle.proofs.ByteStreamLemmas.{Passing}
 use Rattle.kodliwe.proofs.filtering.filter_steps.Given as goal
 
 abbrev pub invariant-loop : goal.invariant-loop

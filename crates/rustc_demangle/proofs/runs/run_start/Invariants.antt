@@ -2,8 +2,8 @@ use Rattle.std.proofs.Common.{◌≡◌, ℕ, ◌-◌, ◌<◌, ◌≤◌, false
 use Rattle.rustc_demangle.specs.Filtered.{starts_run}
 use Rattle.rustc_demangle.proofs.runs.run_start.Given as goal
 
-abbrev pub invariant-loop-ahead : goal.invariant-loop-ahead
-invariant-loop-ahead l = (l.from ≤ length l.text) × ((k : ℕ) → k < l.from → starts_run (drop k l.text) ≡ false)
+abbrev pub invariant-loop-offset : goal.invariant-loop-offset
+invariant-loop-offset l = (l.from ≤ length l.text) × ((k : ℕ) → k < l.from → starts_run (drop k l.text) ≡ false)
 
-abbrev pub decreases-loop-ahead : goal.decreases-loop-ahead
-decreases-loop-ahead l = length l.text - l.from
+abbrev pub decreases-loop-offset : goal.decreases-loop-offset
+decreases-loop-offset l = length l.text - l.from

@@ -1,7 +1,7 @@
 use Rattle.std.proofs.Common.{◌≡◌, ◌<◌, length, IfSome, IfNone, subst}
 use Rattle.std.below.core.specs.declared.int.usize.TheConstants.{MAX}
 use Rattle.demangle_sink.specs.Slice.{overlay}
-use Rattle.rustc_demangle.proofs.PieceSteps.{pieces_join_in}
+use Rattle.rustc_demangle.proofs.PieceLemmas.{pieces_join_in}
 use Rattle.rustc_demangle.proofs.slice.demangle_slice_formatted.Goals as goal
 
 pub returns-clause-size : goal.returns-clause-size

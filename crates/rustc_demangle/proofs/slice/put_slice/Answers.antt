@@ -3,9 +3,9 @@ use Rattle.std.specs.List.{list_all}
 use Rattle.std.proofs.lemmas.List.Sums.{prefix_len-le-length}
 use Rattle.demangle_sink.specs.contracts.slice_sink.SliceSinkTextSink.TheImpl.{ghosts}
 use Rattle.rustc_demangle.specs.Filtered.{is_run_byte}
-use Rattle.rustc_demangle.proofs.BytesSteps.{all_cut}
-use Rattle.rustc_demangle.proofs.PieceSteps.{feeding_step, feeding_kept, feeding_run, feeding_end}
-use Rattle.rustc_demangle.proofs.SliceSteps.{slice_writes, slice_puts}
+use Rattle.rustc_demangle.proofs.ByteStreamLemmas.{all_cut}
+use Rattle.rustc_demangle.proofs.PieceLemmas.{feeding_step, feeding_kept, feeding_run, feeding_end}
+use Rattle.rustc_demangle.proofs.SliceLemmas.{slice_writes, slice_puts}
 use Rattle.rustc_demangle.proofs.slice.put_slice.Goals as goal
 
 pub split_at-requires-in-Some : goal.split_at-requires-in-Some

@@ -1,6 +1,6 @@
 use Rattle.std.proofs.Common.{length}
 use Rattle.demangle_sink.specs.contracts.slice_sink.SliceSinkTextSink.TheImpl.{ghosts}
-use Rattle.rustc_demangle.proofs.PieceSteps.{Feeding}
+use Rattle.rustc_demangle.proofs.PieceLemmas.{Feeding}
 use Rattle.rustc_demangle.proofs.slice.put_slice.Given as goal
 
 abbrev pub invariant-loop-start : goal.invariant-loop-start

@@ -1,6 +1,6 @@
 use Rattle.std.proofs.Common.{rules, refl}
 use Rattle.std.proofs.lemmas.Result.{err_from_is_err_and}
-use Rattle.rustc_demangle.proofs.StreamSteps.{line_refused, line_copied, line_unread, line_ended, some_items}
+use Rattle.rustc_demangle.proofs.LineStreamLemmas.{line_refused, line_copied, line_unread, line_ended, some_items}
 use Rattle.rustc_demangle.proofs.stream.copy_line.Goals as goal
 
 pub returns-in_err-read_line : goal.returns-in_err-read_line

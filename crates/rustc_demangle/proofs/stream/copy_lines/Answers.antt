@@ -1,6 +1,6 @@
 use Rattle.std.proofs.Common.{rules}
 use Rattle.std.proofs.lemmas.Result.{err_from_is_err_and}
-use Rattle.rustc_demangle.proofs.StreamSteps.{streaming_init, streaming_step, streaming_end, streaming_err, streaming_full}
+use Rattle.rustc_demangle.proofs.LineStreamLemmas.{streaming_init, streaming_step, streaming_end, streaming_err, streaming_full}
 use Rattle.rustc_demangle.proofs.stream.copy_lines.Goals.{else-loop-test, then-loop-test+in_ok-copy_line+else-not-branch+else-counter-lt18446744073709551615}
 use Rattle.rustc_demangle.proofs.stream.copy_lines.Goals as goal
 

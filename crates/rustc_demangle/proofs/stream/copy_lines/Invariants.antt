@@ -1,4 +1,4 @@
-use Rattle.rustc_demangle.proofs.StreamSteps.{Streaming}
+use Rattle.rustc_demangle.proofs.LineStreamLemmas.{Streaming}
 use Rattle.rustc_demangle.proofs.stream.copy_lines.Given as goal
 
 abbrev pub invariant-loop : goal.invariant-loop

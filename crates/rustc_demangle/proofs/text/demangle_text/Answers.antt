@@ -1,7 +1,7 @@
 use Rattle.std.proofs.Common.{subst}
 use Rattle.std.proofs.lemmas.Result.{on_ok_weaker}
 use Rattle.rustc_demangle.specs.Symbols.{most_bytes}
-use Rattle.rustc_demangle.proofs.PieceSteps.{pieces_join}
+use Rattle.rustc_demangle.proofs.PieceLemmas.{pieces_join}
 use Rattle.rustc_demangle.proofs.text.demangle_text.Goals as goal
 
 pub returns-clause-text : goal.returns-clause-text

@@ -1,7 +1,7 @@
 use Rattle.std.proofs.Common.{refl, ap, sym, subst, ◌∙◌}
 use Rattle.demangle_sink.specs.PutsPieces.{PutsPieces}
 use Rattle.rustc_demangle.specs.Symbols.{handed_in, IsSymbol}
-use Rattle.rustc_demangle.proofs.PieceSteps.{run_pieces-symbol, run_pieces-no_symbol}
+use Rattle.rustc_demangle.proofs.PieceLemmas.{run_pieces-symbol, run_pieces-no_symbol}
 use Rattle.rustc_demangle.proofs.text.put_run.Goals as goal
 
 pub returns-then-has_style : goal.returns-then-has_style

@@ -1,7 +1,7 @@
 use Rattle.std.proofs.Common.{length}
 use denote.Text.{Utf8}
 use denote.Shadow.{shadow}
-use Rattle.rustc_demangle.proofs.PieceSteps.{Feeding}
+use Rattle.rustc_demangle.proofs.PieceLemmas.{Feeding}
 use Rattle.rustc_demangle.proofs.text.put_text.Given as goal
 
 abbrev pub invariant-loop-start : goal.invariant-loop-start

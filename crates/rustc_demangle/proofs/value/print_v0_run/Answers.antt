@@ -12,11 +12,11 @@ use Rattle.demangle_sink.proofs.PrintsLemmas.{prints_cut_all}
 use Rattle.rustc_demangle.specs.Filtered.{replacement_within}
 use Rattle.rustc_demangle.specs.Stripped.{is_allowed, stripped}
 use Rattle.rustc_demangle.specs.Symbols.{IsSymbol, unfolded}
-use Rattle.rustc_demangle.proofs.BytesSteps.{all_ascii}
-use Rattle.rustc_demangle.proofs.MemoSteps.{symbol_replaced}
+use Rattle.rustc_demangle.proofs.ByteStreamLemmas.{all_ascii}
+use Rattle.rustc_demangle.proofs.MemoLemmas.{symbol_replaced}
 use Rattle.rustc_demangle.proofs.PrintingLaws.{handed-some_of}
 use Rattle.rustc_demangle.proofs.Stripping.{IsAscii-stripped}
-use Rattle.rustc_demangle.proofs.SymbolSteps.{pieces-v0}
+use Rattle.rustc_demangle.proofs.SymbolLemmas.{pieces-v0}
 use Rattle.rustc_demangle.proofs.value.print_v0_run.Goals as goal
 use Rattle.rustc_demangle.proofs.value.print_v0_run.Goals.{then-is_allowed, else-is_allowed}
 

@@ -1,5 +1,5 @@
 use Rattle.std.proofs.Common.{arith, sym}
-use Rattle.rustc_demangle.proofs.SymbolSteps.{style_suffix-shorter, not_allowed_unstyled}
+use Rattle.rustc_demangle.proofs.SymbolLemmas.{style_suffix-shorter, not_allowed_unstyled}
 use Rattle.rustc_demangle.proofs.value.style_of.Goals as goal
 
 pub returns-then-is_allowed-clause-most : goal.returns-then-is_allowed-clause-most

@@ -12,5 +12,5 @@ pub returns : goal.returns
 returns c = λ text_for remembers same.
     c.put.ensures text_for (c.append.ensures.kept text_for (c.make_room.ensures.kept text_for remembers))
     (new_entry text_for c.make_room.new.self.bytes.items c.args.key.now c.args.text.now c.append.new.self.bytes.items
-    (record { start = c.len-start.result; key_len = length c.args.key.now; text_len = length c.args.text.now; mark = c.mark_of.result })
+    (record { start = c.len-start.result; key_len = length c.args.key.now; text_len = length c.args.text.now; fingerprint = c.fingerprint_of.result })
     (c.append.ensures.appended c.if-not-append.false) (search rules) refl refl same)

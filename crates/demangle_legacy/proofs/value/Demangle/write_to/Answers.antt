@@ -1,6 +1,6 @@
 use Rattle.std.proofs.Common.{drop, inl, inr, refl, sym, arith}
 use Rattle.demangle_legacy.specs.Legacy.{elements_of}
-use Rattle.demangle_legacy.specs.Unescaped.{following_pieces, shown_elements}
+use Rattle.demangle_legacy.specs.Unescaped.{following_pieces, printed_elements}
 use Rattle.demangle_legacy.proofs.LegacyPrinting.{elements_end, left_none, left_after, same_after, turn_next, turn_begun, turn_hash}
 use Rattle.demangle_sink.proofs.Printed.{printed_left, printed_then, printed_stop, printed_all}
 use Rattle.demangle_legacy.proofs.value.Demangle.write_to.Goals as goal
@@ -44,7 +44,7 @@ loop-element-preserved g c =
       | else-at-gt0 w ↦ rw w.out-is (inr (omega arith, refl))
     ])
     in
-    let done = printed_then g.S.TextSink _ _ _ _ _ _ (following_pieces (shown_elements hash (elements_of (drop e.to s)))) begun refl c.in_ok-put_element.ensures.prints in
+    let done = printed_then g.S.TextSink _ _ _ _ _ _ (following_pieces (printed_elements hash (elements_of (drop e.to s)))) begun refl c.in_ok-put_element.ensures.prints in
     record {
       inside = omega (arith, c.in-Some.ensures.within);
       same = same_after s hash at e.from e.to c.self.invariant.1 c.loop-element.invariant.same (sym c.in-Some.ensures.element);

@@ -21,10 +21,10 @@ pub returns-clause-takes : goal.returns-clause-takes
 returns-clause-takes c = λ arguments answer asks.
     let old = options_of c.args.self.now in
     let left : Options → Type 0 = λ o. ParsesTo anything o arguments answer in
-    let asked : (r : Request) → c.match-classify.self ≡ r → ParsesTo anything (options_of r) arguments answer = λ r e. subst (λ r. ParsesTo anything (options_of r) arguments answer) e asks in
+    let parsed : (r : Request) → c.match-classify.self ≡ r → ParsesTo anything (options_of r) arguments answer = λ r e. subst (λ r. ParsesTo anything (options_of r) arguments answer) e asks in
     elim c.match-classify.branch [
-      | in-Symbol+in_ok-add_symbol-in-Symbol w ↦ takes_symbol w.in-Symbol.ensures.is (subst left w.in_ok-add_symbol-in-Symbol.ensures (asked _ w.self-is))
-      | in-Stdin+in_ok-add_file-in-Stdin w ↦ takes_stdin w.in-Stdin.ensures.is (subst left (sets_stdin _ _ w.in_ok-add_file-in-Stdin.ensures.sets) (asked _ w.self-is))
-      | in-Hash w ↦ takes_hash w.in-Hash.ensures.is (asked _ w.self-is)
-      | in-Fold w ↦ takes_fold w.in-Fold.ensures.is (asked _ w.self-is)
+      | in-Symbol+in_ok-add_symbol-in-Symbol w ↦ takes_symbol w.in-Symbol.ensures.is (subst left w.in_ok-add_symbol-in-Symbol.ensures (parsed _ w.self-is))
+      | in-Stdin+in_ok-add_file-in-Stdin w ↦ takes_stdin w.in-Stdin.ensures.is (subst left (sets_stdin _ _ w.in_ok-add_file-in-Stdin.ensures.sets) (parsed _ w.self-is))
+      | in-Hash w ↦ takes_hash w.in-Hash.ensures.is (parsed _ w.self-is)
+      | in-Fold w ↦ takes_fold w.in-Fold.ensures.is (parsed _ w.self-is)
     ]

@@ -1,7 +1,7 @@
 use Rattle.std.proofs.Common.{rules, refl, ap, Ok, ◌∙◌}
 use Rattle.std.proofs.lemmas.Result.{err_from_is_err_and}
-use Rattle.rustc_demangle.proofs.BytesSteps.{passing_init, passing_step, passing_end, passing_err, passing_full}
-use Rattle.rustc_demangle.proofs.MemoSteps.{took_same, ended_same}
+use Rattle.rustc_demangle.proofs.ByteStreamLemmas.{passing_init, passing_step, passing_end, passing_err, passing_full}
+use Rattle.rustc_demangle.proofs.MemoLemmas.{took_same, ended_same}
 use Rattle.rustc_demangle.proofs.stream.bytes.run_to_end.Goals.{else-loop-test, then-loop-test+in_ok-step+else-not-branch+else-counter-lt18446744073709551615}
 use Rattle.rustc_demangle.proofs.stream.bytes.run_to_end.Goals as goal
 

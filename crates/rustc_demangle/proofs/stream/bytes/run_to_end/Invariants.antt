@@ -1,6 +1,6 @@
 use Rattle.std.proofs.Common.{◌≡◌}
 use Rattle.rustc_demangle.specs.Filtered.{replacement_in}
-use Rattle.rustc_demangle.proofs.BytesSteps.{Passing}
+use Rattle.rustc_demangle.proofs.ByteStreamLemmas.{Passing}
 use Rattle.rustc_demangle.proofs.stream.bytes.run_to_end.Given as goal
 
 abbrev pub invariant-loop : goal.invariant-loop

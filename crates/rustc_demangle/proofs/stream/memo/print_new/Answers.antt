@@ -1,6 +1,6 @@
 use Rattle.std.proofs.Common.{◌≡◌, sym, ap, subst, ◌∙◌}
 use Rattle.rustc_demangle.specs.Filtered.{replacement_in}
-use Rattle.rustc_demangle.proofs.MemoSteps.{symbol_replaced, run_kept}
+use Rattle.rustc_demangle.proofs.MemoLemmas.{symbol_replaced, run_kept}
 use Rattle.rustc_demangle.proofs.stream.memo.print_new.Goals as goal
 
 pub returns-then-not-has_style-clause-no_symbol : goal.returns-then-not-has_style-clause-no_symbol

@@ -1,6 +1,6 @@
 use Rattle.std.proofs.Common.{inl, inr, ap, arith, length, take}
 use Rattle.std.proofs.lemmas.List.{length-append, length-take}
-use Rattle.rustc_demangle.proofs.BytesSteps.{passed_none, moved}
+use Rattle.rustc_demangle.proofs.ByteStreamLemmas.{passed_none, moved}
 use Rattle.rustc_demangle.proofs.stream.pending_run.extend_prefix.Goals as goal
 
 pub returns-then-extends_prefix-clause-ok : goal.returns-then-extends_prefix-clause-ok

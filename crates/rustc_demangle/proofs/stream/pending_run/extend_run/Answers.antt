@@ -1,7 +1,7 @@
 use Rattle.std.proofs.Common.{inr, ap, arith, length, take}
 use Rattle.std.proofs.lemmas.List.{length-append, length-take}
-use Rattle.rustc_demangle.proofs.RunSteps.{run_some}
-use Rattle.rustc_demangle.proofs.BytesSteps.{more_run, run_ended, passed_none, moved}
+use Rattle.rustc_demangle.proofs.RunLemmas.{run_some}
+use Rattle.rustc_demangle.proofs.ByteStreamLemmas.{more_run, run_ended, passed_none, moved}
 use Rattle.rustc_demangle.proofs.stream.pending_run.extend_run.Goals as goal
 
 pub finish-requires : goal.finish-requires

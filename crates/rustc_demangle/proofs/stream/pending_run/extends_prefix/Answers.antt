@@ -1,4 +1,4 @@
-use Rattle.rustc_demangle.proofs.BytesSteps.{not_on}
+use Rattle.rustc_demangle.proofs.ByteStreamLemmas.{not_on}
 use Rattle.rustc_demangle.proofs.stream.pending_run.extends_prefix.Goals as goal
 
 pub returns-else-pending-eq1-clause-off : goal.returns-else-pending-eq1-clause-off

@@ -3,8 +3,8 @@ use Rattle.std.specs.List.{list_all}
 use Rattle.std.proofs.lemmas.List.{length-append, length-take}
 use Rattle.std.proofs.lemmas.List.Sums.{prefix_len-le-length}
 use Rattle.rustc_demangle.specs.Filtered.{is_run_byte, starts_run}
-use Rattle.rustc_demangle.proofs.RunSteps.{run_some}
-use Rattle.rustc_demangle.proofs.BytesSteps.{text_kept, text_run, found_open, far, all_prefix}
+use Rattle.rustc_demangle.proofs.RunLemmas.{run_some}
+use Rattle.rustc_demangle.proofs.ByteStreamLemmas.{text_kept, text_run, found_open, far, all_prefix}
 use Rattle.rustc_demangle.proofs.stream.pending_run.filter_text.Goals as goal
 
 pub returns-in_default-clause-ok : goal.returns-in_default-clause-ok

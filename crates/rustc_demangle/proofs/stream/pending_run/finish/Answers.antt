@@ -2,7 +2,7 @@ use Rattle.std.proofs.Common.{◌≡◌, true, false, ap, subst, sym, ◌∙◌}
 use Rattle.std.proofs.lemmas.Result.{on_ok_weaker}
 use Rattle.std.specs.Io.KnownBytes.{Appends}
 use Rattle.rustc_demangle.specs.Filtered.{starts_run, replacement_in, filtered_in}
-use Rattle.rustc_demangle.proofs.BytesSteps.{finished_run, finished_kept}
+use Rattle.rustc_demangle.proofs.ByteStreamLemmas.{finished_run, finished_kept}
 use Rattle.rustc_demangle.proofs.stream.pending_run.finish.Goals.{then-starts_run, else-starts_run}
 use Rattle.rustc_demangle.proofs.stream.pending_run.finish.Goals as goal
 

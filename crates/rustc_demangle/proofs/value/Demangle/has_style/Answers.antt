@@ -1,5 +1,5 @@
 use Rattle.std.proofs.Common.{sym, ◌∙◌}
-use Rattle.rustc_demangle.proofs.SymbolSteps.{styled_symbol, unstyled_no_symbol}
+use Rattle.rustc_demangle.proofs.SymbolLemmas.{styled_symbol, unstyled_no_symbol}
 use Rattle.rustc_demangle.proofs.value.Demangle.has_style.Goals as goal
 
 pub returns-clause-yes : goal.returns-clause-yes

@@ -1,6 +1,6 @@
 use Rattle.std.proofs.Common.{sym}
 use Rattle.rustc_demangle.proofs.PathEndLaws.{path_len-styled}
-use Rattle.rustc_demangle.proofs.SymbolSteps.{styled-some, style_suffix-shorter}
+use Rattle.rustc_demangle.proofs.SymbolLemmas.{styled-some, style_suffix-shorter}
 use Rattle.rustc_demangle.proofs.value.Demangle.path_len.Goals as goal
 
 pub overflow_sub-result : goal.overflow_sub-result

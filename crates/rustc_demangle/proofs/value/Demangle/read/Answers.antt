@@ -1,4 +1,4 @@
-use Rattle.rustc_demangle.proofs.SymbolSteps.{no_symbol_unstyled}
+use Rattle.rustc_demangle.proofs.SymbolLemmas.{no_symbol_unstyled}
 use Rattle.rustc_demangle.proofs.value.Demangle.read.Goals as goal
 
 pub returns-in-None-clause-least : goal.returns-in-None-clause-least

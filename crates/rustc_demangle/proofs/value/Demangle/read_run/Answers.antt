@@ -1,6 +1,6 @@
 use Rattle.std.proofs.Common.{sym, subst}
 use Rattle.std.specs.Prelude.{IsAscii}
-use Rattle.rustc_demangle.proofs.BytesSteps.{all_ascii}
+use Rattle.rustc_demangle.proofs.ByteStreamLemmas.{all_ascii}
 use Rattle.rustc_demangle.proofs.Stripping.{IsAscii-stripped}
 use Rattle.rustc_demangle.proofs.value.Demangle.read_run.Goals as goal
 

@@ -1,6 +1,6 @@
 use Rattle.std.proofs.Common.{refl, [], ◌∷◌}
 use Rattle.demangle_sink.proofs.PutsPiecesLemmas.{puts_then, puts_stop}
-use Rattle.rustc_demangle.proofs.SymbolSteps.{handed-some, styled-none, styled-some, styled_looks, unstyled_looks}
+use Rattle.rustc_demangle.proofs.SymbolLemmas.{handed-some, styled-none, styled-some, styled_looks, unstyled_looks}
 use Rattle.rustc_demangle.proofs.value.Demangle.write_pieces.Goals as goal
 
 pub returns-in_default-clause-looks : goal.returns-in_default-clause-looks

@@ -7,7 +7,7 @@ use Rattle.demangle_v0.proofs.parser.machine.Parser.arguments.Goals as goal
 
 pub returns-in_default : goal.returns-in_default
 returns-in_default g c = record {
-  performs = λ p w. rw (c.end_with.ensures.end, c.end_with.ensures.marked) (record {
+  performs = λ p w. rw (c.end_with.ensures.end, c.end_with.ensures.with_text) (record {
     does = arguments_close c.args.is_first w (rw c.in_default.is refl) (rw c.in_default.is refl) (rw c.in_default.is
         paid_none);
     same = (refl, refl, refl);
@@ -19,7 +19,7 @@ returns-then-is_at g c =
     let over : is_byte c.args.self.now.source.symbol.now c.in-Some.at (code "E") ≡ true = sym c.is_at.ensures.there ∙
     c.if-is_at.true in
     record {
-      performs = λ p w. rw (c.end_with-then-is_at.ensures.end, c.end_with-then-is_at.ensures.marked) (record {
+      performs = λ p w. rw (c.end_with-then-is_at.ensures.end, c.end_with-then-is_at.ensures.with_text) (record {
         does = arguments_close c.args.is_first w (rw c.in-Some.is over) (rw (c.in-Some.is, over) refl) (rw c.in-Some.is
             (record { grows = omega (arith, c.is_at.ensures.look); within = omega (arith, c.is_at.ensures.look) }));
         same = (refl, refl, refl);

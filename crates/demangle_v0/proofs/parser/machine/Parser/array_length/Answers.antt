@@ -11,7 +11,7 @@ pub returns : goal.returns
 unfolding parse trace_at
 returns g c = record {
   performs = rw (c.put.ensures, c.push_if_printing.ensures.parser) (record {
-    does = encloses continuation.Constant a_constant true true fixed.Semicolon refl refl (omega arith) (omega arith) (omega arith) c.requires.can_step.fits c.requires.can_step.fits c.push_if_printing.ensures.is_printed c.push_if_printing.ensures.silent;
+    does = encloses continuation.Constant a_constant true true fixed.Semicolon refl refl (omega arith) (omega arith) (omega arith) c.requires.can_step.fits c.requires.can_step.fits c.push_if_printing.ensures.is_printed c.push_if_printing.ensures.without_output;
     same = (refl, refl, refl);
   });
 }

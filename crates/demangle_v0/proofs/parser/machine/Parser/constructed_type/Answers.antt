@@ -8,7 +8,7 @@ use Rattle.demangle_v0.specs.Productions.{dyn_type}
 use Rattle.demangle_v0.specs.Traces.{trace_at, frame_at}
 use Rattle.demangle_v0_tokens.specs.declared.fixed_texts.FixedText.TheVariants as fixed
 use Rattle.demangle_v0.specs.declared.parser.Continuation.TheVariants as continuation
-use Rattle.demangle_v0.proofs.Parsers.{went_rest}
+use Rattle.demangle_v0.proofs.Parsers.{advanced_rest}
 use Rattle.demangle_v0.proofs.StepCases.{alike, enters, marks}
 use Rattle.demangle_v0.proofs.parser.machine.Parser.constructed_type.Goals as goal
 
@@ -36,7 +36,7 @@ pub returns-in-Slice : goal.returns-in-Slice
 unfolding parse trace_at
 returns-in-Slice g c = record {
   performs = rw (c.in-Slice.is, c.put-in-Slice.ensures, c.push_if_printing.ensures.parser) (record {
-    does = encloses continuation.«Type» a_type false c.args.self.now.state.in_value fixed.OpenBracket refl refl (omega arith) (omega arith) (omega arith) (omega (arith, c.requires.can_step.fits)) (omega (arith, c.requires.can_step.fits)) c.push_if_printing.ensures.is_printed c.push_if_printing.ensures.silent;
+    does = encloses continuation.«Type» a_type false c.args.self.now.state.in_value fixed.OpenBracket refl refl (omega arith) (omega arith) (omega arith) (omega (arith, c.requires.can_step.fits)) (omega (arith, c.requires.can_step.fits)) c.push_if_printing.ensures.is_printed c.push_if_printing.ensures.without_output;
     same = (refl, refl, refl);
   });
 }
@@ -57,7 +57,7 @@ returns-in-Function g c = record {
 
 pub returns-in-Dyn : goal.returns-in-Dyn
 returns-in-Dyn g c =
-    let d = went_rest g.V.Output c.args.output.now dyn_type 5 4 5 c.dyn_type.ensures.performs in
+    let d = advanced_rest g.V.Output c.args.output.now dyn_type 5 4 5 c.dyn_type.ensures.performs in
     record {
       performs = rw c.in-Dyn.is (record {
         does = alike (omega arith) refl (omega arith) (omega arith) d.does;

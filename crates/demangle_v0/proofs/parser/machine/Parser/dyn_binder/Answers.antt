@@ -2,7 +2,7 @@ use Rattle.std.proofs.Common.{arith, refl, sym}
 use Rattle.demangle_v0.specs.Traces.{trace_at}
 use Rattle.demangle_v0.specs.declared.parser.Continuation.TheVariants as continuation
 use Rattle.demangle_v0.proofs.StepErrors.{stops, stops_invalid}
-use Rattle.demangle_v0.proofs.Parsers.{went}
+use Rattle.demangle_v0.proofs.Parsers.{advanced}
 use Rattle.demangle_v0.proofs.DynTraitSteps.{first_traits}
 use Rattle.demangle_v0.proofs.FunctionSteps.{binder_unread, binder_stops, binder_none, binder_continues, binder_refused}
 use Rattle.demangle_v0.proofs.PrimitiveLooks.{optional_there}
@@ -33,7 +33,7 @@ pub returns-then-number-eq0 : goal.returns-then-number-eq0
 unfolding trace_at
 returns-then-number-eq0 g c =
     let there = optional_there _ _ _ _ _ (sym c.in_ok-number.ensures.read) in
-    let d = went g.V.Output c.args.output.now continuation.FirstDynTrait c.dyn_trait.ensures.performs in
+    let d = advanced g.V.Output c.args.output.now continuation.FirstDynTrait c.dyn_trait.ensures.performs in
     record {
       performs = record {
         does = binder_none (omega arith) first_traits c.in_ok-at.at c.in_ok-number.next c.in_ok-number.number

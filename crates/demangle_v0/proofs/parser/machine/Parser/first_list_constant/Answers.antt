@@ -5,9 +5,9 @@ use Rattle.demangle_v0.proofs.parser.machine.Parser.first_list_constant.Goals as
 
 pub returns-then-ends_list : goal.returns-then-ends_list
 returns-then-ends_list g c = record {
-  performs = λ p. rw (c.end_with.ensures.end, c.end_with.ensures.marked, c.close.ensures, c.ends_list.ensures.place) (record {
+  performs = λ p. rw (c.end_with.ensures.end, c.end_with.ensures.with_text, c.close.ensures, c.ends_list.ensures.place) (record {
     does = list_shuts (constants _ true c.args.list) (sym c.ends_list.ensures.over ∙ c.if-ends_list.true) refl
-        c.ends_list.ensures.paid;
+        c.ends_list.ensures.within_budget;
     same = (refl, refl, refl);
   });
 }
@@ -16,7 +16,7 @@ pub returns : goal.returns
 returns g c = record {
   performs = λ p. rw (c.element.ensures, c.push.ensures, c.after_first.ensures, c.ends_list.ensures.place) (record {
     does = list_continues (constants _ true c.args.list) (sym c.ends_list.ensures.over ∙ c.if-ends_list.false) refl
-        c.ends_list.ensures.paid c.requires.can_step.no_pending_text c.requires.can_step.fits refl;
+        c.ends_list.ensures.within_budget c.requires.can_step.no_pending_text c.requires.can_step.fits refl;
     same = (refl, refl, refl);
   });
 }

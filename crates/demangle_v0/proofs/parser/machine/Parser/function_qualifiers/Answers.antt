@@ -3,7 +3,7 @@ use Rattle.demangle_v0.specs.Traces.{trace_at}
 use Rattle.demangle_v0.specs.declared.parser.Continuation.TheVariants as continuation
 use Rattle.demangle_v0_tokens.specs.declared.token.TokenKind.TheVariants as token_kind
 use Rattle.demangle_v0.proofs.StepErrors.{stops}
-use Rattle.demangle_v0.proofs.Parsers.{went}
+use Rattle.demangle_v0.proofs.Parsers.{advanced}
 use Rattle.demangle_v0_grammar.specs.Table.{parameters}
 use Rattle.demangle_v0.proofs.StepCases.{token_continues, token_bare, token_refuses, word_stops}
 use Rattle.demangle_v0.proofs.PrimitiveLooks.{group_tight, own_more}
@@ -15,7 +15,7 @@ returns-then-has_no_qualifiers g c =
     let m = c.args.self.now in
     let tight = group_tight m.source.symbol.now token_kind.FunctionQualifiers m.state.letter g.V.Output.is_printed m.state.lifetimes
     m.state.place in
-    let d = went g.V.Output c.args.output.now continuation.OpenParameters
+    let d = advanced g.V.Output c.args.output.now continuation.OpenParameters
     (rw c.token_at.ensures.parser at c.queue_text.ensures.performs) in
     record {
       performs = record {

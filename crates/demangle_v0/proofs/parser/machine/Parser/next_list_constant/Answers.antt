@@ -5,9 +5,9 @@ use Rattle.demangle_v0.proofs.parser.machine.Parser.next_list_constant.Goals as 
 
 pub returns-then-ends_list : goal.returns-then-ends_list
 returns-then-ends_list g c = record {
-  performs = λ p. rw (c.end_with.ensures.end, c.end_with.ensures.marked, c.close.ensures, c.ends_list.ensures.place) (record {
+  performs = λ p. rw (c.end_with.ensures.end, c.end_with.ensures.with_text, c.close.ensures, c.ends_list.ensures.place) (record {
     does = list_shuts (constants _ false c.args.list) (sym c.ends_list.ensures.over ∙ c.if-ends_list.true) refl
-        c.ends_list.ensures.paid;
+        c.ends_list.ensures.within_budget;
     same = (refl, refl, refl);
   });
 }
@@ -17,7 +17,7 @@ returns g c = record {
   performs = λ p. rw (c.element.ensures, c.put.ensures, c.push.ensures, c.after_next.ensures, c.ends_list.ensures.place)
       (record {
         does = list_continues (constants _ false c.args.list) (sym c.ends_list.ensures.over ∙ c.if-ends_list.false) refl
-            c.ends_list.ensures.paid refl c.requires.can_step.fits refl;
+            c.ends_list.ensures.within_budget refl c.requires.can_step.fits refl;
         same = (refl, refl, refl);
       });
 }

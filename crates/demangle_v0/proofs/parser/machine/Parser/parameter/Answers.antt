@@ -7,7 +7,7 @@ pub returns-then-ends_list : goal.returns-then-ends_list
 returns-then-ends_list g c = record {
   performs = λ p. rw (c.put.ensures, c.ends_list.ensures.place) (record {
     does = parameters_close c.args.is_first (sym c.ends_list.ensures.over ∙ c.if-ends_list.true) refl
-        c.ends_list.ensures.paid c.requires.can_step.fits;
+        c.ends_list.ensures.within_budget c.requires.can_step.fits;
     same = (refl, refl, refl);
   });
 }
@@ -16,7 +16,7 @@ pub returns : goal.returns
 returns g c = record {
   performs = λ p. rw (c.push.ensures, c.ends_list.ensures.place) (record {
     does = list_continues (parameter_types _ c.args.is_first) (sym c.ends_list.ensures.over ∙ c.if-ends_list.false) refl
-        c.ends_list.ensures.paid c.separator-self.ensures c.requires.can_step.fits refl;
+        c.ends_list.ensures.within_budget c.separator-self.ensures c.requires.can_step.fits refl;
     same = (refl, refl, refl);
   });
 }

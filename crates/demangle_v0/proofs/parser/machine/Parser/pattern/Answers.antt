@@ -69,7 +69,7 @@ returns-in_ok-enter-in-Or g c = let ok = c.in_ok-enter-in-Or.ensures.ok in recor
 
 pub returns-in-NotNull : goal.returns-in-NotNull
 returns-in-NotNull g c = record {
-  performs = λ p. rw (c.end_with.ensures.end, c.end_with.ensures.marked) (record {
+  performs = λ p. rw (c.end_with.ensures.end, c.end_with.ensures.with_text) (record {
     does = not_null c.in_ok-at.at c.in_ok-tag.tag c.in_ok-tag.next c.in_ok-at.ensures.ok c.in_ok-tag.ensures.read
         (rw (c.in_ok-kind.ensures.ok_part, c.in-NotNull.is) at c.pattern_kind.ensures) c.tag.ensures.look;
     same = (refl, refl, refl);

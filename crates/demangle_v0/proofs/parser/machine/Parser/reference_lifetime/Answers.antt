@@ -33,7 +33,7 @@ returns-then-index-eq0 g c = record {
           c.in_ok-index.next (record {
             at = c.in_ok-at.ensures.ok;
             is = c.in_ok-index.ensures.read;
-            paid = record { grows = omega arith; within = omega (arith, c.in_ok-index.ensures.ok_looks) };
+            within_budget = record { grows = omega arith; within = omega (arith, c.in_ok-index.ensures.ok_looks) };
             no_pending_text = c.requires.can_step.no_pending_text;
             fits = c.requires.can_step.fits;
           }) w.if-index-eq0.true
@@ -41,7 +41,7 @@ returns-then-index-eq0 g c = record {
           c.in_ok-index.index c.in_ok-index.next (record {
             at = c.in_ok-at.ensures.ok;
             is = c.in_ok-index.ensures.read;
-            paid = record { grows = omega arith; within = omega (arith, c.in_ok-index.ensures.ok_looks) };
+            within_budget = record { grows = omega arith; within = omega (arith, c.in_ok-index.ensures.ok_looks) };
             no_pending_text = c.requires.can_step.no_pending_text;
             fits = c.requires.can_step.fits;
           }) w.if-index-eq0.false (sym w.is_printing.ensures ∙ w.if-not-is_printing.true)
@@ -51,13 +51,13 @@ returns-then-index-eq0 g c = record {
 }
 
 pub returns-in_err-emit : goal.returns-in_err-emit
-returns-in_err-emit g c = let e = c.in_err-emit.ensures in let x = c.spaced_lifetime-stretch.ensures in record {
+returns-in_err-emit g c = let e = c.in_err-emit.ensures in let x = c.spaced_lifetime-token.ensures in record {
   performs = rw e.parser (record {
     does = rw (stops c.from_residual-in_err-emit.result c.from_residual-in_err-emit.ensures.1 refl) (lifetime_refused
         c.args.is_mut c.in_ok-at.at c.in_ok-index.index c.in_ok-index.next _ _ (record {
           at = c.in_ok-at.ensures.ok;
           is = c.in_ok-index.ensures.read;
-          paid = record {
+          within_budget = record {
             grows = omega arith;
             within = omega (arith, c.in_ok-index.ensures.ok_looks, e.most, x.later);
           };
@@ -70,12 +70,12 @@ returns-in_err-emit g c = let e = c.in_err-emit.ensures in let x = c.spaced_life
 }
 
 pub returns : goal.returns
-returns g c = let e = c.in_ok-emit.ensures in let x = c.spaced_lifetime-stretch.ensures in record {
+returns g c = let e = c.in_ok-emit.ensures in let x = c.spaced_lifetime-token.ensures in record {
   performs = rw (c.after_reference_lifetime-2.ensures, e.parser) (record {
     does = lifetime_tells c.args.is_mut c.in_ok-at.at c.in_ok-index.index c.in_ok-index.next _ _ (record {
       at = c.in_ok-at.ensures.ok;
       is = c.in_ok-index.ensures.read;
-      paid = record {
+      within_budget = record {
         grows = omega arith;
         within = omega (arith, c.in_ok-index.ensures.ok_looks, e.most, x.later);
       };

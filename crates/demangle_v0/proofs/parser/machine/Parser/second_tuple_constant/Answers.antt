@@ -11,7 +11,7 @@ unfolding trace_at
 returns-then-ends_list g c = record {
   performs = λ p. rw (c.put.ensures, c.ends_list.ensures.place) (record {
     does = second_closes constant_inside refl (sym c.ends_list.ensures.over ∙ c.if-ends_list.true) refl
-        c.ends_list.ensures.paid (omega arith) (omega arith) c.requires.can_step.fits;
+        c.ends_list.ensures.within_budget (omega arith) (omega arith) c.requires.can_step.fits;
     same = (refl, refl, refl);
   });
 }
@@ -21,7 +21,7 @@ unfolding trace_at
 returns g c = record {
   performs = λ p. rw (c.put-2.ensures, c.push.ensures, c.ends_list.ensures.place) (record {
     does = second_continues (constants _ false list.Tuple) refl (sym c.ends_list.ensures.over ∙ c.if-ends_list.false) refl
-        c.ends_list.ensures.paid (omega arith) c.requires.can_step.fits refl;
+        c.ends_list.ensures.within_budget (omega arith) c.requires.can_step.fits refl;
     same = (refl, refl, refl);
   });
 }

@@ -7,8 +7,8 @@ use Rattle.demangle_v0.proofs.parser.machine.Parser.second_tuple_type.Goals as g
 
 pub returns-then-ends_list : goal.returns-then-ends_list
 unfolding trace_at
-returns-then-ends_list g c = record { performs = λ p. rw (c.put.ensures, c.ends_list.ensures.place) (record { does = second_closes type_inside refl (sym c.ends_list.ensures.over ∙ c.if-ends_list.true) refl c.ends_list.ensures.paid (omega arith) (omega arith) c.requires.can_step.fits; same = (refl, refl, refl) }) }
+returns-then-ends_list g c = record { performs = λ p. rw (c.put.ensures, c.ends_list.ensures.place) (record { does = second_closes type_inside refl (sym c.ends_list.ensures.over ∙ c.if-ends_list.true) refl c.ends_list.ensures.within_budget (omega arith) (omega arith) c.requires.can_step.fits; same = (refl, refl, refl) }) }
 
 pub returns : goal.returns
 unfolding trace_at
-returns g c = record { performs = λ p. rw (c.put-2.ensures, c.push.ensures, c.ends_list.ensures.place) (record { does = second_continues (next_type _) refl (sym c.ends_list.ensures.over ∙ c.if-ends_list.false) refl c.ends_list.ensures.paid (omega arith) c.requires.can_step.fits refl; same = (refl, refl, refl) }) }
+returns g c = record { performs = λ p. rw (c.put-2.ensures, c.push.ensures, c.ends_list.ensures.place) (record { does = second_continues (next_type _) refl (sym c.ends_list.ensures.over ∙ c.if-ends_list.false) refl c.ends_list.ensures.within_budget (omega arith) c.requires.can_step.fits refl; same = (refl, refl, refl) }) }

@@ -6,7 +6,7 @@ use Rattle.demangle_v0.specs.Traces.{trace_at}
 use Rattle.demangle_v0.specs.declared.parser.Continuation.TheVariants as continuation
 use Rattle.demangle_v0_tokens.specs.declared.tags.ConstantKind.TheVariants as kind
 use Rattle.demangle_v0.proofs.StepErrors.{stops_none}
-use Rattle.demangle_v0.proofs.Parsers.{went_rest}
+use Rattle.demangle_v0.proofs.Parsers.{advanced_rest}
 use Rattle.demangle_v0.proofs.BackrefSteps.{unit_constant}
 use Rattle.demangle_v0.proofs.TaggedConstantSteps.{constant_wrong, constant_as, number_reads, text_braced, mutable_braced, array_braced, tuple_braced}
 use Rattle.demangle_v0.proofs.StepCases.{marks}
@@ -25,7 +25,7 @@ returns-in_err-kind g c = record {
 pub returns-in-Placeholder : goal.returns-in-Placeholder
 unfolding parse trace_at
 returns-in-Placeholder g c = record {
-  performs = rw (c.end_with.ensures.end, c.end_with.ensures.marked) (record {
+  performs = rw (c.end_with.ensures.end, c.end_with.ensures.with_text) (record {
     does = constant_as c.args.tag kind.Placeholder
         (rw (c.in_ok-kind.ensures.ok_part, c.in-Placeholder.is) at c.constant_kind.ensures) (omega arith)
         (omega arith) (omega arith)
@@ -125,7 +125,7 @@ returns-in-Shared g c = record {
 }
 
 pub returns-in-Variant : goal.returns-in-Variant
-returns-in-Variant g c = let d = went_rest g.V.Output c.args.output.now _ 6 6 9 c.variant_path.ensures.performs in record {
+returns-in-Variant g c = let d = advanced_rest g.V.Output c.args.output.now _ 6 6 9 c.variant_path.ensures.performs in record {
   performs = record {
     does = constant_as c.args.tag kind.Variant
         (rw (c.in_ok-kind.ensures.ok_part, c.in-Variant.is) at c.constant_kind.ensures) (omega arith)

@@ -5,7 +5,7 @@ use Rattle.demangle_v0.specs.Traces.{trace_at}
 use Rattle.demangle_v0_tokens.specs.declared.tags.PathKind.TheVariants as kind
 use Rattle.demangle_v0.specs.declared.parser.Continuation.TheVariants as continuation
 use Rattle.demangle_v0.proofs.StepErrors.{stops_none}
-use Rattle.demangle_v0.proofs.Parsers.{went, went_rest}
+use Rattle.demangle_v0.proofs.Parsers.{advanced, advanced_rest}
 use Rattle.demangle_v0.proofs.PathSteps.{path_wrong, path_as}
 use Rattle.demangle_v0.proofs.BackrefSteps.{unit_path}
 use Rattle.demangle_v0.proofs.parser.machine.Parser.tagged_path.Goals as goal
@@ -35,7 +35,7 @@ returns-in-CrateRoot g c =
 
 pub returns-in-NestedName : goal.returns-in-NestedName
 returns-in-NestedName g c =
-    let d = went_rest g.V.Output c.args.output.now _ 6 1 9 c.nested_path.ensures.performs in
+    let d = advanced_rest g.V.Output c.args.output.now _ 6 1 9 c.nested_path.ensures.performs in
     record {
       performs = record {
         does = path_as c.args.tag kind.NestedName (rw (c.in_ok-kind.ensures.ok_part, c.in-NestedName.is)
@@ -46,7 +46,7 @@ returns-in-NestedName g c =
 
 pub returns-in-Generic : goal.returns-in-Generic
 returns-in-Generic g c =
-    let d = went_rest g.V.Output c.args.output.now _ 6 8 9 c.generic_path.ensures.performs in
+    let d = advanced_rest g.V.Output c.args.output.now _ 6 8 9 c.generic_path.ensures.performs in
     record {
       performs = record {
         does = path_as c.args.tag kind.Generic (rw (c.in_ok-kind.ensures.ok_part, c.in-Generic.is)
@@ -72,7 +72,7 @@ returns-in-Backref g c =
 
 pub returns-in-InherentImpl : goal.returns-in-InherentImpl
 returns-in-InherentImpl g c =
-    let d = went_rest g.V.Output c.args.output.now _ 6 1 2 c.impl_disambiguator.ensures.performs in
+    let d = advanced_rest g.V.Output c.args.output.now _ 6 1 2 c.impl_disambiguator.ensures.performs in
     record {
       performs = record {
         does = path_as c.args.tag kind.InherentImpl (rw (
@@ -85,7 +85,7 @@ returns-in-InherentImpl g c =
 
 pub returns-in-TraitImpl : goal.returns-in-TraitImpl
 returns-in-TraitImpl g c =
-    let d = went_rest g.V.Output c.args.output.now _ 6 1 2 c.impl_disambiguator-in-TraitImpl.ensures.performs in
+    let d = advanced_rest g.V.Output c.args.output.now _ 6 1 2 c.impl_disambiguator-in-TraitImpl.ensures.performs in
     record {
       performs = record {
         does = path_as c.args.tag kind.TraitImpl (rw (
@@ -99,7 +99,7 @@ returns-in-TraitImpl g c =
 pub returns-in-TraitDefinition : goal.returns-in-TraitDefinition
 unfolding trace_at
 returns-in-TraitDefinition g c =
-    let d = went g.V.Output c.args.output.now continuation.TraitSelfType c.self_type.ensures.performs in
+    let d = advanced g.V.Output c.args.output.now continuation.TraitSelfType c.self_type.ensures.performs in
     record {
       performs = record {
         does = path_as c.args.tag kind.TraitDefinition (rw (

@@ -2,7 +2,7 @@ use Rattle.std.proofs.Common.{arith, refl, sym, ◌∙◌, ◌≡◌, ◌≢◌,
 use Rattle.demangle_v0_grammar.specs.Reading.{parse}
 use Rattle.demangle_v0.specs.Traces.{trace_at}
 use Rattle.demangle_v0.proofs.StepErrors.{stops}
-use Rattle.demangle_v0.proofs.Parsers.{went_rest}
+use Rattle.demangle_v0.proofs.Parsers.{advanced_rest}
 use Rattle.demangle_v0_tokens.specs.declared.tags.TypeKind.TheVariants as kind
 use Rattle.demangle_v0.proofs.StepCases.{after_error}
 use Rattle.std.proofs.lemmas.Bool.{false≢true}
@@ -36,7 +36,7 @@ returns-in-Some-basic_type_text g c =
     let x = c.in-Some-byte.tag in
     let m = c.in-Some-basic_type_text.pending_text in
     record {
-      performs = rw (c.end_with.ensures.end, c.end_with.ensures.marked) (record {
+      performs = rw (c.end_with.ensures.end, c.end_with.ensures.with_text) (record {
         does = type_tagged c.args.may_have_splat c.in-Some.at c.in-Some.is
             (λ _. splat_not c.args.self.now.source.symbol.now c.in-Some.at x c.in-Some-byte.ensures.byte (basic_no_splat x m c.in-Some-basic_type_text.ensures))
             (basic_ends c.in-Some.at x m c.in-Some.is c.in-Some-byte.ensures.byte c.in-Some-basic_type_text.ensures c.byte.ensures.look);
@@ -60,7 +60,7 @@ returns-in_err-enter g c =
 pub returns-then-tag-eq82 : goal.returns-then-tag-eq82
 returns-then-tag-eq82 g c =
     let ok = c.in_ok-enter.ensures.ok in
-    let d = rw ok.1 at (went_rest g.V.Output c.args.output.now _ 5 50 9 c.reference_type.ensures.performs) in
+    let d = rw ok.1 at (advanced_rest g.V.Output c.args.output.now _ 5 50 9 c.reference_type.ensures.performs) in
     let x = c.in-Some-byte.tag in
     record {
       performs = record {

@@ -1,7 +1,7 @@
 use Rattle.std.proofs.Common.{subst}
 use Rattle.std.specs.Io.BufRead.{FillKeeps}
 use Rattle.std.proofs.BufReadLemmas.{Consumes_shown}
-use Rattle.rustc_demangle.proofs.BytesSteps.{step_took}
+use Rattle.rustc_demangle.proofs.ByteStreamLemmas.{step_took}
 use Rattle.rustc_demangle.proofs.stream.bytes.BytesFilter.step.Goals as goal
 
 pub returns-clause-took : goal.returns-clause-took

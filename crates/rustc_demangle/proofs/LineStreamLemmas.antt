@@ -15,7 +15,7 @@ use Rattle.std.proofs.KnownBytes.{Appends-trans, Appends-nil}
 use Rattle.std.proofs.BufReadLemmas.{take_through_nonempty}
 use Rattle.rustc_demangle.specs.Filtered.{filtered}
 use Rattle.rustc_demangle.specs.Lines.{lines}
-use Rattle.rustc_demangle.specs.LineStream.{output_of, WroteLines, Finished, StreamStopped, LineCopied, IsReadingFault}
+use Rattle.rustc_demangle.specs.LineStream.{output_of, WroteLines, Finished, StreamStopped, LineCopied, IsReaderFault}
 use Rattle.rustc_demangle.specs.declared.stream.fault.StreamFault.{StreamFault}
 use Rattle.rustc_demangle.specs.declared.stream.fault.StreamFault.TheVariants.{Read, NotUtf8, Write, Memory}
 use Rattle.rustc_demangle.proofs.LineDivision.{lines_step, utf8_by_lines}
@@ -144,7 +144,7 @@ line_copied h (Some rest) old new before after bytes text read none same availab
     )
 
 -- no line was read
-pub line_unread : (fault : StreamFault) (h : Bool) (left next old : Option (List ℕ)) → IsReadingFault fault → LineCopied (Err fault) h left next old old
+pub line_unread : (fault : StreamFault) (h : Bool) (left next old : Option (List ℕ)) → IsReaderFault fault → LineCopied (Err fault) h left next old old
 line_unread (Read e) h left next old is = (is, refl)
 line_unread NotUtf8 h left next old is = absurd is
 line_unread (Write e) h left next old is = absurd is

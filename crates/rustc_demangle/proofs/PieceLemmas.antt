@@ -14,8 +14,8 @@ use Rattle.rustc_demangle.specs.declared.format.Format.{Format}
 use Rattle.rustc_demangle.specs.Lines.{onto_first}
 use Rattle.rustc_demangle.specs.Filtered.{is_run_byte, starts_run, replacement_in, filtered_by, filtered_in, filtered_within}
 use Rattle.rustc_demangle.specs.TextPieces.{run_pieces, filtered_pieces_from, filtered_pieces_in, filtered_pieces}
-use Rattle.rustc_demangle.proofs.SymbolSteps.{pieces-symbol, symbol-pieces}
-use Rattle.rustc_demangle.proofs.RunSteps.{turn, first_of_run, run_some}
+use Rattle.rustc_demangle.proofs.SymbolLemmas.{pieces-symbol, symbol-pieces}
+use Rattle.rustc_demangle.proofs.RunLemmas.{turn, first_of_run, run_some}
 
 -- what is skipped is left out
 pieces_skip : (format : Format) (n : ℕ) (s : List ℕ) → filtered_pieces_from format n s ≡ filtered_pieces_in format (drop n s)

@@ -7,7 +7,7 @@ use Rattle.std.specs.declared.option.Option.{Option}
 use Rattle.rustc_demangle.specs.ByteStream.{StepFiltered, StepFinished}
 use Rattle.rustc_demangle.specs.Symbols.{handed_in, IsSymbol}
 use Rattle.rustc_demangle.specs.declared.format.Format.{Format}
-use Rattle.rustc_demangle.proofs.RunSteps.{replacement_in-symbol, replacement_in-no_symbol}
+use Rattle.rustc_demangle.proofs.RunLemmas.{replacement_in-symbol, replacement_in-no_symbol}
 
 -- what a symbol prints replaces its run
 pub symbol_replaced : (run symbol : List ℕ) (format : Format) → symbol ≡ stripped run → IsSymbol symbol → concat (handed_in symbol format) ≡ replacement_in format run

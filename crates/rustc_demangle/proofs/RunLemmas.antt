@@ -11,7 +11,7 @@ use Rattle.std.proofs.lemmas.List.Sums.{prefix_len_passes, prefix_len-le-length}
 use Rattle.rustc_demangle.specs.Stripped.{stripped}
 use Rattle.rustc_demangle.specs.Symbols.{IsSymbol, form_of, pieces_in, handed_in, unfolded, printed, most_bytes}
 use Rattle.rustc_demangle.specs.declared.format.Format.{Format}
-use Rattle.rustc_demangle.proofs.SymbolSteps.{pieces-symbol, symbol-pieces}
+use Rattle.rustc_demangle.proofs.SymbolLemmas.{pieces-symbol, symbol-pieces}
 use Rattle.rustc_demangle.specs.Filtered.{is_run_byte, starts_run, filtered_by, replacement_in, replacement}
 
 -- what is skipped is left out

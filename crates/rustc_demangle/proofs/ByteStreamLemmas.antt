@@ -24,7 +24,7 @@ use Rattle.rustc_demangle.specs.ByteStream.{SplitsNoRun, IsPartialRun, FilteredP
 use Rattle.rustc_demangle.specs.declared.stream.fault.StreamFault.{StreamFault}
 use Rattle.rustc_demangle.specs.declared.stream.fault.StreamFault.TheVariants.{Read, NotUtf8, Write, Memory}
 use Rattle.rustc_demangle.proofs.Searches.{no_mark}
-use Rattle.rustc_demangle.proofs.RunSteps.{run_ascii, turn, begins_with, first_of_run, filtered_run, filtered_all}
+use Rattle.rustc_demangle.proofs.RunLemmas.{run_ascii, turn, begins_with, first_of_run, filtered_run, filtered_all}
 
 -- what begins a run begins one whatever follows
 pub begins_more : (s t : List ℕ) → starts_run s ≡ true → starts_run (s ++ t) ≡ true
