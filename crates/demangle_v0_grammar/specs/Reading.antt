@@ -157,9 +157,9 @@ unprinted_path s rest None = rest None
 unprinted_path s rest (Some i) = after_unprinted (s.here false a_path false s.lifetimes i) rest
 
 -- folded arguments, which are read and not printed, or other ones, which are printed; then the rest from the place after them
-abbrev pub folded_by : Bool → (read printed : Outcome) → (Place → Outcome) → Outcome
-folded_by true read printed rest = after_unprinted read (λ i. with_tree (piece (codes "_")) (rest i))
-folded_by false read printed rest = followed_by printed rest
+abbrev pub folded_by : Bool → (skipped printed : Outcome) → (Place → Outcome) → Outcome
+folded_by true skipped printed rest = after_unprinted skipped (λ i. with_tree (piece (codes "_")) (rest i))
+folded_by false skipped printed rest = followed_by printed rest
 
 abbrev pub all_pieces : List Text → Tree → Tree
 all_pieces [] rest = rest
