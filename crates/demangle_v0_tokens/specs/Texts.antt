@@ -1,6 +1,6 @@
 -- Internal: no public contract cites this.
 -- The fixed texts, the search for a tag in a list of rows, and the items of the table that each kind of token reads.
-use Rattle.std.specs.Prelude.{ℕ, Bool, true, false, if◌then◌else◌, ◌==◌, Option, Some, None, List, [], ◌∷◌, codes}
+use Rattle.std.specs.Prelude.{ℕ, true, false, if◌then◌else◌, ◌==◌, Option, Some, None, List, [], ◌∷◌, codes}
 use Prim.Native.Char.{code}
 use Prim.Native.String.{String}
 use Rattle.demangle_symbol.specs.Primitives.{some_or}
